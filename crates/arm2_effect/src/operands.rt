@@ -1,4 +1,4 @@
-ghost use Rattle.std.specs.Prelude.{◌≡◌, ◌<◌, ◌%◌, ◌^◌};
+ghost use Rattle.std.specs.Prelude.{◌≡◌, ◌<◌, ◌%◌};
 ghost use Rattle.arm2_effect.specs.Operands.{first_of, operand_of, rotated_byte};
 ghost use Rattle.arm2_effect.specs.Operands.{shifted_by_amount};
 ghost use Rattle.arm2_effect.specs.Operands.{shifted_by_register};

@@ -1,4 +1,5 @@
-ghost use Rattle.std.specs.Prelude.{◌≡◌, ◌<◌, ◌≤◌, ◌*◌, ◌%◌, ◌^◌, [], ◌∷◌};
+ghost use Rattle.std.specs.Prelude.{◌≡◌, ◌<◌, ◌≤◌, ◌*◌, ◌%◌, [], ◌∷◌};
+ghost use Rattle.bus_ticks.specs.declared.space.TheConstants.{SPACE_END};
 ghost use Rattle.arm2_effect.specs.Effects.{Internal, onward, refill};
 ghost use Rattle.arm2_effect.specs.Effects.{straight, ticks_of};
 
@@ -17,7 +18,7 @@ impl Prices {
     /// The ticks of an instruction at an address that is followed by the next one.
     #[inline(always)]
     pub fn straight(&self, from: u32) -> u32
-        requires below { from < 2 ^ 26 }
+        requires below { from < SPACE_END }
         requires aligned { from % 4 ≡ 0 }
         ensures ticks { result ≡ ticks_of self.now.profile self.now.rom (straight from) }
         ensures bound { result < 256 }
@@ -28,7 +29,7 @@ impl Prices {
     /// The ticks of the fetches that a jump to an address adds.
     #[inline(always)]
     pub fn refill(&self, to: u32) -> u32
-        requires below { to < 2 ^ 26 }
+        requires below { to < SPACE_END }
         requires aligned { to % 4 ≡ 0 }
         ensures ticks { result ≡ ticks_of self.now.profile self.now.rom (refill to) }
         ensures bound { result < 2 * 256 }
@@ -39,9 +40,9 @@ impl Prices {
     /// The ticks of an instruction at an address that is followed by the one at another.
     #[inline(always)]
     pub fn onward(&self, from: u32, to: u32) -> u32
-        requires from_below { from < 2 ^ 26 }
+        requires from_below { from < SPACE_END }
         requires from_aligned { from % 4 ≡ 0 }
-        requires to_below { to < 2 ^ 26 }
+        requires to_below { to < SPACE_END }
         requires to_aligned { to % 4 ≡ 0 }
         ensures ticks { result ≡ ticks_of self.now.profile self.now.rom (onward from to) }
         ensures bound { result < 3 * 256 }

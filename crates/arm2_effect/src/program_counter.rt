@@ -1,5 +1,6 @@
 //! R15: N Z C V I F in bits 31 to 26, a word address in bits 25 to 2, the mode in bits 1 and 0.
 ghost use Rattle.std.specs.Prelude.{◌≡◌, ◌%◌, ◌^◌, ◌<◌};
+ghost use Rattle.bus_ticks.specs.declared.space.TheConstants.{SPACE_END};
 ghost use Rattle.arm2_effect.specs.ProgramCounter.{address_of, ahead_of};
 ghost use Rattle.arm2_effect.specs.ProgramCounter.{flags_of, is_fiq_masked, is_irq_masked};
 ghost use Rattle.arm2_effect.specs.ProgramCounter.{jumped_of, mode_of};
@@ -12,7 +13,7 @@ use arm2_decode::Flags;
 /// The address in R15 in bytes: a multiple of 4 below 2^26.
 pub fn address_of(r15: u32) -> u32
     ensures address { result ≡ address_of r15 }
-    ensures below { result < 2 ^ 26 }
+    ensures below { result < SPACE_END }
     ensures aligned { result % 4 ≡ 0 }
 {
     r15 / 4 % 0x100_0000 * 4
@@ -61,12 +62,12 @@ pub fn is_irq_masked(r15: u32) -> bool
 
 /// An address some bytes on: addresses wrap at 2^26.
 pub fn ahead(address: u32, by: u32) -> u32
-    requires below { address < 2 ^ 26 }
+    requires below { address < SPACE_END }
     requires aligned { address % 4 ≡ 0 }
     requires words { by % 4 ≡ 0 }
     requires small { by < 2 ^ 28 }
     ensures ahead { result ≡ ahead_of address by }
-    ensures below { result < 2 ^ 26 }
+    ensures below { result < SPACE_END }
     ensures aligned { result % 4 ≡ 0 }
 {
     (address + by) % 0x400_0000
@@ -75,7 +76,7 @@ pub fn ahead(address: u32, by: u32) -> u32
 /// R15 of its parts: the PSR from 0 to 63, and a word address below 2^26.
 pub fn r15_of(psr: u32, address: u32, mode: Mode) -> u32
     requires psr { psr < 64 }
-    requires below { address < 2 ^ 26 }
+    requires below { address < SPACE_END }
     requires aligned { address % 4 ≡ 0 }
     ensures { result ≡ r15_of psr address mode }
 {
@@ -100,7 +101,7 @@ pub fn jumped(r15: u32, value: u32) -> u32
 
 /// R15 with the PSR and the mode of a value, and an address: in User mode I, F and the mode stay.
 pub fn restored(r15: u32, value: u32, address: u32) -> u32
-    requires below { address < 2 ^ 26 }
+    requires below { address < SPACE_END }
     requires aligned { address % 4 ≡ 0 }
     ensures { result ≡ restored_of r15 value address }
 {

@@ -1,4 +1,4 @@
-ghost use Rattle.std.specs.Prelude.{◌≡◌, ◌+◌, ◌*◌, ◌^◌, ◌≤◌, IfOk};
+ghost use Rattle.std.specs.Prelude.{◌≡◌, ◌+◌, ◌*◌, ◌≤◌, IfOk};
 ghost use Rattle.debugger.specs.Commands.{IsInRange, address_in, command_of, line_command};
 ghost use Rattle.debugger.specs.Commands.{number_in, one_word};
 ghost use Rattle.ioc.specs.LineNames.{line_named};
@@ -25,7 +25,7 @@ fn number_in(low: u32, high: u32, word: &[u8]) -> Result<u32, DebugFault>
 fn address_of(count: u32, word: &[u8]) -> Result<u32, DebugFault>
     requires { count ≤ 16 }
     ensures address { result ≡ address_in count word.now }
-    ensures bound { IfOk result (λ a. a + 4 * count ≤ 2 ^ 26) }
+    ensures bound { IfOk result (λ a. a + 4 * count ≤ SPACE_END) }
 {
     match read_number(word) {
         Some(a) if a % 4 == 0 && a <= SPACE_END - 4 * count => Ok(a),

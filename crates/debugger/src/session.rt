@@ -1,6 +1,7 @@
-ghost use Rattle.std.specs.Prelude.{◌≡◌, ◌⊎◌, ◌+◌, ◌*◌, ◌^◌, ◌<◌, ◌≤◌, ◌≢◌, nat_lt, slice_index, true, false};
+ghost use Rattle.std.specs.Prelude.{◌≡◌, ◌⊎◌, ◌+◌, ◌*◌, ◌<◌, ◌≤◌, ◌≢◌, nat_lt, slice_index, true, false};
 ghost use Rattle.std.specs.Prelude.{IfOk, IfErr, OnErr, OnOk, MatchOption, length};
 ghost use Rattle.std.specs.List.{prefix_len};
+ghost use Rattle.bus_ticks.specs.declared.space.TheConstants.{SPACE_END};
 ghost use Rattle.trace_text.specs.TraceText.{registers_text, ticks_text};
 ghost use Rattle.debugger.specs.Answers.{Answers, AnswersLine, AnswersRun, AnswersStep, AreSeen, HasGap};
 ghost use Rattle.debugger.specs.Answers.{IsStopped, Refuses, RefusesLine, Sets, ShowsSpan, breaks_text};
@@ -232,7 +233,7 @@ impl Session {
 
     // The word that a privileged load finds in RAM or ROM.
     fn seen(&self, address: u32) -> Option<u32>
-        requires { address < 2 ^ 26 }
+        requires { address < SPACE_END }
         ensures { result ≡ seen self.now.machine.bus.memc address }
     {
         let memc = self.machine.memc();
@@ -243,7 +244,7 @@ impl Session {
     }
 
     fn words(&self, address: u32, count: u32) -> Option<ArrayVec<u32, WORDS>>
-        requires { (address + 4 * count ≤ 2 ^ 26) × (count ≤ 16) }
+        requires { (address + 4 * count ≤ SPACE_END) × (count ≤ 16) }
         ensures { MatchOption result (HasGap self.now.machine.bus.memc address count)
             (λ words. AreSeen self.now.machine.bus.memc address words.items × (length words.items ≡ count)) }
     {
@@ -256,7 +257,7 @@ impl Session {
     }
 
     fn span(&self, alloc: Global, row: Row, address: u32, count: u32) -> Result<Vec<u8>, DebugFault>
-        requires { (address + 4 * count ≤ 2 ^ 26) × (count ≤ 16) }
+        requires { (address + 4 * count ≤ SPACE_END) × (count ≤ 16) }
         ensures ok { IfOk result
             (λ answer. ShowsSpan row self.now.machine.bus.memc address count answer.items) }
         ensures err { IfErr result

@@ -1,4 +1,4 @@
-ghost use Rattle.std.specs.Prelude.{◌≡◌, ◌↔◌, ℕ, ◌<◌, ◌^◌, true, false, IfSome, IsTrue, Some, OnOk};
+ghost use Rattle.std.specs.Prelude.{◌≡◌, ◌↔◌, ℕ, ◌<◌, true, false, IfSome, IsTrue, Some, OnOk};
 ghost use Rattle.arm2_effect.specs.ProgramCounter.{ahead_of};
 ghost use Rattle.drafting.specs.Exploring.{Gains};
 ghost use Rattle.drafting.specs.Reach.{CallsTo, GoesOn, HasPlaces, IsBranchAt, KeepsWayBack, LeadsAway};
@@ -18,7 +18,7 @@ const MOST_BRANCHES: u32 = 64;
 /// The address so many bytes on, which wraps at [`SPACE_END`].
 pub(crate) fn ahead_of(address: u32, bytes: u32) -> u32
     ensures sum { result ≡ ahead_of address bytes }
-    ensures fits { result < 2 ^ 26 }
+    ensures fits { result < SPACE_END }
 {
     address.wrapping_add(bytes) % SPACE_END
 }

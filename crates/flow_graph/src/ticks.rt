@@ -17,7 +17,7 @@ use statement::Statement;
 pub fn ahead_of(address: u32, bytes: u32) -> u32
     requires { bytes < 2 ^ 32 }
     ensures sum { result ≡ ahead_of address bytes }
-    ensures fits { result < 2 ^ 26 }
+    ensures fits { result < SPACE_END }
 {
     address.wrapping_add(bytes) % SPACE_END
 }
@@ -25,7 +25,7 @@ pub fn ahead_of(address: u32, bytes: u32) -> u32
 /// The address to which a branch leads.
 pub fn branch_target(address: u32, offset: u32) -> u32
     ensures sum { result ≡ branch_target address offset }
-    ensures fits { result < 2 ^ 26 }
+    ensures fits { result < SPACE_END }
 {
     ahead_of(ahead_of(address, 8), offset.wrapping_mul(4))
 }

@@ -1,6 +1,7 @@
 //! Which edge of a place a step takes.
 
-ghost use Rattle.std.specs.Prelude.{◌≡◌, ◌<◌, ◌^◌, length, MatchOption};
+ghost use Rattle.std.specs.Prelude.{◌≡◌, ◌<◌, length, MatchOption};
+ghost use Rattle.bus_ticks.specs.declared.space.TheConstants.{SPACE_END};
 ghost use Rattle.flow_graph.specs.Places.{place_at};
 ghost use Rattle.longest_walk.specs.Parts.{IsPartOf};
 ghost use Rattle.kept_runs.specs.Edges.{HasNoEdge, IsFound, is_met, is_place_of};
@@ -21,7 +22,7 @@ pub(crate) struct Going {
 }
 
 fn is_place_of(place: &Place, going: Going) -> bool
-    requires { going.to < 2 ^ 26 }
+    requires { going.to < SPACE_END }
     ensures { result ≡ is_place_of going.leave going.to place.now }
 {
     match place {
@@ -31,7 +32,7 @@ fn is_place_of(place: &Place, going: Going) -> bool
 }
 
 fn is_met(edge: &Edge, going: Going) -> bool
-    requires { going.to < 2 ^ 26 }
+    requires { going.to < SPACE_END }
     ensures { result ≡ is_met going edge.now }
 {
     is_same_label(edge.label, going.label) && is_place_of(&edge.to, going)
@@ -49,7 +50,7 @@ fn part(graph: &Graph, place: usize) -> (usize, usize)
 /// linear in the edges of the place.
 pub(crate) fn edge_taken(graph: &Graph, place: usize, going: Going) -> Option<usize>
     requires known { place < length graph.now.places }
-    requires to { going.to < 2 ^ 26 }
+    requires to { going.to < SPACE_END }
     ensures { MatchOption result (HasNoEdge graph.now (place_at graph.now.places place) going)
         (IsFound graph.now (place_at graph.now.places place) going) }
 {

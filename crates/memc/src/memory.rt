@@ -1,5 +1,6 @@
 ghost use Rattle.std.specs.Prelude.{◌≡◌, ℕ, ◌*◌, ◌/◌, ◌^◌, ◌<◌, ◌≤◌, IfOk, ◌↔◌, OnErr, OnOk, IfSome};
 ghost use Rattle.std.specs.Prelude.{MatchOption};
+ghost use Rattle.bus_ticks.specs.declared.space.TheConstants.{SPACE_END};
 ghost use Rattle.memc.specs.Paged.{page_at, place_of, IsWhole};
 ghost use Rattle.memc.specs.Memory.{located, logical_at, physical_at, written_at, shift_of_size, IsStart};
 ghost use Rattle.memc.specs.Memory.{IsOutOfRange, IsMemorySpot, IsRamSpot, Fits, word_at, stored, with_map};
@@ -66,7 +67,7 @@ impl Memc {
     /// Where an access at an address below 2^26 goes, or the first reason why it is refused.
     #[inline(always)]
     pub fn locate(&self, address: u32, user: bool, store: bool) -> Result<Spot, Refused>
-        requires { address < 2 ^ 26 }
+        requires { address < SPACE_END }
         ensures located { result ≡ located self.now address user store }
         ensures fitted { IfOk result (Fits self.now.shift) }
         ensures whole { IsWhole self.now.shift self.now.paged }
@@ -84,7 +85,7 @@ impl Memc {
     /// None: the address is past logical RAM, the words reach past its page, or the access is refused.
     #[inline(always)]
     pub fn locate_run(&self, address: u32, words: u32, user: bool, store: bool) -> Option<u32>
-        requires below { address < 2 ^ 26 }
+        requires below { address < SPACE_END }
         requires few { words ≤ 16 }
         ensures run { MatchOption result (HasNoRun self.now address words user store)
             (λ place. IsRun self.now address words user store place) }
@@ -107,7 +108,7 @@ impl Memc {
     #[inline(never)]
     fn beyond(&self, address: u32, user: bool, store: bool) -> Result<Spot, Refused>
         requires past { 0x2000000 ≤ address }
-        requires below { address < 2 ^ 26 }
+        requires below { address < SPACE_END }
         ensures located { result ≡ located self.now address user store }
         ensures fitted { IfOk result (Fits self.now.shift) }
     {
