@@ -4,7 +4,7 @@ ghost use Rattle.debugger.specs.Commands.{number_in, one_word};
 ghost use Rattle.ioc.specs.LineNames.{line_named};
 ghost use Rattle.debugger.specs.Commands.{switched, three_words, two_words};
 
-use crate::command::Command;
+use crate::command::{Command, MOST_SHOWN_STEPS, MOST_STEPS};
 use crate::fault::DebugFault;
 use crate::words::{first_word, read_number};
 use bitflags::Flags;
@@ -55,9 +55,9 @@ fn two_words(name: &[u8], number: &[u8]) -> Result<Command, DebugFault>
     ensures range { IfOk result IsInRange }
 {
     if name == b"step".as_slice() {
-        Ok(Command::Step(number_in(1, 1024, number)?))
+        Ok(Command::Step(number_in(1, MOST_SHOWN_STEPS, number)?))
     } else if name == b"run".as_slice() {
-        Ok(Command::Run(number_in(1, 65536, number)?))
+        Ok(Command::Run(number_in(1, MOST_STEPS, number)?))
     } else if name == b"break".as_slice() {
         Ok(Command::Break(address_of(1, number)?))
     } else if name == b"burst".as_slice() {

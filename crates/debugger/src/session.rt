@@ -9,7 +9,7 @@ ghost use Rattle.debugger.specs.Answers.{seen, switched};
 ghost use Rattle.debugger.specs.Commands.{IsInRange};
 ghost use Rattle.debugger.specs.SessionState.{Ascending, begun, moved_on, toggled};
 
-use crate::command::Command;
+use crate::command::{Command, MOST_SHOWN_STEPS, MOST_STEPS};
 use crate::fault::DebugFault;
 use crate::printed::put_trace;
 use crate::reading::read_command;
@@ -139,7 +139,7 @@ impl Session {
     }
 
     fn step(&mut self, alloc: Global, steps: u32) -> Result<Vec<u8>, DebugFault>
-        requires { (1 ≤ steps) × (steps ≤ 1024) }
+        requires { (1 ≤ steps) × (steps ≤ MOST_SHOWN_STEPS) }
         ensures ok { IfOk result (λ answer. AnswersStep self.old steps answer.items self.new) }
         ensures err { IfErr result
             (λ fault. (fault ≡ DebugFault.Memory)
@@ -156,7 +156,7 @@ impl Session {
     }
 
     fn run(&mut self, alloc: Global, steps: u32) -> Result<Vec<u8>, DebugFault>
-        requires { (1 ≤ steps) × (steps ≤ 65536) }
+        requires { (1 ≤ steps) × (steps ≤ MOST_STEPS) }
         ensures ok { IfOk result (λ answer. AnswersRun self.old steps answer.items self.new) }
         ensures err { IfErr result
             (λ fault. (fault ≡ DebugFault.Memory)

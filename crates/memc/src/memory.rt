@@ -9,14 +9,12 @@ ghost use Rattle.memc.specs.Memory.{control_of, allowed, HasNoRun, IsOnOnePage, 
 
 use crate::pages::{Entry, Pages};
 use crate::spots::{MapFault, MemcFault, PageSize, Refused, Spot};
-use bus_ticks::{IO_START, ROM_START, RomTimes};
+use bus_ticks::{IO_START, PHYSICAL_RAM, ROM_START, RomTimes};
 use std::alloc::Global;
 use std::collections::BTreeMap;
 use std::marker::Model;
 
-// Where physical RAM and, for stores, the DMA and control range and the translator begin.
-const PHYSICAL_RAM: u32 = 0x200_0000;
-
+// Where, for stores, the DMA and control range and the translator begin.
 const DMA_AND_CONTROL: u32 = 0x360_0000;
 
 const TRANSLATOR: u32 = 0x380_0000;
@@ -107,7 +105,7 @@ impl Memc {
     // Where an access past logical RAM goes.
     #[inline(never)]
     fn beyond(&self, address: u32, user: bool, store: bool) -> Result<Spot, Refused>
-        requires past { 0x2000000 ≤ address }
+        requires past { PHYSICAL_RAM ≤ address }
         requires below { address < SPACE_END }
         ensures located { result ≡ located self.now address user store }
         ensures fitted { IfOk result (Fits self.now.shift) }
