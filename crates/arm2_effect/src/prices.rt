@@ -3,7 +3,7 @@ ghost use Rattle.bus_ticks.specs.declared.space.TheConstants.{SPACE_END};
 ghost use Rattle.arm2_effect.specs.Effects.{Internal, onward, refill};
 ghost use Rattle.arm2_effect.specs.Effects.{straight, ticks_of};
 
-use crate::program_counter::ahead;
+use crate::program_counter::ahead_of;
 use bus_ticks::{Profile, RomTimes, fetch_n, fetch_s};
 
 /// What prices the accesses of a step.
@@ -23,7 +23,7 @@ impl Prices {
         ensures ticks { result ≡ ticks_of self.now.profile self.now.rom (straight from) }
         ensures bound { result < 256 }
     {
-        fetch_s(&self.profile, ahead(from, 8), self.rom)
+        fetch_s(&self.profile, ahead_of(from, 8), self.rom)
     }
 
     /// The ticks of the fetches that a jump to an address adds.
@@ -34,7 +34,7 @@ impl Prices {
         ensures ticks { result ≡ ticks_of self.now.profile self.now.rom (refill to) }
         ensures bound { result < 2 * 256 }
     {
-        fetch_n(&self.profile, to, self.rom) + fetch_s(&self.profile, ahead(to, 4), self.rom)
+        fetch_n(&self.profile, to, self.rom) + fetch_s(&self.profile, ahead_of(to, 4), self.rom)
     }
 
     /// The ticks of an instruction at an address that is followed by the one at another.

@@ -1,6 +1,5 @@
 //! R15: N Z C V I F in bits 31 to 26, a word address in bits 25 to 2, the mode in bits 1 and 0.
 ghost use Rattle.std.specs.Prelude.{◌≡◌, ◌%◌, ◌^◌, ◌<◌};
-ghost use Rattle.bus_ticks.specs.declared.space.TheConstants.{SPACE_END};
 ghost use Rattle.arm2_effect.specs.ProgramCounter.{address_of, ahead_of};
 ghost use Rattle.arm2_effect.specs.ProgramCounter.{flags_of, is_fiq_masked, is_irq_masked};
 ghost use Rattle.arm2_effect.specs.ProgramCounter.{jumped_of, mode_of};
@@ -9,6 +8,7 @@ ghost use Rattle.arm2_effect.specs.ProgramCounter.{restored_of};
 
 use crate::modes::Mode;
 use arm2_decode::Flags;
+use bus_ticks::SPACE_END;
 
 /// The address in R15 in bytes: a multiple of 4 below 2^26.
 pub fn address_of(r15: u32) -> u32
@@ -60,17 +60,13 @@ pub fn is_irq_masked(r15: u32) -> bool
     r15 / 0x800_0000 % 2 == 1
 }
 
-/// An address some bytes on: addresses wrap at 2^26.
-pub fn ahead(address: u32, by: u32) -> u32
-    requires below { address < SPACE_END }
-    requires aligned { address % 4 ≡ 0 }
-    requires words { by % 4 ≡ 0 }
-    requires small { by < 2 ^ 28 }
-    ensures ahead { result ≡ ahead_of address by }
-    ensures below { result < SPACE_END }
-    ensures aligned { result % 4 ≡ 0 }
+/// The address so many bytes on, which wraps at [`SPACE_END`].
+pub fn ahead_of(address: u32, bytes: u32) -> u32
+    ensures sum { result ≡ ahead_of address bytes }
+    ensures fits { result < SPACE_END }
+    ensures aligned { address % 4 ≡ 0 → bytes % 4 ≡ 0 → result % 4 ≡ 0 }
 {
-    (address + by) % 0x400_0000
+    address.wrapping_add(bytes) % SPACE_END
 }
 
 /// R15 of its parts: the PSR from 0 to 63, and a word address below 2^26.
@@ -89,7 +85,7 @@ pub fn advanced(r15: u32, by: u32) -> u32
     requires small { by < 2 ^ 28 }
     ensures { result ≡ r15_ahead r15 by }
 {
-    r15_of(psr_of(r15), ahead(address_of(r15), by), mode_of(r15))
+    r15_of(psr_of(r15), ahead_of(address_of(r15), by), mode_of(r15))
 }
 
 /// R15 with the address bits of a value alone.

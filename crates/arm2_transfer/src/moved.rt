@@ -7,7 +7,7 @@ ghost use Rattle.arm2_transfer.specs.Moved.{ChangesNothing, IsMoved, faulted, lo
 
 use crate::bus::Bus;
 use crate::words::TransferFault;
-use arm2_effect::{Done, Prices, Registers, Vector, Why, ahead};
+use arm2_effect::{Done, Prices, Registers, Vector, Why, ahead_of};
 use bus_ticks::{fetch_n, transfer};
 
 /// What a transfer does none of whose words is moved.
@@ -80,7 +80,7 @@ fn fetch_after(prices: &Prices, from: u32) -> u32
     ensures price { result ≡ n_price prices.now.profile prices.now.rom (ahead_of from 8) }
     ensures small { result < 256 }
 {
-    fetch_n(&prices.profile, ahead(from, 8), prices.rom)
+    fetch_n(&prices.profile, ahead_of(from, 8), prices.rom)
 }
 
 /// The ticks of a store.
