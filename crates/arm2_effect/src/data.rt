@@ -9,7 +9,7 @@ use crate::modes::Reg;
 use crate::outcomes::{Outcome, flags_after, outcome_of};
 use crate::prices::Prices;
 use crate::program_counter::{
-    address_of, ahead, flags_of, jumped, mode_of, psr_of, r15_of, restored,
+    address_of, ahead_of, flags_of, jumped, mode_of, psr_of, r15_of, restored,
 };
 use crate::registers::Registers;
 use crate::step_end::Done;
@@ -39,7 +39,7 @@ fn psr_with(flags: Flags, psr: u32) -> u32
 fn next_r15(sets_flags: bool, outcome: Outcome, r15: u32) -> u32
     ensures { result ≡ next_r15 sets_flags outcome r15 }
 {
-    let address = ahead(address_of(r15), 4);
+    let address = ahead_of(address_of(r15), 4);
     if !sets_flags {
         return r15_of(psr_of(r15), address, mode_of(r15));
     }
@@ -112,7 +112,7 @@ impl Registers {
         if rd.is_pc() {
             self.set(
                 Reg::R15,
-                restored(r15, outcome.value, ahead(address_of(r15), 4)),
+                restored(r15, outcome.value, ahead_of(address_of(r15), 4)),
             );
         } else {
             self.set(Reg::R15, next_r15(true, outcome, r15));

@@ -1,10 +1,10 @@
-ghost use Rattle.std.specs.Prelude.{◌≡◌, ◌<◌, ◌%◌, ◌^◌};
+ghost use Rattle.std.specs.Prelude.{◌≡◌, ◌<◌, ◌%◌};
 ghost use Rattle.arm2_effect.specs.Operands.{first_of, operand_of, rotated_byte};
 ghost use Rattle.arm2_effect.specs.Operands.{shifted_by_amount};
 ghost use Rattle.arm2_effect.specs.Operands.{shifted_by_register};
 
 use crate::modes::Reg;
-use crate::program_counter::{address_of, advanced, ahead, flags_of, mode_of};
+use crate::program_counter::{address_of, advanced, ahead_of, flags_of, mode_of};
 use crate::registers::Registers;
 use arm2_decode::{Register, Shift};
 use shifter::{Shifted, rotate_imm, shift_imm, shift_reg};
@@ -19,7 +19,7 @@ impl Registers {
     {
         let r15 = self.get(Reg::R15);
         if register.is_pc() {
-            return ahead(address_of(r15), bytes);
+            return ahead_of(address_of(r15), bytes);
         }
         self.read(mode_of(r15), register)
     }

@@ -1,8 +1,9 @@
-ghost use Rattle.std.specs.Prelude.{◌≡◌, ◌<◌, ◌≤◌, ◌*◌, ◌%◌, ◌^◌, [], ◌∷◌};
+ghost use Rattle.std.specs.Prelude.{◌≡◌, ◌<◌, ◌≤◌, ◌*◌, ◌%◌, [], ◌∷◌};
+ghost use Rattle.bus_ticks.specs.declared.space.TheConstants.{SPACE_END};
 ghost use Rattle.arm2_effect.specs.Effects.{Internal, onward, refill};
 ghost use Rattle.arm2_effect.specs.Effects.{straight, ticks_of};
 
-use crate::program_counter::ahead;
+use crate::program_counter::ahead_of;
 use bus_ticks::{Profile, RomTimes, fetch_n, fetch_s};
 
 /// What prices the accesses of a step.
@@ -17,31 +18,31 @@ impl Prices {
     /// The ticks of an instruction at an address that is followed by the next one.
     #[inline(always)]
     pub fn straight(&self, from: u32) -> u32
-        requires below { from < 2 ^ 26 }
+        requires below { from < SPACE_END }
         requires aligned { from % 4 ≡ 0 }
         ensures ticks { result ≡ ticks_of self.now.profile self.now.rom (straight from) }
         ensures bound { result < 256 }
     {
-        fetch_s(&self.profile, ahead(from, 8), self.rom)
+        fetch_s(&self.profile, ahead_of(from, 8), self.rom)
     }
 
     /// The ticks of the fetches that a jump to an address adds.
     #[inline(always)]
     pub fn refill(&self, to: u32) -> u32
-        requires below { to < 2 ^ 26 }
+        requires below { to < SPACE_END }
         requires aligned { to % 4 ≡ 0 }
         ensures ticks { result ≡ ticks_of self.now.profile self.now.rom (refill to) }
         ensures bound { result < 2 * 256 }
     {
-        fetch_n(&self.profile, to, self.rom) + fetch_s(&self.profile, ahead(to, 4), self.rom)
+        fetch_n(&self.profile, to, self.rom) + fetch_s(&self.profile, ahead_of(to, 4), self.rom)
     }
 
     /// The ticks of an instruction at an address that is followed by the one at another.
     #[inline(always)]
     pub fn onward(&self, from: u32, to: u32) -> u32
-        requires from_below { from < 2 ^ 26 }
+        requires from_below { from < SPACE_END }
         requires from_aligned { from % 4 ≡ 0 }
-        requires to_below { to < 2 ^ 26 }
+        requires to_below { to < SPACE_END }
         requires to_aligned { to % 4 ≡ 0 }
         ensures ticks { result ≡ ticks_of self.now.profile self.now.rom (onward from to) }
         ensures bound { result < 3 * 256 }

@@ -8,11 +8,12 @@ ghost use Rattle.arm2_effect.specs.ProgramCounter.{restored_of};
 
 use crate::modes::Mode;
 use arm2_decode::Flags;
+use bus_ticks::SPACE_END;
 
 /// The address in R15 in bytes: a multiple of 4 below 2^26.
 pub fn address_of(r15: u32) -> u32
     ensures address { result ≡ address_of r15 }
-    ensures below { result < 2 ^ 26 }
+    ensures below { result < SPACE_END }
     ensures aligned { result % 4 ≡ 0 }
 {
     r15 / 4 % 0x100_0000 * 4
@@ -59,23 +60,19 @@ pub fn is_irq_masked(r15: u32) -> bool
     r15 / 0x800_0000 % 2 == 1
 }
 
-/// An address some bytes on: addresses wrap at 2^26.
-pub fn ahead(address: u32, by: u32) -> u32
-    requires below { address < 2 ^ 26 }
-    requires aligned { address % 4 ≡ 0 }
-    requires words { by % 4 ≡ 0 }
-    requires small { by < 2 ^ 28 }
-    ensures ahead { result ≡ ahead_of address by }
-    ensures below { result < 2 ^ 26 }
-    ensures aligned { result % 4 ≡ 0 }
+/// The address so many bytes on, which wraps at [`SPACE_END`].
+pub fn ahead_of(address: u32, bytes: u32) -> u32
+    ensures sum { result ≡ ahead_of address bytes }
+    ensures fits { result < SPACE_END }
+    ensures aligned { address % 4 ≡ 0 → bytes % 4 ≡ 0 → result % 4 ≡ 0 }
 {
-    (address + by) % 0x400_0000
+    address.wrapping_add(bytes) % SPACE_END
 }
 
 /// R15 of its parts: the PSR from 0 to 63, and a word address below 2^26.
 pub fn r15_of(psr: u32, address: u32, mode: Mode) -> u32
     requires psr { psr < 64 }
-    requires below { address < 2 ^ 26 }
+    requires below { address < SPACE_END }
     requires aligned { address % 4 ≡ 0 }
     ensures { result ≡ r15_of psr address mode }
 {
@@ -88,7 +85,7 @@ pub fn advanced(r15: u32, by: u32) -> u32
     requires small { by < 2 ^ 28 }
     ensures { result ≡ r15_ahead r15 by }
 {
-    r15_of(psr_of(r15), ahead(address_of(r15), by), mode_of(r15))
+    r15_of(psr_of(r15), ahead_of(address_of(r15), by), mode_of(r15))
 }
 
 /// R15 with the address bits of a value alone.
@@ -100,7 +97,7 @@ pub fn jumped(r15: u32, value: u32) -> u32
 
 /// R15 with the PSR and the mode of a value, and an address: in User mode I, F and the mode stay.
 pub fn restored(r15: u32, value: u32, address: u32) -> u32
-    requires below { address < 2 ^ 26 }
+    requires below { address < SPACE_END }
     requires aligned { address % 4 ≡ 0 }
     ensures { result ≡ restored_of r15 value address }
 {

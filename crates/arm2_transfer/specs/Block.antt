@@ -1,6 +1,7 @@
 -- Block transfers (VL86C010 data sheet, block data transfer, where it speaks).
 use Rattle.std.specs.Prelude.{ℕ, ◌+◌, ◌-◌, ◌*◌, ◌/◌, ◌%◌, ◌^◌, Bool, not, ◌&&◌, nat_lt, if◌then◌else◌, List}
 use Rattle.std.specs.Prelude.{[], ◌∷◌, length, Result, Ok, Err}
+use Rattle.bus_ticks.specs.declared.space.TheConstants.{SPACE_END}
 use Rattle.arm2_decode.specs.declared.instr.Block.{Block}
 use Rattle.arm2_decode.specs.declared.names.Register.TheVariants.{R15}
 use Rattle.arm2_decode.specs.Names.{register_number}
@@ -93,7 +94,7 @@ block_by x span port (Ok moves) regs bus = block_carried_out x span port moves r
 -- a transfer by where it lies: a lowest address of 2 ^ 26 or more is an exception
 unfoldable pub block_at : Block → Span → (port : ℕ) → List ℕ → Bus → Moved
 block_at x span port regs bus =
-    if nat_lt span.lowest (2 ^ 26) then
+    if nat_lt span.lowest SPACE_END then
     block_by x span port
     (verdict_of
     (words_from bus.memc (is_user (mode_of (r15_in regs))) (not x.load) span.lowest 0

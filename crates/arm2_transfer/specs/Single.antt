@@ -1,7 +1,8 @@
 -- Single transfers (VL86C010 data sheet, single data transfer, but for what a store of the base and the
 -- address exception do).
-use Rattle.std.specs.Prelude.{ℕ, ◌^◌, Bool, false, not, ◌&&◌, ◌||◌, nat_lt, if◌then◌else◌, List, Result, Ok}
+use Rattle.std.specs.Prelude.{ℕ, Bool, false, not, ◌&&◌, ◌||◌, nat_lt, if◌then◌else◌, List, Result, Ok}
 use Rattle.std.specs.Prelude.{Err}
+use Rattle.bus_ticks.specs.declared.space.TheConstants.{SPACE_END}
 use Rattle.memc.specs.Memory.{located}
 use Rattle.memc.specs.declared.spots.Spot.{Spot}
 use Rattle.arm2_decode.specs.declared.instr.SingleImmediate.{SingleImmediate}
@@ -83,7 +84,7 @@ single_by x base port (Ok spot) regs bus = single_carried_out x base port spot r
 -- a transfer by its base: an address of 2 ^ 26 or more is an exception
 unfoldable pub single_at : Single → (base port : ℕ) → List ℕ → Bus → Moved
 single_at x base port regs bus =
-    if nat_lt (address_for x base) (2 ^ 26) then
+    if nat_lt (address_for x base) SPACE_END then
     single_by x base port
     (or_fault
     (located bus.memc (address_for x base) (has_user_rights x (mode_of (r15_in regs)))

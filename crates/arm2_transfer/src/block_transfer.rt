@@ -1,4 +1,5 @@
 ghost use Rattle.std.specs.Prelude.{◌≡◌, true, false, ◌+◌, ◌*◌, ◌<◌, ◌≤◌, ◌^◌, length};
+ghost use Rattle.bus_ticks.specs.declared.space.TheConstants.{SPACE_END};
 ghost use Rattle.arm2_effect.specs.Effects.{is_stopped, ticks_of};
 ghost use Rattle.arm2_effect.specs.Modes.{r15_in, register_in};
 ghost use Rattle.arm2_transfer.specs.Words.{AllFit, is_listed, registers_in, moves_along};
@@ -182,7 +183,7 @@ fn begin_load(registers: &mut Registers, block: PlacedBlock) -> Loading
 // What a load answers once its words are in the registers; R15 was `r15` before it.
 #[inline(always)]
 fn end_load(registers: &Registers, prices: &Prices, block: PlacedBlock, r15: u32) -> Done
-    requires { block.span.lowest < 2 ^ 26 }
+    requires { block.span.lowest < SPACE_END }
     ensures kind { result.kind ≡ Kind.Plain }
     ensures ticks { result.ticks
         ≡ ticks_of prices.now.profile prices.now.rom
@@ -205,7 +206,7 @@ fn load(
     moves: &[Move],
 ) -> Done
     requires fit { AllFit bus.now.memc.shift moves.now }
-    requires below { block.span.lowest < 2 ^ 26 }
+    requires below { block.span.lowest < SPACE_END }
     ensures moved { IsMoved inputs.now.prices.profile inputs.now.prices.rom result registers.new bus.now
         (block_loads block.transfer block.span inputs.now.port moves.now registers.old bus.now) }
     ensures bound { result.ticks < 2 ^ 16 }
@@ -227,7 +228,7 @@ fn load_run(
 ) -> Done
     requires fit { place + 4 * length (registers_in block.transfer.list) ≤ 128 * 2 ^ bus.now.memc.shift }
     requires room { place + 4 * length (registers_in block.transfer.list) ≤ 2 ^ 22 }
-    requires below { block.span.lowest < 2 ^ 26 }
+    requires below { block.span.lowest < SPACE_END }
     ensures moved { IsMoved inputs.now.prices.profile inputs.now.prices.rom result registers.new bus.now
         (block_loads block.transfer block.span inputs.now.port
         (moves_along place (registers_in block.transfer.list)) registers.old bus.now) }
@@ -248,7 +249,7 @@ fn store(
     moves: &[Move],
 ) -> Done
     requires fit { AllFit bus.old.memc.shift moves.now }
-    requires below { block.span.lowest < 2 ^ 26 }
+    requires below { block.span.lowest < SPACE_END }
     ensures moved { IsMoved prices.now.profile prices.now.rom result registers.new bus.new
         (block_stores block.transfer block.span moves.now registers.old bus.old) }
     ensures bound { result.ticks < 2 ^ 16 }
@@ -272,7 +273,7 @@ fn store_run(
     requires listed { 1 ≤ length (registers_in block.transfer.list) }
     requires fit { place + 4 * length (registers_in block.transfer.list) ≤ 128 * 2 ^ bus.old.memc.shift }
     requires room { place + 4 * length (registers_in block.transfer.list) ≤ 2 ^ 22 }
-    requires below { block.span.lowest < 2 ^ 26 }
+    requires below { block.span.lowest < SPACE_END }
     ensures moved { IsMoved prices.now.profile prices.now.rom result registers.new bus.new
         (block_stores block.transfer block.span
         (moves_along place (registers_in block.transfer.list)) registers.old bus.old) }
@@ -294,7 +295,7 @@ fn word_by_word(
     inputs: &Inputs,
     block: PlacedBlock,
 ) -> Done
-    requires { block.span.lowest < 2 ^ 26 }
+    requires { block.span.lowest < SPACE_END }
     ensures moved { IsMoved inputs.now.prices.profile inputs.now.prices.rom result registers.new bus.new
         (block_at block.transfer block.span inputs.now.port registers.old bus.old) }
     ensures bound { result.ticks < 2 ^ 16 }

@@ -1,4 +1,5 @@
 ghost use Rattle.std.specs.Prelude.{◌≡◌, true, ◌<◌, ◌≤◌, ◌^◌, ◌%◌};
+ghost use Rattle.bus_ticks.specs.declared.space.TheConstants.{SPACE_END};
 ghost use Rattle.bus_ticks.specs.Prices.{n_price};
 ghost use Rattle.arm2_effect.specs.Effects.{is_stopped, ticks_of};
 ghost use Rattle.arm2_effect.specs.ProgramCounter.{ahead_of};
@@ -6,7 +7,7 @@ ghost use Rattle.arm2_transfer.specs.Moved.{ChangesNothing, IsMoved, faulted, lo
 
 use crate::bus::Bus;
 use crate::words::TransferFault;
-use arm2_effect::{Done, Prices, Registers, Vector, Why, ahead};
+use arm2_effect::{Done, Prices, Registers, Vector, Why, ahead_of};
 use bus_ticks::{fetch_n, transfer};
 
 /// What a transfer does none of whose words is moved.
@@ -44,12 +45,12 @@ pub struct Accesses {
 /// The ticks of a load; where it writes R15 it jumps to `to`.
 #[inline(always)]
 pub(crate) fn load_ticks(prices: &Prices, accesses: Accesses, jumps: bool, to: u32) -> u32
-    requires from { accesses.from < 2 ^ 26 }
+    requires from { accesses.from < SPACE_END }
     requires from_aligned { accesses.from % 4 ≡ 0 }
-    requires address { accesses.address < 2 ^ 26 }
+    requires address { accesses.address < SPACE_END }
     requires some { 1 ≤ accesses.words }
     requires few { accesses.words ≤ 16 }
-    requires to { to < 2 ^ 26 }
+    requires to { to < SPACE_END }
     requires to_aligned { to % 4 ≡ 0 }
     ensures ticks { result
         ≡ ticks_of prices.now.profile prices.now.rom
@@ -74,20 +75,20 @@ pub(crate) fn load_ticks(prices: &Prices, accesses: Accesses, jumps: bool, to: u
 // The ticks of the fetch after a store by the instruction at `from`: it does not follow the access before it.
 #[inline(always)]
 fn fetch_after(prices: &Prices, from: u32) -> u32
-    requires from { from < 2 ^ 26 }
+    requires from { from < SPACE_END }
     requires from_aligned { from % 4 ≡ 0 }
     ensures price { result ≡ n_price prices.now.profile prices.now.rom (ahead_of from 8) }
     ensures small { result < 256 }
 {
-    fetch_n(&prices.profile, ahead(from, 8), prices.rom)
+    fetch_n(&prices.profile, ahead_of(from, 8), prices.rom)
 }
 
 /// The ticks of a store.
 #[inline(always)]
 pub(crate) fn store_ticks(prices: &Prices, accesses: Accesses) -> u32
-    requires from { accesses.from < 2 ^ 26 }
+    requires from { accesses.from < SPACE_END }
     requires from_aligned { accesses.from % 4 ≡ 0 }
-    requires address { accesses.address < 2 ^ 26 }
+    requires address { accesses.address < SPACE_END }
     requires some { 1 ≤ accesses.words }
     requires few { accesses.words ≤ 16 }
     ensures ticks { result

@@ -1,4 +1,5 @@
 ghost use Rattle.std.specs.Prelude.{◌≡◌, true, false, ◌<◌, ◌^◌};
+ghost use Rattle.bus_ticks.specs.declared.space.TheConstants.{SPACE_END};
 ghost use Rattle.memc.specs.Memory.{Fits};
 ghost use Rattle.arm2_effect.specs.Effects.{is_stopped};
 ghost use Rattle.arm2_transfer.specs.Moved.{ChangesNothing, IsMoved};
@@ -65,7 +66,7 @@ fn load(
     spot: Spot,
 ) -> Done
     requires fits { Fits bus.now.memc.shift spot }
-    requires below { address_for single.transfer single.base < 2 ^ 26 }
+    requires below { address_for single.transfer single.base < SPACE_END }
     ensures moved { IsMoved inputs.now.prices.profile inputs.now.prices.rom result registers.new bus.now
         (single_loads single.transfer single.base inputs.now.port spot registers.old bus.now) }
     ensures bound { result.ticks < 2 ^ 16 }
@@ -88,7 +89,7 @@ fn store(
     spot: Spot,
 ) -> Done
     requires fits { Fits bus.old.memc.shift spot }
-    requires below { address_for single.transfer single.base < 2 ^ 26 }
+    requires below { address_for single.transfer single.base < SPACE_END }
     ensures moved { IsMoved prices.now.profile prices.now.rom result registers.new bus.new
         (single_stores single.transfer single.base spot registers.old bus.old) }
     ensures bound { result.ticks < 2 ^ 16 }

@@ -1,4 +1,5 @@
 ghost use Rattle.std.specs.Prelude.{◌≡◌, ◌<◌, ◌≤◌, ◌^◌, ◌∷◌, length, Ok, Err, IfOk, MatchResult};
+ghost use Rattle.bus_ticks.specs.declared.space.TheConstants.{SPACE_END};
 ghost use Rattle.memc.specs.Memory.{Fits, located};
 ghost use Rattle.arm2_transfer.specs.Words.{all_registers, is_listed, registers_in, or_fault, words_from};
 ghost use Rattle.arm2_transfer.specs.Words.{verdict_of, AllFit};
@@ -82,7 +83,7 @@ pub(crate) fn locate_word(
     user: bool,
     store: bool,
 ) -> Result<Spot, TransferFault>
-    requires { address < 2 ^ 26 }
+    requires { address < SPACE_END }
     ensures met { result ≡ or_fault (located memc.now address user store) }
     ensures fitted { IfOk result (Fits memc.now.shift) }
 {
@@ -101,7 +102,7 @@ pub(crate) fn locate_block(
     user: bool,
     store: bool,
 ) -> Result<ArrayVec<Move, 16>, TransferFault>
-    requires { lowest < 2 ^ 26 }
+    requires { lowest < SPACE_END }
     ensures verdict { MatchResult result
         (λ moves. verdict_of (words_from memc.now user store lowest 0 (registers_in list)) ≡ Ok moves.items)
         (λ fault. verdict_of (words_from memc.now user store lowest 0 (registers_in list)) ≡ Err fault) }

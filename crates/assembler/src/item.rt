@@ -1,4 +1,5 @@
-ghost use Rattle.std.specs.Prelude.{◌≡◌, ◌≤◌, ◌^◌};
+ghost use Rattle.std.specs.Prelude.{◌≡◌, ◌≤◌};
+ghost use Rattle.bus_ticks.specs.declared.space.TheConstants.{SPACE_END};
 
 use asm_text::Reference;
 
@@ -20,5 +21,5 @@ pub struct Item<'a> {
     pub line: usize,
     pub at: u32,
     pub pending: Pending<'a>,
-    ghost within: { at ≤ 2 ^ 26 },
+    ghost within: { at ≤ SPACE_END },
 }

@@ -1,4 +1,5 @@
-ghost use Rattle.std.specs.Prelude.{◌≡◌, ◌≤◌, ◌+◌, ◌^◌, IfOk, IfErr, OnOk, Ok, length};
+ghost use Rattle.std.specs.Prelude.{◌≡◌, ◌≤◌, ◌+◌, IfOk, IfErr, OnOk, Ok, length};
+ghost use Rattle.bus_ticks.specs.declared.space.TheConstants.{SPACE_END};
 ghost use Rattle.asm_text.specs.Statements.{line_of};
 ghost use Rattle.assembler.specs.Placed.{ArePlaced, IsPlaceFault};
 ghost use Rattle.assembler.specs.Sweeps.{assembled, line_step};
@@ -17,10 +18,10 @@ fn place_line<'a>(
     number: usize,
     text: &'a [u8],
 ) -> Result<PlacedLine, AsmFault>
-    requires { sweep.old.at ≤ 2 ^ 26 }
+    requires { sweep.old.at ≤ SPACE_END }
     ensures ok { OnOk result
         (line_step (state_of sweep.old) number (line_of text.now) ≡ Ok (state_of sweep.new)) }
-    ensures within { OnOk result (sweep.new.at ≤ 2 ^ 26) }
+    ensures within { OnOk result (sweep.new.at ≤ SPACE_END) }
     ensures at { IfOk result (λ line. line.at ≡ sweep.old.at) }
     ensures words { IfOk result
         (λ line. length sweep.new.items.items ≡ length sweep.old.items.items + line.words) }

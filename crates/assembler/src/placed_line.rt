@@ -1,4 +1,5 @@
-ghost use Rattle.std.specs.Prelude.{◌+◌, ◌*◌, ◌≤◌, ◌^◌};
+ghost use Rattle.std.specs.Prelude.{◌+◌, ◌*◌, ◌≤◌};
+ghost use Rattle.bus_ticks.specs.declared.space.TheConstants.{SPACE_END};
 
 /// Where a line of a source is placed.
 #[derive(Clone, Copy)]
@@ -8,5 +9,5 @@ pub struct PlacedLine {
     pub at: u32,
     /// How many words it has. An ORG has none.
     pub words: usize,
-    ghost within: { at + 4 * words ≤ 2 ^ 26 },
+    ghost within: { at + 4 * words ≤ SPACE_END },
 }

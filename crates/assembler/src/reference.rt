@@ -1,4 +1,5 @@
-ghost use Rattle.std.specs.Prelude.{◌≡◌, ◌≤◌, ◌+◌, ◌^◌};
+ghost use Rattle.std.specs.Prelude.{◌≡◌, ◌≤◌, ◌+◌};
+ghost use Rattle.bus_ticks.specs.declared.space.TheConstants.{SPACE_END};
 ghost use Rattle.assembler.specs.Codes.{apart, is_ahead, refer, use_action, use_fault};
 
 use crate::fault::Fault;
@@ -6,7 +7,7 @@ use arm2_decode::{Opcode, Register};
 use asm_text::{Action, Address, Code, Data, Distance, Operand, Reference, Transfer, Use};
 
 fn is_ahead(at: u32, target: u32) -> bool
-    requires { at ≤ 2 ^ 26 }
+    requires { at ≤ SPACE_END }
     ensures { result ≡ is_ahead at target }
 {
     at + 8 <= target
@@ -14,7 +15,7 @@ fn is_ahead(at: u32, target: u32) -> bool
 
 // How far a target is from the address two words on.
 fn apart(at: u32, target: u32) -> u32
-    requires { at ≤ 2 ^ 26 }
+    requires { at ≤ SPACE_END }
     ensures { result ≡ apart at target }
 {
     if is_ahead(at, target) {
@@ -25,7 +26,7 @@ fn apart(at: u32, target: u32) -> u32
 }
 
 fn action(how: Use, at: u32, target: u32) -> Action
-    requires { at ≤ 2 ^ 26 }
+    requires { at ≤ SPACE_END }
     ensures { result ≡ use_action how at target }
 {
     match how {
@@ -59,7 +60,7 @@ fn action(how: Use, at: u32, target: u32) -> Action
 /// What a word with a target does at an address: a branch to the target; for ADR the sum of R15 and a number,
 /// or their difference; a transfer by R15 and a number.
 pub(crate) fn refer(reference: Reference, at: u32, target: u32) -> Code
-    requires { at ≤ 2 ^ 26 }
+    requires { at ≤ SPACE_END }
     ensures { result ≡ refer reference at target }
 {
     Code {

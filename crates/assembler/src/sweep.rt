@@ -1,7 +1,8 @@
-ghost use Rattle.std.specs.Prelude.{◌≡◌, nat_lt, ◌&&◌, ◌-◌, ◌++◌, ◌+◌, ◌*◌, ◌∷◌, ◌≤◌, ◌<◌, ◌^◌, ◌⊎◌, [], ℕ};
+ghost use Rattle.std.specs.Prelude.{◌≡◌, nat_lt, ◌&&◌, ◌-◌, ◌++◌, ◌+◌, ◌*◌, ◌∷◌, ◌≤◌, ◌<◌, ◌⊎◌, [], ℕ};
 ghost use Rattle.std.specs.Prelude.{List, None, IfNone, IfOk, IfErr, OnOk, Ok, Err, length, map, option_map};
 ghost use Rattle.std.specs.Prelude.{is_some};
 ghost use Rattle.std.specs.List.{list_any};
+ghost use Rattle.bus_ticks.specs.declared.space.TheConstants.{SPACE_END};
 ghost use Rattle.asm_text.specs.Said.{target_of};
 ghost use Rattle.asm_text.specs.Source.{line_view};
 ghost use Rattle.asm_text.specs.Statements.{line_of};
@@ -75,7 +76,7 @@ fn line_fault(fault: TextFault) -> Fault
 }
 
 fn at_target<'a>(reference: Reference, at: u32, target: Value<'a>) -> Result<Pending<'a>, Fault>
-    requires { at ≤ 2 ^ 26 }
+    requires { at ≤ SPACE_END }
     ensures { result_pending result ≡ target_pending reference at (target_of target.entry) }
 {
     match target {
@@ -125,7 +126,7 @@ impl<'a> Sweep<'a> {
     // Why so many words cannot come next.
     fn place_fault(&self, count: usize) -> Option<Fault>
         ensures value { result ≡ place_fault (state_of self.now) count }
-        ensures room { IfNone result (self.now.at + 4 * count ≤ 2 ^ 26) }
+        ensures room { IfNone result (self.now.at + 4 * count ≤ SPACE_END) }
         ensures few { IfNone result (self.now.words + count ≤ MOST_WORDS) }
     {
         if count > 0x100_0000 {
@@ -160,7 +161,7 @@ impl<'a> Sweep<'a> {
     // Why an ORG cannot have an address.
     fn org_fault(&self, address: u32) -> Option<Fault>
         ensures value { result ≡ org_fault (state_of self.now) address }
-        ensures within { IfNone result (address ≤ 2 ^ 26) }
+        ensures within { IfNone result (address ≤ SPACE_END) }
     {
         if !may_hold(address) {
             return Some(Fault::OutOfRange);
@@ -194,7 +195,7 @@ impl<'a> Sweep<'a> {
 
     // Puts a word next.
     fn place(&mut self, line: usize, pending: Pending<'a>) -> Result<(), AsmFault>
-        requires room { self.old.at + 4 ≤ 2 ^ 26 }
+        requires room { self.old.at + 4 ≤ SPACE_END }
         requires few { self.old.words < MOST_WORDS }
         ensures ok { OnOk result
             (state_of self.new ≡ placed (state_of self.old) line (pending_of pending.entry)) }
@@ -224,7 +225,7 @@ impl<'a> Sweep<'a> {
         ensures ok { OnOk result
             (pending_step (state_of self.old) line (name_of label.entry) (result_pending pending.entry)
             ≡ Ok (state_of self.new)) }
-        ensures within { OnOk result (self.new.at ≤ 2 ^ 26) }
+        ensures within { OnOk result (self.new.at ≤ SPACE_END) }
         ensures err { IfErr result
             (λ fault. Faulted fault line
             (pending_step (state_of self.old) line (name_of label.entry) (result_pending pending.entry))) }
@@ -262,7 +263,7 @@ impl<'a> Sweep<'a> {
     ) -> Result<(), AsmFault>
         ensures ok { OnOk result
             (org_step (state_of self.old) (name_of label.entry) address ≡ Ok (state_of self.new)) }
-        ensures within { OnOk result (self.new.at ≤ 2 ^ 26) }
+        ensures within { OnOk result (self.new.at ≤ SPACE_END) }
         ensures err { IfErr result
             (λ fault. Faulted fault line (org_step (state_of self.old) (name_of label.entry) address)) }
     {
@@ -281,11 +282,11 @@ impl<'a> Sweep<'a> {
     // Puts words of numbers and labels next.
     #[tactic(auto, using(crate::proofs::SweepLaws::placed_more))]
     fn place_all(&mut self, line: usize, values: &[Value<'a>]) -> Result<(), AsmFault>
-        requires room { self.old.at + 4 * length values.now ≤ 2 ^ 26 }
+        requires room { self.old.at + 4 * length values.now ≤ SPACE_END }
         requires few { self.old.words + length values.now ≤ MOST_WORDS }
         ensures ok { OnOk result
             (state_of self.new ≡ all_placed (state_of self.old) line (map target_of values.now)) }
-        ensures within { OnOk result (self.new.at ≤ 2 ^ 26) }
+        ensures within { OnOk result (self.new.at ≤ SPACE_END) }
         ensures memory { IfErr result (λ fault. fault ≡ AsmFault.Memory) }
     {
         for value in values {
@@ -304,7 +305,7 @@ impl<'a> Sweep<'a> {
         ensures ok { OnOk result
             (list_step (state_of self.old) line (name_of label.entry) (map target_of values.now)
             ≡ Ok (state_of self.new)) }
-        ensures within { OnOk result (self.new.at ≤ 2 ^ 26) }
+        ensures within { OnOk result (self.new.at ≤ SPACE_END) }
         ensures err { IfErr result
             (λ fault. Faulted fault line
             (list_step (state_of self.old) line (name_of label.entry) (map target_of values.now))) }
@@ -323,10 +324,10 @@ impl<'a> Sweep<'a> {
         line: usize,
         label: Option<&[u8]>,
     ) -> Result<(), AsmFault>
-        requires { self.old.at ≤ 2 ^ 26 }
+        requires { self.old.at ≤ SPACE_END }
         ensures ok { OnOk result
             (said_step (state_of self.old) line (name_of label.entry) None ≡ Ok (state_of self.new)) }
-        ensures within { OnOk result (self.new.at ≤ 2 ^ 26) }
+        ensures within { OnOk result (self.new.at ≤ SPACE_END) }
         ensures err { IfErr result
             (λ fault. Faulted fault line (said_step (state_of self.old) line (name_of label.entry) None)) }
     {
@@ -337,10 +338,10 @@ impl<'a> Sweep<'a> {
     }
 
     fn parsed_line(&mut self, alloc: Global, line: usize, parsed: &Line<'a>) -> Result<(), AsmFault>
-        requires { self.old.at ≤ 2 ^ 26 }
+        requires { self.old.at ≤ SPACE_END }
         ensures ok { OnOk result
             (line_step (state_of self.old) line (Ok (line_view parsed.now)) ≡ Ok (state_of self.new)) }
-        ensures within { OnOk result (self.new.at ≤ 2 ^ 26) }
+        ensures within { OnOk result (self.new.at ≤ SPACE_END) }
         ensures err { IfErr result
             (λ fault. Faulted fault line (line_step (state_of self.old) line (Ok (line_view parsed.now)))) }
     {
@@ -367,10 +368,10 @@ impl<'a> Sweep<'a> {
         line: usize,
         text: &'a [u8],
     ) -> Result<(), AsmFault>
-        requires { self.old.at ≤ 2 ^ 26 }
+        requires { self.old.at ≤ SPACE_END }
         ensures ok { OnOk result
             (line_step (state_of self.old) line (line_of text.now) ≡ Ok (state_of self.new)) }
-        ensures within { OnOk result (self.new.at ≤ 2 ^ 26) }
+        ensures within { OnOk result (self.new.at ≤ SPACE_END) }
         ensures err { IfErr result
             (λ fault. Faulted fault line (line_step (state_of self.old) line (line_of text.now))) }
     {

@@ -50,7 +50,7 @@ pub fn dearest_rom_times(profile: &Profile) -> RomTimes
 /// a transfer of 1 to 16 words costs the most, by any time fields of ROM.
 pub fn dearest_device(profile: &Profile) -> u32
     ensures page { result % 0x80000 ≡ 0 }
-    ensures from { 0x3000000 ≤ result }
+    ensures from { IO_START ≤ result }
     ensures below { result < 0x3200000 }
     ensures class { class_at result ≡ Class.Io }
     ensures lowest { IsDearestOf profile.now.slow profile.now.medium profile.now.fast profile.now.synchronous

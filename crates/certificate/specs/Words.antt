@@ -4,6 +4,7 @@ use Rattle.std.specs.Prelude.{slice_index, All, ⊤}
 use Rattle.std.specs.Coded.{Unit-prop, le_prop}
 use Rattle.std.specs.Fmt.{decimal}
 use Rattle.std.specs.List.{flat_map, join_with_byte}
+use Rattle.bus_ticks.specs.declared.space.TheConstants.{SPACE_END}
 use Rattle.asm_text.specs.Hex.{hex}
 use Rattle.bus_ticks.specs.Numbers.{profile_one}
 use Rattle.bus_ticks.specs.Ranges.{AreInRange, AreOrdered}
@@ -91,10 +92,10 @@ text_of lines = flat_map (λ x. ended (line_words x)) lines
 
 -- calls nest at most eight deep
 abbrev pub AreCalls : List ℕ → Type 0
-AreCalls calls = (length calls ≤ 8) × All (λ c. c < 2 ^ 26) calls
+AreCalls calls = (length calls ≤ 8) × All (λ c. c < SPACE_END) calls
 
 abbrev pub ToFits : To → Type 0
-ToFits (At a) = a < 2 ^ 26
+ToFits (At a) = a < SPACE_END
 ToFits Exit = ⊤
 
 -- it is one fact, which a row can keep
@@ -103,7 +104,7 @@ ToFits-prop (At a) = le_prop
 ToFits-prop Exit = Unit-prop
 
 pub record StepFits (s : StepLine) : Type 0 where
-  pub address : s.address < 2 ^ 26
+  pub address : s.address < SPACE_END
   pub to : ToFits s.to
   pub some : 0 < s.cost
   pub cost : s.cost < 2 ^ 63

@@ -1,5 +1,6 @@
 ghost use Rattle.std.specs.Prelude.{◌≡◌, ◌<◌, ◌^◌, ◌∷◌, ◌++◌, ℕ, List, MatchOption};
 ghost use Rattle.std.specs.Fmt.{decimal};
+ghost use Rattle.bus_ticks.specs.declared.space.TheConstants.{SPACE_END};
 ghost use Rattle.asm_text.specs.Hex.{hex};
 ghost use Rattle.certificate.specs.Words.{AreCalls, ToFits, label_words, list_words, to_words};
 ghost use Rattle.certificate.specs.declared.walk.To.{To};
@@ -12,8 +13,8 @@ use flow_graph::{Calls, Label};
 
 /// The address that the words begin with, and the words after its blank.
 pub(crate) fn address_first(words: &[u8]) -> Option<(u32, &[u8])>
-    ensures { MatchOption result ((a : ℕ) (rest : List ℕ) → a < 2 ^ 26 → words.now ≡ hex a ++ 32 ∷ rest → ⊥)
-        (λ p. (p.0 < 2 ^ 26) × (words.now ≡ hex p.0 ++ 32 ∷ p.1.now)) }
+    ensures { MatchOption result ((a : ℕ) (rest : List ℕ) → a < SPACE_END → words.now ≡ hex a ++ 32 ∷ rest → ⊥)
+        (λ p. (p.0 < SPACE_END) × (words.now ≡ hex p.0 ++ 32 ∷ p.1.now)) }
 {
     let (word, rest) = cut_at(b' ', words)?;
     Some((hex_at(word)?, rest))

@@ -9,7 +9,7 @@ use itoa::write_digits;
 use std::marker::Model;
 
 // The most bytes of a line.
-const LINE_ROOM: usize = 160;
+pub(crate) const LINE_ROOM: usize = 160;
 
 /// The end of a line: what is in it from some place on.
 #[derive(Drop)]
@@ -25,7 +25,7 @@ impl Model for LineEnd {
 
     ghost view = { λ l. drop l.start l.room };
 
-    ghost invariant = { λ l. l.start ≤ 160 };
+    ghost invariant = { λ l. l.start ≤ LINE_ROOM };
 }
 
 impl LineEnd {
@@ -51,7 +51,7 @@ impl LineEnd {
     /// Adds a text in front.
     #[inline]
     pub(crate) fn put(&mut self, text: &[u8])
-        requires { length text.now + length self.old ≤ 160 }
+        requires { length text.now + length self.old ≤ LINE_ROOM }
         ensures { self.new ≡ text.now ++ self.old }
     {
         let end = self.start;
@@ -62,7 +62,7 @@ impl LineEnd {
     /// Adds a number in decimal in front.
     #[inline]
     pub(crate) fn put_decimal(&mut self, n: u64)
-        requires { 20 + length self.old ≤ 160 }
+        requires { 20 + length self.old ≤ LINE_ROOM }
         ensures text { self.new ≡ decimal n ++ self.old }
         ensures len { length self.new ≤ 20 + length self.old }
     {
@@ -72,7 +72,7 @@ impl LineEnd {
     /// Adds a number in upper-case hexadecimal in front.
     #[inline]
     pub(crate) fn put_hex(&mut self, n: u32)
-        requires { 9 + length self.old ≤ 160 }
+        requires { 9 + length self.old ≤ LINE_ROOM }
         ensures text { self.new ≡ hex n ++ self.old }
         ensures len { length self.new ≤ 9 + length self.old }
     {

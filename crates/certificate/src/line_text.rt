@@ -7,7 +7,7 @@ ghost use Rattle.certificate.specs.Walk.{address_of, step_of, to_of};
 ghost use Rattle.certificate.specs.Words.{edge_words, instance_words, label_words, list_words, place_words};
 ghost use Rattle.certificate.specs.Words.{step_words, to_words};
 
-use crate::line_end::LineEnd;
+use crate::line_end::{LINE_ROOM, LineEnd};
 use flow_graph::{Calls, Edge, Label, Place};
 use longest_walk::{InstanceRow, PlaceRow};
 
@@ -24,7 +24,7 @@ pub fn address_of(place: &Place) -> u32
 impl LineEnd {
     // Adds a label between two blanks.
     fn put_label(&mut self, label: Label)
-        requires { 6 + length self.old ≤ 160 }
+        requires { 6 + length self.old ≤ LINE_ROOM }
         ensures text { self.new ≡ 32 ∷ (label_words label ++ 32 ∷ self.old) }
         ensures len { length self.new ≤ 6 + length self.old }
     {
@@ -35,7 +35,7 @@ impl LineEnd {
     }
 
     fn put_to(&mut self, to: &Place)
-        requires { 9 + length self.old ≤ 160 }
+        requires { 9 + length self.old ≤ LINE_ROOM }
         ensures text { self.new ≡ to_words (to_of to.now) ++ self.old }
         ensures len { length self.new ≤ 9 + length self.old }
     {
@@ -47,7 +47,7 @@ impl LineEnd {
 
     /// Adds an edge by its address, label, target and cost.
     pub(crate) fn put_edge(&mut self, edge: &Edge)
-        requires { 45 + length self.old ≤ 160 }
+        requires { 45 + length self.old ≤ LINE_ROOM }
         ensures text { self.new ≡ edge_words (step_of edge.now) ++ self.old }
         ensures len { length self.new ≤ 45 + length self.old }
     {
@@ -60,7 +60,7 @@ impl LineEnd {
 
     /// Adds an edge as a line of a walk shows it.
     pub(crate) fn put_step(&mut self, edge: &Edge)
-        requires { 50 + length self.old ≤ 160 }
+        requires { 50 + length self.old ≤ LINE_ROOM }
         ensures text { self.new ≡ step_words (step_of edge.now) ++ self.old }
         ensures len { length self.new ≤ 50 + length self.old }
     {
@@ -70,7 +70,7 @@ impl LineEnd {
 
     // Adds the addresses of calls, each after a slash.
     fn put_inner(&mut self, calls: &[u32])
-        requires { 10 * length calls.now + length self.old ≤ 160 }
+        requires { 10 * length calls.now + length self.old ≤ LINE_ROOM }
         ensures text { self.new ≡ flat_map (λ c. 47 ∷ hex c) calls.now ++ self.old }
         ensures len { length self.new ≤ 10 * length calls.now + length self.old }
     {
@@ -83,7 +83,7 @@ impl LineEnd {
     }
 
     fn put_calls(&mut self, calls: &Calls)
-        requires { 79 + length self.old ≤ 160 }
+        requires { 79 + length self.old ≤ LINE_ROOM }
         ensures text { self.new ≡ list_words calls.now ++ self.old }
         ensures len { length self.new ≤ 79 + length self.old }
     {
@@ -97,7 +97,7 @@ impl LineEnd {
 
     /// Adds a place with its distance.
     pub(crate) fn put_place(&mut self, row: &PlaceRow)
-        requires { 116 + length self.old ≤ 160 }
+        requires { 116 + length self.old ≤ LINE_ROOM }
         ensures { self.new ≡ place_words row.now ++ self.old }
     {
         self.put_decimal(row.distance);
@@ -110,7 +110,7 @@ impl LineEnd {
 
     /// Adds an instance with its arrival and its round.
     pub(crate) fn put_instance(&mut self, row: &InstanceRow)
-        requires { 140 + length self.old ≤ 160 }
+        requires { 140 + length self.old ≤ LINE_ROOM }
         ensures { self.new ≡ instance_words row.now ++ self.old }
     {
         self.put_decimal(row.round);

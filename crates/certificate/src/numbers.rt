@@ -1,5 +1,6 @@
 ghost use Rattle.std.specs.Prelude.{◌≡◌, ◌<◌, ◌^◌, ℕ, MatchOption};
 ghost use Rattle.std.specs.Fmt.{decimal};
+ghost use Rattle.bus_ticks.specs.declared.space.TheConstants.{SPACE_END};
 ghost use Rattle.asm_text.specs.Hex.{hex, hex_digit};
 
 /// The number below 2^63 that the bytes spell in decimal.
@@ -41,8 +42,8 @@ fn digit_at(byte: u8) -> Option<u32>
 
 /// The number below 4000000 (hex) that the bytes spell in upper-case hex.
 pub(crate) fn hex_at(word: &[u8]) -> Option<u32>
-    ensures { MatchOption result ((n : ℕ) → n < 2 ^ 26 → word.now ≡ hex n → ⊥)
-        (λ n. (n < 2 ^ 26) × (word.now ≡ hex n)) }
+    ensures { MatchOption result ((n : ℕ) → n < SPACE_END → word.now ≡ hex n → ⊥)
+        (λ n. (n < SPACE_END) × (word.now ≡ hex n)) }
 {
     let [first, rest @ ..] = word else {
         return None;

@@ -2,6 +2,7 @@
 use Rattle.std.specs.Prelude.{◌==◌, ◌&&◌, ◌+◌, ◌-◌, ◌*◌, ◌%◌, ◌^◌, ◌≤◌, nat_le, ℕ, Bool, true, false, List}
 use Rattle.std.specs.Prelude.{[], ◌∷◌, codes, Option, Some, None, Result, Ok, Err, if◌then◌else◌}
 use Rattle.std.specs.Str.{bytes_eq}
+use Rattle.bus_ticks.specs.declared.space.TheConstants.{SPACE_END}
 use Rattle.ioc.specs.LineNames.{line_named}
 use Rattle.ioc.specs.declared.lines.Lines.{Lines}
 use Rattle.debugger.specs.declared.command.Command.{Command}
@@ -23,7 +24,7 @@ number_in low high word = within low high (number_of word)
 -- the address of so many words, none of them past 3FFFFFC
 abbrev pub spanning : (count : ℕ) → Option ℕ → Result ℕ DebugFault
 spanning count None = Err BadNumber
-spanning count (Some a) = if a % 4 == 0 && nat_le (a + 4 * count) (2 ^ 26) then Ok a else Err BadNumber
+spanning count (Some a) = if a % 4 == 0 && nat_le (a + 4 * count) SPACE_END then Ok a else Err BadNumber
 
 abbrev pub address_in : (count : ℕ) → List ℕ → Result ℕ DebugFault
 address_in count word = spanning count (number_of word)
@@ -88,6 +89,6 @@ command_of line = command_in (words_of line)
 abbrev pub IsInRange : Command → Type 0
 IsInRange (Step n) = (1 ≤ n) × (n ≤ 1024)
 IsInRange (Run n) = (1 ≤ n) × (n ≤ 65536)
-IsInRange (Mem a n) = (a + 4 * n ≤ 2 ^ 26) × (n ≤ 16)
-IsInRange (Dis a n) = (a + 4 * n ≤ 2 ^ 26) × (n ≤ 16)
+IsInRange (Mem a n) = (a + 4 * n ≤ SPACE_END) × (n ≤ 16)
+IsInRange (Dis a n) = (a + 4 * n ≤ SPACE_END) × (n ≤ 16)
 IsInRange _ = Unit {0}

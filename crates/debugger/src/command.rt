@@ -1,5 +1,11 @@
 use ioc::Lines;
 
+/// How many steps `run` makes at most.
+pub(crate) const MOST_STEPS: u32 = 65_536;
+
+/// How many steps `step` makes, and shows, at most.
+pub(crate) const MOST_SHOWN_STEPS: u32 = 1024;
+
 /// A command, with its numbers in their ranges.
 #[derive(Clone, Copy)]
 pub enum Command {

@@ -1,10 +1,10 @@
-ghost use Rattle.std.specs.Prelude.{◌≡◌, ◌+◌, ◌*◌, ◌^◌, ◌≤◌, IfOk};
+ghost use Rattle.std.specs.Prelude.{◌≡◌, ◌+◌, ◌*◌, ◌≤◌, IfOk};
 ghost use Rattle.debugger.specs.Commands.{IsInRange, address_in, command_of, line_command};
 ghost use Rattle.debugger.specs.Commands.{number_in, one_word};
 ghost use Rattle.ioc.specs.LineNames.{line_named};
 ghost use Rattle.debugger.specs.Commands.{switched, three_words, two_words};
 
-use crate::command::Command;
+use crate::command::{Command, MOST_SHOWN_STEPS, MOST_STEPS};
 use crate::fault::DebugFault;
 use crate::words::{first_word, read_number};
 use bitflags::Flags;
@@ -25,7 +25,7 @@ fn number_in(low: u32, high: u32, word: &[u8]) -> Result<u32, DebugFault>
 fn address_of(count: u32, word: &[u8]) -> Result<u32, DebugFault>
     requires { count ≤ 16 }
     ensures address { result ≡ address_in count word.now }
-    ensures bound { IfOk result (λ a. a + 4 * count ≤ 2 ^ 26) }
+    ensures bound { IfOk result (λ a. a + 4 * count ≤ SPACE_END) }
 {
     match read_number(word) {
         Some(a) if a % 4 == 0 && a <= SPACE_END - 4 * count => Ok(a),
@@ -55,9 +55,9 @@ fn two_words(name: &[u8], number: &[u8]) -> Result<Command, DebugFault>
     ensures range { IfOk result IsInRange }
 {
     if name == b"step".as_slice() {
-        Ok(Command::Step(number_in(1, 1024, number)?))
+        Ok(Command::Step(number_in(1, MOST_SHOWN_STEPS, number)?))
     } else if name == b"run".as_slice() {
-        Ok(Command::Run(number_in(1, 65536, number)?))
+        Ok(Command::Run(number_in(1, MOST_STEPS, number)?))
     } else if name == b"break".as_slice() {
         Ok(Command::Break(address_of(1, number)?))
     } else if name == b"burst".as_slice() {

@@ -1,4 +1,5 @@
-ghost use Rattle.std.specs.Prelude.{◌≡◌, ◌+◌, ◌*◌, ◌^◌, ◌≤◌, ◌++◌, length, vec_capacity};
+ghost use Rattle.std.specs.Prelude.{◌≡◌, ◌+◌, ◌*◌, ◌≤◌, ◌++◌, length, vec_capacity};
+ghost use Rattle.bus_ticks.specs.declared.space.TheConstants.{SPACE_END};
 ghost use Rattle.trace_text.specs.TraceText.{Adds};
 ghost use Rattle.debugger.specs.Answers.{IsRowOf, Rows, breaks_text};
 
@@ -38,7 +39,7 @@ fn put_row(out: &mut Vec<u8>, row: Row, address: u32, word: u32)
 /// Adds a row for each word of a span.
 pub(crate) fn put_rows(out: &mut Vec<u8>, row: Row, address: u32, words: &[u32])
     requires room { length out.old.items + length words.now * 83 ≤ vec_capacity out.old }
-    requires span { address + 4 * length words.now ≤ 2 ^ 26 }
+    requires span { address + 4 * length words.now ≤ SPACE_END }
     ensures { Adds (Rows (IsRowOf row) address words.now) out.old.items out.new.items }
 {
     let mut at = address;

@@ -1,6 +1,7 @@
-ghost use Rattle.std.specs.Prelude.{◌≡◌, ◌⊎◌, ◌+◌, ◌*◌, ◌^◌, ◌<◌, ◌≤◌, ◌≢◌, nat_lt, slice_index, true, false};
+ghost use Rattle.std.specs.Prelude.{◌≡◌, ◌⊎◌, ◌+◌, ◌*◌, ◌<◌, ◌≤◌, ◌≢◌, nat_lt, slice_index, true, false};
 ghost use Rattle.std.specs.Prelude.{IfOk, IfErr, OnErr, OnOk, MatchOption, length};
 ghost use Rattle.std.specs.List.{prefix_len};
+ghost use Rattle.bus_ticks.specs.declared.space.TheConstants.{SPACE_END};
 ghost use Rattle.trace_text.specs.TraceText.{registers_text, ticks_text};
 ghost use Rattle.debugger.specs.Answers.{Answers, AnswersLine, AnswersRun, AnswersStep, AreSeen, HasGap};
 ghost use Rattle.debugger.specs.Answers.{IsStopped, Refuses, RefusesLine, Sets, ShowsSpan, breaks_text};
@@ -8,7 +9,7 @@ ghost use Rattle.debugger.specs.Answers.{seen, switched};
 ghost use Rattle.debugger.specs.Commands.{IsInRange};
 ghost use Rattle.debugger.specs.SessionState.{Ascending, begun, moved_on, toggled};
 
-use crate::command::Command;
+use crate::command::{Command, MOST_SHOWN_STEPS, MOST_STEPS};
 use crate::fault::DebugFault;
 use crate::printed::put_trace;
 use crate::reading::read_command;
@@ -138,7 +139,7 @@ impl Session {
     }
 
     fn step(&mut self, alloc: Global, steps: u32) -> Result<Vec<u8>, DebugFault>
-        requires { (1 ≤ steps) × (steps ≤ 1024) }
+        requires { (1 ≤ steps) × (steps ≤ MOST_SHOWN_STEPS) }
         ensures ok { IfOk result (λ answer. AnswersStep self.old steps answer.items self.new) }
         ensures err { IfErr result
             (λ fault. (fault ≡ DebugFault.Memory)
@@ -155,7 +156,7 @@ impl Session {
     }
 
     fn run(&mut self, alloc: Global, steps: u32) -> Result<Vec<u8>, DebugFault>
-        requires { (1 ≤ steps) × (steps ≤ 65536) }
+        requires { (1 ≤ steps) × (steps ≤ MOST_STEPS) }
         ensures ok { IfOk result (λ answer. AnswersRun self.old steps answer.items self.new) }
         ensures err { IfErr result
             (λ fault. (fault ≡ DebugFault.Memory)
@@ -232,7 +233,7 @@ impl Session {
 
     // The word that a privileged load finds in RAM or ROM.
     fn seen(&self, address: u32) -> Option<u32>
-        requires { address < 2 ^ 26 }
+        requires { address < SPACE_END }
         ensures { result ≡ seen self.now.machine.bus.memc address }
     {
         let memc = self.machine.memc();
@@ -243,7 +244,7 @@ impl Session {
     }
 
     fn words(&self, address: u32, count: u32) -> Option<ArrayVec<u32, WORDS>>
-        requires { (address + 4 * count ≤ 2 ^ 26) × (count ≤ 16) }
+        requires { (address + 4 * count ≤ SPACE_END) × (count ≤ 16) }
         ensures { MatchOption result (HasGap self.now.machine.bus.memc address count)
             (λ words. AreSeen self.now.machine.bus.memc address words.items × (length words.items ≡ count)) }
     {
@@ -256,7 +257,7 @@ impl Session {
     }
 
     fn span(&self, alloc: Global, row: Row, address: u32, count: u32) -> Result<Vec<u8>, DebugFault>
-        requires { (address + 4 * count ≤ 2 ^ 26) × (count ≤ 16) }
+        requires { (address + 4 * count ≤ SPACE_END) × (count ≤ 16) }
         ensures ok { IfOk result
             (λ answer. ShowsSpan row self.now.machine.bus.memc address count answer.items) }
         ensures err { IfErr result

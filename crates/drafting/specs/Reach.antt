@@ -1,7 +1,8 @@
 -- Where control goes from the words of a handler, as far as they show it (VL86C010 data sheet, but for the
 -- choice of shapes).
-use Rattle.std.specs.Prelude.{◌≡◌, ◌⊎◌, ◌↔◌, ℕ, ◌+◌, ◌-◌, ◌*◌, ◌^◌, ◌<◌, ◌≤◌, true, false}
+use Rattle.std.specs.Prelude.{◌≡◌, ◌⊎◌, ◌↔◌, ℕ, ◌+◌, ◌-◌, ◌*◌, ◌<◌, ◌≤◌, true, false}
 use Rattle.std.specs.Prelude.{if◌then◌else◌, List, length, Contains, Some}
+use Rattle.bus_ticks.specs.declared.space.TheConstants.{SPACE_END}
 use Rattle.arm2_decode.specs.Table.{IsUnallocated, Means}
 use Rattle.arm2_decode.specs.declared.instr.Instr.{Instr}
 use Rattle.arm2_decode.specs.declared.instr.Operation.{Operation}
@@ -51,7 +52,7 @@ abbrev pub next_of : ℕ → ℕ
 next_of at = ahead_of at 4
 
 abbrev pub before : ℕ → ℕ
-before at = ahead_of at (2 ^ 26 - 4)
+before at = ahead_of at (SPACE_END - 4)
 
 -- so many words from 8 bytes on: where a branch leads, and where the places of a table are
 abbrev pub words_on : ℕ → ℕ → ℕ

@@ -1,5 +1,4 @@
-ghost use Rattle.std.specs.Prelude.{◌≡◌, ◌↔◌, ℕ, ◌<◌, ◌^◌, true, false, IfSome, IsTrue, Some, OnOk};
-ghost use Rattle.arm2_effect.specs.ProgramCounter.{ahead_of};
+ghost use Rattle.std.specs.Prelude.{◌≡◌, ◌↔◌, ℕ, ◌<◌, true, false, IfSome, IsTrue, Some, OnOk};
 ghost use Rattle.drafting.specs.Exploring.{Gains};
 ghost use Rattle.drafting.specs.Reach.{CallsTo, GoesOn, HasPlaces, IsBranchAt, KeepsWayBack, LeadsAway};
 ghost use Rattle.drafting.specs.Reach.{StepsTo, before, next_of, words_on};
@@ -7,6 +6,7 @@ ghost use Rattle.drafting.specs.declared.words.Way.TheVariants.{Writer};
 ghost use Rattle.word_shapes.specs.Shapes.{is_never};
 
 use crate::words::{Reading, Way, reading_at};
+use arm2_effect::ahead_of;
 use bus_ticks::SPACE_END;
 use loader::Image;
 use std::alloc::AllocError;
@@ -14,14 +14,6 @@ use word_shapes::{is_always, is_never, is_table_jump_at, is_way_back_at};
 
 // The most destinations of a target.
 const MOST_BRANCHES: u32 = 64;
-
-/// The address so many bytes on, which wraps at [`SPACE_END`].
-pub(crate) fn ahead_of(address: u32, bytes: u32) -> u32
-    ensures sum { result ≡ ahead_of address bytes }
-    ensures fits { result < 2 ^ 26 }
-{
-    address.wrapping_add(bytes) % SPACE_END
-}
 
 /// The address of the word before.
 pub(crate) fn before(address: u32) -> u32

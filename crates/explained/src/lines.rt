@@ -1,6 +1,7 @@
-ghost use Rattle.std.specs.Prelude.{◌≡◌, ◌+◌, ◌*◌, ◌^◌, ◌≤◌, ◌++◌, IfOk, OnOk, codes, string_bytes};
+ghost use Rattle.std.specs.Prelude.{◌≡◌, ◌+◌, ◌*◌, ◌≤◌, ◌++◌, IfOk, OnOk, codes, string_bytes};
 ghost use Rattle.std.specs.BTreeMap.{get};
 ghost use Rattle.std.specs.Ordering.{nat_cmp};
+ghost use Rattle.bus_ticks.specs.declared.space.TheConstants.{SPACE_END};
 ghost use Rattle.text_rows.specs.Columns.{in_columns};
 ghost use Rattle.explained.specs.Costing.{IsCosting};
 ghost use Rattle.explained.specs.Table.{columns_text, each_of, each_text, is_any_reached, latest_text};
@@ -81,7 +82,7 @@ impl Costing {
 
 // Whether the graph has a place at one of so many words from an address on.
 fn is_any_reached(tally: &Tally, from: u32, count: usize) -> bool
-    requires { from + 4 * count ≤ 2 ^ 26 }
+    requires { from + 4 * count ≤ SPACE_END }
     ensures { result ≡ is_any_reached (get nat_cmp tally.now.by_address) from count }
 {
     let mut at = from;
@@ -124,7 +125,7 @@ fn costs_at(tally: &Tally, at: u32) -> Option<Costs>
 
 /// The ticks that the walk takes at so many words from an address on.
 pub(crate) fn ticks_in(tally: &Tally, from: u32, count: usize) -> u64
-    requires { from + 4 * count ≤ 2 ^ 26 }
+    requires { from + 4 * count ≤ SPACE_END }
     ensures { result ≡ ticks_in (get nat_cmp tally.now.by_address) from count }
 {
     let mut at = from;

@@ -1,7 +1,6 @@
 ghost use Rattle.std.specs.Prelude.{◌≡◌, ◌↔◌, ◌+◌, ◌<◌, ℕ, true, Contains, IfOk, IsTrue, OnOk};
 ghost use Rattle.std.specs.BTreeSet.{contains};
 ghost use Rattle.std.specs.Ordering.{nat_cmp};
-ghost use Rattle.arm2_effect.specs.ProgramCounter.{ahead_of};
 ghost use Rattle.flow_graph.specs.Flow.{HasEdge, IsWellFormed};
 ghost use Rattle.flow_graph.specs.declared.edges.Edge.{Edge};
 ghost use Rattle.flow_graph.specs.declared.places.Place.{Place};
@@ -16,7 +15,7 @@ ghost use Rattle.explained.specs.Taken.{is_reached};
 
 use crate::assumptions::sorted;
 use arm2_decode::{Instr, Opcode, Operation, Register};
-use bus_ticks::SPACE_END;
+use arm2_effect::ahead_of;
 use flow_graph::{Calls, Edge, Graph, Place};
 use loader::Image;
 use std::alloc::{AllocError, Global};
@@ -123,7 +122,7 @@ fn place_after(edge: &Edge) -> Option<Place>
         return None;
     };
     if calls.as_slice().len() < inner.as_slice().len() {
-        return Some(Place::At(calls, at.wrapping_add(4) % SPACE_END));
+        return Some(Place::At(calls, ahead_of(at, 4)));
     }
     None
 }

@@ -1,5 +1,6 @@
 -- Lists of call addresses (at most eight, since calls nest no deeper in a handler).
-use Rattle.std.specs.Prelude.{◌≡◌, ℕ, ◌-◌, ◌≤◌, ◌<◌, ◌^◌, List, ◌++◌, length, take, replicate, All}
+use Rattle.std.specs.Prelude.{◌≡◌, ℕ, ◌-◌, ◌≤◌, ◌<◌, List, ◌++◌, length, take, replicate, All}
+use Rattle.bus_ticks.specs.declared.space.TheConstants.{SPACE_END}
 use Rattle.flow_graph.specs.declared.call_list.Calls.TheInside.{Inside}
 
 -- the first `len` slots are the addresses, and the others are 0
@@ -7,7 +8,7 @@ pub record IsCalls (calls : Inside) : Type 0 where
   pub few : calls.len ≤ 8
   pub whole : length calls.slots ≡ 8
   pub padded : calls.slots ≡ take calls.len calls.slots ++ replicate (8 - calls.len) 0
-  pub small : All (λ a. a < 2 ^ 26) (take calls.len calls.slots)
+  pub small : All (λ a. a < SPACE_END) (take calls.len calls.slots)
 
 abbrev pub addresses_of : Inside → List ℕ
 addresses_of calls = take calls.len calls.slots

@@ -1,9 +1,10 @@
 -- The order of places, which is that of certificates.
-use Rattle.std.specs.Prelude.{ℕ, ◌<◌, ◌≤◌, ◌^◌, List, length, slice_index_or, All}
+use Rattle.std.specs.Prelude.{ℕ, ◌<◌, ◌≤◌, List, length, slice_index_or, All}
 use Rattle.std.specs.Ordering.{nat_cmp, ordering_then}
 use Rattle.std.specs.Cmp.Lexicographic.{slice_cmp}
 use Rattle.std.specs.declared.cmp.Ordering.{Ordering}
 use Rattle.std.specs.declared.cmp.Ordering.TheVariants.{Less, Equal, Greater}
+use Rattle.bus_ticks.specs.declared.space.TheConstants.{SPACE_END}
 use Rattle.flow_graph.specs.declared.places.Place.{Place}
 use Rattle.flow_graph.specs.declared.places.Place.TheVariants.{At, Exit}
 
@@ -20,9 +21,9 @@ place_at places n = slice_index_or places n Exit
 
 -- addresses lie below 4000000, and calls nest at most eight deep
 abbrev pub IsInRange : List ℕ → ℕ → Type 0
-IsInRange calls address = (address < 2 ^ 26) × (length calls ≤ 8) × All (λ c. c < 2 ^ 26) calls
+IsInRange calls address = (address < SPACE_END) × (length calls ≤ 8) × All (λ c. c < SPACE_END) calls
 
 -- Exit, or an address below 4000000
 abbrev pub IsInSpace : Place → Type 0
-IsInSpace (At calls address) = address < 2 ^ 26
+IsInSpace (At calls address) = address < SPACE_END
 IsInSpace Exit = Unit {0}

@@ -1,7 +1,8 @@
 -- How a machine is set for one word, besides where it is: what the clauses of private functions cite. Our
 -- own choice, among the addresses that cost the most (bus_ticks, Dearest).
-use Rattle.std.specs.Prelude.{◌≡◌, ◌≢◌, ◌<◌, ◌≤◌, ◌+◌, ◌*◌, ◌%◌, ◌^◌, ◌⊎◌, ℕ, Bool, true, false, not}
+use Rattle.std.specs.Prelude.{◌≡◌, ◌≢◌, ◌<◌, ◌≤◌, ◌+◌, ◌*◌, ◌%◌, ◌⊎◌, ℕ, Bool, true, false, not}
 use Rattle.std.specs.Prelude.{Some, None, Ok, IfSome, if◌then◌else◌}
+use Rattle.bus_ticks.specs.declared.space.TheConstants.{PHYSICAL_RAM, ROM_START, SPACE_END}
 use Rattle.bus_ticks.specs.declared.profile.Class.{Class}
 use Rattle.bus_ticks.specs.declared.profile.Class.TheVariants.{Any, Ram, Rom, Io}
 use Rattle.bus_ticks.specs.declared.profile.Profile.{Profile}
@@ -56,8 +57,8 @@ IsSource Any place = IsPort place
 abbrev pub IsData : (spare address : ℕ) → ℕ → Type 0
 IsData spare address at =
     (at % 4 ≡ 0)
-    × (((0x2000000 + spare * 0x8000 ≤ at) × (at < 0x2000000 + spare * 0x8000 + 0x8000))
-    ⊎ ((0x3400000 ≤ at) × (at < 2 ^ 26) × (at ≢ address)))
+    × (((PHYSICAL_RAM + spare * 0x8000 ≤ at) × (at < PHYSICAL_RAM + spare * 0x8000 + 0x8000))
+    ⊎ ((ROM_START ≤ at) × (at < SPACE_END) × (at ≢ address)))
 
 -- of a class in memory, such an address
 abbrev pub IsDataOf : Class → (spare address : ℕ) → ℕ → Type 0
@@ -70,7 +71,7 @@ IsDataOf Any spare address at = Unit {0}
 -- spot; of a load, one from where a word can be loaded
 pub record MayStart (aim : Aim) (load : Bool) (words lowest : ℕ) : Type 0 where
   pub whole : lowest % 4 ≡ 0
-  pub below : lowest < 2 ^ 26
+  pub below : lowest < SPACE_END
   pub block : (rom : RomTimes) → AreDearest aim.profile rom
       → IsDearestBlock aim.profile aim.class words (not load) (record { address = lowest; rom = rom })
   pub spots : ℕ → Spot

@@ -1,9 +1,10 @@
 -- The machine file of a machine that takes an edge at its price. Of such machines we choose this: SVC mode,
 -- pages of 32 KB, both interrupts masked, one register and at most one word in memory that is put after the
 -- image's.
-use Rattle.std.specs.Prelude.{◌≡◌, ◌<◌, ◌^◌, ◌⊎◌, ℕ, true, false, [], ◌∷◌, replicate, slice_set, map, All}
+use Rattle.std.specs.Prelude.{◌≡◌, ◌<◌, ◌⊎◌, ℕ, true, false, [], ◌∷◌, replicate, slice_set, map, All}
 use Rattle.std.specs.Prelude.{List, Option, Contains}
 use Rattle.std.specs.Prelude.{Some, None, IfSome}
+use Rattle.bus_ticks.specs.declared.space.TheConstants.{SPACE_END}
 use Rattle.bus_ticks.specs.declared.profile.Profile.{Profile}
 use Rattle.bus_ticks.specs.declared.profile.RomTimes.{RomTimes}
 use Rattle.memc.specs.declared.spots.PageSize.TheVariants.{K32}
@@ -161,11 +162,11 @@ pub record IsPlaceWord (words : Words) (place : Place) (e : ℕ × ℕ) : Type 0
   pub calls : List ℕ
   pub is : place ≡ At calls e.0
   pub has : word_of words e.0 ≡ Some e.1
-  pub below : e.0 < 2 ^ 26
+  pub below : e.0 < SPACE_END
 
 -- in the file's machine there is a place for the word, and for those of the file
 pub record CanPlace (profile : Profile) (f : file.Stated) (word : ℕ × ℕ) : Type 0 where
-  pub below : word.0 < 2 ^ 26
+  pub below : word.0 < SPACE_END
   pub fits : (start : State) → IsStarted f profile start → lacks_page start.bus.memc (word ∷ []) ≡ false
   pub all_fit : (start : State) → IsStarted f profile start
       → lacks_page (put_words (word ∷ []) start).bus.memc f.words ≡ false

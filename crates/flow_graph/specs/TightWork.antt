@@ -1,7 +1,8 @@
 -- How a machine is set so that its one step pays an edge's price (VL86C010 data sheet for what each
 -- instruction does).
-use Rattle.std.specs.Prelude.{◌≡◌, ◌⊎◌, ◌<◌, ◌%◌, ◌-◌, ◌^◌, ℕ, Bool, false, not, ◌&&◌, IsTrue}
+use Rattle.std.specs.Prelude.{◌≡◌, ◌⊎◌, ◌<◌, ◌%◌, ◌-◌, ℕ, Bool, false, not, ◌&&◌, IsTrue}
 use Rattle.std.specs.Prelude.{List, Some, Ok, count_ones, length}
+use Rattle.bus_ticks.specs.declared.space.TheConstants.{SPACE_END}
 use Rattle.bus_ticks.specs.declared.profile.Class.{Class}
 use Rattle.bus_ticks.specs.declared.profile.Profile.{Profile}
 use Rattle.bus_ticks.specs.declared.profile.RomTimes.{RomTimes}
@@ -50,7 +51,7 @@ masked = 3
 pub record StandsAt (profile : Profile) (word address : ℕ) (flags : Flags) (s : State) : Type 0 where
   pub registers : length s.regs ≡ 27
   pub whole : address % 4 ≡ 0
-  pub below : address < 2 ^ 26
+  pub below : address < SPACE_END
   pub r15 : r15_in s.regs ≡ r15_of (psr_with flags masked) address Svc
   pub prices : s.profile ≡ profile
   pub dearest : AreDearest profile s.bus.memc.control.rom_times
@@ -59,7 +60,7 @@ pub record StandsAt (profile : Profile) (word address : ℕ) (flags : Flags) (s 
 -- an address of a word that the place stands for, to which a jump costs what the graph says
 pub record IsDearestTarget (st : Stated) (profile : Profile) (to : Place) (t : ℕ) : Type 0 where
   pub whole : t % 4 ≡ 0
-  pub below : t < 2 ^ 26
+  pub below : t < SPACE_END
   pub stands_for : IsPlaceOf st t to
   pub price : (rom : RomTimes) → AreDearest profile rom
       → leave_price profile (record { address = t; rom = rom }) ≡ jump_ticks st.leave profile to

@@ -1,10 +1,11 @@
-ghost use Rattle.std.specs.Prelude.{◌≡◌, ℕ, ◌<◌, ◌≤◌, ◌↔◌, List, [], ◌∷◌, ◌++◌, length, take, ◌^◌, ◌-◌};
+ghost use Rattle.std.specs.Prelude.{◌≡◌, ℕ, ◌<◌, ◌≤◌, ◌↔◌, List, [], ◌∷◌, ◌++◌, length, take, ◌-◌};
 ghost use Rattle.std.specs.Prelude.{IfSome, IsNone, ◌==◌};
 ghost use Rattle.std.proofs.Common.{rules};
 ghost use Rattle.std.specs.Cmp.{partial_order_from_own_ties};
 ghost use Rattle.std.specs.Cmp.Rules.{comparing};
 ghost use Rattle.std.specs.Cmp.Lexicographic.{slice_cmp, pointwise};
 ghost use Rattle.std.specs.Ordering.{nat_cmp, as_partial_cmp};
+ghost use Rattle.bus_ticks.specs.declared.space.TheConstants.{SPACE_END};
 
 use std::cmp::Ordering;
 use std::marker::Model;
@@ -47,7 +48,7 @@ impl Calls {
 
     /// The list with one more address, or None where it holds eight.
     pub fn with(self, address: u32) -> Option<Calls>
-        requires { address < 2 ^ 26 }
+        requires { address < SPACE_END }
         ensures longer { IfSome result (λ calls. calls ≡ self ++ address ∷ []) }
         ensures full { IsNone result ↔ (length self ≡ 8) }
         ensures few { length self ≤ 8 }
@@ -67,7 +68,7 @@ impl Calls {
     pub fn split_last(self) -> Option<(Calls, u32)>
         ensures parts { IfSome result (λ parts. self ≡ parts.0 ++ parts.1 ∷ []) }
         ensures empty { IsNone result ↔ (self ≡ []) }
-        ensures small { IfSome result (λ parts. parts.1 < 2 ^ 26) }
+        ensures small { IfSome result (λ parts. parts.1 < SPACE_END) }
     {
         if self.len == 0 {
             return None;

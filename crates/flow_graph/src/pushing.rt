@@ -1,4 +1,5 @@
-ghost use Rattle.std.specs.Prelude.{◌≡◌, ◌++◌, ◌∷◌, [], map, All, IfErr, OnOk, Some, None, ◌⊎◌, ◌<◌, ◌^◌};
+ghost use Rattle.std.specs.Prelude.{◌≡◌, ◌++◌, ◌∷◌, [], map, All, IfErr, OnOk, Some, None, ◌⊎◌, ◌<◌};
+ghost use Rattle.bus_ticks.specs.declared.space.TheConstants.{SPACE_END};
 ghost use Rattle.flow_graph.specs.Edges.{call_places, do_edge, landing_edges, places_at, return_place};
 ghost use Rattle.flow_graph.specs.Edges.{skip_edge, word_edges, writer_landings};
 ghost use Rattle.flow_graph.specs.Kinds.{IsWork};
@@ -12,7 +13,8 @@ use crate::edges::{Edge, Label};
 use crate::faults::BuildFault;
 use crate::kinds::{Action, Kind, action_of, holds_always, holds_never};
 use crate::places::Place;
-use crate::ticks::{ahead_of, branch_target, do_ticks, passing_ticks};
+use crate::ticks::{branch_target, do_ticks, passing_ticks};
+use arm2_effect::ahead_of;
 use bus_ticks::Profile;
 use loader::Image;
 use statement::{Statement, TargetKind};
@@ -73,7 +75,7 @@ fn push_do(out: &mut Vec<Edge>, site: &Site, to: Place) -> Result<(), BuildFault
 // The edges that do the word and go where it lands.
 fn push_landing(out: &mut Vec<Edge>, site: &Site, landing: &Landing) -> Result<(), BuildFault>
     requires work { IsWork site.now.action.work }
-    requires to { All (λ a. a < 2 ^ 26) landing.now.to.now }
+    requires to { All (λ a. a < SPACE_END) landing.now.to.now }
     ensures ok { OnOk result
         (out.new.items
         ≡ out.old.items
@@ -91,9 +93,9 @@ fn push_landing(out: &mut Vec<Edge>, site: &Site, landing: &Landing) -> Result<(
 
 // The edges of a word that calls one of those addresses.
 fn push_call(out: &mut Vec<Edge>, site: &Site, to: &[u32]) -> Result<(), BuildFault>
-    requires address { site.now.address < 2 ^ 26 }
+    requires address { site.now.address < SPACE_END }
     requires work { IsWork site.now.action.work }
-    requires to { All (λ a. a < 2 ^ 26) to.now }
+    requires to { All (λ a. a < SPACE_END) to.now }
     ensures ok { OnOk result
         (out.new.items
         ≡ out.old.items
@@ -124,7 +126,7 @@ fn return_place(calls: &Calls) -> Place
 
 // The edges of a word that writes R15, by what is stated of it.
 fn push_writer(out: &mut Vec<Edge>, site: &Site) -> Result<(), BuildFault>
-    requires address { site.now.address < 2 ^ 26 }
+    requires address { site.now.address < SPACE_END }
     requires work { IsWork site.now.action.work }
     ensures ok { OnOk result
         (out.new.items
@@ -156,7 +158,7 @@ fn push_writer(out: &mut Vec<Edge>, site: &Site) -> Result<(), BuildFault>
 
 // The edges that do the word.
 fn push_done(out: &mut Vec<Edge>, site: &Site) -> Result<(), BuildFault>
-    requires address { site.now.address < 2 ^ 26 }
+    requires address { site.now.address < SPACE_END }
     requires work { IsWork site.now.action.work }
     ensures ok { OnOk result
         (out.new.items
@@ -189,7 +191,7 @@ fn push_done(out: &mut Vec<Edge>, site: &Site) -> Result<(), BuildFault>
 
 // The edges of a word.
 fn push_word(out: &mut Vec<Edge>, site: &Site) -> Result<(), BuildFault>
-    requires address { site.now.address < 2 ^ 26 }
+    requires address { site.now.address < SPACE_END }
     requires work { IsWork site.now.action.work }
     ensures ok { OnOk result
         (out.new.items

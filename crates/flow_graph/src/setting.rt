@@ -12,13 +12,11 @@ ghost use Rattle.flow_graph.specs.Setting.{MayStart, Sets, of_register, rotated,
 use crate::free::writes_pc;
 use crate::kinds::lists_pc;
 use arm2_decode::{Block, DataImmediate, Opcode, Operation, Register, SingleImmediate};
-use bus_ticks::{Class, Profile, ROM_START, dearest_device, dearest_ram_start, word_address};
+use bus_ticks::{
+    Class, PHYSICAL_RAM, Profile, ROM_START, dearest_device, dearest_ram_start, word_address,
+};
+use loader::PAGE_BYTES;
 use shifter::rotate_imm;
-
-/// Where physical RAM begins, and how long a page is, in bytes.
-pub(crate) const PHYSICAL_RAM: u32 = 0x200_0000;
-
-pub(crate) const PAGE: u32 = 0x8000;
 
 // Where the words of a load from ROM are, in bytes: at ROM's end, or before that where the load itself is
 // there.
@@ -81,7 +79,7 @@ fn start(aim: &Aim, load: bool, words: u32) -> u32
     ensures { MayStart aim.now load words result }
 {
     match aim.class {
-        Class::Ram => PHYSICAL_RAM + aim.spare * PAGE + dearest_ram_start(),
+        Class::Ram => PHYSICAL_RAM + aim.spare * PAGE_BYTES + dearest_ram_start(),
         Class::Io => dearest_device(&aim.profile),
         Class::Any => dearest_device(&aim.profile),
         Class::Rom if !load => ROM_START,

@@ -1,6 +1,6 @@
-ghost use Rattle.std.specs.Prelude.{◌≡◌, ◌+◌, ◌*◌, ◌<◌, ◌^◌};
+ghost use Rattle.std.specs.Prelude.{◌≡◌, ◌+◌, ◌*◌, ◌<◌};
+ghost use Rattle.bus_ticks.specs.declared.space.TheConstants.{SPACE_END};
 ghost use Rattle.bus_ticks.specs.Worst.{worst_n_price, worst_s_price};
-ghost use Rattle.arm2_effect.specs.ProgramCounter.{ahead_of};
 ghost use Rattle.flow_graph.specs.Edges.{arrival_ticks, branch_target, do_ticks, fetch_ticks, jump_ticks};
 ghost use Rattle.flow_graph.specs.Edges.{passing_ticks, work_ticks};
 ghost use Rattle.flow_graph.specs.Kinds.{IsWork};
@@ -8,24 +8,14 @@ ghost use Rattle.flow_graph.specs.Places.{IsInSpace};
 
 use crate::kinds::{Action, Kind, Work};
 use crate::places::Place;
-use bus_ticks::{
-    Class, Profile, SPACE_END, worst_fetch_n, worst_fetch_s, worst_leave, worst_transfer,
-};
+use arm2_effect::ahead_of;
+use bus_ticks::{Class, Profile, worst_fetch_n, worst_fetch_s, worst_leave, worst_transfer};
 use statement::Statement;
-
-/// The address so many bytes on, which wraps at [`SPACE_END`].
-pub fn ahead_of(address: u32, bytes: u32) -> u32
-    requires { bytes < 2 ^ 32 }
-    ensures sum { result ≡ ahead_of address bytes }
-    ensures fits { result < 2 ^ 26 }
-{
-    address.wrapping_add(bytes) % SPACE_END
-}
 
 /// The address to which a branch leads.
 pub fn branch_target(address: u32, offset: u32) -> u32
     ensures sum { result ≡ branch_target address offset }
-    ensures fits { result < 2 ^ 26 }
+    ensures fits { result < SPACE_END }
 {
     ahead_of(ahead_of(address, 8), offset.wrapping_mul(4))
 }

@@ -1,7 +1,8 @@
 //! A machine whose one step takes an edge at exactly its price.
 
 ghost use Rattle.std.specs.Prelude.{◌≡◌, ◌⊎◌, ◌<◌, Err, IfErr, IfOk, IfSome, IsNone, OnOk, All};
-ghost use Rattle.std.specs.Prelude.{Some, [], ◌∷◌, ◌↔◌, ◌^◌, false, length, map, slice_index_or};
+ghost use Rattle.std.specs.Prelude.{Some, [], ◌∷◌, ◌↔◌, false, length, map, slice_index_or};
+ghost use Rattle.bus_ticks.specs.declared.space.TheConstants.{SPACE_END};
 ghost use Rattle.loader.specs.Loading.{lacks_page, put_words};
 ghost use Rattle.flow_graph.specs.Graph.{IsFlowGraph};
 ghost use Rattle.flow_graph.specs.declared.edges.Edge.{Edge};
@@ -282,7 +283,7 @@ fn edge_file(
 
 // Puts words that all have a place.
 fn put(alloc: Global, machine: &mut Machine, words: &[(u32, u32)]) -> Result<(), TightFault>
-    requires below { All (λ e. e.0 < 2 ^ 26) words.now }
+    requires below { All (λ e. e.0 < SPACE_END) words.now }
     requires fit { lacks_page machine.old.bus.memc words.now ≡ false }
     ensures put { OnOk result (machine.new ≡ put_words words.now machine.old) }
     ensures fault { IfErr result (λ fault. fault ≡ TightFault.Memory) }
@@ -329,9 +330,9 @@ fn put_in_turn(
     word: (u32, u32),
     words: &[(u32, u32)],
 ) -> Result<(), TightFault>
-    requires below { word.0 < 2 ^ 26 }
+    requires below { word.0 < SPACE_END }
     requires fits { lacks_page machine.old.bus.memc (word ∷ []) ≡ false }
-    requires all_below { All (λ e. e.0 < 2 ^ 26) words.now }
+    requires all_below { All (λ e. e.0 < SPACE_END) words.now }
     requires all_fit { lacks_page (put_words (word ∷ []) machine.old).bus.memc words.now ≡ false }
     ensures put { OnOk result (machine.new ≡ put_words words.now (put_words (word ∷ []) machine.old)) }
     ensures fault { IfErr result (λ fault. fault ≡ TightFault.Memory) }

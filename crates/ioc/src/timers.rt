@@ -5,6 +5,9 @@ ghost use Rattle.ioc.specs.Timers.{after_decrements, ticked};
 ghost use Rattle.ioc.specs.Interrupts.{still};
 ghost use Rattle.ioc.specs.Registers.{with_low, with_high, started, sampled, cleared};
 
+// How many counts a timer of 16 bits makes from a latch of 0 until it raises its request.
+const COUNTS: u32 = 65_536;
+
 /// A timer: its count, the latch that it loads, the count that its registers show, and its latched request.
 #[derive(Clone, Copy, Debug, PartialEq, Eq)]
 pub struct Timer {
@@ -57,14 +60,14 @@ impl Timer {
     /// timer that rests.
     pub(crate) fn counts_left(self) -> u32
         ensures some { 1 ≤ result }
-        ensures most { result ≤ 65536 }
+        ensures most { result ≤ COUNTS }
         ensures quiet { (times : ℕ) → times < result → (after_decrements times self).request ≡ self.request }
     {
         if self.count == 0 {
-            return 65536;
+            return COUNTS;
         }
         if self.latch == 0 {
-            return 65536;
+            return COUNTS;
         }
         self.count as u32
     }

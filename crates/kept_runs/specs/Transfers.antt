@@ -1,7 +1,8 @@
 -- The words that an instruction transfers where it is carried out, by the registers before it (VL86C010 data
 -- sheet, single and block data transfer).
-use Rattle.std.specs.Prelude.{◌≡◌, ℕ, ◌<◌, ◌^◌, Bool, true, false, not, count_ones, if◌then◌else◌}
+use Rattle.std.specs.Prelude.{◌≡◌, ℕ, ◌<◌, Bool, true, false, not, count_ones, if◌then◌else◌}
 use Rattle.std.specs.Prelude.{List, Option, Some, None}
+use Rattle.bus_ticks.specs.declared.space.TheConstants.{SPACE_END}
 use Rattle.bus_ticks.specs.Prices.{word_address}
 use Rattle.bus_ticks.specs.Worst.{IsOf}
 use Rattle.bus_ticks.specs.declared.profile.Class.{Class}
@@ -76,8 +77,8 @@ pub record HasOtherOf (class : Class) (t : Transfer) (access : Access) : Type 0 
 -- A transfer from an address of 2 ^ 26 or more is an exception, and moves no word.
 abbrev pub HasOther : Class → Option Transfer → Access → Type 0
 HasOther class None access = ⊥
-HasOther class (Some t) access = (t.address < 2 ^ 26) × HasOtherOf class t access
+HasOther class (Some t) access = (t.address < SPACE_END) × HasOtherOf class t access
 
 abbrev pub HasNoOther : Class → Option Transfer → Type 0
 HasNoOther class None = Unit {0}
-HasNoOther class (Some t) = t.address < 2 ^ 26 → AllOf class t
+HasNoOther class (Some t) = t.address < SPACE_END → AllOf class t

@@ -8,7 +8,7 @@ ghost use Rattle.arm2_effect.specs.Operands.{current_in, first_of, operand_of, s
 ghost use Rattle.arm2_effect.specs.ProgramCounter.{flags_of};
 
 use arm2_decode::{Cond, Register, SingleRegister, holds};
-use arm2_effect::{address_of, advanced, ahead, flags_of, mode_of};
+use arm2_effect::{address_of, advanced, ahead_of, flags_of, mode_of};
 use arm2_exec::{Machine, Reg};
 use register_banks::banked;
 use shifter::{Shifted, shift_imm};
@@ -26,7 +26,7 @@ pub(crate) fn base(machine: &Machine, register: Register) -> u32
     ensures { result ≡ first_of 8 register machine.now.regs }
 {
     if register.is_pc() {
-        return ahead(address_of(machine.get(Reg::R15)), 8);
+        return ahead_of(address_of(machine.get(Reg::R15)), 8);
     }
     current(machine, register)
 }

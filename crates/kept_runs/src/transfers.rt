@@ -1,6 +1,6 @@
 //! The words that an instruction transfers, by the registers before it.
 
-ghost use Rattle.std.specs.Prelude.{◌≡◌, ◌≤◌, ◌<◌, ◌^◌, ℕ, IfSome, MatchOption};
+ghost use Rattle.std.specs.Prelude.{◌≡◌, ◌≤◌, ◌<◌, ℕ, IfSome, MatchOption};
 ghost use Rattle.bus_ticks.specs.Prices.{class_at};
 ghost use Rattle.arm2_transfer.specs.Block.{lowest_of};
 ghost use Rattle.arm2_transfer.specs.Registers.{moved_by};
@@ -112,7 +112,7 @@ pub(crate) fn covers(class: Class, own: Class) -> bool
 
 // The first word that is of another class than the one stated, if one is.
 fn other_word(class: Class, transfer: &Transfer) -> Option<Access>
-    requires below { transfer.now.address < 2 ^ 26 }
+    requires below { transfer.now.address < SPACE_END }
     requires few { transfer.now.words ≤ 16 }
     ensures { MatchOption result (AllOf class transfer.now) (HasOtherOf class transfer.now) }
 {

@@ -1,4 +1,5 @@
-ghost use Rattle.std.specs.Prelude.{◌≡◌, ◌≤◌, ◌+◌, ◌*◌, ◌^◌, ◌++◌, IfOk, OnOk};
+ghost use Rattle.std.specs.Prelude.{◌≡◌, ◌≤◌, ◌+◌, ◌*◌, ◌++◌, IfOk, OnOk};
+ghost use Rattle.bus_ticks.specs.declared.space.TheConstants.{SPACE_END};
 ghost use Rattle.asm_text.specs.Source.{lines_of};
 ghost use Rattle.listing.specs.Listing.{line_rows, source_rows, word_rows};
 
@@ -10,7 +11,7 @@ use text_rows::{LineRows, NumberedLine, put, put_line_rows};
 
 // Adds a row for each of so many words from an address on.
 fn put_words(out: &mut Vec<u8>, image: &Image, from: u32, count: usize) -> Result<(), AllocError>
-    requires { from + 4 * count ≤ 2 ^ 26 }
+    requires { from + 4 * count ≤ SPACE_END }
     ensures { OnOk result (out.new.items ≡ out.old.items ++ word_rows image.now from count) }
 {
     let mut at = from;

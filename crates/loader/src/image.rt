@@ -19,8 +19,8 @@ use std::collections::VecDeque;
 use std::marker::Model;
 use thiserror::Error;
 
-// Bytes of a page of 32 KB.
-const PAGE_BYTES: u32 = 32_768;
+/// How many bytes the largest pages have: 32 KB.
+pub const PAGE_BYTES: u32 = 32_768;
 
 /// Why an image does not take a word.
 #[derive(Clone, Copy, Debug, PartialEq, Eq, Drop, Error)]

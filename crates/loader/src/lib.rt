@@ -11,7 +11,7 @@ mod plan;
 mod reading;
 mod writing;
 
-pub use image::{Image, ImageFault};
+pub use image::{Image, ImageFault, PAGE_BYTES};
 pub use labels::{LabelFault, Labels};
 pub use law::{
     image_limits, images_are_read, other_faults_begin_no_image, planned_words_are_loaded,

@@ -1,4 +1,5 @@
-ghost use Rattle.std.specs.Prelude.{◌≡◌, ◌⊎◌, ◌<◌, ◌^◌, false, true, All, IfOk, IfErr, OnOk, OnErr};
+ghost use Rattle.std.specs.Prelude.{◌≡◌, ◌⊎◌, ◌<◌, false, true, All, IfOk, IfErr, OnOk, OnErr};
+ghost use Rattle.bus_ticks.specs.declared.space.TheConstants.{SPACE_END};
 ghost use Rattle.loader.specs.Loading.{lacks_page, loaded, put_at, put_words, rom_words, spot_of, with_ram};
 
 use crate::image::Image;
@@ -54,7 +55,7 @@ impl From<MemcFault> for LoadFault {
 
 // The words that go to ROM, where each word goes to RAM or ROM.
 fn rom_words(alloc: Global, memc: &Memc, words: &[(u32, u32)]) -> Result<Vec<(u32, u32)>, LoadFault>
-    requires below { All (λ e. e.0 < 2 ^ 26) words.now }
+    requires below { All (λ e. e.0 < SPACE_END) words.now }
     ensures rom { IfOk result (λ rom. rom.items ≡ rom_words memc.now words.now) }
     ensures fits { OnOk result (lacks_page memc.now words.now ≡ false) }
     ensures fault { IfErr result
@@ -74,7 +75,7 @@ fn rom_words(alloc: Global, memc: &Memc, words: &[(u32, u32)]) -> Result<Vec<(u3
 
 // Stores a word where it goes to RAM.
 fn store_word(memc: &mut Memc, address: u32, word: u32)
-    requires below { address < 2 ^ 26 }
+    requires below { address < SPACE_END }
     ensures { memc.new ≡ put_at (spot_of memc.old address) word memc.old }
 {
     if let Ok(Spot::Ram(place)) = memc.locate(address, false, false) {
@@ -84,7 +85,7 @@ fn store_word(memc: &mut Memc, address: u32, word: u32)
 
 // Stores the words that go to RAM, in turn.
 fn store_words(memc: &mut Memc, words: &[(u32, u32)])
-    requires below { All (λ e. e.0 < 2 ^ 26) words.now }
+    requires below { All (λ e. e.0 < SPACE_END) words.now }
     ensures { memc.new ≡ with_ram words.now memc.old }
 {
     for &(address, word) in words {
@@ -94,7 +95,7 @@ fn store_words(memc: &mut Memc, words: &[(u32, u32)])
 
 // Puts words into memory, in their order.
 fn load_words(alloc: Global, memc: &mut Memc, words: &[(u32, u32)]) -> Result<(), LoadFault>
-    requires below { All (λ e. e.0 < 2 ^ 26) words.now }
+    requires below { All (λ e. e.0 < SPACE_END) words.now }
     ensures ok { OnOk result (memc.new ≡ loaded words.now memc.old) }
     ensures fits { OnOk result (lacks_page memc.old words.now ≡ false) }
     ensures fault { IfErr result
@@ -124,7 +125,7 @@ pub fn put_words(
     machine: &mut Machine,
     words: &[(u32, u32)],
 ) -> Result<(), LoadFault>
-    requires below { All (λ e. e.0 < 2 ^ 26) words.now }
+    requires below { All (λ e. e.0 < SPACE_END) words.now }
     ensures ok { OnOk result (machine.new ≡ put_words words.now machine.old) }
     ensures fits { OnOk result (lacks_page machine.old.bus.memc words.now ≡ false) }
     ensures fault { IfErr result

@@ -1,6 +1,7 @@
 ghost use Rattle.std.specs.Prelude.{◌≡◌, ◌↔◌, ℕ, ◌+◌, ◌<◌, ◌≤◌, IfOk, IfErr, IsTrue, length, Contains};
 ghost use Rattle.std.specs.Prelude.{slice_index, slice_index_or, AllPairs, ◌≢◌, All, Option, None};
 ghost use Rattle.std.specs.List.Sorted.{IsNonDecreasingBy};
+ghost use Rattle.flow_graph.specs.declared.search.TheConstants.{MOST_PLACES};
 ghost use Rattle.loop_bounds.specs.Edges.{IsGrouped};
 ghost use Rattle.loop_bounds.specs.Order.{IsOrder};
 ghost use Rattle.loop_bounds.specs.Extents.{extent_at};
@@ -70,7 +71,7 @@ fn plain_edges(
 fn firsts_of(alloc: Global, edges: &[NumberedEdge], exit: usize) -> Result<Vec<usize>, AllocError>
     requires ascending { IsNonDecreasingBy (λ e. e.from) edges.now }
     requires inside { All (λ e. (e.from < exit) × (e.to ≤ exit)) edges.now }
-    requires most { exit ≤ 16384 }
+    requires most { exit ≤ MOST_PLACES }
     ensures grouped { IfOk result (λ firsts. IsGrouped firsts.items edges.now) }
     ensures nodes { IfOk result (λ firsts. length firsts.items ≡ exit + 1) }
 {
@@ -105,7 +106,7 @@ pub(crate) fn ranks(
     requires headers { All (λ s. s.header < exit) extents.now }
     requires apart { HaveApartHeaders extents.now }
     requires inside { All (λ e. (e.from < exit) × (e.to ≤ exit)) edges.now }
-    requires most { exit ≤ 16384 }
+    requires most { exit ≤ MOST_PLACES }
     ensures ranks { IfOk result (λ ranks. AreRanks exit edges.now extents.now ranks.items) }
     ensures fault { IfErr result (IsRankFault edges.now extents.now) }
 {

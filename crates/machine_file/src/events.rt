@@ -21,6 +21,9 @@ use toml_reading::{
     tables, value_at,
 };
 
+/// How many steps a machine file asks for at most, and how many where it says nothing.
+pub const MOST_STEPS: u32 = 65_536;
+
 // The keys of an event's table.
 const EVENT_KEYS: &[&str] = &["step", "bursts", "lines", "port"];
 
@@ -168,14 +171,14 @@ impl Model for Schedule {
 
     ghost view = { λ s. record { steps = s.steps; port = s.port; events = s.events.entries } };
 
-    ghost invariant = { λ s. s.steps ≤ 65536 };
+    ghost invariant = { λ s. s.steps ≤ MOST_STEPS };
 }
 
 fn counts(table: &Table) -> Read<(u32, u32)>
     ensures { result ≡ counts_in (table_view table.now) }
 {
     pair(
-        optional_number(table, "steps", 65536, 65536),
+        optional_number(table, "steps", MOST_STEPS, MOST_STEPS),
         optional_number(table, "port", u32::MAX, 0),
     )
 }

@@ -1,5 +1,6 @@
-ghost use Rattle.std.specs.Prelude.{◌≡◌, ◌≢◌, ◌≤◌, ◌<◌, ◌^◌, All, Err, IfOk, IsTrue, length, true};
+ghost use Rattle.std.specs.Prelude.{◌≡◌, ◌≢◌, ◌≤◌, ◌<◌, All, Err, IfOk, IsTrue, length, true};
 ghost use Rattle.std.specs.Map.{keys_of};
+ghost use Rattle.bus_ticks.specs.declared.space.TheConstants.{SPACE_END};
 ghost use Rattle.loader.specs.Image.{may_hold};
 ghost use Rattle.toml.specs.View.{table_view};
 ghost use Rattle.toml_reading.specs.Documents.{are_distinct};
@@ -143,7 +144,7 @@ impl MachineFile {
     pub fn words(&self) -> &[(u32, u32)]
         ensures words { result.now ≡ self.now.words }
         ensures addresses { All (λ e. IsTrue (may_hold e.0)) result.now }
-        ensures below { All (λ e. e.0 < 2 ^ 26) result.now }
+        ensures below { All (λ e. e.0 < SPACE_END) result.now }
         ensures once { are_distinct (keys_of result.now) ≡ true }
     {
         &self.words.words

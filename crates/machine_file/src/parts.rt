@@ -3,7 +3,7 @@ ghost use Rattle.loader.specs.Image.{may_hold};
 ghost use Rattle.toml_reading.specs.Lowest.{IsInSpace};
 ghost use Rattle.machine_file.specs.Parts.{IsBuilt, IsInRange, StandsOnce, stated_by};
 
-use crate::events::Schedule;
+use crate::events::{MOST_STEPS, Schedule};
 use crate::flags::PsrFlags;
 use crate::machine_faults::MachineFileFault;
 use crate::machine_files::MachineFile;
@@ -44,7 +44,7 @@ pub struct ControllerParts {
 /// How long it runs, and what it loads among the devices.
 #[derive(Clone, Copy)]
 pub struct ScheduleParts {
-    /// How many steps the machine takes: 65536 at most.
+    /// How many steps the machine takes: [`MOST_STEPS`] at most.
     pub steps: u32,
     /// The word that a load among the devices reads where IOC has no register.
     pub port: u32,
@@ -88,7 +88,7 @@ fn are_in_range(parts: &MachineParts) -> bool
     if !are_mappable(parts.controller.size, &parts.controller.pages) {
         return false;
     }
-    if parts.schedule.steps > 65536 {
+    if parts.schedule.steps > MOST_STEPS {
         return false;
     }
     are_held(&parts.words)

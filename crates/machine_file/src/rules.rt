@@ -8,7 +8,7 @@ ghost use Rattle.toml_reading.specs.Lowest.{IsInSpace};
 ghost use Rattle.machine_file.specs.MachineFile.{are_single, is_mappable};
 ghost use Rattle.machine_file.specs.Parts.{AreWords, IsInRange, StandsOnce};
 
-use crate::events::Schedule;
+use crate::events::{MOST_STEPS, Schedule};
 use crate::machine_files::MachineFile;
 use crate::pages::{Pages, RomFields};
 use crate::processor::StartAddress;
@@ -36,7 +36,7 @@ fn are_pages(pages: &Pages)
 }
 
 fn are_steps(schedule: &Schedule)
-    ensures steps { schedule.now.steps ≤ 65536 }
+    ensures steps { schedule.now.steps ≤ MOST_STEPS }
     ensures port { schedule.now.port < 2 ^ 32 }
 {
     let _steps = schedule.steps;

@@ -1,5 +1,6 @@
 ghost use Rattle.std.specs.Prelude.{◌≡◌, ℕ, ◌*◌, ◌/◌, ◌^◌, ◌<◌, ◌≤◌, IfOk, ◌↔◌, OnErr, OnOk, IfSome};
 ghost use Rattle.std.specs.Prelude.{MatchOption};
+ghost use Rattle.bus_ticks.specs.declared.space.TheConstants.{SPACE_END};
 ghost use Rattle.memc.specs.Paged.{page_at, place_of, IsWhole};
 ghost use Rattle.memc.specs.Memory.{located, logical_at, physical_at, written_at, shift_of_size, IsStart};
 ghost use Rattle.memc.specs.Memory.{IsOutOfRange, IsMemorySpot, IsRamSpot, Fits, word_at, stored, with_map};
@@ -8,14 +9,12 @@ ghost use Rattle.memc.specs.Memory.{control_of, allowed, HasNoRun, IsOnOnePage, 
 
 use crate::pages::{Entry, Pages};
 use crate::spots::{MapFault, MemcFault, PageSize, Refused, Spot};
-use bus_ticks::{IO_START, ROM_START, RomTimes};
+use bus_ticks::{IO_START, PHYSICAL_RAM, ROM_START, RomTimes};
 use std::alloc::Global;
 use std::collections::BTreeMap;
 use std::marker::Model;
 
-// Where physical RAM and, for stores, the DMA and control range and the translator begin.
-const PHYSICAL_RAM: u32 = 0x200_0000;
-
+// Where, for stores, the DMA and control range and the translator begin.
 const DMA_AND_CONTROL: u32 = 0x360_0000;
 
 const TRANSLATOR: u32 = 0x380_0000;
@@ -66,7 +65,7 @@ impl Memc {
     /// Where an access at an address below 2^26 goes, or the first reason why it is refused.
     #[inline(always)]
     pub fn locate(&self, address: u32, user: bool, store: bool) -> Result<Spot, Refused>
-        requires { address < 2 ^ 26 }
+        requires { address < SPACE_END }
         ensures located { result ≡ located self.now address user store }
         ensures fitted { IfOk result (Fits self.now.shift) }
         ensures whole { IsWhole self.now.shift self.now.paged }
@@ -84,7 +83,7 @@ impl Memc {
     /// None: the address is past logical RAM, the words reach past its page, or the access is refused.
     #[inline(always)]
     pub fn locate_run(&self, address: u32, words: u32, user: bool, store: bool) -> Option<u32>
-        requires below { address < 2 ^ 26 }
+        requires below { address < SPACE_END }
         requires few { words ≤ 16 }
         ensures run { MatchOption result (HasNoRun self.now address words user store)
             (λ place. IsRun self.now address words user store place) }
@@ -106,8 +105,8 @@ impl Memc {
     // Where an access past logical RAM goes.
     #[inline(never)]
     fn beyond(&self, address: u32, user: bool, store: bool) -> Result<Spot, Refused>
-        requires past { 0x2000000 ≤ address }
-        requires below { address < 2 ^ 26 }
+        requires past { PHYSICAL_RAM ≤ address }
+        requires below { address < SPACE_END }
         ensures located { result ≡ located self.now address user store }
         ensures fitted { IfOk result (Fits self.now.shift) }
     {

@@ -1,6 +1,7 @@
 -- The parts of a statement as they are read.
-use Rattle.std.specs.Prelude.{ℕ, ◌≤◌, ◌<◌, ◌^◌, length, All, Vec}
+use Rattle.std.specs.Prelude.{ℕ, ◌≤◌, ◌<◌, length, All, Vec}
 use Rattle.std.specs.declared.alloc.Global.{Global}
+use Rattle.bus_ticks.specs.declared.space.TheConstants.{SPACE_END}
 use Rattle.bus_ticks.specs.declared.profile.Class.{Class}
 use Rattle.statement.specs.Stated.{IsLoop, IsTarget, Target}
 use Rattle.statement.specs.Statement.{Parts}
@@ -14,7 +15,7 @@ parts_in p = ((p.0.0, p.0.1.items), (p.1.0.items, p.1.1.items))
 
 -- what holds of the parts of each statement
 pub record AreParts (p : Parts) : Type 0 where
-  pub entry_small : p.0.0.0 < 2 ^ 26
+  pub entry_small : p.0.0.0 < SPACE_END
   pub within : All IsLoop p.0.1
   pub few : length p.0.1 ≤ 256
   pub destinations : All (λ t. IsTarget t.1) p.1.0

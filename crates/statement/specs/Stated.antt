@@ -1,6 +1,7 @@
 -- What an author states of a handler, as a value.
-use Rattle.std.specs.Prelude.{ℕ, ◌≤◌, ◌<◌, ◌^◌, List, length, All, Option, nat_eq, unwrap_or}
+use Rattle.std.specs.Prelude.{ℕ, ◌≤◌, ◌<◌, List, length, All, Option, nat_eq, unwrap_or}
 use Rattle.std.specs.Map.{lookup}
+use Rattle.bus_ticks.specs.declared.space.TheConstants.{SPACE_END}
 use Rattle.bus_ticks.specs.declared.profile.Class.{Class}
 use Rattle.bus_ticks.specs.declared.profile.Class.TheVariants.{Any}
 use Rattle.statement.specs.declared.stated.Loop.{Loop}
@@ -33,16 +34,16 @@ class_of st address = unwrap_or (lookup (nat_eq address) st.accesses) Any
 pub record IsLoop (l : Loop) : Type 0 where
   pub from_first : l.first ≤ l.header
   pub to_last : l.header ≤ l.last
-  pub last_small : l.last < 2 ^ 26
+  pub last_small : l.last < SPACE_END
   pub bound_small : l.bound ≤ 1048576
 
 -- the destinations are addresses
 abbrev pub IsTarget : Target → Type 0
-IsTarget t = All (λ a. a < 2 ^ 26) t.to
+IsTarget t = All (λ a. a < SPACE_END) t.to
 
 -- what the crates above use of each statement
 pub record IsStated (st : Stated) : Type 0 where
-  pub entry_small : st.entry < 2 ^ 26
+  pub entry_small : st.entry < SPACE_END
   pub within : All IsLoop st.loops
   pub few : length st.loops ≤ 256
   pub destinations : All (λ t. IsTarget t.1) st.targets

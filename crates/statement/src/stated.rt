@@ -1,4 +1,5 @@
-ghost use Rattle.std.specs.Prelude.{◌≡◌, ◌<◌, ◌≤◌, ◌^◌, length, map, All, option_map};
+ghost use Rattle.std.specs.Prelude.{◌≡◌, ◌<◌, ◌≤◌, length, map, All, option_map};
+ghost use Rattle.bus_ticks.specs.declared.space.TheConstants.{SPACE_END};
 ghost use Rattle.statement.specs.Stated.{IsLoop, IsStated, class_of, target_of};
 
 use bus_ticks::Class;
@@ -36,14 +37,14 @@ pub struct Target {
 }
 
 impl Model for Target {
-    ghost use Rattle.std.specs.Prelude.{◌<◌, ◌^◌, All};
+    ghost use Rattle.std.specs.Prelude.{◌<◌, All};
     ghost use Rattle.statement.specs.Stated.{Target};
 
     ghost Value = { Target };
 
     ghost view = { λ target. record { kind = target.kind; to = target.to.items } };
 
-    ghost invariant = { λ target. All (λ a. a < 2 ^ 26) target.to.items };
+    ghost invariant = { λ target. All (λ a. a < SPACE_END) target.to.items };
 }
 
 impl Target {
@@ -57,7 +58,7 @@ impl Target {
     /// The addresses to which a jump or a call goes, in the text's order.
     pub fn to(&self) -> &[u32]
         ensures value { result.now ≡ self.now.to }
-        ensures small { All (λ a. a < 2 ^ 26) self.now.to }
+        ensures small { All (λ a. a < SPACE_END) self.now.to }
     {
         &self.to
     }

@@ -1,4 +1,4 @@
-ghost use Rattle.std.specs.Prelude.{◌≡◌, ◌+◌, ◌<◌, ◌≤◌, ◌^◌, MatchResult, length, string_bytes};
+ghost use Rattle.std.specs.Prelude.{◌≡◌, ◌+◌, ◌<◌, ◌≤◌, MatchResult, length, string_bytes};
 ghost use Rattle.trace_text.specs.Lately.{AreRight};
 ghost use Rattle.trace_text.specs.TraceText.{Adds, IsTraceLine, IsWordLine, exception_name, front_text};
 ghost use Rattle.trace_text.specs.TraceText.{word_text};
