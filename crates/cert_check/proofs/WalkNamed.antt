@@ -6,15 +6,14 @@ use Rattle.std.proofs.lemmas.List.{get_or_default}
 use Rattle.flow_graph.specs.declared.places.Place.{Place}
 use Rattle.flow_graph.specs.declared.places.Place.TheVariants.{At, Exit}
 use Rattle.flow_graph.specs.declared.edges.Edge.{Edge}
-use Rattle.flow_graph.specs.Flow.{Flow, IsWellFormed}
+use Rattle.flow_graph.specs.Flow.{Flow, IsEdgeRange, IsWellFormed}
 use Rattle.flow_graph.specs.Places.{place_at}
+use Rattle.flow_graph.proofs.Firsts.{whole_range}
 use Rattle.loop_bounds.specs.Tree.{IsTree, Tree, place_in}
 use Rattle.longest_walk.specs.Built.{step_at}
-use Rattle.longest_walk.specs.Parts.{IsPartOf}
 use Rattle.longest_walk.specs.Rows.{is_at}
 use Rattle.longest_walk.proofs.CarryFind.{at_place}
 use Rattle.longest_walk.proofs.CarryWalks.{exit_place, no_edge}
-use Rattle.longest_walk.proofs.PlaceParts.{part_at}
 use Rattle.certificate.specs.declared.walk.StepLine.{StepLine}
 use Rattle.cert_check.specs.Followed.{edge_named, is_named}
 
@@ -53,29 +52,31 @@ module _ (flow : Flow) (well : IsWellFormed flow) where
         let at : place_in flow tree n ≡ Exit = ap (place_in flow tree) is ∙ exit_place flow tree well t in
         sym (ap (λ (p : Place). edge_named flow p line) at ∙ find_nothing (is_named Exit line) flow.edges no_edge (λ j less. refl))
 
-    pub part_of_number : (n : ℕ) → n < length flow.places → IsPartOf flow (place_in flow tree n) (get_or flow.firsts (get_or tree.order n 0) 0) (get_or flow.firsts (get_or tree.order n 0 + 1) 0)
-    part_of_number n lt =
-        subst (λ (p : Place). IsPartOf flow p (get_or flow.firsts (get_or tree.order n 0) 0) (get_or flow.firsts (get_or tree.order n 0 + 1) 0)) (sym (place_is n (omega arith))) (part_at flow well (get_or tree.order n 0) (t.inside n lt))
+    -- the range of the place that a list of the tree's order has at the number
+    pub range_of_number : (n : ℕ) → n < length flow.places → (order : List ℕ) → order ≡ tree.order → (first end : ℕ)
+        → IsEdgeRange flow (place_at flow.places (get_or order n 0)) first end → IsEdgeRange flow (place_in flow tree n) first end
+    range_of_number n lt order is first end =
+        subst (λ (p : Place). IsEdgeRange flow p first end) (ap (λ (o : List ℕ). place_at flow.places (get_or o n 0)) is ∙ sym (place_is n (omega arith)))
 
-module _ (flow : Flow) (p : Place) (line : StepLine) (first end : ℕ) (part : IsPartOf flow p first end) where
+module _ (flow : Flow) (p : Place) (line : StepLine) (first end : ℕ) (range : IsEdgeRange flow p first end) where
   fails_outside : (k : ℕ) → k < length flow.edges → (first ≤ k → k < end → ⊥) → is_named p line (step_at flow.edges k) ≡ false
   fails_outside k k_in outside = ⊎_elim
-      (λ is. let own = part.whole k k_in (named_from p line (step_at flow.edges k) is) in absurd (outside own.0 own.1))
+      (λ is. let own = whole_range flow p first end range k no_edge k_in (named_from p line (step_at flow.edges k) is) in absurd (outside own.0 own.1))
       (λ fails. fails)
       (cases_Bool (is_named p line (step_at flow.edges k)))
 
   pub fail_before : (k : ℕ) → k < first → is_named p line (step_at flow.edges k) ≡ false
-  fail_before k less = fails_outside k (omega (arith, part.ordered, part.fits)) (λ low high. omega arith)
+  fail_before k less = fails_outside k (omega (arith, range.ordered, range.fits)) (λ low high. omega arith)
 
   -- what is tested at the edge's own place
   module _ (k : ℕ) (low : first ≤ k) (high : k < end) (e : Edge) (r : Bool) (es : List Edge) (are : es ≡ flow.edges) (at : e ≡ get_or es k e) (is : r ≡ is_named e.from line e) where
     pub tested_here : (b : Bool) → r ≡ b → is_named p line (step_at flow.edges k) ≡ b
     tested_here b answer =
-        let same : e ≡ step_at flow.edges k = at ∙ ap (λ (xs : List Edge). get_or xs k e) are ∙ get_or_default flow.edges k e no_edge (omega (arith, high, part.fits)) in
-        ap (λ (q : Place). is_named q line (step_at flow.edges k)) (sym (part.own k low high)) ∙ sym (ap (λ (x : Edge). is_named x.from line x) same) ∙ sym is ∙ answer
+        let same : e ≡ step_at flow.edges k = at ∙ ap (λ (xs : List Edge). get_or xs k e) are ∙ get_or_default flow.edges k e no_edge (omega (arith, high, range.fits)) in
+        ap (λ (q : Place). is_named q line (step_at flow.edges k)) (sym (range.own k no_edge low high)) ∙ sym (ap (λ (x : Edge). is_named x.from line x) same) ∙ sym is ∙ answer
 
     pub found_here : ((j : ℕ) → j < k → is_named p line (step_at flow.edges j) ≡ false) → r ≡ true → Some (step_at flow.edges k) ≡ edge_named flow p line
-    found_here before answer = sym (find_first (is_named p line) flow.edges k no_edge (omega (arith, high, part.fits)) before (tested_here true answer))
+    found_here before answer = sym (find_first (is_named p line) flow.edges k no_edge (omega (arith, high, range.fits)) before (tested_here true answer))
 
   pub found_nowhere : (k : ℕ) → end ≤ k → ((j : ℕ) → j < k → is_named p line (step_at flow.edges j) ≡ false) → None ≡ edge_named flow p line
   found_nowhere k past before = sym (find_nothing (is_named p line) flow.edges no_edge (λ j j_in. ⊎_elim

@@ -1,9 +1,9 @@
 ghost use Rattle.std.specs.Prelude.{◌≡◌, ◌<◌, ◌≤◌, ℕ, length, option_map, IfSome, MatchOption};
+ghost use Rattle.flow_graph.specs.Flow.{IsEdgeRange};
 ghost use Rattle.loop_bounds.specs.Tree.{IsTree, place_in};
 ghost use Rattle.longest_walk.specs.Built.{step_at};
 ghost use Rattle.cert_check.specs.Followed.{edge_named, follow_edge, follow_item, followed};
 ghost use Rattle.cert_check.specs.Followed.{is_named, leads_to};
-ghost use Rattle.longest_walk.specs.Parts.{IsPartOf};
 ghost use Rattle.cert_check.specs.Walking.{Begins, CanFollow, CannotBegin, Follows};
 
 use crate::handler::Handler;
@@ -41,10 +41,10 @@ fn is_meant(edge: &Edge, line: &StepLine) -> bool
 }
 
 // Where the edges of the number's place begin and end.
-fn part(graph: &Graph, tree: &LoopTree, number: usize) -> (usize, usize)
+fn edge_range(graph: &Graph, tree: &LoopTree, number: usize) -> (usize, usize)
     requires tree { IsTree graph.now tree.now }
     requires known { number < length graph.now.places }
-    ensures { IsPartOf graph.now (place_in graph.now tree.now number) result.0 result.1 }
+    ensures { IsEdgeRange graph.now (place_in graph.now tree.now number) result.0 result.1 }
 {
     graph.edge_range(tree.order()[number])
 }
@@ -60,7 +60,7 @@ fn named_edge(graph: &Graph, tree: &LoopTree, number: usize, line: &StepLine) ->
     if number == graph.places().len() {
         return None;
     }
-    let (first, end) = part(graph, tree, number);
+    let (first, end) = edge_range(graph, tree, number);
     for edge in first..end {
         if is_meant(&graph.edges()[edge], line) {
             return Some(edge);

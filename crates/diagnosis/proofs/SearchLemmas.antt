@@ -11,10 +11,10 @@ use Rattle.walks.proofs.Leading.{Leads-append}
 use Rattle.flow_graph.specs.declared.places.Place.{Place}
 use Rattle.flow_graph.specs.declared.places.Place.TheVariants.{Exit}
 use Rattle.flow_graph.specs.declared.edges.Edge.{Edge}
-use Rattle.flow_graph.specs.Flow.{Flow, HasEdge, IsWellFormed, edge_shape}
+use Rattle.flow_graph.specs.Flow.{Flow, HasEdge, IsEdgeRange, IsWellFormed, edge_shape}
 use Rattle.flow_graph.specs.Places.{place_at, place_cmp}
 use Rattle.flow_graph.specs.Search.{by_order}
-use Rattle.flow_graph.proofs.Firsts.{owner}
+use Rattle.flow_graph.proofs.Firsts.{whole_range}
 use Rattle.statement.specs.declared.stated.Loop.{Loop}
 use Rattle.loop_bounds.specs.Nest.{HasUnboundedCycle, IsPlainEdge}
 use Rattle.loop_bounds.proofs.Positions.{index_found, index_inside, places_once}
@@ -223,16 +223,12 @@ module _ (flow : Flow) (loops : List Loop) where
               (cases_eq v at);
         }
 
-  module _ (well_formed : IsWellFormed flow) (v : ℕ) (v_in : v < length flow.places) where
-    -- what holds of the edges in the part of a place holds of all that leave it
-    pub whole_part : (P : Edge → Type 0) → ((k : ℕ) (e : Edge) → get_or flow.firsts v 0 ≤ k → k < get_or flow.firsts (v + 1) 0 → get_or flow.edges k e ≡ e → P e)
-        → (e : Edge) → HasEdge flow e → e.from ≡ place_at flow.places v → P e
-    whole_part P each e has from =
-        let k = has.0 in
-        let all : get_or flow.firsts (length flow.places) 0 ≡ length flow.edges = well_formed.last_all in
-        let w = owner flow.firsts well_formed.first_zero (length flow.places) k (omega (arith, has.1, all)) in
-        let is : w.0 ≡ v = places_once flow.places well_formed.ordered w.0 v Exit w.1 v_in (sym (well_formed.part w.0 k e w.1 w.2 w.3) ∙ ap (λ (x : Edge). x.from) has.2 ∙ from) in
-        each k e (subst (λ (n : ℕ). get_or flow.firsts n 0 ≤ k) is w.2) (subst (λ (n : ℕ). k < get_or flow.firsts (n + 1) 0) is w.3) has.2
+  -- what holds of the edges in the range of a place holds of all that leave it
+  pub whole_place : (place : Place) (first end : ℕ) → IsEdgeRange flow place first end → (P : Edge → Type 0)
+      → ((k : ℕ) (e : Edge) → first ≤ k → k < end → get_or flow.edges k e ≡ e → P e) → (e : Edge) → HasEdge flow e → e.from ≡ place → P e
+  whole_place place first end range P each e has from =
+      let w = whole_range flow place first end range has.0 e has.1 (ap (λ (x : Edge). x.from) has.2 ∙ from) in
+      each has.0 e w.0 w.1 has.2
 
   -- no cycle where each place is cleared
   pub none_cycles : IsWellFormed flow → ((p : Place) → Contains flow.places p → IsCleared flow loops p) → HasUnboundedCycle flow loops → ⊥

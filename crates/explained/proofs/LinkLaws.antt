@@ -9,13 +9,13 @@ use Rattle.std.specs.Ordering.{nat_cmp}
 use Rattle.std.specs.Result.{is_ok}
 use Rattle.std.proofs.lemmas.Bool.{eq-eqb, eqb-true, false≢true, or_cases}
 use Rattle.std.proofs.lemmas.Cmp.{nat_cmp_total}
-use Rattle.std.proofs.lemmas.List.{get_or-drop, get_or-take, get_or_append_left, get_or_default, get_or_read, length-drop, length-take, take_all, take_more}
+use Rattle.std.proofs.lemmas.List.{get_or-drop, get_or-take, get_or_append_left, get_or_read, length-drop, length-take, take_all, take_more}
 use Rattle.std.proofs.lemmas.List.Elements.{Contains-append_left, Contains-get_or, Contains-push, Contains-push_cases}
 use Rattle.std.proofs.lemmas.List.Folds.{list_any_at}
 use Rattle.std.proofs.lemmas.Map.Lookups.{exact_unsigned}
 use Rattle.std.proofs.lemmas.Map.Views.{btree_set_contains_iff}
 use Rattle.arm2_decode.specs.declared.instr.Instr.{Instr}
-use Rattle.flow_graph.specs.Flow.{Flow, HasEdge, IsWellFormed}
+use Rattle.flow_graph.specs.Flow.{Flow, HasEdge, IsEdgeRange, IsWellFormed}
 use Rattle.flow_graph.specs.Places.{place_at}
 use Rattle.flow_graph.specs.Search.{by_order}
 use Rattle.flow_graph.specs.declared.edges.Edge.{Edge}
@@ -26,10 +26,7 @@ use Rattle.flow_graph.proofs.PlaceLemmas.{by_order_exact, by_order_total, place_
 use Rattle.flow_graph.proofs.SortedLemmas.{here, length_within, no_member, there}
 use Rattle.loader.specs.Image.{Words}
 use Rattle.loop_bounds.proofs.Positions.{known}
-use Rattle.longest_walk.specs.Built.{step_at}
-use Rattle.longest_walk.proofs.CarryWalks.{no_edge}
-use Rattle.flow_graph.proofs.Firsts.{part_fits}
-use Rattle.longest_walk.proofs.PlaceParts.{part_of}
+use Rattle.flow_graph.proofs.Firsts.{whole_range}
 use Rattle.word_shapes.specs.Words.{HasInstr, HasShape}
 use Rattle.explained.specs.Links.{AreLostLinks, IsLost, KeepsLink, MayReturnByLink, after_call, kept_along, may_return_by_link, place_after, writes_link}
 use Rattle.explained.specs.Losing.{Adds, ByEdge, Grows, IsAfter, IsFound, IsKeptTo}
@@ -122,29 +119,18 @@ from_range es a b k e low high fits at =
     (k - a, lt, get_or-take n rest (k - a) e few ∙ get_or-drop a es (k - a) e ∙ ap (λ j. get_or es j e) same ∙ at)
 
 module _ (flow : Flow) (well : IsWellFormed flow) where
-  module _ (v : ℕ) (v_in : v < length flow.places) where
-    -- the part of a place has exactly the edges that leave it
-    pub leaving : (e : Edge) → Contains (slice_range flow.edges (get_or flow.firsts v 0) (get_or flow.firsts (v + 1) 0)) e ↔ (HasEdge flow e × (e.from ≡ place_at flow.places v))
-    leaving e = (
-      λ h.
-          let k = in_range flow.edges (get_or flow.firsts v 0) (get_or flow.firsts (v + 1) 0) e h in
-          ((k.0, k.3, k.4), sym (ap (λ (x : Edge). x.from) k.4) ∙ well.part v k.0 e v_in k.1 k.2),
-      λ h.
-          let k = h.0.0 in
-          let at : step_at flow.edges k ≡ e = sym (get_or_default flow.edges k e no_edge h.0.1) ∙ h.0.2 in
-          let part = part_of flow well v v_in k h.0.1 (ap (λ (x : Edge). x.from) at ∙ h.1) in
-          from_range flow.edges (get_or flow.firsts v 0) (get_or flow.firsts (v + 1) 0) k e part.0 part.1 (part_fits flow well v v_in) h.0.2,
-    )
-
-  pub leaving_found : (es : List Edge) (a b v : ℕ) (p : Place) → es ≡ flow.edges → a ≡ get_or flow.firsts v 0 → b ≡ get_or flow.firsts (v + 1) 0 → v < length flow.places → place_at flow.places v ≡ p
+  -- the edges of a place's range are exactly those that leave it
+  pub leaving_found : (es : List Edge) (a b : ℕ) (p : Place) → es ≡ flow.edges → IsEdgeRange flow p a b
       → (e : Edge) → Contains (slice_range es a b) e ↔ (HasEdge flow e × (e.from ≡ p))
-  leaving_found es a b v p es_is a_is b_is v_in p_is e =
-      let same : slice_range es a b ≡ slice_range flow.edges (get_or flow.firsts v 0) (get_or flow.firsts (v + 1) 0) =
-      ap (λ (xs : List Edge). slice_range xs a b) es_is ∙ ap (λ k. slice_range flow.edges k b) a_is ∙ ap (λ k. slice_range flow.edges (get_or flow.firsts v 0) k) b_is in
-      let at = leaving v v_in e in (
-        λ h. let w = at.0 (subst (λ (xs : List Edge). Contains xs e) same h) in (w.0, w.1 ∙ p_is),
-        λ h. subst (λ (xs : List Edge). Contains xs e) (sym same) (at.1 (h.0, h.1 ∙ sym p_is)),
-      )
+  leaving_found es a b p same range e = (
+    λ h.
+        let k = in_range flow.edges a b e (subst (λ (xs : List Edge). Contains (slice_range xs a b) e) same h) in
+        ((k.0, k.3, k.4), sym (ap (λ (x : Edge). x.from) k.4) ∙ range.own k.0 e k.1 k.2),
+    λ h.
+        let k = h.0.0 in
+        let part = whole_range flow p a b range k e h.0.1 (ap (λ (x : Edge). x.from) h.0.2 ∙ h.1) in
+        subst (λ (xs : List Edge). Contains (slice_range xs a b) e) (sym same) (from_range flow.edges a b k e part.0 part.1 range.fits h.0.2),
+  )
 
   -- no edge leaves a place that the graph has not
   pub none_leave : (places : List Place) (p : Place) (i : ℕ) → places ≡ flow.places → IsSearchInRange (Err i) (length places) → IsBinarySearchResult (λ y. by_order y p) places (Err i)

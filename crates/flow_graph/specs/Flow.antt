@@ -2,6 +2,7 @@
 use Rattle.std.specs.Prelude.{◌≡◌, ℕ, ◌+◌, ◌<◌, ◌≤◌, ◌^◌, List, [], length, slice_index, slice_index_or}
 use Rattle.std.specs.Prelude.{Contains, ◌⊎◌}
 use Rattle.std.specs.List.Sorted.{IsStrictlySortedBy}
+use Rattle.std.specs.declared.cmp.Ordering.TheVariants.{Less}
 use Rattle.walks.specs.Walk.{Shape, IsReached}
 use Rattle.bus_ticks.specs.declared.profile.Profile.{Profile}
 use Rattle.flow_graph.specs.declared.places.Place.{Place}
@@ -44,3 +45,13 @@ pub record IsWellFormed (flow : Flow) : Type 0 where
   pub rising : (v : ℕ) → v < length flow.places → slice_index flow.firsts v ≤ slice_index flow.firsts (v + 1)
   pub part : (v k : ℕ) (d : Edge) → v < length flow.places → slice_index flow.firsts v ≤ k
       → k < slice_index flow.firsts (v + 1) → (slice_index_or flow.edges k d).from ≡ place_at flow.places v
+
+-- the numbers of the edges that leave a place, from the first on and before the end: edges with lower numbers
+-- leave earlier places, and edges from the end on leave later ones
+pub record IsEdgeRange (flow : Flow) (place : Place) (first end : ℕ) : Type 0 where
+  pub ordered : first ≤ end
+  pub fits : end ≤ length flow.edges
+  pub before : (k : ℕ) (d : Edge) → k < first → place_cmp (slice_index_or flow.edges k d).from place ≡ Less
+  pub own : (k : ℕ) (d : Edge) → first ≤ k → k < end → (slice_index_or flow.edges k d).from ≡ place
+  pub after : (k : ℕ) (d : Edge) → end ≤ k → k < length flow.edges
+      → place_cmp place (slice_index_or flow.edges k d).from ≡ Less

@@ -1,5 +1,6 @@
-ghost use Rattle.std.specs.Prelude.{◌≡◌, ◌<◌, ◌≤◌, ◌+◌, length, slice_index};
-ghost use Rattle.flow_graph.specs.Flow.{IsWellFormed};
+ghost use Rattle.std.specs.Prelude.{◌≡◌, ◌<◌, length};
+ghost use Rattle.flow_graph.specs.Flow.{IsEdgeRange, IsWellFormed};
+ghost use Rattle.flow_graph.specs.Places.{place_at};
 
 use crate::edges::Edge;
 use crate::places::Place;
@@ -62,13 +63,11 @@ impl Graph {
         &self.firsts
     }
 
-    /// Where the edges that leave a place begin and end in `edges`, by the index of the place in `places`.
+    /// Where the edges that leave a place begin in `edges`, and where they end, by the index of the place in
+    /// `places`.
     pub fn edge_range(&self, place: usize) -> (usize, usize)
         requires { place < length self.now.places }
-        ensures first { result.0 ≡ slice_index self.now.firsts place }
-        ensures end { result.1 ≡ slice_index self.now.firsts (place + 1) }
-        ensures rises { result.0 ≤ result.1 }
-        ensures fits { result.1 ≤ length self.now.edges }
+        ensures range { IsEdgeRange self.now (place_at self.now.places place) result.0 result.1 }
         ensures well_formed { IsWellFormed self.now }
     {
         let firsts = self.firsts();

@@ -4,29 +4,29 @@ use Rattle.std.proofs.lemmas.Bool.{both_ways, cases_lt}
 use Rattle.std.proofs.lemmas.List.{get_or_default}
 use Rattle.flow_graph.specs.declared.edges.Edge.{Edge}
 use Rattle.flow_graph.specs.declared.places.Place.{Place}
-use Rattle.flow_graph.specs.Flow.{Flow}
+use Rattle.flow_graph.specs.Flow.{Flow, IsEdgeRange}
+use Rattle.flow_graph.proofs.Firsts.{whole_range}
 use Rattle.longest_walk.specs.Built.{step_at}
-use Rattle.longest_walk.specs.Parts.{IsPartOf}
 use Rattle.longest_walk.proofs.CarryWalks.{no_edge}
 use Rattle.kept_runs.specs.declared.edges.Going.{Going}
 use Rattle.kept_runs.specs.Edges.{HasNoEdge, IsFound, is_met}
 
-module _ (flow : Flow) (place : Place) (going : Going) (first end : ℕ) (part : IsPartOf flow place first end) where
+module _ (flow : Flow) (place : Place) (going : Going) (first end : ℕ) (range : IsEdgeRange flow place first end) where
   -- the edges of the place before this one are not met
   abbrev pub AreNotMet : ℕ → Type 0
   AreNotMet limit = (k : ℕ) → k < limit → (step_at flow.edges k).from ≡ place → is_met going (step_at flow.edges k) ≡ false
 
   pub none_before : AreNotMet first
   none_before k less from =
-      let fits = part.fits in
-      let ordered = part.ordered in
-      let own = part.whole k (omega (arith, less, fits, ordered)) from in
+      let fits = range.fits in
+      let ordered = range.ordered in
+      let own = whole_range flow place first end range k no_edge (omega (arith, less, fits, ordered)) from in
       absurd (omega (arith, less, own.0))
 
   -- what is tested of an edge
   module _ (k : ℕ) (low : first ≤ k) (high : k < end) (e : Edge) (r : Bool) (es : List Edge) (are : es ≡ flow.edges) (at : e ≡ get_or es k e) (is : r ≡ is_met going e) where
     known : k < length flow.edges
-    known = let fits = part.fits in omega (arith, high, fits)
+    known = let fits = range.fits in omega (arith, high, fits)
 
     tested : (b : Bool) → r ≡ b → is_met going (step_at flow.edges k) ≡ b
     tested b answer =
@@ -34,7 +34,7 @@ module _ (flow : Flow) (place : Place) (going : Going) (first end : ℕ) (part :
         sym (ap (is_met going) same) ∙ sym is ∙ answer
 
     pub found_here : r ≡ true → IsFound flow place going k
-    found_here answer = record { known = known; from = part.own k low high; met = tested true answer }
+    found_here answer = record { known = known; from = range.own k no_edge low high; met = tested true answer }
 
     pub none_here : AreNotMet k → r ≡ false → AreNotMet (k + 1)
     none_here before answer j less from = ⊎_elim
@@ -48,5 +48,5 @@ module _ (flow : Flow) (place : Place) (going : Going) (first end : ℕ) (part :
   found_nowhere k past before e (j, j_in, at) from met =
       let is : step_at flow.edges j ≡ e = get_or_default flow.edges j no_edge e j_in ∙ at in
       let from_is : (step_at flow.edges j).from ≡ place = ap (λ (x : Edge). x.from) is ∙ from in
-      let own = part.whole j j_in from_is in
+      let own = whole_range flow place first end range j no_edge j_in from_is in
       both_ways (is_met going e) (ap (is_met going) (sym is) ∙ before j (omega (arith, own.1, past)) from_is) met

@@ -3,7 +3,6 @@
 ghost use Rattle.std.specs.Prelude.{◌≡◌, ◌<◌, length, MatchOption};
 ghost use Rattle.bus_ticks.specs.declared.space.TheConstants.{SPACE_END};
 ghost use Rattle.flow_graph.specs.Places.{place_at};
-ghost use Rattle.longest_walk.specs.Parts.{IsPartOf};
 ghost use Rattle.kept_runs.specs.Edges.{HasNoEdge, IsFound, is_met, is_place_of};
 
 use crate::transfers::covers;
@@ -38,14 +37,6 @@ fn is_met(edge: &Edge, going: Going) -> bool
     is_same_label(edge.label, going.label) && is_place_of(&edge.to, going)
 }
 
-// Where the edges of the place begin and end.
-fn part(graph: &Graph, place: usize) -> (usize, usize)
-    requires { place < length graph.now.places }
-    ensures { IsPartOf graph.now (place_at graph.now.places place) result.0 result.1 }
-{
-    graph.edge_range(place)
-}
-
 /// An edge of the place by the label and to the address, by its index in the graph's edges. It takes time
 /// linear in the edges of the place.
 pub(crate) fn edge_taken(graph: &Graph, place: usize, going: Going) -> Option<usize>
@@ -54,7 +45,7 @@ pub(crate) fn edge_taken(graph: &Graph, place: usize, going: Going) -> Option<us
     ensures { MatchOption result (HasNoEdge graph.now (place_at graph.now.places place) going)
         (IsFound graph.now (place_at graph.now.places place) going) }
 {
-    let (first, end) = part(graph, place);
+    let (first, end) = graph.edge_range(place);
     for edge in first..end {
         if is_met(&graph.edges()[edge], going) {
             return Some(edge);

@@ -7,7 +7,6 @@ pub mod RoundLemmas
 pub mod RowLemmas
 pub mod CarryKeeps
 pub mod CarryWalks
-pub mod PlaceParts
 pub mod CarryOnce
 pub mod CarryFind
 pub mod CarryRows

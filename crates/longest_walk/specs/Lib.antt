@@ -3,6 +3,5 @@ pub mod Rows
 pub mod Longest
 pub mod Starts
 pub mod Built
-pub mod Parts
 pub mod Ways
 pub mod Visits

@@ -14,15 +14,14 @@ use Rattle.flow_graph.specs.declared.places.Place.TheVariants.{Exit}
 use Rattle.flow_graph.specs.declared.edges.Edge.{Edge}
 use Rattle.flow_graph.specs.declared.edges.Label.{Label}
 use Rattle.flow_graph.specs.declared.edges.Label.TheVariants.{Skip, Do}
-use Rattle.flow_graph.specs.Flow.{Flow, IsWellFormed}
+use Rattle.flow_graph.specs.Flow.{Flow, IsEdgeRange, IsWellFormed}
 use Rattle.flow_graph.specs.Places.{place_at, place_cmp}
 use Rattle.flow_graph.specs.Search.{by_order}
 use Rattle.flow_graph.proofs.PlaceLemmas.{by_order_exact, place_exact, place_total}
 use Rattle.loop_bounds.proofs.Positions.{known}
 use Rattle.longest_walk.specs.Built.{step_at}
 use Rattle.longest_walk.proofs.CarryWalks.{no_edge}
-use Rattle.flow_graph.proofs.Firsts.{part_fits}
-use Rattle.longest_walk.proofs.PlaceParts.{part_of}
+use Rattle.flow_graph.proofs.Firsts.{whole_range}
 use Rattle.walk_counts.specs.Counts.{is_same, is_same_label, is_same_place, number_of}
 
 -- ## The same edge
@@ -75,38 +74,41 @@ known_edge edges e has =
     (cases_lt has.0 (number_of edges e)) in
     (inside, sym (one_edge e (step_at edges (number_of edges e)) (passes_at_first (is_same e) edges no_edge inside)))
 
+module _ (flow : Flow) (place : Place) (first end : ℕ) (range : IsEdgeRange flow place first end) (e : Edge) (leaves : place ≡ e.from) where
+  outside : (k : ℕ) → k < length flow.edges → (first ≤ k → k < end → ⊥) → is_same e (step_at flow.edges k) ≡ false
+  outside k k_in out = ⊎_elim
+      (λ is.
+      let from = sym (ap (λ (f : Edge). f.from) (one_edge e (step_at flow.edges k) is)) ∙ sym leaves in
+      let at = whole_range flow place first end range k no_edge k_in from in
+      absurd (out at.0 at.1))
+      (λ fails. fails)
+      (cases_Bool (is_same e (step_at flow.edges k)))
+
+  pub fail_before : (k : ℕ) → k < first → is_same e (step_at flow.edges k) ≡ false
+  fail_before k less = outside k (omega (arith, range.ordered, range.fits)) (λ low high. omega arith)
+
+  -- what is tested of an edge of the range
+  pub tested : (k : ℕ) → k < end → (es : List Edge) (f : Edge) (r b : Bool) → es ≡ flow.edges → f ≡ get_or es k f → r ≡ is_same e f → r ≡ b → is_same e (step_at flow.edges k) ≡ b
+  tested k high es f r b are at is answer =
+      let same : f ≡ step_at flow.edges k = at ∙ ap (λ (xs : List Edge). get_or xs k f) are ∙ get_or_default flow.edges k f no_edge (omega (arith, high, range.fits)) in
+      ap (is_same e) (sym same) ∙ sym is ∙ answer
+
+  pub found_here : (k : ℕ) → k < end → ((j : ℕ) → j < k → is_same e (step_at flow.edges j) ≡ false) → is_same e (step_at flow.edges k) ≡ true → (k ≡ number_of flow.edges e) × (k < length flow.edges)
+  found_here k high before at =
+      let k_in : k < length flow.edges = omega (arith, range.fits) in
+      (sym (position_or_len_is (is_same e) flow.edges k no_edge (omega arith) before (λ _. at)), k_in)
+
+  pub found_nowhere : (k : ℕ) → end ≤ k → ((j : ℕ) → j < k → is_same e (step_at flow.edges j) ≡ false) → length flow.edges ≤ number_of flow.edges e
+  found_nowhere k past before =
+      let none : number_of flow.edges e ≡ length flow.edges = position_or_len_is (is_same e) flow.edges (length flow.edges) no_edge (omega arith)
+      (λ j j_in. ⊎_elim
+      (λ (less : j < k). before j less)
+      (λ (more : k ≤ j). outside j j_in (λ low high. omega arith))
+      (cases_lt j k))
+      (λ lt. absurd (omega arith)) in
+      omega arith
+
 module _ (flow : Flow) (well : IsWellFormed flow) where
-  module _ (v : ℕ) (v_in : v < length flow.places) (e : Edge) (leaves : place_at flow.places v ≡ e.from) where
-    outside : (k : ℕ) → k < length flow.edges → (get_or flow.firsts v 0 ≤ k → k < get_or flow.firsts (v + 1) 0 → ⊥) → is_same e (step_at flow.edges k) ≡ false
-    outside k k_in out = ⊎_elim
-        (λ is. let at = part_of flow well v v_in k k_in (sym (ap (λ (f : Edge). f.from) (one_edge e (step_at flow.edges k) is)) ∙ sym leaves) in absurd (out at.0 at.1))
-        (λ fails. fails)
-        (cases_Bool (is_same e (step_at flow.edges k)))
-
-    pub fail_before : (k : ℕ) → k < get_or flow.firsts v 0 → is_same e (step_at flow.edges k) ≡ false
-    fail_before k less = outside k (omega (arith, well.rising v v_in, part_fits flow well v v_in)) (λ low high. omega arith)
-
-    -- what is tested of an edge of the part
-    pub tested : (k : ℕ) → k < get_or flow.firsts (v + 1) 0 → (es : List Edge) (f : Edge) (r b : Bool) → es ≡ flow.edges → f ≡ get_or es k f → r ≡ is_same e f → r ≡ b → is_same e (step_at flow.edges k) ≡ b
-    tested k high es f r b are at is answer =
-        let same : f ≡ step_at flow.edges k = at ∙ ap (λ (xs : List Edge). get_or xs k f) are ∙ get_or_default flow.edges k f no_edge (omega (arith, high, part_fits flow well v v_in)) in
-        ap (is_same e) (sym same) ∙ sym is ∙ answer
-
-    pub found_here : (k : ℕ) → k < get_or flow.firsts (v + 1) 0 → ((j : ℕ) → j < k → is_same e (step_at flow.edges j) ≡ false) → is_same e (step_at flow.edges k) ≡ true → (k ≡ number_of flow.edges e) × (k < length flow.edges)
-    found_here k high before at =
-        let k_in : k < length flow.edges = omega (arith, part_fits flow well v v_in) in
-        (sym (position_or_len_is (is_same e) flow.edges k no_edge (omega arith) before (λ _. at)), k_in)
-
-    pub found_nowhere : (k : ℕ) → get_or flow.firsts (v + 1) 0 ≤ k → ((j : ℕ) → j < k → is_same e (step_at flow.edges j) ≡ false) → length flow.edges ≤ number_of flow.edges e
-    found_nowhere k past before =
-        let none : number_of flow.edges e ≡ length flow.edges = position_or_len_is (is_same e) flow.edges (length flow.edges) no_edge (omega arith)
-        (λ j j_in. ⊎_elim
-        (λ (less : j < k). before j less)
-        (λ (more : k ≤ j). outside j j_in (λ low high. omega arith))
-        (cases_lt j k))
-        (λ lt. absurd (omega arith)) in
-        omega arith
-
   -- ## The place
 
   pub place_found : (v : ℕ) (p : Place) → IsBinarySearchResult (λ q. by_order q p) flow.places (Ok v) → place_at flow.places v ≡ p

@@ -1,5 +1,6 @@
-use Rattle.std.proofs.Common.{◌<◌, List, length, subst}
+use Rattle.flow_graph.specs.Flow.{IsEdgeRange}
 use Rattle.flow_graph.specs.declared.places.Place.{Place}
+use Rattle.std.proofs.Common.{subst}
 use Rattle.explained.proofs.LinkLaws.{index_is, leaving_found, none_leave}
 use Rattle.explained.proofs.links.edges_from.Goals as goal
 
@@ -7,9 +8,9 @@ pub returns-in-Ok : goal.returns-in-Ok
 returns-in-Ok c =
     let flow = c.args.graph.now in
     let well = c.places.ensures.well_formed in
-    leaving_found flow well c.edges.result.now c.edge_range-first.result.0 c.edge_range-first.result.1 c.in-Ok.at c.args.place.now c.edges.ensures.value c.edge_range-first.ensures.first c.edge_range-first.ensures.end
-    (subst (λ (ps : List Place). c.in-Ok.at < length ps) c.places.ensures.value c.in-Ok.ensures.bound)
-    (index_is flow well c.places.result.now c.args.place.now c.in-Ok.at c.places.ensures.value c.in-Ok.ensures.position)
+    let here = index_is flow well c.places.result.now c.args.place.now c.in-Ok.at c.places.ensures.value c.in-Ok.ensures.position in
+    leaving_found flow well c.edges.result.now c.edge_range-first.result.0 c.edge_range-first.result.1 c.args.place.now c.edges.ensures.value
+    (subst (λ (p : Place). IsEdgeRange flow p c.edge_range-first.result.0 c.edge_range-first.result.1) here c.edge_range-first.ensures.range)
 
 pub returns-in-Err : goal.returns-in-Err
 returns-in-Err c =

@@ -1,8 +1,11 @@
-use Rattle.std.proofs.Common.{◌≤◌, ◌+◌, ℕ, List, get_or, length, sym, subst}
-use Rattle.flow_graph.proofs.Firsts.{part_fits}
+use Rattle.std.proofs.Common.{◌+◌, ℕ, List, get_or, sym, subst}
+use Rattle.flow_graph.specs.Flow.{IsEdgeRange}
+use Rattle.flow_graph.specs.Places.{place_at}
+use Rattle.flow_graph.proofs.Firsts.{range_at}
 use Rattle.flow_graph.proofs.flow.Graph.edge_range.Goals as goal
 
-pub returns-clause-fits : goal.returns-clause-fits
-returns-clause-fits c =
-    subst (λ (fs : List ℕ). get_or fs (c.args.place + 1) 0 ≤ length c.args.self.now.edges) (sym c.firsts-firsts.ensures.value)
-    (part_fits c.args.self.now c.firsts-firsts.ensures.well_formed c.args.place c.requires)
+pub returns-clause-range : goal.returns-clause-range
+returns-clause-range c =
+    let flow = c.args.self.now in
+    subst (λ (fs : List ℕ). IsEdgeRange flow (place_at flow.places c.args.place) (get_or fs c.args.place 0) (get_or fs (c.args.place + 1) 0)) (sym c.firsts-firsts.ensures.value)
+    (range_at flow c.firsts-firsts.ensures.well_formed c.args.place c.requires)
