@@ -49,6 +49,19 @@ opcode_number Mov = 13
 opcode_number Bic = 14
 opcode_number Mvn = 15
 
+-- the condition that always holds, and the one that never does
+abbrev pub is_always : Cond → Bool
+is_always Al = true
+is_always _ = false
+
+abbrev pub is_never : Cond → Bool
+is_never Nv = true
+is_never _ = false
+
+abbrev pub is_mov : Opcode → Bool
+is_mov Mov = true
+is_mov _ = false
+
 -- TST TEQ CMP CMN, which write flags alone
 abbrev pub is_compare : Opcode → Bool
 is_compare Tst = true
@@ -56,6 +69,10 @@ is_compare Teq = true
 is_compare Cmp = true
 is_compare Cmn = true
 is_compare _ = false
+
+abbrev pub is_lsl : Shift → Bool
+is_lsl Lsl = true
+is_lsl _ = false
 
 abbrev pub shift_number : Shift → ℕ
 shift_number Lsl = 0
@@ -80,6 +97,10 @@ register_number R12 = 12
 register_number R13 = 13
 register_number R14 = 14
 register_number R15 = 15
+
+-- R14 keeps the way back
+abbrev pub is_link : Register → Bool
+is_link register = register_number register == 14
 
 -- R15 is the program counter
 abbrev pub is_pc : Register → Bool

@@ -1,6 +1,6 @@
 ghost use Rattle.std.specs.Prelude.{◌≡◌, ◌<◌};
-ghost use Rattle.arm2_decode.specs.Names.{cond_number, is_compare, is_pc, opcode_number, register_number};
-ghost use Rattle.arm2_decode.specs.Names.{shift_number};
+ghost use Rattle.arm2_decode.specs.Names.{cond_number, is_always, is_compare, is_link, is_lsl, is_mov};
+ghost use Rattle.arm2_decode.specs.Names.{is_never, is_pc, opcode_number, register_number, shift_number};
 
 // The variant of a number: the last one stands for all numbers that follow.
 macro_rules! variant {
@@ -69,6 +69,20 @@ impl Cond {
             Nv
         )
     }
+
+    /// Whether it always holds.
+    pub fn is_always(self) -> bool
+        ensures { result ≡ is_always self }
+    {
+        matches!(self, Cond::Al)
+    }
+
+    /// Whether it never holds.
+    pub fn is_never(self) -> bool
+        ensures { result ≡ is_never self }
+    {
+        matches!(self, Cond::Nv)
+    }
 }
 
 /// What a data processing instruction computes; bits 24 to 21 of a word, from 0.
@@ -130,6 +144,13 @@ impl Opcode {
         )
     }
 
+    /// Whether it is MOV.
+    pub fn is_mov(self) -> bool
+        ensures { result ≡ is_mov self }
+    {
+        matches!(self, Opcode::Mov)
+    }
+
     /// Whether it writes flags alone, and no register: TST, TEQ, CMP, CMN.
     pub fn is_compare(self) -> bool
         ensures { result ≡ is_compare self }
@@ -166,6 +187,13 @@ impl Shift {
         ensures { shift_number result ≡ number }
     {
         variant!(number, Shift: 0 Lsl 1 Lsr 2 Asr, Ror)
+    }
+
+    /// Whether it is LSL.
+    pub fn is_lsl(self) -> bool
+        ensures { result ≡ is_lsl self }
+    {
+        matches!(self, Shift::Lsl)
     }
 }
 
@@ -210,6 +238,13 @@ impl Register {
                 8 R8 9 R9 10 R10 11 R11 12 R12 13 R13 14 R14,
             R15
         )
+    }
+
+    /// Whether it is R14, which keeps the way back.
+    pub fn is_link(self) -> bool
+        ensures { result ≡ is_link self }
+    {
+        self.number() == 14
     }
 
     /// Whether it is R15, the program counter.

@@ -1,6 +1,7 @@
 -- Where a handler cannot go on.
 use Rattle.std.specs.Prelude.{◌≡◌, ◌⊎◌, ℕ, if◌then◌else◌, List, Option, Some, None, All}
 use Rattle.std.specs.Map.{keys_of}
+use Rattle.arm2_decode.specs.Names.{is_never}
 use Rattle.drafting.specs.Picks.{Picks}
 use Rattle.drafting.specs.Reach.{HasReading}
 use Rattle.drafting.specs.declared.ends.End.{End}
@@ -9,7 +10,6 @@ use Rattle.drafting.specs.declared.words.Reading.{Reading}
 use Rattle.drafting.specs.declared.words.Way.{Way}
 use Rattle.drafting.specs.declared.words.Way.TheVariants as way
 use Rattle.loader.specs.Image.{Words, word_of}
-use Rattle.word_shapes.specs.Shapes.{is_never}
 
 -- why control does not come past a word that is carried out
 abbrev pub way_end : Way → Option End

@@ -2,6 +2,7 @@
 -- choice of shapes).
 use Rattle.std.specs.Prelude.{◌≡◌, ◌⊎◌, ◌↔◌, ℕ, ◌+◌, ◌-◌, ◌*◌, ◌<◌, ◌≤◌, true, false}
 use Rattle.std.specs.Prelude.{if◌then◌else◌, List, length, Contains, Some}
+use Rattle.arm2_decode.specs.Names.{is_always, is_never}
 use Rattle.bus_ticks.specs.declared.space.TheConstants.{SPACE_END}
 use Rattle.arm2_decode.specs.Table.{IsUnallocated, Means}
 use Rattle.arm2_decode.specs.declared.instr.Instr.{Instr}
@@ -13,7 +14,7 @@ use Rattle.drafting.specs.declared.words.Reading.{Reading}
 use Rattle.drafting.specs.declared.words.Way.{Way}
 use Rattle.drafting.specs.declared.words.Way.TheVariants as way
 use Rattle.loader.specs.Image.{Words, word_of}
-use Rattle.word_shapes.specs.Shapes.{is_always, is_never, is_return, is_table_jump, is_way_back, writes_pc}
+use Rattle.word_shapes.specs.Shapes.{is_return, is_table_jump, is_way_back, writes_pc}
 use Rattle.word_shapes.specs.Words.{HasShape}
 
 -- ## Operations

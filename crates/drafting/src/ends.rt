@@ -7,7 +7,6 @@ ghost use Rattle.drafting.specs.declared.ends.End.{End};
 use crate::words::{Reading, Way, reading_at};
 use loader::Image;
 use std::alloc::{AllocError, Global};
-use word_shapes::is_never;
 
 /// Why a handler cannot go on at an address.
 #[derive(Clone, Copy)]
@@ -23,7 +22,7 @@ pub enum End {
 fn reading_end(reading: Reading) -> Option<End>
     ensures { result ≡ reading_end reading }
 {
-    if is_never(reading.cond) {
+    if reading.cond.is_never() {
         return None;
     }
     match reading.way {

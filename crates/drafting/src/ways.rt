@@ -1,16 +1,16 @@
 ghost use Rattle.std.specs.Prelude.{◌≡◌, ◌↔◌, ℕ, ◌<◌, true, false, IfSome, IsTrue, Some, OnOk};
+ghost use Rattle.arm2_decode.specs.Names.{is_never};
 ghost use Rattle.drafting.specs.Exploring.{Gains};
 ghost use Rattle.drafting.specs.Reach.{CallsTo, GoesOn, HasPlaces, IsBranchAt, KeepsWayBack, LeadsAway};
 ghost use Rattle.drafting.specs.Reach.{StepsTo, before, next_of, words_on};
 ghost use Rattle.drafting.specs.declared.words.Way.TheVariants.{Writer};
-ghost use Rattle.word_shapes.specs.Shapes.{is_never};
 
 use crate::words::{Reading, Way, reading_at};
 use arm2_effect::ahead_of;
 use bus_ticks::SPACE_END;
 use loader::Image;
 use std::alloc::AllocError;
-use word_shapes::{is_always, is_never, is_table_jump_at, is_way_back_at};
+use word_shapes::{is_table_jump_at, is_way_back_at};
 
 // The most destinations of a target.
 const MOST_BRANCHES: u32 = 64;
@@ -34,7 +34,7 @@ fn is_branch(image: &Image, at: u32) -> bool
     ensures no { IsBranchAt image.now at → result ≡ true }
 {
     match reading_at(image, at) {
-        Some(reading) => is_always(reading.cond) && matches!(reading.way, Way::Branch(_)),
+        Some(reading) => reading.cond.is_always() && matches!(reading.way, Way::Branch(_)),
         None => false,
     }
 }
@@ -76,7 +76,7 @@ fn goes_on(image: &Image, at: u32, reading: Reading) -> bool
     ensures yes { result ≡ true → GoesOn image.now at reading }
     ensures no { GoesOn image.now at reading → result ≡ true }
 {
-    if !is_always(reading.cond) {
+    if !reading.cond.is_always() {
         return true;
     }
     match reading.way {
@@ -108,7 +108,7 @@ fn push_others(
         (Gains (λ to. (is_never reading.cond ≡ false) × LeadsAway image.now at reading.way to)
         out.old.items out.new.items) }
 {
-    if is_never(reading.cond) {
+    if reading.cond.is_never() {
         return Ok(());
     }
     match reading.way {
@@ -139,7 +139,7 @@ pub(crate) fn called(image: &Image, at: u32) -> Option<u32>
     ensures only { (to : ℕ) → CallsTo image.now at to → result ≡ Some to }
 {
     let reading = reading_at(image, at)?;
-    if is_never(reading.cond) {
+    if reading.cond.is_never() {
         return None;
     }
     match reading.way {

@@ -5,6 +5,7 @@ use Rattle.std.specs.Prelude.{if◌then◌else◌, Contains, None, ◌⊎◌}
 use Rattle.std.specs.List.{list_any}
 use Rattle.std.specs.List.Sorted.{IsStrictlySortedBy}
 use Rattle.std.specs.Ordering.{nat_cmp}
+use Rattle.arm2_decode.specs.Names.{is_never}
 use Rattle.arm2_decode.specs.declared.instr.Instr.{Instr}
 use Rattle.arm2_effect.specs.Operations.{is_transfer}
 use Rattle.asm_text.specs.Source.{lines_of}
@@ -13,7 +14,7 @@ use Rattle.bus_ticks.specs.declared.profile.Class.TheVariants.{Any}
 use Rattle.flow_graph.specs.Flow.{Flow}
 use Rattle.loader.specs.Image.{Words}
 use Rattle.statement.specs.Stated.{Stated, class_of, target_of}
-use Rattle.word_shapes.specs.Shapes.{is_never, is_odd_writer}
+use Rattle.word_shapes.specs.Shapes.{is_odd_writer}
 use Rattle.word_shapes.specs.Words.{HasInstr, HasShape}
 use Rattle.flow_graph.specs.declared.places.Place.{Place}
 use Rattle.explained.specs.Links.{AreLostLinks}

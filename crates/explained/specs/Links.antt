@@ -3,7 +3,7 @@ use Rattle.std.specs.Prelude.{◌≡◌, ◌↔◌, ℕ, ◌/◌, ◌%◌, ◌^�
 use Rattle.std.specs.Prelude.{if◌then◌else◌, List, length, Contains, Option, Some, None}
 use Rattle.std.specs.List.Sorted.{IsStrictlySortedBy}
 use Rattle.std.specs.Ordering.{nat_cmp}
-use Rattle.arm2_decode.specs.Names.{is_compare}
+use Rattle.arm2_decode.specs.Names.{is_compare, is_link, is_never}
 use Rattle.arm2_decode.specs.declared.instr.Instr.{Instr}
 use Rattle.arm2_decode.specs.declared.instr.Operation.{Operation}
 use Rattle.arm2_decode.specs.declared.instr.Operation.TheVariants as operation
@@ -16,7 +16,7 @@ use Rattle.flow_graph.specs.declared.edges.Edge.{Edge}
 use Rattle.flow_graph.specs.declared.places.Place.{Place}
 use Rattle.flow_graph.specs.declared.places.Place.TheVariants.{At, Exit}
 use Rattle.loader.specs.Image.{Words}
-use Rattle.word_shapes.specs.Shapes.{is_link, is_never, is_return, writes_pc}
+use Rattle.word_shapes.specs.Shapes.{is_return, writes_pc}
 use Rattle.word_shapes.specs.Words.{HasInstr, HasShape}
 
 -- ## Words

@@ -1,5 +1,6 @@
 -- What the price of a word takes for granted.
 use Rattle.std.specs.Prelude.{◌≡◌, ℕ, true, false, if◌then◌else◌, List, [], ◌++◌, codes, Option, Some, None}
+use Rattle.arm2_decode.specs.Names.{is_never}
 use Rattle.arm2_decode.specs.declared.instr.Instr.{Instr}
 use Rattle.arm2_decode.specs.declared.instr.Operation.{Operation}
 use Rattle.arm2_decode.specs.declared.instr.Operation.TheVariants as operation
@@ -8,7 +9,6 @@ use Rattle.flow_graph.specs.Flow.{Flow}
 use Rattle.loader.specs.Image.{Words}
 use Rattle.statement.specs.Stated.{Stated, class_of}
 use Rattle.text_rows.specs.Addresses.{class_name}
-use Rattle.word_shapes.specs.Shapes.{is_never}
 use Rattle.word_shapes.specs.Words.{HasInstr}
 use Rattle.explained.specs.Leaving.{is_left_on}
 use Rattle.explained.specs.Taken.{is_reached}

@@ -12,7 +12,7 @@ use flow_graph::{Graph, Place, Statement};
 use loader::Image;
 use std::alloc::{AllocError, Global};
 use std::collections::BTreeSet;
-use word_shapes::{instr_at, is_never, is_odd_writer, is_transfer_at};
+use word_shapes::{instr_at, is_odd_writer, is_transfer_at};
 
 /// What a bound takes for granted of a word that its handler reaches.
 #[derive(Clone, Copy)]
@@ -39,7 +39,7 @@ fn is_loose_transfer(image: &Image, statement: &Statement, at: u32) -> bool
 fn may_write_oddly(instr: &Instr) -> bool
     ensures { result ≡ may_write_oddly instr.now }
 {
-    !is_never(instr.cond) && is_odd_writer(&instr.operation)
+    !instr.cond.is_never() && is_odd_writer(&instr.operation)
 }
 
 fn is_taken_for_return(image: &Image, statement: &Statement, at: u32) -> bool

@@ -4,7 +4,6 @@ ghost use Rattle.std.specs.Ordering.{nat_cmp};
 ghost use Rattle.flow_graph.specs.Flow.{HasEdge, IsWellFormed};
 ghost use Rattle.flow_graph.specs.declared.edges.Edge.{Edge};
 ghost use Rattle.flow_graph.specs.declared.places.Place.{Place};
-ghost use Rattle.word_shapes.specs.Shapes.{is_link};
 ghost use Rattle.word_shapes.specs.Words.{HasShape};
 ghost use Rattle.explained.specs.Assumed.{Notes};
 ghost use Rattle.explained.specs.Links.{AreLostLinks, IsLost, KeepsLink, MayReturnByLink, data_writes_link};
@@ -20,19 +19,13 @@ use flow_graph::{Calls, Edge, Graph, Place};
 use loader::Image;
 use std::alloc::{AllocError, Global};
 use std::collections::BTreeSet;
-use word_shapes::{instr_at, is_never, is_return, is_transfer, writes_pc};
-
-fn is_link(register: Register) -> bool
-    ensures { result ≡ is_link register }
-{
-    register.number() == 14
-}
+use word_shapes::{instr_at, is_return, is_transfer, writes_pc};
 
 // Whether data processing writes R14.
 fn data_writes_link(opcode: Opcode, rd: Register) -> bool
     ensures { result ≡ data_writes_link opcode rd }
 {
-    is_link(rd) && !opcode.is_compare()
+    rd.is_link() && !opcode.is_compare()
 }
 
 // Whether a load or a store of one word writes its base.
@@ -45,7 +38,7 @@ fn moves_base(before: bool, write_back: bool) -> bool
 fn single_writes_link(load: bool, moves: bool, rn: Register, rd: Register) -> bool
     ensures { result ≡ single_writes_link load moves rn rd }
 {
-    load && is_link(rd) || moves && is_link(rn)
+    load && rd.is_link() || moves && rn.is_link()
 }
 
 fn has_link(list: u32) -> bool
@@ -59,7 +52,7 @@ fn writes_link(operation: &Operation) -> bool
     ensures { result ≡ writes_link operation.now }
 {
     match operation {
-        Operation::Multiply(x) => is_link(x.rd),
+        Operation::Multiply(x) => x.rd.is_link(),
         Operation::DataRegister(x) => data_writes_link(x.opcode, x.rd),
         Operation::DataRegisterShift(x) => data_writes_link(x.opcode, x.rd),
         Operation::DataImmediate(x) => data_writes_link(x.opcode, x.rd),
@@ -69,7 +62,7 @@ fn writes_link(operation: &Operation) -> bool
         Operation::SingleRegister(x) => {
             single_writes_link(x.load, moves_base(x.before, x.write_back), x.rn, x.rd)
         }
-        Operation::Block(x) => x.load && has_link(x.list) || x.write_back && is_link(x.rn),
+        Operation::Block(x) => x.load && has_link(x.list) || x.write_back && x.rn.is_link(),
         Operation::Branch(_)
         | Operation::Swi(_)
         | Operation::UndefinedTransfer(_)
@@ -98,7 +91,7 @@ fn returns_by_link(operation: &Operation) -> bool
 fn may_return_by_link(instr: &Instr) -> bool
     ensures { result ≡ may_return_by_link instr.now }
 {
-    !is_never(instr.cond) && returns_by_link(&instr.operation)
+    !instr.cond.is_never() && returns_by_link(&instr.operation)
 }
 
 // Whether the image has a word at an address that may return by R14.

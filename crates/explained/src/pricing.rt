@@ -16,7 +16,7 @@ use loader::Image;
 use std::alloc::{AllocError, Global};
 use std::collections::{BTreeMap, BTreeSet};
 use text_rows::{class_name, put, put_right};
-use word_shapes::{instr_at, is_never};
+use word_shapes::instr_at;
 
 /// What the price of an instruction takes for granted of what it does besides its fetches.
 #[derive(Clone, Copy)]
@@ -58,7 +58,7 @@ fn operation_granted(class: Class, operation: &Operation) -> Granted
 fn instr_granted(class: Class, instr: &Instr) -> Granted
     ensures { result ≡ instr_granted class instr.now }
 {
-    if is_never(instr.cond) {
+    if instr.cond.is_never() {
         return Granted::Nothing;
     }
     operation_granted(class, &instr.operation)

@@ -8,13 +8,13 @@ use Rattle.std.specs.List.Sorted.{IsStrictlySortedBy}
 use Rattle.std.proofs.lemmas.Bool.{ltb-false, le-ltb}
 use Rattle.std.proofs.lemmas.List.{get_or_append_left, get_or_read}
 use Rattle.std.proofs.lemmas.List.Elements.{Contains-append_left, Contains-push, Contains-push_cases}
+use Rattle.arm2_decode.specs.Names.{is_never}
 use Rattle.bus_ticks.specs.declared.profile.Profile.{Profile}
 use Rattle.loader.specs.Image.{Words}
 use Rattle.walks.specs.Walk.{Leads}
 use Rattle.flow_graph.specs.Edges.{AreEdgesOf, HasAction, IsEdge}
 use Rattle.flow_graph.specs.Flow.{edge_shape}
 use Rattle.flow_graph.specs.Graph.{ArePlaces, IsBuildFault, IsCrowd, IsFlowGraph, IsReached, IsStray, MayDo, is_call, makes_call, start_of, states_call}
-use Rattle.flow_graph.specs.Kinds.{is_never}
 use Rattle.flow_graph.specs.Places.{place_cmp}
 use Rattle.flow_graph.specs.Search.{AddsEdges, AreInTurn, EndsOne, Grows, IsAllowed, IsCrowded, IsCrowdedBy, IsDone, IsEdgeFault, IsFound, IsIn, IsPlaceFault, IsSearch, IsSound, IsTurnFault, IsVisited, IsVisitFault, places_in, action_fault, call_fault, kind_fault, stated_fault, writer_fault}
 use Rattle.statement.specs.Stated.{Stated, Target, target_of}

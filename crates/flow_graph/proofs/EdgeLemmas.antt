@@ -6,6 +6,7 @@ use Rattle.std.proofs.lemmas.List.Elements.{All-nil, All-cons, All-head, All-tai
 use Rattle.std.proofs.lemmas.Map.Entries.{All-lookup}
 use Rattle.std.proofs.lemmas.Bool.{ltb-true}
 use Rattle.std.proofs.lemmas.Nat.{mul-le}
+use Rattle.arm2_decode.specs.Names.{is_always, is_never}
 use Rattle.arm2_decode.proofs.Unique.{one_instr, never_both, one_unallocated}
 use Rattle.bus_ticks.proofs.WorstLemmas.{worst_block_small}
 use Rattle.arm2_effect.specs.ProgramCounter.{ahead_of}
@@ -17,7 +18,7 @@ use Rattle.bus_ticks.specs.declared.profile.Class.TheVariants.{Any, Ram, Rom, Io
 use Rattle.bus_ticks.specs.declared.profile.Profile.{Profile}
 use Rattle.loader.specs.Image.{Words}
 use Rattle.flow_graph.specs.Edges.{AreEdgesOf, HasAction, IsEdge, arrival_ticks, call_places, do_edge, landing_edges, do_edges, fetch_ticks, places_at, jump_ticks, landings, return_place, skip_edge, skip_edges, stated_landings, branch_target, word_edges, work_ticks, writer_landings}
-use Rattle.flow_graph.specs.Kinds.{IsAction, IsWork, instr_action, is_always, is_never, unallocated_action}
+use Rattle.flow_graph.specs.Kinds.{IsAction, IsWork, instr_action, unallocated_action}
 use Rattle.flow_graph.specs.Places.{IsInRange}
 use Rattle.statement.specs.Stated.{IsStated, IsTarget, Stated, Target, class_of, target_of}
 use Rattle.flow_graph.specs.declared.edges.Edge.{Edge}

@@ -13,7 +13,7 @@ use Rattle.shifter.specs.declared.shifts.Shifted.{Shifted}
 use Rattle.shifter.specs.Shifts.{Has, by_register, moved}
 use Rattle.shifter.specs.Word.{word_bits}
 use Rattle.arm2_decode.specs.Allowed.{bit_of}
-use Rattle.arm2_decode.specs.Names.{is_pc, register_number}
+use Rattle.arm2_decode.specs.Names.{is_lsl, is_mov, is_pc, register_number}
 use Rattle.arm2_decode.specs.declared.flags.Flags.{Flags}
 use Rattle.arm2_decode.specs.declared.instr.Block.{Block}
 use Rattle.arm2_decode.specs.declared.instr.DataImmediate.{DataImmediate}
@@ -42,7 +42,7 @@ use Rattle.arm2_transfer.specs.Words.{registers_in}
 use Rattle.arm2_exec.specs.State.{State}
 use Rattle.arm2_exec.specs.Step.{with_lines}
 use Rattle.arm2_exec.specs.declared.machine.Input.{Input}
-use Rattle.flow_graph.specs.Free.{adds_an_immediate, asks_for_user, copies_a_register, is_add_or_sub, is_free_operation, is_lsl, is_mov, writes_pc}
+use Rattle.flow_graph.specs.Free.{adds_an_immediate, asks_for_user, copies_a_register, is_add_or_sub, is_free_operation, writes_pc}
 use Rattle.flow_graph.specs.Kinds.{lists_pc}
 use Rattle.flow_graph.specs.Setting.{HasSetting, IsData, IsDataOf, IsMemory, IsPort, IsSource, MayStart, Sets, of_register, rotated, transfer_setting, with_source}
 use Rattle.flow_graph.specs.TightWork.{IsDearestTarget, TransfersDearest}

@@ -3,6 +3,7 @@ use Rattle.std.proofs.Common.{◌≡◌, ℕ, ◌+◌, ◌*◌, ◌^◌, ◌<◌
 use Rattle.std.proofs.Math.Nat.{mul-add}
 use Rattle.std.proofs.lemmas.Bool.{cases_lt, false≢true}
 use Rattle.std.proofs.lemmas.List.Sums.{sum_by-cons}
+use Rattle.arm2_decode.specs.Names.{is_never}
 use Rattle.bus_ticks.specs.declared.profile.Class.{Class}
 use Rattle.bus_ticks.specs.declared.profile.Profile.{Profile}
 use Rattle.bus_ticks.specs.declared.profile.RomTimes.{RomTimes}
@@ -31,7 +32,7 @@ use Rattle.arm2_exec.proofs.StepLemmas.{one_step}
 use Rattle.flow_graph.specs.Edges.{HasAction, do_ticks, do_edge, passing_ticks, skip_edge, word_edges}
 use Rattle.flow_graph.specs.Flow.{edge_shape}
 use Rattle.flow_graph.specs.Graph.{IsReached, IsTooDeep, makes_call}
-use Rattle.flow_graph.specs.Kinds.{IsAction, instr_action, is_never, kind_of, unallocated_action, work_of}
+use Rattle.flow_graph.specs.Kinds.{IsAction, instr_action, kind_of, unallocated_action, work_of}
 use Rattle.flow_graph.specs.StepLaw.{Executes, Follows, IsAccepted, IsEdgeOf, IsPlaceOf, IsTaken, IsWithin, RunLaw, StepCost, StepLaw, WritesElsewhere, bursts_of, holds_in}
 use Rattle.flow_graph.specs.declared.edges.Edge.{Edge}
 use Rattle.flow_graph.specs.declared.edges.Label.TheVariants.{Skip, Do}

@@ -4,6 +4,7 @@ use Rattle.std.specs.Prelude.{Contains}
 use Rattle.std.proofs.lemmas.Bool.{false≢true}
 use Rattle.std.proofs.lemmas.Option.{same_Some}
 use Rattle.std.proofs.lemmas.List.Elements.{Contains-append_cases}
+use Rattle.arm2_decode.specs.Names.{is_always, is_never}
 use Rattle.bus_ticks.specs.declared.profile.Class.{Class}
 use Rattle.bus_ticks.specs.declared.profile.Class.TheVariants.{Any}
 use Rattle.bus_ticks.specs.declared.profile.Profile.{Profile}
@@ -19,7 +20,7 @@ use Rattle.arm2_effect.specs.ProgramCounter.{ahead_of}
 use Rattle.flow_graph.specs.Edges.{AreEdgesOf, HasAction, IsEdge, do_edge, do_edges, landing_edges, landings}
 use Rattle.flow_graph.specs.Edges.{skip_edge, skip_edges, word_edges}
 use Rattle.flow_graph.specs.Free.{HasFreeWord, IsFree, IsFreeWord}
-use Rattle.flow_graph.specs.Kinds.{IsAction, is_always, is_never}
+use Rattle.flow_graph.specs.Kinds.{IsAction}
 use Rattle.flow_graph.specs.Setting.{Sets}
 use Rattle.flow_graph.specs.StepLaw.{label_by}
 use Rattle.flow_graph.specs.TightFile.{IsSettingOf}

@@ -4,7 +4,7 @@
 use Rattle.std.specs.Prelude.{◌≡◌, ℕ, Bool, true, false, not, ◌&&◌, ◌||◌, ◌==◌, IsTrue, List}
 use Rattle.std.specs.Prelude.{Some, ◌⊎◌}
 use Rattle.loader.specs.Image.{Words, is_past_ram, word_of}
-use Rattle.arm2_decode.specs.Names.{is_pc}
+use Rattle.arm2_decode.specs.Names.{is_lsl, is_mov, is_pc}
 use Rattle.arm2_decode.specs.Table.{Means}
 use Rattle.arm2_decode.specs.declared.instr.DataImmediate.{DataImmediate}
 use Rattle.arm2_decode.specs.declared.instr.DataRegister.{DataRegister}
@@ -15,8 +15,6 @@ use Rattle.arm2_decode.specs.declared.instr.SingleImmediate.{SingleImmediate}
 use Rattle.arm2_decode.specs.declared.names.Opcode.{Opcode}
 use Rattle.arm2_decode.specs.declared.names.Opcode.TheVariants as opcode
 use Rattle.arm2_decode.specs.declared.names.Register.{Register}
-use Rattle.arm2_decode.specs.declared.names.Shift.{Shift}
-use Rattle.arm2_decode.specs.declared.names.Shift.TheVariants as shift
 use Rattle.flow_graph.specs.Kinds.{data_kind, is_writer}
 use Rattle.flow_graph.specs.declared.edges.Edge.{Edge}
 use Rattle.flow_graph.specs.declared.edges.Label.TheVariants.{Skip}
@@ -24,18 +22,10 @@ use Rattle.flow_graph.specs.declared.places.Place.TheVariants.{At}
 
 -- ## Operations
 
-abbrev pub is_mov : Opcode → Bool
-is_mov opcode.Mov = true
-is_mov _ = false
-
 abbrev pub is_add_or_sub : Opcode → Bool
 is_add_or_sub opcode.Add = true
 is_add_or_sub opcode.Sub = true
 is_add_or_sub _ = false
-
-abbrev pub is_lsl : Shift → Bool
-is_lsl shift.Lsl = true
-is_lsl _ = false
 
 -- data processing that writes R15
 abbrev pub writes_pc : Opcode → Register → Bool

@@ -4,12 +4,13 @@ use Rattle.std.specs.Prelude.{None, Contains, ◌↔◌}
 use Rattle.std.specs.List.{AllZip, flat_map}
 use Rattle.std.specs.List.Sorted.{IsStrictlySortedBy}
 use Rattle.std.specs.Map.{keys_of}
+use Rattle.arm2_decode.specs.Names.{is_never}
 use Rattle.walks.specs.Walk as walks
 use Rattle.bus_ticks.specs.declared.profile.Profile.{Profile}
 use Rattle.loader.specs.Image.{Words, word_of}
 use Rattle.flow_graph.specs.Edges.{AreEdgesOf, HasAction, IsEdge}
 use Rattle.flow_graph.specs.Flow.{Flow, edge_shape}
-use Rattle.flow_graph.specs.Kinds.{is_never, is_writer}
+use Rattle.flow_graph.specs.Kinds.{is_writer}
 use Rattle.flow_graph.specs.Places.{place_cmp}
 use Rattle.statement.specs.Stated.{Stated, Target, target_of}
 use Rattle.flow_graph.specs.declared.edges.Edge.{Edge}

@@ -9,7 +9,6 @@ use Rattle.arm2_decode.specs.declared.instr.Unallocated.{Unallocated}
 use Rattle.arm2_decode.specs.declared.instr.Operation.{Operation}
 use Rattle.arm2_decode.specs.declared.instr.Operation.TheVariants as operation
 use Rattle.arm2_decode.specs.declared.names.Cond.{Cond}
-use Rattle.arm2_decode.specs.declared.names.Cond.TheVariants as condition
 use Rattle.arm2_decode.specs.declared.names.Opcode.{Opcode}
 use Rattle.arm2_decode.specs.declared.names.Register.{Register}
 use Rattle.flow_graph.specs.declared.kinds.Kind.{Kind}
@@ -96,12 +95,3 @@ abbrev pub IsAction : ℕ → Action → Type 0
 IsAction word a =
     ((i : Instr) × Means word i × (a ≡ instr_action i))
     ⊎ ((u : Unallocated) × IsUnallocated word u × (a ≡ unallocated_action u))
-
--- the condition that always holds, and the one that never does
-abbrev pub is_always : Cond → Bool
-is_always condition.Al = true
-is_always _ = false
-
-abbrev pub is_never : Cond → Bool
-is_never condition.Nv = true
-is_never _ = false

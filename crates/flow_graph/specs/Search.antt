@@ -7,11 +7,11 @@ use Rattle.std.specs.List.Sorted.{IsStrictlySortedBy}
 use Rattle.std.specs.BTreeSet.{BTreeSet, contains, btree_set_len}
 use Rattle.std.specs.declared.cmp.Ordering.{Ordering}
 use Rattle.std.specs.declared.cmp.Reverse.{Reverse}
+use Rattle.arm2_decode.specs.Names.{is_never}
 use Rattle.bus_ticks.specs.declared.profile.Profile.{Profile}
 use Rattle.loader.specs.Image.{Words, word_of}
 use Rattle.flow_graph.specs.Edges.{AreEdgesOf, HasAction}
 use Rattle.flow_graph.specs.Graph.{IsReached, start_of, starts_from}
-use Rattle.flow_graph.specs.Kinds.{is_never}
 use Rattle.flow_graph.specs.Places.{place_cmp}
 use Rattle.statement.specs.Stated.{Stated, Target, target_of}
 use Rattle.flow_graph.specs.contracts.places.PlaceOrd.TheImpl as PlaceOrder

@@ -6,7 +6,7 @@ use crate::edges::{Edge, Label};
 use crate::kinds::{data_processing, is_r15_writer};
 use crate::places::Place;
 use arm2_decode::{
-    DataImmediate, DataRegister, Opcode, Operation, Register, Shift, SingleImmediate, decode,
+    DataImmediate, DataRegister, Opcode, Operation, Register, SingleImmediate, decode,
 };
 use loader::{Image, is_past_ram};
 
@@ -19,7 +19,7 @@ pub(crate) fn writes_pc(opcode: Opcode, rd: Register) -> bool
 fn copies_a_register(x: &DataRegister) -> bool
     ensures { result ≡ copies_a_register x.now }
 {
-    x.opcode == Opcode::Mov && !x.rm.is_pc() && x.shift == Shift::Lsl && x.amount == 0
+    x.opcode.is_mov() && !x.rm.is_pc() && x.shift.is_lsl() && x.amount == 0
 }
 
 fn adds_an_immediate(x: &DataImmediate) -> bool

@@ -1,5 +1,5 @@
 ghost use Rattle.std.specs.Prelude.{◌≡◌};
-ghost use Rattle.flow_graph.specs.Kinds.{IsAction, IsWork, data_kind, is_always, is_never, is_writer};
+ghost use Rattle.flow_graph.specs.Kinds.{IsAction, IsWork, data_kind, is_writer};
 ghost use Rattle.flow_graph.specs.Kinds.{kind_of, lists_pc, transfer, work_of, writer_if};
 
 use arm2_decode::{Cond, Opcode, Operation, Register, decode};
@@ -138,18 +138,4 @@ pub fn is_r15_writer(kind: Kind) -> bool
     ensures { result ≡ is_writer kind }
 {
     matches!(kind, Kind::Writer)
-}
-
-/// Whether the condition holds always.
-pub fn holds_always(cond: Cond) -> bool
-    ensures { result ≡ is_always cond }
-{
-    cond == Cond::Al
-}
-
-/// Whether the condition never holds.
-pub fn holds_never(cond: Cond) -> bool
-    ensures { result ≡ is_never cond }
-{
-    cond == Cond::Nv
 }

@@ -11,7 +11,7 @@ ghost use Rattle.flow_graph.specs.Search.{kind_fault, writer_fault};
 use crate::call_list::Calls;
 use crate::edges::{Edge, Label};
 use crate::faults::BuildFault;
-use crate::kinds::{Action, Kind, action_of, holds_always, holds_never};
+use crate::kinds::{Action, Kind, action_of};
 use crate::places::Place;
 use crate::ticks::{branch_target, do_ticks, passing_ticks};
 use arm2_effect::ahead_of;
@@ -205,10 +205,10 @@ fn push_word(out: &mut Vec<Edge>, site: &Site) -> Result<(), BuildFault>
         ⊎ (action_fault site.now.statement.now site.now.calls site.now.address site.now.action
         ≡ Some fault)) }
 {
-    if !holds_always(site.action.cond) {
+    if !site.action.cond.is_always() {
         push_skip(out, site)?;
     }
-    if !holds_never(site.action.cond) {
+    if !site.action.cond.is_never() {
         push_done(out, site)?;
     }
     Ok(())

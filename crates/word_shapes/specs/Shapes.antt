@@ -1,39 +1,19 @@
 -- Shapes of words (VL86C010 data sheet, by the table of instruction words, but for which shapes are returns,
 -- jumps into tables of branches and ways back).
 use Rattle.std.specs.Prelude.{ℕ, Bool, true, false, not, ◌&&◌, ◌||◌, ◌==◌, nat_le}
-use Rattle.arm2_decode.specs.Names.{is_compare, is_pc, register_number}
+use Rattle.arm2_decode.specs.Names.{is_compare, is_link, is_lsl, is_mov, is_pc, register_number}
 use Rattle.arm2_decode.specs.declared.instr.DataRegister.{DataRegister}
 use Rattle.arm2_decode.specs.declared.instr.Operation.{Operation}
 use Rattle.arm2_decode.specs.declared.instr.Operation.TheVariants as operation
-use Rattle.arm2_decode.specs.declared.names.Cond.{Cond}
-use Rattle.arm2_decode.specs.declared.names.Cond.TheVariants as cond
 use Rattle.arm2_decode.specs.declared.names.Opcode.{Opcode}
 use Rattle.arm2_decode.specs.declared.names.Opcode.TheVariants as opcode
 use Rattle.arm2_decode.specs.declared.names.Register.{Register}
-use Rattle.arm2_decode.specs.declared.names.Shift.{Shift}
-use Rattle.arm2_decode.specs.declared.names.Shift.TheVariants as shift
 
 -- ## Parts of a word
 
--- the condition that always holds, and the one that never does
-abbrev pub is_always : Cond → Bool
-is_always cond.Al = true
-is_always _ = false
-
-abbrev pub is_never : Cond → Bool
-is_never cond.Nv = true
-is_never _ = false
-
--- R14 keeps the way back, and R13 points to the stack
-abbrev pub is_link : Register → Bool
-is_link r = register_number r == 14
-
+-- R13 points to the stack
 abbrev pub is_stack : Register → Bool
 is_stack r = register_number r == 13
-
-abbrev pub is_move : Opcode → Bool
-is_move opcode.Mov = true
-is_move _ = false
 
 abbrev pub is_add : Opcode → Bool
 is_add opcode.Add = true
@@ -43,10 +23,6 @@ abbrev pub is_subtraction : Opcode → Bool
 is_subtraction opcode.Sub = true
 is_subtraction _ = false
 
-abbrev pub is_lsl : Shift → Bool
-is_lsl shift.Lsl = true
-is_lsl _ = false
-
 -- the operand is shifted to the left by so many bits; by none, it is the register as it is
 abbrev pub is_lsl_by : ℕ → DataRegister → Bool
 is_lsl_by amount x = is_lsl x.shift && (x.amount == amount)
@@ -55,7 +31,7 @@ is_lsl_by amount x = is_lsl x.shift && (x.amount == amount)
 
 -- MOV of R14, not shifted
 abbrev pub copies_link : DataRegister → Bool
-copies_link x = is_move x.opcode && is_link x.rm && is_lsl_by 0 x
+copies_link x = is_mov x.opcode && is_link x.rm && is_lsl_by 0 x
 
 -- SUB from R14
 abbrev pub subtracts_from_link : Opcode → Register → Bool
@@ -97,5 +73,5 @@ is_table_jump _ = false
 
 -- MOV R14,PC: control comes back to the second word after it
 abbrev pub is_way_back : Operation → Bool
-is_way_back (operation.DataRegister x) = is_move x.opcode && is_link x.rd && is_pc x.rm && is_lsl_by 0 x
+is_way_back (operation.DataRegister x) = is_mov x.opcode && is_link x.rd && is_pc x.rm && is_lsl_by 0 x
 is_way_back _ = false

@@ -5,8 +5,5 @@
 mod shapes;
 mod words;
 
-pub use shapes::{
-    is_always, is_never, is_odd_writer, is_return, is_table_jump, is_transfer, is_way_back,
-    writes_pc,
-};
+pub use shapes::{is_odd_writer, is_return, is_table_jump, is_transfer, is_way_back, writes_pc};
 pub use words::{instr_at, is_odd_writer_at, is_table_jump_at, is_transfer_at, is_way_back_at};

@@ -1,43 +1,15 @@
 ghost use Rattle.std.specs.Prelude.{◌≡◌};
 ghost use Rattle.arm2_effect.specs.Operations.{is_transfer};
-ghost use Rattle.word_shapes.specs.Shapes.{copies_link, data_writes_pc, is_add};
-ghost use Rattle.word_shapes.specs.Shapes.{is_always, is_link, is_lsl_by};
-ghost use Rattle.word_shapes.specs.Shapes.{is_move, is_never, is_odd_writer, is_return, is_stack};
-ghost use Rattle.word_shapes.specs.Shapes.{is_subtraction, is_table_jump, is_way_back, subtracts_from_link};
-ghost use Rattle.word_shapes.specs.Shapes.{writes_pc};
+ghost use Rattle.word_shapes.specs.Shapes.{copies_link, data_writes_pc, is_add, is_lsl_by};
+ghost use Rattle.word_shapes.specs.Shapes.{is_odd_writer, is_return, is_stack, is_subtraction};
+ghost use Rattle.word_shapes.specs.Shapes.{is_table_jump, is_way_back, subtracts_from_link, writes_pc};
 
-use arm2_decode::{Cond, DataRegister, Opcode, Operation, Register, Shift};
-
-/// Whether a word of the condition is always carried out.
-pub fn is_always(cond: Cond) -> bool
-    ensures { result ≡ is_always cond }
-{
-    matches!(cond, Cond::Al)
-}
-
-/// Whether a word of the condition is never carried out.
-pub fn is_never(cond: Cond) -> bool
-    ensures { result ≡ is_never cond }
-{
-    matches!(cond, Cond::Nv)
-}
-
-fn is_link(register: Register) -> bool
-    ensures { result ≡ is_link register }
-{
-    register.number() == 14
-}
+use arm2_decode::{DataRegister, Opcode, Operation, Register};
 
 fn is_stack(register: Register) -> bool
     ensures { result ≡ is_stack register }
 {
     register.number() == 13
-}
-
-fn is_move(opcode: Opcode) -> bool
-    ensures { result ≡ is_move opcode }
-{
-    matches!(opcode, Opcode::Mov)
 }
 
 fn is_add(opcode: Opcode) -> bool
@@ -56,20 +28,20 @@ fn is_subtraction(opcode: Opcode) -> bool
 fn is_lsl_by(amount: u32, x: &DataRegister) -> bool
     ensures { result ≡ is_lsl_by amount x.now }
 {
-    matches!(x.shift, Shift::Lsl) && x.amount == amount
+    x.shift.is_lsl() && x.amount == amount
 }
 
 // Whether the operand is R14, not shifted, and moved.
 fn copies_link(x: &DataRegister) -> bool
     ensures { result ≡ copies_link x.now }
 {
-    is_move(x.opcode) && is_link(x.rm) && is_lsl_by(0, x)
+    x.opcode.is_mov() && x.rm.is_link() && is_lsl_by(0, x)
 }
 
 fn subtracts_from_link(opcode: Opcode, rn: Register) -> bool
     ensures { result ≡ subtracts_from_link opcode rn }
 {
-    is_subtraction(opcode) && is_link(rn)
+    is_subtraction(opcode) && rn.is_link()
 }
 
 /// Whether an operation that writes R15 does so as returns do: by MOV or SUB from R14, or by a load from R13.
@@ -143,7 +115,7 @@ pub fn is_way_back(operation: &Operation) -> bool
 {
     match operation {
         Operation::DataRegister(x) => {
-            is_move(x.opcode) && is_link(x.rd) && x.rm.is_pc() && is_lsl_by(0, x)
+            x.opcode.is_mov() && x.rd.is_link() && x.rm.is_pc() && is_lsl_by(0, x)
         }
         _ => false,
     }

@@ -1,6 +1,6 @@
 use Rattle.std.proofs.Common.{◌≡◌, ◌∙◌, true, ap, sym, subst}
+use Rattle.arm2_decode.specs.Names.{is_never}
 use Rattle.drafting.specs.Reach.{Calls, words_on}
-use Rattle.word_shapes.specs.Shapes.{is_never}
 use Rattle.drafting.specs.declared.words.Reading.{Reading}
 use Rattle.drafting.proofs.WayLaws.{no_call, same_reading}
 use Rattle.drafting.proofs.ways.called.Goals as goal

@@ -1,5 +1,5 @@
 use Rattle.std.proofs.Common.{◌∙◌, ap}
-use Rattle.word_shapes.specs.Shapes.{is_always}
+use Rattle.arm2_decode.specs.Names.{is_always}
 use Rattle.drafting.specs.declared.words.Reading.{Reading}
 use Rattle.drafting.proofs.WayLaws.{same_reading}
 use Rattle.drafting.proofs.ways.is_branch.Goals as goal

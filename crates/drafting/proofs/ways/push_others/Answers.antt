@@ -1,7 +1,7 @@
 use Rattle.std.proofs.Common.{◌≡◌, false, sym, subst, ◌∙◌}
 use Rattle.std.proofs.lemmas.Result.{on_ok_weaker}
+use Rattle.arm2_decode.specs.Names.{is_never}
 use Rattle.drafting.specs.Reach.{LeadsAway}
-use Rattle.word_shapes.specs.Shapes.{is_never}
 use Rattle.drafting.specs.declared.words.Way.TheVariants as way
 use Rattle.drafting.proofs.WayLaws.{gains_as, gains_none, leads_nowhere}
 use Rattle.drafting.proofs.ways.push_others.Goals as goal

@@ -1,7 +1,7 @@
 use Rattle.std.proofs.lemmas.Result.{on_ok_weaker}
 use Rattle.drafting.specs.Reach.{GoesOn, LeadsAway, Steps, StepsTo, next_of}
-use Rattle.word_shapes.specs.Shapes.{is_never}
 use Rattle.std.proofs.Common.{◌≡◌, false}
+use Rattle.arm2_decode.specs.Names.{is_never}
 use Rattle.drafting.proofs.WayLaws.{gains_as, gains_none, gains_on, same_reading, steps_are}
 use Rattle.drafting.proofs.ways.push_ways.Goals as goal
 
