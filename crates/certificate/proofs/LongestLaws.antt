@@ -10,7 +10,7 @@ use Rattle.longest_walk.specs.declared.folded.Item.TheViews.{roll-Item}
 use Rattle.longest_walk.specs.declared.folded.Item.TheFolds.{fold-roll-Item, ind-Item, map-Item}
 use Rattle.certificate.specs.declared.line.WalkLine.{WalkLine}
 use Rattle.certificate.specs.declared.line.WalkLine.TheVariants as w
-use Rattle.certificate.specs.Walk.{AreNested, Nest, address_of, follow_all, item_lines, item_step, nest_after, outside, repeated_lines, step_of, to_of, walk_lines}
+use Rattle.certificate.specs.Walk.{AreNested, Nest, follow_all, item_lines, item_step, nest_after, outside, repeated_lines, step_of, to_of, walk_lines}
 use Rattle.certificate.specs.Words.{InstanceFits, IsProfile, PlaceFits, StepFits, ToFits, WalkFits}
 use Rattle.std.specs.Prelude.{Contains, ◌⊎◌}
 use Rattle.std.specs.List.Sorted.{IsStrictlySortedBy}
@@ -23,7 +23,7 @@ use Rattle.walks.specs.Walk.{Leads}
 use Rattle.flow_graph.specs.declared.places.Place.{Place}
 use Rattle.flow_graph.specs.declared.places.Place.TheVariants.{At, Exit}
 use Rattle.flow_graph.specs.Flow.{Flow, HasEdge, IsWellFormed, edge_shape}
-use Rattle.flow_graph.specs.Places.{IsInRange, place_cmp}
+use Rattle.flow_graph.specs.Places.{IsInRange, place_address, place_cmp}
 use Rattle.flow_graph.proofs.SortedLemmas.{here, there}
 use Rattle.loop_bounds.specs.Instance.{Instance, is_header, place_loops}
 use Rattle.loop_bounds.specs.Tree.{IsTree, Tree, place_in}
@@ -172,7 +172,7 @@ module _ (flow : Flow) (formed : IsWellFormed flow) where
   in_range (At calls a) h = formed.small calls a h
   in_range Exit h = tt
 
-  from_small : (p : Place) → Contains flow.places p → address_of p < 2 ^ 26
+  from_small : (p : Place) → Contains flow.places p → place_address p < 2 ^ 26
   from_small (At calls a) h = (formed.small calls a h).0
   from_small Exit h = omega arith
 

@@ -5,6 +5,7 @@ use Rattle.std.specs.List.{flat_map}
 use Rattle.flow_graph.specs.declared.places.Place.{Place}
 use Rattle.flow_graph.specs.declared.places.Place.TheVariants as place
 use Rattle.flow_graph.specs.declared.edges.Edge.{Edge}
+use Rattle.flow_graph.specs.Places.{place_address}
 use Rattle.longest_walk.specs.declared.folded.Item.{Item}
 use Rattle.longest_walk.specs.declared.folded.Item.TheOpen.{Item-F}
 use Rattle.longest_walk.specs.declared.folded.Item.TheFolds.{fold-Item}
@@ -35,17 +36,12 @@ cert_walk_lines items = flat_map cert_item_lines items
 
 -- ## Of a greatest walk, whose edges are shown by their addresses
 
--- no edge leads from Exit
-abbrev pub address_of : Place → ℕ
-address_of (place.At calls a) = a
-address_of place.Exit = 0
-
 abbrev pub to_of : Place → To
 to_of (place.At calls a) = to.At a
 to_of place.Exit = to.Exit
 
 abbrev pub step_of : Edge → StepLine
-step_of e = record { address = address_of e.from; label = e.label; to = to_of e.to; cost = e.cost }
+step_of e = record { address = place_address e.from; label = e.label; to = to_of e.to; cost = e.cost }
 
 abbrev pub item_step : Item-F (List WalkLine) → List WalkLine
 item_step (Item-F.Step e) = Step (step_of e) ∷ []

@@ -25,7 +25,6 @@ pub use cert::Cert;
 pub use fault::CertFault;
 pub use law::{longest_can_be_spelled, one_text_each};
 pub use line::WalkLine;
-pub use line_text::address_of;
 pub use longest_walk::{InstanceRow, PlaceRow, Rows};
 pub use reading::read_cert;
 pub use walk::{CertItem, CertWalk, StepLine, To};

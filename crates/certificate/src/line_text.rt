@@ -3,23 +3,13 @@
 ghost use Rattle.std.specs.Prelude.{◌≡◌, ◌+◌, ◌*◌, ◌≤◌, ◌++◌, ◌∷◌, length};
 ghost use Rattle.std.specs.List.{flat_map};
 ghost use Rattle.asm_text.specs.Hex.{hex};
-ghost use Rattle.certificate.specs.Walk.{address_of, step_of, to_of};
+ghost use Rattle.certificate.specs.Walk.{step_of, to_of};
 ghost use Rattle.certificate.specs.Words.{edge_words, instance_words, label_words, list_words, place_words};
 ghost use Rattle.certificate.specs.Words.{step_words, to_words};
 
 use crate::line_end::{LINE_ROOM, LineEnd};
 use flow_graph::{Calls, Edge, Label, Place};
 use longest_walk::{InstanceRow, PlaceRow};
-
-/// The address by which a place is shown, in bytes: 0 for Exit, from which no edge leads.
-pub fn address_of(place: &Place) -> u32
-    ensures { result ≡ address_of place.now }
-{
-    match place {
-        Place::At(_, address) => *address,
-        Place::Exit => 0,
-    }
-}
 
 impl LineEnd {
     // Adds a label between two blanks.
@@ -55,7 +45,7 @@ impl LineEnd {
         self.put(b" ");
         self.put_to(&edge.to);
         self.put_label(edge.label);
-        self.put_hex(address_of(&edge.from));
+        self.put_hex(edge.from.address());
     }
 
     /// Adds an edge as a line of a walk shows it.

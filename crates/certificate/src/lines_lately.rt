@@ -7,7 +7,6 @@ ghost use Rattle.certificate.specs.Walk.{step_of, to_of};
 ghost use Rattle.certificate.specs.Words.{ended, step_words};
 
 use crate::line_end::LineEnd;
-use crate::line_text::address_of;
 use crate::steps_lately::{ROWS, row_of};
 use crate::walk::{StepLine, To};
 use flow_graph::{Edge, Label, Place};
@@ -46,7 +45,7 @@ fn step_of(edge: &Edge) -> StepLine
     ensures { result ≡ step_of edge.now }
 {
     StepLine {
-        address: address_of(&edge.from),
+        address: edge.from.address(),
         label: edge.label,
         to: to_of(&edge.to),
         cost: u64::from(edge.cost),

@@ -5,9 +5,10 @@ use Rattle.std.specs.Prelude.{slice_index, codes, decimal}
 use Rattle.std.specs.List.{flat_map}
 use Rattle.asm_text.specs.Hex.{hex8}
 use Rattle.flow_graph.specs.Flow.{Flow}
+use Rattle.flow_graph.specs.Places.{place_address}
 use Rattle.loop_bounds.specs.Tree.{Tree, place_in}
 use Rattle.numbered_walks.specs.declared.span.Span.{Span}
-use Rattle.dot_text.specs.Stretches.{address_of, between, calls_in, loops_of}
+use Rattle.dot_text.specs.Stretches.{between, calls_in, loops_of}
 
 -- the name of a routine's cluster goes on with its calls
 abbrev pub call_names : List ℕ → List ℕ
@@ -36,7 +37,7 @@ module _ (flow : Flow) (tree : Tree) where
       codes "subgraph cluster_loop_"
       ++ (decimal s.header
       ++ (codes " { label=\"loop at "
-      ++ (hex8 (address_of (place_in flow tree s.header))
+      ++ (hex8 (place_address (place_in flow tree s.header))
       ++ (codes ", at most " ++ (decimal s.bound ++ codes " back edges\"; ")))))
 
   -- the clusters inside so many calls: of the loops, the outermost first, each after the calls that it is

@@ -4,10 +4,10 @@ use Rattle.std.specs.Global.{Global}
 use Rattle.std.specs.List.{AllZip}
 use Rattle.assembler.specs.ShownLines.{IsShown}
 use Rattle.assembler.specs.declared.placed_line.PlacedLine.{PlacedLine}
+use Rattle.flow_graph.specs.Places.{place_address}
 use Rattle.flow_graph.specs.declared.places.Place.{Place}
 use Rattle.loader.specs.Image.{Words, word_of}
 use Rattle.text_rows.specs.ByAddress.{line_of}
-use Rattle.dot_text.specs.Stretches.{address_of}
 
 -- the text of a line, empty where there is none
 abbrev pub text_of : Option (ℕ × List ℕ) → List ℕ
@@ -28,7 +28,7 @@ IsImageLabel words a text = IsSaid (word_of words a) a text
 
 -- a label for each place, by its address
 abbrev pub AreLabels : (ℕ → List ℕ → Type 0) → List Place → List (Vec ℕ Global) → Type 0
-AreLabels IsLabel places labels = AllZip (λ p l. IsLabel (address_of p) l.items) places labels
+AreLabels IsLabel places labels = AllZip (λ p l. IsLabel (place_address p) l.items) places labels
 
 abbrev pub AreSourceLabels : List ℕ → List PlacedLine → List Place → List (Vec ℕ Global) → Type 0
 AreSourceLabels source placed places labels =

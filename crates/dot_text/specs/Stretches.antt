@@ -4,8 +4,7 @@ use Rattle.std.specs.Prelude.{List, [], length, count_by, sum_by, slice_index}
 use Rattle.std.specs.Cmp.Lexicographic.{pointwise}
 use Rattle.std.specs.List.{filter, list_all, range_with_len}
 use Rattle.flow_graph.specs.Flow.{Flow}
-use Rattle.flow_graph.specs.declared.places.Place.{Place}
-use Rattle.flow_graph.specs.declared.places.Place.TheVariants.{At, Exit}
+use Rattle.flow_graph.specs.Places.{place_calls}
 use Rattle.longest_walk.specs.Built.{step_at}
 use Rattle.loop_bounds.specs.Tree.{IsTree, Tree, place_in}
 use Rattle.numbered_walks.specs.Index.{AreHolders, edge_at}
@@ -14,15 +13,6 @@ use Rattle.numbered_walks.specs.declared.index.Index.{Index}
 use Rattle.numbered_walks.specs.declared.span.Span.{Span}
 use Rattle.walk_counts.specs.Counts.{capped}
 use Rattle.dot_text.specs.declared.tables.Drawn.{Drawn}
-
--- the calls inside of which a place is
-abbrev pub calls_of : Place → List ℕ
-calls_of (At calls a) = calls
-calls_of Exit = []
-
-abbrev pub address_of : Place → ℕ
-address_of (At calls a) = a
-address_of Exit = 0
 
 -- the numbers of the edges from one on, before another
 abbrev pub between : (first end : ℕ) → List ℕ
@@ -45,7 +35,7 @@ module _ (flow : Flow) (tree : Tree) where
   leaving n = between (first_edge n) (end_edge n)
 
   abbrev pub calls_in : ℕ → List ℕ
-  calls_in n = calls_of (place_in flow tree n)
+  calls_in n = place_calls (place_in flow tree n)
 
   -- how many edges lead to a number
   abbrev pub arrivals : ℕ → ℕ

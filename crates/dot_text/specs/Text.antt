@@ -5,6 +5,7 @@ use Rattle.std.specs.Global.{Global}
 use Rattle.std.specs.List.{flat_map, range_with_len, slice_get}
 use Rattle.asm_text.specs.Hex.{hex8}
 use Rattle.flow_graph.specs.Flow.{Flow}
+use Rattle.flow_graph.specs.Places.{place_address}
 use Rattle.flow_graph.specs.declared.edges.Label.{Label}
 use Rattle.flow_graph.specs.declared.edges.Label.TheVariants.{Skip, Do}
 use Rattle.longest_walk.specs.Built.{step_at}
@@ -14,7 +15,7 @@ use Rattle.loop_bounds.specs.Tree.{Tree, place_in}
 use Rattle.numbered_walks.specs.Index.{edge_at}
 use Rattle.walk_counts.specs.Counts.{AreCounts}
 use Rattle.dot_text.specs.Clusters.{closed, opened}
-use Rattle.dot_text.specs.Stretches.{address_of, between, first_of, goes_on, leaving, passes, stretch_ticks}
+use Rattle.dot_text.specs.Stretches.{between, first_of, goes_on, leaving, passes, stretch_ticks}
 
 -- ## Pieces
 
@@ -55,7 +56,7 @@ module _ (flow : Flow) (tree : Tree) (counts : List ℕ) (labels : List (Vec ℕ
   -- the address of a number and its label
   abbrev pub row : ℕ → List ℕ
   row n =
-      hex8 (address_of (place_in flow tree n))
+      hex8 (place_address (place_in flow tree n))
       ++ (codes "  " ++ (escaped (label_of (slice_get labels (slice_index tree.order n))) ++ codes "\\l"))
 
   -- those of a stretch, with its ticks in all and how often the walk passes it

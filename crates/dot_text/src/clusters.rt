@@ -1,12 +1,11 @@
 ghost use Rattle.std.specs.Prelude.{◌≡◌, ◌≤◌, ◌<◌, ◌^◌, ◌++◌, OnOk, length, replicate};
 ghost use Rattle.dot_text.specs.Clusters.{call_names, closed, clusters, depth_in, loop_text};
 ghost use Rattle.dot_text.specs.Clusters.{opened, routine_text, routines};
-ghost use Rattle.dot_text.specs.Stretches.{AreTables, address_of};
+ghost use Rattle.dot_text.specs.Stretches.{AreTables};
 
 use crate::pieces::put_address;
 use crate::stretches::{calls_in, loops_of};
 use crate::tables::Drawn;
-use flow_graph::Place;
 use numbered_walks::Span;
 use std::alloc::AllocError;
 use text_rows::{put, put_decimal};
@@ -44,16 +43,6 @@ fn put_routines(out: &mut Vec<u8>, calls: &[u32], from: usize, to: usize) -> Res
     Ok(())
 }
 
-/// The address of a place, 0 of Exit.
-pub(crate) fn address_of(place: Place) -> u32
-    ensures { result ≡ address_of place }
-{
-    match place {
-        Place::At(_, address) => address,
-        Place::Exit => 0,
-    }
-}
-
 // How many of these calls a loop is inside of.
 fn depth_in(drawn: Drawn<'_>, calls: &[u32], span: &Span) -> usize
     ensures { result ≡ depth_in drawn.entry.graph.now drawn.entry.tree.now calls.now span.now }
@@ -72,7 +61,7 @@ fn put_loop(out: &mut Vec<u8>, drawn: Drawn<'_>, span: &Span) -> Result<(), Allo
     put(out, b"subgraph cluster_loop_")?;
     put_decimal(out, span.header as u64)?;
     put(out, b" { label=\"loop at ")?;
-    put_address(out, address_of(drawn.place(span.header)))?;
+    put_address(out, drawn.place(span.header).address())?;
     put(out, b", at most ")?;
     put_decimal(out, u64::from(span.bound))?;
     put(out, b" back edges\"; ")

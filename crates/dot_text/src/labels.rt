@@ -1,9 +1,7 @@
 ghost use Rattle.std.specs.Prelude.{◌≡◌, IfOk};
 ghost use Rattle.dot_text.specs.Labels.{AreImageLabels, AreSourceLabels, IsImageLabel, text_of};
 ghost use Rattle.text_rows.specs.ByAddress.{line_at};
-ghost use Rattle.dot_text.specs.Stretches.{address_of};
 
-use crate::clusters::address_of;
 use assembler::{PlacedLine, disassemble};
 use flow_graph::Graph;
 use loader::Image;
@@ -43,7 +41,7 @@ pub fn source_labels(
     let lines = lines_by_address(alloc, source, placed)?;
     let mut labels = Vec::new(alloc);
     for place in graph.places() {
-        labels.push(text_at(alloc, &lines, address_of(*place))?)?;
+        labels.push(text_at(alloc, &lines, place.address())?)?;
     }
     Ok(labels)
 }
@@ -68,7 +66,7 @@ pub fn image_labels(alloc: Global, image: &Image, graph: &Graph) -> Result<Vec<V
 {
     let mut labels = Vec::new(alloc);
     for place in graph.places() {
-        labels.push(image_label(alloc, image, address_of(*place))?)?;
+        labels.push(image_label(alloc, image, place.address())?)?;
     }
     Ok(labels)
 }

@@ -4,7 +4,7 @@ ghost use Rattle.loop_bounds.specs.Tree.{IsTree};
 ghost use Rattle.dot_text.specs.Stretches.{CanDraw, between};
 ghost use Rattle.dot_text.specs.Text.{escaped, label_of, node, row, stretch};
 
-use crate::clusters::{address_of, put_closed, put_opened};
+use crate::clusters::{put_closed, put_opened};
 use crate::edges::put_edges;
 use crate::pieces::{put_address, put_escaped, put_name, put_style};
 use crate::stretches::{Stretch, passes, stretch_ticks};
@@ -32,7 +32,7 @@ fn put_row(out: &mut Vec<u8>, drawn: Drawn<'_>, number: usize) -> Result<(), All
         ++ row drawn.entry.graph.now drawn.entry.tree.now drawn.entry.counts.now drawn.entry.labels.now
         number) }
 {
-    put_address(out, address_of(drawn.place(number)))?;
+    put_address(out, drawn.place(number).address())?;
     put(out, b"  ")?;
     put_label(out, drawn.labels, drawn.tree.order()[number])?;
     put(out, b"\\l")

@@ -1,6 +1,6 @@
 ghost use Rattle.std.specs.Prelude.{◌≡◌, ◌<◌, ◌≤◌, ◌+◌, ℕ, IfOk, length, slice_index};
 ghost use Rattle.loop_bounds.specs.Tree.{IsTree, place_in};
-ghost use Rattle.dot_text.specs.Stretches.{AreTables, arrivals, calls_of, end_edge, first_edge, loops_of};
+ghost use Rattle.dot_text.specs.Stretches.{AreTables, arrivals, end_edge, first_edge, loops_of};
 ghost use Rattle.flow_graph.specs.Flow.{IsWellFormed};
 
 use flow_graph::{Graph, Place};

@@ -40,7 +40,7 @@ use Rattle.machine_file.specs.Started as started
 use Rattle.flow_graph.specs.Edges.{AreEdgesOf, IsEdge}
 use Rattle.flow_graph.specs.Flow.{Flow, HasEdge, IsWellFormed}
 use Rattle.flow_graph.specs.Graph.{IsFlowGraph}
-use Rattle.flow_graph.specs.Places.{place_at}
+use Rattle.flow_graph.specs.Places.{place_address, place_at}
 use Rattle.flow_graph.specs.Free.{IsFree}
 use Rattle.flow_graph.specs.Setting.{HasSetting, IsData}
 use Rattle.flow_graph.specs.Tight.{IsTight}
@@ -84,10 +84,6 @@ held_is held r other =
 psr_is : (f : Flags) → psr_number (masked_flags f) ≡ psr_with f masked
 psr_is f = omega arith
 
-abbrev address_of_place : Place → ℕ
-address_of_place (At calls address) = address
-address_of_place Exit = 0
-
 -- the mode of such a R15
 svc_of : (psr a : ℕ) → a % 4 ≡ 0 → mode_of (r15_of psr a Svc) ≡ Svc
 svc_of psr a whole = ap mode_named (let e : (psr * 2 ^ 26 + a + 3) % 4 ≡ 3 = omega (arith, whole) in e)
@@ -121,7 +117,7 @@ module _ (words : Words) (st : Stated) (profile : Profile) (e : Edge) (spare : �
   place = parts words stand.address whole some_word
 
   fits : IsFitted stand.address
-  fits = fitted stand.address (subst (λ n. is_past_ram n ≡ false) (ap address_of_place (sym free.from ∙ h.from)) free.not_past_ram)
+  fits = fitted stand.address (subst (λ n. is_past_ram n ≡ false) (ap place_address (sym free.from ∙ h.from)) free.not_past_ram)
 
   besides : All (λ x. IsBeside spare x.0 × (x.0 ≡ stand.address → ⊥)) (listed stand.setting.word)
   besides = by_word stand.setting.word h.setting.word_apart
@@ -315,12 +311,12 @@ one_word words x has = All-from_recursion (λ y. word_of words y.0 ≡ Some y.1)
 
 same_pair : (words : Words) (from : Place) (x : ℕ × ℕ) → IsPlaceWord words from x → HasPlaceWord words from (x ∷ [])
 same_pair words from x h calls address word at has =
-    let here_at : x.0 ≡ address = ap address_of_place (sym h.is ∙ at) in
+    let here_at : x.0 ≡ address = ap place_address (sym h.is ∙ at) in
     let same : x.1 ≡ word = same_Some _ _ (sym h.has ∙ ap (word_of words) here_at ∙ has) in
     subst (Contains (x ∷ [])) (ap (λ a. (a, x.1)) here_at ∙ ap (λ w. (address, w)) same) (here x [])
 
 free_fits : (words : Words) (e : Edge) (x : ℕ × ℕ) → IsPlaceWord words e.from x → IsFree words e → IsFitted x.0
-free_fits words e x h free = fitted x.0 (subst (λ n. is_past_ram n ≡ false) (ap address_of_place (sym free.from ∙ h.is)) free.not_past_ram)
+free_fits words e x h free = fitted x.0 (subst (λ n. is_past_ram n ≡ false) (ap place_address (sym free.from ∙ h.is)) free.not_past_ram)
 
 pub can_place : (words : Words) (st : Stated) (profile : Profile) (e : Edge) (f : _) (x : ℕ × ℕ) → IsTightFile words st profile e f → IsPlaceWord words e.from x → IsFree words e → CanPlace profile f x
 can_place words st profile e f x file h free = record {

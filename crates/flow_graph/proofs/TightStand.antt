@@ -33,6 +33,7 @@ use Rattle.flow_graph.specs.declared.places.Place.{Place}
 use Rattle.flow_graph.specs.declared.places.Place.TheVariants.{At, Exit}
 use Rattle.flow_graph.specs.declared.setting.Aim.{Aim}
 use Rattle.flow_graph.specs.declared.setting.Setting.{Setting}
+use Rattle.flow_graph.specs.Places.{place_address}
 use Rattle.statement.specs.Stated.{Stated}
 use Rattle.flow_graph.proofs.EdgeLemmas.{one_action}
 use Rattle.flow_graph.proofs.SortedLemmas.{no_member}
@@ -55,10 +56,6 @@ pub exit_target : (st : Stated) (profile : Profile) (leave : Class) (t : ℕ) �
 exit_target st profile leave t e h = subst (λ c. IsDearestLeave profile c t → IsDearestTarget st profile Exit t) (sym e) (λ x. record { whole = x.whole; below = x.below; stands_for = x.is_of; price = x.price }) h
 
 -- ## The edge's word
-
-abbrev place_address : Place → ℕ
-place_address (At calls address) = address
-place_address Exit = 0
 
 -- the action of the word at the edge's place, and the edge among those of the place
 pub record EdgeWord (words : Words) (st : Stated) (profile : Profile) (e : Edge) (calls : List ℕ) (address : ℕ) : Type 0 where

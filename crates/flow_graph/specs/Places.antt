@@ -1,5 +1,5 @@
 -- The order of places, which is that of certificates.
-use Rattle.std.specs.Prelude.{ℕ, ◌<◌, ◌≤◌, List, length, slice_index_or, All}
+use Rattle.std.specs.Prelude.{ℕ, ◌<◌, ◌≤◌, List, [], length, slice_index_or, All}
 use Rattle.std.specs.Ordering.{nat_cmp, ordering_then}
 use Rattle.std.specs.Cmp.Lexicographic.{slice_cmp}
 use Rattle.std.specs.declared.cmp.Ordering.{Ordering}
@@ -14,6 +14,15 @@ place_cmp (At c a) (At d b) = ordering_then (slice_cmp nat_cmp c d) (nat_cmp a b
 place_cmp (At c a) Exit = Less
 place_cmp Exit (At d b) = Greater
 place_cmp Exit Exit = Equal
+
+-- the calls inside of which a place is, and its address: no calls and 0 for Exit
+abbrev pub place_calls : Place → List ℕ
+place_calls (At calls address) = calls
+place_calls Exit = []
+
+abbrev pub place_address : Place → ℕ
+place_address (At calls address) = address
+place_address Exit = 0
 
 -- the place of a number: Exit past the end
 abbrev pub place_at : List Place → ℕ → Place

@@ -1,5 +1,5 @@
 ghost use Rattle.std.specs.Prelude.{◌≡◌};
-ghost use Rattle.flow_graph.specs.Places.{place_cmp};
+ghost use Rattle.flow_graph.specs.Places.{place_address, place_cmp};
 
 use crate::call_list::Calls;
 
@@ -8,6 +8,18 @@ use crate::call_list::Calls;
 pub enum Place {
     At(Calls, u32),
     Exit,
+}
+
+impl Place {
+    /// The address, in bytes: 0 for Exit, from which no edge leads.
+    pub fn address(&self) -> u32
+        ensures { result ≡ place_address self.now }
+    {
+        match self {
+            Place::At(_, address) => *address,
+            Place::Exit => 0,
+        }
+    }
 }
 
 /// States the order of places; it does nothing.

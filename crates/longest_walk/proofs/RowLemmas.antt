@@ -13,7 +13,7 @@ use Rattle.std.proofs.lemmas.List.Sorted.{All-permutation, Contains-permutation,
 use Rattle.flow_graph.specs.declared.places.Place.{Place}
 use Rattle.flow_graph.specs.declared.places.Place.TheVariants.{At, Exit}
 use Rattle.flow_graph.specs.Flow.{Flow}
-use Rattle.flow_graph.specs.Places.{place_cmp, place_at}
+use Rattle.flow_graph.specs.Places.{place_address, place_at, place_calls, place_cmp}
 use Rattle.flow_graph.proofs.PlaceLemmas.{place_exact, place_total}
 use Rattle.numbered_walks.specs.declared.span.Span.{Span}
 use Rattle.numbered_walks.specs.declared.tables.Tables.{Tables}
@@ -113,20 +113,11 @@ instance_rows_more tree c limit rows r i s lt inside so_far i_is s_is header arr
           });
     }
 
-list_in : Place → List ℕ
-list_in (At list address) = list
-list_in Exit = []
-
-address_in : Place → ℕ
-address_in (At list address) = address
-address_in Exit = 0
-
 -- instances with one header have the same test
 header_test : (i j : Instance) (p : Place) → header_of i ≡ header_of j → is_header i p ≡ is_header j p
-unfolding list_in address_in
 header_test i j (At calls a) heads =
-    let lists : i.list ≡ j.list = ap list_in heads in
-    let addresses : i.header ≡ j.header = ap address_in heads in
+    let lists : i.list ≡ j.list = ap place_calls heads in
+    let addresses : i.header ≡ j.header = ap place_address heads in
     ap (λ (x : List ℕ). pointwise ◌==◌ calls x && (a == i.header)) lists ∙ ap (λ (x : ℕ). pointwise ◌==◌ calls j.list && (a == x)) addresses
 header_test i j Exit heads = refl
 

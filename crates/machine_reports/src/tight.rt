@@ -14,7 +14,7 @@ ghost use Rattle.machine_reports.specs.TightText.{HasTightFile, IsEdgeFile, IsEd
 
 use crate::stated_graph::{StatedGraph, read_graph};
 use bus_ticks::Profile;
-use certificate::{address_of, write_edge};
+use certificate::write_edge;
 use flow_graph::{Edge, Graph, TightFault, is_free, tight_state};
 use loader::{Image, LoadFault};
 use machine_file::{MachineFile, write_machine};
@@ -40,7 +40,7 @@ fn fault_of(image: &Image, edge: &Edge) -> Option<ReportFault>
 {
     let fitted = image.is_fitted();
     if !is_free(image, edge) {
-        return Some(ReportFault::NotFree(address_of(&edge.from)));
+        return Some(ReportFault::NotFree(edge.from.address()));
     }
     if !fitted {
         return Some(ReportFault::Load(LoadFault::NoPage));

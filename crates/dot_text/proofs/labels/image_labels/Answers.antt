@@ -12,4 +12,4 @@ loop-place-preserved c =
     subst (λ (ps : List Place). AreImageLabels image (take (i + 1) ps) c.push.new.self.items) same
     (labels_more (IsImageLabel image) c.places-place-items.result.now i c.place-item.result c.loop-place.labels.items c.push.new.self.items c.in_ok-image_label.field-0
     (subst (λ (ps : List Place). AreImageLabels image (take i ps) c.loop-place.labels.items) (sym same) c.loop-place.invariant)
-    c.loop-place-test.true c.place-item.is (subst (λ a. IsImageLabel image a c.in_ok-image_label.field-0.items) c.address_of.ensures c.in_ok-image_label.ensures) c.in_ok-push.ensures.items)
+    c.loop-place-test.true c.place-item.is (subst (λ a. IsImageLabel image a c.in_ok-image_label.field-0.items) c.address.ensures c.in_ok-image_label.ensures) c.in_ok-push.ensures.items)

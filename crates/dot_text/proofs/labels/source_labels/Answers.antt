@@ -11,9 +11,9 @@ loop-place-preserved c =
     let i = c.loop-place.place-index in
     let label = c.in_ok-text_at.field-0 in
     let same = c.places-place-items.ensures.value in
-    let here : label.items ≡ source_label source placed c.address_of.result =
-    c.in_ok-text_at.ensures ∙ ap text_of (c.in_ok-lines.ensures c.address_of.result) in
+    let here : label.items ≡ source_label source placed c.address.result =
+    c.in_ok-text_at.ensures ∙ ap text_of (c.in_ok-lines.ensures c.address.result) in
     subst (λ (ps : List Place). AreSourceLabels source placed (take (i + 1) ps) c.push.new.self.items) same
     (labels_more (λ a text. text ≡ source_label source placed a) c.places-place-items.result.now i c.place-item.result c.loop-place.labels.items c.push.new.self.items label
     (subst (λ (ps : List Place). AreSourceLabels source placed (take i ps) c.loop-place.labels.items) (sym same) c.loop-place.invariant)
-    c.loop-place-test.true c.place-item.is (subst (λ a. label.items ≡ source_label source placed a) c.address_of.ensures here) c.in_ok-push.ensures.items)
+    c.loop-place-test.true c.place-item.is (subst (λ a. label.items ≡ source_label source placed a) c.address.ensures here) c.in_ok-push.ensures.items)
