@@ -31,5 +31,6 @@ mod tree;
 
 pub use fault::NestFault;
 pub use loop_instances::Found;
+pub use members::turns_in;
 pub use nested::{Instance, Instances};
 pub use tree::{LoopTree, nest};
