@@ -32,4 +32,5 @@ mod tree;
 pub use fault::NestFault;
 pub use loop_instances::Found;
 pub use nested::{Instance, Instances};
+pub use nesting::MOST_INSTANCES;
 pub use tree::{LoopTree, nest};
