@@ -3,8 +3,7 @@ use Rattle.std.proofs.Common.{◌≡◌, ℕ, ◌<◌, zero, suc, Bool, true, fa
 use Rattle.std.specs.Prelude.{Contains, ◌&&◌}
 use Rattle.std.specs.List.{list_any}
 use Rattle.std.specs.Cmp.Lexicographic.{pointwise}
-use Rattle.std.proofs.lemmas.Bool.{and_from, and_parts, cases_Bool, eqb-true, false≢true}
-use Rattle.std.proofs.lemmas.Cmp.{nat_list_eq_equiv}
+use Rattle.std.proofs.lemmas.Bool.{and_parts, cases_Bool, eqb-true, false≢true}
 use Rattle.std.proofs.lemmas.List.{length-drop}
 use Rattle.std.proofs.lemmas.List.Folds.{Any-from_list_any, list_any_at}
 use Rattle.walks.specs.Greatest.{is_back_edge}
@@ -13,10 +12,10 @@ use Rattle.flow_graph.specs.declared.places.Place.TheVariants.{At, Exit}
 use Rattle.flow_graph.specs.declared.edges.Edge.{Edge}
 use Rattle.flow_graph.specs.Flow.{Flow, HasEdge, IsWellFormed, edge_shape}
 use Rattle.statement.specs.declared.stated.Loop.{Loop}
-use Rattle.loop_bounds.specs.Instance.{Instance, IsInstance, instance_of, is_header, is_member, place_loops}
+use Rattle.loop_bounds.specs.Instance.{Instance, IsInstance, instance_of, is_header, is_member, place_loops, turns_in, turns_to}
 use Rattle.loop_bounds.specs.Nest.{IsPlainEdge}
 use Rattle.loop_bounds.proofs.ExtentOf.{same_list}
-use Rattle.diagnosis.specs.Cycles.{IsClosed, IsCycleOf, IsPath, turns_at, turns_back, turns_to}
+use Rattle.diagnosis.specs.Cycles.{IsClosed, IsCycleOf, IsPath, turns_back}
 
 -- ## Edges that turn back
 
@@ -31,38 +30,39 @@ and_false : (b : Bool) → b && false ≡ false
 and_false true = refl
 and_false false = refl
 
-and_turned : (m h : Bool) → h && m ≡ false → m && h ≡ false
-and_turned true true e = e
-and_turned true false e = refl
-and_turned false h e = refl
-
--- no back edge of the instance whose loop it does not turn back to
-no_back : (from to : Place) (l : Loop) (list : List ℕ) → turns_at from to l ≡ false → is_member (instance_of l list) from && is_header (instance_of l list) to ≡ false
-no_back from Exit l list none = and_false (is_member (instance_of l list) from)
-no_back from (At calls a) l list none = ⊎_elim
+-- no back edge of an instance whose loop it does not turn in
+no_back : (e : Edge) (to : Place) (l : Loop) (list : List ℕ) → to ≡ e.to → turns_to l e to ≡ false
+    → is_back_edge edge_shape place_loops (instance_of l list) e ≡ false
+no_back e Exit l list ends none =
+    ap (λ (p : Place). is_member (instance_of l list) e.from && is_header (instance_of l list) p) (sym ends)
+    ∙ and_false (is_member (instance_of l list) e.from)
+no_back e (At calls a) l list ends none = ⊎_elim
     (λ (t : pointwise eqb calls list ≡ true).
-    let same : calls ≡ list = same_list calls list t in
-    let here : (eqb a l.header && is_member (instance_of l list) from) ≡ false = ap (λ (x : List ℕ). eqb a l.header && is_member (instance_of l x) from) (sym same) ∙ none in
-    ap (λ (b : Bool). is_member (instance_of l list) from && (b && eqb a l.header)) t ∙ and_turned (is_member (instance_of l list) from) (eqb a l.header) here)
-    (λ (f : pointwise eqb calls list ≡ false). ap (λ (b : Bool). is_member (instance_of l list) from && (b && eqb a l.header)) f ∙ and_false (is_member (instance_of l list) from))
+    ap (λ (x : List ℕ). is_back_edge edge_shape place_loops (instance_of l x) e) (sym (same_list calls list t)) ∙ none)
+    (λ (f : pointwise eqb calls list ≡ false).
+    ap (λ (p : Place). is_member (instance_of l list) e.from && is_header (instance_of l list) p) (sym ends)
+    ∙ ap (λ (b : Bool). is_member (instance_of l list) e.from && (b && eqb a l.header)) f
+    ∙ and_false (is_member (instance_of l list) e.from))
     (cases_Bool (pointwise eqb calls list))
 
 -- an instance that the edge turns back to
-pub record TurnsTo (flow : Flow) (loops : List Loop) (from to : Place) : Type 0 where
+pub record TurnsTo (flow : Flow) (loops : List Loop) (e : Edge) : Type 0 where
   pub instance : Instance
   pub is : IsInstance flow loops instance
-  pub back : is_member instance from && is_header instance to ≡ true
+  pub back : is_back_edge edge_shape place_loops instance e ≡ true
 
-turned_to : (flow : Flow) (loops : List Loop) (from to : Place) (l : Loop) → Contains loops l → (to ≡ Exit → ⊥) → Contains flow.places to → turns_at from to l ≡ true → TurnsTo flow loops from to
-turned_to flow loops from Exit l stated inside has back = absurd (inside refl)
-turned_to flow loops from (At calls a) l stated inside has back =
-    let parts = and_parts (eqb a l.header) (is_member (instance_of l calls) from) back in
-    let at : a ≡ l.header = eqb-true a l.header parts.0 in
+turned_to : (flow : Flow) (loops : List Loop) (e : Edge) (to : Place) (l : Loop) → Contains loops l → to ≡ e.to
+    → Contains flow.places to → turns_to l e to ≡ true → TurnsTo flow loops e
+turned_to flow loops e Exit l stated ends has back = absurd (false≢true back)
+turned_to flow loops e (At calls a) l stated ends has back =
+    let ends_at = and_parts (is_member (instance_of l calls) e.from) (is_header (instance_of l calls) e.to) back in
+    let header : (pointwise eqb calls calls && eqb a l.header) ≡ true =
+    ap (λ (p : Place). is_header (instance_of l calls) p) ends ∙ ends_at.1 in
+    let at : a ≡ l.header = eqb-true a l.header (and_parts (pointwise eqb calls calls) (eqb a l.header) header).1 in
     record {
       instance = instance_of l calls;
       is = record { stated_loop = l; stated = stated; reached = subst (λ (h : ℕ). Contains flow.places (At calls h)) at has; parts = refl };
-      back = and_from (is_member (instance_of l calls) from) (pointwise eqb calls calls && eqb a l.header) parts.1
-          (and_from (pointwise eqb calls calls) (eqb a l.header) (nat_list_eq_equiv.refl calls) parts.0);
+      back = back;
     }
 
 module _ (flow : Flow) (loops : List Loop) where
@@ -72,17 +72,17 @@ module _ (flow : Flow) (loops : List Loop) where
     plain = λ i is.
         let l = is.stated_loop in
         ap (λ (x : Instance). is_back_edge edge_shape place_loops x e) is.parts
-        ∙ no_back e.from e.to l i.list (none_passes (turns_to e) loops l none is.stated);
+        ∙ no_back e e.to l i.list refl (none_passes (λ x. turns_in x e) loops l none is.stated);
   }
 
   -- an edge that turns back is not plain
   pub turned : IsWellFormed flow → (e : Edge) → turns_back loops e ≡ true → IsPlainEdge flow loops e → ⊥
   turned well_formed e back plain_e =
-      let any = Any-from_list_any (turns_to e) loops back in
+      let any = Any-from_list_any (λ x. turns_in x e) loops back in
       let l = any.1 in
-      let goes : TurnsTo flow loops e.from e.to = ⊎_elim
-      (λ (out : e.to ≡ Exit). absurd (false≢true (ap (λ (p : Place). turns_at e.from p l) (sym out) ∙ any.4)))
-      (λ (there : Contains flow.places e.to). turned_to flow loops e.from e.to l (any.0, any.2, any.3) (λ (out : e.to ≡ Exit). well_formed.no_exit (subst (Contains flow.places) out there)) there any.4)
+      let goes : TurnsTo flow loops e = ⊎_elim
+      (λ (out : e.to ≡ Exit). absurd (false≢true (ap (λ (p : Place). turns_to l e p) (sym out) ∙ any.4)))
+      (λ (there : Contains flow.places e.to). turned_to flow loops e e.to l (any.0, any.2, any.3) refl there any.4)
       (well_formed.ends e plain_e.has) in
       false≢true (sym (plain_e.plain goes.instance goes.is) ∙ goes.back)
 

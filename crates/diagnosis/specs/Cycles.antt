@@ -9,7 +9,7 @@ use Rattle.flow_graph.specs.declared.edges.Edge.{Edge}
 use Rattle.flow_graph.specs.Flow.{Flow, edge_shape}
 use Rattle.flow_graph.specs.Places.{place_at}
 use Rattle.statement.specs.declared.stated.Loop.{Loop}
-use Rattle.loop_bounds.specs.Instance.{instance_of, is_member}
+use Rattle.loop_bounds.specs.Instance.{turns_in}
 use Rattle.loop_bounds.specs.Nest.{HasUnboundedCycle, IsPlainEdge}
 use Rattle.diagnosis.specs.declared.search.Search.{Search}
 
@@ -20,16 +20,9 @@ pub record IsCycleOf (flow : Flow) (loops : List Loop) (edges : List Edge) : Typ
 
 -- ## The search, which clauses of private calls speak of
 
--- from a member to the header of the loop, inside the calls of the place where the edge ends
-abbrev pub turns_at : Place → Place → Loop → Bool
-turns_at from (At list address) l = (address == l.header) && is_member (instance_of l list) from
-turns_at from Exit l = false
-
-abbrev pub turns_to : Edge → Loop → Bool
-turns_to e l = turns_at e.from e.to l
-
+-- a back edge of one of the loops, inside the calls of the place where it ends
 abbrev pub turns_back : List Loop → Edge → Bool
-turns_back loops e = list_any (turns_to e) loops
+turns_back loops e = list_any (λ l. turns_in l e) loops
 
 -- Each place has a mark, and Exit the last one: 0 where the search has shown that no cycle without a back
 -- edge goes through it, 1 on the path at hand, 2 elsewhere.

@@ -1,8 +1,8 @@
 ghost use Rattle.std.specs.Prelude.{◌≡◌, ◌≢◌, MatchBool};
-ghost use Rattle.diagnosis.specs.Cycles.{turns_back, turns_to};
+ghost use Rattle.diagnosis.specs.Cycles.{turns_back};
 
 use flow_graph::{Calls, Edge, Loop, Place};
-use loop_bounds::Found;
+use loop_bounds::turns_in;
 
 /// Whether the two are one place.
 pub(crate) fn is_same(place: &Place, other: &Place) -> bool
@@ -18,25 +18,9 @@ pub(crate) fn are_same(list: Calls, other: Calls) -> bool
     list == other
 }
 
-// Whether the edge is a back edge of the loop, inside the calls of the place to which it leads.
-fn turns_to(stated: &Loop, edge: &Edge) -> bool
-    ensures { result ≡ turns_to edge.now stated.now }
-{
-    match edge.to {
-        Place::At(list, address) => {
-            let found = Found {
-                list,
-                stated: *stated,
-            };
-            address == stated.header && found.is_member(&edge.from)
-        }
-        Place::Exit => false,
-    }
-}
-
 /// Whether the edge is a back edge of an instance of a loop.
 pub(crate) fn turns_back(loops: &[Loop], edge: &Edge) -> bool
     ensures { result ≡ turns_back loops.now edge.now }
 {
-    loops.iter().any(|stated| turns_to(stated, edge))
+    loops.iter().any(|stated| turns_in(stated, edge))
 }

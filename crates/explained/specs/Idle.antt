@@ -1,18 +1,15 @@
 -- The entries of a statement without effect on a bound.
-use Rattle.std.specs.Prelude.{◌≡◌, ℕ, Bool, true, false, List, [], ◌++◌, codes}
+use Rattle.std.specs.Prelude.{◌≡◌, ℕ, Bool, true, List, [], ◌++◌, codes}
 use Rattle.std.specs.List.{list_any}
 use Rattle.std.specs.Map.{keys_of}
 use Rattle.arm2_effect.specs.Operations.{is_transfer}
 use Rattle.asm_text.specs.Hex.{hex8}
-use Rattle.flow_graph.specs.Flow.{Flow, edge_shape}
+use Rattle.flow_graph.specs.Flow.{Flow}
 use Rattle.flow_graph.specs.declared.edges.Edge.{Edge}
-use Rattle.flow_graph.specs.declared.places.Place.{Place}
-use Rattle.flow_graph.specs.declared.places.Place.TheVariants.{At, Exit}
 use Rattle.loader.specs.Image.{Words}
-use Rattle.loop_bounds.specs.Instance.{instance_of, place_loops}
+use Rattle.loop_bounds.specs.Instance.{turns_in}
 use Rattle.statement.specs.Stated.{Stated}
 use Rattle.statement.specs.declared.stated.Loop.{Loop}
-use Rattle.walks.specs.Greatest.{is_back_edge}
 use Rattle.word_shapes.specs.Words.{HasShape}
 use Rattle.text_rows.specs.Rows.{AreRows, section}
 use Rattle.explained.specs.Leaving.{is_left_on}
@@ -23,14 +20,6 @@ use Rattle.explained.specs.declared.leaving.EdgeKind.TheVariants.{CarriesOut}
 -- one of the edges carries out the word at the address
 abbrev pub is_carried_out : List Edge → ℕ → Bool
 is_carried_out = is_left_on CarriesOut
-
--- a back edge of the loop, inside the calls of the place to which it leads
-abbrev pub turns_to : Loop → Edge → Place → Bool
-turns_to l e (At list a) = is_back_edge edge_shape place_loops (instance_of l list) e
-turns_to l e Exit = false
-
-abbrev pub turns_in : Loop → Edge → Bool
-turns_in l e = turns_to l e e.to
 
 -- a loop has an effect on a bound where an edge of the graph turns back in it
 abbrev pub LoopCounts : Flow → Loop → Type 0

@@ -5,38 +5,23 @@ ghost use Rattle.std.specs.Map.{keys_of};
 ghost use Rattle.std.specs.Ordering.{nat_cmp};
 ghost use Rattle.explained.specs.Idle.{AccessCounts, AreIdleEntries, AreIdleRows, IsAccessRow, IsLoopRow};
 ghost use Rattle.explained.specs.Idle.{IsTargetRow};
-ghost use Rattle.explained.specs.Idle.{entry_row, turns_in};
+ghost use Rattle.explained.specs.Idle.{entry_row};
+ghost use Rattle.loop_bounds.specs.Instance.{turns_in};
 ghost use Rattle.text_rows.specs.Rows.{Appends, AreRows};
 
 use crate::leaving::{EdgeKind, addresses_left};
 use crate::sections::StatedGraph;
 use asm_text::hex8;
-use flow_graph::{Edge, Graph, Loop, Place};
+use flow_graph::{Graph, Loop};
 use indexmap::IndexMap;
 use loader::Image;
-use loop_bounds::Found;
+use loop_bounds::turns_in;
 use std::alloc::{AllocError, Global};
 use std::collections::BTreeSet;
 use text_rows::{put, section};
 use word_shapes::is_transfer_at;
 
 const HEADING: &[u8] = b"\nEntries of the statement without effect:\n";
-
-// Whether the edge is a back edge of the loop, inside the calls of the place to which it leads.
-fn turns_in(stated: &Loop, edge: &Edge) -> bool
-    ensures { result ≡ turns_in stated.now edge.now }
-{
-    match edge.to {
-        Place::At(list, _) => {
-            let found = Found {
-                list,
-                stated: *stated,
-            };
-            found.is_member(&edge.from) && found.is_header(&edge.to)
-        }
-        Place::Exit => false,
-    }
-}
 
 fn turns_back(graph: &Graph, stated: &Loop) -> bool
     ensures { result ≡ list_any (turns_in stated.now) graph.now.edges }

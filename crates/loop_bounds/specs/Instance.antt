@@ -2,11 +2,12 @@
 -- calls with which its header is reached it is an instance of its own.
 use Rattle.std.specs.Prelude.{◌≡◌, ℕ, Bool, false, ◌&&◌, List, [], ◌∷◌, ◌++◌, Contains, nat_le, nat_eq, ◌==◌}
 use Rattle.std.specs.Cmp.Lexicographic.{pointwise}
-use Rattle.walks.specs.Greatest.{Loops}
+use Rattle.walks.specs.Greatest.{Loops, is_back_edge}
+use Rattle.flow_graph.specs.declared.edges.Edge.{Edge}
 use Rattle.flow_graph.specs.declared.places.Place.{Place}
 use Rattle.flow_graph.specs.declared.places.Place.TheVariants.{At, Exit}
 use Rattle.statement.specs.declared.stated.Loop.{Loop}
-use Rattle.flow_graph.specs.Flow.{Flow}
+use Rattle.flow_graph.specs.Flow.{Flow, edge_shape}
 
 -- the calls inside of which the loop is taken, the addresses of its header and of its first and last
 -- instruction, and the most back edges that one stay takes
@@ -41,6 +42,14 @@ place_loops = record { is_member = is_member; is_header = is_header; bound = λ 
 abbrev pub instance_of : Loop → List ℕ → Instance
 instance_of l list =
     record { list = list; header = l.header; first = l.first; last = l.last; bound = l.bound }
+
+-- a back edge of the loop, inside the calls of the place to which it leads
+abbrev pub turns_to : Loop → Edge → Place → Bool
+turns_to l e (At list address) = is_back_edge edge_shape place_loops (instance_of l list) e
+turns_to l e Exit = false
+
+abbrev pub turns_in : Loop → Edge → Bool
+turns_in l e = turns_to l e e.to
 
 -- a stated loop, and a list of calls with which its header is a place
 pub record IsInstance (flow : Flow) (loops : List Loop) (i : Instance) : Type 0 where

@@ -31,6 +31,7 @@ mod tree;
 
 pub use fault::NestFault;
 pub use loop_instances::Found;
+pub use members::turns_in;
 pub use nested::{Instance, Instances};
 pub use nesting::MOST_INSTANCES;
 pub use tree::{LoopTree, nest};

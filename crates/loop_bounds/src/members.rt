@@ -1,9 +1,9 @@
 ghost use Rattle.std.specs.Prelude.{◌≡◌, ◌++◌, [], ◌∷◌};
 ghost use Rattle.loop_bounds.specs.Extents.{found_instance};
-ghost use Rattle.loop_bounds.specs.Instance.{holds, is_header, is_member};
+ghost use Rattle.loop_bounds.specs.Instance.{holds, is_header, is_member, turns_in};
 
 use crate::loop_instances::Found;
-use flow_graph::{Loop, Place};
+use flow_graph::{Edge, Loop, Place};
 
 fn is_between(stated: &Loop, address: u32) -> bool
     ensures { result ≡ holds stated.now.first stated.now.last [] (address ∷ []) }
@@ -53,5 +53,21 @@ impl Found {
             Place::At(calls, address) => { *calls == self.list && *address == self.stated.header }
             Place::Exit => false,
         }
+    }
+}
+
+/// Whether the edge is a back edge of the loop, inside the calls of the place to which it leads.
+pub fn turns_in(stated: &Loop, edge: &Edge) -> bool
+    ensures { result ≡ turns_in stated.now edge.now }
+{
+    match edge.to {
+        Place::At(list, _) => {
+            let found = Found {
+                list,
+                stated: *stated,
+            };
+            found.is_member(&edge.from) && found.is_header(&edge.to)
+        }
+        Place::Exit => false,
     }
 }

@@ -1,4 +1,4 @@
-ghost use Rattle.std.specs.Prelude.{◌≡◌, ◌+◌, ◌<◌, ◌≤◌, ◌^◌, IsTrue, true, false, length};
+ghost use Rattle.std.specs.Prelude.{◌≡◌, ◌+◌, ◌<◌, ◌≤◌, ◌^◌, ℕ, IsTrue, true, false, length};
 ghost use Rattle.numbered_walks.specs.Ordered.{TooLarge};
 ghost use Rattle.numbered_walks.specs.Index.{IsNumberedGraph};
 ghost use Rattle.numbered_walks.specs.Tables.{AllEntered, HasRoom, IsPassed, nth};
@@ -8,22 +8,21 @@ use crate::index::is_header;
 use crate::row::heaviest;
 use crate::tables::{Tables, write_place, write_round};
 
-// Finds the distance or arrival of the next number, unless some walk costs 2^63 or more. The rounds of the
-// first `closed` instances are found.
-fn pass_place(graph: NumberedGraph<'_>, closed: usize, tables: &mut Tables, place: usize) -> bool
+// Finds the distance or arrival of the next number, unless some walk costs 2^63 or more, once the rounds of
+// the first instances, however many, are found.
+fn pass_place(graph: NumberedGraph<'_>, tables: &mut Tables, place: usize) -> bool
     requires graph { IsNumberedGraph graph.exit graph.edges.now graph.spans.now graph.index.now }
     requires entered { AllEntered graph.edges.now (graph.exit + 1) }
     requires known { place < graph.exit + 1 }
-    requires counted { closed ≤ length graph.spans.now }
     requires room { HasRoom (graph.exit + 1) tables.old }
-    requires passed { IsPassed graph.edges.now graph.spans.now closed place tables.old }
-    ensures yes { IsTrue result
+    ensures yes { (closed : ℕ) → IsPassed graph.entry.edges.now graph.entry.spans.now closed place tables.old
+        → IsTrue result
         → IsPassed graph.entry.edges.now graph.entry.spans.now closed (place + 1) tables.new }
-    ensures no { result ≡ false
+    ensures no { (closed : ℕ) → closed ≤ length graph.entry.spans.now
+        → IsPassed graph.entry.edges.now graph.entry.spans.now closed place tables.old → result ≡ false
         → TooLarge graph.entry.exit graph.entry.edges.now graph.entry.spans.now }
     ensures room { HasRoom (graph.entry.exit + 1) tables.new }
 {
-    let _closed = closed;
     match heaviest(graph, tables, &graph.index.entering[place]) {
         None => false,
         Some(value) => {
@@ -34,20 +33,21 @@ fn pass_place(graph: NumberedGraph<'_>, closed: usize, tables: &mut Tables, plac
     }
 }
 
-// Finds the round of the next instance, unless some walk costs 2^63 or more.
-fn pass_round(graph: NumberedGraph<'_>, closed: usize, tables: &mut Tables, placed: usize) -> bool
+// Finds the round of the next instance, unless some walk costs 2^63 or more, once the numbers up to its last
+// are passed.
+fn pass_round(graph: NumberedGraph<'_>, closed: usize, tables: &mut Tables) -> bool
     requires graph { IsNumberedGraph graph.exit graph.edges.now graph.spans.now graph.index.now }
     requires known { closed < length graph.spans.now }
-    requires ended { placed ≡ (nth graph.spans.now closed).last + 1 }
     requires room { HasRoom (graph.exit + 1) tables.old }
-    requires passed { IsPassed graph.edges.now graph.spans.now closed placed tables.old }
+    requires passed { IsPassed graph.edges.now graph.spans.now closed
+        ((nth graph.spans.now closed).last + 1) tables.old }
     ensures yes { IsTrue result
-        → IsPassed graph.entry.edges.now graph.entry.spans.now (closed + 1) placed tables.new }
+        → IsPassed graph.entry.edges.now graph.entry.spans.now (closed + 1)
+        ((nth graph.entry.spans.now closed).last + 1) tables.new }
     ensures no { result ≡ false
         → TooLarge graph.entry.exit graph.entry.edges.now graph.entry.spans.now }
     ensures room { HasRoom (graph.entry.exit + 1) tables.new }
 {
-    let _placed = placed;
     let span = graph.spans[closed];
     if span.bound == 0 {
         write_round(tables, span.header, 0);
@@ -62,28 +62,21 @@ fn pass_round(graph: NumberedGraph<'_>, closed: usize, tables: &mut Tables, plac
     }
 }
 
-// Passes over the numbers before `end`.
-fn pass_places(
-    graph: NumberedGraph<'_>,
-    closed: usize,
-    tables: &mut Tables,
-    start: usize,
-    end: usize,
-) -> bool
+// Passes over the numbers from `start` to before `end`.
+fn pass_places(graph: NumberedGraph<'_>, tables: &mut Tables, start: usize, end: usize) -> bool
     requires graph { IsNumberedGraph graph.exit graph.edges.now graph.spans.now graph.index.now }
     requires entered { AllEntered graph.edges.now (graph.exit + 1) }
     requires known { (start ≤ end) × (end ≤ graph.exit + 1) }
-    requires counted { closed ≤ length graph.spans.now }
     requires room { HasRoom (graph.exit + 1) tables.old }
-    requires passed { IsPassed graph.edges.now graph.spans.now closed start tables.old }
-    ensures yes { IsTrue result
-        → IsPassed graph.entry.edges.now graph.entry.spans.now closed end tables.new }
-    ensures no { result ≡ false
+    ensures yes { (closed : ℕ) → IsPassed graph.entry.edges.now graph.entry.spans.now closed start tables.old
+        → IsTrue result → IsPassed graph.entry.edges.now graph.entry.spans.now closed end tables.new }
+    ensures no { (closed : ℕ) → closed ≤ length graph.entry.spans.now
+        → IsPassed graph.entry.edges.now graph.entry.spans.now closed start tables.old → result ≡ false
         → TooLarge graph.entry.exit graph.entry.edges.now graph.entry.spans.now }
     ensures room { HasRoom (graph.entry.exit + 1) tables.new }
 {
     for place in start..end {
-        if !pass_place(graph, closed, tables, place) {
+        if !pass_place(graph, tables, place) {
             return false;
         }
     }
@@ -107,14 +100,13 @@ pub(crate) fn pass(graph: NumberedGraph<'_>, tables: &mut Tables) -> bool
     let mut placed = 0;
     for closed in 0..graph.spans.len() {
         let end = graph.spans[closed].last + 1;
-        if !pass_places(graph, closed, tables, placed, end) {
+        if !pass_places(graph, tables, placed, end) {
             return false;
         }
-        if !pass_round(graph, closed, tables, end) {
+        if !pass_round(graph, closed, tables) {
             return false;
         }
         placed = end;
     }
-    let closed = graph.spans.len();
-    pass_places(graph, closed, tables, placed, graph.exit + 1)
+    pass_places(graph, tables, placed, graph.exit + 1)
 }

@@ -38,6 +38,7 @@ pub struct Target {
 
 impl Model for Target {
     ghost use Rattle.std.specs.Prelude.{◌<◌, All};
+    ghost use Rattle.bus_ticks.specs.declared.space.TheConstants.{SPACE_END};
     ghost use Rattle.statement.specs.Stated.{Target};
 
     ghost Value = { Target };

@@ -10,9 +10,6 @@ use Rattle.assembler.specs.declared.placed_line.PlacedLine.{PlacedLine}
 use Rattle.text_rows.specs.declared.rows.NumberedLine.{NumberedLine}
 use Rattle.text_rows.specs.ByAddress.{PutsAt, has_word, line_at, line_with, numbered}
 
-is_at-eqb : (a b : ℕ) → is_at (nat_cmp a) b ≡ eqb b a
-is_at-eqb a b = grind (arith, nat_tests)
-
 either : (here later : Bool) (line : NumberedLine) (o : Option NumberedLine)
     → (if later then Some (numbered line) else option_map numbered (if here then Some line else o)) ≡ (if here || later then Some (numbered line) else option_map numbered o)
 either true true line o = refl
@@ -24,8 +21,9 @@ pub put_more : (at left after : ℕ) (line : NumberedLine) (old mid new : BTreeM
     → Updates nat_cmp old mid at (Some line) → PutsAt (at + 4) after (numbered line) mid new → PutsAt at left (numbered line) old new
 put_more at left after line old mid new is puts h =
     subst (λ n. PutsAt at n (numbered line) old new) (sym is) (λ a.
+    let same : is_at (nat_cmp at) a ≡ eqb a at = grind (arith, nat_tests) in
     let here : get nat_cmp mid a ≡ (if a == at then Some line else get nat_cmp old a) =
-    puts.0 a ∙ ap (λ b. if b then Some line else get nat_cmp old a) (is_at-eqb at a) in
+    puts.0 a ∙ ap (λ b. if b then Some line else get nat_cmp old a) same in
     h a ∙ ap (λ (o : Option NumberedLine). if has_word (at + 4) after a then Some (numbered line) else option_map numbered o) here
     ∙ either (a == at) (has_word (at + 4) after a) line (get nat_cmp old a))
 
