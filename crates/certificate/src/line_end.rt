@@ -20,6 +20,7 @@ pub(crate) struct LineEnd {
 
 impl Model for LineEnd {
     ghost use Rattle.std.specs.Prelude.{◌≤◌, ℕ, List, drop};
+    ghost use Rattle.certificate.specs.declared.line_end.TheConstants.{LINE_ROOM};
 
     ghost Value = { List ℕ };
 

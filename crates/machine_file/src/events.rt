@@ -165,6 +165,7 @@ pub(crate) struct Schedule {
 
 impl Model for Schedule {
     ghost use Rattle.std.specs.Prelude.{◌≤◌};
+    ghost use Rattle.machine_file.specs.declared.events.TheConstants.{MOST_STEPS};
     ghost use Rattle.machine_file.specs.Stated.{Schedule};
 
     ghost Value = { Schedule };

@@ -157,20 +157,6 @@ pub fn tight_report<O: Output>(
         out.new result }
 {
     let profile = profile_of(alloc, profile)?;
-    priced_tight(alloc, source, statement, edge, &profile, out)
-}
-
-fn priced_tight<O: Output>(
-    alloc: Global,
-    source: &[u8],
-    statement: &[u8],
-    edge: u32,
-    profile: &Profile,
-    out: &mut O,
-) -> Result<(), ReportFault>
-    ensures { ReportsTight O.taken O.failures source.now statement.now edge profile.now out.old out.new
-        result }
-{
-    let text = tight_text(alloc, source, statement, edge, profile)?;
+    let text = tight_text(alloc, source, statement, edge, &profile)?;
     print_answer((), text.as_bytes(), out)
 }
