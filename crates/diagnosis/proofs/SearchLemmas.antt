@@ -1,5 +1,5 @@
 -- The search for a cycle, step by step.
-use Rattle.std.proofs.Common.{◌≡◌, ◌⊎◌, ℕ, ◌+◌, ◌<◌, ◌≤◌, zero, suc, List, [], ◌∷◌, ◌++◌, length, get_or, set, replicate, sum_by, refl, sym, ap, ◌∙◌, subst, inl, inr, ⊎_elim, Result, arith}
+use Rattle.std.proofs.Common.{◌≡◌, ◌⊎◌, ℕ, ◌+◌, ◌<◌, ◌≤◌, List, [], ◌∷◌, ◌++◌, length, get_or, set, replicate, sum_by, refl, sym, ap, ◌∙◌, subst, inl, inr, ⊎_elim, Result, arith}
 use Rattle.std.specs.Prelude.{Contains}
 use Rattle.std.specs.List.Sorted.{IsBinarySearchResult, IsSearchInRange, IsStrictlySortedBy}
 use Rattle.std.specs.Result.{result_unwrap_or}
@@ -17,6 +17,7 @@ use Rattle.flow_graph.specs.Search.{by_order}
 use Rattle.flow_graph.proofs.Firsts.{whole_range}
 use Rattle.statement.specs.declared.stated.Loop.{Loop}
 use Rattle.loop_bounds.specs.Nest.{HasUnboundedCycle, IsPlainEdge}
+use Rattle.loop_bounds.proofs.FindLemmas.{single}
 use Rattle.loop_bounds.proofs.Positions.{index_found, index_inside, places_once}
 use Rattle.diagnosis.specs.Cycles.{AreMarks, IsCleared, IsClosed, IsIdle, IsOn, IsOpen, IsPath, IsPathTo, LeadToCleared}
 use Rattle.diagnosis.specs.declared.search.Search.{Search}
@@ -31,10 +32,6 @@ abbrev begun_marks : ℕ → List ℕ
 begun_marks n = replicate (n + 1) 2
 
 -- ## The parts of a list
-
-one : {X : Type 0} (x y : X) → Contains (x ∷ []) y → x ≡ y
-one x y (zero, lt, is) = is
-one x y (suc k, lt, is) = absurd (omega (arith, lt))
 
 module _ (flow : Flow) (loops : List Loop) where
   split_last : (p q : Place) (path : List Edge) (e : Edge) → IsPath flow loops p (path ++ e ∷ []) q → IsPath flow loops p path e.from × IsPlainEdge flow loops e × (e.to ≡ q)
@@ -216,7 +213,7 @@ module _ (flow : Flow) (loops : List Loop) where
               (λ on. ⊎_elim
               (λ (has : Contains before on.0). inr (on.0, has, on.2))
               (λ (has : Contains (last ∷ []) on.0).
-              let same : last ≡ on.0 = one last on.0 has in
+              let same : last ≡ on.0 = single last on.0 has in
               inl (places_once flow.places well_formed.ordered v to Exit lt inside (sym (number ∙ ap (λ (x : Edge). x.from) same ∙ on.2))))
               (Contains-append_cases before (last ∷ []) on.0 (subst (λ (es : List Edge). Contains es on.0) parts on.1)))
               (s.on v lt (one_on marks at v 0 other is)))

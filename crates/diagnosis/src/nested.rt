@@ -5,12 +5,9 @@ ghost use Rattle.diagnosis.specs.Nested.{AreWanted, HasPlace, HavePlace, IsDeep,
 
 use crate::crossings::has_place;
 use flow_graph::{Calls, Graph, Loop, Place};
-use loop_bounds::Found;
+use loop_bounds::{Found, MOST_INSTANCES};
 use std::alloc::{AllocError, Global};
 use std::cmp::Reverse;
-
-// In how many instances of loops a place may be.
-const MOST_INSTANCES: usize = 16;
 
 /// A place that is in more than sixteen instances of loops, and those.
 #[derive(Drop)]

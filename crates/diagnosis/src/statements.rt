@@ -22,6 +22,10 @@ use crate::values::{
 };
 use flow_graph::StatementFault;
 use loader::Labels;
+use statement::{
+    ACCESS_KEYS, LOOP_KEYS, MOST_ACCESSES, MOST_DESTINATIONS, MOST_LOOPS, MOST_TARGETS,
+    STATEMENT_KEYS, TARGET_KEYS,
+};
 use std::alloc::{AllocError, Global};
 use text_rows::{put, put_decimal};
 
@@ -45,43 +49,37 @@ pub(crate) struct Report {
 }
 
 // The keys that a table may have, by the name of its list.
-fn keys_of(list: &[u8]) -> Option<&'static [&'static [u8]]>
+fn keys_of(list: &[u8]) -> Option<&'static [&'static str]>
     ensures { option_map (λ keys. map (λ k. k.now) keys.now) result ≡ keys_of list.now }
 {
-    const WHOLE: &[&[u8]] = &[b"entry", b"leave", b"loop", b"target", b"access"];
-    const LOOP: &[&[u8]] = &[b"header", b"first", b"last", b"bound"];
-    const TARGET: &[&[u8]] = &[b"at", b"kind", b"to"];
-    const ACCESS: &[&[u8]] = &[b"at", b"class"];
     if list.is_empty() {
-        return Some(WHOLE);
+        return Some(STATEMENT_KEYS);
     }
     if list == b"loop".as_slice() {
-        return Some(LOOP);
+        return Some(LOOP_KEYS);
     }
     if list == b"target".as_slice() {
-        return Some(TARGET);
+        return Some(TARGET_KEYS);
     }
     if list == b"access".as_slice() {
-        return Some(ACCESS);
+        return Some(ACCESS_KEYS);
     }
     None
 }
 
 // The keys that a list's table has to have.
-fn needed_keys(list: &[u8]) -> &'static [&'static [u8]]
+fn needed_keys(list: &[u8]) -> &'static [&'static str]
     ensures { map (λ k. k.now) result.now ≡ needed_keys list.now }
 {
-    const LOOP: &[&[u8]] = &[b"header", b"first", b"last", b"bound"];
-    const TARGET: &[&[u8]] = &[b"at", b"kind"];
-    const ACCESS: &[&[u8]] = &[b"at", b"class"];
+    const OF_TARGET: &[&str] = &["at", "kind"];
     if list == b"loop".as_slice() {
-        return LOOP;
+        return LOOP_KEYS;
     }
     if list == b"target".as_slice() {
-        return TARGET;
+        return OF_TARGET;
     }
     if list == b"access".as_slice() {
-        return ACCESS;
+        return ACCESS_KEYS;
     }
     &[]
 }
@@ -163,24 +161,21 @@ pub(crate) struct Limit {
 
 const LOOPS: Limit = Limit {
     list: b"loop",
-    most: 256,
+    most: MOST_LOOPS,
     words: b" comes after the 256 loops that a statement may have",
 };
 
 const TARGETS: Limit = Limit {
     list: b"target",
-    most: 1024,
+    most: MOST_TARGETS,
     words: b" comes after the 1024 targets that a statement may have",
 };
 
 const ACCESSES: Limit = Limit {
     list: b"access",
-    most: 4096,
+    most: MOST_ACCESSES,
     words: b" comes after the 4096 accesses that a statement may have",
 };
-
-// How many destinations a target may have.
-const MOST_DESTINATIONS: usize = 64;
 
 // The first table of the list after so many.
 #[tactic(auto, unfolding(crate::specs::Refused::tables_in))]
@@ -255,7 +250,7 @@ pub(crate) struct Asked<'a> {
 fn wants_to(kind: Option<Word<'_>>) -> bool
     ensures { result ≡ wants_to (option_map value_of kind.entry) }
 {
-    const KINDS: &[&[u8]] = &[b"jump", b"call"];
+    const KINDS: &[&str] = &["jump", "call"];
     match kind {
         Some(kind) => is_word_of(KINDS, kind),
         None => false,
@@ -265,7 +260,7 @@ fn wants_to(kind: Option<Word<'_>>) -> bool
 fn wants_no_to(kind: Option<Word<'_>>) -> bool
     ensures { result ≡ wants_no_to (option_map value_of kind.entry) }
 {
-    const KINDS: &[&[u8]] = &[b"return", b"leave"];
+    const KINDS: &[&str] = &["return", "leave"];
     match kind {
         Some(kind) => is_word_of(KINDS, kind),
         None => false,
@@ -424,14 +419,14 @@ impl Report {
         &mut self,
         alloc: Global,
         table: &OpenTable<'_>,
-        keys: &[&[u8]],
+        keys: &[&str],
     ) -> Result<(), AllocError>
         ensures { OnOk result
             (Adds (missing_rows (table_of table.now.section.now) (map item_of table.now.rest.now)
             (map (λ k. k.now) keys.now)) self.old self.new) }
     {
         for key in keys {
-            self.put_if_missing(alloc, table, key)?;
+            self.put_if_missing(alloc, table, key.as_bytes())?;
         }
         Ok(())
     }

@@ -10,15 +10,18 @@ use crate::tokens::Word;
 use asm_text::read_number;
 use bus_ticks::SPACE_END;
 use loader::Labels;
-
-// The highest bound of a loop.
-const MOST_ROUNDS: u32 = 1_048_576;
+use statement::MOST_ROUNDS;
 
 /// Whether the word is one of those.
-pub(crate) fn is_among(words: &[&[u8]], word: &[u8]) -> bool
+pub(crate) fn is_among(words: &[&str], word: &[u8]) -> bool
     ensures { result ≡ is_among (map (λ w. w.now) words.now) word.now }
 {
-    words.contains(&word)
+    for known in words {
+        if known.as_bytes() == word {
+            return true;
+        }
+    }
+    false
 }
 
 fn starts_digit(text: &[u8]) -> bool
@@ -73,7 +76,7 @@ fn is_text(value: Word<'_>) -> bool
 }
 
 /// Whether the value is one of these words in quotes.
-pub(crate) fn is_word_of(words: &[&[u8]], value: Word<'_>) -> bool
+pub(crate) fn is_word_of(words: &[&str], value: Word<'_>) -> bool
     ensures { result ≡ is_word_of (map (λ w. w.now) words.now) (value_of value.entry) }
 {
     match value {
@@ -86,7 +89,7 @@ pub(crate) fn is_word_of(words: &[&[u8]], value: Word<'_>) -> bool
 fn takes_address(key: &[u8]) -> bool
     ensures { result ≡ takes_address key.now }
 {
-    const KEYS: &[&[u8]] = &[b"entry", b"header", b"first", b"last", b"at", b"to"];
+    const KEYS: &[&str] = &["entry", "header", "first", "last", "at", "to"];
     is_among(KEYS, key)
 }
 
@@ -94,7 +97,7 @@ fn takes_address(key: &[u8]) -> bool
 fn is_class(value: Word<'_>) -> bool
     ensures { result ≡ is_word_of class_words (value_of value.entry) }
 {
-    const CLASSES: &[&[u8]] = &[b"any", b"ram", b"rom", b"io"];
+    const CLASSES: &[&str] = &["any", "ram", "rom", "io"];
     is_word_of(CLASSES, value)
 }
 
@@ -102,7 +105,7 @@ fn is_class(value: Word<'_>) -> bool
 fn is_kind(value: Word<'_>) -> bool
     ensures { result ≡ is_word_of kind_words (value_of value.entry) }
 {
-    const KINDS: &[&[u8]] = &[b"jump", b"call", b"return", b"leave"];
+    const KINDS: &[&str] = &["jump", "call", "return", "leave"];
     is_word_of(KINDS, value)
 }
 

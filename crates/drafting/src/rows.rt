@@ -5,10 +5,7 @@ ghost use Rattle.drafting.specs.Rows.{name_text, remark, row, shown};
 use crate::source_lines::SourceLine;
 use asm_text::hex8;
 use std::alloc::AllocError;
-use text_rows::{put, put_decimal, put_labelled};
-
-// The most columns of a row that ends in a comment.
-const COLUMNS: usize = 80;
+use text_rows::{ROW_COLUMNS, put, put_decimal, put_labelled};
 
 /// Adds an address in eight hexadecimal digits.
 pub(crate) fn put_address(out: &mut Vec<u8>, at: u32) -> Result<(), AllocError>
@@ -77,7 +74,7 @@ pub(crate) fn end_row(
         → out.new.items ≡ before ++ row text line.entry) }
 {
     let end = out.len();
-    let room = COLUMNS.saturating_sub(end.saturating_sub(start));
+    let room = ROW_COLUMNS.saturating_sub(end.saturating_sub(start));
     put_remark(out, line)?;
     out.truncate(end + room);
     put(out, b"\n")

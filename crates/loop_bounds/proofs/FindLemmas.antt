@@ -69,7 +69,7 @@ map_more : (f : Found → Instance) (xs ys : List Found) → map f (xs ++ ys) �
 map_more f [] ys = refl
 map_more f (x ∷ xs) ys = λ i. f x ∷ map_more f xs ys i
 
-single : {X : Type 0} (x y : X) → Contains (x ∷ []) y → x ≡ y
+pub single : {X : Type 0} (x y : X) → Contains (x ∷ []) y → x ≡ y
 single x y h = let z : h.0 ≡ 0 = omega (arith, h.1) in ap (λ (n : ℕ). get_or (x ∷ []) n y) (sym z) ∙ h.2
 
 at_map : (loops : List Loop) (list : List ℕ) (k : ℕ) (d : Instance) (e : Loop) → k < length loops → get_or (map found_instance (map (found_at list) loops)) k d ≡ instance_of (get_or loops k e) list

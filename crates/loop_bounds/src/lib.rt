@@ -33,4 +33,5 @@ pub use fault::NestFault;
 pub use loop_instances::Found;
 pub use members::turns_in;
 pub use nested::{Instance, Instances};
+pub use nesting::MOST_INSTANCES;
 pub use tree::{LoopTree, nest};

@@ -11,8 +11,8 @@ use crate::ranks::ranks;
 use numbered_walks::NumberedEdge;
 use std::alloc::{AllocError, Global};
 
-// In how many instances a place may lie.
-const MOST_INSTANCES: usize = 16;
+/// In how many instances of loops a place may lie.
+pub const MOST_INSTANCES: usize = 16;
 
 // The chain, if there is one, and then the rank.
 fn extended(

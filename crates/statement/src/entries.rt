@@ -18,20 +18,20 @@ use toml_reading::{
     value_at, values_of,
 };
 
-// The keys of a loop's table.
-const LOOP_KEYS: &[&str] = &["header", "first", "last", "bound"];
+/// The keys of a loop's table.
+pub const LOOP_KEYS: &[&str] = &["header", "first", "last", "bound"];
 
-// The keys of a target's table.
-const TARGET_KEYS: &[&str] = &["at", "kind", "to"];
+/// The keys of a target's table.
+pub const TARGET_KEYS: &[&str] = &["at", "kind", "to"];
 
-// The keys of an access's table.
-const ACCESS_KEYS: &[&str] = &["at", "class"];
+/// The keys of an access's table.
+pub const ACCESS_KEYS: &[&str] = &["at", "class"];
 
-// The highest bound of a loop.
-const MOST_ROUNDS: u32 = 1_048_576;
+/// The highest bound of a loop.
+pub const MOST_ROUNDS: u32 = 1_048_576;
 
-// The most destinations of a target.
-const MOST_DESTINATIONS: usize = 64;
+/// The most destinations of a target.
+pub const MOST_DESTINATIONS: usize = 64;
 
 fn label_address(address: Option<u32>) -> Read<u32>
     ensures { result ≡ labelled address }

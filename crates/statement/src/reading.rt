@@ -15,15 +15,17 @@ use std::alloc::{AllocError, Global};
 use toml::Table;
 use toml_reading::{by_number, check, document, only_keys, pair, tables_up_to, value_at};
 
-// The keys of the statement.
-const STATEMENT_KEYS: &[&str] = &["entry", "leave", "loop", "target", "access"];
+/// The keys of a statement.
+pub const STATEMENT_KEYS: &[&str] = &["entry", "leave", "loop", "target", "access"];
 
-// The most loops, targets and accesses of a statement.
-const MOST_LOOPS: usize = 256;
+/// The most loops of a statement.
+pub const MOST_LOOPS: usize = 256;
 
-const MOST_TARGETS: usize = 1024;
+/// The most targets of a statement.
+pub const MOST_TARGETS: usize = 1024;
 
-const MOST_ACCESSES: usize = 4096;
+/// The most accesses of a statement.
+pub const MOST_ACCESSES: usize = 4096;
 
 // The class to leave to.
 fn leave(table: &Table) -> Read<Class>

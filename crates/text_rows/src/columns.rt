@@ -7,8 +7,8 @@ use std::alloc::AllocError;
 // As many blanks as the widest column has.
 const BLANKS: &[u8] = b"                                    ";
 
-// The columns of a row.
-const ROW_COLUMNS: usize = 80;
+/// The columns of a row.
+pub const ROW_COLUMNS: usize = 80;
 
 /// Adds a text. An error says that an allocation failed.
 pub fn put(out: &mut Vec<u8>, text: &[u8]) -> Result<(), AllocError>
