@@ -22,6 +22,9 @@ use bus_ticks::Profile;
 use flow_graph::MOST_ROUNDS;
 use longest_walk::{InstanceRow, PlaceRow};
 
+// How often the body of a repeat is taken at most: as often as a loop turns back.
+const MOST_TURNS: u64 = MOST_ROUNDS as u64;
+
 fn title_at(words: &[u8]) -> Option<Version>
     ensures { MatchOption result ((v : Version) → words.now ≡ title_words v → ⊥)
         (λ v. words.now ≡ title_words v) }
@@ -42,14 +45,14 @@ fn bound_at(words: &[u8]) -> Option<u64>
 
 fn repeat_at(words: &[u8]) -> Option<u32>
     ensures { MatchOption result
-        ((k : ℕ) → 0 < k → k ≤ MOST_ROUNDS → words.now ≡ codes "repeat " ++ decimal k → ⊥)
-        (λ k. (0 < k) × (k ≤ MOST_ROUNDS) × (words.now ≡ codes "repeat " ++ decimal k)) }
+        ((k : ℕ) → 0 < k → k ≤ MOST_TURNS → words.now ≡ codes "repeat " ++ decimal k → ⊥)
+        (λ k. (0 < k) × (k ≤ MOST_TURNS) × (words.now ≡ codes "repeat " ++ decimal k)) }
 {
     let count = decimal_at(after_front(words, b"repeat ")?)?;
     if count == 0 {
         return None;
     }
-    if count > u64::from(MOST_ROUNDS) {
+    if count > MOST_TURNS {
         return None;
     }
     Some(count as u32)
