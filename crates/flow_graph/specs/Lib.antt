@@ -6,6 +6,7 @@ pub mod Kinds
 pub mod Edges
 pub mod Graph
 pub mod Search
+pub mod Sites
 pub mod Faulty
 pub mod StepLaw
 pub mod Free

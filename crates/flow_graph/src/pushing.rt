@@ -1,12 +1,11 @@
 ghost use Rattle.std.specs.Prelude.{◌≡◌, ◌++◌, ◌∷◌, [], map, All, IfErr, OnOk, Some, None, ◌⊎◌, ◌<◌};
 ghost use Rattle.bus_ticks.specs.declared.space.TheConstants.{SPACE_END};
-ghost use Rattle.flow_graph.specs.Edges.{call_places, do_edge, landing_edges, places_at, return_place};
-ghost use Rattle.flow_graph.specs.Edges.{skip_edge, word_edges, writer_landings};
+ghost use Rattle.flow_graph.specs.Edges.{call_places, places_at, return_place, skip_edge};
 ghost use Rattle.flow_graph.specs.Kinds.{IsWork};
 ghost use Rattle.flow_graph.specs.Places.{IsInSpace};
-ghost use Rattle.statement.specs.Stated.{target_of};
-ghost use Rattle.flow_graph.specs.Search.{AddsEdges, IsEdgeFault, IsSound, action_fault, call_fault};
-ghost use Rattle.flow_graph.specs.Search.{kind_fault, writer_fault};
+ghost use Rattle.flow_graph.specs.Search.{AddsEdges, IsEdgeFault, IsSound, call_fault};
+ghost use Rattle.flow_graph.specs.Sites.{IsRefused, all_edges, done_edges, done_refusal, edge_to, refusal};
+ghost use Rattle.flow_graph.specs.Sites.{writer_places, writer_refusal};
 
 use crate::call_list::Calls;
 use crate::edges::{Edge, Label};
@@ -57,10 +56,7 @@ fn push_do(out: &mut Vec<Edge>, site: &Site, to: Place) -> Result<(), BuildFault
     requires work { IsWork site.now.action.work }
     requires to { IsInSpace to }
     ensures ok { OnOk result
-        (out.new.items
-        ≡ out.old.items
-        ++ do_edge site.now.statement.now site.now.profile.now site.now.calls site.now.address
-        site.now.action to ∷ []) }
+        (out.new.items ≡ out.old.items ++ edge_to site.now to ∷ []) }
     ensures err { IfErr result (λ fault. fault ≡ BuildFault.Memory) }
 {
     out.push(Edge {
@@ -77,12 +73,7 @@ fn push_landing(out: &mut Vec<Edge>, site: &Site, landing: &Landing) -> Result<(
     requires work { IsWork site.now.action.work }
     requires to { All (λ a. a < SPACE_END) landing.now.to.now }
     ensures ok { OnOk result
-        (out.new.items
-        ≡ out.old.items
-        ++ map
-        (do_edge site.now.statement.now site.now.profile.now site.now.calls site.now.address
-        site.now.action)
-        (places_at landing.now.calls landing.now.to.now)) }
+        (out.new.items ≡ out.old.items ++ map (edge_to site.now) (places_at landing.now.calls landing.now.to.now)) }
     ensures err { IfErr result (λ fault. fault ≡ BuildFault.Memory) }
 {
     for address in landing.to {
@@ -97,15 +88,9 @@ fn push_call(out: &mut Vec<Edge>, site: &Site, to: &[u32]) -> Result<(), BuildFa
     requires work { IsWork site.now.action.work }
     requires to { All (λ a. a < SPACE_END) to.now }
     ensures ok { OnOk result
-        (out.new.items
-        ≡ out.old.items
-        ++ map
-        (do_edge site.now.statement.now site.now.profile.now site.now.calls site.now.address
-        site.now.action)
-        (call_places site.now.calls site.now.address to.now)) }
+        (out.new.items ≡ out.old.items ++ map (edge_to site.now) (call_places site.now.calls site.now.address to.now)) }
     ensures sound { OnOk result (call_fault site.now.calls ≡ None) }
-    ensures err { IfErr result
-        (λ fault. (fault ≡ BuildFault.Memory) ⊎ (call_fault site.now.calls ≡ Some fault)) }
+    ensures err { IfErr result (IsRefused (call_fault site.now.calls)) }
 {
     match site.calls.with(site.address) {
         Some(calls) => push_landing(out, site, &Landing { calls, to }),
@@ -129,18 +114,9 @@ fn push_writer(out: &mut Vec<Edge>, site: &Site) -> Result<(), BuildFault>
     requires address { site.now.address < SPACE_END }
     requires work { IsWork site.now.action.work }
     ensures ok { OnOk result
-        (out.new.items
-        ≡ out.old.items
-        ++ map
-        (do_edge site.now.statement.now site.now.profile.now site.now.calls site.now.address
-        site.now.action)
-        (writer_landings site.now.calls site.now.address
-        (target_of site.now.statement.now site.now.address))) }
-    ensures sound { OnOk result
-        (writer_fault site.now.calls (target_of site.now.statement.now site.now.address) ≡ None) }
-    ensures err { IfErr result
-        (λ fault. (fault ≡ BuildFault.Memory)
-        ⊎ (writer_fault site.now.calls (target_of site.now.statement.now site.now.address) ≡ Some fault)) }
+        (out.new.items ≡ out.old.items ++ map (edge_to site.now) (writer_places site.now)) }
+    ensures sound { OnOk result (writer_refusal site.now ≡ None) }
+    ensures err { IfErr result (IsRefused (writer_refusal site.now)) }
 {
     let Some(target) = site.statement.target_at(site.address) else {
         return push_do(out, site, return_place(&site.calls));
@@ -161,16 +137,9 @@ fn push_done(out: &mut Vec<Edge>, site: &Site) -> Result<(), BuildFault>
     requires address { site.now.address < SPACE_END }
     requires work { IsWork site.now.action.work }
     ensures ok { OnOk result
-        (out.new.items
-        ≡ out.old.items
-        ++ landing_edges site.now.statement.now site.now.profile.now site.now.calls site.now.address
-        site.now.action) }
-    ensures sound { OnOk result
-        (kind_fault site.now.statement.now site.now.calls site.now.address site.now.action.kind ≡ None) }
-    ensures err { IfErr result
-        (λ fault. (fault ≡ BuildFault.Memory)
-        ⊎ (kind_fault site.now.statement.now site.now.calls site.now.address site.now.action.kind
-        ≡ Some fault)) }
+        (out.new.items ≡ out.old.items ++ done_edges site.now) }
+    ensures sound { OnOk result (done_refusal site.now ≡ None) }
+    ensures err { IfErr result (IsRefused (done_refusal site.now)) }
 {
     let address = site.address;
     match site.action.kind {
@@ -194,16 +163,9 @@ fn push_word(out: &mut Vec<Edge>, site: &Site) -> Result<(), BuildFault>
     requires address { site.now.address < SPACE_END }
     requires work { IsWork site.now.action.work }
     ensures ok { OnOk result
-        (out.new.items
-        ≡ out.old.items
-        ++ word_edges site.now.statement.now site.now.profile.now site.now.calls site.now.address
-        site.now.action) }
-    ensures sound { OnOk result
-        (action_fault site.now.statement.now site.now.calls site.now.address site.now.action ≡ None) }
-    ensures err { IfErr result
-        (λ fault. (fault ≡ BuildFault.Memory)
-        ⊎ (action_fault site.now.statement.now site.now.calls site.now.address site.now.action
-        ≡ Some fault)) }
+        (out.new.items ≡ out.old.items ++ all_edges site.now) }
+    ensures sound { OnOk result (refusal site.now ≡ None) }
+    ensures err { IfErr result (IsRefused (refusal site.now)) }
 {
     if !site.action.cond.is_always() {
         push_skip(out, site)?;
