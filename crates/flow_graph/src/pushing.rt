@@ -73,7 +73,8 @@ fn push_landing(out: &mut Vec<Edge>, site: &Site, landing: &Landing) -> Result<(
     requires work { IsWork site.now.action.work }
     requires to { All (λ a. a < SPACE_END) landing.now.to.now }
     ensures ok { OnOk result
-        (out.new.items ≡ out.old.items ++ map (edge_to site.now) (places_at landing.now.calls landing.now.to.now)) }
+        (out.new.items ≡ out.old.items ++ map (edge_to site.now)
+        (places_at landing.now.calls landing.now.to.now)) }
     ensures err { IfErr result (λ fault. fault ≡ BuildFault.Memory) }
 {
     for address in landing.to {
@@ -88,7 +89,8 @@ fn push_call(out: &mut Vec<Edge>, site: &Site, to: &[u32]) -> Result<(), BuildFa
     requires work { IsWork site.now.action.work }
     requires to { All (λ a. a < SPACE_END) to.now }
     ensures ok { OnOk result
-        (out.new.items ≡ out.old.items ++ map (edge_to site.now) (call_places site.now.calls site.now.address to.now)) }
+        (out.new.items ≡ out.old.items ++ map (edge_to site.now)
+        (call_places site.now.calls site.now.address to.now)) }
     ensures sound { OnOk result (call_fault site.now.calls ≡ None) }
     ensures err { IfErr result (IsRefused (call_fault site.now.calls)) }
 {
