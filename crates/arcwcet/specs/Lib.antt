@@ -1,7 +1,7 @@
 pub mod Asked
 pub mod FileTexts
 pub mod Files
-pub mod ReadFailures
+pub mod FileFaults
 pub mod Run
 pub mod Store
 pub mod Visits

@@ -16,7 +16,7 @@ pub enum StoreFault {
 
 /// Why a file cannot be read.
 #[derive(Clone, Copy, Debug, PartialEq, Eq, Drop, Error)]
-pub enum ReadFailure {
+pub enum FileFault {
     /// No file has the name.
     #[error("no such file")]
     NotFound,

@@ -5,11 +5,11 @@ ghost use Rattle.std.specs.IoError.{error_kind};
 ghost use Rattle.command_line.specs.Line.{names_of};
 ghost use Rattle.arcwcet.specs.Files.{FailsToRead, Reading, ReadsAll, Writing, in_front, three_of, two_of};
 ghost use Rattle.arcwcet.specs.FileTexts.{kept_three, kept_two, lent_three, lent_two};
-ghost use Rattle.arcwcet.specs.ReadFailures.{failure_of};
+ghost use Rattle.arcwcet.specs.FileFaults.{file_fault_of};
 ghost use Rattle.arcwcet.specs.Store.{bytes_read};
 ghost use Rattle.arcwcet.specs.declared.fault.StoreFault.{StoreFault};
 
-use crate::fault::{ReadFailure, StoreFault};
+use crate::fault::{FileFault, StoreFault};
 use command_line::Names;
 use std::alloc::Global;
 use std::io::{ErrorKind, Read, Write};
@@ -36,8 +36,8 @@ pub trait Store {
 
     /// Why the file cannot be read, as far as the store can tell: for a message, after a read that was
     /// refused with `Device`. No contract says what it answers, since files may change meanwhile.
-    fn failure(&self, _name: &str) -> ReadFailure {
-        ReadFailure::Other
+    fn file_fault(&self, _name: &str) -> FileFault {
+        FileFault::Other
     }
 }
 
@@ -75,10 +75,10 @@ impl<R: Files> Store for HostStore<'_, R> {
         }
     }
 
-    fn failure(&self, name: &str) -> ReadFailure {
+    fn file_fault(&self, name: &str) -> FileFault {
         match read_byte(self.rt, name) {
-            Ok(()) => ReadFailure::Other,
-            Err(error) => failure_of(error),
+            Ok(()) => FileFault::Other,
+            Err(error) => file_fault_of(error),
         }
     }
 }
@@ -91,14 +91,14 @@ fn read_byte<R: Files>(rt: &R, name: &str) -> io::Result<()> {
     Ok(())
 }
 
-fn failure_of(error: io::Error) -> ReadFailure
-    ensures { result ≡ failure_of (error_kind error) }
+fn file_fault_of(error: io::Error) -> FileFault
+    ensures { result ≡ file_fault_of (error_kind error) }
 {
     match error.kind() {
-        ErrorKind::NotFound => ReadFailure::NotFound,
-        ErrorKind::PermissionDenied => ReadFailure::PermissionDenied,
-        ErrorKind::IsADirectory => ReadFailure::IsADirectory,
-        _ => ReadFailure::Other,
+        ErrorKind::NotFound => FileFault::NotFound,
+        ErrorKind::PermissionDenied => FileFault::PermissionDenied,
+        ErrorKind::IsADirectory => FileFault::IsADirectory,
+        _ => FileFault::Other,
     }
 }
 

@@ -19,7 +19,7 @@ pub use bound_reports::{
 };
 pub use commands::program;
 pub use explained::Bursts;
-pub use fault::{ReadFailure, StoreFault};
+pub use fault::{FileFault, StoreFault};
 pub use files::{HostStore, LIMIT, Store, read_limited};
 pub use law::{some_run_has_visits, some_run_keeps};
 pub use machine_file::{MachineFile, read_machine, read_profile};

@@ -63,8 +63,8 @@ fn print_unread<S: Store, E: Output>(name: &str, fault: StoreFault, store: &S, e
     match fault {
         StoreFault::Memory => {}
         StoreFault::Device => {
-            let failure = store.failure(name);
-            let _ = writeln!(text, "{name}: {failure}");
+            let why = store.file_fault(name);
+            let _ = writeln!(text, "{name}: {why}");
         }
         StoreFault::InputTooLong => {
             let _ = writeln!(text, "{name}: more than {LIMIT} bytes");

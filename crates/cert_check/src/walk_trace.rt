@@ -10,7 +10,7 @@ use crate::handler::Handler;
 use crate::index::Index;
 use crate::walker::{Round, Walker};
 use certificate::{CertItem, StepLine, To};
-use flow_graph::{Edge, Graph, Place};
+use flow_graph::{Edge, Graph, MOST_ROUNDS, Place};
 use loop_bounds::LoopTree;
 use numbered_walks::Span;
 use walk_counts::{holds, is_same_label};
@@ -103,7 +103,7 @@ fn begin(
         (CannotBegin index.now.headers.items walker.now levels count (length body.now))
         (Begins index.now.headers.items walker.now levels count (length body.now)) }
 {
-    if levels == 0 || count == 0 || count > 1_048_576 || body.is_empty() {
+    if levels == 0 || count == 0 || count > MOST_ROUNDS || body.is_empty() {
         return None;
     }
     match index.headers[walker.number] {

@@ -19,10 +19,11 @@ use crate::numbers::decimal_at;
 use crate::splitting::{after_front, cut_at};
 use crate::walk::StepLine;
 use bus_ticks::Profile;
+use flow_graph::MOST_ROUNDS;
 use longest_walk::{InstanceRow, PlaceRow};
 
-// How often the body of a repeat is taken at most.
-const MOST_TURNS: u64 = 1_048_576;
+// How often the body of a repeat is taken at most: as often as a loop turns back.
+const MOST_TURNS: u64 = MOST_ROUNDS as u64;
 
 fn title_at(words: &[u8]) -> Option<Version>
     ensures { MatchOption result ((v : Version) → words.now ≡ title_words v → ⊥)
@@ -44,8 +45,8 @@ fn bound_at(words: &[u8]) -> Option<u64>
 
 fn repeat_at(words: &[u8]) -> Option<u32>
     ensures { MatchOption result
-        ((k : ℕ) → 0 < k → k ≤ 1048576 → words.now ≡ codes "repeat " ++ decimal k → ⊥)
-        (λ k. (0 < k) × (k ≤ 1048576) × (words.now ≡ codes "repeat " ++ decimal k)) }
+        ((k : ℕ) → 0 < k → k ≤ MOST_TURNS → words.now ≡ codes "repeat " ++ decimal k → ⊥)
+        (λ k. (0 < k) × (k ≤ MOST_TURNS) × (words.now ≡ codes "repeat " ++ decimal k)) }
 {
     let count = decimal_at(after_front(words, b"repeat ")?)?;
     if count == 0 {

@@ -4,13 +4,11 @@ use crate::ways::before;
 use crate::words::{Way, changed, reading_at};
 use arm2_decode::{Cond, DataImmediate, Opcode, Operation, Register};
 use loader::Image;
+use statement::MOST_ROUNDS;
 use word_shapes::instr_at;
 
 // How many words before a loop are looked at for the one that sets its counter.
 const WORDS_BEFORE: u32 = 16;
-
-// The most rounds of a stated loop.
-const MOST_TURNS: u32 = 1_048_576;
 
 /// The number of an immediate operand.
 pub(crate) fn immediate(x: &DataImmediate) -> u32 {
@@ -100,7 +98,7 @@ fn is_written_elsewhere(
 
 // How often a loop turns back whose counter begins with a number.
 fn turns_of(n: u32) -> Option<u32> {
-    if 1 <= n && n <= MOST_TURNS {
+    if 1 <= n && n <= MOST_ROUNDS {
         Some(n - 1)
     } else {
         None

@@ -4,10 +4,8 @@ use crate::found_loop::FoundLoop;
 use crate::paths::{Descent, descend};
 use crate::reach::{Reached, pairs_at};
 use loader::Image;
+use statement::MOST_LOOPS;
 use std::alloc::{AllocError, Global};
-
-// The most loops of a statement.
-const MOST_LOOPS: usize = 256;
 
 /// The loops, outer ones before those inside them, and the addresses to which cycles turn back that no loop
 /// bounds.

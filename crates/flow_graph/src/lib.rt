@@ -31,5 +31,7 @@ pub use free::is_free;
 pub use law::{run_law, step_law, tight_law};
 pub use places::{Place, order_of_places};
 pub use search::MOST_PLACES;
-pub use statement::{Loop, Statement, StatementFault, Target, TargetKind, read_statement};
+pub use statement::{
+    Loop, MOST_ROUNDS, Statement, StatementFault, Target, TargetKind, read_statement,
+};
 pub use tight::{Tight, TightFault, tight_state};
