@@ -4,7 +4,7 @@ ghost use Rattle.diagnosis.specs.Outline.{all_taken, bare_word, closed, opened, 
 ghost use Rattle.diagnosis.specs.Outline.{table_of, taken, value_of, valued};
 
 use crate::tokens::{Token, Word, bare_front, next_token};
-use asm_text::first_line;
+use asm_text::{after_blanks, first_line};
 use std::alloc::{AllocError, Global};
 
 /// Where a table of a statement's text begins.
