@@ -6,7 +6,7 @@ use Rattle.flow_graph.specs.declared.faults.BuildFault.{BuildFault}
 use Rattle.flow_graph.specs.declared.faults.BuildFault.TheVariants.{Memory}
 use Rattle.flow_graph.specs.declared.places.Place.{Place}
 use Rattle.flow_graph.specs.declared.pushing.Site.{Site}
-use Rattle.flow_graph.specs.Edges.{call_places, do_edge, landing_edges, word_edges, writer_landings}
+use Rattle.flow_graph.specs.Edges.{do_edge, landing_edges, word_edges, writer_landings}
 use Rattle.flow_graph.specs.Search.{action_fault, kind_fault, writer_fault}
 
 module _ (site : Site) where

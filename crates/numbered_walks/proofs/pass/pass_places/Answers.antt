@@ -1,4 +1,4 @@
-use Rattle.std.proofs.Common.{◌≡◌, ◌<◌, ◌≤◌, arith, subst}
+use Rattle.std.proofs.Common.{◌≡◌, arith, subst}
 use Rattle.numbered_walks.specs.Tables.{IsPassed}
 use Rattle.numbered_walks.proofs.pass.pass_places.Goals as goal
 
