@@ -35,6 +35,14 @@ span_of x base k = record { lowest = lowest_of x base k; words = k; base = moved
 abbrev pub mode_for : Block → Mode → Mode
 mode_for x mode = if x.user && not (x.load && is_listed x.list R15) then User else mode
 
+-- the same, of some registers
+abbrev pub mode_in : Block → List ℕ → Mode
+mode_in x regs = mode_for x (mode_of (r15_in regs))
+
+-- some registers with the base written back
+abbrev pub written_back : Block → Span → List ℕ → List ℕ
+written_back x span regs = with_base x.write_back (mode_of (r15_in regs)) x.rn span.base regs
+
 -- the words of some moves, from the registers of a mode
 abbrev pub all_put : Mode → List ℕ → List Move → Bus → Bus
 all_put mode regs [] bus = bus
@@ -72,13 +80,12 @@ block_loads x span port moves regs bus =
 -- a store
 unfoldable pub block_stores : Block → Span → List Move → List ℕ → Bus → Moved
 block_stores x span moves regs bus =
-    let r = r15_in regs in
-    let after = with_base x.write_back (mode_of r) x.rn span.base regs in
+    let after = written_back x span regs in
     record {
       kind = Plain;
-      accesses = store_accesses (address_of r) span.lowest span.words;
+      accesses = store_accesses (address_of (r15_in regs)) span.lowest span.words;
       regs = passed after;
-      bus = block_put (mode_for x (mode_of r)) regs after moves bus;
+      bus = block_put (mode_in x regs) regs after moves bus;
     }
 
 -- a transfer whose words are at hand

@@ -1,14 +1,13 @@
 ghost use Rattle.std.specs.Prelude.{◌≡◌, true, false, ◌+◌, ◌*◌, ◌<◌, ◌≤◌, ◌^◌, length};
-ghost use Rattle.bus_ticks.specs.declared.space.TheConstants.{SPACE_END};
 ghost use Rattle.arm2_effect.specs.Effects.{is_stopped, ticks_of};
 ghost use Rattle.arm2_effect.specs.Modes.{r15_in, register_in};
 ghost use Rattle.arm2_transfer.specs.Words.{AllFit, is_listed, registers_in, moves_along};
 ghost use Rattle.arm2_transfer.specs.Moved.{ChangesNothing, IsMoved, load_accesses};
 ghost use Rattle.arm2_effect.specs.ProgramCounter.{address_of, mode_of};
 ghost use Rattle.arm2_transfer.specs.Registers.{passed, with_base};
-ghost use Rattle.arm2_transfer.specs.Block.{lowest_of, span_of, mode_for, all_put, block_put, all_loaded};
-ghost use Rattle.arm2_transfer.specs.Block.{block_loads, block_stores, block_carried_out, block_at};
-ghost use Rattle.arm2_transfer.specs.Block.{block_moved};
+ghost use Rattle.arm2_transfer.specs.Block.{all_loaded, all_put, block_at, block_loads, block_moved};
+ghost use Rattle.arm2_transfer.specs.Block.{block_put, block_stores, lowest_of, mode_for, mode_in, span_of};
+ghost use Rattle.arm2_transfer.specs.Block.{written_back};
 
 use crate::bus::{Bus, put, see};
 use crate::inputs::Inputs;
@@ -19,6 +18,7 @@ use crate::span::Span;
 use crate::words::{Move, count, is_listed, locate_block, split_lowest};
 use arm2_decode::{Block, Register};
 use arm2_effect::{Done, Kind, Mode, Prices, Reg, Registers, Vector, address_of, mode_of};
+use bus_ticks::SPACE_END;
 use memc::Spot;
 
 fn lowest(transfer: &Block, base: u32, words: u32) -> u32
@@ -103,13 +103,9 @@ fn accesses(block: PlacedBlock, from: u32) -> Accesses
 fn put_block(registers: &mut Registers, bus: &mut Bus, block: PlacedBlock, moves: &[Move])
     requires { AllFit bus.old.memc.shift moves.now }
     ensures bus { bus.new
-        ≡ block_put (mode_for block.transfer (mode_of (r15_in registers.old))) registers.old
-        (with_base block.transfer.write_back (mode_of (r15_in registers.old)) block.transfer.rn
-        block.span.base registers.old)
-        moves.now bus.old }
-    ensures registers { registers.new
-        ≡ with_base block.transfer.write_back (mode_of (r15_in registers.old)) block.transfer.rn
-        block.span.base registers.old }
+        ≡ block_put (mode_in block.transfer registers.old) registers.old
+        (written_back block.transfer block.span registers.old) moves.now bus.old }
+    ensures registers { registers.new ≡ written_back block.transfer block.span registers.old }
 {
     let (transfer, base) = (block.transfer, block.span.base);
     let own = mode_of(registers.get(Reg::R15));
@@ -132,13 +128,10 @@ fn put_run(registers: &mut Registers, bus: &mut Bus, block: PlacedBlock, place: 
     requires fit { place + 4 * length (registers_in block.transfer.list) ≤ 128 * 2 ^ bus.old.memc.shift }
     requires room { place + 4 * length (registers_in block.transfer.list) ≤ 2 ^ 22 }
     ensures bus { bus.new
-        ≡ block_put (mode_for block.transfer (mode_of (r15_in registers.old))) registers.old
-        (with_base block.transfer.write_back (mode_of (r15_in registers.old)) block.transfer.rn
-        block.span.base registers.old)
+        ≡ block_put (mode_in block.transfer registers.old) registers.old
+        (written_back block.transfer block.span registers.old)
         (moves_along place (registers_in block.transfer.list)) bus.old }
-    ensures registers { registers.new
-        ≡ with_base block.transfer.write_back (mode_of (r15_in registers.old)) block.transfer.rn
-        block.span.base registers.old }
+    ensures registers { registers.new ≡ written_back block.transfer block.span registers.old }
 {
     let (transfer, base) = (block.transfer, block.span.base);
     let own = mode_of(registers.get(Reg::R15));
@@ -155,7 +148,7 @@ fn begin_load(registers: &mut Registers, block: PlacedBlock) -> Loading
     ensures loading { result
         ≡ (record {
           psr = block.transfer.user;
-          mode = mode_for block.transfer (mode_of (r15_in registers.old));
+          mode = mode_in block.transfer registers.old;
           r15 = r15_in registers.old;
         }) }
     ensures registers { registers.new
@@ -322,7 +315,7 @@ fn block_at(registers: &mut Registers, bus: &mut Bus, inputs: &Inputs, block: Pl
         → ChangesNothing result registers.old registers.new bus.old bus.new }
 {
     let (span, load) = (block.span, block.transfer.load);
-    if span.lowest >= 0x400_0000 {
+    if span.lowest >= SPACE_END {
         return registers.take(&inputs.prices, Vector::AddressException);
     }
     let user = is_user(mode_of(registers.get(Reg::R15)));

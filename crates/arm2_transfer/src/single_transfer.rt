@@ -1,5 +1,4 @@
 ghost use Rattle.std.specs.Prelude.{◌≡◌, true, false, ◌<◌, ◌^◌};
-ghost use Rattle.bus_ticks.specs.declared.space.TheConstants.{SPACE_END};
 ghost use Rattle.memc.specs.Memory.{Fits};
 ghost use Rattle.arm2_effect.specs.Effects.{is_stopped};
 ghost use Rattle.arm2_transfer.specs.Moved.{ChangesNothing, IsMoved};
@@ -15,6 +14,7 @@ use crate::single_fields::Single;
 use crate::words::locate_word;
 use arm2_decode::{SingleImmediate, SingleRegister};
 use arm2_effect::{Done, Prices, Reg, Registers, Vector, address_of, mode_of};
+use bus_ticks::SPACE_END;
 use memc::Spot;
 
 // A single transfer and its base, as it was before.
@@ -119,7 +119,7 @@ fn single_at(
 {
     let transfer = single.transfer;
     let address = transfer.address(single.base);
-    if address >= 0x400_0000 {
+    if address >= SPACE_END {
         return registers.take(&inputs.prices, Vector::AddressException);
     }
     let user = transfer.has_user_rights(mode_of(registers.get(Reg::R15)));

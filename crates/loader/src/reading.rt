@@ -12,6 +12,7 @@ ghost use Rattle.loader.specs.Spelling.{Spell};
 use crate::gap::Entry;
 use crate::image::{Image, ImageFault};
 use crate::places::{MOST_SEGMENTS, MOST_WORDS, lies_in_memory, may_hold};
+use bus_ticks::SPACE_END;
 use byteorder::{ByteOrder, LittleEndian};
 use std::alloc::Global;
 use std::collections::VecDeque;
@@ -119,7 +120,7 @@ fn above_stand_in(words: &VecDeque<Entry>, from: u32, to: u32) -> bool
 impl Image {
     // Whether there is a word at one of `count` addresses of words.
     fn overlaps(&self, address: u32, count: u32) -> bool
-        requires inside { address + 4 * count ≤ 0x400_0000 }
+        requires inside { address + 4 * count ≤ SPACE_END }
         ensures { result ≡ overlaps self.now address count }
     {
         let end = address + 4 * count;
