@@ -10,7 +10,7 @@ use thiserror::Error;
 #[derive(Clone, Copy, Debug, Drop, Error)]
 pub(crate) enum CaseFault {
     #[error("cannot be read: {0}")]
-    File(StoreFault),
+    File(#[from] StoreFault),
     #[error("its words are no text")]
     Words,
     #[error("its status is no number")]
@@ -20,12 +20,6 @@ pub(crate) enum CaseFault {
 impl From<AllocError> for CaseFault {
     fn from(_refused: AllocError) -> CaseFault {
         CaseFault::File(StoreFault::Memory)
-    }
-}
-
-impl From<StoreFault> for CaseFault {
-    fn from(fault: StoreFault) -> CaseFault {
-        CaseFault::File(fault)
     }
 }
 

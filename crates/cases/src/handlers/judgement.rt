@@ -14,9 +14,9 @@ use thiserror::Error;
 #[derive(Clone, Copy, Debug, Drop, Error)]
 pub(crate) enum HandlerFault {
     #[error("unread: {0}")]
-    Files(StoreFault),
+    Files(#[from] StoreFault),
     #[error("refused: {0}")]
-    Report(ReportFault),
+    Report(#[from] ReportFault),
     #[error("unknown report")]
     Text,
 }
@@ -24,18 +24,6 @@ pub(crate) enum HandlerFault {
 impl From<AllocError> for HandlerFault {
     fn from(_refused: AllocError) -> HandlerFault {
         HandlerFault::Report(ReportFault::Memory)
-    }
-}
-
-impl From<StoreFault> for HandlerFault {
-    fn from(fault: StoreFault) -> HandlerFault {
-        HandlerFault::Files(fault)
-    }
-}
-
-impl From<ReportFault> for HandlerFault {
-    fn from(fault: ReportFault) -> HandlerFault {
-        HandlerFault::Report(fault)
     }
 }
 
