@@ -1,7 +1,7 @@
 -- Instances that cross.
 use Rattle.std.proofs.Common.{◌≡◌, ℕ, true, false, List, refl, sym, ap, ◌∙◌, subst}
 use Rattle.std.specs.Prelude.{Contains, not}
-use Rattle.std.proofs.lemmas.Bool.{and_from, and_parts, false≢true}
+use Rattle.std.proofs.lemmas.Bool.{and_from, and_parts, false≢true, not-true}
 use Rattle.flow_graph.specs.declared.places.Place.{Place}
 use Rattle.flow_graph.specs.declared.places.Place.TheVariants.{At}
 use Rattle.flow_graph.specs.Flow.{Flow}
@@ -13,7 +13,6 @@ use Rattle.loop_bounds.specs.Nest.{HasCrossing, HasOwn}
 use Rattle.loop_bounds.proofs.CrossFacts.{crossing_list}
 use Rattle.diagnosis.specs.declared.crossings.Crossing.{Crossing}
 use Rattle.diagnosis.specs.Crossings.{AreApart, CrossNone, CrossNoneAt, HasShared, IsCrossing, ShowsCrossing, is_own, is_shared}
-use Rattle.diagnosis.proofs.EntryLemmas.{not_true}
 
 module _ (flow : Flow) where
   -- what is found of two instances
@@ -22,7 +21,7 @@ module _ (flow : Flow) where
     place = p;
     has = has;
     member = (and_parts (is_member i p) (not (is_member j p)) is).0;
-    other = not_true (is_member j p) (and_parts (is_member i p) (not (is_member j p)) is).1;
+    other = not-true (is_member j p) (and_parts (is_member i p) (not (is_member j p)) is).1;
   }
 
   pub shows : (one other : Found) (shared own others : Place) → Contains flow.places shared → is_shared (found_instance one) (found_instance other) shared ≡ true

@@ -2,7 +2,7 @@
 use Rattle.std.proofs.Common.{◌≡◌, ℕ, zero, suc, Bool, false, true, cond, List, [], ◌∷◌, ◌+◌, ◌<◌, ◌≤◌, length, get_or, Option, Some, None, refl, sym, ap, ◌∙◌, subst, inl, inr, ⊎_elim, arith}
 use Rattle.std.specs.Prelude.{Contains, not}
 use Rattle.std.specs.List.{find}
-use Rattle.std.proofs.lemmas.Bool.{and_parts, and_from, cases_lt, false≢true}
+use Rattle.std.proofs.lemmas.Bool.{and_parts, and_from, cases_lt, false≢true, not-true}
 use Rattle.std.proofs.lemmas.List.{get_or_default}
 use Rattle.flow_graph.specs.declared.places.Place.{Place}
 use Rattle.flow_graph.specs.declared.places.Place.TheVariants.{At, Exit}
@@ -29,16 +29,12 @@ find_none {X} p (y ∷ ys) x none (suc j, lt, same) =
       | false ↦ λ fails found. find_none p ys x found (j, omega (arith, lt), same)
     ] refl none
 
-pub not_true : (b : Bool) → not b ≡ true → b ≡ false
-not_true false is = refl
-not_true true is = absurd (false≢true is)
-
 -- what a place is that is entered so
 pub entered_parts : (flow : Flow) (i : Instance) (place : Place) (edge : Option Edge) → IsMidOf flow i place edge → (is_mid i place ≡ true) × IsEnteredBy flow i place edge
 entered_parts flow i place None mid = (mid.1, mid.0)
 entered_parts flow i place (Some e) mid =
     let parts = and_parts (is_mid i e.to) (not (is_member i e.from)) mid.2 in
-    (subst (λ (p : Place). is_mid i p ≡ true) mid.1 parts.0, (mid.0, mid.1, not_true (is_member i e.from) parts.1))
+    (subst (λ (p : Place). is_mid i p ≡ true) mid.1 parts.0, (mid.0, mid.1, not-true (is_member i e.from) parts.1))
 
 is_entered : (flow : Flow) (i : Instance) (place : Place) (edge : Option Edge) → IsEnteredBy flow i place edge → IsEntered flow i place
 is_entered flow i place None at = inl at
@@ -63,7 +59,7 @@ mid_of flow loops well_formed i is place edge mid =
         place = place;
         has = is_place flow well_formed i place edge parts.0 at.1;
         member = parts.0;
-        no_header = not_true (is_header i place) parts.1;
+        no_header = not-true (is_header i place) parts.1;
         entered = is_entered flow i place edge at.1;
       },
       refl,

@@ -3,7 +3,7 @@ use Rattle.std.proofs.Common.{◌≡◌, ◌≤◌, ◌-◌, ◌+◌, ◌||◌, 
 use Rattle.std.specs.Prelude.{not}
 use Rattle.std.specs.List.{list_all, prefix_len}
 use Rattle.std.proofs.Math.Seq.{drop-append-add, drop-append_seam, take-append_seam}
-use Rattle.std.proofs.lemmas.Bool.{and_from, and_parts}
+use Rattle.std.proofs.lemmas.Bool.{and_from, and_parts, not-true}
 use Rattle.std.proofs.lemmas.List.{length-append}
 use Rattle.std.proofs.lemmas.List.Folds.{list_all-append}
 use Rattle.asm_text.specs.Pieces.{is_blank}
@@ -21,10 +21,6 @@ or_false : (x y : Bool) → (x || y) ≡ false → (x ≡ false) × (y ≡ false
 or_false false y h = (refl, h)
 or_false true y h = cc
 
-not_true : (x : Bool) → not x ≡ true → x ≡ false
-not_true false h = refl
-not_true true h = cc
-
 -- what a byte of a word is not
 record BareByte (b : ℕ) : Type 0 where
   gap : is_gap b ≡ false
@@ -39,7 +35,7 @@ bare_byte b h =
     let two = not_or (is_quote b) (b == 123 || (b == 125 || b == 35)) one.1 in
     let three = not_or (b == 123) (b == 125 || b == 35) two.1 in
     let four = not_or (b == 125) (b == 35) three.1 in
-    record { gap = one.0; quote = two.0; opens = three.0; closes = four.0; comment = not_true (b == 35) four.1 }
+    record { gap = one.0; quote = two.0; opens = three.0; closes = four.0; comment = not-true (b == 35) four.1 }
 
 record NoGap (b : ℕ) : Type 0 where
   blank : is_blank b ≡ false
@@ -117,7 +113,7 @@ quotable b h =
     let one = not_or (b == 34) (b == 92 || (b == 10 || b == 13)) h in
     let two = not_or (b == 92) (b == 10 || b == 13) one.1 in
     let three = not_or (b == 10) (b == 13) two.1 in
-    record { quote = one.0; escape = two.0; feed = three.0; return = not_true (b == 13) three.1 }
+    record { quote = one.0; escape = two.0; feed = three.0; return = not-true (b == 13) three.1 }
 
 quoted_text : (w : List ℕ) → list_all is_quotable w ≡ true → quoted_len 34 false (w ++ 34 ∷ []) ≡ length w
 unfolding quoted_len
@@ -189,7 +185,7 @@ first_ends [] rest h = refl
 first_ends (b ∷ text) rest h =
     let parts = and_parts (goes_on b) (list_all goes_on text) h in
     let here = and_parts (not (b == 10)) (not (b == 13)) parts.0 in
-    rw (not_true (b == 10) here.0, not_true (b == 13) here.1) (ap (in_front b) (first_ends text rest parts.1))
+    rw (not-true (b == 10) here.0, not-true (b == 13) here.1) (ap (in_front b) (first_ends text rest parts.1))
 
 plain_goes_on : (w : List ℕ) → list_all is_plain w ≡ true → list_all goes_on w ≡ true
 plain_goes_on [] h = refl

@@ -1,9 +1,8 @@
 -- One piece more of a text, and one number more of a sum.
-use Rattle.std.proofs.Common.{◌≡◌, ◌∙◌, ℕ, zero, suc, ◌+◌, ◌-◌, ◌^◌, ◌<◌, ◌≤◌, List, [], ◌∷◌, ◌++◌, append-nil, append_assoc, length, drop, get_or, flat_map, replicate, sym, ap, arith}
+use Rattle.std.proofs.Common.{◌≡◌, ◌∙◌, ℕ, zero, suc, ◌+◌, ◌-◌, ◌^◌, ◌<◌, ◌≤◌, List, [], ◌∷◌, ◌++◌, append-nil, append_assoc, length, drop, flat_map, replicate, sym, ap, arith}
 use Rattle.std.specs.Prelude.{sum_by}
 use Rattle.std.specs.List.{range_with_len}
 use Rattle.std.proofs.Math.ListN.{drop_of_length-le}
-use Rattle.std.proofs.lemmas.List.{drop_more}
 use Rattle.std.proofs.lemmas.List.Concat.{flat_map-cons}
 use Rattle.std.proofs.lemmas.List.Sums.{sum_by-cons}
 use Rattle.assembler.proofs.PutLaws.{joined, three}
@@ -56,10 +55,6 @@ pub piece_more : {X : Type 0} (f : X → List ℕ) (x : X) (rest : List X) (text
 piece_more f x rest text new all h one =
     ap (λ xs. xs ++ flat_map f rest) one ∙ append_assoc text (f x) (flat_map f rest)
     ∙ ap (λ xs. text ++ xs) (sym (flat_map-cons f x rest)) ∙ h
-
-pub item_more : {X : Type 0} (f : X → List ℕ) (xs : List X) (i : ℕ) (d : X) (text new all : List ℕ) → text ++ flat_map f (drop i xs) ≡ all → i < length xs → new ≡ text ++ f (get_or xs i d) → new ++ flat_map f (drop (i + 1) xs) ≡ all
-item_more f xs i d text new all h lt one =
-    piece_more f (get_or xs i d) (drop (i + 1) xs) text new all (ap (λ ys. text ++ flat_map f ys) (sym (drop_more xs i d lt)) ∙ h) one
 
 pub items_end : {X : Type 0} (f : X → List ℕ) (xs : List X) (i : ℕ) (text all : List ℕ) → text ++ flat_map f (drop i xs) ≡ all → length xs ≤ i → text ≡ all
 items_end f xs i text all h le =

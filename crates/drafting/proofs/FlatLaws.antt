@@ -1,5 +1,5 @@
 -- Texts of one part after another.
-use Rattle.std.proofs.Common.{◌≡◌, ◌+◌, ◌-◌, ◌*◌, ◌<◌, ℕ, suc, List, [], ◌∷◌, ◌++◌, length, take, drop, arith, length-append, codes, sym, ap, replicate, subst, ◌∙◌, append_assoc, get_or}
+use Rattle.std.proofs.Common.{◌≡◌, ◌+◌, ◌-◌, ◌*◌, ℕ, suc, List, [], ◌∷◌, ◌++◌, length, take, arith, length-append, codes, ap, replicate, subst, ◌∙◌, append_assoc}
 use Rattle.arm2_effect.specs.ProgramCounter.{ahead_of}
 use Rattle.std.specs.Prelude.{Option}
 use Rattle.drafting.specs.Rows.{remark, row}
@@ -12,16 +12,7 @@ use Rattle.drafting.specs.declared.writers.FoundTarget.{FoundTarget}
 use Rattle.drafting.specs.Named.{Lines}
 use Rattle.std.specs.List.{flat_map}
 use Rattle.std.proofs.Math.Seq.{take-append-add}
-use Rattle.std.proofs.lemmas.List.{drop_more}
-
-pub flat_more : {X : Type 0} (f : X → List ℕ) (xs : List X) (i : ℕ) (d : X) (old new all : List ℕ)
-    → old ++ flat_map f (drop i xs) ≡ all → i < length xs → new ≡ old ++ f (get_or xs i d)
-    → new ++ flat_map f (drop (i + 1) xs) ≡ all
-flat_more f xs i d old new all h lt more =
-    let x = get_or xs i d in
-    let left : drop i xs ≡ x ∷ drop (i + 1) xs = drop_more xs i d lt in
-    let rest = flat_map f (drop (i + 1) xs) in
-    ap (λ t. t ++ rest) more ∙ append_assoc old (f x) rest ∙ ap (λ ys. old ++ flat_map f ys) (sym left) ∙ h
+use Rattle.assembler.proofs.PutLaws.{joined, three}
 
 -- the texts of words side by side
 pub words_more : (f : ℕ → List ℕ) (at next left after : ℕ) (old new all : List ℕ) → left ≡ suc after
@@ -39,16 +30,6 @@ blanks_more left after old new all is h0 more =
     let h = subst (λ n. old ++ replicate n 32 ≡ all) is h0 in
     ap (λ t. t ++ replicate after 32) more ∙ append_assoc old (32 ∷ []) (replicate after 32) ∙ h
 
-pub two_parts : (old front new one two : List ℕ) → front ≡ old ++ one → new ≡ front ++ two → new ≡ old ++ (one ++ two)
-two_parts old front new one two a b = b ∙ ap (λ t. t ++ two) a ∙ append_assoc old one two
-
-pub three_parts : (old p q new a b c : List ℕ) → p ≡ old ++ a → q ≡ p ++ b → new ≡ q ++ c → new ≡ old ++ (a ++ (b ++ c))
-three_parts old p q new a b c h1 h2 h3 = two_parts old p new a (b ++ c) h1 (two_parts p q new b c h2 h3)
-
-pub four_parts : (old p q r new a b c d : List ℕ) → p ≡ old ++ a → q ≡ p ++ b → r ≡ q ++ c → new ≡ r ++ d
-    → new ≡ old ++ (a ++ (b ++ (c ++ d)))
-four_parts old p q r new a b c d h1 h2 h3 h4 = two_parts old p new a (b ++ (c ++ d)) h1 (three_parts p q r new b c d h2 h3 h4)
-
 -- a row with the comment of its line as far as they fit
 pub row_ended : (line : Option SourceLine) (before text old mid cut new : List ℕ) (start end width room : ℕ)
     → old ≡ before ++ text → length before ≡ start → end ≡ length old → width ≡ end - start → room ≡ 80 - width
@@ -59,14 +40,14 @@ row_ended line before text old mid cut new start end width room is at ends wide 
     let shorter : cut ≡ old ++ take (80 - length text) (remark line) =
     cut_is ∙ ap (λ n. take (n + room) mid) ends ∙ ap (take (length old + room)) more
     ∙ take-append-add old (remark line) room ∙ ap (λ n. old ++ take n (remark line)) fits in
-    three_parts before old cut new text (take (80 - length text) (remark line)) (codes "\n") is shorter last
+    three before text (take (80 - length text) (remark line)) (codes "\n") is shorter last
 
 -- what is to be written of a word that writes R15
 pub way_whole : (lines : Lines) (at table branches : ℕ) (old front new : List ℕ) → table ≡ ahead_of at 8
     → front ≡ old ++ codes "kind = \"?\"  # \"jump\", \"call\", \"return\" or \"leave\"\n"
     → new ≡ front ++ destinations_text lines table branches → new ≡ old ++ way_text lines at branches
 way_whole lines at table branches old front new is a b =
-    two_parts old front new _ _ a (b ∙ ap (λ t. front ++ destinations_text lines t branches) is)
+    joined old front new _ _ a (b ∙ ap (λ t. front ++ destinations_text lines t branches) is)
 
 -- a loop, part by part
 pub loop_whole : (lines : Lines) (l : FoundLoop) (old p q r s t u new : List ℕ) → p ≡ old ++ codes "\n"
@@ -83,8 +64,8 @@ loop_whole lines l old p q r s t u new h1 h2 h3 h4 h5 h6 h7 =
     let e = place_text lines (2 * l.depth) (codes "first") l.first in
     let f = place_text lines (2 * l.depth) (codes "last") l.last in
     let g = bound_text (2 * l.depth) l.turns in
-    three_parts old p q new a b (c ++ (d ++ (e ++ (f ++ g)))) h1 h2
-    (three_parts q r s new c d (e ++ (f ++ g)) h3 h4 (three_parts s t u new e f g h5 h6 h7))
+    three old a b (c ++ (d ++ (e ++ (f ++ g)))) h1 h2
+    (three q c d (e ++ (f ++ g)) h3 h4 (three s e f g h5 h6 h7))
 
 -- a whole draft, part by part
 pub draft_whole : (lines : Lines) (entry : ℕ) (ends : List (ℕ × End)) (cycles : List ℕ) (accesses : List (ℕ × Class))
@@ -100,6 +81,6 @@ draft_whole lines entry ends cycles accesses loops targets old p q r s t new h1 
     let d = accesses_text lines accesses in
     let e = flat_map (loop_text lines) loops in
     let f = flat_map (target_text lines) targets in
-    two_parts old p new a (b ++ (c ++ (d ++ (e ++ f)))) h1
-    (two_parts p q new b (c ++ (d ++ (e ++ f))) h2
-    (two_parts q r new c (d ++ (e ++ f)) h3 (two_parts r s new d (e ++ f) h4 (two_parts s t new e f h5 h6))))
+    joined old p new a (b ++ (c ++ (d ++ (e ++ f)))) h1
+    (joined p q new b (c ++ (d ++ (e ++ f))) h2
+    (joined q r new c (d ++ (e ++ f)) h3 (joined r s new d (e ++ f) h4 (joined s t new e f h5 h6))))

@@ -1,5 +1,5 @@
 -- Rows of a draft: what a statement says, and beside it as a comment the line of the source.
-use Rattle.std.specs.Prelude.{ℕ, ◌-◌, ◌&&◌, nat_le, if◌then◌else◌, List, [], ◌∷◌, ◌++◌, length, map}
+use Rattle.std.specs.Prelude.{ℕ, ◌-◌, ◌&&◌, nat_le, if◌then◌else◌, List, [], ◌++◌, length, map}
 use Rattle.std.specs.Prelude.{take}
 use Rattle.std.specs.Prelude.{codes, decimal, Option, Some, None}
 use Rattle.text_rows.specs.Addresses.{labelled}

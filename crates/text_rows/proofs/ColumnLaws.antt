@@ -1,6 +1,7 @@
 -- Texts put in columns, and parts of a text put one after another.
-use Rattle.std.proofs.Common.{◌≡◌, ◌∙◌, ℕ, ◌-◌, ◌≤◌, List, ◌++◌, length, take, replicate, ap, append_assoc, arith}
-use Rattle.std.proofs.lemmas.List.{take-replicate}
+use Rattle.std.proofs.Common.{◌≡◌, ◌∙◌, ℕ, ◌+◌, ◌-◌, ◌<◌, ◌≤◌, List, ◌∷◌, ◌++◌, length, take, drop, get_or, replicate, ap, sym, append_assoc, arith}
+use Rattle.std.specs.List.{flat_map}
+use Rattle.std.proofs.lemmas.List.{drop_more, take-replicate}
 use Rattle.text_rows.specs.Columns.{in_columns}
 
 pub right : (width blanks : ℕ) (text old mid new : List ℕ) → width ≤ 36 → blanks ≡ width - length text → mid ≡ old ++ take blanks (replicate 36 32) → new ≡ mid ++ text → new ≡ old ++ in_columns width text
@@ -22,3 +23,13 @@ pub seven_parts : (old p1 p2 p3 p4 p5 p6 p7 a b c d e f new : List ℕ) → a �
 seven_parts old p1 p2 p3 p4 p5 p6 p7 a b c d e f new ia ib ic id ie jf inew =
     inew ∙ ap (λ xs. xs ++ p7) (jf ∙ ap (λ xs. xs ++ p6) (ie ∙ ap (λ xs. xs ++ p5) (id ∙ ap (λ xs. xs ++ p4) (ic ∙ ap (λ xs. xs ++ p3) (ib ∙ ap (λ xs. xs ++ p2) ia)))))
     ∙ simp append_assoc
+
+-- the texts of one element more of a list
+pub item_more : {X : Type 0} (f : X → List ℕ) (xs : List X) (i : ℕ) (d : X) (old new all : List ℕ)
+    → old ++ flat_map f (drop i xs) ≡ all → i < length xs → new ≡ old ++ f (get_or xs i d)
+    → new ++ flat_map f (drop (i + 1) xs) ≡ all
+item_more f xs i d old new all h lt more =
+    let x = get_or xs i d in
+    let left : drop i xs ≡ x ∷ drop (i + 1) xs = drop_more xs i d lt in
+    let rest = flat_map f (drop (i + 1) xs) in
+    ap (λ t. t ++ rest) more ∙ append_assoc old (f x) rest ∙ ap (λ ys. old ++ flat_map f ys) (sym left) ∙ h

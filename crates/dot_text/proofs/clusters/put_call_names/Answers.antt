@@ -2,7 +2,8 @@ use Rattle.std.proofs.Common.{◌++◌, codes, get_or}
 use Rattle.asm_text.specs.Hex.{hex8}
 use Rattle.assembler.proofs.PutLaws.{joined}
 use Rattle.dot_text.specs.Clusters.{call_names}
-use Rattle.dot_text.proofs.DrawLaws.{item_more, items_end}
+use Rattle.text_rows.proofs.ColumnLaws.{item_more}
+use Rattle.dot_text.proofs.DrawLaws.{items_end}
 use Rattle.dot_text.proofs.clusters.put_call_names.Goals as goal
 
 pub loop-address-preserved : goal.loop-address-preserved

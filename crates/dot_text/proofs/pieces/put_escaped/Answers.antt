@@ -1,6 +1,7 @@
 use Rattle.std.proofs.Common.{◌++◌}
 use Rattle.dot_text.specs.Text.{escape, escaped}
-use Rattle.dot_text.proofs.DrawLaws.{item_more, items_end}
+use Rattle.text_rows.proofs.ColumnLaws.{item_more}
+use Rattle.dot_text.proofs.DrawLaws.{items_end}
 use Rattle.dot_text.proofs.pieces.put_escaped.Goals as goal
 
 pub loop-byte-preserved : goal.loop-byte-preserved

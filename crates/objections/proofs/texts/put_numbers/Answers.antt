@@ -1,6 +1,6 @@
 use Rattle.std.proofs.Common.{codes, decimal}
 use Rattle.std.proofs.lemmas.Result.{on_ok_weaker}
-use Rattle.objections.proofs.TextLaws.{five_parts}
+use Rattle.text_rows.proofs.ColumnLaws.{five_parts}
 use Rattle.objections.proofs.texts.put_numbers.Goals as goal
 
 pub returns : goal.returns

@@ -2,7 +2,7 @@ use Rattle.std.proofs.Common.{◌≡◌, ◌++◌, codes, arith, subst}
 use Rattle.std.proofs.lemmas.Result.{on_ok_weaker}
 use Rattle.asm_text.specs.Hex.{hex8}
 use Rattle.drafting.specs.Rows.{row}
-use Rattle.drafting.proofs.FlatLaws.{three_parts}
+use Rattle.assembler.proofs.PutLaws.{three}
 use Rattle.drafting.proofs.statement_text.Sheet.put_comment.Goals as goal
 
 pub returns : goal.returns
@@ -13,7 +13,7 @@ returns c =
     on_ok_weaker c.end_row.result
     (λ row_is. subst (λ l. new ≡ old ++ row text l) c.line.ensures
     (row_is old text
-    (three_parts old c.put.new.out.items c.put_address.new.out.items c.put-2.new.out.items (codes "# ") (hex8 c.args.at)
-    c.args.words.now c.in_ok-put.ensures c.in_ok-put_address.ensures c.in_ok-put-2.ensures)
+    (three old (codes "# ") (hex8 c.args.at) c.args.words.now c.in_ok-put.ensures
+    c.in_ok-put_address.ensures c.in_ok-put-2.ensures)
     (omega (arith, c.len-start.ensures))))
     c.end_row.ensures

@@ -1,7 +1,7 @@
 use Rattle.std.proofs.Common.{◌≡◌, ◌++◌, arith, subst}
 use Rattle.std.proofs.lemmas.Result.{on_ok_weaker}
 use Rattle.drafting.specs.Rows.{name_text, row}
-use Rattle.drafting.proofs.FlatLaws.{three_parts}
+use Rattle.assembler.proofs.PutLaws.{three}
 use Rattle.drafting.proofs.statement_text.Sheet.put_element.Goals as goal
 
 pub returns : goal.returns
@@ -14,7 +14,7 @@ returns c =
     on_ok_weaker c.end_row.result
     (λ row_is. subst (λ l. new ≡ old ++ row (front ++ (name_text l c.args.at ++ back)) l) c.line-line.ensures
     (row_is old (front ++ (name_text line c.args.at ++ back))
-    (three_parts old c.put.new.out.items c.put_name.new.out.items c.put-2.new.out.items front (name_text line c.args.at)
-    back c.in_ok-put.ensures c.in_ok-put_name.ensures c.in_ok-put-2.ensures)
+    (three old front (name_text line c.args.at) back c.in_ok-put.ensures c.in_ok-put_name.ensures
+    c.in_ok-put-2.ensures)
     (omega (arith, c.len-start.ensures))))
     c.end_row.ensures
