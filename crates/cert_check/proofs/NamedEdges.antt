@@ -11,10 +11,11 @@ use Rattle.flow_graph.specs.declared.places.Place.TheVariants.{At, Exit}
 use Rattle.flow_graph.specs.declared.edges.Edge.{Edge}
 use Rattle.flow_graph.specs.Flow.{Flow, HasEdge, IsWellFormed}
 use Rattle.flow_graph.specs.Graph.{IsFlowGraph}
+use Rattle.flow_graph.specs.Places.{place_address}
 use Rattle.flow_graph.proofs.NameLemmas.{AreAlike, named_once}
 use Rattle.longest_walk.specs.Rows.{is_at}
 use Rattle.longest_walk.proofs.CarryFind.{at_itself, at_place, find_known}
-use Rattle.certificate.specs.Walk.{address_of, step_of, to_of}
+use Rattle.certificate.specs.Walk.{step_of, to_of}
 use Rattle.walk_counts.specs.Counts.{is_same_label}
 use Rattle.walk_counts.proofs.NumberLemmas.{one_label, own_label}
 use Rattle.cert_check.specs.Followed.{edge_named, is_named, leads_to}
@@ -37,17 +38,17 @@ record IsLike (p : Place) (e f : Edge) : Type 0 where
 
 like : (p : Place) (e f : Edge) → is_named p (step_of e) f ≡ true → IsLike p e f
 like (At calls a) e f h =
-    let fourth = and_parts (is_at calls a f.from && (a == address_of e.from) && is_same_label f.label e.label && leads_to f.to (to_of e.to)) (f.cost == e.cost) h in
-    let third = and_parts (is_at calls a f.from && (a == address_of e.from) && is_same_label f.label e.label) (leads_to f.to (to_of e.to)) fourth.0 in
-    let second = and_parts (is_at calls a f.from && (a == address_of e.from)) (is_same_label f.label e.label) third.0 in
-    let first = and_parts (is_at calls a f.from) (a == address_of e.from) second.0 in
+    let fourth = and_parts (is_at calls a f.from && (a == place_address e.from) && is_same_label f.label e.label && leads_to f.to (to_of e.to)) (f.cost == e.cost) h in
+    let third = and_parts (is_at calls a f.from && (a == place_address e.from) && is_same_label f.label e.label) (leads_to f.to (to_of e.to)) fourth.0 in
+    let second = and_parts (is_at calls a f.from && (a == place_address e.from)) (is_same_label f.label e.label) third.0 in
+    let first = and_parts (is_at calls a f.from) (a == place_address e.from) second.0 in
     record { from = at_place calls a f.from first.0; label = one_label f.label e.label second.1; to = alike f.to e.to third.1 }
 like Exit e f h = absurd (cc h)
 
 named_itself : (p : Place) (e : Edge) → e.from ≡ p → (p ≡ Exit → ⊥) → is_named p (step_of e) e ≡ true
 named_itself (At calls a) e from place =
     let here : is_at calls a e.from ≡ true = subst (λ x. is_at calls a x ≡ true) (sym from) (at_itself calls a) in
-    let address : (a == address_of e.from) ≡ true = eq-eqb a (address_of e.from) (sym (ap address_of from)) in
+    let address : (a == place_address e.from) ≡ true = eq-eqb a (place_address e.from) (sym (ap place_address from)) in
     rw (here, address, own_label e.label, own_to e.to) (eq-eqb e.cost e.cost refl)
 named_itself Exit e from place = absurd (place refl)
 

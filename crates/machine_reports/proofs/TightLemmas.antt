@@ -43,7 +43,8 @@ use Rattle.flow_graph.specs.declared.edges.Label.{Label}
 use Rattle.flow_graph.specs.declared.edges.Label.TheVariants.{Do, Skip}
 use Rattle.flow_graph.specs.declared.places.Place.{Place}
 use Rattle.flow_graph.specs.declared.places.Place.TheVariants as place
-use Rattle.certificate.specs.Walk.{address_of, step_of, to_of}
+use Rattle.flow_graph.specs.Places.{place_address}
+use Rattle.certificate.specs.Walk.{step_of, to_of}
 use Rattle.certificate.specs.Words.{edge_words, label_words, to_words}
 use Rattle.report_output.specs.Faults.{of_graph, of_statement}
 use Rattle.report_input.specs.Placing.{IsLoaded, IsRunnable}
@@ -74,14 +75,14 @@ blank_plain bytes h = both_plain (32 ∷ []) bytes refl h
 
 words_plain : (e : Edge) → IsPlainLine (codes " edge " ++ edge_words (step_of e))
 words_plain e =
-    let address = digits 16 true (address_of e.from) in
+    let address = digits 16 true (place_address e.from) in
     let label = label_words e.label in
     let target = to_words (to_of e.to) in
     let cost = digits 10 false e.cost in
     let four = blank_plain cost (digits_plain 10 false e.cost (omega arith) (omega arith)) in
     let three = blank_plain (target ++ 32 ∷ cost) (both_plain target (32 ∷ cost) (to_plain e.to) four) in
     let two = blank_plain (label ++ 32 ∷ (target ++ 32 ∷ cost)) (both_plain label (32 ∷ (target ++ 32 ∷ cost)) (label_plain e.label) three) in
-    let one = both_plain address (32 ∷ (label ++ 32 ∷ (target ++ 32 ∷ cost))) (digits_plain 16 true (address_of e.from) (omega arith) (omega arith)) two in
+    let one = both_plain address (32 ∷ (label ++ 32 ∷ (target ++ 32 ∷ cost))) (digits_plain 16 true (place_address e.from) (omega arith) (omega arith)) two in
     both_plain (codes " edge ") (edge_words (step_of e)) refl one
 
 -- the edge's line, and a document after it

@@ -14,9 +14,10 @@ use Rattle.loader.specs.declared.loading.LoadFault.TheVariants.{NoPage}
 use Rattle.statement.specs.Stated.{Stated}
 use Rattle.flow_graph.specs.Flow.{Flow}
 use Rattle.flow_graph.specs.Free.{IsFree}
+use Rattle.flow_graph.specs.Places.{place_address}
 use Rattle.flow_graph.specs.Tight.{IsTight}
 use Rattle.flow_graph.specs.declared.edges.Edge.{Edge}
-use Rattle.certificate.specs.Walk.{address_of, step_of}
+use Rattle.certificate.specs.Walk.{step_of}
 use Rattle.certificate.specs.Words.{edge_words, ended}
 use Rattle.report_output.specs.Answers.{Answers}
 use Rattle.report_input.specs.Placing.{IsLoaded, IsRunnable}
@@ -61,7 +62,7 @@ module _ (words : Words) (flow : Flow) (n : ℕ) where
     pub edge : Edge
     pub at : IsEdgeAt flow n edge
     pub not_free : IsFree words edge → ⊥
-    pub address_is : address ≡ address_of edge.from
+    pub address_is : address ≡ place_address edge.from
 
   -- it is free, and some word of the image lies past RAM
   pub record IsPastRam (fault : LoadFault) : Type 0 where
