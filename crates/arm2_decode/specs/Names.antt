@@ -1,5 +1,5 @@
--- The numbers of conditions, opcodes, shifts and registers in a word (VL86C010 data sheet, instruction
--- formats).
+-- The numbers of conditions, opcodes, shifts and registers in a word, and those of them that rules name
+-- (VL86C010 data sheet, instruction formats).
 use Rattle.std.specs.Prelude.{ℕ, Bool, true, false, ◌==◌}
 use Rattle.arm2_decode.specs.declared.names.Cond.{Cond}
 use Rattle.arm2_decode.specs.declared.names.Cond.TheVariants.{Eq, Ne, Cs, Cc, Mi, Pl, Vs, Vc, Hi, Ls, Ge, Lt}
@@ -98,7 +98,7 @@ register_number R13 = 13
 register_number R14 = 14
 register_number R15 = 15
 
--- R14 keeps the way back
+-- R14 is the link register, which holds the return address
 abbrev pub is_link : Register → Bool
 is_link register = register_number register == 14
 

@@ -240,7 +240,7 @@ impl Register {
         )
     }
 
-    /// Whether it is R14, which keeps the way back.
+    /// Whether it is R14, the link register, which holds the return address.
     pub fn is_link(self) -> bool
         ensures { result ≡ is_link self }
     {

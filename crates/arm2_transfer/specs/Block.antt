@@ -35,11 +35,11 @@ span_of x base k = record { lowest = lowest_of x base k; words = k; base = moved
 abbrev pub mode_for : Block → Mode → Mode
 mode_for x mode = if x.user && not (x.load && is_listed x.list R15) then User else mode
 
--- the same, of some registers
-abbrev pub mode_in : Block → List ℕ → Mode
-mode_in x regs = mode_for x (mode_of (r15_in regs))
+-- whose registers are moved, by the mode in these
+abbrev pub block_mode : Block → List ℕ → Mode
+block_mode x regs = mode_for x (mode_of (r15_in regs))
 
--- some registers with the base written back
+-- the registers with the base written back, where W is set
 abbrev pub written_back : Block → Span → List ℕ → List ℕ
 written_back x span regs = with_base x.write_back (mode_of (r15_in regs)) x.rn span.base regs
 
@@ -67,7 +67,7 @@ unfoldable pub block_loads : Block → Span → (port : ℕ) → List Move → L
 block_loads x span port moves regs bus =
     let r = r15_in regs in
     let written = with_base x.write_back (mode_of r) x.rn span.base (passed regs) in
-    let after = all_loaded x.user (mode_for x (mode_of r)) r bus port moves written in
+    let after = all_loaded x.user (block_mode x regs) r bus port moves written in
     record {
       kind = Plain;
       accesses =
@@ -85,7 +85,7 @@ block_stores x span moves regs bus =
       kind = Plain;
       accesses = store_accesses (address_of (r15_in regs)) span.lowest span.words;
       regs = passed after;
-      bus = block_put (mode_in x regs) regs after moves bus;
+      bus = block_put (block_mode x regs) regs after moves bus;
     }
 
 -- a transfer whose words are at hand

@@ -6,7 +6,7 @@ ghost use Rattle.arm2_transfer.specs.Moved.{ChangesNothing, IsMoved, load_access
 ghost use Rattle.arm2_effect.specs.ProgramCounter.{address_of, mode_of};
 ghost use Rattle.arm2_transfer.specs.Registers.{passed, with_base};
 ghost use Rattle.arm2_transfer.specs.Block.{all_loaded, all_put, block_at, block_loads, block_moved};
-ghost use Rattle.arm2_transfer.specs.Block.{block_put, block_stores, lowest_of, mode_for, mode_in, span_of};
+ghost use Rattle.arm2_transfer.specs.Block.{block_put, block_stores, lowest_of, mode_for, block_mode, span_of};
 ghost use Rattle.arm2_transfer.specs.Block.{written_back};
 
 use crate::bus::{Bus, put, see};
@@ -103,7 +103,7 @@ fn accesses(block: PlacedBlock, from: u32) -> Accesses
 fn put_block(registers: &mut Registers, bus: &mut Bus, block: PlacedBlock, moves: &[Move])
     requires { AllFit bus.old.memc.shift moves.now }
     ensures bus { bus.new
-        ≡ block_put (mode_in block.transfer registers.old) registers.old
+        ≡ block_put (block_mode block.transfer registers.old) registers.old
         (written_back block.transfer block.span registers.old) moves.now bus.old }
     ensures registers { registers.new ≡ written_back block.transfer block.span registers.old }
 {
@@ -128,7 +128,7 @@ fn put_run(registers: &mut Registers, bus: &mut Bus, block: PlacedBlock, place: 
     requires fit { place + 4 * length (registers_in block.transfer.list) ≤ 128 * 2 ^ bus.old.memc.shift }
     requires room { place + 4 * length (registers_in block.transfer.list) ≤ 2 ^ 22 }
     ensures bus { bus.new
-        ≡ block_put (mode_in block.transfer registers.old) registers.old
+        ≡ block_put (block_mode block.transfer registers.old) registers.old
         (written_back block.transfer block.span registers.old)
         (moves_along place (registers_in block.transfer.list)) bus.old }
     ensures registers { registers.new ≡ written_back block.transfer block.span registers.old }
@@ -148,7 +148,7 @@ fn begin_load(registers: &mut Registers, block: PlacedBlock) -> Loading
     ensures loading { result
         ≡ (record {
           psr = block.transfer.user;
-          mode = mode_in block.transfer registers.old;
+          mode = block_mode block.transfer registers.old;
           r15 = r15_in registers.old;
         }) }
     ensures registers { registers.new

@@ -4,12 +4,12 @@ ghost use Rattle.bus_ticks.specs.Worst.{Access, IsBlockOf, worst_n_price, worst_
 ghost use Rattle.bus_ticks.specs.Dearest.{AreDearest, IsDearestBlock};
 
 use crate::profile::{Class, Profile, RomTimes};
-use crate::space::{IO_START, PHYSICAL_RAM, ROM_START, SPACE_END};
+use crate::space::{IO_START, PHYSICAL_START, ROM_START, SPACE_END};
 
 /// States where the kinds of memory are: logical RAM up to 1FFFFFF, physical RAM up to 2FFFFFF, I/O from
 /// 3000000 to 33FFFFF, ROM from there to 3FFFFFF. It does nothing.
 pub fn memory_map()
-    ensures physical { PHYSICAL_RAM ≡ 0x2000000 }
+    ensures physical { PHYSICAL_START ≡ 0x2000000 }
     ensures io { IO_START ≡ 0x3000000 }
     ensures rom { ROM_START ≡ 0x3400000 }
     ensures end { SPACE_END ≡ 0x4000000 }

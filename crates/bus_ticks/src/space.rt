@@ -4,7 +4,7 @@ ghost use Rattle.std.specs.Prelude.{◌≡◌, ◌<◌};
 ghost use Rattle.bus_ticks.specs.Prices.{word_address};
 
 /// Where logical RAM ends, and physical RAM begins.
-pub const PHYSICAL_RAM: u32 = 0x200_0000;
+pub const PHYSICAL_START: u32 = 0x200_0000;
 
 /// Where I/O begins, and RAM ends.
 pub const IO_START: u32 = 0x300_0000;

@@ -40,6 +40,7 @@ abbrev pub to_of : Place → To
 to_of (place.At calls a) = to.At a
 to_of place.Exit = to.Exit
 
+-- no edge leads from Exit
 abbrev pub step_of : Edge → StepLine
 step_of e = record { address = place_address e.from; label = e.label; to = to_of e.to; cost = e.cost }
 

@@ -12,7 +12,7 @@ use Rattle.flow_graph.specs.declared.places.Place.TheVariants.{At, Exit}
 use Rattle.flow_graph.specs.declared.edges.Edge.{Edge}
 use Rattle.flow_graph.specs.Flow.{Flow, HasEdge, IsWellFormed, edge_shape}
 use Rattle.statement.specs.declared.stated.Loop.{Loop}
-use Rattle.loop_bounds.specs.Instance.{Instance, IsInstance, instance_of, is_header, is_member, place_loops, turns_in, turns_to}
+use Rattle.loop_bounds.specs.Instance.{Instance, IsInstance, instance_of, is_header, is_member, place_loops, is_back_edge_of, is_back_edge_to}
 use Rattle.loop_bounds.specs.Nest.{IsPlainEdge}
 use Rattle.loop_bounds.proofs.ExtentOf.{same_list}
 use Rattle.diagnosis.specs.Cycles.{IsClosed, IsCycleOf, IsPath, turns_back}
@@ -31,7 +31,7 @@ and_false true = refl
 and_false false = refl
 
 -- no back edge of an instance whose loop it does not turn in
-no_back : (e : Edge) (to : Place) (l : Loop) (list : List ℕ) → to ≡ e.to → turns_to l e to ≡ false
+no_back : (e : Edge) (to : Place) (l : Loop) (list : List ℕ) → to ≡ e.to → is_back_edge_to l e to ≡ false
     → is_back_edge edge_shape place_loops (instance_of l list) e ≡ false
 no_back e Exit l list ends none =
     ap (λ (p : Place). is_member (instance_of l list) e.from && is_header (instance_of l list) p) (sym ends)
@@ -52,7 +52,7 @@ pub record TurnsTo (flow : Flow) (loops : List Loop) (e : Edge) : Type 0 where
   pub back : is_back_edge edge_shape place_loops instance e ≡ true
 
 turned_to : (flow : Flow) (loops : List Loop) (e : Edge) (to : Place) (l : Loop) → Contains loops l → to ≡ e.to
-    → Contains flow.places to → turns_to l e to ≡ true → TurnsTo flow loops e
+    → Contains flow.places to → is_back_edge_to l e to ≡ true → TurnsTo flow loops e
 turned_to flow loops e Exit l stated ends has back = absurd (false≢true back)
 turned_to flow loops e (At calls a) l stated ends has back =
     let ends_at = and_parts (is_member (instance_of l calls) e.from) (is_header (instance_of l calls) e.to) back in
@@ -72,16 +72,16 @@ module _ (flow : Flow) (loops : List Loop) where
     plain = λ i is.
         let l = is.stated_loop in
         ap (λ (x : Instance). is_back_edge edge_shape place_loops x e) is.parts
-        ∙ no_back e e.to l i.list refl (none_passes (λ x. turns_in x e) loops l none is.stated);
+        ∙ no_back e e.to l i.list refl (none_passes (λ x. is_back_edge_of x e) loops l none is.stated);
   }
 
   -- an edge that turns back is not plain
   pub turned : IsWellFormed flow → (e : Edge) → turns_back loops e ≡ true → IsPlainEdge flow loops e → ⊥
   turned well_formed e back plain_e =
-      let any = Any-from_list_any (λ x. turns_in x e) loops back in
+      let any = Any-from_list_any (λ x. is_back_edge_of x e) loops back in
       let l = any.1 in
       let goes : TurnsTo flow loops e = ⊎_elim
-      (λ (out : e.to ≡ Exit). absurd (false≢true (ap (λ (p : Place). turns_to l e p) (sym out) ∙ any.4)))
+      (λ (out : e.to ≡ Exit). absurd (false≢true (ap (λ (p : Place). is_back_edge_to l e p) (sym out) ∙ any.4)))
       (λ (there : Contains flow.places e.to). turned_to flow loops e e.to l (any.0, any.2, any.3) refl there any.4)
       (well_formed.ends e plain_e.has) in
       false≢true (sym (plain_e.plain goes.instance goes.is) ∙ goes.back)

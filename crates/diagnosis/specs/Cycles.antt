@@ -9,7 +9,7 @@ use Rattle.flow_graph.specs.declared.edges.Edge.{Edge}
 use Rattle.flow_graph.specs.Flow.{Flow, edge_shape}
 use Rattle.flow_graph.specs.Places.{place_at}
 use Rattle.statement.specs.declared.stated.Loop.{Loop}
-use Rattle.loop_bounds.specs.Instance.{turns_in}
+use Rattle.loop_bounds.specs.Instance.{is_back_edge_of}
 use Rattle.loop_bounds.specs.Nest.{HasUnboundedCycle, IsPlainEdge}
 use Rattle.diagnosis.specs.declared.search.Search.{Search}
 
@@ -22,7 +22,7 @@ pub record IsCycleOf (flow : Flow) (loops : List Loop) (edges : List Edge) : Typ
 
 -- a back edge of one of the loops, inside the calls of the place where it ends
 abbrev pub turns_back : List Loop → Edge → Bool
-turns_back loops e = list_any (λ l. turns_in l e) loops
+turns_back loops e = list_any (λ l. is_back_edge_of l e) loops
 
 -- Each place has a mark, and Exit the last one: 0 where the search has shown that no cycle without a back
 -- edge goes through it, 1 on the path at hand, 2 elsewhere.

@@ -2,7 +2,7 @@ ghost use Rattle.std.specs.Prelude.{◌≡◌, ◌≢◌, MatchBool};
 ghost use Rattle.diagnosis.specs.Cycles.{turns_back};
 
 use flow_graph::{Calls, Edge, Loop, Place};
-use loop_bounds::turns_in;
+use loop_bounds::is_back_edge_of;
 
 /// Whether the two are one place.
 pub(crate) fn is_same(place: &Place, other: &Place) -> bool
@@ -22,5 +22,5 @@ pub(crate) fn are_same(list: Calls, other: Calls) -> bool
 pub(crate) fn turns_back(loops: &[Loop], edge: &Edge) -> bool
     ensures { result ≡ turns_back loops.now edge.now }
 {
-    loops.iter().any(|stated| turns_in(stated, edge))
+    loops.iter().any(|stated| is_back_edge_of(stated, edge))
 }

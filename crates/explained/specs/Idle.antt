@@ -7,7 +7,7 @@ use Rattle.asm_text.specs.Hex.{hex8}
 use Rattle.flow_graph.specs.Flow.{Flow}
 use Rattle.flow_graph.specs.declared.edges.Edge.{Edge}
 use Rattle.loader.specs.Image.{Words}
-use Rattle.loop_bounds.specs.Instance.{turns_in}
+use Rattle.loop_bounds.specs.Instance.{is_back_edge_of}
 use Rattle.statement.specs.Stated.{Stated}
 use Rattle.statement.specs.declared.stated.Loop.{Loop}
 use Rattle.word_shapes.specs.Words.{HasShape}
@@ -23,7 +23,7 @@ is_carried_out = is_left_on CarriesOut
 
 -- a loop has an effect on a bound where an edge of the graph turns back in it
 abbrev pub LoopCounts : Flow → Loop → Type 0
-LoopCounts flow l = list_any (turns_in l) flow.edges ≡ true
+LoopCounts flow l = list_any (is_back_edge_of l) flow.edges ≡ true
 
 -- a target, where the word is carried out
 abbrev pub TargetCounts : (ℕ → Bool) → ℕ → Type 0

@@ -6,7 +6,7 @@ ghost use Rattle.std.specs.Ordering.{nat_cmp};
 ghost use Rattle.explained.specs.Idle.{AccessCounts, AreIdleEntries, AreIdleRows, IsAccessRow, IsLoopRow};
 ghost use Rattle.explained.specs.Idle.{IsTargetRow};
 ghost use Rattle.explained.specs.Idle.{entry_row};
-ghost use Rattle.loop_bounds.specs.Instance.{turns_in};
+ghost use Rattle.loop_bounds.specs.Instance.{is_back_edge_of};
 ghost use Rattle.text_rows.specs.Rows.{Appends, AreRows};
 
 use crate::leaving::{EdgeKind, addresses_left};
@@ -15,7 +15,7 @@ use asm_text::hex8;
 use flow_graph::{Graph, Loop};
 use indexmap::IndexMap;
 use loader::Image;
-use loop_bounds::turns_in;
+use loop_bounds::is_back_edge_of;
 use std::alloc::{AllocError, Global};
 use std::collections::BTreeSet;
 use text_rows::{put, section};
@@ -24,9 +24,12 @@ use word_shapes::is_transfer_at;
 const HEADING: &[u8] = b"\nEntries of the statement without effect:\n";
 
 fn turns_back(graph: &Graph, stated: &Loop) -> bool
-    ensures { result ≡ list_any (turns_in stated.now) graph.now.edges }
+    ensures { result ≡ list_any (is_back_edge_of stated.now) graph.now.edges }
 {
-    graph.edges().iter().any(|edge| turns_in(stated, edge))
+    graph
+        .edges()
+        .iter()
+        .any(|edge| is_back_edge_of(stated, edge))
 }
 
 // Adds the row of an entry: the address that it names, between two texts.

@@ -46,8 +46,8 @@ pub record IsWellFormed (flow : Flow) : Type 0 where
   pub part : (v k : ℕ) (d : Edge) → v < length flow.places → slice_index flow.firsts v ≤ k
       → k < slice_index flow.firsts (v + 1) → (slice_index_or flow.edges k d).from ≡ place_at flow.places v
 
--- the numbers of the edges that leave a place, from the first on and before the end: edges with lower numbers
--- leave earlier places, and edges from the end on leave later ones
+-- the numbers of the edges that leave a place, from the first on and before the end, none if it has no edges:
+-- in the order of places, edges with lower numbers leave earlier ones, and edges from the end on later ones
 pub record IsEdgeRange (flow : Flow) (place : Place) (first end : ℕ) : Type 0 where
   pub ordered : first ≤ end
   pub fits : end ≤ length flow.edges

@@ -2,7 +2,7 @@
 -- own choice, among the addresses that cost the most (bus_ticks, Dearest).
 use Rattle.std.specs.Prelude.{◌≡◌, ◌≢◌, ◌<◌, ◌≤◌, ◌+◌, ◌*◌, ◌%◌, ◌⊎◌, ℕ, Bool, true, false, not}
 use Rattle.std.specs.Prelude.{Some, None, Ok, IfSome, if◌then◌else◌}
-use Rattle.bus_ticks.specs.declared.space.TheConstants.{PHYSICAL_RAM, ROM_START, SPACE_END}
+use Rattle.bus_ticks.specs.declared.space.TheConstants.{PHYSICAL_START, ROM_START, SPACE_END}
 use Rattle.bus_ticks.specs.declared.profile.Class.{Class}
 use Rattle.bus_ticks.specs.declared.profile.Class.TheVariants.{Any, Ram, Rom, Io}
 use Rattle.bus_ticks.specs.declared.profile.Profile.{Profile}
@@ -57,7 +57,7 @@ IsSource Any place = IsPort place
 abbrev pub IsData : (spare address : ℕ) → ℕ → Type 0
 IsData spare address at =
     (at % 4 ≡ 0)
-    × (((PHYSICAL_RAM + spare * 0x8000 ≤ at) × (at < PHYSICAL_RAM + spare * 0x8000 + 0x8000))
+    × (((PHYSICAL_START + spare * 0x8000 ≤ at) × (at < PHYSICAL_START + spare * 0x8000 + 0x8000))
     ⊎ ((ROM_START ≤ at) × (at < SPACE_END) × (at ≢ address)))
 
 -- of a class in memory, such an address

@@ -1,4 +1,5 @@
--- The edges of a word at a place, and why it is refused, by the record of the place and the word.
+-- The edges of a word at a place, and why it is refused, by the record of both: what the clauses of private
+-- functions cite.
 use Rattle.std.specs.Prelude.{◌≡◌, ◌⊎◌, List, Option, Some}
 use Rattle.statement.specs.Stated.{target_of}
 use Rattle.flow_graph.specs.declared.edges.Edge.{Edge}
@@ -10,31 +11,31 @@ use Rattle.flow_graph.specs.Edges.{do_edge, landing_edges, word_edges, writer_la
 use Rattle.flow_graph.specs.Search.{action_fault, kind_fault, writer_fault}
 
 module _ (site : Site) where
-  -- the edge that does the word and goes to a place
+  -- the do edge to a place
   abbrev pub edge_to : Place → Edge
   edge_to to = do_edge site.statement.now site.profile.now site.calls site.address site.action to
 
-  -- where the word leads as one that writes R15
+  -- where the word leads, if it writes R15, and why it is refused as such a word
   abbrev pub writer_places : List Place
   writer_places = writer_landings site.calls site.address (target_of site.statement.now site.address)
 
   abbrev pub writer_refusal : Option BuildFault
   writer_refusal = writer_fault site.calls (target_of site.statement.now site.address)
 
-  -- where its condition holds
+  -- the do edges of the word, and why it is refused where its condition holds
   abbrev pub done_edges : List Edge
   done_edges = landing_edges site.statement.now site.profile.now site.calls site.address site.action
 
   abbrev pub done_refusal : Option BuildFault
   done_refusal = kind_fault site.statement.now site.calls site.address site.action.kind
 
-  -- whether its condition holds or not
+  -- all edges of the word, and why it is refused
   abbrev pub all_edges : List Edge
   all_edges = word_edges site.statement.now site.profile.now site.calls site.address site.action
 
   abbrev pub refusal : Option BuildFault
   refusal = action_fault site.statement.now site.calls site.address site.action
 
--- an allocation failed, or this refuses the word
-abbrev pub IsRefused : Option BuildFault → BuildFault → Type 0
-IsRefused refused fault = (fault ≡ Memory) ⊎ (refused ≡ Some fault)
+-- an allocation failed, or it is this fault
+abbrev pub IsMemoryOr : Option BuildFault → BuildFault → Type 0
+IsMemoryOr refusal fault = (fault ≡ Memory) ⊎ (refusal ≡ Some fault)

@@ -4,7 +4,7 @@ ghost use Rattle.flow_graph.specs.Edges.{call_places, places_at, return_place, s
 ghost use Rattle.flow_graph.specs.Kinds.{IsWork};
 ghost use Rattle.flow_graph.specs.Places.{IsInSpace};
 ghost use Rattle.flow_graph.specs.Search.{AddsEdges, IsEdgeFault, IsSound, call_fault};
-ghost use Rattle.flow_graph.specs.Sites.{IsRefused, all_edges, done_edges, done_refusal, edge_to, refusal};
+ghost use Rattle.flow_graph.specs.Sites.{IsMemoryOr, all_edges, done_edges, done_refusal, edge_to, refusal};
 ghost use Rattle.flow_graph.specs.Sites.{writer_places, writer_refusal};
 
 use crate::call_list::Calls;
@@ -92,7 +92,7 @@ fn push_call(out: &mut Vec<Edge>, site: &Site, to: &[u32]) -> Result<(), BuildFa
         (out.new.items ≡ out.old.items ++ map (edge_to site.now)
         (call_places site.now.calls site.now.address to.now)) }
     ensures sound { OnOk result (call_fault site.now.calls ≡ None) }
-    ensures err { IfErr result (IsRefused (call_fault site.now.calls)) }
+    ensures err { IfErr result (IsMemoryOr (call_fault site.now.calls)) }
 {
     match site.calls.with(site.address) {
         Some(calls) => push_landing(out, site, &Landing { calls, to }),
@@ -118,7 +118,7 @@ fn push_writer(out: &mut Vec<Edge>, site: &Site) -> Result<(), BuildFault>
     ensures ok { OnOk result
         (out.new.items ≡ out.old.items ++ map (edge_to site.now) (writer_places site.now)) }
     ensures sound { OnOk result (writer_refusal site.now ≡ None) }
-    ensures err { IfErr result (IsRefused (writer_refusal site.now)) }
+    ensures err { IfErr result (IsMemoryOr (writer_refusal site.now)) }
 {
     let Some(target) = site.statement.target_at(site.address) else {
         return push_do(out, site, return_place(&site.calls));
@@ -141,7 +141,7 @@ fn push_done(out: &mut Vec<Edge>, site: &Site) -> Result<(), BuildFault>
     ensures ok { OnOk result
         (out.new.items ≡ out.old.items ++ done_edges site.now) }
     ensures sound { OnOk result (done_refusal site.now ≡ None) }
-    ensures err { IfErr result (IsRefused (done_refusal site.now)) }
+    ensures err { IfErr result (IsMemoryOr (done_refusal site.now)) }
 {
     let address = site.address;
     match site.action.kind {
@@ -167,7 +167,7 @@ fn push_word(out: &mut Vec<Edge>, site: &Site) -> Result<(), BuildFault>
     ensures ok { OnOk result
         (out.new.items ≡ out.old.items ++ all_edges site.now) }
     ensures sound { OnOk result (refusal site.now ≡ None) }
-    ensures err { IfErr result (IsRefused (refusal site.now)) }
+    ensures err { IfErr result (IsMemoryOr (refusal site.now)) }
 {
     if !site.action.cond.is_always() {
         push_skip(out, site)?;

@@ -13,7 +13,7 @@ use crate::free::writes_pc;
 use crate::kinds::lists_pc;
 use arm2_decode::{Block, DataImmediate, Opcode, Operation, Register, SingleImmediate};
 use bus_ticks::{
-    Class, PHYSICAL_RAM, Profile, ROM_START, dearest_device, dearest_ram_start, word_address,
+    Class, PHYSICAL_START, Profile, ROM_START, dearest_device, dearest_ram_start, word_address,
 };
 use loader::PAGE_BYTES;
 use shifter::rotate_imm;
@@ -79,7 +79,7 @@ fn start(aim: &Aim, load: bool, words: u32) -> u32
     ensures { MayStart aim.now load words result }
 {
     match aim.class {
-        Class::Ram => PHYSICAL_RAM + aim.spare * PAGE_BYTES + dearest_ram_start(),
+        Class::Ram => PHYSICAL_START + aim.spare * PAGE_BYTES + dearest_ram_start(),
         Class::Io => dearest_device(&aim.profile),
         Class::Any => dearest_device(&aim.profile),
         Class::Rom if !load => ROM_START,

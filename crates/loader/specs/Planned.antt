@@ -1,6 +1,6 @@
 -- Memory whose logical pages lie as a plan says, and the words that are put there.
 use Rattle.std.specs.Prelude.{◌≡◌, ◌<◌, ◌≤◌, ◌⊎◌, ◌+◌, ◌*◌, ◌%◌, ◌^◌, ℕ, Some, List, All}
-use Rattle.bus_ticks.specs.declared.space.TheConstants.{IO_START, PHYSICAL_RAM, ROM_START, SPACE_END}
+use Rattle.bus_ticks.specs.declared.space.TheConstants.{IO_START, PHYSICAL_START, ROM_START, SPACE_END}
 use Rattle.loader.specs.Image.{Words, word_of}
 use Rattle.loader.specs.declared.plan.PlacedPage.{PlacedPage}
 use Rattle.memc.specs.Memory.{Memory}
@@ -24,5 +24,5 @@ IsFitted address = (address < 0x2400000) ⊎ (IO_START ≤ address)
 abbrev pub IsBeside : ℕ → ℕ → Type 0
 IsBeside spare address =
     (address % 4 ≡ 0)
-    × (((offset : ℕ) × (offset < 2 ^ 15) × (address ≡ PHYSICAL_RAM + 2 ^ 15 * spare + offset))
+    × (((offset : ℕ) × (offset < 2 ^ 15) × (address ≡ PHYSICAL_START + 2 ^ 15 * spare + offset))
     ⊎ ((ROM_START ≤ address) × (address < SPACE_END)))

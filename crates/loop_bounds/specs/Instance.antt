@@ -43,13 +43,13 @@ abbrev pub instance_of : Loop → List ℕ → Instance
 instance_of l list =
     record { list = list; header = l.header; first = l.first; last = l.last; bound = l.bound }
 
--- a back edge of the loop, inside the calls of the place to which it leads
-abbrev pub turns_to : Loop → Edge → Place → Bool
-turns_to l e (At list address) = is_back_edge edge_shape place_loops (instance_of l list) e
-turns_to l e Exit = false
+-- a back edge of the loop's instance for the calls of the place to which it leads
+abbrev pub is_back_edge_to : Loop → Edge → Place → Bool
+is_back_edge_to l e (At list address) = is_back_edge edge_shape place_loops (instance_of l list) e
+is_back_edge_to l e Exit = false
 
-abbrev pub turns_in : Loop → Edge → Bool
-turns_in l e = turns_to l e e.to
+abbrev pub is_back_edge_of : Loop → Edge → Bool
+is_back_edge_of l e = is_back_edge_to l e e.to
 
 -- a stated loop, and a list of calls with which its header is a place
 pub record IsInstance (flow : Flow) (loops : List Loop) (i : Instance) : Type 0 where

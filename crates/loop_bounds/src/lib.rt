@@ -31,7 +31,7 @@ mod tree;
 
 pub use fault::NestFault;
 pub use loop_instances::Found;
-pub use members::turns_in;
+pub use members::is_back_edge_of;
 pub use nested::{Instance, Instances};
 pub use nesting::MOST_INSTANCES;
 pub use tree::{LoopTree, nest};

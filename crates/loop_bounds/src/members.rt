@@ -1,6 +1,6 @@
 ghost use Rattle.std.specs.Prelude.{◌≡◌, ◌++◌, [], ◌∷◌};
 ghost use Rattle.loop_bounds.specs.Extents.{found_instance};
-ghost use Rattle.loop_bounds.specs.Instance.{holds, is_header, is_member, turns_in};
+ghost use Rattle.loop_bounds.specs.Instance.{holds, is_header, is_member, is_back_edge_of};
 
 use crate::loop_instances::Found;
 use flow_graph::{Edge, Loop, Place};
@@ -56,9 +56,9 @@ impl Found {
     }
 }
 
-/// Whether the edge is a back edge of the loop, inside the calls of the place to which it leads.
-pub fn turns_in(stated: &Loop, edge: &Edge) -> bool
-    ensures { result ≡ turns_in stated.now edge.now }
+/// Whether the edge is a back edge of the loop's instance for the calls of the place to which it leads.
+pub fn is_back_edge_of(stated: &Loop, edge: &Edge) -> bool
+    ensures { result ≡ is_back_edge_of stated.now edge.now }
 {
     match edge.to {
         Place::At(list, _) => {

@@ -14,7 +14,7 @@ use Rattle.memc.specs.declared.spots.PageSize.TheVariants.{K4, K8, K16, K32}
 use Rattle.memc.specs.declared.spots.Spot.{Spot}
 use Rattle.memc.specs.declared.spots.Spot.TheVariants.{Ram, Rom, Io, Vidc, Control, Translator, Ignored}
 use Rattle.bus_ticks.specs.Prices.{word_address}
-use Rattle.bus_ticks.specs.declared.space.TheConstants.{IO_START, PHYSICAL_RAM, ROM_START}
+use Rattle.bus_ticks.specs.declared.space.TheConstants.{IO_START, PHYSICAL_START, ROM_START}
 use Rattle.memc.specs.declared.spots.Refused.{Refused}
 use Rattle.memc.specs.declared.spots.Refused.TheVariants.{NoPage, Protected, UnsupportedWrite}
 use Rattle.memc.specs.Paged.{Paged, page_at, place_of, mapped, unmapped, IsFresh}
@@ -75,8 +75,8 @@ written_at shift address =
 -- loads
 abbrev pub located : Memory → ℕ → Bool → Bool → Result Spot Refused
 located m address user store =
-    if nat_lt address PHYSICAL_RAM then logical_at m address user store
-    else (if nat_lt address IO_START then physical_at (128 * 2 ^ m.shift) (address - PHYSICAL_RAM) user
+    if nat_lt address PHYSICAL_START then logical_at m address user store
+    else (if nat_lt address IO_START then physical_at (128 * 2 ^ m.shift) (address - PHYSICAL_START) user
     else (if user && (store || nat_lt address ROM_START) then Err Protected
     else (if nat_lt address ROM_START then Ok (Io address)
     else (if store then written_at m.shift address else Ok (Rom address)))))
@@ -87,7 +87,7 @@ IsOnOnePage shift address words = address % 2 ^ shift / 4 * 4 + 4 * words ≤ 2 
 
 -- a run: words on one page of logical RAM. Where the first is at a place, word i is at the place + 4 i
 pub record IsRun (m : Memory) (address words : ℕ) (user store : Bool) (place : ℕ) : Type 0 where
-  pub logical : address < PHYSICAL_RAM
+  pub logical : address < PHYSICAL_START
   pub on_one_page : IsOnOnePage m.shift address words
   pub fitted : place + 4 * words ≤ 128 * 2 ^ m.shift
   pub each : (i : ℕ) → i < words → located m (word_address address i) user store ≡ Ok (Ram (place + 4 * i))
@@ -96,7 +96,7 @@ pub record IsRun (m : Memory) (address words : ℕ) (user store : Bool) (place :
 -- refused
 abbrev pub HasNoRun : Memory → (address words : ℕ) → (user store : Bool) → Type 0
 HasNoRun m address words user store =
-    (PHYSICAL_RAM ≤ address)
+    (PHYSICAL_START ≤ address)
     ⊎ ((2 ^ m.shift < address % 2 ^ m.shift / 4 * 4 + 4 * words)
     ⊎ ((refused : Refused) × (located m address user store ≡ Err refused)))
 

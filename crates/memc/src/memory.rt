@@ -9,7 +9,7 @@ ghost use Rattle.memc.specs.Memory.{control_of, allowed, HasNoRun, IsOnOnePage, 
 
 use crate::pages::{Entry, Pages};
 use crate::spots::{MapFault, MemcFault, PageSize, Refused, Spot};
-use bus_ticks::{IO_START, PHYSICAL_RAM, ROM_START, RomTimes};
+use bus_ticks::{IO_START, PHYSICAL_START, ROM_START, RomTimes};
 use std::alloc::Global;
 use std::collections::BTreeMap;
 use std::marker::Model;
@@ -71,7 +71,7 @@ impl Memc {
         ensures whole { IsWhole self.now.shift self.now.paged }
     {
         let _limit = self.limit();
-        if address < PHYSICAL_RAM {
+        if address < PHYSICAL_START {
             return self.logical(address, user, store);
         }
         self.beyond(address, user, store)
@@ -90,7 +90,7 @@ impl Memc {
         ensures whole { IsWhole self.now.shift self.now.paged }
     {
         let size = self.page_size();
-        if address >= PHYSICAL_RAM {
+        if address >= PHYSICAL_START {
             return None;
         }
         if address % size / 4 * 4 + 4 * words > size {
@@ -105,14 +105,14 @@ impl Memc {
     // Where an access past logical RAM goes.
     #[inline(never)]
     fn beyond(&self, address: u32, user: bool, store: bool) -> Result<Spot, Refused>
-        requires past { PHYSICAL_RAM ≤ address }
+        requires past { PHYSICAL_START ≤ address }
         requires below { address < SPACE_END }
         ensures located { result ≡ located self.now address user store }
         ensures fitted { IfOk result (Fits self.now.shift) }
     {
         let limit = self.limit();
         if address < IO_START {
-            return physical(address - PHYSICAL_RAM, limit, user);
+            return physical(address - PHYSICAL_START, limit, user);
         }
         if user && (store || address < ROM_START) {
             return Err(Refused::Protected);
