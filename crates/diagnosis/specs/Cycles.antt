@@ -1,10 +1,9 @@
 -- A cycle of a flow graph that no loop bounds.
-use Rattle.std.specs.Prelude.{◌≡◌, ◌≢◌, ◌+◌, ◌*◌, ◌<◌, ◌≤◌, ◌⊎◌, ℕ, Bool, false, ◌&&◌, ◌==◌, List, [], ◌∷◌}
+use Rattle.std.specs.Prelude.{◌≡◌, ◌≢◌, ◌+◌, ◌*◌, ◌<◌, ◌≤◌, ◌⊎◌, ℕ, Bool, List, [], ◌∷◌}
 use Rattle.std.specs.Prelude.{Contains, length, slice_index, sum_by}
 use Rattle.std.specs.List.{list_any}
 use Rattle.walks.specs.Walk.{Leads}
 use Rattle.flow_graph.specs.declared.places.Place.{Place}
-use Rattle.flow_graph.specs.declared.places.Place.TheVariants.{At, Exit}
 use Rattle.flow_graph.specs.declared.edges.Edge.{Edge}
 use Rattle.flow_graph.specs.Flow.{Flow, edge_shape}
 use Rattle.flow_graph.specs.Places.{place_at}

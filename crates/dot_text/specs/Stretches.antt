@@ -1,6 +1,6 @@
 -- The straight stretches of a flow graph, and what a walk takes of them.
 use Rattle.std.specs.Prelude.{◌≡◌, ℕ, zero, suc, ◌+◌, ◌-◌, ◌*◌, ◌≤◌, Bool, ◌&&◌, ◌==◌, if◌then◌else◌, nat_lt}
-use Rattle.std.specs.Prelude.{List, [], length, count_by, sum_by, slice_index}
+use Rattle.std.specs.Prelude.{List, length, count_by, sum_by, slice_index}
 use Rattle.std.specs.Cmp.Lexicographic.{pointwise}
 use Rattle.std.specs.List.{filter, list_all, range_with_len}
 use Rattle.flow_graph.specs.Flow.{Flow}
