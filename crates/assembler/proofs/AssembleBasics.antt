@@ -1,9 +1,6 @@
 -- Lists, tests and words that several of the next lemmas need.
-use Rattle.std.proofs.Common.{◌≡◌, ◌+◌, ℕ, zero, suc, List, [], ◌∷◌, ◌++◌, length, map, Option, Some, None, refl, ap, inl, inr}
-use Rattle.std.specs.Prelude.{nat_lt}
-use Rattle.std.proofs.lemmas.Bool.{cases_Bool}
+use Rattle.std.proofs.Common.{◌≡◌, ◌+◌, ℕ, zero, suc, List, [], ◌∷◌, ◌++◌, length, map, Option, Some, None, refl, ap}
 use Rattle.std.specs.List.{AllByRecursion}
-use Rattle.loader.specs.Image.{Words, with_word}
 use Rattle.asm_text.specs.Said.{Target}
 use Rattle.assembler.specs.Assembles.{places_from}
 use Rattle.assembler.specs.Sweeps.{State, labelled, value_pending}
@@ -27,10 +24,6 @@ all_both P Q R (x ∷ xs) f h k = (f x h.0 k.0, all_both P Q R xs f h.1 k.1)
 pub all_true : {A : Type 0} (P : A → Type 0) (xs : List A) → ((x : A) → P x) → AllByRecursion P xs
 all_true P [] f = tt
 all_true P (x ∷ xs) f = (f x, all_true P xs f)
-
-pub one_more : (image : Words) (at w : ℕ) → length (with_word image at w) ≡ suc (length image)
-one_more [] at w = refl
-one_more (f ∷ rest) at w = elim (cases_Bool (nat_lt at f.0)) [ inl e ↦ rw e refl | inr e ↦ rw e (ap suc (one_more rest at w)) ]
 
 pub count_places : (at n : ℕ) → length (places_from at n) ≡ n
 count_places at zero = refl

@@ -8,6 +8,7 @@ use Rattle.asm_text.proofs.WordLaws.{chosen, false_true}
 use Rattle.loader.specs.Image.{Words, may_hold, put_fault, runs_of, with_word, word_of}
 use Rattle.loader.specs.declared.image.ImageFault.{ImageFault}
 use Rattle.loader.specs.declared.image.ImageFault.TheVariants as image_fault
+use Rattle.loader.proofs.WordLemmas.{length_with_word, none_held}
 use Rattle.asm_text.specs.Said.{Target, Number, Label, Said, Codes, Refers, Orgs, Lists}
 use Rattle.assembler.specs.Assembles.{AreWords, IsTarget, Laid, Once, places, places_from, words_at, words_from}
 use Rattle.assembler.specs.Codes.{encoded, refer}
@@ -15,13 +16,9 @@ use Rattle.assembler.specs.Sweeps.{Fixed, Waits, Item, Names, Pending, filled, f
 use Rattle.assembler.specs.declared.fault.Fault.{Fault}
 use Rattle.assembler.proofs.AssembleSteps.{Pends, items_at}
 use Rattle.assembler.proofs.AssembleSweep.{NewItems, flat}
-use Rattle.assembler.proofs.AssembleBasics.{all_map, one_more}
+use Rattle.assembler.proofs.AssembleBasics.{all_map}
 
 -- ---- one word put
-
-none_there : (o : Option ℕ) → is_some o ≡ false → o ≡ None
-none_there None e = refl
-none_there (Some w) e = absurd cc
 
 record MayPut (image : Words) (at : ℕ) : Type 0 where
   may : may_hold at ≡ true
@@ -37,7 +34,7 @@ may_put image at w e =
         | inr g ↦
             let k = or_parts (not (may_hold at)) (is_some (word_of image at)) h.0 in
             let few = (or_parts (nat_le 65536 (length image)) (nat_lt 16 (runs_of (with_word image at w))) g.0).0 in
-            record { may = not-false (may_hold at) k.0; free = none_there (word_of image at) k.1; room = grind (arith, nat_tests, few) }
+            record { may = not-false (may_hold at) k.0; free = none_held (word_of image at) k.1; room = grind (arith, nat_tests, few) }
       ]
     ]
 
@@ -106,7 +103,7 @@ filled_places names image (i ∷ items) out e =
     let p = may_put image i.at s.0 s.2 in
     let rest = filled_places names (with_word image i.at s.0) items out s.3 in
     let ats = map (λ j. j.at) items in
-    let more = one_more image i.at s.0 in
+    let more = length_with_word image i.at s.0 in
     record {
       may = (p.may, rest.may);
       free = (p.free, all_map (λ a. word_of (with_word image i.at s.0) a ≡ None) (λ a. word_of image a ≡ None) ats (λ a k. (still_free image i.at s.0 a k).0) rest.free);

@@ -5,14 +5,16 @@ use Rattle.std.proofs.lemmas.List.{append-nil, length-append}
 use Rattle.std.specs.List.{AllByRecursion}
 use Rattle.std.specs.Prelude.{flat_map, if◌then◌else◌, nat_le, nat_lt}
 use Rattle.loader.specs.Image.{Words, may_hold, put_fault, runs_of, with_word, word_of}
+use Rattle.loader.proofs.SegmentLemmas.{word_of_here}
+use Rattle.loader.proofs.WordLemmas.{length_with_word}
 use Rattle.asm_text.specs.Said.{Said, Orgs}
 use Rattle.asm_text.specs.Statements.{Parsed}
 use Rattle.asm_text.proofs.WordLaws.{false_true}
 use Rattle.assembler.specs.Assembles.{Laid, Once, address_after, is_open, laid_from, places, places_from, segments, word_count}
 use Rattle.assembler.proofs.AssembleAll.{apart_both, once_parts}
 use Rattle.assembler.proofs.AssembleBack.{Apart, In, may_four, in_first, in_last}
-use Rattle.assembler.proofs.AssembleBasics.{all_parts, count_places, one_more}
-use Rattle.assembler.proofs.AssembleRuns.{Ascending, ascending_put, put_elsewhere, put_there, runs_more, runs_same}
+use Rattle.assembler.proofs.AssembleBasics.{all_parts, count_places}
+use Rattle.assembler.proofs.AssembleRuns.{Ascending, ascending_put, put_elsewhere, runs_more, runs_same}
 
 -- ---- what has been put so far
 
@@ -43,7 +45,7 @@ put_more image taken at w most h four free now few =
       absent = λ a other. put_elsewhere image at w a
           (h.absent a (λ m. other (in_first taken (at ∷ []) a m)))
           (λ same. other (subst (In (taken ++ at ∷ [])) same (in_last taken at)));
-      count = omega (arith, one_more image at w, h.count, length-append taken (at ∷ []));
+      count = omega (arith, length_with_word image at w, h.count, length-append taken (at ∷ []));
       runs = few;
     }
 
@@ -59,7 +61,7 @@ run_on image at w four asc none j =
 
 joins_next : (image : Words) (at w : ℕ) → word_of image at ≡ None → Joins (with_word image at w) (at + 4)
 unfolding Joins
-joins_next image at w none = (at, w, refl, put_there image at w none)
+joins_next image at w none = (at, w, refl, word_of_here image at w none)
 
 -- ---- the places of a line's words
 

@@ -140,16 +140,6 @@ runs_more (e ∷ rest) at w q h none =
 
 -- ---- what is where
 
-pub put_there : (image : Words) (at w : ℕ) → word_of image at ≡ None → word_of (with_word image at w) at ≡ Some w
-put_there [] at w none = let e : (at == at) ≡ true = grind (arith, nat_tests) in rw e refl
-put_there (e ∷ rest) at w none =
-    let same : (at == at) ≡ true = grind (arith, nat_tests) in
-    let k = none_parts e rest at none in
-    elim (cases_Bool (nat_lt at e.0)) [
-      | inl low ↦ rw low (rw same refl)
-      | inr high ↦ rw high (rw k.0 (put_there rest at w k.1))
-    ]
-
 pub put_elsewhere : (image : Words) (at w x : ℕ) → word_of image x ≡ None → at ≢ x → word_of (with_word image at w) x ≡ None
 put_elsewhere [] at w x none other = rw (no_eq at x other) refl
 put_elsewhere (e ∷ rest) at w x none other =

@@ -1,7 +1,6 @@
 //! What is printed of a run that is judged by a statement.
 
 ghost use Rattle.std.specs.Prelude.{◌≡◌, IfErr, IfOk, MatchOption, string_bytes};
-ghost use Rattle.bus_ticks.specs.Prices.{class_at};
 ghost use Rattle.author_reports.specs.FollowText.{HasNoLine, IsLine, IsLineAt, access_name, access_text};
 ghost use Rattle.author_reports.specs.FollowText.{has_word, kept_text, less_text, line_text};
 ghost use Rattle.author_reports.specs.FollowText.{stray_text, strayed_text, times_text, turned_text};
@@ -9,7 +8,7 @@ ghost use Rattle.author_reports.specs.FollowText.{why_text};
 ghost use Rattle.report_input.specs.Source.{IsSourceFault};
 
 use assembler::{PlacedLine, placed_lines};
-use bus_ticks::{Class, IO_START, ROM_START};
+use bus_ticks::{Class, class_of};
 use flow_graph::Statement;
 use kept_runs::{Access, Stray, Unkept};
 use loader::MAGIC;
@@ -38,19 +37,6 @@ pub(crate) fn kept_text(alloc: Global, ticks: u128, bound: u64) -> Result<String
     format!(in alloc; "kept: {ticks} ticks, {less}\n")
 }
 
-// The class of a word's address.
-fn class_at(address: u32) -> Class
-    ensures { result ≡ class_at address }
-{
-    if address < IO_START {
-        Class::Ram
-    } else if address < ROM_START {
-        Class::Io
-    } else {
-        Class::Rom
-    }
-}
-
 fn access_name(store: bool) -> &'static str
     ensures { result.now ≡ access_name store }
 {
@@ -62,7 +48,7 @@ fn access_text(alloc: Global, stated: Class, access: Access) -> Result<String, A
 {
     let name = access_name(access.store);
     let address = access.address;
-    let class = class_name(class_at(address));
+    let class = class_name(class_of(address));
     let stated = class_name(stated);
     format!(in alloc; "{name}{address:X}, {class}; {stated} is stated")
 }

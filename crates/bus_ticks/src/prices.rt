@@ -5,9 +5,8 @@ ghost use Rattle.bus_ticks.specs.Prices.{word_price, block_price};
 use crate::profile::{Class, Profile, RomTimes};
 use crate::space::{IO_START, ROM_START, SPACE_END, word_address};
 
-/// The class of an address below 4000000: never `Any`.
+/// The class of an address: Ram below 3000000, Io from there and Rom from 3400000 on, never `Any`.
 pub fn class_of(address: u32) -> Class
-    requires { address < SPACE_END }
     ensures { result ≡ class_at address }
 {
     if address < IO_START {

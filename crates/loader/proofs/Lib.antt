@@ -1,9 +1,9 @@
-mod WordLemmas
+pub mod WordLemmas
 pub mod GapLemmas
 mod LabelLemmas
 pub mod PlaceLemmas
 mod ReadLemmas
-mod SegmentLemmas
+pub mod SegmentLemmas
 mod RunLemmas
 mod SpellLemmas
 mod WrittenLemmas
