@@ -5,9 +5,9 @@ ghost use Rattle.arm2_transfer.specs.Words.{AllFit, is_listed, registers_in, mov
 ghost use Rattle.arm2_transfer.specs.Moved.{ChangesNothing, IsMoved, load_accesses};
 ghost use Rattle.arm2_effect.specs.ProgramCounter.{address_of, mode_of};
 ghost use Rattle.arm2_transfer.specs.Registers.{passed, with_base};
-ghost use Rattle.arm2_transfer.specs.Block.{all_loaded, all_put, block_at, block_loads, block_moved};
-ghost use Rattle.arm2_transfer.specs.Block.{block_put, block_stores, lowest_of, mode_for, block_mode, span_of};
-ghost use Rattle.arm2_transfer.specs.Block.{written_back};
+ghost use Rattle.arm2_transfer.specs.Block.{all_loaded, all_put, block_at, block_loads, block_mode};
+ghost use Rattle.arm2_transfer.specs.Block.{block_moved, block_put, block_stores, lowest_of, mode_for};
+ghost use Rattle.arm2_transfer.specs.Block.{span_of, written_back};
 
 use crate::bus::{Bus, put, see};
 use crate::inputs::Inputs;

@@ -13,7 +13,7 @@ use Rattle.asm_text.specs.Said.{Target, Number, Label, Said, Codes, Refers, Orgs
 use Rattle.assembler.specs.Assembles.{AreWords, IsTarget, Laid, Once, places, places_from, words_at, words_from}
 use Rattle.assembler.specs.Codes.{encoded, refer}
 use Rattle.assembler.specs.Sweeps.{Fixed, Waits, Item, Names, Pending, filled, filled_on, item_step, put_on, resolved, targeted, value_pending, word_put}
-use Rattle.assembler.specs.declared.fault.Fault.{Fault}
+use Rattle.assembler.specs.declared.fault.LineFault.{LineFault}
 use Rattle.assembler.proofs.AssembleSteps.{Pends, items_at}
 use Rattle.assembler.proofs.AssembleSweep.{NewItems, flat}
 use Rattle.assembler.proofs.AssembleBasics.{all_map}
@@ -69,7 +69,7 @@ still_free (f ∷ rest) at w x e = go (nat_lt at f.0) refl (still_free rest at w
 unfoldable pub put_words : Words → Words → Words
 put_words image words = fold (λ i e. with_word i e.0 e.1) image words
 
-filled_on_is : (k : ℕ) (r : Result Words Fault) (on : Words → Result Words (Fault × ℕ)) (out : Words) → filled_on k r on ≡ Ok out → (image : Words) × (r ≡ Ok image) × (on image ≡ Ok out)
+filled_on_is : (k : ℕ) (r : Result Words LineFault) (on : Words → Result Words (LineFault × ℕ)) (out : Words) → filled_on k r on ≡ Ok out → (image : Words) × (r ≡ Ok image) × (on image ≡ Ok out)
 filled_on_is k (Ok image) on out e = (image, refl, e)
 filled_on_is k (Err fault) on out e = absurd cc
 
@@ -77,7 +77,7 @@ put_on_is : (o : Option ImageFault) (at w : ℕ) (image new : Words) → put_on 
 put_on_is None at w image new e = (refl, cc)
 put_on_is (Some fault) at w image new e = absurd cc
 
-word_put_is : (image : Words) (at : ℕ) (r : Result ℕ Fault) (new : Words) → word_put image at r ≡ Ok new → (w : ℕ) × (r ≡ Ok w) × (put_fault image at w ≡ None) × (new ≡ with_word image at w)
+word_put_is : (image : Words) (at : ℕ) (r : Result ℕ LineFault) (new : Words) → word_put image at r ≡ Ok new → (w : ℕ) × (r ≡ Ok w) × (put_fault image at w ≡ None) × (new ≡ with_word image at w)
 word_put_is image at (Ok w) new e = let k = put_on_is (put_fault image at w) at w image new e in (w, refl, k.0, k.1)
 word_put_is image at (Err fault) new e = absurd cc
 
@@ -129,10 +129,10 @@ filled_line names k at (p ∷ ps) image rest out e =
 
 -- ---- what they are
 
-ok_is : (a b : ℕ) → ◌≡◌ {A = Result ℕ Fault} (Ok a) (Ok b) → a ≡ b
+ok_is : (a b : ℕ) → ◌≡◌ {A = Result ℕ LineFault} (Ok a) (Ok b) → a ≡ b
 ok_is a b e = cc
 
-targeted_is : (o : Option ℕ) (f : ℕ → Result ℕ Fault) (w : ℕ) → targeted o f ≡ Ok w → (target : ℕ) × (o ≡ Some target) × (f target ≡ Ok w)
+targeted_is : (o : Option ℕ) (f : ℕ → Result ℕ LineFault) (w : ℕ) → targeted o f ≡ Ok w → (target : ℕ) × (o ≡ Some target) × (f target ≡ Ok w)
 targeted_is None f w e = absurd cc
 targeted_is (Some target) f w e = (target, refl, e)
 

@@ -14,7 +14,7 @@ use Rattle.asm_text.specs.declared.word.Word.TheVariants.{Dcd}
 use Rattle.asm_text.specs.declared.statement.TextFault.{TextFault}
 use Rattle.assembler.specs.Assembles.{AreWords, IsAssembly, Laid, Once, labels_of, laid, places}
 use Rattle.assembler.specs.Sweeps.{Names, State, assembled, assembled_on, assembled_with, at_first, filled, no_names, swept}
-use Rattle.assembler.specs.declared.fault.Fault.{Fault}
+use Rattle.assembler.specs.declared.fault.LineFault.{LineFault}
 use Rattle.assembler.proofs.AssembleSteps.{Covers, InSegments, StartBelow, segments_in}
 use Rattle.assembler.proofs.AssembleSweep.{NamesOf, NewItems, flat, swept_is}
 use Rattle.assembler.proofs.AssembleFill.{all_places, filled_lines, filled_places, put_words}
@@ -38,11 +38,11 @@ record Assembled (source : List ℕ) (image : Words) (names : Names) : Type 0 wh
   filled-is : filled state.names [] state.items ≡ Ok image
   names-are : state.names ≡ names
 
-with_is : (names : Names) (r : Result Words (Fault × ℕ)) (image : Words) (other : Names) → assembled_with names r ≡ Ok (image, other) → (r ≡ Ok image) × (names ≡ other)
+with_is : (names : Names) (r : Result Words (LineFault × ℕ)) (image : Words) (other : Names) → assembled_with names r ≡ Ok (image, other) → (r ≡ Ok image) × (names ≡ other)
 with_is names (Ok words) image other e = let same : ◌≡◌ {A = Words × Names} (words, names) (image, other) = cc in (ap (λ x. Ok x.0) same, ap (λ x. x.1) same)
 with_is names (Err fault) image other e = absurd cc
 
-assembled_parts : (source : List ℕ) (r : Result State (Fault × ℕ)) (image : Words) (names : Names) → swept at_first 1 (lines_of source) ≡ r → assembled_on r ≡ Ok (image, names) → Assembled source image names
+assembled_parts : (source : List ℕ) (r : Result State (LineFault × ℕ)) (image : Words) (names : Names) → swept at_first 1 (lines_of source) ≡ r → assembled_on r ≡ Ok (image, names) → Assembled source image names
 assembled_parts source (Ok s) image names is e =
     let k = with_is s.names (filled s.names [] s.items) image names e in
     record { state = s; swept-is = is; filled-is = k.0; names-are = k.1 }

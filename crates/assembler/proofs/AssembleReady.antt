@@ -13,7 +13,7 @@ use Rattle.assembler.specs.Assembles.{AreWords, IsFree, places_from, word_count}
 use Rattle.assembler.specs.Codes.{action_word, encoded, refer, use_action, use_fault}
 use Rattle.assembler.specs.Faults.{lower}
 use Rattle.assembler.specs.Sweeps.{Names, Pending, Fixed, Waits, State, around_fault, is_17th, label_fault, labelled, moved, open_has, org_fault, overlaps, place_fault, placed, said_step, unless, value_pending}
-use Rattle.assembler.specs.declared.fault.Fault.{Fault}
+use Rattle.assembler.specs.declared.fault.LineFault.{LineFault}
 use Rattle.assembler.proofs.AssembleSteps.{InSegments, put_all, segments_in, values_put}
 use Rattle.assembler.proofs.AssembleBack.{Apart, Exact, StartEven, exact_moved, exact_put, in_memory_all, may_four, no_overlap, not_in}
 use Rattle.assembler.proofs.AssembleBasics.{count_map, labelled_at}
@@ -47,7 +47,7 @@ unfolding InSegments StartEven
 exact_labelled s None taken h = h
 exact_labelled s (Some name) taken h = record { within = λ a four held. h.within a four held; even = h.even; start = h.start; spans = h.spans; words = h.words }
 
-unless_ok : (o : Option Fault) (s : State) → o ≡ None → unless o s ≡ Ok s
+unless_ok : (o : Option LineFault) (s : State) → o ≡ None → unless o s ≡ Ok s
 unless_ok o s e = rw e refl
 
 -- ---- a statement
@@ -83,7 +83,7 @@ words_ok s label said names words taken k m ps h n-is count =
     )
 
 -- a word that has a code does not wait for a refusal
-no_word : {A : Type 0} (b : Bool) (f g : Fault) (w : ℕ) → cond {A = Result ℕ Fault} b (Err f) (Err g) ≡ Ok w → A
+no_word : {A : Type 0} (b : Bool) (f g : LineFault) (w : ℕ) → cond {A = Result ℕ LineFault} b (Err f) (Err g) ≡ Ok w → A
 no_word true f g w e = absurd cc
 no_word false f g w e = absurd cc
 

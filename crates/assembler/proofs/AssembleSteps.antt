@@ -11,8 +11,8 @@ use Rattle.assembler.specs.Assembles.{IsFree, address_after, is_open, places_fro
 use Rattle.assembler.specs.Codes.{encoded, refer, use_fault}
 use Rattle.assembler.specs.Faults.{lower}
 use Rattle.assembler.specs.Sweeps.{Pending, Fixed, Waits, Item, State, all_placed, around_fault, closed_with, is_17th, label_fault, labelled, moved, open_has, org_fault, overlaps, pending_step, pending_unless, place_fault, placed, said_step, unless, value_pending, word_pending}
-use Rattle.assembler.specs.declared.fault.Fault.{Fault}
-use Rattle.assembler.specs.declared.fault.Fault.TheVariants.{OutOfRange, TooLong}
+use Rattle.assembler.specs.declared.fault.LineFault.{LineFault}
+use Rattle.assembler.specs.declared.fault.LineFault.TheVariants.{OutOfRange, TooLong}
 use Rattle.assembler.proofs.AssembleBasics.{all_map, all_more, count_map, labelled_at}
 use Rattle.std.proofs.lemmas.List.{append-nil}
 use Rattle.asm_text.proofs.WordLaws.{chosen, false_true}
@@ -27,11 +27,11 @@ or_second : (a b : Bool) → (a || b) ≡ false → b ≡ false
 or_second true b e = absurd cc
 or_second false b e = e
 
-pub unless_is : (o : Option Fault) (s t : State) → unless o s ≡ Ok t → (o ≡ None) × (s ≡ t)
+pub unless_is : (o : Option LineFault) (s t : State) → unless o s ≡ Ok t → (o ≡ None) × (s ≡ t)
 unless_is None s t e = (refl, cc)
 unless_is (Some fault) s t e = absurd cc
 
-lower_none : (a b : Option Fault) → lower a b ≡ None → (a ≡ None) × (b ≡ None)
+lower_none : (a b : Option LineFault) → lower a b ≡ None → (a ≡ None) × (b ≡ None)
 lower_none None b e = (refl, e)
 lower_none (Some a) None e = absurd cc
 lower_none (Some a) (Some b) e = elim (chosen _ (Some b) (Some a) None e) [ inl h ↦ let k = h.1 in absurd cc | inr h ↦ let k = h.1 in absurd cc ]
@@ -351,23 +351,23 @@ words_step s label said k ps t pends count at free opens e =
 
 -- ---- what a statement waits for
 
-word_is : (r : Result ℕ Fault) (p : Pending) → word_pending r ≡ Ok p → (w : ℕ) × (p ≡ Fixed w) × (r ≡ Ok w)
+word_is : (r : Result ℕ LineFault) (p : Pending) → word_pending r ≡ Ok p → (w : ℕ) × (p ≡ Fixed w) × (r ≡ Ok w)
 word_is (Ok w) p e = (w, cc, refl)
 word_is (Err fault) p e = absurd cc
 
-waits_is : (o : Option Fault) (q p : Pending) → pending_unless o q ≡ Ok p → p ≡ q
+waits_is : (o : Option LineFault) (q p : Pending) → pending_unless o q ≡ Ok p → p ≡ q
 waits_is None q p e = cc
 waits_is (Some fault) q p e = absurd cc
 
-pub pending_is : (s : State) (k : ℕ) (label : Option (List ℕ)) (r : Result Pending Fault) (t : State) → pending_step s k label r ≡ Ok t
+pub pending_is : (s : State) (k : ℕ) (label : Option (List ℕ)) (r : Result Pending LineFault) (t : State) → pending_step s k label r ≡ Ok t
     → (p : Pending) × (r ≡ Ok p) × (unless (around_fault s label 1) (placed (labelled s label) k p) ≡ Ok t)
 pending_is s k label (Ok p) t e = (p, refl, e)
 pending_is s k label (Err fault) t e = blocked (lower (Some fault) (around_fault s label 1)) (some_lower fault (around_fault s label 1)) e
   where
-    some_lower : (f : Fault) (o : Option Fault) → lower (Some f) o ≡ None → ⊥
+    some_lower : (f : LineFault) (o : Option LineFault) → lower (Some f) o ≡ None → ⊥
     some_lower f o h = let k = (lower_none (Some f) o h).0 in absurd cc
 
-    blocked : {A : Type 0} (o : Option Fault) → (o ≡ None → ⊥) → unless o s ≡ Ok t → A
+    blocked : {A : Type 0} (o : Option LineFault) → (o ≡ None → ⊥) → unless o s ≡ Ok t → A
     blocked o some h = absurd (some (unless_is o s t h).0)
 
 pub said_is : (s : State) (k : ℕ) (label : Option (List ℕ)) (said : Option Said) (t : State) → said_step s k label said ≡ Ok t → Step s k label said t

@@ -8,8 +8,8 @@ use Rattle.asm_text.specs.Statements.{Parsed, line_of}
 use Rattle.asm_text.specs.declared.statement.TextFault.{TextFault}
 use Rattle.assembler.specs.Assembles.{AreFree, Laid, Once, address_after, is_open, label_at, labels_of, laid_from, segments, word_count}
 use Rattle.assembler.specs.Sweeps.{Item, Names, Pending, State, label_fault, labelled, line_step, swept, swept_on, with_name}
-use Rattle.assembler.specs.declared.fault.Fault.{Fault}
-use Rattle.assembler.specs.declared.fault.Fault.TheVariants.{LabelTwice}
+use Rattle.assembler.specs.declared.fault.LineFault.{LineFault}
+use Rattle.assembler.specs.declared.fault.LineFault.TheVariants.{LabelTwice}
 use Rattle.assembler.proofs.AssembleSteps.{Covers, Pends, Step, items_at, said_is, segments_in}
 use Rattle.assembler.proofs.AssembleBasics.{all_map}
 use Rattle.std.proofs.lemmas.List.{append-nil}
@@ -133,7 +133,7 @@ one_line s u t k line lines p read step rest =
           omega (arith, after, more.0);
     }
 
-swept_on_is : (k : ℕ) (r : Result State Fault) (on : State → Result State (Fault × ℕ)) (t : State) → swept_on k r on ≡ Ok t → (u : State) × (r ≡ Ok u) × (on u ≡ Ok t)
+swept_on_is : (k : ℕ) (r : Result State LineFault) (on : State → Result State (LineFault × ℕ)) (t : State) → swept_on k r on ≡ Ok t → (u : State) × (r ≡ Ok u) × (on u ≡ Ok t)
 swept_on_is k (Ok u) on t e = (u, refl, e)
 swept_on_is k (Err fault) on t e = absurd cc
 

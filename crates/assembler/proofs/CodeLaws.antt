@@ -8,7 +8,7 @@ use Rattle.arm2_decode.specs.Names.{cond_number}
 use Rattle.arm2_decode.specs.Table.{row_of, operands, Means, word_in}
 use Rattle.arm2_decode.proofs.OnlyLemmas.{word_laid}
 use Rattle.assembler.specs.Codes.{allowed, in_range, is_byte_by}
-use Rattle.assembler.specs.declared.fault.Fault.{Fault}
+use Rattle.assembler.specs.declared.fault.LineFault.{LineFault}
 
 pub means_word : (w : ℕ) (i : Instr) → w < 2 ^ 32 → Means w i → w ≡ word_in (row_of i.operation) (cond_number i.cond ∷ operands i.operation)
 means_word w i below h = word_laid w i.operation below h.fixed ∙ ap (word_in (row_of i.operation)) h.fields
@@ -32,5 +32,5 @@ rotation_here k n lt small =
 pub allowed_word : (why barred word is : ℕ) → why ≡ barred → why ≡ 0 → word ≡ is → Ok word ≡ allowed barred is
 allowed_word why barred word is same zero made = ap (λ (w : ℕ). Ok w) made ∙ ap (λ (b : ℕ). allowed b is) (sym zero ∙ same)
 
-pub in_range_word : (fits : Bool) (r x : Result ℕ Fault) → fits ≡ true → x ≡ r → x ≡ in_range fits r
+pub in_range_word : (fits : Bool) (r x : Result ℕ LineFault) → fits ≡ true → x ≡ r → x ≡ in_range fits r
 in_range_word fits r x e same = rw e same

@@ -14,7 +14,7 @@ use Rattle.assembler.specs.Sweeps.{State, at_first, line_step, swept, swept_on}
 use Rattle.assembler.specs.Views.{Faulted, FaultedAt, item_of, state_of}
 use Rattle.assembler.specs.declared.fault.AsmFault.{AsmFault}
 use Rattle.assembler.specs.declared.fault.AsmFault.TheVariants.{Memory, Line}
-use Rattle.assembler.specs.declared.fault.Fault.{Fault}
+use Rattle.assembler.specs.declared.fault.LineFault.{LineFault}
 use Rattle.assembler.specs.declared.placed_line.PlacedLine.{PlacedLine}
 use Rattle.assembler.specs.declared.sweep.Sweep.{Sweep}
 use Rattle.assembler.proofs.AssembleSteps.{items_at}
@@ -127,10 +127,10 @@ same_said texts before (line ∷ lines) (p ∷ said) (q ∷ other) a b =
     let later : said ≡ other = same_said texts (before ++ p ∷ []) lines said other a.2 b.1 in
     rw (first, later) refl
 
-both_ways : {A : Type 0} (r : Result State (Fault × ℕ)) (s : State) (f : Fault × ℕ) → r ≡ Ok s → r ≡ Err f → A
+both_ways : {A : Type 0} (r : Result State (LineFault × ℕ)) (s : State) (f : LineFault × ℕ) → r ≡ Ok s → r ≡ Err f → A
 both_ways r s f e k = absurd (no (sym e ∙ k))
   where
-    no : ◌≡◌ {A = Result State (Fault × ℕ)} (Ok s) (Err f) → ⊥
+    no : ◌≡◌ {A = Result State (LineFault × ℕ)} (Ok s) (Err f) → ⊥
     no e = cc
 
 -- lines that are gone through have no fault at once
@@ -151,7 +151,7 @@ placed_all texts source s placed e h =
     ]
 
 pub swept_next : (s : State) (k : ℕ) (now : List (List ℕ)) (line : List ℕ) (rest : List (List ℕ)) (t : State)
-    (whole : Result State (Fault × ℕ)) → swept s k now ≡ whole → now ≡ line ∷ rest
+    (whole : Result State (LineFault × ℕ)) → swept s k now ≡ whole → now ≡ line ∷ rest
     → line_step s k (line_of line) ≡ Ok t → swept t (k + 1) rest ≡ whole
 unfolding swept
 swept_next s k now line rest t whole same parts e =
@@ -159,7 +159,7 @@ swept_next s k now line rest t whole same parts e =
 
 -- ---- a line with a fault
 
-refused_sweep : Texts → (source : List ℕ) (fault : Fault) (k : ℕ)
+refused_sweep : Texts → (source : List ℕ) (fault : LineFault) (k : ℕ)
     → swept at_first 1 (lines_of source) ≡ Err (fault, k) → IsRefusedAtOnce source fault k
 refused_sweep texts source fault k e =
     elim (pass_or_stop texts at_first 1 [] (lines_of source) front_first) [
@@ -170,10 +170,10 @@ refused_sweep texts source fault k e =
           let m = length stop.front + 1 in
           let there = refused_there source stop in
           let same = pairs (stop.fault, m) (fault, k) (sym (stopped_at_once texts source stop.fault m there) ∙ e) in
-          subst (λ (x : Fault × ℕ). IsRefusedAtOnce source x.0 x.1) same there
+          subst (λ (x : LineFault × ℕ). IsRefusedAtOnce source x.0 x.1) same there
     ]
   where
-    pairs : (f g : Fault × ℕ) → ◌≡◌ {A = Result State (Fault × ℕ)} (Err f) (Err g) → f ≡ g
+    pairs : (f g : LineFault × ℕ) → ◌≡◌ {A = Result State (LineFault × ℕ)} (Err f) (Err g) → f ≡ g
     pairs f g e = cc
 
 pub sweep_fault : (source line : List ℕ) (now rest : List (List ℕ)) (s : State) (k : ℕ) (fault : AsmFault)

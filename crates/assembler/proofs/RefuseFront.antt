@@ -14,8 +14,8 @@ use Rattle.assembler.specs.Codes.{encoded, refer, use_fault}
 use Rattle.assembler.specs.Faults.{lower}
 use Rattle.assembler.specs.Refusals.{AreTooLong, Clashes, HasCodeFault, IsMisplaced, IsRepeated, IsWrong, address_after_all, address_of_next, asked}
 use Rattle.assembler.specs.Sweeps.{Waits, Item, Pending, State, all_placed, around_fault, is_17th, label_fault, labelled, moved, org_fault, pending_step, pending_unless, place_fault, placed, said_step, unless, value_pending, word_pending}
-use Rattle.assembler.specs.declared.fault.Fault.{Fault}
-use Rattle.assembler.specs.declared.fault.Fault.TheVariants.{LabelTwice, OutOfRange, TooLong}
+use Rattle.assembler.specs.declared.fault.LineFault.{LineFault}
+use Rattle.assembler.specs.declared.fault.LineFault.TheVariants.{LabelTwice, OutOfRange, TooLong}
 use Rattle.assembler.proofs.AssembleBack.{Exact, exact_moved, exact_put, may_four}
 use Rattle.assembler.proofs.AssembleBasics.{count_map, count_places, labelled_at}
 use Rattle.assembler.proofs.AssembleReady.{NotEmpty, exact_labelled}
@@ -275,7 +275,7 @@ not_long s k before p h none e =
 
 -- ---- a line's faults: with those before it
 
-sum_clash : (before : List Parsed) (p : Parsed) (f : Fault)
+sum_clash : (before : List Parsed) (p : Parsed) (f : LineFault)
     → ((f ≡ LabelTwice) × IsRepeated before p.label)
     ⊎ (((f ≡ OutOfRange) × IsMisplaced before p.said) ⊎ ((f ≡ TooLong) × AreTooLong (before ++ p ∷ [])))
     → Clashes before p f
@@ -290,7 +290,7 @@ sum_clash before p f h =
           ]
     ]
 
-clash_sum : (before : List Parsed) (p : Parsed) (f : Fault) → Clashes before p f
+clash_sum : (before : List Parsed) (p : Parsed) (f : LineFault) → Clashes before p f
     → ((f ≡ LabelTwice) × IsRepeated before p.label)
     ⊎ (((f ≡ OutOfRange) × IsMisplaced before p.said) ⊎ ((f ≡ TooLong) × AreTooLong (before ++ p ∷ [])))
 clash_sum before p LabelTwice h = inl (refl, h)
@@ -298,15 +298,15 @@ clash_sum before p OutOfRange h = inr (inl (refl, h))
 clash_sum before p TooLong h = inr (inr (refl, h))
 clash_sum before p _ h = absurd h
 
-clash_least : (s : State) (k : ℕ) (before : List Parsed) (p : Parsed) (o : Option Fault) → Front s k before
+clash_least : (s : State) (k : ℕ) (before : List Parsed) (p : Parsed) (o : Option LineFault) → Front s k before
     → IsLeast
     (λ f. ((f ≡ OutOfRange) × IsMisplaced before p.said)
     ⊎ ((f ≡ TooLong) × AreTooLong (before ++ p ∷ []))) o
     → IsLeast (Clashes before p) (lower (label_fault s p.label) o)
 clash_least s k before p o h place =
-    let Label = λ (f : Fault). (f ≡ LabelTwice) × IsRepeated before p.label in
+    let Label = λ (f : LineFault). (f ≡ LabelTwice) × IsRepeated before p.label in
     let Place =
-    λ (f : Fault). ((f ≡ OutOfRange) × IsMisplaced before p.said)
+    λ (f : LineFault). ((f ≡ OutOfRange) × IsMisplaced before p.said)
     ⊎ ((f ≡ TooLong) × AreTooLong (before ++ p ∷ [])) in
     least_same (λ f. Label f ⊎ Place f) (Clashes before p) (lower (label_fault s p.label) o)
     (sum_clash before p) (clash_sum before p)
@@ -346,8 +346,8 @@ org_clash : (s : State) (k : ℕ) (before : List Parsed) (label : Option (List �
     (lower (label_fault s label) (org_fault s n))
 org_clash s k before label n h =
     let p : Parsed = record { label = label; said = Some (Orgs n) } in
-    let Out = λ (f : Fault). (f ≡ OutOfRange) × IsMisplaced before (Some (Orgs n)) in
-    let Sum = λ (f : Fault). Out f ⊎ ((f ≡ TooLong) × AreTooLong (before ++ p ∷ [])) in
+    let Out = λ (f : LineFault). (f ≡ OutOfRange) × IsMisplaced before (Some (Orgs n)) in
+    let Sum = λ (f : LineFault). Out f ⊎ ((f ≡ TooLong) × AreTooLong (before ++ p ∷ [])) in
     clash_least s k before p (org_fault s n) h
     (least_same Out Sum (org_fault s n) (λ f e. inl e)
     (λ f e. elim e [ inl x ↦ x | inr x ↦ absurd (not_long s k before p h refl x.1) ])
@@ -355,24 +355,24 @@ org_clash s k before label n h =
 
 -- ---- a line's faults: all
 
-failed_unless : (o : Option Fault) (s : State) → failed (unless o s) ≡ o
+failed_unless : (o : Option LineFault) (s : State) → failed (unless o s) ≡ o
 failed_unless None s = refl
 failed_unless (Some f) s = refl
 
-failed_pending : (s : State) (k : ℕ) (label : Option (List ℕ)) (r : Result Pending Fault)
+failed_pending : (s : State) (k : ℕ) (label : Option (List ℕ)) (r : Result Pending LineFault)
     → failed (pending_step s k label r) ≡ lower (failed r) (around_fault s label 1)
 failed_pending s k label (Ok p) = failed_unless (around_fault s label 1) (placed (labelled s label) k p)
 failed_pending s k label (Err f) = failed_unless (lower (Some f) (around_fault s label 1)) s
 
-failed_word : (r : Result ℕ Fault) → failed (word_pending r) ≡ failed r
+failed_word : (r : Result ℕ LineFault) → failed (word_pending r) ≡ failed r
 failed_word (Ok w) = refl
 failed_word (Err f) = refl
 
-failed_waits : (o : Option Fault) (p : Pending) → failed (pending_unless o p) ≡ o
+failed_waits : (o : Option LineFault) (p : Pending) → failed (pending_unless o p) ≡ o
 failed_waits None p = refl
 failed_waits (Some f) p = refl
 
-joined : (before : List Parsed) (p : Parsed) (code clash o : Option Fault)
+joined : (before : List Parsed) (p : Parsed) (code clash o : Option LineFault)
     → IsLeast (HasCodeFault (address_of_next before) p.said) code → IsLeast (Clashes before p) clash
     → lower code clash ≡ o
     → IsLeast (IsWrong before p) o
@@ -394,7 +394,7 @@ said_least s k before label None h some =
     (none_clash s k before p h refl (no_asked before))
     (lower_alone (label_fault s label) ∙ sym (failed_unless (label_fault s label) (labelled s label)))
   where
-    lower_alone : (o : Option Fault) → lower None (lower o None) ≡ o
+    lower_alone : (o : Option LineFault) → lower None (lower o None) ≡ o
     lower_alone None = refl
     lower_alone (Some f) = refl
 said_least s k before label (Some (Codes c)) h some =
@@ -433,7 +433,7 @@ said_least s k before label (Some (Lists (v ∷ vs))) h some =
 
 -- ---- a line more without a fault
 
-one_exact : (s : State) (k : ℕ) (label : Option (List ℕ)) (r : Result Pending Fault) (t : State)
+one_exact : (s : State) (k : ℕ) (label : Option (List ℕ)) (r : Result Pending LineFault) (t : State)
     (taken : List ℕ) → pending_step s k label r ≡ Ok t → Exact s taken → Exact t (taken ++ s.at ∷ [])
 unfolding put_all
 one_exact s k label r t taken e h =

@@ -9,8 +9,8 @@ use Rattle.assembler.specs.Assembles.{Laid, places, places_from, word_count}
 use Rattle.assembler.specs.Codes.{encoded, refer}
 use Rattle.assembler.specs.Refusals.{HasLabelFault, IsFaultless, IsLowest, IsMissing}
 use Rattle.assembler.specs.Sweeps.{Item, Names, Pending, filled, filled_on, resolved, targeted, value_pending, word_put}
-use Rattle.assembler.specs.declared.fault.Fault.{Fault}
-use Rattle.assembler.specs.declared.fault.Fault.TheVariants.{LabelMissing}
+use Rattle.assembler.specs.declared.fault.LineFault.{LineFault}
+use Rattle.assembler.specs.declared.fault.LineFault.TheVariants.{LabelMissing}
 use Rattle.assembler.proofs.AssembleSteps.{Pends, items_at}
 use Rattle.assembler.proofs.AssembleFits.{Fits}
 use Rattle.assembler.proofs.RefuseFront.{ItemsOf}
@@ -22,16 +22,16 @@ Known names labels = (name : List ℕ) → (at : ℕ) → (names name ≡ Some a
 
 -- ---- what waits
 
-abbrev first : Option Fault → Option Fault → Option Fault
+abbrev first : Option LineFault → Option LineFault → Option LineFault
 first None o = o
 first (Some f) o = Some f
 
-first_alone : (o : Option Fault) → first o None ≡ o
+first_alone : (o : Option LineFault) → first o None ≡ o
 first_alone None = refl
 first_alone (Some f) = refl
 
 -- the first fault of words side by side
-abbrev late : Names → ℕ → List Pending → Option Fault
+abbrev late : Names → ℕ → List Pending → Option LineFault
 late names at [] = None
 late names at (p ∷ ps) = first (failed (resolved names at p)) (late names (at + 4) ps)
 
@@ -43,7 +43,7 @@ same_some a b e = cc
 none_some : (a : ℕ) (o : Option ℕ) → o ≡ None → o ≡ Some a → ⊥
 none_some a o e k = let same : ◌≡◌ {A = Option ℕ} None (Some a) = sym e ∙ k in cc
 
-abbrev WordFault : List (List ℕ × ℕ) → List ℕ → (ℕ → Result ℕ Fault) → Fault → Type 0
+abbrev WordFault : List (List ℕ × ℕ) → List ℕ → (ℕ → Result ℕ LineFault) → LineFault → Type 0
 WordFault labels name word f =
     ((f ≡ LabelMissing) × IsMissing labels name)
     ⊎ ((target : ℕ) × Contains labels (name, target) × (word target ≡ Err f))
@@ -53,7 +53,7 @@ missing : (names : Names) (labels : List (List ℕ × ℕ)) (name : List ℕ) �
 unfolding Known
 missing names labels name known none = λ at c. none_some at (names name) none ((known name at).1 c)
 
-word_least : (names : Names) (labels : List (List ℕ × ℕ)) (name : List ℕ) (word : ℕ → Result ℕ Fault)
+word_least : (names : Names) (labels : List (List ℕ × ℕ)) (name : List ℕ) (word : ℕ → Result ℕ LineFault)
     → Known names labels → IsLeast (WordFault labels name word) (failed (targeted (names name) word))
 unfolding IsLeast Known
 word_least names labels name word known = go (names name) refl
@@ -78,11 +78,11 @@ word_least names labels name word known = go (names name) refl
 
 -- ---- values
 
-abbrev ValueFault : List (List ℕ × ℕ) → List Target → Fault → Type 0
+abbrev ValueFault : List (List ℕ × ℕ) → List Target → LineFault → Type 0
 ValueFault labels values f =
     (name : List ℕ) × (f ≡ LabelMissing) × Contains values (Label name) × IsMissing labels name
 
-past_number : (labels : List (List ℕ × ℕ)) (n : ℕ) (vs : List Target) (f : Fault)
+past_number : (labels : List (List ℕ × ℕ)) (n : ℕ) (vs : List Target) (f : LineFault)
     → ValueFault labels (Number n ∷ vs) f → ValueFault labels vs f
 past_number labels n vs f (name, is, (zero, lt, same), gone) = absurd (other n name same)
   where
@@ -91,7 +91,7 @@ past_number labels n vs f (name, is, (zero, lt, same), gone) = absurd (other n n
 past_number labels n vs f (name, is, (suc k, lt, same), gone) =
     (name, is, (k, omega (arith, lt), same), gone)
 
-past_label : (labels : List (List ℕ × ℕ)) (l : List ℕ) (at : ℕ) (vs : List Target) (f : Fault)
+past_label : (labels : List (List ℕ × ℕ)) (l : List ℕ) (at : ℕ) (vs : List Target) (f : LineFault)
     → Contains labels (l, at) → ValueFault labels (Label l ∷ vs) f → ValueFault labels vs f
 past_label labels l at vs f there (name, is, (zero, lt, same), gone) =
     absurd (gone at (subst (λ n. Contains labels (n, at)) (same_label l name same) there))
@@ -101,7 +101,7 @@ past_label labels l at vs f there (name, is, (zero, lt, same), gone) =
 past_label labels l at vs f there (name, is, (suc k, lt, same), gone) =
     (name, is, (k, omega (arith, lt), same), gone)
 
-later : (labels : List (List ℕ × ℕ)) (v : Target) (vs : List Target) (f : Fault) → ValueFault labels vs f
+later : (labels : List (List ℕ × ℕ)) (v : Target) (vs : List Target) (f : LineFault) → ValueFault labels vs f
     → ValueFault labels (v ∷ vs) f
 later labels v vs f (name, is, c, gone) = (name, is, (suc c.0, omega (arith, c.1), c.2), gone)
 
@@ -172,7 +172,7 @@ fill_all names k at (p ∷ ps) image rest ats h none =
     go (resolved names at p) refl none
     (λ w. fill_all names k (at + 4) ps (with_word image at w) rest ats (h w).1)
   where
-    go : (r : Result ℕ Fault) → resolved names at p ≡ r → first (failed r) (late names (at + 4) ps) ≡ None
+    go : (r : Result ℕ LineFault) → resolved names at p ≡ r → first (failed r) (late names (at + 4) ps) ≡ None
         → ((w : ℕ) → late names (at + 4) ps ≡ None
         → Filled names (with_word image at w) (items_at k (at + 4) ps) rest ats)
         → Filled names image (items_at k at (p ∷ ps)) rest ats
@@ -190,7 +190,7 @@ fill_all names k at (p ∷ ps) image rest ats h none =
     go (Err f) is e deeper = absurd (none-some f (sym e))
 
 fill_stop : (names : Names) (k at : ℕ) (ps : List Pending) (image : Words) (rest : List Item) (ats : List ℕ)
-    (f : Fault) → Fits image (places_from at (length ps) ++ ats) → late names at ps ≡ Some f
+    (f : LineFault) → Fits image (places_from at (length ps) ++ ats) → late names at ps ≡ Some f
     → filled names image (items_at k at ps ++ rest) ≡ Err (f, k)
 unfolding Fits items_at filled
 fill_stop names k at [] image rest ats f h some = absurd (none-some f some)
@@ -198,7 +198,7 @@ fill_stop names k at (p ∷ ps) image rest ats f h some =
     go (resolved names at p) refl some
     (λ w. fill_stop names k (at + 4) ps (with_word image at w) rest ats f (h w).1)
   where
-    go : (r : Result ℕ Fault) → resolved names at p ≡ r → first (failed r) (late names (at + 4) ps) ≡ Some f
+    go : (r : Result ℕ LineFault) → resolved names at p ≡ r → first (failed r) (late names (at + 4) ps) ≡ Some f
         → ((w : ℕ) → late names (at + 4) ps ≡ Some f
         → filled names (with_word image at w) (items_at k (at + 4) ps ++ rest) ≡ Err (f, k))
         → filled names image (items_at k at (p ∷ ps) ++ rest) ≡ Err (f, k)
@@ -236,7 +236,7 @@ filled_all names labels k (line ∷ lines) items image known h f a =
     (more.0, ap (filled names image) h.2 ∙ one.same ∙ more.1)
 
 pub filled_stops : (names : Names) (labels : List (List ℕ × ℕ)) (k : ℕ) (front : List Laid) (line : Laid)
-    (after : List Laid) (items : List Item) (image : Words) (fault : Fault) → Known names labels
+    (after : List Laid) (items : List Item) (image : Words) (fault : LineFault) → Known names labels
     → ItemsOf k (front ++ (line ∷ after)) items → Fits image (flat_map places (front ++ (line ∷ after)))
     → AreFaultless labels front → IsLowest (HasLabelFault labels line.at line.said) fault
     → filled names image items ≡ Err (fault, k + length front)
@@ -266,7 +266,7 @@ pub record LabelStops (labels : List (List ℕ × ℕ)) (lines : List Laid) : Ty
   pub after : List Laid
   pub parts : lines ≡ front ++ (line ∷ after)
   pub none : AreFaultless labels front
-  pub fault : Fault
+  pub fault : LineFault
   pub fault-is : IsLowest (HasLabelFault labels line.at line.said) fault
 
 pub known_or_stop : (names : Names) (labels : List (List ℕ × ℕ)) (k : ℕ) (lines : List Laid)

@@ -8,7 +8,7 @@ use Rattle.asm_text.specs.Statements.{Parsed}
 use Rattle.assembler.specs.Assembles.{labels_of, laid, places}
 use Rattle.assembler.specs.Refusals.{ArePassed, IsRefusal, IsRefusedAtOnce, IsRefusedForLabels}
 use Rattle.assembler.specs.Sweeps.{Names, State, assembled, assembled_on, assembled_with, at_first, swept}
-use Rattle.assembler.specs.declared.fault.Fault.{Fault}
+use Rattle.assembler.specs.declared.fault.LineFault.{LineFault}
 use Rattle.assembler.proofs.AssembleAll.{apart_none}
 use Rattle.assembler.proofs.AssembleLaws.{first_put}
 use Rattle.assembler.proofs.AssembleFits.{Fits, JoinsIf, fits}
@@ -65,7 +65,7 @@ names_known s k said h = h.named
 
 -- ---- a refusal is refused
 
-pub stopped_at_once : Texts → (source : List ℕ) (fault : Fault) (n : ℕ) → IsRefusedAtOnce source fault n
+pub stopped_at_once : Texts → (source : List ℕ) (fault : LineFault) (n : ℕ) → IsRefusedAtOnce source fault n
     → swept at_first 1 (lines_of source) ≡ Err (fault, n)
 stopped_at_once texts source fault n r =
     let p = passed_on texts at_first 1 [] r.front r.said (r.line ∷ r.after) front_first r.passed in
@@ -73,11 +73,11 @@ stopped_at_once texts source fault n r =
     let number : p.next ≡ n = omega (arith, p.next-is, r.number-is) in
     ap (swept at_first 1) r.parts ∙ p.same ∙ stop ∙ ap (λ m. Err (fault, m)) number
 
-at_once : Texts → (source : List ℕ) (fault : Fault) (n : ℕ) → IsRefusedAtOnce source fault n
+at_once : Texts → (source : List ℕ) (fault : LineFault) (n : ℕ) → IsRefusedAtOnce source fault n
     → assembled source ≡ Err (fault, n)
 at_once texts source fault n r = ap assembled_on (stopped_at_once texts source fault n r)
 
-for_labels : Texts → (source : List ℕ) (fault : Fault) (n : ℕ) → IsRefusedForLabels source fault n
+for_labels : Texts → (source : List ℕ) (fault : LineFault) (n : ℕ) → IsRefusedForLabels source fault n
     → assembled source ≡ Err (fault, n)
 for_labels texts source fault n r =
     let s = all_swept texts source r.said r.passed in
@@ -91,28 +91,28 @@ for_labels texts source fault n r =
     let number : 1 + length r.front ≡ n = omega (arith, r.number-is) in
     ap assembled_on s.same ∙ ap (assembled_with s.state.names) (stop ∙ ap (λ m. Err (fault, m)) number)
 
-pub refused_built : Texts → (source : List ℕ) (fault : Fault) (n : ℕ) → IsRefusal source fault n
+pub refused_built : Texts → (source : List ℕ) (fault : LineFault) (n : ℕ) → IsRefusal source fault n
     → assembled source ≡ Err (fault, n)
 refused_built texts source fault n h =
     elim h [ inl r ↦ at_once texts source fault n r | inr r ↦ for_labels texts source fault n r ]
 
 -- ---- what is refused is a refusal
 
-same_refusal : (source : List ℕ) (f g : Fault) (m n : ℕ) → assembled source ≡ Err (f, m)
+same_refusal : (source : List ℕ) (f g : LineFault) (m n : ℕ) → assembled source ≡ Err (f, m)
     → assembled source ≡ Err (g, n) → IsRefusal source f m → IsRefusal source g n
 same_refusal source f g m n e k h =
     let same = pairs (sym e ∙ k) in
-    subst (λ (x : Fault × ℕ). IsRefusal source x.0 x.1) same h
+    subst (λ (x : LineFault × ℕ). IsRefusal source x.0 x.1) same h
   where
-    pairs : ◌≡◌ {A = Result (Words × Names) (Fault × ℕ)} (Err (f, m)) (Err (g, n))
-        → ◌≡◌ {A = Fault × ℕ} (f, m) (g, n)
+    pairs : ◌≡◌ {A = Result (Words × Names) (LineFault × ℕ)} (Err (f, m)) (Err (g, n))
+        → ◌≡◌ {A = LineFault × ℕ} (f, m) (g, n)
     pairs e = cc
 
-not_refused : {A : Type 0} (source : List ℕ) (f : Fault) (n : ℕ) (image : Words) (names : Names)
+not_refused : {A : Type 0} (source : List ℕ) (f : LineFault) (n : ℕ) (image : Words) (names : Names)
     → assembled source ≡ Err (f, n) → assembled source ≡ Ok (image, names) → A
 not_refused source f n image names e k = absurd (other (sym e ∙ k))
   where
-    other : ◌≡◌ {A = Result (Words × Names) (Fault × ℕ)} (Err (f, n)) (Ok (image, names)) → ⊥
+    other : ◌≡◌ {A = Result (Words × Names) (LineFault × ℕ)} (Err (f, n)) (Ok (image, names)) → ⊥
     other e = cc
 
 -- where the first sweep stops
@@ -129,7 +129,7 @@ refused_there source stop = record {
   fault-is = stop.fault-is;
 }
 
-pub refused_is : Texts → (source : List ℕ) (fault : Fault) (n : ℕ) → assembled source ≡ Err (fault, n)
+pub refused_is : Texts → (source : List ℕ) (fault : LineFault) (n : ℕ) → assembled source ≡ Err (fault, n)
     → IsRefusal source fault n
 refused_is texts source fault n e =
     elim (pass_or_stop texts at_first 1 [] (lines_of source) front_first) [

@@ -6,24 +6,24 @@ use Rattle.std.proofs.lemmas.Bool.Decides.{nat_tests}
 use Rattle.asm_text.proofs.WordLaws.{false_true}
 use Rattle.assembler.specs.Faults.{lower, number}
 use Rattle.assembler.specs.Refusals.{IsLowest}
-use Rattle.assembler.specs.declared.fault.Fault.{Fault}
-use Rattle.assembler.specs.declared.fault.Fault.TheVariants.{NotText, UnknownWord, BadOperand, ImmediateNotRotated, BranchTooFar, LabelTwice, LabelMissing, OutOfRange, Unallocated, TooLong}
+use Rattle.assembler.specs.declared.fault.LineFault.{LineFault}
+use Rattle.assembler.specs.declared.fault.LineFault.TheVariants.{NotText, UnknownWord, BadOperand, ImmediateNotRotated, BranchTooFar, LabelTwice, LabelMissing, OutOfRange, Unallocated, TooLong}
 
 -- the lowest fault of those that hold, or none does
-unfoldable pub IsLeast : (Fault → Type 0) → Option Fault → Type 0
-IsLeast Has None = (fault : Fault) → Has fault → ⊥
+unfoldable pub IsLeast : (LineFault → Type 0) → Option LineFault → Type 0
+IsLeast Has None = (fault : LineFault) → Has fault → ⊥
 IsLeast Has (Some fault) = IsLowest Has fault
 
-pub either : (o : Option Fault) → (o ≡ None) ⊎ ((f : Fault) × (o ≡ Some f))
+pub either : (o : Option LineFault) → (o ≡ None) ⊎ ((f : LineFault) × (o ≡ Some f))
 either None = inl refl
 either (Some f) = inr (f, refl)
 
 -- ---- numbers
 
-pub same_le : (f g : Fault) → f ≡ g → number f ≤ number g
+pub same_le : (f g : LineFault) → f ≡ g → number f ≤ number g
 same_le f g e = subst (λ x. number f ≤ number x) e (omega arith)
 
-abbrev fault_at : ℕ → Fault
+abbrev fault_at : ℕ → LineFault
 fault_at n =
     if n == 2 then NotText
     else if n == 3 then UnknownWord
@@ -36,11 +36,11 @@ fault_at n =
     else if n == 10 then Unallocated
     else TooLong
 
-back : (f : Fault) → fault_at (number f) ≡ f
+back : (f : LineFault) → fault_at (number f) ≡ f
 back NotText = refl
 back _ = refl
 
-same_number : (f g : Fault) → number f ≡ number g → f ≡ g
+same_number : (f g : LineFault) → number f ≡ number g → f ≡ g
 same_number f g e = sym (back f) ∙ ap fault_at e ∙ back g
 
 -- ---- one part
@@ -49,24 +49,24 @@ pub least_none : IsLeast (λ f. ⊥) None
 unfolding IsLeast
 least_none = λ f h. h
 
-pub least_option : (o : Option Fault) → IsLeast (λ f. o ≡ Some f) o
+pub least_option : (o : Option LineFault) → IsLeast (λ f. o ≡ Some f) o
 unfolding IsLeast
 least_option None = λ f e. let k = e in absurd cc
 least_option (Some g) = record { holds = refl; lowest = λ f e. same_le g f (let k = e in cc) }
 
-abbrev pub failed : {A : Type 0} → Result A Fault → Option Fault
+abbrev pub failed : {A : Type 0} → Result A LineFault → Option LineFault
 failed (Ok a) = None
 failed (Err f) = Some f
 
-pub least_result : {A : Type 0} (r : Result A Fault) → IsLeast (λ f. r ≡ Err f) (failed r)
+pub least_result : {A : Type 0} (r : Result A LineFault) → IsLeast (λ f. r ≡ Err f) (failed r)
 unfolding IsLeast
 least_result (Ok a) = λ f e. let k = e in absurd cc
 least_result (Err g) = record { holds = refl; lowest = λ f e. same_le g f (let k = e in cc) }
 
-abbrev pub guard : Bool → Fault → Option Fault
+abbrev pub guard : Bool → LineFault → Option LineFault
 guard b g = if b then Some g else None
 
-pub least_guard : (b : Bool) (g : Fault) (M : Type 0) → (b ≡ true → M) → (M → b ≡ true)
+pub least_guard : (b : Bool) (g : LineFault) (M : Type 0) → (b ≡ true → M) → (M → b ≡ true)
     → IsLeast (λ f. (f ≡ g) × M) (guard b g)
 unfolding IsLeast
 least_guard true g M there again =
@@ -78,7 +78,7 @@ least_guard false g M there again = λ f e. false_true (again e.1)
 chain : (a b c : ℕ) → a ≤ b → b ≤ c → a ≤ c
 chain a b c h k = omega (arith, h, k)
 
-pub least_both : (P Q : Fault → Type 0) (a b : Option Fault) → IsLeast P a → IsLeast Q b
+pub least_both : (P Q : LineFault → Type 0) (a b : Option LineFault) → IsLeast P a → IsLeast Q b
     → IsLeast (λ f. P f ⊎ Q f) (lower a b)
 unfolding IsLeast
 least_both P Q None None h k = λ f e. elim e [ inl x ↦ h f x | inr x ↦ k f x ]
@@ -93,7 +93,7 @@ least_both P Q (Some a) (Some b) h k =
     ]
   where
     -- the lower of the two
-    lowest_is : (c : Fault) → P c ⊎ Q c → number c ≤ number a → number c ≤ number b
+    lowest_is : (c : LineFault) → P c ⊎ Q c → number c ≤ number a → number c ≤ number b
         → IsLowest (λ f. P f ⊎ Q f) c
     lowest_is c there under-a under-b = record {
       holds = there;
@@ -104,8 +104,8 @@ least_both P Q (Some a) (Some b) h k =
           ];
     }
 
-pub least_same : (P Q : Fault → Type 0) (o : Option Fault) → ((f : Fault) → P f → Q f)
-    → ((f : Fault) → Q f → P f) → IsLeast P o → IsLeast Q o
+pub least_same : (P Q : LineFault → Type 0) (o : Option LineFault) → ((f : LineFault) → P f → Q f)
+    → ((f : LineFault) → Q f → P f) → IsLeast P o → IsLeast Q o
 unfolding IsLeast
 least_same P Q None there again h = λ f e. h f (again f e)
 least_same P Q (Some g) there again h =
@@ -113,22 +113,22 @@ least_same P Q (Some g) there again h =
 
 -- ---- there is one answer
 
-pub least_is : (P : Fault → Type 0) (o : Option Fault) (f : Fault) → IsLeast P o → IsLowest P f → o ≡ Some f
+pub least_is : (P : LineFault → Type 0) (o : Option LineFault) (f : LineFault) → IsLeast P o → IsLowest P f → o ≡ Some f
 unfolding IsLeast
 least_is P None f h k = absurd (h f k.holds)
 least_is P (Some g) f h k =
     ap Some (same_number g f
     (let x = h.lowest f k.holds in let y = k.lowest g h.holds in omega (arith, x, y)))
 
-pub least_no : (P : Fault → Type 0) (o : Option Fault) → IsLeast P o → ((f : Fault) → P f → ⊥) → o ≡ None
+pub least_no : (P : LineFault → Type 0) (o : Option LineFault) → IsLeast P o → ((f : LineFault) → P f → ⊥) → o ≡ None
 unfolding IsLeast
 least_no P None h k = refl
 least_no P (Some g) h k = absurd (k g h.holds)
 
-pub no_least : (P : Fault → Type 0) (o : Option Fault) → IsLeast P o → o ≡ None → (f : Fault) → P f → ⊥
+pub no_least : (P : LineFault → Type 0) (o : Option LineFault) → IsLeast P o → o ≡ None → (f : LineFault) → P f → ⊥
 unfolding IsLeast
 no_least P o h e = let k : IsLeast P None = subst (IsLeast P) e h in k
 
-pub is_least : (P : Fault → Type 0) (o : Option Fault) (f : Fault) → IsLeast P o → o ≡ Some f → IsLowest P f
+pub is_least : (P : LineFault → Type 0) (o : Option LineFault) (f : LineFault) → IsLeast P o → o ≡ Some f → IsLowest P f
 unfolding IsLeast
 is_least P o f h e = let k : IsLeast P (Some f) = subst (IsLeast P) e h in k

@@ -10,7 +10,7 @@ use Rattle.asm_text.proofs.WordLaws.{false_true}
 use Rattle.assembler.specs.Assembles.{places_from}
 use Rattle.assembler.specs.Faults.{lower}
 use Rattle.assembler.specs.Sweeps.{State, is_17th, open_has, org_fault, overlaps, place_fault}
-use Rattle.assembler.specs.declared.fault.Fault.TheVariants.{OutOfRange, TooLong}
+use Rattle.assembler.specs.declared.fault.LineFault.TheVariants.{OutOfRange, TooLong}
 use Rattle.assembler.proofs.AssembleBack.{Apart, Exact, In, in_memory_all, may_four, no_overlap}
 use Rattle.assembler.proofs.AssembleSteps.{Covers, InSegments}
 use Rattle.assembler.proofs.RefuseLeast.{IsLeast, guard, least_both, least_guard}

@@ -15,8 +15,8 @@ use Rattle.asm_text.specs.declared.statement.TextFault.{TextFault}
 use Rattle.assembler.specs.Assembles.{Laid, Once, address_after, is_open, label_at, labels_of, laid, places_from, segments, word_count}
 use Rattle.assembler.specs.Refusals.{ArePassed, HasFault, IsLowest, IsUnreadable, IsWrong, address_of_next, asked}
 use Rattle.assembler.specs.Sweeps.{Names, State, at_first, label_fault, labelled, line_step, said_step, swept, swept_on}
-use Rattle.assembler.specs.declared.fault.Fault.{Fault}
-use Rattle.assembler.specs.declared.fault.Fault.TheVariants.{OutOfRange, TooLong}
+use Rattle.assembler.specs.declared.fault.LineFault.{LineFault}
+use Rattle.assembler.specs.declared.fault.LineFault.TheVariants.{OutOfRange, TooLong}
 use Rattle.assembler.proofs.AssembleBack.{Apart, Exact, In}
 use Rattle.assembler.proofs.AssembleBasics.{all_map}
 use Rattle.assembler.proofs.AssembleLaws.{first_covers, first_exact, first_segments, parts_some}
@@ -90,7 +90,7 @@ names_next s k before label said h fresh name a =
       ],
     )
 
-few_words : (before : List Parsed) (p : Parsed) → ((f : Fault) → IsWrong before p f → ⊥)
+few_words : (before : List Parsed) (p : Parsed) → ((f : LineFault) → IsWrong before p f → ⊥)
     → length (taken_by (before ++ p ∷ [])) ≤ 65536
 few_words before p none =
     elim (cases_Bool (nat_lt 65536 (length (taken_by (before ++ p ∷ []))))) [
@@ -213,11 +213,11 @@ line_least texts s k before line h = go (line_of line) refl (texts.least line)
               (one_meaning x.0 p (line_of line) (texts.reads line x.0 x.1) is) x.2
         ]) (said_least s k before p.label p.said h (spelled_some line p (texts.spells line p is)))
 
-went_on : (r : Result State Fault) → failed r ≡ None → (t : State) × (r ≡ Ok t)
+went_on : (r : Result State LineFault) → failed r ≡ None → (t : State) × (r ≡ Ok t)
 went_on (Ok t) e = (t, refl)
 went_on (Err f) e = absurd (none-some f (sym e))
 
-stopped : (r : Result State Fault) (f : Fault) → failed r ≡ Some f → r ≡ Err f
+stopped : (r : Result State LineFault) (f : LineFault) → failed r ≡ Some f → r ≡ Err f
 stopped (Ok t) f e = absurd (none-some f e)
 stopped (Err g) f e = ap Err (same_Some g f e)
 
@@ -273,7 +273,7 @@ pub record Stops (before : List Parsed) (lines : List (List ℕ)) : Type 0 where
   pub parts : lines ≡ front ++ (line ∷ after)
   pub said : List Parsed
   pub passed : ArePassed before front said
-  pub fault : Fault
+  pub fault : LineFault
   pub fault-is : IsLowest (HasFault (before ++ said) line) fault
 
 pub pass_or_stop : Texts → (s : State) (k : ℕ) (before : List Parsed) (lines : List (List ℕ))
@@ -322,7 +322,7 @@ pass_or_stop texts s k before (line ∷ lines) h =
 
 -- what the first sweep returns for a line that stops it
 pub stops_swept : Texts
-    → (s : State) (k : ℕ) (before : List Parsed) (line : List ℕ) (after : List (List ℕ)) (fault : Fault)
+    → (s : State) (k : ℕ) (before : List Parsed) (line : List ℕ) (after : List (List ℕ)) (fault : LineFault)
     → Front s k before → IsLowest (HasFault before line) fault
     → swept s k (line ∷ after) ≡ Err (fault, k)
 unfolding swept

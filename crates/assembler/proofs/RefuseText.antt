@@ -22,8 +22,8 @@ use Rattle.asm_text.proofs.WordLaws.{false_true, spelled_again, spelled_is}
 use Rattle.assembler.specs.Faults.{number}
 use Rattle.assembler.specs.Refusals.{BeginsLine, BeginsStatement, HasStrayByte, IsUnreadable}
 use Rattle.assembler.specs.Sweeps.{line_fault}
-use Rattle.assembler.specs.declared.fault.Fault.{Fault}
-use Rattle.assembler.specs.declared.fault.Fault.TheVariants.{NotText, UnknownWord, BadOperand}
+use Rattle.assembler.specs.declared.fault.LineFault.{LineFault}
+use Rattle.assembler.specs.declared.fault.LineFault.TheVariants.{NotText, UnknownWord, BadOperand}
 use Rattle.assembler.proofs.PutLaws.{all_append}
 use Rattle.assembler.proofs.RefuseLeast.{IsLeast}
 
@@ -400,23 +400,23 @@ parsed_sorted ps = inr (refl, λ h. h)
 
 -- ---- the lowest
 
-abbrev pub fault_in_reading : Result Parsed TextFault → Option Fault
+abbrev pub fault_in_reading : Result Parsed TextFault → Option LineFault
 fault_in_reading (Ok p) = None
 fault_in_reading (Err w) = Some (line_fault w)
 
-from_two : (line : List ℕ) (f : Fault) → IsUnreadable line f → 2 ≤ number f
+from_two : (line : List ℕ) (f : LineFault) → IsUnreadable line f → 2 ≤ number f
 from_two line NotText h = omega arith
 from_two line UnknownWord h = omega arith
 from_two line BadOperand h = omega arith
 from_two line _ h = absurd h
 
-from_three : (line : List ℕ) → is_text_line line ≡ true → (f : Fault) → IsUnreadable line f → 3 ≤ number f
+from_three : (line : List ℕ) → is_text_line line ≡ true → (f : LineFault) → IsUnreadable line f → 3 ≤ number f
 from_three line text NotText h = false_true (sym (stray_text line h) ∙ text)
 from_three line text UnknownWord h = omega arith
 from_three line text BadOperand h = omega arith
 from_three line text _ h = absurd h
 
-from_four : (line : List ℕ) → is_text_line line ≡ true → BeginsLine (body line) → (f : Fault)
+from_four : (line : List ℕ) → is_text_line line ≡ true → BeginsLine (body line) → (f : LineFault)
     → IsUnreadable line f → 4 ≤ number f
 from_four line text begins NotText h = false_true (sym (stray_text line h) ∙ text)
 from_four line text begins UnknownWord h = absurd (h begins)
@@ -424,7 +424,7 @@ from_four line text begins BadOperand h = omega arith
 from_four line text begins _ h = absurd h
 
 none_unreadable : (line : List ℕ) (p : Parsed) → is_text_line line ≡ true → BeginsLine (body line)
-    → Spells p line → (f : Fault) → IsUnreadable line f → ⊥
+    → Spells p line → (f : LineFault) → IsUnreadable line f → ⊥
 none_unreadable line p text begins spelled NotText h = false_true (sym (stray_text line h) ∙ text)
 none_unreadable line p text begins spelled UnknownWord h = h begins
 none_unreadable line p text begins spelled BadOperand h = h p spelled

@@ -40,7 +40,7 @@ use Rattle.arm2_decode.specs.declared.instr.Instr.{Instr}
 use Rattle.asm_text.specs.declared.printed_lines.Shown.TheVariants as shown
 use Rattle.asm_text.specs.Shown.{is_shown_text}
 use Rattle.asm_text.specs.Statements.{Parsed, action_of, after_word, line_of, only_target, operands_of, or_bad, parsed, single_said, single_with, with_label, with_word}
-use Rattle.assembler.specs.declared.fault.Fault.{Fault}
+use Rattle.assembler.specs.declared.fault.LineFault.{LineFault}
 use Rattle.assembler.specs.Codes.{encoded, refer}
 use Rattle.assembler.specs.Shown.{Gives, Says}
 use Rattle.asm_text.specs.Words.{IsCond, branch_name, word_of}
@@ -316,7 +316,7 @@ operation_line c _ at = refl
 
 -- ---- what assembles to the word is an instruction or a branch
 
-branch_back : (u : Use) (r : Result ℕ Fault) (w : ℕ) → is_branch u ≡ true → r ≡ Ok w → target_word u r ≡ Some w
+branch_back : (u : Use) (r : Result ℕ LineFault) (w : ℕ) → is_branch u ≡ true → r ≡ Ok w → target_word u r ≡ Some w
 branch_back (use_of.Branch link) r w h e = ap (target_word (use_of.Branch link)) e
 branch_back (use_of.Adr d) r w h e = absurd cc
 branch_back (use_of.Transfer load byte d) r w h e = absurd cc

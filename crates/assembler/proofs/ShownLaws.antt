@@ -24,8 +24,8 @@ use Rattle.asm_text.proofs.HexLaws.{all_digits}
 use Rattle.asm_text.proofs.PieceLaws.{pieces_again}
 use Rattle.asm_text.proofs.ShownLaws.{shown_line, upper_spelled}
 use Rattle.assembler.specs.Codes.{encoded, refer}
-use Rattle.assembler.specs.declared.fault.Fault.{Fault}
-use Rattle.assembler.specs.declared.fault.Fault.TheVariants.{NotText}
+use Rattle.assembler.specs.declared.fault.LineFault.{LineFault}
+use Rattle.assembler.specs.declared.fault.LineFault.TheVariants.{NotText}
 use Rattle.arm2_decode.specs.declared.instr.Instr.{Instr}
 use Rattle.arm2_decode.specs.declared.instr.Unallocated.{Unallocated}
 use Rattle.arm2_decode.specs.Table.{Means}
@@ -36,15 +36,15 @@ use Rattle.assembler.specs.Shown.{Gives, hex_line}
 
 -- ---- what assembles back to a word is a line of it
 
-abbrev ok_by : Option ℕ → Result ℕ Fault
+abbrev ok_by : Option ℕ → Result ℕ LineFault
 ok_by None = Err NotText
 ok_by (Some w) = Ok w
 
-given_ok : (r : Result ℕ Fault) (w : ℕ) → word_given r ≡ Some w → r ≡ Ok w
+given_ok : (r : Result ℕ LineFault) (w : ℕ) → word_given r ≡ Some w → r ≡ Ok w
 given_ok (Ok v) w h = ap ok_by h
 given_ok (Err fault) w h = absurd cc
 
-target_ok : (u : Use) (r : Result ℕ Fault) (w : ℕ) → target_word u r ≡ Some w → r ≡ Ok w
+target_ok : (u : Use) (r : Result ℕ LineFault) (w : ℕ) → target_word u r ≡ Some w → r ≡ Ok w
 target_ok (use_of.Branch link) (Ok v) w h = ap ok_by h
 target_ok u r w h = absurd cc
 

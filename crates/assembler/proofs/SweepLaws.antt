@@ -7,7 +7,7 @@ use Rattle.std.specs.Str.{bytes_eq}
 use Rattle.loader.specs.Labels.{Names, address_of}
 use Rattle.assembler.specs.Sweeps.{Names as SpecNames, State, all_placed, filled, filled_on, item_step, line_step, overlaps, placed, swept, swept_on, value_pending, with_name}
 use Rattle.assembler.specs.Views.{item_of, span_of}
-use Rattle.assembler.specs.declared.fault.Fault.{Fault}
+use Rattle.assembler.specs.declared.fault.LineFault.{LineFault}
 use Rattle.assembler.specs.declared.item.Item.{Item as CodeItem}
 use Rattle.loader.specs.Image.{Words}
 use Rattle.asm_text.specs.Source.{lines_of}
@@ -39,14 +39,14 @@ unfolding swept
 swept_more s k text line rest e = rw e refl
 
 -- one item more is put
-pub filled_step : (names : SpecNames) (old new : Words) (items : List CodeItem) (i : ℕ) (item : CodeItem) (whole : Result Words (Fault × ℕ)) → i < length items → item ≡ get_or items i item
+pub filled_step : (names : SpecNames) (old new : Words) (items : List CodeItem) (i : ℕ) (item : CodeItem) (whole : Result Words (LineFault × ℕ)) → i < length items → item ≡ get_or items i item
     → item_step names old (item_of item) ≡ Ok new → filled names old (map item_of (drop i items)) ≡ whole → filled names new (map item_of (drop (i + 1) items)) ≡ whole
 filled_step names old new items i item whole lt is put before =
     let there = ap (λ (x : CodeItem). item_step names old (item_of x)) (sym is) ∙ put in
-    let more = ap (λ (r : Result Words Fault). filled_on (get_or items i item).line r (λ image. filled names image (map item_of (drop (i + 1) items)))) there in
+    let more = ap (λ (r : Result Words LineFault). filled_on (get_or items i item).line r (λ image. filled names image (map item_of (drop (i + 1) items)))) there in
     sym (filled_more names old items i item lt ∙ more) ∙ before
 
-pub filled_end : (names : SpecNames) (image : Words) (items : List CodeItem) (i : ℕ) (whole : Result Words (Fault × ℕ)) → length items ≤ i
+pub filled_end : (names : SpecNames) (image : Words) (items : List CodeItem) (i : ℕ) (whole : Result Words (LineFault × ℕ)) → length items ≤ i
     → filled names image (map item_of (drop i items)) ≡ whole → whole ≡ Ok image
 unfolding filled
 filled_end names image items i whole le before =

@@ -32,16 +32,17 @@ use Rattle.asm_text.specs.declared.syntax.Code.{Code}
 use Rattle.asm_text.specs.declared.syntax.Use.{Use}
 use Rattle.asm_text.specs.declared.syntax.Use.TheVariants as use_of
 use Rattle.asm_text.specs.declared.syntax.Reference.{Reference}
-use Rattle.assembler.specs.declared.fault.Fault.{Fault}
-use Rattle.assembler.specs.declared.fault.Fault.TheVariants.{ImmediateNotRotated, BranchTooFar, OutOfRange}
-use Rattle.assembler.specs.declared.fault.Fault.TheVariants.{Unallocated}
+use Rattle.assembler.specs.declared.fault.LineFault.{LineFault}
+use Rattle.assembler.specs.declared.fault.LineFault.TheVariants.{ImmediateNotRotated, BranchTooFar}
+use Rattle.assembler.specs.declared.fault.LineFault.TheVariants.{OutOfRange}
+use Rattle.assembler.specs.declared.fault.LineFault.TheVariants.{Unallocated}
 
 -- a word that no bar holds
-abbrev pub allowed : ℕ → ℕ → Result ℕ Fault
+abbrev pub allowed : ℕ → ℕ → Result ℕ LineFault
 allowed why word = if why == 0 then Ok word else Err Unallocated
 
 -- a word whose numbers fit
-abbrev pub in_range : Bool → Result ℕ Fault → Result ℕ Fault
+abbrev pub in_range : Bool → Result ℕ LineFault → Result ℕ LineFault
 in_range fits word = if fits then word else Err OutOfRange
 
 -- ---- data processing
@@ -54,7 +55,7 @@ is_byte_by n k = nat_lt (rotate_left w32 n (2 * k)) 256
 abbrev pub rotation_of : ℕ → Option ℕ
 rotation_of n = find (is_byte_by n) (range_with_len 0 16)
 
-abbrev pub rotated_word : ℕ → Data → ℕ → Option ℕ → Result ℕ Fault
+abbrev pub rotated_word : ℕ → Data → ℕ → Option ℕ → Result ℕ LineFault
 rotated_word c d n None = Err ImmediateNotRotated
 rotated_word c d n (Some k) =
     allowed (data_clash (opcode_number d.opcode) (bit_of d.sets_flags))
@@ -62,7 +63,7 @@ rotated_word c d n (Some k) =
     (c ∷ opcode_number d.opcode ∷ bit_of d.sets_flags ∷ register_number d.rn ∷ register_number d.rd ∷ k
     ∷ rotate_left w32 n (2 * k) ∷ []))
 
-abbrev pub immediate_word : ℕ → Data → ℕ → Result ℕ Fault
+abbrev pub immediate_word : ℕ → Data → ℕ → Result ℕ LineFault
 immediate_word c d n = rotated_word c d n (rotation_of n)
 
 -- LSL #0..31, LSR #1..32, ASR #1..32, ROR #1..31
@@ -83,31 +84,31 @@ abbrev pub amount_shift : Amount → Shift
 amount_shift (By s n) = s
 amount_shift Rrx = Ror
 
-abbrev pub register_word : ℕ → Data → Register → Amount → Result ℕ Fault
+abbrev pub register_word : ℕ → Data → Register → Amount → Result ℕ LineFault
 register_word c d m a =
     in_range (amount_fits a) (allowed (data_clash (opcode_number d.opcode) (bit_of d.sets_flags))
     (word_in data_register_row
     (c ∷ opcode_number d.opcode ∷ bit_of d.sets_flags ∷ register_number d.rn ∷ register_number d.rd
     ∷ amount_field a ∷ shift_number (amount_shift a) ∷ register_number m ∷ [])))
 
-abbrev pub register_shift_word : ℕ → Data → Register → Shift → Register → Result ℕ Fault
+abbrev pub register_shift_word : ℕ → Data → Register → Shift → Register → Result ℕ LineFault
 register_shift_word c d m s r =
     allowed (data_shift_clash (opcode_number d.opcode) (bit_of d.sets_flags) (register_number r))
     (word_in data_register_shift_row
     (c ∷ opcode_number d.opcode ∷ bit_of d.sets_flags ∷ register_number d.rn ∷ register_number d.rd
     ∷ register_number r ∷ shift_number s ∷ register_number m ∷ []))
 
-abbrev pub shifted_word : ℕ → Data → Register → Shifting → Result ℕ Fault
+abbrev pub shifted_word : ℕ → Data → Register → Shifting → Result ℕ LineFault
 shifted_word c d m (shifting.Amount a) = register_word c d m a
 shifted_word c d m (shifting.Register s r) = register_shift_word c d m s r
 
-abbrev pub operand_word : ℕ → Data → Operand → Result ℕ Fault
+abbrev pub operand_word : ℕ → Data → Operand → Result ℕ LineFault
 operand_word c d (operand.Immediate n) = immediate_word c d n
 operand_word c d (operand.Shifted m s) = shifted_word c d m s
 
 -- ---- multiplies
 
-abbrev pub product_word : ℕ → Product → Result ℕ Fault
+abbrev pub product_word : ℕ → Product → Result ℕ LineFault
 product_word c p =
     allowed
     (multiply_clash (bit_of p.accumulate) (register_number p.rd) (register_number p.rn)
@@ -118,7 +119,7 @@ product_word c p =
 
 -- ---- transfers
 
-abbrev pub number_transfer : ℕ → Transfer → ℕ → Result ℕ Fault
+abbrev pub number_transfer : ℕ → Transfer → ℕ → Result ℕ LineFault
 number_transfer c t n =
     in_range (nat_lt n 4096)
     (allowed
@@ -128,7 +129,7 @@ number_transfer c t n =
     (c ∷ bit_of t.address.before ∷ bit_of t.address.up ∷ bit_of t.byte ∷ bit_of t.address.write_back
     ∷ bit_of t.load ∷ register_number t.address.rn ∷ register_number t.rd ∷ n ∷ [])))
 
-abbrev pub register_transfer : ℕ → Transfer → Register → Amount → Result ℕ Fault
+abbrev pub register_transfer : ℕ → Transfer → Register → Amount → Result ℕ LineFault
 register_transfer c t m a =
     in_range (amount_fits a)
     (allowed
@@ -139,11 +140,11 @@ register_transfer c t m a =
     ∷ bit_of t.load ∷ register_number t.address.rn ∷ register_number t.rd ∷ amount_field a
     ∷ shift_number (amount_shift a) ∷ register_number m ∷ [])))
 
-abbrev pub transfer_word : ℕ → Transfer → Distance → Result ℕ Fault
+abbrev pub transfer_word : ℕ → Transfer → Distance → Result ℕ LineFault
 transfer_word c t (distance.Number n) = number_transfer c t n
 transfer_word c t (distance.Register m a) = register_transfer c t m a
 
-abbrev pub block_word : ℕ → BlockTransfer → Result ℕ Fault
+abbrev pub block_word : ℕ → BlockTransfer → Result ℕ LineFault
 block_word c b =
     in_range (nat_lt b.list 65536) (allowed (block_clash (register_number b.rn) b.list)
     (word_in block_row
@@ -164,19 +165,19 @@ is_target target = target % 4 == 0 && nat_le target 67108860
 abbrev pub branch_offset : ℕ → ℕ → ℕ
 branch_offset at target = (target + 2 ^ 33 - (at + 8)) / 4 % 2 ^ 24
 
-abbrev pub branch_word : ℕ → ℕ → Bool → ℕ → Result ℕ Fault
+abbrev pub branch_word : ℕ → ℕ → Bool → ℕ → Result ℕ LineFault
 branch_word c at link target =
     if is_far at target then Err BranchTooFar
     else in_range (is_target target)
     (Ok (word_in branch_row (c ∷ bit_of link ∷ branch_offset at target ∷ [])))
 
-abbrev pub swi_word : ℕ → ℕ → Result ℕ Fault
+abbrev pub swi_word : ℕ → ℕ → Result ℕ LineFault
 swi_word c n = in_range (nat_lt n 16777216) (Ok (word_in swi_row (c ∷ n ∷ [])))
 
 -- ---- any
 
 -- the word, or the lowest fault
-abbrev pub action_word : ℕ → ℕ → Action → Result ℕ Fault
+abbrev pub action_word : ℕ → ℕ → Action → Result ℕ LineFault
 action_word c at (action.Data d) = operand_word c d d.operand
 action_word c at (action.Multiply p) = product_word c p
 action_word c at (action.Single t) = transfer_word c t t.address.distance
@@ -184,7 +185,7 @@ action_word c at (action.Block b) = block_word c b
 action_word c at (action.Branch link target) = branch_word c at link target
 action_word c at (action.Swi n) = swi_word c n
 
-abbrev pub encoded : Code → ℕ → Result ℕ Fault
+abbrev pub encoded : Code → ℕ → Result ℕ LineFault
 encoded code at = action_word (cond_number code.cond) at code.action
 
 -- ---- targets
@@ -228,6 +229,6 @@ abbrev pub refer : Reference → ℕ → ℕ → Code
 refer r at target = record { cond = r.cond; action = use_action r.how at target }
 
 -- a fault that does not wait for the target: a byte of R15
-abbrev pub use_fault : Use → Option Fault
+abbrev pub use_fault : Use → Option LineFault
 use_fault (use_of.Transfer load true R15) = Some Unallocated
 use_fault _ = None

@@ -1,11 +1,13 @@
 -- The order of faults.
 use Rattle.std.specs.Prelude.{ℕ, nat_lt, Option, Some, None, if◌then◌else◌}
-use Rattle.assembler.specs.declared.fault.Fault.{Fault}
-use Rattle.assembler.specs.declared.fault.Fault.TheVariants.{NotText, UnknownWord, BadOperand}
-use Rattle.assembler.specs.declared.fault.Fault.TheVariants.{ImmediateNotRotated, BranchTooFar, LabelTwice}
-use Rattle.assembler.specs.declared.fault.Fault.TheVariants.{LabelMissing, OutOfRange, Unallocated, TooLong}
+use Rattle.assembler.specs.declared.fault.LineFault.{LineFault}
+use Rattle.assembler.specs.declared.fault.LineFault.TheVariants.{NotText, UnknownWord, BadOperand}
+use Rattle.assembler.specs.declared.fault.LineFault.TheVariants.{ImmediateNotRotated, BranchTooFar}
+use Rattle.assembler.specs.declared.fault.LineFault.TheVariants.{LabelTwice}
+use Rattle.assembler.specs.declared.fault.LineFault.TheVariants.{LabelMissing, OutOfRange, Unallocated}
+use Rattle.assembler.specs.declared.fault.LineFault.TheVariants.{TooLong}
 
-abbrev pub number : Fault → ℕ
+abbrev pub number : LineFault → ℕ
 number NotText = 2
 number UnknownWord = 3
 number BadOperand = 4
@@ -18,7 +20,7 @@ number Unallocated = 10
 number TooLong = 11
 
 -- the one of the lower number
-abbrev pub lower : Option Fault → Option Fault → Option Fault
+abbrev pub lower : Option LineFault → Option LineFault → Option LineFault
 lower None other = other
 lower (Some a) None = Some a
 lower (Some a) (Some b) = if nat_lt (number b) (number a) then Some b else Some a

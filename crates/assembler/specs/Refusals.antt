@@ -16,9 +16,9 @@ use Rattle.assembler.specs.Assembles.{Laid, address_after, labels_of, laid, plac
 use Rattle.assembler.specs.Assembles.{word_count}
 use Rattle.assembler.specs.Codes.{encoded, refer, use_fault}
 use Rattle.assembler.specs.Faults.{number}
-use Rattle.assembler.specs.declared.fault.Fault.{Fault}
-use Rattle.assembler.specs.declared.fault.Fault.TheVariants.{NotText, UnknownWord, BadOperand, LabelTwice}
-use Rattle.assembler.specs.declared.fault.Fault.TheVariants.{LabelMissing, OutOfRange, TooLong}
+use Rattle.assembler.specs.declared.fault.LineFault.{LineFault}
+use Rattle.assembler.specs.declared.fault.LineFault.TheVariants.{NotText, UnknownWord, BadOperand, LabelTwice}
+use Rattle.assembler.specs.declared.fault.LineFault.TheVariants.{LabelMissing, OutOfRange, TooLong}
 
 -- ---- a line that cannot be read
 
@@ -51,7 +51,7 @@ pub record BeginsLine (text : List ℕ) : Type 0 where
 
 -- why a line cannot be read: it has such a byte; what begins in its first column is no label, or what comes
 -- next is no word; or it means nothing
-abbrev pub IsUnreadable : List ℕ → Fault → Type 0
+abbrev pub IsUnreadable : List ℕ → LineFault → Type 0
 IsUnreadable line NotText = HasStrayByte line
 IsUnreadable line UnknownWord = BeginsLine (body line) → ⊥
 IsUnreadable line BadOperand = (p : Parsed) → Spells p line → ⊥
@@ -69,7 +69,7 @@ abbrev pub address_of_next : List Parsed → ℕ
 address_of_next before = address_after_all 32768 before
 
 -- its word has no code, whatever address a label has
-abbrev pub HasCodeFault : ℕ → Option Said → Fault → Type 0
+abbrev pub HasCodeFault : ℕ → Option Said → LineFault → Type 0
 HasCodeFault at (Some (Codes c)) fault = encoded c at ≡ Err fault
 HasCodeFault at (Some (Refers r (Number n))) fault = encoded (refer r at n) at ≡ Err fault
 HasCodeFault at (Some (Refers r (Label name))) fault = use_fault r.how ≡ Some fault
@@ -97,18 +97,18 @@ AreTooLong lines =
     (MOST_WORDS < length (flat_map places (laid lines))) ⊎ (MOST_SEGMENTS < segments false (laid lines))
 
 -- a label that an earlier line has, an address that it cannot have, or too many words or segments
-abbrev pub Clashes : List Parsed → Parsed → Fault → Type 0
+abbrev pub Clashes : List Parsed → Parsed → LineFault → Type 0
 Clashes before p LabelTwice = IsRepeated before p.label
 Clashes before p OutOfRange = IsMisplaced before p.said
 Clashes before p TooLong = AreTooLong (before ++ p ∷ [])
 Clashes before p _ = ⊥
 
 -- what is wrong with a line that says this
-abbrev pub IsWrong : List Parsed → Parsed → Fault → Type 0
+abbrev pub IsWrong : List Parsed → Parsed → LineFault → Type 0
 IsWrong before p fault = HasCodeFault (address_of_next before) p.said fault ⊎ Clashes before p fault
 
 -- what is wrong with a line, by the lines before it, where no label's address is needed
-abbrev pub HasFault : List Parsed → List ℕ → Fault → Type 0
+abbrev pub HasFault : List Parsed → List ℕ → LineFault → Type 0
 HasFault before line fault = IsUnreadable line fault ⊎ ((p : Parsed) × Spells p line × IsWrong before p fault)
 
 -- ---- what needs a label's address
@@ -118,7 +118,7 @@ abbrev pub IsMissing : List (List ℕ × ℕ) → List ℕ → Type 0
 IsMissing labels name = (at : ℕ) → Contains labels (name, at) → ⊥
 
 -- a line names a label that no line has, or its word has no code with the label's address
-abbrev pub HasLabelFault : List (List ℕ × ℕ) → ℕ → Option Said → Fault → Type 0
+abbrev pub HasLabelFault : List (List ℕ × ℕ) → ℕ → Option Said → LineFault → Type 0
 HasLabelFault labels at (Some (Refers r (Label name))) fault =
     ((fault ≡ LabelMissing) × IsMissing labels name)
     ⊎ ((target : ℕ) × Contains labels (name, target) × (encoded (refer r at target) at ≡ Err fault))
@@ -127,25 +127,25 @@ HasLabelFault labels at (Some (Lists values)) fault =
 HasLabelFault labels at _ fault = ⊥
 
 abbrev pub IsFaultless : List (List ℕ × ℕ) → Laid → Type 0
-IsFaultless labels line = (fault : Fault) → HasLabelFault labels line.at line.said fault → ⊥
+IsFaultless labels line = (fault : LineFault) → HasLabelFault labels line.at line.said fault → ⊥
 
 -- ---- the whole
 
 -- a fault that holds, and of those that hold the one of the lowest number
-pub record IsLowest (Has : Fault → Type 0) (fault : Fault) : Type 0 where
+pub record IsLowest (Has : LineFault → Type 0) (fault : LineFault) : Type 0 where
   pub holds : Has fault
-  pub lowest : (other : Fault) → Has other → number fault ≤ number other
+  pub lowest : (other : LineFault) → Has other → number fault ≤ number other
 
 -- lines after others, and what each says; none has a fault that needs no label's address
 abbrev pub ArePassed : List Parsed → List (List ℕ) → List Parsed → Type 0
 ArePassed before [] [] = Unit {0}
 ArePassed before (line ∷ lines) (p ∷ ps) =
-    Spells p line × ((fault : Fault) → HasFault before line fault → ⊥)
+    Spells p line × ((fault : LineFault) → HasFault before line fault → ⊥)
     × ArePassed (before ++ p ∷ []) lines ps
 ArePassed before _ _ = ⊥
 
 -- the line of a number is the first with a fault that needs no label's address, and this is its lowest
-pub record IsRefusedAtOnce (source : List ℕ) (fault : Fault) (line_number : ℕ) : Type 0 where
+pub record IsRefusedAtOnce (source : List ℕ) (fault : LineFault) (line_number : ℕ) : Type 0 where
   pub front : List (List ℕ)
   pub line : List ℕ
   pub after : List (List ℕ)
@@ -156,7 +156,7 @@ pub record IsRefusedAtOnce (source : List ℕ) (fault : Fault) (line_number : �
   pub fault-is : IsLowest (HasFault said line) fault
 
 -- no line has such a fault, and that of the number is the first with one that needs a label's address
-pub record IsRefusedForLabels (source : List ℕ) (fault : Fault) (line_number : ℕ) : Type 0 where
+pub record IsRefusedForLabels (source : List ℕ) (fault : LineFault) (line_number : ℕ) : Type 0 where
   pub said : List Parsed
   pub passed : ArePassed [] (lines_of source) said
   pub front : List Laid
@@ -167,6 +167,6 @@ pub record IsRefusedForLabels (source : List ℕ) (fault : Fault) (line_number :
   pub none : AllByRecursion (IsFaultless (labels_of (laid said))) front
   pub fault-is : IsLowest (HasLabelFault (labels_of (laid said)) line.at line.said) fault
 
-abbrev pub IsRefusal : List ℕ → Fault → ℕ → Type 0
+abbrev pub IsRefusal : List ℕ → LineFault → ℕ → Type 0
 IsRefusal source fault line_number =
     IsRefusedAtOnce source fault line_number ⊎ IsRefusedForLabels source fault line_number

@@ -34,7 +34,7 @@ use Rattle.asm_text.specs.declared.syntax.Use.{Use}
 use Rattle.asm_text.specs.declared.syntax.Use.TheVariants as use_of
 use Rattle.asm_text.specs.declared.printed_lines.Shown.{Shown}
 use Rattle.asm_text.specs.declared.printed_lines.Shown.TheVariants as shown
-use Rattle.assembler.specs.declared.fault.Fault.{Fault}
+use Rattle.assembler.specs.declared.fault.LineFault.{LineFault}
 use Rattle.assembler.specs.Codes.{encoded, refer}
 use Rattle.assembler.specs.Shown.{Gives, hex_line}
 
@@ -285,11 +285,11 @@ pub record IsShown (word at : ℕ) (line : List ℕ) : Type 0 where
 
 -- ---- what the code tries of a spelling; a spelling that assembles to its word passes
 
-abbrev pub target_word : Use → Result ℕ Fault → Option ℕ
+abbrev pub target_word : Use → Result ℕ LineFault → Option ℕ
 target_word (use_of.Branch link) (Ok word) = Some word
 target_word _ _ = None
 
-abbrev pub word_given : Result ℕ Fault → Option ℕ
+abbrev pub word_given : Result ℕ LineFault → Option ℕ
 word_given (Ok word) = Some word
 word_given (Err fault) = None
 

@@ -13,9 +13,9 @@ use Rattle.asm_text.specs.declared.statement.TextFault.TheVariants as text_fault
 use Rattle.asm_text.specs.Said.{Target, Number, Label, Said, Codes, Refers, Orgs, Lists}
 use Rattle.asm_text.specs.Statements.{Parsed, line_of}
 use Rattle.asm_text.specs.Source.{lines_of}
-use Rattle.assembler.specs.declared.fault.Fault.{Fault}
-use Rattle.assembler.specs.declared.fault.Fault.TheVariants.{NotText, UnknownWord, BadOperand, LabelTwice}
-use Rattle.assembler.specs.declared.fault.Fault.TheVariants.{LabelMissing, OutOfRange, TooLong}
+use Rattle.assembler.specs.declared.fault.LineFault.{LineFault}
+use Rattle.assembler.specs.declared.fault.LineFault.TheVariants.{NotText, UnknownWord, BadOperand, LabelTwice}
+use Rattle.assembler.specs.declared.fault.LineFault.TheVariants.{LabelMissing, OutOfRange, TooLong}
 use Rattle.assembler.specs.Faults.{lower}
 use Rattle.assembler.specs.Codes.{encoded, refer, use_fault}
 
@@ -67,7 +67,7 @@ abbrev pub is_17th : State → Bool
 is_17th s = not (is_some s.start) && nat_le MOST_SEGMENTS (length s.closed)
 
 -- why so many words cannot come next
-abbrev pub place_fault : State → ℕ → Option Fault
+abbrev pub place_fault : State → ℕ → Option LineFault
 place_fault s n =
     if not (lies_in_memory s.at (s.at + 4 * n)) || overlaps s.closed s.at (s.at + 4 * n) then Some OutOfRange
     else (if nat_lt MOST_WORDS (s.words + n) || is_17th s then Some TooLong else None)
@@ -83,14 +83,14 @@ open_has None to n = false
 open_has (Some from) to n = nat_le from n && nat_lt n to
 
 -- why an ORG cannot have an address: no word may be there, or one is
-abbrev pub org_fault : State → ℕ → Option Fault
+abbrev pub org_fault : State → ℕ → Option LineFault
 org_fault s n =
     if not (may_hold n) || (overlaps s.closed n (n + 1) || open_has s.start s.at n) then Some OutOfRange
     else None
 
 -- ---- the first sweep: what needs no label's address
 
-abbrev pub label_fault : State → Option (List ℕ) → Option Fault
+abbrev pub label_fault : State → Option (List ℕ) → Option LineFault
 label_fault s None = None
 label_fault s (Some name) = if is_some (s.names name) then Some LabelTwice else None
 
@@ -126,109 +126,111 @@ abbrev pub all_placed : State → ℕ → List Target → State
 all_placed s k [] = s
 all_placed s k (v ∷ vs) = all_placed (placed s k (value_pending v)) k vs
 
-abbrev pub unless : Option Fault → State → Result State Fault
+abbrev pub unless : Option LineFault → State → Result State LineFault
 unless None s = Ok s
 unless (Some fault) s = Err fault
 
-abbrev pub word_pending : Result ℕ Fault → Result Pending Fault
+abbrev pub word_pending : Result ℕ LineFault → Result Pending LineFault
 word_pending (Ok w) = Ok (Fixed w)
 word_pending (Err fault) = Err fault
 
-abbrev pub pending_unless : Option Fault → Pending → Result Pending Fault
+abbrev pub pending_unless : Option LineFault → Pending → Result Pending LineFault
 pending_unless None p = Ok p
 pending_unless (Some fault) p = Err fault
 
 -- a word with a target, whose address is known or not
-abbrev pub target_pending : Reference → ℕ → Target → Result Pending Fault
+abbrev pub target_pending : Reference → ℕ → Target → Result Pending LineFault
 target_pending r at (Number n) = word_pending (encoded (refer r at n) at)
 target_pending r at (Label name) = pending_unless (use_fault r.how) (Waits r name)
 
 -- the faults of a line's label and place
-abbrev pub around_fault : State → Option (List ℕ) → ℕ → Option Fault
+abbrev pub around_fault : State → Option (List ℕ) → ℕ → Option LineFault
 around_fault s label n = lower (label_fault s label) (place_fault s n)
 
-abbrev pub pending_step : State → ℕ → Option (List ℕ) → Result Pending Fault → Result State Fault
+abbrev pub pending_step : State → ℕ → Option (List ℕ) → Result Pending LineFault → Result State LineFault
 pending_step s k label (Ok p) = unless (around_fault s label 1) (placed (labelled s label) k p)
 pending_step s k label (Err fault) = unless (lower (Some fault) (around_fault s label 1)) s
 
-abbrev pub org_step : State → Option (List ℕ) → ℕ → Result State Fault
+abbrev pub org_step : State → Option (List ℕ) → ℕ → Result State LineFault
 org_step s label n = unless (lower (label_fault s label) (org_fault s n)) (moved (labelled s label) n)
 
-abbrev pub list_step : State → ℕ → Option (List ℕ) → List Target → Result State Fault
+abbrev pub list_step : State → ℕ → Option (List ℕ) → List Target → Result State LineFault
 list_step s k label vs = unless (around_fault s label (length vs)) (all_placed (labelled s label) k vs)
 
-abbrev pub said_step : State → ℕ → Option (List ℕ) → Option Said → Result State Fault
+abbrev pub said_step : State → ℕ → Option (List ℕ) → Option Said → Result State LineFault
 said_step s k label None = unless (label_fault s label) (labelled s label)
 said_step s k label (Some (Codes c)) = pending_step s k label (word_pending (encoded c s.at))
 said_step s k label (Some (Refers r t)) = pending_step s k label (target_pending r s.at t)
 said_step s k label (Some (Orgs n)) = org_step s label n
 said_step s k label (Some (Lists vs)) = list_step s k label vs
 
-abbrev pub line_fault : TextFault → Fault
+abbrev pub line_fault : TextFault → LineFault
 line_fault text_fault.UnknownWord = UnknownWord
 line_fault text_fault.BadOperand = BadOperand
 line_fault _ = NotText
 
 -- after the line of a number, or its lowest fault
-abbrev pub line_step : State → ℕ → Result Parsed TextFault → Result State Fault
+abbrev pub line_step : State → ℕ → Result Parsed TextFault → Result State LineFault
 line_step s k (Ok p) = said_step s k p.label p.said
 line_step s k (Err w) = Err (line_fault w)
 
-abbrev pub swept_on : ℕ → Result State Fault → (State → Result State (Fault × ℕ)) → Result State (Fault × ℕ)
+abbrev pub swept_on : ℕ → Result State LineFault → (State → Result State (LineFault × ℕ))
+    → Result State (LineFault × ℕ)
 swept_on k (Ok s) on = on s
 swept_on k (Err fault) on = Err (fault, k)
 
 -- all lines, from the one of a number on; or the first that has a fault
-unfoldable pub swept : State → ℕ → List (List ℕ) → Result State (Fault × ℕ)
+unfoldable pub swept : State → ℕ → List (List ℕ) → Result State (LineFault × ℕ)
 swept s k [] = Ok s
 swept s k (line ∷ lines) = swept_on k (line_step s k (line_of line)) (λ t. swept t (k + 1) lines)
 
 -- ---- the second sweep: what needs one
 
-abbrev pub targeted : Option ℕ → (ℕ → Result ℕ Fault) → Result ℕ Fault
+abbrev pub targeted : Option ℕ → (ℕ → Result ℕ LineFault) → Result ℕ LineFault
 targeted None word = Err LabelMissing
 targeted (Some at) word = word at
 
 -- the word of an item
-abbrev pub resolved : Names → ℕ → Pending → Result ℕ Fault
+abbrev pub resolved : Names → ℕ → Pending → Result ℕ LineFault
 resolved names at (Fixed w) = Ok w
 resolved names at (Waits r name) = targeted (names name) (λ target. encoded (refer r at target) at)
 resolved names at (Address name) = targeted (names name) (λ target. Ok target)
 
-abbrev pub image_fault_of : ImageFault → Fault
+abbrev pub image_fault_of : ImageFault → LineFault
 image_fault_of image_fault.OutOfRange = OutOfRange
 image_fault_of _ = TooLong
 
-abbrev pub put_on : Option ImageFault → ℕ → ℕ → Words → Result Words Fault
+abbrev pub put_on : Option ImageFault → ℕ → ℕ → Words → Result Words LineFault
 put_on None at word image = Ok (with_word image at word)
 put_on (Some fault) at word image = Err (image_fault_of fault)
 
-abbrev pub word_put : Words → ℕ → Result ℕ Fault → Result Words Fault
+abbrev pub word_put : Words → ℕ → Result ℕ LineFault → Result Words LineFault
 word_put image at (Err fault) = Err fault
 word_put image at (Ok word) = put_on (put_fault image at word) at word image
 
-abbrev pub item_step : Names → Words → Item → Result Words Fault
+abbrev pub item_step : Names → Words → Item → Result Words LineFault
 item_step names image i = word_put image i.at (resolved names i.at i.pending)
 
-abbrev pub filled_on : ℕ → Result Words Fault → (Words → Result Words (Fault × ℕ)) → Result Words (Fault × ℕ)
+abbrev pub filled_on : ℕ → Result Words LineFault → (Words → Result Words (LineFault × ℕ))
+    → Result Words (LineFault × ℕ)
 filled_on k (Ok image) on = on image
 filled_on k (Err fault) on = Err (fault, k)
 
 -- the image of items, or the first that has a fault, by its line
-unfoldable pub filled : Names → Words → List Item → Result Words (Fault × ℕ)
+unfoldable pub filled : Names → Words → List Item → Result Words (LineFault × ℕ)
 filled names image [] = Ok image
 filled names image (i ∷ items) = filled_on i.line (item_step names image i) (λ more. filled names more items)
 
 -- ---- the whole
 
-abbrev pub assembled_with : Names → Result Words (Fault × ℕ) → Result (Words × Names) (Fault × ℕ)
+abbrev pub assembled_with : Names → Result Words (LineFault × ℕ) → Result (Words × Names) (LineFault × ℕ)
 assembled_with names (Ok image) = Ok (image, names)
 assembled_with names (Err fault) = Err fault
 
-abbrev pub assembled_on : Result State (Fault × ℕ) → Result (Words × Names) (Fault × ℕ)
+abbrev pub assembled_on : Result State (LineFault × ℕ) → Result (Words × Names) (LineFault × ℕ)
 assembled_on (Ok s) = assembled_with s.names (filled s.names [] s.items)
 assembled_on (Err fault) = Err fault
 
 -- the image and the names of a source; or its first fault, and the number of its line from 1
-abbrev pub assembled : List ℕ → Result (Words × Names) (Fault × ℕ)
+abbrev pub assembled : List ℕ → Result (Words × Names) (LineFault × ℕ)
 assembled source = assembled_on (swept at_first 1 (lines_of source))

@@ -4,7 +4,7 @@ use Rattle.loader.specs.Labels.{address_of}
 use Rattle.std.specs.Borrow.{Bor}
 use Rattle.assembler.specs.declared.fault.AsmFault.{AsmFault}
 use Rattle.assembler.specs.declared.fault.AsmFault.TheVariants.{Memory, Line}
-use Rattle.assembler.specs.declared.fault.Fault.{Fault}
+use Rattle.assembler.specs.declared.fault.LineFault.{LineFault}
 use Rattle.assembler.specs.declared.item.Item.{Item as CodeItem}
 use Rattle.assembler.specs.declared.item.Pending.{Pending as CodePending}
 use Rattle.assembler.specs.declared.item.Pending.TheVariants as code
@@ -21,7 +21,7 @@ pending_of (code.Address name) = Address name.now
 abbrev pub item_of : CodeItem → Item
 item_of i = record { line = i.line; at = i.at; pending = pending_of i.pending }
 
-abbrev pub result_pending : Result CodePending Fault → Result Pending Fault
+abbrev pub result_pending : Result CodePending LineFault → Result Pending LineFault
 result_pending (Ok p) = Ok (pending_of p)
 result_pending (Err fault) = Err fault
 
@@ -43,12 +43,12 @@ abbrev pub name_of : Option (Bor (List ℕ)) → Option (List ℕ)
 name_of label = option_map (λ name. name.now) label
 
 -- a refusal for memory, or the fault of a line
-abbrev pub Faulted : {A : Type 0} → AsmFault → ℕ → Result A Fault → Type 0
+abbrev pub Faulted : {A : Type 0} → AsmFault → ℕ → Result A LineFault → Type 0
 Faulted Memory line r = Unit {0}
 Faulted (Line fault k) line r = (k ≡ line) × (r ≡ Err fault)
 
 -- a refusal for memory, or a fault and its line
-abbrev pub FaultedAt : {A : Type 0} → AsmFault → Result A (Fault × ℕ) → Type 0
+abbrev pub FaultedAt : {A : Type 0} → AsmFault → Result A (LineFault × ℕ) → Type 0
 FaultedAt Memory r = Unit {0}
 FaultedAt (Line fault k) r = r ≡ Err (fault, k)
 

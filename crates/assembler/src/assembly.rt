@@ -6,7 +6,7 @@ ghost use Rattle.assembler.specs.Sweeps.{assembled, at_first, filled, item_step,
 ghost use Rattle.assembler.specs.Views.{Faulted, FaultedAt, RefusedAt, item_of, pending_of, state_of};
 
 use crate::encoded::encoded;
-use crate::fault::{AsmFault, Fault};
+use crate::fault::{AsmFault, LineFault};
 use crate::item::{Item, Pending};
 use crate::law::{sources_are_assembled, sources_are_refused};
 use crate::reference::refer;
@@ -23,18 +23,18 @@ pub struct Assembly {
 }
 
 // The word of an item, where the labels are known.
-fn resolved(labels: &Labels, item: Item<'_>) -> Result<u32, Fault>
+fn resolved(labels: &Labels, item: Item<'_>) -> Result<u32, LineFault>
     ensures { result ≡ resolved (address_of labels.now) item.entry.at (pending_of item.entry.pending) }
 {
     match item.pending {
         Pending::Fixed(word) => Ok(word),
         Pending::Waits(reference, name) => match labels.get(name) {
             Some(target) => encoded(refer(reference, item.at, target), item.at),
-            None => Err(Fault::LabelMissing),
+            None => Err(LineFault::LabelMissing),
         },
         Pending::Address(name) => match labels.get(name) {
             Some(address) => Ok(address),
-            None => Err(Fault::LabelMissing),
+            None => Err(LineFault::LabelMissing),
         },
     }
 }
@@ -53,8 +53,8 @@ fn put(alloc: Global, image: &mut Image, labels: &Labels, item: Item<'_>) -> Res
     match image.put(alloc, item.at, word) {
         Ok(()) => Ok(()),
         Err(ImageFault::Memory) => Err(AsmFault::Memory),
-        Err(ImageFault::OutOfRange) => Err(AsmFault::Line(Fault::OutOfRange, item.line)),
-        Err(ImageFault::TooLong) => Err(AsmFault::Line(Fault::TooLong, item.line)),
+        Err(ImageFault::OutOfRange) => Err(AsmFault::Line(LineFault::OutOfRange, item.line)),
+        Err(ImageFault::TooLong) => Err(AsmFault::Line(LineFault::TooLong, item.line)),
     }
 }
 
@@ -97,7 +97,7 @@ fn swept_source<'a>(alloc: Global, source: &'a [u8]) -> Result<Sweep<'a>, AsmFau
 ///
 /// The lines are gone through twice, the second time for what refers to a label. The first line at fault in
 /// the first pass is answered, else the first in the second; of several faults of a line the first in the
-/// order of [`Fault`]. `Memory`: an allocation failed.
+/// order of [`LineFault`]. `Memory`: an allocation failed.
 pub fn assemble(alloc: Global, source: &[u8]) -> Result<Assembly, AsmFault>
     ensures ok { IfOk result (λ a. assembled source.now ≡ Ok (a.image, address_of a.labels)) }
     ensures means { IfOk result (λ a. IsAssembly source.now a.image (address_of a.labels)) }

@@ -8,7 +8,7 @@ ghost use Rattle.assembler.specs.Codes.{register_shift_word, register_transfer, 
 ghost use Rattle.assembler.specs.Codes.{rotation_of, shifted_word, swi_word, transfer_word};
 ghost use Rattle.arm2_decode.specs.Table.{operands, row_of, word_in};
 
-use crate::fault::Fault;
+use crate::fault::LineFault;
 use arm2_decode::{
     Block, Branch, Cond, DataImmediate, DataRegister, DataRegisterShift, Instr, Multiply,
     Operation, Register, Shift, SingleFields, SingleImmediate, SingleRegister, Swi, block_clash,
@@ -41,14 +41,14 @@ fn rotation(n: u32) -> Option<u32>
     None
 }
 
-fn immediate(cond: Cond, fields: Data, n: u32) -> Result<u32, Fault>
+fn immediate(cond: Cond, fields: Data, n: u32) -> Result<u32, LineFault>
     ensures { result ≡ immediate_word (cond_number cond) fields n }
 {
     let Some(rotation) = rotation(n) else {
-        return Err(Fault::ImmediateNotRotated);
+        return Err(LineFault::ImmediateNotRotated);
     };
     if data_clash(fields.opcode.number(), fields.sets_flags) != 0 {
-        return Err(Fault::Unallocated);
+        return Err(LineFault::Unallocated);
     }
     let operation = Operation::DataImmediate(DataImmediate {
         opcode: fields.opcode,
@@ -95,14 +95,14 @@ fn shift(amount: Amount) -> Shift
     }
 }
 
-fn register(cond: Cond, fields: Data, rm: Register, amount: Amount) -> Result<u32, Fault>
+fn register(cond: Cond, fields: Data, rm: Register, amount: Amount) -> Result<u32, LineFault>
     ensures { result ≡ register_word (cond_number cond) fields rm amount }
 {
     if !amount_fits(amount) {
-        return Err(Fault::OutOfRange);
+        return Err(LineFault::OutOfRange);
     }
     if data_clash(fields.opcode.number(), fields.sets_flags) != 0 {
-        return Err(Fault::Unallocated);
+        return Err(LineFault::Unallocated);
     }
     let operation = Operation::DataRegister(DataRegister {
         opcode: fields.opcode,
@@ -122,11 +122,11 @@ fn register_shift(
     rm: Register,
     shift: Shift,
     rs: Register,
-) -> Result<u32, Fault>
+) -> Result<u32, LineFault>
     ensures { result ≡ register_shift_word (cond_number cond) fields rm shift rs }
 {
     if data_shift_clash(fields.opcode.number(), fields.sets_flags, rs.number()) != 0 {
-        return Err(Fault::Unallocated);
+        return Err(LineFault::Unallocated);
     }
     let operation = Operation::DataRegisterShift(DataRegisterShift {
         opcode: fields.opcode,
@@ -140,7 +140,7 @@ fn register_shift(
     Ok(word_of(cond, operation))
 }
 
-fn shifted(cond: Cond, fields: Data, rm: Register, shifting: Shifting) -> Result<u32, Fault>
+fn shifted(cond: Cond, fields: Data, rm: Register, shifting: Shifting) -> Result<u32, LineFault>
     ensures { result ≡ shifted_word (cond_number cond) fields rm shifting }
 {
     match shifting {
@@ -149,7 +149,7 @@ fn shifted(cond: Cond, fields: Data, rm: Register, shifting: Shifting) -> Result
     }
 }
 
-fn operand(cond: Cond, fields: Data, operand: Operand) -> Result<u32, Fault>
+fn operand(cond: Cond, fields: Data, operand: Operand) -> Result<u32, LineFault>
     ensures { result ≡ operand_word (cond_number cond) fields operand }
 {
     match operand {
@@ -158,13 +158,13 @@ fn operand(cond: Cond, fields: Data, operand: Operand) -> Result<u32, Fault>
     }
 }
 
-fn product(cond: Cond, product: Product) -> Result<u32, Fault>
+fn product(cond: Cond, product: Product) -> Result<u32, LineFault>
     ensures { result ≡ product_word (cond_number cond) product }
 {
     let (rd, rn) = (product.rd.number(), product.rn.number());
     let (rs, rm) = (product.rs.number(), product.rm.number());
     if multiply_clash(product.accumulate, rd, rn, rs, rm) != 0 {
-        return Err(Fault::Unallocated);
+        return Err(LineFault::Unallocated);
     }
     let operation = Operation::Multiply(Multiply {
         accumulate: product.accumulate,
@@ -196,14 +196,14 @@ fn single_fields(transfer: Transfer) -> SingleFields
     }
 }
 
-fn number_offset(cond: Cond, transfer: Transfer, n: u32) -> Result<u32, Fault>
+fn number_offset(cond: Cond, transfer: Transfer, n: u32) -> Result<u32, LineFault>
     ensures { result ≡ number_transfer (cond_number cond) transfer n }
 {
     if n >= 4096 {
-        return Err(Fault::OutOfRange);
+        return Err(LineFault::OutOfRange);
     }
     if single_clash(single_fields(transfer)) != 0 {
-        return Err(Fault::Unallocated);
+        return Err(LineFault::Unallocated);
     }
     let operation = Operation::SingleImmediate(SingleImmediate {
         before: transfer.address.before,
@@ -223,14 +223,14 @@ fn register_offset(
     transfer: Transfer,
     rm: Register,
     amount: Amount,
-) -> Result<u32, Fault>
+) -> Result<u32, LineFault>
     ensures { result ≡ register_transfer (cond_number cond) transfer rm amount }
 {
     if !amount_fits(amount) {
-        return Err(Fault::OutOfRange);
+        return Err(LineFault::OutOfRange);
     }
     if single_register_clash(single_fields(transfer), rm.number()) != 0 {
-        return Err(Fault::Unallocated);
+        return Err(LineFault::Unallocated);
     }
     let operation = Operation::SingleRegister(SingleRegister {
         before: transfer.address.before,
@@ -247,7 +247,7 @@ fn register_offset(
     Ok(word_of(cond, operation))
 }
 
-fn transfer(cond: Cond, transfer: Transfer) -> Result<u32, Fault>
+fn transfer(cond: Cond, transfer: Transfer) -> Result<u32, LineFault>
     ensures { result ≡ transfer_word (cond_number cond) transfer transfer.address.distance }
 {
     match transfer.address.distance {
@@ -256,14 +256,14 @@ fn transfer(cond: Cond, transfer: Transfer) -> Result<u32, Fault>
     }
 }
 
-fn block(cond: Cond, block: BlockTransfer) -> Result<u32, Fault>
+fn block(cond: Cond, block: BlockTransfer) -> Result<u32, LineFault>
     ensures { result ≡ block_word (cond_number cond) block }
 {
     if block.list >= 0x1_0000 {
-        return Err(Fault::OutOfRange);
+        return Err(LineFault::OutOfRange);
     }
     if block_clash(block.rn.number(), block.list) != 0 {
-        return Err(Fault::Unallocated);
+        return Err(LineFault::Unallocated);
     }
     let operation = Operation::Block(Block {
         before: block.before,
@@ -301,14 +301,14 @@ fn branch_offset(at: u32, target: u32) -> u32
     (bytes / 4 % 0x100_0000) as u32
 }
 
-fn branch(cond: Cond, at: u32, link: bool, target: u32) -> Result<u32, Fault>
+fn branch(cond: Cond, at: u32, link: bool, target: u32) -> Result<u32, LineFault>
     ensures { result ≡ branch_word (cond_number cond) at link target }
 {
     if is_far(at, target) {
-        return Err(Fault::BranchTooFar);
+        return Err(LineFault::BranchTooFar);
     }
     if !is_target(target) {
-        return Err(Fault::OutOfRange);
+        return Err(LineFault::OutOfRange);
     }
     let operation = Operation::Branch(Branch {
         link,
@@ -317,18 +317,18 @@ fn branch(cond: Cond, at: u32, link: bool, target: u32) -> Result<u32, Fault>
     Ok(word_of(cond, operation))
 }
 
-fn swi(cond: Cond, comment: u32) -> Result<u32, Fault>
+fn swi(cond: Cond, comment: u32) -> Result<u32, LineFault>
     ensures { result ≡ swi_word (cond_number cond) comment }
 {
     if comment >= 0x100_0000 {
-        return Err(Fault::OutOfRange);
+        return Err(LineFault::OutOfRange);
     }
     let operation = Operation::Swi(Swi { comment });
     Ok(word_of(cond, operation))
 }
 
 /// The word of a statement at an address, or the lowest of the faults for which it has none.
-pub(crate) fn encoded(code: Code, at: u32) -> Result<u32, Fault>
+pub(crate) fn encoded(code: Code, at: u32) -> Result<u32, LineFault>
     ensures { result ≡ encoded code at }
 {
     match code.action {

@@ -6,7 +6,7 @@ use thiserror::Error;
 
 /// Why a line cannot be assembled. Of several that hold in a line the first of this order is answered.
 #[derive(Clone, Copy, Debug, PartialEq, Eq, Drop, Error)]
-pub enum Fault {
+pub enum LineFault {
     /// A byte that no source has.
     #[error("NotText")]
     NotText = 2,
@@ -48,7 +48,7 @@ pub enum AsmFault {
     Memory,
     /// A line's fault, and its number from 1.
     #[error("{0} at line {1}")]
-    Line(Fault, usize),
+    Line(LineFault, usize),
 }
 
 impl From<AllocError> for AsmFault {
@@ -73,7 +73,7 @@ impl<T: Drop> From<AllocFailed<T>> for AsmFault {
     }
 }
 
-impl Fault {
+impl LineFault {
     fn order(self) -> u32
         ensures { result ≡ number self }
     {
@@ -82,7 +82,7 @@ impl Fault {
 }
 
 /// The first of two faults in the order of their names.
-pub(crate) fn lower(one: Option<Fault>, other: Option<Fault>) -> Option<Fault>
+pub(crate) fn lower(one: Option<LineFault>, other: Option<LineFault>) -> Option<LineFault>
     ensures value { result ≡ lower one other }
     ensures none { IfNone result ((one ≡ None) × (other ≡ None)) }
 {
@@ -96,7 +96,7 @@ pub(crate) fn lower(one: Option<Fault>, other: Option<Fault>) -> Option<Fault>
 }
 
 /// The first of a fault and another in the order of their names.
-pub(crate) fn lowest(fault: Fault, other: Option<Fault>) -> Fault
+pub(crate) fn lowest(fault: LineFault, other: Option<LineFault>) -> LineFault
     ensures { Some result ≡ lower (Some fault) other }
 {
     match other {

@@ -3,7 +3,7 @@ ghost use Rattle.loader.specs.Image.{Words};
 ghost use Rattle.assembler.specs.Assembles.{IsAssembly};
 ghost use Rattle.assembler.specs.Refusals.{IsRefusal};
 ghost use Rattle.assembler.specs.Sweeps.{Names, assembled};
-ghost use Rattle.assembler.specs.declared.fault.Fault.{Fault};
+ghost use Rattle.assembler.specs.declared.fault.LineFault.{LineFault};
 
 use asm_text::lines_are_spelled;
 
@@ -22,9 +22,9 @@ pub fn sources_are_assembled()
 /// lowest fault of the first line that has one without any label's address; where no line has one, that of
 /// the first line that has one with the labels' addresses. It does nothing.
 pub fn sources_are_refused()
-    ensures is_one { (source : List ℕ) → (fault : Fault) → (line : ℕ) → assembled source ≡ Err (fault, line)
-        → IsRefusal source fault line }
-    ensures given { (source : List ℕ) → (fault : Fault) → (line : ℕ) → IsRefusal source fault line
+    ensures is_one { (source : List ℕ) → (fault : LineFault) → (line : ℕ)
+        → assembled source ≡ Err (fault, line) → IsRefusal source fault line }
+    ensures given { (source : List ℕ) → (fault : LineFault) → (line : ℕ) → IsRefusal source fault line
         → assembled source ≡ Err (fault, line) }
 {
     lines_are_spelled();

@@ -17,7 +17,7 @@ mod text;
 
 pub use assembly::{Assembly, assemble};
 pub use disassembly::disassemble;
-pub use fault::{AsmFault, Fault};
+pub use fault::{AsmFault, LineFault};
 pub use law::{sources_are_assembled, sources_are_refused};
 pub use placed::placed_lines;
 pub use placed_line::PlacedLine;

@@ -2,7 +2,7 @@ ghost use Rattle.std.specs.Prelude.{◌≡◌, ◌≤◌, ◌+◌};
 ghost use Rattle.bus_ticks.specs.declared.space.TheConstants.{SPACE_END};
 ghost use Rattle.assembler.specs.Codes.{apart, is_ahead, refer, use_action, use_fault};
 
-use crate::fault::Fault;
+use crate::fault::LineFault;
 use arm2_decode::{Opcode, Register};
 use asm_text::{Action, Address, Code, Data, Distance, Operand, Reference, Transfer, Use};
 
@@ -70,11 +70,11 @@ pub(crate) fn refer(reference: Reference, at: u32, target: u32) -> Code
 }
 
 /// Why a word with a target has no word, whatever the target is.
-pub(crate) fn use_fault(how: Use) -> Option<Fault>
+pub(crate) fn use_fault(how: Use) -> Option<LineFault>
     ensures { result ≡ use_fault how }
 {
     match how {
-        Use::Transfer(_, true, Register::R15) => Some(Fault::Unallocated),
+        Use::Transfer(_, true, Register::R15) => Some(LineFault::Unallocated),
         _ => None,
     }
 }

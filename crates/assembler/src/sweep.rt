@@ -15,7 +15,7 @@ ghost use Rattle.assembler.specs.Views.{Faulted, item_of, name_of, pending_of, r
 ghost use Rattle.assembler.specs.Views.{state_of};
 
 use crate::encoded::encoded;
-use crate::fault::{AsmFault, Fault, lower, lowest};
+use crate::fault::{AsmFault, LineFault, lower, lowest};
 use crate::item::{Item, Pending};
 use crate::reference::{refer, use_fault};
 use asm_text::{Code, Line, Reference, Statement, TextFault, Value, read_line};
@@ -56,7 +56,7 @@ fn overlaps(closed: &[Span], from: u64, to: u64) -> bool
     any_overlaps(closed, from, to)
 }
 
-fn code_pending<'a>(code: Code, at: u32) -> Result<Pending<'a>, Fault>
+fn code_pending<'a>(code: Code, at: u32) -> Result<Pending<'a>, LineFault>
     ensures { result_pending result ≡ word_pending (encoded code at) }
 {
     match encoded(code, at) {
@@ -65,17 +65,17 @@ fn code_pending<'a>(code: Code, at: u32) -> Result<Pending<'a>, Fault>
     }
 }
 
-fn line_fault(fault: TextFault) -> Fault
+fn line_fault(fault: TextFault) -> LineFault
     ensures { result ≡ line_fault fault }
 {
     match fault {
-        TextFault::UnknownWord => Fault::UnknownWord,
-        TextFault::BadOperand => Fault::BadOperand,
-        _ => Fault::NotText,
+        TextFault::UnknownWord => LineFault::UnknownWord,
+        TextFault::BadOperand => LineFault::BadOperand,
+        _ => LineFault::NotText,
     }
 }
 
-fn at_target<'a>(reference: Reference, at: u32, target: Value<'a>) -> Result<Pending<'a>, Fault>
+fn at_target<'a>(reference: Reference, at: u32, target: Value<'a>) -> Result<Pending<'a>, LineFault>
     requires { at ≤ SPACE_END }
     ensures { result_pending result ≡ target_pending reference at (target_of target.entry) }
 {
@@ -112,39 +112,39 @@ impl<'a> Sweep<'a> {
         }
     }
 
-    fn label_fault(&self, label: Option<&[u8]>) -> Option<Fault>
+    fn label_fault(&self, label: Option<&[u8]>) -> Option<LineFault>
         ensures { result ≡ label_fault (state_of self.now) (name_of label.entry) }
     {
         let name = label?;
         if self.labels.get(name).is_some() {
-            Some(Fault::LabelTwice)
+            Some(LineFault::LabelTwice)
         } else {
             None
         }
     }
 
     // Why so many words cannot come next.
-    fn place_fault(&self, count: usize) -> Option<Fault>
+    fn place_fault(&self, count: usize) -> Option<LineFault>
         ensures value { result ≡ place_fault (state_of self.now) count }
         ensures room { IfNone result (self.now.at + 4 * count ≤ SPACE_END) }
         ensures few { IfNone result (self.now.words + count ≤ MOST_WORDS) }
     {
         if count > 0x100_0000 {
-            return Some(Fault::OutOfRange);
+            return Some(LineFault::OutOfRange);
         }
         let from = u64::from(self.at);
         let to = from + 4 * count as u64;
         if !lies_in_memory(from, to) {
-            return Some(Fault::OutOfRange);
+            return Some(LineFault::OutOfRange);
         }
         if overlaps(&self.closed, from, to) {
-            return Some(Fault::OutOfRange);
+            return Some(LineFault::OutOfRange);
         }
         if self.words as usize + count as usize > MOST_WORDS {
-            return Some(Fault::TooLong);
+            return Some(LineFault::TooLong);
         }
         if self.start.is_none() && self.closed.len() >= MOST_SEGMENTS {
-            return Some(Fault::TooLong);
+            return Some(LineFault::TooLong);
         }
         None
     }
@@ -159,19 +159,19 @@ impl<'a> Sweep<'a> {
     }
 
     // Why an ORG cannot have an address.
-    fn org_fault(&self, address: u32) -> Option<Fault>
+    fn org_fault(&self, address: u32) -> Option<LineFault>
         ensures value { result ≡ org_fault (state_of self.now) address }
         ensures within { IfNone result (address ≤ SPACE_END) }
     {
         if !may_hold(address) {
-            return Some(Fault::OutOfRange);
+            return Some(LineFault::OutOfRange);
         }
         let from = u64::from(address);
         if overlaps(&self.closed, from, from + 1) {
-            return Some(Fault::OutOfRange);
+            return Some(LineFault::OutOfRange);
         }
         if self.is_open_at(address) {
-            return Some(Fault::OutOfRange);
+            return Some(LineFault::OutOfRange);
         }
         None
     }
@@ -220,7 +220,7 @@ impl<'a> Sweep<'a> {
         alloc: Global,
         line: usize,
         label: Option<&[u8]>,
-        pending: Result<Pending<'a>, Fault>,
+        pending: Result<Pending<'a>, LineFault>,
     ) -> Result<(), AsmFault>
         ensures ok { OnOk result
             (pending_step (state_of self.old) line (name_of label.entry) (result_pending pending.entry)

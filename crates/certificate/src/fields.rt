@@ -13,7 +13,8 @@ use flow_graph::{Calls, Label};
 
 /// The address that the words begin with, and the words after its blank.
 pub(crate) fn address_first(words: &[u8]) -> Option<(u32, &[u8])>
-    ensures { MatchOption result ((a : ℕ) (rest : List ℕ) → a < SPACE_END → words.now ≡ hex a ++ 32 ∷ rest → ⊥)
+    ensures { MatchOption result
+        ((a : ℕ) (rest : List ℕ) → a < SPACE_END → words.now ≡ hex a ++ 32 ∷ rest → ⊥)
         (λ p. (p.0 < SPACE_END) × (words.now ≡ hex p.0 ++ 32 ∷ p.1.now)) }
 {
     let (word, rest) = cut_at(b' ', words)?;

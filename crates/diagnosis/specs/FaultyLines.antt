@@ -8,8 +8,8 @@ use Rattle.asm_text.specs.Source.{lines_of}
 use Rattle.asm_text.specs.Statements.{Parsed, line_of}
 use Rattle.asm_text.specs.declared.statement.TextFault.{TextFault}
 use Rattle.assembler.specs.Sweeps.{Names, assembled}
-use Rattle.assembler.specs.declared.fault.Fault.{Fault}
-use Rattle.assembler.specs.declared.fault.Fault.TheVariants.{LabelTwice, TooLong}
+use Rattle.assembler.specs.declared.fault.LineFault.{LineFault}
+use Rattle.assembler.specs.declared.fault.LineFault.TheVariants.{LabelTwice, TooLong}
 use Rattle.loader.specs.Image.{Words}
 use Rattle.diagnosis.specs.Lines.{first_word}
 use Rattle.diagnosis.specs.declared.sources.FaultyLine.{FaultyLine}
@@ -17,7 +17,7 @@ use Rattle.diagnosis.specs.declared.sources.TheConstants.{MOST_LINES}
 
 -- ## A source without a fault that was found
 
-abbrev pub keeps_label : Fault → Bool
+abbrev pub keeps_label : LineFault → Bool
 keeps_label LabelTwice = false
 keeps_label _ = true
 
@@ -27,7 +27,7 @@ if_read (Ok p) text = text
 if_read (Err fault) text = []
 
 -- what stays of a line with the fault: its label, if that can be read and is not itself at fault
-abbrev pub label_left : Fault → List ℕ → List ℕ
+abbrev pub label_left : LineFault → List ℕ → List ℕ
 label_left fault line =
     if keeps_label fault then if_read (line_of (first_word line)) (first_word line) else []
 
@@ -54,7 +54,7 @@ abbrev pub IsFaultOf : List ℕ → FaultyLine → Type 0
 IsFaultOf source faulty = assembled source ≡ Err (faulty.fault, faulty.number)
 
 -- how many more are looked for: none after TooLong, which all later lines would be
-abbrev pub left_after : Fault → ℕ → ℕ
+abbrev pub left_after : LineFault → ℕ → ℕ
 left_after TooLong left = 0
 left_after _ left = left - 1
 

@@ -1,10 +1,12 @@
 -- What is printed of a cycle and of an entry.
 use Rattle.std.specs.Prelude.{◌≡◌, ℕ, List, [], ◌++◌, codes, decimal, length, map, Option, Some, None}
 use Rattle.std.specs.BTreeMap.{BTreeMap}
-use Rattle.assembler.specs.declared.fault.Fault.{Fault}
-use Rattle.assembler.specs.declared.fault.Fault.TheVariants.{NotText, UnknownWord, BadOperand}
-use Rattle.assembler.specs.declared.fault.Fault.TheVariants.{ImmediateNotRotated, BranchTooFar, LabelTwice}
-use Rattle.assembler.specs.declared.fault.Fault.TheVariants.{LabelMissing, OutOfRange, Unallocated, TooLong}
+use Rattle.assembler.specs.declared.fault.LineFault.{LineFault}
+use Rattle.assembler.specs.declared.fault.LineFault.TheVariants.{NotText, UnknownWord, BadOperand}
+use Rattle.assembler.specs.declared.fault.LineFault.TheVariants.{ImmediateNotRotated, BranchTooFar}
+use Rattle.assembler.specs.declared.fault.LineFault.TheVariants.{LabelTwice}
+use Rattle.assembler.specs.declared.fault.LineFault.TheVariants.{LabelMissing, OutOfRange, Unallocated}
+use Rattle.assembler.specs.declared.fault.LineFault.TheVariants.{TooLong}
 use Rattle.flow_graph.specs.declared.edges.Edge.{Edge}
 use Rattle.flow_graph.specs.declared.faults.BuildFault.{BuildFault}
 use Rattle.flow_graph.specs.declared.faults.BuildFault.TheVariants as build
@@ -152,7 +154,7 @@ IsFaultText words faulty _ text = IsRowText words faulty.place text
 
 -- ## Lines that cannot be assembled
 
-abbrev pub fault_name : Fault → List ℕ
+abbrev pub fault_name : LineFault → List ℕ
 fault_name NotText = codes "NotText"
 fault_name UnknownWord = codes "UnknownWord"
 fault_name BadOperand = codes "BadOperand"

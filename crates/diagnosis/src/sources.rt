@@ -6,7 +6,7 @@ ghost use Rattle.diagnosis.specs.Texts.{IsFaultyRow, fault_name};
 
 use crate::words::first_word;
 use asm_text::{TextFault, first_line, read_line};
-use assembler::{AsmFault, Fault, assemble};
+use assembler::{AsmFault, LineFault, assemble};
 use std::alloc::{AllocError, Global};
 use text_rows::{put, put_decimal};
 
@@ -19,21 +19,21 @@ pub struct FaultyLine {
     /// Its number, from 1.
     pub number: usize,
     /// What is wrong with it.
-    pub fault: Fault,
+    pub fault: LineFault,
 }
 
 // Whether the label of a line with the fault is not itself at fault.
-fn keeps_label(fault: Fault) -> bool
+fn keeps_label(fault: LineFault) -> bool
     ensures { result ≡ keeps_label fault }
 {
     match fault {
-        Fault::LabelTwice => false,
+        LineFault::LabelTwice => false,
         _ => true,
     }
 }
 
 // What stays of a line with the fault: its label.
-fn label_left(alloc: Global, fault: Fault, line: &[u8]) -> Result<&[u8], AllocError>
+fn label_left(alloc: Global, fault: LineFault, line: &[u8]) -> Result<&[u8], AllocError>
     ensures { IfOk result (λ text. text.now ≡ label_left fault line.now) }
 {
     if !keeps_label(fault) {
@@ -91,11 +91,11 @@ fn fault_of(alloc: Global, source: &[u8]) -> Result<Option<FaultyLine>, AllocErr
 }
 
 // How many faults are looked for after this one.
-fn left_after(fault: Fault, left: usize) -> usize
+fn left_after(fault: LineFault, left: usize) -> usize
     ensures { result ≡ left_after fault left }
 {
     match fault {
-        Fault::TooLong => 0,
+        LineFault::TooLong => 0,
         _ => left.saturating_sub(1),
     }
 }
@@ -134,20 +134,20 @@ pub fn faulty_lines(alloc: Global, source: &[u8]) -> Result<Vec<FaultyLine>, All
     Ok(lines)
 }
 
-fn name_of(fault: Fault) -> &'static [u8]
+fn name_of(fault: LineFault) -> &'static [u8]
     ensures { result.now ≡ fault_name fault }
 {
     match fault {
-        Fault::NotText => b"NotText",
-        Fault::UnknownWord => b"UnknownWord",
-        Fault::BadOperand => b"BadOperand",
-        Fault::ImmediateNotRotated => b"ImmediateNotRotated",
-        Fault::BranchTooFar => b"BranchTooFar",
-        Fault::LabelTwice => b"LabelTwice",
-        Fault::LabelMissing => b"LabelMissing",
-        Fault::OutOfRange => b"OutOfRange",
-        Fault::Unallocated => b"Unallocated",
-        Fault::TooLong => b"TooLong",
+        LineFault::NotText => b"NotText",
+        LineFault::UnknownWord => b"UnknownWord",
+        LineFault::BadOperand => b"BadOperand",
+        LineFault::ImmediateNotRotated => b"ImmediateNotRotated",
+        LineFault::BranchTooFar => b"BranchTooFar",
+        LineFault::LabelTwice => b"LabelTwice",
+        LineFault::LabelMissing => b"LabelMissing",
+        LineFault::OutOfRange => b"OutOfRange",
+        LineFault::Unallocated => b"Unallocated",
+        LineFault::TooLong => b"TooLong",
     }
 }
 

@@ -1,7 +1,7 @@
 //! Lines of source and their words, worked out by the formats of the ARM data sheet, and words that are
 //! shown and assembled back.
 
-use assembler::{AsmFault, Fault, assemble, disassemble};
+use assembler::{AsmFault, LineFault, assemble, disassemble};
 use std::alloc::{AllocError, Global};
 use std::test::Fail;
 
@@ -274,7 +274,7 @@ fn too_many_words(rt: HostRuntime) -> Result<(), Fail> {
         words_of_lines(rt.alloc(), 65_536)?,
         words_of_lines(rt.alloc(), 65_537)?,
     ];
-    let refused = AsmFault::Line(Fault::TooLong, 65_537);
+    let refused = AsmFault::Line(LineFault::TooLong, 65_537);
     assert!(rt; words == [Ok(65_536), Err(refused)]);
     Ok(())
 }

@@ -9,7 +9,7 @@ use Rattle.loader.specs.declared.reading.ReadFault.TheVariants as read_fault
 use Rattle.statement.specs.Statement.{Names}
 use Rattle.assembler.specs.Sweeps.{assembled}
 use Rattle.assembler.specs.Views.{FaultedAt}
-use Rattle.assembler.specs.declared.fault.Fault.{Fault}
+use Rattle.assembler.specs.declared.fault.LineFault.{LineFault}
 use Rattle.assembler.specs.declared.fault.AsmFault.{AsmFault}
 use Rattle.assembler.specs.declared.fault.AsmFault.TheVariants as asm_fault
 use Rattle.report_output.specs.Faults.{of_image, of_source}
@@ -38,7 +38,7 @@ read_of_said (Err fault) words names e = absurd cc
 pub image_was_read : (source : List ℕ) (words : Words) (names : Names) → is_image source ≡ true → source_of source ≡ Ok (words, names) → image_read source ≡ Ok words
 image_was_read source words names is said = read_of_said (image_read source) words names (sym (said_image source is) ∙ said)
 
-assembled_of_said : (r : Result (Words × Names) (Fault × ℕ)) (words : Words) (names : Names) → said_by_text r ≡ Ok (words, names) → r ≡ Ok (words, names)
+assembled_of_said : (r : Result (Words × Names) (LineFault × ℕ)) (words : Words) (names : Names) → said_by_text r ≡ Ok (words, names) → r ≡ Ok (words, names)
 assembled_of_said (Ok said) words names e = let same : ◌≡◌ {A = Words × Names} said (words, names) = cc in ap (λ x. Ok x) same
 assembled_of_said (Err fault) words names e = absurd cc
 

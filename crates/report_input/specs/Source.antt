@@ -9,7 +9,7 @@ use Rattle.statement.specs.Statement.{Names}
 use Rattle.assembler.specs.Sweeps.{assembled}
 use Rattle.assembler.specs.declared.assembly.Assembly.{Assembly}
 use Rattle.assembler.specs.declared.fault.AsmFault.TheVariants.{Line}
-use Rattle.assembler.specs.declared.fault.Fault.{Fault}
+use Rattle.assembler.specs.declared.fault.LineFault.{LineFault}
 use Rattle.report_output.specs.declared.fault.ReportFault.{ReportFault}
 use Rattle.report_output.specs.declared.fault.ReportFault.TheVariants.{Memory, Source, Image}
 
@@ -28,7 +28,7 @@ said_by_image (Ok words) = Ok (words, no_names)
 said_by_image (Err fault) = Err (Image fault)
 
 -- a fault with its line
-abbrev pub said_by_text : Result Said (Fault × ℕ) → Result Said ReportFault
+abbrev pub said_by_text : Result Said (LineFault × ℕ) → Result Said ReportFault
 said_by_text (Ok said) = Ok said
 said_by_text (Err fault) = Err (Source (Line fault.0 fault.1))
 
