@@ -1,15 +1,13 @@
 -- A run that keeps a statement: of a handler of one word in ROM, SUBS PC,R14,#4, in IRQ mode.
-use Rattle.std.proofs.Common.{◌≡◌, ◌++◌, ℕ, List, [], ◌∷◌, length, None, Some, replicate, refl, ap}
+use Rattle.std.proofs.Common.{◌≡◌, ◌++◌, ℕ, List, [], ◌∷◌, None, Some, replicate, refl, ap}
 use Rattle.bus_ticks.specs.declared.profile.Profile.{Profile}
 use Rattle.loader.specs.Image.{Words, word_of}
 use Rattle.memc.specs.Memory.{control_of}
 use Rattle.ioc.specs.Interrupts as ioc
 use Rattle.vidc.specs.Video as vidc
-use Rattle.arm2_effect.specs.Modes.{r15_in}
 use Rattle.arm2_transfer.specs.declared.bus.Bus.{Bus}
 use Rattle.arm2_exec.specs.Run.{at_rest, counted, why_stopped}
 use Rattle.arm2_exec.specs.State.{State}
-use Rattle.arm2_exec.specs.Step.{address_in, fetched, interrupt_due, with_lines}
 use Rattle.arm2_exec.specs.declared.machine.Input.{Input}
 use Rattle.report_input.specs.Keeping.{HasKeptRun}
 use Rattle.arcwcet.proofs.OneWord as one
@@ -44,25 +42,9 @@ module _ (profile : Profile) where
   start : State
   start = record { regs = regs; bus = bus; profile = profile }
 
-  registers : length start.regs ≡ 27
-  unfolding start regs
-  registers = refl
-
-  at : address_in start.regs ≡ entry
-  unfolding start regs
-  at = refl
-
-  prices : start.profile ≡ profile
-  unfolding start
-  prices = refl
-
-  fetches : fetched start.bus.memc (r15_in start.regs) ≡ Some one.word
+  ready : one.IsAtWord entry profile start input
   unfolding start bus regs
-  fetches = refl
-
-  none_due : interrupt_due (with_lines 0 start.bus) (r15_in start.regs) ≡ None
-  unfolding start bus regs
-  none_due = refl
+  ready = record { registers = refl; at = refl; prices = refl; fetches = refl; none_due = refl }
 
   pub kept : HasKeptRun profile
   kept = record {
@@ -76,14 +58,14 @@ module _ (profile : Profile) where
       walk = one.edge words entry stands profile ∷ [];
       complete = one.complete words entry stands profile;
       kept = one.keeps_bounds words entry stands profile;
-      follows = one.follows words entry stands profile start input registers at prices fetches none_due;
+      follows = one.follows words entry stands profile start input ready;
     };
-    ran = counted start.profile.burst input (one.told words entry stands profile start input registers at prices fetches none_due) (at_rest None);
-    after = one.after words entry stands profile start input registers at prices fetches none_due;
+    ran = counted start.profile.burst input (one.told words entry stands profile start input ready) (at_rest None);
+    after = one.after words entry stands profile start input ready;
     runs =
-        goes_before start input [] (one.told words entry stands profile start input registers at prices fetches none_due)
-        (one.after words entry stands profile start input registers at prices fetches none_due) (at_rest None)
-        (one.after words entry stands profile start input registers at prices fetches none_due)
-        (one.step words entry stands profile start input registers at prices fetches none_due)
-        (ap why_stopped (one.plain words entry stands profile start input registers at prices fetches none_due)) (refl, refl);
+        goes_before start input [] (one.told words entry stands profile start input ready)
+        (one.after words entry stands profile start input ready) (at_rest None)
+        (one.after words entry stands profile start input ready)
+        (one.step words entry stands profile start input ready)
+        (ap why_stopped (one.plain words entry stands profile start input ready)) (refl, refl);
   }

@@ -59,6 +59,14 @@ means : Means word instr
 unfolding instr
 means = record { fixed = refl; fields = refl }
 
+-- what makes the word at the entry the next that a state carries out
+pub record IsAtWord (entry : ℕ) (profile : Profile) (s : State) (i : Input) : Type 0 where
+  pub registers : length s.regs ≡ 27
+  pub at : address_in s.regs ≡ entry
+  pub prices : s.profile ≡ profile
+  pub fetches : fetched s.bus.memc (r15_in s.regs) ≡ Some word
+  pub none_due : interrupt_due (with_lines i.lines.0 s.bus) (r15_in s.regs) ≡ None
+
 -- the image has the word at the entry
 module _ (words : Words) (entry : ℕ) (stands : word_of words entry ≡ Some word) (profile : Profile) where
   abbrev pub stated : Stated
@@ -125,8 +133,7 @@ module _ (words : Words) (entry : ℕ) (stands : word_of words entry ≡ Some wo
 
   -- ## A step at the entry
 
-  module _ (s : State) (i : Input) (registers : length s.regs ≡ 27) (at : address_in s.regs ≡ entry) (prices : s.profile ≡ profile)
-      (fetches : fetched s.bus.memc (r15_in s.regs) ≡ Some word) (none_due : interrupt_due (with_lines i.lines.0 s.bus) (r15_in s.regs) ≡ None) where
+  module _ (s : State) (i : Input) (ready : IsAtWord entry profile s i) where
     unfoldable pub moved : Moved
     moved = instruction_moved instr i.port s.regs (with_lines i.lines.0 s.bus)
 
@@ -139,8 +146,8 @@ module _ (words : Words) (entry : ℕ) (stands : word_of words entry ≡ Some wo
     works : Works (interrupt_due (with_lines i.lines.0 s.bus) (r15_in s.regs)) i.port s.regs (with_lines i.lines.0 s.bus) moved
     unfolding moved
     works =
-        subst (λ (due : Option Vector). Works due i.port s.regs (with_lines i.lines.0 s.bus) moved) (sym none_due)
-        (subst (λ (w : Option ℕ). ObeysFetched w i.port s.regs (with_lines i.lines.0 s.bus) moved) (sym fetches) (inl (instr, means, refl)))
+        subst (λ (due : Option Vector). Works due i.port s.regs (with_lines i.lines.0 s.bus) moved) (sym ready.none_due)
+        (subst (λ (w : Option ℕ). ObeysFetched w i.port s.regs (with_lines i.lines.0 s.bus) moved) (sym ready.fetches) (inl (instr, means, refl)))
 
     pub step : Step s i told after
     unfolding told after
@@ -153,10 +160,10 @@ module _ (words : Words) (entry : ℕ) (stands : word_of words entry ≡ Some wo
     executes : Executes words stated profile (instr_action instr) s i told after
     unfolding step told moved instr answer_of operation_effect data_immediate_effect placed jumped
     executes = record {
-      registers = registers;
-      prices = prices;
-      has = subst (λ (a : ℕ). HasAction words a (instr_action instr)) (sym at) has;
-      fetches = fetches ∙ sym stands ∙ ap (word_of words) (sym at);
+      registers = ready.registers;
+      prices = ready.prices;
+      has = subst (λ (a : ℕ). HasAction words a (instr_action instr)) (sym ready.at) has;
+      fetches = ready.fetches ∙ sym stands ∙ ap (word_of words) (sym ready.at);
       step = step;
       plain = plain;
       transfers = λ store first address is. tt;
@@ -164,7 +171,7 @@ module _ (words : Words) (entry : ℕ) (stands : word_of words entry ≡ Some wo
 
     taken : IsTaken words stated profile [] (instr_action instr) s told edge
     unfolding edge instr
-    taken = record { is_edge = is_edge; from = ap (At []) (sym at); label = refl; to = tt }
+    taken = record { is_edge = is_edge; from = ap (At []) (sym ready.at); label = refl; to = tt }
 
     pub follows : Follows words stated profile s (i ∷ []) (edge ∷ [])
     follows = (told, after, record { calls = []; action = instr_action instr; executes = executes; taken = taken }, tt)

@@ -1,6 +1,6 @@
 -- A run that keeps two statements, with two visits of FIQ: both handlers are the one word SUBS PC,R14,#4,
 -- FIQ's at its vector and the interrupted one in ROM, in IRQ mode.
-use Rattle.std.proofs.Common.{◌≡◌, ◌++◌, ℕ, List, [], ◌∷◌, length, Bool, true, false, None, Some, replicate, refl, ap, subst}
+use Rattle.std.proofs.Common.{◌≡◌, ◌++◌, ℕ, List, [], ◌∷◌, Bool, true, false, None, Some, replicate, refl, ap, subst}
 use Rattle.std.specs.Prelude.{◌&&◌, if◌then◌else◌}
 use Rattle.bus_ticks.specs.declared.profile.Profile.{Profile}
 use Rattle.loader.specs.Image.{Words, word_of}
@@ -11,7 +11,6 @@ use Rattle.vidc.specs.Video as vidc
 use Rattle.arm2_effect.specs.declared.step_end.Kind.TheVariants.{Plain, Taken}
 use Rattle.arm2_effect.specs.declared.exceptions.Vector.TheVariants.{Fiq, Irq}
 use Rattle.arm2_effect.specs.Exceptions.{taken}
-use Rattle.arm2_effect.specs.Modes.{r15_in}
 use Rattle.shifter.specs.Word.{bits_from}
 use Rattle.arm2_effect.specs.Operands as operands
 use Rattle.arm2_effect.specs.Operations.{data_immediate_effect, jumped, operation_effect, placed}
@@ -19,7 +18,7 @@ use Rattle.arm2_transfer.specs.declared.bus.Bus.{Bus}
 use Rattle.arm2_transfer.specs.Moved.{Moved, on_bus}
 use Rattle.arm2_exec.specs.Run.{Runs, at_rest, counted, why_stopped}
 use Rattle.arm2_exec.specs.State.{State}
-use Rattle.arm2_exec.specs.Step.{Step, address_in, answer_of, fetched, interrupt_due, state_after, with_lines}
+use Rattle.arm2_exec.specs.Step.{Step, answer_of, state_after, with_lines}
 use Rattle.arm2_exec.specs.declared.machine.Input.{Input}
 use Rattle.arm2_exec.specs.declared.machine.Ran.{Ran}
 use Rattle.arm2_exec.specs.declared.machine.Stepped.{Stepped}
@@ -121,39 +120,29 @@ module _ (profile : Profile) where
   -- ## FIQ's handler returns
 
   module _ (timers : Timers) where
-    fiq_due : interrupt_due (with_lines 0 (inside timers).bus) (r15_in (inside timers).regs) ≡ None
+    fiq_ready : one.IsAtWord vector profile (inside timers) quiet
     unfolding inside bus fiq_regs memory
-    fiq_due = masked (ioc.irq_of (with_lines 0 (bus 0x10000 timers)).ioc)
-
-    fiq_length : length (inside timers).regs ≡ 27
-    unfolding inside fiq_regs
-    fiq_length = refl
-
-    fiq_at : address_in (inside timers).regs ≡ vector
-    unfolding inside fiq_regs
-    fiq_at = refl
-
-    fiq_prices : (inside timers).profile ≡ profile
-    unfolding inside
-    fiq_prices = refl
-
-    fiq_fetches : fetched (inside timers).bus.memc (r15_in (inside timers).regs) ≡ Some one.word
-    unfolding inside bus fiq_regs memory
-    fiq_fetches = refl
+    fiq_ready = record {
+      registers = refl;
+      at = refl;
+      prices = refl;
+      fetches = refl;
+      none_due = masked (ioc.irq_of (with_lines 0 (bus 0x10000 timers)).ioc);
+    }
 
     fiq_told : Stepped
-    fiq_told = one.told words vector fiq_stands profile (inside timers) quiet fiq_length fiq_at fiq_prices fiq_fetches fiq_due
+    fiq_told = one.told words vector fiq_stands profile (inside timers) quiet fiq_ready
 
     returned : State
-    returned = one.after words vector fiq_stands profile (inside timers) quiet fiq_length fiq_at fiq_prices fiq_fetches fiq_due
+    returned = one.after words vector fiq_stands profile (inside timers) quiet fiq_ready
 
     fiq_step : Step (inside timers) quiet fiq_told returned
     unfolding fiq_told returned
-    fiq_step = one.step words vector fiq_stands profile (inside timers) quiet fiq_length fiq_at fiq_prices fiq_fetches fiq_due
+    fiq_step = one.step words vector fiq_stands profile (inside timers) quiet fiq_ready
 
     fiq_plain : fiq_told.kind ≡ Plain
     unfolding fiq_told
-    fiq_plain = one.plain words vector fiq_stands profile (inside timers) quiet fiq_length fiq_at fiq_prices fiq_fetches fiq_due
+    fiq_plain = one.plain words vector fiq_stands profile (inside timers) quiet fiq_ready
 
     second_timers : Timers
     second_timers = returned.bus.ioc.timers
@@ -167,49 +156,39 @@ module _ (profile : Profile) where
       walk = one.edge words vector fiq_stands profile ∷ [];
       complete = one.complete words vector fiq_stands profile;
       kept = one.keeps_bounds words vector fiq_stands profile;
-      follows = one.follows words vector fiq_stands profile (inside timers) quiet fiq_length fiq_at fiq_prices fiq_fetches fiq_due;
+      follows = one.follows words vector fiq_stands profile (inside timers) quiet fiq_ready;
     }
 
   -- ## The interrupted handler returns
 
   module _ (timers : Timers) where
-    main_due : interrupt_due (with_lines 0 (ready timers).bus) (r15_in (ready timers).regs) ≡ None
+    main_ready : one.IsAtWord main_entry profile (ready timers) quiet
     unfolding ready bus regs memory
-    main_due = masked (ioc.irq_of (with_lines 0 (bus 0 timers)).ioc)
-
-    main_length : length (ready timers).regs ≡ 27
-    unfolding ready regs
-    main_length = refl
-
-    main_at : address_in (ready timers).regs ≡ main_entry
-    unfolding ready regs
-    main_at = refl
-
-    main_prices : (ready timers).profile ≡ profile
-    unfolding ready
-    main_prices = refl
-
-    main_fetches : fetched (ready timers).bus.memc (r15_in (ready timers).regs) ≡ Some one.word
-    unfolding ready bus regs memory
-    main_fetches = refl
+    main_ready = record {
+      registers = refl;
+      at = refl;
+      prices = refl;
+      fetches = refl;
+      none_due = masked (ioc.irq_of (with_lines 0 (bus 0 timers)).ioc);
+    }
 
     main_told : Stepped
-    main_told = one.told words main_entry main_stands profile (ready timers) quiet main_length main_at main_prices main_fetches main_due
+    main_told = one.told words main_entry main_stands profile (ready timers) quiet main_ready
 
     left : State
-    left = one.after words main_entry main_stands profile (ready timers) quiet main_length main_at main_prices main_fetches main_due
+    left = one.after words main_entry main_stands profile (ready timers) quiet main_ready
 
     main_step : Step (ready timers) quiet main_told left
     unfolding main_told left
-    main_step = one.step words main_entry main_stands profile (ready timers) quiet main_length main_at main_prices main_fetches main_due
+    main_step = one.step words main_entry main_stands profile (ready timers) quiet main_ready
 
     main_plain : main_told.kind ≡ Plain
     unfolding main_told
-    main_plain = one.plain words main_entry main_stands profile (ready timers) quiet main_length main_at main_prices main_fetches main_due
+    main_plain = one.plain words main_entry main_stands profile (ready timers) quiet main_ready
 
     main_edge : IsEdgeOf words (one.stated words main_entry main_stands profile) profile (ready timers) quiet main_told left (one.edge words main_entry main_stands profile)
     unfolding main_told left
-    main_edge = one.is_edge_of words main_entry main_stands profile (ready timers) quiet main_length main_at main_prices main_fetches main_due
+    main_edge = one.is_edge_of words main_entry main_stands profile (ready timers) quiet main_ready
 
   -- ## A visit
 
