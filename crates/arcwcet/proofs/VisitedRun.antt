@@ -122,13 +122,7 @@ module _ (profile : Profile) where
   module _ (timers : Timers) where
     fiq_ready : one.IsAtWord vector profile (inside timers) quiet
     unfolding inside bus fiq_regs memory
-    fiq_ready = record {
-      registers = refl;
-      at = refl;
-      prices = refl;
-      fetches = refl;
-      none_due = masked (ioc.irq_of (with_lines 0 (bus 0x10000 timers)).ioc);
-    }
+    fiq_ready = record { registers = refl; at = refl; prices = refl; fetches = refl; none_due = masked (ioc.irq_of (with_lines 0 (bus 0x10000 timers)).ioc) }
 
     fiq_told : Stepped
     fiq_told = one.told words vector fiq_stands profile (inside timers) quiet fiq_ready
@@ -164,13 +158,7 @@ module _ (profile : Profile) where
   module _ (timers : Timers) where
     main_ready : one.IsAtWord main_entry profile (ready timers) quiet
     unfolding ready bus regs memory
-    main_ready = record {
-      registers = refl;
-      at = refl;
-      prices = refl;
-      fetches = refl;
-      none_due = masked (ioc.irq_of (with_lines 0 (bus 0 timers)).ioc);
-    }
+    main_ready = record { registers = refl; at = refl; prices = refl; fetches = refl; none_due = masked (ioc.irq_of (with_lines 0 (bus 0 timers)).ioc) }
 
     main_told : Stepped
     main_told = one.told words main_entry main_stands profile (ready timers) quiet main_ready
