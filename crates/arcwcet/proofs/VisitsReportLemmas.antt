@@ -7,7 +7,8 @@ use Rattle.bus_ticks.proofs.EntryLemmas.{fiq_entry_greatest}
 use Rattle.loader.specs.Image.{Words}
 use Rattle.flow_graph.specs.Flow.{Flow}
 use Rattle.statement.specs.Stated.{Stated}
-use Rattle.statement.specs.Statement.{IsStatement, Names}
+use Rattle.loader.specs.Labels.{Names}
+use Rattle.statement.specs.Statement.{IsStatement}
 use Rattle.statement.specs.declared.faults.StatementFault.{StatementFault}
 use Rattle.statement.specs.declared.faults.StatementFault.TheVariants as statement_fault
 use Rattle.loop_bounds.specs.Bounds.{IsGreatestCost}

@@ -4,7 +4,8 @@ use Rattle.bus_ticks.specs.declared.profile.Profile.{Profile}
 use Rattle.bus_ticks.specs.Worst.{fiq_entry}
 use Rattle.loader.specs.Image.{Words}
 use Rattle.statement.specs.Stated.{Stated}
-use Rattle.statement.specs.Statement.{IsStatement, Names}
+use Rattle.loader.specs.Labels.{Names}
+use Rattle.statement.specs.Statement.{IsStatement}
 use Rattle.longest_walk.specs.Visits.{visits_bound}
 use Rattle.numbered_walks.specs.declared.fault.WalkFault.TheVariants as walk_fault
 use Rattle.report_output.specs.Answers.{Answers}

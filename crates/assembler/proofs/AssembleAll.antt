@@ -9,7 +9,8 @@ use Rattle.std.proofs.lemmas.Slice.Eq.{bytes_eq-Decides}
 use Rattle.loader.specs.Image.{may_hold}
 use Rattle.asm_text.specs.Statements.{Parsed, line_of}
 use Rattle.assembler.specs.Assembles.{AreFree, AreWords, Laid, Once, address_after, label_at, labels_of, laid_from, places, places_from, segments, word_count}
-use Rattle.assembler.specs.Sweeps.{Names, State, label_fault, labelled, swept, with_name}
+use Rattle.loader.specs.Labels.{Names}
+use Rattle.assembler.specs.Sweeps.{State, label_fault, labelled, swept, with_name}
 use Rattle.assembler.proofs.AssembleSteps.{Step, said_is, segments_in}
 use Rattle.assembler.proofs.AssembleBack.{Apart, Exact, In}
 use Rattle.assembler.proofs.AssembleReady.{NotEmpty, Passes, Ready, said_ok}

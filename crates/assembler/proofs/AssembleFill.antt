@@ -12,7 +12,8 @@ use Rattle.loader.proofs.WordLemmas.{length_with_word, none_held}
 use Rattle.asm_text.specs.Said.{Target, Number, Label, Said, Codes, Refers, Orgs, Lists}
 use Rattle.assembler.specs.Assembles.{AreWords, IsTarget, Laid, Once, places, places_from, words_at, words_from}
 use Rattle.assembler.specs.Codes.{encoded, refer}
-use Rattle.assembler.specs.Sweeps.{Fixed, Waits, Item, Names, Pending, filled, filled_on, item_step, put_on, resolved, targeted, value_pending, word_put}
+use Rattle.loader.specs.Labels.{Names}
+use Rattle.assembler.specs.Sweeps.{Fixed, Waits, Item, Pending, filled, filled_on, item_step, put_on, resolved, targeted, value_pending, word_put}
 use Rattle.assembler.specs.declared.fault.LineFault.{LineFault}
 use Rattle.assembler.proofs.AssembleSteps.{Pends, items_at}
 use Rattle.assembler.proofs.AssembleSweep.{NewItems, flat}

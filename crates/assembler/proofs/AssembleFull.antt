@@ -7,7 +7,8 @@ use Rattle.asm_text.specs.Said.{Target, Number, Label, Said, Codes, Refers, Orgs
 use Rattle.asm_text.specs.Statements.{Parsed}
 use Rattle.assembler.specs.Assembles.{AreWords, IsTarget, address_after, laid_from, places, places_from, word_count, words_at, words_from}
 use Rattle.assembler.specs.Codes.{encoded, refer}
-use Rattle.assembler.specs.Sweeps.{Item, Names, Pending, filled, value_pending}
+use Rattle.loader.specs.Labels.{Names}
+use Rattle.assembler.specs.Sweeps.{Item, Pending, filled, value_pending}
 use Rattle.assembler.proofs.AssembleSteps.{Pends, items_at}
 use Rattle.assembler.proofs.AssembleSweep.{NewItems, flat}
 use Rattle.assembler.proofs.AssembleFill.{Resolved, put_words, fold_append}

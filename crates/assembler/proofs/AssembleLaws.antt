@@ -13,7 +13,8 @@ use Rattle.asm_text.specs.declared.word.Word.{Word}
 use Rattle.asm_text.specs.declared.word.Word.TheVariants.{Dcd}
 use Rattle.asm_text.specs.declared.statement.TextFault.{TextFault}
 use Rattle.assembler.specs.Assembles.{AreWords, IsAssembly, Laid, Once, labels_of, laid, places}
-use Rattle.assembler.specs.Sweeps.{Names, State, assembled, assembled_on, assembled_with, at_first, filled, no_names, swept}
+use Rattle.loader.specs.Labels.{Names, no_names}
+use Rattle.assembler.specs.Sweeps.{State, assembled, assembled_on, assembled_with, at_first, filled, swept}
 use Rattle.assembler.specs.declared.fault.LineFault.{LineFault}
 use Rattle.assembler.proofs.AssembleSteps.{Covers, InSegments, StartBelow, segments_in}
 use Rattle.assembler.proofs.AssembleSweep.{NamesOf, NewItems, flat, swept_is}

@@ -12,7 +12,8 @@ use Rattle.asm_text.specs.declared.syntax.Use.TheVariants as use_of
 use Rattle.assembler.specs.Assembles.{AreWords, IsFree, places_from, word_count}
 use Rattle.assembler.specs.Codes.{action_word, encoded, refer, use_action, use_fault}
 use Rattle.assembler.specs.Faults.{lower}
-use Rattle.assembler.specs.Sweeps.{Names, Pending, Fixed, Waits, State, around_fault, is_17th, label_fault, labelled, moved, open_has, org_fault, overlaps, place_fault, placed, said_step, unless, value_pending}
+use Rattle.loader.specs.Labels.{Names}
+use Rattle.assembler.specs.Sweeps.{Pending, Fixed, Waits, State, around_fault, is_17th, label_fault, labelled, moved, open_has, org_fault, overlaps, place_fault, placed, said_step, unless, value_pending}
 use Rattle.assembler.specs.declared.fault.LineFault.{LineFault}
 use Rattle.assembler.proofs.AssembleSteps.{InSegments, put_all, segments_in, values_put}
 use Rattle.assembler.proofs.AssembleBack.{Apart, Exact, StartEven, exact_moved, exact_put, in_memory_all, may_four, no_overlap, not_in}

@@ -8,7 +8,8 @@ use Rattle.asm_text.specs.Said.{Target, Number, Label, Said, Codes, Refers, Orgs
 use Rattle.assembler.specs.Assembles.{Laid, places, places_from, word_count}
 use Rattle.assembler.specs.Codes.{encoded, refer}
 use Rattle.assembler.specs.Refusals.{HasLabelFault, IsFaultless, IsLowest, IsMissing}
-use Rattle.assembler.specs.Sweeps.{Item, Names, Pending, filled, filled_on, resolved, targeted, value_pending, word_put}
+use Rattle.loader.specs.Labels.{Names}
+use Rattle.assembler.specs.Sweeps.{Item, Pending, filled, filled_on, resolved, targeted, value_pending, word_put}
 use Rattle.assembler.specs.declared.fault.LineFault.{LineFault}
 use Rattle.assembler.specs.declared.fault.LineFault.TheVariants.{LabelMissing}
 use Rattle.assembler.proofs.AssembleSteps.{Pends, items_at}

@@ -7,7 +7,8 @@ use Rattle.asm_text.specs.Source.{lines_of}
 use Rattle.asm_text.specs.Statements.{Parsed}
 use Rattle.assembler.specs.Assembles.{labels_of, laid, places}
 use Rattle.assembler.specs.Refusals.{ArePassed, IsRefusal, IsRefusedAtOnce, IsRefusedForLabels}
-use Rattle.assembler.specs.Sweeps.{Names, State, assembled, assembled_on, assembled_with, at_first, swept}
+use Rattle.loader.specs.Labels.{Names}
+use Rattle.assembler.specs.Sweeps.{State, assembled, assembled_on, assembled_with, at_first, swept}
 use Rattle.assembler.specs.declared.fault.LineFault.{LineFault}
 use Rattle.assembler.proofs.AssembleAll.{apart_none}
 use Rattle.assembler.proofs.AssembleLaws.{first_put}

@@ -10,7 +10,7 @@ use Rattle.asm_text.specs.Source.{lines_of}
 use Rattle.asm_text.specs.Spelling.{Spells}
 use Rattle.asm_text.specs.Statements.{Parsed}
 use Rattle.assembler.specs.Codes.{encoded, refer}
-use Rattle.assembler.specs.Sweeps.{Names}
+use Rattle.loader.specs.Labels.{Names}
 
 -- ---- where each line is placed
 

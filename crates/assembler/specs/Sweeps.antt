@@ -4,6 +4,7 @@ use Rattle.std.specs.Prelude.{length, Option, Some, None, is_some, unwrap_or, Re
 use Rattle.std.specs.List.{list_any}
 use Rattle.std.specs.Str.{bytes_eq}
 use Rattle.loader.specs.Image.{Words, lies_in_memory, may_hold, put_fault, with_word}
+use Rattle.loader.specs.Labels.{Names, no_names}
 use Rattle.loader.specs.declared.places.TheConstants.{MOST_SEGMENTS, MOST_WORDS}
 use Rattle.loader.specs.declared.image.ImageFault.{ImageFault}
 use Rattle.loader.specs.declared.image.ImageFault.TheVariants as image_fault
@@ -18,13 +19,6 @@ use Rattle.assembler.specs.declared.fault.LineFault.TheVariants.{NotText, Unknow
 use Rattle.assembler.specs.declared.fault.LineFault.TheVariants.{LabelMissing, OutOfRange, TooLong}
 use Rattle.assembler.specs.Faults.{lower}
 use Rattle.assembler.specs.Codes.{encoded, refer, use_fault}
-
--- which address each name stands for
-abbrev pub Names : Type 0
-Names = List ℕ → Option ℕ
-
-abbrev pub no_names : Names
-no_names other = None
 
 abbrev pub with_name : List ℕ → ℕ → Names → Names
 with_name name at names other = if bytes_eq other name then Some at else names other

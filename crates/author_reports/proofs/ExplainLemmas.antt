@@ -6,7 +6,7 @@ use Rattle.explained.specs.Starts.{IsLatestStart}
 use Rattle.explained.specs.declared.bursts.Bursts.{Bursts}
 use Rattle.loader.specs.Image.{Words}
 use Rattle.statement.specs.Stated.{Stated}
-use Rattle.statement.specs.Statement.{Names}
+use Rattle.loader.specs.Labels.{Names}
 use Rattle.flow_graph.specs.Flow.{Flow}
 use Rattle.flow_graph.specs.declared.places.Place.TheVariants.{Exit}
 use Rattle.longest_walk.specs.Folded.{unfolded}

@@ -7,7 +7,7 @@ use Rattle.bus_ticks.specs.declared.profile.Profile.{Profile}
 use Rattle.loader.specs.Image.{Words}
 use Rattle.assembler.specs.declared.placed_line.PlacedLine.{PlacedLine}
 use Rattle.statement.specs.Stated.{Stated}
-use Rattle.statement.specs.Statement.{Names}
+use Rattle.loader.specs.Labels.{Names}
 use Rattle.arm2_exec.specs.State.{State}
 use Rattle.arm2_exec.specs.declared.machine.Input.{Input}
 use Rattle.flow_graph.specs.Flow.{Flow, IsWellFormed}

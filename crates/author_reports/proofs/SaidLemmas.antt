@@ -4,7 +4,7 @@ use Rattle.bus_ticks.specs.declared.profile.Profile.{Profile}
 use Rattle.flow_graph.specs.Flow.{Flow}
 use Rattle.loader.specs.Image.{Words}
 use Rattle.statement.specs.Stated.{Stated}
-use Rattle.statement.specs.Statement.{Names}
+use Rattle.loader.specs.Labels.{Names}
 use Rattle.report_input.specs.Report.{HasLoops}
 use Rattle.report_input.specs.Source.{Said, source_of}
 use Rattle.report_input.proofs.HandlerLemmas.{one_ok}

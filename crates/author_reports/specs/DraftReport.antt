@@ -6,7 +6,7 @@ use Rattle.bus_ticks.specs.declared.space.TheConstants.{SPACE_END}
 use Rattle.drafting.specs.Draft.{IsDraft}
 use Rattle.loader.specs.Image.{Words}
 use Rattle.loader.specs.Labels as labels
-use Rattle.statement.specs.Statement.{Names}
+use Rattle.loader.specs.Labels.{Names}
 use Rattle.report_input.specs.Source.{IsSourceFault, source_of}
 use Rattle.report_output.specs.declared.fault.ReportFault.{ReportFault}
 use Rattle.report_output.specs.declared.fault.ReportFault.TheVariants as report_fault

@@ -4,7 +4,7 @@ ghost use Rattle.std.specs.Prelude.{◌≡◌, Ok, IfErr, IfOk, option_map};
 ghost use Rattle.bus_ticks.specs.declared.profile.Profile.{Profile};
 ghost use Rattle.explained.specs.Starts.{latest_at};
 ghost use Rattle.flow_graph.specs.Flow.{IsWellFormed};
-ghost use Rattle.statement.specs.Statement.{Names};
+ghost use Rattle.loader.specs.Labels.{Names};
 ghost use Rattle.assembler.specs.Placed.{ArePlaced};
 ghost use Rattle.author_reports.specs.ExplainReport.{Explains, IsExplanation, IsImageText, IsSourceText};
 ghost use Rattle.author_reports.specs.ExplainReport.{IsTextOf, is_enough};

@@ -3,7 +3,7 @@
 ghost use Rattle.std.specs.Prelude.{◌≡◌, ℕ, List, Ok, IfErr, IfOk, option_map};
 ghost use Rattle.bus_ticks.specs.declared.profile.Profile.{Profile};
 ghost use Rattle.flow_graph.specs.Flow.{IsWellFormed};
-ghost use Rattle.statement.specs.Statement.{Names};
+ghost use Rattle.loader.specs.Labels.{Names};
 ghost use Rattle.author_reports.specs.GraphReport.{AreLabelsOf, Draws, IsGraphReport};
 ghost use Rattle.report_input.specs.Priced.{Priced};
 ghost use Rattle.report_input.specs.Report.{BeforeOutput, HasLoops, IsRefused, IsTreeOf};

@@ -6,7 +6,7 @@ use Rattle.std.specs.Map.{update, update_all}
 use Rattle.std.specs.Ordering.{nat_cmp}
 use Rattle.std.specs.Prelude.{option_map}
 use Rattle.assembler.specs.declared.placed_line.PlacedLine.{PlacedLine}
-use Rattle.loader.specs.Labels.{Names}
+use Rattle.loader.specs.Labels.{NamedAddresses}
 use Rattle.diagnosis.specs.Lines.{Numbered, label_of, numbered, numbered_at, words_from, words_of}
 use Rattle.diagnosis.specs.declared.words.SourceLine.{SourceLine}
 
@@ -37,7 +37,7 @@ one_word old new at count line updates q =
 abbrev line_with : ℕ → List ℕ → List ℕ → Numbered
 line_with number text label = record { number = number; label = label; text = text }
 
-pub more_lines : (names : Names) (number : ℕ) (before label text : List ℕ) (lines : List (List ℕ)) (p : PlacedLine) (placed : List PlacedLine) (old new : ℕ → Option Numbered) (q : ℕ)
+pub more_lines : (names : NamedAddresses) (number : ℕ) (before label text : List ℕ) (lines : List (List ℕ)) (p : PlacedLine) (placed : List PlacedLine) (old new : ℕ → Option Numbered) (q : ℕ)
     → label ≡ label_of names text before p.at → new q ≡ update_all eqb old (words_from p.at p.words (record { number = number; label = label; text = text })) q
     → update_all eqb new (words_of names (number + 1) label lines placed) q ≡ update_all eqb old (words_of names number before (text ∷ lines) (p ∷ placed)) q
 more_lines names number before label text lines p placed old new q is now =
@@ -45,6 +45,6 @@ more_lines names number before label text lines p placed old new q is now =
     ∙ sym (update_all_append eqb old (words_from p.at p.words (line_with number text label)) (words_of names (number + 1) label lines placed) q)
     ∙ ap (λ (l : List ℕ). update_all eqb old (words_from p.at p.words (line_with number text l) ++ words_of names (number + 1) l lines placed) q) is
 
-pub no_places : (names : Names) (number : ℕ) (before : List ℕ) (lines : List (List ℕ)) → words_of names number before lines [] ≡ []
+pub no_places : (names : NamedAddresses) (number : ℕ) (before : List ℕ) (lines : List (List ℕ)) → words_of names number before lines [] ≡ []
 no_places names number before [] = refl
 no_places names number before (text ∷ lines) = refl

@@ -1,7 +1,7 @@
 -- Rows one after another.
 use Rattle.std.proofs.Common.{◌≡◌, ◌<◌, ◌-◌, ◌+◌, ◌++◌, zero, suc, ℕ, Bool, List, [], ◌∷◌, length, get_or, drop, map, refl, sym, ap, ◌∙◌, append_assoc, append-nil, arith}
 use Rattle.std.proofs.lemmas.List.{drop_more}
-use Rattle.loader.specs.Labels.{Names}
+use Rattle.loader.specs.Labels.{NamedAddresses}
 use Rattle.diagnosis.specs.Outline.{Item, item_of}
 use Rattle.diagnosis.specs.Refused.{Adds, Row, is_twice, item_row_if, row_text, shown, twice_rows}
 use Rattle.diagnosis.specs.declared.outline.Entry.{Entry}
@@ -51,12 +51,12 @@ full old left xs ys is = ap (λ t. old ++ t) (ap (λ n. shown n xs) is ∙ (no_r
 pub adds_first : (rows rest whole : List Row) (a b : Report) → Adds rows a b → whole ≡ rows ++ rest → (more : List Row) → b.text.items ++ shown b.left (rest ++ more) ≡ a.text.items ++ shown a.left (whole ++ more)
 adds_first rows rest whole a b adds is more = adds.same (rest ++ more) ∙ ap (λ r. a.text.items ++ shown a.left r) (sym (append_assoc rows rest more) ∙ ap (λ w. w ++ more) (sym is))
 
-one_row : (names : Names) (before items : List Item) (i : Item) → twice_rows names before (i ∷ items) ≡ item_row_if (is_twice names before i) i ++ twice_rows names (i ∷ before) items
+one_row : (names : NamedAddresses) (before items : List Item) (i : Item) → twice_rows names before (i ∷ items) ≡ item_row_if (is_twice names before i) i ++ twice_rows names (i ∷ before) items
 unfolding twice_rows
 one_row names before items i = refl
 
 -- the row of the entry at an index, if an earlier one has its address
-pub twice_more : (names : Names) (before : List Item) (entries : List Entry) (k : ℕ) (d : Entry) (holds : Bool) → k < length entries → holds ≡ is_twice names before (item_of (get_or entries k d))
+pub twice_more : (names : NamedAddresses) (before : List Item) (entries : List Entry) (k : ℕ) (d : Entry) (holds : Bool) → k < length entries → holds ≡ is_twice names before (item_of (get_or entries k d))
     → twice_rows names before (map item_of (drop k entries)) ≡ item_row_if holds (item_of (get_or entries k d)) ++ twice_rows names (item_of (get_or entries k d) ∷ before) (map item_of (drop (k + 1) entries))
 twice_more names before entries k d holds inside told =
     let i = item_of (get_or entries k d) in

@@ -4,7 +4,7 @@ use Rattle.std.specs.BTreeSet.{BTreeSet, contains}
 use Rattle.std.specs.BTreeMap.{is_at as is_key}
 use Rattle.std.specs.List.{list_any}
 use Rattle.std.specs.Ordering.{nat_cmp}
-use Rattle.loader.specs.Labels.{Names}
+use Rattle.loader.specs.Labels.{NamedAddresses}
 use Rattle.diagnosis.specs.Lines.{is_at}
 use Rattle.diagnosis.specs.Outline.{Item, Stated, Table, Begins, Ends, States, item_of, table_of}
 use Rattle.diagnosis.specs.Refused.{AreTaken, address_as, of_table, stands_among}
@@ -16,7 +16,7 @@ use Rattle.diagnosis.specs.declared.repeats.Taken.{Taken}
 pub none_come_to : (set : BTreeSet ℕ) (a : ℕ) → set.keys ≡ [] → contains nat_cmp set a ≡ false
 none_come_to set a empty = ap (list_any (is_key (nat_cmp a))) empty
 
-pub one_more : (names : Names) (list key : List ℕ) (before : List Item) (i : Item) (old new : BTreeSet ℕ) (r : Option ℕ) → r ≡ address_as names list key i
+pub one_more : (names : NamedAddresses) (list key : List ℕ) (before : List Item) (i : Item) (old new : BTreeSet ℕ) (r : Option ℕ) → r ≡ address_as names list key i
     → ((a : ℕ) → contains nat_cmp new a ≡ (is_at r a || contains nat_cmp old a))
     → ((a : ℕ) → contains nat_cmp old a ≡ stands_among names list key before a) → (a : ℕ) → contains nat_cmp new a ≡ stands_among names list key (i ∷ before) a
 one_more names list key before i old new r is added have a = added a ∙ (ap (λ b. is_at r a || b) (have a) ∙ ap (λ s. is_at s a || stands_among names list key before a) is)
@@ -38,7 +38,7 @@ unfolding of_table
 of_ended_table before = refl
 
 -- a table's begin or end sets the destinations anew
-pub next_table : (names : Names) (before : List Item) (e : Entry) (old new : Taken) → ((t : Section) × (e ≡ entry.Table t)) ⊎ (e ≡ entry.End) → AreTaken names before old
+pub next_table : (names : NamedAddresses) (before : List Item) (e : Entry) (old new : Taken) → ((t : Section) × (e ≡ entry.Table t)) ⊎ (e ≡ entry.End) → AreTaken names before old
     → new.targets ≡ old.targets → new.accesses ≡ old.accesses → new.destinations.keys ≡ [] → AreTaken names (item_of e ∷ before) new
 next_table names before e old new (inl (t, is)) have targets accesses empty =
     rw is (record {

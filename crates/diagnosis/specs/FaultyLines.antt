@@ -7,7 +7,8 @@ use Rattle.std.specs.Ordering.{nat_cmp}
 use Rattle.asm_text.specs.Source.{lines_of}
 use Rattle.asm_text.specs.Statements.{Parsed, line_of}
 use Rattle.asm_text.specs.declared.statement.TextFault.{TextFault}
-use Rattle.assembler.specs.Sweeps.{Names, assembled}
+use Rattle.loader.specs.Labels.{Names}
+use Rattle.assembler.specs.Sweeps.{assembled}
 use Rattle.assembler.specs.declared.fault.LineFault.{LineFault}
 use Rattle.assembler.specs.declared.fault.LineFault.TheVariants.{LabelTwice, TooLong}
 use Rattle.loader.specs.Image.{Words}

@@ -8,7 +8,7 @@ use Rattle.std.specs.Map.{update_all}
 use Rattle.std.specs.Ordering.{nat_cmp}
 use Rattle.asm_text.specs.Source.{lines_of}
 use Rattle.assembler.specs.declared.placed_line.PlacedLine.{PlacedLine}
-use Rattle.loader.specs.Labels.{Names, address_of}
+use Rattle.loader.specs.Labels.{NamedAddresses, address_of}
 use Rattle.text_rows.specs.Addresses.{IsNamed}
 use Rattle.diagnosis.specs.declared.words.SourceLine.{SourceLine}
 
@@ -17,7 +17,7 @@ abbrev pub line_at : BTreeMap ℕ SourceLine → ℕ → Option SourceLine
 line_at lines at = get nat_cmp lines at
 
 -- each line's label is none, or stands for the address
-abbrev pub AreNamed : Names → BTreeMap ℕ SourceLine → Type 0
+abbrev pub AreNamed : NamedAddresses → BTreeMap ℕ SourceLine → Type 0
 AreNamed names lines =
     (at : ℕ) (line : SourceLine) → line_at lines at ≡ Some line → IsNamed names at line.label.now
 
@@ -48,11 +48,11 @@ is_at None at = false
 is_at (Some address) at = address == at
 
 -- a name, if it is that of the address, else none
-abbrev pub name_of : Names → List ℕ → ℕ → List ℕ
+abbrev pub name_of : NamedAddresses → List ℕ → ℕ → List ℕ
 name_of names name at = if is_at (address_of names name) at then name else []
 
 -- the label of an address: in the first column of a line, or else the one of a line before
-abbrev pub label_of : Names → (text before : List ℕ) → ℕ → List ℕ
+abbrev pub label_of : NamedAddresses → (text before : List ℕ) → ℕ → List ℕ
 label_of names text before at =
     if length (name_of names (first_word text) at) == 0 then name_of names before at
     else name_of names (first_word text) at
@@ -63,7 +63,7 @@ words_from at zero line = []
 words_from at (suc n) line = (at, line) ∷ words_from ((at + 4) % 2 ^ 32) n (record line { label = [] })
 
 -- the words of lines, of which the first has the number, where the line before has the label
-abbrev pub words_of : Names → ℕ → List ℕ → List (List ℕ) → List PlacedLine → List (ℕ × Numbered)
+abbrev pub words_of : NamedAddresses → ℕ → List ℕ → List (List ℕ) → List PlacedLine → List (ℕ × Numbered)
 words_of names number before [] placed = []
 words_of names number before (text ∷ lines) [] = []
 words_of names number before (text ∷ lines) (p ∷ placed) =
@@ -71,7 +71,7 @@ words_of names number before (text ∷ lines) (p ∷ placed) =
     ++ words_of names (number + 1) (label_of names text before p.at) lines placed
 
 -- the words of all lines and no others; where two are at one address, the later
-abbrev pub AreLinesOf : Names → (source : List ℕ) → List PlacedLine → BTreeMap ℕ SourceLine → Type 0
+abbrev pub AreLinesOf : NamedAddresses → (source : List ℕ) → List PlacedLine → BTreeMap ℕ SourceLine → Type 0
 AreLinesOf names source placed lines =
     (at : ℕ) → numbered_at lines at
     ≡ update_all nat_eq (λ a. None) (words_of names 1 [] (lines_of source) placed) at

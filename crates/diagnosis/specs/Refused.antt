@@ -12,7 +12,7 @@ use Rattle.std.specs.Ordering.{nat_cmp}
 use Rattle.std.specs.Str.{bytes_eq}
 use Rattle.bus_ticks.specs.declared.space.TheConstants.{SPACE_END}
 use Rattle.asm_text.specs.Numbers.{run_number}
-use Rattle.loader.specs.Labels.{Names, address_of}
+use Rattle.loader.specs.Labels.{NamedAddresses, address_of}
 use Rattle.toml.specs.Parse.{parse_document}
 use Rattle.diagnosis.specs.Lines.{is_at}
 use Rattle.statement.specs.Statement.{access_keys, loop_keys, statement_keys, target_keys}
@@ -131,12 +131,12 @@ fits_key key value =
     else (if bytes_eq key (codes "kind") then is_word_of kind_words value else true)))
 
 -- a label's address, or the number that is written in decimal or after `0x`
-abbrev pub address_at : Names → Value → Option ℕ
+abbrev pub address_at : NamedAddresses → Value → Option ℕ
 address_at names (Bare w) = run_number w
 address_at names (Quoted quote w) = address_of names w
 
 -- a text in the place of an address that is no label
-abbrev pub is_unknown_label : Names → Stated → Bool
+abbrev pub is_unknown_label : NamedAddresses → Stated → Bool
 is_unknown_label names p = takes_address p.key && (is_text p.value && is_none (address_at names p.value))
 
 abbrev pub is_outside : List ℕ → ℕ → Bool
@@ -149,7 +149,7 @@ is_number_outside key None = false
 is_number_outside key (Some n) = is_outside key n
 
 -- a number below 0, or out of the key's range
-abbrev pub is_out_of_range : Names → Stated → Bool
+abbrev pub is_out_of_range : NamedAddresses → Stated → Bool
 is_out_of_range names p = is_negative p.value || is_number_outside p.key (address_at names p.value)
 
 -- ## Of a value
@@ -159,7 +159,7 @@ is_unknown_key None key = false
 is_unknown_key (Some keys) key = not (is_among keys key)
 
 -- the value has the fault
-abbrev pub is_faulty : Names → StatementFault → Stated → Bool
+abbrev pub is_faulty : NamedAddresses → StatementFault → Stated → Bool
 is_faulty names UnknownKey p = is_unknown_key (keys_of p.list) p.key
 is_faulty names WrongKind p = not (fits_key p.key p.value)
 is_faulty names UnknownLabel p = is_unknown_label names p
@@ -204,7 +204,7 @@ kind_rows t items =
     if t.is_listed then missing_rows t items (needed_keys t.name) ++ target_rows t items
     else table_row t (codes " is to stand in double brackets") [] ∷ []
 
-abbrev pub address_in : Names → List ℕ → List Item → Option ℕ
+abbrev pub address_in : NamedAddresses → List ℕ → List Item → Option ℕ
 address_in names key items = option_and_then (address_at names) (value_at key items)
 
 -- the header's address lies before the first or after the last
@@ -212,7 +212,7 @@ abbrev pub lies_outside : Option ℕ → Option ℕ → Option ℕ → Bool
 lies_outside (Some header) (Some first) (Some last) = nat_lt header first || nat_lt last header
 lies_outside _ _ _ = false
 
-abbrev pub is_misplaced : Names → List Item → Bool
+abbrev pub is_misplaced : NamedAddresses → List Item → Bool
 is_misplaced names items =
     lies_outside (address_in names (codes "header") items)
     (address_in names (codes "first") items)
@@ -246,12 +246,12 @@ extra_destination_row (Some p) =
     ∷ []
 
 -- that the header lies outside, and of the destinations the first after the limit
-abbrev pub range_rows : Names → Table → List Item → List Row
+abbrev pub range_rows : NamedAddresses → Table → List Item → List Row
 range_rows names t items =
     row_if (is_misplaced names items) (table_row t (codes " has its header outside first to last") [])
     ++ extra_destination_row (first_after 64 (stated_at (codes "to") items))
 
-abbrev pub table_rows : Names → StatementFault → Table → List Item → List Row
+abbrev pub table_rows : NamedAddresses → StatementFault → Table → List Item → List Row
 table_rows names UnknownKey t items =
     row_if (is_none (keys_of t.name)) (table_row t (codes " is no list of statements") [])
 table_rows names WrongKind t items = kind_rows t items
@@ -260,12 +260,12 @@ table_rows names _ t items = []
 
 -- ## Of a text
 
-abbrev pub item_rows : Names → StatementFault → Item → List Item → List Row
+abbrev pub item_rows : NamedAddresses → StatementFault → Item → List Item → List Row
 item_rows names fault (Begins t) items = table_rows names fault t items
 item_rows names fault (States p) items = row_if (is_faulty names fault p) (value_row p)
 item_rows names fault Ends items = []
 
-unfoldable pub rows : Names → StatementFault → List Item → List Row
+unfoldable pub rows : NamedAddresses → StatementFault → List Item → List Row
 rows names fault [] = []
 rows names fault (i ∷ items) = item_rows names fault i items ++ rows names fault items
 
@@ -334,19 +334,19 @@ whole_rows OutOfRange items =
     extra_row loop_limit items ++ (extra_row target_limit items ++ extra_row access_limit items)
 whole_rows _ items = []
 
-abbrev pub all_rows : Names → StatementFault → List Item → List Row
+abbrev pub all_rows : NamedAddresses → StatementFault → List Item → List Row
 all_rows names fault items = whole_rows fault items ++ rows names fault items
 
 -- ## Of an address that occurs twice, by the items before, the nearest of them first
 
 -- the address of a value at the key in a table of the list
-abbrev pub address_as : Names → (list key : List ℕ) → Item → Option ℕ
+abbrev pub address_as : NamedAddresses → (list key : List ℕ) → Item → Option ℕ
 address_as names list key (States p) =
     if bytes_eq p.list list && bytes_eq p.key key then address_at names p.value else None
 address_as names list key _ = None
 
 -- one of the items has the address there
-abbrev pub stands_among : Names → (list key : List ℕ) → List Item → ℕ → Bool
+abbrev pub stands_among : NamedAddresses → (list key : List ℕ) → List Item → ℕ → Bool
 stands_among names list key items a = list_any (λ i. is_at (address_as names list key i) a) items
 
 abbrev pub passes : (ℕ → Bool) → Option ℕ → Bool
@@ -354,7 +354,7 @@ passes test None = false
 passes test (Some a) = test a
 
 -- the item's address there is that of one of the items before
-abbrev pub repeats : Names → (list key : List ℕ) → (before : List Item) → Item → Bool
+abbrev pub repeats : NamedAddresses → (list key : List ℕ) → (before : List Item) → Item → Bool
 repeats names list key before i = passes (stands_among names list key before) (address_as names list key i)
 
 -- the items since a table began or ended
@@ -365,7 +365,7 @@ of_table (States p ∷ before) = States p ∷ of_table before
 of_table (Ends ∷ before) = []
 
 -- a second target or access at an address, or a destination that its target has already
-abbrev pub is_twice : Names → (before : List Item) → Item → Bool
+abbrev pub is_twice : NamedAddresses → (before : List Item) → Item → Bool
 is_twice names before i =
     repeats names (codes "target") (codes "at") before i
     || (repeats names (codes "access") (codes "at") before i
@@ -375,7 +375,7 @@ abbrev pub item_row_if : Bool → Item → List Row
 item_row_if holds (States p) = row_if holds (value_row p)
 item_row_if holds _ = []
 
-unfoldable pub twice_rows : Names → (before items : List Item) → List Row
+unfoldable pub twice_rows : NamedAddresses → (before items : List Item) → List Row
 twice_rows names before [] = []
 twice_rows names before (i ∷ items) =
     item_row_if (is_twice names before i) i ++ twice_rows names (i ∷ before) items
@@ -405,7 +405,7 @@ pub record IsNoFaultText (text out : List ℕ) : Type 0 where
 abbrev pub IsTomlText : List ℕ → List ℕ → Type 0
 IsTomlText text out = IsTomlFaultText text out ⊎ IsNoFaultText text out
 
-abbrev pub IsStatementText : Names → List ℕ → StatementFault → List ℕ → Type 0
+abbrev pub IsStatementText : NamedAddresses → List ℕ → StatementFault → List ℕ → Type 0
 IsStatementText names text NotToml out = IsTomlText text out
 IsStatementText names text Twice out = out ≡ shown MOST_LINES (twice_rows names [] (items_of text))
 IsStatementText names text fault out = out ≡ shown MOST_LINES (all_rows names fault (items_of text))
@@ -425,7 +425,7 @@ pub record Adds (rows : List Row) (old new : Report) : Type 0 where
 -- ## Addresses so far, which clauses of private calls speak of
 
 -- of the items before: the addresses of targets and of accesses, and the destinations of the table at hand
-pub record AreTaken (names : Names) (before : List Item) (taken : Taken) : Type 0 where
+pub record AreTaken (names : NamedAddresses) (before : List Item) (taken : Taken) : Type 0 where
   pub targets : (a : ℕ) → contains nat_cmp taken.targets a
       ≡ stands_among names (codes "target") (codes "at") before a
   pub accesses : (a : ℕ) → contains nat_cmp taken.accesses a

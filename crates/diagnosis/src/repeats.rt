@@ -3,7 +3,7 @@ ghost use Rattle.std.specs.BTreeSet.{contains};
 ghost use Rattle.std.specs.Ordering.{nat_cmp};
 ghost use Rattle.diagnosis.specs.Lines.{is_at};
 ghost use Rattle.diagnosis.specs.Outline.{Item, States, item_of, stated_of};
-ghost use Rattle.loader.specs.Labels.{Names};
+ghost use Rattle.loader.specs.Labels.{NamedAddresses};
 ghost use Rattle.diagnosis.specs.Refused.{AreTaken, address_as, is_twice, passes};
 
 use crate::outline::{Entry, Pair};
@@ -50,7 +50,7 @@ pub(crate) struct Taken {
 
 impl Taken {
     pub(crate) fn new(alloc: Global) -> Taken
-        ensures { (labels : Names) → AreTaken labels [] result }
+        ensures { (labels : NamedAddresses) → AreTaken labels [] result }
     {
         Taken {
             targets: BTreeSet::new(alloc),

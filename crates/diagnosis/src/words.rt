@@ -1,7 +1,7 @@
 ghost use Rattle.std.specs.Prelude.{◌≡◌, ◌≤◌, ℕ, [], IfOk, OnOk, length, nat_eq};
 ghost use Rattle.std.specs.List.{prefix_len};
 ghost use Rattle.std.specs.Map.{update_all};
-ghost use Rattle.loader.specs.Labels.{Names};
+ghost use Rattle.loader.specs.Labels.{NamedAddresses};
 ghost use Rattle.text_rows.specs.Addresses.{IsNamed};
 ghost use Rattle.diagnosis.specs.Lines.{AreLinesOf, AreNamed, first_word, is_in_word, label_of, name_of};
 ghost use Rattle.diagnosis.specs.Lines.{numbered, numbered_at, words_from};
@@ -83,7 +83,7 @@ fn add_words<'a>(
     line: SourceLine<'a>,
 ) -> Result<(), AllocError>
     ensures named { OnOk result
-        ((names : Names) → IsNamed names placed.at line.entry.label.now → AreNamed names lines.old
+        ((names : NamedAddresses) → IsNamed names placed.at line.entry.label.now → AreNamed names lines.old
         → AreNamed names lines.new) }
     ensures words { OnOk result
         ((at : ℕ) → numbered_at lines.new at ≡ update_all nat_eq (numbered_at lines.old)

@@ -5,7 +5,7 @@ use Rattle.std.specs.Map.{keys_of}
 use Rattle.std.specs.Ordering.{nat_cmp}
 use Rattle.bus_ticks.specs.declared.profile.Class.{Class}
 use Rattle.loader.specs.Image.{Words}
-use Rattle.loader.specs.Labels.{Names}
+use Rattle.loader.specs.Labels.{NamedAddresses}
 use Rattle.drafting.specs.DraftText.{draft_text}
 use Rattle.drafting.specs.Ends.{AreEnds}
 use Rattle.drafting.specs.Named.{AreNamed, Lines}
@@ -31,7 +31,7 @@ pub record AreFound (words : Words) (entry : ℕ) (ends : List (ℕ × End)) (ac
   pub targets_are : AreTargets words addresses targets
 
 -- the text of what was found, with labels that stand for the addresses
-pub record IsDraft (words : Words) (names : Names) (entry : ℕ) (text : List ℕ) : Type 0 where
+pub record IsDraft (words : Words) (names : NamedAddresses) (entry : ℕ) (text : List ℕ) : Type 0 where
   pub lines : Lines
   pub named : AreNamed names lines
   pub ends : List (ℕ × End)

@@ -16,7 +16,7 @@ use Rattle.asm_text.specs.declared.statement.TextFault.{TextFault}
 use Rattle.assembler.specs.Assembles.{AreWords, IsAssembly, IsTarget, Laid, Once, image_of, laid, places, places_from, word_count, words_at, words_from}
 use Rattle.assembler.specs.Placed.{ArePlaced, IsPlaced}
 use Rattle.assembler.specs.Refusals.{ArePassed}
-use Rattle.assembler.specs.Sweeps.{Names}
+use Rattle.loader.specs.Labels.{Names}
 use Rattle.assembler.specs.declared.placed_line.PlacedLine.{PlacedLine}
 use Rattle.loader.specs.Image.{Words, lies_in_memory, with_word, word_of}
 use Rattle.loader.specs.ImageBytes.{count_read, cut_fault, end_fault, head_address, head_count, image_read, magic, numbers, overlaps, read_by, segment_fault, segments_read, with_words}

@@ -1,4 +1,4 @@
--- Names in a map whose keys are their bytes.
+-- NamedAddresses in a map whose keys are their bytes.
 use Rattle.std.proofs.Common.{◌≡◌, ◌∙◌, ℕ, Bool, true, false, cond, List, [], ◌∷◌, Option, Some, refl, sym, ap}
 use Rattle.std.proofs.lemmas.Bool.{false≢true}
 use Rattle.std.specs.Prelude.{Vec, map}
@@ -10,12 +10,12 @@ use Rattle.std.specs.Cmp.Lexicographic.{slice_cmp, bytes_decides, texts_ties}
 use Rattle.std.specs.Str.{bytes_eq}
 use Rattle.std.specs.Map.{lookup}
 use Rattle.std.specs.BTreeMap.{insert_entry, is_at}
-use Rattle.loader.specs.Labels.{Names, address_of}
+use Rattle.loader.specs.Labels.{NamedAddresses, address_of}
 
 abbrev pub Entries : Type 0
 Entries = List (Vec ℕ Global × ℕ)
 
-abbrev pub names_in : Entries → Names
+abbrev pub names_in : Entries → NamedAddresses
 names_in entries = map (λ e. (e.0.items, e.1)) entries
 
 abbrev pub key_cmp : Vec ℕ Global → Vec ℕ Global → Ordering

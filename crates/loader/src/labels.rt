@@ -48,9 +48,9 @@ pub struct Labels {
 
 impl Model for Labels {
     ghost use Rattle.std.specs.Prelude.{map};
-    ghost use Rattle.loader.specs.Labels.{Names};
+    ghost use Rattle.loader.specs.Labels.{NamedAddresses};
 
-    ghost Value = { Names };
+    ghost Value = { NamedAddresses };
 
     ghost view = { λ labels. map (λ e. (e.0.items, e.1)) labels.addresses.entries };
 }

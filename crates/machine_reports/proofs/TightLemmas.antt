@@ -22,7 +22,8 @@ use Rattle.loader.specs.Image.{Words, word_of}
 use Rattle.loader.specs.Loading.{put_words}
 use Rattle.loader.specs.Planned.{AreOf, IsFitted}
 use Rattle.statement.specs.Stated.{Stated}
-use Rattle.statement.specs.Statement.{IsStatement, Names}
+use Rattle.loader.specs.Labels.{Names}
+use Rattle.statement.specs.Statement.{IsStatement}
 use Rattle.statement.specs.declared.faults.StatementFault.{StatementFault}
 use Rattle.statement.specs.declared.faults.StatementFault.TheVariants as statement_fault
 use Rattle.machine_file.specs.Inputs.{AreInputs, IsLast, bursts_of_step, port_of_step}

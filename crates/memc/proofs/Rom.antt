@@ -7,7 +7,7 @@ use Rattle.std.specs.Ordering.{nat_cmp}
 use Rattle.std.proofs.lemmas.Bool.{cases_lt, cases_eq, le-ltb, lt-ltb, ne_eqb, eq-eqb}
 use Rattle.std.proofs.lemmas.Bool.Decides.{nat_tests}
 use Rattle.std.proofs.lemmas.List.{drop_all}
-use Rattle.memc.specs.Memory.{Words, rom_word, with_word, with_words, last_word}
+use Rattle.memc.specs.Memory.{rom_word, with_word, with_words, last_word}
 
 -- the test of the map's search
 pub is_at-eqb : (a b : ℕ) → is_at (nat_cmp a) b ≡ eqb b a
@@ -18,12 +18,12 @@ cond-unwrap_or true x o = refl
 cond-unwrap_or false x o = refl
 
 -- the map's search finds the word
-pub lookup-rom_word : (words : Words) (a : ℕ) → unwrap_or (lookup (is_at (nat_cmp a)) words) 0 ≡ rom_word words a
+pub lookup-rom_word : (words : List (ℕ × ℕ)) (a : ℕ) → unwrap_or (lookup (is_at (nat_cmp a)) words) 0 ≡ rom_word words a
 lookup-rom_word [] a = refl
 lookup-rom_word (e ∷ rest) a = rw (is_at-eqb a e.0) (cond-unwrap_or (eqb e.0 a) e.1 (lookup (is_at (nat_cmp a)) rest) ∙ ap (λ (x : ℕ). cond (eqb e.0 a) e.1 x) (lookup-rom_word rest a))
 
 -- the map's insertion puts the word
-pub insert-with_word : (words : Words) (a w : ℕ) → insert_entry nat_cmp words a w ≡ with_word words a w
+pub insert-with_word : (words : List (ℕ × ℕ)) (a w : ℕ) → insert_entry nat_cmp words a w ≡ with_word words a w
 insert-with_word [] a w = refl
 insert-with_word (e ∷ rest) a w = elim (cases_lt a e.0) [
   | inl lt ↦ rw (lt-ltb a e.0 lt) refl
@@ -46,7 +46,7 @@ both_equal : (x a b : ℕ) → eqb x b ≡ true → eqb a b ≡ true → x ≡ a
 both_equal x a b p q = grind (arith, nat_tests)
 
 -- one word more is there, and changes no other
-pub rom_word-with_word : (words : Words) (a w b : ℕ) → rom_word (with_word words a w) b ≡ cond (eqb a b) w (rom_word words b)
+pub rom_word-with_word : (words : List (ℕ × ℕ)) (a w b : ℕ) → rom_word (with_word words a w) b ≡ cond (eqb a b) w (rom_word words b)
 rom_word-with_word [] a w b = refl
 rom_word-with_word (e ∷ rest) a w b = elim (cases_lt a e.0) [
   | inl lt ↦ rw (lt-ltb a e.0 lt) refl
@@ -57,14 +57,14 @@ rom_word-with_word (e ∷ rest) a w b = elim (cases_lt a e.0) [
 ]
 
 -- so of a list its last word is there
-pub rom_word-with_words : (list : List (ℕ × ℕ)) (words : Words) (b : ℕ) → rom_word (with_words words list) b ≡ last_word list b (rom_word words b)
+pub rom_word-with_words : (list : List (ℕ × ℕ)) (words : List (ℕ × ℕ)) (b : ℕ) → rom_word (with_words words list) b ≡ last_word list b (rom_word words b)
 rom_word-with_words [] words b = refl
 rom_word-with_words (e ∷ rest) words b = rom_word-with_words rest (with_word words e.0 e.1) b ∙ ap (λ (x : ℕ). last_word rest b x) (rom_word-with_word words e.0 e.1 b)
 
 -- the next word of a list goes in
-pub with_next : (rom : Words) (words : List (ℕ × ℕ)) (i : ℕ) (d : ℕ × ℕ) → i < length words → with_words (with_word rom (get_or words i d).0 (get_or words i d).1) (drop (i + 1) words) ≡ with_words rom (drop i words)
+pub with_next : (rom : List (ℕ × ℕ)) (words : List (ℕ × ℕ)) (i : ℕ) (d : ℕ × ℕ) → i < length words → with_words (with_word rom (get_or words i d).0 (get_or words i d).1) (drop (i + 1) words) ≡ with_words rom (drop i words)
 with_next rom words i d below = rw (add-one, drop-cons words i d) refl
 
 -- after the last one nothing changes
-pub with_rest : (rom : Words) (words : List (ℕ × ℕ)) (i : ℕ) → length words ≤ i → with_words rom (drop i words) ≡ rom
+pub with_rest : (rom : List (ℕ × ℕ)) (words : List (ℕ × ℕ)) (i : ℕ) → length words ≤ i → with_words rom (drop i words) ≡ rom
 with_rest rom words i past = rw (drop_all i words past) refl

@@ -19,16 +19,12 @@ use Rattle.memc.specs.declared.spots.Refused.{Refused}
 use Rattle.memc.specs.declared.spots.Refused.TheVariants.{NoPage, Protected, UnsupportedWrite}
 use Rattle.memc.specs.Paged.{Paged, page_at, place_of, mapped, unmapped, IsFresh}
 
--- addresses and their words, the addresses ascending
-abbrev pub Words : Type 0
-Words = List (ℕ × ℕ)
-
--- a page is 2 ^ shift bytes
+-- a page is 2 ^ shift bytes; ROM's words come with their addresses, which ascend
 pub record Memory : Type 0 where
   pub shift : ℕ
   pub paged : Paged
   pub control : ControlFields
-  pub rom : Words
+  pub rom : List (ℕ × ℕ)
 
 -- 4, 8, 16 and 32 KB
 abbrev pub shift_of_size : PageSize → ℕ
@@ -120,7 +116,7 @@ IsMemorySpot shift _ = ⊥
 -- ## Words
 
 -- the word of ROM at an address: 0 where there is none
-abbrev pub rom_word : Words → ℕ → ℕ
+abbrev pub rom_word : List (ℕ × ℕ) → ℕ → ℕ
 rom_word [] address = 0
 rom_word (e ∷ rest) address = if e.0 == address then e.1 else rom_word rest address
 
@@ -137,14 +133,14 @@ stored (Ram place) word m =
 stored _ word m = m
 
 -- one word more in ROM, in place of the one that is there
-abbrev pub with_word : Words → ℕ → ℕ → Words
+abbrev pub with_word : List (ℕ × ℕ) → ℕ → ℕ → List (ℕ × ℕ)
 with_word [] address word = (address, word) ∷ []
 with_word (e ∷ rest) address word =
     if nat_lt address e.0 then (address, word) ∷ e ∷ rest
     else (if e.0 == address then (address, word) ∷ rest else e ∷ with_word rest address word)
 
 -- the words of a list, one after another
-abbrev pub with_words : Words → List (ℕ × ℕ) → Words
+abbrev pub with_words : List (ℕ × ℕ) → List (ℕ × ℕ) → List (ℕ × ℕ)
 with_words rom [] = rom
 with_words rom (e ∷ rest) = with_words (with_word rom e.0 e.1) rest
 

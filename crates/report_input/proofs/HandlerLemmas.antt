@@ -7,7 +7,8 @@ use Rattle.loader.specs.Image.{Words}
 use Rattle.flow_graph.specs.Flow.{Flow}
 use Rattle.flow_graph.specs.Graph.{IsBuildFault, IsFlowGraph}
 use Rattle.statement.specs.Stated.{Stated}
-use Rattle.statement.specs.Statement.{IsStatement, Names}
+use Rattle.loader.specs.Labels.{Names}
+use Rattle.statement.specs.Statement.{IsStatement}
 use Rattle.statement.specs.declared.faults.StatementFault.{StatementFault}
 use Rattle.statement.specs.declared.faults.StatementFault.TheVariants as statement_fault
 use Rattle.flow_graph.specs.declared.faults.BuildFault.{BuildFault}

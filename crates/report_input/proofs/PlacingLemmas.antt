@@ -25,7 +25,7 @@ use Rattle.report_output.specs.Faults.{of_load, of_machine_file}
 use Rattle.report_input.specs.Placing.{IsFileRefused, IsRunRefused, IsRunnable, IsStated, LacksPage}
 use Rattle.report_input.specs.Report.{BeforeOutput}
 use Rattle.report_input.specs.Source.{IsSourceFault, Said, source_of}
-use Rattle.statement.specs.Statement.{Names}
+use Rattle.loader.specs.Labels.{Names}
 use Rattle.report_output.specs.declared.fault.ReportFault.{ReportFault}
 use Rattle.report_output.specs.declared.fault.ReportFault.TheVariants.{Memory as OfMemory, Source, Image, MachineFile, Load, Device}
 use Rattle.report_output.specs.declared.fault.ReportFault.TheVariants as report_fault

@@ -6,14 +6,14 @@ use Rattle.loader.specs.Image.{Words}
 use Rattle.loader.specs.ImageBytes.{image_read}
 use Rattle.loader.specs.declared.reading.ReadFault.{ReadFault}
 use Rattle.loader.specs.declared.reading.ReadFault.TheVariants as read_fault
-use Rattle.statement.specs.Statement.{Names}
+use Rattle.loader.specs.Labels.{Names, no_names}
 use Rattle.assembler.specs.Sweeps.{assembled}
 use Rattle.assembler.specs.Views.{FaultedAt}
 use Rattle.assembler.specs.declared.fault.LineFault.{LineFault}
 use Rattle.assembler.specs.declared.fault.AsmFault.{AsmFault}
 use Rattle.assembler.specs.declared.fault.AsmFault.TheVariants as asm_fault
 use Rattle.report_output.specs.Faults.{of_image, of_source}
-use Rattle.report_input.specs.Source.{IsSourceFault, is_image, no_names, said_by_image, said_by_text, source_of}
+use Rattle.report_input.specs.Source.{IsSourceFault, is_image, said_by_image, said_by_text, source_of}
 use Rattle.report_output.specs.declared.fault.ReportFault.{ReportFault}
 use Rattle.report_input.proofs.HandlerLemmas.{refused_as}
 

@@ -8,7 +8,7 @@ use Rattle.loader.specs.Image.{Words}
 use Rattle.loader.specs.Loading.{lacks_page, put_words}
 use Rattle.loader.specs.declared.loading.LoadFault.{LoadFault}
 use Rattle.loader.specs.declared.loading.LoadFault.TheVariants.{NoPage}
-use Rattle.statement.specs.Statement.{Names}
+use Rattle.loader.specs.Labels.{Names}
 use Rattle.machine_file.specs.Inputs.{AreInputs}
 use Rattle.machine_file.specs.MachineFile.{IsMachineFile}
 use Rattle.machine_file.specs.Started.{IsStarted}

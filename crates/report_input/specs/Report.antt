@@ -7,7 +7,8 @@ use Rattle.flow_graph.specs.declared.edges.Edge.{Edge}
 use Rattle.flow_graph.specs.Flow.{Flow, edge_shape}
 use Rattle.flow_graph.specs.Graph.{IsBuildFault, IsFlowGraph}
 use Rattle.statement.specs.Stated.{Stated}
-use Rattle.statement.specs.Statement.{IsStatement, Names}
+use Rattle.loader.specs.Labels.{Names}
+use Rattle.statement.specs.Statement.{IsStatement}
 use Rattle.flow_graph.specs.declared.faults.BuildFault.{BuildFault}
 use Rattle.flow_graph.specs.declared.faults.BuildFault.TheVariants as build_fault
 use Rattle.statement.specs.declared.faults.StatementFault.{StatementFault}

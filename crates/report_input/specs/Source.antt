@@ -1,11 +1,10 @@
 -- What a source says: an image where it begins as one, which names no addresses, else a text.
-use Rattle.std.specs.Prelude.{◌≡◌, ℕ, Bool, List, None, Result, Ok, Err, nat_eq, if◌then◌else◌}
+use Rattle.std.specs.Prelude.{◌≡◌, ℕ, Bool, List, Result, Ok, Err, nat_eq, if◌then◌else◌}
 use Rattle.std.specs.List.{starts_with}
 use Rattle.loader.specs.Image.{Words}
 use Rattle.loader.specs.ImageBytes.{image_read, magic}
-use Rattle.loader.specs.Labels.{address_of}
+use Rattle.loader.specs.Labels.{Names, address_of, no_names}
 use Rattle.loader.specs.declared.reading.ReadFault.{ReadFault}
-use Rattle.statement.specs.Statement.{Names}
 use Rattle.assembler.specs.Sweeps.{assembled}
 use Rattle.assembler.specs.declared.assembly.Assembly.{Assembly}
 use Rattle.assembler.specs.declared.fault.AsmFault.TheVariants.{Line}
@@ -19,9 +18,6 @@ Said = Words × Names
 
 abbrev pub is_image : List ℕ → Bool
 is_image source = starts_with nat_eq source magic
-
-abbrev pub no_names : Names
-no_names name = None
 
 abbrev pub said_by_image : Result Words ReadFault → Result Said ReportFault
 said_by_image (Ok words) = Ok (words, no_names)

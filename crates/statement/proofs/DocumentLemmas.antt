@@ -16,7 +16,8 @@ use Rattle.toml_reading.proofs.LowestParts.{keys_judged}
 use Rattle.toml_reading.proofs.TwiceLemmas.{keys_not_distinct}
 use Rattle.statement.specs.StatementRules.{AccessFault, AddressFault, HasAccess, HasFault, HasParts, HasTarget, HasTwo, IsAddress, IsAt, IsSingle, IsNamed, LoopFault, PartsFault, RequiredFault, States, StatesAccess, StatesLoop, StatesTarget, TargetFault, NameFault}
 use Rattle.statement.specs.Stated.{Stated}
-use Rattle.statement.specs.Statement.{Names, Parts, access_at, access_keys, class_at, leave_in, loop_at, named_class, parts_of, statement_keys, statement_of, target_at, target_keys, stated_by_parts}
+use Rattle.loader.specs.Labels.{Names}
+use Rattle.statement.specs.Statement.{Parts, access_at, access_keys, class_at, leave_in, loop_at, named_class, parts_of, statement_keys, statement_of, target_at, target_keys, stated_by_parts}
 use Rattle.statement.specs.StatementFaults.{number_of, statement_faults}
 use Rattle.statement.specs.declared.faults.StatementFault.{StatementFault}
 use Rattle.statement.specs.declared.faults.StatementFault.TheVariants.{Memory, NotToml, UnknownKey, WrongKind, UnknownLabel, OutOfRange, Twice}

@@ -10,7 +10,8 @@ use Rattle.toml_reading.proofs.Following.{refusal_judged}
 use Rattle.toml_reading.proofs.LowestLemmas.{Judges, judged_as, required_judged}
 use Rattle.toml_reading.proofs.LowestParts.{whole_same}
 use Rattle.statement.specs.StatementRules.{AddressFault, IsAddress, IsNamed, RequiredFault, NameFault}
-use Rattle.statement.specs.Statement.{Names, address_at, address_in, labelled}
+use Rattle.loader.specs.Labels.{Names}
+use Rattle.statement.specs.Statement.{address_at, address_in, labelled}
 use Rattle.statement.specs.StatementFaults.{number_of, statement_faults}
 use Rattle.statement.specs.declared.faults.StatementFault.{StatementFault}
 use Rattle.statement.specs.declared.faults.StatementFault.TheVariants.{OutOfRange, UnknownLabel, WrongKind}

@@ -11,7 +11,8 @@ use Rattle.toml_reading.specs.Readings.{and_then, both, items_in, required, seen
 use Rattle.toml_reading.proofs.ReadingLemmas.{also_holds, and_then_holds, both_hold, checked_holds, first_holds, follows_holds, implied, in_space_holds, listed_up_to_holds, number_in_holds, required_holds, second_holds, seen_both, seen_second, tables_few, tables_up_to_hold, test_holds}
 use Rattle.statement.specs.ReadingParts.{AreParts, parts_in}
 use Rattle.statement.specs.Stated.{IsLoop, IsTarget, Target}
-use Rattle.statement.specs.Statement.{Names, Parts, Read, accesses_in, address_at, address_in, destinations, destinations_at, directed, ends_in, kind_in, labelled, leave_in, loop_at, loop_in, loop_parts, loops_in, number_or_name, once, parts_of, placed_loop, some_destinations, target_at, target_in, targets_in}
+use Rattle.loader.specs.Labels.{Names}
+use Rattle.statement.specs.Statement.{Parts, Read, accesses_in, address_at, address_in, destinations, destinations_at, directed, ends_in, kind_in, labelled, leave_in, loop_at, loop_in, loop_parts, loops_in, number_or_name, once, parts_of, placed_loop, some_destinations, target_at, target_in, targets_in}
 use Rattle.statement.specs.StatementFaults.{statement_faults}
 use Rattle.statement.specs.declared.faults.StatementFault.TheVariants.{OutOfRange, WrongKind, Twice}
 use Rattle.statement.specs.declared.stated.Loop.{Loop}

@@ -2,7 +2,8 @@
 use Rattle.std.proofs.Common.{◌≡◌, ℕ, List}
 use Rattle.toml_reading.proofs.Unique.{one_answer}
 use Rattle.statement.specs.Stated.{Stated}
-use Rattle.statement.specs.Statement.{IsStatement, Names, Read, statement_of}
+use Rattle.loader.specs.Labels.{Names}
+use Rattle.statement.specs.Statement.{IsStatement, Read, statement_of}
 use Rattle.statement.specs.declared.faults.StatementFault.TheVariants.{NotToml}
 
 pub one_statement : (text : List ℕ) (names : Names) (answer other : Read Stated) → IsStatement text names answer → IsStatement text names other → answer ≡ other

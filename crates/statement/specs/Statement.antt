@@ -8,6 +8,7 @@ use Rattle.std.specs.Str.{bytes_eq}
 use Rattle.toml.specs.Data.{Data, Members, get_member, as_integer, as_str, as_table}
 use Rattle.bus_ticks.specs.declared.profile.Class.{Class}
 use Rattle.bus_ticks.specs.declared.profile.Class.TheVariants.{Any, Ram, Rom, Io}
+use Rattle.loader.specs.Labels.{Names}
 use Rattle.toml_reading.specs.Documents.{IsAnswer, are_distinct, in_space, items_at, listed_up_to, number_in}
 use Rattle.toml_reading.specs.Documents.{of_keys, tables_up_to}
 use Rattle.toml_reading.specs.Readings.{Reading, and_then, both, optional, required, seen}
@@ -60,10 +61,6 @@ kind_at d = required statement_faults (option_and_then named_kind (as_str d)) (�
 abbrev pub labelled : Option ℕ → Read ℕ
 labelled (Some n) = in_space statement_faults (pos n)
 labelled None = Err UnknownLabel
-
--- the address that a name stands for, if it stands for one
-abbrev pub Names : Type 0
-Names = List ℕ → Option ℕ
 
 -- an integer, or a text that names a label
 abbrev pub number_or_name : Names → Option ℤ → Option (List ℕ) → Read ℕ

@@ -11,7 +11,8 @@ use Rattle.toml_reading.specs.Lists.{IsListUpTo, ListUpToFault, StandsTwice}
 use Rattle.toml_reading.specs.Lowest.{AtKey, AtKeyOr, IsInSpace, IsNoAddress, IsNumber, IsTable, KeysFault}
 use Rattle.toml_reading.specs.Lowest.{NumberFault, TableFault}
 use Rattle.statement.specs.Stated.{Stated, Target}
-use Rattle.statement.specs.Statement.{Names, access_keys, loop_keys, named_class, named_kind, statement_keys}
+use Rattle.loader.specs.Labels.{Names}
+use Rattle.statement.specs.Statement.{access_keys, loop_keys, named_class, named_kind, statement_keys}
 use Rattle.statement.specs.Statement.{target_keys}
 use Rattle.statement.specs.StatementFaults.{statement_faults}
 use Rattle.statement.specs.declared.faults.StatementFault.{StatementFault}

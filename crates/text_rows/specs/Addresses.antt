@@ -3,7 +3,7 @@ use Rattle.std.specs.Prelude.{◌≡◌, ◌⊎◌, ℕ, ◌==◌, if◌then◌e
 use Rattle.asm_text.specs.Hex.{hex8}
 use Rattle.bus_ticks.specs.declared.profile.Class.{Class}
 use Rattle.bus_ticks.specs.declared.profile.Class.TheVariants.{Any, Ram, Rom, Io}
-use Rattle.loader.specs.Labels.{Names, address_of}
+use Rattle.loader.specs.Labels.{NamedAddresses, address_of}
 
 -- a number of TOML
 abbrev pub number_text : ℕ → List ℕ
@@ -14,7 +14,7 @@ abbrev pub quoted : List ℕ → List ℕ
 quoted label = 34 ∷ [] ++ (label ++ 34 ∷ [])
 
 -- the label is none, or stands for the address
-abbrev pub IsNamed : Names → ℕ → List ℕ → Type 0
+abbrev pub IsNamed : NamedAddresses → ℕ → List ℕ → Type 0
 IsNamed names at label = (label ≡ []) ⊎ (address_of names label ≡ Some at)
 
 -- by its label, or where it has none by its number

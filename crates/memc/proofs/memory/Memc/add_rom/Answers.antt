@@ -1,5 +1,5 @@
-use Rattle.std.proofs.Common.{◌≡◌, ◌∙◌, ap, sym}
-use Rattle.memc.specs.Memory.{Words, with_words, rom_word}
+use Rattle.std.proofs.Common.{◌≡◌, ◌∙◌, ℕ, List, ap, sym}
+use Rattle.memc.specs.Memory.{with_words, rom_word}
 use Rattle.memc.proofs.Rom.{insert-with_word, rom_word-with_words, with_next, with_rest}
 use Rattle.memc.proofs.memory.Memc.add_rom.Goals as goal
 
@@ -11,4 +11,4 @@ loop-address-preserved c =
 pub returns-clause-words : goal.returns-clause-words
 returns-clause-words c address =
     let all : c.loop-address.rom.entries ≡ with_words c.args.self.now.rom c.args.words.now = sym (with_rest c.loop-address.rom.entries c.args.words.now c.loop-address.address-index c.loop-address-test.false) ∙ c.loop-address.invariant in
-    ap (λ (rom : Words). rom_word rom address) all ∙ rom_word-with_words c.args.words.now c.args.self.now.rom address
+    ap (λ (rom : List (ℕ × ℕ)). rom_word rom address) all ∙ rom_word-with_words c.args.words.now c.args.self.now.rom address
