@@ -60,10 +60,10 @@ module _ (profile : Profile) where
       kept = one.keeps_bounds words entry stands profile;
       follows = one.follows words entry stands profile start input ready;
     };
-    ran = counted start.profile.burst input (one.told words entry stands profile start input ready) (at_rest None);
+    ran = counted start.profile.burst input (one.stepped words entry stands profile start input ready) (at_rest None);
     after = one.after words entry stands profile start input ready;
     runs =
-        goes_before start input [] (one.told words entry stands profile start input ready)
+        goes_before start input [] (one.stepped words entry stands profile start input ready)
         (one.after words entry stands profile start input ready) (at_rest None)
         (one.after words entry stands profile start input ready)
         (one.step words entry stands profile start input ready)

@@ -137,8 +137,8 @@ module _ (words : Words) (entry : ℕ) (stands : word_of words entry ≡ Some wo
     unfoldable pub moved : Moved
     moved = instruction_moved instr i.port s.regs (with_lines i.lines.0 s.bus)
 
-    pub told : Stepped
-    told = answer_of s moved
+    pub stepped : Stepped
+    stepped = answer_of s moved
 
     unfoldable pub after : State
     after = state_after s i moved
@@ -149,16 +149,16 @@ module _ (words : Words) (entry : ℕ) (stands : word_of words entry ≡ Some wo
         subst (λ (due : Option Vector). Works due i.port s.regs (with_lines i.lines.0 s.bus) moved) (sym ready.none_due)
         (subst (λ (w : Option ℕ). ObeysFetched w i.port s.regs (with_lines i.lines.0 s.bus) moved) (sym ready.fetches) (inl (instr, means, refl)))
 
-    pub step : Step s i told after
-    unfolding told after
-    step = record { moved = moved; works = works; told_is = refl; after_is = refl }
+    pub step : Step s i stepped after
+    unfolding stepped after
+    step = record { moved = moved; works = works; stepped_is = refl; after_is = refl }
 
-    pub plain : told.kind ≡ Plain
-    unfolding told moved instr answer_of operation_effect data_immediate_effect placed jumped
+    pub plain : stepped.kind ≡ Plain
+    unfolding stepped moved instr answer_of operation_effect data_immediate_effect placed jumped
     plain = refl
 
-    executes : Executes words stated profile (instr_action instr) s i told after
-    unfolding step told moved instr answer_of operation_effect data_immediate_effect placed jumped
+    executes : Executes words stated profile (instr_action instr) s i stepped after
+    unfolding step stepped moved instr answer_of operation_effect data_immediate_effect placed jumped
     executes = record {
       registers = ready.registers;
       prices = ready.prices;
@@ -169,14 +169,14 @@ module _ (words : Words) (entry : ℕ) (stands : word_of words entry ≡ Some wo
       transfers = λ store first address is. tt;
     }
 
-    taken : IsTaken words stated profile [] (instr_action instr) s told edge
+    taken : IsTaken words stated profile [] (instr_action instr) s stepped edge
     unfolding edge instr
     taken = record { is_edge = is_edge; from = ap (At []) (sym ready.at); label = refl; to = tt }
 
     pub follows : Follows words stated profile s (i ∷ []) (edge ∷ [])
-    follows = (told, after, record { calls = []; action = instr_action instr; executes = executes; taken = taken }, tt)
+    follows = (stepped, after, record { calls = []; action = instr_action instr; executes = executes; taken = taken }, tt)
 
-    pub is_edge_of : IsEdgeOf words stated profile s i told after edge
+    pub is_edge_of : IsEdgeOf words stated profile s i stepped after edge
     is_edge_of = record { calls = []; action = instr_action instr; executes = executes; taken = taken }
 
   pub complete : IsCompleteWalk flow (edge ∷ [])
@@ -189,11 +189,11 @@ module _ (words : Words) (entry : ℕ) (stands : word_of words entry ≡ Some wo
 -- ## Runs
 
 -- a step before others
-pub goes_before : (s : State) (i : Input) (rest : List Input) (told : Stepped) (next : State) (more : Ran) (after : State) → Step s i told next → why_stopped told.kind ≡ None → Runs next rest more after
-    → Runs s (i ∷ rest) (counted s.profile.burst i told more) after
-goes_before s i rest told next more after step plain runs = (
-  told,
+pub goes_before : (s : State) (i : Input) (rest : List Input) (stepped : Stepped) (next : State) (more : Ran) (after : State) → Step s i stepped next → why_stopped stepped.kind ≡ None → Runs next rest more after
+    → Runs s (i ∷ rest) (counted s.profile.burst i stepped more) after
+goes_before s i rest stepped next more after step plain runs = (
+  stepped,
   next,
   step,
-  subst (λ w. Ends w s (counted s.profile.burst i told more) after ((r : Ran) × Runs next rest r after × (counted s.profile.burst i told more ≡ counted s.profile.burst i told r))) (sym plain) (more, runs, refl),
+  subst (λ w. Ends w s (counted s.profile.burst i stepped more) after ((r : Ran) × Runs next rest r after × (counted s.profile.burst i stepped more ≡ counted s.profile.burst i stepped r))) (sym plain) (more, runs, refl),
 )

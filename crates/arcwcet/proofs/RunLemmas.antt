@@ -8,7 +8,7 @@ use Rattle.command_line.specs.Line.{Asked, FileNames, asm, list, draft, run, tra
 use Rattle.report_input.specs.Placing.{IsRunRefused}
 use Rattle.report_input.specs.Priced.{ByProfile, HasNoProfile, IsUnpriced, Priced, PricedFault}
 use Rattle.arcwcet.specs.Files.{FailsToRead, ReadsAll, Reading, Texts, Writing, in_front, two_of}
-use Rattle.arcwcet.specs.Run.{ByThree, ByTwo, HasPrinted, IsSessionOf, OfThree, OfTwo, Plain, RefusesThree, RefusesTwo, Runs, RunsAsked, RunsAsm, RunsDebug, RunsOf, Tells, TellsOf}
+use Rattle.arcwcet.specs.Run.{ByThree, ByTwo, HasPrinted, IsSessionOf, OfThree, OfTwo, Plain, RefusesThree, RefusesTwo, Runs, RunsAsked, RunsAsm, RunsDebug, RunsOf, Answers, AnswersOf}
 use Rattle.arcwcet.specs.Run.{answer_status, answered, fault_of, files_of, report_status, store_status, text_of}
 use Rattle.report_output.specs.declared.fault.ReportFault.{ReportFault}
 use Rattle.report_output.specs.declared.fault.ReportFault.TheVariants.{Memory, Source, Image, Statement, Graph, Loops, Walk, MachineFile, Load, Cert, Device}
@@ -17,28 +17,28 @@ use Rattle.arcwcet.specs.declared.fault.StoreFault.{StoreFault}
 use Rattle.arcwcet.specs.declared.fault.StoreFault.TheVariants as store_fault
 
 -- how a fault is reported
-data Told (fault : ReportFault) : Type 0 where
-  of_memory : fault ≡ Memory → Told fault
-  of_device : fault ≡ Device → Told fault
-  of_other : (fault ≡ Memory → ⊥) → (fault ≡ Device → ⊥) → report_status fault ≡ 1 → Told fault
+data ExitOf (fault : ReportFault) : Type 0 where
+  of_memory : fault ≡ Memory → ExitOf fault
+  of_device : fault ≡ Device → ExitOf fault
+  of_other : (fault ≡ Memory → ⊥) → (fault ≡ Device → ⊥) → report_status fault ≡ 1 → ExitOf fault
 
-told : (fault : ReportFault) → Told fault
-told Memory = of_memory refl
-told Device = of_device refl
-told (Source f) = of_other (λ e. cc e) (λ e. cc e) refl
-told (Image f) = of_other (λ e. cc e) (λ e. cc e) refl
-told (MachineFile f) = of_other (λ e. cc e) (λ e. cc e) refl
-told (Load f) = of_other (λ e. cc e) (λ e. cc e) refl
-told (report_fault.Profile f) = of_other (λ e. cc e) (λ e. cc e) refl
-told report_fault.NotFiqEntry = of_other (λ e. cc e) (λ e. cc e) refl
-told report_fault.NoSuchEntry = of_other (λ e. cc e) (λ e. cc e) refl
-told report_fault.NoSuchEdge = of_other (λ e. cc e) (λ e. cc e) refl
-told (report_fault.NotFree a) = of_other (λ e. cc e) (λ e. cc e) refl
-told (Statement f) = of_other (λ e. cc e) (λ e. cc e) refl
-told (Graph f) = of_other (λ e. cc e) (λ e. cc e) refl
-told (Loops f) = of_other (λ e. cc e) (λ e. cc e) refl
-told (Walk f) = of_other (λ e. cc e) (λ e. cc e) refl
-told (Cert f) = of_other (λ e. cc e) (λ e. cc e) refl
+exit_of : (fault : ReportFault) → ExitOf fault
+exit_of Memory = of_memory refl
+exit_of Device = of_device refl
+exit_of (Source f) = of_other (λ e. cc e) (λ e. cc e) refl
+exit_of (Image f) = of_other (λ e. cc e) (λ e. cc e) refl
+exit_of (MachineFile f) = of_other (λ e. cc e) (λ e. cc e) refl
+exit_of (Load f) = of_other (λ e. cc e) (λ e. cc e) refl
+exit_of (report_fault.Profile f) = of_other (λ e. cc e) (λ e. cc e) refl
+exit_of report_fault.NotFiqEntry = of_other (λ e. cc e) (λ e. cc e) refl
+exit_of report_fault.NoSuchEntry = of_other (λ e. cc e) (λ e. cc e) refl
+exit_of report_fault.NoSuchEdge = of_other (λ e. cc e) (λ e. cc e) refl
+exit_of (report_fault.NotFree a) = of_other (λ e. cc e) (λ e. cc e) refl
+exit_of (Statement f) = of_other (λ e. cc e) (λ e. cc e) refl
+exit_of (Graph f) = of_other (λ e. cc e) (λ e. cc e) refl
+exit_of (Loops f) = of_other (λ e. cc e) (λ e. cc e) refl
+exit_of (Walk f) = of_other (λ e. cc e) (λ e. cc e) refl
+exit_of (Cert f) = of_other (λ e. cc e) (λ e. cc e) refl
 
 module _ {S O : Type 0} (reads : Reading S) (taken : O → Option (List ℕ)) (failures : O → ℕ)
     (IsRunText : Bool → Texts → List ℕ → Type 0) (IsRunFault : Texts → ReportFault → Type 0) (names : Texts) (old new : S) (before after : O) where
@@ -97,7 +97,7 @@ module _ {S O : Type 0} (reads : Reading S) (taken : O → Option (List ℕ)) (f
         → (fault ≡ Device → FailsWithin (OfSome (λ answer. IsRunText answer files)) (taken before) (taken after) (failures before) (failures after))
         → (status : ℕ) → status ≡ report_status fault → Ran status
     refused fault holds quiet device status is =
-        elim (told fault) [
+        elim (exit_of fault) [
           | of_memory m ↦
               let three : status ≡ 3 = is ∙ ap report_status m in
               let same : after ≡ before = quiet (λ d. let both : Memory ≡ Device = sym m ∙ d in cc both) in
@@ -129,11 +129,11 @@ module _ {S O : Type 0} (reads : Reading S) (taken : O → Option (List ℕ)) (f
         ]
 
     -- what the report answers
-    pub told_ran : (result : Result Bool ReportFault) → Tells taken failures (λ answer. IsRunText answer files) (IsRunFault files) before after result
+    pub answered_ran : (result : Result Bool ReportFault) → Answers taken failures (λ answer. IsRunText answer files) (IsRunFault files) before after result
         → (status : ℕ) → status ≡ answer_status result → Ran status
-    told_ran (Ok true) h status is = subst Ran (sym is) (done (record { files = files; read = read; printed = h.printed }))
-    told_ran (Ok false) h status is = subst Ran (sym is) (denied (record { files = files; read = read; printed = h.printed }))
-    told_ran (Err fault) h status is = refused fault h.fault h.quiet (λ d. h.device (ap Err d)) status is
+    answered_ran (Ok true) h status is = subst Ran (sym is) (done (record { files = files; read = read; printed = h.printed }))
+    answered_ran (Ok false) h status is = subst Ran (sym is) (denied (record { files = files; read = read; printed = h.printed }))
+    answered_ran (Err fault) h status is = refused fault h.fault h.quiet (λ d. h.device (ap Err d)) status is
 
 -- ## Of a command by the names of its files
 
@@ -143,15 +143,15 @@ module _ {S O : Type 0} (reads : Reading S) (taken : O → Option (List ℕ)) (f
       subst (λ (s : ℕ). RunsOf reads taken failures asked old new out out s) (sym is)
       (unread reads taken failures (text_of asked) (fault_of asked) (files_of asked) old new out out fault (subst (λ (n : Texts). FailsToRead reads old n fault new) named fails) refl)
 
-  pub ran_of : (before after : O) (kept lent : Texts) → lent ≡ kept → ReadsAll reads old names kept new → (result : Result Bool ReportFault) → TellsOf taken failures asked lent before after result
+  pub ran_of : (before after : O) (kept lent : Texts) → lent ≡ kept → ReadsAll reads old names kept new → (result : Result Bool ReportFault) → AnswersOf taken failures asked lent before after result
       → (status : ℕ) → status ≡ answer_status result → RunsOf reads taken failures asked old new before after status
   ran_of before after kept lent same read result tells =
-      told_ran reads taken failures (text_of asked) (fault_of asked) (files_of asked) old new before after kept (subst (λ (n : Texts). ReadsAll reads old n kept new) named read)
-      result (subst (λ (files : Texts). TellsOf taken failures asked files before after result) same tells)
+      answered_ran reads taken failures (text_of asked) (fault_of asked) (files_of asked) old new before after kept (subst (λ (n : Texts). ReadsAll reads old n kept new) named read)
+      result (subst (λ (files : Texts). AnswersOf taken failures asked files before after result) same tells)
 
 -- what is refused has another status than 0
 pub refused_status : (fault : ReportFault) (status : ℕ) → status ≡ report_status fault → status ≡ 0 → ⊥
-refused_status fault status is zero = elim (told fault) [
+refused_status fault status is zero = elim (exit_of fault) [
   | of_memory m ↦ let three : status ≡ 3 = is ∙ ap report_status m in absurd (omega (arith, three, zero))
   | of_device d ↦ let four : status ≡ 4 = is ∙ ap report_status d in absurd (omega (arith, four, zero))
   | of_other memory other one ↦ let here : status ≡ 1 = is ∙ one in absurd (omega (arith, here, zero))
@@ -226,10 +226,10 @@ module _ {O : Type 0} (taken : O → Option (List ℕ)) (failures : O → ℕ) (
       plain (inr u) = inr (record { fault = u.fault; no_profile = u.no_profile; answered = ap answered u.answered; same = u.same })
 
   module _ (IsTold : Bool → List ℕ → Type 0) (IsRefused : ReportFault → Type 0) where
-    pub told_answer : (IsText : Bool → List ℕ → Type 0) (IsFine : Type 0) (IsFault : ReportFault → Type 0)
+    pub answered_answer : (IsText : Bool → List ℕ → Type 0) (IsFine : Type 0) (IsFault : ReportFault → Type 0)
         → ((x : Bool) (text : List ℕ) → IsText x text → IsTold x text) → ((fault : ReportFault) → IsFault fault → IsRefused fault)
-        → (result : Result Bool ReportFault) → Answers taken failures IsText IsFine IsFault before after result → Tells taken failures IsTold IsRefused before after result
-    told_answer IsText IsFine IsFault texts faults (Ok x) h =
+        → (result : Result Bool ReportFault) → Answers taken failures IsText IsFine IsFault before after result → Answers taken failures IsTold IsRefused before after result
+    answered_answer IsText IsFine IsFault texts faults (Ok x) h =
         let p = h.printed in
         record {
           printed = record { text = p.text; is_text = texts x p.text p.is_text; printed = p.printed };
@@ -237,7 +237,7 @@ module _ {O : Type 0} (taken : O → Option (List ℕ)) (failures : O → ℕ) (
           quiet = tt;
           device = λ e. cc e;
         }
-    told_answer IsText IsFine IsFault texts faults (Err fault) h = record {
+    answered_answer IsText IsFine IsFault texts faults (Err fault) h = record {
       printed = tt;
       fault = faults fault h.fault;
       quiet = h.quiet;
@@ -251,9 +251,9 @@ module _ {O : Type 0} (taken : O → Option (List ℕ)) (failures : O → ℕ) (
       no_device None h = h
       no_device (Some t) h = h
 
-      told_unpriced : (result : Result Bool ReportFault) → IsUnpriced file before after result → Tells taken failures IsTold IsRefused before after result
-      told_unpriced (Ok x) u = absurd (cc u.answered)
-      told_unpriced (Err fault) u =
+      answered_unpriced : (result : Result Bool ReportFault) → IsUnpriced file before after result → Answers taken failures IsTold IsRefused before after result
+      answered_unpriced (Ok x) u = absurd (cc u.answered)
+      answered_unpriced (Err fault) u =
           let same : u.fault ≡ fault = cc u.answered in
           let none : HasNoProfile file fault = subst (HasNoProfile file) same u.no_profile in
           record {
@@ -265,22 +265,22 @@ module _ {O : Type 0} (taken : O → Option (List ℕ)) (failures : O → ℕ) (
                 absurd (no_device file (subst (HasNoProfile file) here none));
           }
 
-    pub told_priced : (file : Option (List ℕ)) (IsText : Profile → Bool → List ℕ → Type 0) (IsFine : Profile → Type 0) (IsFault : Profile → ReportFault → Type 0)
+    pub answered_priced : (file : Option (List ℕ)) (IsText : Profile → Bool → List ℕ → Type 0) (IsFine : Profile → Type 0) (IsFault : Profile → ReportFault → Type 0)
         → ((x : Bool) (text : List ℕ) → ByProfile file (λ p. IsText p x text) → IsTold x text) → ((fault : ReportFault) → PricedFault file IsFault fault → IsRefused fault)
         → (result : Result Bool ReportFault) → Priced file (λ p. Answers taken failures (IsText p) (IsFine p) (IsFault p) before after result) before after result
-        → Tells taken failures IsTold IsRefused before after result
-    told_priced file IsText IsFine IsFault texts faults result (inl b) =
-        told_answer (IsText b.profile) (IsFine b.profile) (IsFault b.profile)
+        → Answers taken failures IsTold IsRefused before after result
+    answered_priced file IsText IsFine IsFault texts faults result (inl b) =
+        answered_answer (IsText b.profile) (IsFine b.profile) (IsFault b.profile)
         (λ x text is. texts x text (record { profile = b.profile; is = b.is; holds = is }))
         (λ fault is. faults fault (inl (record { profile = b.profile; is = b.is; holds = is }))) result b.holds
-    told_priced file IsText IsFine IsFault texts faults result (inr u) = told_unpriced file (λ fault none. faults fault (inr none)) result u
+    answered_priced file IsText IsFine IsFault texts faults result (inr u) = answered_unpriced file (λ fault none. faults fault (inr none)) result u
 
   -- of a source alone
-  pub told_source : (Is : List ℕ → Type 0) (IsFine : Type 0) (IsFault : ReportFault → Type 0) (result : Result (Unit {0}) ReportFault)
-      → Answers taken failures (λ _ text. Is text) IsFine IsFault before after result → (answer : Result Bool ReportFault) → answer ≡ answered result → Tells taken failures (Plain Is) IsFault before after answer
-  told_source Is IsFine IsFault result h answer is =
-      subst (λ (r : Result Bool ReportFault). Tells taken failures (Plain Is) IsFault before after r) (sym is)
-      (told_answer (Plain Is) IsFault (Plain Is) IsFine IsFault (λ x text t. t) (λ fault t. t) (answered result) (answers_plain Is IsFine IsFault result h))
+  pub answered_source : (Is : List ℕ → Type 0) (IsFine : Type 0) (IsFault : ReportFault → Type 0) (result : Result (Unit {0}) ReportFault)
+      → Answers taken failures (λ _ text. Is text) IsFine IsFault before after result → (answer : Result Bool ReportFault) → answer ≡ answered result → Answers taken failures (Plain Is) IsFault before after answer
+  answered_source Is IsFine IsFault result h answer is =
+      subst (λ (r : Result Bool ReportFault). Answers taken failures (Plain Is) IsFault before after r) (sym is)
+      (answered_answer (Plain Is) IsFault (Plain Is) IsFine IsFault (λ x text t. t) (λ fault t. t) (answered result) (answers_plain Is IsFine IsFault result h))
 
 -- the files in front of which a cycle profile's may be
 pub of_two : (Is : Option (List ℕ) → List ℕ → List ℕ → Type 0) (file : Option (List ℕ)) (a b : List ℕ) → Is file a b → OfTwo Is (in_front file (a ∷ b ∷ []))
@@ -292,39 +292,39 @@ of_three Is None a b c h = h
 of_three Is (Some f) a b c h = h
 
 module _ {O : Type 0} (taken : O → Option (List ℕ)) (failures : O → ℕ) (before after : O) (file : Option (List ℕ)) (one two : List ℕ) where
-  pub told_two : (Is : List ℕ → List ℕ → Profile → Bool → List ℕ → Type 0) (IsFine : List ℕ → List ℕ → Profile → Type 0) (IsFault : List ℕ → List ℕ → Profile → ReportFault → Type 0)
+  pub answered_two : (Is : List ℕ → List ℕ → Profile → Bool → List ℕ → Type 0) (IsFine : List ℕ → List ℕ → Profile → Type 0) (IsFault : List ℕ → List ℕ → Profile → ReportFault → Type 0)
       → (result : Result Bool ReportFault) → Priced file (λ p. Answers taken failures (Is one two p) (IsFine one two p) (IsFault one two p) before after result) before after result
-      → Tells taken failures (λ answer text. ByTwo (λ a b p. Is a b p answer text) (in_front file (one ∷ two ∷ []))) (RefusesTwo IsFault (in_front file (one ∷ two ∷ []))) before after result
-  told_two Is IsFine IsFault =
-      told_priced taken failures before after (λ answer text. ByTwo (λ a b p. Is a b p answer text) (in_front file (one ∷ two ∷ []))) (RefusesTwo IsFault (in_front file (one ∷ two ∷ [])))
+      → Answers taken failures (λ answer text. ByTwo (λ a b p. Is a b p answer text) (in_front file (one ∷ two ∷ []))) (RefusesTwo IsFault (in_front file (one ∷ two ∷ []))) before after result
+  answered_two Is IsFine IsFault =
+      answered_priced taken failures before after (λ answer text. ByTwo (λ a b p. Is a b p answer text) (in_front file (one ∷ two ∷ []))) (RefusesTwo IsFault (in_front file (one ∷ two ∷ [])))
       file (Is one two) (IsFine one two) (IsFault one two)
       (λ x text b. of_two (λ f s t. ByProfile f (λ p. Is s t p x text)) file one two b)
       (λ fault k. of_two (λ f s t. PricedFault f (IsFault s t) fault) file one two k)
 
-  pub told_two_plain : (Is : List ℕ → List ℕ → Profile → List ℕ → Type 0) (IsFine : List ℕ → List ℕ → Profile → Type 0) (IsFault : List ℕ → List ℕ → Profile → ReportFault → Type 0)
+  pub answered_two_plain : (Is : List ℕ → List ℕ → Profile → List ℕ → Type 0) (IsFine : List ℕ → List ℕ → Profile → Type 0) (IsFault : List ℕ → List ℕ → Profile → ReportFault → Type 0)
       → (result : Result (Unit {0}) ReportFault) → Priced file (λ p. Answers taken failures (λ _ text. Is one two p text) (IsFine one two p) (IsFault one two p) before after result) before after result
       → (answer : Result Bool ReportFault) → answer ≡ answered result
-      → Tells taken failures (λ answer text. ByTwo (λ a b p. Plain (Is a b p) answer text) (in_front file (one ∷ two ∷ []))) (RefusesTwo IsFault (in_front file (one ∷ two ∷ []))) before after answer
-  told_two_plain Is IsFine IsFault result h answer is =
-      told_two (λ a b p. Plain (Is a b p)) IsFine IsFault answer (priced_plain taken failures before after file (Is one two) (IsFine one two) (IsFault one two) result h answer is)
+      → Answers taken failures (λ answer text. ByTwo (λ a b p. Plain (Is a b p) answer text) (in_front file (one ∷ two ∷ []))) (RefusesTwo IsFault (in_front file (one ∷ two ∷ []))) before after answer
+  answered_two_plain Is IsFine IsFault result h answer is =
+      answered_two (λ a b p. Plain (Is a b p)) IsFine IsFault answer (priced_plain taken failures before after file (Is one two) (IsFine one two) (IsFault one two) result h answer is)
 
-  pub told_three : (three : List ℕ) (Is : List ℕ → List ℕ → List ℕ → Profile → Bool → List ℕ → Type 0) (IsFine : List ℕ → List ℕ → List ℕ → Profile → Type 0)
+  pub answered_three : (three : List ℕ) (Is : List ℕ → List ℕ → List ℕ → Profile → Bool → List ℕ → Type 0) (IsFine : List ℕ → List ℕ → List ℕ → Profile → Type 0)
       (IsFault : List ℕ → List ℕ → List ℕ → Profile → ReportFault → Type 0)
       → (result : Result Bool ReportFault) → Priced file (λ p. Answers taken failures (Is one two three p) (IsFine one two three p) (IsFault one two three p) before after result) before after result
-      → Tells taken failures (λ answer text. ByThree (λ a b c p. Is a b c p answer text) (in_front file (one ∷ two ∷ three ∷ []))) (RefusesThree IsFault (in_front file (one ∷ two ∷ three ∷ []))) before after result
-  told_three three Is IsFine IsFault =
-      told_priced taken failures before after (λ answer text. ByThree (λ a b c p. Is a b c p answer text) (in_front file (one ∷ two ∷ three ∷ []))) (RefusesThree IsFault (in_front file (one ∷ two ∷ three ∷ [])))
+      → Answers taken failures (λ answer text. ByThree (λ a b c p. Is a b c p answer text) (in_front file (one ∷ two ∷ three ∷ []))) (RefusesThree IsFault (in_front file (one ∷ two ∷ three ∷ []))) before after result
+  answered_three three Is IsFine IsFault =
+      answered_priced taken failures before after (λ answer text. ByThree (λ a b c p. Is a b c p answer text) (in_front file (one ∷ two ∷ three ∷ []))) (RefusesThree IsFault (in_front file (one ∷ two ∷ three ∷ [])))
       file (Is one two three) (IsFine one two three) (IsFault one two three)
       (λ x text b. of_three (λ f s t u. ByProfile f (λ p. Is s t u p x text)) file one two three b)
       (λ fault k. of_three (λ f s t u. PricedFault f (IsFault s t u) fault) file one two three k)
 
-  pub told_three_plain : (three : List ℕ) (Is : List ℕ → List ℕ → List ℕ → Profile → List ℕ → Type 0) (IsFine : List ℕ → List ℕ → List ℕ → Profile → Type 0)
+  pub answered_three_plain : (three : List ℕ) (Is : List ℕ → List ℕ → List ℕ → Profile → List ℕ → Type 0) (IsFine : List ℕ → List ℕ → List ℕ → Profile → Type 0)
       (IsFault : List ℕ → List ℕ → List ℕ → Profile → ReportFault → Type 0)
       → (result : Result (Unit {0}) ReportFault) → Priced file (λ p. Answers taken failures (λ _ text. Is one two three p text) (IsFine one two three p) (IsFault one two three p) before after result) before after result
       → (answer : Result Bool ReportFault) → answer ≡ answered result
-      → Tells taken failures (λ answer text. ByThree (λ a b c p. Plain (Is a b c p) answer text) (in_front file (one ∷ two ∷ three ∷ []))) (RefusesThree IsFault (in_front file (one ∷ two ∷ three ∷ []))) before after answer
-  told_three_plain three Is IsFine IsFault result h answer is =
-      told_three three (λ a b c p. Plain (Is a b c p)) IsFine IsFault answer (priced_plain taken failures before after file (Is one two three) (IsFine one two three) (IsFault one two three) result h answer is)
+      → Answers taken failures (λ answer text. ByThree (λ a b c p. Plain (Is a b c p) answer text) (in_front file (one ∷ two ∷ three ∷ []))) (RefusesThree IsFault (in_front file (one ∷ two ∷ three ∷ []))) before after answer
+  answered_three_plain three Is IsFine IsFault result h answer is =
+      answered_three three (λ a b c p. Plain (Is a b c p)) IsFine IsFault answer (priced_plain taken failures before after file (Is one two three) (IsFine one two three) (IsFault one two three) result h answer is)
 
 -- ## `debug`
 
@@ -343,14 +343,14 @@ module _ {S I O : Type 0} (reads : Reading S) (remaining : I → Option (List �
   module _ (commands : List ℕ) (heard : Consumes (remaining heard_old) (remaining heard_new) commands) (at_end : IsAtEnd (remaining heard_new)) (few : length commands ≤ 16777216)
       (kept lent : Texts) (same : lent ≡ kept) (read : ReadsAll reads old (two_of names) kept new) where
     -- a session of the commands was printed, or refused
-    pub debug_ran : (result : Result Bool ReportFault) → Tells taken failures (λ answer. IsSessionOf commands answer lent) (RefusesTwo IsRunRefused lent) before after result
+    pub debug_ran : (result : Result Bool ReportFault) → Answers taken failures (λ answer. IsSessionOf commands answer lent) (RefusesTwo IsRunRefused lent) before after result
         → (status : ℕ) → status ≡ answer_status result → RunsDebug reads remaining taken failures names old new heard_old heard_new before after status
     debug_ran result tells status is =
         inl (
           commands,
           record { files = kept; read = read; heard = heard; at_end = at_end; few = few },
-          told_ran reads taken failures (IsSessionOf commands) (RefusesTwo IsRunRefused) (two_of names) old new before after kept read result
-              (subst (λ (files : Texts). Tells taken failures (λ answer. IsSessionOf commands answer files) (RefusesTwo IsRunRefused files) before after result) same tells) status is,
+          answered_ran reads taken failures (IsSessionOf commands) (RefusesTwo IsRunRefused) (two_of names) old new before after kept read result
+              (subst (λ (files : Texts). Answers taken failures (λ answer. IsSessionOf commands answer files) (RefusesTwo IsRunRefused files) before after result) same tells) status is,
         )
 
 -- ## Without memory for the words

@@ -50,13 +50,13 @@ module _ (profile : Profile) where
   no_start : (ran : Ran) (s after : State) (rest : List Input) → Runs s rest ran after → StartsWithin 0 rest ran s rest after
   no_start ran s after rest runs = record { more = ran; runs = runs; ticks = omega arith; elapsed = omega arith }
 
-  a_step : (most : ℕ) (s : State) (i : Input) (rest : List Input) (ran : Ran) (after : State) (told : Stepped) (next : State) → s.profile ≡ profile
-      → Step s i told next → why_stopped told.kind ≡ None → told.ticks ≤ most → Runs s (i ∷ rest) ran after → StartsWithin most (i ∷ rest) ran next rest after
-  a_step most s i rest ran after told next prices step goes_on_is le runs =
-      let on = goes_on s i rest ran after told next step goes_on_is runs in
+  a_step : (most : ℕ) (s : State) (i : Input) (rest : List Input) (ran : Ran) (after : State) (stepped : Stepped) (next : State) → s.profile ≡ profile
+      → Step s i stepped next → why_stopped stepped.kind ≡ None → stepped.ticks ≤ most → Runs s (i ∷ rest) ran after → StartsWithin most (i ∷ rest) ran next rest after
+  a_step most s i rest ran after stepped next prices step goes_on_is le runs =
+      let on = goes_on s i rest ran after stepped next step goes_on_is runs in
       let more : Ran = on.0 in
-      let ticks : ran.ticks ≡ told.ticks + more.ticks = ap (λ (r : Ran). r.ticks) on.2 in
-      let elapsed : ran.elapsed ≡ told.ticks + s.profile.burst * i.bursts + more.elapsed = ap (λ (r : Ran). r.elapsed) on.2 in
+      let ticks : ran.ticks ≡ stepped.ticks + more.ticks = ap (λ (r : Ran). r.ticks) on.2 in
+      let elapsed : ran.elapsed ≡ stepped.ticks + s.profile.burst * i.bursts + more.elapsed = ap (λ (r : Ran). r.elapsed) on.2 in
       let paid : s.profile.burst * i.bursts ≡ profile.burst * i.bursts = ap (λ (p : Profile). p.burst * i.bursts) prices in
       let all : profile.burst * bursts_of (i ∷ rest) ≡ profile.burst * i.bursts + profile.burst * bursts_of rest = ap (λ n. profile.burst * n) (sum_by-cons (λ (x : Input). x.bursts) i rest) ∙ mul-add profile.burst i.bursts (bursts_of rest) in
       record { more = more; runs = on.1; ticks = omega (arith, ticks, le); elapsed = omega (arith, elapsed, paid, all, le) }
@@ -64,10 +64,10 @@ module _ (profile : Profile) where
   -- ## Steps along a walk
 
   module _ (words : Words) (st : Stated) where
-    an_edge : (s : State) (i : Input) (rest : List Input) (ran : Ran) (after : State) (told : Stepped) (next : State) (e : Edge) → IsEdgeOf words st profile s i told next e
+    an_edge : (s : State) (i : Input) (rest : List Input) (ran : Ran) (after : State) (stepped : Stepped) (next : State) (e : Edge) → IsEdgeOf words st profile s i stepped next e
         → Runs s (i ∷ rest) ran after → StartsWithin e.cost (i ∷ rest) ran next rest after
-    an_edge s i rest ran after told next e is runs =
-        a_step e.cost s i rest ran after told next is.executes.prices is.executes.step (ap why_stopped is.executes.plain) (cost words st profile s i told next e is) runs
+    an_edge s i rest ran after stepped next e is runs =
+        a_step e.cost s i rest ran after stepped next is.executes.prices is.executes.step (ap why_stopped is.executes.plain) (cost words st profile s i stepped next e is) runs
 
     -- a run that follows a walk, of a longer run
     along : (s : State) (inputs rest : List Input) (walk : List Edge) (front ran : Ran) (mid after : State) → Follows words st profile s inputs walk → Runs s inputs front mid
@@ -95,17 +95,17 @@ module _ (words : Words) (fiq : Stated) (profile : Profile) (fiq_flow : Flow) (b
   in_memory : (s : State) → address_in s.regs < 0x4000000
   in_memory s = omega arith
 
-  takes_fiq_within : (s : State) (v : Visit) (after : State) (is : IsVisit words fiq profile fiq_flow s v after) → is.told.ticks ≤ fiq_entry profile
+  takes_fiq_within : (s : State) (v : Visit) (after : State) (is : IsVisit words fiq profile fiq_flow s v after) → is.stepped.ticks ≤ fiq_entry profile
   takes_fiq_within s v after is =
-      let ticks : is.told.ticks ≡ fiq_entry_price profile (interrupted_in s) =
-      fiq_costs s v.taking is.told is.entered is.step is.takes_fiq ∙ ap (λ (p : Profile). fiq_entry_price p (interrupted_in s)) is.prices in
+      let ticks : is.stepped.ticks ≡ fiq_entry_price profile (interrupted_in s) =
+      fiq_costs s v.taking is.stepped is.entered is.step is.takes_fiq ∙ ap (λ (p : Profile). fiq_entry_price p (interrupted_in s)) is.prices in
       let most = dearest.none_above (interrupted_in s) (record { below = in_memory s; is_of = tt }) in
       omega (arith, ticks, most)
 
   a_visit : (s : State) (v : Visit) (rest : List Input) (ran : Ran) (next after : State) → IsVisit words fiq profile fiq_flow s v next → Runs s (v.taking ∷ (v.handling ++ rest)) ran after
       → StartsWithin profile visit_cost (v.taking ∷ (v.handling ++ rest)) ran next rest after
   a_visit s v rest ran next after is runs =
-      let taken = a_step profile (fiq_entry profile) s v.taking (v.handling ++ rest) ran after is.told is.entered is.prices is.step (ap why_stopped is.takes_fiq) (takes_fiq_within s v next is) runs in
+      let taken = a_step profile (fiq_entry profile) s v.taking (v.handling ++ rest) ran after is.stepped is.entered is.prices is.step (ap why_stopped is.takes_fiq) (takes_fiq_within s v next is) runs in
       let walk = is.keeps.walk in
       let most : cost_of edge_shape walk ≤ bound = greatest.upper walk is.keeps.complete is.keeps.kept in
       let handled = along profile words fiq is.entered v.handling rest walk is.ran taken.more next after is.keeps.follows is.runs taken.runs in
@@ -136,11 +136,11 @@ module _ (words : Words) (fiq : Stated) (profile : Profile) (fiq_flow : Flow) (b
     main_steps s (m ∷ steps) [] ran after follows runs = absurd follows
     main_steps s (m ∷ steps) (e ∷ walk) ran after follows runs =
         let visited : State = follows.0 in
-        let told : Stepped = follows.2.0 in
+        let stepped : Stepped = follows.2.0 in
         let next : State = follows.2.1 in
         let n = length m.visits in
         let front = all_visits s m.visits (m.input ∷ inputs_of steps) ran visited after follows.1 runs in
-        let step = an_edge profile words irq visited m.input (inputs_of steps) front.more after told next e follows.2.2 front.runs in
+        let step = an_edge profile words irq visited m.input (inputs_of steps) front.more after stepped next e follows.2.2 front.runs in
         let both = joined profile (n * visit_cost) e.cost (inputs_of (m ∷ steps)) (m.input ∷ inputs_of steps) (inputs_of steps) ran visited next after front step in
         let left = main_steps next steps walk both.more after follows.2.3 both.runs in
         let walked : cost_of edge_shape (e ∷ walk) ≡ e.cost + cost_of edge_shape walk = sum_by-cons (λ (x : Edge). x.cost) e walk in

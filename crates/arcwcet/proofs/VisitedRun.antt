@@ -96,18 +96,18 @@ module _ (profile : Profile) where
   took : Timers → Moved
   took timers = on_bus (with_lines 0x10000 (bus 0 timers)) (taken Fiq regs)
 
-  told_taking : Timers → Stepped
-  told_taking timers = answer_of (ready timers) (took timers)
+  stepped_taking : Timers → Stepped
+  stepped_taking timers = answer_of (ready timers) (took timers)
 
   entered : Timers → State
   entered timers = state_after (ready timers) asking (took timers)
 
-  step_taking : (timers : Timers) → Step (ready timers) asking (told_taking timers) (entered timers)
-  unfolding ready bus regs memory took told_taking entered
-  step_taking timers = record { moved = took timers; works = refl; told_is = refl; after_is = refl }
+  step_taking : (timers : Timers) → Step (ready timers) asking (stepped_taking timers) (entered timers)
+  unfolding ready bus regs memory took stepped_taking entered
+  step_taking timers = record { moved = took timers; works = refl; stepped_is = refl; after_is = refl }
 
-  takes_fiq : (timers : Timers) → (told_taking timers).kind ≡ Taken Fiq
-  unfolding told_taking took taken answer_of
+  takes_fiq : (timers : Timers) → (stepped_taking timers).kind ≡ Taken Fiq
+  unfolding stepped_taking took taken answer_of
   takes_fiq timers = refl
 
   first_timers : Timers → Timers
@@ -124,18 +124,18 @@ module _ (profile : Profile) where
     unfolding inside bus fiq_regs memory
     fiq_ready = record { registers = refl; at = refl; prices = refl; fetches = refl; none_due = masked (ioc.irq_of (with_lines 0 (bus 0x10000 timers)).ioc) }
 
-    fiq_told : Stepped
-    fiq_told = one.told words vector fiq_stands profile (inside timers) quiet fiq_ready
+    fiq_stepped : Stepped
+    fiq_stepped = one.stepped words vector fiq_stands profile (inside timers) quiet fiq_ready
 
     returned : State
     returned = one.after words vector fiq_stands profile (inside timers) quiet fiq_ready
 
-    fiq_step : Step (inside timers) quiet fiq_told returned
-    unfolding fiq_told returned
+    fiq_step : Step (inside timers) quiet fiq_stepped returned
+    unfolding fiq_stepped returned
     fiq_step = one.step words vector fiq_stands profile (inside timers) quiet fiq_ready
 
-    fiq_plain : fiq_told.kind ≡ Plain
-    unfolding fiq_told
+    fiq_plain : fiq_stepped.kind ≡ Plain
+    unfolding fiq_stepped
     fiq_plain = one.plain words vector fiq_stands profile (inside timers) quiet fiq_ready
 
     second_timers : Timers
@@ -160,22 +160,22 @@ module _ (profile : Profile) where
     unfolding ready bus regs memory
     main_ready = record { registers = refl; at = refl; prices = refl; fetches = refl; none_due = masked (ioc.irq_of (with_lines 0 (bus 0 timers)).ioc) }
 
-    main_told : Stepped
-    main_told = one.told words main_entry main_stands profile (ready timers) quiet main_ready
+    main_stepped : Stepped
+    main_stepped = one.stepped words main_entry main_stands profile (ready timers) quiet main_ready
 
     left : State
     left = one.after words main_entry main_stands profile (ready timers) quiet main_ready
 
-    main_step : Step (ready timers) quiet main_told left
-    unfolding main_told left
+    main_step : Step (ready timers) quiet main_stepped left
+    unfolding main_stepped left
     main_step = one.step words main_entry main_stands profile (ready timers) quiet main_ready
 
-    main_plain : main_told.kind ≡ Plain
-    unfolding main_told
+    main_plain : main_stepped.kind ≡ Plain
+    unfolding main_stepped
     main_plain = one.plain words main_entry main_stands profile (ready timers) quiet main_ready
 
-    main_edge : IsEdgeOf words (one.stated words main_entry main_stands profile) profile (ready timers) quiet main_told left (one.edge words main_entry main_stands profile)
-    unfolding main_told left
+    main_edge : IsEdgeOf words (one.stated words main_entry main_stands profile) profile (ready timers) quiet main_stepped left (one.edge words main_entry main_stands profile)
+    unfolding main_stepped left
     main_edge = one.is_edge_of words main_entry main_stands profile (ready timers) quiet main_ready
 
   -- ## A visit
@@ -183,27 +183,27 @@ module _ (profile : Profile) where
   next_timers : Timers → Timers
   next_timers timers = second_timers (first_timers timers)
 
-  step_in : (timers : Timers) → Step (ready timers) asking (told_taking timers) (inside (first_timers timers))
-  step_in timers = subst (λ n. Step (ready timers) asking (told_taking timers) n) (entered_is timers) (step_taking timers)
+  step_in : (timers : Timers) → Step (ready timers) asking (stepped_taking timers) (inside (first_timers timers))
+  step_in timers = subst (λ n. Step (ready timers) asking (stepped_taking timers) n) (entered_is timers) (step_taking timers)
 
-  step_back : (timers : Timers) → Step (inside timers) quiet (fiq_told timers) (ready (second_timers timers))
-  step_back timers = subst (λ n. Step (inside timers) quiet (fiq_told timers) n) (returned_is timers) (fiq_step timers)
+  step_back : (timers : Timers) → Step (inside timers) quiet (fiq_stepped timers) (ready (second_timers timers))
+  step_back timers = subst (λ n. Step (inside timers) quiet (fiq_stepped timers) n) (returned_is timers) (fiq_step timers)
 
   handler_ran : Timers → Ran → Ran
-  handler_ran timers more = counted (inside timers).profile.burst quiet (fiq_told timers) more
+  handler_ran timers more = counted (inside timers).profile.burst quiet (fiq_stepped timers) more
 
   handler_runs : (timers : Timers) (rest : List Input) (more : Ran) (after : State) → Runs (ready (second_timers timers)) rest more after → Runs (inside timers) (quiet ∷ rest) (handler_ran timers more) after
   unfolding handler_ran
   handler_runs timers rest more after runs =
-      goes_before (inside timers) quiet rest (fiq_told timers) (ready (second_timers timers)) more after (step_back timers) (ap why_stopped (fiq_plain timers)) runs
+      goes_before (inside timers) quiet rest (fiq_stepped timers) (ready (second_timers timers)) more after (step_back timers) (ap why_stopped (fiq_plain timers)) runs
 
   visit_ran : Timers → Ran → Ran
-  visit_ran timers more = counted (ready timers).profile.burst asking (told_taking timers) (handler_ran (first_timers timers) more)
+  visit_ran timers more = counted (ready timers).profile.burst asking (stepped_taking timers) (handler_ran (first_timers timers) more)
 
   visit_runs : (timers : Timers) (rest : List Input) (more : Ran) (after : State) → Runs (ready (next_timers timers)) rest more after → Runs (ready timers) (asking ∷ quiet ∷ rest) (visit_ran timers more) after
   unfolding visit_ran next_timers
   visit_runs timers rest more after runs =
-      goes_before (ready timers) asking (quiet ∷ rest) (told_taking timers) (inside (first_timers timers)) (handler_ran (first_timers timers) more) after
+      goes_before (ready timers) asking (quiet ∷ rest) (stepped_taking timers) (inside (first_timers timers)) (handler_ran (first_timers timers) more) after
       (step_in timers) (ap why_stopped (takes_fiq timers)) (handler_runs (first_timers timers) rest more after runs)
 
   is_visit : (timers : Timers) → IsVisit words (one.stated words vector fiq_stands profile) profile (one.flow words vector fiq_stands profile) (ready timers) visit (ready (next_timers timers))
@@ -211,7 +211,7 @@ module _ (profile : Profile) where
   is_visit timers =
       let t = first_timers timers in
       record {
-        told = told_taking timers;
+        stepped = stepped_taking timers;
         entered = inside t;
         step = step_in timers;
         takes_fiq = takes_fiq timers;
@@ -240,11 +240,11 @@ module _ (profile : Profile) where
     walk = one.edge words main_entry main_stands profile ∷ [];
     complete = one.complete words main_entry main_stands profile;
     kept = one.keeps_bounds words main_entry main_stands profile;
-    follows = (ready last, (ready (next_timers first), is_visit first, (ready last, is_visit (next_timers first), refl)), (main_told last, left last, main_edge last, tt));
+    follows = (ready last, (ready (next_timers first), is_visit first, (ready last, is_visit (next_timers first), refl)), (main_stepped last, left last, main_edge last, tt));
   }
 
   main_ran : Ran
-  main_ran = counted (ready last).profile.burst quiet (main_told last) (at_rest None)
+  main_ran = counted (ready last).profile.burst quiet (main_stepped last) (at_rest None)
 
   ran : Ran
   ran = visit_ran first (visit_ran (next_timers first) main_ran)
@@ -254,7 +254,7 @@ module _ (profile : Profile) where
   runs =
       visit_runs first (asking ∷ quiet ∷ quiet ∷ []) (visit_ran (next_timers first) main_ran) (left last)
       (visit_runs (next_timers first) (quiet ∷ []) main_ran (left last)
-      (goes_before (ready last) quiet [] (main_told last) (left last) (at_rest None) (left last) (main_step last) (ap why_stopped (main_plain last)) (refl, refl)))
+      (goes_before (ready last) quiet [] (main_stepped last) (left last) (at_rest None) (left last) (main_step last) (ap why_stopped (main_plain last)) (refl, refl)))
 
 pub visited : (profile : Profile) → HasVisitedRun profile
 visited profile = record {

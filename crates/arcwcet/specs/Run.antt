@@ -215,7 +215,7 @@ answered (Ok _) = Ok true
 answered (Err fault) = Err fault
 
 -- what a report answers, with the output before it and after it
-pub record Tells {O : Type 0} (taken : O → Option (List ℕ)) (failures : O → ℕ)
+pub record Answers {O : Type 0} (taken : O → Option (List ℕ)) (failures : O → ℕ)
     (IsText : Bool → List ℕ → Type 0) (IsFault : ReportFault → Type 0) (before after : O)
     (result : Result Bool ReportFault) : Type 0 where
   pub printed : IfOk result (λ answer. Prints (IsText answer) (taken before) (taken after))
@@ -225,10 +225,10 @@ pub record Tells {O : Type 0} (taken : O → Option (List ℕ)) (failures : O �
       → FailsWithin (OfSome IsText) (taken before) (taken after) (failures before) (failures after)
 
 -- what that of a command answers, by its files' bytes
-abbrev pub TellsOf : {O : Type 0} → (O → Option (List ℕ)) → (O → ℕ) → Asked → Texts → (before after : O)
+abbrev pub AnswersOf : {O : Type 0} → (O → Option (List ℕ)) → (O → ℕ) → Asked → Texts → (before after : O)
     → Result Bool ReportFault → Type 0
-TellsOf taken failures asked files before after result =
-    Tells taken failures (λ answer. text_of asked answer files) (fault_of asked files) before after result
+AnswersOf taken failures asked files before after result =
+    Answers taken failures (λ answer. text_of asked answer files) (fault_of asked files) before after result
 
 -- ## Of a command that reads its files and prints its report
 

@@ -45,10 +45,10 @@ module _ (words : Words) (fiq : Stated) (profile : Profile) (fiq_flow : Flow) wh
   -- From this state, with these prices, a step takes FIQ, and then a run keeps the statement of FIQ's
   -- handler, whose last step leads back to the interrupted address.
   pub record IsVisit (s : State) (v : Visit) (after : State) : Type 0 where
-    pub told : Stepped
+    pub stepped : Stepped
     pub entered : State
-    pub step : Step s v.taking told entered
-    pub takes_fiq : told.kind ≡ Taken Fiq
+    pub step : Step s v.taking stepped entered
+    pub takes_fiq : stepped.kind ≡ Taken Fiq
     pub prices : s.profile ≡ profile
     pub keeps : KeepsStatement words fiq profile fiq_flow entered v.handling
     pub ran : Ran
@@ -67,7 +67,7 @@ module _ (words : Words) (fiq : Stated) (profile : Profile) (fiq_flow : Flow) wh
   FollowsVisited irq s (m ∷ steps) [] = ⊥
   FollowsVisited irq s (m ∷ steps) (e ∷ walk) =
       (visited : State) × AreVisits s m.visits visited
-      × ((told : Stepped) × (next : State) × IsEdgeOf words irq profile visited m.input told next e
+      × ((stepped : Stepped) × (next : State) × IsEdgeOf words irq profile visited m.input stepped next e
       × FollowsVisited irq next steps walk)
 
   -- From this state the run keeps both statements: the main steps that of the interrupted handler, as if

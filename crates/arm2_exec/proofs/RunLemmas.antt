@@ -48,22 +48,22 @@ pub ends_none : (k : Kind) (now after : State) (ran : Ran) (goes_on : Type 0) �
 ends_none k now after ran goes_on not_stopped more = subst (λ (why : Option Why). Ends why now ran after goes_on) (sym (goes k not_stopped)) more
 
 -- the step at hand stopped
-pub at_stop : (start : State) (inputs : List Input) (ran : Ran) (now after : State) (left rest : List Input) (i : Input) (told : Stepped) (w : Why) → SoFar start inputs ran now left → left ≡ i ∷ rest
-    → Step now i told after → told.kind ≡ Stopped w → Runs start inputs (record { steps = ran.steps; ticks = ran.ticks; elapsed = ran.elapsed; stopped = Some w }) after
-at_stop start inputs ran now after left rest i told w so_far next step is =
+pub at_stop : (start : State) (inputs : List Input) (ran : Ran) (now after : State) (left rest : List Input) (i : Input) (stepped : Stepped) (w : Why) → SoFar start inputs ran now left → left ≡ i ∷ rest
+    → Step now i stepped after → stepped.kind ≡ Stopped w → Runs start inputs (record { steps = ran.steps; ticks = ran.ticks; elapsed = ran.elapsed; stopped = Some w }) after
+at_stop start inputs ran now after left rest i stepped w so_far next step is =
     ends_with start inputs ran now after left (Some w) so_far
     (subst (λ (is : List Input). Runs now is (at_rest (Some w)) after) (sym next)
-    (told, after, step, ends_some told.kind w now after (at_rest (Some w)) _ is refl (stopped_same now i told after step (stops told.kind w is))))
+    (stepped, after, step, ends_some stepped.kind w now after (at_rest (Some w)) _ is refl (stopped_same now i stepped after step (stops stepped.kind w is))))
 
 -- the step at hand went on
-pub more_steps : (start : State) (inputs : List Input) (ran : Ran) (now next : State) (left rest : List Input) (i : Input) (told : Stepped) → SoFar start inputs ran now left → left ≡ i ∷ rest
-    → Step now i told next → ((w : Why) → told.kind ≡ Stopped w → ⊥)
-    → SoFar start inputs (record { steps = ran.steps + 1; ticks = ran.ticks + told.ticks; elapsed = ran.elapsed + (told.ticks + now.profile.burst * i.bursts); stopped = ran.stopped }) next rest
-more_steps start inputs ran now next left rest i told so_far at_hand step not_stopped = λ more after runs.
-    let here : Runs now (i ∷ rest) (counted now.profile.burst i told more) after =
-    (told, next, step, ends_none told.kind now after (counted now.profile.burst i told more) ((m : Ran) × Runs next rest m after × (counted now.profile.burst i told more ≡ counted now.profile.burst i told m)) not_stopped (more, runs, refl)) in
-    let whole = so_far (counted now.profile.burst i told more) after (subst (λ (is : List Input). Runs now is (counted now.profile.burst i told more) after) (sym at_hand) here) in
+pub more_steps : (start : State) (inputs : List Input) (ran : Ran) (now next : State) (left rest : List Input) (i : Input) (stepped : Stepped) → SoFar start inputs ran now left → left ≡ i ∷ rest
+    → Step now i stepped next → ((w : Why) → stepped.kind ≡ Stopped w → ⊥)
+    → SoFar start inputs (record { steps = ran.steps + 1; ticks = ran.ticks + stepped.ticks; elapsed = ran.elapsed + (stepped.ticks + now.profile.burst * i.bursts); stopped = ran.stopped }) next rest
+more_steps start inputs ran now next left rest i stepped so_far at_hand step not_stopped = λ more after runs.
+    let here : Runs now (i ∷ rest) (counted now.profile.burst i stepped more) after =
+    (stepped, next, step, ends_none stepped.kind now after (counted now.profile.burst i stepped more) ((m : Ran) × Runs next rest m after × (counted now.profile.burst i stepped more ≡ counted now.profile.burst i stepped m)) not_stopped (more, runs, refl)) in
+    let whole = so_far (counted now.profile.burst i stepped more) after (subst (λ (is : List Input). Runs now is (counted now.profile.burst i stepped more) after) (sym at_hand) here) in
     let steps : ran.steps + (1 + more.steps) ≡ ran.steps + 1 + more.steps = omega arith in
-    let ticks : ran.ticks + (told.ticks + more.ticks) ≡ ran.ticks + told.ticks + more.ticks = omega arith in
-    let elapsed : ran.elapsed + (told.ticks + now.profile.burst * i.bursts + more.elapsed) ≡ ran.elapsed + (told.ticks + now.profile.burst * i.bursts) + more.elapsed = omega arith in
+    let ticks : ran.ticks + (stepped.ticks + more.ticks) ≡ ran.ticks + stepped.ticks + more.ticks = omega arith in
+    let elapsed : ran.elapsed + (stepped.ticks + now.profile.burst * i.bursts + more.elapsed) ≡ ran.elapsed + (stepped.ticks + now.profile.burst * i.bursts) + more.elapsed = omega arith in
     subst (λ (r : Ran). Runs start inputs r after) (λ k. record { steps = steps k; ticks = ticks k; elapsed = elapsed k; stopped = more.stopped }) whole

@@ -54,7 +54,7 @@ module _ (s : State) (i : Input) where
       record {
         moved = w.moved;
         works = w.works;
-        told_is = rw kind (ap (λ (k : Kind). let t : Stepped = record { kind = k; ticks = 0; from = address_in s.regs; to = address_in s.regs } in t) w.is.kind);
+        stepped_is = rw kind (ap (λ (k : Kind). let t : Stepped = record { kind = k; ticks = 0; from = address_in s.regs; to = address_in s.regs } in t) w.is.kind);
         after_is = rw (kind, w.is.regs ∙ still.0) (unlined now (w.is.bus ∙ still.1));
       }
 
@@ -68,20 +68,20 @@ module _ (s : State) (i : Input) where
       record {
         moved = w.moved;
         works = w.works;
-        told_is = rw (kind, w.is.kind, w.is.ticks, w.is.regs) refl;
+        stepped_is = rw (kind, w.is.kind, w.is.ticks, w.is.regs) refl;
         after_is = rw (kind, w.is.ticks, w.is.regs, w.is.bus) refl;
       }
 
-  pub stopped_same : (told : Stepped) (after : State) → Step s i told after → is_stopped told.kind ≡ true → after ≡ s
+  pub stopped_same : (stepped : Stepped) (after : State) → Step s i stepped after → is_stopped stepped.kind ≡ true → after ≡ s
   unfolding answer_of state_after
-  stopped_same told after step stopped = elim (cases_Bool (is_stopped step.moved.kind)) [
+  stopped_same stepped after step stopped = elim (cases_Bool (is_stopped step.moved.kind)) [
     | inl stops ↦ step.after_is ∙ cond-true (is_stopped step.moved.kind) _ _ stops
-    | inr goes ↦ absurd (false≢true (sym goes ∙ sym (ap (λ (t : Stepped). is_stopped t.kind) (step.told_is ∙ cond-false (is_stopped step.moved.kind) _ _ goes)) ∙ stopped))
+    | inr goes ↦ absurd (false≢true (sym goes ∙ sym (ap (λ (t : Stepped). is_stopped t.kind) (step.stepped_is ∙ cond-false (is_stopped step.moved.kind) _ _ goes)) ∙ stopped))
   ]
 
-  pub same_profile : (told : Stepped) (after : State) → Step s i told after → after.profile ≡ s.profile
+  pub same_profile : (stepped : Stepped) (after : State) → Step s i stepped after → after.profile ≡ s.profile
   unfolding state_after
-  same_profile told after step = elim (cases_Bool (is_stopped step.moved.kind)) [
+  same_profile stepped after step = elim (cases_Bool (is_stopped step.moved.kind)) [
     | inl stops ↦ ap (λ (t : State). t.profile) (step.after_is ∙ cond-true (is_stopped step.moved.kind) _ _ stops)
     | inr goes ↦ ap (λ (t : State). t.profile) (step.after_is ∙ cond-false (is_stopped step.moved.kind) _ _ goes)
   ]
@@ -114,17 +114,17 @@ module _ (port : ℕ) (regs : List ℕ) (bus : Bus) where
 
 module _ (s : State) (i : Input) where
   -- a step has no second outcome
-  pub one_step : (told other : Stepped) (after last : State) → Step s i told after → Step s i other last → (other ≡ told) × (last ≡ after)
-  one_step told other after last this step =
+  pub one_step : (stepped other : Stepped) (after last : State) → Step s i stepped after → Step s i other last → (other ≡ stepped) × (last ≡ after)
+  one_step stepped other after last this step =
       let same = works_one i.port s.regs (with_lines i.lines.0 s.bus) (interrupt_due (with_lines i.lines.0 s.bus) (r15_in s.regs)) step.moved this.moved step.works this.works in
-      (step.told_is ∙ ap (answer_of s) same ∙ sym this.told_is, step.after_is ∙ ap (state_after s i) same ∙ sym this.after_is)
+      (step.stepped_is ∙ ap (answer_of s) same ∙ sym this.stepped_is, step.after_is ∙ ap (state_after s i) same ∙ sym this.after_is)
 
   one_outcome : (m : Moved) → Works (interrupt_due (with_lines i.lines.0 s.bus) (r15_in s.regs)) i.port s.regs (with_lines i.lines.0 s.bus) m → HasOneOutcome s i
   one_outcome m works = record {
-    told = answer_of s m;
+    stepped = answer_of s m;
     after = state_after s i m;
-    is = record { moved = m; works = works; told_is = refl; after_is = refl };
-    only = λ told after step. one_step (answer_of s m) told (state_after s i m) after (record { moved = m; works = works; told_is = refl; after_is = refl }) step;
+    is = record { moved = m; works = works; stepped_is = refl; after_is = refl };
+    only = λ stepped after step. one_step (answer_of s m) stepped (state_after s i m) after (record { moved = m; works = works; stepped_is = refl; after_is = refl }) step;
   }
 
   outcome_of_fetched : (word : Option ℕ) → fetched s.bus.memc (r15_in s.regs) ≡ word → (m : Moved) × ObeysFetched word i.port s.regs (with_lines i.lines.0 s.bus) m → HasOneOutcome s i

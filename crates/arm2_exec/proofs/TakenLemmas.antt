@@ -56,33 +56,33 @@ unfolding taken
 taken_keeps v regs n other last = get_or-set_other _ 26 n _ 0 (λ same. last (same ∙ sym (slot_of_r15 (entry_at v).mode))) ∙ get_or-set_other regs (slot_of (entry_at v).mode 14) n _ 0 other
 
 -- what a step did that took the exception, and that it did not stop
-pub took : (s : State) (i : Input) (told : Stepped) (after : State) (v : Vector) (step : Step s i told after) → told.kind ≡ Taken v
+pub took : (s : State) (i : Input) (stepped : Stepped) (after : State) (v : Vector) (step : Step s i stepped after) → stepped.kind ≡ Taken v
     → (step.moved ≡ on_bus (with_lines i.lines.0 s.bus) (taken v s.regs)) × (is_stopped step.moved.kind ≡ false)
 unfolding answer_of
-took s i told after v step kind = elim (cases_Bool (is_stopped step.moved.kind)) [
+took s i stepped after v step kind = elim (cases_Bool (is_stopped step.moved.kind)) [
   | inl stopped ↦
-      let told_is = step.told_is ∙ cond-true (is_stopped step.moved.kind) _ _ stopped in
-      let moved_kind : step.moved.kind ≡ Taken v = sym (ap (λ (t : Stepped). t.kind) told_is) ∙ kind in
+      let stepped_is = step.stepped_is ∙ cond-true (is_stopped step.moved.kind) _ _ stopped in
+      let moved_kind : step.moved.kind ≡ Taken v = sym (ap (λ (t : Stepped). t.kind) stepped_is) ∙ kind in
       absurd (false≢true (sym (ap is_stopped moved_kind) ∙ stopped))
   | inr goes ↦
       let m = step.moved in
       let bus = with_lines i.lines.0 s.bus in
-      let told_is = step.told_is ∙ cond-false (is_stopped m.kind) _ _ goes in
-      (works_takes s.regs bus v (interrupt_due bus (r15_in s.regs)) i.port m step.works (sym (ap (λ (t : Stepped). t.kind) told_is) ∙ kind), goes)
+      let stepped_is = step.stepped_is ∙ cond-false (is_stopped m.kind) _ _ goes in
+      (works_takes s.regs bus v (interrupt_due bus (r15_in s.regs)) i.port m step.works (sym (ap (λ (t : Stepped). t.kind) stepped_is) ∙ kind), goes)
 ]
 
-pub keeps_the_rest : (s : State) (i : Input) (told : Stepped) (after : State) (v : Vector) → Step s i told after → told.kind ≡ Taken v → KeepsTheRest v s i told after
+pub keeps_the_rest : (s : State) (i : Input) (stepped : Stepped) (after : State) (v : Vector) → Step s i stepped after → stepped.kind ≡ Taken v → KeepsTheRest v s i stepped after
 unfolding answer_of state_after
-keeps_the_rest s i told after v step kind =
+keeps_the_rest s i stepped after v step kind =
     let m = step.moved in
     let bus = with_lines i.lines.0 s.bus in
-    let done = took s i told after v step kind in
-    let told_is = step.told_is ∙ cond-false (is_stopped m.kind) _ _ done.1 in
+    let done = took s i stepped after v step kind in
+    let stepped_is = step.stepped_is ∙ cond-false (is_stopped m.kind) _ _ done.1 in
     let after_is = step.after_is ∙ cond-false (is_stopped m.kind) _ _ done.1 in
-    let devices : after.bus ≡ elapsed (told.ticks + s.profile.burst * i.bursts) bus =
+    let devices : after.bus ≡ elapsed (stepped.ticks + s.profile.burst * i.bursts) bus =
     ap (λ (t : State). t.bus) after_is
-    ∙ ap (λ (n : ℕ). elapsed (n + s.profile.burst * i.bursts) m.bus) (sym (ap (λ (t : Stepped). t.ticks) told_is))
-    ∙ ap (λ (x : Moved). elapsed (told.ticks + s.profile.burst * i.bursts) x.bus) done.0 in
+    ∙ ap (λ (n : ℕ). elapsed (n + s.profile.burst * i.bursts) m.bus) (sym (ap (λ (t : Stepped). t.ticks) stepped_is))
+    ∙ ap (λ (x : Moved). elapsed (stepped.ticks + s.profile.burst * i.bursts) x.bus) done.0 in
     record {
       memory = ap (λ (b : Bus). b.memc) devices;
       registers = λ r other last.
@@ -104,10 +104,10 @@ fiq_ticks s bus =
     let total : ticks_in s (on_bus bus (taken vector.Fiq s.regs)) ≡ 0 + first + second + third = refl in
     omega (arith, total)
 
-pub fiq_costs : (s : State) (i : Input) (told : Stepped) (after : State) → Step s i told after → told.kind ≡ Taken vector.Fiq → told.ticks ≡ fiq_entry_price s.profile (interrupted_in s)
+pub fiq_costs : (s : State) (i : Input) (stepped : Stepped) (after : State) → Step s i stepped after → stepped.kind ≡ Taken vector.Fiq → stepped.ticks ≡ fiq_entry_price s.profile (interrupted_in s)
 unfolding answer_of
-fiq_costs s i told after step kind =
-    let done = took s i told after vector.Fiq step kind in
-    ap (λ (t : Stepped). t.ticks) (step.told_is ∙ cond-false (is_stopped step.moved.kind) _ _ done.1)
+fiq_costs s i stepped after step kind =
+    let done = took s i stepped after vector.Fiq step kind in
+    ap (λ (t : Stepped). t.ticks) (step.stepped_is ∙ cond-false (is_stopped step.moved.kind) _ _ done.1)
     ∙ ap (λ (m : Moved). ticks_in s m) done.0
     ∙ fiq_ticks s (with_lines i.lines.0 s.bus)

@@ -13,13 +13,13 @@ use Rattle.arm2_exec.specs.Step.{address_in, elapsed, with_lines}
 
 -- memory and its controller, all registers but R14 and R15 of the exception's mode, and the prices; the
 -- devices have the lines and the time alone
-pub record KeepsTheRest (vector : Vector) (s : State) (i : Input) (told : Stepped)
+pub record KeepsTheRest (vector : Vector) (s : State) (i : Input) (stepped : Stepped)
     (after : State) : Type 0 where
   pub memory : after.bus.memc ≡ s.bus.memc
   pub registers : (r : Reg) → reg_number r ≢ slot_of (entry_at vector).mode 14
       → reg_number r ≢ slot_of (entry_at vector).mode 15 → register_of r after ≡ register_of r s
   pub prices : after.profile ≡ s.profile
-  pub devices : after.bus ≡ elapsed (told.ticks + s.profile.burst * i.bursts) (with_lines i.lines.0 s.bus)
+  pub devices : after.bus ≡ elapsed (stepped.ticks + s.profile.burst * i.bursts) (with_lines i.lines.0 s.bus)
 
 -- where a step interrupts the handler: at this address, by these time fields of ROM
 abbrev pub interrupted_in : State → Access

@@ -21,11 +21,11 @@ at_rest why = record { steps = 0; ticks = 0; elapsed = 0; stopped = why }
 
 -- one step before others: its ticks, and those that pass with its bursts
 abbrev pub counted : (burst : ℕ) → Input → Stepped → Ran → Ran
-counted burst i told rest =
+counted burst i stepped rest =
     record {
       steps = 1 + rest.steps;
-      ticks = told.ticks + rest.ticks;
-      elapsed = told.ticks + burst * i.bursts + rest.elapsed;
+      ticks = stepped.ticks + rest.ticks;
+      elapsed = stepped.ticks + burst * i.bursts + rest.elapsed;
       stopped = rest.stopped;
     }
 
@@ -38,6 +38,6 @@ Ends None s ran after goes_on = goes_on
 abbrev pub Runs : State → List Input → Ran → State → Type 0
 Runs s [] ran after = (ran ≡ at_rest None) × (after ≡ s)
 Runs s (i ∷ rest) ran after =
-    (told : Stepped) × (next : State) × Step s i told next
-    × Ends (why_stopped told.kind) s ran after
-    ((more : Ran) × Runs next rest more after × (ran ≡ counted s.profile.burst i told more))
+    (stepped : Stepped) × (next : State) × Step s i stepped next
+    × Ends (why_stopped stepped.kind) s ran after
+    ((more : Ran) × Runs next rest more after × (ran ≡ counted s.profile.burst i stepped more))

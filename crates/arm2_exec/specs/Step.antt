@@ -134,17 +134,17 @@ state_after s i m =
     else record { regs = m.regs; bus = elapsed (time_in s i m) m.bus; profile = s.profile }
 
 -- what a step reports, and the state after it
-pub record Step (s : State) (i : Input) (told : Stepped) (after : State) : Type 0 where
+pub record Step (s : State) (i : Input) (stepped : Stepped) (after : State) : Type 0 where
   pub moved : Moved
   pub works : Works (interrupt_due (with_lines i.lines.0 s.bus) (r15_in s.regs)) i.port s.regs
       (with_lines i.lines.0 s.bus) moved
-  pub told_is : told ≡ answer_of s moved
+  pub stepped_is : stepped ≡ answer_of s moved
   pub after_is : after ≡ state_after s i moved
 
 -- a step has one outcome: there is one, and no other
 pub record HasOneOutcome (s : State) (i : Input) : Type 0 where
-  pub told : Stepped
+  pub stepped : Stepped
   pub after : State
-  pub is : Step s i told after
-  pub only : (other_told : Stepped) (other : State) → Step s i other_told other
-      → (other_told ≡ told) × (other ≡ after)
+  pub is : Step s i stepped after
+  pub only : (other_stepped : Stepped) (other : State) → Step s i other_stepped other
+      → (other_stepped ≡ stepped) × (other ≡ after)

@@ -13,13 +13,14 @@ use arm2_effect::{Kind, Vector};
 /// So a transfer that is reported as aborted, or as one whose address is past memory, has moved no word and
 /// written back no base. The devices get what they get in any step, the lines and the time. It does nothing.
 pub fn exceptions_keep_the_rest()
-    ensures { (s : State) → (i : Input) → (told : Stepped) → (after : State) → (vector : Vector)
-        → Step s i told after → told.kind ≡ Kind.Taken vector → KeepsTheRest vector s i told after }
+    ensures { (s : State) → (i : Input) → (stepped : Stepped) → (after : State) → (vector : Vector)
+        → Step s i stepped after → stepped.kind ≡ Kind.Taken vector → KeepsTheRest vector s i stepped after }
 {}
 
 /// States what a step costs that takes FIQ, in ticks: the fetch 8 bytes after the interrupted address, and
 /// the two at FIQ's vector, by the prices and the time fields of ROM before it. It does nothing.
 pub fn fiq_costs_its_entry()
-    ensures { (s : State) → (i : Input) → (told : Stepped) → (after : State) → Step s i told after
-        → told.kind ≡ Kind.Taken Vector.Fiq → told.ticks ≡ fiq_entry_price s.profile (interrupted_in s) }
+    ensures { (s : State) → (i : Input) → (stepped : Stepped) → (after : State) → Step s i stepped after
+        → stepped.kind ≡ Kind.Taken Vector.Fiq
+        → stepped.ticks ≡ fiq_entry_price s.profile (interrupted_in s) }
 {}

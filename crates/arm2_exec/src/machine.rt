@@ -77,7 +77,7 @@ pub struct Stepped {
 /// A step and the word that it fetched.
 #[derive(Clone, Copy, Debug, PartialEq, Eq)]
 pub struct Traced {
-    pub told: Stepped,
+    pub stepped: Stepped,
     /// None where an interrupt was taken, and where the fetch was refused.
     pub word: Option<u32>,
 }
@@ -237,16 +237,16 @@ impl Machine {
         ensures step { Step self.old input result self.new }
         ensures bound { result.ticks < 2 ^ 16 }
     {
-        self.step_traced(input).told
+        self.step_traced(input).stepped
     }
 
     /// The same, with the word that the step fetches.
     #[tactic(auto, unfolding(crate::specs::Step::answer_of, crate::specs::Step::state_after))]
     #[inline(always)]
     pub fn step_traced(&mut self, input: Input) -> Traced
-        ensures step { Step self.old input result.told self.new }
+        ensures step { Step self.old input result.stepped self.new }
         ensures word { result.word ≡ traced_word self.old input }
-        ensures bound { result.told.ticks < 2 ^ 16 }
+        ensures bound { result.stepped.ticks < 2 ^ 16 }
     {
         let from = address_of(self.registers.get(Reg::R15));
         self.inputs.port = input.port;
@@ -259,7 +259,7 @@ impl Machine {
             &self.inputs,
             &mut self.decoded,
         );
-        let mut told = Stepped {
+        let mut stepped = Stepped {
             kind: made.done.kind,
             ticks: 0,
             from,
@@ -268,13 +268,13 @@ impl Machine {
         let word = made.word;
         if let Kind::Stopped(_) = made.done.kind {
             self.bus.ioc.set_line_state(lines);
-            return Traced { told, word };
+            return Traced { stepped, word };
         }
         let stretched = self.inputs.prices.profile.burst_ticks(input.bursts);
         elapse(&mut self.bus, made.done.ticks + stretched);
-        told.ticks = made.done.ticks;
-        told.to = address_of(self.registers.get(Reg::R15));
-        Traced { told, word }
+        stepped.ticks = made.done.ticks;
+        stepped.to = address_of(self.registers.get(Reg::R15));
+        Traced { stepped, word }
     }
 
     /// Steps, one for each input, up to the first that is stopped.

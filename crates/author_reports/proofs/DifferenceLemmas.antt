@@ -26,7 +26,7 @@ use Rattle.walk_counts.proofs.SumLemmas.{picked, same_sums, sum_both, sum_none}
 use Rattle.author_reports.specs.declared.differences.Compared.{Compared}
 use Rattle.author_reports.specs.declared.differences.Numbers.{Numbers}
 use Rattle.author_reports.specs.declared.differences.RunTally.{RunTally}
-use Rattle.author_reports.specs.Differences.{Adds, HasAdded, IsRowIfApart, IsTable, agree, compared_in, compared_text, in_all, numbers_in, run_at, tallied, told_at, with_place}
+use Rattle.author_reports.specs.Differences.{Adds, HasAdded, IsRowIfApart, IsTable, agree, compared_in, compared_text, in_all, numbers_in, run_at, tallied, capped_at, with_place}
 
 -- ## Sums over places
 
@@ -64,11 +64,11 @@ by_places at weight n (p ∷ passes) inside =
 pub same_numbers : (m n : Numbers) → m.passes ≡ n.passes → m.ticks ≡ n.ticks → m ≡ n
 same_numbers m n passes ticks = λ i. record { passes = passes i; ticks = ticks i }
 
-abbrev told_run : Flow → List Pass → ℕ → Numbers
-told_run flow passes a = record { passes = capped (run_at flow passes a).passes; ticks = capped (run_at flow passes a).ticks }
+abbrev capped_run : Flow → List Pass → ℕ → Numbers
+capped_run flow passes a = record { passes = capped (run_at flow passes a).passes; ticks = capped (run_at flow passes a).ticks }
 
-abbrev told_walk : Flow → List Edge → ℕ → Numbers
-told_walk flow walk a = record { passes = passes_of (taken_at flow walk a); ticks = ticks_of (taken_at flow walk a) }
+abbrev capped_walk : Flow → List Edge → ℕ → Numbers
+capped_walk flow walk a = record { passes = passes_of (taken_at flow walk a); ticks = ticks_of (taken_at flow walk a) }
 
 module _ (flow : Flow) (passes : List Pass) (by_place : List Passed) (t : RunTally) (added : HasAdded flow.places by_place (length flow.places) t) (tally : IsTally flow passes by_place) where
   -- a number of each place, as the steps have it
@@ -80,10 +80,10 @@ module _ (flow : Flow) (passes : List Pass) (by_place : List Passed) (t : RunTal
       (λ k. cond (is_at a (place_at flow.places k)) (number (passed_at passes k)) 0) (length flow.places) 0
       (λ k low high. ap (λ p. cond (is_at a (place_at flow.places k)) (number p) 0) (tally.each k (omega (arith, high))))
 
-  pub run_told : (a : ℕ) → tallied t a ≡ told_run flow passes a
-  run_told a =
+  pub run_capped : (a : ℕ) → tallied t a ≡ capped_run flow passes a
+  run_capped a =
       added a
-      ∙ same_numbers _ (told_run flow passes a)
+      ∙ same_numbers _ (capped_run flow passes a)
       (ap capped (all_of (λ p. p.passes) a ∙ by_places (λ k. is_at a (place_at flow.places k)) (λ p. 1) (length flow.places) passes tally.inside))
       (ap capped (all_of (λ p. p.ticks) a ∙ by_places (λ k. is_at a (place_at flow.places k)) (λ p. p.ticks) (length flow.places) passes tally.inside))
 
@@ -91,19 +91,19 @@ pub same_compared : (c d : Compared) → c.run ≡ d.run → c.bound ≡ d.bound
 same_compared c d run bound = λ i. record { run = run i; bound = bound i }
 
 -- the table by the tallies is the one by the run and the walk
-pub table_told : (source : List ℕ) (words : Words) (flow : Flow) (walk : List Edge) (by_place : List Passed) (run : RunTally) (of_walk : Tally) (text : List ℕ)
+pub table_capped : (source : List ℕ) (words : Words) (flow : Flow) (walk : List Edge) (by_place : List Passed) (run : RunTally) (of_walk : Tally) (text : List ℕ)
     → HasAdded flow.places by_place (length flow.places) run → IsWalkTally flow walk of_walk → IsTable source words (compared_in run of_walk) text
-    → (passes : List Pass) → IsTally flow passes by_place → IsTable source words (told_at flow passes walk) text
-table_told source words flow walk by_place run of_walk text added taken table passes tally =
+    → (passes : List Pass) → IsTally flow passes by_place → IsTable source words (capped_at flow passes walk) text
+table_capped source words flow walk by_place run of_walk text added taken table passes tally =
     subst (λ (f : ℕ → Compared). IsTable source words f text) same table
   where
-    at : (a : ℕ) → compared_in run of_walk a ≡ told_at flow passes walk a
-    at a = same_compared (compared_in run of_walk a) (told_at flow passes walk a)
-        (run_told flow passes by_place run added tally a)
-        (same_numbers (numbers_in of_walk a) (told_walk flow walk a)
+    at : (a : ℕ) → compared_in run of_walk a ≡ capped_at flow passes walk a
+    at a = same_compared (compared_in run of_walk a) (capped_at flow passes walk a)
+        (run_capped flow passes by_place run added tally a)
+        (same_numbers (numbers_in of_walk a) (capped_walk flow walk a)
         (ap (λ (o : Option Taken). passes_of o) (taken a)) (ap (λ (o : Option Taken). ticks_of o) (taken a)))
 
-    same : compared_in run of_walk ≡ told_at flow passes walk
+    same : compared_in run of_walk ≡ capped_at flow passes walk
     same = λ i a. at a i
 
 -- ## A place more

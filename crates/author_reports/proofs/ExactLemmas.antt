@@ -30,7 +30,7 @@ use Rattle.walk_counts.specs.Counts.{capped}
 use Rattle.author_reports.proofs.DifferenceLemmas.{same_compared, same_numbers}
 use Rattle.author_reports.proofs.ExplainLemmas.{bound_fits}
 use Rattle.author_reports.specs.declared.differences.Compared.{Compared}
-use Rattle.author_reports.specs.Differences.{IsTable, compared_at, run_at, told_at, walk_at}
+use Rattle.author_reports.specs.Differences.{IsTable, compared_at, run_at, capped_at, walk_at}
 
 capped_is : (n : ℕ) → n < 2 ^ 64 → capped n ≡ n
 capped_is n small = omega arith
@@ -47,9 +47,9 @@ module _ (words : Words) (st : Stated) (flow : Flow) (well : IsWellFormed flow) 
       omega (arith, none)
   weights_most s [] from (e ∷ walk) passes leads follows are = absurd follows
   weights_most s (i ∷ inputs) from [] passes leads follows are = absurd follows
-  weights_most s (i ∷ inputs) from (e ∷ walk) passes (has, starts, leads) (told, next, edge, follows) (other, after, step, (pass, later, is, are, eq)) =
-      let same = one_step s i told other next after edge.executes.step step in
-      let cheap : told.ticks ≤ e.cost = law words st flow.profile s i told next e edge in
+  weights_most s (i ∷ inputs) from (e ∷ walk) passes (has, starts, leads) (stepped, next, edge, follows) (other, after, step, (pass, later, is, are, eq)) =
+      let same = one_step s i stepped other next after edge.executes.step step in
+      let cheap : stepped.ticks ≤ e.cost = law words st flow.profile s i stepped next e edge in
       let own : pass.ticks ≤ e.cost = subst (λ (n : ℕ). n ≤ e.cost) (sym (is.ticks_are ∙ ap (λ (x : Stepped). x.ticks) same.0)) cheap in
       let here : weight pass ≤ e.cost = fits pass e.cost (well.costs_some e has) own in
       let rest = weights_most next inputs e.to walk later leads follows (subst (λ (x : State). ArePasses flow x inputs walk later) same.1 are) in
@@ -105,7 +105,7 @@ module _ (flow : Flow) (well : IsWellFormed flow) (tree : Tree) (longest : Longe
 
 pub table_exact : (source : List ℕ) (words : Words) (st : Stated) (flow : Flow) (tree : Tree) (longest : Longest) (s : State) (inputs : List Input) (walk : List Edge) (passes : List Pass) (text : List ℕ)
     → IsWellFormed flow → StepCost → IsLongest flow tree longest → Leads edge_shape (HasEdge flow) flow.entry walk Exit → Follows words st flow.profile s inputs walk → ArePasses flow s inputs walk passes
-    → cost_of edge_shape walk ≤ longest.bound → IsTable source words (told_at flow passes (unfolded longest.walk)) text → IsTable source words (compared_at flow passes (unfolded longest.walk)) text
+    → cost_of edge_shape walk ≤ longest.bound → IsTable source words (capped_at flow passes (unfolded longest.walk)) text → IsTable source words (compared_at flow passes (unfolded longest.walk)) text
 table_exact source words st flow tree longest s inputs walk passes text well law is leads follows are most table =
     subst (λ (f : ℕ → Compared). IsTable source words f text) same table
   where
@@ -115,8 +115,8 @@ table_exact source words st flow tree longest s inputs walk passes text well law
         let bound = bound_fits flow tree longest is in
         omega (arith, all, most, bound)
 
-    at : (a : ℕ) → told_at flow passes (unfolded longest.walk) a ≡ compared_at flow passes (unfolded longest.walk) a
-    at a = same_compared (told_at flow passes (unfolded longest.walk) a) (compared_at flow passes (unfolded longest.walk) a)
+    at : (a : ℕ) → capped_at flow passes (unfolded longest.walk) a ≡ compared_at flow passes (unfolded longest.walk) a
+    at a = same_compared (capped_at flow passes (unfolded longest.walk) a) (compared_at flow passes (unfolded longest.walk) a)
         (same_numbers _ (run_at flow passes a)
         (capped_is (run_at flow passes a).passes
         (small (λ p. cond (is_at a (place_at flow.places p.place)) 1 0) (λ p cost some ticks. one_fits (is_at a (place_at flow.places p.place)) p.ticks cost some ticks)))
@@ -124,5 +124,5 @@ table_exact source words st flow tree longest s inputs walk passes text well law
         (small (λ p. cond (is_at a (place_at flow.places p.place)) p.ticks 0) (λ p cost some ticks. ticks_fit (is_at a (place_at flow.places p.place)) p.ticks cost some ticks))))
         (same_numbers _ (walk_at (unfolded longest.walk) a) (passes_exact flow well tree longest is a) (ticks_exact flow well tree longest is a))
 
-    same : told_at flow passes (unfolded longest.walk) ≡ compared_at flow passes (unfolded longest.walk)
+    same : capped_at flow passes (unfolded longest.walk) ≡ compared_at flow passes (unfolded longest.walk)
     same = λ i a. at a i

@@ -27,9 +27,9 @@ use Rattle.kept_runs.specs.Keeping.{IsFollowed, IsKeptRun, KeepsNone, KeepsTo}
 use Rattle.kept_runs.specs.declared.following.Followed.{Followed}
 use Rattle.kept_runs.specs.declared.following.Followed.TheVariants.{Kept, Strayed}
 use Rattle.author_reports.proofs.SaidLemmas.{same_words}
-use Rattle.author_reports.specs.FollowReport.{IsFollowRefused, IsFollowReport, IsFollowable, KeepsWithin, NoneKeeps, TellsRun}
+use Rattle.author_reports.specs.FollowReport.{IsFollowRefused, IsFollowReport, IsFollowable, KeepsWithin, NoneKeeps, IsRunText}
 use Rattle.author_reports.specs.FollowText.{has_word}
-use Rattle.author_reports.specs.FollowWork.{HasAllPlaces, IsJudgedRun, Tells}
+use Rattle.author_reports.specs.FollowWork.{HasAllPlaces, IsJudgedRun, IsFollowedText}
 use Rattle.report_input.specs.Keeping.{KeepsStatement, TakesAtMost}
 use Rattle.report_input.specs.Placing.{IsPlaced, IsRunRefused}
 use Rattle.report_input.specs.Report.{BeforeOutput, HasLoops, IsAccepted, IsRefused, IsTreeOf}
@@ -75,34 +75,34 @@ module _ (words : Words) (st : Stated) (flow : Flow) (tree : Tree) (of : IsTreeO
   none_keeps none steps keeps = none steps (by_tree (take steps inputs) keeps)
 
   -- what is said of a followed run
-  pub told : IsWellFormed flow → StepCost → RunLaw → IsLongest flow tree longest → IsGreatestCost flow st.loops longest.bound → (after : State) (followed : Followed) (kept : Bool) (text : List ℕ)
-      → IsFollowed words st flow tree s inputs after followed → Tells source words st flow longest followed kept text → TellsRun words st flow.profile flow s inputs source tree longest kept text
-  told well cost law longest_is greatest after (Kept steps ticks by_place) kept text is tells =
-      subst (λ (b : Bool). TellsRun words st flow.profile flow s inputs source tree longest b text) (sym tells.0)
+  pub run_text : IsWellFormed flow → StepCost → RunLaw → IsLongest flow tree longest → IsGreatestCost flow st.loops longest.bound → (after : State) (followed : Followed) (kept : Bool) (text : List ℕ)
+      → IsFollowed words st flow tree s inputs after followed → IsFollowedText source words st flow longest followed kept text → IsRunText words st flow.profile flow s inputs source tree longest kept text
+  run_text well cost law longest_is greatest after (Kept steps ticks by_place) kept text is said =
+      subst (λ (b : Bool). IsRunText words st flow.profile flow s inputs source tree longest b text) (sym said.0)
       (record {
         ticks = ticks;
         keeps = within law greatest steps ticks by_place.items after is;
         passes = is.passes;
         passes_are = is.passes_are;
-        table = tells.1.table;
+        table = said.1.table;
         table_is =
             let keeps = states (take steps inputs) is.keeps in
-            table_exact source words st flow tree longest s (take steps inputs) is.keeps.walk is.passes tells.1.table well cost longest_is is.keeps.complete is.keeps.follows is.passes_are
-            (greatest.upper keeps.walk keeps.complete keeps.kept) (tells.1.table_is is.passes is.tally_is);
-        text_is = tells.1.text_is;
+            table_exact source words st flow tree longest s (take steps inputs) is.keeps.walk is.passes said.1.table well cost longest_is is.keeps.complete is.keeps.follows is.passes_are
+            (greatest.upper keeps.walk keeps.complete keeps.kept) (said.1.table_is is.passes is.tally_is);
+        text_is = said.1.text_is;
       })
-  told well cost law longest_is greatest after (Strayed steps at why) kept text is tells =
-      subst (λ (b : Bool). TellsRun words st flow.profile flow s inputs source tree longest b text) (sym tells.0)
+  run_text well cost law longest_is greatest after (Strayed steps at why) kept text is said =
+      subst (λ (b : Bool). IsRunText words st flow.profile flow s inputs source tree longest b text) (sym said.0)
       (record {
         steps = steps;
         at = at;
         why = why;
         after = after;
-        line = tells.1.0;
+        line = said.1.0;
         none = none_keeps is.none;
         strays = is;
-        line_is = tells.1.1;
-        text_is = tells.1.2;
+        line_is = said.1.1;
+        text_is = said.1.2;
       })
 
 -- what is said of a kept run is said of each place
@@ -164,9 +164,9 @@ module _ (source statement machine : List ℕ) (profile : Profile) (words : Word
     longest_is = is_longest;
     greatest = greatest;
     loaded = record { file = file; placed = placed; inputs_are = j.inputs_are };
-    tells =
-        subst (λ (p : Profile). TellsRun loops.graph.words st p flow state j.inputs source tree longest kept text) loops.graph.graph_is.profile_is
-        (subst (λ (w : Words). TellsRun w st flow.profile flow state j.inputs source tree longest kept text) (sym own_words) j.tells);
+    is_text =
+        subst (λ (p : Profile). IsRunText loops.graph.words st p flow state j.inputs source tree longest kept text) loops.graph.graph_is.profile_is
+        (subst (λ (w : Words). IsRunText w st flow.profile flow state j.inputs source tree longest kept text) (sym own_words) j.is_text);
   }
 
 -- ## Refusals

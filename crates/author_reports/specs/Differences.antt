@@ -103,8 +103,8 @@ pub record IsTable (source : List ℕ) (words : Words) (compared : ℕ → Compa
 -- ## Tallies
 
 -- the same, counted up to 2^64 - 1
-abbrev pub told_at : Flow → List Pass → List Edge → ℕ → Compared
-told_at flow passes walk a =
+abbrev pub capped_at : Flow → List Pass → List Edge → ℕ → Compared
+capped_at flow passes walk a =
     record {
       run = record {
         passes = capped (run_at flow passes a).passes;

@@ -46,7 +46,7 @@ module _ (words : Words) (stated : Stated) (profile : Profile) (flow : Flow) (st
 
   module _ (source : List ℕ) (tree : Tree) (longest : Longest) where
     -- how many ticks the run takes, and where it and the greatest walk differ
-    pub record TellsKept (text : List ℕ) : Type 0 where
+    pub record IsKeptText (text : List ℕ) : Type 0 where
       pub ticks : ℕ
       pub keeps : KeepsWithin longest.bound ticks
       pub passes : List Pass
@@ -56,7 +56,7 @@ module _ (words : Words) (stated : Stated) (profile : Profile) (flow : Flow) (st
       pub text_is : text ≡ kept_text ticks longest.bound ++ table
 
     -- after how many steps, where and why the first one strays
-    pub record TellsStrayed (text : List ℕ) : Type 0 where
+    pub record IsStrayedText (text : List ℕ) : Type 0 where
       pub steps : ℕ
       pub at : ℕ
       pub why : Unkept
@@ -68,9 +68,9 @@ module _ (words : Words) (stated : Stated) (profile : Profile) (flow : Flow) (st
       pub text_is : text ≡ strayed_text steps at line (why_text stated at why)
 
     -- true exactly where some number of the inputs makes a run that keeps the statement
-    abbrev pub TellsRun : Bool → List ℕ → Type 0
-    TellsRun true text = TellsKept text
-    TellsRun false text = TellsStrayed text
+    abbrev pub IsRunText : Bool → List ℕ → Type 0
+    IsRunText true text = IsKeptText text
+    IsRunText false text = IsStrayedText text
 
 -- ## The report
 
@@ -86,7 +86,7 @@ pub record IsFollowReport (source statement machine : List ℕ) (profile : Profi
   pub longest_is : IsLongest accepted.flow tree longest
   pub greatest : IsGreatestCost accepted.flow accepted.stated.loops longest.bound
   pub loaded : IsLoaded source machine profile state inputs
-  pub tells : TellsRun accepted.loops.graph.words accepted.stated profile accepted.flow state inputs source
+  pub is_text : IsRunText accepted.loops.graph.words accepted.stated profile accepted.flow state inputs source
       tree longest kept text
 
 -- ## Refusals

@@ -15,19 +15,19 @@ use Rattle.kept_runs.specs.declared.following.Followed.{Followed}
 use Rattle.kept_runs.specs.declared.following.Followed.TheVariants.{Kept, Strayed}
 use Rattle.machine_file.specs.Inputs.{AreInputs}
 use Rattle.machine_file.specs.Stated.{Stated}
-use Rattle.author_reports.specs.Differences.{IsTable, told_at}
-use Rattle.author_reports.specs.FollowReport.{IsFollowRefused, IsFollowReport, TellsRun}
+use Rattle.author_reports.specs.Differences.{IsTable, capped_at}
+use Rattle.author_reports.specs.FollowReport.{IsFollowRefused, IsFollowReport, IsRunText}
 use Rattle.author_reports.specs.FollowText.{IsLineAt, kept_text, strayed_text, why_text}
 use Rattle.author_reports.specs.declared.follow.FollowedRun.{FollowedRun}
 use Rattle.report_output.specs.declared.fault.ReportFault.{ReportFault}
 
 -- the answer on a run that is kept: its ticks, and where it and the walk differ, whatever its steps are, by
 -- numbers that are counted up to 2^64 - 1
-pub record TellsKeptRun (source : List ℕ) (words : Words) (flow : Flow) (longest : Longest) (ticks : ℕ)
+pub record IsKeptRunText (source : List ℕ) (words : Words) (flow : Flow) (longest : Longest) (ticks : ℕ)
     (by_place : List Passed) (text : List ℕ) : Type 0 where
   pub table : List ℕ
   pub table_is : (passes : List Pass) → IsTally flow passes by_place
-      → IsTable source words (told_at flow passes (unfolded longest.walk)) table
+      → IsTable source words (capped_at flow passes (unfolded longest.walk)) table
   pub text_is : text ≡ kept_text ticks longest.bound ++ table
 
 -- what is said of a kept run is said of each place
@@ -36,11 +36,11 @@ HasAllPlaces flow (Kept steps ticks by_place) = length by_place.items ≡ length
 HasAllPlaces flow (Strayed steps at why) = Unit {0}
 
 -- the answer on the outcome of a followed run
-abbrev pub Tells : (source : List ℕ) → Words → statement.Stated → Flow → Longest → Followed → Bool
+abbrev pub IsFollowedText : (source : List ℕ) → Words → statement.Stated → Flow → Longest → Followed → Bool
     → List ℕ → Type 0
-Tells source words st flow longest (Kept steps ticks by_place) kept text =
-    (kept ≡ true) × TellsKeptRun source words flow longest ticks by_place.items text
-Tells source words st flow longest (Strayed steps at why) kept text =
+IsFollowedText source words st flow longest (Kept steps ticks by_place) kept text =
+    (kept ≡ true) × IsKeptRunText source words flow longest ticks by_place.items text
+IsFollowedText source words st flow longest (Strayed steps at why) kept text =
     (kept ≡ false)
     × ((line : Option ℕ) × IsLineAt source at line × (text ≡ strayed_text steps at line (why_text st at why)))
 
@@ -50,7 +50,7 @@ pub record IsJudgedRun (words : Words) (st : statement.Stated) (flow : Flow) (tr
     (text : List ℕ) : Type 0 where
   pub inputs : List Input
   pub inputs_are : AreInputs file.schedule inputs
-  pub tells : TellsRun words st flow.profile flow state inputs source tree longest kept text
+  pub is_text : IsRunText words st flow.profile flow state inputs source tree longest kept text
 
 -- whether a run keeps its statement by a profile, and the report that says so
 abbrev pub IsReportOn : FollowedRun → Profile → (kept : Bool) → (text : List ℕ) → Type 0

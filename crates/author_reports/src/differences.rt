@@ -8,7 +8,7 @@ ghost use Rattle.walk_counts.specs.Counts.{capped};
 ghost use Rattle.author_reports.specs.Differences.{Adds, HasAdded, IsRowIfApart, IsTable, agree};
 ghost use Rattle.author_reports.specs.Differences.{compared_in, compared_text};
 ghost use Rattle.author_reports.specs.Differences.{numbers_text};
-ghost use Rattle.author_reports.specs.Differences.{row_if_apart, tallied, told_at, with_place};
+ghost use Rattle.author_reports.specs.Differences.{row_if_apart, tallied, capped_at, with_place};
 ghost use Rattle.report_input.specs.Source.{IsSourceFault};
 
 use assembler::placed_lines;
@@ -251,7 +251,7 @@ pub(crate) fn differences(
     ensures table { (passes : List Pass) → IsTally graph.now passes by_place.now
         → IfOk result
         (λ text. IsTable words.entry.source.now words.entry.image.now
-        (told_at graph.now passes (unfolded walk.now)) text.items) }
+        (capped_at graph.now passes (unfolded walk.now)) text.items) }
     ensures fault { IfErr result (IsSourceFault words.entry.source.now) }
 {
     let run_tally = RunTally::of_places(alloc, graph, by_place)?;

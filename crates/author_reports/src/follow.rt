@@ -9,7 +9,7 @@ ghost use Rattle.loop_bounds.specs.Bounds.{IsGreatestCost};
 ghost use Rattle.author_reports.specs.FollowReport.{FollowsRun};
 ghost use Rattle.author_reports.specs.FollowText.{IsLineAt, strayed_text, why_text};
 ghost use Rattle.author_reports.specs.FollowWork.{HasAllPlaces, IsJudgedRun, IsRefusalOf, IsReportOn};
-ghost use Rattle.author_reports.specs.FollowWork.{Tells, TellsKeptRun};
+ghost use Rattle.author_reports.specs.FollowWork.{IsFollowedText, IsKeptRunText};
 ghost use Rattle.report_input.specs.Priced.{Priced};
 ghost use Rattle.report_input.specs.Report.{BeforeOutput, HasLoops, IsTreeOf};
 ghost use Rattle.report_input.specs.Source.{IsSourceFault, Says};
@@ -62,8 +62,8 @@ fn kept_run(
     by_place: &[Passed],
 ) -> Result<Vec<u8>, ReportFault>
     requires { length by_place.now ≡ length bounded.handler.now.graph.places }
-    ensures told { IfOk result
-        (λ text. TellsKeptRun bounded.entry.source.now bounded.entry.image.now
+    ensures text { IfOk result
+        (λ text. IsKeptRunText bounded.entry.source.now bounded.entry.image.now
         bounded.entry.handler.now.graph bounded.entry.longest.now ticks by_place.now text.items) }
     ensures fault { IfErr result (IsSourceFault bounded.entry.source.now) }
 {
@@ -87,7 +87,7 @@ fn strayed_run(
     at: u32,
     why: Unkept,
 ) -> Result<Vec<u8>, ReportFault>
-    ensures told { IfOk result
+    ensures text { IfOk result
         (λ text. (line : Option ℕ) × IsLineAt bounded.entry.source.now at line
         × (text.items ≡ strayed_text steps at line (why_text bounded.entry.handler.now.statement at why))) }
     ensures fault { IfErr result (IsSourceFault bounded.entry.source.now) }
@@ -99,11 +99,12 @@ fn strayed_run(
 }
 
 // The answer on a run that was followed.
-fn told(alloc: Global, bounded: Bounded<'_>, followed: &Followed) -> Result<Judged, ReportFault>
+fn judgement(alloc: Global, bounded: Bounded<'_>, followed: &Followed) -> Result<Judged, ReportFault>
     requires { HasAllPlaces bounded.handler.now.graph followed.now }
-    ensures told { IfOk result
-        (λ j. Tells bounded.entry.source.now bounded.entry.image.now bounded.entry.handler.now.statement
-        bounded.entry.handler.now.graph bounded.entry.longest.now followed.now j.kept j.text.items) }
+    ensures text { IfOk result
+        (λ j. IsFollowedText bounded.entry.source.now bounded.entry.image.now
+        bounded.entry.handler.now.statement bounded.entry.handler.now.graph bounded.entry.longest.now
+        followed.now j.kept j.text.items) }
     ensures fault { IfErr result (IsSourceFault bounded.entry.source.now) }
 {
     match followed {
@@ -160,7 +161,7 @@ fn judged_run(
     step_law();
     is_well_formed(&bounded.handler.graph);
     let followed = follow(alloc, handler, &mut placed.machine, &inputs)?;
-    told(alloc, bounded, &followed)
+    judgement(alloc, bounded, &followed)
 }
 
 // A machine file states all registers but R15.

@@ -11,7 +11,7 @@ pub mod LineLemmas
 pub mod LongestYes
 pub mod VerdictLemmas
 pub mod PresenceLemmas
-pub mod WalkTelling
+pub mod WalkerLemmas
 pub mod WalkNamed
 pub mod WalkParts
 pub mod WalkFollowing

@@ -27,7 +27,7 @@ use Rattle.std.specs.declared.alloc.Global.{Global}
 use Rattle.cert_check.specs.declared.index.Index.{Index}
 use Rattle.cert_check.specs.declared.walker.Walker.{Walker}
 use Rattle.cert_check.specs.Followed.{Followed, edge_named, follow_both, follow_edge, follow_item, follow_row, follow_step, follow_turns, followed, nothing_at}
-use Rattle.cert_check.specs.Walking.{AreRounds, CanFollow, EndsIn, Follows, IsRefused, IsTaken, Tells}
+use Rattle.cert_check.specs.Walking.{AreRounds, CanFollow, EndsIn, Follows, IsRefused, IsTaken, IsWalkerAfter}
 use Rattle.cert_check.proofs.WalkParts.{All-left, All-right, leads_left, leads_right, map_some}
 
 -- the walk of a row is that of its first lines, and that of the others from where it ends
@@ -74,7 +74,7 @@ module _ (flow : Flow) (tree : Tree) (index : Index) (well : IsWellFormed flow) 
     stays = All-nil (λ e. is_in within e.to ≡ true);
     long = omega arith;
     rounds = record { bodies = All-nil (IsBody flow tree); counts = All-nil (λ k. (0 < k) × (k ≤ 1048576)); shallow = omega arith };
-    told = λ w t. subst (λ (v : List NumberedEdge). Tells tree.spans x v) (sym (append-nil w)) t;
+    adds = λ w t. subst (λ (v : List NumberedEdge). IsWalkerAfter tree.spans x v) (sym (append-nil w)) t;
     ready = can;
   }
 
@@ -98,8 +98,8 @@ module _ (flow : Flow) (tree : Tree) (index : Index) (well : IsWellFormed flow) 
           counts = All-append (λ k. (0 < k) × (k ≤ 1048576)) a.walk.opened.counts (b.walk.opened.counts ++ []) a.rounds.counts (All-append (λ k. (0 < k) × (k ≤ 1048576)) b.walk.opened.counts [] b.rounds.counts (All-nil (λ k. (0 < k) × (k ≤ 1048576))));
           shallow = omega (arith, a.rounds.shallow, b.rounds.shallow);
         };
-        told = λ w t.
-            subst (λ (v : List NumberedEdge). Tells tree.spans z v) (append_assoc w (edges_of tree.edges a.numbers) (edges_of tree.edges b.numbers) ∙ ap (λ (v : List NumberedEdge). w ++ v) (sym both)) (b.told (w ++ edges_of tree.edges a.numbers) (a.told w t));
+        adds = λ w t.
+            subst (λ (v : List NumberedEdge). IsWalkerAfter tree.spans z v) (append_assoc w (edges_of tree.edges a.numbers) (edges_of tree.edges b.numbers) ∙ ap (λ (v : List NumberedEdge). w ++ v) (sym both)) (b.adds (w ++ edges_of tree.edges a.numbers) (a.adds w t));
         ready = b.ready;
       }
 

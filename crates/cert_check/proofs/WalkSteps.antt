@@ -42,7 +42,7 @@ use Rattle.cert_check.specs.Walking.{Adds, AreRounds, Arrives, Begins, CanFollow
 use Rattle.cert_check.proofs.WalkNamed.{named_from}
 use Rattle.cert_check.proofs.WalkParts.{All-repeated, ends_same, leads_once, map-repeated, map_some, repeated-long, some_element, starts_same}
 use Rattle.cert_check.proofs.WalkFollowing.{item_repeat, leads_of, some_lines}
-use Rattle.cert_check.proofs.WalkTelling.{edge_adds, holds_whole, rounds_add, whole_in}
+use Rattle.cert_check.proofs.WalkerLemmas.{edge_adds, holds_whole, rounds_add, whole_in}
 
 module _ (flow : Flow) (tree : Tree) (index : Index) (well : IsWellFormed flow) (within : Span) (levels : ℕ) (x : Walker) (can : CanFollow flow tree index within x) where
   abbrev exit : ℕ
@@ -121,7 +121,7 @@ module _ (flow : Flow) (tree : Tree) (index : Index) (well : IsWellFormed flow) 
           stays = All-cons (λ (n : NumberedEdge). is_in within n.to ≡ true) (edge_at tree.edges k) [] inner (All-nil (λ (n : NumberedEdge). is_in within n.to ≡ true));
           long = omega arith;
           rounds = record { bodies = All-nil (IsBody flow tree); counts = All-nil (λ n. (0 < n) × (n ≤ 1048576)); shallow = omega arith };
-          told = edge_adds exit tree.edges tree.spans t.ordered index.headers.items can.indexed.headers (edge_at tree.edges k) e_in x y (sym from_is) (omega (arith, to_in, can.room)) goes;
+          adds = edge_adds exit tree.edges tree.spans t.ordered index.headers.items can.indexed.headers (edge_at tree.edges k) e_in x y (sym from_is) (omega (arith, to_in, can.room)) goes;
           ready = step_ready;
         }
 
@@ -272,7 +272,7 @@ module _ (flow : Flow) (tree : Tree) (index : Index) (well : IsWellFormed flow) 
           repeat_told : Adds tree.spans x z (edges_of tree.edges (repeated k once.numbers))
           repeat_told =
               subst (λ (w : List NumberedEdge). Adds tree.spans x z w) (sym many)
-              (rounds_add exit tree.edges tree.spans t.ordered index.headers.items can.indexed.headers r.span span_known.0 x.number k header_is (edges_of tree.edges once.numbers) numbers_some turn once.stays x y z refl back (omega (arith, once.ready.room, can.known)) begins.some arrives once.told)
+              (rounds_add exit tree.edges tree.spans t.ordered index.headers.items can.indexed.headers r.span span_known.0 x.number k header_is (edges_of tree.edges once.numbers) numbers_some turn once.stays x y z refl back (omega (arith, once.ready.room, can.known)) begins.some arrives once.adds)
 
           pub repeat_taken : IsTaken flow tree index within levels 1 times x z
           repeat_taken = record {
@@ -294,7 +294,7 @@ module _ (flow : Flow) (tree : Tree) (index : Index) (well : IsWellFormed flow) 
               counts = All-cons (λ (n : ℕ). (0 < n) × (n ≤ 1048576)) k once.walk.opened.counts (begins.some, begins.few) once.rounds.counts;
               shallow = omega (arith, once.rounds.shallow, begins.some_level);
             };
-            told = repeat_told;
+            adds = repeat_told;
             ready = repeat_ready;
           }
 

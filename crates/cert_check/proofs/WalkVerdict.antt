@@ -23,7 +23,7 @@ use Rattle.cert_check.specs.Index.{IsIndex}
 use Rattle.cert_check.specs.declared.verdict.Verdict.{Verdict}
 use Rattle.cert_check.specs.declared.verdict.Objection.TheVariants.{WalkCost}
 use Rattle.cert_check.specs.Verdict.{CostsBound, IsFirstOf, IsFollowed, KeepsAll, walk_objections}
-use Rattle.cert_check.specs.Walking.{CanFollow, IsFresh, IsTaken, Tells, capped, graph_span}
+use Rattle.cert_check.specs.Walking.{CanFollow, IsFresh, IsTaken, IsWalkerAfter, capped, graph_span}
 use Rattle.cert_check.proofs.WalkFollowing.{leads_of}
 
 module _ (flow : Flow) (tree : Tree) (index : Index) (well : IsWellFormed flow) (t : IsTree flow tree) (indexed : IsIndex (length flow.places) tree.spans index) (x : Walker) (fresh : IsFresh (length flow.places) x) where
@@ -49,7 +49,7 @@ module _ (flow : Flow) (tree : Tree) (index : Index) (well : IsWellFormed flow) 
     room = ap length fresh.turns_are ∙ length-replicate (exit + 1) 0;
   }
 
-  nothing_told : Tells tree.spans x []
+  nothing_told : IsWalkerAfter tree.spans x []
   nothing_told = record {
     cost_is = omega (arith, fresh.cost_is);
     turns_are = λ s s_in here.
@@ -81,8 +81,8 @@ module _ (flow : Flow) (tree : Tree) (index : Index) (well : IsWellFormed flow) 
           shallow = a.rounds.shallow;
         }
 
-        pub told : Tells tree.spans y (edges_of tree.edges a.numbers)
-        told = a.told [] nothing_told
+        pub told : IsWalkerAfter tree.spans y (edges_of tree.edges a.numbers)
+        told = a.adds [] nothing_told
 
         pub within_bounds : y.over ≡ None → KeepsAll flow tree cert
         within_bounds fine f is =

@@ -32,7 +32,7 @@ capped n = min n (2 ^ 64)
 
 -- its cost; the back edges of its stay in each instance that it is in; and an instance in which a stay has
 -- more of them than the bound, if there is one
-pub record Tells (spans : List Span) (x : Walker) (walk : List NumberedEdge) : Type 0 where
+pub record IsWalkerAfter (spans : List Span) (x : Walker) (walk : List NumberedEdge) : Type 0 where
   pub cost_is : x.cost ≡ capped (O.cost_of walk)
   pub turns_are : (s : Span) → Contains spans s → is_in s x.number ≡ true
       → slice_index x.turns.items s.header ≡ capped (turns_at_end s walk)
@@ -41,7 +41,7 @@ pub record Tells (spans : List Span) (x : Walker) (walk : List NumberedEdge) : T
 
 -- what the old one says of any walk, the new one says of it with this one after it
 abbrev pub Adds : List Span → Walker → Walker → List NumberedEdge → Type 0
-Adds spans old new more = (walk : List NumberedEdge) → Tells spans old walk → Tells spans new (walk ++ more)
+Adds spans old new more = (walk : List NumberedEdge) → IsWalkerAfter spans old walk → IsWalkerAfter spans new (walk ++ more)
 
 -- nothing is followed yet
 pub record IsFresh (exit : ℕ) (x : Walker) : Type 0 where
@@ -106,7 +106,7 @@ pub record IsTaken (flow : Flow) (tree : Tree) (index : Index) (within : Span) (
   pub stays : All (λ e. is_in within e.to ≡ true) (edges_of tree.edges numbers)
   pub long : least ≤ length walk.opened.walk
   pub rounds : AreRounds flow tree levels walk.opened
-  pub told : Adds tree.spans old new (edges_of tree.edges numbers)
+  pub adds : Adds tree.spans old new (edges_of tree.edges numbers)
   pub ready : CanFollow flow tree index within new
 
 -- the edge ends in the span

@@ -4,25 +4,25 @@ use Rattle.std.proofs.Common.{append_assoc, subst}
 use Rattle.std.proofs.lemmas.List.{append-nil}
 use Rattle.trace_text.specs.TraceText.{Adds}
 use Rattle.debugger.specs.SessionState.{SessionState}
-use Rattle.debugger.specs.Conversation.{Converses, Tells, Unless, is_quit}
+use Rattle.debugger.specs.Conversation.{Converses, AnswersOrRefuses, Unless, is_quit}
 
 abbrev pub TalkSoFar : SessionState → List (List ℕ) → SessionState → List (List ℕ) → (text : List ℕ) → Type 0
 TalkSoFar start lines now left text =
     (more : List ℕ) → Converses now left more → Converses start lines (text ++ more)
 
 pub talk_starts : (start : SessionState) (lines : List (List ℕ)) → TalkSoFar start lines start lines []
-talk_starts start lines more told = told
+talk_starts start lines more stepped = stepped
 
-told_end : (start : SessionState) (lines : List (List ℕ)) (now : SessionState) (left : List (List ℕ))
+answered_end : (start : SessionState) (lines : List (List ℕ)) (now : SessionState) (left : List (List ℕ))
     (text : List ℕ) → TalkSoFar start lines now left text → Converses now left [] → Converses start lines text
-told_end start lines now left text so_far rest =
+answered_end start lines now left text so_far rest =
     subst (Converses start lines) (append-nil text) (so_far [] rest)
 
 -- no line is left
 pub talk_ends : (start : SessionState) (lines : List (List ℕ)) (now : SessionState) (left : List (List ℕ))
     (text : List ℕ) → TalkSoFar start lines now left text → left ≡ [] → Converses start lines text
 talk_ends start lines now left text so_far none =
-    told_end start lines now left text so_far
+    answered_end start lines now left text so_far
     (subst (λ (ls : List (List ℕ)). Converses now ls []) (sym none) refl)
 
 -- a line quits
@@ -32,23 +32,23 @@ pub talk_quits : (start : SessionState) (lines : List (List ℕ)) (now : Session
     → Converses start lines text
 talk_quits start lines now left text line rest so_far at_hand quits =
     let P : Bool → Type 0 =
-    λ b. Unless b [] ((own : List ℕ) × (after : SessionState) × Tells now line own after × (more : List ℕ)
+    λ b. Unless b [] ((own : List ℕ) × (after : SessionState) × AnswersOrRefuses now line own after × (more : List ℕ)
     × Converses after rest more × ([] ≡ own ++ more)) in
-    told_end start lines now left text so_far
+    answered_end start lines now left text so_far
     (subst (λ (ls : List (List ℕ)). Converses now ls []) (sym at_hand) (subst P (sym quits) refl))
 
 -- a line is answered
 pub talk_goes : (start : SessionState) (lines : List (List ℕ)) (now next : SessionState)
     (left : List (List ℕ)) (old new line : List ℕ) (rest : List (List ℕ))
     → TalkSoFar start lines now left old → left ≡ line ∷ rest → is_quit line ≡ false
-    → Adds (λ text. Tells now line text next) old new → TalkSoFar start lines next rest new
-talk_goes start lines now next left old new line rest so_far at_hand stays adds more told =
+    → Adds (λ text. AnswersOrRefuses now line text next) old new → TalkSoFar start lines next rest new
+talk_goes start lines now next left old new line rest so_far at_hand stays adds more stepped =
     let whole = adds.0 ++ more in
     let P : Bool → Type 0 =
-    λ b. Unless b whole ((own : List ℕ) × (after : SessionState) × Tells now line own after
+    λ b. Unless b whole ((own : List ℕ) × (after : SessionState) × AnswersOrRefuses now line own after
     × (later : List ℕ) × Converses after rest later × (whole ≡ own ++ later)) in
     let here : Converses now left whole =
     subst (λ (ls : List (List ℕ)). Converses now ls whole) (sym at_hand)
-    (subst P (sym stays) (adds.0, next, adds.1, more, told, refl)) in
+    (subst P (sym stays) (adds.0, next, adds.1, more, stepped, refl)) in
     subst (Converses start lines) (sym (append_assoc old adds.0 more)
     ∙ ap (λ (t : List ℕ). t ++ more) (sym adds.2)) (so_far whole here)

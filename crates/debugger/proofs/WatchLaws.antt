@@ -104,17 +104,17 @@ run_ends breaks start inputs now left ran last so_far none =
 -- ---- a step more
 
 module _ (breaks : List ℕ) (start : State) (inputs : List Input) (now next : State) (left rest : List Input)
-    (i : Input) (ran told : Ran) (last : Option Traced) (at_hand : left ≡ i ∷ rest)
+    (i : Input) (ran sum : Ran) (last : Option Traced) (at_hand : left ≡ i ∷ rest)
     (so_far : SoFar breaks start inputs now left ran last) where
   abbrev Onward : Traced → List Traced → Ran → State → Type 0
   Onward traced made more after =
       (later : List Traced) × (rests : Ran)
-      × (made ≡ traced ∷ later) × (more ≡ counted now.profile.burst i traced.told rests)
+      × (made ≡ traced ∷ later) × (more ≡ counted now.profile.burst i traced.stepped rests)
       × UpTo (is_break breaks next) next later rests after (Watches breaks next rest later rests after)
 
   abbrev On : Traced → List Traced → Ran → State → Type 0
   On traced made more after =
-      EndsAt (why_stopped traced.told.kind) now made more after (Onward traced made more after)
+      EndsAt (why_stopped traced.stepped.kind) now made more after (Onward traced made more after)
 
   here : (traced : Traced) (made : List Traced) (more : Ran) (after : State) → Makes now i traced next
       → On traced made more after → Watches breaks now left made more after
@@ -123,37 +123,37 @@ module _ (breaks : List ℕ) (start : State) (inputs : List Input) (now next : S
       (traced, next, makes, on)
 
   -- it was stopped
-  pub run_stops : Stops now i ran told next → Done breaks start inputs told last next
-  run_stops (traced, w, makes, is, told_is) =
-      let same : next ≡ now = stopped_same now i traced.told next makes.0 (stops traced.told.kind w is) in
+  pub run_stops : Stops now i ran sum next → Done breaks start inputs sum last next
+  run_stops (traced, w, makes, is, sum_is) =
+      let same : next ≡ now = stopped_same now i traced.stepped next makes.0 (stops traced.stepped.kind w is) in
       let on : On traced [] (at_rest (Some w)) now =
       subst (λ (why : Option Why). EndsAt why now [] (at_rest (Some w)) now
-      (Onward traced [] (at_rest (Some w)) now)) (sym (why_of traced.told.kind w is)) (refl, refl, refl) in
+      (Onward traced [] (at_rest (Some w)) now)) (sym (why_of traced.stepped.kind w is)) (refl, refl, refl) in
       let done =
       ended breaks start inputs now left ran last (Some w) so_far
       (here traced [] (at_rest (Some w)) now makes on) in
       let there =
       subst (λ (s : State). Done breaks start inputs (record ran { stopped = Some w }) last s)
       (sym same) done in
-      subst (λ (r : Ran). Done breaks start inputs r last next) (sym told_is) there
+      subst (λ (r : Ran). Done breaks start inputs r last next) (sym sum_is) there
 
-  module _ (traced : Traced) (counts : Counts now i ran traced told next) where
+  module _ (traced : Traced) (counts : Counts now i ran traced sum next) where
     passes : (later : List Traced) (more : Ran) (after : State)
         → UpTo (is_break breaks next) next later more after (Watches breaks next rest later more after)
-        → Watches breaks start inputs ((so_far.made ++ traced ∷ []) ++ later) (added told more) after
+        → Watches breaks start inputs ((so_far.made ++ traced ∷ []) ++ later) (added sum more) after
     passes later more after up =
-        let whole = counted now.profile.burst i traced.told more in
+        let whole = counted now.profile.burst i traced.stepped more in
         let on : On traced (traced ∷ later) whole after =
         subst (λ (why : Option Why). EndsAt why now (traced ∷ later) whole after
-        (Onward traced (traced ∷ later) whole after)) (sym (goes traced.told.kind counts.1))
+        (Onward traced (traced ∷ later) whole after)) (sym (goes traced.stepped.kind counts.1))
         (later, more, refl, refl, up) in
         let all =
         so_far.whole (traced ∷ later) whole after (here traced (traced ∷ later) whole after counts.0 on) in
         let steps : ran.steps + (1 + more.steps) ≡ ran.steps + 1 + more.steps = omega arith in
-        let ticks : ran.ticks + (traced.told.ticks + more.ticks)
-        ≡ ran.ticks + traced.told.ticks + more.ticks = omega arith in
-        let elapsed : ran.elapsed + (traced.told.ticks + now.profile.burst * i.bursts + more.elapsed)
-        ≡ ran.elapsed + (traced.told.ticks + now.profile.burst * i.bursts) + more.elapsed = omega arith in
+        let ticks : ran.ticks + (traced.stepped.ticks + more.ticks)
+        ≡ ran.ticks + traced.stepped.ticks + more.ticks = omega arith in
+        let elapsed : ran.elapsed + (traced.stepped.ticks + now.profile.burst * i.bursts + more.elapsed)
+        ≡ ran.elapsed + (traced.stepped.ticks + now.profile.burst * i.bursts) + more.elapsed = omega arith in
         let P : List Traced → Type 0 = λ ts. Watches breaks start inputs ts (added ran whole) after in
         let Q : Ran → Type 0 =
         λ r. Watches breaks start inputs ((so_far.made ++ traced ∷ []) ++ later) r after in
@@ -164,11 +164,11 @@ module _ (breaks : List ℕ) (start : State) (inputs : List Input) (now next : S
         made in
         subst (λ (r : Ran). Q (added r more)) (sym counts.2) counted_on
 
-    still_going : told.stopped ≡ None
+    still_going : sum.stopped ≡ None
     still_going = ap (λ (r : Ran). r.stopped) counts.2 ∙ so_far.going
 
     -- it went on
-    pub run_goes : is_break breaks next ≡ false → SoFar breaks start inputs next rest told (Some (as_shown traced))
+    pub run_goes : is_break breaks next ≡ false → SoFar breaks start inputs next rest sum (Some (as_shown traced))
     run_goes clear = record {
       made = so_far.made ++ traced ∷ [];
       whole = λ later more after on. passes later more after
@@ -179,18 +179,18 @@ module _ (breaks : List ℕ) (start : State) (inputs : List Input) (now next : S
     }
 
     -- it reached a breakpoint
-    pub run_breaks : is_break breaks next ≡ true → Done breaks start inputs told (Some (as_shown traced)) next
+    pub run_breaks : is_break breaks next ≡ true → Done breaks start inputs sum (Some (as_shown traced)) next
     run_breaks at =
         let Up : Bool → Type 0 =
         λ b. UpTo b next [] (at_rest None) next (Watches breaks next rest [] (at_rest None) next) in
         let all = passes [] (at_rest None) next (subst Up (sym at) (refl, refl, refl)) in
         let going = still_going in
-        let clear : record told { stopped = None } ≡ told =
-        ap (λ (why : Option Why). record told { stopped = why }) (sym going) in
-        let same : added told (at_rest None) ≡ told = unadded told None ∙ clear in
+        let clear : record sum { stopped = None } ≡ sum =
+        ap (λ (why : Option Why). record sum { stopped = why }) (sym going) in
+        let same : added sum (at_rest None) ≡ sum = unadded sum None ∙ clear in
         let made = so_far.made ++ traced ∷ [] in
         let P : List Traced → Type 0 =
-        λ ts. Watches breaks start inputs ts (added told (at_rest None)) next in
+        λ ts. Watches breaks start inputs ts (added sum (at_rest None)) next in
         let Q : Ran → Type 0 = λ r. Watches breaks start inputs made r next in
         (made, subst Q same (subst P (append-nil made) all), (so_far.made, traced, refl, refl))
 
@@ -201,7 +201,7 @@ module _ (s next : State) (i : Input) (rest : List Input) (traced : Traced)
   abbrev Steps : (breaks : List ℕ) → List Traced → Ran → State → Type 0
   Steps breaks made ran after =
       (later : List Traced) × (more : Ran)
-      × (made ≡ traced ∷ later) × (ran ≡ counted s.profile.burst i traced.told more)
+      × (made ≡ traced ∷ later) × (ran ≡ counted s.profile.burst i traced.stepped more)
       × UpTo (is_break breaks next) next later more after (Watches breaks next rest later more after)
 
   -- no step was taken
@@ -219,20 +219,20 @@ module _ (s next : State) (i : Input) (rest : List Input) (traced : Traced)
   )
 
   -- a step before others
-  one_first : (ran more : Ran) (after : State) → why_stopped traced.told.kind ≡ None
-      → ran ≡ counted s.profile.burst i traced.told more → RunsFirst next rest more after
+  one_first : (ran more : Ran) (after : State) → why_stopped traced.stepped.kind ≡ None
+      → ran ≡ counted s.profile.burst i traced.stepped more → RunsFirst next rest more after
       → RunsFirst s (i ∷ rest) ran after
   one_first ran more after going is (taken, left, parts, runs) = (
     i ∷ taken,
     left,
     ap (λ (l : List Input). i ∷ l) parts,
     (
-      traced.told,
+      traced.stepped,
       next,
       makes.0,
       subst (λ (why : Option Why). Ends why s (record ran { stopped = None }) after
           ((m : Ran) × Runs next taken m after
-          × (record ran { stopped = None } ≡ counted s.profile.burst i traced.told m))) (sym going)
+          × (record ran { stopped = None } ≡ counted s.profile.burst i traced.stepped m))) (sym going)
           (record more { stopped = None }, runs, ap (λ (r : Ran). record r { stopped = None }) is),
     ),
   )
@@ -246,7 +246,7 @@ module _ (s next : State) (i : Input) (rest : List Input) (traced : Traced)
       ([], rest, refl, (ap (λ (r : Ran). record r { stopped = None }) rests.1, rests.2))
 
   first_of_end : (why : Option Why) (breaks : List ℕ) (made : List Traced) (ran : Ran) (after : State)
-      → why_stopped traced.told.kind ≡ why
+      → why_stopped traced.stepped.kind ≡ why
       → ((later : List Traced) (more : Ran) → Watches breaks next rest later more after
       → RunsFirst next rest more after)
       → EndsAt why s made ran after (Steps breaks made ran after) → RunsFirst s (i ∷ rest) ran after
@@ -263,14 +263,14 @@ pub first_of_watch : (breaks : List ℕ) (s : State) (inputs : List Input) (made
 first_of_watch breaks s [] made ran after watches =
     ([], [], refl, (ap (λ (r : Ran). record r { stopped = None }) watches.1, watches.2))
 first_of_watch breaks s (i ∷ rest) made ran after (traced, next, makes, on) =
-    first_of_end s next i rest traced makes (why_stopped traced.told.kind) breaks made ran after refl
+    first_of_end s next i rest traced makes (why_stopped traced.stepped.kind) breaks made ran after refl
     (λ later more watches. first_of_watch breaks next rest later more after watches) on
 
 -- ---- a run of a step or more
 
-counted_some : (r more : Ran) (burst : ℕ) (i : Input) (told : Stepped) → r ≡ counted burst i told more
+counted_some : (r more : Ran) (burst : ℕ) (i : Input) (stepped : Stepped) → r ≡ counted burst i stepped more
     → 0 < r.steps
-counted_some r more burst i told is =
+counted_some r more burst i stepped is =
     let same : r.steps ≡ 1 + more.steps = ap (λ (x : Ran). x.steps) is in
     omega (arith, same)
 
@@ -288,15 +288,15 @@ pub some_steps : (breaks : List ℕ) (s : State) (inputs : List Input) (before :
     (ran : Ran) (after : State) → Watches breaks s inputs (before ++ last ∷ []) ran after → 0 < ran.steps
 some_steps breaks s [] before last ran after watches = absurd (no_last before last watches.0)
 some_steps breaks s (i ∷ rest) before last ran after (traced, next, makes, on) =
-    some_end (why_stopped traced.told.kind) s (before ++ last ∷ []) ran after _ (no_last before last)
-    (λ (later, more, made_are, ran_is, up). counted_some ran more s.profile.burst i traced.told ran_is) on
+    some_end (why_stopped traced.stepped.kind) s (before ++ last ∷ []) ran after _ (no_last before last)
+    (λ (later, more, made_are, ran_is, up). counted_some ran more s.profile.burst i traced.stepped ran_is) on
 
 -- ---- a run without a step
 
 -- the next step is stopped
 abbrev pub StopsAt : State → Input → Type 0
 StopsAt s i =
-    (told : Stepped) × (after : State) × Step s i told after × (is_some (why_stopped told.kind) ≡ true)
+    (stepped : Stepped) × (after : State) × Step s i stepped after × (is_some (why_stopped stepped.kind) ≡ true)
 
 still_end : (why : Option Why) (s : State) (made : List Traced) (ran : Ran) (after : State)
     (goes_on : Type 0) → (goes_on → ⊥) → EndsAt why s made ran after goes_on
@@ -313,9 +313,9 @@ pub still : (breaks : List ℕ) (s : State) (i : Input) (n : ℕ) (made : List T
 still breaks s i zero made ran after some watches none = absurd (omega arith)
 still breaks s i (suc n) made ran after some (traced, next, makes, on) none =
     let at_end =
-    still_end (why_stopped traced.told.kind) s made ran after _
+    still_end (why_stopped traced.stepped.kind) s made ran after _
     (λ (later, more, made_are, ran_is, up). no_first made later traced none made_are) on in
-    (at_end.0, (traced.told, next, makes.0, at_end.1))
+    (at_end.0, (traced.stepped, next, makes.0, at_end.1))
 
 -- the same of a run that is not watched
 rest_end : (why : Option Why) (s : State) (ran : Ran) (after : State) (goes_on : Type 0) → (goes_on → ⊥)
@@ -326,12 +326,12 @@ rest_end None s ran after goes_on no_step on = absurd (no_step on)
 pub still_run : (s : State) (i : Input) (n : ℕ) (ran : Ran) (after : State) → 0 < n
     → Runs s (inputs_of i n) ran after → ran.steps ≡ 0 → (after ≡ s) × StopsAt s i
 still_run s i zero ran after some runs none = absurd (omega arith)
-still_run s i (suc n) ran after some (told, next, step, on) none =
+still_run s i (suc n) ran after some (stepped, next, step, on) none =
     let at_end =
-    rest_end (why_stopped told.kind) s ran after _
-    (λ (more, runs, is). let some = counted_some ran more s.profile.burst i told is in
+    rest_end (why_stopped stepped.kind) s ran after _
+    (λ (more, runs, is). let some = counted_some ran more s.profile.burst i stepped is in
     omega (arith, some, none)) on in
-    (at_end.0, (told, next, step, at_end.1))
+    (at_end.0, (stepped, next, step, at_end.1))
 
 -- ---- the last step
 
@@ -348,7 +348,7 @@ with_last made o last is ends = subst (IsLast made) is ends
 
 -- which has the line of the step itself
 pub same_line : (step last : Traced) (line : List ℕ) → last ≡ as_shown step → IsTraceLine last line → IsTraceLine step line
-same_line step last line is shown = by_kind step.told.kind (subst (λ (t : Traced). IsTraceLine t line) is shown)
+same_line step last line is shown = by_kind step.stepped.kind (subst (λ (t : Traced). IsTraceLine t line) is shown)
   where
     by_kind : (kind : Kind) → IsLineOf kind (as_shown step) line → IsLineOf kind step line
     by_kind (Stopped why) h = h

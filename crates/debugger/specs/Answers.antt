@@ -51,8 +51,8 @@ AnswersRun s n answer after =
 -- the next step is stopped
 abbrev pub IsStopped : SessionState → Type 0
 IsStopped s =
-    (told : Stepped) × (machine : State) × MachineStep s.machine s.next told machine
-    × (is_some (why_stopped told.kind) ≡ true)
+    (stepped : Stepped) × (machine : State) × MachineStep s.machine s.next stepped machine
+    × (is_some (why_stopped stepped.kind) ≡ true)
 
 -- ---- memory
 

@@ -23,8 +23,8 @@ Unless true text goes_on = text ≡ []
 Unless false text goes_on = goes_on
 
 -- a command changes the session and adds its answer; a refused one adds a line that names why
-abbrev pub Tells : SessionState → (line text : List ℕ) → SessionState → Type 0
-Tells s line text after =
+abbrev pub AnswersOrRefuses : SessionState → (line text : List ℕ) → SessionState → Type 0
+AnswersOrRefuses s line text after =
     AnswersLine s line text after
     ⊎ ((fault : DebugFault) × RefusesLine s line fault × (text ≡ refusal_text fault) × (after ≡ s))
 
@@ -32,5 +32,5 @@ Tells s line text after =
 abbrev pub Converses : SessionState → (lines : List (List ℕ)) → (text : List ℕ) → Type 0
 Converses s [] text = text ≡ []
 Converses s (line ∷ rest) text = Unless (is_quit line) text (
-    (own : List ℕ) × (after : SessionState) × Tells s line own after × (more : List ℕ)
+    (own : List ℕ) × (after : SessionState) × AnswersOrRefuses s line own after × (more : List ℕ)
     × Converses after rest more × (text ≡ own ++ more))

@@ -12,28 +12,28 @@ use Rattle.arm2_exec.specs.Step.{traced_word}
 
 -- it is made, and shown with the word that it fetched
 abbrev pub Makes : State → Input → Traced → State → Type 0
-Makes s i traced next = Step s i traced.told next × (traced.word ≡ traced_word s i)
+Makes s i traced next = Step s i traced.stepped next × (traced.word ≡ traced_word s i)
 
 -- it is stopped, which is reported and not counted
-abbrev pub Stops : State → Input → (ran told : Ran) → State → Type 0
-Stops s i ran told after =
-    (traced : Traced) × (why : Why) × Makes s i traced after × (traced.told.kind ≡ Stopped why)
-    × (told ≡ record ran { stopped = Some why })
+abbrev pub Stops : State → Input → (ran sum : Ran) → State → Type 0
+Stops s i ran sum after =
+    (traced : Traced) × (why : Why) × Makes s i traced after × (traced.stepped.kind ≡ Stopped why)
+    × (sum ≡ record ran { stopped = Some why })
 
 -- one step after others: its ticks, and those that pass with its bursts
 abbrev pub further : (burst : ℕ) → Input → Stepped → Ran → Ran
-further burst i told ran = record {
+further burst i stepped ran = record {
   steps = ran.steps + 1;
-  ticks = ran.ticks + told.ticks;
-  elapsed = ran.elapsed + (told.ticks + burst * i.bursts);
+  ticks = ran.ticks + stepped.ticks;
+  elapsed = ran.elapsed + (stepped.ticks + burst * i.bursts);
   stopped = ran.stopped;
 }
 
 -- it is not stopped, and counted
-abbrev pub Counts : State → Input → (ran : Ran) → Traced → (told : Ran) → State → Type 0
-Counts s i ran traced told next =
-    Makes s i traced next × ((why : Why) → traced.told.kind ≢ Stopped why)
-    × (told ≡ further s.profile.burst i traced.told ran)
+abbrev pub Counts : State → Input → (ran : Ran) → Traced → (sum : Ran) → State → Type 0
+Counts s i ran traced sum next =
+    Makes s i traced next × ((why : Why) → traced.stepped.kind ≢ Stopped why)
+    × (sum ≡ further s.profile.burst i traced.stepped ran)
 
 -- what so many steps can report at most
 abbrev pub IsWithin : (steps : ℕ) → Ran → Type 0

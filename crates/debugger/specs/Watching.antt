@@ -41,14 +41,14 @@ abbrev pub Watches : (breaks : List ℕ) → State → List Input → (made : Li
 Watches breaks s [] made ran after = Rests s None made ran after
 Watches breaks s (i ∷ rest) made ran after =
     (traced : Traced) × (next : State) × Makes s i traced next
-    × EndsAt (why_stopped traced.told.kind) s made ran after (
+    × EndsAt (why_stopped traced.stepped.kind) s made ran after (
     (later : List Traced) × (more : Ran)
-    × (made ≡ traced ∷ later) × (ran ≡ counted s.profile.burst i traced.told more)
+    × (made ≡ traced ∷ later) × (ran ≡ counted s.profile.burst i traced.stepped more)
     × UpTo (is_break breaks next) next later more after (Watches breaks next rest later more after))
 
 -- a step without the address of the next, which its line does not show
 abbrev pub as_shown : Traced → Traced
-as_shown t = record t { told = record t.told { to = 0 } }
+as_shown t = record t { stepped = record t.stepped { to = 0 } }
 
 -- the last of the steps, as its line shows it; none where none is made
 abbrev pub IsLast : (made : List Traced) → Option Traced → Type 0

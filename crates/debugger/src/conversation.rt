@@ -1,7 +1,7 @@
 ghost use Rattle.std.specs.Prelude.{◌≡◌, [], ◌++◌, IfOk, IfErr, OnOk};
 ghost use Rattle.asm_text.specs.Source.{lines_of};
 ghost use Rattle.trace_text.specs.TraceText.{Adds};
-ghost use Rattle.debugger.specs.Conversation.{Converses, Tells, is_quit, refusal_text};
+ghost use Rattle.debugger.specs.Conversation.{Converses, AnswersOrRefuses, is_quit, refusal_text};
 ghost use Rattle.debugger.specs.SessionState.{begun};
 
 use crate::fault::{DebugFault, name_of};
@@ -30,14 +30,14 @@ fn put_refusal(out: &mut Vec<u8>, fault: DebugFault) -> Result<(), AllocError>
 }
 
 // Adds what a session answers to a line.
-fn tell(
+fn put_answer(
     out: &mut Vec<u8>,
     alloc: Global,
     session: &mut Session,
     line: &[u8],
 ) -> Result<(), DebugFault>
     ensures ok { OnOk result
-        (Adds (λ text. Tells session.old line.now text session.new) out.old.items out.new.items) }
+        (Adds (λ text. AnswersOrRefuses session.old line.now text session.new) out.old.items out.new.items) }
     ensures err { IfErr result (λ fault. fault ≡ DebugFault.Memory) }
 {
     match session.command(alloc, line) {
@@ -54,7 +54,7 @@ fn tell(
 }
 
 // Adds what a session answers to some lines, in their order, up to one that quits.
-fn tell_all(
+fn put_answers(
     out: &mut Vec<u8>,
     alloc: Global,
     session: &mut Session,
@@ -69,7 +69,7 @@ fn tell_all(
         if is_quit(line) {
             return Ok(());
         }
-        tell(out, alloc, session, line)?;
+        put_answer(out, alloc, session, line)?;
         rest = after;
     }
     Ok(())
@@ -82,7 +82,7 @@ fn hold(out: &mut Vec<u8>, alloc: Global, session: Session, lines: &[u8]) -> Res
     ensures err { IfErr result (λ fault. fault ≡ DebugFault.Memory) }
 {
     let mut session = session;
-    tell_all(out, alloc, &mut session, lines)
+    put_answers(out, alloc, &mut session, lines)
 }
 
 /// A whole session: what it answers to command lines, in their order, up to a line whose one word is `quit`.

@@ -33,17 +33,17 @@ fn is_at_break(breaks: &[u32], machine: &Machine) -> bool
 #[inline(always)]
 fn advance(machine: &mut Machine, input: &mut Input, ran: &mut Tally) -> Option<Traced>
     requires { IsWithin (2 ^ 32) ran.old }
-    ensures told { MatchOption result (Stops machine.old input.old ran.old ran.new machine.new)
+    ensures stepped { MatchOption result (Stops machine.old input.old ran.old ran.new machine.new)
         (λ traced. Counts machine.old input.old ran.old traced ran.new machine.new) }
     ensures input { OnSome result (input.new ≡ without_bursts input.old) }
     ensures bound { (made : ℕ) → IsWithin made ran.old → IsWithin (made + 1) ran.new }
 {
     let traced = machine.step_traced(*input);
-    if let Kind::Stopped(why) = traced.told.kind {
+    if let Kind::Stopped(why) = traced.stepped.kind {
         ran.stop(why);
         return None;
     }
-    ran.count(machine, *input, traced.told);
+    ran.count(machine, *input, traced.stepped);
     input.bursts = 0;
     Some(traced)
 }
@@ -59,11 +59,11 @@ pub(crate) fn put_steps(out: &mut Vec<u8>, machine: &mut Machine, first: Input, 
     let mut input = first;
     for made in 0..steps {
         let Some(traced) = advance(machine, &mut input, &mut ran) else {
-            return ran.told();
+            return ran.counts();
         };
         put_trace(out, &traced);
     }
-    ran.told()
+    ran.counts()
 }
 
 // What the line of a step shows: less is kept of each step.
@@ -71,9 +71,9 @@ fn as_shown(traced: Traced) -> Traced
     ensures { result ≡ as_shown traced }
 {
     Traced {
-        told: Stepped {
+        stepped: Stepped {
             to: 0,
-            ..traced.told
+            ..traced.stepped
         },
         ..traced
     }
@@ -83,7 +83,7 @@ fn ended(ran: &Tally, last: Option<Traced>) -> Watched
     ensures { result ≡ (record { ran = ran.now; last = last }) }
 {
     Watched {
-        ran: ran.told(),
+        ran: ran.counts(),
         last,
     }
 }

@@ -46,8 +46,8 @@ impl Tally {
         }
     }
 
-    /// What the run reports.
-    pub(crate) fn told(&self) -> Ran
+    /// The counts of the run.
+    pub(crate) fn counts(&self) -> Ran
         ensures { result ≡ self.now }
     {
         let ticks = u128::from(self.ticks);
@@ -68,14 +68,14 @@ impl Tally {
 
     /// A step that the machine made is counted.
     #[inline(always)]
-    pub(crate) fn count(&mut self, machine: &Machine, input: Input, told: Stepped)
+    pub(crate) fn count(&mut self, machine: &Machine, input: Input, stepped: Stepped)
         requires within { IsWithin (2 ^ 32) self.old }
-        requires small { told.ticks < 2 ^ 16 }
-        ensures counted { self.new ≡ further machine.now.profile.burst input told self.old }
+        requires small { stepped.ticks < 2 ^ 16 }
+        ensures counted { self.new ≡ further machine.now.profile.burst input stepped self.old }
         ensures bound { (made : ℕ) → IsWithin made self.old → IsWithin (made + 1) self.new }
     {
         self.steps += 1;
-        self.ticks += u64::from(told.ticks);
+        self.ticks += u64::from(stepped.ticks);
         if input.bursts > 0 {
             self.stretched += u128::from(machine.profile().burst_ticks(input.bursts));
         }

@@ -8,7 +8,7 @@ use Rattle.std.proofs.lemmas.List.{length-append}
 use Rattle.std.proofs.lemmas.List.Folds.{list_all-append}
 use Rattle.asm_text.specs.Pieces.{is_blank}
 use Rattle.asm_text.specs.Source.{in_front, lines_of}
-use Rattle.diagnosis.specs.Outline.{Bare, Begins, Gap, Key, Piece, Quoted, Reading, Stated, States, Table, Told, Value, all_taken, bare_at, begun, first_piece, header_of, is_bare, is_gap, is_quote, keyed, line_read, lines_read, past_blanks, piece_at, pieces, quoted_len, taken, told, valued, word_at}
+use Rattle.diagnosis.specs.Outline.{Bare, Begins, Gap, Key, Piece, Quoted, Reading, Stated, States, Table, OfValue, Value, all_taken, bare_at, begun, first_piece, header_of, is_bare, is_gap, is_quote, keyed, line_read, lines_read, past_blanks, piece_at, pieces, quoted_len, taken, key_or_value, valued, word_at}
 use Rattle.diagnosis.specs.PlainLines.{ArePlain, Heading, IsPlainValue, PlainLine, Setting, is_plain, is_quotable, items_from, line_text, lines_text}
 use Rattle.diagnosis.specs.Refused.{value_text}
 use Rattle.diagnosis.proofs.OutlineLemmas.{after_first, one_piece}
@@ -81,15 +81,15 @@ left_of_word : (w rest : List ℕ) → list_all is_plain w ≡ true → prefix_l
 left_of_word w rest h stops = ap (λ n. drop n (w ++ rest)) (word_len is_bare w rest (plain_parts w h) stops) ∙ drop-append_seam w rest
 
 -- what a word begins
-word_piece : (b : ℕ) (w rest : List ℕ) → list_all is_plain (b ∷ w) ≡ true → prefix_len is_bare rest ≡ 0 → first_piece ((b ∷ w) ++ rest) ≡ Some (told (Bare (b ∷ w)) rest, rest)
+word_piece : (b : ℕ) (w rest : List ℕ) → list_all is_plain (b ∷ w) ≡ true → prefix_len is_bare rest ≡ 0 → first_piece ((b ∷ w) ++ rest) ≡ Some (key_or_value (Bare (b ∷ w)) rest, rest)
 word_piece b w rest h stops =
     let f = (first_of b w h).bare in
     let here : piece_at b (w ++ rest) ≡ bare_at ((b ∷ w) ++ rest) = rw (f.comment, f.gap, f.opens, f.closes, f.quote) refl in
     let text = (b ∷ w) ++ rest in
     let n = prefix_len is_bare text in
     ap (λ (x : Piece × List ℕ). Some x) (here
-    ∙ (ap (λ v. (told (Bare v) (drop n text), drop n text)) (taken_word (b ∷ w) rest h stops)
-    ∙ ap (λ v. (told (Bare (b ∷ w)) v, v)) (left_of_word (b ∷ w) rest h stops)))
+    ∙ (ap (λ v. (key_or_value (Bare v) (drop n text), drop n text)) (taken_word (b ∷ w) rest h stops)
+    ∙ ap (λ v. (key_or_value (Bare (b ∷ w)) v, v)) (left_of_word (b ∷ w) rest h stops)))
 
 -- ## Lines
 
@@ -124,7 +124,7 @@ quoted_text (b ∷ w) h =
     let rec = quoted_text w parts.1 in rw (here.quote, here.escape) (omega (arith, rec))
 
 -- what a value begins
-value_piece : (value : Value) → IsPlainValue value → first_piece (value_text value) ≡ Some (Told value, [])
+value_piece : (value : Value) → IsPlainValue value → first_piece (value_text value) ≡ Some (OfValue value, [])
 value_piece (Bare []) h = absurd h
 value_piece (Bare (b ∷ w)) h = ap first_piece (sym (append-nil (b ∷ w))) ∙ word_piece b w [] h refl
 value_piece (Quoted quote w) h =
@@ -145,7 +145,7 @@ set_line line r n b key value is_key is_value =
     next line r (suc (suc (suc (suc n)))) _ (Key (b ∷ key)) (codes " = " ++ text) (word_piece b key (codes " = " ++ text) is_key refl)
     ∙ (next line s (suc (suc (suc n))) _ Gap (codes "= " ++ text) refl
     ∙ (next line s (suc (suc n)) _ Gap (codes " " ++ text) refl
-    ∙ (next line s (suc n) _ Gap text refl ∙ (next line s n _ (Told value) [] (value_piece value is_value) ∙ no_pieces line (valued line s value) n))))
+    ∙ (next line s (suc n) _ Gap text refl ∙ (next line s n _ (OfValue value) [] (value_piece value is_value) ∙ no_pieces line (valued line s value) n))))
 
 heading : (line : ℕ) (b : ℕ) (name : List ℕ) → list_all is_plain (b ∷ name) ≡ true
     → header_of line (line_text (Heading (b ∷ name))) ≡ Some (record { line = line; name = b ∷ name; is_listed = true })

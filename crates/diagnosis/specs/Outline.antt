@@ -46,7 +46,7 @@ pub data Piece : Type 0 where
   Opens : Piece
   Closes : Piece
   Key : List ℕ → Piece
-  Told : Value → Piece
+  OfValue : Value → Piece
 
 -- how many bytes are before the quote that ends a text; between two " a quote after \ does not
 unfoldable pub quoted_len : (quote : ℕ) → (escaped : Bool) → List ℕ → ℕ
@@ -63,12 +63,12 @@ abbrev pub past_blanks : List ℕ → List ℕ
 past_blanks text = drop (prefix_len is_blank text) text
 
 -- a word is a key where = comes next, else a value
-abbrev pub told : Value → List ℕ → Piece
-told value after = if starts_equals (past_blanks after) then Key (text_of value) else Told value
+abbrev pub key_or_value : Value → List ℕ → Piece
+key_or_value value after = if starts_equals (past_blanks after) then Key (text_of value) else OfValue value
 
 -- with what follows it
 abbrev pub word_at : Value → List ℕ → Piece × List ℕ
-word_at value after = (told value after, after)
+word_at value after = (key_or_value value after, after)
 
 abbrev pub bare_at : List ℕ → Piece × List ℕ
 bare_at text = word_at (Bare (take (prefix_len is_bare text) text)) (drop (prefix_len is_bare text) text)
@@ -161,7 +161,7 @@ taken line r Gap = r
 taken line r Opens = opened line r
 taken line r Closes = closed r
 taken line r (Key key) = keyed r key
-taken line r (Told value) = valued line r value
+taken line r (OfValue value) = valued line r value
 
 unfoldable pub all_taken : ℕ → Reading → List Piece → Reading
 all_taken line r [] = r
@@ -217,7 +217,7 @@ piece_of token.Gap = Gap
 piece_of token.Opens = Opens
 piece_of token.Closes = Closes
 piece_of (token.Key w) = Key w.now
-piece_of (token.Told w) = Told (value_of w)
+piece_of (token.Value w) = OfValue (value_of w)
 
 -- with what follows it
 abbrev pub in_pieces : Token × Bor (List ℕ) → Piece × List ℕ

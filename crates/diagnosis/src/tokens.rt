@@ -2,7 +2,7 @@ ghost use Rattle.std.specs.Prelude.{◌≡◌, ◌≤◌, drop, false, length, o
 ghost use Rattle.std.specs.List.{prefix_len};
 ghost use Rattle.diagnosis.specs.Outline.{bare_at, first_piece, in_pieces, is_bare, is_gap, is_quote};
 ghost use Rattle.diagnosis.specs.Outline.{piece_of, quoted_at, quoted_len};
-ghost use Rattle.diagnosis.specs.Outline.{starts_equals, text_of, told, value_of};
+ghost use Rattle.diagnosis.specs.Outline.{starts_equals, text_of, key_or_value, value_of};
 
 use asm_text::{after_blanks, is_blank};
 
@@ -27,7 +27,7 @@ pub(crate) enum Token<'a> {
     /// A word before `=`.
     Key(&'a [u8]),
     /// Any other word.
-    Told(Word<'a>),
+    Value(Word<'a>),
 }
 
 fn is_gap(byte: u8) -> bool
@@ -106,13 +106,13 @@ fn text_of<'a>(word: Word<'a>) -> &'a [u8]
 }
 
 // The token that a word is.
-fn told<'a>(word: Word<'a>, after: &[u8]) -> Token<'a>
-    ensures { piece_of result ≡ told (value_of word.entry) after.now }
+fn key_or_value<'a>(word: Word<'a>, after: &[u8]) -> Token<'a>
+    ensures { piece_of result ≡ key_or_value (value_of word.entry) after.now }
 {
     if starts_equals(after_blanks(after)) {
         return Token::Key(text_of(word));
     }
-    Token::Told(word)
+    Token::Value(word)
 }
 
 // The token of a text in quotes, after its first quote, and what follows it.
@@ -121,7 +121,7 @@ fn quoted_at(quote: u8, rest: &[u8]) -> (Token<'_>, &[u8])
 {
     let len = quoted_len(quote, rest);
     let after = after(rest, len + 1);
-    (told(Word::Quoted(quote, &rest[..len]), after), after)
+    (key_or_value(Word::Quoted(quote, &rest[..len]), after), after)
 }
 
 // The token of a bare word, and what follows it.
@@ -130,7 +130,7 @@ fn bare_at(text: &[u8]) -> (Token<'_>, &[u8])
 {
     let len = bare_len(text);
     let after = &text[len..];
-    (told(Word::Bare(&text[..len]), after), after)
+    (key_or_value(Word::Bare(&text[..len]), after), after)
 }
 
 /// The first token of a line's text, and what follows it, or None at its end.

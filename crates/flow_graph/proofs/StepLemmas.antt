@@ -54,30 +54,30 @@ use Rattle.flow_graph.proofs.WorkLemmas.{action_fits}
 
 -- ## What a plain step reports
 
-pub record TellsPlain (s : State) (m : Moved) (told : Stepped) : Type 0 where
+pub record TellsPlain (s : State) (m : Moved) (stepped : Stepped) : Type 0 where
   pub kind : m.kind ≡ ended.Plain
-  pub ticks : told.ticks ≡ ticks_in s m
-  pub to : told.to ≡ address_in m.regs
+  pub ticks : stepped.ticks ≡ ticks_in s m
+  pub to : stepped.to ≡ address_in m.regs
 
 -- the answer of a step, by whether it stopped
 abbrev pub answer_by : Bool → State → Moved → Stepped
 answer_by stops s m =
     cond stops (record { kind = m.kind; ticks = 0; from = address_in s.regs; to = address_in s.regs }) (record { kind = m.kind; ticks = ticks_in s m; from = address_in s.regs; to = address_in m.regs })
 
-plain_by : (stops : Bool) (s : State) (m : Moved) (told : Stepped) → is_stopped m.kind ≡ stops → told ≡ answer_by stops s m → told.kind ≡ ended.Plain → TellsPlain s m told
-plain_by true s m told e is plain =
-    let same : told.kind ≡ m.kind = ap (λ (t : Stepped). t.kind) is in
+plain_by : (stops : Bool) (s : State) (m : Moved) (stepped : Stepped) → is_stopped m.kind ≡ stops → stepped ≡ answer_by stops s m → stepped.kind ≡ ended.Plain → TellsPlain s m stepped
+plain_by true s m stepped e is plain =
+    let same : stepped.kind ≡ m.kind = ap (λ (t : Stepped). t.kind) is in
     let goes_on : is_stopped m.kind ≡ false = ap is_stopped (sym same ∙ plain) in
     absurd (false≢true (sym goes_on ∙ e))
-plain_by false s m told e is plain = record {
+plain_by false s m stepped e is plain = record {
   kind = sym (ap (λ (t : Stepped). t.kind) is) ∙ plain;
   ticks = ap (λ (t : Stepped). t.ticks) is;
   to = ap (λ (t : Stepped). t.to) is;
 }
 
-pub tells_plain : (s : State) (m : Moved) (told : Stepped) → told ≡ answer_of s m → told.kind ≡ ended.Plain → TellsPlain s m told
+pub tells_plain : (s : State) (m : Moved) (stepped : Stepped) → stepped ≡ answer_of s m → stepped.kind ≡ ended.Plain → TellsPlain s m stepped
 unfolding answer_of
-tells_plain s m told is plain = plain_by (is_stopped m.kind) s m told refl is plain
+tells_plain s m stepped is plain = plain_by (is_stopped m.kind) s m stepped refl is plain
 
 -- no interrupt was taken
 pub works_plain : (due : Option Vector) (port : ℕ) (regs : List ℕ) (bus : Bus) (m : Moved) → Works due port regs bus m → m.kind ≡ ended.Plain → ObeysFetched (fetched bus.memc (r15_in regs)) port regs bus m
@@ -124,24 +124,24 @@ module _ (p : Profile) (rom : RomTimes) (class : Class) (regs : List ℕ) (long 
 -- ## The edges that a step can take
 
 -- the edge of a step is one of its word's
-pub which_taken : (words : Words) (st : Stated) (profile : Profile) (calls : List ℕ) (action : Action) (s : State) (told : Stepped) → HasAction words (address_in s.regs) action
-    → (e : Edge) → IsTaken words st profile calls action s told e → Which st profile calls (address_in s.regs) action e
-which_taken words st profile calls action s told has e taken =
+pub which_taken : (words : Words) (st : Stated) (profile : Profile) (calls : List ℕ) (action : Action) (s : State) (stepped : Stepped) → HasAction words (address_in s.regs) action
+    → (e : Edge) → IsTaken words st profile calls action s stepped e → Which st profile calls (address_in s.regs) action e
+which_taken words st profile calls action s stepped has e taken =
     which_edge st profile calls (address_in s.regs) action e
     (among_edges words st profile (At calls (address_in s.regs)) (word_edges st profile calls (address_in s.regs) action) e (action, has, refl) taken.is_edge taken.from)
 
-module _ (words : Words) (st : Stated) (profile : Profile) (calls : List ℕ) (action : Action) (s : State) (i : Input) (told : Stepped) (after : State) (h : Executes words st profile action s i told after) where
+module _ (words : Words) (st : Stated) (profile : Profile) (calls : List ℕ) (action : Action) (s : State) (i : Input) (stepped : Stepped) (after : State) (h : Executes words st profile action s i stepped after) where
   -- what the step costs, and where it goes
   abbrev StepCosts : Bool → Type 0
-  StepCosts holds = Costs profile s.bus.memc.control.rom_times (class_of st (address_in s.regs)) (address_in s.regs) (kind_by holds action) (work_by holds action) h.step.moved.accesses told.to
+  StepCosts holds = Costs profile s.bus.memc.control.rom_times (class_of st (address_in s.regs)) (address_in s.regs) (kind_by holds action) (work_by holds action) h.step.moved.accesses stepped.to
 
-  tells : TellsPlain s h.step.moved told
-  tells = tells_plain s h.step.moved told h.step.told_is h.plain
+  tells : TellsPlain s h.step.moved stepped
+  tells = tells_plain s h.step.moved stepped h.step.stepped_is h.plain
 
-  small : told.to < 2 ^ 26
+  small : stepped.to < 2 ^ 26
   small = subst (λ t. t < 2 ^ 26) (sym tells.to) ((word_address_of (r15_in h.step.moved.regs)).0)
 
-  ticks : told.ticks ≡ ticks_of profile s.bus.memc.control.rom_times h.step.moved.accesses
+  ticks : stepped.ticks ≡ ticks_of profile s.bus.memc.control.rom_times h.step.moved.accesses
   ticks = tells.ticks ∙ ap (λ (p : Profile). ticks_of p s.bus.memc.control.rom_times h.step.moved.accesses) h.prices
 
   step_costs : StepCosts (holds_in s.regs action.cond)
@@ -159,11 +159,11 @@ module _ (words : Words) (st : Stated) (profile : Profile) (calls : List ℕ) (a
   abbrev IsOne : Edge → Type 0
   IsOne e = Which st profile calls (address_in s.regs) action e
 
-  is_one : (e : Edge) → IsTaken words st profile calls action s told e → IsOne e
-  is_one = which_taken words st profile calls action s told h.has
+  is_one : (e : Edge) → IsTaken words st profile calls action s stepped e → IsOne e
+  is_one = which_taken words st profile calls action s stepped h.has
 
-  ends_at : (p : Place) (e : Edge) → do_edge st profile calls (address_in s.regs) action p ≡ e → IsPlaceOf st told.to e.to → IsPlaceOf st told.to p
-  ends_at p e is to = subst (λ (x : Edge). IsPlaceOf st told.to x.to) (sym is) to
+  ends_at : (p : Place) (e : Edge) → do_edge st profile calls (address_in s.regs) action p ≡ e → IsPlaceOf st stepped.to e.to → IsPlaceOf st stepped.to p
+  ends_at p e is to = subst (λ (x : Edge). IsPlaceOf st stepped.to x.to) (sym is) to
 
   -- the two labels differ
   no_label : (x y : Edge) → x.label ≡ Skip → y.label ≡ Do → x ≡ y → ⊥
@@ -171,10 +171,10 @@ module _ (words : Words) (st : Stated) (profile : Profile) (calls : List ℕ) (a
       let both : Skip ≡ Do = sym skips ∙ ap (λ (e : Edge). e.label) same ∙ does in
       cc
 
-  cost_by : (holds : Bool) → StepCosts holds → (e : Edge) → IsOne e → e.label ≡ cond holds Do Skip → IsPlaceOf st told.to e.to → told.ticks ≤ e.cost
+  cost_by : (holds : Bool) → StepCosts holds → (e : Edge) → IsOne e → e.label ≡ cond holds Do Skip → IsPlaceOf st stepped.to e.to → stepped.ticks ≤ e.cost
   cost_by true costs e (inl skip) label to = absurd (no_label (skip_edge profile calls (address_in s.regs)) e refl label skip)
   cost_by true costs e (inr (p, among, is)) label to =
-      let jump = arrives st profile s.bus.memc.control.rom_times (class_of st (address_in s.regs)) (address_in s.regs) action.kind p told.to small (ends_at p e is to) in
+      let jump = arrives st profile s.bus.memc.control.rom_times (class_of st (address_in s.regs)) (address_in s.regs) action.kind p stepped.to small (ends_at p e is to) in
       let cost : do_ticks st profile (address_in s.regs) action p ≡ e.cost = ap (λ (x : Edge). x.cost) is in
       omega (arith, jump, costs.most, ticks, cost)
   cost_by false costs e (inl skip) label to =
@@ -182,7 +182,7 @@ module _ (words : Words) (st : Stated) (profile : Profile) (calls : List ℕ) (a
       omega (arith, costs.most, ticks, cost)
   cost_by false costs e (inr (p, among, is)) label to = absurd (no_label e (do_edge st profile calls (address_in s.regs) action p) label refl (sym is))
 
-  pub taken_cost : (e : Edge) → IsTaken words st profile calls action s told e → told.ticks ≤ e.cost
+  pub taken_cost : (e : Edge) → IsTaken words st profile calls action s stepped e → stepped.ticks ≤ e.cost
   taken_cost e taken = cost_by (holds_in s.regs action.cond) step_costs e (is_one e taken) taken.label taken.to
 
   -- ## Some edge of the step
@@ -198,12 +198,12 @@ module _ (words : Words) (st : Stated) (profile : Profile) (calls : List ℕ) (a
       ]
 
   abbrev Conclusion : Type 0
-  Conclusion = WritesElsewhere words st profile calls action s told ⊎ ((e : Edge) × IsTaken words st profile calls action s told e × (told.ticks ≤ e.cost))
+  Conclusion = WritesElsewhere words st profile calls action s stepped ⊎ ((e : Edge) × IsTaken words st profile calls action s stepped e × (stepped.ticks ≤ e.cost))
 
-  takes : (e : Edge) → IsTaken words st profile calls action s told e → Conclusion
+  takes : (e : Edge) → IsTaken words st profile calls action s stepped e → Conclusion
   takes e taken = inr (e, taken, taken_cost e taken)
 
-  done_by : holds_in s.regs action.cond ≡ true → Lands st calls (address_in s.regs) action.kind told.to → Conclusion
+  done_by : holds_in s.regs action.cond ≡ true → Lands st calls (address_in s.regs) action.kind stepped.to → Conclusion
   done_by holds (inl (p, among, is)) =
       takes (do_edge st profile calls (address_in s.regs) action p) (record {
         is_edge = (word_edges st profile calls (address_in s.regs) action, (action, h.has, refl), do_among st profile calls (address_in s.regs) action p (never_holds action.cond (flags_of (r15_in s.regs)) holds) among);
@@ -224,7 +224,7 @@ module _ (words : Words) (st : Stated) (profile : Profile) (calls : List ℕ) (a
   law_by : (holds : Bool) → holds_in s.regs action.cond ≡ holds → StepCosts holds → IsAccepted words st profile → IsReached words st profile (At calls (address_in s.regs)) → Conclusion
   law_by true holds costs accepted reached =
       done_by holds
-      (lands st profile s.bus.memc.control.rom_times (class_of st (address_in s.regs)) calls (address_in s.regs) action.kind told.to costs.reaches
+      (lands st profile s.bus.memc.control.rom_times (class_of st (address_in s.regs)) calls (address_in s.regs) action.kind stepped.to costs.reaches
       (few_calls accepted reached (never_holds action.cond (flags_of (r15_in s.regs)) holds)))
   law_by false fails costs accepted reached =
       takes (skip_edge profile calls (address_in s.regs)) (record {
@@ -238,32 +238,32 @@ module _ (words : Words) (st : Stated) (profile : Profile) (calls : List ℕ) (a
   some_edge = law_by (holds_in s.regs action.cond) refl step_costs
 
 pub law : StepLaw
-law words st profile calls action s i told after accepted reached h = some_edge words st profile calls action s i told after h accepted reached
+law words st profile calls action s i stepped after accepted reached h = some_edge words st profile calls action s i stepped after h accepted reached
 
 pub cost : StepCost
-cost words st profile s i told after e h = taken_cost words st profile h.calls h.action s i told after h.executes e h.taken
+cost words st profile s i stepped after e h = taken_cost words st profile h.calls h.action s i stepped after h.executes e h.taken
 
 -- ## Whole runs
 
 -- what a run does whose first step was not stopped
 abbrev pub GoesOn : State → Input → List Input → Ran → State → Stepped → State → Type 0
-GoesOn s i rest ran after told next = (more : Ran) × Runs next rest more after × (ran ≡ counted s.profile.burst i told more)
+GoesOn s i rest ran after stepped next = (more : Ran) × Runs next rest more after × (ran ≡ counted s.profile.burst i stepped more)
 
-pub goes_on : (s : State) (i : Input) (rest : List Input) (ran : Ran) (after : State) (told : Stepped) (next : State)
-    → Step s i told next → why_stopped told.kind ≡ None → Runs s (i ∷ rest) ran after → GoesOn s i rest ran after told next
-goes_on s i rest ran after told next step plain run =
-    let same = one_step s i told run.0 next run.1 step run.2 in
+pub goes_on : (s : State) (i : Input) (rest : List Input) (ran : Ran) (after : State) (stepped : Stepped) (next : State)
+    → Step s i stepped next → why_stopped stepped.kind ≡ None → Runs s (i ∷ rest) ran after → GoesOn s i rest ran after stepped next
+goes_on s i rest ran after stepped next step plain run =
+    let same = one_step s i stepped run.0 next run.1 step run.2 in
     let none : why_stopped run.0.kind ≡ None = ap (λ (t : Stepped). why_stopped t.kind) same.0 ∙ plain in
     let on : GoesOn s i rest ran after run.0 run.1 = subst (λ w. Ends w s ran after (GoesOn s i rest ran after run.0 run.1)) none run.3 in
     (on.0, subst (λ n. Runs n rest on.0 after) same.1 on.1, on.2 ∙ ap (λ t. counted s.profile.burst i t on.0) same.0)
 
 module _ (words : Words) (st : Stated) (profile : Profile) where
-  one_more : (s : State) (i : Input) (rest : List Input) (told : Stepped) (next : State) (e : Edge) (walk : List Edge) (ran more : Ran) → IsEdgeOf words st profile s i told next e → ran ≡ counted s.profile.burst i told more → IsWithin profile walk rest more → IsWithin profile (e ∷ walk) (i ∷ rest) ran
-  one_more s i rest told next e walk ran more h is within =
-      let step : told.ticks ≤ e.cost = cost words st profile s i told next e h in
+  one_more : (s : State) (i : Input) (rest : List Input) (stepped : Stepped) (next : State) (e : Edge) (walk : List Edge) (ran more : Ran) → IsEdgeOf words st profile s i stepped next e → ran ≡ counted s.profile.burst i stepped more → IsWithin profile walk rest more → IsWithin profile (e ∷ walk) (i ∷ rest) ran
+  one_more s i rest stepped next e walk ran more h is within =
+      let step : stepped.ticks ≤ e.cost = cost words st profile s i stepped next e h in
       let burst : s.profile.burst ≡ profile.burst = ap (λ (p : Profile). p.burst) h.executes.prices in
-      let ticks : ran.ticks ≡ told.ticks + more.ticks = ap (λ (r : Ran). r.ticks) is in
-      let elapsed : ran.elapsed ≡ told.ticks + s.profile.burst * i.bursts + more.elapsed = ap (λ (r : Ran). r.elapsed) is in
+      let ticks : ran.ticks ≡ stepped.ticks + more.ticks = ap (λ (r : Ran). r.ticks) is in
+      let elapsed : ran.elapsed ≡ stepped.ticks + s.profile.burst * i.bursts + more.elapsed = ap (λ (r : Ran). r.elapsed) is in
       let paid : s.profile.burst * i.bursts ≡ profile.burst * i.bursts = ap (λ n. n * i.bursts) burst in
       let walked : cost_of edge_shape (e ∷ walk) ≡ e.cost + cost_of edge_shape walk = sum_by-cons (λ (x : Edge). x.cost) e walk in
       let bursts : bursts_of (i ∷ rest) ≡ i.bursts + bursts_of rest = sum_by-cons (λ (x : Input). x.bursts) i rest in

@@ -123,7 +123,7 @@ module _ (words : Words) (st : Stated) (profile : Profile) (e : Edge) (s : State
       let ticks = tells.ticks ∙ ap (λ (p : Profile). ticks_of p rom m.accesses) h.stands.prices in
       record {
         privileged = ap is_user svc;
-        told = answer_of s m;
+        stepped = answer_of s m;
         after = state_after s i m;
         takes = record {
           calls = h.calls;
@@ -133,7 +133,7 @@ module _ (words : Words) (st : Stated) (profile : Profile) (e : Edge) (s : State
             prices = h.stands.prices;
             has = has;
             fetches = h.stands.fetches ∙ sym stands;
-            step = record { moved = m; works = works m obeys; told_is = refl; after_is = refl };
+            step = record { moved = m; works = works m obeys; stepped_is = refl; after_is = refl };
             plain = plainly;
             transfers = transfers;
           };

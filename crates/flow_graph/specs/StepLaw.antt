@@ -64,36 +64,36 @@ module _ (words : Words) (st : Stated) (profile : Profile) where
   -- A step that executes the image's word at its address: it takes no exception and does not stop, and its
   -- words are of the class stated for the address. The machine has 27 registers, and the prices are those of
   -- the profile.
-  pub record Executes (action : Action) (s : State) (i : Input) (told : Stepped)
+  pub record Executes (action : Action) (s : State) (i : Input) (stepped : Stepped)
       (after : State) : Type 0 where
     pub registers : length s.regs ≡ 27
     pub prices : s.profile ≡ profile
     pub has : HasAction words (address_in s.regs) action
     pub fetches : fetched s.bus.memc (r15_in s.regs) ≡ word_of words (address_in s.regs)
-    pub step : Step s i told after
-    pub plain : told.kind ≡ ended.Plain
+    pub step : Step s i stepped after
+    pub plain : stepped.kind ≡ ended.Plain
     pub transfers : TransfersIn (class_of st (address_in s.regs)) step.moved.accesses
 
   -- the edge leaves the place of the step by the step's label, and ends where the step goes
-  pub record IsTaken (calls : List ℕ) (action : Action) (s : State) (told : Stepped) (e : Edge) : Type 0 where
+  pub record IsTaken (calls : List ℕ) (action : Action) (s : State) (stepped : Stepped) (e : Edge) : Type 0 where
     pub is_edge : IsEdge words st profile e
     pub from : e.from ≡ At calls (address_in s.regs)
     pub label : e.label ≡ label_in s.regs action.cond
-    pub to : IsPlaceOf st told.to e.to
+    pub to : IsPlaceOf st stepped.to e.to
 
   -- the word writes R15, other than by a branch, and puts an address there to which no edge of the step's
   -- label leads
-  pub record WritesElsewhere (calls : List ℕ) (action : Action) (s : State) (told : Stepped) : Type 0 where
+  pub record WritesElsewhere (calls : List ℕ) (action : Action) (s : State) (stepped : Stepped) : Type 0 where
     pub writer : is_writer action.kind ≡ true
     pub holds : holds_in s.regs action.cond ≡ true
-    pub none : (e : Edge) → IsTaken calls action s told e → ⊥
+    pub none : (e : Edge) → IsTaken calls action s stepped e → ⊥
 
   -- the edge is that of a step, from a place with some calls
-  pub record IsEdgeOf (s : State) (i : Input) (told : Stepped) (after : State) (e : Edge) : Type 0 where
+  pub record IsEdgeOf (s : State) (i : Input) (stepped : Stepped) (after : State) (e : Edge) : Type 0 where
     pub calls : List ℕ
     pub action : Action
-    pub executes : Executes action s i told after
-    pub taken : IsTaken calls action s told e
+    pub executes : Executes action s i stepped after
+    pub taken : IsTaken calls action s stepped e
 
   -- the steps of a run by the inputs are the edges of the walk, one each and in order
   abbrev pub Follows : State → List Input → List Edge → Type 0
@@ -101,25 +101,25 @@ module _ (words : Words) (st : Stated) (profile : Profile) where
   Follows s [] (e ∷ walk) = ⊥
   Follows s (i ∷ inputs) [] = ⊥
   Follows s (i ∷ inputs) (e ∷ walk) =
-      (told : Stepped) × (next : State) × IsEdgeOf s i told next e × Follows next inputs walk
+      (stepped : Stepped) × (next : State) × IsEdgeOf s i stepped next e × Follows next inputs walk
 
 -- From each place of an accepted graph, a step that executes the image's word has an edge, which costs at
 -- least its ticks; but for a word that writes R15, and puts an address there to which no edge leads.
 abbrev pub StepLaw : Type 0
 StepLaw =
     (words : Words) (st : Stated) (profile : Profile) (calls : List ℕ) (action : Action) (s : State)
-    (i : Input) (told : Stepped) (after : State) →
+    (i : Input) (stepped : Stepped) (after : State) →
     IsAccepted words st profile → IsReached words st profile (At calls (address_in s.regs))
-    → Executes words st profile action s i told after →
-    WritesElsewhere words st profile calls action s told
-    ⊎ ((e : Edge) × IsTaken words st profile calls action s told e × (told.ticks ≤ e.cost))
+    → Executes words st profile action s i stepped after →
+    WritesElsewhere words st profile calls action s stepped
+    ⊎ ((e : Edge) × IsTaken words st profile calls action s stepped e × (stepped.ticks ≤ e.cost))
 
 -- Each edge of a step costs at least its ticks.
 abbrev pub StepCost : Type 0
 StepCost =
-    (words : Words) (st : Stated) (profile : Profile) (s : State) (i : Input) (told : Stepped) (after : State)
+    (words : Words) (st : Stated) (profile : Profile) (s : State) (i : Input) (stepped : Stepped) (after : State)
     (e : Edge) →
-    IsEdgeOf words st profile s i told after e → told.ticks ≤ e.cost
+    IsEdgeOf words st profile s i stepped after e → stepped.ticks ≤ e.cost
 
 -- the DMA bursts of some inputs
 abbrev pub bursts_of : List Input → ℕ

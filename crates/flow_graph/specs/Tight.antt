@@ -18,7 +18,7 @@ use Rattle.statement.specs.Stated.{Stated}
 pub record IsTight (words : Words) (st : Stated) (profile : Profile) (e : Edge) (s : State)
     (i : Input) : Type 0 where
   pub privileged : is_user (mode_of (r15_in s.regs)) ≡ false
-  pub told : Stepped
+  pub stepped : Stepped
   pub after : State
-  pub takes : IsEdgeOf words st profile s i told after e
-  pub exact : told.ticks ≡ e.cost
+  pub takes : IsEdgeOf words st profile s i stepped after e
+  pub exact : stepped.ticks ≡ e.cost

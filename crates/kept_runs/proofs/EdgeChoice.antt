@@ -42,13 +42,13 @@ module _ (st : Stated) (t : ℕ) where
   pub one_landing : (calls : List ℕ) (address : ℕ) (k : Kind) → IsOne (landings st calls address k)
   one_landing = of_landings IsOne one_of_none one_of_one one_at st
 
-module _ (words : Words) (st : Stated) (profile : Profile) (calls : List ℕ) (action : Action) (s : State) (told : Stepped) (has : HasAction words (address_in s.regs) action) where
-  which : (e : Edge) → IsTaken words st profile calls action s told e → Which st profile calls (address_in s.regs) action e
-  which = which_taken words st profile calls action s told has
+module _ (words : Words) (st : Stated) (profile : Profile) (calls : List ℕ) (action : Action) (s : State) (stepped : Stepped) (has : HasAction words (address_in s.regs) action) where
+  which : (e : Edge) → IsTaken words st profile calls action s stepped e → Which st profile calls (address_in s.regs) action e
+  which = which_taken words st profile calls action s stepped has
 
-  pub one_edge : (d e : Edge) → IsTaken words st profile calls action s told d → IsTaken words st profile calls action s told e → d ≡ e
+  pub one_edge : (d e : Edge) → IsTaken words st profile calls action s stepped d → IsTaken words st profile calls action s stepped e → d ≡ e
   one_edge d e d_taken e_taken =
       same_by_label st profile calls (address_in s.regs) action d e (d_taken.label ∙ sym e_taken.label) (which d d_taken) (which e e_taken)
       (λ p q p_in q_in p_is q_is.
-      one_landing st told.to calls (address_in s.regs) action.kind p q p_in q_in
-      (subst (IsPlaceOf st told.to) (sym p_is) d_taken.to) (subst (IsPlaceOf st told.to) (sym q_is) e_taken.to))
+      one_landing st stepped.to calls (address_in s.regs) action.kind p q p_in q_in
+      (subst (IsPlaceOf st stepped.to) (sym p_is) d_taken.to) (subst (IsPlaceOf st stepped.to) (sym q_is) e_taken.to))

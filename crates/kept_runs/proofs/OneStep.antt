@@ -29,21 +29,21 @@ regs_by true s a is = absurd (false≢true (sym is))
 regs_by false s a is = refl
 
 -- a step that does not stop goes where it says
-pub lands : (s : State) (i : Input) (told : Stepped) (after : State) → Step s i told after → told.kind ≡ ended.Plain → told.to ≡ address_in after.regs
+pub lands : (s : State) (i : Input) (stepped : Stepped) (after : State) → Step s i stepped after → stepped.kind ≡ ended.Plain → stepped.to ≡ address_in after.regs
 unfolding state_after
-lands s i told after step plain =
-    let tells = tells_plain s step.moved told step.told_is plain in
+lands s i stepped after step plain =
+    let tells = tells_plain s step.moved stepped step.stepped_is plain in
     tells.to
     ∙ sym (ap (λ (x : State). address_in x.regs) step.after_is ∙ ap address_in (regs_by (is_stopped step.moved.kind) s _ (ap is_stopped tells.kind)))
 
 module _ (words : Words) (st : Stated) (profile : Profile) (s : State) (i : Input) where
-  pub one_edge_of : (told other : Stepped) (after last : State) (d e : Edge) → IsEdgeOf words st profile s i told after d → IsEdgeOf words st profile s i other last e → d.from ≡ e.from → d ≡ e
-  one_edge_of told other after last d e h g from =
-      let same = one_step s i told other after last h.executes.step g.executes.step in
+  pub one_edge_of : (stepped other : Stepped) (after last : State) (d e : Edge) → IsEdgeOf words st profile s i stepped after d → IsEdgeOf words st profile s i other last e → d.from ≡ e.from → d ≡ e
+  one_edge_of stepped other after last d e h g from =
+      let same = one_step s i stepped other after last h.executes.step g.executes.step in
       let calls : h.calls ≡ g.calls = (same_calls h.calls g.calls (address_in s.regs) (address_in s.regs) (sym h.taken.from ∙ from ∙ g.taken.from)).0 in
       let word : h.executes.has.word ≡ g.executes.has.word = same_Some h.executes.has.word g.executes.has.word (sym h.executes.has.stands ∙ g.executes.has.stands) in
       let act : h.action ≡ g.action = one_action g.executes.has.word h.action g.action (subst (λ w. IsAction w h.action) word h.executes.has.is) g.executes.has.is in
-      let told_same : IsTaken words st profile g.calls g.action s told e = subst (λ (x : Stepped). IsTaken words st profile g.calls g.action s x e) same.0 g.taken in
-      let act_same : IsTaken words st profile g.calls h.action s told e = subst (λ (x : Action). IsTaken words st profile g.calls x s told e) (sym act) told_same in
-      let all_same : IsTaken words st profile h.calls h.action s told e = subst (λ (c : List ℕ). IsTaken words st profile c h.action s told e) (sym calls) act_same in
-      one_edge words st profile h.calls h.action s told h.executes.has d e h.taken all_same
+      let told_same : IsTaken words st profile g.calls g.action s stepped e = subst (λ (x : Stepped). IsTaken words st profile g.calls g.action s x e) same.0 g.taken in
+      let act_same : IsTaken words st profile g.calls h.action s stepped e = subst (λ (x : Action). IsTaken words st profile g.calls x s stepped e) (sym act) told_same in
+      let all_same : IsTaken words st profile h.calls h.action s stepped e = subst (λ (c : List ℕ). IsTaken words st profile c h.action s stepped e) (sym calls) act_same in
+      one_edge words st profile h.calls h.action s stepped h.executes.has d e h.taken all_same

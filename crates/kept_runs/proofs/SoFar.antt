@@ -46,7 +46,7 @@ use Rattle.kept_runs.specs.declared.following.Unkept.TheVariants.{NotAtEntry, Tu
 use Rattle.kept_runs.specs.Following.{CanGo, CannotGo, Goes, IsFresh, IsNext, IsWhy, Halts}
 use Rattle.kept_runs.specs.Judging.{IsMachineFor, IsPlaceFor}
 use Rattle.kept_runs.specs.Keeping.{ComesTo, IsBefore, IsHandler, IsKeptRun, IsStrayedRun, IsUnkept, KeepsNone, StandsAfter}
-use Rattle.kept_runs.specs.Stays.{Tells}
+use Rattle.kept_runs.specs.Stays.{AreTurnsAfter}
 use Rattle.kept_runs.proofs.OneStep.{lands, one_edge_of}
 use Rattle.kept_runs.specs.Passing.{ArePasses, IsPass, IsTally, Pass}
 use Rattle.kept_runs.proofs.PassLemmas.{fresh_tally, none_passed, one_passed, tally_more}
@@ -87,7 +87,7 @@ module _ (words : Words) (st : Stated) (flow : Flow) (tree : Tree) where
     pub numbers : List ℕ
     pub inside : AreNumbersOf flow numbers
     pub leads : O.Leads tree.edges 0 (edges_of tree.edges numbers) x.number
-    pub told : Tells tree.spans x.turns.items x.number (edges_of tree.edges numbers)
+    pub stepped : AreTurnsAfter tree.spans x.turns.items x.number (edges_of tree.edges numbers)
     pub follows : (rest : List Input) (more : List Edge) → Follows words st flow.profile now rest more
         → Follows words st flow.profile start (take n inputs ++ rest) (steps_of flow.edges numbers ++ more)
     pub passes : List Pass
@@ -126,7 +126,7 @@ module _ (words : Words) (st : Stated) (flow : Flow) (tree : Tree) (well : IsWel
     numbers = [];
     inside = All-nil (λ k. k < length flow.edges);
     leads = sym fresh.number_is;
-    told = record {
+    stepped = record {
       turns_are = λ s has here.
           let header : s.header < length flow.places = let shape = t.ordered.shape s has in omega (arith, shape.0, shape.1) in
           ap (λ (xs : List ℕ). get_or xs s.header 0) fresh.turns_are ∙ get_or-replicate (length flow.places + 1) s.header 0 0 (omega (arith, header));
@@ -180,7 +180,7 @@ module _ (words : Words) (st : Stated) (flow : Flow) (tree : Tree) (well : IsWel
     come_kept : KeepsTree tree (steps_of flow.edges so_far.numbers)
     come_kept =
         keeps_up flow tree well t so_far.numbers so_far.inside
-        (λ s s_in. keeps_from_most (is_inside s) (ends_at_header s) s.bound (edges_of tree.edges so_far.numbers) (so_far.told.kept s s_in))
+        (λ s s_in. keeps_from_most (is_inside s) (ends_at_header s) s.bound (edges_of tree.edges so_far.numbers) (so_far.stepped.kept s s_in))
 
     come_follows : Follows words st flow.profile start (take x.steps inputs) (steps_of flow.edges so_far.numbers)
     come_follows =
@@ -232,9 +232,9 @@ module _ (words : Words) (st : Stated) (flow : Flow) (tree : Tree) (well : IsWel
     -- the next edge of a complete walk that a run follows
     pub record HasNext (walk : List Edge) : Type 0 where
       pub edge : ℕ
-      pub told : Stepped
+      pub stepped : Stepped
       pub after : State
-      pub next : IsNext words st flow tree x now i told after edge
+      pub next : IsNext words st flow tree x now i stepped after edge
       pub rest : List Edge
       pub count : ℕ
       pub walk_is : walk ≡ steps_of flow.edges so_far.numbers ++ step_at flow.edges edge ∷ rest
@@ -250,7 +250,7 @@ module _ (words : Words) (st : Stated) (flow : Flow) (tree : Tree) (well : IsWel
         let same : step_at flow.edges k ≡ e = get_or_default flow.edges k no_edge e known ∙ leads.0.2 in
         record {
           edge = k;
-          told = follows.0;
+          stepped = follows.0;
           after = follows.1;
           next = record {
             known = known;
@@ -299,7 +299,7 @@ module _ (words : Words) (st : Stated) (flow : Flow) (tree : Tree) (well : IsWel
         let kept : KeepsTree tree (steps_of flow.edges so_far.numbers ++ step_at flow.edges h.edge ∷ []) = λ j in_tree.
         front_keeps (G.is_inside edge_shape place_loops j) (G.ends_at_header edge_shape place_loops j) j.bound (steps_of flow.edges so_far.numbers ++ step_at flow.edges h.edge ∷ []) h.rest
         (subst (λ (v : List Edge). G.KeepsBound edge_shape place_loops j v) whole (keeps.kept j in_tree)) in
-        cannot h.told h.after h.edge h.next (edges_of tree.edges so_far.numbers) so_far.told (keeps_on h.edge h.next.known kept)
+        cannot h.stepped h.after h.edge h.next (edges_of tree.edges so_far.numbers) so_far.stepped (keeps_on h.edge h.next.known kept)
 
     -- how far the run has come
     comes : ComesTo words st flow tree start inputs x.steps (place_in flow tree x.number) now
@@ -319,15 +319,15 @@ module _ (words : Words) (st : Stated) (flow : Flow) (tree : Tree) (well : IsWel
     unfolding before comes
     unkept_by last NotAtEntry cannot is = absurd is
     unkept_by last (unkept.Stray stray) cannot is = record { before = before; is = is }
-    unkept_by last (TurnedBack span) cannot (told, k, next, in_tree, header) = record {
+    unkept_by last (TurnedBack span) cannot (stepped, k, next, in_tree, header) = record {
       before = before;
-      told = told;
+      stepped = stepped;
       edge = step_at flow.edges k;
       is_edge_of = next.is_edge_of;
       from = leaves_place words st flow tree well t x now can k next.known next.from;
       in_tree = in_tree;
       to = sym (edge_same flow tree well t k next.known).to_is ∙ ap (place_in flow tree) header;
-      broken = λ keeps. cannot told last k next (edges_of tree.edges so_far.numbers) so_far.told (keeps_on k next.known keeps);
+      broken = λ keeps. cannot stepped last k next (edges_of tree.edges so_far.numbers) so_far.stepped (keeps_on k next.known keeps);
     }
     unkept_by last Unfinished cannot is = absurd is
 
@@ -352,26 +352,26 @@ module _ (words : Words) (st : Stated) (flow : Flow) (tree : Tree) (well : IsWel
 
       -- the step, by the place where it begins
       abbrev pass : Pass
-      pass = record { place = get_or tree.order x.number 0; ticks = goes.told.ticks }
+      pass = record { place = get_or tree.order x.number 0; ticks = goes.stepped.ticks }
 
       place_known : get_or tree.order x.number 0 < length flow.places
       place_known = index_in words st flow tree well t x now can
 
-      is_pass : IsPass flow (step_at flow.edges goes.edge) goes.told pass
+      is_pass : IsPass flow (step_at flow.edges goes.edge) goes.stepped pass
       is_pass = record {
         known = place_known;
         begins = sym (leaves_place words st flow tree well t x now can goes.edge goes.next.known goes.next.from ∙ place_is words st flow tree well t x now can);
         ticks_are = refl;
       }
 
-      not_stopped : (w : Why) → goes.told.kind ≡ Stopped w → ⊥
+      not_stopped : (w : Why) → goes.stepped.kind ≡ Stopped w → ⊥
       not_stopped w is = let both : Plain ≡ Stopped w = sym goes.next.is_edge_of.executes.plain ∙ is in cc
 
       goes_on : (walk : List Edge) → HasNext walk → GoesOn words st flow tree (so_far.numbers ++ goes.edge ∷ []) y after (drop (n + 1) inputs) walk
       goes_on walk h =
-          let same = one_step now i goes.told h.told after h.after goes.next.is_edge_of.executes.step h.next.is_edge_of.executes.step in
+          let same = one_step now i goes.stepped h.stepped after h.after goes.next.is_edge_of.executes.step h.next.is_edge_of.executes.step in
           let edge : step_at flow.edges goes.edge ≡ step_at flow.edges h.edge =
-          one_edge_of words st flow.profile now i goes.told h.told after h.after (step_at flow.edges goes.edge) (step_at flow.edges h.edge) goes.next.is_edge_of h.next.is_edge_of
+          one_edge_of words st flow.profile now i goes.stepped h.stepped after h.after (step_at flow.edges goes.edge) (step_at flow.edges h.edge) goes.next.is_edge_of h.next.is_edge_of
           (leaves_place words st flow tree well t x now can goes.edge goes.next.known goes.next.from ∙ sym (leaves_place words st flow tree well t x now can h.edge h.next.known h.next.from)) in
           record {
             rest = h.rest;
@@ -392,12 +392,12 @@ module _ (words : Words) (st : Stated) (flow : Flow) (tree : Tree) (well : IsWel
             subst (λ (v : List NumberedEdge). O.Leads tree.edges 0 v y.number) (sym step_down)
             (Leads-append number_shape (Contains tree.edges) 0 x.number y.number (edges_of tree.edges so_far.numbers) (edge_at tree.edges goes.edge ∷ []) so_far.leads
             (Contains-get_or tree.edges goes.edge _ (let same = t.numbered.same in let lt = goes.next.known in omega (arith, same, lt)), goes.next.from, sym goes.number_is));
-        told = subst (λ (v : List NumberedEdge). Tells tree.spans y.turns.items y.number v) (sym step_down) (goes.adds (edges_of tree.edges so_far.numbers) so_far.told);
+        stepped = subst (λ (v : List NumberedEdge). AreTurnsAfter tree.spans y.turns.items y.number v) (sym step_down) (goes.adds (edges_of tree.edges so_far.numbers) so_far.stepped);
         follows = λ rest more follows.
             subst (λ (is : List Input). Follows words st flow.profile start is (steps_of flow.edges (so_far.numbers ++ goes.edge ∷ []) ++ more)) (sym (more_is rest))
             (subst (λ (v : List Edge). Follows words st flow.profile start (take n inputs ++ i ∷ rest) v)
             (sym (next_to (steps_of flow.edges so_far.numbers) (step_at flow.edges goes.edge) more) ∙ ap (λ (v : List Edge). v ++ more) (sym step_up))
-            (so_far.follows (i ∷ rest) (step_at flow.edges goes.edge ∷ more) (goes.told, after, goes.next.is_edge_of, follows)));
+            (so_far.follows (i ∷ rest) (step_at flow.edges goes.edge ∷ more) (goes.stepped, after, goes.next.is_edge_of, follows)));
         passes = so_far.passes ++ pass ∷ [];
         passed = λ rest more later are.
             subst (λ (is : List Input). ArePasses flow start is (steps_of flow.edges (so_far.numbers ++ goes.edge ∷ []) ++ more) ((so_far.passes ++ pass ∷ []) ++ later)) (sym (more_is rest))
@@ -406,13 +406,13 @@ module _ (words : Words) (st : Stated) (flow : Flow) (tree : Tree) (well : IsWel
             (subst (λ (ps : List Pass). ArePasses flow start (take n inputs ++ i ∷ rest) (steps_of flow.edges so_far.numbers ++ step_at flow.edges goes.edge ∷ more) ps)
             (sym (next_to so_far.passes pass later))
             (so_far.passed (i ∷ rest) (step_at flow.edges goes.edge ∷ more) (pass ∷ later)
-            (goes.told, after, goes.next.is_edge_of.executes.step, (pass, later, is_pass, are, refl)))));
+            (goes.stepped, after, goes.next.is_edge_of.executes.step, (pass, later, is_pass, are, refl)))));
         tally_is =
-            one_passed flow x.by_place.items y.by_place.items (get_or tree.order x.number 0) goes.told.ticks can.tally.whole place_known goes.tally_is so_far.passes so_far.tally_is;
-        ran = record { steps = so_far.ran.steps + 1; ticks = so_far.ran.ticks + goes.told.ticks; elapsed = so_far.ran.elapsed + (goes.told.ticks + now.profile.burst * i.bursts); stopped = so_far.ran.stopped };
+            one_passed flow x.by_place.items y.by_place.items (get_or tree.order x.number 0) goes.stepped.ticks can.tally.whole place_known goes.tally_is so_far.passes so_far.tally_is;
+        ran = record { steps = so_far.ran.steps + 1; ticks = so_far.ran.ticks + goes.stepped.ticks; elapsed = so_far.ran.elapsed + (goes.stepped.ticks + now.profile.burst * i.bursts); stopped = so_far.ran.stopped };
         runs = λ rest.
-            subst (λ (is : List Input). R.SoFar start is (record { steps = so_far.ran.steps + 1; ticks = so_far.ran.ticks + goes.told.ticks; elapsed = so_far.ran.elapsed + (goes.told.ticks + now.profile.burst * i.bursts); stopped = so_far.ran.stopped }) after rest) (sym (more_is rest))
-            (R.more_steps start (take n inputs ++ i ∷ rest) so_far.ran now after (i ∷ rest) rest i goes.told (so_far.runs (i ∷ rest)) refl goes.next.is_edge_of.executes.step not_stopped);
+            subst (λ (is : List Input). R.SoFar start is (record { steps = so_far.ran.steps + 1; ticks = so_far.ran.ticks + goes.stepped.ticks; elapsed = so_far.ran.elapsed + (goes.stepped.ticks + now.profile.burst * i.bursts); stopped = so_far.ran.stopped }) after rest) (sym (more_is rest))
+            (R.more_steps start (take n inputs ++ i ∷ rest) so_far.ran now after (i ∷ rest) rest i goes.stepped (so_far.runs (i ∷ rest)) refl goes.next.is_edge_of.executes.step not_stopped);
         going = so_far.going;
         steps_are = omega (arith, so_far.steps_are, goes.steps_are);
         steps_count = omega (arith, so_far.steps_count, goes.steps_are);
@@ -421,8 +421,8 @@ module _ (words : Words) (st : Stated) (flow : Flow) (tree : Tree) (well : IsWel
       }
 
       -- where it is inside the handler, it may go on
-      at_place : (p : Place) → (step_at flow.edges goes.edge).to ≡ p → IsPlaceOf st goes.told.to p → (p ≡ Exit → ⊥) → IsPlaceFor p after
-      at_place (At calls a) is to other = (calls, ap (λ (b : ℕ). At calls b) (to ∙ lands now i goes.told after goes.next.is_edge_of.executes.step goes.next.is_edge_of.executes.plain))
+      at_place : (p : Place) → (step_at flow.edges goes.edge).to ≡ p → IsPlaceOf st goes.stepped.to p → (p ≡ Exit → ⊥) → IsPlaceFor p after
+      at_place (At calls a) is to other = (calls, ap (λ (b : ℕ). At calls b) (to ∙ lands now i goes.stepped after goes.next.is_edge_of.executes.step goes.next.is_edge_of.executes.plain))
       at_place Exit is to other = absurd (other refl)
 
       to_in : y.number ≤ length flow.places
@@ -437,7 +437,7 @@ module _ (words : Words) (st : Stated) (flow : Flow) (tree : Tree) (well : IsWel
             at = subst (λ (p : Place). IsPlaceFor p after) ends
                 (at_place (step_at flow.edges goes.edge).to refl goes.next.is_edge_of.taken.to (λ exit. inner (sym ends ∙ exit)));
             room = goes.room;
-            tally = tally_more flow x y (get_or tree.order x.number 0) goes.told.ticks place_known can.tally goes.tally_is goes.steps_are goes.ticks_are;
+            tally = tally_more flow x y (get_or tree.order x.number 0) goes.stepped.ticks place_known can.tally goes.tally_is goes.steps_are goes.ticks_are;
           }
 
   -- ## The end

@@ -9,16 +9,16 @@ use Rattle.numbered_walks.specs.Ordered.{IsOrdered, ends_at_header, is_in, is_in
 use Rattle.numbered_walks.specs.Reach.{most_in}
 use Rattle.walk_counts.specs.Spans.{header_at, turns_at_end}
 use Rattle.walk_counts.proofs.StayLemmas.{edge_back, edge_elsewhere, edge_from_outside, edge_in_stay, span_there}
-use Rattle.kept_runs.specs.Stays.{IsOver, MayTurn, Tells, Turns, turned}
+use Rattle.kept_runs.specs.Stays.{IsOver, MayTurn, AreTurnsAfter, Turns, turned}
 
 module _ (exit : ℕ) (edges : List NumberedEdge) (spans : List Span) (order : IsOrdered exit edges spans) (headers : List (Option Span)) (all : AreHeaders spans headers) where
-  module _ (e : NumberedEdge) (in_graph : Contains edges e) (w : List NumberedEdge) (old new : List ℕ) (room : e.to < length old) (told : Tells spans old e.from w) where
+  module _ (e : NumberedEdge) (in_graph : Contains edges e) (w : List NumberedEdge) (old new : List ℕ) (room : e.to < length old) (stepped : AreTurnsAfter spans old e.from w) where
     back : (s : Span) → Contains spans s → s.header ≡ e.to → is_in s e.from ≡ true → (most_in s (w ++ e ∷ []) ≡ max (most_in s w) (turns_at_end s w + 1)) × (turns_at_end s (w ++ e ∷ []) ≡ turns_at_end s w + 1)
     back s has = edge_back exit edges spans order e in_graph w s has
 
     -- what is counted of an instance where the edge begins
     counted : (s : Span) → Contains spans s → s.header ≡ e.to → is_in s e.from ≡ true → get_or old e.to 0 ≡ turns_at_end s w
-    counted s has is from_in = ap (λ (n : ℕ). get_or old n 0) (sym is) ∙ told.turns_are s has from_in
+    counted s has is from_in = ap (λ (n : ℕ). get_or old n 0) (sym is) ∙ stepped.turns_are s has from_in
 
     -- one back edge too many
     pub over : (s : Span) → IsOver headers e old s → ((x : Span) → Contains spans x → most_in x (w ++ e ∷ []) ≤ x.bound) → ⊥
@@ -60,12 +60,12 @@ module _ (exit : ℕ) (edges : List NumberedEdge) (spans : List Span) (order : I
           (cases_Bool (is_in s e.from)))
           (λ (other : s.header ≢ e.to).
           let stay = edge_in_stay exit edges spans order e in_graph w s has other here in
-          ap (λ (xs : List ℕ). get_or xs s.header 0) t.turns_are ∙ kept_by (header_at headers e.to) s.header other ∙ told.turns_are s has stay.0 ∙ sym stay.1)
+          ap (λ (xs : List ℕ). get_or xs s.header 0) t.turns_are ∙ kept_by (header_at headers e.to) s.header other ∙ stepped.turns_are s has stay.0 ∙ sym stay.1)
           (cases_eq s.header e.to)
 
       kept_told : (s : Span) → Contains spans s → most_in s (w ++ e ∷ []) ≤ s.bound
       kept_told s has =
-          let before : most_in s w ≤ s.bound = told.kept s has in
+          let before : most_in s w ≤ s.bound = stepped.kept s has in
           ⊎_elim
           (λ (is : s.header ≡ e.to). ⊎_elim
           (λ (from_in : is_in s e.from ≡ true).
@@ -79,8 +79,8 @@ module _ (exit : ℕ) (edges : List NumberedEdge) (spans : List Span) (order : I
           (λ (other : s.header ≢ e.to). omega (arith, before, edge_elsewhere exit edges spans order e in_graph w s has other))
           (cases_eq s.header e.to)
 
-      pub told_on : Tells spans new e.to (w ++ e ∷ [])
-      told_on = record { turns_are = turns_told; kept = kept_told }
+      pub turns_on : AreTurnsAfter spans new e.to (w ++ e ∷ [])
+      turns_on = record { turns_are = turns_told; kept = kept_told }
 
 -- a walk's front keeps what the walk keeps
 pub front_keeps : (s : Span) (v w : List NumberedEdge) → most_in s (v ++ w) ≤ s.bound → most_in s v ≤ s.bound

@@ -95,49 +95,49 @@ module _ (words : Words) (st : Stated) (flow : Flow) (graph : IsFlowGraph words 
   bus = with_lines i.lines.0 s.bus
 
   abbrev IsStepOf : Stepped → State → Edge → Type 0
-  IsStepOf told after e = IsEdgeOf words st flow.profile s i told after e
+  IsStepOf stepped after e = IsEdgeOf words st flow.profile s i stepped after e
 
-  there : {told : Stepped} {after : State} {e : Edge} → (h : IsEdgeOf words st flow.profile s i told after e) → StandsThere words s h.executes.has.word
+  there : {stepped : Stepped} {after : State} {e : Edge} → (h : IsEdgeOf words st flow.profile s i stepped after e) → StandsThere words s h.executes.has.word
   there h = record { stands = h.executes.has.stands; fetches = h.executes.fetches ∙ h.executes.has.stands }
 
   none_without_word : HasNoWord words s → TakesNone words st flow place s i
-  none_without_word lacks told after e h from = lacks h.executes.has.word (there h)
+  none_without_word lacks stepped after e h from = lacks h.executes.has.word (there h)
 
   pub other_word : HasNoWord words s → Strays words st flow place s i s stray.OtherWord
   other_word lacks = record { none = none_without_word lacks; is = (lacks, refl) }
 
-  module _ (told : Stepped) (after : State) (step : Step s i told after) where
+  module _ (stepped : Stepped) (after : State) (step : Step s i stepped after) where
     -- the same step, whoever makes it
-    same : {other : Stepped} {last : State} {e : Edge} → (h : IsEdgeOf words st flow.profile s i other last e) → (other ≡ told) × (last ≡ after)
-    same {other = other} {last = last} h = one_step s i told other after last step h.executes.step
+    same : {other : Stepped} {last : State} {e : Edge} → (h : IsEdgeOf words st flow.profile s i other last e) → (other ≡ stepped) × (last ≡ after)
+    same {other = other} {last = last} h = one_step s i stepped other after last step h.executes.step
 
-    plain_as : {other : Stepped} {last : State} {e : Edge} → (h : IsEdgeOf words st flow.profile s i other last e) → told.kind ≡ ended.Plain
+    plain_as : {other : Stepped} {last : State} {e : Edge} → (h : IsEdgeOf words st flow.profile s i other last e) → stepped.kind ≡ ended.Plain
     plain_as h = ap (λ (x : Stepped). x.kind) (sym (same h).0) ∙ h.executes.plain
 
-    pub to_small : told.kind ≡ ended.Plain → told.to < 2 ^ 26
-    to_small plain = subst (λ t. t < 2 ^ 26) (sym (tells_plain s step.moved told step.told_is plain).to) ((word_address_of (r15_in step.moved.regs)).0)
+    pub to_small : stepped.kind ≡ ended.Plain → stepped.to < 2 ^ 26
+    to_small plain = subst (λ t. t < 2 ^ 26) (sym (tells_plain s step.moved stepped step.stepped_is plain).to) ((word_address_of (r15_in step.moved.regs)).0)
 
-    none_unless_plain : (told.kind ≡ ended.Plain → ⊥) → TakesNone words st flow place s i
+    none_unless_plain : (stepped.kind ≡ ended.Plain → ⊥) → TakesNone words st flow place s i
     none_unless_plain not_plain other last e h from = not_plain (plain_as h)
 
-    not_both : (k other : Kind) → told.kind ≡ k → told.kind ≡ other → k ≡ other
+    not_both : (k other : Kind) → stepped.kind ≡ k → stepped.kind ≡ other → k ≡ other
     not_both k other is also = sym is ∙ also
 
-    pub exception : (word : ℕ) → StandsThere words s word → (vector : Vector) → told.kind ≡ ended.Taken vector → Strays words st flow place s i after (stray.Exception vector)
+    pub exception : (word : ℕ) → StandsThere words s word → (vector : Vector) → stepped.kind ≡ ended.Taken vector → Strays words st flow place s i after (stray.Exception vector)
     exception word at_word vector is = record {
       none = none_unless_plain (λ plain. let both : ended.Taken vector ≡ ended.Plain = not_both (ended.Taken vector) ended.Plain is plain in cc);
-      is = record { word = word; fetches = at_word; told = told; step = step; kind_is = is };
+      is = record { word = word; fetches = at_word; stepped = stepped; step = step; kind_is = is };
     }
 
-    pub stop : (word : ℕ) → StandsThere words s word → (why : Why) → told.kind ≡ ended.Stopped why → Strays words st flow place s i after (stray.Stopped why)
+    pub stop : (word : ℕ) → StandsThere words s word → (why : Why) → stepped.kind ≡ ended.Stopped why → Strays words st flow place s i after (stray.Stopped why)
     stop word at_word why is = record {
       none = none_unless_plain (λ plain. let both : ended.Stopped why ≡ ended.Plain = not_both (ended.Stopped why) ended.Plain is plain in cc);
-      is = record { word = word; fetches = at_word; told = told; step = step; kind_is = is };
+      is = record { word = word; fetches = at_word; stepped = stepped; step = step; kind_is = is };
     }
 
-    module _ (plain : told.kind ≡ ended.Plain) (word : ℕ) (at_word : StandsThere words s word) (r : Reading) (reads : IsReading word s.regs r) where
-      tells : TellsPlain s step.moved told
-      tells = tells_plain s step.moved told step.told_is plain
+    module _ (plain : stepped.kind ≡ ended.Plain) (word : ℕ) (at_word : StandsThere words s word) (r : Reading) (reads : IsReading word s.regs r) where
+      tells : TellsPlain s step.moved stepped
+      tells = tells_plain s step.moved stepped step.stepped_is plain
 
       obeys : Obeys word i.port s.regs bus step.moved
       obeys =
@@ -155,7 +155,7 @@ module _ (words : Words) (st : Stated) (flow : Flow) (graph : IsFlowGraph words 
 
       -- a word of another class
       none_with_other : (access : Access) → HasOther class r.transfer access → TakesNone words st flow place s i
-      none_with_other access other other_told last e h from =
+      none_with_other access other other_stepped last e h from =
           let one : h.executes.step.moved ≡ step.moved = works_one i.port s.regs bus (interrupt_due bus (r15_in s.regs)) h.executes.step.moved step.moved h.executes.step.works step.works in
           let word = moves.there tells.kind access other in
           is_other class access r.transfer other ((subst (λ (m : Moved). TransfersIn class m.accesses) one h.executes.transfers) access.store word.0 access.address word.1)
@@ -165,7 +165,7 @@ module _ (words : Words) (st : Stated) (flow : Flow) (graph : IsFlowGraph words 
           record {
             none = none_with_other access other;
             is = record {
-              ends = record { word = word; fetches = at_word; told = told; step = step; kind_is = plain };
+              ends = record { word = word; fetches = at_word; stepped = stepped; step = step; kind_is = plain };
               is_first = moves.first_other tells.kind access other;
             };
           }
@@ -173,24 +173,24 @@ module _ (words : Words) (st : Stated) (flow : Flow) (graph : IsFlowGraph words 
       -- ## The edge
 
       abbrev going : Going
-      going = record { label = label_if r.holds; to = told.to; leave = st.leave }
+      going = record { label = label_if r.holds; to = stepped.to; leave = st.leave }
 
       label_is : label_if r.holds ≡ label_in s.regs read.action.cond
       label_is = ap label_if read.holds
 
       -- an edge by the step's label, to where it goes, is met
-      met_by : (c : List ℕ) (e : Edge) → IsTaken words st flow.profile c read.action s told e → is_met going e ≡ true
+      met_by : (c : List ℕ) (e : Edge) → IsTaken words st flow.profile c read.action s stepped e → is_met going e ≡ true
       met_by c e taken =
           let label : e.label ≡ label_if r.holds = taken.label ∙ sym label_is in
-          and_from (is_same_label e.label (label_if r.holds)) (is_place_of st.leave told.to e.to) (label_itself e.label (label_if r.holds) label) (told_place st told.to e.to taken.to)
+          and_from (is_same_label e.label (label_if r.holds)) (is_place_of st.leave stepped.to e.to) (label_itself e.label (label_if r.holds) label) (told_place st stepped.to e.to taken.to)
 
       -- an edge of the step is one of the place's
       met : {other : Stepped} {last : State} {e : Edge} → (h : IsEdgeOf words st flow.profile s i other last e) → is_met going e ≡ true
       met {other = other} {last = last} {e = e} h =
           let word_is : h.executes.has.word ≡ word = same_Some h.executes.has.word word (sym h.executes.has.stands ∙ at_word.stands) in
           let act : h.action ≡ read.action = one_action word h.action read.action (subst (λ w. IsAction w h.action) word_is h.executes.has.is) read.is in
-          let taken : IsTaken words st flow.profile h.calls h.action s told e = subst (λ (x : Stepped). IsTaken words st flow.profile h.calls h.action s x e) (same h).0 h.taken in
-          met_by h.calls e (subst (λ (a : Action). IsTaken words st flow.profile h.calls a s told e) act taken)
+          let taken : IsTaken words st flow.profile h.calls h.action s stepped e = subst (λ (x : Stepped). IsTaken words st flow.profile h.calls h.action s x e) (same h).0 h.taken in
+          met_by h.calls e (subst (λ (a : Action). IsTaken words st flow.profile h.calls a s stepped e) act taken)
 
       none_elsewhere : Contains flow.places place → HasNoEdge flow place going → TakesNone words st flow place s i
       none_elsewhere place_in none other last e h from =
@@ -198,13 +198,13 @@ module _ (words : Words) (st : Stated) (flow : Flow) (graph : IsFlowGraph words 
           (is_edge_has_edge words st flow.profile flow graph e (subst (Contains flow.places) (sym from) place_in) h.taken.is_edge)
           from (met h)
 
-      no_edge : Contains flow.places place → HasNoEdge flow place going → (c : List ℕ) (e : Edge) → IsTaken words st flow.profile c read.action s told e → e.from ≡ place → ⊥
+      no_edge : Contains flow.places place → HasNoEdge flow place going → (c : List ℕ) (e : Edge) → IsTaken words st flow.profile c read.action s stepped e → e.from ≡ place → ⊥
       no_edge place_in none c e taken from =
           none e
           (is_edge_has_edge words st flow.profile flow graph e (subst (Contains flow.places) (sym from) place_in) taken.is_edge)
           from (met_by c e taken)
 
-      executes : HasNoOther class r.transfer → Executes words st flow.profile read.action s i told after
+      executes : HasNoOther class r.transfer → Executes words st flow.profile read.action s i stepped after
       executes clean = record {
         registers = stands.machine.registers;
         prices = stands.machine.prices;
@@ -215,10 +215,10 @@ module _ (words : Words) (st : Stated) (flow : Flow) (graph : IsFlowGraph words 
         transfers = moves.in_class tells.kind clean;
       }
 
-      pub elsewhere : HasNoOther class r.transfer → Contains flow.places place → HasNoEdge flow place going → Strays words st flow place s i after (stray.Elsewhere told.to)
+      pub elsewhere : HasNoOther class r.transfer → Contains flow.places place → HasNoEdge flow place going → Strays words st flow place s i after (stray.Elsewhere stepped.to)
       elsewhere clean place_in none = record {
         none = none_elsewhere place_in none;
-        is = record { action = read.action; told = told; executes = executes clean; to_is = refl; none = no_edge place_in none };
+        is = record { action = read.action; stepped = stepped; executes = executes clean; to_is = refl; none = no_edge place_in none };
       }
 
       long : length after.regs ≡ 27
@@ -229,10 +229,10 @@ module _ (words : Words) (st : Stated) (flow : Flow) (graph : IsFlowGraph words 
           ∙ after_regs (is_stopped step.moved.kind) s s _ refl same_long
           ∙ stands.machine.registers
 
-      pub takes : HasNoOther class r.transfer → told.ticks < 65536 → (k : ℕ) → IsFound flow place going k → Takes words st flow place s i after (record { edge = k; stepped = told })
+      pub takes : HasNoOther class r.transfer → stepped.ticks < 65536 → (k : ℕ) → IsFound flow place going k → Takes words st flow place s i after (record { edge = k; stepped = stepped })
       takes clean small k found =
           let e : Edge = step_at flow.edges k in
-          let both = and_parts (is_same_label e.label (label_if r.holds)) (is_place_of st.leave told.to e.to) found.met in
+          let both = and_parts (is_same_label e.label (label_if r.holds)) (is_place_of st.leave stepped.to e.to) found.met in
           record {
             known = found.known;
             is_edge_of = record {
@@ -243,10 +243,10 @@ module _ (words : Words) (st : Stated) (flow : Flow) (graph : IsFlowGraph words 
                 is_edge = has_edge_is_edge words st flow.profile flow graph e (Contains-get_or flow.edges k _ found.known);
                 from = found.from ∙ stands.at.1;
                 label = one_label e.label (label_if r.holds) both.0 ∙ label_is;
-                to = place_told st told.to e.to both.1;
+                to = place_told st stepped.to e.to both.1;
               };
             };
             from = found.from;
-            machine = record { registers = long; prices = same_profile s i told after step ∙ stands.machine.prices };
+            machine = record { registers = long; prices = same_profile s i stepped after step ∙ stands.machine.prices };
             small = small;
           }

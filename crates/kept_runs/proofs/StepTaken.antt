@@ -28,9 +28,9 @@ use Rattle.kept_runs.specs.Following.{AreHeadersOf, CanGo, CannotGo, Goes, IsNex
 use Rattle.kept_runs.specs.Judging.{StandsAt, Strays, Takes, TakesNone}
 use Rattle.kept_runs.specs.Passing.{counted}
 use Rattle.walk_counts.specs.Spans.{header_at}
-use Rattle.kept_runs.specs.Stays.{IsOver, Tells, Turns, turned}
+use Rattle.kept_runs.specs.Stays.{IsOver, AreTurnsAfter, Turns, turned}
 use Rattle.kept_runs.proofs.OneStep.{one_edge_of}
-use Rattle.kept_runs.proofs.StayLemmas.{over, told_on}
+use Rattle.kept_runs.proofs.StayLemmas.{over, turns_on}
 
 same_numbered : (a b : NumberedEdge) → a.from ≡ b.from → a.to ≡ b.to → a.cost ≡ b.cost → a ≡ b
 same_numbered a b from to cost = λ i. record { from = from i; to = to i; cost = cost i }
@@ -76,8 +76,8 @@ module _ (words : Words) (st : Stated) (flow : Flow) (tree : Tree) (well : IsWel
   module _ (i : Input) where
     -- no edge of the place
     none_goes : TakesNone words st flow (place_at flow.places (get_or tree.order x.number 0)) s i → CannotGo words st flow tree x s i
-    none_goes none told after k next walk tells keeps =
-        none told after (step_at flow.edges k) next.is_edge_of (leaves_place k next.known next.from ∙ place_is)
+    none_goes none stepped after k next walk tells keeps =
+        none stepped after (step_at flow.edges k) next.is_edge_of (leaves_place k next.known next.from ∙ place_is)
 
     pub strays : (after : State) (stray : Stray) → Strays words st flow (place_at flow.places (get_or tree.order x.number 0)) s i after stray → Halts words st flow tree x s i after (unkept.Stray stray)
     strays after stray h = record {
@@ -101,14 +101,14 @@ module _ (words : Words) (st : Stated) (flow : Flow) (tree : Tree) (well : IsWel
       next : IsNext words st flow tree x s i taken.stepped after taken.edge
       next = record { known = takes.known; is_edge_of = takes.is_edge_of; from = from_is }
 
-      tells_from : (walk : List NumberedEdge) → Tells tree.spans x.turns.items x.number walk → Tells tree.spans x.turns.items (edge_at tree.edges taken.edge).from walk
-      tells_from walk tells = subst (λ (n : ℕ). Tells tree.spans x.turns.items n walk) (sym from_is) tells
+      tells_from : (walk : List NumberedEdge) → AreTurnsAfter tree.spans x.turns.items x.number walk → AreTurnsAfter tree.spans x.turns.items (edge_at tree.edges taken.edge).from walk
+      tells_from walk tells = subst (λ (n : ℕ). AreTurnsAfter tree.spans x.turns.items n walk) (sym from_is) tells
 
       -- the step is the same for whoever makes it
-      one : (told : Stepped) (last : State) (k : ℕ) → IsNext words st flow tree x s i told last k → edge_at tree.edges taken.edge ≡ edge_at tree.edges k
-      one told last k other =
+      one : (stepped : Stepped) (last : State) (k : ℕ) → IsNext words st flow tree x s i stepped last k → edge_at tree.edges taken.edge ≡ edge_at tree.edges k
+      one stepped last k other =
           let same : step_at flow.edges taken.edge ≡ step_at flow.edges k =
-          one_edge_of words st flow.profile s i taken.stepped told after last (step_at flow.edges taken.edge) (step_at flow.edges k) takes.is_edge_of other.is_edge_of
+          one_edge_of words st flow.profile s i taken.stepped stepped after last (step_at flow.edges taken.edge) (step_at flow.edges k) takes.is_edge_of other.is_edge_of
           (takes.from ∙ sym (leaves_place k other.known other.from ∙ place_is)) in
           let a = numbers taken.edge takes.known in
           let b = numbers k other.known in
@@ -119,9 +119,9 @@ module _ (words : Words) (st : Stated) (flow : Flow) (tree : Tree) (well : IsWel
 
       -- one back edge too many
       over_goes : (span : Span) → IsOver headers (edge_at tree.edges taken.edge) x.turns.items span → CannotGo words st flow tree x s i
-      over_goes span is_over told last k other walk tells keeps =
+      over_goes span is_over stepped last k other walk tells keeps =
           over (length flow.places) tree.edges tree.spans t.ordered headers are.are (edge_at tree.edges taken.edge) (in_tree taken.edge takes.known) walk x.turns.items x.turns.items room (tells_from walk tells) span is_over
-          (subst (λ (d : NumberedEdge). Keeps tree (walk ++ d ∷ [])) (sym (one told last k other)) keeps)
+          (subst (λ (d : NumberedEdge). Keeps tree (walk ++ d ∷ [])) (sym (one stepped last k other)) keeps)
 
       pub turns_back : (span : Span) → IsOver headers (edge_at tree.edges taken.edge) x.turns.items span → Halts words st flow tree x s i after (TurnedBack span)
       turns_back span is_over =
@@ -132,7 +132,7 @@ module _ (words : Words) (st : Stated) (flow : Flow) (tree : Tree) (well : IsWel
           → new.by_place.items ≡ counted x.by_place.items (get_or tree.order x.number 0) taken.stepped.ticks → Goes words st flow tree x new s i after
       goes new turns number steps ticks tally = record {
         edge = taken.edge;
-        told = taken.stepped;
+        stepped = taken.stepped;
         next = next;
         number_is = number;
         steps_are = steps;
@@ -142,6 +142,6 @@ module _ (words : Words) (st : Stated) (flow : Flow) (tree : Tree) (well : IsWel
         machine = takes.machine;
         room = ap length turns.turns_are ∙ turned_length (header_at headers (edge_at tree.edges taken.edge).to) (edge_at tree.edges taken.edge) x.turns.items ∙ can.room;
         adds = λ walk tells.
-            subst (λ (n : ℕ). Tells tree.spans new.turns.items n (walk ++ edge_at tree.edges taken.edge ∷ [])) (sym number)
-            (told_on (length flow.places) tree.edges tree.spans t.ordered headers are.are (edge_at tree.edges taken.edge) (in_tree taken.edge takes.known) walk x.turns.items new.turns.items room (tells_from walk tells) turns);
+            subst (λ (n : ℕ). AreTurnsAfter tree.spans new.turns.items n (walk ++ edge_at tree.edges taken.edge ∷ [])) (sym number)
+            (turns_on (length flow.places) tree.edges tree.spans t.ordered headers are.are (edge_at tree.edges taken.edge) (in_tree taken.edge takes.known) walk x.turns.items new.turns.items room (tells_from walk tells) turns);
       }

@@ -20,7 +20,7 @@ use Rattle.kept_runs.specs.declared.following.Unkept.TheVariants as unkept
 use Rattle.kept_runs.specs.declared.following.Unkept.TheVariants.{NotAtEntry, TurnedBack, Unfinished}
 use Rattle.kept_runs.specs.Judging.{IsMachineFor, IsPlaceFor, Strays}
 use Rattle.kept_runs.specs.Passing.{counted, nothing}
-use Rattle.kept_runs.specs.Stays.{Tells}
+use Rattle.kept_runs.specs.Stays.{AreTurnsAfter}
 
 -- the span that begins at each number of a place, and at that of Exit
 pub record AreHeadersOf (flow : Flow) (tree : Tree) (headers : List (Option Span)) : Type 0 where
@@ -57,33 +57,33 @@ Keeps tree walk = (s : Span) → Contains tree.spans s → most_in s walk ≤ s.
 
 module _ (words : Words) (st : Stated) (flow : Flow) (tree : Tree) where
   -- the edge of the number is that of the step, and leaves the place where the run is
-  pub record IsNext (x : Follower) (s : State) (i : Input) (told : Stepped) (after : State)
+  pub record IsNext (x : Follower) (s : State) (i : Input) (stepped : Stepped) (after : State)
       (k : ℕ) : Type 0 where
     pub known : k < length flow.edges
-    pub is_edge_of : IsEdgeOf words st flow.profile s i told after (step_at flow.edges k)
+    pub is_edge_of : IsEdgeOf words st flow.profile s i stepped after (step_at flow.edges k)
     pub from : (edge_at tree.edges k).from ≡ x.number
 
   -- a step along an edge: what held of any walk now holds of it with the edge after it
   pub record Goes (old new : Follower) (s : State) (i : Input) (after : State) : Type 0 where
     pub edge : ℕ
-    pub told : Stepped
-    pub next : IsNext old s i told after edge
+    pub stepped : Stepped
+    pub next : IsNext old s i stepped after edge
     pub number_is : new.number ≡ (edge_at tree.edges edge).to
     pub steps_are : new.steps ≡ old.steps + 1
-    pub ticks_are : new.ticks ≡ old.ticks + told.ticks
+    pub ticks_are : new.ticks ≡ old.ticks + stepped.ticks
     pub tally_is : new.by_place.items
-        ≡ counted old.by_place.items (slice_index tree.order old.number) told.ticks
-    pub small : told.ticks < 2 ^ 16
+        ≡ counted old.by_place.items (slice_index tree.order old.number) stepped.ticks
+    pub small : stepped.ticks < 2 ^ 16
     pub machine : IsMachineFor flow after
     pub room : length new.turns.items ≡ length flow.places + 1
-    pub adds : (walk : List NumberedEdge) → Tells tree.spans old.turns.items old.number walk
-        → Tells tree.spans new.turns.items new.number (walk ++ edge_at tree.edges edge ∷ [])
+    pub adds : (walk : List NumberedEdge) → AreTurnsAfter tree.spans old.turns.items old.number walk
+        → AreTurnsAfter tree.spans new.turns.items new.number (walk ++ edge_at tree.edges edge ∷ [])
 
   -- no step along an edge stays within the bounds
   abbrev pub CannotGo : Follower → State → Input → Type 0
   CannotGo x s i =
-      (told : Stepped) (after : State) (k : ℕ) → IsNext x s i told after k → (walk : List NumberedEdge)
-      → Tells tree.spans x.turns.items x.number walk → Keeps tree (walk ++ edge_at tree.edges k ∷ []) → ⊥
+      (stepped : Stepped) (after : State) (k : ℕ) → IsNext x s i stepped after k → (walk : List NumberedEdge)
+      → AreTurnsAfter tree.spans x.turns.items x.number walk → Keeps tree (walk ++ edge_at tree.edges k ∷ []) → ⊥
 
   -- why not: what the step does, or the instance to whose header its edge leads
   abbrev pub IsWhy : Follower → State → Input → State → Unkept → Type 0
@@ -91,7 +91,7 @@ module _ (words : Words) (st : Stated) (flow : Flow) (tree : Tree) where
   IsWhy x s i after (unkept.Stray stray) =
       Strays words st flow (place_in flow tree x.number) s i after stray
   IsWhy x s i after (TurnedBack span) =
-      (told : Stepped) × (k : ℕ) × IsNext x s i told after k × Contains tree.spans span
+      (stepped : Stepped) × (k : ℕ) × IsNext x s i stepped after k × Contains tree.spans span
       × ((edge_at tree.edges k).to ≡ span.header)
   IsWhy x s i after Unfinished = ⊥
 

@@ -65,7 +65,7 @@ module _ (words : Words) (st : Stated) (flow : Flow) (place : Place) (s : State)
   -- no step is along an edge that leaves the place
   abbrev pub TakesNone : Type 0
   TakesNone =
-      (told : Stepped) (after : State) (e : Edge) → IsEdgeOf words st flow.profile s i told after e
+      (stepped : Stepped) (after : State) (e : Edge) → IsEdgeOf words st flow.profile s i stepped after e
       → e.from ≡ place → ⊥
 
   -- ## Why there is none
@@ -74,9 +74,9 @@ module _ (words : Words) (st : Stated) (flow : Flow) (place : Place) (s : State)
   pub record Ends (after : State) (kind : Kind) : Type 0 where
     pub word : ℕ
     pub fetches : StandsThere words s word
-    pub told : Stepped
-    pub step : Step s i told after
-    pub kind_is : told.kind ≡ kind
+    pub stepped : Stepped
+    pub step : Step s i stepped after
+    pub kind_is : stepped.kind ≡ kind
 
   -- the step transfers a word of another class than the one stated, and this is the first
   pub record TransfersOther (after : State) (access : Access) : Type 0 where
@@ -86,10 +86,10 @@ module _ (words : Words) (st : Stated) (flow : Flow) (place : Place) (s : State)
   -- the step executes the word as stated, and goes to the address, to which no edge of the place leads
   pub record GoesTo (after : State) (to : ℕ) : Type 0 where
     pub action : Action
-    pub told : Stepped
-    pub executes : Executes words st flow.profile action s i told after
-    pub to_is : told.to ≡ to
-    pub none : (calls : List ℕ) (e : Edge) → IsTaken words st flow.profile calls action s told e
+    pub stepped : Stepped
+    pub executes : Executes words st flow.profile action s i stepped after
+    pub to_is : stepped.to ≡ to
+    pub none : (calls : List ℕ) (e : Edge) → IsTaken words st flow.profile calls action s stepped e
         → e.from ≡ place → ⊥
 
   -- Another word: the image has none at the machine's address, or the machine fetches another or none. No

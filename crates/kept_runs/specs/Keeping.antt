@@ -95,9 +95,9 @@ module _ (words : Words) (st : Stated) (flow : Flow) (tree : Tree) where
   pub record TurnsBack (s : State) (inputs : List Input) (steps : ℕ) (after : State)
       (span : Span) : Type 0 where
     pub before : IsBefore s inputs steps
-    pub told : Stepped
+    pub stepped : Stepped
     pub edge : Edge
-    pub is_edge_of : IsEdgeOf words st flow.profile before.now before.input told after edge
+    pub is_edge_of : IsEdgeOf words st flow.profile before.now before.input stepped after edge
     pub from : edge.from ≡ before.place
     pub in_tree : Contains tree.spans span
     pub to : edge.to ≡ place_in flow tree span.header

@@ -18,10 +18,10 @@ pub record Pass : Type 0 where
   pub ticks : ℕ
 
 -- the step along the edge begins where the edge does, and takes these ticks
-pub record IsPass (flow : Flow) (e : Edge) (told : Stepped) (pass : Pass) : Type 0 where
+pub record IsPass (flow : Flow) (e : Edge) (stepped : Stepped) (pass : Pass) : Type 0 where
   pub known : pass.place < length flow.places
   pub begins : place_at flow.places pass.place ≡ e.from
-  pub ticks_are : pass.ticks ≡ told.ticks
+  pub ticks_are : pass.ticks ≡ stepped.ticks
 
 -- the steps of a run by the inputs along the walk, in their order
 abbrev pub ArePasses : Flow → State → List Input → List Edge → List Pass → Type 0
@@ -29,8 +29,8 @@ ArePasses flow s [] [] passes = passes ≡ []
 ArePasses flow s [] (e ∷ walk) passes = ⊥
 ArePasses flow s (i ∷ inputs) [] passes = ⊥
 ArePasses flow s (i ∷ inputs) (e ∷ walk) passes =
-    (told : Stepped) × (next : State) × Step s i told next
-    × ((pass : Pass) × (rest : List Pass) × IsPass flow e told pass
+    (stepped : Stepped) × (next : State) × Step s i stepped next
+    × ((pass : Pass) × (rest : List Pass) × IsPass flow e stepped pass
     × ArePasses flow next inputs walk rest × (passes ≡ pass ∷ rest))
 
 -- ## By places

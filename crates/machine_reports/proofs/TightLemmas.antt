@@ -167,22 +167,22 @@ place_among words p calls a w is there = is_among words a w there
 -- ## The run
 
 -- a step that is not stopped, alone
-ran_alone : (s after : State) (i : Input) (ran : Ran) (told : Stepped) (next : State) → Step s i told next → told.kind ≡ Plain
-    → i.bursts ≡ 0 → Runs s (i ∷ []) ran after → ran ≡ step_of_cost told.ticks
-ran_alone s after i ran told next step plain quiet (other, last, other_step, ends) =
-    let same = one_step s i told other next last step other_step in
+ran_alone : (s after : State) (i : Input) (ran : Ran) (stepped : Stepped) (next : State) → Step s i stepped next → stepped.kind ≡ Plain
+    → i.bursts ≡ 0 → Runs s (i ∷ []) ran after → ran ≡ step_of_cost stepped.ticks
+ran_alone s after i ran stepped next step plain quiet (other, last, other_step, ends) =
+    let same = one_step s i stepped other next last step other_step in
     by_ends (subst (λ (k : Kind). Ends (why_stopped k) s ran after ((more : Ran) × Runs last [] more after × (ran ≡ counted s.profile.burst i other more))) (ap (λ (t : Stepped). t.kind) same.0 ∙ plain) ends)
   where
-    counted_alone : counted s.profile.burst i other (at_rest None) ≡ step_of_cost told.ticks
+    counted_alone : counted s.profile.burst i other (at_rest None) ≡ step_of_cost stepped.ticks
     counted_alone =
-        let same = one_step s i told other next last step other_step in
-        let ticks : other.ticks ≡ told.ticks = ap (λ (t : Stepped). t.ticks) same.0 in
+        let same = one_step s i stepped other next last step other_step in
+        let ticks : other.ticks ≡ stepped.ticks = ap (λ (t : Stepped). t.ticks) same.0 in
         let no_burst : s.profile.burst * i.bursts ≡ 0 = ap (λ n. s.profile.burst * n) quiet ∙ omega arith in
-        let a : other.ticks + 0 ≡ told.ticks = omega (arith, ticks) in
-        let b : other.ticks + s.profile.burst * i.bursts + 0 ≡ told.ticks = omega (arith, ticks, no_burst) in
+        let a : other.ticks + 0 ≡ stepped.ticks = omega (arith, ticks) in
+        let b : other.ticks + s.profile.burst * i.bursts + 0 ≡ stepped.ticks = omega (arith, ticks, no_burst) in
         λ j. record { steps = 1; ticks = a j; elapsed = b j; stopped = None }
 
-    by_ends : (more : Ran) × Runs last [] more after × (ran ≡ counted s.profile.burst i other more) → ran ≡ step_of_cost told.ticks
+    by_ends : (more : Ran) × Runs last [] more after × (ran ≡ counted s.profile.burst i other more) → ran ≡ step_of_cost stepped.ticks
     by_ends (more, (rest, at), is) =
         is ∙ ap (counted s.profile.burst i other) rest ∙ counted_alone
 
@@ -229,7 +229,7 @@ module _ (source : List ℕ) (words : Words) (names : Names) (profile : Profile)
       let t = step.takes in
       let e = t.takes.executes in
       let alone : Runs s (step.one.input ∷ []) ran after = subst (λ (is : List Input). Runs s is ran after) step.one.alone runs in
-      ran_alone s after step.one.input ran t.told t.after e.step e.plain step.one.bursts alone ∙ ap step_of_cost t.exact
+      ran_alone s after step.one.input ran t.stepped t.after e.step e.plain step.one.bursts alone ∙ ap step_of_cost t.exact
 
   -- the text takes the edge
   pub takes_edge : All (λ e. IsFitted e.0) words → (start : State) → IsStarted f profile start → TakesEdge source text profile words st edge

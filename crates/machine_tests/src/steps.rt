@@ -46,8 +46,8 @@ fn words(machine: &Machine, one: Reg, other: Reg) -> [u32; 2] {
 
 // What a step reports: its address and its ticks.
 fn step(machine: &mut Machine, input: Input) -> (u32, u32) {
-    let told = machine.step(input);
-    (told.from, told.ticks)
+    let stepped = machine.step(input);
+    (stepped.from, stepped.ticks)
 }
 
 #[test]
@@ -120,7 +120,7 @@ fn stopped_step_changes_nothing(rt: HostRuntime) -> Result<(), Fail> {
         b" ORG &1000\n STR R1,[R0]",
     )?;
     machine.set(Reg::R0, 0x380_8105);
-    let told = machine.step(Input {
+    let stepped = machine.step(Input {
         bursts: 3,
         lines: Lines::A2,
         port: 0,
@@ -131,7 +131,7 @@ fn stopped_step_changes_nothing(rt: HostRuntime) -> Result<(), Fail> {
         from: 0x1000,
         to: 0x1000,
     };
-    assert!(rt; told == wanted);
+    assert!(rt; stepped == wanted);
     assert!(rt; !status(&machine, 4));
     drop(machine);
     Ok(())
@@ -168,11 +168,11 @@ fn steps_with_one_fiq(machine: &mut Machine, wanted: &[(u32, u32)]) -> (Option<u
     let mut total = 0u32;
     for (n, row) in wanted.iter().enumerate() {
         let lines = if n == 1 { Lines::F0 } else { Lines::empty() };
-        let told = step(machine, Input { lines, ..quiet() });
-        if told != *row {
+        let stepped = step(machine, Input { lines, ..quiet() });
+        if stepped != *row {
             return (Some(n), total);
         }
-        total = total.wrapping_add(told.1);
+        total = total.wrapping_add(stepped.1);
     }
     (None, total)
 }

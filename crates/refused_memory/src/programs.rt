@@ -113,18 +113,18 @@ impl Started {
         )
     }
 
-    fn is_right(&self, status: u8, told: &[u8]) -> bool {
+    fn is_right(&self, status: u8, printed: &[u8]) -> bool {
         let answer = (status, self.out.bytes());
         answer == self.line.answer()
             && self.files.written == self.line.written()
-            && told.is_empty() == (status == 0)
+            && printed.is_empty() == (status == 0)
     }
 
-    fn answer(&self, status: u8, told: &[u8]) -> Answer {
+    fn answer(&self, status: u8, printed: &[u8]) -> Answer {
         if status != NO_MEMORY {
-            return Answer::of(self.is_right(status, told));
+            return Answer::of(self.is_right(status, printed));
         }
-        Answer::of_refusal(told == b"refused: Memory\n".as_slice())
+        Answer::of_refusal(printed == b"refused: Memory\n".as_slice())
     }
 }
 

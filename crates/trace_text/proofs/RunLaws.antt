@@ -53,30 +53,30 @@ text_ends start inputs now left old new adds none =
 
 module _ (start : State) (inputs : List Input) (now next : State) (left rest : List Input) (i : Input)
     (traced : Traced)
-    (at_hand : left ≡ i ∷ rest) (step : Step now i traced.told next) where
+    (at_hand : left ≡ i ∷ rest) (step : Step now i traced.stepped next) where
   -- it stopped
   pub text_stops : (w : Why) (old new : List ℕ) → traced.word ≡ traced_word now i
-      → traced.told.kind ≡ Stopped w → Adds (ToldSoFar start inputs now left) old new
+      → traced.stepped.kind ≡ Stopped w → Adds (ToldSoFar start inputs now left) old new
       → Adds (TracesRun start inputs) old new
   text_stops w old new word is adds =
-      let ends = goes_some traced.told.kind w (TextOn traced next rest []) is in
+      let ends = goes_some traced.stepped.kind w (TextOn traced next rest []) is in
       told_whole start inputs now left old new adds
       (subst (λ (is : List Input). TracesRun now is []) (sym at_hand) (traced, next, step, word, ends))
 
   -- it went on
   pub told_goes : (text line : List ℕ) → traced.word ≡ traced_word now i
-      → ((w : Why) → traced.told.kind ≡ Stopped w → ⊥) → ToldSoFar start inputs now left text
+      → ((w : Why) → traced.stepped.kind ≡ Stopped w → ⊥) → ToldSoFar start inputs now left text
       → IsTraceLine traced line → ToldSoFar start inputs next rest (text ++ line)
-  told_goes text line word not_stopped so_far is = λ more told.
+  told_goes text line word not_stopped so_far is = λ more stepped.
       let on = TextOn traced next rest (line ++ more) in
-      let ends = goes_none traced.told.kind (line ++ more) on not_stopped (line, is, more, told, refl) in
+      let ends = goes_none traced.stepped.kind (line ++ more) on not_stopped (line, is, more, stepped, refl) in
       let here =
       subst (λ (is : List Input). TracesRun now is (line ++ more)) (sym at_hand)
       (traced, next, step, word, ends) in
       subst (TracesRun start inputs) (sym (append_assoc text line more)) (so_far (line ++ more) here)
 
   pub text_goes : (old mid new : List ℕ) → traced.word ≡ traced_word now i
-      → ((w : Why) → traced.told.kind ≡ Stopped w → ⊥) → Adds (ToldSoFar start inputs now left) old mid
+      → ((w : Why) → traced.stepped.kind ≡ Stopped w → ⊥) → Adds (ToldSoFar start inputs now left) old mid
       → Adds (IsTraceLine traced) mid new
       → Adds (ToldSoFar start inputs next rest) old new
   text_goes old mid new word not_stopped adds line = (
@@ -95,8 +95,8 @@ FrontTold start inputs n now text =
     (tail : List Input) → ToldSoFar start (take n inputs ++ tail) now tail text
 
 module _ (start : State) (inputs : List Input) (n : ℕ) (now next : State) (i : Input) (traced : Traced)
-    (here : take (n + 1) inputs ≡ take n inputs ++ i ∷ []) (step : Step now i traced.told next)
-    (not_stopped : (w : Why) → traced.told.kind ≡ Stopped w → ⊥) where
+    (here : take (n + 1) inputs ≡ take n inputs ++ i ∷ []) (step : Step now i traced.stepped next)
+    (not_stopped : (w : Why) → traced.stepped.kind ≡ Stopped w → ⊥) where
   longer : (tail : List Input) → take n inputs ++ i ∷ tail ≡ take (n + 1) inputs ++ tail
   longer tail =
       sym (append_assoc (take n inputs) (i ∷ []) tail) ∙ ap (λ (front : List Input). front ++ tail) (sym here)
@@ -104,8 +104,8 @@ module _ (start : State) (inputs : List Input) (n : ℕ) (now next : State) (i :
   abbrev one_more : Ran → Ran
   one_more ran = record {
     steps = ran.steps + 1;
-    ticks = ran.ticks + traced.told.ticks;
-    elapsed = ran.elapsed + (traced.told.ticks + now.profile.burst * i.bursts);
+    ticks = ran.ticks + traced.stepped.ticks;
+    elapsed = ran.elapsed + (traced.stepped.ticks + now.profile.burst * i.bursts);
     stopped = ran.stopped;
   }
 
@@ -114,7 +114,7 @@ module _ (start : State) (inputs : List Input) (n : ℕ) (now next : State) (i :
   front_runs ran so_far = λ tail.
       let all = take n inputs ++ i ∷ tail in
       let goes =
-      more_steps start all ran now next (i ∷ tail) tail i traced.told
+      more_steps start all ran now next (i ∷ tail) tail i traced.stepped
       (so_far (i ∷ tail)) refl step not_stopped in
       subst (λ (all : List Input). SoFar start all (one_more ran) next tail) (longer tail) goes
 
@@ -123,14 +123,14 @@ module _ (start : State) (inputs : List Input) (n : ℕ) (now next : State) (i :
       → Adds (FrontTold start inputs (n + 1) next) old new
   front_told old mid new word adds line =
       let text = adds.0 ++ line.0 in
-      let told : FrontTold start inputs (n + 1) next text = λ tail.
+      let stepped : FrontTold start inputs (n + 1) next text = λ tail.
       let all = take n inputs ++ i ∷ tail in
       let law =
       told_goes start all now next (i ∷ tail) tail i traced refl step adds.0 line.0 word not_stopped in
       subst (λ (all : List Input). ToldSoFar start all next tail text) (longer tail)
       (law (adds.1 (i ∷ tail)) line.1) in
       let is = line.2 ∙ ap (λ (t : List ℕ). t ++ line.0) adds.2 ∙ append_assoc old adds.0 line.0 in
-      (text, told, is)
+      (text, stepped, is)
 
   -- a run that nothing stopped
   abbrev going : Ran → Ran
@@ -140,7 +140,7 @@ module _ (start : State) (inputs : List Input) (n : ℕ) (now next : State) (i :
   pub run_refused : (rest : List Input) (ran : Ran) (old mid new : List ℕ)
       → drop n inputs ≡ i ∷ rest → FrontRuns start inputs n ran now
       → Adds (FrontTold start inputs n now) old mid → new ≡ mid → RefusedRun start inputs next old new
-  run_refused rest ran old mid new left runs told kept = record {
+  run_refused rest ran old mid new left runs stepped kept = record {
     done = take n inputs;
     input = i;
     rest = rest;
@@ -151,14 +151,14 @@ module _ (start : State) (inputs : List Input) (n : ℕ) (now next : State) (i :
         subst (λ (all : List Input). Runs start all (going ran) now) (append-nil (take n inputs))
         (ends_with start (take n inputs ++ []) ran now now [] None (runs []) (refl, refl));
     goes_on = refl;
-    told = traced.told;
+    stepped = traced.stepped;
     step = step;
-    not_stopped = goes traced.told.kind not_stopped;
+    not_stopped = goes traced.stepped.kind not_stopped;
     text = (
-      told.0,
-      subst (λ (all : List Input). TracesRun start all told.0) (append-nil (take n inputs))
-          (subst (TracesRun start (take n inputs ++ [])) (append-nil told.0) (told.1 [] [] refl)),
-      kept ∙ told.2,
+      stepped.0,
+      subst (λ (all : List Input). TracesRun start all stepped.0) (append-nil (take n inputs))
+          (subst (TracesRun start (take n inputs ++ [])) (append-nil stepped.0) (stepped.1 [] [] refl)),
+      kept ∙ stepped.2,
     );
   }
 

@@ -77,8 +77,8 @@ word_text None = codes "--------"
 -- the address, the word and the ticks, each before a blank
 abbrev pub front_text : Traced → List ℕ
 front_text t =
-    hex8 t.told.from
-    ++ (codes " " ++ (word_text t.word ++ (codes " " ++ (decimal t.told.ticks ++ codes " "))))
+    hex8 t.stepped.from
+    ++ (codes " " ++ (word_text t.word ++ (codes " " ++ (decimal t.stepped.ticks ++ codes " "))))
 
 -- the line of a word at its address; nothing where there is no word
 abbrev pub IsWordLine : Option ℕ → (at : ℕ) → List ℕ → Type 0
@@ -90,10 +90,10 @@ abbrev pub IsLineOf : Kind → Traced → List ℕ → Type 0
 IsLineOf (Stopped why) t line = line ≡ []
 IsLineOf (Taken vector) t line = line ≡ front_text t ++ (exception_name vector ++ codes "\n")
 IsLineOf Plain t line =
-    (text : List ℕ) × IsWordLine t.word t.told.from text × (line ≡ front_text t ++ (text ++ codes "\n"))
+    (text : List ℕ) × IsWordLine t.word t.stepped.from text × (line ≡ front_text t ++ (text ++ codes "\n"))
 
 abbrev pub IsTraceLine : Traced → List ℕ → Type 0
-IsTraceLine t line = IsLineOf t.told.kind t line
+IsTraceLine t line = IsLineOf t.stepped.kind t line
 
 -- ---- runs
 
@@ -106,8 +106,8 @@ Goes None text goes_on = goes_on
 abbrev pub TracesRun : State → List Input → List ℕ → Type 0
 TracesRun s [] text = text ≡ []
 TracesRun s (i ∷ rest) text =
-    (traced : Traced) × (next : State) × Step s i traced.told next × (traced.word ≡ traced_word s i)
-    × Goes (why_stopped traced.told.kind) text
+    (traced : Traced) × (next : State) × Step s i traced.stepped next × (traced.word ≡ traced_word s i)
+    × Goes (why_stopped traced.stepped.kind) text
     ((line : List ℕ) × IsTraceLine traced line × (more : List ℕ) × TracesRun next rest more
     × (text ≡ line ++ more))
 
@@ -122,7 +122,7 @@ pub record RefusedRun (s : State) (inputs : List Input) (after : State) (old new
   pub between : State
   pub runs : Runs s done ran between
   pub goes_on : ran.stopped ≡ None
-  pub told : Stepped
-  pub step : Step between input told after
-  pub not_stopped : why_stopped told.kind ≡ None
+  pub stepped : Stepped
+  pub step : Step between input stepped after
+  pub not_stopped : why_stopped stepped.kind ≡ None
   pub text : Adds (TracesRun s done) old new

@@ -33,12 +33,12 @@ pub fn write_run(
     for input in inputs {
         let stretched = machine.profile().burst_ticks(input.bursts);
         let traced = machine.step_traced(*input);
-        if let Kind::Stopped(why) = traced.told.kind {
+        if let Kind::Stopped(why) = traced.stepped.kind {
             ran.stopped = Some(why);
             return Ok(ran);
         }
         put_trace(out, &traced, &mut lately)?;
-        let ticks = u128::from(traced.told.ticks);
+        let ticks = u128::from(traced.stepped.ticks);
         ran.steps += 1;
         ran.ticks += ticks;
         ran.elapsed += ticks + u128::from(stretched);

@@ -49,7 +49,7 @@ fn front_of(traced: &Traced) -> ArrayString<LINE_ROOM>
     ensures text { result.bytes ≡ front_text traced.now }
     ensures short { length result.bytes ≤ 29 }
 {
-    let from = hex_word(traced.told.from);
+    let from = hex_word(traced.stepped.from);
     let word = word_shown(traced.word);
     let mut ticks = Buffer::new();
     let mut front = ArrayString::new();
@@ -57,7 +57,7 @@ fn front_of(traced: &Traced) -> ArrayString<LINE_ROOM>
     front.push_str(" ");
     front.push_str(word.as_str());
     front.push_str(" ");
-    front.push_str(ticks.format(traced.told.ticks));
+    front.push_str(ticks.format(traced.stepped.ticks));
     front.push_str(" ");
     front
 }
@@ -86,7 +86,7 @@ pub(crate) fn line_of(traced: &Traced, lately: &mut ShownLately) -> ArrayString<
     ensures line { IsTraceLine traced.now result.bytes }
     ensures right { AreRight lately.new.rows }
 {
-    match traced.told.kind {
+    match traced.stepped.kind {
         Kind::Stopped(_) => ArrayString::new(),
         Kind::Taken(vector) => {
             let mut line = front_of(traced);
@@ -96,7 +96,7 @@ pub(crate) fn line_of(traced: &Traced, lately: &mut ShownLately) -> ArrayString<
         }
         Kind::Plain => {
             let mut line = front_of(traced);
-            put_word_line(&mut line, lately, traced.word, traced.told.from);
+            put_word_line(&mut line, lately, traced.word, traced.stepped.from);
             line.push_str("\n");
             line
         }

@@ -23,8 +23,8 @@ impl Followed {
     /// says no ticks.
     pub(crate) fn fits(self, ticks: u64, bound: u64) -> bool {
         match self {
-            Followed::Kept { ticks: told, less } => told == ticks
-                && bound.checked_sub(told) == Some(less),
+            Followed::Kept { ticks: printed, less } => printed == ticks
+                && bound.checked_sub(printed) == Some(less),
             Followed::StartsElsewhere => true,
             Followed::Strayed => false,
         }
@@ -58,9 +58,9 @@ pub(crate) fn follow_run(alloc: Global, files: &Files) -> Result<Followed, Handl
         statement: &files.statement,
         machine: &files.machine,
     };
-    let mut told = MemoryOutput::with_room(alloc, 0)?;
-    let kept = follow_report(alloc, run, None, &mut told)?;
-    let text = str::from_utf8(told.bytes()).map_err(|_| HandlerFault::Text)?;
+    let mut report = MemoryOutput::with_room(alloc, 0)?;
+    let kept = follow_report(alloc, run, None, &mut report)?;
+    let text = str::from_utf8(report.bytes()).map_err(|_| HandlerFault::Text)?;
     let line = text.lines().next().ok_or(HandlerFault::Text)?;
     if kept {
         return kept_in(line).ok_or(HandlerFault::Text);

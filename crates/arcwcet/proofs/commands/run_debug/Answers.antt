@@ -4,7 +4,7 @@ use Rattle.command_line.specs.Line.{names_of}
 use Rattle.machine_reports.specs.Debug.{IsDebugReport}
 use Rattle.report_input.specs.Placing.{IsRunRefused, IsRunnable}
 use Rattle.arcwcet.specs.FileTexts.{kept_two, lent_two}
-use Rattle.arcwcet.proofs.RunLemmas.{debug_ran, told_two_plain}
+use Rattle.arcwcet.proofs.RunLemmas.{debug_ran, answered_two_plain}
 use Rattle.arcwcet.proofs.commands.run_debug.Goals as goal
 
 pub returns-clause-ran : goal.returns-clause-ran
@@ -18,5 +18,5 @@ returns-clause-ran g c =
     (subst (λ (xs : List ℕ). Consumes (g.I.Read.remaining c.args.input.now) (g.I.Read.remaining c.read_limited.new.reader) xs) (sym c.deref.ensures.value) heard.consumed)
     heard.at_end (subst (λ (xs : List ℕ). length xs ≤ 16777216) (sym c.deref.ensures.value) limit)
     (kept_two c.in-Ok.files) (lent_two t) c.texts-texts.ensures c.in-Ok.ensures.read c.answered.result
-    (told_two_plain _ _ _ _ _ _ _ (λ a b p. IsDebugReport a b commands p) IsRunnable IsRunRefused c.debug_report-done.result c.debug_report-done.ensures c.answered.result c.answered.ensures)
+    (answered_two_plain _ _ _ _ _ _ _ (λ a b p. IsDebugReport a b commands p) IsRunnable IsRunRefused c.debug_report-done.result c.debug_report-done.ensures c.answered.result c.answered.ensures)
     c.answer_status.result c.answer_status.ensures.status

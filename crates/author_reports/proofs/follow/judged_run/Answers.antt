@@ -2,14 +2,14 @@ use Rattle.std.proofs.Common.{List, subst}
 use Rattle.std.proofs.lemmas.Result.{IfOk-weaker}
 use Rattle.arm2_exec.specs.declared.machine.Input.{Input}
 use Rattle.kept_runs.specs.Keeping.{IsFollowed}
-use Rattle.author_reports.proofs.FollowLemmas.{all_places, told}
+use Rattle.author_reports.proofs.FollowLemmas.{all_places, run_text}
 use Rattle.author_reports.proofs.follow.judged_run.Goals as goal
 
 pub follow-requires-clause-handler : goal.follow-requires-clause-handler
 follow-requires-clause-handler c = record { graph_is = c.requires.graph; tree_is = c.requires.tree.tree_is }
 
-pub told-requires : goal.told-requires
-told-requires c =
+pub judgement-requires : goal.judgement-requires
+judgement-requires c =
     let b = c.args.bounded in
     let h = b.handler.now in
     all_places b.image.now h.statement h.graph h.tree c.args.placed.now.machine c.deref.result.now c.follow.new.machine c.in_ok-followed.followed c.in_ok-followed.ensures.followed
@@ -24,10 +24,10 @@ returns-clause-judged c =
     let f = c.in_ok-followed.followed in
     let is : IsFollowed b.image.now h.statement h.graph h.tree start inputs after f =
     subst (λ (is : List Input). IsFollowed b.image.now h.statement h.graph h.tree start is after f) c.deref.ensures.value c.in_ok-followed.ensures.followed in
-    IfOk-weaker c.told.result _ _
-    (λ j tells. record {
+    IfOk-weaker c.judgement.result _ _
+    (λ j text. record {
       inputs = inputs;
       inputs_are = c.in_ok-inputs.ensures;
-      tells = told b.image.now h.statement h.graph h.tree c.requires.tree b.source.now b.longest.now start inputs c.is_well_formed.ensures c.step_law.ensures.cost c.run_law.ensures c.requires.longest c.requires.greatest after f j.kept j.text.items is tells;
+      is_text = run_text b.image.now h.statement h.graph h.tree c.requires.tree b.source.now b.longest.now start inputs c.is_well_formed.ensures c.step_law.ensures.cost c.run_law.ensures c.requires.longest c.requires.greatest after f j.kept j.text.items is text;
     })
-    c.told.ensures.told
+    c.judgement.ensures.text

@@ -10,11 +10,11 @@ returns c =
     let i = c.args.input.now in
     let traced = c.step_traced-traced.result in
     let step = c.step_traced-traced.ensures.step in
-    let same = same_profile s i traced.told c.step_traced-traced.new.self step in
-    let counted : c.count.new.self ≡ further s.profile.burst i traced.told c.args.ran.now
-    = c.count.ensures.counted ∙ ap (λ (p : Profile). further p.burst i traced.told c.args.ran.now) same in
+    let same = same_profile s i traced.stepped c.step_traced-traced.new.self step in
+    let counted : c.count.new.self ≡ further s.profile.burst i traced.stepped c.args.ran.now
+    = c.count.ensures.counted ∙ ap (λ (p : Profile). further p.burst i traced.stepped c.args.ran.now) same in
     record {
-      told = ((step, c.step_traced-traced.ensures.word), c.in_default.not-Stopped, counted);
+      stepped = ((step, c.step_traced-traced.ensures.word), c.in_default.not-Stopped, counted);
       input = refl;
       bound = c.count.ensures.bound;
     }

@@ -17,10 +17,10 @@ returns-in_default-clause-runs c =
     let made = c.loop-made.made in
     let start = c.args.machine.now in
     let inputs = inputs_of c.args.first steps in
-    let (traced, why, makes, is, told) = c.in_default.ensures.told in
-    subst (λ (r : Ran). Runs start inputs r c.advance.new.machine) (sym (c.told.ensures ∙ told))
+    let (traced, why, makes, is, stepped) = c.in_default.ensures.stepped in
+    subst (λ (r : Ran). Runs start inputs r c.advance.new.machine) (sym (c.counts.ensures ∙ stepped))
     (at_stop start inputs c.loop-made.ran c.loop-made.machine c.advance.new.machine
-    (inputs_of i (steps - made)) (inputs_of (without_bursts i) (steps - (made + 1))) i traced.told why
+    (inputs_of i (steps - made)) (inputs_of (without_bursts i) (steps - (made + 1))) i traced.stepped why
     c.loop-made.invariant.0 (at_hand i steps made c.loop-made-test.true) makes.0 is)
 
 pub returns-in_default-clause-text : goal.returns-in_default-clause-text
@@ -28,7 +28,7 @@ returns-in_default-clause-text c =
     let i = c.loop-made.input in
     let steps = c.args.steps in
     let made = c.loop-made.made in
-    let (traced, why, makes, is, told) = c.in_default.ensures.told in
+    let (traced, why, makes, is, stepped) = c.in_default.ensures.stepped in
     text_stops c.args.machine.now (inputs_of c.args.first steps) c.loop-made.machine c.advance.new.machine
     (inputs_of i (steps - made)) (inputs_of (without_bursts i) (steps - (made + 1))) i traced
     (at_hand i steps made c.loop-made-test.true) makes.0 why c.args.out.now.items c.loop-made.out.items
@@ -47,10 +47,10 @@ loop-made-preserved c =
     let left = inputs_of i (steps - made) in
     let rest = inputs_of (without_bursts i) (steps - (made + 1)) in
     let traced = c.in-Some.traced in
-    let counts = c.in-Some.ensures.told in
+    let counts = c.in-Some.ensures.stepped in
     let here = at_hand i steps made less in
     let runs =
-    more_steps start inputs c.loop-made.ran now next left rest i traced.told c.loop-made.invariant.0 here
+    more_steps start inputs c.loop-made.ran now next left rest i traced.stepped c.loop-made.invariant.0 here
     counts.0.0 counts.1 in
     let text =
     text_goes start inputs now next left rest i traced here counts.0.0 c.args.out.now.items
@@ -74,7 +74,7 @@ pub returns-clause-runs : goal.returns-clause-runs
 returns-clause-runs c =
     let i = c.loop-made.input in
     let inputs = inputs_of c.args.first c.args.steps in
-    subst (λ (r : Ran). Runs c.args.machine.now inputs r c.loop-made.machine) (sym c.told-2.ensures)
+    subst (λ (r : Ran). Runs c.args.machine.now inputs r c.loop-made.machine) (sym c.counts-2.ensures)
     (at_end c.args.machine.now (inputs_of c.args.first c.args.steps) c.loop-made.ran c.loop-made.machine
     (inputs_of i (c.args.steps - c.loop-made.made)) c.loop-made.invariant.0
     (none_left i c.args.steps c.loop-made.made c.loop-made-test.false) c.loop-made.invariant.3)

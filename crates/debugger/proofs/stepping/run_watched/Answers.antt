@@ -14,7 +14,7 @@ returns-in_default c =
     (run_stops c.args.breaks.now c.args.machine.now (inputs_of c.args.first steps) c.loop-made.machine
     c.advance.new.machine (inputs_of i (steps - made)) (inputs_of (without_bursts i) (steps - (made + 1)))
     i c.loop-made.ran c.advance.new.ran c.loop-made.last
-    (at_hand i steps made c.loop-made-test.true) c.loop-made.invariant.0 c.in_default.ensures.told)
+    (at_hand i steps made c.loop-made-test.true) c.loop-made.invariant.0 c.in_default.ensures.stepped)
 
 pub returns-then-is_at_break : goal.returns-then-is_at_break
 returns-then-is_at_break c =
@@ -26,7 +26,7 @@ returns-then-is_at_break c =
     c.advance.new.machine (inputs_of i (steps - made)) (inputs_of (without_bursts i) (steps - (made + 1)))
     i c.loop-made.ran c.advance.new.ran c.loop-made.last
     (at_hand i steps made c.loop-made-test.true) c.loop-made.invariant.0
-    c.in-Some.traced c.in-Some.ensures.told (sym c.if-is_at_break.ensures))
+    c.in-Some.traced c.in-Some.ensures.stepped (sym c.if-is_at_break.ensures))
 
 pub loop-made-preserved : goal.loop-made-preserved
 loop-made-preserved c =
@@ -40,7 +40,7 @@ loop-made-preserved c =
     machine (inputs_of i (steps - made)) (inputs_of (without_bursts i) (steps - (made + 1)))
     i c.loop-made.ran c.advance.new.ran c.loop-made.last
     (at_hand i steps made c.loop-made-test.true) c.loop-made.invariant.0
-    c.in-Some.traced c.in-Some.ensures.told (sym c.if-is_at_break.ensures) in
+    c.in-Some.traced c.in-Some.ensures.stepped (sym c.if-is_at_break.ensures) in
     let later =
     subst (λ (next : Input). SoFar c.args.breaks.now c.args.machine.now inputs machine
     (inputs_of next (steps - (made + 1))) c.advance.new.ran (Some (as_shown c.in-Some.traced)))

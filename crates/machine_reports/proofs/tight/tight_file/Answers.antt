@@ -3,8 +3,8 @@ use Rattle.machine_reports.proofs.tight.tight_file.Goals as goal
 
 pub unreachable-requires : goal.unreachable-requires
 unreachable-requires c =
-    let told = c.in-Err-NotFree.is ∙ ap Err c.in-Err-NotFree.field-0-is in
-    (c.tight_state.ensures.not_free c.args.edge.now c.requires.edge.is).0 told c.requires.free
+    let stepped = c.in-Err-NotFree.is ∙ ap Err c.in-Err-NotFree.field-0-is in
+    (c.tight_state.ensures.not_free c.args.edge.now c.requires.edge.is).0 stepped c.requires.free
 
 pub returns-in-Ok-clause-file : goal.returns-in-Ok-clause-file
 returns-in-Ok-clause-file c =

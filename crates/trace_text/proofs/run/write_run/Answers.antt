@@ -27,7 +27,7 @@ returns-in-Stopped c =
     record {
       runs =
           at_stop start inputs c.loop-input.ran c.loop-input.machine traced.new.self left rest input
-          traced.result.told c.in-Stopped.why c.loop-input.invariant.0 at_hand traced.ensures.step c.in-Stopped.is;
+          traced.result.stepped c.in-Stopped.why c.loop-input.invariant.0 at_hand traced.ensures.step c.in-Stopped.is;
       text =
           text_stops start inputs c.loop-input.machine traced.new.self left rest input traced.result at_hand
           traced.ensures.step c.in-Stopped.why (string_bytes c.args.out.now) (string_bytes c.loop-input.out)
@@ -47,10 +47,10 @@ loop-input-preserved c =
     let at_hand = drop_more inputs index _ c.loop-input-test.true in
     let runs =
     more_steps start inputs c.loop-input.ran now next (drop index inputs) (drop (index + 1) inputs) input
-    traced.result.told c.loop-input.invariant.0 at_hand traced.ensures.step c.in_default.not-Stopped in
+    traced.result.stepped c.loop-input.invariant.0 at_hand traced.ensures.step c.in_default.not-Stopped in
     let old = string_bytes c.loop-input.out in
     let line : Adds (IsTraceLine traced.result) old (string_bytes c.put_trace.new.out) = search rules in
-    let told =
+    let stepped =
     text_goes start inputs now next (drop index inputs)
     (drop (index + 1) inputs) input traced.result at_hand traced.ensures.step
     (string_bytes c.args.out.now) (string_bytes c.loop-input.out)
@@ -76,7 +76,7 @@ loop-input-preserved c =
     (string_bytes c.args.out.now) (string_bytes c.loop-input.out)
     (string_bytes c.put_trace.new.out) traced.ensures.word c.loop-input.invariant.7 line in (
       rw (same, stretched) runs,
-      told,
+      stepped,
       c.loop-input.invariant.2,
       omega (arith, long),
       omega (arith, spent, same, bound),

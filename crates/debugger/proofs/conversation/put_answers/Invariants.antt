@@ -1,7 +1,7 @@
 use Rattle.std.proofs.Common.{length}
 use Rattle.asm_text.specs.Source.{lines_of}
 use Rattle.debugger.proofs.TalkLaws.{TalkSoFar}
-use Rattle.debugger.proofs.conversation.tell_all.Given as goal
+use Rattle.debugger.proofs.conversation.put_answers.Given as goal
 
 abbrev pub invariant-loop-line : goal.invariant-loop-line
 invariant-loop-line l = TalkSoFar l.fn.session (lines_of l.lines) l.session (lines_of l.rest) l.out.items

@@ -19,7 +19,7 @@ use Rattle.numbered_walks.proofs.Nesting.{same_header}
 use Rattle.cert_check.specs.declared.walker.Walker.{Walker}
 use Rattle.walk_counts.specs.Spans.{header_at, turns_at_end}
 use Rattle.walk_counts.proofs.StayLemmas.{edge_back, edge_elsewhere, edge_from_outside, edge_in_stay, span_there}
-use Rattle.cert_check.specs.Walking.{Adds, Arrives, Tells, broken_by, capped, gained, turns_after}
+use Rattle.cert_check.specs.Walking.{Adds, Arrives, IsWalkerAfter, broken_by, capped, gained, turns_after}
 
 -- ## Numbers
 
@@ -119,7 +119,7 @@ module _ (exit : ℕ) (edges : List NumberedEdge) (spans : List Span) (order : I
     pub elsewhere : (s : Span) → Contains spans s → s.header ≢ to → most_in s w ≡ most_in s v
     pub same_stay : (s : Span) → Contains spans s → s.header ≢ to → is_in s to ≡ true → (is_in s from ≡ true) × (turns_at_end s w ≡ turns_at_end s v)
 
-  module _ (old new : Walker) (v w : List NumberedEdge) (to cost turns : ℕ) (goes : Arrives headers to cost turns old new) (change : Changes old.number to v w) (told : Tells spans old v)
+  module _ (old new : Walker) (v w : List NumberedEdge) (to cost turns : ℕ) (goes : Arrives headers to cost turns old new) (change : Changes old.number to v w) (told : IsWalkerAfter spans old v)
       (room : to < length old.turns.items) (cost_is : cost ≡ capped (cost_of w)) (turns_is : (s : Span) → Contains spans s → s.header ≡ to → turns ≡ capped (turns_at_end s w)) where
     no_less : (s : Span) → Contains spans s → most_in s v ≤ most_in s w
     no_less s has = ⊎_elim
@@ -159,7 +159,7 @@ module _ (exit : ℕ) (edges : List NumberedEdge) (spans : List Span) (order : I
         (λ (other : s.header ≢ to). omega (arith, before, change.elsewhere s has other))
         (cases_eq s.header to)
 
-    pub tells_on : Tells spans new w
+    pub tells_on : IsWalkerAfter spans new w
     tells_on = record { cost_is = goes.cost_is ∙ cost_is; turns_are = stays_told; broken = broken_told; kept = kept_told }
 
   -- ## An edge
@@ -184,7 +184,7 @@ module _ (exit : ℕ) (edges : List NumberedEdge) (spans : List Span) (order : I
     turned : (o : Option Span) (s : Span) (from turns : ℕ) → o ≡ Some s → turns_after o from turns ≡ cond (is_in s from) (capped (turns + 1)) 0
     turned o s from turns is = ap (λ (x : Option Span). turns_after x from turns) is
 
-    edge_turns : (old : Walker) → old.number ≡ e.from → Tells spans old w → (s : Span) → Contains spans s → s.header ≡ e.to → turns_after (header_at headers e.to) e.from (get_or old.turns.items e.to 0) ≡ capped (turns_at_end s (w ++ e ∷ []))
+    edge_turns : (old : Walker) → old.number ≡ e.from → IsWalkerAfter spans old w → (s : Span) → Contains spans s → s.header ≡ e.to → turns_after (header_at headers e.to) e.from (get_or old.turns.items e.to 0) ≡ capped (turns_at_end s (w ++ e ∷ []))
     edge_turns old from_is told s has is =
         turned (header_at headers e.to) s e.from (get_or old.turns.items e.to 0) (span_there exit edges spans order headers all e.to s has is)
         ∙ ⊎_elim
@@ -200,7 +200,7 @@ module _ (exit : ℕ) (edges : List NumberedEdge) (spans : List Span) (order : I
         ap (λ (b : Bool). cond b (capped (get_or old.turns.items e.to 0 + 1)) 0) out ∙ none)
         (cases_Bool (is_in s e.from))
 
-    edge_told : (old new : Walker) → old.number ≡ e.from → e.to < length old.turns.items → Arrives headers e.to (capped (old.cost + e.cost)) (turns_after (header_at headers e.to) e.from (get_or old.turns.items e.to 0)) old new → Tells spans old w → Tells spans new (w ++ e ∷ [])
+    edge_told : (old new : Walker) → old.number ≡ e.from → e.to < length old.turns.items → Arrives headers e.to (capped (old.cost + e.cost)) (turns_after (header_at headers e.to) e.from (get_or old.turns.items e.to 0)) old new → IsWalkerAfter spans old w → IsWalkerAfter spans new (w ++ e ∷ [])
     edge_told old new from_is room goes told =
         tells_on old new w (w ++ e ∷ []) e.to (capped (old.cost + e.cost)) (turns_after (header_at headers e.to) e.from (get_or old.turns.items e.to 0)) goes
         (subst (λ (n : ℕ). Changes n e.to w (w ++ e ∷ [])) (sym from_is) edge_changes) told room
@@ -299,7 +299,7 @@ module _ (exit : ℕ) (edges : List NumberedEdge) (spans : List Span) (order : I
     }
 
     module _ (old mid new : Walker) (start : old.number ≡ n) (back : mid.number ≡ n) (room : n < length mid.turns.items) (positive : 0 < k)
-        (goes : Arrives headers n (gained old.cost mid.cost k) (gained (get_or old.turns.items n 0) (get_or mid.turns.items n 0) k) mid new) (before : Tells spans old w) (once : Tells spans mid (w ++ v)) where
+        (goes : Arrives headers n (gained old.cost mid.cost k) (gained (get_or old.turns.items n 0) (get_or mid.turns.items n 0) k) mid new) (before : IsWalkerAfter spans old w) (once : IsWalkerAfter spans mid (w ++ v)) where
       rounds_cost : gained old.cost mid.cost k ≡ capped (cost_of (w ++ repeated k v))
       rounds_cost =
           let more : mid.cost ≡ capped (cost_of w + cost_of v) = once.cost_is ∙ ap capped (cost-append number_shape w v) in
@@ -314,7 +314,7 @@ module _ (exit : ℕ) (edges : List NumberedEdge) (spans : List Span) (order : I
           let second : get_or mid.turns.items n 0 ≡ capped (turns_at_end s w + c) = ap (λ (p : ℕ). get_or mid.turns.items p 0) (sym is) ∙ once.turns_are s s_in (subst (λ (p : ℕ). is_in s p ≡ true) (sym back) here) ∙ ap capped (joined_once s s_in here).1 in
           (λ i. gained (first i) (second i) k) ∙ gained_is (turns_at_end s w) c k positive ∙ ap capped (sym (joined_rounds s s_in here).1)
 
-      rounds_told : Tells spans new (w ++ repeated k v)
+      rounds_told : IsWalkerAfter spans new (w ++ repeated k v)
       rounds_told =
           tells_on mid new (w ++ v) (w ++ repeated k v) n (gained old.cost mid.cost k) (gained (get_or old.turns.items n 0) (get_or mid.turns.items n 0) k) goes
           (subst (λ (m : ℕ). Changes m n (w ++ v) (w ++ repeated k v)) (sym back) (rounds_change positive)) once room rounds_cost rounds_turns
