@@ -99,7 +99,11 @@ fn strayed_run(
 }
 
 // The answer on a run that was followed.
-fn judgement(alloc: Global, bounded: Bounded<'_>, followed: &Followed) -> Result<Judged, ReportFault>
+fn judgement(
+    alloc: Global,
+    bounded: Bounded<'_>,
+    followed: &Followed,
+) -> Result<Judged, ReportFault>
     requires { HasAllPlaces bounded.handler.now.graph followed.now }
     ensures text { IfOk result
         (λ j. IsFollowedText bounded.entry.source.now bounded.entry.image.now

@@ -121,7 +121,10 @@ fn quoted_at(quote: u8, rest: &[u8]) -> (Token<'_>, &[u8])
 {
     let len = quoted_len(quote, rest);
     let after = after(rest, len + 1);
-    (key_or_value(Word::Quoted(quote, &rest[..len]), after), after)
+    (
+        key_or_value(Word::Quoted(quote, &rest[..len]), after),
+        after,
+    )
 }
 
 // The token of a bare word, and what follows it.

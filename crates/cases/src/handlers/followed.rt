@@ -23,8 +23,10 @@ impl Followed {
     /// says no ticks.
     pub(crate) fn fits(self, ticks: u64, bound: u64) -> bool {
         match self {
-            Followed::Kept { ticks: printed, less } => printed == ticks
-                && bound.checked_sub(printed) == Some(less),
+            Followed::Kept {
+                ticks: printed,
+                less,
+            } => printed == ticks && bound.checked_sub(printed) == Some(less),
             Followed::StartsElsewhere => true,
             Followed::Strayed => false,
         }
