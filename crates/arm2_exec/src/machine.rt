@@ -7,6 +7,7 @@ ghost use Rattle.arm2_exec.specs.Step.{HasOneOutcome, Step, fetched, interrupt_d
 ghost use Rattle.arm2_exec.specs.Run.{Runs};
 ghost use Rattle.arm2_exec.specs.Lent.{LendsIoc, LendsMemc, LendsVidc};
 ghost use Rattle.arm2_effect.specs.declared.modes.Reg.TheVariants.{R15};
+ghost use Rattle.arm2_exec.specs.declared.machine.MachineFault.TheVariants.{Memory};
 
 use crate::decoded::Decoded;
 use crate::work::{elapse, fetch, interrupt, work};
@@ -30,9 +31,6 @@ pub enum MachineFault {
 }
 
 impl From<MemcFault> for MachineFault {
-    ghost use Rattle.std.specs.Prelude.{◌≡◌};
-    ghost use Rattle.arm2_exec.specs.declared.machine.MachineFault.TheVariants.{Memory};
-
     ghost from_gives = { λ _ fault. fault ≡ Memory };
 
     fn from(_refused: MemcFault) -> MachineFault {
@@ -41,9 +39,6 @@ impl From<MemcFault> for MachineFault {
 }
 
 impl From<AllocError> for MachineFault {
-    ghost use Rattle.std.specs.Prelude.{◌≡◌};
-    ghost use Rattle.arm2_exec.specs.declared.machine.MachineFault.TheVariants.{Memory};
-
     ghost from_gives = { λ _ fault. fault ≡ Memory };
 
     fn from(_refused: AllocError) -> MachineFault {

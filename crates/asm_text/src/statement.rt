@@ -10,6 +10,7 @@ ghost use Rattle.asm_text.specs.Statements.{is_label, plain_said, run_target};
 ghost use Rattle.asm_text.specs.Statements.{target_first, with_value, single_said, single_with, statement_of};
 ghost use Rattle.asm_text.specs.Statements.{value_step, values_in};
 ghost use Rattle.asm_text.specs.declared.statement.Expects.TheVariants.{Start};
+ghost use Rattle.asm_text.specs.declared.statement.TextFault.TheVariants.{Memory};
 
 use crate::address::address;
 use crate::list::block;
@@ -37,9 +38,6 @@ pub enum TextFault {
 }
 
 impl From<AllocError> for TextFault {
-    ghost use Rattle.std.specs.Prelude.{◌≡◌};
-    ghost use Rattle.asm_text.specs.declared.statement.TextFault.TheVariants.{Memory};
-
     ghost from_gives = { λ _ fault. fault ≡ Memory };
 
     fn from(_refused: AllocError) -> TextFault {

@@ -15,7 +15,7 @@ pub enum CheckFault {
 impl From<AllocError> for CheckFault {
     ghost from_gives = { λ _ fault. fault ≡ Memory };
 
-    fn from(_error: AllocError) -> CheckFault {
+    fn from(_refused: AllocError) -> CheckFault {
         CheckFault::Memory
     }
 }

@@ -24,7 +24,7 @@ pub enum CertFault {
 impl From<AllocError> for CertFault {
     ghost from_gives = { λ _ fault. fault ≡ Memory };
 
-    fn from(_error: AllocError) -> CertFault {
+    fn from(_refused: AllocError) -> CertFault {
         CertFault::Memory
     }
 }
@@ -32,7 +32,7 @@ impl From<AllocError> for CertFault {
 impl<T: Drop> From<AllocFailed<T>> for CertFault {
     ghost from_gives = { λ _ fault. fault ≡ Memory };
 
-    fn from(_error: AllocFailed<T>) -> CertFault {
+    fn from(_refused: AllocFailed<T>) -> CertFault {
         CertFault::Memory
     }
 }

@@ -1,5 +1,6 @@
 ghost use Rattle.std.specs.Prelude.{◌≡◌};
 ghost use Rattle.debugger.specs.Faults.{fault_name};
+ghost use Rattle.debugger.specs.declared.fault.DebugFault.TheVariants.{Memory};
 
 use std::alloc::AllocError;
 use thiserror::Error;
@@ -31,9 +32,6 @@ pub enum DebugFault {
 }
 
 impl From<AllocError> for DebugFault {
-    ghost use Rattle.std.specs.Prelude.{◌≡◌};
-    ghost use Rattle.debugger.specs.declared.fault.DebugFault.TheVariants.{Memory};
-
     ghost from_gives = { λ _ fault. fault ≡ Memory };
 
     fn from(_refused: AllocError) -> DebugFault {

@@ -1,3 +1,6 @@
+ghost use Rattle.std.specs.Prelude.{◌≡◌};
+ghost use Rattle.flow_graph.specs.declared.faults.BuildFault.TheVariants.{Memory};
+
 use std::alloc::{AllocError, AllocFailed};
 use thiserror::Error;
 
@@ -28,9 +31,6 @@ pub enum BuildFault {
 }
 
 impl From<AllocError> for BuildFault {
-    ghost use Rattle.std.specs.Prelude.{◌≡◌};
-    ghost use Rattle.flow_graph.specs.declared.faults.BuildFault.TheVariants.{Memory};
-
     ghost from_gives = { λ _ fault. fault ≡ Memory };
 
     fn from(_refused: AllocError) -> BuildFault {
@@ -39,9 +39,6 @@ impl From<AllocError> for BuildFault {
 }
 
 impl<T: Drop> From<AllocFailed<T>> for BuildFault {
-    ghost use Rattle.std.specs.Prelude.{◌≡◌};
-    ghost use Rattle.flow_graph.specs.declared.faults.BuildFault.TheVariants.{Memory};
-
     ghost from_gives = { λ _ fault. fault ≡ Memory };
 
     fn from(_refused: AllocFailed<T>) -> BuildFault {

@@ -18,6 +18,7 @@ ghost use Rattle.flow_graph.specs.TightFile.{file_of, listed, masked_flags};
 ghost use Rattle.flow_graph.specs.TightFile.{open_page, registers_with};
 ghost use Rattle.flow_graph.specs.TightWork.{IsDearestTarget};
 ghost use Rattle.statement.specs.Stated.{Stated};
+ghost use Rattle.flow_graph.specs.declared.tight.TightFault.TheVariants.{Memory};
 
 use crate::edges::{Edge, Label};
 use crate::flags::flags_for;
@@ -54,9 +55,6 @@ pub enum TightFault {
 }
 
 impl From<MachineFault> for TightFault {
-    ghost use Rattle.std.specs.Prelude.{◌≡◌};
-    ghost use Rattle.flow_graph.specs.declared.tight.TightFault.TheVariants.{Memory};
-
     ghost from_gives = { λ _ fault. fault ≡ Memory };
 
     fn from(_refused: MachineFault) -> TightFault {
@@ -65,9 +63,6 @@ impl From<MachineFault> for TightFault {
 }
 
 impl From<AllocError> for TightFault {
-    ghost use Rattle.std.specs.Prelude.{◌≡◌};
-    ghost use Rattle.flow_graph.specs.declared.tight.TightFault.TheVariants.{Memory};
-
     ghost from_gives = { λ _ fault. fault ≡ Memory };
 
     fn from(_refused: AllocError) -> TightFault {

@@ -8,6 +8,7 @@ ghost use Rattle.loader.specs.Inside.{AreWhole};
 ghost use Rattle.loader.specs.PagePlan.{AreHeld};
 ghost use Rattle.loader.specs.Planned.{AreOf, IsFitted};
 ghost use Rattle.loader.specs.Image.{is_past_ram, may_hold, put_fault, runs_of, with_word, word_of};
+ghost use Rattle.loader.specs.declared.image.ImageFault.TheVariants.{Memory};
 
 use crate::gap::{
     Entry, first, is_above, is_below, last, move_down, move_up, nth_above, nth_below, word_above,
@@ -37,9 +38,6 @@ pub enum ImageFault {
 }
 
 impl From<AllocError> for ImageFault {
-    ghost use Rattle.std.specs.Prelude.{◌≡◌};
-    ghost use Rattle.loader.specs.declared.image.ImageFault.TheVariants.{Memory};
-
     ghost from_gives = { λ _ fault. fault ≡ Memory };
 
     fn from(_refused: AllocError) -> ImageFault {
@@ -48,9 +46,6 @@ impl From<AllocError> for ImageFault {
 }
 
 impl<T: Drop> From<AllocFailed<T>> for ImageFault {
-    ghost use Rattle.std.specs.Prelude.{◌≡◌};
-    ghost use Rattle.loader.specs.declared.image.ImageFault.TheVariants.{Memory};
-
     ghost from_gives = { λ _ fault. fault ≡ Memory };
 
     fn from(_refused: AllocFailed<T>) -> ImageFault {

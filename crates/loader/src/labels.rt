@@ -1,6 +1,7 @@
 ghost use Rattle.std.specs.Prelude.{◌≡◌, ◌⊎◌, ℕ, List, [], Some, None, IsSome, OnOk, OnErr, IfErr, cond};
 ghost use Rattle.std.specs.Str.{bytes_eq};
 ghost use Rattle.loader.specs.Labels.{address_of};
+ghost use Rattle.loader.specs.declared.labels.LabelFault.TheVariants.{Memory};
 
 use std::alloc::{AllocError, AllocFailed, Global};
 use std::collections::BTreeMap;
@@ -19,9 +20,6 @@ pub enum LabelFault {
 }
 
 impl From<AllocError> for LabelFault {
-    ghost use Rattle.std.specs.Prelude.{◌≡◌};
-    ghost use Rattle.loader.specs.declared.labels.LabelFault.TheVariants.{Memory};
-
     ghost from_gives = { λ _ fault. fault ≡ Memory };
 
     fn from(_refused: AllocError) -> LabelFault {
@@ -30,9 +28,6 @@ impl From<AllocError> for LabelFault {
 }
 
 impl<T: Drop> From<AllocFailed<T>> for LabelFault {
-    ghost use Rattle.std.specs.Prelude.{◌≡◌};
-    ghost use Rattle.loader.specs.declared.labels.LabelFault.TheVariants.{Memory};
-
     ghost from_gives = { λ _ fault. fault ≡ Memory };
 
     fn from(_refused: AllocFailed<T>) -> LabelFault {

@@ -1,6 +1,7 @@
 ghost use Rattle.std.specs.Prelude.{◌≡◌, ◌⊎◌, ◌<◌, false, true, All, IfOk, IfErr, OnOk, OnErr};
 ghost use Rattle.bus_ticks.specs.declared.space.TheConstants.{SPACE_END};
 ghost use Rattle.loader.specs.Loading.{lacks_page, loaded, put_at, put_words, rom_words, spot_of, with_ram};
+ghost use Rattle.loader.specs.declared.loading.LoadFault.TheVariants.{Memory};
 
 use crate::image::Image;
 use arm2_exec::Machine;
@@ -21,9 +22,6 @@ pub enum LoadFault {
 }
 
 impl From<AllocError> for LoadFault {
-    ghost use Rattle.std.specs.Prelude.{◌≡◌};
-    ghost use Rattle.loader.specs.declared.loading.LoadFault.TheVariants.{Memory};
-
     ghost from_gives = { λ _ fault. fault ≡ Memory };
 
     fn from(_refused: AllocError) -> LoadFault {
@@ -32,9 +30,6 @@ impl From<AllocError> for LoadFault {
 }
 
 impl<T: Drop> From<AllocFailed<T>> for LoadFault {
-    ghost use Rattle.std.specs.Prelude.{◌≡◌};
-    ghost use Rattle.loader.specs.declared.loading.LoadFault.TheVariants.{Memory};
-
     ghost from_gives = { λ _ fault. fault ≡ Memory };
 
     fn from(_refused: AllocFailed<T>) -> LoadFault {
@@ -43,9 +38,6 @@ impl<T: Drop> From<AllocFailed<T>> for LoadFault {
 }
 
 impl From<MemcFault> for LoadFault {
-    ghost use Rattle.std.specs.Prelude.{◌≡◌};
-    ghost use Rattle.loader.specs.declared.loading.LoadFault.TheVariants.{Memory};
-
     ghost from_gives = { λ _ fault. fault ≡ Memory };
 
     fn from(_refused: MemcFault) -> LoadFault {

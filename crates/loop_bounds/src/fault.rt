@@ -1,3 +1,6 @@
+ghost use Rattle.std.specs.Prelude.{◌≡◌};
+ghost use Rattle.loop_bounds.specs.declared.fault.NestFault.TheVariants.{Memory};
+
 use std::alloc::{AllocError, AllocFailed};
 use thiserror::Error;
 
@@ -30,23 +33,17 @@ pub enum NestFault {
 }
 
 impl From<AllocError> for NestFault {
-    ghost use Rattle.std.specs.Prelude.{◌≡◌};
-    ghost use Rattle.loop_bounds.specs.declared.fault.NestFault.TheVariants.{Memory};
-
     ghost from_gives = { λ _ fault. fault ≡ Memory };
 
-    fn from(_: AllocError) -> NestFault {
+    fn from(_refused: AllocError) -> NestFault {
         NestFault::Memory
     }
 }
 
 impl<T: Drop> From<AllocFailed<T>> for NestFault {
-    ghost use Rattle.std.specs.Prelude.{◌≡◌};
-    ghost use Rattle.loop_bounds.specs.declared.fault.NestFault.TheVariants.{Memory};
-
     ghost from_gives = { λ _ fault. fault ≡ Memory };
 
-    fn from(_: AllocFailed<T>) -> NestFault {
+    fn from(_refused: AllocFailed<T>) -> NestFault {
         NestFault::Memory
     }
 }

@@ -1,4 +1,6 @@
+ghost use Rattle.std.specs.Prelude.{◌≡◌};
 ghost use Rattle.machine_file.specs.MachineFaults.{machine_faults};
+ghost use Rattle.machine_file.specs.declared.machine_faults.MachineFileFault.TheVariants.{Memory};
 
 use std::alloc::AllocError;
 use thiserror::Error;
@@ -34,9 +36,6 @@ pub enum MachineFileFault {
 }
 
 impl From<AllocError> for MachineFileFault {
-    ghost use Rattle.std.specs.Prelude.{◌≡◌};
-    ghost use Rattle.machine_file.specs.declared.machine_faults.MachineFileFault.TheVariants.{Memory};
-
     ghost from_gives = { λ _ fault. fault ≡ Memory };
 
     fn from(_refused: AllocError) -> MachineFileFault {

@@ -1,4 +1,6 @@
+ghost use Rattle.std.specs.Prelude.{◌≡◌};
 ghost use Rattle.machine_file.specs.ProfileFaults.{profile_faults};
+ghost use Rattle.machine_file.specs.declared.profile_faults.ProfileFileFault.TheVariants.{Memory};
 
 use std::alloc::AllocError;
 use thiserror::Error;
@@ -28,9 +30,6 @@ pub enum ProfileFileFault {
 }
 
 impl From<AllocError> for ProfileFileFault {
-    ghost use Rattle.std.specs.Prelude.{◌≡◌};
-    ghost use Rattle.machine_file.specs.declared.profile_faults.ProfileFileFault.TheVariants.{Memory};
-
     ghost from_gives = { λ _ fault. fault ≡ Memory };
 
     fn from(_refused: AllocError) -> ProfileFileFault {

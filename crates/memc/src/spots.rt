@@ -1,5 +1,6 @@
 ghost use Rattle.std.specs.Prelude.{◌≡◌, ◌≤◌};
 ghost use Rattle.memc.specs.Memory.{shift_of_size};
+ghost use Rattle.memc.specs.declared.spots.MemcFault.TheVariants.{Memory};
 
 use std::alloc::{AllocError, AllocFailed};
 use thiserror::Error;
@@ -82,9 +83,6 @@ pub enum MemcFault {
 }
 
 impl From<AllocError> for MemcFault {
-    ghost use Rattle.std.specs.Prelude.{◌≡◌};
-    ghost use Rattle.memc.specs.declared.spots.MemcFault.TheVariants.{Memory};
-
     ghost from_gives = { λ _ fault. fault ≡ Memory };
 
     fn from(_refused: AllocError) -> MemcFault {
@@ -93,9 +91,6 @@ impl From<AllocError> for MemcFault {
 }
 
 impl<T: Drop> From<AllocFailed<T>> for MemcFault {
-    ghost use Rattle.std.specs.Prelude.{◌≡◌};
-    ghost use Rattle.memc.specs.declared.spots.MemcFault.TheVariants.{Memory};
-
     ghost from_gives = { λ _ fault. fault ≡ Memory };
 
     fn from(_refused: AllocFailed<T>) -> MemcFault {

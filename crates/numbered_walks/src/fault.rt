@@ -1,3 +1,6 @@
+ghost use Rattle.std.specs.Prelude.{◌≡◌};
+ghost use Rattle.numbered_walks.specs.declared.fault.WalkFault.TheVariants.{Memory};
+
 use std::alloc::{AllocError, AllocFailed};
 use thiserror::Error;
 
@@ -16,23 +19,17 @@ pub enum WalkFault {
 }
 
 impl From<AllocError> for WalkFault {
-    ghost use Rattle.std.specs.Prelude.{◌≡◌};
-    ghost use Rattle.numbered_walks.specs.declared.fault.WalkFault.TheVariants.{Memory};
-
     ghost from_gives = { λ _ fault. fault ≡ Memory };
 
-    fn from(_: AllocError) -> WalkFault {
+    fn from(_refused: AllocError) -> WalkFault {
         WalkFault::Memory
     }
 }
 
 impl<T: Drop> From<AllocFailed<T>> for WalkFault {
-    ghost use Rattle.std.specs.Prelude.{◌≡◌};
-    ghost use Rattle.numbered_walks.specs.declared.fault.WalkFault.TheVariants.{Memory};
-
     ghost from_gives = { λ _ fault. fault ≡ Memory };
 
-    fn from(_: AllocFailed<T>) -> WalkFault {
+    fn from(_refused: AllocFailed<T>) -> WalkFault {
         WalkFault::Memory
     }
 }

@@ -1,4 +1,6 @@
+ghost use Rattle.std.specs.Prelude.{◌≡◌};
 ghost use Rattle.statement.specs.StatementFaults.{statement_faults};
+ghost use Rattle.statement.specs.declared.faults.StatementFault.TheVariants.{Memory};
 
 use std::alloc::AllocError;
 use thiserror::Error;
@@ -37,9 +39,6 @@ pub enum StatementFault {
 }
 
 impl From<AllocError> for StatementFault {
-    ghost use Rattle.std.specs.Prelude.{◌≡◌};
-    ghost use Rattle.statement.specs.declared.faults.StatementFault.TheVariants.{Memory};
-
     ghost from_gives = { λ _ fault. fault ≡ Memory };
 
     fn from(_refused: AllocError) -> StatementFault {
