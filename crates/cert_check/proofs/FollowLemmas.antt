@@ -14,6 +14,7 @@ use Rattle.longest_walk.specs.Folded.{Opened, deepest, joined, one_edge, turned}
 use Rattle.longest_walk.specs.Longest.{IsBody}
 use Rattle.certificate.specs.Walk.{step_of}
 use Rattle.cert_check.specs.Followed.{Followed, edge_named, follow_both, follow_edge, follow_row, follow_turns}
+use Rattle.cert_check.proofs.WalkParts.{ends_same}
 
 -- ## Where walks lead
 
@@ -28,10 +29,6 @@ module _ {P E : Type 0} (shape : Shape P E) (is_edge : E → Type 0) where
   halves p q (e ∷ v) w leads =
       let h = halves (shape.to e) q v w leads.2 in
       record { middle = h.middle; first = (leads.0, leads.1, h.first); second = h.second }
-
-  pub one_end : (p q r : P) (w : List E) → Leads shape is_edge p w q → Leads shape is_edge p w r → q ≡ r
-  one_end p q r [] h k = sym h ∙ k
-  one_end p q r (e ∷ w) h k = one_end (shape.to e) q r w h.2 k.2
 
   pub one_start : (p q r s : P) (v w : List E) → v ≢ [] → Leads shape is_edge p (v ++ w) q → Leads shape is_edge r v s → p ≡ r
   one_start p q r s [] w some h k = absurd (some refl)
@@ -66,7 +63,7 @@ module _ (flow : Flow) (tree : Tree) where
       let body = sound.bodies o.walk (here o.walk o.bodies) in
       let h : Place = body.header in
       let from : p ≡ h = once_from k o.walk p q h (sound.counts k (here k o.counts)) body.some leads body.turns in
-      let back : q ≡ h = one_end edge_shape (HasEdge flow) h q h (repeated k o.walk) (subst (λ x. Leads edge_shape (HasEdge flow) x (repeated k o.walk) q) from leads) (Leads-repeated edge_shape (HasEdge flow) k h o.walk body.turns) in
+      let back : q ≡ h = ends_same edge_shape (HasEdge flow) h q h (repeated k o.walk) (subst (λ x. Leads edge_shape (HasEdge flow) x (repeated k o.walk) q) from leads) (Leads-repeated edge_shape (HasEdge flow) k h o.walk body.turns) in
       let inner : IsSound o = record { bodies = λ b has. sound.bodies b (there o.walk o.bodies b has); counts = λ n has. sound.counts n (there k o.counts n has) } in
       ap (λ x. option_map (follow_turns k) (follow x)) from ∙ ap (option_map (follow_turns k)) (once h h inner body.turns) ∙ ap (λ x. Some (arrived x (turned k o))) (sym back)
 

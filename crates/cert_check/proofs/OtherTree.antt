@@ -10,6 +10,7 @@ use Rattle.flow_graph.specs.declared.places.Place.{Place}
 use Rattle.flow_graph.specs.declared.places.Place.TheVariants.{Exit}
 use Rattle.flow_graph.specs.declared.edges.Edge.{Edge}
 use Rattle.flow_graph.specs.Flow.{Flow, edge_shape}
+use Rattle.flow_graph.proofs.StepEdges.{from_map, into_map}
 use Rattle.loop_bounds.specs.Instance.{Instance, is_header, place_loops}
 use Rattle.loop_bounds.specs.Tree.{IsTree, Tree}
 use Rattle.loop_bounds.proofs.ExtentOf.{header_place}
@@ -17,7 +18,6 @@ use Rattle.longest_walk.specs.declared.folded.Longest.{Longest}
 use Rattle.longest_walk.specs.Folded.{open_items}
 use Rattle.longest_walk.specs.Longest.{AreAllRounds, IsBody, IsLongest, KeepsTree, TreeTooLarge}
 use Rattle.longest_walk.specs.Rows.{RowsFit, RowsHold, header_of, is_exit, potentials_of}
-use Rattle.longest_walk.proofs.CarryFind.{from_map, into_map}
 use Rattle.longest_walk.proofs.Opening.{AllZip-weaker}
 use Rattle.longest_walk.proofs.RowLemmas.{headers_once}
 use Rattle.cert_check.proofs.SameMembers.{Differ, Within, find_same, sum_same}

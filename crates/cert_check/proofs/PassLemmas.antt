@@ -8,6 +8,7 @@ use Rattle.walks.specs.Greatest.{is_back_edge}
 use Rattle.walks.specs.Rows as rows
 use Rattle.flow_graph.specs.declared.edges.Edge.{Edge}
 use Rattle.flow_graph.specs.Flow.{Flow, IsWellFormed, edge_shape}
+use Rattle.flow_graph.proofs.Firsts.{no_edge}
 use Rattle.numbered_walks.specs.declared.span.NumberedEdge.{NumberedEdge}
 use Rattle.numbered_walks.specs.declared.span.Span.{Span}
 use Rattle.numbered_walks.specs.declared.tables.Tables.{Tables}
@@ -21,7 +22,7 @@ use Rattle.longest_walk.specs.Built.{step_at}
 use Rattle.longest_walk.specs.Rows.{header_of, is_exit}
 use Rattle.longest_walk.proofs.CarryPotentials.{AreSame, same_row}
 use Rattle.longest_walk.proofs.CarryRows.{SameRow, fit_back, row_back, row_there}
-use Rattle.longest_walk.proofs.CarryWalks.{edge_same, no_edge}
+use Rattle.longest_walk.proofs.CarryWalks.{edge_same}
 use Rattle.certificate.specs.declared.cert.Cert.{Cert}
 use Rattle.cert_check.specs.declared.index.Index.{Index}
 use Rattle.cert_check.specs.declared.weighing.RowTest.{RowTest}

@@ -8,34 +8,34 @@ use Rattle.bus_ticks.specs.Numbers.{numbers_of}
 use Rattle.bus_ticks.specs.Ranges.{IsPrice, greatest}
 
 -- the number at an index
-abbrev nth : List ℕ → ℕ → ℕ
-nth xs k = get_or xs k 0
+abbrev span_at : List ℕ → ℕ → ℕ
+span_at xs k = get_or xs k 0
 
 -- what each profile keeps, of its numbers
 abbrev Keeps : List ℕ → Type 0
 Keeps xs =
-    IsPrice (nth xs 0) × IsPrice (nth xs 1) × IsPrice (nth xs 2) × IsPrice (nth xs 3) × IsPrice (nth xs 4) × IsPrice (nth xs 5) × IsPrice (nth xs 6) × IsPrice (nth xs 7) × IsPrice (nth xs 8) × IsPrice (nth xs 9) × IsPrice (nth xs 10) × IsPrice (nth xs 11) × IsPrice (nth xs 12) × IsPrice (nth xs 13) × (nth xs 14 < 256) × (nth xs 1 ≤ nth xs 2) × (nth xs 2 ≤ nth xs 0) × (nth xs 0 ≤ greatest (nth xs 7) (nth xs 8) (nth xs 9) (nth xs 10)) × (greatest (nth xs 3) (nth xs 4) (nth xs 5) (nth xs 6) ≤ greatest (nth xs 7) (nth xs 8) (nth xs 9) (nth xs 10)) × (nth xs 11 ≤ greatest (nth xs 7) (nth xs 8) (nth xs 9) (nth xs 10))
+    IsPrice (span_at xs 0) × IsPrice (span_at xs 1) × IsPrice (span_at xs 2) × IsPrice (span_at xs 3) × IsPrice (span_at xs 4) × IsPrice (span_at xs 5) × IsPrice (span_at xs 6) × IsPrice (span_at xs 7) × IsPrice (span_at xs 8) × IsPrice (span_at xs 9) × IsPrice (span_at xs 10) × IsPrice (span_at xs 11) × IsPrice (span_at xs 12) × IsPrice (span_at xs 13) × (span_at xs 14 < 256) × (span_at xs 1 ≤ span_at xs 2) × (span_at xs 2 ≤ span_at xs 0) × (span_at xs 0 ≤ greatest (span_at xs 7) (span_at xs 8) (span_at xs 9) (span_at xs 10)) × (greatest (span_at xs 3) (span_at xs 4) (span_at xs 5) (span_at xs 6) ≤ greatest (span_at xs 7) (span_at xs 8) (span_at xs 9) (span_at xs 10)) × (span_at xs 11 ≤ greatest (span_at xs 7) (span_at xs 8) (span_at xs 9) (span_at xs 10))
 
 keeps_once : (xs : List ℕ) (k l : Keeps xs) → k ≡ l
 keeps_once xs = hlevel props
 
 abbrev profile_from : (xs : List ℕ) → Keeps xs → Profile
 profile_from xs k = record {
-  n = nth xs 0;
-  s = nth xs 1;
-  quad = nth xs 2;
-  rom_0 = nth xs 3;
-  rom_1 = nth xs 4;
-  rom_2 = nth xs 5;
-  rom_3 = nth xs 6;
-  slow = nth xs 7;
-  medium = nth xs 8;
-  fast = nth xs 9;
-  synchronous = nth xs 10;
-  control = nth xs 11;
-  unfitted = nth xs 12;
-  internal = nth xs 13;
-  burst = nth xs 14;
+  n = span_at xs 0;
+  s = span_at xs 1;
+  quad = span_at xs 2;
+  rom_0 = span_at xs 3;
+  rom_1 = span_at xs 4;
+  rom_2 = span_at xs 5;
+  rom_3 = span_at xs 6;
+  slow = span_at xs 7;
+  medium = span_at xs 8;
+  fast = span_at xs 9;
+  synchronous = span_at xs 10;
+  control = span_at xs 11;
+  unfitted = span_at xs 12;
+  internal = span_at xs 13;
+  burst = span_at xs 14;
   n_price = k.0;
   s_price = k.1;
   quad_price = k.2;

@@ -13,7 +13,7 @@ use Rattle.numbered_walks.specs.declared.span.Span.{Span}
 use Rattle.numbered_walks.specs.Index.{edge_at, edges_of}
 use Rattle.numbered_walks.specs.Ordered as O
 use Rattle.numbered_walks.specs.Reach.{most_in}
-use Rattle.numbered_walks.proofs.Members.{is_member}
+use Rattle.numbered_walks.proofs.Members.{member_from}
 use Rattle.loop_bounds.specs.Instance.{place_loops}
 use Rattle.loop_bounds.specs.Tree.{IsTree, Tree, place_in}
 use Rattle.loop_bounds.proofs.ExtentOf.{header_place}
@@ -59,7 +59,7 @@ module _ (flow : Flow) (tree : Tree) (index : Index) (well : IsWellFormed flow) 
   none_begun : (items : List CertItem) → IsRefused flow tree (graph_span flow) 16 (followed flow items) x.number → (p : Place) → IsBegun flow tree items p → ⊥
   none_begun items refused p b =
       refused b.walk p (ap (followed flow items) entry_is ∙ b.followed_is) (subst (λ (q : Place). Leads edge_shape (HasEdge flow) q b.walk.opened.walk p) (sym entry_is) b.leads)
-      (λ k d lt n le to. is_member (graph_span flow) n (omega arith) le)
+      (λ k d lt n le to. member_from (graph_span flow) n (omega arith) le)
       (record { bodies = b.bodies; counts = b.counts; shallow = b.shallow })
 
   breaks_at : (i : ℕ) → StraysAt flow tree index (graph_span flow) 16 cert.walk x i → BreaksAt flow tree cert.walk i

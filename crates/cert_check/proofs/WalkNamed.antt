@@ -8,12 +8,12 @@ use Rattle.flow_graph.specs.declared.places.Place.TheVariants.{At, Exit}
 use Rattle.flow_graph.specs.declared.edges.Edge.{Edge}
 use Rattle.flow_graph.specs.Flow.{Flow, IsEdgeRange, IsWellFormed}
 use Rattle.flow_graph.specs.Places.{place_at}
-use Rattle.flow_graph.proofs.Firsts.{whole_range}
+use Rattle.flow_graph.proofs.Firsts.{no_edge, whole_range}
 use Rattle.loop_bounds.specs.Tree.{IsTree, Tree, place_in}
 use Rattle.longest_walk.specs.Built.{step_at}
 use Rattle.longest_walk.specs.Rows.{is_at}
 use Rattle.longest_walk.proofs.CarryFind.{at_place}
-use Rattle.longest_walk.proofs.CarryWalks.{exit_place, no_edge}
+use Rattle.longest_walk.proofs.CarryWalks.{exit_place}
 use Rattle.certificate.specs.declared.walk.StepLine.{StepLine}
 use Rattle.cert_check.specs.Followed.{edge_named, is_named}
 

@@ -1,8 +1,7 @@
 -- Parts of walks that are in a row or are repeated.
-use Rattle.std.proofs.Common.{◌≡◌, ◌≢◌, ◌∙◌, ℕ, zero, suc, ◌<◌, ◌≤◌, List, [], ◌∷◌, ◌++◌, length, map, All, Option, Some, None, refl, sym, ap, subst, arith, length-append}
+use Rattle.std.proofs.Common.{◌≡◌, ◌≢◌, ◌∙◌, ℕ, zero, suc, ◌<◌, ◌≤◌, List, [], ◌∷◌, ◌++◌, length, All, Option, Some, None, refl, sym, ap, subst, arith, length-append}
 use Rattle.std.specs.Prelude.{option_map}
-use Rattle.std.proofs.lemmas.List.{map-append}
-use Rattle.std.proofs.lemmas.List.Elements.{All-nil, All-cons, All-head, All-tail, All-append}
+use Rattle.std.proofs.lemmas.List.Elements.{All-nil, All-cons, All-head, All-tail}
 use Rattle.walks.specs.Segments.{repeated}
 use Rattle.walks.specs.Walk.{Leads, Shape}
 
@@ -15,14 +14,6 @@ All-left P (x ∷ xs) ys all = All-cons P x xs (All-head P x (xs ++ ys) all) (Al
 pub All-right : {X : Type 0} (P : X → Type 0) (xs ys : List X) → All P (xs ++ ys) → All P ys
 All-right P [] ys all = all
 All-right P (x ∷ xs) ys all = All-right P xs ys (All-tail P x (xs ++ ys) all)
-
-pub All-repeated : {X : Type 0} (P : X → Type 0) (k : ℕ) (xs : List X) → All P xs → All P (repeated k xs)
-All-repeated P zero xs all = All-nil P
-All-repeated P (suc k) xs all = All-append P xs (repeated k xs) all (All-repeated P k xs all)
-
-pub map-repeated : {X Y : Type 0} (f : X → Y) (k : ℕ) (xs : List X) → map f (repeated k xs) ≡ repeated k (map f xs)
-map-repeated f zero xs = refl
-map-repeated f (suc k) xs = map-append f xs (repeated k xs) ∙ ap (λ ys. map f xs ++ ys) (map-repeated f k xs)
 
 pub repeated-long : {X : Type 0} (n k : ℕ) (xs : List X) → 0 < k → n ≤ length xs → n ≤ length (repeated k xs)
 repeated-long n zero xs some long = absurd (omega arith)

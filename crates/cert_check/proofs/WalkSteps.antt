@@ -21,13 +21,14 @@ use Rattle.numbered_walks.specs.declared.span.Span.{Span}
 use Rattle.numbered_walks.specs.Index.{edge_at, edges_of}
 use Rattle.numbered_walks.specs.Ordered.{is_in, number_shape}
 use Rattle.numbered_walks.specs.Ordered as O
-use Rattle.numbered_walks.proofs.Members.{header_in}
+use Rattle.numbered_walks.proofs.Members.{header_in, no_numbered_edge}
 use Rattle.loop_bounds.specs.Instance.{is_header, is_member, place_loops}
 use Rattle.loop_bounds.specs.Tree.{IsTree, NumbersEdge, Tree, place_in}
 use Rattle.longest_walk.specs.Built.{step_at, steps_of}
 use Rattle.longest_walk.specs.Longest.{IsBody}
 use Rattle.longest_walk.proofs.CarryKeeps.{pass_back}
-use Rattle.longest_walk.proofs.CarryWalks.{agree_all, edge_same, instance_of, member_same, no_number, number_is, span_of}
+use Rattle.longest_walk.proofs.CarryWalks.{agree_all, edge_same, instance_of, member_same, number_is, span_of}
+use Rattle.longest_walk.proofs.Opening.{All-repeated, map-repeated}
 use Rattle.certificate.specs.declared.walk.StepLine.{StepLine}
 use Rattle.certificate.specs.declared.walk.CertItem.{CertItem}
 use Rattle.certificate.specs.declared.walk.CertItem.TheVariants.{Repeat}
@@ -40,7 +41,7 @@ use Rattle.walk_counts.specs.Spans.{header_at}
 use Rattle.walk_counts.proofs.StayLemmas.{span_there}
 use Rattle.cert_check.specs.Walking.{Adds, AreRounds, Arrives, Begins, CanFollow, CannotBegin, EndsIn, IsRefused, IsTaken, capped, gained, turns_after}
 use Rattle.cert_check.proofs.WalkNamed.{named_from}
-use Rattle.cert_check.proofs.WalkParts.{All-repeated, ends_same, leads_once, map-repeated, map_some, repeated-long, some_element, starts_same}
+use Rattle.cert_check.proofs.WalkParts.{ends_same, leads_once, map_some, repeated-long, some_element, starts_same}
 use Rattle.cert_check.proofs.WalkFollowing.{item_repeat, leads_of, some_lines}
 use Rattle.cert_check.proofs.WalkerLemmas.{edge_adds, holds_whole, rounds_add, whole_in}
 
@@ -87,7 +88,7 @@ module _ (flow : Flow) (tree : Tree) (index : Index) (well : IsWellFormed flow) 
       here = edge_same flow tree well t k lt
 
       e_in : Contains tree.edges (edge_at tree.edges k)
-      e_in = Contains-get_or tree.edges k no_number (omega (arith, lt, t.numbered.same))
+      e_in = Contains-get_or tree.edges k no_numbered_edge (omega (arith, lt, t.numbered.same))
 
       from_is : (edge_at tree.edges k).from ≡ x.number
       from_is =

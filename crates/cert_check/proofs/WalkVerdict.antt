@@ -10,7 +10,7 @@ use Rattle.flow_graph.specs.Flow.{Flow, HasEdge, IsWellFormed, edge_shape}
 use Rattle.numbered_walks.specs.declared.span.NumberedEdge.{NumberedEdge}
 use Rattle.numbered_walks.specs.Index.{edges_of}
 use Rattle.numbered_walks.specs.Ordered as O
-use Rattle.numbered_walks.proofs.Members.{is_member, member_last}
+use Rattle.numbered_walks.proofs.Members.{member_from, member_last}
 use Rattle.loop_bounds.specs.Tree.{IsTree, Tree, place_in}
 use Rattle.longest_walk.specs.Built.{steps_of}
 use Rattle.longest_walk.specs.Longest.{KeepsTree}
@@ -43,9 +43,9 @@ module _ (flow : Flow) (tree : Tree) (index : Index) (well : IsWellFormed flow) 
     indexed = indexed;
     holds_inner = λ s s_in here n is.
         let shape = t.ordered.shape s s_in in
-        is_member (graph_span flow) n (omega arith) (omega (arith, member_last s n is, shape.1));
+        member_from (graph_span flow) n (omega arith) (omega (arith, member_last s n is, shape.1));
     known = omega (arith, fresh.number_is);
-    inside = is_member (graph_span flow) x.number (omega arith) (omega (arith, fresh.number_is));
+    inside = member_from (graph_span flow) x.number (omega arith) (omega (arith, fresh.number_is));
     room = ap length fresh.turns_are ∙ length-replicate (exit + 1) 0;
   }
 

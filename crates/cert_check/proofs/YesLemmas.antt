@@ -1,7 +1,7 @@
 -- The verdict Yes means that the bound is the greatest.
-use Rattle.std.proofs.Common.{◌≡◌, ◌∙◌, ◌≤◌, Bool, true, false, leb, List, [], ◌∷◌, length, Contains, inl, inr, refl, sym, subst, arith}
+use Rattle.std.proofs.Common.{◌≡◌, ◌∙◌, ◌≤◌, Bool, true, false, List, [], ◌∷◌, length, Contains, inl, inr, refl, sym, subst, arith}
 use Rattle.std.specs.List.{AllByRecursion}
-use Rattle.std.proofs.lemmas.Bool.{and_from, eq-eqb, le-leb}
+use Rattle.std.proofs.lemmas.Bool.{eq-eqb}
 use Rattle.walks.specs.Greatest.{IsGreatest}
 use Rattle.walks.specs.Walk.{cost_of}
 use Rattle.loop_bounds.specs.Bounds.{IsCompleteWalk}
@@ -14,6 +14,7 @@ use Rattle.loop_bounds.specs.Instance.{Instance, is_header, is_member, place_loo
 use Rattle.loop_bounds.specs.Tree.{IsTree, Tree, place_in}
 use Rattle.loop_bounds.proofs.ExtentOf.{header_place}
 use Rattle.numbered_walks.specs.declared.span.Span.{Span}
+use Rattle.numbered_walks.proofs.Members.{member_from}
 use Rattle.longest_walk.proofs.CarryWalks.{span_of}
 use Rattle.longest_walk.specs.Longest.{KeepsTree}
 use Rattle.longest_walk.specs.Rows.{RowsHold, is_exit}
@@ -42,7 +43,7 @@ module _ (flow : Flow) (tree : Tree) (well : IsWellFormed flow) (t : IsTree flow
       let q : Place = place_in flow tree s.header in
       let at_header : is_header i q ≡ true = h.span_is.headers s.header inside ∙ eq-eqb s.header s.header refl in
       let there : q ≡ p = header_place i q at_header ∙ sym (header_place i p is) in
-      let member : is_member i q ≡ true = h.span_is.members s.header inside ∙ and_from (leb s.header s.header) (leb s.header s.last) (le-leb s.header s.header (omega arith)) (le-leb s.header s.last shape.0) in
+      let member : is_member i q ≡ true = h.span_is.members s.header inside ∙ member_from s s.header (omega arith) shape.0 in
       subst (λ (x : Place). is_member i x ≡ true) there member
 
   exit_outside : (i : Instance) → Contains tree.instances i → (p : Place) → is_exit p ≡ true → is_member i p ≡ false

@@ -25,12 +25,12 @@ use Rattle.flow_graph.specs.declared.places.Place.TheVariants.{At, Exit}
 use Rattle.flow_graph.specs.Flow.{Flow, HasEdge, IsWellFormed, edge_shape}
 use Rattle.flow_graph.specs.Places.{IsInRange, place_address, place_cmp}
 use Rattle.flow_graph.proofs.SortedLemmas.{here, there}
+use Rattle.flow_graph.proofs.StepEdges.{from_map, into_map}
 use Rattle.loop_bounds.specs.Instance.{Instance, is_header, place_loops}
 use Rattle.loop_bounds.specs.Tree.{IsTree, Tree, place_in}
 use Rattle.loop_bounds.proofs.ExtentOf.{header_place}
 use Rattle.longest_walk.specs.Longest.{IsBody, IsLongest}
-use Rattle.longest_walk.proofs.CarryFind.{from_map, into_map}
-use Rattle.longest_walk.proofs.CarryWalks.{no_span, place_numbers}
+use Rattle.longest_walk.proofs.CarryWalks.{place_numbers}
 use Rattle.longest_walk.specs.Rows.{distance_in, header_of, header_of_row, is_at, is_exit, number_or_zero, place_of_row, potentials_of, row_of}
 use Rattle.longest_walk.specs.declared.folded.Longest.{Longest}
 use Rattle.longest_walk.specs.declared.rows.InstanceRow.{InstanceRow}
@@ -39,6 +39,7 @@ use Rattle.certificate.specs.Lines.{CanSpell, said_of}
 use Rattle.certificate.proofs.FollowLaws.{follow-on}
 use Rattle.certificate.proofs.LeastLaws.{AreBelow, all_found, are_below, capped, capped_holds, finds}
 use Rattle.certificate.proofs.WalkLaws.{flat_map-joined}
+use Rattle.numbered_walks.proofs.Members.{no_span}
 
 -- bodies have edges, and counts are in range
 pub record IsSound (o : Opened) : Type 0 where

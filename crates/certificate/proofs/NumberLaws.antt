@@ -8,6 +8,7 @@ use Rattle.std.proofs.lemmas.Fmt.{digits_is_IsNumeral, decimal_injective, decima
 use Rattle.asm_text.specs.Hex.{hex}
 use Rattle.asm_text.proofs.HexLaws.{hex_step}
 use Rattle.certificate.specs.Words.{Lacks}
+use Rattle.loop_bounds.proofs.KeyLemmas.{one_end}
 
 hex_is_IsNumeral : (n : ℕ) → n < 2 ^ 26 → IsNumeral 16 (hex n) × (digits_value 16 (hex n) ≡ n)
 hex_is_IsNumeral n h = digits_is_IsNumeral 16 true (omega arith) (omega arith) n (omega arith)
@@ -46,16 +47,6 @@ hex_more n d some small digit =
 snoc_view : (x : ℕ) (xs : List ℕ) → (front : List ℕ) × (last : ℕ) × (x ∷ xs ≡ front ++ last ∷ [])
 snoc_view x [] = ([], x, refl)
 snoc_view x (y ∷ ys) = let deeper = snoc_view y ys in (x ∷ deeper.0, deeper.1, ap (λ (zs : List ℕ). x ∷ zs) deeper.2)
-
-one_end : (xs ys : List ℕ) (x y : ℕ) → xs ++ x ∷ [] ≡ ys ++ y ∷ [] → (xs ≡ ys) × (x ≡ y)
-one_end [] [] x y e = (refl, cc)
-one_end [] (b ∷ ys) x y e = let n : length (b ∷ (ys ++ y ∷ [])) ≡ 1 = ap length (sym e) in absurd (omega (arith, n, length-append ys (y ∷ [])))
-one_end (a ∷ xs) [] x y e = let n : length (a ∷ (xs ++ x ∷ [])) ≡ 1 = ap length e in absurd (omega (arith, n, length-append xs (x ∷ [])))
-one_end (a ∷ xs) (b ∷ ys) x y e =
-    let head : a ≡ b = cc in
-    let tail : xs ++ x ∷ [] ≡ ys ++ y ∷ [] = cc in
-    let deeper = one_end xs ys x y tail in
-    (ap₂ (λ (z : ℕ) (zs : List ℕ). z ∷ zs) head deeper.0, deeper.1)
 
 pub hex_some : (n : ℕ) → n < 2 ^ 26 → 0 < length (hex n)
 hex_some n h = (hex_is_IsNumeral n h).0.0

@@ -2,6 +2,7 @@
 use Rattle.std.proofs.Common.{◌≡◌, ◌∙◌, Bool, true, ℕ, suc, List, [], ◌∷◌, ◌++◌, length, Vec, Some, None, map, refl, sym, ap, arith, append_assoc, append-nil, length-append, if◌then◌else◌}
 use Rattle.std.specs.List.{flat_map}
 use Rattle.std.specs.declared.alloc.Global.{Global}
+use Rattle.std.proofs.lemmas.List.{flat_map_more}
 use Rattle.certificate.specs.declared.walk.StepLine.{StepLine}
 use Rattle.certificate.specs.declared.walk.CertItem.{CertItem}
 use Rattle.certificate.specs.declared.walk.CertItem.TheOpen.{CertItem-F}
@@ -17,10 +18,6 @@ pub flat_map-joined : {A B : Type 0} (f : A → List B) (xs : List A) → flat_m
 flat_map-joined f [] = refl
 flat_map-joined f (x ∷ xs) = ap (λ rest. f x ++ rest) (flat_map-joined f xs)
 
-pub flat_map-end : {A B : Type 0} (f : A → List B) (xs : List A) (y : A) → flat_map f (xs ++ y ∷ []) ≡ flat_map f xs ++ f y
-flat_map-end f [] y = append-nil (f y)
-flat_map-end f (x ∷ xs) y = ap (λ rest. f x ++ rest) (flat_map-end f xs y) ∙ sym (append_assoc (f x) (flat_map f xs) (f y))
-
 -- ## One item
 
 pub lines-step : (s : StepLine) → cert_item_lines (Step s) ≡ w.Step s ∷ []
@@ -35,12 +32,12 @@ lines-repeat k body =
 
 pub front-step : (os : List OpenRepeat) (items : List CertItem) (s : StepLine) → front_lines os (items ++ Step s ∷ []) ≡ front_lines os items ++ w.Step s ∷ []
 front-step os items s =
-    ap (λ (ls : List WalkLine). flat_map open_lines os ++ ls) (flat_map-end cert_item_lines items (Step s) ∙ ap (λ (ls : List WalkLine). cert_walk_lines items ++ ls) (lines-step s))
+    ap (λ (ls : List WalkLine). flat_map open_lines os ++ ls) (sym (flat_map_more cert_item_lines [] items (Step s)) ∙ ap (λ (ls : List WalkLine). cert_walk_lines items ++ ls) (lines-step s))
     ∙ sym (append_assoc (flat_map open_lines os) (cert_walk_lines items) (w.Step s ∷ []))
 
 pub front-repeat : (os : List OpenRepeat) (o : OpenRepeat) → front_lines (os ++ o ∷ []) [] ≡ front_lines os o.before.items ++ w.Repeat o.count ∷ []
 front-repeat os o =
-    append-nil (flat_map open_lines (os ++ o ∷ [])) ∙ flat_map-end open_lines os o
+    append-nil (flat_map open_lines (os ++ o ∷ [])) ∙ sym (flat_map_more open_lines [] os o)
     ∙ sym (append_assoc (flat_map open_lines os) (cert_walk_lines o.before.items) (w.Repeat o.count ∷ []))
 
 pub front-end : (os : List OpenRepeat) (o : OpenRepeat) (body : Vec CertItem Global)
@@ -49,10 +46,10 @@ front-end os o body =
     let inner = cert_walk_lines body.items in
     let before = cert_walk_lines o.before.items in
     let front = flat_map open_lines os in
-    ap (λ (ls : List WalkLine). front ++ ls) (flat_map-end cert_item_lines o.before.items (Repeat o.count body) ∙ ap (λ (ls : List WalkLine). before ++ ls) (lines-repeat o.count body))
+    ap (λ (ls : List WalkLine). front ++ ls) (sym (flat_map_more cert_item_lines [] o.before.items (Repeat o.count body)) ∙ ap (λ (ls : List WalkLine). before ++ ls) (lines-repeat o.count body))
     ∙ ap (λ (ls : List WalkLine). front ++ ls) (sym (append_assoc before (w.Repeat o.count ∷ []) (inner ++ w.End ∷ [])))
     ∙ sym (append_assoc front (open_lines o) (inner ++ w.End ∷ []))
-    ∙ ap (λ (ls : List WalkLine). ls ++ (inner ++ w.End ∷ [])) (sym (flat_map-end open_lines os o))
+    ∙ ap (λ (ls : List WalkLine). ls ++ (inner ++ w.End ∷ [])) (flat_map_more open_lines [] os o)
     ∙ sym (append_assoc (flat_map open_lines (os ++ o ∷ [])) inner (w.End ∷ []))
 
 -- ## How it nests

@@ -90,9 +90,6 @@ one_more P xs i d lt here before k x less is = ⊎_elim
     subst P (get_or_default xs i d x lt ∙ ap (λ (n : ℕ). get_or xs n x) (sym same) ∙ is) here)
     (cases_lt k i)
 
-pub same_at : (list other : List ℕ) (a b : ℕ) → At list a ≡ At other b → (list ≡ other) × (a ≡ b)
-same_at list other a b is = (cc, cc)
-
 -- an entry of an instance with a header
 pub mid_at : (flow : Flow) (loops : List Loop) → IsWellFormed flow → (header : Place) → Contains flow.places header → (list : List ℕ) (address : ℕ) → header ≡ At list address
     → (l : Loop) → Contains loops l → l.header ≡ address → (m : MidEntry) → m.instance ≡ record { list = list; stated = l } → IsMidOf flow (instance_of l list) m.place m.edge → IsMidEntry flow loops m

@@ -15,9 +15,9 @@ use Rattle.flow_graph.specs.Flow.{Flow, HasEdge, IsEdgeRange, IsWellFormed, edge
 use Rattle.flow_graph.specs.Places.{place_at, place_cmp}
 use Rattle.flow_graph.specs.Search.{by_order}
 use Rattle.flow_graph.proofs.Firsts.{whole_range}
+use Rattle.flow_graph.proofs.StepEdges.{only_one}
 use Rattle.statement.specs.declared.stated.Loop.{Loop}
 use Rattle.loop_bounds.specs.Nest.{HasUnboundedCycle, IsPlainEdge}
-use Rattle.loop_bounds.proofs.FindLemmas.{single}
 use Rattle.loop_bounds.proofs.Positions.{index_found, index_inside, places_once}
 use Rattle.diagnosis.specs.Cycles.{AreMarks, IsCleared, IsClosed, IsIdle, IsOn, IsOpen, IsPath, IsPathTo, LeadToCleared}
 use Rattle.diagnosis.specs.declared.search.Search.{Search}
@@ -213,7 +213,7 @@ module _ (flow : Flow) (loops : List Loop) where
               (λ on. ⊎_elim
               (λ (has : Contains before on.0). inr (on.0, has, on.2))
               (λ (has : Contains (last ∷ []) on.0).
-              let same : last ≡ on.0 = single last on.0 has in
+              let same : last ≡ on.0 = only_one last on.0 has in
               inl (places_once flow.places well_formed.ordered v to Exit lt inside (sym (number ∙ ap (λ (x : Edge). x.from) same ∙ on.2))))
               (Contains-append_cases before (last ∷ []) on.0 (subst (λ (es : List Edge). Contains es on.0) parts on.1)))
               (s.on v lt (one_on marks at v 0 other is)))

@@ -12,8 +12,7 @@ use Rattle.flow_graph.specs.Flow.{Flow, IsWellFormed}
 use Rattle.flow_graph.specs.declared.places.Place.TheVariants.{Exit}
 use Rattle.loop_bounds.specs.Tree.{IsTree, Tree}
 use Rattle.loop_bounds.proofs.Positions.{places_once}
-use Rattle.longest_walk.proofs.CarryWalks.{no_edge}
-use Rattle.flow_graph.proofs.Firsts.{part_fits}
+use Rattle.flow_graph.proofs.Firsts.{no_edge, part_fits}
 use Rattle.numbered_walks.specs.Index.{edge_at}
 use Rattle.dot_text.specs.Nodes.{HasNode, HoldEachOnce, LeadToNodes, numbers_in}
 use Rattle.dot_text.specs.Stretches.{arrivals, between, end_edge, first_edge, first_of, goes_on, leads_on, stays_inside}

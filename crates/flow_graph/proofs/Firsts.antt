@@ -13,6 +13,10 @@ use Rattle.flow_graph.specs.Flow.{Flow, IsEdgeRange, IsWellFormed}
 use Rattle.flow_graph.specs.Places.{place_at, place_cmp}
 use Rattle.flow_graph.proofs.PlaceLemmas.{place_total}
 
+-- what a list of edges has past its end
+abbrev pub no_edge : Edge
+no_edge = record { from = Exit; label = Do; to = Exit; cost = 0 }
+
 -- beginnings that do not fall are at most the last
 pub rises_to : (firsts : List ℕ) (n top : ℕ) → ((v : ℕ) → v < n → get_or firsts v 0 ≤ get_or firsts (v + 1) 0) → get_or firsts n 0 ≡ top → (steps v : ℕ) → v + steps ≡ n → get_or firsts v 0 ≤ top
 rises_to firsts n top rising last zero v is =
@@ -129,4 +133,4 @@ one_range flow place d a b x y r s =
 pub range_firsts : (flow : Flow) → IsWellFormed flow → (v : ℕ) → v < length flow.places → (first end : ℕ) → IsEdgeRange flow (place_at flow.places v) first end
     → (first ≡ get_or flow.firsts v 0) × (end ≡ get_or flow.firsts (v + 1) 0)
 range_firsts flow well v v_in first end range =
-    one_range flow (place_at flow.places v) (record { from = Exit; label = Do; to = Exit; cost = 0 }) first end (get_or flow.firsts v 0) (get_or flow.firsts (v + 1) 0) range (range_at flow well v v_in)
+    one_range flow (place_at flow.places v) no_edge first end (get_or flow.firsts v 0) (get_or flow.firsts (v + 1) 0) range (range_at flow well v v_in)

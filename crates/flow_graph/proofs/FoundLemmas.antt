@@ -2,24 +2,18 @@
 use Rattle.std.proofs.Common.{◌≡◌, ◌<◌, ◌≤◌, Bool, true, false, cond, List, [], ◌∷◌, ◌++◌, length, ◌⊎◌, inl, inr, ⊎_elim, refl, sym, ap, ◌∙◌, subst, arith, length-append, ◌+◌}
 use Rattle.std.specs.Prelude.{IsTrue, Contains, ◌↔◌, not}
 use Rattle.std.specs.Ordering.{is_eq}
-use Rattle.std.specs.Cmp.{IsTotalOrder, tied_itself}
+use Rattle.std.specs.Cmp.{Equal-is, IsTotalOrder, tied_itself}
 use Rattle.std.proofs.lemmas.Map.Lookups.{CmpEqualImpliesEq}
 use Rattle.std.specs.BTreeSet as sorted
 use Rattle.std.specs.BTreeSet.{BTreeSet, contains, btree_set_len}
 use Rattle.std.specs.declared.cmp.Ordering.{Ordering}
 use Rattle.std.specs.declared.cmp.Reverse.{Reverse}
-use Rattle.std.specs.declared.cmp.Ordering.TheVariants.{Less, Equal, Greater}
 use Rattle.std.proofs.lemmas.List.Elements.{Contains-push, Contains-push_cases, Contains-append_left}
 use Rattle.flow_graph.specs.declared.places.Place.{Place}
 use Rattle.flow_graph.specs.declared.places.Place.TheVariants.{Exit}
 use Rattle.flow_graph.specs.Search.{downwards, in_set, places_in, IsFound, IsCrowded}
 use Rattle.flow_graph.proofs.PlaceLemmas.{downwards_exact, downwards_total, places_ascend, places_have}
 use Rattle.flow_graph.proofs.Ascending.{length_ascending}
-
-from_eq : (r : Ordering) → is_eq r ≡ true → r ≡ Equal
-from_eq Less h = cc
-from_eq Equal h = refl
-from_eq Greater h = cc
 
 either : (b was : Bool) → was ≡ true → cond b true was ≡ true
 either true was h = refl
@@ -35,7 +29,7 @@ module _ {K : Type 0} {R : K → K → Ordering} (total : IsTotalOrder R) (exact
   -- the place is there, or was
   pub there_or_was : (p q : Place) (was is : Bool) → is ≡ cond (is_eq (R (key p) (key q))) true was → is ≡ true → (p ≡ q) ⊎ (was ≡ true)
   there_or_was p q was is e h = elim (is_eq (R (key p) (key q))) as (λ b. is_eq (R (key p) (key q)) ≡ b → is ≡ cond b true was → (p ≡ q) ⊎ (was ≡ true)) [
-    | true ↦ λ t k. inl (same_key p q (exact (key p) (key q) (from_eq (R (key p) (key q)) t)))
+    | true ↦ λ t k. inl (same_key p q (exact (key p) (key q) ((Equal-is (R (key p) (key q))).0 t)))
     | false ↦ λ t k. inr (sym k ∙ h)
   ] refl e
 

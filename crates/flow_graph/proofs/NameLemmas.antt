@@ -21,7 +21,7 @@ use Rattle.flow_graph.proofs.EdgeLemmas.{leaves}
 use Rattle.flow_graph.proofs.FlowLemmas.{IsOfPart, of_part, part_of}
 use Rattle.flow_graph.proofs.PlaceLemmas.{place_total}
 use Rattle.flow_graph.proofs.SortedLemmas.{no_member}
-use Rattle.flow_graph.proofs.StepEdges.{contains_map, of_landings, only_one, same_by_label, which_edge}
+use Rattle.flow_graph.proofs.StepEdges.{from_map, of_landings, only_one, same_by_label, which_edge}
 
 -- at the same address, whatever the calls, or both at Exit
 abbrev pub AreAlike : Place → Place → Type 0
@@ -44,8 +44,8 @@ one_apart x p q h k alike = sym (only_one x p h) ∙ only_one x q k
 
 inside_apart : (calls to : List ℕ) → AreApart (places_at calls to)
 inside_apart calls to p q h k alike =
-    let a = contains_map (λ (x : ℕ). At calls x) to p h in
-    let b = contains_map (λ (x : ℕ). At calls x) to q k in
+    let a = from_map (λ (x : ℕ). At calls x) to p h in
+    let b = from_map (λ (x : ℕ). At calls x) to q k in
     let half : AreAlike (At calls a.0) q = subst (λ x. AreAlike x q) (sym a.2) alike in
     let same : a.0 ≡ b.0 = subst (AreAlike (At calls a.0)) (sym b.2) half in
     sym a.2 ∙ ap (λ x. At calls x) same ∙ b.2

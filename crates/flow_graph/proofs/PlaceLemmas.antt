@@ -18,6 +18,9 @@ use Rattle.flow_graph.specs.declared.places.Place.{Place}
 use Rattle.flow_graph.specs.declared.places.Place.TheVariants.{At, Exit}
 use Rattle.flow_graph.proofs.Ascending.{ascending_from, ascending_has, sorted_ascending}
 
+pub same_at : (list other : List ℕ) (a b : ℕ) → At list a ≡ At other b → (list ≡ other) × (a ≡ b)
+same_at list other a b is = (cc, cc)
+
 pub by_order_is_place_cmp : (x y : Place) → by_order x y ≡ place_cmp x y
 by_order_is_place_cmp (At c a) (At d b) = refl
 by_order_is_place_cmp (At c a) Exit = refl

@@ -1,8 +1,9 @@
 -- The edges of a place, by their labels and by where they end.
-use Rattle.std.proofs.Common.{◌≡◌, ℕ, ◌+◌, ◌^◌, ◌<◌, ◌≤◌, ◌⊎◌, inl, inr, Bool, true, false, cond, List, [], ◌∷◌, ◌++◌, length, map, nat_lt, Option, Some, None, refl, sym, ap, subst, ◌∙◌, arith}
+use Rattle.std.proofs.Common.{◌≡◌, ℕ, zero, suc, ◌+◌, ◌^◌, ◌<◌, ◌≤◌, ◌⊎◌, inl, inr, Bool, true, false, cond, List, [], ◌∷◌, ◌++◌, length, map, nat_lt, Option, Some, None, refl, sym, ap, subst, ◌∙◌, arith}
 use Rattle.std.specs.Prelude.{Contains}
 use Rattle.std.proofs.lemmas.Bool.{lt-ltb}
 use Rattle.std.proofs.lemmas.Bool.Decides.{eqb_tells}
+use Rattle.std.proofs.lemmas.List.{get_or-map, length-map}
 use Rattle.std.proofs.lemmas.List.Elements.{Contains-append_cases, Contains-append_left, Contains-append_right}
 use Rattle.arm2_decode.specs.Names.{is_always, is_never}
 use Rattle.arm2_effect.specs.ProgramCounter.{ahead_of}
@@ -46,21 +47,14 @@ always_holds _ f h = refl
 
 -- ## Lists
 
-pub contains_map : {X Y : Type 0} (f : X → Y) (xs : List X) (y : Y) → Contains (map f xs) y → (x : X) × Contains xs x × (f x ≡ y)
-contains_map f [] y h = absurd (no_member y h)
-contains_map f (x ∷ xs) y h = by_place (λ more. contains_map f xs y more) (cons_cases (f x) (map f xs) y h)
-  where
-    by_place : (Contains (map f xs) y → (z : _) × Contains xs z × (f z ≡ y)) → (f x ≡ y) ⊎ Contains (map f xs) y → (z : _) × Contains (x ∷ xs) z × (f z ≡ y)
-    by_place rest (inl e) = (x, here x xs, e)
-    by_place rest (inr more) = let w = rest more in (w.0, there x xs w.0 w.1, w.2)
+-- an element of a mapped list is some element's image
+pub from_map : {X Y : Type 0} (f : X → Y) (xs : List X) (y : Y) → Contains (map f xs) y → (x : X) × Contains xs x × (f x ≡ y)
+from_map f [] y h = absurd (no_member y h)
+from_map f (x ∷ xs) y (zero, lt, at) = (x, here x xs, at)
+from_map f (x ∷ xs) y (suc k, lt, at) = let w = from_map f xs y (k, omega arith, at) in (w.0, there x xs w.0 w.1, w.2)
 
-pub map_contains : {X Y : Type 0} (f : X → Y) (xs : List X) (x : X) → Contains xs x → Contains (map f xs) (f x)
-map_contains f [] x h = absurd (no_member x h)
-map_contains f (z ∷ xs) x h = by_place (λ more. map_contains f xs x more) (cons_cases z xs x h)
-  where
-    by_place : (Contains xs x → Contains (map f xs) (f x)) → (z ≡ x) ⊎ Contains xs x → Contains (f z ∷ map f xs) (f x)
-    by_place rest (inl e) = subst (λ w. Contains (f z ∷ map f xs) (f w)) e (here (f z) (map f xs))
-    by_place rest (inr more) = there (f z) (map f xs) (f x) (rest more)
+pub into_map : {X Y : Type 0} (f : X → Y) (xs : List X) (x : X) → Contains xs x → Contains (map f xs) (f x)
+into_map f xs x h = (h.0, omega (arith, h.1, length-map xs f), get_or-map f xs h.0 x (f x) h.1 ∙ ap f h.2)
 
 cond_contains : (b : Bool) (xs : List Edge) (e : Edge) → Contains (cond b [] xs) e → Contains xs e
 cond_contains true xs e h = absurd (no_member e h)
@@ -120,7 +114,7 @@ module _ (st : Stated) (profile : Profile) (calls : List ℕ) (a : ℕ) (action 
     where
       by_part : Contains (skip_edges profile calls a action) e ⊎ Contains (do_edges st profile calls a action) e → Which e
       by_part (inl skip) = inl (only_one (skip_edge profile calls a) e (cond_contains (is_always action.cond) (skip_edge profile calls a ∷ []) e skip))
-      by_part (inr more) = inr (contains_map (do_edge st profile calls a action) (landings st calls a action.kind) e (cond_contains (is_never action.cond) (landing_edges st profile calls a action) e more))
+      by_part (inr more) = inr (from_map (do_edge st profile calls a action) (landings st calls a action.kind) e (cond_contains (is_never action.cond) (landing_edges st profile calls a action) e more))
 
   -- two edges with one label are the same where both lead to the same place
   pub same_by_label : (d e : Edge) → d.label ≡ e.label → Which d → Which e
@@ -141,7 +135,7 @@ module _ (st : Stated) (profile : Profile) (calls : List ℕ) (a : ℕ) (action 
   do_among to may lands =
       Contains-append_right (skip_edges profile calls a action) (do_edges st profile calls a action) (do_edge st profile calls a action to)
       (contains_cond (is_never action.cond) (landing_edges st profile calls a action) (do_edge st profile calls a action to) may
-      (map_contains (do_edge st profile calls a action) (landings st calls a action.kind) to lands))
+      (into_map (do_edge st profile calls a action) (landings st calls a action.kind) to lands))
 
 -- ## Where edges end
 

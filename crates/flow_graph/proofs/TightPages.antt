@@ -2,7 +2,7 @@
 use Rattle.std.proofs.Common.{◌≡◌, ℕ, ◌*◌, ◌^◌, ◌<◌, ◌==◌, ◌||◌, ◌⊎◌, inl, inr, Bool, true, false, cond, Some, None, List, [], ◌∷◌, length, map, refl, sym, ap, ◌∙◌, arith}
 use Rattle.std.specs.Prelude.{All, Contains, nat_eq}
 use Rattle.std.specs.List.{list_all, list_any}
-use Rattle.std.proofs.lemmas.Bool.{cases_lt, eqb-false, eq-eqb, eqb-true, lt-ltb, ne_eqb}
+use Rattle.std.proofs.lemmas.Bool.{cases_lt, eqb-false, eq-eqb, eqb-true, lt-ltb, ne_eqb, or_parts}
 use Rattle.std.proofs.lemmas.List.Elements.{All-contains, All-contains_itself, All-from_recursion, All-tail, All-weaker}
 use Rattle.std.proofs.lemmas.Option.{same_Some}
 use Rattle.loader.specs.Image.{Words}
@@ -20,17 +20,13 @@ use Rattle.machine_file.specs.Started.{IsController, IsResetMap, stated_at}
 use Rattle.machine_file.specs.declared.pages.MappedPage.{MappedPage}
 use Rattle.flow_graph.specs.TightFile.{open_page}
 use Rattle.flow_graph.proofs.SortedLemmas.{cons_cases, here, no_member, there}
-use Rattle.flow_graph.proofs.StepEdges.{map_contains}
+use Rattle.flow_graph.proofs.StepEdges.{into_map}
 
 -- ## Numbers that ascend
 
-or_false : (b c : Bool) → (b || c) ≡ false → c ≡ false
-or_false true c h = absurd (cc)
-or_false false c h = h
-
 not_any : (x : ℕ) (xs : List ℕ) (y : ℕ) → list_any (nat_eq x) xs ≡ false → Contains xs y → x ≡ y → ⊥
 not_any x [] y none h e = no_member y h
-not_any x (z ∷ zs) y none h e = by_test (λ more. not_any x zs y (or_false (x == z) (list_any (nat_eq x) zs) none) more e) (x == z) (list_any (nat_eq x) zs) refl none (cons_cases z zs y h)
+not_any x (z ∷ zs) y none h e = by_test (λ more. not_any x zs y (or_parts (x == z) (list_any (nat_eq x) zs) none).1 more e) (x == z) (list_any (nat_eq x) zs) refl none (cons_cases z zs y h)
   where
     by_test : (Contains zs y → ⊥) → (b rest : Bool) → (x == z) ≡ b → (b || rest) ≡ false → (z ≡ y) ⊎ Contains zs y → ⊥
     by_test later true rest is either at = cc
@@ -47,7 +43,7 @@ one_page number [] h p q hp hq e = absurd (no_member p hp)
 one_page number (x ∷ xs) h p q hp hq e = by_place (λ a b. one_page number xs (rest_ascend (number x) (map number xs) h) p q a b e) (cons_cases x xs p hp) (cons_cases x xs q hq)
   where
     apart : (y : PlacedPage) → Contains xs y → number x ≡ number y → ⊥
-    apart y more same = not_any (number x) (map number xs) (number y) (first_apart (number x) (map number xs) h) (map_contains number xs y more) same
+    apart y more same = not_any (number x) (map number xs) (number y) (first_apart (number x) (map number xs) h) (into_map number xs y more) same
 
     by_place : (Contains xs p → Contains xs q → p ≡ q) → (x ≡ p) ⊎ Contains xs p → (x ≡ q) ⊎ Contains xs q → p ≡ q
     by_place later (inl a) (inl b) = sym a ∙ b
@@ -75,7 +71,7 @@ page_stated (q ∷ ps) h p c = by_place (page_stated ps (rest_ascend q.logical (
         → (q ≡ p) ⊎ Contains ps p → cond (q.logical == p.logical) (Some (record { physical = q.physical; level = 0 })) (stated_at (map open_page ps) p.logical) ≡ Some (record { physical = p.physical; level = 0 })
     by_place later (inl same) = rw (ap (λ (x : PlacedPage). x.logical) same, eq-eqb p.logical p.logical refl) (ap (λ (x : PlacedPage). Some (record { physical = x.physical; level = 0 })) same)
     by_place later (inr more) =
-        let apart = not_any q.logical (map (λ x. x.logical) ps) p.logical (first_apart q.logical (map (λ x. x.logical) ps) h) (map_contains (λ x. x.logical) ps p more) in
+        let apart = not_any q.logical (map (λ x. x.logical) ps) p.logical (first_apart q.logical (map (λ x. x.logical) ps) h) (into_map (λ x. x.logical) ps p more) in
         rw (ne_eqb q.logical p.logical apart) (later more)
 
 physical_is : (e : Entry) (physical level : ℕ) → e ≡ record { physical = physical; level = level } → e.physical ≡ physical
@@ -159,7 +155,7 @@ all_mappable image pages spare plan = by_each pages (All-weaker (Contains pages)
     Fits q = (q.logical < 1024) × (q.physical < 128)
 
     fits : (q : PlacedPage) → Contains pages q → Fits q
-    fits q c = (((plan.logical q.logical).0 (map_contains (λ x. x.logical) pages q c)).0, (All-contains (λ (x : PlacedPage). IsFree image x.physical) pages q plan.free c).below)
+    fits q c = (((plan.logical q.logical).0 (into_map (λ x. x.logical) pages q c)).0, (All-contains (λ (x : PlacedPage). IsFree image x.physical) pages q plan.free c).below)
 
     by_each : (ps : List PlacedPage) → All Fits ps → list_all (is_mappable 15) (map open_page ps) ≡ true
     by_each [] all = refl

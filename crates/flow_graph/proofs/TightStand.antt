@@ -37,7 +37,7 @@ use Rattle.flow_graph.specs.Places.{place_address}
 use Rattle.statement.specs.Stated.{Stated}
 use Rattle.flow_graph.proofs.EdgeLemmas.{one_action}
 use Rattle.flow_graph.proofs.SortedLemmas.{no_member}
-use Rattle.flow_graph.proofs.StepEdges.{contains_map, only_one}
+use Rattle.flow_graph.proofs.StepEdges.{from_map, only_one}
 use Rattle.flow_graph.proofs.TightTicks.{n_worst, s_worst}
 
 -- ## Targets
@@ -120,7 +120,7 @@ label_flags words st profile e calls address a among = by_part (Contains-append_
     by_part (inr done) =
         let test = after_test (is_never a.cond) (landing_edges st profile calls address a) e done in
         let f = (reached a.cond).1 test.0 in
-        let to = contains_map (do_edge st profile calls address a) (landings st calls address a.kind) e test.1 in
+        let to = from_map (do_edge st profile calls address a) (landings st calls address a.kind) e test.1 in
         (f.0, f.1 ∙ ap (λ (x : Edge). x.label) to.2)
 
 pub some_flags : (words : Words) (st : Stated) (profile : Profile) (e : Edge) (calls : List ℕ) (address word : ℕ) (action : Action) → IsEdge words st profile e → e.from ≡ At calls address → word_of words address ≡ Some word → IsAction word action

@@ -15,7 +15,7 @@ use Rattle.flow_graph.specs.declared.kinds.Kind.{Kind}
 use Rattle.flow_graph.specs.declared.places.Place.{Place}
 use Rattle.flow_graph.specs.declared.places.Place.TheVariants.{At}
 use Rattle.flow_graph.proofs.SortedLemmas.{no_member}
-use Rattle.flow_graph.proofs.StepEdges.{Which, contains_map, of_landings, only_one, same_by_label}
+use Rattle.flow_graph.proofs.StepEdges.{Which, from_map, of_landings, only_one, same_by_label}
 use Rattle.flow_graph.proofs.StepLemmas.{which_taken}
 
 module _ (st : Stated) (t : ℕ) where
@@ -32,7 +32,7 @@ module _ (st : Stated) (t : ℕ) where
   -- inside the same calls there is one place of the address
   at_address : (calls to : List ℕ) (p : Place) → Contains (places_at calls to) p → IsPlaceOf st t p → p ≡ At calls t
   at_address calls to p p_in p_is =
-      let w = contains_map (λ (a : ℕ). At calls a) to p p_in in
+      let w = from_map (λ (a : ℕ). At calls a) to p p_in in
       let there : w.0 ≡ t = subst (IsPlaceOf st t) (sym w.2) p_is in
       sym w.2 ∙ ap (λ (a : ℕ). At calls a) there
 

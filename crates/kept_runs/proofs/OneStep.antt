@@ -16,13 +16,10 @@ use Rattle.flow_graph.specs.Kinds.{IsAction}
 use Rattle.flow_graph.specs.StepLaw.{IsEdgeOf, IsTaken}
 use Rattle.flow_graph.specs.declared.edges.Edge.{Edge}
 use Rattle.flow_graph.specs.declared.kinds.Action.{Action}
-use Rattle.flow_graph.specs.declared.places.Place.TheVariants.{At}
 use Rattle.flow_graph.proofs.EdgeLemmas.{one_action}
 use Rattle.flow_graph.proofs.StepLemmas.{tells_plain}
+use Rattle.flow_graph.proofs.PlaceLemmas.{same_at}
 use Rattle.kept_runs.proofs.EdgeChoice.{one_edge}
-
-pub same_calls : (c d : List ℕ) (a b : ℕ) → At c a ≡ At d b → (c ≡ d) × (a ≡ b)
-same_calls c d a b is = (cc, cc)
 
 regs_by : (stops : Bool) (s a : State) → stops ≡ false → (cond stops s a).regs ≡ a.regs
 regs_by true s a is = absurd (false≢true (sym is))
@@ -40,7 +37,7 @@ module _ (words : Words) (st : Stated) (profile : Profile) (s : State) (i : Inpu
   pub one_edge_of : (stepped other : Stepped) (after last : State) (d e : Edge) → IsEdgeOf words st profile s i stepped after d → IsEdgeOf words st profile s i other last e → d.from ≡ e.from → d ≡ e
   one_edge_of stepped other after last d e h g from =
       let same = one_step s i stepped other after last h.executes.step g.executes.step in
-      let calls : h.calls ≡ g.calls = (same_calls h.calls g.calls (address_in s.regs) (address_in s.regs) (sym h.taken.from ∙ from ∙ g.taken.from)).0 in
+      let calls : h.calls ≡ g.calls = (same_at h.calls g.calls (address_in s.regs) (address_in s.regs) (sym h.taken.from ∙ from ∙ g.taken.from)).0 in
       let word : h.executes.has.word ≡ g.executes.has.word = same_Some h.executes.has.word g.executes.has.word (sym h.executes.has.stands ∙ g.executes.has.stands) in
       let act : h.action ≡ g.action = one_action g.executes.has.word h.action g.action (subst (λ w. IsAction w h.action) word h.executes.has.is) g.executes.has.is in
       let told_same : IsTaken words st profile g.calls g.action s stepped e = subst (λ (x : Stepped). IsTaken words st profile g.calls g.action s x e) same.0 g.taken in

@@ -5,9 +5,8 @@ use Rattle.std.proofs.lemmas.List.{get_or_default}
 use Rattle.flow_graph.specs.declared.edges.Edge.{Edge}
 use Rattle.flow_graph.specs.declared.places.Place.{Place}
 use Rattle.flow_graph.specs.Flow.{Flow, IsEdgeRange}
-use Rattle.flow_graph.proofs.Firsts.{whole_range}
+use Rattle.flow_graph.proofs.Firsts.{no_edge, whole_range}
 use Rattle.longest_walk.specs.Built.{step_at}
-use Rattle.longest_walk.proofs.CarryWalks.{no_edge}
 use Rattle.kept_runs.specs.declared.edges.Going.{Going}
 use Rattle.kept_runs.specs.Edges.{HasNoEdge, IsFound, is_met}
 

@@ -26,6 +26,7 @@ use Rattle.flow_graph.specs.StepLaw.{Follows, IsEdgeOf, IsPlaceOf}
 use Rattle.flow_graph.specs.declared.edges.Edge.{Edge}
 use Rattle.flow_graph.specs.declared.places.Place.{Place}
 use Rattle.flow_graph.specs.declared.places.Place.TheVariants.{At, Exit}
+use Rattle.flow_graph.proofs.Firsts.{no_edge}
 use Rattle.loop_bounds.proofs.LayoutLemmas.{take_none}
 use Rattle.numbered_walks.specs.declared.span.NumberedEdge.{NumberedEdge}
 use Rattle.numbered_walks.specs.declared.span.Span.{Span}
@@ -38,7 +39,7 @@ use Rattle.loop_bounds.specs.Instance.{place_loops}
 use Rattle.loop_bounds.specs.Tree.{IsTree, Tree, place_in}
 use Rattle.longest_walk.specs.Built.{step_at, steps_of}
 use Rattle.longest_walk.specs.Longest.{KeepsTree}
-use Rattle.longest_walk.proofs.CarryWalks.{AreNumbersOf, edge_same, exit_is, exit_place, keeps_down, keeps_up, leads_up, no_edge}
+use Rattle.longest_walk.proofs.CarryWalks.{AreNumbersOf, edge_same, exit_is, exit_place, keeps_down, keeps_up, leads_up}
 use Rattle.kept_runs.specs.declared.following.Follower.{Follower}
 use Rattle.kept_runs.specs.declared.following.Unkept.{Unkept}
 use Rattle.kept_runs.specs.declared.following.Unkept.TheVariants as unkept

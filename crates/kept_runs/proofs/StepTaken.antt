@@ -16,9 +16,10 @@ use Rattle.flow_graph.specs.declared.places.Place.{Place}
 use Rattle.numbered_walks.specs.declared.span.NumberedEdge.{NumberedEdge}
 use Rattle.numbered_walks.specs.declared.span.Span.{Span}
 use Rattle.numbered_walks.specs.Index.{edge_at}
+use Rattle.numbered_walks.proofs.Members.{no_numbered_edge}
 use Rattle.loop_bounds.specs.Tree.{IsTree, NumbersEdge, Tree, place_in}
 use Rattle.longest_walk.specs.Built.{step_at}
-use Rattle.longest_walk.proofs.CarryWalks.{edge_same, no_number, number_is}
+use Rattle.longest_walk.proofs.CarryWalks.{edge_same, number_is}
 use Rattle.kept_runs.specs.declared.following.Follower.{Follower}
 use Rattle.kept_runs.specs.declared.judging.Taken.{Taken}
 use Rattle.kept_runs.specs.declared.following.Unkept.TheVariants as unkept
@@ -60,7 +61,7 @@ module _ (words : Words) (st : Stated) (flow : Flow) (tree : Tree) (well : IsWel
   numbers k lt = edge_same flow tree well t k lt
 
   pub in_tree : (k : ℕ) → k < length flow.edges → Contains tree.edges (edge_at tree.edges k)
-  in_tree k lt = Contains-get_or tree.edges k no_number (omega (arith, lt, t.numbered.same))
+  in_tree k lt = Contains-get_or tree.edges k no_numbered_edge (omega (arith, lt, t.numbered.same))
 
   -- an edge leaves where the run is, as places and as numbers
   pub leaves_number : (k : ℕ) → k < length flow.edges → (step_at flow.edges k).from ≡ place_in flow tree x.number → (edge_at tree.edges k).from ≡ x.number

@@ -1,9 +1,8 @@
 -- Which row is found for a place, and which span is where.
-use Rattle.std.proofs.Common.{◌≡◌, ◌≢◌, ℕ, zero, suc, ◌<◌, Bool, true, false, cond, eqb, List, [], ◌∷◌, length, get_or, map, AllPairs, Contains, Some, refl, sym, ap, ◌∙◌, subst, arith}
+use Rattle.std.proofs.Common.{◌≡◌, ◌≢◌, ℕ, zero, suc, ◌<◌, Bool, true, false, cond, eqb, List, [], ◌∷◌, length, get_or, AllPairs, Contains, Some, refl, sym, ap, subst, arith}
 use Rattle.std.specs.List.{find}
 use Rattle.std.specs.Cmp.Lexicographic.{pointwise}
 use Rattle.std.proofs.lemmas.Bool.{both_ways, eq-eqb, eqb-true, ne_eqb, and_parts, and_from}
-use Rattle.std.proofs.lemmas.List.{get_or-map, length-map}
 use Rattle.flow_graph.specs.declared.places.Place.{Place}
 use Rattle.flow_graph.specs.declared.places.Place.TheVariants.{At, Exit}
 use Rattle.numbered_walks.specs.declared.span.Span.{Span}
@@ -37,19 +36,6 @@ find_known {X} test (y ∷ xs) x has pass =
     later : (k : ℕ) → k < length (y ∷ xs) → get_or (y ∷ xs) k x ≡ x → test y ≡ false → Contains xs x
     later zero lt at fails = absurd (both_ways (test y) fails (subst (λ (z : X). test z ≡ true) (sym at) pass))
     later (suc k) lt at fails = (k, omega arith, at)
-
--- an element of a mapped list is some element's image
-pub from_map : {X Y : Type 0} (f : X → Y) (xs : List X) (y : Y) → Contains (map f xs) y → (x : X) × Contains xs x × (f x ≡ y)
-from_map f [] y has = let lt : has.0 < 0 = has.1 in absurd (omega arith)
-from_map f (x ∷ xs) y (zero, lt, at) = (x, (zero, omega arith, refl), at)
-from_map f (x ∷ xs) y (suc k, lt, at) =
-    let rest = from_map f xs y (k, omega arith, at) in
-    (rest.0, (suc rest.1.0, omega (arith, rest.1.1), rest.1.2), rest.2)
-
-pub into_map : {X Y : Type 0} (f : X → Y) (xs : List X) (x : X) → Contains xs x → Contains (map f xs) (f x)
-into_map f xs x has =
-    let lt : has.0 < length (map f xs) = omega (arith, has.1, length-map xs f) in
-    (has.0, lt, get_or-map f xs has.0 x (f x) has.1 ∙ ap f has.2)
 
 -- ## Places of rows
 

@@ -10,6 +10,8 @@ use Rattle.flow_graph.specs.declared.places.Place.{Place}
 use Rattle.flow_graph.specs.declared.places.Place.TheVariants.{At, Exit}
 use Rattle.flow_graph.specs.declared.edges.Edge.{Edge}
 use Rattle.flow_graph.specs.Flow.{Flow, IsWellFormed, edge_shape}
+use Rattle.flow_graph.proofs.Firsts.{no_edge}
+use Rattle.flow_graph.proofs.StepEdges.{from_map, into_map}
 use Rattle.numbered_walks.specs.declared.span.NumberedEdge.{NumberedEdge}
 use Rattle.numbered_walks.specs.declared.span.Span.{Span}
 use Rattle.numbered_walks.specs.declared.tables.Tables.{Tables}
@@ -18,6 +20,7 @@ use Rattle.numbered_walks.specs.Ordered.{number_shape, span_loops}
 use Rattle.numbered_walks.specs.Tables.{arrival_of, distance_of, round_of}
 use Rattle.numbered_walks.specs.Tables as T
 use Rattle.numbered_walks.specs.Found.{AreFound}
+use Rattle.numbered_walks.proofs.Members.{no_numbered_edge, no_span}
 use Rattle.loop_bounds.specs.Instance.{Instance, is_header, place_loops}
 use Rattle.loop_bounds.specs.Tree.{IsSpanOf, IsTree, NumbersEdge, Tree, place_in}
 use Rattle.loop_bounds.proofs.ExtentOf.{header_place, header_itself}
@@ -25,9 +28,9 @@ use Rattle.longest_walk.specs.Built.{AreInstanceRowsAt, ArePlaceRowsAt, IsInstan
 use Rattle.longest_walk.specs.Rows.{AreLeast, RowsFit, RowsHold, distance_in, header_of, header_of_row, is_at, is_exit, number_or_zero, place_of_row, potentials_of, row_of}
 use Rattle.longest_walk.specs.declared.rows.PlaceRow.{PlaceRow}
 use Rattle.longest_walk.specs.declared.rows.InstanceRow.{InstanceRow}
-use Rattle.longest_walk.proofs.CarryFind.{at_itself, at_place, find_known, from_map, index_is, index_of, into_map}
+use Rattle.longest_walk.proofs.CarryFind.{at_itself, at_place, find_known, index_is, index_of}
 use Rattle.longest_walk.proofs.CarryRows.{SameRow, cond_same, fit_back, row_back, row_there}
-use Rattle.longest_walk.proofs.CarryWalks.{edge_same, exit_place, header_same, member_same, no_edge, no_instance, no_number, no_span, number_is, place_numbers}
+use Rattle.longest_walk.proofs.CarryWalks.{edge_same, exit_place, header_same, member_same, no_instance, number_is, place_numbers}
 
 -- ## The same potentials
 
@@ -107,20 +110,20 @@ module _ (flow : Flow) (tree : Tree) (well : IsWellFormed flow) (t : IsTree flow
     pub rows_down : RowsHold flow tree c → T.RowsHold (length flow.places) tree.edges tree.spans d
     rows_down rows f has =
         let lt : has.0 < length flow.edges = omega (arith, has.1, t.numbered.same) in
-        let is : edge_at tree.edges has.0 ≡ f = get_or_default tree.edges has.0 no_number f has.1 ∙ has.2 in
+        let is : edge_at tree.edges has.0 ≡ f = get_or_default tree.edges has.0 no_numbered_edge f has.1 ∙ has.2 in
         let row = row_there edge_shape place_loops is_exit c number_shape span_loops (T.is_exit exit) d tree.instances tree.spans (step_at flow.edges has.0) (edge_at tree.edges has.0) (same_row has.0 lt) (rows (step_at flow.edges has.0) (Contains-get_or flow.edges has.0 no_edge lt)) in
         rw is at row
 
     pub rows_up : T.RowsHold (length flow.places) tree.edges tree.spans d → RowsHold flow tree c
     rows_up rows e has =
         let is : step_at flow.edges has.0 ≡ e = get_or_default flow.edges has.0 no_edge e has.1 ∙ has.2 in
-        let row = row_back edge_shape place_loops is_exit c number_shape span_loops (T.is_exit exit) d tree.instances tree.spans (step_at flow.edges has.0) (edge_at tree.edges has.0) (same_row has.0 has.1) (rows (edge_at tree.edges has.0) (Contains-get_or tree.edges has.0 no_number (omega (arith, has.1, t.numbered.same)))) in
+        let row = row_back edge_shape place_loops is_exit c number_shape span_loops (T.is_exit exit) d tree.instances tree.spans (step_at flow.edges has.0) (edge_at tree.edges has.0) (same_row has.0 has.1) (rows (edge_at tree.edges has.0) (Contains-get_or tree.edges has.0 no_numbered_edge (omega (arith, has.1, t.numbered.same)))) in
         rw is at row
 
     pub fit_up : T.RowsFit (length flow.places) tree.edges tree.spans d → RowsFit flow tree c
     fit_up rows e has =
         let is : step_at flow.edges has.0 ≡ e = get_or_default flow.edges has.0 no_edge e has.1 ∙ has.2 in
-        let row = fit_back edge_shape place_loops is_exit c number_shape span_loops (T.is_exit exit) d tree.instances tree.spans (step_at flow.edges has.0) (edge_at tree.edges has.0) (same_row has.0 has.1) (rows (edge_at tree.edges has.0) (Contains-get_or tree.edges has.0 no_number (omega (arith, has.1, t.numbered.same)))) in
+        let row = fit_back edge_shape place_loops is_exit c number_shape span_loops (T.is_exit exit) d tree.instances tree.spans (step_at flow.edges has.0) (edge_at tree.edges has.0) (same_row has.0 has.1) (rows (edge_at tree.edges has.0) (Contains-get_or tree.edges has.0 no_numbered_edge (omega (arith, has.1, t.numbered.same)))) in
         rw is at row
 
   -- ## Any numbers, by number

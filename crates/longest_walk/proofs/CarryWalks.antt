@@ -9,9 +9,9 @@ use Rattle.walks.specs.Greatest as G
 use Rattle.flow_graph.specs.declared.places.Place.{Place}
 use Rattle.flow_graph.specs.declared.places.Place.TheVariants.{Exit}
 use Rattle.flow_graph.specs.declared.edges.Edge.{Edge}
-use Rattle.flow_graph.specs.declared.edges.Label.TheVariants.{Do}
 use Rattle.flow_graph.specs.Flow.{Flow, IsWellFormed, edge_shape, HasEdge}
 use Rattle.flow_graph.specs.Places.{place_at}
+use Rattle.flow_graph.proofs.Firsts.{no_edge}
 use Rattle.numbered_walks.specs.declared.span.NumberedEdge.{NumberedEdge}
 use Rattle.numbered_walks.specs.declared.span.Span.{Span}
 use Rattle.numbered_walks.specs.declared.fault.WalkFault.{WalkFault}
@@ -20,6 +20,7 @@ use Rattle.numbered_walks.specs.Index.{edge_at, edges_of}
 use Rattle.numbered_walks.specs.Ordered.{number_shape, is_in}
 use Rattle.numbered_walks.specs.Ordered as O
 use Rattle.numbered_walks.specs.Found as F
+use Rattle.numbered_walks.proofs.Members.{no_numbered_edge, no_span}
 use Rattle.loop_bounds.specs.Bounds.{IsCompleteWalk}
 use Rattle.loop_bounds.specs.Instance.{Instance, is_member, is_header, place_loops}
 use Rattle.loop_bounds.specs.Tree.{ArePlaceNumbers, IsSpanOf, IsTree, NumbersEdge, Tree, place_in}
@@ -28,15 +29,6 @@ use Rattle.loop_bounds.proofs.Positions.{places_once}
 use Rattle.longest_walk.specs.Built.{step_at, steps_of}
 use Rattle.longest_walk.specs.Longest.{IsWalkFault, KeepsTree, TreeTooLarge}
 use Rattle.longest_walk.proofs.CarryKeeps.{Agree, IsNamed, keeps_back, keeps_there, named}
-
-abbrev pub no_edge : Edge
-no_edge = record { from = Exit; label = Do; to = Exit; cost = 0 }
-
-abbrev pub no_number : NumberedEdge
-no_number = record { from = 0; to = 0; cost = 0 }
-
-abbrev pub no_span : Span
-no_span = record { header = 0; last = 0; bound = 0 }
 
 abbrev pub no_instance : Instance
 no_instance = record { list = []; header = 0; first = 0; last = 0; bound = 0 }
@@ -95,7 +87,7 @@ module _ (flow : Flow) (tree : Tree) (well : IsWellFormed flow) (t : IsTree flow
   -- ## Edges
 
   pub edge_same : (k : ℕ) → k < length flow.edges → NumbersEdge (place_in flow tree) (length flow.places) (step_at flow.edges k) (edge_at tree.edges k)
-  edge_same k lt = t.numbered.each k no_edge no_number lt
+  edge_same k lt = t.numbered.each k no_edge no_numbered_edge lt
 
   pub costs_same : (ks : List ℕ) → AreNumbersOf flow ks → cost_of edge_shape (steps_of flow.edges ks) ≡ cost_of number_shape (edges_of tree.edges ks)
   costs_same [] inside = refl
@@ -139,7 +131,7 @@ module _ (flow : Flow) (tree : Tree) (well : IsWellFormed flow) (t : IsTree flow
         last_in = rest.last_in;
         last_is = rest.last_is;
         leads = (
-          Contains-get_or tree.edges k no_number (omega (arith, t.numbered.same)),
+          Contains-get_or tree.edges k no_numbered_edge (omega (arith, t.numbered.same)),
           number_is (edge_at tree.edges k).from p (omega arith) le (here.from_is ∙ h.1),
           rest.leads,
         );
@@ -237,7 +229,7 @@ module _ (flow : Flow) (tree : Tree) (well : IsWellFormed flow) (t : IsTree flow
 
   pub walk_up : (walk : List NumberedEdge) (last : ℕ) → O.Leads tree.edges 0 walk last → IsUp walk last
   walk_up walk last h =
-      let w : IsNamed tree.edges no_number walk = named number_shape tree.edges no_number walk 0 last h in
+      let w : IsNamed tree.edges no_numbered_edge walk = named number_shape tree.edges no_numbered_edge walk 0 last h in
       let inside : AreNumbersOf flow w.numbers = λ n d lt. omega (arith, w.inside n d lt, t.numbered.same) in
       let up = leads_up w.numbers 0 last inside (subst (λ (v : List NumberedEdge). O.Leads tree.edges 0 v last) (sym w.same) h) in
       record {

@@ -7,8 +7,8 @@ use Rattle.walks.proofs.SumLe.{sum_by-le_contains}
 use Rattle.numbered_walks.specs.declared.span.NumberedEdge.{NumberedEdge}
 use Rattle.numbered_walks.specs.declared.span.Span.{Span}
 use Rattle.numbered_walks.specs.Ordered.{IsOrdered, is_in}
-use Rattle.numbered_walks.specs.Tables.{nth}
-use Rattle.numbered_walks.proofs.Members.{header_in, member_header, member_last, is_member}
+use Rattle.numbered_walks.specs.Index.{span_at}
+use Rattle.numbered_walks.proofs.Members.{header_in, member_from, member_header, member_last, no_span}
 use Rattle.numbered_walks.proofs.Nesting.{cond_le, same_header}
 use Rattle.longest_walk.specs.Ways.{depth_at, holds, InTree, level_in, start_of}
 
@@ -46,21 +46,20 @@ module _ (exit : ℕ) (edges : List NumberedEdge) (spans : List Span) (order : I
   level_below (Some t) here s s_in inside later = deeper t s here s_in inside later
 
   -- the instances inside another come before it
-  pub before : (n : ℕ) → n < length spans → (t : Span) → Contains spans t → is_in (nth spans n) t.header ≡ true → (nth spans n).header < t.header → (m : ℕ) × (m < n) × (nth spans m ≡ t)
+  pub before : (n : ℕ) → n < length spans → (t : Span) → Contains spans t → is_in (span_at spans n) t.header ≡ true → (span_at spans n).header < t.header → (m : ℕ) × (m < n) × (span_at spans m ≡ t)
   before n lt t t_in inside later =
-      let s = nth spans n in
-      let d : Span = record { header = 0; last = 0; bound = 0 } in
-      let s_in : Contains spans s = Contains-get_or spans n d lt in
+      let s = span_at spans n in
+      let s_in : Contains spans s = Contains-get_or spans n no_span lt in
       let m = t_in.0 in
-      let at : nth spans m ≡ t = get_or_default spans m d t t_in.1 ∙ t_in.2 in
-      let differ : m ≡ n → ⊥ = λ same. let e : t.header ≡ s.header = ap (λ (x : Span). x.header) (sym at ∙ ap (nth spans) same) in omega arith in
+      let at : span_at spans m ≡ t = get_or_default spans m no_span t t_in.1 ∙ t_in.2 in
+      let differ : m ≡ n → ⊥ = λ same. let e : t.header ≡ s.header = ap (λ (x : Span). x.header) (sym at ∙ ap (span_at spans) same) in omega arith in
       ⊎_elim
       (λ below. (m, below, at))
       (λ above. absurd (⊎_elim
       (λ more. ⊎_elim
       (λ t_all. let low = member_header t s.header (t_all s.header (header_in exit edges spans order s s_in)) in omega arith)
-      (λ s_all. let high = member_last s t.last (s_all t.last (is_member t t.last (order.shape t t_in).0 (omega arith))) in let lasts : (nth spans m).last ≡ t.last = ap (λ (x : Span). x.last) at in omega arith)
+      (λ s_all. let high = member_last s t.last (s_all t.last (member_from t t.last (order.shape t t_in).0 (omega arith))) in let lasts : (span_at spans m).last ≡ t.last = ap (λ (x : Span). x.last) at in omega arith)
       (order.nested s t s_in t_in t.header inside (header_in exit edges spans order t t_in)))
-      (λ same. let headers : (nth spans m).header ≡ t.header = ap (λ (x : Span). x.header) at in omega (arith, same.1))
-      (order.closing n m d (omega (arith, differ)) t_in.1)))
+      (λ same. let headers : (span_at spans m).header ≡ t.header = ap (λ (x : Span). x.header) at in omega (arith, same.1))
+      (order.closing n m no_span (omega (arith, differ)) t_in.1)))
       (cases_lt m n)

@@ -10,12 +10,13 @@ use Rattle.flow_graph.specs.Flow.{Flow}
 use Rattle.numbered_walks.specs.declared.span.Span.{Span}
 use Rattle.numbered_walks.specs.declared.tables.Tables.{Tables}
 use Rattle.numbered_walks.specs.declared.index.Index.{Index}
-use Rattle.numbered_walks.specs.Index.{edge_at, edges_of}
-use Rattle.numbered_walks.specs.Tables.{is_header_in, nth, round_of}
+use Rattle.numbered_walks.specs.Index.{edge_at, edges_of, span_at}
+use Rattle.numbered_walks.specs.Tables.{is_header_in, round_of}
 use Rattle.numbered_walks.specs.Found.{IsTurning}
 use Rattle.numbered_walks.specs.Reach.{AreRoundsOf, IsRoundOf}
 use Rattle.numbered_walks.proofs.Passing.{header_there}
 use Rattle.numbered_walks.proofs.Paths as P
+use Rattle.numbered_walks.proofs.Members.{no_span}
 use Rattle.loop_bounds.specs.Tree.{Tree}
 use Rattle.longest_walk.specs.Folded.{Opened, joined, one_edge, open_item, open_items, turned}
 use Rattle.longest_walk.specs.Built.{AreRising, IsBuilt, IsRisingBody, step_at}
@@ -81,27 +82,26 @@ module _ (flow : Flow) (tree : Tree) (index : Index) (c : Tables) (g : AreSearch
 
   -- ## The rounds of all instances
 
-  pub header_inside : (n : ℕ) → n < length tree.spans → (nth tree.spans n).header < exit + 1
-  header_inside n lt = let shape = g.tree_is.ordered.shape (nth tree.spans n) (Contains-get_or tree.spans n _ lt) in omega (arith, shape.0, shape.1)
+  pub header_inside : (n : ℕ) → n < length tree.spans → (span_at tree.spans n).header < exit + 1
+  header_inside n lt = let shape = g.tree_is.ordered.shape (span_at tree.spans n) (Contains-get_or tree.spans n _ lt) in omega (arith, shape.0, shape.1)
 
   pub rounds_first : (table : List (Option Rounds)) → length table ≡ exit + 1 → ((p : ℕ) → rounds_at table p ≡ None) → AreRounds flow tree c 0 table
   rounds_first table whole none = record { whole = whole; known = λ n low inside. absurd (omega arith); plain = λ p no_header. none p }
 
-  pub rounds_more : (done : ℕ) (table : List (Option Rounds)) (entry : Option Rounds) → done < length tree.spans → AreRounds flow tree c done table → IsRounds flow tree c (nth tree.spans done) entry → AreRounds flow tree c (done + 1) (set table (nth tree.spans done).header entry)
+  pub rounds_more : (done : ℕ) (table : List (Option Rounds)) (entry : Option Rounds) → done < length tree.spans → AreRounds flow tree c done table → IsRounds flow tree c (span_at tree.spans done) entry → AreRounds flow tree c (done + 1) (set table (span_at tree.spans done).header entry)
   rounds_more done table entry lt all one =
-      let d : Span = record { header = 0; last = 0; bound = 0 } in
-      let s = nth tree.spans done in
-      let s_in : Contains tree.spans s = Contains-get_or tree.spans done d lt in
+      let s = span_at tree.spans done in
+      let s_in : Contains tree.spans s = Contains-get_or tree.spans done no_span lt in
       let small : s.header < length table = omega (arith, header_inside done lt, all.whole) in
       record {
         whole = length-set table s.header entry ∙ all.whole;
         known = λ n low inside. ⊎_elim
             (λ earlier.
-            let differ : (nth tree.spans n).header ≢ s.header = g.tree_is.ordered.headers_differ n done d earlier lt in
-            subst (IsRounds flow tree c (nth tree.spans n)) (sym (get_or-set_other table s.header (nth tree.spans n).header entry None differ)) (all.known n earlier inside))
+            let differ : (span_at tree.spans n).header ≢ s.header = g.tree_is.ordered.headers_differ n done no_span earlier lt in
+            subst (IsRounds flow tree c (span_at tree.spans n)) (sym (get_or-set_other table s.header (span_at tree.spans n).header entry None differ)) (all.known n earlier inside))
             (λ later.
             let same : n ≡ done = omega arith in
-            subst (λ (m : ℕ). IsRounds flow tree c (nth tree.spans m) (rounds_at (set table s.header entry) (nth tree.spans m).header)) (sym same)
+            subst (λ (m : ℕ). IsRounds flow tree c (span_at tree.spans m) (rounds_at (set table s.header entry) (span_at tree.spans m).header)) (sym same)
             (subst (IsRounds flow tree c s) (sym (get_or-set_same table s.header entry None small)) one))
             (cases_lt n done);
         plain = λ p no_header.
@@ -109,7 +109,7 @@ module _ (flow : Flow) (tree : Tree) (index : Index) (c : Tables) (g : AreSearch
             get_or-set_other table s.header p entry None differ ∙ all.plain p no_header;
       }
 
-  pub rounds_inside : (done : ℕ) (table : List (Option Rounds)) → done < length tree.spans → AreRounds flow tree c done table → HasRounds flow tree c (Some (nth tree.spans done)) table
+  pub rounds_inside : (done : ℕ) (table : List (Option Rounds)) → done < length tree.spans → AreRounds flow tree c done table → HasRounds flow tree c (Some (span_at tree.spans done)) table
   rounds_inside done table lt all = record {
     whole = all.whole;
     known = λ s s_in inside later.
@@ -120,8 +120,7 @@ module _ (flow : Flow) (tree : Tree) (index : Index) (c : Tables) (g : AreSearch
 
   pub rounds_known : (table : List (Option Rounds)) → AreRounds flow tree c (length tree.spans) table → (s : Span) → Contains tree.spans s → IsRounds flow tree c s (rounds_at table s.header)
   rounds_known table all s s_in =
-      let d : Span = record { header = 0; last = 0; bound = 0 } in
-      let at : nth tree.spans s_in.0 ≡ s = get_or_default tree.spans s_in.0 d s s_in.1 ∙ s_in.2 in
+      let at : span_at tree.spans s_in.0 ≡ s = get_or_default tree.spans s_in.0 no_span s s_in.1 ∙ s_in.2 in
       subst (λ (x : Span). IsRounds flow tree c x (rounds_at table x.header)) at (all.known s_in.0 s_in.1 s_in.1)
 
   pub rounds_whole : (table : List (Option Rounds)) → AreRounds flow tree c (length tree.spans) table → HasRounds flow tree c None table

@@ -17,7 +17,9 @@ use Rattle.flow_graph.specs.Places.{place_address, place_at, place_calls, place_
 use Rattle.flow_graph.proofs.PlaceLemmas.{place_exact, place_total}
 use Rattle.numbered_walks.specs.declared.span.Span.{Span}
 use Rattle.numbered_walks.specs.declared.tables.Tables.{Tables}
-use Rattle.numbered_walks.specs.Tables.{arrival_of, distance_of, nth, round_of}
+use Rattle.numbered_walks.specs.Tables.{arrival_of, distance_of, round_of}
+use Rattle.numbered_walks.specs.Index.{span_at}
+use Rattle.numbered_walks.proofs.Members.{no_span}
 use Rattle.loop_bounds.specs.Instance.{Instance, is_header}
 use Rattle.loop_bounds.specs.Extents.{found_instance}
 use Rattle.loop_bounds.specs.Layout.{AreNumbers}
@@ -128,13 +130,12 @@ headers_once flow tree t i j d i_lt j_lt same =
     let i_in : i < length tree.instances = omega arith in
     let j_in : j < length tree.instances = omega arith in
     let x = some_instance tree.instances i_in in
-    let none : Span = record { header = 0; last = 0; bound = 0 } in
     let spans = t.spans_are in
-    let at_i = get_or tree.spans i none in
-    let at_j = get_or tree.spans j none in
+    let at_i = get_or tree.spans i no_span in
+    let at_j = get_or tree.spans j no_span in
     let i_small : i < length tree.spans = omega (arith, spans.same) in
     let j_small : j < length tree.spans = omega (arith, spans.same) in
-    let shape = t.ordered.shape at_i (Contains-get_or tree.spans i none i_small) in
+    let shape = t.ordered.shape at_i (Contains-get_or tree.spans i no_span i_small) in
     let low : at_i.header ≤ length flow.places = omega (arith, shape.0, shape.1) in
     let heads : header_of (get_or tree.instances i x) ≡ header_of (get_or tree.instances j x) = sym (get_or-map header_of tree.instances i x d i_in) ∙ same ∙ get_or-map header_of tree.instances j x d j_in in
     let p = place_in flow tree at_i.header in
@@ -151,11 +152,11 @@ headers_once flow tree t i j d i_lt j_lt same =
     some_instance (x ∷ xs) lt = x
 
 -- what the code asks of the instance at an index
-pub instance_inside : (flow : Flow) (tree : Tree) → IsTree flow tree → (found : List Found) → map found_instance found ≡ tree.instances → (i : ℕ) → i < length found → (i < length tree.instances) × (i < length tree.spans) × ((nth tree.spans i).header < length flow.places + 1)
+pub instance_inside : (flow : Flow) (tree : Tree) → IsTree flow tree → (found : List Found) → map found_instance found ≡ tree.instances → (i : ℕ) → i < length found → (i < length tree.instances) × (i < length tree.spans) × ((span_at tree.spans i).header < length flow.places + 1)
 instance_inside flow tree t found are i lt =
     let many : i < length tree.instances = omega (arith, ap length are, length-map found found_instance) in
     let few : i < length tree.spans = omega (arith, t.spans_are.same) in
-    let shape = t.ordered.shape (nth tree.spans i) (Contains-get_or tree.spans i _ few) in
+    let shape = t.ordered.shape (span_at tree.spans i) (Contains-get_or tree.spans i _ few) in
     (many, few, omega (arith, shape.0, shape.1))
 
 pub instance_at : (tree : Tree) (found : List Found) (f : Found) (i : ℕ) → map found_instance found ≡ tree.instances → i < length found → f ≡ get_or found i f → found_instance f ≡ get_or tree.instances i (found_instance f)

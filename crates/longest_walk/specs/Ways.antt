@@ -8,8 +8,8 @@ use Rattle.numbered_walks.specs.declared.span.Span.{Span}
 use Rattle.numbered_walks.specs.declared.index.Index.{Index}
 use Rattle.numbered_walks.specs.declared.tables.Tables.{Tables}
 use Rattle.numbered_walks.specs.Ordered.{is_in}
-use Rattle.numbered_walks.specs.Index.{IsIndex, edge_at, edges_of}
-use Rattle.numbered_walks.specs.Tables.{is_header_in, nth}
+use Rattle.numbered_walks.specs.Index.{IsIndex, edge_at, edges_of, span_at}
+use Rattle.numbered_walks.specs.Tables.{is_header_in}
 use Rattle.numbered_walks.specs.Found.{AreFound, IsEntering}
 use Rattle.numbered_walks.specs.Reach.{IsPathTo, IsRoundOf, AreRoundsOf}
 use Rattle.loop_bounds.specs.Tree.{Tree, IsTree}
@@ -111,7 +111,7 @@ pub record AreRounds (flow : Flow) (tree : Tree) (c : Tables) (done : ℕ)
     (table : List (Option Rounds)) : Type 0 where
   pub whole : length table ≡ length flow.places + 1
   pub known : (n : ℕ) → n < done → n < length tree.spans
-      → IsRounds flow tree c (nth tree.spans n) (rounds_at table (nth tree.spans n).header)
+      → IsRounds flow tree c (span_at tree.spans n) (rounds_at table (span_at tree.spans n).header)
   pub plain : (p : ℕ) → is_header_in tree.spans p ≡ false → rounds_at table p ≡ None
 
 -- the rounds of all instances inside the context are known

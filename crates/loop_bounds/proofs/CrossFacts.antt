@@ -19,7 +19,7 @@ use Rattle.loop_bounds.specs.Extents.{AreExtentsOf, AreNested, HaveCrossing, IsW
 use Rattle.loop_bounds.specs.Nest.{HasCrossing, HasCrossingWith, HasOwn}
 use Rattle.loop_bounds.specs.Tree.{ArePlaceNumbers}
 use Rattle.loop_bounds.proofs.ExtentLemmas.{nested}
-use Rattle.loop_bounds.proofs.ExtentOf.{member_by_key, no_instance, same_list}
+use Rattle.loop_bounds.proofs.ExtentOf.{member_by_key, no_found, same_list}
 use Rattle.loop_bounds.proofs.InPlaces.{found_has}
 use Rattle.loop_bounds.proofs.Positions.{listed_length, place_numbers}
 use Rattle.loop_bounds.proofs.Within.{from_in, in_from, out_from}
@@ -29,7 +29,7 @@ index_of extents s has = get_or_default extents has.0 _ s has.1 ∙ has.2
 
 module _ (flow : Flow) (loops : List Loop) (listed : List Place) (found : List Found) (extents : List Extent) (well_formed : IsWellFormed flow) (listed_is : IsListed flow.places listed) (all_are : (i : Instance) → Contains (map found_instance found) i → IsInstance flow loops i) (extents_of : AreExtentsOf listed found extents) where
   abbrev instance_at : Extent → Instance
-  instance_at s = found_instance (get_or found s.instance no_instance)
+  instance_at s = found_instance (get_or found s.instance no_found)
 
   abbrev exit : ℕ
   exit = length flow.places
@@ -41,19 +41,19 @@ module _ (flow : Flow) (loops : List Loop) (listed : List Place) (found : List F
   numbers = place_numbers flow listed well_formed listed_is
 
   instance_is : (s : Extent) → Contains extents s → IsInstance flow loops (instance_at s)
-  instance_is s has = all_are (instance_at s) (found_has found s.instance no_instance (extents_of.named s has))
+  instance_is s has = all_are (instance_at s) (found_has found s.instance no_found (extents_of.named s has))
 
   extent_for : (i : Instance) → Contains (map found_instance found) i → (s : Extent) × Contains extents s × (instance_at s ≡ i)
   extent_for i k =
       let k_lt : k.0 < length found = omega (arith, k.1, length-map found found_instance) in
       let a = extents_of.all k.0 k_lt in
-      (a.0, a.1, ap (λ (n : ℕ). found_instance (get_or found n no_instance)) a.2 ∙ sym (get_or-map found_instance found k.0 no_instance i k_lt) ∙ k.2)
+      (a.0, a.1, ap (λ (n : ℕ). found_instance (get_or found n no_found)) a.2 ∙ sym (get_or-map found_instance found k.0 no_found i k_lt) ∙ k.2)
 
   member : (s : Extent) → Contains extents s → (p : ℕ) → p ≤ exit → is_member (instance_at s) (place_at listed p) ≡ is_within s p
-  member s has p le = (extents_of.are s no_instance has).members p (omega (arith, len))
+  member s has p le = (extents_of.are s no_found has).members p (omega (arith, len))
 
   within_exit : (s : Extent) → Contains extents s → s.end ≤ exit
-  within_exit s has = omega (arith, (extents_of.are s no_instance has).inside, len)
+  within_exit s has = omega (arith, (extents_of.are s no_found has).inside, len)
 
   own_place : (s t : Extent) → Contains extents s → Contains extents t → (p : ℕ) → IsWithin s p → (IsWithin t p → ⊥) → HasOwn flow (instance_at s) (instance_at t)
   own_place s t s_has t_has p inside outside =

@@ -160,8 +160,8 @@ extents_more listed found extents k f s upto lt f_is is named some =
           (cases_lt j k);
     }
 
-abbrev pub no_instance : Found
-no_instance = record { list = []; stated = record { header = 0; first = 0; last = 0; bound = 0 } }
+abbrev pub no_found : Found
+no_found = record { list = []; stated = record { header = 0; first = 0; last = 0; bound = 0 } }
 
 pub extents_of : (listed : List Place) (found : List Found) (extents moved : List Extent) → AreExtentsUpto listed found extents (length found) → IsPermutation extents moved → AreExtentsOf listed found moved
 extents_of listed found extents moved upto perm =
@@ -169,13 +169,13 @@ extents_of listed found extents moved upto perm =
     let at : (s : Extent) (has : Contains extents s) (d : Found) → IsExtentOf listed (found_instance (get_or found has.0 d)) s × (s.instance ≡ has.0) × (s.first < s.end) =
     λ s has d. subst (λ (x : Extent). IsExtentOf listed (found_instance (get_or found has.0 d)) x × (x.instance ≡ has.0) × (x.first < x.end)) has.2 (upto.each has.0 s d (omega (arith, has.1, upto.same))) in
     record {
-      named = λ s has. let h = back s has in omega (arith, h.1, upto.same, (at s h no_instance).1);
+      named = λ s has. let h = back s has in omega (arith, h.1, upto.same, (at s h no_found).1);
       are = λ s d has. let h = back s has in subst (λ (k : ℕ). IsExtentOf listed (found_instance (get_or found k d)) s) (sym (at s h d).1) (at s h d).0;
       all = λ k lt.
           let s : Extent = get_or extents k (record { first = 0; end = 0; header = 0; instance = 0 }) in
-          (s, Contains-permutation extents moved s perm (Contains-get_or extents k _ (omega (arith, upto.same))), (upto.each k _ no_instance lt).1);
+          (s, Contains-permutation extents moved s perm (Contains-get_or extents k _ (omega (arith, upto.same))), (upto.each k _ no_found lt).1);
       once = numbers_once (λ (s : Extent). s.instance) extents moved perm
-          (λ i j d ilt jlt same. sym (upto.each i d no_instance (omega (arith, upto.same))).1 ∙ same ∙ (upto.each j d no_instance (omega (arith, upto.same))).1);
+          (λ i j d ilt jlt same. sym (upto.each i d no_found (omega (arith, upto.same))).1 ∙ same ∙ (upto.each j d no_found (omega (arith, upto.same))).1);
     }
 
 -- ## Their order
@@ -207,7 +207,7 @@ extents_ordered listed found extents moved upto perm sorted =
     record {
       some = λ k lt.
           let has = Contains-permutation moved extents (extent_at moved k) (IsPermutation-sym extents moved perm) (Contains-get_or moved k _ lt) in
-          subst (λ (x : Extent). x.first < x.end) has.2 (upto.each has.0 (extent_at moved k) no_instance (omega (arith, has.1, upto.same))).2;
+          subst (λ (x : Extent). x.first < x.end) has.2 (upto.each has.0 (extent_at moved k) no_found (omega (arith, has.1, upto.same))).2;
       sorted = λ j k less lt. ⊎_elim
           (λ (up : (extent_at moved j).first < (extent_at moved k).first). inl up)
           (λ tie. inr (sym tie.0, tie.1))

@@ -1,20 +1,25 @@
 -- The instances that are found, loop by loop and place by place.
-use Rattle.std.proofs.Common.{◌≡◌, ℕ, zero, suc, ◌+◌, ◌-◌, ◌<◌, ◌≤◌, ◌⊎◌, Bool, true, false, cond, List, [], ◌∷◌, ◌++◌, length, map, get_or, take, drop, sym, refl, ap, ◌∙◌, subst, inl, inr, ⊎_elim, append_assoc, arith, length-append}
+use Rattle.std.proofs.Common.{◌≡◌, ℕ, ◌+◌, ◌-◌, ◌<◌, ◌≤◌, ◌⊎◌, Bool, true, false, cond, List, [], ◌∷◌, ◌++◌, length, map, get_or, take, drop, sym, refl, ap, ◌∙◌, subst, inl, inr, ⊎_elim, append-nil, append_assoc, arith, length-append}
 use Rattle.std.specs.Prelude.{Contains, All, AllPairs, ◌↔◌, ◌≢◌, not}
 use Rattle.std.specs.BTreeSet.{BTreeSet, contains}
 use Rattle.std.specs.Ordering.{nat_cmp, is_eq}
 use Rattle.std.proofs.lemmas.Bool.{cases_eq, cases_lt, both_ways}
 use Rattle.std.proofs.lemmas.Bool.Decides.{nat_tests}
-use Rattle.std.proofs.lemmas.List.{get_or_default, get_or-take, get_or-drop, length-drop, length-take-le, length-map, take_more, get_or_append_left}
+use Rattle.std.proofs.lemmas.List.{get_or_default, get_or-take, get_or-drop, length-drop, length-take-le, length-map, take_more, get_or_append_left, get_or-map, map-append, map_push}
 use Rattle.std.proofs.Math.Seq.{get_or-append_seam}
 use Rattle.std.proofs.lemmas.List.Elements.{Contains-push, Contains-push_cases, Contains-append_left, Contains-append_right, Contains-append_cases}
 use Rattle.flow_graph.specs.declared.places.Place.{Place}
 use Rattle.flow_graph.specs.declared.places.Place.TheVariants.{At, Exit}
+use Rattle.flow_graph.proofs.StepEdges.{from_map, into_map, only_one}
 use Rattle.statement.specs.declared.stated.Loop.{Loop}
 use Rattle.loop_bounds.specs.declared.loop_instances.Found.{Found}
 use Rattle.loop_bounds.specs.Instance.{Instance, instance_of}
 use Rattle.loop_bounds.specs.Extents.{AreSeen, HeadersDiffer, IsFoundAmong, PlacesDiffer, found_instance, header_place}
 use Rattle.loop_bounds.specs.Nest.{HasSharedHeader}
+
+-- what a list of loops has past its end
+abbrev pub no_loop : Loop
+no_loop = record { header = 0; first = 0; last = 0; bound = 0 }
 
 -- ## The loops at a header
 
@@ -53,9 +58,8 @@ at_header sorted header first end inside below from upto above l = (
 pub first_upto_end : (sorted : List Loop) (header first end : ℕ) → first ≤ length sorted → ((k : ℕ) (d : Loop) → k < first → (get_or sorted k d).header < header) → ((k : ℕ) (d : Loop) → end ≤ k → k < length sorted → header < (get_or sorted k d).header) → first ≤ end
 first_upto_end sorted header first end inside below above = ⊎_elim
     (λ (lt : end < first).
-    let d : Loop = record { header = 0; first = 0; last = 0; bound = 0 } in
-    let a = below end d lt in
-    let b = above end d (omega arith) (omega arith) in
+    let a = below end no_loop lt in
+    let b = above end no_loop (omega arith) (omega arith) in
     absurd (omega arith))
     (λ (ge : first ≤ end). ge)
     (cases_lt end first)
@@ -65,34 +69,18 @@ first_upto_end sorted header first end inside below above = ⊎_elim
 abbrev pub found_at : List ℕ → Loop → Found
 found_at list l = record { list = list; stated = l }
 
-map_more : (f : Found → Instance) (xs ys : List Found) → map f (xs ++ ys) ≡ map f xs ++ map f ys
-map_more f [] ys = refl
-map_more f (x ∷ xs) ys = λ i. f x ∷ map_more f xs ys i
-
-pub single : {X : Type 0} (x y : X) → Contains (x ∷ []) y → x ≡ y
-single x y h = let z : h.0 ≡ 0 = omega (arith, h.1) in ap (λ (n : ℕ). get_or (x ∷ []) n y) (sym z) ∙ h.2
-
-at_map : (loops : List Loop) (list : List ℕ) (k : ℕ) (d : Instance) (e : Loop) → k < length loops → get_or (map found_instance (map (found_at list) loops)) k d ≡ instance_of (get_or loops k e) list
-at_map [] list k d e lt = absurd (omega arith)
-at_map (l ∷ loops) list zero d e lt = refl
-at_map (l ∷ loops) list (suc k) d e lt = at_map loops list k d e (omega arith)
-
 has_map : (loops : List Loop) (list : List ℕ) (i : Instance) → Contains (map found_instance (map (found_at list) loops)) i → (l : Loop) × Contains loops l × (i ≡ instance_of l list)
-has_map [] list i has = absurd (omega (arith, has.1))
-has_map (l ∷ loops) list i has = ⊎_elim
-    (λ (new : found_instance (found_at list l) ≡ i). (l, (0, omega arith, refl), sym new))
-    (λ rest. let h = has_map loops list i rest in (h.0, Contains-append_right (l ∷ []) loops h.0 h.1, h.2))
-    (⊎_elim (λ here. inl (single (found_instance (found_at list l)) i here)) (λ later. inr later) (Contains-append_cases (found_instance (found_at list l) ∷ []) (map found_instance (map (found_at list) loops)) i has))
+has_map loops list i has =
+    let f = from_map found_instance (map (found_at list) loops) i has in
+    let l = from_map (found_at list) loops f.0 f.1 in
+    (l.0, l.1, sym f.2 ∙ ap found_instance (sym l.2))
 
 map_has : (loops : List Loop) (list : List ℕ) (l : Loop) → Contains loops l → Contains (map found_instance (map (found_at list) loops)) (instance_of l list)
-map_has loops list l has =
-    let k_lt : has.0 < length loops = has.1 in
-    let len = length-map (map (found_at list) loops) found_instance ∙ length-map loops (found_at list) in
-    (has.0, omega arith, at_map loops list has.0 (instance_of l list) l k_lt ∙ ap (λ (x : Loop). instance_of x list) has.2)
+map_has loops list l has = into_map found_instance (map (found_at list) loops) (found_at list l) (into_map (found_at list) loops l has)
 
 pub added : (loops : List Loop) (sorted : List Loop) (list : List ℕ) (address : ℕ) (old new : List Found) → ((l : Loop) → Contains loops l ↔ (Contains sorted l × (l.header ≡ address))) → new ≡ old ++ map (found_at list) loops → (i : Instance) → Contains (map found_instance new) i ↔ (Contains (map found_instance old) i ⊎ IsFoundAmong (At list address ∷ []) sorted i)
 added loops sorted list address old new exact is i =
-    let all : map found_instance new ≡ map found_instance old ++ map found_instance (map (found_at list) loops) = ap (map found_instance) is ∙ map_more found_instance old (map (found_at list) loops) in (
+    let all : map found_instance new ≡ map found_instance old ++ map found_instance (map (found_at list) loops) = ap (map found_instance) is ∙ map-append found_instance old (map (found_at list) loops) in (
       (λ has. ⊎_elim
           (λ before. inl before)
           (λ here.
@@ -108,7 +96,7 @@ added loops sorted list address old new exact is i =
       (λ h. subst (λ (xs : List Instance). Contains xs i) (sym all) (⊎_elim
           (λ before. Contains-append_left (map found_instance old) _ i before)
           (λ f.
-          let place : At list address ≡ At i.list i.header = single (At list address) (At i.list i.header) f.reached in
+          let place : At list address ≡ At i.list i.header = only_one (At list address) (At i.list i.header) f.reached in
           let list_is : list ≡ i.list = cc in
           let header_is : address ≡ i.header = cc in
           let loop_header : f.stated_loop.header ≡ address = sym (ap (λ (x : Instance). x.header) f.parts) ∙ sym header_is in
@@ -121,7 +109,7 @@ added loops sorted list address old new exact is i =
 pub none_at_exit : (sorted : List Loop) (old : List Found) (i : Instance) → Contains (map found_instance old) i ↔ (Contains (map found_instance old) i ⊎ IsFoundAmong (Exit ∷ []) sorted i)
 none_at_exit sorted old i = (
   (λ h. inl h),
-  (λ h. ⊎_elim (λ before. before) (λ f. let x : Exit ≡ At i.list i.header = single Exit (At i.list i.header) f.reached in cc) h),
+  (λ h. ⊎_elim (λ before. before) (λ f. let x : Exit ≡ At i.list i.header = only_one Exit (At i.list i.header) f.reached in cc) h),
 )
 
 -- ## Instances among places
@@ -141,17 +129,6 @@ among_more places sorted k p i lt is =
           (λ f. record { stated_loop = f.stated_loop; stated = f.stated; reached = subst (λ (xs : List Place). Contains xs (At i.list i.header)) (sym more) (Contains-append_right (take k places) (p ∷ []) (At i.list i.header) f.reached); parts = f.parts })
           h),
     )
-
-pub found_none : (old : List Found) → old ≡ old ++ []
-found_none [] = refl
-found_none (x ∷ old) = λ i. x ∷ found_none old i
-
-abbrev no_loop : Loop
-no_loop = record { header = 0; first = 0; last = 0; bound = 0 }
-
-map_push : (f : Loop → Found) (xs : List Loop) (x : Loop) → map f (xs ++ x ∷ []) ≡ map f xs ++ f x ∷ []
-map_push f [] x = refl
-map_push f (y ∷ xs) x = λ i. f y ∷ map_push f xs x i
 
 pub found_more : (old now : List Found) (list : List ℕ) (loops : List Loop) (k : ℕ) → k < length loops → now ≡ old ++ map (found_at list) (take k loops) → now ++ found_at list (get_or loops k no_loop) ∷ [] ≡ old ++ map (found_at list) (take (k + 1) loops)
 found_more old now list loops k lt is =
@@ -238,21 +215,16 @@ differ_push old f pairs apart j k d less lt =
     (cases_eq k (length old))
 
 pub differ_more : (loops : List Loop) (list : List ℕ) (address : ℕ) (old new : List Found) → length loops ≤ 1 → ((l : Loop) → Contains loops l → l.header ≡ address) → new ≡ old ++ map (found_at list) loops → PlacesDiffer old → All (λ f. header_place f ≢ At list address) old → PlacesDiffer new
-differ_more [] list address old new few headers is pairs apart = subst PlacesDiffer (sym (is ∙ sym (found_none old))) pairs
+differ_more [] list address old new few headers is pairs apart = subst PlacesDiffer (sym (is ∙ append-nil old)) pairs
 differ_more (l ∷ []) list address old new few headers is pairs apart =
     let header : l.header ≡ address = headers l (0, omega arith, refl) in
     subst PlacesDiffer (sym is) (differ_push old (found_at list l) pairs (subst (λ (a : ℕ). All (λ f. header_place f ≢ At list a) old) (sym header) apart))
 differ_more (l ∷ m ∷ loops) list address old new few headers is pairs apart = absurd (omega arith)
 
-pub get_or-map : (found : List Found) (f : Found → Instance) (j : ℕ) (d : Found) (e : Instance) → j < length found → get_or (map f found) j e ≡ f (get_or found j d)
-get_or-map [] f j d e lt = absurd (omega arith)
-get_or-map (x ∷ found) f zero d e lt = refl
-get_or-map (x ∷ found) f (suc j) d e lt = get_or-map found f j d e (omega arith)
-
 pub apart_from : (places : List Place) (sorted : List Loop) (found : List Found) (k : ℕ) (p : Place) → k < length places → p ≡ get_or places k p → ((i : Instance) → Contains (map found_instance found) i → IsFoundAmong (take k places) sorted i) → AllPairs (λ (x : Place) (y : Place). x ≢ y) places → All (λ f. header_place f ≢ p) found
 apart_from places sorted found k p lt is among differ j d inside same =
     let f : Found = get_or found j d in
-    let has : Contains (map found_instance found) (found_instance f) = (j, omega (arith, length-map found found_instance), get_or-map found found_instance j d (found_instance f) inside) in
+    let has : Contains (map found_instance found) (found_instance f) = (j, omega (arith, length-map found found_instance), get_or-map found_instance found j d (found_instance f) inside) in
     let m = among (found_instance f) has in
     let m_lt : (m.reached).0 < k = omega (arith, (m.reached).1, length-take-le k places (omega arith)) in
     let at : get_or places (m.reached).0 p ≡ header_place f = get_or_default places (m.reached).0 p (header_place f) (omega arith) ∙ sym (get_or-take k places (m.reached).0 (header_place f) m_lt) ∙ (m.reached).2 in

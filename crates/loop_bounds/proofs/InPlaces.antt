@@ -2,7 +2,7 @@
 use Rattle.std.proofs.Common.{◌≡◌, ◌≢◌, ℕ, zero, suc, ◌<◌, List, [], ◌∷◌, length, map, get_or, sym, refl, ap, ◌∙◌, subst, arith}
 use Rattle.std.specs.Prelude.{Contains, All, AllPairs, ◌↔◌}
 use Rattle.std.specs.List.Sorted.{IsPermutation}
-use Rattle.std.proofs.lemmas.List.{length-map}
+use Rattle.std.proofs.lemmas.List.{get_or-map, length-map}
 use Rattle.std.proofs.lemmas.List.Sorted.{IsPermutation-map, Contains-permutation, IsPermutation-sym}
 use Rattle.flow_graph.specs.declared.places.Place.{Place}
 use Rattle.flow_graph.specs.declared.places.Place.TheVariants.{At, Exit}
@@ -14,7 +14,6 @@ use Rattle.loop_bounds.specs.Instance.{Instance, IsInstance}
 use Rattle.loop_bounds.specs.Keys.{AreByKey, IsListed}
 use Rattle.loop_bounds.specs.Extents.{HeadersDiffer, IsFoundAmong, found_instance, header_place}
 use Rattle.loop_bounds.specs.Nest.{HasSharedHeader}
-use Rattle.loop_bounds.proofs.FindLemmas.{get_or-map}
 use Rattle.loop_bounds.proofs.Moved.{IsOnce, once_moved}
 use Rattle.loop_bounds.proofs.Positions.{listed_has, places_once}
 
@@ -24,9 +23,6 @@ header_at : (loops : List Loop) (k d : ℕ) (e : Loop) → k < length loops → 
 header_at [] k d e lt = absurd (omega arith)
 header_at (l ∷ loops) zero d e lt = refl
 header_at (l ∷ loops) (suc k) d e lt = header_at loops k d e (omega arith)
-
-abbrev no_loop : Loop
-no_loop = record { header = 0; first = 0; last = 0; bound = 0 }
 
 headers_once : (loops : List Loop) → (HasSharedHeader loops → ⊥) → IsOnce (map (λ (l : Loop). l.header) loops)
 headers_once loops none i j d ilt jlt same =
@@ -59,7 +55,7 @@ instances_are flow loops sorted moved i = (
 )
 
 pub found_has : (found : List Found) (k : ℕ) (d : Found) → k < length found → Contains (map found_instance found) (found_instance (get_or found k d))
-found_has found k d lt = (k, omega (arith, length-map found found_instance), get_or-map found found_instance k d (found_instance (get_or found k d)) lt)
+found_has found k d lt = (k, omega (arith, length-map found found_instance), get_or-map found_instance found k d (found_instance (get_or found k d)) lt)
 
 pub found_reached : (flow : Flow) (sorted : List Loop) (listed : List Place) (found : List Found) → IsListed flow.places listed → ((i : Instance) → Contains (map found_instance found) i → IsFoundAmong flow.places sorted i) → All (λ f. Contains listed (At f.list f.stated.header)) found
 found_reached flow sorted listed found l are k d lt = listed_has flow.places listed l (header_place (get_or found k d)) (are (found_instance (get_or found k d)) (found_has found k d lt)).reached

@@ -163,13 +163,13 @@ tail_of : List ℕ → List ℕ
 tail_of [] = []
 tail_of (x ∷ xs) = xs
 
-pub one_key : (c d : List ℕ) (a b : ℕ) → c ++ a ∷ [] ≡ d ++ b ∷ [] → (c ≡ d) × (a ≡ b)
-one_key [] d a b e = let h = last_call a d b e in (sym h.0, h.1)
-one_key (x ∷ c) [] a b e = let h = last_call b (x ∷ c) a (sym e) in (h.0, sym h.1)
-one_key (x ∷ c) (y ∷ d) a b e =
+pub one_end : (c d : List ℕ) (a b : ℕ) → c ++ a ∷ [] ≡ d ++ b ∷ [] → (c ≡ d) × (a ≡ b)
+one_end [] d a b e = let h = last_call a d b e in (sym h.0, h.1)
+one_end (x ∷ c) [] a b e = let h = last_call b (x ∷ c) a (sym e) in (h.0, sym h.1)
+one_end (x ∷ c) (y ∷ d) a b e =
     let here : x ≡ y = ap (λ (xs : List ℕ). get_or xs 0 0) e in
     let rest : c ++ a ∷ [] ≡ d ++ b ∷ [] = unfold tail_of in ap tail_of e in
-    let h = one_key c d a b rest in
+    let h = one_end c d a b rest in
     ((λ i. here i ∷ h.0 i), h.1)
 
 not_empty : (c : List ℕ) (a : ℕ) → [] ≡ c ++ a ∷ [] → ⊥
@@ -178,7 +178,7 @@ not_empty (x ∷ c) a e = cc
 
 -- the key determines the place
 pub same_key : (p q : Place) → key_of p ≡ key_of q → p ≡ q
-same_key (At c a) (At d b) e = let h = one_key c d a b e in (λ i. At (h.0 i) (h.1 i))
+same_key (At c a) (At d b) e = let h = one_end c d a b e in (λ i. At (h.0 i) (h.1 i))
 same_key (At c a) Exit e = absurd (not_empty c a (sym e))
 same_key Exit (At d b) e = absurd (not_empty d b e)
 same_key Exit Exit e = refl

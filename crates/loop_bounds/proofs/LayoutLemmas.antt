@@ -16,6 +16,7 @@ use Rattle.loop_bounds.specs.declared.layout.Keyed.{Keyed}
 use Rattle.numbered_walks.specs.declared.span.NumberedEdge.{NumberedEdge}
 use Rattle.loop_bounds.specs.declared.loop_instances.Found.{Found}
 use Rattle.numbered_walks.specs.declared.span.Span.{Span}
+use Rattle.numbered_walks.proofs.Members.{no_numbered_edge, no_span}
 use Rattle.loop_bounds.specs.Extents.{extent_at}
 use Rattle.loop_bounds.specs.Keys.{is_before}
 use Rattle.loop_bounds.specs.Layout.{AreIndexes, AreKeyed, AreMoved, AreNumbers, AreParted, ArePlaced, ArePositions, AreSpans, IsLaidOut, IsShown, by_keys, kept_key}
@@ -40,21 +41,18 @@ numbers_more order numbers k v so_far lt is inside once = record {
 
 -- ## Edges
 
-abbrev nowhere : NumberedEdge
-nowhere = record { from = 0; to = 0; cost = 0 }
-
 abbrev pub moved_edge : List ℕ → NumberedEdge → NumberedEdge
 moved_edge numbers e = record { from = get_or numbers e.from 0; to = get_or numbers e.to 0; cost = e.cost }
 
-pub moved_more : (numbers : List ℕ) (edges moved : List NumberedEdge) (i : ℕ) → AreMoved numbers edges moved i → i < length edges → AreMoved numbers edges (moved ++ moved_edge numbers (get_or edges i nowhere) ∷ []) (i + 1)
+pub moved_more : (numbers : List ℕ) (edges moved : List NumberedEdge) (i : ℕ) → AreMoved numbers edges moved i → i < length edges → AreMoved numbers edges (moved ++ moved_edge numbers (get_or edges i no_numbered_edge) ∷ []) (i + 1)
 moved_more numbers edges moved i so_far lt =
-    let new : NumberedEdge = moved_edge numbers (get_or edges i nowhere) in
+    let new : NumberedEdge = moved_edge numbers (get_or edges i no_numbered_edge) in
     let same : length moved ≡ i = so_far.same in
     record {
       same = length-append moved (new ∷ []) ∙ ap (λ (x : ℕ). x + 1) same;
       each = λ k e n below. ⊎_elim
           (λ (here : k ≡ i).
-          let old_is : get_or edges k e ≡ get_or edges i nowhere = ap (λ (x : ℕ). get_or edges x e) here ∙ get_or_default edges i e nowhere lt in
+          let old_is : get_or edges k e ≡ get_or edges i no_numbered_edge = ap (λ (x : ℕ). get_or edges x e) here ∙ get_or_default edges i e no_numbered_edge lt in
           let new_is : get_or (moved ++ new ∷ []) k n ≡ new = ap (λ (x : ℕ). get_or (moved ++ new ∷ []) x n) (here ∙ sym same) ∙ get_or-append_seam moved new [] n in
           rw (old_is, new_is) (record { from_is = refl; to_is = refl; cost_is = refl }))
           (λ (other : k ≡ i → ⊥). rw (get_or_append_left moved (new ∷ []) n k (omega arith)) (so_far.each k e n (omega arith)))
@@ -240,21 +238,21 @@ shown_from numbers s header bound last spare (Some m) some inside is most attain
 
 -- ## Instances in order
 
-abbrev no_span : Span × ℕ
-no_span = (record { header = 0; last = 0; bound = 0 }, 0)
+abbrev pub no_numbered_span : Span × ℕ
+no_numbered_span = (no_span, 0)
 
-pub parted_more : (found : List Found) (closing : List (Span × ℕ)) (instances : List Found) (spans : List Span) (i : ℕ) (f : Found) → AreParted found closing instances spans i → i < length closing → (get_or closing i no_span).1 < length found → f ≡ get_or found (get_or closing i no_span).1 f → AreParted found closing (instances ++ f ∷ []) (spans ++ (get_or closing i no_span).0 ∷ []) (i + 1)
+pub parted_more : (found : List Found) (closing : List (Span × ℕ)) (instances : List Found) (spans : List Span) (i : ℕ) (f : Found) → AreParted found closing instances spans i → i < length closing → (get_or closing i no_numbered_span).1 < length found → f ≡ get_or found (get_or closing i no_numbered_span).1 f → AreParted found closing (instances ++ f ∷ []) (spans ++ (get_or closing i no_numbered_span).0 ∷ []) (i + 1)
 parted_more found closing instances spans i f so_far lt named is =
     let same : length instances ≡ i = so_far.same in
     record {
       same = length-append instances (f ∷ []) ∙ ap (λ (x : ℕ). x + 1) same;
-      spans_are = ap (λ (xs : List Span). xs ++ (get_or closing i no_span).0 ∷ []) so_far.spans_are
-          ∙ sym (ap (map (λ (x : Span × ℕ). x.0)) (take_more closing i no_span lt) ∙ map_push (λ (x : Span × ℕ). x.0) (take i closing) (get_or closing i no_span));
+      spans_are = ap (λ (xs : List Span). xs ++ (get_or closing i no_numbered_span).0 ∷ []) so_far.spans_are
+          ∙ sym (ap (map (λ (x : Span × ℕ). x.0)) (take_more closing i no_numbered_span lt) ∙ map_push (λ (x : Span × ℕ). x.0) (take i closing) (get_or closing i no_numbered_span));
       named = λ k d x below. ⊎_elim
           (λ (here : k ≡ i).
           let at : get_or (instances ++ f ∷ []) k d ≡ f = ap (λ (m : ℕ). get_or (instances ++ f ∷ []) m d) (here ∙ sym same) ∙ get_or-append_seam instances f [] d in
-          let pair : get_or closing k x ≡ get_or closing i no_span = ap (λ (m : ℕ). get_or closing m x) here ∙ get_or_default closing i x no_span lt in
-          at ∙ is ∙ get_or_default found (get_or closing i no_span).1 f d named ∙ ap (λ (y : Span × ℕ). get_or found y.1 d) (sym pair))
+          let pair : get_or closing k x ≡ get_or closing i no_numbered_span = ap (λ (m : ℕ). get_or closing m x) here ∙ get_or_default closing i x no_numbered_span lt in
+          at ∙ is ∙ get_or_default found (get_or closing i no_numbered_span).1 f d named ∙ ap (λ (y : Span × ℕ). get_or found y.1 d) (sym pair))
           (λ (other : k ≡ i → ⊥). get_or_append_left instances (f ∷ []) d k (omega arith) ∙ so_far.named k d x (omega arith))
           (cases_eq k i);
     }

@@ -23,7 +23,7 @@ use Rattle.loop_bounds.specs.InPositions.{AreHandlerPositions, IsNesting, IsNest
 use Rattle.loop_bounds.specs.Layout.{AreShallow, depth_at}
 use Rattle.loop_bounds.specs.Nest.{Applies, HasDeepPlace, HasSharedHeader, IsNestFault}
 use Rattle.loop_bounds.proofs.ExtentLemmas.{nested}
-use Rattle.loop_bounds.proofs.ExtentOf.{no_instance}
+use Rattle.loop_bounds.proofs.ExtentOf.{no_found}
 use Rattle.loop_bounds.proofs.NestingLemmas.{no_plain_cycle}
 use Rattle.loop_bounds.proofs.PlaceFacts.{apart, at_extent, bounded, crossing, entered_right, extent_for, instance_is, member, mid_entry, no_crossing, no_mid_entry, numbers, unbounded, within, within_exit}
 
@@ -67,7 +67,7 @@ module _ (flow : Flow) (loops : List Loop) (positions : HandlerPositions) (well_
   extents = positions.extents.items
 
   abbrev instance_at : Extent → Instance
-  instance_at s = found_instance (get_or positions.found.items s.instance no_instance)
+  instance_at s = found_instance (get_or positions.found.items s.instance no_found)
 
   abbrev holders : ℕ → List Extent
   holders p = filter (λ s. is_within s p) extents
@@ -76,11 +76,11 @@ module _ (flow : Flow) (loops : List Loop) (positions : HandlerPositions) (well_
   instances_differ j k d less lt same =
       let s : Extent = get_or extents j d in
       let t : Extent = get_or extents k d in
-      let place : header_place (get_or positions.found.items s.instance no_instance) ≡ header_place (get_or positions.found.items t.instance no_instance) = (λ i. At (same i).list (same i).header) in
+      let place : header_place (get_or positions.found.items s.instance no_found) ≡ header_place (get_or positions.found.items t.instance no_found) = (λ i. At (same i).list (same i).header) in
       let s_in = (g.extents_of).named s (Contains-get_or extents j d (omega arith)) in
       let t_in = (g.extents_of).named t (Contains-get_or extents k d lt) in
-      let not_below : s.instance < t.instance → ⊥ = λ l. g.differ s.instance t.instance no_instance l t_in place in
-      let not_above : t.instance < s.instance → ⊥ = λ l. g.differ t.instance s.instance no_instance l s_in (sym place) in
+      let not_below : s.instance < t.instance → ⊥ = λ l. g.differ s.instance t.instance no_found l t_in place in
+      let not_above : t.instance < s.instance → ⊥ = λ l. g.differ t.instance s.instance no_found l s_in (sym place) in
       let one : j ≡ k = (g.extents_of).once j k d (omega arith) lt (let e : s.instance ≡ t.instance = omega arith in e) in
       omega arith
 

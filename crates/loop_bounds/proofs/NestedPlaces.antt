@@ -12,10 +12,12 @@ use Rattle.flow_graph.specs.Places.{place_at}
 use Rattle.numbered_walks.specs.declared.span.Span.{Span}
 use Rattle.loop_bounds.specs.Instance.{Instance, is_member}
 use Rattle.loop_bounds.specs.Nested.{IsInside, members}
-use Rattle.loop_bounds.specs.NestedParts.{HoldsSpan, instance_at, span_at}
+use Rattle.numbered_walks.specs.Index.{span_at}
+use Rattle.numbered_walks.proofs.Members.{member_from, member_header, member_last}
+use Rattle.loop_bounds.specs.NestedParts.{HoldsSpan, instance_at}
 use Rattle.loop_bounds.specs.Tree.{IsSpanOf, IsTree, Tree, place_in}
 use Rattle.loop_bounds.proofs.NestLemmas.{filter_has}
-use Rattle.loop_bounds.proofs.NestedSpans.{in_from, in_parts, shape_at}
+use Rattle.loop_bounds.proofs.NestedSpans.{shape_at}
 
 -- ## The places of a span's numbers
 
@@ -86,16 +88,18 @@ module _ (flow : Flow) (tree : Tree) (t : IsTree flow tree) where
   -- ## Members
 
   member_at : (k : ℕ) → k < length tree.instances → (n : ℕ) → n < exit → (S k).header ≤ n → n ≤ (S k).last → is_member (I k) (place_in flow tree n) ≡ true
-  member_at k lt n below low high = (span_of k lt).members n (omega arith) ∙ in_from (S k) n low high
+  member_at k lt n below low high = (span_of k lt).members n (omega arith) ∙ member_from (S k) n low high
 
   member_in : (k : ℕ) → k < length tree.instances → (n : ℕ) → n < exit → is_member (I k) (place_in flow tree n) ≡ true → ((S k).header ≤ n) × (n ≤ (S k).last)
-  member_in k lt n below is = in_parts (S k) n (sym ((span_of k lt).members n (omega arith)) ∙ is)
+  member_in k lt n below is =
+      let inside = sym ((span_of k lt).members n (omega arith)) ∙ is in
+      (member_header (S k) n inside, member_last (S k) n inside)
 
   outside_at : (k : ℕ) → k < length tree.instances → (n : ℕ) → n ≤ exit → (n < (S k).header) ⊎ ((S k).last < n) → is_member (I k) (place_in flow tree n) ≡ false
   outside_at k lt n below out = ⊎_elim
       (λ (is : is_member (I k) (place_in flow tree n) ≡ true).
-      let parts = in_parts (S k) n (sym ((span_of k lt).members n below) ∙ is) in
-      absurd (⊎_elim (λ (a : n < (S k).header). omega (arith, parts.0)) (λ (b : (S k).last < n). omega (arith, parts.1)) out))
+      let inside = sym ((span_of k lt).members n below) ∙ is in
+      absurd (⊎_elim (λ (a : n < (S k).header). omega (arith, member_header (S k) n inside)) (λ (b : (S k).last < n). omega (arith, member_last (S k) n inside)) out))
       (λ (is : is_member (I k) (place_in flow tree n) ≡ false). is)
       (cases_Bool (is_member (I k) (place_in flow tree n)))
 

@@ -1,23 +1,17 @@
 -- Which spans of an order lie in which, and those that lie in none of the first ones.
-use Rattle.std.proofs.Common.{◌≡◌, ◌≢◌, ℕ, zero, suc, ◌+◌, ◌<◌, ◌≤◌, ◌⊎◌, true, leb, List, [], ◌∷◌, ◌++◌, length, take, get_or, sym, refl, ap, ◌∙◌, subst, inl, inr, ⊎_elim, arith}
+use Rattle.std.proofs.Common.{◌≡◌, ◌≢◌, ℕ, zero, suc, ◌+◌, ◌<◌, ◌≤◌, ◌⊎◌, true, List, [], ◌∷◌, ◌++◌, length, take, get_or, sym, refl, ap, ◌∙◌, subst, inl, inr, ⊎_elim, arith}
 use Rattle.std.specs.Prelude.{Contains, slice_index}
 use Rattle.std.specs.List.Sorted.{IsNonDecreasingBy}
-use Rattle.std.proofs.lemmas.Bool.{and_from, and_parts, cases_lt, le-leb, leb-true}
+use Rattle.std.proofs.lemmas.Bool.{cases_lt}
 use Rattle.std.proofs.lemmas.List.{get_or_default, length-map, map-append, take-map, get_or-map}
 use Rattle.std.proofs.lemmas.List.Elements.{Contains-append_left, Contains-append_right, Contains-get_or}
 use Rattle.numbered_walks.specs.declared.span.NumberedEdge.{NumberedEdge}
 use Rattle.numbered_walks.specs.declared.span.Span.{Span}
 use Rattle.numbered_walks.specs.Ordered.{HoldsAll, IsOrdered, is_in}
 use Rattle.loop_bounds.specs.Instance.{Instance}
-use Rattle.loop_bounds.specs.NestedParts.{AreOutermost, HoldsSpan, instance_at, span_at}
-
-pub in_parts : (s : Span) (n : ℕ) → is_in s n ≡ true → (s.header ≤ n) × (n ≤ s.last)
-in_parts s n h =
-    let parts = and_parts (leb s.header n) (leb n s.last) h in
-    (leb-true s.header n parts.0, leb-true n s.last parts.1)
-
-pub in_from : (s : Span) (n : ℕ) → s.header ≤ n → n ≤ s.last → is_in s n ≡ true
-in_from s n low high = and_from (leb s.header n) (leb n s.last) (le-leb s.header n low) (le-leb n s.last high)
+use Rattle.numbered_walks.specs.Index.{span_at}
+use Rattle.numbered_walks.proofs.Members.{member_from, member_header, member_last, no_span}
+use Rattle.loop_bounds.specs.NestedParts.{AreOutermost, HoldsSpan, instance_at}
 
 -- the first elements and one more
 cut : {X : Type 0} (xs : List X) (n : ℕ) (y : X) (p : ℕ) (d : X) → n ≤ length xs → p < length (take n xs ++ y ∷ []) → ((p < n) × (get_or (take n xs ++ y ∷ []) p d ≡ get_or xs p d)) ⊎ ((p ≡ n) × (get_or (take n xs ++ y ∷ []) p d ≡ y))
@@ -60,9 +54,6 @@ module _ (exit : ℕ) (edges : List NumberedEdge) (spans : List Span) (o : IsOrd
   abbrev S : ℕ → Span
   S k = span_at spans k
 
-  abbrev no_span : Span
-  no_span = record { header = 0; last = 0; bound = 0 }
-
   pub shape_at : (k : ℕ) → k < length spans → ((S k).header ≤ (S k).last) × ((S k).last < exit)
   shape_at k lt =
       let s = o.shape (S k) (Contains-get_or spans k no_span lt) in
@@ -101,18 +92,17 @@ module _ (exit : ℕ) (edges : List NumberedEdge) (spans : List Span) (o : IsOrd
       let shape = shape_at j jlt in
       let shape_m = shape_at m (omega arith) in
       let shape_k = shape_at k lt in
-      let in_m : is_in (S m) (S j).header ≡ true = in_from (S m) (S j).header (omega (arith, mj.0)) (omega (arith, mj.1, shape.0)) in
-      let in_k : is_in (S k) (S j).header ≡ true = in_from (S k) (S j).header (omega (arith, kj.0)) (omega (arith, kj.1, shape.0)) in
+      let in_m : is_in (S m) (S j).header ≡ true = member_from (S m) (S j).header (omega (arith, mj.0)) (omega (arith, mj.1, shape.0)) in
+      let in_k : is_in (S k) (S j).header ≡ true = member_from (S k) (S j).header (omega (arith, kj.0)) (omega (arith, kj.1, shape.0)) in
       ⊎_elim
       (λ (a : HoldsAll (S k) (S m)).
-      let p = in_parts (S k) (S m).header (a (S m).header (in_from (S m) (S m).header (omega arith) shape_m.0)) in
-      taken k m before lt p.0)
+      taken k m before lt (member_header (S k) (S m).header (a (S m).header (member_from (S m) (S m).header (omega arith) shape_m.0))))
       (λ (b : HoldsAll (S m) (S k)).
-      let p = in_parts (S m) (S k).header (b (S k).header (in_from (S k) (S k).header (omega arith) shape_k.0)) in
-      let q = in_parts (S m) (S k).last (b (S k).last (in_from (S k) (S k).last shape_k.0 (omega arith))) in
+      let low = member_header (S m) (S k).header (b (S k).header (member_from (S k) (S k).header (omega arith) shape_k.0)) in
+      let high = member_last (S m) (S k).last (b (S k).last (member_from (S k) (S k).last shape_k.0 (omega arith))) in
       absurd (⊎_elim
-      (λ (x : (S m).last < (S k).last). omega (arith, q.1))
-      (λ (y : ((S m).last ≡ (S k).last) × ((S k).header < (S m).header)). omega (arith, p.0, y.1))
+      (λ (x : (S m).last < (S k).last). omega (arith, high))
+      (λ (y : ((S m).last ≡ (S k).last) × ((S k).header < (S m).header)). omega (arith, low, y.1))
       (o.closing m k no_span before lt)))
       (o.nested (S m) (S k) (Contains-get_or spans m no_span (omega arith)) (Contains-get_or spans k no_span lt) (S j).header in_m in_k)
 

@@ -11,7 +11,8 @@ use Rattle.loop_bounds.specs.declared.nested.Outermost.{Outermost}
 use Rattle.loop_bounds.specs.Extents.{found_instance}
 use Rattle.loop_bounds.specs.Instance.{Instance, is_member}
 use Rattle.loop_bounds.specs.Nested.{IsDirectlyInside, IsInside, IsNestedView, IsOutermost, Node, heads, instance_in, members, nodes}
-use Rattle.loop_bounds.specs.NestedParts.{AreNestedUpto, AreOutermost, Encloses, HoldsSpan, IsShown, instance_at, span_at}
+use Rattle.numbered_walks.specs.Index.{span_at}
+use Rattle.loop_bounds.specs.NestedParts.{AreNestedUpto, AreOutermost, Encloses, HoldsSpan, IsShown, instance_at}
 use Rattle.loop_bounds.specs.Tree.{IsTree, Tree}
 use Rattle.loop_bounds.proofs.NestedSpans.{IsDirectlyIn, direct_from, direct_to, outermost_more}
 use Rattle.loop_bounds.proofs.NestedPlaces.{as_many, inside_from, inside_to, is_of, member_from, member_to}

@@ -7,12 +7,12 @@ use Rattle.std.proofs.Math.Seq.{get_or-append_seam}
 use Rattle.std.proofs.lemmas.Bool.{cases_lt}
 use Rattle.walks.specs.Walk.{Leads, Cycle, IsReached}
 use Rattle.flow_graph.specs.declared.places.Place.{Place}
-use Rattle.flow_graph.specs.declared.places.Place.TheVariants.{Exit}
 use Rattle.flow_graph.specs.declared.edges.Edge.{Edge}
-use Rattle.flow_graph.specs.declared.edges.Label.TheVariants.{Do}
 use Rattle.flow_graph.specs.Flow.{Flow, IsWellFormed, edge_shape, HasEdge}
+use Rattle.flow_graph.proofs.Firsts.{no_edge}
 use Rattle.numbered_walks.specs.declared.span.NumberedEdge.{NumberedEdge}
 use Rattle.numbered_walks.specs.Ordered.{number_shape}
+use Rattle.numbered_walks.proofs.Members.{no_numbered_edge}
 use Rattle.loop_bounds.specs.Tree.{ArePlaceNumbers, NumbersEdge, IsNumbered}
 use Rattle.loop_bounds.specs.TreeParts.{AreNumberedUpto}
 
@@ -35,12 +35,6 @@ numbering_more flow place_of exit numbered i e n so_far lt e_is here =
 
 -- ## Edges
 
-abbrev nowhere : Edge
-nowhere = record { from = Exit; label = Do; to = Exit; cost = 0 }
-
-abbrev origin : NumberedEdge
-origin = record { from = 0; to = 0; cost = 0 }
-
 -- a walk of the graph has numbers
 pub record HasNumberedWalk (place_of : ℕ → Place) (exit : ℕ) (is_edge : NumberedEdge → Type 0) (p : ℕ) (end : Place) : Type 0 where
   pub last : ℕ
@@ -54,18 +48,18 @@ module _ (flow : Flow) (place_of : ℕ → Place) (numbers : ArePlaceNumbers flo
   flow_edge n has =
       let lt : has.0 < length edges = has.1 in
       let same : length edges ≡ length flow.edges = numbered.same in (
-        get_or flow.edges has.0 nowhere,
-        Contains-get_or flow.edges has.0 nowhere (omega arith),
-        subst (NumbersEdge place_of (length flow.places) (get_or flow.edges has.0 nowhere)) has.2 (numbered.each has.0 nowhere n (omega arith)),
+        get_or flow.edges has.0 no_edge,
+        Contains-get_or flow.edges has.0 no_edge (omega arith),
+        subst (NumbersEdge place_of (length flow.places) (get_or flow.edges has.0 no_edge)) has.2 (numbered.each has.0 no_edge n (omega arith)),
       )
 
   pub numbered_edge : (e : Edge) → HasEdge flow e → (n : NumberedEdge) × Contains edges n × NumbersEdge place_of (length flow.places) e n
   numbered_edge e has =
       let lt : has.0 < length flow.edges = has.1 in
       let same : length edges ≡ length flow.edges = numbered.same in (
-        get_or edges has.0 origin,
-        Contains-get_or edges has.0 origin (omega arith),
-        subst (λ x. NumbersEdge place_of (length flow.places) x (get_or edges has.0 origin)) has.2 (numbered.each has.0 e origin lt),
+        get_or edges has.0 no_numbered_edge,
+        Contains-get_or edges has.0 no_numbered_edge (omega arith),
+        subst (λ x. NumbersEdge place_of (length flow.places) x (get_or edges has.0 no_numbered_edge)) has.2 (numbered.each has.0 e no_numbered_edge lt),
       )
 
   pub edges_in : (n : NumberedEdge) → Contains edges n → (n.from < length flow.places) × (n.to ≤ length flow.places)

@@ -24,7 +24,7 @@ use Rattle.loop_bounds.specs.Layout.{IsBack, IsEnteredRight, is_back_of}
 use Rattle.loop_bounds.specs.Nest.{HasCrossing, HasMidEntry, HasUnboundedCycle, IsPlainEdge}
 use Rattle.loop_bounds.specs.Tree.{ArePlaceNumbers, NumbersEdge}
 use Rattle.loop_bounds.proofs.CrossFacts as cross
-use Rattle.loop_bounds.proofs.ExtentOf.{header_itself, holds_here, no_instance}
+use Rattle.loop_bounds.proofs.ExtentOf.{header_itself, holds_here, no_found}
 use Rattle.loop_bounds.proofs.InPlaces.{found_has}
 use Rattle.loop_bounds.proofs.Numbers.{edges_in, flow_cycle, flow_edge, number_once, numbered_cycle, numbered_edge, numbers_reached}
 use Rattle.loop_bounds.proofs.Positions.{listed_length, place_numbers}
@@ -52,25 +52,25 @@ module _ (flow : Flow) (loops : List Loop) (positions : HandlerPositions) (well_
   -- ## Instances and extents
 
   abbrev pub instance_at : Extent → Instance
-  instance_at s = found_instance (get_or positions.found.items s.instance no_instance)
+  instance_at s = found_instance (get_or positions.found.items s.instance no_found)
 
-  pub instance_is : (s : Extent) → Contains positions.extents.items s → IsInstance flow loops (found_instance (get_or positions.found.items s.instance no_instance))
-  instance_is s has = (g.found_are (instance_at s)).0 (found_has positions.found.items s.instance no_instance (g.extents_of.named s has))
+  pub instance_is : (s : Extent) → Contains positions.extents.items s → IsInstance flow loops (found_instance (get_or positions.found.items s.instance no_found))
+  instance_is s has = (g.found_are (instance_at s)).0 (found_has positions.found.items s.instance no_found (g.extents_of.named s has))
 
-  pub extent_is : (s : Extent) → Contains positions.extents.items s → IsExtentOf positions.listed.items (found_instance (get_or positions.found.items s.instance no_instance)) s
-  extent_is s has = g.extents_of.are s no_instance has
+  pub extent_is : (s : Extent) → Contains positions.extents.items s → IsExtentOf positions.listed.items (found_instance (get_or positions.found.items s.instance no_found)) s
+  extent_is s has = g.extents_of.are s no_found has
 
-  pub extent_for : (i : Instance) → IsInstance flow loops i → (s : Extent) × Contains positions.extents.items s × (found_instance (get_or positions.found.items s.instance no_instance) ≡ i)
+  pub extent_for : (i : Instance) → IsInstance flow loops i → (s : Extent) × Contains positions.extents.items s × (found_instance (get_or positions.found.items s.instance no_found) ≡ i)
   extent_for i is =
       let k = (g.found_are i).1 is in
       let k_lt : k.0 < length positions.found.items = omega (arith, k.1, length-map positions.found.items found_instance) in
       let a = g.extents_of.all k.0 k_lt in
-      (a.0, a.1, ap (λ (n : ℕ). found_instance (get_or positions.found.items n no_instance)) a.2 ∙ sym (get_or-map found_instance positions.found.items k.0 no_instance i k_lt) ∙ k.2)
+      (a.0, a.1, ap (λ (n : ℕ). found_instance (get_or positions.found.items n no_found)) a.2 ∙ sym (get_or-map found_instance positions.found.items k.0 no_found i k_lt) ∙ k.2)
 
-  pub member : (s : Extent) → Contains positions.extents.items s → (p : ℕ) → p ≤ length flow.places → is_member (found_instance (get_or positions.found.items s.instance no_instance)) (place_at positions.listed.items p) ≡ is_within s p
+  pub member : (s : Extent) → Contains positions.extents.items s → (p : ℕ) → p ≤ length flow.places → is_member (found_instance (get_or positions.found.items s.instance no_found)) (place_at positions.listed.items p) ≡ is_within s p
   member s has p le = (extent_is s has).members p (omega (arith, len))
 
-  pub header : (s : Extent) → Contains positions.extents.items s → (p : ℕ) → p ≤ length flow.places → is_header (found_instance (get_or positions.found.items s.instance no_instance)) (place_at positions.listed.items p) ≡ (p == s.header)
+  pub header : (s : Extent) → Contains positions.extents.items s → (p : ℕ) → p ≤ length flow.places → is_header (found_instance (get_or positions.found.items s.instance no_found)) (place_at positions.listed.items p) ≡ (p == s.header)
   header s has p le = (extent_is s has).headers p (omega (arith, len))
 
   -- the header's place has its position
@@ -89,7 +89,7 @@ module _ (flow : Flow) (loops : List Loop) (positions : HandlerPositions) (well_
   header_within s has =
       let h = header_number s has in
       let lt : s.header < exit = h.0 in
-      let l = g.bounded s.instance no_instance (g.extents_of.named s has) in
+      let l = g.bounded s.instance no_found (g.extents_of.named s has) in
       let i : Instance = instance_at s in
       sym (member s has s.header (omega arith)) ∙ ap (is_member i) h.1 ∙ holds_here i.first i.last i.list i.header l.from_first l.to_last
 
@@ -98,11 +98,11 @@ module _ (flow : Flow) (loops : List Loop) (positions : HandlerPositions) (well_
 
   pub apart : (s t : Extent) → Contains positions.extents.items s → Contains positions.extents.items t → s.header ≡ t.header → s ≡ t
   apart s t s_has t_has same =
-      let place : header_place (get_or positions.found.items s.instance no_instance) ≡ header_place (get_or positions.found.items t.instance no_instance) = sym (header_number s s_has).1 ∙ ap place_of same ∙ (header_number t t_has).1 in
+      let place : header_place (get_or positions.found.items s.instance no_found) ≡ header_place (get_or positions.found.items t.instance no_found) = sym (header_number s s_has).1 ∙ ap place_of same ∙ (header_number t t_has).1 in
       let s_in : s.instance < length positions.found.items = g.extents_of.named s s_has in
       let t_in : t.instance < length positions.found.items = g.extents_of.named t t_has in
-      let not_below : s.instance < t.instance → ⊥ = λ less. g.differ s.instance t.instance no_instance less t_in place in
-      let not_above : t.instance < s.instance → ⊥ = λ less. g.differ t.instance s.instance no_instance less s_in (sym place) in
+      let not_below : s.instance < t.instance → ⊥ = λ less. g.differ s.instance t.instance no_found less t_in place in
+      let not_above : t.instance < s.instance → ⊥ = λ less. g.differ t.instance s.instance no_found less s_in (sym place) in
       let one : s.instance ≡ t.instance = omega arith in
       let t_at : get_or extents t_has.0 s ≡ t = get_or_default extents t_has.0 s t t_has.1 ∙ t_has.2 in
       let k : s_has.0 ≡ t_has.0 = g.extents_of.once s_has.0 t_has.0 s s_has.1 t_has.1 (ap (λ (x : Extent). x.instance) s_has.2 ∙ one ∙ ap (λ (x : Extent). x.instance) (sym t_at)) in
@@ -140,7 +140,7 @@ module _ (flow : Flow) (loops : List Loop) (positions : HandlerPositions) (well_
   no_crossing none c = cross.no_crossing flow loops positions.listed.items positions.found.items extents well_formed g.listed_is all_are g.extents_of none c ((g.found_are c.one).1 c.one_is) ((g.found_are c.other).1 c.other_is)
 
   -- a member's position lies in the extent
-  pub within : (i : Instance) (s : Extent) → Contains positions.extents.items s → found_instance (get_or positions.found.items s.instance no_instance) ≡ i → (p : Place) (n : ℕ) → n ≤ length flow.places → place_at positions.listed.items n ≡ p → is_member i p ≡ is_within s n
+  pub within : (i : Instance) (s : Extent) → Contains positions.extents.items s → found_instance (get_or positions.found.items s.instance no_found) ≡ i → (p : Place) (n : ℕ) → n ≤ length flow.places → place_at positions.listed.items n ≡ p → is_member i p ≡ is_within s n
   within i s has is p n le at = ap (is_member i) (sym at) ∙ ap (λ (j : Instance). is_member j (place_of n)) (sym is) ∙ member s has n le
 
   -- ## Entries
@@ -225,7 +225,7 @@ module _ (flow : Flow) (loops : List Loop) (positions : HandlerPositions) (well_
 
   -- ## Back edges
 
-  pub back_down : (e : Edge) (n : NumberedEdge) → NumbersEdge (place_at positions.listed.items) (length flow.places) e n → (s : Extent) → Contains positions.extents.items s → is_back_edge edge_shape place_loops (found_instance (get_or positions.found.items s.instance no_instance)) e ≡ is_back_of n s
+  pub back_down : (e : Edge) (n : NumberedEdge) → NumbersEdge (place_at positions.listed.items) (length flow.places) e n → (s : Extent) → Contains positions.extents.items s → is_back_edge edge_shape place_loops (found_instance (get_or positions.found.items s.instance no_found)) e ≡ is_back_of n s
   back_down e n numbered s has =
       let from_lt : n.from < exit = numbered.from_in in
       let a : is_member (instance_at s) e.from ≡ is_within s n.from = ap (is_member (instance_at s)) (sym numbered.from_is) ∙ member s has n.from (omega arith) in

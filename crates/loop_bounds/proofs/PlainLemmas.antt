@@ -13,6 +13,7 @@ use Rattle.loop_bounds.specs.declared.fault.NestFault.{NestFault}
 use Rattle.loop_bounds.specs.declared.fault.NestFault.TheVariants.{Memory, LoopsCross, SharedHeader, EntersMidLoop, UnboundedCycle, NestedTooDeep}
 use Rattle.numbered_walks.specs.declared.span.NumberedEdge.{NumberedEdge}
 use Rattle.numbered_walks.specs.Ordered.{number_shape}
+use Rattle.numbered_walks.proofs.Members.{no_numbered_edge}
 use Rattle.loop_bounds.specs.Edges.{IsGrouped, exit_of}
 use Rattle.loop_bounds.specs.Extents.{extent_at, is_within, IsWithin}
 use Rattle.loop_bounds.specs.Layout.{AreFirsts, AreHeaders, AreHeights, ArePlain, AreRanks, HaveApartHeaders, IsBack, IsHeaderOf, IsRankFault}
@@ -126,9 +127,6 @@ firsts_more edges firsts v n so_far le below above =
           (cases_eq u v);
     }
 
-abbrev nowhere : NumberedEdge
-nowhere = record { from = 0; to = 0; cost = 0 }
-
 pub grouped : (edges : List NumberedEdge) (firsts : List ℕ) (exit : ℕ) → AreFirsts edges firsts (exit + 1) → All (λ e. (e.from < exit) × (e.to ≤ exit)) edges → IsGrouped firsts edges
 grouped edges firsts exit all inside =
     let same : length firsts ≡ exit + 1 = all.same in
@@ -137,23 +135,23 @@ grouped edges firsts exit all inside =
       some = omega arith;
       first_zero = ⊎_elim
           (λ (z : get_or firsts 0 0 ≡ 0). z)
-          (λ (some : get_or firsts 0 0 ≡ 0 → ⊥). let b : (get_or edges 0 nowhere).from < 0 = all.below 0 0 nowhere (omega arith) (omega arith) in absurd (omega arith))
+          (λ (some : get_or firsts 0 0 ≡ 0 → ⊥). let b : (get_or edges 0 no_numbered_edge).from < 0 = all.below 0 0 no_numbered_edge (omega arith) (omega arith) in absurd (omega arith))
           (cases_eq (get_or firsts 0 0) 0);
       last_all = ap (λ (x : ℕ). get_or firsts x 0) top ∙ ⊎_elim
           (λ (z : get_or firsts exit 0 ≡ length edges). z)
           (λ (less : get_or firsts exit 0 ≡ length edges → ⊥).
           let le : get_or firsts exit 0 ≤ length edges = all.inside exit (omega arith) in
           let lt : get_or firsts exit 0 < length edges = omega arith in
-          let a : exit ≤ (get_or edges (get_or firsts exit 0) nowhere).from = all.from exit (get_or firsts exit 0) nowhere (omega arith) (omega arith) lt in
-          let b : (get_or edges (get_or firsts exit 0) nowhere).from < exit = (inside (get_or firsts exit 0) nowhere lt).0 in
+          let a : exit ≤ (get_or edges (get_or firsts exit 0) no_numbered_edge).from = all.from exit (get_or firsts exit 0) no_numbered_edge (omega arith) (omega arith) lt in
+          let b : (get_or edges (get_or firsts exit 0) no_numbered_edge).from < exit = (inside (get_or firsts exit 0) no_numbered_edge lt).0 in
           absurd (omega arith))
           (cases_eq (get_or firsts exit 0) (length edges));
       rising = λ v lt. ⊎_elim
           (λ (down : get_or firsts (v + 1) 0 < get_or firsts v 0).
           let k : ℕ = get_or firsts (v + 1) 0 in
           let le : get_or firsts v 0 ≤ length edges = all.inside v (omega arith) in
-          let a : (get_or edges k nowhere).from < v = all.below v k nowhere (omega arith) down in
-          let b : v + 1 ≤ (get_or edges k nowhere).from = all.from (v + 1) k nowhere (omega arith) (omega arith) (omega arith) in
+          let a : (get_or edges k no_numbered_edge).from < v = all.below v k no_numbered_edge (omega arith) down in
+          let b : v + 1 ≤ (get_or edges k no_numbered_edge).from = all.from (v + 1) k no_numbered_edge (omega arith) (omega arith) (omega arith) in
           absurd (omega arith))
           (λ (ge : get_or firsts v 0 ≤ get_or firsts (v + 1) 0). ge)
           (cases_lt (get_or firsts (v + 1) 0) (get_or firsts v 0));
@@ -223,11 +221,11 @@ rank_fault extents edges plain plains EntersMidLoop h = h
 rank_fault extents edges plain plains UnboundedCycle h = cycle_more number_shape (Contains plain) (λ e. Contains edges e × (IsBack extents e → ⊥)) (λ e has. plains.sound e has) h
 rank_fault extents edges plain plains NestedTooDeep h = h
 
-pub plain_more_at : (extents : List Extent) (edges plain : List NumberedEdge) (i : ℕ) → ArePlain extents (take i edges) plain → i < length edges → (IsBack extents (get_or edges i nowhere) → ⊥) → ArePlain extents (take (i + 1) edges) (plain ++ get_or edges i nowhere ∷ [])
-plain_more_at extents edges plain i so_far lt forward = plain_more extents edges plain i (get_or edges i nowhere) so_far lt (get_or_default edges i nowhere (get_or edges i nowhere) lt) forward
+pub plain_more_at : (extents : List Extent) (edges plain : List NumberedEdge) (i : ℕ) → ArePlain extents (take i edges) plain → i < length edges → (IsBack extents (get_or edges i no_numbered_edge) → ⊥) → ArePlain extents (take (i + 1) edges) (plain ++ get_or edges i no_numbered_edge ∷ [])
+plain_more_at extents edges plain i so_far lt forward = plain_more extents edges plain i (get_or edges i no_numbered_edge) so_far lt (get_or_default edges i no_numbered_edge (get_or edges i no_numbered_edge) lt) forward
 
-pub plain_same_at : (extents : List Extent) (edges plain : List NumberedEdge) (i : ℕ) → ArePlain extents (take i edges) plain → i < length edges → IsBack extents (get_or edges i nowhere) → ArePlain extents (take (i + 1) edges) plain
-plain_same_at extents edges plain i so_far lt back = plain_same extents edges plain i (get_or edges i nowhere) so_far lt (get_or_default edges i nowhere (get_or edges i nowhere) lt) back
+pub plain_same_at : (extents : List Extent) (edges plain : List NumberedEdge) (i : ℕ) → ArePlain extents (take i edges) plain → i < length edges → IsBack extents (get_or edges i no_numbered_edge) → ArePlain extents (take (i + 1) edges) plain
+plain_same_at extents edges plain i so_far lt back = plain_same extents edges plain i (get_or edges i no_numbered_edge) so_far lt (get_or_default edges i no_numbered_edge (get_or edges i no_numbered_edge) lt) back
 
 pub plain_in : (extents : List Extent) (edges plain : List NumberedEdge) (exit : ℕ) → ArePlain extents edges plain → All (λ e. (e.from < exit) × (e.to ≤ exit)) edges → All (λ e. (e.from < exit) × (e.to ≤ exit)) plain
 plain_in extents edges plain exit plains inside k d lt =

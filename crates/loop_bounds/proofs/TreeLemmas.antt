@@ -1,7 +1,7 @@
 -- The order by keys makes each instance an interval.
-use Rattle.std.proofs.Common.{◌≡◌, ℕ, ◌<◌, ◌≤◌, ◌⊎◌, true, false, leb, List, length, get_or, sym, ap, ◌∙◌, subst, ⊎_elim, arith}
+use Rattle.std.proofs.Common.{◌≡◌, ℕ, ◌<◌, ◌≤◌, ◌⊎◌, true, false, List, length, get_or, sym, ap, ◌∙◌, subst, ⊎_elim, arith}
 use Rattle.std.specs.Prelude.{Contains, ◌==◌}
-use Rattle.std.proofs.lemmas.Bool.{both_ways, cases_Bool, cases_eq, cases_lt, eq-eqb, ne_eqb, and_parts, and_from, false_from_ne_true, leb-true, le-leb}
+use Rattle.std.proofs.lemmas.Bool.{both_ways, cases_Bool, cases_eq, cases_lt, eq-eqb, ne_eqb, false_from_ne_true}
 use Rattle.std.proofs.lemmas.List.{get_or_default}
 use Rattle.walks.specs.Walk.{IsReached}
 use Rattle.loop_bounds.specs.declared.extents.Extent.{Extent}
@@ -12,6 +12,7 @@ use Rattle.loop_bounds.specs.Extents.{AreNested, extent_at, is_within}
 use Rattle.loop_bounds.specs.Keys.{is_before}
 use Rattle.loop_bounds.specs.Layout.{AreNumbers, HaveApartHeaders, HoldLater, HoldsLater, IsBack, IsEnteredRight, IsLaidOut, IsRank, IsShown, key_in}
 use Rattle.numbered_walks.specs.Ordered.{is_in}
+use Rattle.numbered_walks.proofs.Members.{member_from, member_header, member_last}
 use Rattle.loop_bounds.proofs.ExtentLemmas.{nested_at}
 use Rattle.loop_bounds.proofs.RankLemmas.{Forward, edges_go_up, forward_to, header_first, members_together}
 use Rattle.loop_bounds.proofs.Within.{from_in, in_from}
@@ -116,13 +117,12 @@ module _ (edges : List NumberedEdge) (entry exit : ℕ) (extents : List Extent) 
         let at : new p ≡ n = number_of n (omega arith) in
         let low : new s.header ≤ new p = header_least s has p (order_in n lt) inside in
         let high : new p ≤ span.last = shown.most p w.0 w.1 in
-        and_from (leb span.header n) (leb n span.last) (le-leb span.header n (omega (arith, shown.header_is))) (le-leb n span.last (omega arith))
+        member_from span n (omega (arith, shown.header_is)) (omega arith)
 
     from_span : (n : ℕ) → n < exit → is_in span n ≡ true → is_within s (get_or order n 0) ≡ true
     from_span n lt inside =
-        let parts = and_parts (leb span.header n) (leb n span.last) inside in
-        let low : span.header ≤ n = leb-true span.header n parts.0 in
-        let high : n ≤ span.last = leb-true n span.last parts.1 in
+        let low : span.header ≤ n = member_header span n inside in
+        let high : n ≤ span.last = member_last span n inside in
         let end : s.end ≤ exit = plan.ends s has in
         let r : ℕ = (shown.attained).0 in
         let r_high : r < s.end = (shown.attained).2 in
@@ -149,7 +149,7 @@ module _ (edges : List NumberedEdge) (entry exit : ℕ) (extents : List Extent) 
         let at : get_or order n 0 ≡ exit = ap (λ (x : ℕ). get_or order x 0) top ∙ plan.laid.exit_last in
         let end : s.end ≤ exit = plan.ends s has in
         let last : span.last < exit = last_in in
-        false_from_ne_true (is_in span n) (λ h. let high : n ≤ span.last = leb-true n span.last (and_parts (leb span.header n) (leb n span.last) h).1 in omega arith)
+        false_from_ne_true (is_in span n) (λ h. omega (arith, member_last span n h))
         ∙ sym (false_from_ne_true (is_within s (get_or order n 0)) (λ h. let w = in_from s (get_or order n 0) h in let wh : get_or order n 0 < s.end = w.1 in omega arith)))
         (cases_lt n exit)
 

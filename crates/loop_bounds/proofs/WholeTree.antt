@@ -1,8 +1,8 @@
 -- The tree of what was found, with all that holds of it.
-use Rattle.std.proofs.Common.{◌≡◌, ◌≢◌, ℕ, suc, ◌+◌, ◌<◌, ◌≤◌, ◌⊎◌, Bool, true, false, cond, eqb, leb, List, [], ◌∷◌, length, map, get_or, slice_index, count_by, sym, refl, ap, ◌∙◌, subst, inl, inr, ⊎_elim, arith}
+use Rattle.std.proofs.Common.{◌≡◌, ◌≢◌, ℕ, suc, ◌+◌, ◌<◌, ◌≤◌, ◌⊎◌, Bool, true, false, cond, eqb, List, [], ◌∷◌, length, map, get_or, slice_index, count_by, sym, refl, ap, ◌∙◌, subst, inl, inr, ⊎_elim, arith}
 use Rattle.std.specs.Prelude.{Contains, All, AllPairs, ◌↔◌}
 use Rattle.std.specs.Cmp.{IsStrictWeakOrder}
-use Rattle.std.proofs.lemmas.Bool.{cases_eq, cases_lt, eqb-true, and_parts, false_from_ne_true, leb-true}
+use Rattle.std.proofs.lemmas.Bool.{cases_eq, cases_lt, eqb-true, and_parts, false_from_ne_true}
 use Rattle.std.proofs.lemmas.Cmp.{nat_cmp_total, then_total, on_total, back_total}
 use Rattle.std.proofs.lemmas.List.{get_or_default, get_or_past, length-map, take_all, get_or-map}
 use Rattle.std.proofs.lemmas.List.Elements.{Contains-get_or}
@@ -22,17 +22,16 @@ use Rattle.loop_bounds.specs.Extents.{extent_at, found_instance, is_within}
 use Rattle.loop_bounds.specs.InPositions.{AreHandlerPositions, IsNesting}
 use Rattle.loop_bounds.specs.Layout.{AreMoved, AreNumbers, AreParted, ArePlaced, AreShown, IsLaidOut, IsShown, depth_at, is_back_of, key_in, opens_after}
 use Rattle.numbered_walks.specs.Ordered.{ClosesBefore, GoesUpOrBack, HoldsAll, IsEnteredUp, IsOrdered, is_in}
+use Rattle.numbered_walks.proofs.Members.{member_last}
 use Rattle.loop_bounds.specs.Tree.{AreSpansOf, IsNumbered, IsTree, Tree, place_in}
 use Rattle.loop_bounds.proofs.ChainLemmas.{count_cons}
-use Rattle.loop_bounds.proofs.ExtentOf.{no_instance, then_order}
+use Rattle.loop_bounds.proofs.ExtentOf.{no_found, then_order}
 use Rattle.loop_bounds.proofs.Moved.{numbers_once}
 use Rattle.loop_bounds.proofs.PlaceFacts.{apart, edges_are, entered_right, entry_in, header, header_in, header_within, len, member, numbers, reached, within_exit}
 use Rattle.loop_bounds.proofs.Positions.{places_once}
 use Rattle.loop_bounds.proofs.RankLemmas.{is_back_any}
 use Rattle.loop_bounds.proofs.TreeLemmas.{IsPlan, forward, goes_up, hold_later, number_back, number_exit, number_of, span_header, span_holds, span_shape}
-
-no_span : Span × ℕ
-no_span = (record { header = 0; last = 0; bound = 0 }, 0)
+use Rattle.loop_bounds.proofs.LayoutLemmas.{no_numbered_span}
 
 closing_ranks : IsStrictWeakOrder opens_after
 closing_ranks = ranks_by (then_total (on_total (λ (x : Span × ℕ). x.0.last) nat_cmp_total) (back_total (on_total (λ (x : Span × ℕ). x.0.header) nat_cmp_total))) (λ (x : Span × ℕ). x)
@@ -61,11 +60,6 @@ back_parts : (e : NumberedEdge) (s : Extent) → is_back_of e s ≡ true → (e.
 back_parts e s h =
     let parts = and_parts (eqb e.to s.header) (is_within s e.from) h in
     (eqb-true e.to s.header parts.0, parts.1)
-
-in_parts : (t : Span) (k : ℕ) → is_in t k ≡ true → (t.header ≤ k) × (k ≤ t.last)
-in_parts t k h =
-    let parts = and_parts (leb t.header k) (leb k t.last) h in
-    (leb-true t.header k parts.0, leb-true k t.last parts.1)
 
 strict : (a b : ℕ) → b ≤ a → (a ≡ b → ⊥) → b < a
 strict a b le differ = omega arith
@@ -125,7 +119,7 @@ module _ (flow : Flow) (loops : List Loop) (positions : HandlerPositions) (well_
     -- ## Spans
 
     -- each of the pairs is an extent's
-    source : (x : Span × ℕ) → Contains closing x → (s : Extent) × Contains extents s × (x.1 ≡ s.instance) × IsShown numbers_list s (get_or positions.found.items s.instance no_instance).stated.bound x.0
+    source : (x : Span × ℕ) → Contains closing x → (s : Extent) × Contains extents s × (x.1 ≡ s.instance) × IsShown numbers_list s (get_or positions.found.items s.instance no_found).stated.bound x.0
     source x has =
         let k = Contains-permutation closing shown.turn x (IsPermutation-sym shown.turn closing shown.moved) has in
         let k_lt : k.0 < length extents = omega (arith, k.1, (shown.turn_is).same) in
@@ -133,38 +127,38 @@ module _ (flow : Flow) (loops : List Loop) (positions : HandlerPositions) (well_
           s,
           Contains-get_or extents k.0 _ k_lt,
           ap (λ (y : Span × ℕ). y.1) (sym k.2) ∙ (shown.turn_is).named k.0 _ x k_lt,
-          subst (λ (y : Span × ℕ). IsShown numbers_list s (get_or positions.found.items s.instance no_instance).stated.bound y.0) k.2 ((shown.turn_is).shown k.0 _ no_instance x k_lt),
+          subst (λ (y : Span × ℕ). IsShown numbers_list s (get_or positions.found.items s.instance no_found).stated.bound y.0) k.2 ((shown.turn_is).shown k.0 _ no_found x k_lt),
         )
 
     -- each extent has a pair
-    target : (s : Extent) → Contains extents s → (x : Span × ℕ) × Contains closing x × IsShown numbers_list s (get_or positions.found.items s.instance no_instance).stated.bound x.0
+    target : (s : Extent) → Contains extents s → (x : Span × ℕ) × Contains closing x × IsShown numbers_list s (get_or positions.found.items s.instance no_found).stated.bound x.0
     target s has =
-        let x : Span × ℕ = get_or shown.turn has.0 no_span in
-        let in_turn : Contains shown.turn x = Contains-get_or shown.turn has.0 no_span (omega (arith, has.1, (shown.turn_is).same)) in
-        (x, Contains-permutation shown.turn closing x shown.moved in_turn, subst (λ (t : Extent). IsShown numbers_list t (get_or positions.found.items t.instance no_instance).stated.bound x.0) has.2 ((shown.turn_is).shown has.0 s no_instance no_span has.1))
+        let x : Span × ℕ = get_or shown.turn has.0 no_numbered_span in
+        let in_turn : Contains shown.turn x = Contains-get_or shown.turn has.0 no_numbered_span (omega (arith, has.1, (shown.turn_is).same)) in
+        (x, Contains-permutation shown.turn closing x shown.moved in_turn, subst (λ (t : Extent). IsShown numbers_list t (get_or positions.found.items t.instance no_found).stated.bound x.0) has.2 ((shown.turn_is).shown has.0 s no_found no_numbered_span has.1))
 
     target_named : (s : Extent) (has : Contains extents s) → (target s has).0.1 ≡ s.instance
     unfolding target
-    target_named s has = (shown.turn_is).named has.0 s no_span has.1 ∙ ap (λ (t : Extent). t.instance) has.2
+    target_named s has = (shown.turn_is).named has.0 s no_numbered_span has.1 ∙ ap (λ (t : Extent). t.instance) has.2
 
     spans_len : length spans ≡ length closing
     spans_len = ap length parted_spans ∙ length-map closing (λ (x : Span × ℕ). x.0)
 
-    span_at : (k : ℕ) (d : Span) → k < length closing → get_or spans k d ≡ (get_or closing k no_span).0
-    span_at k d lt = ap (λ (xs : List Span). get_or xs k d) parted_spans ∙ get_or-map (λ (x : Span × ℕ). x.0) closing k no_span d lt
+    span_at : (k : ℕ) (d : Span) → k < length closing → get_or spans k d ≡ (get_or closing k no_numbered_span).0
+    span_at k d lt = ap (λ (xs : List Span). get_or xs k d) parted_spans ∙ get_or-map (λ (x : Span × ℕ). x.0) closing k no_numbered_span d lt
 
-    span_source : (t : Span) → Contains spans t → (s : Extent) × Contains extents s × IsShown numbers_list s (get_or positions.found.items s.instance no_instance).stated.bound t
+    span_source : (t : Span) → Contains spans t → (s : Extent) × Contains extents s × IsShown numbers_list s (get_or positions.found.items s.instance no_found).stated.bound t
     span_source t has =
         let k_lt : has.0 < length closing = omega (arith, has.1, spans_len) in
-        let x = source (get_or closing has.0 no_span) (Contains-get_or closing has.0 no_span k_lt) in
-        let at : (get_or closing has.0 no_span).0 ≡ t = sym (span_at has.0 t k_lt) ∙ has.2 in
-        (x.0, x.1, subst (λ (u : Span). IsShown numbers_list x.0 (get_or positions.found.items (x.0).instance no_instance).stated.bound u) at x.3)
+        let x = source (get_or closing has.0 no_numbered_span) (Contains-get_or closing has.0 no_numbered_span k_lt) in
+        let at : (get_or closing has.0 no_numbered_span).0 ≡ t = sym (span_at has.0 t k_lt) ∙ has.2 in
+        (x.0, x.1, subst (λ (u : Span). IsShown numbers_list x.0 (get_or positions.found.items (x.0).instance no_found).stated.bound u) at x.3)
 
-    span_target : (s : Extent) → Contains extents s → (t : Span) × Contains spans t × IsShown numbers_list s (get_or positions.found.items s.instance no_instance).stated.bound t
+    span_target : (s : Extent) → Contains extents s → (t : Span) × Contains spans t × IsShown numbers_list s (get_or positions.found.items s.instance no_found).stated.bound t
     span_target s has =
         let x = target s has in
         let k_lt : (x.1).0 < length closing = (x.1).1 in
-        let at : get_or closing (x.1).0 no_span ≡ x.0 = get_or_default closing (x.1).0 no_span x.0 k_lt ∙ (x.1).2 in
+        let at : get_or closing (x.1).0 no_numbered_span ≡ x.0 = get_or_default closing (x.1).0 no_numbered_span x.0 k_lt ∙ (x.1).2 in
         ((x.0).0, ((x.1).0, omega (arith, spans_len), span_at (x.1).0 (x.0).0 k_lt ∙ ap (λ (y : Span × ℕ). y.0) at), x.2)
 
     holds : (s : Extent) (has : Contains extents s) (bound : ℕ) (t : Span) → IsShown numbers_list s bound t → (k : ℕ) → k ≤ exit → is_in t k ≡ is_within s (get_or order k 0)
@@ -182,17 +176,17 @@ module _ (flow : Flow) (loops : List Loop) (positions : HandlerPositions) (well_
       each = λ k i t lt.
           let k_in : k < length instances = omega (arith, length-map instances found_instance) in
           let k_lt : k < length closing = omega (arith, parted_upto.same) in
-          let x = source (get_or closing k no_span) (Contains-get_or closing k no_span k_lt) in
+          let x = source (get_or closing k no_numbered_span) (Contains-get_or closing k no_numbered_span k_lt) in
           let s : Extent = x.0 in
-          let named : get_or (map found_instance instances) k i ≡ found_instance (get_or positions.found.items s.instance no_instance) =
-          get_or-map found_instance instances k no_instance i k_in ∙ ap found_instance (parted_upto.named k no_instance no_span k_lt ∙ ap (λ (m : ℕ). get_or positions.found.items m no_instance) x.2) in
+          let named : get_or (map found_instance instances) k i ≡ found_instance (get_or positions.found.items s.instance no_found) =
+          get_or-map found_instance instances k no_found i k_in ∙ ap found_instance (parted_upto.named k no_found no_numbered_span k_lt ∙ ap (λ (m : ℕ). get_or positions.found.items m no_found) x.2) in
           rw (named, span_at k t k_lt) (record {
             members = λ m le.
                 let p_in : get_or order m 0 ≤ exit = order_upto m le in
-                ap (is_member (found_instance (get_or positions.found.items s.instance no_instance))) (place_is m le) ∙ member flow loops positions well_formed g s x.1 (get_or order m 0) p_in ∙ sym (holds s x.1 _ _ x.3 m le);
+                ap (is_member (found_instance (get_or positions.found.items s.instance no_found))) (place_is m le) ∙ member flow loops positions well_formed g s x.1 (get_or order m 0) p_in ∙ sym (holds s x.1 _ _ x.3 m le);
             headers = λ m le.
                 let p_in : get_or order m 0 ≤ exit = order_upto m le in
-                ap (is_header (found_instance (get_or positions.found.items s.instance no_instance))) (place_is m le) ∙ header flow loops positions well_formed g s x.1 (get_or order m 0) p_in ∙ span_header edges positions.entry exit extents rank order numbers_list plan s x.1 _ _ x.3 m le;
+                ap (is_header (found_instance (get_or positions.found.items s.instance no_found))) (place_is m le) ∙ header flow loops positions well_formed g s x.1 (get_or order m 0) p_in ∙ span_header edges positions.entry exit extents rank order numbers_list plan s x.1 _ _ x.3 m le;
             bound = (x.3).bound_is;
           });
     }
@@ -306,7 +300,7 @@ module _ (flow : Flow) (loops : List Loop) (positions : HandlerPositions) (well_
     shape t has =
         let s = span_source t has in
         let sh = span_shape edges positions.entry exit extents rank order numbers_list plan s.0 s.1 _ t s.2 in
-        let l = g.bounded (s.0).instance no_instance ((g.extents_of).named s.0 s.1) in
+        let l = g.bounded (s.0).instance no_found ((g.extents_of).named s.0 s.1) in
         (sh.0, sh.1, omega (arith, (s.2).bound_is, l.bound_small))
 
     closing_len : length closing ≡ length extents
@@ -325,32 +319,30 @@ module _ (flow : Flow) (loops : List Loop) (positions : HandlerPositions) (well_
     headers_differ j k d less lt same =
         let k_lt : k < length closing = omega (arith, spans_len) in
         let j_lt : j < length closing = omega arith in
-        let x = source (get_or closing j no_span) (Contains-get_or closing j no_span j_lt) in
-        let y = source (get_or closing k no_span) (Contains-get_or closing k no_span k_lt) in
+        let x = source (get_or closing j no_numbered_span) (Contains-get_or closing j no_numbered_span j_lt) in
+        let y = source (get_or closing k no_numbered_span) (Contains-get_or closing k no_numbered_span k_lt) in
         let x_in : (x.0).header < exit = plan.header_in x.0 x.1 in
         let y_in : (y.0).header < exit = plan.header_in y.0 y.1 in
         let news : get_or numbers_list (x.0).header 0 ≡ get_or numbers_list (y.0).header 0 = sym (x.3).header_is ∙ ap (λ (s : Span). s.header) (sym (span_at j d j_lt)) ∙ same ∙ ap (λ (s : Span). s.header) (span_at k d k_lt) ∙ (y.3).header_is in
         let heads : (x.0).header ≡ (y.0).header = sym (back_of (x.0).header x_in).1 ∙ ap (λ (m : ℕ). get_or order m 0) news ∙ (back_of (y.0).header y_in).1 in
         let one : x.0 ≡ y.0 = plan.apart x.0 y.0 x.1 y.1 heads in
-        let index : j ≡ k = pairs_once j k no_span j_lt k_lt (x.2 ∙ ap (λ (s : Extent). s.instance) one ∙ sym y.2) in
+        let index : j ≡ k = pairs_once j k no_numbered_span j_lt k_lt (x.2 ∙ ap (λ (s : Extent). s.instance) one ∙ sym y.2) in
         omega arith
 
     closes : AllPairs ClosesBefore spans
     closes j k d less lt =
         let k_lt : k < length closing = omega (arith, spans_len) in
         let j_lt : j < length closing = omega arith in
-        let x : Span × ℕ = get_or closing j no_span in
-        let y : Span × ℕ = get_or closing k no_span in
-        let far = then_order y.0.last x.0.last x.0.header y.0.header (sorted_far opens_after closing_ranks closing shown.sorted j k no_span (omega arith) k_lt) in
+        let x : Span × ℕ = get_or closing j no_numbered_span in
+        let y : Span × ℕ = get_or closing k no_numbered_span in
+        let far = then_order y.0.last x.0.last x.0.header y.0.header (sorted_far opens_after closing_ranks closing shown.sorted j k no_numbered_span (omega arith) k_lt) in
         rw (span_at j d j_lt, span_at k d k_lt) (⊎_elim
         (λ before. inl before)
         (λ tie. inr (sym tie.0, strict x.0.header y.0.header tie.1 (λ same. headers_differ j k d less lt (ap (λ (s : Span). s.header) (span_at j d j_lt) ∙ same ∙ ap (λ (s : Span). s.header) (sym (span_at k d k_lt))))))
         far)
 
     in_range : (t : Span) (has : Contains spans t) (k : ℕ) → is_in t k ≡ true → k < exit
-    in_range t has k inside =
-        let parts = in_parts t k inside in
-        omega (arith, (shape t has).1, parts.1)
+    in_range t has k inside = omega (arith, (shape t has).1, member_last t k inside)
 
     nested : (s t : Span) → Contains spans s → Contains spans t → (k : ℕ) → is_in s k ≡ true → is_in t k ≡ true → HoldsAll t s ⊎ HoldsAll s t
     nested s t s_has t_has k in_s in_t =
@@ -411,7 +403,7 @@ module _ (flow : Flow) (loops : List Loop) (positions : HandlerPositions) (well_
         let c : count_by (λ (x : Span × ℕ). is_in x.0 k) shown.turn ≡ depth_at extents p = count_same (λ (x : Span × ℕ). is_in x.0 k) (λ (s : Extent). is_within s p) shown.turn extents (shown.turn_is).same
         (λ m x s m_lt.
         let m_in : m < length extents = omega (arith, (shown.turn_is).same) in
-        holds (get_or extents m s) (Contains-get_or extents m s m_in) _ (get_or shown.turn m x).0 ((shown.turn_is).shown m s no_instance x m_in) k (omega arith)) in
+        holds (get_or extents m s) (Contains-get_or extents m s m_in) _ (get_or shown.turn m x).0 ((shown.turn_is).shown m s no_found x m_in) k (omega arith)) in
         omega (arith, a, b, c, n.shallow p))
         (λ (ge : exit ≤ k).
         let none : count_by (λ (t : Span). is_in t k) spans ≡ 0 = count_none (λ (t : Span). is_in t k) spans (λ m d m_lt. false_from_ne_true (is_in (get_or spans m d) k) (λ h. let r : k < exit = in_range (get_or spans m d) (Contains-get_or spans m d m_lt) k h in omega arith)) in
@@ -469,11 +461,11 @@ module _ (flow : Flow) (loops : List Loop) (positions : HandlerPositions) (well_
       (λ has.
           let k_in : has.0 < length instances = omega (arith, has.1, length-map instances found_instance) in
           let k_lt : has.0 < length closing = omega (arith, parted_upto.same) in
-          let x = source (get_or closing has.0 no_span) (Contains-get_or closing has.0 no_span k_lt) in
-          let named : get_or instances has.0 no_instance ≡ get_or positions.found.items (x.0).instance no_instance = parted_upto.named has.0 no_instance no_span k_lt ∙ ap (λ (m : ℕ). get_or positions.found.items m no_instance) x.2 in
-          let is : found_instance (get_or positions.found.items (x.0).instance no_instance) ≡ i = ap found_instance (sym named) ∙ sym (get_or-map found_instance instances has.0 no_instance i k_in) ∙ has.2 in
+          let x = source (get_or closing has.0 no_numbered_span) (Contains-get_or closing has.0 no_numbered_span k_lt) in
+          let named : get_or instances has.0 no_found ≡ get_or positions.found.items (x.0).instance no_found = parted_upto.named has.0 no_found no_numbered_span k_lt ∙ ap (λ (m : ℕ). get_or positions.found.items m no_found) x.2 in
+          let is : found_instance (get_or positions.found.items (x.0).instance no_found) ≡ i = ap found_instance (sym named) ∙ sym (get_or-map found_instance instances has.0 no_found i k_in) ∙ has.2 in
           let m_in = (g.extents_of).named x.0 x.1 in
-          ((x.0).instance, omega (arith, m_in, length-map positions.found.items found_instance), get_or-map found_instance positions.found.items (x.0).instance no_instance i m_in ∙ is)),
+          ((x.0).instance, omega (arith, m_in, length-map positions.found.items found_instance), get_or-map found_instance positions.found.items (x.0).instance no_found i m_in ∙ is)),
       (λ has.
           let k_in : has.0 < length positions.found.items = omega (arith, has.1, length-map positions.found.items found_instance) in
           let s = (g.extents_of).all has.0 k_in in
@@ -481,8 +473,8 @@ module _ (flow : Flow) (loops : List Loop) (positions : HandlerPositions) (well_
           let m_lt : (x.1).0 < length closing = (x.1).1 in
           let y = source x.0 x.1 in
           let m_in : (x.1).0 < length instances = omega (arith, parted_upto.same) in
-          let second : (get_or closing (x.1).0 no_span).1 ≡ has.0 = ap (λ (z : Span × ℕ). z.1) (get_or_default closing (x.1).0 no_span x.0 m_lt ∙ (x.1).2) ∙ target_named s.0 s.1 ∙ s.2 in
-          ((x.1).0, omega (arith, length-map instances found_instance), get_or-map found_instance instances (x.1).0 no_instance i m_in ∙ ap found_instance (parted_upto.named (x.1).0 no_instance no_span m_lt ∙ ap (λ (m : ℕ). get_or positions.found.items m no_instance) second) ∙ sym (get_or-map found_instance positions.found.items has.0 no_instance i k_in) ∙ has.2)),
+          let second : (get_or closing (x.1).0 no_numbered_span).1 ≡ has.0 = ap (λ (z : Span × ℕ). z.1) (get_or_default closing (x.1).0 no_numbered_span x.0 m_lt ∙ (x.1).2) ∙ target_named s.0 s.1 ∙ s.2 in
+          ((x.1).0, omega (arith, length-map instances found_instance), get_or-map found_instance instances (x.1).0 no_found i m_in ∙ ap found_instance (parted_upto.named (x.1).0 no_found no_numbered_span m_lt ∙ ap (λ (m : ℕ). get_or positions.found.items m no_found) second) ∙ sym (get_or-map found_instance positions.found.items has.0 no_found i k_in) ∙ has.2)),
     )
 
 -- ## What the functions ask for

@@ -5,6 +5,7 @@ use Rattle.std.specs.List.Sorted.{IsNonDecreasingBy}
 use Rattle.flow_graph.specs.declared.places.Place.{Place}
 use Rattle.flow_graph.specs.Flow.{Flow}
 use Rattle.numbered_walks.specs.declared.span.Span.{Span}
+use Rattle.numbered_walks.specs.Index.{span_at}
 use Rattle.loop_bounds.specs.declared.nested.Outermost.{Outermost}
 use Rattle.loop_bounds.specs.Instance.{Instance}
 use Rattle.loop_bounds.specs.Nested.{IsDirectlyInside, Node, heads, members, nodes}
@@ -21,9 +22,6 @@ pub record Encloses (old new : Outermost) (header : ℕ) (i : Instance) (places 
   pub nodes_are : nodes new.instances.items
       ≡ nodes old.instances.items
       ++ record { instance = i; places = places; inner = drop first (heads old.instances.items) } ∷ []
-
-abbrev pub span_at : List Span → ℕ → Span
-span_at spans k = slice_index_or spans k (record { header = 0; last = 0; bound = 0 })
 
 abbrev pub instance_at : List Instance → ℕ → Instance
 instance_at instances k =

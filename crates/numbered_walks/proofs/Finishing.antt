@@ -14,8 +14,9 @@ use Rattle.numbered_walks.specs.declared.span.NumberedEdge.{NumberedEdge}
 use Rattle.numbered_walks.specs.declared.span.Span.{Span}
 use Rattle.numbered_walks.specs.declared.tables.Tables.{Tables}
 use Rattle.numbered_walks.specs.Ordered.{IsOrdered, number_shape, span_loops, Leads, KeepsBounds, IsComplete, IsGreatest, TooLarge, cost_of, is_in, is_inside, ends_at_header}
-use Rattle.numbered_walks.specs.Tables.{IsPassed, AllEntered, potentials_of, stay_of, needed, distance_of, arrival_of, round_of, RowsHold, RowsFit, total_of, nth, number_of, is_header_in, is_exit}
-use Rattle.numbered_walks.proofs.Members.{IsReachable, member_header, member_last, header_in, reachable}
+use Rattle.numbered_walks.specs.Tables.{IsPassed, AllEntered, potentials_of, stay_of, needed, distance_of, arrival_of, round_of, RowsHold, RowsFit, total_of, number_of, is_header_in, is_exit}
+use Rattle.numbered_walks.specs.Index.{span_at}
+use Rattle.numbered_walks.proofs.Members.{IsReachable, header_in, member_header, member_last, no_span, reachable}
 use Rattle.numbered_walks.proofs.Nesting.{same_header}
 use Rattle.numbered_walks.proofs.Reaching as R
 use Rattle.numbered_walks.proofs.Reaching.{sum_zero}
@@ -67,7 +68,7 @@ module _ (exit : ℕ) (edges : List NumberedEdge) (tree : List Span) (c : Tables
       elim (is_in i e.from) as (λ v. is_in i e.from ≡ v → Fits e (cond v (cond (eqb i.bound 0) None (Some (round_of c i))) (Some (arrival_of c i)))) [
         | true ↦ λ inside.
             let n = found.0.0 in
-            let at_n : nth tree n ≡ i = sym (get_or_default tree n i (record { header = 0; last = 0; bound = 0 }) found.0.1) ∙ found.0.2 in
+            let at_n : span_at tree n ≡ i = sym (get_or_default tree n i no_span found.0.1) ∙ found.0.2 in
             back_fits e i.bound (round_of c i) (λ some.
             let low : i.header ≤ e.from = member_header i e.from inside in
             let row = pass.round_rows n found.0.1 (subst (λ (x : Span). 0 < x.bound) (sym at_n) some) e in_graph (to_header ∙ ap (λ (x : Span). x.header) (sym at_n)) (omega arith) in
@@ -206,7 +207,7 @@ none_passed edges tree c distances rounds = record {
   closed = λ n small. absurd (omega arith);
   later_distance = λ p later. distances p;
   header_distance = λ p header. distances p;
-  later_round = λ n later inside. rounds (nth tree n).header;
+  later_round = λ n later inside. rounds (span_at tree n).header;
   rows = λ e in_graph up small. absurd (omega arith);
   round_rows = λ n small. absurd (omega arith);
   round_zero = λ n small. absurd (omega arith);

@@ -9,6 +9,7 @@ use Rattle.numbered_walks.specs.declared.span.NumberedEdge.{NumberedEdge}
 use Rattle.numbered_walks.specs.declared.span.Span.{Span}
 use Rattle.numbered_walks.specs.Ordered.{IsOrdered}
 use Rattle.numbered_walks.specs.Index.{AreGrouped, edge_at, edges_of, is_up}
+use Rattle.numbered_walks.proofs.Members.{no_numbered_edge}
 
 -- what a group has to hold
 abbrev Belongs : List NumberedEdge → ℕ → Bool → ℕ → ℕ → Type 0
@@ -73,7 +74,7 @@ edge_of edges group k (n, below, at) =
     (n, omega (arith, length-map group (edge_at edges)), get_or-map (edge_at edges) group n k (edge_at edges k) below ∙ ap (edge_at edges) at)
 
 pub edge_at-in : (edges : List NumberedEdge) (k : ℕ) → k < length edges → Contains edges (edge_at edges k)
-edge_at-in edges k inside = Contains-get_or edges k (record { from = 0; to = 0; cost = 0 }) inside
+edge_at-in edges k inside = Contains-get_or edges k no_numbered_edge inside
 
 -- an edge of the list leaves a number before that of Exit
 pub from_low : (exit : ℕ) (edges : List NumberedEdge) (spans : List Span) → IsOrdered exit edges spans → (k : ℕ) → k < length edges → (edge_at edges k).from ≤ exit
@@ -86,7 +87,7 @@ group_known edges up groups p d small all group is = λ n e inside.
     ((all p d small k).0 (subst (λ (l : List ℕ). Contains l k) is (Contains-get_or group n e inside))).0
 
 numbered : (edges : List NumberedEdge) (e : NumberedEdge) (at : Contains edges e) → edge_at edges at.0 ≡ e
-numbered edges e at = get_or_default edges at.0 (record { from = 0; to = 0; cost = 0 }) e at.1 ∙ at.2
+numbered edges e at = get_or_default edges at.0 no_numbered_edge e at.1 ∙ at.2
 
 module _ (edges : List NumberedEdge) (groups : List (Vec ℕ Global)) (p : ℕ) (d : Vec ℕ Global) (small : p < length groups) where
   -- the edges of a group, by whether they go up

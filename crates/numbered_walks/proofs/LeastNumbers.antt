@@ -14,10 +14,11 @@ use Rattle.numbered_walks.specs.declared.span.NumberedEdge.{NumberedEdge}
 use Rattle.numbered_walks.specs.declared.span.Span.{Span}
 use Rattle.numbered_walks.specs.declared.tables.Tables.{Tables}
 use Rattle.numbered_walks.specs.Ordered.{IsOrdered, number_shape, span_loops, is_in}
-use Rattle.numbered_walks.specs.Tables.{potentials_of, is_left, stay_of, needed, distance_of, arrival_of, round_of, IsPassed, nth, number_of, is_header_in, is_exit, RowsHold}
-use Rattle.numbered_walks.proofs.Members.{is_member, member_header, member_last}
+use Rattle.numbered_walks.specs.Tables.{potentials_of, is_left, stay_of, needed, distance_of, arrival_of, round_of, IsPassed, number_of, is_header_in, is_exit, RowsHold}
+use Rattle.numbered_walks.specs.Index.{span_at}
+use Rattle.numbered_walks.proofs.Members.{member_from, member_header, member_last, no_span}
 use Rattle.numbered_walks.proofs.Nesting.{same_header}
-use Rattle.numbered_walks.proofs.PassLemmas.{left_member, left_not, stays_back, nth_in}
+use Rattle.numbered_walks.proofs.PassLemmas.{left_member, left_not, stays_back, span_in}
 use Rattle.numbered_walks.proofs.Passing.{header_found, header_there}
 use Rattle.numbered_walks.proofs.Finishing.{header_find}
 
@@ -75,10 +76,10 @@ module _ (exit : ℕ) (edges : List NumberedEdge) (tree : List Span) (c : Tables
   Places q = (p : ℕ) → p < q → p < exit + 1 → IsLow p
 
   abbrev Stays : ℕ → Type 0
-  Stays q = (n : ℕ) → n < length tree → (nth tree n).last < q → stay_of c (nth tree n) ≤ other_stay (nth tree n)
+  Stays q = (n : ℕ) → n < length tree → (span_at tree n).last < q → stay_of c (span_at tree n) ≤ other_stay (span_at tree n)
 
   abbrev StaysTo : ℕ → ℕ → Type 0
-  StaysTo q k = (n : ℕ) → n < k → n < length tree → (nth tree n).last < q → stay_of c (nth tree n) ≤ other_stay (nth tree n)
+  StaysTo q k = (n : ℕ) → n < k → n < length tree → (span_at tree n).last < q → stay_of c (span_at tree n) ≤ other_stay (span_at tree n)
 
   pub distance-le : (q : ℕ) → Places q → (p : ℕ) → p < q → p < exit + 1 → p ≢ exit → distance_of c p ≤ other.distance p
   distance-le q places p small placed inside = ⊎_elim
@@ -97,8 +98,8 @@ module _ (exit : ℕ) (edges : List NumberedEdge) (tree : List Span) (c : Tables
       (λ n d inside. let j = get_or tree n d in left_le (is_left e j) (stay_of c j) (other_stay j) (λ is. stays j (Contains-get_or tree n d inside) is)) in
       omega arith
 
-  nth_of : (j : Span) (in_tree : Contains tree j) → nth tree in_tree.0 ≡ j
-  nth_of j in_tree = sym (get_or_default tree in_tree.0 j (record { header = 0; last = 0; bound = 0 }) in_tree.1) ∙ in_tree.2
+  span_of : (j : Span) (in_tree : Contains tree j) → span_at tree in_tree.0 ≡ j
+  span_of j in_tree = sym (get_or_default tree in_tree.0 j no_span in_tree.1) ∙ in_tree.2
 
   number_plain : (p : ℕ) → is_header_in tree p ≡ false → number_of tree c p ≡ distance_of c p
   number_plain p plain = rw plain refl
@@ -114,8 +115,8 @@ module _ (exit : ℕ) (edges : List NumberedEdge) (tree : List Span) (c : Tables
       let e = by.0 in
       let less : needed tree c e ≤ asks e = needed-le q places e by.1 (omega (arith, by.3, same))
       (λ j j_in is.
-      let ended : j.last < q = ⊎_elim (λ less. less) (λ more. absurd (left_not e j is (is_member j e.to (omega (arith, member_header j e.from (left_member e j is), by.2, by.3)) (omega (arith, by.2, same))))) (cases_lt j.last q) in
-      subst (λ (x : Span). stay_of c x ≤ other_stay x) (nth_of j j_in) (stays j_in.0 j_in.1 (subst (λ (x : Span). x.last < q) (sym (nth_of j j_in)) ended))) in (
+      let ended : j.last < q = ⊎_elim (λ less. less) (λ more. absurd (left_not e j is (member_from j e.to (omega (arith, member_header j e.from (left_member e j is), by.2, by.3)) (omega (arith, by.2, same))))) (cases_lt j.last q) in
+      subst (λ (x : Span). stay_of c x ≤ other_stay x) (span_of j j_in) (stays j_in.0 j_in.1 (subst (λ (x : Span). x.last < q) (sym (span_of j j_in)) ended))) in (
         λ plain. omega (arith, less, by.4, number_plain p plain, subst (λ (x : ℕ). asks e ≤ value_of x) by.2 (plain_asks e by.1 (subst (λ (x : ℕ). is_header_in tree x ≡ false) (sym by.2) plain))),
         λ i i_in is. omega (arith, less, by.4, number_header p i i_in is, enter_asks e by.1 (omega (arith, by.2, by.3)) i i_in (by.2 ∙ is)),
       ))
@@ -124,20 +125,19 @@ module _ (exit : ℕ) (edges : List NumberedEdge) (tree : List Span) (c : Tables
       (cases_eq p q)
 
   -- an instance that a back edge of another leaves comes before it
-  left_before : (m n : ℕ) → m < length tree → n < length tree → (e : NumberedEdge) → e.to ≡ (nth tree n).header → e.to ≤ e.from → e.from ≤ (nth tree n).last → is_left e (nth tree m) ≡ true → (m < n) × ((nth tree m).last ≤ (nth tree n).last)
+  left_before : (m n : ℕ) → m < length tree → n < length tree → (e : NumberedEdge) → e.to ≡ (span_at tree n).header → e.to ≤ e.from → e.from ≤ (span_at tree n).last → is_left e (span_at tree m) ≡ true → (m < n) × ((span_at tree m).last ≤ (span_at tree n).last)
   left_before m n m_below n_below e to_header back low is =
-      let i = nth tree m in
-      let j = nth tree n in
-      let none : Span = record { header = 0; last = 0; bound = 0 } in
-      let before : m < n = ⊎_elim (λ same. absurd (left_not e i is (is_member i e.to (omega (arith, to_header, ap (λ (x : ℕ). (nth tree x).header) same)) (omega (arith, member_last i e.from (left_member e i is))))))
-      (λ differ. ⊎_elim (λ less. less) (λ more. absurd (stays_back exit edges tree i j order (nth_in tree m m_below) (nth_in tree n n_below) (order.closing n m none more m_below) e to_header back low is)) differ)
+      let i = span_at tree m in
+      let j = span_at tree n in
+      let before : m < n = ⊎_elim (λ same. absurd (left_not e i is (member_from i e.to (omega (arith, to_header, ap (λ (x : ℕ). (span_at tree x).header) same)) (omega (arith, member_last i e.from (left_member e i is))))))
+      (λ differ. ⊎_elim (λ less. less) (λ more. absurd (stays_back exit edges tree i j order (span_in tree m m_below) (span_in tree n n_below) (order.closing n m no_span more m_below) e to_header back low is)) differ)
       (cases_order m n) in
-      (before, ⊎_elim (λ less. omega arith) (λ same. omega (arith, same.0)) (order.closing m n none before n_below))
+      (before, ⊎_elim (λ less. omega arith) (λ same. omega (arith, same.0)) (order.closing m n no_span before n_below))
 
-  stay-le : (q : ℕ) → Places (q + 1) → (k : ℕ) → StaysTo (q + 1) k → k < length tree → (nth tree k).last < q + 1 → (arrival_of c (nth tree k) ≤ other.arrival (nth tree k)) × (0 < (nth tree k).bound → round_of c (nth tree k) ≤ other.round (nth tree k))
+  stay-le : (q : ℕ) → Places (q + 1) → (k : ℕ) → StaysTo (q + 1) k → k < length tree → (span_at tree k).last < q + 1 → (arrival_of c (span_at tree k) ≤ other.arrival (span_at tree k)) × (0 < (span_at tree k).bound → round_of c (span_at tree k) ≤ other.round (span_at tree k))
   stay-le q places k stays below ended =
-      let i = nth tree k in
-      let i_in : Contains tree i = nth_in tree k below in
+      let i = span_at tree k in
+      let i_in : Contains tree i = span_in tree k below in
       let shape = order.shape i i_in in (
         (places i.header (omega (arith, shape.0)) (omega (arith, shape.0, shape.1))).1 i i_in refl,
         λ some. ⊎_elim
@@ -146,10 +146,10 @@ module _ (exit : ℕ) (edges : List NumberedEdge) (tree : List Span) (c : Tables
             let e = by.0 in
             let less : needed tree c e ≤ asks e = needed-le (q + 1) places e by.1 (omega (arith, by.4))
             (λ j j_in is.
-            let is_m : is_left e (nth tree j_in.0) ≡ true = subst (λ (x : Span). is_left e x ≡ true) (sym (nth_of j j_in)) is in
+            let is_m : is_left e (span_at tree j_in.0) ≡ true = subst (λ (x : Span). is_left e x ≡ true) (sym (span_of j j_in)) is in
             let before = left_before j_in.0 k j_in.1 below e by.2 by.3 by.4 is_m in
-            subst (λ (x : Span). stay_of c x ≤ other_stay x) (nth_of j j_in) (stays j_in.0 before.0 j_in.1 (omega (arith, before.1)))) in
-            let row : asks e ≤ other.round i = turn_asks e by.1 i i_in by.2 (is_member i e.from (omega (arith, by.2, by.3)) by.4) some in
+            subst (λ (x : Span). stay_of c x ≤ other_stay x) (span_of j j_in) (stays j_in.0 before.0 j_in.1 (omega (arith, before.1)))) in
+            let row : asks e ≤ other.round i = turn_asks e by.1 i i_in by.2 (member_from i e.from (omega (arith, by.2, by.3)) by.4) some in
             omega (arith, less, row, by.5))
             (pass.round_attained k below),
       )
@@ -162,10 +162,10 @@ module _ (exit : ℕ) (edges : List NumberedEdge) (tree : List Span) (c : Tables
   stays_to q places zero n small below ended = absurd (omega arith)
   stays_to q places (suc k) n small below ended = ⊎_elim
       (λ same.
-      let parts = stay-le q places k (stays_to q places k) (omega arith) (subst (λ (x : ℕ). (nth tree x).last < q + 1) same ended) in
-      let i = nth tree k in
+      let parts = stay-le q places k (stays_to q places k) (omega arith) (subst (λ (x : ℕ). (span_at tree x).last < q + 1) same ended) in
+      let i = span_at tree k in
       let product : i.bound * round_of c i ≤ i.bound * other.round i = rounds-le i.bound (round_of c i) (other.round i) parts.1 in
-      subst (λ (x : ℕ). stay_of c (nth tree x) ≤ other_stay (nth tree x)) (sym same) (omega (arith, parts.0, product)))
+      subst (λ (x : ℕ). stay_of c (span_at tree x) ≤ other_stay (span_at tree x)) (sym same) (omega (arith, parts.0, product)))
       (λ differ. stays_to q places k n (omega arith) below ended)
       (cases_eq n k)
 
@@ -179,10 +179,10 @@ module _ (exit : ℕ) (edges : List NumberedEdge) (tree : List Span) (c : Tables
   exit_plain : is_header_in tree exit ≡ false
   exit_plain = ⊎_elim (λ header. let found = header_found tree exit header in absurd (omega (arith, found.2, order.shape found.0 found.1))) (λ out. out) (cases_Bool (is_header_in tree exit))
 
-  last_stay : (n : ℕ) → n < length tree → (arrival_of c (nth tree n) ≤ other.arrival (nth tree n)) × (0 < (nth tree n).bound → round_of c (nth tree n) ≤ other.round (nth tree n))
+  last_stay : (n : ℕ) → n < length tree → (arrival_of c (span_at tree n) ≤ other.arrival (span_at tree n)) × (0 < (span_at tree n).bound → round_of c (span_at tree n) ≤ other.round (span_at tree n))
   last_stay n below =
       let places : Places (exit + 1) = (all_places (exit + 1)).0 in
-      let ended : (nth tree n).last < exit + 1 = omega (arith, (order.shape (nth tree n) (nth_in tree n below)).1) in
+      let ended : (span_at tree n).last < exit + 1 = omega (arith, (order.shape (span_at tree n) (span_in tree n below)).1) in
       stay-le exit places n (stays_to exit places n) below ended
 
   pub is_least : IsAtMost (is_exit exit) tree (potentials_of c) other
@@ -196,9 +196,9 @@ module _ (exit : ℕ) (edges : List NumberedEdge) (tree : List Span) (c : Tables
             (λ placed. distance-le (exit + 1) all.0 p placed placed (λ same. true≢false (sym (eq-eqb p exit same) ∙ apart)))
             (λ later. omega (arith, pass.later_distance p later))
             (cases_lt p (exit + 1));
-        arrivals = λ i i_in. subst (λ (x : Span). arrival_of c x ≤ other.arrival x) (nth_of i i_in) (last_stay i_in.0 i_in.1).0;
-        rounds = λ i i_in. subst (λ (x : Span). round_of c x ≤ other.round x) (nth_of i i_in)
+        arrivals = λ i i_in. subst (λ (x : Span). arrival_of c x ≤ other.arrival x) (span_of i i_in) (last_stay i_in.0 i_in.1).0;
+        rounds = λ i i_in. subst (λ (x : Span). round_of c x ≤ other.round x) (span_of i i_in)
             (⊎_elim (λ some. (last_stay i_in.0 i_in.1).1 some)
             (λ none. omega (arith, pass.round_zero i_in.0 i_in.1 (omega arith)))
-            (cases_lt 0 (nth tree i_in.0).bound));
+            (cases_lt 0 (span_at tree i_in.0).bound));
       }

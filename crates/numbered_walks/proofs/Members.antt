@@ -6,14 +6,21 @@ use Rattle.numbered_walks.specs.declared.span.NumberedEdge.{NumberedEdge}
 use Rattle.numbered_walks.specs.declared.span.Span.{Span}
 use Rattle.numbered_walks.specs.Ordered.{IsOrdered, Leads, is_in, number_shape}
 
+-- what a list has past its end
+abbrev pub no_span : Span
+no_span = record { header = 0; last = 0; bound = 0 }
+
+abbrev pub no_numbered_edge : NumberedEdge
+no_numbered_edge = record { from = 0; to = 0; cost = 0 }
+
 pub member_header : (i : Span) (p : ℕ) → is_in i p ≡ true → i.header ≤ p
 member_header i p is = leb-true i.header p (and_parts (leb i.header p) (leb p i.last) is).0
 
 pub member_last : (i : Span) (p : ℕ) → is_in i p ≡ true → p ≤ i.last
 member_last i p is = leb-true p i.last (and_parts (leb i.header p) (leb p i.last) is).1
 
-pub is_member : (i : Span) (p : ℕ) → i.header ≤ p → p ≤ i.last → is_in i p ≡ true
-is_member i p low high = and_from (leb i.header p) (leb p i.last) (le-leb i.header p low) (le-leb p i.last high)
+pub member_from : (i : Span) (p : ℕ) → i.header ≤ p → p ≤ i.last → is_in i p ≡ true
+member_from i p low high = and_from (leb i.header p) (leb p i.last) (le-leb i.header p low) (le-leb p i.last high)
 
 -- some walk from the entry leads to the number
 abbrev pub IsReachable : List NumberedEdge → ℕ → Type 0
@@ -21,7 +28,7 @@ IsReachable edges p = (walk : List NumberedEdge) × Leads edges 0 walk p
 
 module _ (exit : ℕ) (edges : List NumberedEdge) (tree : List Span) (order : IsOrdered exit edges tree) where
   pub header_in : (i : Span) → Contains tree i → is_in i i.header ≡ true
-  header_in i i_in = is_member i i.header (omega arith) (order.shape i i_in).0
+  header_in i i_in = member_from i i.header (omega arith) (order.shape i i_in).0
 
   reach_place : (n p : ℕ) → p < n → p < exit → IsReachable edges p
   reach_place zero p small placed = absurd (omega arith)

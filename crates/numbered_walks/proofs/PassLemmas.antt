@@ -12,12 +12,12 @@ use Rattle.numbered_walks.specs.declared.tables.Tables.{Tables}
 use Rattle.numbered_walks.specs.Ordered.{is_in}
 use Rattle.numbered_walks.specs.Tables.{is_left, stay_of, needed, distance_of, arrival_of, round_of}
 use Rattle.numbered_walks.specs.Ordered.{IsOrdered}
-use Rattle.numbered_walks.specs.Tables.{IsPassed, IsHeaviest, IsPlaceWritten, IsRoundWritten, EntersBy, TurnsBy, nth, number_of, is_header_in}
+use Rattle.numbered_walks.specs.Tables.{IsPassed, IsHeaviest, IsPlaceWritten, IsRoundWritten, EntersBy, TurnsBy, number_of, is_header_in}
 use Rattle.walks.proofs.SumLe.{sum_by-same_all}
 use Rattle.numbered_walks.specs.Ordered.{IsOrdered}
 use Rattle.numbered_walks.specs.Tables.{AllEntered}
-use Rattle.numbered_walks.specs.Index.{edge_at, edges_of}
-use Rattle.numbered_walks.proofs.Members.{is_member, member_header, member_last}
+use Rattle.numbered_walks.specs.Index.{edge_at, edges_of, span_at}
+use Rattle.numbered_walks.proofs.Members.{member_from, member_header, member_last, no_span}
 use Rattle.numbered_walks.proofs.Nesting.{same_header}
 
 Contains-front : {X : Type 0} (xs : List X) (y x : X) → Contains xs x → Contains (xs ++ y ∷ []) x
@@ -111,7 +111,7 @@ place_step exit edges tree k q v c new into entered below in_list heavy w pass =
       (λ same. subst (λ (x : ℕ). distance_of new x ≡ 0) (sym same) (w.header_zero (subst (λ (x : ℕ). is_header_in tree x ≡ true) same header) ∙ pass.header_distance q (subst (λ (x : ℕ). is_header_in tree x ≡ true) same header)))
       (λ other. w.distances p other ∙ pass.header_distance p header)
       (cases_eq p q);
-  later_round = λ n later inside. w.rounds (nth tree n).header ∙ pass.later_round n later inside;
+  later_round = λ n later inside. w.rounds (span_at tree n).header ∙ pass.later_round n later inside;
   rows = λ e in_graph up small. ⊎_elim
       (λ same.
       let row : (needed tree c e ≤ v) × (needed tree c e < 2 ^ 63) = All-contains (λ x. (needed tree c x ≤ v) × (needed tree c x < 2 ^ 63)) into e heavy.most ((in_list e).1 (in_graph, same, omega arith)) in
@@ -124,8 +124,8 @@ place_step exit edges tree k q v c new into entered below in_list heavy w pass =
   round_rows = λ n small some e in_graph to_header back.
       let row = pass.round_rows n small some e in_graph to_header back in
       let same : needed tree new e ≡ needed tree c e = needed-place tree q v c new w e (omega (arith, row.0, pass.closed n small)) in
-      (row.0, omega (arith, row.1, same, w.rounds (nth tree n).header), omega (arith, row.2, same));
-  round_zero = λ n small none. w.rounds (nth tree n).header ∙ pass.round_zero n small none;
+      (row.0, omega (arith, row.1, same, w.rounds (span_at tree n).header), omega (arith, row.2, same));
+  round_zero = λ n small none. w.rounds (span_at tree n).header ∙ pass.round_zero n small none;
   attained = λ p small. ⊎_elim
       (λ same. subst (λ (x : ℕ). ((x ≡ 0) × (number_of tree new x ≡ 0)) ⊎ EntersBy edges tree new x) (sym same)
       (⊎_elim
@@ -145,18 +145,18 @@ place_step exit edges tree k q v c new into entered below in_list heavy w pass =
       (pass.attained p (omega arith)))
       (cases_eq p q);
   round_attained = λ n small. ⊎_elim
-      (λ none. inl (w.rounds (nth tree n).header ∙ none))
-      (λ by. inr (by.0, by.1, by.2, by.3, by.4, w.rounds (nth tree n).header ∙ by.5 ∙ sym (needed-place tree q v c new w by.0 (omega (arith, by.4, pass.closed n small)))))
+      (λ none. inl (w.rounds (span_at tree n).header ∙ none))
+      (λ by. inr (by.0, by.1, by.2, by.3, by.4, w.rounds (span_at tree n).header ∙ by.5 ∙ sym (needed-place tree q v c new w by.0 (omega (arith, by.4, pass.closed n small)))))
       (pass.round_attained n small);
 }
 
 -- ## An instance
 
-same_nth : (tree : List Span) (n : ℕ) (d : Span) → n < length tree → get_or tree n d ≡ nth tree n
-same_nth tree n d inside = get_or_default tree n d (record { header = 0; last = 0; bound = 0 }) inside
+span_is : (tree : List Span) (n : ℕ) (d : Span) → n < length tree → get_or tree n d ≡ span_at tree n
+span_is tree n d inside = get_or_default tree n d no_span inside
 
-pub nth_in : (tree : List Span) (n : ℕ) → n < length tree → Contains tree (nth tree n)
-nth_in tree n inside = Contains-get_or tree n (record { header = 0; last = 0; bound = 0 }) inside
+pub span_in : (tree : List Span) (n : ℕ) → n < length tree → Contains tree (span_at tree n)
+span_in tree n inside = Contains-get_or tree n no_span inside
 
 needed-round : (exit : ℕ) (edges : List NumberedEdge) (tree : List Span) (i : Span) (v : ℕ) (c new : Tables) → IsOrdered exit edges tree → Contains tree i → IsRoundWritten i.header v c new → (e : NumberedEdge) → (is_left e i ≡ true → ⊥) → needed tree new e ≡ needed tree c e
 needed-round exit edges tree i v c new order i_in w e stays =
@@ -171,7 +171,7 @@ number-round tree h v c new w p = number_same (is_header_in tree p) (slice_index
 
 -- an edge up to a member or below the instance's end does not leave it
 stays_up : (i : Span) (e : NumberedEdge) → e.from < e.to → e.to ≤ i.last → is_left e i ≡ true → ⊥
-stays_up i e up low is = left_not e i is (is_member i e.to (omega (arith, member_header i e.from (left_member e i is))) low)
+stays_up i e up low is = left_not e i is (member_from i e.to (omega (arith, member_header i e.from (left_member e i is))) low)
 
 -- nor does a back edge of an instance that was closed before
 pub stays_back : (exit : ℕ) (edges : List NumberedEdge) (tree : List Span) (i j : Span) → IsOrdered exit edges tree → Contains tree i → Contains tree j → ((j.last < i.last) ⊎ ((j.last ≡ i.last) × (i.header < j.header))) → (e : NumberedEdge) → e.to ≡ j.header → e.to ≤ e.from → e.from ≤ j.last → is_left e i ≡ true → ⊥
@@ -179,14 +179,14 @@ stays_back exit edges tree i j order i_in j_in before e to_header back low is =
     let from_i : is_in i e.from ≡ true = left_member e i is in
     let header_low : i.header ≤ e.from = member_header i e.from from_i in
     let last_high : e.from ≤ i.last = member_last i e.from from_i in
-    let from_j : is_in j e.from ≡ true = is_member j e.from (omega arith) low in
+    let from_j : is_in j e.from ≡ true = member_from j e.from (omega arith) low in
     ⊎_elim
     (λ within_j.
-    let j_end : i.last ≤ j.last = member_last j i.last (within_j i.last (is_member i i.last (omega arith) (omega arith))) in
-    let j_start : j.header ≤ i.header = member_header j i.header (within_j i.header (is_member i i.header (omega arith) (omega arith))) in
+    let j_end : i.last ≤ j.last = member_last j i.last (within_j i.last (member_from i i.last (omega arith) (omega arith))) in
+    let j_start : j.header ≤ i.header = member_header j i.header (within_j i.header (member_from i i.header (omega arith) (omega arith))) in
     ⊎_elim (λ less. absurd (omega arith)) (λ same. absurd (omega (arith, same.0, same.1))) before)
     (λ within_i.
-    left_not e i is (subst (λ (p : ℕ). is_in i p ≡ true) (sym to_header) (within_i j.header (is_member j j.header (omega arith) (omega arith)))))
+    left_not e i is (subst (λ (p : ℕ). is_in i p ≡ true) (sym to_header) (within_i j.header (member_from j j.header (omega arith) (omega arith)))))
     (order.nested i j i_in j_in e.from from_i from_j)
 
 pub turn_low : (exit : ℕ) (edges : List NumberedEdge) (tree : List Span) (i : Span) → IsOrdered exit edges tree → Contains tree i → (e : NumberedEdge) → Contains edges e → e.to ≡ i.header → e.to ≤ e.from → e.from ≤ i.last
@@ -195,26 +195,25 @@ turn_low exit edges tree i order i_in e in_graph to_header goes_back = ⊎_elim
     (λ b. let same : b.0 ≡ i = same_header tree order.headers_differ b.0 i b.1 i_in (sym b.3 ∙ to_header) in member_last i e.from (subst (λ (x : Span). is_in x e.from ≡ true) same b.2))
     (order.goes_up e in_graph)
 
-close_with : (exit : ℕ) (edges : List NumberedEdge) (tree : List Span) (k q v : ℕ) (i : Span) (c new : Tables) (back : List NumberedEdge) → IsOrdered exit edges tree → k < length tree → i ≡ nth tree k → q ≡ i.last + 1 → ((i.bound ≡ 0) × (v ≡ 0)) ⊎ (((e : NumberedEdge) → Contains back e ↔ (Contains edges e × (e.to ≡ i.header) × (i.header ≤ e.from))) × IsHeaviest tree c back v × (0 < i.bound)) → IsRoundWritten i.header v c new → IsPassed edges tree k q c → IsPassed edges tree (k + 1) q new
+close_with : (exit : ℕ) (edges : List NumberedEdge) (tree : List Span) (k q v : ℕ) (i : Span) (c new : Tables) (back : List NumberedEdge) → IsOrdered exit edges tree → k < length tree → i ≡ span_at tree k → q ≡ i.last + 1 → ((i.bound ≡ 0) × (v ≡ 0)) ⊎ (((e : NumberedEdge) → Contains back e ↔ (Contains edges e × (e.to ≡ i.header) × (i.header ≤ e.from))) × IsHeaviest tree c back v × (0 < i.bound)) → IsRoundWritten i.header v c new → IsPassed edges tree k q c → IsPassed edges tree (k + 1) q new
 close_with exit edges tree k q v i c new back order below at_k ends heavy w pass =
-    let none : Span = record { header = 0; last = 0; bound = 0 } in
-    let i_in : Contains tree i = subst (λ (x : Span). Contains tree x) (sym at_k) (nth_in tree k below) in
-    let before = λ (n : ℕ) (small : n < k). subst (λ (x : Span). ((nth tree n).last < x.last) ⊎ (((nth tree n).last ≡ x.last) × (x.header < (nth tree n).header))) (sym at_k) (order.closing n k none small below) in
+    let i_in : Contains tree i = subst (λ (x : Span). Contains tree x) (sym at_k) (span_in tree k below) in
+    let before = λ (n : ℕ) (small : n < k). subst (λ (x : Span). ((span_at tree n).last < x.last) ⊎ (((span_at tree n).last ≡ x.last) × (x.header < (span_at tree n).header))) (sym at_k) (order.closing n k no_span small below) in
     let turns_at : (e : NumberedEdge) → Contains edges e → e.to ≡ i.header → e.to ≤ e.from → e.from ≤ i.last = turn_low exit edges tree i order i_in in
     let own : (e : NumberedEdge) → e.to ≡ i.header → e.to ≤ e.from → e.from ≤ i.last → needed tree new e ≡ needed tree c e =
-    λ e to_header goes_back low. needed-round exit edges tree i v c new order i_in w e (λ is. left_not e i is (is_member i e.to (omega arith) (omega arith))) in
+    λ e to_header goes_back low. needed-round exit edges tree i v c new order i_in w e (λ is. left_not e i is (member_from i e.to (omega arith) (omega arith))) in
     record {
-      closed = λ n small. ⊎_elim (λ same. subst (λ (x : ℕ). (nth tree x).last < q) (sym same) (subst (λ (x : Span). x.last < q) at_k (omega arith))) (λ other. pass.closed n (omega arith)) (cases_eq n k);
+      closed = λ n small. ⊎_elim (λ same. subst (λ (x : ℕ). (span_at tree x).last < q) (sym same) (subst (λ (x : Span). x.last < q) at_k (omega arith))) (λ other. pass.closed n (omega arith)) (cases_eq n k);
       later_distance = λ p later. w.distances p ∙ pass.later_distance p later;
       header_distance = λ p header. w.distances p ∙ pass.header_distance p header;
-      later_round = λ n later inside. w.rounds (nth tree n).header (λ same. order.headers_differ k n none (omega arith) inside (sym (same ∙ ap (λ (x : Span). x.header) at_k))) ∙ pass.later_round n (omega arith) inside;
+      later_round = λ n later inside. w.rounds (span_at tree n).header (λ same. order.headers_differ k n no_span (omega arith) inside (sym (same ∙ ap (λ (x : Span). x.header) at_k))) ∙ pass.later_round n (omega arith) inside;
       rows = λ e in_graph up small.
           let row = pass.rows e in_graph up small in
           let same : needed tree new e ≡ needed tree c e = needed-round exit edges tree i v c new order i_in w e (stays_up i e up (omega arith)) in
           (omega (arith, row.0, same, number-round tree i.header v c new w e.to), omega (arith, row.1, same));
       round_rows = λ n small some e in_graph to_header goes_back. ⊎_elim
           (λ is_k.
-          let is_i : nth tree n ≡ i = ap (λ (x : ℕ). nth tree x) is_k ∙ sym at_k in
+          let is_i : span_at tree n ≡ i = ap (λ (x : ℕ). span_at tree x) is_k ∙ sym at_k in
           let to_i : e.to ≡ i.header = to_header ∙ ap (λ (x : Span). x.header) is_i in
           let some_i : 0 < i.bound = subst (λ (x : Span). 0 < x.bound) is_i some in
           let low : e.from ≤ i.last = turns_at e in_graph to_i goes_back in
@@ -224,17 +223,17 @@ close_with exit edges tree k q v i c new back order below at_k ends heavy w pass
           subst (λ (x : Span). (e.from ≤ x.last) × (needed tree new e ≤ round_of new x) × (needed tree new e < 2 ^ 63)) (sym is_i) (low, omega (arith, row.0), omega (arith, row.1)))
           (λ other.
           let row = pass.round_rows n (omega arith) some e in_graph to_header goes_back in
-          let same : needed tree new e ≡ needed tree c e = needed-round exit edges tree i v c new order i_in w e (stays_back exit edges tree i (nth tree n) order i_in (nth_in tree n (omega arith)) (before n (omega arith)) e to_header goes_back row.0) in
-          let number : round_of new (nth tree n) ≡ round_of c (nth tree n) = w.rounds (nth tree n).header (λ is. order.headers_differ n k none (omega arith) below (is ∙ ap (λ (x : Span). x.header) at_k)) in
+          let same : needed tree new e ≡ needed tree c e = needed-round exit edges tree i v c new order i_in w e (stays_back exit edges tree i (span_at tree n) order i_in (span_in tree n (omega arith)) (before n (omega arith)) e to_header goes_back row.0) in
+          let number : round_of new (span_at tree n) ≡ round_of c (span_at tree n) = w.rounds (span_at tree n).header (λ is. order.headers_differ n k no_span (omega arith) below (is ∙ ap (λ (x : Span). x.header) at_k)) in
           (row.0, omega (arith, row.1), omega (arith, row.2)))
           (cases_eq n k);
       round_zero = λ n small no_bound. ⊎_elim
           (λ is_k.
-          let is_i : nth tree n ≡ i = ap (λ (x : ℕ). nth tree x) is_k ∙ sym at_k in
+          let is_i : span_at tree n ≡ i = ap (λ (x : ℕ). span_at tree x) is_k ∙ sym at_k in
           let at_i : round_of new i ≡ v = w.here in
           subst (λ (x : Span). round_of new x ≡ 0) (sym is_i)
           (⊎_elim (λ no_rounds. at_i ∙ no_rounds.1) (λ h. absurd (omega (arith, h.2, subst (λ (x : Span). x.bound ≡ 0) is_i no_bound))) heavy))
-          (λ differ. w.rounds (nth tree n).header (λ is. order.headers_differ n k none (omega arith) below (is ∙ ap (λ (x : Span). x.header) at_k)) ∙ pass.round_zero n (omega arith) no_bound)
+          (λ differ. w.rounds (span_at tree n).header (λ is. order.headers_differ n k no_span (omega arith) below (is ∙ ap (λ (x : Span). x.header) at_k)) ∙ pass.round_zero n (omega arith) no_bound)
           (cases_eq n k);
       attained = λ p small. ⊎_elim
           (λ start. inl (start.0, number-round tree i.header v c new w p ∙ start.1))
@@ -242,7 +241,7 @@ close_with exit edges tree k q v i c new back order below at_k ends heavy w pass
           (pass.attained p small);
       round_attained = λ n small. ⊎_elim
           (λ is_k.
-          let is_i : nth tree n ≡ i = ap (λ (x : ℕ). nth tree x) is_k ∙ sym at_k in
+          let is_i : span_at tree n ≡ i = ap (λ (x : ℕ). span_at tree x) is_k ∙ sym at_k in
           let at_i : round_of new i ≡ v = w.here in
           subst (λ (x : Span). (round_of new x ≡ 0) ⊎ TurnsBy edges tree new x) (sym is_i)
           (⊎_elim (λ no_rounds. inl (at_i ∙ no_rounds.1))
@@ -255,19 +254,19 @@ close_with exit edges tree k q v i c new back order below at_k ends heavy w pass
           h.1.attained)
           heavy))
           (λ other.
-          let number : round_of new (nth tree n) ≡ round_of c (nth tree n) = w.rounds (nth tree n).header (λ is. order.headers_differ n k none (omega arith) below (is ∙ ap (λ (x : Span). x.header) at_k)) in
+          let number : round_of new (span_at tree n) ≡ round_of c (span_at tree n) = w.rounds (span_at tree n).header (λ is. order.headers_differ n k no_span (omega arith) below (is ∙ ap (λ (x : Span). x.header) at_k)) in
           ⊎_elim (λ zero_is. inl (number ∙ zero_is))
-          (λ by. inr (by.0, by.1, by.2, by.3, by.4, number ∙ by.5 ∙ sym (needed-round exit edges tree i v c new order i_in w by.0 (stays_back exit edges tree i (nth tree n) order i_in (nth_in tree n (omega arith)) (before n (omega arith)) by.0 by.2 by.3 by.4))))
+          (λ by. inr (by.0, by.1, by.2, by.3, by.4, number ∙ by.5 ∙ sym (needed-round exit edges tree i v c new order i_in w by.0 (stays_back exit edges tree i (span_at tree n) order i_in (span_in tree n (omega arith)) (before n (omega arith)) by.0 by.2 by.3 by.4))))
           (pass.round_attained n (omega arith)))
           (cases_eq n k);
     }
 
-pub close_step : (exit : ℕ) (edges : List NumberedEdge) (tree : List Span) (k q v : ℕ) (i : Span) (c new : Tables) (back : List NumberedEdge) → IsOrdered exit edges tree → k < length tree → i ≡ nth tree k → q ≡ i.last + 1 → ((e : NumberedEdge) → Contains back e ↔ (Contains edges e × (e.to ≡ i.header) × (i.header ≤ e.from))) → IsHeaviest tree c back v → 0 < i.bound → IsRoundWritten i.header v c new → IsPassed edges tree k q c → IsPassed edges tree (k + 1) q new
+pub close_step : (exit : ℕ) (edges : List NumberedEdge) (tree : List Span) (k q v : ℕ) (i : Span) (c new : Tables) (back : List NumberedEdge) → IsOrdered exit edges tree → k < length tree → i ≡ span_at tree k → q ≡ i.last + 1 → ((e : NumberedEdge) → Contains back e ↔ (Contains edges e × (e.to ≡ i.header) × (i.header ≤ e.from))) → IsHeaviest tree c back v → 0 < i.bound → IsRoundWritten i.header v c new → IsPassed edges tree k q c → IsPassed edges tree (k + 1) q new
 close_step exit edges tree k q v i c new back order below at_k ends in_list heavy some w pass = close_with exit edges tree k q v i c new back order below at_k ends (inr (in_list, heavy, some)) w pass
 
-pub close_zero : (exit : ℕ) (edges : List NumberedEdge) (tree : List Span) (k q : ℕ) (i : Span) (c new : Tables) → IsOrdered exit edges tree → k < length tree → i ≡ nth tree k → q ≡ i.last + 1 → i.bound ≡ 0 → IsRoundWritten i.header 0 c new → IsPassed edges tree k q c → IsPassed edges tree (k + 1) q new
+pub close_zero : (exit : ℕ) (edges : List NumberedEdge) (tree : List Span) (k q : ℕ) (i : Span) (c new : Tables) → IsOrdered exit edges tree → k < length tree → i ≡ span_at tree k → q ≡ i.last + 1 → i.bound ≡ 0 → IsRoundWritten i.header 0 c new → IsPassed edges tree k q c → IsPassed edges tree (k + 1) q new
 close_zero exit edges tree k q i c new order below at_k ends none w pass = close_with exit edges tree k q 0 i c new [] order below at_k ends (inl (none, refl)) w pass
 
-pub later_last : (exit : ℕ) (edges : List NumberedEdge) (tree : List Span) (k n : ℕ) → IsOrdered exit edges tree → k < n → n < length tree → (nth tree k).last + 1 ≤ (nth tree n).last + 1
+pub later_last : (exit : ℕ) (edges : List NumberedEdge) (tree : List Span) (k n : ℕ) → IsOrdered exit edges tree → k < n → n < length tree → (span_at tree k).last + 1 ≤ (span_at tree n).last + 1
 later_last exit edges tree k n order before inside =
-    ⊎_elim (λ less. omega arith) (λ same. omega (arith, same.0)) (order.closing k n (record { header = 0; last = 0; bound = 0 }) before inside)
+    ⊎_elim (λ less. omega arith) (λ same. omega (arith, same.0)) (order.closing k n no_span before inside)

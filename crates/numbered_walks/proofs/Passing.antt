@@ -9,14 +9,15 @@ use Rattle.numbered_walks.specs.declared.tables.Tables.{Tables}
 use Rattle.numbered_walks.specs.Ordered.{is_in, is_inside, ends_at_header}
 use Rattle.numbered_walks.specs.Tables.{stay_of, needed, distance_of, arrival_of, round_of}
 use Rattle.numbered_walks.specs.Ordered.{IsOrdered, TooLarge}
-use Rattle.numbered_walks.specs.Tables.{IsPassed, TurnsBy, nth, number_of, is_header_in}
+use Rattle.numbered_walks.specs.Tables.{IsPassed, TurnsBy, number_of, is_header_in}
+use Rattle.numbered_walks.specs.Index.{span_at}
 use Rattle.walks.proofs.SumLe.{sum_by-same_all}
 use Rattle.numbered_walks.proofs.Nesting.{same_header, structure, level, level_lower}
 use Rattle.walks.proofs.Joins.{keeps_from_most}
 use Rattle.numbered_walks.proofs.Reaching as R
 use Rattle.numbered_walks.proofs.Overflow.{WalkOver, walk_over}
 use Rattle.numbered_walks.specs.Ordered.{IsOrdered}
-use Rattle.numbered_walks.proofs.Members.{is_member, member_header}
+use Rattle.numbered_walks.proofs.Members.{member_from, member_header, no_span}
 
 pub header_found : (tree : List Span) (p : ℕ) → is_header_in tree p ≡ true → (i : Span) × Contains tree i × (p ≡ i.header)
 header_found [] p is = absurd (false≢true is)
@@ -80,7 +81,7 @@ module _ (exit : ℕ) (edges : List NumberedEdge) (tree : List Span) (k q : ℕ)
   turn_of : (i : Span) → Contains tree i → (taken i * round_of c i ≡ 0) ⊎ R.BackEdge edges tree taken dist (arrival_of c) (round_of c) Placed rank i
   turn_of i i_in =
       let n = i_in.0 in
-      let is : nth tree n ≡ i = sym (get_or_default tree n i (record { header = 0; last = 0; bound = 0 }) i_in.1) ∙ i_in.2 in
+      let is : span_at tree n ≡ i = sym (get_or_default tree n i no_span i_in.1) ∙ i_in.2 in
       ⊎_elim
       (λ closed.
       let last_done : i.last < q = subst (λ (x : Span). x.last < q) is (pass.closed n closed) in
@@ -88,7 +89,7 @@ module _ (exit : ℕ) (edges : List NumberedEdge) (tree : List Span) (k q : ℕ)
       (λ by. inr (record {
         edge = by.0;
         in_graph = by.1;
-        from_in = is_member i by.0.from (omega (arith, by.2, by.3)) by.4;
+        from_in = member_from i by.0.from (omega (arith, by.2, by.3)) by.4;
         ends = by.2;
         attained = by.5 ∙ sym (needs by.0);
         place = omega (arith, by.4);
@@ -141,10 +142,10 @@ without_stay true a n r none = rw (none refl) (omega arith)
 without_stay false a n r none = refl
 
 -- a back edge that needs too much
-pub round_over : (exit : ℕ) (edges : List NumberedEdge) (tree : List Span) (k q : ℕ) (i : Span) (c : Tables) → IsOrdered exit edges tree → IsPassed edges tree k q c → k < length tree → i ≡ nth tree k → (e : NumberedEdge) → Contains edges e → e.to ≡ i.header → e.from < q → 0 < i.bound → 2 ^ 63 ≤ needed tree c e → TooLarge exit edges tree
+pub round_over : (exit : ℕ) (edges : List NumberedEdge) (tree : List Span) (k q : ℕ) (i : Span) (c : Tables) → IsOrdered exit edges tree → IsPassed edges tree k q c → k < length tree → i ≡ span_at tree k → (e : NumberedEdge) → Contains edges e → e.to ≡ i.header → e.from < q → 0 < i.bound → 2 ^ 63 ≤ needed tree c e → TooLarge exit edges tree
 unfolding without
 round_over exit edges tree k q i c order pass few at_k e in_graph to_header before some over =
-    let i_in : Contains tree i = subst (λ (x : Span). Contains tree x) (sym at_k) (Contains-get_or tree k (record { header = 0; last = 0; bound = 0 }) few) in
+    let i_in : Contains tree i = subst (λ (x : Span). Contains tree x) (sym at_k) (Contains-get_or tree k no_span few) in
     let none : round_of c i ≡ 0 = subst (λ (x : Span). round_of c x ≡ 0) (sym at_k) (pass.later_round k (omega arith) few) in
     too_large exit edges tree k q c order pass (omega arith) (λ j. cond (eqb j.header i.header) 0 j.bound) (distance_of c) (λ p. refl)
     (λ x.

@@ -13,7 +13,7 @@ use Rattle.numbered_walks.specs.Tables.{distance_of, arrival_of, round_of, numbe
 use Rattle.numbered_walks.specs.Found.{AreFound, IsEntering, IsTurning}
 use Rattle.numbered_walks.specs.Reach.{IsPathTo, IsRoundOf, AreRoundsOf}
 use Rattle.numbered_walks.proofs.Grouping.{edge_at-in}
-use Rattle.numbered_walks.proofs.Members.{is_member, member_header}
+use Rattle.numbered_walks.proofs.Members.{member_from, member_header}
 use Rattle.numbered_walks.proofs.Nesting.{structure}
 use Rattle.numbered_walks.proofs.Passing.{header_there}
 use Rattle.numbered_walks.proofs.Reaching as R
@@ -90,7 +90,7 @@ module _ (exit : ℕ) (edges : List NumberedEdge) (spans : List Span) (c : Table
   pub turn : (s : Span) → Contains spans s → (k : ℕ) → IsTurning edges spans c s k → (walk : List NumberedEdge) → IsPathTo edges spans c (Some s) (edge_at edges k).from walk → IsRoundOf edges spans c s (walk ++ edge_at edges k ∷ [])
   turn s s_in k by walk path =
       W.by_back edges spans bound_of (distance_of c) (arrival_of c) (round_of c) st s (edge_at edges k) s_in (edge_at-in edges k by.inside)
-      (is_member s (edge_at edges k).from by.low by.high) by.ends by.asks walk path
+      (member_from s (edge_at edges k).from by.low by.high) by.ends by.asks walk path
 
   -- as many rounds as the bound says
   pub rounds : (s : Span) → Contains spans s → (walk : List NumberedEdge) → IsRoundOf edges spans c s walk → AreRoundsOf edges spans c s (repeated s.bound walk)
@@ -149,7 +149,7 @@ module _ (exit : ℕ) (edges : List NumberedEdge) (spans : List Span) (c : Table
               let terms : sum_by (λ j. cond (is_in j 0 && true) (stay_all j) 0) spans ≡ sum_by (λ j. cond (eqb j.header s.header) (stay_all j) 0) spans =
               sum_by-same_all (λ j. cond (is_in j 0 && true) (stay_all j) 0) (λ j. cond (eqb j.header s.header) (stay_all j) 0) spans
               (λ j j_in. R.start_pick (is_in j 0) (eqb j.header s.header) (stay_all j)
-              (λ same. is_member j 0 (omega (arith, eqb-true j.header s.header same)) (omega arith))
+              (λ same. member_from j 0 (omega (arith, eqb-true j.header s.header same)) (omega arith))
               (λ other inside. eqb-false j.header s.header other (sym (order.entry_at_header j j_in inside) ∙ is))) in
               omega (arith, r.cost, terms, st.once stay_all s s_in, found.passed.header_distance 0 header, none);
         },

@@ -9,11 +9,12 @@ use Rattle.numbered_walks.specs.declared.span.NumberedEdge.{NumberedEdge}
 use Rattle.numbered_walks.specs.declared.span.Span.{Span}
 use Rattle.numbered_walks.specs.declared.tables.Tables.{Tables}
 use Rattle.numbered_walks.specs.Ordered.{IsOrdered}
-use Rattle.numbered_walks.specs.Index.{AreGrouped, edge_at}
-use Rattle.numbered_walks.specs.Tables.{needed, number_of, round_of, nth, TurnsBy}
+use Rattle.numbered_walks.specs.Index.{AreGrouped, edge_at, span_at}
+use Rattle.numbered_walks.specs.Tables.{needed, number_of, round_of, TurnsBy}
 use Rattle.numbered_walks.specs.Found.{AreFound, IsEntering, IsTurning}
 use Rattle.numbered_walks.proofs.Grouping.{edge_in, edge_at-in, entering_edges, turning_edges}
 use Rattle.numbered_walks.proofs.PassLemmas.{turn_low}
+use Rattle.numbered_walks.proofs.Members.{no_span}
 
 module _ (exit : ℕ) (edges : List NumberedEdge) (spans : List Span) (c : Tables) (order : IsOrdered exit edges spans) (found : AreFound exit edges spans c) (groups : List (Vec ℕ Global)) where
   -- what the group at the number has
@@ -58,7 +59,7 @@ module _ (exit : ℕ) (edges : List NumberedEdge) (spans : List Span) (c : Table
   turning_is s s_in d small all some k here asks =
       let known = (all s.header d small k).0 here in
       let n = s_in.0 in
-      let is : nth spans n ≡ s = sym (get_or_default spans n s (record { header = 0; last = 0; bound = 0 }) s_in.1) ∙ s_in.2 in
+      let is : span_at spans n ≡ s = sym (get_or_default spans n s no_span s_in.1) ∙ s_in.2 in
       let back : (edge_at edges k).to ≤ (edge_at edges k).from = ltb-false (edge_at edges k).from (edge_at edges k).to known.2 in
       record {
         some = ⊎_elim (λ more. more) (λ zero_is. absurd (some (subst (λ (x : Span). round_of c x ≡ 0) is (found.passed.round_zero n s_in.1 (ap (λ (x : Span). x.bound) is ∙ omega arith))))) (cases_lt 0 s.bound);
@@ -72,7 +73,7 @@ module _ (exit : ℕ) (edges : List NumberedEdge) (spans : List Span) (c : Table
   some_turns : (s : Span) → Contains spans s → (d : Vec ℕ Global) → s.header < length groups → AreGrouped edges (length edges) false groups → (round_of c s ≡ 0 → ⊥) → None_asks (group_at s.header d) (round_of c s) → ⊥
   some_turns s s_in d small all some none =
       let n = s_in.0 in
-      let is : nth spans n ≡ s = sym (get_or_default spans n s (record { header = 0; last = 0; bound = 0 }) s_in.1) ∙ s_in.2 in
+      let is : span_at spans n ≡ s = sym (get_or_default spans n s no_span s_in.1) ∙ s_in.2 in
       ⊎_elim
       (λ zero_is. some zero_is)
       (λ by.

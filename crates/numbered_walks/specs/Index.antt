@@ -8,6 +8,9 @@ use Rattle.numbered_walks.specs.declared.span.Span.{Span}
 use Rattle.numbered_walks.specs.declared.index.Index.{Index}
 use Rattle.numbered_walks.specs.Ordered.{IsOrdered, is_in}
 
+abbrev pub span_at : List Span → ℕ → Span
+span_at spans k = slice_index_or spans k (record { header = 0; last = 0; bound = 0 })
+
 abbrev pub edge_at : List NumberedEdge → ℕ → NumberedEdge
 edge_at edges k = slice_index_or edges k (record { from = 0; to = 0; cost = 0 })
 

@@ -1,12 +1,13 @@
 -- Potentials as tables by number, and as far as a pass over the numbers has found them.
 use Rattle.std.specs.Prelude.{◌≡◌, ◌≢◌, ℕ, ◌+◌, ◌^◌, ◌<◌, ◌≤◌, Bool, true, false, cond, nat_eq, ◌⊎◌, List, []}
-use Rattle.std.specs.Prelude.{◌∷◌, length, All, Contains, slice_index, slice_index_or, sum_by}
+use Rattle.std.specs.Prelude.{◌∷◌, length, All, Contains, slice_index, sum_by}
 use Rattle.walks.specs.Rows.{Potentials}
 use Rattle.walks.specs.Rows as R
 use Rattle.numbered_walks.specs.declared.span.NumberedEdge.{NumberedEdge}
 use Rattle.numbered_walks.specs.declared.span.Span.{Span}
 use Rattle.numbered_walks.specs.declared.tables.Tables.{Tables}
 use Rattle.numbered_walks.specs.Ordered.{number_shape, span_loops, is_in, IsEnteredUp}
+use Rattle.numbered_walks.specs.Index.{span_at}
 
 abbrev pub distance_of : Tables → ℕ → ℕ
 distance_of c p = slice_index c.distances.items p
@@ -71,24 +72,21 @@ TurnsBy edges spans c s =
     (e : NumberedEdge) × Contains edges e × (e.to ≡ s.header) × (e.to ≤ e.from) × (e.from ≤ s.last)
     × (round_of c s ≡ needed spans c e)
 
-abbrev pub nth : List Span → ℕ → Span
-nth spans n = slice_index_or spans n (record { header = 0; last = 0; bound = 0 })
-
 -- the entries of the first q numbers and of the first k instances are the final ones, and all others 0
 pub record IsPassed (edges : List NumberedEdge) (spans : List Span) (k q : ℕ) (c : Tables) : Type 0 where
-  pub closed : (n : ℕ) → n < k → (nth spans n).last < q
+  pub closed : (n : ℕ) → n < k → (span_at spans n).last < q
   pub later_distance : (p : ℕ) → q ≤ p → distance_of c p ≡ 0
   pub header_distance : (p : ℕ) → is_header_in spans p ≡ true → distance_of c p ≡ 0
-  pub later_round : (n : ℕ) → k ≤ n → n < length spans → round_of c (nth spans n) ≡ 0
+  pub later_round : (n : ℕ) → k ≤ n → n < length spans → round_of c (span_at spans n) ≡ 0
   pub rows : (e : NumberedEdge) → Contains edges e → e.from < e.to → e.to < q
       → (needed spans c e ≤ number_of spans c e.to) × (needed spans c e < 2 ^ 63)
-  pub round_rows : (n : ℕ) → n < k → 0 < (nth spans n).bound → (e : NumberedEdge) → Contains edges e
-      → e.to ≡ (nth spans n).header → e.to ≤ e.from
-      → (e.from ≤ (nth spans n).last) × (needed spans c e ≤ round_of c (nth spans n))
+  pub round_rows : (n : ℕ) → n < k → 0 < (span_at spans n).bound → (e : NumberedEdge) → Contains edges e
+      → e.to ≡ (span_at spans n).header → e.to ≤ e.from
+      → (e.from ≤ (span_at spans n).last) × (needed spans c e ≤ round_of c (span_at spans n))
       × (needed spans c e < 2 ^ 63)
-  pub round_zero : (n : ℕ) → n < k → (nth spans n).bound ≡ 0 → round_of c (nth spans n) ≡ 0
+  pub round_zero : (n : ℕ) → n < k → (span_at spans n).bound ≡ 0 → round_of c (span_at spans n) ≡ 0
   pub attained : (p : ℕ) → p < q → ((p ≡ 0) × (number_of spans c p ≡ 0)) ⊎ EntersBy edges spans c p
-  pub round_attained : (n : ℕ) → n < k → (round_of c (nth spans n) ≡ 0) ⊎ TurnsBy edges spans c (nth spans n)
+  pub round_attained : (n : ℕ) → n < k → (round_of c (span_at spans n) ≡ 0) ⊎ TurnsBy edges spans c (span_at spans n)
 
 -- each number below the limit but the entry has an edge up to it
 abbrev pub AllEntered : List NumberedEdge → ℕ → Type 0

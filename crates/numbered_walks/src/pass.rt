@@ -1,7 +1,7 @@
 ghost use Rattle.std.specs.Prelude.{◌≡◌, ◌+◌, ◌<◌, ◌≤◌, ◌^◌, ℕ, IsTrue, true, false, length};
 ghost use Rattle.numbered_walks.specs.Ordered.{TooLarge};
-ghost use Rattle.numbered_walks.specs.Index.{IsNumberedGraph};
-ghost use Rattle.numbered_walks.specs.Tables.{AllEntered, HasRoom, IsPassed, nth};
+ghost use Rattle.numbered_walks.specs.Index.{IsNumberedGraph, span_at};
+ghost use Rattle.numbered_walks.specs.Tables.{AllEntered, HasRoom, IsPassed};
 
 use crate::graph::NumberedGraph;
 use crate::index::is_header;
@@ -40,10 +40,10 @@ fn pass_round(graph: NumberedGraph<'_>, closed: usize, tables: &mut Tables) -> b
     requires known { closed < length graph.spans.now }
     requires room { HasRoom (graph.exit + 1) tables.old }
     requires passed { IsPassed graph.edges.now graph.spans.now closed
-        ((nth graph.spans.now closed).last + 1) tables.old }
+        ((span_at graph.spans.now closed).last + 1) tables.old }
     ensures yes { IsTrue result
         → IsPassed graph.entry.edges.now graph.entry.spans.now (closed + 1)
-        ((nth graph.entry.spans.now closed).last + 1) tables.new }
+        ((span_at graph.entry.spans.now closed).last + 1) tables.new }
     ensures no { result ≡ false
         → TooLarge graph.entry.exit graph.entry.edges.now graph.entry.spans.now }
     ensures room { HasRoom (graph.entry.exit + 1) tables.new }

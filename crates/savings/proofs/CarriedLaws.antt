@@ -9,12 +9,12 @@ use Rattle.explained.proofs.TallyLaws.{counts_not, counts_once}
 use Rattle.flow_graph.specs.declared.places.Place.TheVariants.{Exit}
 use Rattle.flow_graph.specs.declared.edges.Edge.{Edge}
 use Rattle.flow_graph.specs.Flow.{Flow, HasEdge, IsWellFormed, edge_shape}
+use Rattle.flow_graph.proofs.Firsts.{no_edge}
 use Rattle.loop_bounds.specs.Tree.{Tree}
 use Rattle.longest_walk.specs.Built.{step_at}
 use Rattle.longest_walk.specs.Folded.{unfolded}
 use Rattle.longest_walk.specs.Longest.{IsWalkOf}
 use Rattle.longest_walk.specs.declared.folded.Item.{Item}
-use Rattle.longest_walk.proofs.CarryWalks.{no_edge}
 use Rattle.walks.proofs.SumLe.{sum_by-le_all}
 use Rattle.walks.specs.Walk.{cost_of}
 use Rattle.walk_counts.specs.Counts.{capped, number_of, occurrences}

@@ -2,6 +2,7 @@
 use Rattle.std.proofs.Common.{◌≡◌, ◌∙◌, ℕ, ◌+◌, ◌-◌, ◌*◌, ◌^◌, ◌<◌, ◌≤◌, cond, eqb, List, [], ◌∷◌, ◌++◌, append-nil, length, get_or, drop, take, map, flat_map, replicate, ⊎_elim, refl, sym, ap, subst, Vec, arith, get_or-set_other, get_or-set_same}
 use Rattle.std.specs.Prelude.{All, sum_by}
 use Rattle.std.proofs.Math.ListN.{set, length-set}
+use Rattle.std.proofs.Math.Seq.{take-append_seam}
 use Rattle.std.proofs.lemmas.Bool.{cases_lt, eq-eqb, ne_eqb}
 use Rattle.std.proofs.lemmas.List.{get_or-replicate, length-replicate, map-append, take_more, take_all}
 use Rattle.std.proofs.lemmas.List.Concat.{flat_map-append}
@@ -131,10 +132,6 @@ counts_items edges times items i old new le h = subst (λ (xs : List Item). Coun
 
 -- ## The whole
 
-front : (xs ys : List ℕ) → take (length xs) (xs ++ ys) ≡ xs
-front [] ys = refl
-front (x ∷ xs) ys = ap (λ zs. x ∷ zs) (front xs ys)
-
 -- what was lent as a slice comes back with the slice's new numbers; there were none before
 pub first_counts : (edges walk : List Edge) (n len : ℕ) (items lent new : List ℕ) → n ≡ length edges → len ≡ n → items ≡ replicate n 0 → lent ≡ items → Counts edges walk 1 lent new
     → AreCounts edges walk (take len (new ++ drop (length new) items))
@@ -151,7 +148,7 @@ first_counts edges walk n len items lent new size len_is zeros same h =
     whole = h.whole ∙ ap length (same ∙ zeros) ∙ length-replicate n 0 ∙ size
 
     back : take len (new ++ drop (length new) items) ≡ new
-    back = ap (λ m. take m (new ++ drop (length new) items)) (len_is ∙ size ∙ sym whole) ∙ front new (drop (length new) items)
+    back = ap (λ m. take m (new ++ drop (length new) items)) (len_is ∙ size ∙ sym whole) ∙ take-append_seam new (drop (length new) items)
 
 -- ## Exact counts
 

@@ -2,9 +2,8 @@
 use Rattle.std.proofs.Common.{◌≡◌, ◌∙◌, ℕ, ◌<◌, ◌≤◌, Bool, true, false, ◌&&◌, List, length, get_or, Ok, Err, ⊎_elim, refl, sym, ap, subst, arith}
 use Rattle.std.specs.Prelude.{Contains, nat_eq}
 use Rattle.std.specs.List.Sorted.{IsBinarySearchResult, IsSearchInRange}
+use Rattle.std.specs.Cmp.{Equal-is}
 use Rattle.std.specs.Ordering.{is_eq}
-use Rattle.std.specs.declared.cmp.Ordering.{Ordering}
-use Rattle.std.specs.declared.cmp.Ordering.TheVariants.{Less, Equal, Greater}
 use Rattle.std.proofs.lemmas.Bool.{and_from, and_parts, both_ways, cases_Bool, cases_lt, eq-eqb, eqb-true}
 use Rattle.std.proofs.lemmas.Cmp.{tied_itself}
 use Rattle.std.proofs.lemmas.List.{get_or_default}
@@ -20,19 +19,13 @@ use Rattle.flow_graph.specs.Search.{by_order}
 use Rattle.flow_graph.proofs.PlaceLemmas.{by_order_exact, place_exact, place_total}
 use Rattle.loop_bounds.proofs.Positions.{known}
 use Rattle.longest_walk.specs.Built.{step_at}
-use Rattle.longest_walk.proofs.CarryWalks.{no_edge}
-use Rattle.flow_graph.proofs.Firsts.{whole_range}
+use Rattle.flow_graph.proofs.Firsts.{no_edge, whole_range}
 use Rattle.walk_counts.specs.Counts.{is_same, is_same_label, is_same_place, number_of}
 
 -- ## The same edge
 
-is_equal : (o : Ordering) → is_eq o ≡ true → o ≡ Equal
-is_equal Less e = cc
-is_equal Equal e = refl
-is_equal Greater e = cc
-
 one_place : (p q : Place) → is_same_place p q ≡ true → p ≡ q
-one_place p q e = place_exact p q (is_equal (place_cmp p q) e)
+one_place p q e = place_exact p q ((Equal-is (place_cmp p q)).0 e)
 
 own_place : (p : Place) → is_same_place p p ≡ true
 own_place p = ap is_eq (tied_itself place_total p)

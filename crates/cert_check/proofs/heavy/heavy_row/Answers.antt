@@ -1,10 +1,10 @@
 use Rattle.std.proofs.Common.{◌∙◌, ℕ, List, get_or, length, ap, sym}
 use Rattle.std.proofs.lemmas.List.{get_or_default}
 use Rattle.flow_graph.specs.declared.edges.Edge.{Edge}
+use Rattle.flow_graph.proofs.Firsts.{no_edge}
 use Rattle.numbered_walks.specs.declared.span.NumberedEdge.{NumberedEdge}
 use Rattle.numbered_walks.specs.declared.span.Span.{Span}
 use Rattle.numbered_walks.specs.Index.{edge_at}
-use Rattle.longest_walk.proofs.CarryWalks.{no_edge}
 use Rattle.cert_check.specs.Weighing.{NumberFits, NumberHolds}
 use Rattle.cert_check.proofs.PassLemmas.{can_weigh, carried, fits_down, holds_up}
 use Rattle.cert_check.proofs.RowNumbers.{is_heavy}

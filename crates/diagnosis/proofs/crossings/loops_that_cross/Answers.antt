@@ -1,9 +1,10 @@
 use Rattle.std.proofs.Common.{◌≡◌, ◌<◌, ◌≤◌, ℕ, List, get_or, length, refl, sym, ◌∙◌, subst, arith}
 use Rattle.flow_graph.specs.declared.places.Place.{Place}
 use Rattle.flow_graph.specs.declared.places.Place.TheVariants.{At}
+use Rattle.flow_graph.proofs.PlaceLemmas.{same_at}
 use Rattle.diagnosis.specs.Crossings.{CrossNoneAt}
 use Rattle.diagnosis.proofs.CrossingLemmas.{none_cross}
-use Rattle.diagnosis.proofs.EntryLemmas.{one_more, same_at}
+use Rattle.diagnosis.proofs.EntryLemmas.{one_more}
 use Rattle.diagnosis.proofs.crossings.loops_that_cross.Goals as goal
 use Rattle.diagnosis.proofs.crossings.loops_that_cross.Goals.{in-At+in_default-crossing_at, in_default}
 

@@ -2,9 +2,10 @@ use Rattle.std.proofs.Common.{◌≡◌, ◌∙◌, ℕ, List, get_or, subst, sy
 use Rattle.std.proofs.lemmas.List.Elements.{Contains-get_or}
 use Rattle.statement.specs.declared.stated.Loop.{Loop}
 use Rattle.flow_graph.specs.declared.places.Place.TheVariants.{At}
+use Rattle.flow_graph.proofs.PlaceLemmas.{same_at}
 use Rattle.loop_bounds.specs.Instance.{instance_of}
 use Rattle.diagnosis.specs.Entries.{IsRightlyEntered}
-use Rattle.diagnosis.proofs.EntryLemmas.{mid_at, one_more, same_at}
+use Rattle.diagnosis.proofs.EntryLemmas.{mid_at, one_more}
 use Rattle.diagnosis.proofs.entries.entry_at.Goals as goal
 
 pub returns-in-Some-clause-entry : goal.returns-in-Some-clause-entry

@@ -5,7 +5,7 @@ use Rattle.std.proofs.lemmas.List.{get_or_default, length-map}
 use Rattle.std.proofs.lemmas.List.Sorted.{answers_always}
 use Rattle.flow_graph.specs.Places.{place_cmp}
 use Rattle.numbered_walks.specs.declared.span.Span.{Span}
-use Rattle.numbered_walks.specs.Tables.{nth}
+use Rattle.numbered_walks.specs.Index.{span_at}
 use Rattle.loop_bounds.specs.Extents.{found_instance}
 use Rattle.longest_walk.specs.Rows.{header_of_row}
 use Rattle.longest_walk.proofs.RowLemmas.{instance_at, instance_inside, instance_rows_all, instance_rows_more}
@@ -26,9 +26,9 @@ loop-index-preserved c =
     let tree = c.args.tree.now in
     let i = c.loop-index.index in
     let f = c.index-found-index.result in
-    let s : Span = nth c.spans-spans.result.now i in
+    let s : Span = span_at c.spans-spans.result.now i in
     let inside = instance_inside c.args.graph.now tree c.requires.tree c.instances-found.result.now c.instances-found.ensures i c.loop-index-test.true in
-    let span : s ≡ get_or tree.spans i s = ap (λ (l : List Span). nth l i) c.spans-spans.ensures ∙ get_or_default tree.spans i _ s inside.1 in
+    let span : s ≡ get_or tree.spans i s = ap (λ (l : List Span). span_at l i) c.spans-spans.ensures ∙ get_or_default tree.spans i _ s inside.1 in
     rw c.in_ok-push.ensures.items
     (instance_rows_more tree c.args.tables.now i c.loop-index.rows.items c.instance_row.result (found_instance f) s inside.0 inside.1 c.loop-index.invariant
     (instance_at tree c.instances-found.result.now f i c.instances-found.ensures c.loop-index-test.true c.index-found-index.is) span

@@ -5,7 +5,7 @@ use Rattle.flow_graph.specs.declared.places.Place.TheVariants.{At}
 use Rattle.statement.specs.declared.stated.Loop.{Loop}
 use Rattle.loop_bounds.specs.Instance.{Instance}
 use Rattle.loop_bounds.specs.Extents.{IsFoundAmong, found_instance}
-use Rattle.loop_bounds.proofs.FindLemmas.{with_none, with_one, with_same}
+use Rattle.loop_bounds.proofs.FindLemmas.{no_loop, with_none, with_one, with_same}
 use Rattle.loop_bounds.proofs.Positions.{known}
 use Rattle.loop_bounds.proofs.crossing.instances_with.Goals.{then-is_ok+in_ok-push, else-is_ok}
 use Rattle.loop_bounds.proofs.crossing.instances_with.Goals as goal
@@ -15,7 +15,7 @@ loop-stated-init c = with_none c.args.places.now c.args.loops.now c.args.list c.
 
 pub loop-stated-preserved : goal.loop-stated-preserved
 loop-stated-preserved c =
-    let l : Loop = get_or c.args.loops.now c.loop-stated.stated-index (record { header = 0; first = 0; last = 0; bound = 0 }) in
+    let l : Loop = get_or c.args.loops.now c.loop-stated.stated-index no_loop in
     let search = known c.args.places.now (At c.args.list l.header) c.binary_search.result c.requires c.binary_search.ensures.bound c.binary_search.ensures.position in
     elim c.if-is_ok.branch [
       | then-is_ok+in_ok-push w ↦ rw (w.found-is, w.in_ok-push.ensures.items) (with_one c.args.places.now c.args.loops.now c.args.list c.loop-stated.found.items c.loop-stated.stated-index c.loop-stated.invariant c.loop-stated-test.true (search.0 (sym c.is_ok.ensures.value ∙ w.if-is_ok.true)))

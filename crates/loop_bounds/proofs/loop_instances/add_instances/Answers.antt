@@ -1,11 +1,11 @@
-use Rattle.std.proofs.Common.{◌++◌, List, map, ap, ◌∙◌}
+use Rattle.std.proofs.Common.{◌++◌, List, append-nil, map, ap, sym, ◌∙◌}
 use Rattle.std.proofs.lemmas.List.{take_all}
 use Rattle.statement.specs.declared.stated.Loop.{Loop}
-use Rattle.loop_bounds.proofs.FindLemmas.{added, differ_more, found_at, found_more, found_none}
+use Rattle.loop_bounds.proofs.FindLemmas.{added, differ_more, found_at, found_more}
 use Rattle.loop_bounds.proofs.loop_instances.add_instances.Goals as goal
 
 pub loop-stated-init : goal.loop-stated-init
-loop-stated-init c = found_none c.args.found.now.items
+loop-stated-init c = sym (append-nil c.args.found.now.items)
 
 pub loop-stated-preserved : goal.loop-stated-preserved
 loop-stated-preserved c = c.in_ok-push.ensures.items ∙ found_more c.args.found.now.items c.loop-stated.found.items c.in-At.list c.loops_at-stated-items.result.now c.loop-stated.stated-index c.loop-stated-test.true c.loop-stated.invariant

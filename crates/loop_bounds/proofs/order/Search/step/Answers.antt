@@ -1,13 +1,10 @@
 use Rattle.std.proofs.Common.{◌≡◌, ◌∙◌, ◌-◌, [], ◌∷◌, length, length-append, get_or, inl, inr, refl, ap, arith}
 use Rattle.std.proofs.lemmas.List.{length-take-le}
-use Rattle.numbered_walks.specs.declared.span.NumberedEdge.{NumberedEdge}
+use Rattle.numbered_walks.proofs.Members.{no_numbered_edge}
 use Rattle.loop_bounds.proofs.Stack.{top_in_next, stacked_pop, stacked_skip, stacked_push, stacked_cycle, end_colour, k_in}
 use Rattle.loop_bounds.specs.declared.order.Colour.TheVariants.{Grey, Black}
 use Rattle.loop_bounds.proofs.Steps.{black_met, followed, grey_met, hand_in_colours, hand_in_next, hand_inside, met_before}
 use Rattle.loop_bounds.proofs.order.Search.step.Goals as goal
-
-abbrev origin : NumberedEdge
-origin = record { from = 0; to = 0; cost = 0 }
 
 pub at_hand-node-requires-clause-inside : goal.at_hand-node-requires-clause-inside
 at_hand-node-requires-clause-inside c = top_in_next c.args.firsts.now c.args.edges.now _ _ _ _ c.requires.searching c.requires.some
@@ -25,18 +22,18 @@ bounds-edges-k c = k_in _ _ c.requires.grouped _ _ _ _ c.requires.searching _ _ 
 
 pub returns-in-Black-clause-searching : goal.returns-in-Black-clause-searching
 returns-in-Black-clause-searching c =
-    let colour = end_colour _ _ c.requires.grouped _ _ _ _ c.requires.searching _ _ _ c.at_hand-node.ensures c.if-k-firsts.false origin _ _ c.index.ensures c.in-Black.is in
-    stacked_skip _ _ c.requires.grouped _ _ _ _ c.requires.searching _ _ _ c.at_hand-node.ensures c.if-k-firsts.false origin colour
+    let colour = end_colour _ _ c.requires.grouped _ _ _ _ c.requires.searching _ _ _ c.at_hand-node.ensures c.if-k-firsts.false no_numbered_edge _ _ c.index.ensures c.in-Black.is in
+    stacked_skip _ _ c.requires.grouped _ _ _ _ c.requires.searching _ _ _ c.at_hand-node.ensures c.if-k-firsts.false no_numbered_edge colour
 
 pub returns-in-Grey-clause-fault : goal.returns-in-Grey-clause-fault
 returns-in-Grey-clause-fault c =
-    let colour = end_colour _ _ c.requires.grouped _ _ _ _ c.requires.searching _ _ _ c.at_hand-node.ensures c.if-k-firsts.false origin _ _ c.index.ensures c.in-Grey.is in
-    stacked_cycle _ _ c.requires.grouped _ _ _ _ c.requires.searching _ _ _ c.at_hand-node.ensures c.if-k-firsts.false origin colour
+    let colour = end_colour _ _ c.requires.grouped _ _ _ _ c.requires.searching _ _ _ c.at_hand-node.ensures c.if-k-firsts.false no_numbered_edge _ _ c.index.ensures c.in-Grey.is in
+    stacked_cycle _ _ c.requires.grouped _ _ _ _ c.requires.searching _ _ _ c.at_hand-node.ensures c.if-k-firsts.false no_numbered_edge colour
 
 pub returns-in_ok-push-in-White-clause-searching : goal.returns-in_ok-push-in-White-clause-searching
 returns-in_ok-push-in-White-clause-searching c =
-    let colour = end_colour _ _ c.requires.grouped _ _ _ _ c.requires.searching _ _ _ c.at_hand-node.ensures c.if-k-firsts.false origin _ _ c.index.ensures c.in-White.is in
-    rw c.in_ok-push-in-White.ensures.items (stacked_push _ _ c.requires.grouped _ _ _ _ c.requires.searching _ _ _ c.at_hand-node.ensures c.if-k-firsts.false origin colour)
+    let colour = end_colour _ _ c.requires.grouped _ _ _ _ c.requires.searching _ _ _ c.at_hand-node.ensures c.if-k-firsts.false no_numbered_edge _ _ c.index.ensures c.in-White.is in
+    rw c.in_ok-push-in-White.ensures.items (stacked_push _ _ c.requires.grouped _ _ _ _ c.requires.searching _ _ _ c.at_hand-node.ensures c.if-k-firsts.false no_numbered_edge colour)
 
 pub returns-then-k-firsts-clause-step : goal.returns-then-k-firsts-clause-step
 returns-then-k-firsts-clause-step c =
@@ -64,14 +61,14 @@ pub returns-in_ok-push-in-White-clause-step : goal.returns-in_ok-push-in-White-c
 returns-in_ok-push-in-White-clause-step c =
     let old = c.args.self.now in
     let node = c.at_hand-node.result.0 in
-    let to = (get_or c.args.edges.now c.at_hand-node.result.1 origin).to in
+    let to = (get_or c.args.edges.now c.at_hand-node.result.1 no_numbered_edge).to in
     let inside = hand_in_next _ _ c.requires.grouped old c.requires.searching _ node _ c.at_hand-node.ensures in
     let edge = k_in _ _ c.requires.grouped _ _ _ _ c.requires.searching _ _ _ c.at_hand-node.ensures c.if-k-firsts.false in
     let longer = ap length c.in_ok-push-in-White.ensures.items ∙ length-append old.path.items (to ∷ []) in
     record {
       nearer = inl (followed old.next.items node c.at_hand-node.result.1 inside c.at_hand-node.ensures.k_is, omega (arith, longer));
       met = met_before old.colours.items to Grey
-          (omega (arith, c.requires.searching.whole, c.requires.grouped.some, c.requires.grouped.arrives c.at_hand-node.result.1 origin edge)) grey_met;
+          (omega (arith, c.requires.searching.whole, c.requires.grouped.some, c.requires.grouped.arrives c.at_hand-node.result.1 no_numbered_edge edge)) grey_met;
     }
 
 pub index_mut-requires : goal.index_mut-requires
@@ -85,12 +82,12 @@ index_mut-requires-2 c =
 pub index-requires : goal.index-requires
 index-requires c =
     let edge = k_in _ _ c.requires.grouped _ _ _ _ c.requires.searching _ _ _ c.at_hand-node.ensures c.if-k-firsts.false in
-    omega (arith, c.requires.searching.whole, c.requires.grouped.some, c.requires.grouped.arrives c.at_hand-node.result.1 origin edge)
+    omega (arith, c.requires.searching.whole, c.requires.grouped.some, c.requires.grouped.arrives c.at_hand-node.result.1 no_numbered_edge edge)
 
 pub index_mut-requires-in-White : goal.index_mut-requires-in-White
 index_mut-requires-in-White c =
     let edge = k_in _ _ c.requires.grouped _ _ _ _ c.requires.searching _ _ _ c.at_hand-node.ensures c.if-k-firsts.false in
-    omega (arith, c.requires.searching.whole, c.requires.grouped.some, c.requires.grouped.arrives c.at_hand-node.result.1 origin edge)
+    omega (arith, c.requires.searching.whole, c.requires.grouped.some, c.requires.grouped.arrives c.at_hand-node.result.1 no_numbered_edge edge)
 
 pub bounds-firsts-node : goal.bounds-firsts-node
 bounds-firsts-node c =

@@ -2,7 +2,8 @@ use Rattle.std.proofs.Common.{◌≡◌, ◌<◌, ℕ, length, subst, ap, ◌∙
 use Rattle.std.proofs.lemmas.List.{length-map}
 use Rattle.loop_bounds.specs.Extents.{found_instance}
 use Rattle.loop_bounds.specs.Instance.{Instance}
-use Rattle.loop_bounds.specs.NestedParts.{AreNestedUpto, Encloses, span_at}
+use Rattle.numbered_walks.specs.Index.{span_at}
+use Rattle.loop_bounds.specs.NestedParts.{AreNestedUpto, Encloses}
 use Rattle.loop_bounds.proofs.NestedPlaces.{as_many, members_are, shape}
 use Rattle.loop_bounds.proofs.NestedView.{as_many_headers, found_at, nested_more, nested_none, nested_all}
 use Rattle.loop_bounds.proofs.tree.LoopTree.nested.Goals as goal
