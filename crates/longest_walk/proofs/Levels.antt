@@ -10,7 +10,8 @@ use Rattle.numbered_walks.specs.Ordered.{IsOrdered, is_in}
 use Rattle.numbered_walks.specs.Index.{span_at}
 use Rattle.numbered_walks.proofs.Members.{header_in, member_from, member_header, member_last, no_span}
 use Rattle.numbered_walks.proofs.Nesting.{cond_le, same_header}
-use Rattle.longest_walk.specs.Ways.{depth_at, holds, InTree, level_in, start_of}
+use Rattle.numbered_walks.specs.Reach.{InTree, holds_in, start_of}
+use Rattle.longest_walk.specs.Ways.{depth_at, level_in}
 
 module _ (exit : ℕ) (edges : List NumberedEdge) (spans : List Span) (order : IsOrdered exit edges spans) where
   -- what holds the header of an instance holds that of an instance inside it
@@ -41,7 +42,7 @@ module _ (exit : ℕ) (edges : List NumberedEdge) (spans : List Span) (order : I
       omega arith
 
   -- an instance inside a context is below it
-  pub level_below : (context : Option Span) → InTree spans context → (s : Span) → Contains spans s → holds context s.header ≡ true → start_of context < s.header → level_in spans context ≤ depth_at spans s.header
+  pub level_below : (context : Option Span) → InTree spans context → (s : Span) → Contains spans s → holds_in context s.header ≡ true → start_of context < s.header → level_in spans context ≤ depth_at spans s.header
   level_below None here s s_in inside later = deep_some s s_in
   level_below (Some t) here s s_in inside later = deeper t s here s_in inside later
 

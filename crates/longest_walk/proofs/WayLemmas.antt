@@ -13,7 +13,7 @@ use Rattle.numbered_walks.specs.Ordered.{IsOrdered, is_in}
 use Rattle.numbered_walks.specs.Index.{edge_at, edges_of}
 use Rattle.numbered_walks.specs.Tables.{is_header_in}
 use Rattle.numbered_walks.specs.Found.{AreFound, IsEntering}
-use Rattle.numbered_walks.specs.Reach.{IsPathTo, AreRoundsOf}
+use Rattle.numbered_walks.specs.Reach.{AreRoundsOf, InTree, IsPathTo, holds_in, start_of}
 use Rattle.numbered_walks.proofs.Passing.{header_found}
 use Rattle.numbered_walks.proofs.Grouping.{edge_at-in}
 use Rattle.numbered_walks.proofs.Members.{member_header}
@@ -21,7 +21,7 @@ use Rattle.numbered_walks.proofs.Paths as P
 use Rattle.loop_bounds.specs.Tree.{Tree}
 use Rattle.longest_walk.specs.Folded.{Opened, joined, one_edge}
 use Rattle.longest_walk.specs.Built.{step_at}
-use Rattle.longest_walk.specs.Ways.{AreSearched, HasRounds, InTree, IsAlong, IsFollowed, IsRounds, IsWay, holds, level_in, opened_edge, opened_rounds, opened_way, rounds_at, start_of, depth_at}
+use Rattle.longest_walk.specs.Ways.{AreSearched, HasRounds, IsAlong, IsFollowed, IsRounds, IsWay, level_in, opened_edge, opened_rounds, opened_way, rounds_at, depth_at}
 use Rattle.longest_walk.specs.declared.rounds.Rounds.{Rounds}
 use Rattle.longest_walk.proofs.Along.{along_append, along_edge, along_none, along_room, along_weaker}
 use Rattle.longest_walk.proofs.Levels.{deep_some, level_below}
@@ -30,13 +30,13 @@ use Rattle.longest_walk.proofs.Levels.{deep_some, level_below}
 
 module _ (exit : ℕ) (edges : List NumberedEdge) (spans : List Span) (c : Tables) (order : IsOrdered exit edges spans) where
   -- an edge to a later number of the context begins in it
-  pub begins_in : (context : Option Span) → InTree spans context → (e : NumberedEdge) → Contains edges e → holds context e.to ≡ true → start_of context < e.to → holds context e.from ≡ true
+  pub begins_in : (context : Option Span) → InTree spans context → (e : NumberedEdge) → Contains edges e → holds_in context e.to ≡ true → start_of context < e.to → holds_in context e.from ≡ true
   begins_in None here e in_graph goes_in later = refl
   begins_in (Some k) here e in_graph goes_in later =
       ⊎_elim (λ inside. inside) (λ out. absurd (omega (arith, order.entered e in_graph k here out goes_in))) (cases_Bool (is_in k e.from))
 
   -- a number of the context is its start or a later one
-  pub starts_low : (context : Option Span) (p : ℕ) → holds context p ≡ true → start_of context ≤ p
+  pub starts_low : (context : Option Span) (p : ℕ) → holds_in context p ≡ true → start_of context ≤ p
   starts_low None p inside = omega arith
   starts_low (Some s) p inside = member_header s p inside
 
@@ -46,13 +46,13 @@ module _ (exit : ℕ) (edges : List NumberedEdge) (spans : List Span) (c : Table
       All-cons (λ k. (k < length edges) × ((edge_at edges k).to ≤ exit)) k ks (way.1.inside, (order.places (edge_at edges k) (edge_at-in edges k way.1.inside)).1) (way_inside context (edge_at edges k).to to ks way.4)
 
   -- a way, one edge further back
-  pub way_back : (context : Option Span) → InTree spans context → (here to k : ℕ) (ks : List ℕ) → (here ≢ start_of context) → holds context here ≡ true → IsEntering edges spans c here k → IsWay edges spans c context here (reverse ks) to
-      → (holds context (edge_at edges k).from ≡ true) × ((edge_at edges k).from ≤ exit) × IsWay edges spans c context (edge_at edges k).from (reverse (ks ++ k ∷ [])) to
+  pub way_back : (context : Option Span) → InTree spans context → (here to k : ℕ) (ks : List ℕ) → (here ≢ start_of context) → holds_in context here ≡ true → IsEntering edges spans c here k → IsWay edges spans c context here (reverse ks) to
+      → (holds_in context (edge_at edges k).from ≡ true) × ((edge_at edges k).from ≤ exit) × IsWay edges spans c context (edge_at edges k).from (reverse (ks ++ k ∷ [])) to
   way_back context in_tree here to k ks differ inside by way =
       let e = edge_at edges k in
       let in_graph : Contains edges e = edge_at-in edges k by.inside in
       let low : start_of context < here = omega (arith, starts_low context here inside, differ) in
-      let goes_in : holds context e.to ≡ true = subst (λ (x : ℕ). holds context x ≡ true) (sym by.ends) inside in
+      let goes_in : holds_in context e.to ≡ true = subst (λ (x : ℕ). holds_in context x ≡ true) (sym by.ends) inside in
       let later : start_of context < e.to = omega (arith, by.ends) in
       let longer : k ∷ reverse ks ≡ reverse (ks ++ k ∷ []) = sym (reverse-append ks (k ∷ [])) in (
         begins_in context in_tree e in_graph goes_in later,
@@ -62,11 +62,11 @@ module _ (exit : ℕ) (edges : List NumberedEdge) (spans : List Span) (c : Table
       )
 
   module _ (found : AreFound exit edges spans c) where
-    step_in : (context : Option Span) → InTree spans context → (p k : ℕ) → IsEntering edges spans c p k → holds context p ≡ true → start_of context < p → is_header_in spans p ≡ false → (walk : List NumberedEdge) → IsPathTo edges spans c context (edge_at edges k).from walk → IsPathTo edges spans c context p (walk ++ edge_at edges k ∷ [])
+    step_in : (context : Option Span) → InTree spans context → (p k : ℕ) → IsEntering edges spans c p k → holds_in context p ≡ true → start_of context < p → is_header_in spans p ≡ false → (walk : List NumberedEdge) → IsPathTo edges spans c context (edge_at edges k).from walk → IsPathTo edges spans c context p (walk ++ edge_at edges k ∷ [])
     step_in None here p k by inside later plain walk path = P.step exit edges spans c order found None here p k by inside later plain walk path
     step_in (Some s) here p k by inside later plain walk path = P.step exit edges spans c order found (Some s) here p k by inside later plain walk path
 
-    enter_in : (context : Option Span) → InTree spans context → (p k : ℕ) → IsEntering edges spans c p k → holds context p ≡ true → start_of context < p → (s : Span) → Contains spans s → p ≡ s.header → (rounds walk : List NumberedEdge) → AreRoundsOf edges spans c s rounds → IsPathTo edges spans c context (edge_at edges k).from walk → IsPathTo edges spans c context p ((walk ++ edge_at edges k ∷ []) ++ rounds)
+    enter_in : (context : Option Span) → InTree spans context → (p k : ℕ) → IsEntering edges spans c p k → holds_in context p ≡ true → start_of context < p → (s : Span) → Contains spans s → p ≡ s.header → (rounds walk : List NumberedEdge) → AreRoundsOf edges spans c s rounds → IsPathTo edges spans c context (edge_at edges k).from walk → IsPathTo edges spans c context p ((walk ++ edge_at edges k ∷ []) ++ rounds)
     enter_in None here p k by inside later s s_in is rounds walk all path = P.enter exit edges spans c order found None here p k by inside later s s_in is rounds walk all path
     enter_in (Some t) here p k by inside later s s_in is rounds walk all path = P.enter exit edges spans c order found (Some t) here p k by inside later s s_in is rounds walk all path
 
@@ -91,7 +91,7 @@ module _ (flow : Flow) (tree : Tree) (index : Index) (c : Tables) (g : AreSearch
       (λ k h. (inside_flow k h.0, h.0, omega (arith, h.1, whole))) ks (way_inside exit tree.edges tree.spans c g.tree_is.ordered context from to ks way)
 
   -- one edge further, and all rounds of the instance that it enters
-  follow_edge : (table : List (Option Rounds)) (context : Option Span) → InTree tree.spans context → HasRounds flow tree c context table → (from k : ℕ) (items : List Opened) → IsFollowed flow tree c context from items → (edge_at tree.edges k).from ≡ from → IsEntering tree.edges tree.spans c (edge_at tree.edges k).to k → holds context (edge_at tree.edges k).to ≡ true → start_of context < (edge_at tree.edges k).to
+  follow_edge : (table : List (Option Rounds)) (context : Option Span) → InTree tree.spans context → HasRounds flow tree c context table → (from k : ℕ) (items : List Opened) → IsFollowed flow tree c context from items → (edge_at tree.edges k).from ≡ from → IsEntering tree.edges tree.spans c (edge_at tree.edges k).to k → holds_in context (edge_at tree.edges k).to ≡ true → start_of context < (edge_at tree.edges k).to
       → IsFollowed flow tree c context (edge_at tree.edges k).to (items ++ opened_edge flow tree table k)
   follow_edge table context here has from k items f at by inside later =
       let e = edge_at tree.edges k in
@@ -102,8 +102,8 @@ module _ (flow : Flow) (tree : Tree) (index : Index) (c : Tables) (g : AreSearch
       (λ header.
       let found = header_found tree.spans e.to header in
       let s = found.0 in
-      let all : IsRounds flow tree c s (rounds_at table s.header) = has.known s found.1 (subst (λ (x : ℕ). holds context x ≡ true) found.2 inside) (omega (arith, found.2)) in
-      let low : level ≤ depth_at tree.spans s.header = level_below exit tree.edges tree.spans g.tree_is.ordered context here s found.1 (subst (λ (x : ℕ). holds context x ≡ true) found.2 inside) (omega (arith, found.2)) in
+      let all : IsRounds flow tree c s (rounds_at table s.header) = has.known s found.1 (subst (λ (x : ℕ). holds_in context x ≡ true) found.2 inside) (omega (arith, found.2)) in
+      let low : level ≤ depth_at tree.spans s.header = level_below exit tree.edges tree.spans g.tree_is.ordered context here s found.1 (subst (λ (x : ℕ). holds_in context x ≡ true) found.2 inside) (omega (arith, found.2)) in
       let entry : rounds_at table e.to ≡ rounds_at table s.header = ap (rounds_at table) found.2 in
       let rounds : IsAlong flow tree c level all.numbers (joined (opened_rounds (rounds_at table e.to))) =
       along_weaker flow tree c level (depth_at tree.spans s.header) all.numbers _ low (subst (λ (o : Option Rounds). IsAlong flow tree c (depth_at tree.spans s.header) all.numbers (joined (opened_rounds o))) (sym entry) all.along) in

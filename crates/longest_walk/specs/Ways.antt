@@ -1,5 +1,5 @@
 -- How a folded walk is put together from the numbers of edges.
-use Rattle.std.specs.Prelude.{◌≡◌, ◌≢◌, ℕ, ◌+◌, ◌<◌, ◌≤◌, Bool, true, false, List, [], ◌∷◌, length, flat_map}
+use Rattle.std.specs.Prelude.{◌≡◌, ◌≢◌, ℕ, ◌+◌, ◌<◌, ◌≤◌, true, false, List, [], ◌∷◌, length, flat_map}
 use Rattle.std.specs.Prelude.{slice_index_or, count_by, All, Contains, Option, Some, None}
 use Rattle.std.specs.List.{AllZip}
 use Rattle.flow_graph.specs.Flow.{Flow}
@@ -11,7 +11,7 @@ use Rattle.numbered_walks.specs.Ordered.{is_in}
 use Rattle.numbered_walks.specs.Index.{IsIndex, edge_at, edges_of, span_at}
 use Rattle.numbered_walks.specs.Tables.{is_header_in}
 use Rattle.numbered_walks.specs.Found.{AreFound, IsEntering}
-use Rattle.numbered_walks.specs.Reach.{IsPathTo, IsRoundOf, AreRoundsOf}
+use Rattle.numbered_walks.specs.Reach.{AreRoundsOf, IsPathTo, IsRoundOf, holds_in, start_of}
 use Rattle.loop_bounds.specs.Tree.{Tree, IsTree}
 use Rattle.longest_walk.specs.Folded.{Opened, joined, one_edge, open_items, turned}
 use Rattle.longest_walk.specs.Built.{AreAllNumbered, IsNumberedBody, IsRisingBody, step_at, steps_of}
@@ -25,26 +25,13 @@ pub record AreSearched (flow : Flow) (tree : Tree) (index : Index) (c : Tables) 
 
 -- ## Ways
 
--- where the walks of a context begin: at the header of an instance, or at the entry
-abbrev pub start_of : Option Span → ℕ
-start_of None = 0
-start_of (Some s) = s.header
-
-abbrev pub holds : Option Span → ℕ → Bool
-holds None p = true
-holds (Some s) p = is_in s p
-
-abbrev pub InTree : List Span → Option Span → Type 0
-InTree spans None = Unit {0}
-InTree spans (Some s) = Contains spans s
-
 -- the edges of these numbers lead from the one place to the other, inside the context, and each is one that
 -- its end asks for
 abbrev pub IsWay : List NumberedEdge → List Span → Tables → Option Span → ℕ → List ℕ → ℕ → Type 0
 IsWay edges spans c context from [] to = from ≡ to
 IsWay edges spans c context from (k ∷ rest) to =
     ((edge_at edges k).from ≡ from) × IsEntering edges spans c (edge_at edges k).to k
-    × (holds context (edge_at edges k).to ≡ true) × (start_of context < (edge_at edges k).to)
+    × (holds_in context (edge_at edges k).to ≡ true) × (start_of context < (edge_at edges k).to)
     × IsWay edges spans c context (edge_at edges k).to rest to
 
 -- ## Rounds and walks
@@ -118,6 +105,6 @@ pub record AreRounds (flow : Flow) (tree : Tree) (c : Tables) (done : ℕ)
 pub record HasRounds (flow : Flow) (tree : Tree) (c : Tables) (context : Option Span)
     (table : List (Option Rounds)) : Type 0 where
   pub whole : length table ≡ length flow.places + 1
-  pub known : (s : Span) → Contains tree.spans s → holds context s.header ≡ true → start_of context < s.header
+  pub known : (s : Span) → Contains tree.spans s → holds_in context s.header ≡ true → start_of context < s.header
       → IsRounds flow tree c s (rounds_at table s.header)
   pub plain : (p : ℕ) → is_header_in tree.spans p ≡ false → rounds_at table p ≡ None

@@ -1,7 +1,8 @@
 ghost use Rattle.std.specs.Prelude.{◌≡◌, ◌<◌, ◌≤◌, true, Contains, IfOk, MatchOption, length, Option};
 ghost use Rattle.numbered_walks.specs.Found.{IsEntering, IsTurning};
 ghost use Rattle.numbered_walks.specs.Tables.{round_of};
-ghost use Rattle.longest_walk.specs.Ways.{AreSearched, InTree, IsWay, holds, start_of};
+ghost use Rattle.numbered_walks.specs.Reach.{InTree, holds_in, start_of};
+ghost use Rattle.longest_walk.specs.Ways.{AreSearched, IsWay};
 
 use flow_graph::Graph;
 use loop_bounds::LoopTree;
@@ -73,7 +74,7 @@ pub(crate) fn trace(
 ) -> Result<Vec<usize>, AllocError>
     requires searched { AreSearched search.graph.now search.tree.now search.index.now search.tables.now }
     requires context { InTree search.tree.now.spans context }
-    requires inside { holds context number ≡ true }
+    requires inside { holds_in context number ≡ true }
     requires known { number ≤ length search.graph.now.places }
     ensures { IfOk result
         (λ way. IsWay search.entry.tree.now.edges search.entry.tree.now.spans search.entry.tables.now context

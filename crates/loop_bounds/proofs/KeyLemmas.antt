@@ -159,17 +159,12 @@ last_call a [] b e = (refl, ap (λ (xs : List ℕ). get_or xs 0 0) e)
 last_call a (x ∷ []) b e = cc
 last_call a (x ∷ y ∷ c) b e = cc
 
-tail_of : List ℕ → List ℕ
-tail_of [] = []
-tail_of (x ∷ xs) = xs
-
 pub one_end : (c d : List ℕ) (a b : ℕ) → c ++ a ∷ [] ≡ d ++ b ∷ [] → (c ≡ d) × (a ≡ b)
 one_end [] d a b e = let h = last_call a d b e in (sym h.0, h.1)
 one_end (x ∷ c) [] a b e = let h = last_call b (x ∷ c) a (sym e) in (h.0, sym h.1)
 one_end (x ∷ c) (y ∷ d) a b e =
-    let here : x ≡ y = ap (λ (xs : List ℕ). get_or xs 0 0) e in
-    let rest : c ++ a ∷ [] ≡ d ++ b ∷ [] = unfold tail_of in ap tail_of e in
-    let h = one_end c d a b rest in
+    let here : x ≡ y = cc in
+    let h = one_end c d a b (cc) in
     ((λ i. here i ∷ h.0 i), h.1)
 
 not_empty : (c : List ℕ) (a : ℕ) → [] ≡ c ++ a ∷ [] → ⊥

@@ -8,7 +8,8 @@ use Rattle.numbered_walks.specs.declared.span.NumberedEdge.{NumberedEdge}
 use Rattle.numbered_walks.specs.declared.span.Span.{Span}
 use Rattle.numbered_walks.specs.Ordered.{IsOrdered, HoldsAll, Leads, is_in}
 use Rattle.numbered_walks.proofs.Members.{IsReachable, header_in, header_reached}
-use Rattle.numbered_walks.proofs.Reaching.{sum_zero, Structure, InTree, below, holds_in, turns_in}
+use Rattle.numbered_walks.proofs.Reaching.{sum_zero, Structure, below, turns_in}
+use Rattle.numbered_walks.specs.Reach.{InTree, holds_in}
 use Rattle.walks.proofs.SumLe.{sum_by-same_all, sum_by-le_contains}
 
 pub AllPairs-tail : {X : Type 0} (R : X → X → Type 0) (x : X) (xs : List X) → AllPairs R (x ∷ xs) → AllPairs R xs
@@ -100,7 +101,7 @@ module _ (exit : ℕ) (edges : List NumberedEdge) (tree : List Span) (n : IsOrde
       ⊎_elim (λ holds. absurd (header_differs j k parts.1 (big_header j k j_in k_in (is_within k j k_in j_in is_below) holds)))
       (λ out. out) (cases_Bool (is_in j k.header))
 
-  left_is_below : (c : Option Span) → InTree edges tree taken dist arr rnd c → (e : NumberedEdge) → (j : Span) → Contains tree j → holds_in edges tree taken dist arr rnd c e.from ≡ true → holds_in edges tree taken dist arr rnd c e.to ≡ true → is_in j e.from ≡ true → is_in j e.to ≡ false → below_in c j ≡ true
+  left_is_below : (c : Option Span) → InTree tree c → (e : NumberedEdge) → (j : Span) → Contains tree j → holds_in c e.from ≡ true → holds_in c e.to ≡ true → is_in j e.from ≡ true → is_in j e.to ≡ false → below_in c j ≡ true
   left_is_below None here e j j_in from_in to_in holds leaves = refl
   left_is_below (Some k) here e j j_in from_in to_in holds leaves =
       ⊎_elim (λ yes.
@@ -111,11 +112,11 @@ module _ (exit : ℕ) (edges : List NumberedEdge) (tree : List Span) (n : IsOrde
       (λ other. absurd (both_ways (is_in j e.to) leaves (other e.to to_in)))
       (n.nested j k j_in here e.from holds from_in)
 
-  is_inside_below : (c : Option Span) → InTree edges tree taken dist arr rnd c → (i : Span) → Contains tree i → below_in c i ≡ true → (p : ℕ) → is_in i p ≡ true → holds_in edges tree taken dist arr rnd c p ≡ true
+  is_inside_below : (c : Option Span) → InTree tree c → (i : Span) → Contains tree i → below_in c i ≡ true → (p : ℕ) → is_in i p ≡ true → holds_in c p ≡ true
   is_inside_below None here i i_in is_below p holds = refl
   is_inside_below (Some k) here i i_in is_below p holds = is_within k i here i_in is_below p holds
 
-  has_no_start : (c : Option Span) → InTree edges tree taken dist arr rnd c → (i : Span) → Contains tree i → below_in c i ≡ true → (e : NumberedEdge) → is_in i e.to ≡ true → turns_in edges tree taken dist arr rnd c e ≡ false
+  has_no_start : (c : Option Span) → InTree tree c → (i : Span) → Contains tree i → below_in c i ≡ true → (e : NumberedEdge) → is_in i e.to ≡ true → turns_in edges tree taken dist arr rnd c e ≡ false
   has_no_start None here i i_in is_below e holds = refl
   has_no_start (Some k) here i i_in is_below e holds =
       ne_eqb e.to k.header (λ same. both_ways (is_in i k.header) (is_apart k i here i_in is_below) (subst (λ (x : ℕ). is_in i x ≡ true) same holds))
@@ -137,7 +138,7 @@ module _ (exit : ℕ) (edges : List NumberedEdge) (tree : List Span) (n : IsOrde
   abbrev pub level : Option Span → ℕ
   level c = sum_by (λ j. cond (below_in c j) 1 0) tree
 
-  below_trans : (c : Option Span) → InTree edges tree taken dist arr rnd c → (i j : Span) → Contains tree i → Contains tree j → below_in c i ≡ true → below_in (Some i) j ≡ true → below_in c j ≡ true
+  below_trans : (c : Option Span) → InTree tree c → (i j : Span) → Contains tree i → Contains tree j → below_in c i ≡ true → below_in (Some i) j ≡ true → below_in c j ≡ true
   below_trans None here i j i_in j_in one two = refl
   below_trans (Some k) here i j i_in j_in one two =
       let parts : (is_in i j.header ≡ true) × (not (eqb j.header i.header) ≡ true) = and_parts (is_in i j.header) (not (eqb j.header i.header)) two in
@@ -147,7 +148,7 @@ module _ (exit : ℕ) (edges : List NumberedEdge) (tree : List Span) (n : IsOrde
   not_below_itself : (i : Span) → below_in (Some i) i ≡ false
   not_below_itself i = rw (eq-eqb i.header i.header refl) (and_right (is_in i i.header) false refl)
 
-  pub level_lower : (c : Option Span) (i : Span) → InTree edges tree taken dist arr rnd c → Contains tree i → below_in c i ≡ true → level (Some i) < level c
+  pub level_lower : (c : Option Span) (i : Span) → InTree tree c → Contains tree i → below_in c i ≡ true → level (Some i) < level c
   level_lower c i here i_in is_below =
       let up : All (λ j. cond {A = ℕ} (below_in (Some i) j) 1 0 ≤ cond {A = ℕ} (below_in c j) 1 0) tree =
       λ k d inside. cond_le (below_in (Some i) (get_or tree k d)) (below_in c (get_or tree k d)) (λ yes. below_trans c here i (get_or tree k d) i_in (Contains-get_or tree k d inside) is_below yes) in

@@ -11,7 +11,7 @@ use Rattle.numbered_walks.specs.Ordered.{IsOrdered, Leads, is_in, is_inside}
 use Rattle.numbered_walks.specs.Index.{edge_at}
 use Rattle.numbered_walks.specs.Tables.{distance_of, arrival_of, round_of, number_of, is_header_in}
 use Rattle.numbered_walks.specs.Found.{AreFound, IsEntering, IsTurning}
-use Rattle.numbered_walks.specs.Reach.{IsPathTo, IsRoundOf, AreRoundsOf}
+use Rattle.numbered_walks.specs.Reach.{AreRoundsOf, InTree, IsPathTo, IsRoundOf, holds_in, start_of}
 use Rattle.numbered_walks.proofs.Grouping.{edge_at-in}
 use Rattle.numbered_walks.proofs.Members.{member_from, member_header}
 use Rattle.numbered_walks.proofs.Nesting.{structure}
@@ -27,15 +27,6 @@ module _ (exit : ℕ) (edges : List NumberedEdge) (spans : List Span) (c : Table
   st : R.Structure edges spans bound_of (distance_of c) (arrival_of c) (round_of c)
   st = structure exit edges spans order bound_of (distance_of c) (arrival_of c) (round_of c)
 
-  abbrev pub InSpans : Option Span → Type 0
-  InSpans context = R.InTree edges spans bound_of (distance_of c) (arrival_of c) (round_of c) context
-
-  abbrev pub holds : Option Span → ℕ → Bool
-  holds context p = R.holds_in edges spans bound_of (distance_of c) (arrival_of c) (round_of c) context p
-
-  abbrev pub start : Option Span → ℕ
-  start context = R.start_of edges spans bound_of (distance_of c) (arrival_of c) (round_of c) context
-
   abbrev pub below : Option Span → Span → Bool
   below context s = R.below edges spans bound_of (distance_of c) (arrival_of c) (round_of c) context s
 
@@ -43,27 +34,27 @@ module _ (exit : ℕ) (edges : List NumberedEdge) (spans : List Span) (c : Table
   turns context e = R.turns_in edges spans bound_of (distance_of c) (arrival_of c) (round_of c) context e
 
   -- an edge to a later number of the context begins in it, and turns no round of it
-  pub begins_in : (context : Option Span) → InSpans context → (e : NumberedEdge) → Contains edges e → holds context e.to ≡ true → start context < e.to → holds context e.from ≡ true
+  pub begins_in : (context : Option Span) → InTree spans context → (e : NumberedEdge) → Contains edges e → holds_in context e.to ≡ true → start_of context < e.to → holds_in context e.from ≡ true
   begins_in None here e in_graph goes_in later = refl
   begins_in (Some k) here e in_graph goes_in later =
       ⊎_elim (λ inside. inside) (λ out. absurd (omega (arith, order.entered e in_graph k here out goes_in))) (cases_Bool (is_in k e.from))
 
-  no_turn : (context : Option Span) (e : NumberedEdge) → start context < e.to → R.turns_in edges spans bound_of (distance_of c) (arrival_of c) (round_of c) context e ≡ false
+  no_turn : (context : Option Span) (e : NumberedEdge) → start_of context < e.to → R.turns_in edges spans bound_of (distance_of c) (arrival_of c) (round_of c) context e ≡ false
   no_turn None e later = refl
   no_turn (Some k) e later = ne_eqb e.to k.header (λ same. absurd (omega arith))
 
   -- an instance whose header is a later number of the context lies below it
-  pub is_below : (context : Option Span) (s : Span) → holds context s.header ≡ true → start context < s.header → below context s ≡ true
+  pub is_below : (context : Option Span) (s : Span) → holds_in context s.header ≡ true → start_of context < s.header → below context s ≡ true
   is_below None s inside later = refl
   is_below (Some k) s inside later = and_from (is_in k s.header) (not (eqb s.header k.header)) inside (rw (ne_eqb s.header k.header (λ same. absurd (omega arith))) refl)
 
   -- an edge to a number that is no header
-  pub step : (context : Option Span) → InSpans context → (p k : ℕ) → IsEntering edges spans c p k → holds context p ≡ true → start context < p → is_header_in spans p ≡ false → (walk : List NumberedEdge) → IsPathTo edges spans c context (edge_at edges k).from walk → IsPathTo edges spans c context p (walk ++ edge_at edges k ∷ [])
+  pub step : (context : Option Span) → InTree spans context → (p k : ℕ) → IsEntering edges spans c p k → holds_in context p ≡ true → start_of context < p → is_header_in spans p ≡ false → (walk : List NumberedEdge) → IsPathTo edges spans c context (edge_at edges k).from walk → IsPathTo edges spans c context p (walk ++ edge_at edges k ∷ [])
   step context here p k by inside later plain walk path =
       let e = edge_at edges k in
       let in_graph : Contains edges e = edge_at-in edges k by.inside in
-      let goes_in : holds context e.to ≡ true = subst (λ (x : ℕ). holds context x ≡ true) (sym by.ends) inside in
-      let later_e : start context < e.to = omega (arith, by.ends) in
+      let goes_in : holds_in context e.to ≡ true = subst (λ (x : ℕ). holds_in context x ≡ true) (sym by.ends) inside in
+      let later_e : start_of context < e.to = omega (arith, by.ends) in
       let number : number_of spans c p ≡ distance_of c p = rw plain refl in
       subst (λ (x : ℕ). IsPathTo edges spans c context x (walk ++ e ∷ [])) by.ends
       (W.by_step edges spans bound_of (distance_of c) (arrival_of c) (round_of c) st context here e in_graph
@@ -71,18 +62,18 @@ module _ (exit : ℕ) (edges : List NumberedEdge) (spans : List Span) (c : Table
       goes_in (no_turn context e later_e) (ap (λ (x : ℕ). distance_of c x) by.ends ∙ sym number ∙ by.asks) (begins_in context here e in_graph goes_in later_e) walk path)
 
   -- an edge to a header, and all rounds of its instance
-  pub enter : (context : Option Span) → InSpans context → (p k : ℕ) → IsEntering edges spans c p k → holds context p ≡ true → start context < p → (s : Span) → Contains spans s → p ≡ s.header → (rounds walk : List NumberedEdge) → AreRoundsOf edges spans c s rounds → IsPathTo edges spans c context (edge_at edges k).from walk → IsPathTo edges spans c context p ((walk ++ edge_at edges k ∷ []) ++ rounds)
+  pub enter : (context : Option Span) → InTree spans context → (p k : ℕ) → IsEntering edges spans c p k → holds_in context p ≡ true → start_of context < p → (s : Span) → Contains spans s → p ≡ s.header → (rounds walk : List NumberedEdge) → AreRoundsOf edges spans c s rounds → IsPathTo edges spans c context (edge_at edges k).from walk → IsPathTo edges spans c context p ((walk ++ edge_at edges k ∷ []) ++ rounds)
   enter context here p k by inside later s s_in is rounds walk all path =
       let e = edge_at edges k in
       let in_graph : Contains edges e = edge_at-in edges k by.inside in
-      let goes_in : holds context e.to ≡ true = subst (λ (x : ℕ). holds context x ≡ true) (sym by.ends) inside in
-      let later_e : start context < e.to = omega (arith, by.ends) in
+      let goes_in : holds_in context e.to ≡ true = subst (λ (x : ℕ). holds_in context x ≡ true) (sym by.ends) inside in
+      let later_e : start_of context < e.to = omega (arith, by.ends) in
       let header : is_header_in spans p ≡ true = header_there spans p s s_in is in
       let number : number_of spans c p ≡ arrival_of c s = rw header (ap (λ (x : ℕ). slice_index c.arrivals.items x) is) in
       subst (λ (x : ℕ). IsPathTo edges spans c context x ((walk ++ e ∷ []) ++ rounds)) by.ends
       (W.by_header edges spans bound_of (distance_of c) (arrival_of c) (round_of c) st context here e s in_graph s_in (by.ends ∙ is)
       (⊎_elim (λ holds_from. absurd (omega (arith, member_header s e.from holds_from, by.up, is))) (λ out. out) (cases_Bool (is_in s e.from)))
-      (is_below context s (subst (λ (x : ℕ). holds context x ≡ true) is inside) (omega (arith, is)))
+      (is_below context s (subst (λ (x : ℕ). holds_in context x ≡ true) is inside) (omega (arith, is)))
       goes_in (no_turn context e later_e) (ap (λ (x : ℕ). distance_of c x) by.ends ∙ found.passed.header_distance p header) (sym number ∙ by.asks)
       (begins_in context here e in_graph goes_in later_e) rounds walk all path)
 
@@ -107,7 +98,7 @@ module _ (exit : ℕ) (edges : List NumberedEdge) (spans : List Span) (c : Table
       ∙ sum_zero spans
 
   -- the walk of no edge
-  stay : (context : Option Span) (p : ℕ) → start context ≡ p → distance_of c p ≡ 0 → ((j : Span) → Contains spans j → is_in j p ≡ true → below context j ≡ true → ⊥) → IsPathTo edges spans c context p []
+  stay : (context : Option Span) (p : ℕ) → start_of context ≡ p → distance_of c p ≡ 0 → ((j : Span) → Contains spans j → is_in j p ≡ true → below context j ≡ true → ⊥) → IsPathTo edges spans c context p []
   stay context p starts zero_here none = (
     record {
       walk = [];

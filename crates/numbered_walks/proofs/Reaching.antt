@@ -9,7 +9,7 @@ use Rattle.numbered_walks.specs.declared.span.NumberedEdge.{NumberedEdge}
 use Rattle.numbered_walks.specs.declared.span.Span.{Span}
 use Rattle.numbered_walks.specs.Ordered.{number_shape, Leads, is_in, is_inside, ends_at_header}
 use Rattle.walks.specs.Segments.{repeated, head, tail}
-use Rattle.numbered_walks.specs.Reach.{most_in}
+use Rattle.numbered_walks.specs.Reach.{InTree, holds_in, most_in, start_of}
 use Rattle.numbered_walks.specs.Reach as S
 use Rattle.walks.proofs.Joins as J
 use Rattle.walks.proofs.Segments as G
@@ -73,12 +73,6 @@ module _ (edges : List NumberedEdge) (tree : List Span) (taken : Span → ℕ) (
   abbrev pub needed : NumberedEdge → ℕ
   needed e = S.needed edges tree taken dist arr rnd e
 
-  abbrev pub start_of : Option Span → ℕ
-  start_of c = S.start_of edges tree taken dist arr rnd c
-
-  abbrev pub holds_in : Option Span → ℕ → Bool
-  holds_in c p = S.holds_in edges tree taken dist arr rnd c p
-
   abbrev pub below : Option Span → Span → Bool
   below c j = S.below edges tree taken dist arr rnd c j
 
@@ -87,9 +81,6 @@ module _ (edges : List NumberedEdge) (tree : List Span) (taken : Span → ℕ) (
 
   abbrev pub potential_in : Option Span → ℕ → ℕ
   potential_in c p = S.potential_in edges tree taken dist arr rnd c p
-
-  abbrev pub InTree : Option Span → Type 0
-  InTree c = S.InTree edges tree taken dist arr rnd c
 
   abbrev pub Reach : Option Span → ℕ → Type 0
   Reach c p = S.Reach edges tree taken dist arr rnd c p
@@ -105,11 +96,11 @@ module _ (edges : List NumberedEdge) (tree : List Span) (taken : Span → ℕ) (
     pub one_header : (i j : Span) → Contains tree i → Contains tree j → i.header ≡ j.header → i ≡ j
     pub enters : (e : NumberedEdge) → Contains edges e → (j : Span) → Contains tree j → is_in j e.from ≡ false → is_in j e.to ≡ true → e.to ≡ j.header
     -- an instance that is left, at an edge within the context, lies below the context
-    pub left_below : (c : Option Span) → InTree c → (e : NumberedEdge) → Contains edges e → (j : Span) → Contains tree j → holds_in c e.from ≡ true → holds_in c e.to ≡ true → is_in j e.from ≡ true → is_in j e.to ≡ false → below c j ≡ true
+    pub left_below : (c : Option Span) → InTree tree c → (e : NumberedEdge) → Contains edges e → (j : Span) → Contains tree j → holds_in c e.from ≡ true → holds_in c e.to ≡ true → is_in j e.from ≡ true → is_in j e.to ≡ false → below c j ≡ true
     pub header_in : (i : Span) → Contains tree i → is_in i i.header ≡ true
     -- an instance below a context lies within it, and not at its start
-    pub inside_below : (c : Option Span) → InTree c → (i : Span) → Contains tree i → below c i ≡ true → (p : ℕ) → is_in i p ≡ true → holds_in c p ≡ true
-    pub no_start : (c : Option Span) → InTree c → (i : Span) → Contains tree i → below c i ≡ true → (e : NumberedEdge) → is_in i e.to ≡ true → turns_in c e ≡ false
+    pub inside_below : (c : Option Span) → InTree tree c → (i : Span) → Contains tree i → below c i ≡ true → (p : ℕ) → is_in i p ≡ true → holds_in c p ≡ true
+    pub no_start : (c : Option Span) → InTree tree c → (i : Span) → Contains tree i → below c i ≡ true → (e : NumberedEdge) → is_in i e.to ≡ true → turns_in c e ≡ false
     pub apart : (i j : Span) → Contains tree i → Contains tree j → below (Some i) j ≡ true → is_in j i.header ≡ false
     pub entry_out : (j : Span) → Contains tree j → is_in j 0 ≡ true → 0 ≡ j.header
     -- the headers differ
@@ -122,7 +113,7 @@ module _ (edges : List NumberedEdge) (tree : List Span) (taken : Span → ℕ) (
   step_pick false false b s enter leave = refl
 
   -- an edge to a place that is no header
-  unfoldable pub reach_step : (st : Structure) (c : Option Span) → InTree c → (e : NumberedEdge) → Contains edges e → ((j : Span) → Contains tree j → e.to ≡ j.header → ⊥) → holds_in c e.to ≡ true → turns_in c e ≡ false → dist e.to ≡ needed e → holds_in c e.from ≡ true → Reach c e.from → Reach c e.to
+  unfoldable pub reach_step : (st : Structure) (c : Option Span) → InTree tree c → (e : NumberedEdge) → Contains edges e → ((j : Span) → Contains tree j → e.to ≡ j.header → ⊥) → holds_in c e.to ≡ true → turns_in c e ≡ false → dist e.to ≡ needed e → holds_in c e.from ≡ true → Reach c e.from → Reach c e.to
   reach_step st c here e in_graph no_header goes_in no_turn attained starts_in r = record {
     walk = r.walk ++ e ∷ [];
     leads = Leads-append number_shape (Contains edges) (start_of c) e.from e.to r.walk (e ∷ []) r.leads (in_graph, refl, refl);
@@ -170,7 +161,7 @@ module _ (edges : List NumberedEdge) (tree : List Span) (taken : Span → ℕ) (
   }
 
   -- an edge that enters an instance, and all its rounds
-  unfoldable pub reach_header : (st : Structure) (c : Option Span) → InTree c → (e : NumberedEdge) (i : Span) → Contains edges e → Contains tree i → e.to ≡ i.header → is_in i e.from ≡ false → below c i ≡ true → holds_in c e.to ≡ true → turns_in c e ≡ false → dist e.to ≡ 0 → arr i ≡ needed e → holds_in c e.from ≡ true → Rounds i → Reach c e.from → Reach c e.to
+  unfoldable pub reach_header : (st : Structure) (c : Option Span) → InTree tree c → (e : NumberedEdge) (i : Span) → Contains edges e → Contains tree i → e.to ≡ i.header → is_in i e.from ≡ false → below c i ≡ true → holds_in c e.to ≡ true → turns_in c e ≡ false → dist e.to ≡ 0 → arr i ≡ needed e → holds_in c e.from ≡ true → Rounds i → Reach c e.from → Reach c e.to
   reach_header st c here e i in_graph i_in to_header outside is_below goes_in no_turn zero_here attained starts_in rounds r =
       let goes_in_i : is_in i e.to ≡ true = subst (λ (p : ℕ). is_in i p ≡ true) (sym to_header) (st.header_in i i_in) in
       let not_inside : is_inside i e ≡ false = rw outside refl in
@@ -302,17 +293,17 @@ module _ (edges : List NumberedEdge) (tree : List Span) (taken : Span → ℕ) (
       pub places : (p : ℕ) → IsPlace p → StartAt p ⊎ (StepTo p ⊎ HeaderAt p)
       pub rounds : (i : Span) → Contains tree i → (taken i * rnd i ≡ 0) ⊎ BackEdge i
 
-    module _ (st : Structure) (attains : Attained) (level : Option Span → ℕ) (size : ℕ) (ranked : (p : ℕ) → IsPlace p → rank p < size) (lower : (c : Option Span) (i : Span) → InTree c → Contains tree i → below c i ≡ true → level (Some i) < level c) where
-      from_in_context : (c : Option Span) → InTree c → (e : NumberedEdge) → Contains edges e → holds_in c e.to ≡ true → at_start c e.to ≡ false → holds_in c e.from ≡ true
+    module _ (st : Structure) (attains : Attained) (level : Option Span → ℕ) (size : ℕ) (ranked : (p : ℕ) → IsPlace p → rank p < size) (lower : (c : Option Span) (i : Span) → InTree tree c → Contains tree i → below c i ≡ true → level (Some i) < level c) where
+      from_in_context : (c : Option Span) → InTree tree c → (e : NumberedEdge) → Contains edges e → holds_in c e.to ≡ true → at_start c e.to ≡ false → holds_in c e.from ≡ true
       from_in_context None here e in_graph goes_in later = refl
       from_in_context (Some k) here e in_graph goes_in later =
           ⊎_elim (λ holds. holds) (λ out. absurd (eqb-false e.to k.header later (st.enters e in_graph k here out goes_in))) (cases_Bool (is_in k e.from))
 
-      no_turn_at : (c : Option Span) → InTree c → (e : NumberedEdge) → at_start c e.to ≡ false → turns_in c e ≡ false
+      no_turn_at : (c : Option Span) → InTree tree c → (e : NumberedEdge) → at_start c e.to ≡ false → turns_in c e ≡ false
       no_turn_at None here e later = refl
       no_turn_at (Some k) here e later = later
 
-      start_none : (c : Option Span) → InTree c → (p : ℕ) → NoHeader p → at_start c p ≡ false
+      start_none : (c : Option Span) → InTree tree c → (p : ℕ) → NoHeader p → at_start c p ≡ false
       start_none None here p none = refl
       start_none (Some k) here p none = ne_eqb p k.header (none k here)
 
@@ -341,14 +332,14 @@ module _ (edges : List NumberedEdge) (tree : List Span) (taken : Span → ℕ) (
       header_zero k here p is place =
           ⊎_elim (λ s. absurd (s.no_header k here is)) (⊎_elim (λ s. absurd (s.no_header k here is)) (λ h. h.zero_here)) (attains.places p place)
 
-      base : (c : Option Span) → InTree c → (p : ℕ) → IsPlace p → at_start c p ≡ true → Reach c p
+      base : (c : Option Span) → InTree tree c → (p : ℕ) → IsPlace p → at_start c p ≡ true → Reach c p
       base None here p place start = absurd (false≢true start)
       base (Some k) here p place start =
           let is : p ≡ k.header = eqb-true p k.header start in
           stay_here (Some k) p (sym is) (header_zero k here p is place)
           (λ j in_tree holds is_below. both_ways (is_in j p) (subst (λ (x : ℕ). is_in j x ≡ false) (sym is) (st.apart k j here in_tree is_below)) holds)
 
-      from_start : (c : Option Span) → InTree c → (p : ℕ) → holds_in c p ≡ true → StartAt p → Reach c p
+      from_start : (c : Option Span) → InTree tree c → (p : ℕ) → holds_in c p ≡ true → StartAt p → Reach c p
       from_start None here p holds s =
           stay_here None p (sym s.is) s.zero_here
           (λ j in_tree member is_below. s.no_header j in_tree (s.is ∙ st.entry_out j in_tree (subst (λ (x : ℕ). is_in j x ≡ true) s.is member)))
@@ -357,7 +348,7 @@ module _ (edges : List NumberedEdge) (tree : List Span) (taken : Span → ℕ) (
 
       -- the walks that are known already
       abbrev Smaller : ℕ → Type 0
-      Smaller n = (c : Option Span) → InTree c → (p : ℕ) → IsPlace p → holds_in c p ≡ true → level c * size + rank p < n → Reach c p
+      Smaller n = (c : Option Span) → InTree tree c → (p : ℕ) → IsPlace p → holds_in c p ≡ true → level c * size + rank p < n → Reach c p
 
       rounds_of : (n : ℕ) → Smaller n → (i : Span) → Contains tree i → ((q : ℕ) → IsPlace q → level (Some i) * size + rank q < n) → Rounds i
       rounds_of n ih i in_tree small =
@@ -366,7 +357,7 @@ module _ (edges : List NumberedEdge) (tree : List Span) (taken : Span → ℕ) (
           (ih (Some i) in_tree b.edge.from b.place b.from_in (small b.edge.from b.place))))
           (attains.rounds i in_tree)
 
-      step_to : (n : ℕ) → Smaller n → (c : Option Span) → InTree c → (p : ℕ) → holds_in c p ≡ true → at_start c p ≡ false → level c * size + rank p < suc n → StepTo p → Reach c p
+      step_to : (n : ℕ) → Smaller n → (c : Option Span) → InTree tree c → (p : ℕ) → holds_in c p ≡ true → at_start c p ≡ false → level c * size + rank p < suc n → StepTo p → Reach c p
       step_to n ih c here p holds later small s =
           let e = s.edge in
           let goes_in : holds_in c e.to ≡ true = subst (λ (x : ℕ). holds_in c x ≡ true) (sym s.ends) holds in
@@ -393,12 +384,12 @@ module _ (edges : List NumberedEdge) (tree : List Span) (taken : Span → ℕ) (
             omega (arith, rounds.cost, terms, st.once stay i in_tree, zero_here, none);
       }
 
-      at_entry_in : (c : Option Span) → InTree c → (p : ℕ) → holds_in c p ≡ true → at_start c p ≡ false → (i : Span) → Contains tree i → p ≡ i.header → p ≡ 0 → dist p ≡ 0 → arr i ≡ 0 → Rounds i → Reach c p
+      at_entry_in : (c : Option Span) → InTree tree c → (p : ℕ) → holds_in c p ≡ true → at_start c p ≡ false → (i : Span) → Contains tree i → p ≡ i.header → p ≡ 0 → dist p ≡ 0 → arr i ≡ 0 → Rounds i → Reach c p
       at_entry_in None here p holds later i in_tree is at_entry zero_here none rounds = from_entry i in_tree p is at_entry zero_here none rounds
       at_entry_in (Some k) here p holds later i in_tree is at_entry zero_here none rounds =
           absurd (eqb-false p k.header later (at_entry ∙ st.entry_out k here (subst (λ (x : ℕ). is_in k x ≡ true) at_entry holds)))
 
-      header_at : (n : ℕ) → Smaller n → (c : Option Span) → InTree c → (p : ℕ) → IsPlace p → holds_in c p ≡ true → at_start c p ≡ false → level c * size + rank p < suc n → HeaderAt p → Reach c p
+      header_at : (n : ℕ) → Smaller n → (c : Option Span) → InTree tree c → (p : ℕ) → IsPlace p → holds_in c p ≡ true → at_start c p ≡ false → level c * size + rank p < suc n → HeaderAt p → Reach c p
       header_at n ih c here p place holds later small h =
           let i = h.instance in
           let holds_h : holds_in c i.header ≡ true = subst (λ (x : ℕ). holds_in c x ≡ true) h.is holds in

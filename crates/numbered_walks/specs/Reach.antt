@@ -14,6 +14,21 @@ use Rattle.numbered_walks.specs.Tables.{distance_of, arrival_of, round_of}
 abbrev pub most_in : Span → List NumberedEdge → ℕ
 most_in i w = most (is_inside i) (ends_at_header i) w
 
+-- ## A context: the whole graph, or an instance
+
+-- where its walks start: at the entry, or at the header
+abbrev pub start_of : Option Span → ℕ
+start_of None = 0
+start_of (Some i) = i.header
+
+abbrev pub holds_in : Option Span → ℕ → Bool
+holds_in None p = true
+holds_in (Some i) p = is_in i p
+
+abbrev pub InTree : List Span → Option Span → Type 0
+InTree spans None = Unit {0}
+InTree spans (Some i) = Contains spans i
+
 -- with these many rounds taken of each instance, and these distances, arrivals and rounds
 module _ (edges : List NumberedEdge) (tree : List Span) (taken : Span → ℕ) (dist : ℕ → ℕ)
     (arr rnd : Span → ℕ) where
@@ -23,15 +38,7 @@ module _ (edges : List NumberedEdge) (tree : List Span) (taken : Span → ℕ) (
   abbrev pub needed : NumberedEdge → ℕ
   needed e = dist e.from + sum_by (λ j. cond (is_in j e.from && not (is_in j e.to)) (stay j) 0) tree + e.cost
 
-  -- the whole graph, or an instance: where its walks start, its places, and the instances inside it
-  abbrev pub start_of : Option Span → ℕ
-  start_of None = 0
-  start_of (Some i) = i.header
-
-  abbrev pub holds_in : Option Span → ℕ → Bool
-  holds_in None p = true
-  holds_in (Some i) p = is_in i p
-
+  -- the instances inside the context
   abbrev pub below : Option Span → Span → Bool
   below None j = true
   below (Some i) j = is_in i j.header && not (nat_eq j.header i.header)
@@ -43,10 +50,6 @@ module _ (edges : List NumberedEdge) (tree : List Span) (taken : Span → ℕ) (
   -- what a walk from the start of the context to the place costs
   abbrev pub potential_in : Option Span → ℕ → ℕ
   potential_in c p = sum_by (λ j. cond (is_in j p && below c j) (stay j) 0) tree + dist p
-
-  abbrev pub InTree : Option Span → Type 0
-  InTree None = Unit {0}
-  InTree (Some i) = Contains tree i
 
   -- a walk from the start of the context to the place, inside the context and with no round of it
   pub record Reach (c : Option Span) (p : ℕ) : Type 0 where

@@ -1,5 +1,5 @@
 use Rattle.std.proofs.Common.{◌≢◌, ◌∙◌, sym}
-use Rattle.longest_walk.specs.Ways.{start_of}
+use Rattle.numbered_walks.specs.Reach.{start_of}
 use Rattle.longest_walk.proofs.WayLemmas.{way_back}
 use Rattle.longest_walk.proofs.trace.trace.Goals as goal
 
