@@ -41,7 +41,8 @@ pub record IsWalkerAfter (spans : List Span) (x : Walker) (walk : List NumberedE
 
 -- what the old one says of any walk, the new one says of it with this one after it
 abbrev pub Adds : List Span → Walker → Walker → List NumberedEdge → Type 0
-Adds spans old new more = (walk : List NumberedEdge) → IsWalkerAfter spans old walk → IsWalkerAfter spans new (walk ++ more)
+Adds spans old new more =
+    (walk : List NumberedEdge) → IsWalkerAfter spans old walk → IsWalkerAfter spans new (walk ++ more)
 
 -- nothing is followed yet
 pub record IsFresh (exit : ℕ) (x : Walker) : Type 0 where

@@ -75,7 +75,8 @@ module _ (words : Words) (st : Stated) (profile : Profile) where
     pub transfers : TransfersIn (class_of st (address_in s.regs)) step.moved.accesses
 
   -- the edge leaves the place of the step by the step's label, and ends where the step goes
-  pub record IsTaken (calls : List ℕ) (action : Action) (s : State) (stepped : Stepped) (e : Edge) : Type 0 where
+  pub record IsTaken (calls : List ℕ) (action : Action) (s : State) (stepped : Stepped)
+      (e : Edge) : Type 0 where
     pub is_edge : IsEdge words st profile e
     pub from : e.from ≡ At calls (address_in s.regs)
     pub label : e.label ≡ label_in s.regs action.cond
@@ -117,8 +118,8 @@ StepLaw =
 -- Each edge of a step costs at least its ticks.
 abbrev pub StepCost : Type 0
 StepCost =
-    (words : Words) (st : Stated) (profile : Profile) (s : State) (i : Input) (stepped : Stepped) (after : State)
-    (e : Edge) →
+    (words : Words) (st : Stated) (profile : Profile) (s : State) (i : Input) (stepped : Stepped)
+    (after : State) (e : Edge) →
     IsEdgeOf words st profile s i stepped after e → stepped.ticks ≤ e.cost
 
 -- the DMA bursts of some inputs

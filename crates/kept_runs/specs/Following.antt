@@ -83,7 +83,8 @@ module _ (words : Words) (st : Stated) (flow : Flow) (tree : Tree) where
   abbrev pub CannotGo : Follower → State → Input → Type 0
   CannotGo x s i =
       (stepped : Stepped) (after : State) (k : ℕ) → IsNext x s i stepped after k → (walk : List NumberedEdge)
-      → AreTurnsAfter tree.spans x.turns.items x.number walk → Keeps tree (walk ++ edge_at tree.edges k ∷ []) → ⊥
+      → AreTurnsAfter tree.spans x.turns.items x.number walk
+      → Keeps tree (walk ++ edge_at tree.edges k ∷ []) → ⊥
 
   -- why not: what the step does, or the instance to whose header its edge leads
   abbrev pub IsWhy : Follower → State → Input → State → Unkept → Type 0

@@ -33,7 +33,8 @@ pub record IsOver (headers : List (Option Span)) (e : NumberedEdge) (turns : Lis
 
 -- of a walk that ends at the number: the back edges of its stay in each instance where it ends; and it keeps
 -- the bounds
-pub record AreTurnsAfter (spans : List Span) (turns : List ℕ) (number : ℕ) (walk : List NumberedEdge) : Type 0 where
+pub record AreTurnsAfter (spans : List Span) (turns : List ℕ) (number : ℕ)
+    (walk : List NumberedEdge) : Type 0 where
   pub turns_are : (s : Span) → Contains spans s → is_in s number ≡ true
       → slice_index turns s.header ≡ turns_at_end s walk
   pub kept : (s : Span) → Contains spans s → most_in s walk ≤ s.bound

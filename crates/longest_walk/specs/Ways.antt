@@ -105,6 +105,6 @@ pub record AreRounds (flow : Flow) (tree : Tree) (c : Tables) (done : ℕ)
 pub record HasRounds (flow : Flow) (tree : Tree) (c : Tables) (context : Option Span)
     (table : List (Option Rounds)) : Type 0 where
   pub whole : length table ≡ length flow.places + 1
-  pub known : (s : Span) → Contains tree.spans s → holds_in context s.header ≡ true → start_of context < s.header
-      → IsRounds flow tree c s (rounds_at table s.header)
+  pub known : (s : Span) → Contains tree.spans s → holds_in context s.header ≡ true
+      → start_of context < s.header → IsRounds flow tree c s (rounds_at table s.header)
   pub plain : (p : ℕ) → is_header_in tree.spans p ≡ false → rounds_at table p ≡ None

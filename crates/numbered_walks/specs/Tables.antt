@@ -86,7 +86,8 @@ pub record IsPassed (edges : List NumberedEdge) (spans : List Span) (k q : ℕ) 
       × (needed spans c e < 2 ^ 63)
   pub round_zero : (n : ℕ) → n < k → (span_at spans n).bound ≡ 0 → round_of c (span_at spans n) ≡ 0
   pub attained : (p : ℕ) → p < q → ((p ≡ 0) × (number_of spans c p ≡ 0)) ⊎ EntersBy edges spans c p
-  pub round_attained : (n : ℕ) → n < k → (round_of c (span_at spans n) ≡ 0) ⊎ TurnsBy edges spans c (span_at spans n)
+  pub round_attained : (n : ℕ) → n < k
+      → (round_of c (span_at spans n) ≡ 0) ⊎ TurnsBy edges spans c (span_at spans n)
 
 -- each number below the limit but the entry has an edge up to it
 abbrev pub AllEntered : List NumberedEdge → ℕ → Type 0
