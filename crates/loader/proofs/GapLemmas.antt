@@ -33,7 +33,7 @@ pub word_of_from : (xs ys : Words) (a : ℕ) → Below a xs → word_of (xs ++ y
 word_of_from [] ys a below = refl
 word_of_from (e ∷ xs) ys a below = let lt : e.0 < a = below.0 in rw (ne_eqb e.0 a (λ same. omega arith)) (word_of_from xs ys a below.1)
 
-none_above : (ys : Words) (b : ℕ) → AllByRecursion (λ e. b < e.0) ys → word_of ys b ≡ None
+pub none_above : (ys : Words) (b : ℕ) → AllByRecursion (λ e. b < e.0) ys → word_of ys b ≡ None
 none_above [] b all = refl
 none_above (e ∷ ys) b all = let lt : b < e.0 = all.0 in rw (ne_eqb e.0 b (λ same. omega arith)) (none_above ys b all.1)
 

@@ -8,7 +8,7 @@ mod RunLemmas
 mod SpellLemmas
 mod WrittenLemmas
 mod RoomLemmas
-mod AcceptLemmas
+pub mod AcceptLemmas
 mod CutLemmas
 mod FrontLemmas
 mod TrailLemmas

@@ -8,6 +8,7 @@ use Rattle.std.specs.Ordering.{nat_cmp}
 use Rattle.std.specs.declared.cmp.Ordering.TheVariants.{Less}
 use Rattle.std.proofs.lemmas.Bool.{cases_eq, eq-eqb, ne_eqb}
 use Rattle.std.proofs.lemmas.Bool.Decides.{nat_tests}
+use Rattle.std.proofs.lemmas.List.Elements.{Contains-append_right}
 use Rattle.std.proofs.lemmas.List.Filters.{dedup_is}
 use Rattle.std.proofs.lemmas.List.Kept.{Contains-dedup_nat, Contains-from_dedup}
 use Rattle.loader.specs.Image.{Words, begins, runs_after, runs_of, word_of}
@@ -37,14 +38,11 @@ has_word (e ∷ rest) (suc k) page lt is =
     let more = has_word rest k page (omega (arith, lt)) is in
     (more.0, word_after e rest more.0 more.1, more.2)
 
-page_after : (x : ℕ) (xs : List ℕ) (page : ℕ) → Contains xs page → Contains (x ∷ xs) page
-page_after x xs page c = let lt = c.1 in (suc c.0, omega (arith, lt), c.2)
-
 has_page : (words : Words) (a page : ℕ) → IsSome (word_of words a) → a / 2 ^ 15 ≡ page → Contains (pages words) page
 has_page [] a page some is = absurd (cc)
 has_page (e ∷ rest) a page some is = elim (cases_eq e.0 a) [
   | inl same ↦ (0, omega arith, ap (λ (x : ℕ). x / 2 ^ 15) same ∙ is)
-  | inr other ↦ page_after (e.0 / 2 ^ 15) (pages rest) page (has_page rest a page (rw (ne_eqb e.0 a other) at some) is)
+  | inr other ↦ Contains-append_right (e.0 / 2 ^ 15 ∷ []) (pages rest) page (has_page rest a page (rw (ne_eqb e.0 a other) at some) is)
 ]
 
 -- ## They ascend

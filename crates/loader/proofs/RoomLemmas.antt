@@ -8,6 +8,7 @@ use Rattle.loader.specs.Image.{Words, begins, may_hold, runs_after, runs_of, wit
 use Rattle.loader.specs.ImageBytes.{Segment, overlaps, with_words}
 use Rattle.loader.specs.Inside.{Ascends, MayStand}
 use Rattle.loader.specs.Spelling.{AreNumbers, CanFollow}
+use Rattle.loader.proofs.GapLemmas.{none_above}
 use Rattle.loader.proofs.SegmentLemmas.{CanStand, free_from, word_of_apart, word_of_here}
 use Rattle.loader.proofs.WordLemmas.{Ascends-with_word, MayStand-with_word, Quads, absent_first, absent_rest, above, begins_new, has, length_with_word, quads, runs_of-with_word}
 use Rattle.loader.proofs.PlaceLemmas.{lies_in, lies_one, may_parts, may_within}
@@ -70,10 +71,6 @@ grown words a ws can up stand =
 -- Of the addresses 65,536 apart each that is taken lies in a run of its own, or the words between it and the one before
 -- are 16,384. So few are taken.
 
-absent_above : (words : Words) (a : ℕ) → AllByRecursion (λ e. a < e.0) words → word_of words a ≡ None
-absent_above [] a all = refl
-absent_above (e ∷ rest) a all = let lt : a < e.0 = all.0 in rw (ne_eqb e.0 a (λ same. omega (arith, lt, same))) (absent_above rest a all.1)
-
 absent_after : (e : ℕ × ℕ) (rest : Words) (a : ℕ) → e.0 ≢ a → word_of rest a ≡ None → word_of (e ∷ rest) a ≡ None
 absent_after e rest a other none = rw (ne_eqb e.0 a other) none
 
@@ -97,7 +94,7 @@ free_after : (words : Words) (p c : ℕ) → Ascends words → AllByRecursion (�
     → Free words c (65536 * runs_after (Some p) words + 4 * length words + 65536 + p)
 free_after [] p c up all near lt = free_here [] c _ refl (omega (arith, near))
 free_after (e ∷ rest) p c up all near lt = elim (cases_lt c e.0) [
-  | inl below ↦ free_here (e ∷ rest) c _ (absent_above (e ∷ rest) c (below, above c e.0 rest below up.0)) (omega (arith, near))
+  | inl below ↦ free_here (e ∷ rest) c _ (none_above (e ∷ rest) c (below, above c e.0 rest below up.0)) (omega (arith, near))
   | inr le ↦
       let joins = follows p e.0 (omega (arith, le, near)) in
       elim (cases_eq e.0 c) [
@@ -120,7 +117,7 @@ free_after (e ∷ rest) p c up all near lt = elim (cases_lt c e.0) [
 pub free_address : (words : Words) (low : ℕ) → Ascends words → low < 65536 → runs_of words ≤ 15 → length words ≤ 65535 → Free words low 1500000
 free_address [] low up small few short = free_here [] low _ refl (omega (arith, small))
 free_address (e ∷ rest) low up small few short = elim (cases_lt low e.0) [
-  | inl below ↦ free_here (e ∷ rest) low _ (absent_above (e ∷ rest) low (below, above low e.0 rest below up.0)) (omega (arith, small))
+  | inl below ↦ free_here (e ∷ rest) low _ (none_above (e ∷ rest) low (below, above low e.0 rest below up.0)) (omega (arith, small))
   | inr le ↦ elim (cases_eq e.0 low) [
     | inl same ↦
         let deeper = free_after rest e.0 (low + 65536) up.1 up.0 (omega (arith, same)) (omega (arith, same)) in

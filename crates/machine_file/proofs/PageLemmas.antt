@@ -9,6 +9,7 @@ use Rattle.memc.specs.Paged.{mapped, off, page_at}
 use Rattle.memc.specs.declared.pages.Entry.{Entry}
 use Rattle.memc.specs.declared.spots.MapFault.{MapFault}
 use Rattle.memc.specs.declared.spots.MapFault.TheVariants.{OutOfRange}
+use Rattle.memc.proofs.Inverse.{off-at}
 use Rattle.toml_reading.specs.Documents.{are_distinct}
 use Rattle.toml_reading.proofs.DistinctLemmas.{repeats}
 use Rattle.machine_file.specs.MachineFile.{is_mappable}
@@ -29,11 +30,6 @@ pub record MappedSoFar (pages : List MappedPage) (m n : Memory) : Type 0 where
 
 -- ## Off the map
 
-at_off : (i : ℕ) (ps : List (Option Entry)) (l : ℕ) → slice_index_or (map (off i) ps) l None ≡ off i (slice_index_or ps l None)
-at_off i [] l = refl
-at_off i (p ∷ ps) zero = refl
-at_off i (p ∷ ps) (suc l) = at_off i ps l
-
 off_here : (i l : ℕ) → l ≡ i → off i (Some (record { physical = l; level = 0 })) ≡ None
 off_here i l same = let e : Entry = record { physical = l; level = 0 } in ap (λ b. cond b None (Some e)) (eq-eqb l i same)
 
@@ -48,9 +44,9 @@ module _ (i : ℕ) (m n : Memory) (before : ClearedSoFar i m n) (lt : i < 128) w
   cleared : ClearedSoFar (i + 1) m (without_page i n)
   cleared =
       record {
-        below = λ (l : ℕ) h. at_off i n.paged.pages l ∙ gone l h (cases_lt l i);
-        from = λ (l : ℕ) h k. at_off i n.paged.pages l ∙ ap (off i) (before.from l (omega (arith, h)) k) ∙ off_else i l (λ e. absurd (omega (arith, h, e)));
-        high = λ (l : ℕ) h. at_off i n.paged.pages l ∙ ap (off i) (before.high l h);
+        below = λ (l : ℕ) h. off-at i n.paged.pages l ∙ gone l h (cases_lt l i);
+        from = λ (l : ℕ) h k. off-at i n.paged.pages l ∙ ap (off i) (before.from l (omega (arith, h)) k) ∙ off_else i l (λ e. absurd (omega (arith, h, e)));
+        high = λ (l : ℕ) h. off-at i n.paged.pages l ∙ ap (off i) (before.high l h);
         rest = record { size = before.rest.size; words = before.rest.words; count = length-map n.paged.pages (off i) ∙ before.rest.count; control = before.rest.control; rom = before.rest.rom };
       }
     where
@@ -124,7 +120,7 @@ module _ (xs : List MappedPage) (x : MappedPage) (m n : Memory) (before : Mapped
       ∙ ap (stated_at (xs ++ x ∷ [])) (sym same)
   put_at room logical physical l (inr other) =
       get_or-set_other (map (off x.physical) n.paged.pages) x.logical l (Some (entry_of x)) None other
-      ∙ at_off x.physical n.paged.pages l
+      ∙ off-at x.physical n.paged.pages l
       ∙ ap (off x.physical) (before.map.at l)
       ∙ off_stated xs x.physical l physical
       ∙ sym (stated_push_other xs x l other)
