@@ -177,7 +177,7 @@ pub struct Block {
 /// A branch by a signed number of words from the address two words on.
 #[derive(Clone, Copy, Debug, PartialEq, Eq)]
 pub struct Branch {
-    /// Whether R14 keeps the way back (BL); bit 24.
+    /// Whether R14 keeps the return address (BL); bit 24.
     pub link: bool,
     /// In words, as 24 bits of two's complement: from 0 to 2^24 - 1; bits 23 to 0.
     pub offset: u32,

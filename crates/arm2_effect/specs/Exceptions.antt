@@ -36,6 +36,6 @@ taken_by vector entry regs =
           (with_register entry.mode 14 (r15_ahead (r15_in regs) entry.return_offset) regs);
     }
 
--- an exception: R14 of the new mode keeps the PSR, the mode and the way back
+-- an exception: R14 of the new mode keeps the PSR, the mode and the return address
 unfoldable pub taken : Vector → List ℕ → Effect
 taken vector regs = taken_by vector (entry_at vector) regs

@@ -127,7 +127,7 @@ multiply_effect x regs =
 abbrev pub target_of : Branch → ℕ → ℕ
 target_of x r = ahead_of (address_of r) (8 + 4 * x.offset)
 
--- with a link R14 keeps the PSR, the mode and the way back
+-- with a link R14 keeps the PSR, the mode and the return address
 unfoldable pub branch_effect : Branch → List ℕ → Effect
 branch_effect x regs =
     let r = r15_in regs in

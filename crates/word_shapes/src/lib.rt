@@ -1,5 +1,5 @@
 //! Shapes of words: which load or store, which write R15, and which look like a return, a jump into a table
-//! of branches, or the word that keeps the way back.
+//! of branches, or the word that keeps the return address.
 #![tactic(auto)]
 
 mod shapes;

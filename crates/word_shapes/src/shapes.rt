@@ -109,7 +109,7 @@ pub fn is_table_jump(operation: &Operation) -> bool
     }
 }
 
-/// Whether an operation keeps the address of the second word after it as the way back: MOV R14,PC.
+/// Whether an operation keeps the address of the second word after it as the return address: MOV R14,PC.
 pub fn is_way_back(operation: &Operation) -> bool
     ensures { result ≡ is_way_back operation.now }
 {

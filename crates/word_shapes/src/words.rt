@@ -53,7 +53,7 @@ pub fn is_table_jump_at(image: &Image, at: u32) -> bool
     instr_at(image, at).is_some_and(|instr| is_table_jump(&instr.operation))
 }
 
-/// Whether the image has a word at an address that keeps the way back.
+/// Whether the image has a word at an address that keeps the return address.
 pub fn is_way_back_at(image: &Image, at: u32) -> bool
     ensures { IsTrue result ↔ HasShape is_way_back image.now at }
 {
