@@ -1,6 +1,7 @@
 -- R15: N Z C V I F in bits 31 to 26, a word address in bits 25 to 2, the mode in bits 1 and 0 (VL86C010 data
 -- sheet, registers).
 use Rattle.std.specs.Prelude.{Bool, ℕ, ◌+◌, ◌*◌, ◌/◌, ◌%◌, ◌^◌, ◌==◌, if◌then◌else◌}
+use Rattle.bus_ticks.specs.declared.space.TheConstants.{SPACE_END}
 use Rattle.arm2_decode.specs.declared.flags.Flags.{Flags}
 use Rattle.arm2_decode.specs.Allowed.{bit_of}
 use Rattle.arm2_effect.specs.declared.modes.Mode.{Mode}
@@ -22,7 +23,7 @@ r15_of psr address mode = psr * 2 ^ 26 + address + mode_number mode
 
 -- an address some bytes on: addresses wrap
 abbrev pub ahead_of : ℕ → ℕ → ℕ
-ahead_of a by = (a + by) % 2 ^ 26
+ahead_of a by = (a + by) % SPACE_END
 
 -- the condition flags
 abbrev pub flags_of : ℕ → Flags
