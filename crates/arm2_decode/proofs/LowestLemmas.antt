@@ -3,9 +3,8 @@ use Rattle.std.proofs.Common.{ℕ, zero, suc, ◌≤◌, ◌<◌, ◌≡◌, Boo
 use Rattle.std.specs.Prelude.{IfErr, Result, Ok, Err}
 use Rattle.std.specs.List.{list_all}
 use Rattle.std.specs.Int.Bits.{bit_and}
-use Rattle.std.proofs.lemmas.Bool.Decides.{nat_tests}
 use Rattle.std.proofs.lemmas.List.Elements.{Contains-get_or}
-use Rattle.std.proofs.lemmas.Bool.{eq-eqb, and_parts, eqb-true}
+use Rattle.std.proofs.lemmas.Bool.{eq-eqb, and_parts, eqb-true, leb-true}
 use Rattle.arm2_decode.specs.declared.instr.Unallocated.{Unallocated}
 use Rattle.arm2_decode.specs.declared.instr.Instr.{Instr}
 use Rattle.arm2_decode.specs.Table.{Bar, bars, why_from, Decodes, IsBarred, IsLowestBar, IsUnallocated}
@@ -27,12 +26,9 @@ rises : List Bar → Bool
 rises [] = true
 rises (bar ∷ rest) = list_all (λ b. leb bar.why b.why) rest && rises rest
 
-leb_means : (x y : ℕ) → leb x y ≡ true → x ≤ y
-leb_means x y h = grind (arith, nat_tests)
-
 all_at : (why : ℕ) (list : List Bar) (k : ℕ) (d : Bar) → k < length list → list_all (λ b. leb why b.why) list ≡ true → why ≤ (get_or list k d).why
 all_at why [] k d room e = absurd (omega arith)
-all_at why (bar ∷ rest) zero d room e = let here = and_parts (leb why bar.why) (list_all (λ b. leb why b.why) rest) e in leb_means why bar.why here.0
+all_at why (bar ∷ rest) zero d room e = let here = and_parts (leb why bar.why) (list_all (λ b. leb why b.why) rest) e in leb-true why bar.why here.0
 all_at why (bar ∷ rest) (suc k) d room e = let later = and_parts (leb why bar.why) (list_all (λ b. leb why b.why) rest) e in all_at why rest k d (omega arith) later.1
 
 first_lowest : (w : ℕ) (list : List Bar) (k : ℕ) (d : Bar) → k < length list → meets w (get_or list k d) ≡ true → rises list ≡ true → why_from list w ≤ (get_or list k d).why

@@ -7,7 +7,7 @@ use Rattle.arm2_decode.specs.Table.{row_of, operands, below_condition, IsOfRow}
 use Rattle.arm2_decode.proofs.NameLemmas.{opcode_fits, register_fits, shift_fits}
 use Rattle.arm2_decode.proofs.RowLemmas.{multiply_fits, data_register_fits, data_register_shift_fits, data_immediate_fits, single_immediate_fits, single_register_fits, block_fits, branch_fits, swi_fits, undefined_transfer_fits, coprocessor_transfer_fits, coprocessor_fits}
 
-bit_fits : (b : Bool) → bit_of b < 2 ^ 1
+pub bit_fits : (b : Bool) → bit_of b < 2 ^ 1
 bit_fits true = omega arith
 bit_fits false = omega arith
 

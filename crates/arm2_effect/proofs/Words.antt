@@ -6,7 +6,7 @@ use Rattle.shifter.specs.Shifts.{BitsAndCarry, Has}
 use Rattle.shifter.specs.Word.{bits_from}
 use Rattle.arm2_effect.specs.Operands.{word_of, shifted_of}
 
-low_bit : (n : ℕ) → n < 2 → bit_of (n == 1) ≡ n
+pub low_bit : (n : ℕ) → n < 2 → bit_of (n == 1) ≡ n
 low_bit zero h = refl
 low_bit (suc zero) h = refl
 low_bit (suc (suc n)) h = absurd (omega arith)

@@ -1,6 +1,7 @@
 -- What a step has moved, by cases: a property of plain steps, of exceptions and of stops is one of every step.
-use Rattle.std.proofs.Common.{◌≡◌, ℕ, Bool, true, false, cond, List, Option, Some, None, refl, inl, inr}
+use Rattle.std.proofs.Common.{◌≡◌, ℕ, Bool, cond, List, Option, Some, None, refl, inl, inr}
 use Rattle.std.specs.Prelude.{nat_lt, ◌^◌, not, Result, Ok, Err}
+use Rattle.std.proofs.lemmas.Bool.{cond_both}
 use Rattle.arm2_decode.specs.Conditions.{condition_holds}
 use Rattle.arm2_decode.specs.Names.{is_compare, is_pc}
 use Rattle.arm2_decode.specs.declared.instr.Operation.{Operation}
@@ -32,16 +33,14 @@ use Rattle.arm2_transfer.specs.Words.{or_fault}
 use Rattle.arm2_exec.specs.Step.{Obeys, ObeysFetched, Works, fetched}
 
 either_plain : (b : Bool) (x y : Effect) → x.kind ≡ Plain → y.kind ≡ Plain → (cond b x y).kind ≡ Plain
-either_plain true x y px py = px
-either_plain false x y px py = py
+either_plain b x y px py = cond_both b x y (λ (e : Effect). e.kind ≡ Plain) (λ _. px) (λ _. py)
 
 data_plain : (is_compare is_jump : Bool) (x y z : Effect) → x.kind ≡ Plain → y.kind ≡ Plain → z.kind ≡ Plain → (cond is_compare x (cond is_jump y z)).kind ≡ Plain
 data_plain is_compare is_jump x y z px py pz = either_plain is_compare x _ px (either_plain is_jump y z py pz)
 
 module _ (regs : List ℕ) (bus : Bus) (P : Moved → Type 0) (plain : (m : Moved) → m.kind ≡ Plain → P m) (takes : (v : Vector) → P (on_bus bus (taken v regs))) (stops : (w : Why) → P (on_bus bus (stopped w regs))) where
   one_of : (b : Bool) (x y : Moved) → P x → P y → P (cond b x y)
-  one_of true x y px py = px
-  one_of false x y px py = py
+  one_of b x y px py = cond_both b x y P (λ _. px) (λ _. py)
 
   skips : P (on_bus bus (skipped regs))
   unfolding skipped

@@ -5,9 +5,10 @@ use Rattle.std.proofs.Math.Nat.{div-div-eq-div-mul, pow-suc}
 use Rattle.std.proofs.lemmas.Nat.{ones_le_self, zero_from_ones}
 use Rattle.std.proofs.lemmas.List.Sums.{count_by-le-length, length-filter}
 use lib.Count.{ones_step}
-use Rattle.arm2_decode.specs.Allowed.{block_clash}
+use Rattle.arm2_decode.specs.Allowed.{bit_of, block_clash}
 use Rattle.arm2_decode.specs.Names.{register_number}
 use Rattle.arm2_decode.specs.declared.names.Register.{Register}
+use Rattle.arm2_effect.proofs.Words.{low_bit}
 use Rattle.arm2_transfer.specs.Words.{all_registers, is_listed, registers_in}
 
 -- registers whose numbers count up from n
@@ -16,14 +17,9 @@ Counted n [] = Unit {0}
 Counted n (r ∷ rest) = (register_number r ≡ n) × Counted (suc n) rest
 
 -- one more where a test holds
-kept_one : (b : Bool) (x : Register) (xs : List Register) (n : ℕ) → length (cond b (x ∷ xs) xs) + n ≡ cond b 1 0 + (length xs + n)
+kept_one : (b : Bool) (x : Register) (xs : List Register) (n : ℕ) → length (cond b (x ∷ xs) xs) + n ≡ bit_of b + (length xs + n)
 kept_one true x xs n = omega arith
 kept_one false x xs n = omega arith
-
-low_bit : (n : ℕ) → n < 2 → ◌≡◌ {A = ℕ} (cond (n == 1) 1 0) n
-low_bit zero h = refl
-low_bit (suc zero) h = refl
-low_bit (suc (suc n)) h = absurd (omega arith)
 
 halved : (list n : ℕ) → list / 2 ^ n / 2 ≡ list / 2 ^ suc n
 halved list n = div-div-eq-div-mul list (2 ^ n) 2 ∙ ap (λ m. list / m) (sym (pow-suc 2 n))
@@ -36,10 +32,10 @@ bits_kept list n [] h =
 bits_kept list n (r ∷ rest) h =
     let rest_kept = bits_kept list (suc n) rest h.1 in
     let e : n + suc (length rest) ≡ suc n + length rest = omega arith in
-    let bit : cond (is_listed list r) 1 0 ≡ list / 2 ^ n % 2 = ap (λ m. cond (list / 2 ^ m % 2 == 1) 1 0) h.0 ∙ low_bit (list / 2 ^ n % 2) (omega arith) in
+    let bit : bit_of (is_listed list r) ≡ list / 2 ^ n % 2 = ap (λ m. bit_of (list / 2 ^ m % 2 == 1)) h.0 ∙ low_bit (list / 2 ^ n % 2) (omega arith) in
     kept_one (is_listed list r) r (filter (is_listed list) rest) (count_ones (list / 2 ^ (n + suc (length rest))))
-    ∙ ap (λ m. cond (is_listed list r) 1 0 + (length (filter (is_listed list) rest) + count_ones (list / 2 ^ m))) e
-    ∙ ap (λ m. cond (is_listed list r) 1 0 + m) rest_kept
+    ∙ ap (λ m. bit_of (is_listed list r) + (length (filter (is_listed list) rest) + count_ones (list / 2 ^ m))) e
+    ∙ ap (λ m. bit_of (is_listed list r) + m) rest_kept
     ∙ ap (λ m. m + count_ones (list / 2 ^ suc n)) bit
     ∙ ap (λ m. list / 2 ^ n % 2 + count_ones m) (sym (halved list n))
     ∙ sym (ones_step (list / 2 ^ n))

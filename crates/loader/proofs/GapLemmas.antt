@@ -1,14 +1,15 @@
 -- Words in two parts, those below a place and those from there on.
-use Rattle.std.proofs.Common.{◌≡◌, ◌∙◌, ℕ, zero, suc, ◌+◌, ◌-◌, ◌%◌, ◌/◌, ◌^◌, List, ◌<◌, ◌≤◌, Bool, true, false, cond, eqb, [], ◌∷◌, ◌++◌, length, Option, Some, None, refl, sym, ap, inl, inr, arith, take, get_or, nat_lt}
-use Rattle.std.specs.Prelude.{MatchOption, is_some, map, slice_get, ◌&&◌, ◌||◌}
+use Rattle.std.proofs.Common.{◌≡◌, ◌∙◌, ℕ, zero, suc, ◌+◌, ◌-◌, ◌%◌, ◌<◌, ◌≤◌, Bool, true, false, cond, eqb, [], ◌∷◌, ◌++◌, length, Option, Some, None, refl, sym, ap, inl, inr, arith, take, get_or, nat_lt}
+use Rattle.std.specs.Prelude.{MatchOption, is_some, slice_get, ◌&&◌, ◌||◌}
 use Rattle.std.specs.List.{AllByRecursion, list_all, list_any}
 use Rattle.std.specs.List.Sorted.{IsNonDecreasingBy}
 use Rattle.std.specs.Option.{option_to_list}
 use Rattle.std.proofs.lemmas.Bool.{and_parts, cases_eq, le-ltb, lt-ltb, ltb-true, ne_eqb, eq-eqb}
 use Rattle.std.proofs.lemmas.List.{append_assoc}
+use Rattle.std.proofs.lemmas.List.Folds.{list_all-append, list_any-append}
 use Rattle.loader.specs.Image.{Words, put_fault, with_word, word_of}
 use Rattle.loader.specs.Inside.{Ascends}
-use Rattle.loader.proofs.WordLemmas.{Quads, above, absent_first, absent_rest, may_put}
+use Rattle.loader.proofs.WordLemmas.{Quads, above, absent_first, absent_rest, all_parts, may_put}
 
 abbrev pub Below : ℕ → Words → Type 0
 Below a words = AllByRecursion (λ e. e.0 < a) words
@@ -119,50 +120,22 @@ put_between words xs ys new a w is below from allowed pushed =
     ∙ ap (λ (ws : Words). with_word ws a w) is
 
 -- tests of both parts
-pub all_parts : (p : ℕ × ℕ → Bool) (xs ys : Words) → list_all p (xs ++ ys) ≡ (list_all p xs && list_all p ys)
-all_parts p [] ys = refl
-all_parts p (x ∷ xs) ys = ap (λ (b : Bool). p x && b) (all_parts p xs ys) ∙ and_assoc (p x) (list_all p xs) (list_all p ys)
-  where
-    and_assoc : (a b c : Bool) → (a && (b && c)) ≡ ((a && b) && c)
-    and_assoc true b c = refl
-    and_assoc false b c = refl
-
-pub any_parts : (p : ℕ × ℕ → Bool) (xs ys : Words) → list_any p (xs ++ ys) ≡ (list_any p xs || list_any p ys)
-any_parts p [] ys = refl
-any_parts p (x ∷ xs) ys = ap (λ (b : Bool). p x || b) (any_parts p xs ys) ∙ or_assoc (p x) (list_any p xs) (list_any p ys)
-  where
-    or_assoc : (a b c : Bool) → (a || (b || c)) ≡ ((a || b) || c)
-    or_assoc true b c = refl
-    or_assoc false b c = refl
-
 pub all_then : (p : ℕ × ℕ → Bool) (xs ys zs : Words) (r : Bool) → xs ++ ys ≡ zs → list_all p xs ≡ true → r ≡ list_all p ys → r ≡ list_all p zs
-all_then p xs ys zs r is front back = back ∙ sym (ap (list_all p) (sym is) ∙ all_parts p xs ys ∙ ap (λ (b : Bool). b && list_all p ys) front)
+all_then p xs ys zs r is front back = back ∙ sym (ap (list_all p) (sym is) ∙ list_all-append p xs ys ∙ ap (λ (b : Bool). b && list_all p ys) front)
 
 pub all_else : (p : ℕ × ℕ → Bool) (xs ys zs : Words) → xs ++ ys ≡ zs → list_all p xs ≡ false → list_all p zs ≡ false
-all_else p xs ys zs is front = ap (list_all p) (sym is) ∙ all_parts p xs ys ∙ ap (λ (b : Bool). b && list_all p ys) front
+all_else p xs ys zs is front = ap (list_all p) (sym is) ∙ list_all-append p xs ys ∙ ap (λ (b : Bool). b && list_all p ys) front
 
 pub any_then : (p : ℕ × ℕ → Bool) (xs ys zs : Words) → xs ++ ys ≡ zs → list_any p xs ≡ true → list_any p zs ≡ true
-any_then p xs ys zs is front = ap (list_any p) (sym is) ∙ any_parts p xs ys ∙ ap (λ (b : Bool). b || list_any p ys) front
+any_then p xs ys zs is front = ap (list_any p) (sym is) ∙ list_any-append p xs ys ∙ ap (λ (b : Bool). b || list_any p ys) front
 
 pub any_else : (p : ℕ × ℕ → Bool) (xs ys zs : Words) (r : Bool) → xs ++ ys ≡ zs → list_any p xs ≡ false → r ≡ list_any p ys → r ≡ list_any p zs
-any_else p xs ys zs r is front back = back ∙ sym (ap (list_any p) (sym is) ∙ any_parts p xs ys ∙ ap (λ (b : Bool). b || list_any p ys) front)
-
-pub pages_mapped : (xs : Words) → map (λ (e : ℕ × ℕ). e.0 / 2 ^ 15) xs ≡ map (λ (a : ℕ). a / 2 ^ 15) (map (λ (e : ℕ × ℕ). e.0) xs)
-pages_mapped [] = refl
-pages_mapped (x ∷ xs) = ap (λ (ps : List ℕ). x.0 / 2 ^ 15 ∷ ps) (pages_mapped xs)
-
-pub all_mapped : (p : ℕ → Bool) (xs : Words) → list_all p (map (λ (e : ℕ × ℕ). e.0) xs) ≡ list_all (λ e. p e.0) xs
-all_mapped p [] = refl
-all_mapped p (x ∷ xs) = ap (λ (b : Bool). p x.0 && b) (all_mapped p xs)
+any_else p xs ys zs r is front back = back ∙ sym (ap (list_any p) (sym is) ∙ list_any-append p xs ys ∙ ap (λ (b : Bool). b || list_any p ys) front)
 
 -- parts of what ascends ascend
 pub Ascends-front : (xs ys : Words) → Ascends (xs ++ ys) → Ascends xs
 Ascends-front [] ys up = tt
-Ascends-front (e ∷ xs) ys up = (front_all xs up.0, Ascends-front xs ys up.1)
-  where
-    front_all : (zs : Words) → AllByRecursion (λ f. e.0 < f.0) (zs ++ ys) → AllByRecursion (λ f. e.0 < f.0) zs
-    front_all [] all = tt
-    front_all (z ∷ zs) all = (all.0, front_all zs all.1)
+Ascends-front (e ∷ xs) ys up = ((all_parts (λ f. e.0 < f.0) xs ys up.0).0, Ascends-front xs ys up.1)
 
 pub Ascends-back : (xs ys : Words) → Ascends (xs ++ ys) → Ascends ys
 Ascends-back [] ys up = up

@@ -5,7 +5,7 @@ use Rattle.std.specs.List.{AllByRecursion, Contains, IsDistinct, filter, list_an
 use Rattle.std.specs.List.Sorted.{IsBinarySearchResult, IsStrictlySortedBy}
 use Rattle.std.specs.Ordering.{nat_cmp}
 use Rattle.std.specs.declared.cmp.Ordering.TheVariants.{Less}
-use Rattle.std.proofs.lemmas.Bool.{cases_lt}
+use Rattle.std.proofs.lemmas.Bool.{cases_lt, false_from_ne_true}
 use Rattle.std.proofs.lemmas.Bool.Decides.{nat_tests}
 use Rattle.std.proofs.lemmas.Cmp.{nat_eq_equiv}
 use Rattle.std.proofs.lemmas.List.{get_or-map, get_or-take, get_or_default, length-map, length-take}
@@ -18,19 +18,12 @@ use Rattle.std.proofs.lemmas.List.Sums.{count_by-le-length, length-filter}
 use Rattle.std.proofs.lemmas.Map.Keys.{below_from_sorted, non_decreasing_from_sorted}
 use Rattle.std.proofs.lemmas.Map.Made.{length-le_from_is_member}
 use Rattle.std.proofs.lemmas.Map.Steps.{length-le_from_distinct_below}
-use Rattle.std.proofs.lemmas.Map.Views.{Contains-from_any, list_any-from_Contains}
+use Rattle.std.proofs.lemmas.Map.Views.{Contains-from_any, exact_unsigned_eq, list_any-from_Contains}
 use Rattle.loader.specs.Image.{Words}
 use Rattle.loader.specs.PagePlan.{AreHeld, Ascend, HasWordOn, IsFree, IsPagePlan, is_logical, is_unnamed, placed}
 use Rattle.loader.specs.declared.plan.PlacedPage.{PlacedPage}
 
 -- ## Search
-
-same_number : (x y : ℕ) → nat_eq x y ≡ true → x ≡ y
-same_number x y e = grind (arith, nat_tests, e)
-
-never : (b : Bool) → (b ≡ true → ⊥) → b ≡ false
-never true no_more = absurd (no_more refl)
-never false no_more = refl
 
 pub searched_any : (xs : List ℕ) (x : ℕ) (r : Result ℕ ℕ) → Ascend xs → IsBinarySearchResult (λ y. nat_cmp y x) xs r → is_ok r ≡ list_any (nat_eq x) xs
 searched_any xs x (Ok i) up found =
@@ -43,7 +36,7 @@ searched_any xs x (Err i) up found =
       | inl low ↦ (λ same. (let h = f.1 k low in omega (arith, h, same)))
       | inr high ↦ (λ same. (let h = f.2 k high lt in omega (arith, h, same)))
     ]) in
-    sym (never (list_any (nat_eq x) xs) (λ h. All-contains (λ (y : ℕ). y ≢ x) xs x other (Contains-from_any same_number x xs h) refl))
+    sym (false_from_ne_true (list_any (nat_eq x) xs) (λ h. All-contains (λ (y : ℕ). y ≢ x) xs x other (Contains-from_any exact_unsigned_eq x xs h) refl))
 
 -- ## Numbers that ascend
 
@@ -107,7 +100,7 @@ moved held a b zero is = refl
 moved held a b (suc n) is = longer _ _ a b _ _ (ap (λ (p : ℕ). list_any (nat_eq p) held) (sym is)) (moved held (a + 1) (b + 1) n (omega (arith, is)))
 
 any_held : (test : ℕ → Bool) (xs : List ℕ) (q : ℕ) → list_any (nat_eq q) (filter test xs) ≡ true → test q ≡ true
-any_held test xs q h = All-contains (λ (y : ℕ). test y ≡ true) (filter test xs) q (filter_passes test xs) (Contains-from_any same_number q (filter test xs) h)
+any_held test xs q h = All-contains (λ (y : ℕ). test y ≡ true) (filter test xs) q (filter_passes test xs) (Contains-from_any exact_unsigned_eq q (filter test xs) h)
 
 named_few : (held : List ℕ) → length (filter (λ p. list_any (nat_eq (1024 + p)) held) (range_with_len 0 128)) ≤ length held
 named_few held =
@@ -206,7 +199,7 @@ all_free words held are = λ k d lt.
 
 free_listed : (words : Words) (held : List ℕ) (p : ℕ) → AreHeld words held → IsFree words p → Contains (filter (is_unnamed held) (range_with_len 0 128)) p
 free_listed words held p are open_page =
-    let none = never (list_any (nat_eq (1024 + p)) held) (λ h. open_page.unnamed ((are.held (1024 + p)).0 (Contains-from_any same_number (1024 + p) held h))) in
+    let none = false_from_ne_true (list_any (nat_eq (1024 + p)) held) (λ h. open_page.unnamed ((are.held (1024 + p)).0 (Contains-from_any exact_unsigned_eq (1024 + p) held h))) in
     let long = length-range_with_len 0 128 in
     let below = open_page.below in
     let here : 0 + p ≡ p = omega arith in
@@ -274,6 +267,6 @@ pub few_pages : (words : Words) (pages : List PlacedPage) (spare : ℕ) → IsPa
 few_pages words pages spare plan =
     let places = map (λ (p : PlacedPage). p.physical) pages in
     let all = All-map (λ (x : ℕ). x < 128) (λ (p : PlacedPage). p.physical) pages (physical_below words pages spare plan) in
-    let most = length-le_from_distinct_below places 128 (distinct places plan.physical_ascend) (λ q h. All-contains (λ (x : ℕ). x < 128) places q all (Contains-from_any same_number q places h)) in
+    let most = length-le_from_distinct_below places 128 (distinct places plan.physical_ascend) (λ q h. All-contains (λ (x : ℕ). x < 128) places q all (Contains-from_any exact_unsigned_eq q places h)) in
     let long = length-map pages (λ (p : PlacedPage). p.physical) in
     omega (arith, most, long)

@@ -2,7 +2,7 @@
 use Rattle.std.proofs.Common.{◌≡◌, ◌≢◌, ◌∙◌, ℕ, zero, suc, ◌+◌, ◌-◌, ◌*◌, ◌%◌, ◌<◌, ◌≤◌, Bool, true, false, cond, eqb, List, [], ◌∷◌, ◌++◌, length, drop, Option, Some, None, refl, sym, ap, inl, inr, arith}
 use Rattle.std.specs.Prelude.{◌||◌, ◌⊎◌, not, nat_le, nat_lt, IsTrue, is_some, ◌==◌}
 use Rattle.std.proofs.lemmas.List.{drop-drop}
-use Rattle.std.proofs.lemmas.Bool.{cases_lt, cases_eq, le-ltb, lt-ltb, ne_eqb, eq-eqb}
+use Rattle.std.proofs.lemmas.Bool.{cases_lt, cases_eq, le-ltb, lt-ltb, ne_eqb, eq-eqb, or_parts}
 use Rattle.std.proofs.lemmas.Bool.Decides.{nat_tests}
 use Rattle.std.proofs.lemmas.Option.{same_Some}
 use Rattle.byteorder.specs.Endian.{little_number}
@@ -94,11 +94,7 @@ pub free_from : (words : Words) (address count a : ℕ) → overlaps words addre
 free_from [] address count a none low high = refl
 free_from (e ∷ rest) address count a none low high =
     let here : e.0 ≢ a = λ same. grind (arith, nat_tests, none, low, high, same) in
-    rw (ne_eqb e.0 a here) (free_from rest address count a (or_right _ _ none) low high)
-  where
-    or_right : (x y : Bool) → (x || y) ≡ false → y ≡ false
-    or_right true y e = absurd (cc)
-    or_right false y e = e
+    rw (ne_eqb e.0 a here) (free_from rest address count a (or_parts _ _ none).1 low high)
 
 -- ## The step of the loop
 

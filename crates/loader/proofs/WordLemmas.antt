@@ -1,5 +1,5 @@
 -- One word more in a list of addresses and words.
-use Rattle.std.proofs.Common.{◌≡◌, ◌≢◌, ◌∙◌, ℕ, suc, ◌+◌, ◌-◌, ◌%◌, ◌<◌, ◌≤◌, Bool, true, false, cond, eqb, [], ◌∷◌, length, Option, Some, None, refl, sym, ap, inl, inr, arith, subst}
+use Rattle.std.proofs.Common.{◌≡◌, ◌≢◌, ◌∙◌, ℕ, suc, ◌+◌, ◌-◌, ◌%◌, ◌<◌, ◌≤◌, Bool, true, false, cond, eqb, List, [], ◌∷◌, ◌++◌, length, Option, Some, None, refl, sym, ap, inl, inr, arith, subst}
 use Rattle.std.specs.Prelude.{IsTrue, IsSome, is_some, nat_le, nat_lt, not, ◌||◌}
 use Rattle.std.specs.List.{AllByRecursion}
 use Rattle.std.proofs.lemmas.Bool.{cases_lt, cases_eq, le-ltb, lt-ltb, ltb-false, ne_eqb, eq-eqb, eqb-false}
@@ -24,6 +24,11 @@ pub absent_rest : (e : ℕ × ℕ) (rest : Words) (a : ℕ) → word_of (e ∷ r
 absent_rest e rest a none = (absent_split (eqb e.0 a) e.1 (word_of rest a) none).1
 
 -- ## Order and places
+
+-- what holds of all of a list holds of its parts
+pub all_parts : {A : Type 0} (P : A → Type 0) (front back : List A) → AllByRecursion P (front ++ back) → AllByRecursion P front × AllByRecursion P back
+all_parts P [] back all = (tt, all)
+all_parts P (e ∷ front) back all = let rest = all_parts P front back all.1 in ((all.0, rest.0), rest.1)
 
 pub all_with_word : (P : ℕ × ℕ → Type 0) (words : Words) (a w : ℕ) → AllByRecursion P words → P (a, w) → AllByRecursion P (with_word words a w)
 all_with_word P [] a w all p = (p, tt)

@@ -12,6 +12,7 @@ use Rattle.loader.specs.Spelling.{AreNumbers, CanFollow, Spell, with_segments}
 use Rattle.loader.proofs.RunLemmas as runs
 use Rattle.loader.proofs.PlaceLemmas.{Lies, lies_in, lies_more, lies_one, may_parts}
 use Rattle.loader.proofs.SegmentLemmas.{CanStand}
+use Rattle.loader.proofs.WordLemmas.{all_parts}
 
 -- ## The entries of segments
 
@@ -55,18 +56,10 @@ numbers_of (s ∷ rest) all = (all.0.1, numbers_of rest all.1)
 
 -- ## Parts of lists
 
-all_front : (P : ℕ × ℕ → Type 0) (front back : Words) → AllByRecursion P (front ++ back) → AllByRecursion P front
-all_front P [] back all = tt
-all_front P (e ∷ front) back all = (all.0, all_front P front back all.1)
-
-all_back : (P : ℕ × ℕ → Type 0) (front back : Words) → AllByRecursion P (front ++ back) → AllByRecursion P back
-all_back P [] back all = all
-all_back P (e ∷ front) back all = all_back P front back all.1
-
 -- all before an entry of ascending words are below it
 below_next : (before more : Words) (f : ℕ × ℕ) → Ascends (before ++ f ∷ more) → AllByRecursion (λ e. e.0 < f.0) before
 below_next [] more f up = tt
-below_next (e ∷ before) more f up = ((all_back (λ g. e.0 < g.0) before (f ∷ more) up.0).0, below_next before more f up.1)
+below_next (e ∷ before) more f up = ((all_parts (λ g. e.0 < g.0) before (f ∷ more) up.0).1.0, below_next before more f up.1)
 
 below_further : (before : Words) (a w : ℕ) → AllByRecursion (λ e. e.0 < a) before → AllByRecursion (λ e. e.0 < a + 4) (before ++ (a, w) ∷ [])
 below_further [] a w all = (omega arith, tt)
@@ -112,7 +105,7 @@ one_follows : (before more : Words) (a : ℕ) (ws : List ℕ) → 0 < length ws 
 one_follows before more a [] some up may few = absurd (omega (arith, some))
 one_follows before more a (w ∷ ws) some up may few =
     let below = below_next before (entries_from (a + 4) ws ++ more) (a, w) up in
-    let stand = all_front (λ e. IsTrue (may_hold e.0)) (entries_from a (w ∷ ws)) more (all_back (λ e. IsTrue (may_hold e.0)) before (entries_from a (w ∷ ws) ++ more) may) in
+    let stand = (all_parts (λ e. IsTrue (may_hold e.0)) (entries_from a (w ∷ ws)) more (all_parts (λ e. IsTrue (may_hold e.0)) before (entries_from a (w ∷ ws) ++ more) may).1).0 in
     let len = length-append before (entries_from a (w ∷ ws) ++ more) in
     let run = length-append (entries_from a (w ∷ ws)) more in
     let count = length_entries a (w ∷ ws) in (
