@@ -5,7 +5,7 @@ use Rattle.std.specs.Int.Bits.{bit_and}
 use Rattle.arm2_decode.specs.declared.instr.Instr.{Instr}
 use Rattle.arm2_decode.specs.declared.instr.Unallocated.{Unallocated}
 use Rattle.arm2_decode.specs.declared.instr.Operation.{Operation}
-use Rattle.arm2_decode.specs.declared.instr.Operation.TheVariants.{Multiply, DataRegister, DataRegisterShift, DataImmediate, SingleImmediate, SingleRegister, Block, Branch, Swi, UndefinedTransfer, CoprocessorTransfer, Coprocessor}
+use Rattle.arm2_decode.specs.declared.instr.Operation.TheVariants.{Multiply, DataRegister, DataRegisterShift, DataImmediate, SingleImmediate, SingleRegister, Block}
 use Rattle.arm2_decode.specs.Names.{cond_number}
 use Rattle.arm2_decode.specs.Allowed.{block_clash, data_clash, data_shift_clash, multiply_clash, single_clash, single_register_clash}
 use Rattle.arm2_decode.specs.Table.{Row, row_of, operands, place_of, IsOfRow, Means, bars, why_from, why_of, Decodes, multiply_row, data_register_row, data_register_shift_row, data_immediate_row, single_immediate_row, single_register_row, block_row, branch_row, swi_row, undefined_transfer_row, coprocessor_transfer_row, coprocessor_row, word_in}
@@ -72,17 +72,7 @@ decode_only w i (Err u) h m = absurd (omega (arith, h.why, h.some, allowed w (co
 pub word_laid : (w : ℕ) (o : Operation) → w < 2 ^ 32 → bit_and w (row_of o).mask ≡ (row_of o).fixed
     → w ≡ word_in (row_of o) (map (place_of w) (row_of o).places)
 word_laid w (Multiply x) below h = omega (arith, h, mask_multiply w)
-word_laid w (DataRegister x) below h = omega (arith, h, mask_four w)
-word_laid w (DataRegisterShift x) below h = omega (arith, h, mask_seven_four w)
-word_laid w (DataImmediate x) below h = omega (arith, h, mask_kind w)
-word_laid w (SingleImmediate x) below h = omega (arith, h, mask_kind w)
-word_laid w (SingleRegister x) below h = omega (arith, h, mask_four w)
-word_laid w (Block x) below h = omega (arith, h, mask_kind w)
-word_laid w (Branch x) below h = omega (arith, h, mask_kind w)
-word_laid w (Swi x) below h = omega (arith, h, mask_wide w)
-word_laid w (UndefinedTransfer x) below h = omega (arith, h, mask_four w)
-word_laid w (CoprocessorTransfer x) below h = omega (arith, h, mask_kind w)
-word_laid w (Coprocessor x) below h = omega (arith, h, mask_wide w)
+word_laid w _ below h = omega (arith, h, mask_kind w, mask_wide w, mask_four w, mask_seven_four w)
 
 pub one_word : (v w : ℕ) (i : Instr) → v < 2 ^ 32 → w < 2 ^ 32 → Means v i → Means w i → v ≡ w
 one_word v w i lv lw h m =
