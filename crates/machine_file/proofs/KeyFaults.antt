@@ -1,10 +1,10 @@
 -- The faults of a machine file key by key, as its readings have them.
-use Rattle.std.proofs.Common.{◌≡◌, ◌≢◌, ◌⊎◌, ◌-◌, ◌^◌, ℕ, pos, false, List, codes, Any, Option, None, MatchOption, option_and_then}
+use Rattle.std.proofs.Common.{◌≡◌, ◌≢◌, ◌⊎◌, ◌-◌, ◌^◌, ℕ, pos, false, List, codes, Any, MatchOption}
 use Rattle.std.specs.List.{list_all}
 use Rattle.toml.specs.Data.{Data, Members, as_integer, as_str}
 use Rattle.memc.specs.declared.spots.PageSize.{PageSize}
 use Rattle.toml_reading.specs.Documents.{has_only_keys}
-use Rattle.toml_reading.specs.Lowest.{AtKey, AtKeyOr, IsNoAddress, ListFault, NumberFault, TableFault}
+use Rattle.toml_reading.specs.Lowest.{AtKey, AtKeyOr, IsNoAddress, ListFault, NameFault, NumberFault, TableFault}
 use Rattle.machine_file.specs.MachineFaults.{machine_faults}
 use Rattle.machine_file.specs.MachineFile.{is_letter, is_single}
 use Rattle.ioc.specs.LineNames.{line_named}
@@ -32,9 +32,6 @@ SizeFault d fault =
     (fault ≡ WrongKind)
     (λ z. ((size : PageSize) → z ≢ pos (kilobytes size)) × (fault ≡ OutOfRange))
 
-abbrev pub NameFault : {A : Type 0} → (List ℕ → Option A) → Data → MachineFileFault → Type 0
-NameFault named d fault = (option_and_then named (as_str d) ≡ None) × (fault ≡ WrongKind)
-
 abbrev pub FlagsFault : Data → MachineFileFault → Type 0
 FlagsFault d fault =
     MatchOption
@@ -43,7 +40,7 @@ FlagsFault d fault =
     (λ text. ((list_all is_letter text ≡ false) × (fault ≡ WrongKind)) ⊎ ((is_single text ≡ false) × (fault ≡ Twice)))
 
 abbrev pub LinesFault : Data → MachineFileFault → Type 0
-LinesFault d fault = ListFault machine_faults (NameFault line_named) d fault
+LinesFault d fault = ListFault machine_faults (NameFault machine_faults line_named) d fault
 
 abbrev pub RegistersFault : Data → MachineFileFault → Type 0
 RegistersFault d fault =
@@ -93,7 +90,7 @@ PutWordFault d fault = TableFault machine_faults word_keys PutWordFaults d fault
 abbrev pub ValueFault : Members → MachineFileFault → Type 0
 ValueFault ms fault =
     AtKeyOr (codes "pc") ms (fault ≡ WrongKind) (λ d. AddressFault d fault)
-    ⊎ AtKey (codes "mode") ms (λ d. NameFault named_mode d fault)
+    ⊎ AtKey (codes "mode") ms (λ d. NameFault machine_faults named_mode d fault)
     ⊎ AtKey (codes "flags") ms (λ d. FlagsFault d fault)
     ⊎ AtKey (codes "registers") ms (λ d. RegistersFault d fault)
     ⊎ AtKey (codes "low_rom") ms (λ d. UpToFault 3 d fault)

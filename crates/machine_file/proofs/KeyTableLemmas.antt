@@ -7,7 +7,7 @@ use Rattle.toml.specs.Data.{Data, Members, as_integer, as_str, as_table, get_mem
 use Rattle.arm2_effect.specs.declared.modes.Reg.{Reg}
 use Rattle.memc.specs.declared.spots.PageSize.{PageSize}
 use Rattle.toml_reading.specs.Documents.{items_at}
-use Rattle.toml_reading.specs.Lowest.{AtKey, AtKeyOr, IsLowest, IsNoAddress, IsOutside}
+use Rattle.toml_reading.specs.Lowest.{AtKey, AtKeyOr, IsLowest, IsNoAddress, IsOutside, NameFault}
 use Rattle.toml_reading.proofs.LowestLemmas.{Judges, judged_as, judged_fault, judged_value}
 use Rattle.toml_reading.proofs.LowestParts.{any_cases, any_first, any_later, any_none, any_one_of}
 use Rattle.machine_file.specs.MachineFaults.{machine_faults}
@@ -20,7 +20,7 @@ use Rattle.machine_file.specs.Stated.{Stated}
 use Rattle.machine_file.specs.declared.machine_faults.MachineFileFault.{MachineFileFault}
 use Rattle.machine_file.specs.declared.machine_faults.MachineFileFault.TheVariants.{WrongKind, OutOfRange, Twice}
 use Rattle.machine_file.proofs.FaultTableLemmas.{In, KindFault, RowFault, ShapeFault, TablesFault, any_map, from_machine_fault, to_machine_fault}
-use Rattle.machine_file.proofs.KeyFaults.{AddressFault, EventFault, FlagsFault, HasKeyFault, LinesFault, NameFault, PageFault, WordAddressFault, PutWordFault, RegistersFault, SizeFault, UpToFault, WordFault}
+use Rattle.machine_file.proofs.KeyFaults.{AddressFault, EventFault, FlagsFault, HasKeyFault, LinesFault, PageFault, WordAddressFault, PutWordFault, RegistersFault, SizeFault, UpToFault, WordFault}
 use Rattle.machine_file.proofs.MachineRuleLemmas.{machine_judged}
 use Rattle.machine_file.proofs.MachineValueLemmas.{one_rank}
 
@@ -85,7 +85,7 @@ module _ (f : MachineFileFault) where
   size_kind : (d : Data) → SizeFault d f ↔ KindFault f Size d
   size_kind d = number_parts (λ z. (size : PageSize) → z ≡ pos (kilobytes size) → ⊥) (as_integer d)
 
-  mode_kind : (d : Data) → NameFault named_mode d f ↔ KindFault f ModeName d
+  mode_kind : (d : Data) → NameFault machine_faults named_mode d f ↔ KindFault f ModeName d
   mode_kind d = alone
 
   lines_parts : (N : Data → Type 0) (o : Option (List Data))
@@ -320,7 +320,7 @@ module _ (ms : Members) (f : MachineFileFault) where
       along
       (either same (either
       (either (needs_row f ms (codes "pc") Address (λ d. AddressFault d f) (address_kind f))
-      (either (may_row f ms (codes "mode") ModeName (λ d. NameFault named_mode d f) (mode_kind f))
+      (either (may_row f ms (codes "mode") ModeName (λ d. NameFault machine_faults named_mode d f) (mode_kind f))
       (either (also_parts f (λ d. FlagsFault d f) (KindFault f FlagLetters) (λ d. IsSomeAnd (as_str d) (λ text. is_single text ≡ false)) (f ≡ Twice) (flags_kind f) (get_member (codes "flags") ms))
       (either (value_parts f (λ d. RegistersFault d f) IsNoTable (In (ShapeFault f register_shape)) (registers_parts f) (get_member (codes "registers") ms))
       (either (may_row f ms (codes "low_rom") (UpTo 3) (λ d. UpToFault 3 d f) (up_to_kind f 3))

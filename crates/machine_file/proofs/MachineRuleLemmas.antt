@@ -10,14 +10,14 @@ use Rattle.memc.specs.Memory.{shift_of_size}
 use Rattle.memc.specs.declared.spots.PageSize.{PageSize}
 use Rattle.memc.specs.declared.spots.PageSize.TheVariants.{K4}
 use Rattle.toml_reading.specs.Documents.{are_distinct, has_only_keys, tables_at}
-use Rattle.toml_reading.specs.Lowest.{AtKey, AtKeyOr, IsListOf, IsNumber, KeysFault, ListFault, entries_at}
+use Rattle.toml_reading.specs.Lowest.{AtKey, AtKeyOr, IsListOf, IsNamed, IsNumber, KeysFault, ListFault, NameFault, entries_at}
 use Rattle.toml_reading.specs.Readings.{both, seen}
 use Rattle.toml_reading.proofs.LowestLemmas.{Judges, and_then_judged, joint, judged_as, judged_one, optional_judged, required_judged, seen_judged, two_tests}
-use Rattle.toml_reading.proofs.LowestParts.{entries_state, keys_judged, number_or_judged, number_read, numbers_read, some_weaker, tables_judged}
+use Rattle.toml_reading.proofs.LowestParts.{entries_state, keys_judged, named_judged, number_or_judged, number_read, numbers_read, some_weaker, tables_judged}
 use Rattle.machine_file.specs.MachineFaults.{machine_faults, number_of}
 use Rattle.machine_file.specs.MachineFile.{Read, are_single, controller_in, controller_of, event_at, events_in, flags_at, flags_in, is_mappable, machine_in, mapped, mode_at, mode_in, page_at, pages_in, pc_at, pc_in, processor_in, processor_of, registers_at, registers_in, schedule_in, schedule_of, set_flags, size_at, size_in, stated_of, put_words_in}
 use Rattle.machine_file.specs.MachineFaultRules.{IsPageTwice, IsStepTwice, IsUnmappable, are_below, page_numbers}
-use Rattle.machine_file.specs.MachineRules.{AreFlags, AreRegisters, IsAddress, IsEvent, IsNamed, IsPage, IsSize, IsWord, StatesController, StatesMachine, StatesProcessor, StatesSchedule}
+use Rattle.machine_file.specs.MachineRules.{AreFlags, AreRegisters, IsAddress, IsEvent, IsPage, IsSize, IsWord, StatesController, StatesMachine, StatesProcessor, StatesSchedule}
 use Rattle.machine_file.specs.Names.{file_keys, map_keys, named_mode}
 use Rattle.machine_file.specs.Stated.{Controller, Processor, Schedule, Stated}
 use Rattle.machine_file.specs.declared.events.Event.{Event}
@@ -25,8 +25,8 @@ use Rattle.machine_file.specs.declared.flags.PsrFlags.{PsrFlags}
 use Rattle.machine_file.specs.declared.machine_faults.MachineFileFault.{MachineFileFault}
 use Rattle.machine_file.specs.declared.machine_faults.MachineFileFault.TheVariants.{WrongKind, OutOfRange, Twice}
 use Rattle.machine_file.specs.declared.pages.MappedPage.{MappedPage}
-use Rattle.machine_file.proofs.MachineValueLemmas.{address_judged, event_judged, event_low, flags_judged, named_judged, page_judged, page_low, registers_judged, size_judged, size_low, list_low, some_low}
-use Rattle.machine_file.proofs.KeyFaults.{AddressFault, EventFault, FlagsFault, HasKeyFault, NameFault, PageFault, RegistersFault, SizeFault, UpToFault, WordFault}
+use Rattle.machine_file.proofs.MachineValueLemmas.{address_judged, event_judged, event_low, flags_judged, page_judged, page_low, registers_judged, size_judged, size_low, list_low, some_low}
+use Rattle.machine_file.proofs.KeyFaults.{AddressFault, EventFault, FlagsFault, HasKeyFault, PageFault, RegistersFault, SizeFault, UpToFault, WordFault}
 use Rattle.machine_file.proofs.OnceLemmas.{once_judged}
 use Rattle.machine_file.proofs.PutWordLemmas.{WordTwiceFault, WordsFault, WordsStates, words_judged}
 
@@ -47,16 +47,16 @@ module _ (ms : Members) where
   ModeStates m = AtKeyOr (codes "mode") ms (m ≡ Svc) (λ d. IsNamed named_mode d m)
 
   abbrev ModeFault : MachineFileFault → Type 0
-  ModeFault f = AtKey (codes "mode") ms (λ d. NameFault named_mode d f)
+  ModeFault f = AtKey (codes "mode") ms (λ d. NameFault machine_faults named_mode d f)
 
   mode_judged : Judges machine_faults ModeStates ModeFault (mode_in ms)
   mode_judged =
       optional_judged
       machine_faults
       (IsNamed named_mode)
-      (NameFault named_mode)
+      (NameFault machine_faults named_mode)
       mode_at
-      (named_judged named_mode)
+      (named_judged machine_faults named_mode)
       Svc
       (get_member (codes "mode") ms)
 

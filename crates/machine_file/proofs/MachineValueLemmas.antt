@@ -1,27 +1,27 @@
 -- What is read of the values of a machine file, against what they state and their faults.
-use Rattle.std.proofs.Common.{◌≡◌, ℕ, ℤ, pos, negsuc, ◌-◌, ◌^◌, ◌≤◌, ◌⊎◌, ◌↔◌, Bool, true, false, cond, eqb, get_or, List, [], ◌∷◌, map, codes, Any, Option, Some, None, Ok, Err, IsSomeAnd, MatchOption, is_some, unwrap_or, option_and_then, inl, inr, refl, sym, ap, ◌∙◌, arith, le_of_eq}
+use Rattle.std.proofs.Common.{◌≡◌, ℕ, ℤ, pos, negsuc, ◌-◌, ◌^◌, ◌≤◌, ◌⊎◌, ◌↔◌, Bool, true, false, cond, eqb, get_or, List, [], ◌∷◌, map, codes, Any, Option, Some, None, Ok, Err, IsSomeAnd, MatchOption, inl, inr, refl, sym, ap, ◌∙◌, arith, le_of_eq}
 use Rattle.std.specs.List.{AllZip, list_all}
-use Rattle.std.proofs.lemmas.Bool.{eq-eqb, eqb-true, false≢true, true≢false}
+use Rattle.std.proofs.lemmas.Bool.{eq-eqb, eqb-true, false≢true}
 use Rattle.toml.specs.Data.{Data, Members, as_integer, as_str, as_table, get_member}
 use Rattle.ioc.specs.declared.lines.Lines.{Lines}
 use Rattle.memc.specs.declared.spots.PageSize.{PageSize}
 use Rattle.memc.specs.declared.spots.PageSize.TheVariants.{K4, K8, K16, K32}
-use Rattle.toml_reading.specs.Lowest.{AtKey, AtKeyOr, IsInSpace, IsListOf, IsNoAddress, IsNumber, KeysFault, ListFault, TableFault}
+use Rattle.toml_reading.specs.Lowest.{AtKey, AtKeyOr, IsInSpace, IsListOf, IsNamed, IsNoAddress, IsNumber, KeysFault, ListFault, NameFault, TableFault}
 use Rattle.toml_reading.specs.Documents.{in_space, items_at, number_in, number_or}
-use Rattle.toml_reading.specs.Readings.{all, both, required, seen}
+use Rattle.toml_reading.specs.Readings.{all, both, seen}
 use Rattle.toml_reading.proofs.AddressLemmas.{integer_judged}
 use Rattle.toml_reading.proofs.LowestLemmas.{Judges, Told, joint, judged_as, one_by_rank, optional_judged, required_judged, seen_judged, two_tests}
-use Rattle.toml_reading.proofs.LowestParts.{all_judged, list_judged, not_whole, number_in_judged, number_judged, number_or_judged, table_judged, whole_same}
+use Rattle.toml_reading.proofs.LowestParts.{all_judged, list_judged, named_judged, not_whole, number_in_judged, number_judged, number_or_judged, table_judged, whole_same}
 use Rattle.machine_file.specs.MachineFaults.{machine_faults, number_of}
 use Rattle.machine_file.specs.MachineFile.{Read, event_at, event_of, flags_at, is_letter, is_single, lettered, line_at, lines_at, lines_in, page_at, page_of, pc_at, port_at, port_in, register_in, registers_at, set_flags, size_at, size_of, union, word_in}
 use Rattle.ioc.specs.LineNames.{line_named}
-use Rattle.machine_file.specs.MachineRules.{AreFlags, AreLines, AreRegisters, IsAddress, IsEvent, IsNamed, IsPage, IsSize, IsWord, kilobytes}
+use Rattle.machine_file.specs.MachineRules.{AreFlags, AreLines, AreRegisters, IsAddress, IsEvent, IsPage, IsSize, IsWord, kilobytes}
 use Rattle.machine_file.specs.Names.{event_keys, map_keys, name_of, named_registers, register_keys}
 use Rattle.machine_file.specs.declared.events.Event.{Event}
 use Rattle.machine_file.specs.declared.machine_faults.MachineFileFault.{MachineFileFault}
 use Rattle.machine_file.specs.declared.machine_faults.MachineFileFault.TheVariants.{Memory, NotToml, UnknownKey, WrongKind, OutOfRange, Twice}
 use Rattle.machine_file.specs.declared.pages.MappedPage.{MappedPage}
-use Rattle.machine_file.proofs.KeyFaults.{AddressFault, EventFault, EventFaults, FlagsFault, LinesFault, NameFault, NeedsWord, PageFault, PageFaults, RegistersFault, SizeFault, UpToFault, WordFault}
+use Rattle.machine_file.proofs.KeyFaults.{AddressFault, EventFault, EventFaults, FlagsFault, LinesFault, NeedsWord, PageFault, PageFaults, RegistersFault, SizeFault, UpToFault, WordFault}
 
 -- ## The ranks of faults
 
@@ -109,23 +109,7 @@ size_judged d =
     (λ z. record { told = size_told z })
     (as_integer d)
 
--- ## Names and letters
-
-module _ {A : Type 0} where
-  named_told : (o : Option A)
-      → Told machine_faults (λ a. o ≡ Some a) (λ f. (o ≡ None) × (f ≡ WrongKind)) (required machine_faults o (λ a. Ok a))
-  named_told None = (
-    λ a e. false≢true (ap is_some e),
-    record { has = (refl, refl); least = λ f x. is_fault f WrongKind x.1 },
-  )
-  named_told (Some a) = (
-    record { stated = refl; only = λ b e. sym (ap (λ o. unwrap_or o a) e) },
-    λ f x. true≢false (ap is_some x.0),
-  )
-
-  pub named_judged : (named : List ℕ → Option A) (d : Data)
-      → Judges machine_faults (IsNamed named d) (NameFault named d) (required machine_faults (option_and_then named (as_str d)) (λ a. Ok a))
-  named_judged named d = record { told = named_told (option_and_then named (as_str d)) }
+-- ## Letters
 
 pub same_test : (b : Bool) → b ≡ false ↔ (b ≡ false)
 same_test b = (λ e. e, λ e. e)
@@ -174,7 +158,7 @@ lines_judged d =
     (λ ls s. (ls, s, refl))
     (lines_of d)
     _
-    (list_judged machine_faults (IsNamed line_named) (NameFault line_named) line_at (named_judged line_named) d)
+    (list_judged machine_faults (IsNamed line_named) (NameFault machine_faults line_named) line_at (named_judged machine_faults line_named) d)
 
 port_of : (d : Data) (o : Option ℕ) → IsSomeAnd o (IsWord d) → (n : ℕ) × IsWord d n × (o ≡ Some n)
 port_of d None t = absurd t
@@ -404,7 +388,7 @@ module _ (f : MachineFileFault) where
   event_faults_low ms (inr (inr (inl h))) =
       some_low
       _
-      (λ d x. list_low (NameFault line_named) (λ e y. low_at WrongKind (omega arith) y.1) d x)
+      (λ d x. list_low (NameFault machine_faults line_named) (λ e y. low_at WrongKind (omega arith) y.1) d x)
       (get_member (codes "lines") ms)
       h
   event_faults_low ms (inr (inr (inr h))) =

@@ -1,9 +1,8 @@
 -- What a machine file states, key by key (over the documents of TOML).
-use Rattle.std.specs.Prelude.{◌≡◌, ◌-◌, ◌^◌, ℕ, pos, true, List, [], codes, replicate, Option}
-use Rattle.std.specs.Prelude.{Some, None, IsSomeAnd, IsTrue}
+use Rattle.std.specs.Prelude.{◌≡◌, ◌-◌, ◌^◌, ℕ, pos, true, List, [], codes, replicate, None}
+use Rattle.std.specs.Prelude.{IsSomeAnd, IsTrue}
 use Rattle.std.specs.List.{AllZip, list_all}
 use Rattle.std.specs.Map.{keys_of}
-use Rattle.std.specs.Option.{option_and_then}
 use Rattle.toml.specs.Data.{Data, Members, as_integer, as_str}
 use Rattle.arm2_effect.specs.declared.modes.Mode.TheVariants.{Svc}
 use Rattle.ioc.specs.declared.lines.Lines.{Lines}
@@ -12,7 +11,7 @@ use Rattle.memc.specs.Memory.{shift_of_size}
 use Rattle.memc.specs.declared.spots.PageSize.{PageSize}
 use Rattle.memc.specs.declared.spots.PageSize.TheVariants.{K4, K8, K16, K32}
 use Rattle.toml_reading.specs.Documents.{are_distinct, has_only_keys}
-use Rattle.toml_reading.specs.Lowest.{AtKey, AtKeyOr, IsInSpace, IsListOf, IsNumber, IsTable}
+use Rattle.toml_reading.specs.Lowest.{AtKey, AtKeyOr, IsInSpace, IsListOf, IsNamed, IsNumber, IsTable}
 use Rattle.machine_file.specs.MachineFile.{are_single, is_letter, is_mappable, is_single}
 use Rattle.ioc.specs.LineNames.{line_named}
 use Rattle.machine_file.specs.MachineFile.{set_flags, union}
@@ -46,10 +45,6 @@ kilobytes K32 = 32
 
 abbrev pub IsSize : Data → PageSize → Type 0
 IsSize d size = IsSomeAnd (as_integer d) (λ z. z ≡ pos (kilobytes size))
-
--- a text that names something
-abbrev pub IsNamed : {A : Type 0} → (List ℕ → Option A) → Data → A → Type 0
-IsNamed named d a = option_and_then named (as_str d) ≡ Some a
 
 -- letters of NZCVIF, each once at most: those flags are set, and no others
 abbrev pub AreFlags : Data → PsrFlags → Type 0

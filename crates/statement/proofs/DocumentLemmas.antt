@@ -8,20 +8,20 @@ use Rattle.toml.specs.Data.{Data, Members, as_table, get_member}
 use Rattle.bus_ticks.specs.declared.profile.Class.TheVariants.{Any}
 use Rattle.toml_reading.specs.Documents.{are_distinct, has_only_keys}
 use Rattle.toml_reading.specs.Lists.{IsListUpTo, ListUpToFault}
-use Rattle.toml_reading.specs.Lowest.{AtKey, AtKeyOr, IsLowest, IsTable}
+use Rattle.toml_reading.specs.Lowest.{AtKey, AtKeyOr, IsLowest, IsNamed, IsTable, NameFault}
 use Rattle.toml_reading.specs.Readings.{and_then}
 use Rattle.toml_reading.proofs.Following.{stated_or_faulty, tables_up_to_judged, test_judged, then_judged, widened_judged}
 use Rattle.toml_reading.proofs.LowestLemmas.{Judges, both_judged, judged_as, judged_fault, judged_value, one_by_rank, optional_judged}
-use Rattle.toml_reading.proofs.LowestParts.{keys_judged}
+use Rattle.toml_reading.proofs.LowestParts.{keys_judged, named_judged, some_weaker}
 use Rattle.toml_reading.proofs.TwiceLemmas.{keys_not_distinct}
-use Rattle.statement.specs.StatementRules.{AccessFault, AddressFault, HasAccess, HasFault, HasParts, HasTarget, HasTwo, IsAddress, IsAt, IsSingle, IsNamed, LoopFault, PartsFault, RequiredFault, States, StatesAccess, StatesLoop, StatesTarget, TargetFault, NameFault}
+use Rattle.statement.specs.StatementRules.{AccessFault, AddressFault, HasAccess, HasFault, HasParts, HasTarget, HasTwo, IsAddress, IsAt, IsSingle, LoopFault, PartsFault, RequiredFault, States, StatesAccess, StatesLoop, StatesTarget, TargetFault}
 use Rattle.statement.specs.Stated.{Stated}
 use Rattle.loader.specs.Labels.{Names}
 use Rattle.statement.specs.Statement.{Parts, access_at, access_keys, class_at, leave_in, loop_at, named_class, parts_of, statement_keys, statement_of, target_at, target_keys, stated_by_parts}
 use Rattle.statement.specs.StatementFaults.{number_of, statement_faults}
 use Rattle.statement.specs.declared.faults.StatementFault.{StatementFault}
 use Rattle.statement.specs.declared.faults.StatementFault.TheVariants.{Memory, NotToml, UnknownKey, WrongKind, UnknownLabel, OutOfRange, Twice}
-use Rattle.statement.proofs.RuleLemmas.{address_in_judged, one_address, word_judged}
+use Rattle.statement.proofs.RuleLemmas.{address_in_judged, one_address}
 use Rattle.statement.proofs.TableLemmas.{access_judged, loop_judged, six_in_line, target_judged, twice_last}
 
 -- ## Faults differ in their numbers
@@ -39,15 +39,15 @@ leave_judged :
     → Judges
     statement_faults
     (λ c. AtKeyOr (codes "leave") ms (c ≡ Any) (λ d. IsNamed named_class d c))
-    (λ f. AtKey (codes "leave") ms (λ d. NameFault named_class d f))
+    (λ f. AtKey (codes "leave") ms (λ d. NameFault statement_faults named_class d f))
     (leave_in ms)
 leave_judged ms =
     optional_judged
     statement_faults
     (IsNamed named_class)
-    (NameFault named_class)
+    (NameFault statement_faults named_class)
     class_at
-    (word_judged named_class)
+    (named_judged statement_faults named_class)
     Any
     (get_member (codes "leave") ms)
 
@@ -60,15 +60,6 @@ one_some :
     → a ≡ b
 one_some P one None a b h k = absurd h
 one_some P one (Some x) a b h k = one x a b h k
-
-some_weaker :
-    {X : Type 0} (P Q : X → Type 0)
-    → ((x : X) → P x → Q x)
-    → (o : Option X)
-    → IsSomeAnd o P
-    → IsSomeAnd o Q
-some_weaker P Q to None h = absurd h
-some_weaker P Q to (Some x) h = to x h
 
 module _ (names : Names) where
   -- ## The addresses of targets and accesses
@@ -121,7 +112,7 @@ module _ (names : Names) where
   abbrev EachFault : Members → StatementFault → Type 0
   EachFault ms f =
       ((RequiredFault (codes "entry") ms (AddressFault names) f
-      ⊎ AtKey (codes "leave") ms (λ d. NameFault named_class d f))
+      ⊎ AtKey (codes "leave") ms (λ d. NameFault statement_faults named_class d f))
       ⊎ AtKey (codes "loop") ms (λ d. ListUpToFault statement_faults 256 (LoopFault names) d f))
       ⊎ (AtKey (codes "target") ms (λ d. ListUpToFault statement_faults 1024 (TargetFault names) d f)
       ⊎ AtKey (codes "access") ms (λ d. ListUpToFault statement_faults 4096 (AccessFault names) d f))

@@ -3,13 +3,13 @@ use Rattle.std.proofs.Common.{◌≡◌, ℕ, ◌∙◌, List, Option, Some, Non
 use Rattle.std.specs.Option.{option_and_then}
 use Rattle.std.proofs.lemmas.Option.{none-some, same_Some}
 use Rattle.toml.specs.Data.{Data, Members, string, integer, as_str, get_member}
-use Rattle.toml_reading.specs.Lowest.{AtKey, IsInSpace}
+use Rattle.toml_reading.specs.Lowest.{AtKey, IsInSpace, IsNamed, NameFault}
 use Rattle.toml_reading.specs.Readings.{Reading, required}
 use Rattle.toml_reading.proofs.AddressLemmas.{integer_judged, natural_judged}
 use Rattle.toml_reading.proofs.Following.{refusal_judged}
 use Rattle.toml_reading.proofs.LowestLemmas.{Judges, judged_as, required_judged}
-use Rattle.toml_reading.proofs.LowestParts.{whole_same}
-use Rattle.statement.specs.StatementRules.{AddressFault, IsAddress, IsNamed, RequiredFault, NameFault}
+use Rattle.toml_reading.proofs.LowestParts.{named_judged, whole_same}
+use Rattle.statement.specs.StatementRules.{AddressFault, IsAddress, RequiredFault}
 use Rattle.loader.specs.Labels.{Names}
 use Rattle.statement.specs.Statement.{address_at, address_in, labelled}
 use Rattle.statement.specs.StatementFaults.{number_of, statement_faults}
@@ -74,32 +74,9 @@ one_address names _ a b h k = absurd h
 
 -- ## Words
 
-found_judged :
-    {A : Type 0} (o : Option A)
-    → Judges
-    statement_faults
-    (λ a. o ≡ Some a)
-    (λ f. (o ≡ None) × (f ≡ WrongKind))
-    (required statement_faults o (λ a. Ok a))
-found_judged None =
-    record
-    { told = (none-some, record { has = (refl, refl); least = λ o e. le_of_eq (ap number_of (sym e.1)) }) }
-found_judged (Some x) = record {
-  told = (record { stated = refl; only = λ b e. sym (same_Some x b e) }, λ f h. none-some x (sym h.0));
-}
-
 -- what is read of a word that is named
 abbrev word_of : {A : Type 0} → (List ℕ → Option A) → Data → Reading StatementFault A
 word_of named d = required statement_faults (option_and_then named (as_str d)) (λ a. Ok a)
-
-pub word_judged :
-    {A : Type 0} (named : List ℕ → Option A) (d : Data)
-    → Judges
-    statement_faults
-    (IsNamed named d)
-    (NameFault named d)
-    (word_of named d)
-word_judged named d = found_judged (option_and_then named (as_str d))
 
 -- the word at a key that must be there
 pub word_in_judged :
@@ -107,13 +84,13 @@ pub word_in_judged :
     → Judges
     statement_faults
     (λ a. AtKey key ms (λ d. IsNamed named d a))
-    (RequiredFault key ms (NameFault named))
+    (RequiredFault key ms (NameFault statement_faults named))
     (required statement_faults (get_member key ms) (word_of named))
 word_in_judged named key ms =
     required_judged
     statement_faults
     (IsNamed named)
-    (NameFault named)
+    (NameFault statement_faults named)
     (word_of named)
-    (word_judged named)
+    (named_judged statement_faults named)
     (get_member key ms)

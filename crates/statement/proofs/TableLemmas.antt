@@ -10,13 +10,13 @@ use Rattle.toml.specs.Data.{Data, Members, as_integer, get_member}
 use Rattle.bus_ticks.specs.declared.profile.Class.{Class}
 use Rattle.toml_reading.specs.Documents.{are_distinct, items_at, listed_up_to, number_in}
 use Rattle.toml_reading.specs.Lists.{StandsTwice}
-use Rattle.toml_reading.specs.Lowest.{AtKey, IsNumber, IsOutside, NumberFault}
+use Rattle.toml_reading.specs.Lowest.{AtKey, IsNamed, IsNumber, IsOutside, NameFault, NumberFault}
 use Rattle.toml_reading.specs.Readings.{Reading, and_then, both, required}
 use Rattle.toml_reading.proofs.Following.{few_judged, stated_or_faulty, test_judged, then_judged, widened_judged}
 use Rattle.toml_reading.proofs.LowestLemmas.{Judges, both_judged, judged_as, required_judged, seen_judged}
 use Rattle.toml_reading.proofs.LowestParts.{any_none, number_in_judged, table_judged}
 use Rattle.toml_reading.proofs.TwiceLemmas.{not_distinct}
-use Rattle.statement.specs.StatementRules.{AccessFault, AccessKeysFault, AddressFault, AreDestinations, DestinationsFault, GoesTo, HasAccess, HasLoop, HasTarget, IsAddress, IsMisplaced, IsPlaced, IsNamed, LoopFault, LoopKeysFault, RequiredFault, StatesAccess, StatesLoop, StatesTarget, TargetFault, TargetKeysFault, ToFault, NameFault}
+use Rattle.statement.specs.StatementRules.{AccessFault, AccessKeysFault, AddressFault, AreDestinations, DestinationsFault, GoesTo, HasAccess, HasLoop, HasTarget, IsAddress, IsMisplaced, IsPlaced, LoopFault, LoopKeysFault, RequiredFault, StatesAccess, StatesLoop, StatesTarget, TargetFault, TargetKeysFault, ToFault}
 use Rattle.statement.specs.Stated.{Target}
 use Rattle.loader.specs.Labels.{Names}
 use Rattle.statement.specs.Statement.{access_at, access_keys, address_at, address_in, class_in, destinations, destinations_at, directed, kind_in, loop_at, loop_keys, loop_parts, named_class, named_kind, once, placed_loop, some_destinations, target_at, target_keys}
@@ -432,7 +432,7 @@ module _ (names : Names) where
 
   abbrev DirectionFault : Members → StatementFault → Type 0
   DirectionFault ms f =
-      RequiredFault (codes "kind") ms (NameFault named_kind) f
+      RequiredFault (codes "kind") ms (NameFault statement_faults named_kind) f
       ⊎ ((k : TargetKind) × AtKey (codes "kind") ms (λ d. IsNamed named_kind d k) × ToFault names k (get_member (codes "to") ms) f)
 
   direction_judged :
@@ -447,7 +447,7 @@ module _ (names : Names) where
       statement_faults
       (λ k. AtKey (codes "kind") ms (λ d. IsNamed named_kind d k))
       (λ k t. (t.kind ≡ k) × GoesTo names k (get_member (codes "to") ms) t.to)
-      (RequiredFault (codes "kind") ms (NameFault named_kind))
+      (RequiredFault (codes "kind") ms (NameFault statement_faults named_kind))
       (λ k f. ToFault names k (get_member (codes "to") ms) f)
       (directed names (get_member (codes "to") ms))
       (λ k s. directed_judged k (get_member (codes "to") ms))

@@ -2,14 +2,13 @@
 use Rattle.std.specs.Prelude.{◌≡◌, ◌≢◌, ◌≤◌, ◌⊎◌, ℕ, pos, true, List, [], codes, Option, Some}
 use Rattle.std.specs.Prelude.{None, IsSomeAnd, MatchOption}
 use Rattle.std.specs.Map.{keys_of}
-use Rattle.std.specs.Option.{option_and_then}
-use Rattle.toml.specs.Data.{Data, Members, integer, string, get_member, as_str, as_table}
+use Rattle.toml.specs.Data.{Data, Members, integer, string, get_member, as_table}
 use Rattle.bus_ticks.specs.declared.profile.Class.{Class}
 use Rattle.bus_ticks.specs.declared.profile.Class.TheVariants.{Any}
 use Rattle.toml_reading.specs.Documents.{are_distinct, has_only_keys, items_at}
 use Rattle.toml_reading.specs.Lists.{IsListUpTo, ListUpToFault, StandsTwice}
-use Rattle.toml_reading.specs.Lowest.{AtKey, AtKeyOr, IsInSpace, IsNoAddress, IsNumber, IsTable, KeysFault}
-use Rattle.toml_reading.specs.Lowest.{NumberFault, TableFault}
+use Rattle.toml_reading.specs.Lowest.{AtKey, AtKeyOr, IsInSpace, IsNamed, IsNoAddress, IsNumber, IsTable}
+use Rattle.toml_reading.specs.Lowest.{KeysFault, NameFault, NumberFault, TableFault}
 use Rattle.statement.specs.Stated.{Stated, Target}
 use Rattle.loader.specs.Labels.{Names}
 use Rattle.statement.specs.Statement.{access_keys, loop_keys, named_class, named_kind, statement_keys}
@@ -36,13 +35,6 @@ AddressFault names (integer z) fault = IsNoAddress z × (fault ≡ OutOfRange)
 AddressFault names (string name) fault =
     MatchOption (names name) (fault ≡ UnknownLabel) (λ a. (¬ IsInSpace a) × (fault ≡ OutOfRange))
 AddressFault names _ fault = fault ≡ WrongKind
-
--- a text that names a class or a kind
-abbrev pub IsNamed : {A : Type 0} → (List ℕ → Option A) → Data → A → Type 0
-IsNamed named d a = option_and_then named (as_str d) ≡ Some a
-
-abbrev pub NameFault : {A : Type 0} → (List ℕ → Option A) → Data → StatementFault → Type 0
-NameFault named d fault = (option_and_then named (as_str d) ≡ None) × (fault ≡ WrongKind)
 
 -- the fault of a key that must be there: it is missing, or its value has the fault
 abbrev pub RequiredFault : List ℕ → Members → (Data → StatementFault → Type 0) → StatementFault → Type 0
@@ -128,7 +120,7 @@ module _ (names : Names) where
   abbrev pub TargetKeysFault : Members → StatementFault → Type 0
   TargetKeysFault ms fault =
       RequiredFault (codes "at") ms (AddressFault names) fault
-      ⊎ RequiredFault (codes "kind") ms (NameFault named_kind) fault
+      ⊎ RequiredFault (codes "kind") ms (NameFault statement_faults named_kind) fault
       ⊎ ((kind : TargetKind)
       × AtKey (codes "kind") ms (λ d. IsNamed named_kind d kind)
       × ToFault kind (get_member (codes "to") ms) fault)
@@ -149,7 +141,7 @@ module _ (names : Names) where
   abbrev pub AccessKeysFault : Members → StatementFault → Type 0
   AccessKeysFault ms fault =
       RequiredFault (codes "at") ms (AddressFault names) fault
-      ⊎ RequiredFault (codes "class") ms (NameFault named_class) fault
+      ⊎ RequiredFault (codes "class") ms (NameFault statement_faults named_class) fault
 
   abbrev pub AccessFault : Data → StatementFault → Type 0
   AccessFault d fault = TableFault statement_faults access_keys AccessKeysFault d fault
@@ -189,7 +181,7 @@ module _ (names : Names) where
   abbrev pub PartsFault : Members → StatementFault → Type 0
   PartsFault ms fault =
       RequiredFault (codes "entry") ms (AddressFault names) fault
-      ⊎ AtKey (codes "leave") ms (λ d. NameFault named_class d fault)
+      ⊎ AtKey (codes "leave") ms (λ d. NameFault statement_faults named_class d fault)
       ⊎ AtKey (codes "loop") ms (λ d. ListUpToFault statement_faults 256 LoopFault d fault)
       ⊎ AtKey (codes "target") ms (λ d. ListUpToFault statement_faults 1024 TargetFault d fault)
       ⊎ AtKey (codes "access") ms (λ d. ListUpToFault statement_faults 4096 AccessFault d fault)

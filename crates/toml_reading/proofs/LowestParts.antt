@@ -2,9 +2,10 @@
 use Rattle.std.proofs.Common.{◌≡◌, ℕ, zero, suc, ◌<◌, ◌≤◌, ◌⊎◌, ◌↔◌, ℤ, pos, negsuc, Bool, true, false, cond, leb, List, [], ◌∷◌, ◌++◌, length, map, fold, Any, slice_index_or, Option, Some, None, Ok, Err, IsSomeAnd, MatchOption, unwrap_or, option_and_then, inl, inr, refl, sym, ap, subst, ◌∙◌, arith, le_of_eq, append_assoc, append-nil}
 use Rattle.std.specs.List.{AllZip, cons_option}
 use Rattle.std.proofs.lemmas.Bool.{leb-true, leb-false, true≢false}
-use Rattle.toml.specs.Data.{Data, Members, as_integer, as_table, get_member}
+use Rattle.std.proofs.lemmas.Option.{none-some, same_Some}
+use Rattle.toml.specs.Data.{Data, Members, as_integer, as_str, as_table, get_member}
 use Rattle.toml_reading.specs.Documents.{has_only_keys, items_at, list_at, listed, number_at, number_in, number_or, of_keys, tables_at}
-use Rattle.toml_reading.specs.Lowest.{AtKey, AtKeyOr, IsListOf, IsNumber, IsOutside, IsTable, KeysFault, ListFault, NumberFault, TableFault, entries_at, natural, number_of_entry, numbers_at}
+use Rattle.toml_reading.specs.Lowest.{AtKey, AtKeyOr, IsListOf, IsNamed, IsNumber, IsOutside, IsTable, KeysFault, ListFault, NameFault, NumberFault, TableFault, entries_at, natural, number_of_entry, numbers_at}
 use Rattle.toml_reading.specs.Readings.{Faults, Reading, after, all, both, required, seen, up_to}
 use Rattle.toml_reading.proofs.LowestLemmas.{Judges, Told, both_judged, checked_judged, judged_as, optional_judged, required_judged, seen_judged}
 
@@ -83,6 +84,22 @@ module _ {F : Type 0} (fs : Faults F) (limit : ℕ) where
       number_judged
       missing
       (get_member key ms)
+
+-- ## Names
+
+module _ {F A : Type 0} (fs : Faults F) where
+  found_judged : (o : Option A)
+      → Judges fs (λ a. o ≡ Some a) (λ f. (o ≡ None) × (f ≡ fs.wrong_kind)) (required fs o (λ a. Ok a))
+  found_judged None = record {
+    told = (none-some, record { has = (refl, refl); least = λ o e. le_of_eq (ap fs.rank (sym e.1)) });
+  }
+  found_judged (Some x) = record {
+    told = (record { stated = refl; only = λ b e. sym (same_Some x b e) }, λ f h. none-some x (sym h.0));
+  }
+
+  pub named_judged : (named : List ℕ → Option A) (d : Data)
+      → Judges fs (IsNamed named d) (NameFault fs named d) (required fs (option_and_then named (as_str d)) (λ a. Ok a))
+  named_judged named d = found_judged (option_and_then named (as_str d))
 
 -- ## Tables
 

@@ -5,7 +5,7 @@ use Rattle.std.specs.Prelude.{Any, filter_map}
 use Rattle.std.specs.Prelude.{Option, Some, None, IsSomeAnd, MatchOption, unwrap_or}
 use Rattle.std.specs.List.{AllZip}
 use Rattle.std.specs.Option.{option_and_then}
-use Rattle.toml.specs.Data.{Data, Members, as_integer, as_table, get_member}
+use Rattle.toml.specs.Data.{Data, Members, as_integer, as_str, as_table, get_member}
 use Rattle.toml_reading.specs.Documents.{has_only_keys, items_at}
 use Rattle.toml_reading.specs.Readings.{Faults}
 
@@ -57,6 +57,16 @@ NumberFault faults limit d fault =
     (as_integer d)
     (fault ≡ faults.wrong_kind)
     (λ z. IsOutside limit z × (fault ≡ faults.out_of_range))
+
+-- ## Names
+
+-- a text that names something
+abbrev pub IsNamed : {A : Type 0} → (List ℕ → Option A) → Data → A → Type 0
+IsNamed named d a = option_and_then named (as_str d) ≡ Some a
+
+-- a text that names nothing, or another type
+abbrev pub NameFault : {F A : Type 0} → Faults F → (List ℕ → Option A) → Data → F → Type 0
+NameFault faults named d fault = (option_and_then named (as_str d) ≡ None) × (fault ≡ faults.wrong_kind)
 
 -- ## Addresses
 
