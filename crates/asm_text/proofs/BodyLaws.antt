@@ -1,9 +1,9 @@
 -- A line's text up to its comment, found in one pass.
-use Rattle.std.proofs.Common.{◌≡◌, ◌≢◌, ◌<◌, length, get_or, ◌+◌, ℕ, suc, Bool, true, false, not, ◌==◌, ◌&&◌, List, [], ◌∷◌, take, drop, Ok, refl, sym, ap, ◌∙◌, arith}
+use Rattle.std.proofs.Common.{◌≡◌, ◌≢◌, ◌<◌, length, get_or, ◌+◌, ℕ, suc, Bool, true, false, ◌&&◌, List, [], ◌∷◌, take, drop, Ok, refl, sym, ap, ◌∙◌, arith}
 use Rattle.std.specs.List.{list_all, prefix_len}
 use Rattle.std.proofs.lemmas.Bool.{ne_eqb}
 use Rattle.asm_text.specs.Pieces.{pieces}
-use Rattle.asm_text.specs.Statements.{Parsed, body, body_len, is_comment_text, is_text, is_text_line, line_of, parsed}
+use Rattle.asm_text.specs.Statements.{Parsed, body, body_len, is_comment_text, is_in_body, is_text, is_text_line, line_of, parsed}
 use Rattle.asm_text.proofs.PieceLaws.{first_passes}
 use Rattle.asm_text.proofs.SpelledLines.{body_said}
 
@@ -45,37 +45,34 @@ both_stop : (p q : ℕ → Bool) (text : List ℕ) → BothStop p q text
 both_stop p q [] = λ h. absurd cc
 both_stop p q (b ∷ bs) = stop_step p q b bs (p b) (q b) refl refl (both_stop p q bs)
 
-abbrev in_body : ℕ → Bool
-in_body b = not (b == 59)
-
 abbrev pub in_text : List ℕ → ℕ
-in_text line = prefix_len (λ b. is_text b && not (b == 59)) line
+in_text line = prefix_len (λ b. is_text b && is_in_body b) line
 
-text_line : (line : List ℕ) (n : ℕ) → n ≡ in_text line → first_passes in_body (drop n line) ≡ false → (is_text_line line ≡ list_all is_comment_text (drop n line)) × (take n line ≡ body line)
+text_line : (line : List ℕ) (n : ℕ) → n ≡ in_text line → first_passes is_in_body (drop n line) ≡ false → (is_text_line line ≡ list_all is_comment_text (drop n line)) × (take n line ≡ body line)
 text_line line n is h =
-    let ends = both_end is_text in_body line (rw is at h) in
+    let ends = both_end is_text is_in_body line (rw is at h) in
     let len : body_len line ≡ n = ends.0 ∙ sym is in
     rw len (rw (ap (λ (m : ℕ). list_all is_text (take m line)) is ∙ ends.1) refl, refl)
 
-no_text_line : (line : List ℕ) (n : ℕ) → n ≡ in_text line → first_passes in_body (drop n line) ≡ true → is_text_line line ≡ false
-no_text_line line n is h = rw (both_stop is_text in_body line (rw is at h)) refl
+no_text_line : (line : List ℕ) (n : ℕ) → n ≡ in_text line → first_passes is_in_body (drop n line) ≡ true → is_text_line line ≡ false
+no_text_line line n is h = rw (both_stop is_text is_in_body line (rw is at h)) refl
 
 -- what follows the text: nothing, a comment, or a byte that is neither
 pub nothing_after : (line after : List ℕ) (n : ℕ) → n ≡ in_text line → after ≡ drop n line → length after < 1 → (is_text_line line ≡ true) × (take n line ≡ body line)
-nothing_after line [] n is rest none = let t = text_line line n is (ap (first_passes in_body) (sym rest)) in (t.0 ∙ ap (list_all is_comment_text) (sym rest), t.1)
+nothing_after line [] n is rest none = let t = text_line line n is (ap (first_passes is_in_body) (sym rest)) in (t.0 ∙ ap (list_all is_comment_text) (sym rest), t.1)
 nothing_after line (b ∷ bs) n is rest none = absurd (omega arith)
 
 pub comment_after : (line after : List ℕ) (n : ℕ) → n ≡ in_text line → after ≡ drop n line → get_or after 0 0 ≡ 59 → (is_text_line line ≡ list_all is_comment_text after) × (take n line ≡ body line)
 comment_after line [] n is rest semicolon = absurd cc
 comment_after line (b ∷ bs) n is rest semicolon =
-    let stops : in_body b ≡ false = rw semicolon refl in
-    let t = text_line line n is (ap (first_passes in_body) (sym rest) ∙ stops) in (t.0 ∙ ap (list_all is_comment_text) (sym rest), t.1)
+    let stops : is_in_body b ≡ false = rw semicolon refl in
+    let t = text_line line n is (ap (first_passes is_in_body) (sym rest) ∙ stops) in (t.0 ∙ ap (list_all is_comment_text) (sym rest), t.1)
 
 pub other_after : (line after : List ℕ) (n : ℕ) → n ≡ in_text line → after ≡ drop n line → 0 < length after → get_or after 0 0 ≢ 59 → is_text_line line ≡ false
 other_after line [] n is rest some other = absurd (omega arith)
 other_after line (b ∷ bs) n is rest some other =
-    let passes : in_body b ≡ true = rw (ne_eqb b 59 other) refl in
-    no_text_line line n is (ap (first_passes in_body) (sym rest) ∙ passes)
+    let passes : is_in_body b ≡ true = rw (ne_eqb b 59 other) refl in
+    no_text_line line n is (ap (first_passes is_in_body) (sym rest) ∙ passes)
 
 -- what the pieces of its text say, a line says
 pub line_said : (line plain : List ℕ) (p : Parsed) → is_text_line line ≡ true → plain ≡ body line → parsed (pieces plain) ≡ Ok p → line_of line ≡ Ok p

@@ -1,8 +1,9 @@
 -- A line in upper case, after its blank.
-use Rattle.std.proofs.Common.{◌≡◌, ℕ, ◌≤◌, Bool, true, false, cond, not, ◌==◌, ◌&&◌, List, [], ◌∷◌, length, take, drop, Option, Some, None, Result, Ok, Err, refl, sym, ap, ◌∙◌, arith}
+use Rattle.std.proofs.Common.{◌≡◌, ℕ, ◌≤◌, Bool, true, false, cond, not, ◌==◌, ◌&&◌, List, [], ◌∷◌, length, take_all, Option, Some, None, Result, Ok, Err, refl, sym, ap, ◌∙◌, arith}
 use Rattle.std.specs.Prelude.{nat_le, option_and_then, option_map}
 use Rattle.std.specs.Char.{is_ascii_lowercase, to_ascii_uppercase}
 use Rattle.std.specs.List.{list_all}
+use Rattle.std.proofs.Math.Seq.{drop-length}
 use Rattle.std.proofs.lemmas.Bool.{and_parts}
 use Rattle.std.proofs.lemmas.Bool.Decides.{nat_tests}
 use Rattle.asm_text.proofs.WordLaws.{same_bytes}
@@ -14,7 +15,7 @@ use Rattle.asm_text.specs.declared.statement.TextFault.{TextFault}
 use Rattle.asm_text.specs.declared.statement.TextFault.TheVariants.{UnknownWord}
 use Rattle.asm_text.specs.Lines.{starts_run}
 use Rattle.asm_text.specs.Shown.{is_shown, is_shown_text, is_upper, parsed_shown, shown_in, shown_result, shown_said, upper_pieces}
-use Rattle.asm_text.specs.Statements.{Parsed, body_len, body_says, is_text, line_of, or_bad, parsed, statement_of, with_label}
+use Rattle.asm_text.specs.Statements.{Parsed, body_len, body_says, is_in_body, is_text, line_of, or_bad, parsed, statement_of, with_label}
 use Rattle.asm_text.specs.Words.{is_one_case, spelled_word_of, upper, word_of}
 use Rattle.asm_text.proofs.SpelledLines.{body_is, body_said}
 
@@ -36,8 +37,8 @@ upper_spelled text h =
 shown_text : (b : ℕ) → is_shown b ≡ true → is_text b ≡ true
 shown_text b h = grind (arith, nat_tests)
 
-shown_body : (b : ℕ) → is_shown b ≡ true → not (b == 59) ≡ true
-shown_body b h = (and_parts (nat_le 32 b && nat_le b 126) (not (b == 59)) h).1
+shown_body : (b : ℕ) → is_shown b ≡ true → is_in_body b ≡ true
+shown_body b h = (and_parts (nat_le 32 b && nat_le b 126) (is_in_body b) h).1
 
 all_body : (text : List ℕ) → list_all is_shown text ≡ true → body_len text ≡ length text
 all_body [] h = refl
@@ -51,14 +52,6 @@ all_text (b ∷ bs) h =
     let k = and_parts (is_shown b) (list_all is_shown bs) h in
     rw (shown_text b k.0, all_text bs k.1) refl
 
-take_whole : (xs : List ℕ) → take (length xs) xs ≡ xs
-take_whole [] = refl
-take_whole (x ∷ xs) = ap (λ (ys : List ℕ). x ∷ ys) (take_whole xs)
-
-drop_whole : (xs : List ℕ) → drop (length xs) xs ≡ []
-drop_whole [] = refl
-drop_whole (x ∷ xs) = drop_whole xs
-
 gap_parsed : (ps : List Piece) → starts_run ps ≡ true → parsed (gap_before ps) ≡ with_label None (statement_of ps)
 gap_parsed (Run r ∷ ps) h = refl
 gap_parsed ps h = absurd cc
@@ -70,7 +63,7 @@ blank_pieces text = refl
 whole_line : (line : List ℕ) → list_all is_shown line ≡ true → line_of line ≡ body_says line
 whole_line line h =
     let n = all_body line h in
-    rw (n, take_whole line, drop_whole line, all_text line h) refl
+    rw (n, take_all (length line) line (omega arith), drop-length line, all_text line h) refl
 
 -- a line after its blank, by its pieces
 read_blank : (text : List ℕ) (p : Parsed) → list_all is_shown text ≡ true → parsed (gap_before (pieces text)) ≡ Ok p → line_of (32 ∷ text) ≡ Ok p

@@ -15,8 +15,7 @@ use Rattle.asm_text.specs.declared.syntax.Distance.{Distance}
 use Rattle.asm_text.specs.declared.syntax.Distance.TheVariants as distance
 use Rattle.asm_text.specs.declared.syntax.Address.{Address}
 use Rattle.std.proofs.lemmas.List.{append-nil}
-use Rattle.std.proofs.lemmas.Option.{none-some}
-use Rattle.asm_text.proofs.WordLaws.{some_is}
+use Rattle.std.proofs.lemmas.Option.{none-some, same_Some}
 use Rattle.asm_text.proofs.SpelledNames.{and_then_is, front_number, front_register, map_is, number_front, register_again, register_front, whole_is}
 use Rattle.asm_text.proofs.SpelledShifts.{ends_shift, front_shifting, shifting_front}
 
@@ -39,7 +38,7 @@ number_offset_is (Sign Minus ∷ ps) f e = signed_is false ps f e
 number_offset_is ps f e = signed_is true ps f e
 
 amount_is : (up : Bool) (m : Register) (s : Shifting) (qs : List Piece) (f : Offset × List Piece) → by_amount up m (s, qs) ≡ Some f → (a : Amount) × (s ≡ shifting.Amount a) × (((up, distance.Register m a), qs) ≡ f)
-amount_is up m (shifting.Amount a) qs f e = (a, refl, some_is ((up, distance.Register m a), qs) f e)
+amount_is up m (shifting.Amount a) qs f e = (a, refl, same_Some ((up, distance.Register m a), qs) f e)
 amount_is up m (shifting.Register s r) qs f e = absurd (none-some f e)
 
 -- a register, with its sign in front
@@ -83,8 +82,8 @@ whole_offset up d ps h = ap (λ (qs : List Piece). all_read (offset_first qs)) (
 -- ---- the end
 
 bang_is : (ps : List Piece) (w : Bool) → bang_of ps ≡ Some w → ps ≡ marked w Bang
-bang_is [] w e = ap (λ b. marked b Bang) (some_is false w e)
-bang_is (Sign Bang ∷ []) w e = ap (λ b. marked b Bang) (some_is true w e)
+bang_is [] w e = ap (λ b. marked b Bang) (same_Some false w e)
+bang_is (Sign Bang ∷ []) w e = ap (λ b. marked b Bang) (same_Some true w e)
 bang_is (Sign Bang ∷ p ∷ ps) w e = absurd (none-some w e)
 bang_is _ w e = absurd (none-some w e)
 

@@ -2,6 +2,7 @@
 use Rattle.std.proofs.Common.{◌≡◌, ℕ, Bool, true, false, cond, not, ◌==◌, List, [], ◌∷◌, ◌++◌, Option, Some, None, Result, Ok, Err, refl, sym, ap, subst, ◌∙◌, inl, inr, take, drop, length, arith, eqb-true}
 use Rattle.std.specs.Prelude.{option_and_then}
 use Rattle.std.specs.List.{list_all}
+use Rattle.std.proofs.Math.Seq.{drop-append_seam, take-append_seam}
 use Rattle.std.proofs.lemmas.Bool.{and_parts, cases_Bool}
 use Rattle.std.proofs.lemmas.List.{take-append-drop}
 use Rattle.std.proofs.lemmas.Option.{none-some}
@@ -12,7 +13,7 @@ use Rattle.asm_text.specs.Registers.{register_comma_first}
 use Rattle.asm_text.specs.Words.{IsSpelling, spelled_word_of}
 use Rattle.asm_text.specs.Said.{Target, Number, Label, Said, Codes, Refers, Orgs, Lists}
 use Rattle.asm_text.specs.Operands.{address_of, block_of, data_of, is_byte, is_user, product_of}
-use Rattle.asm_text.specs.Statements.{Parsed, action_of, after_label, after_word, body, body_len, body_says, code_said, is_comment_text, is_label, is_text, is_text_line, line_of, only_number, only_target, operands_of, or_bad, parsed, plain_said, refers, single_said, single_with, statement_of, values_in, with_label, with_word, word_ends}
+use Rattle.asm_text.specs.Statements.{Parsed, action_of, after_label, after_word, body, body_len, body_says, code_said, is_comment_text, is_in_body, is_label, is_text, is_text_line, line_of, only_number, only_target, operands_of, or_bad, parsed, plain_said, refers, single_said, single_with, statement_of, values_in, with_label, with_word, word_ends}
 use Rattle.asm_text.specs.SpelledOperands.{IsRegister}
 use Rattle.asm_text.specs.Spelling.{IsComment, Spells, SpellsAction, SpellsOperands, SpellsParts, SpellsSaid, SpellsTarget, SpellsUse}
 use Rattle.asm_text.specs.declared.token.Mark.TheVariants.{OpenBracket}
@@ -29,7 +30,7 @@ use Rattle.asm_text.specs.declared.statement.Expects.TheVariants as expects
 use Rattle.asm_text.specs.declared.statement.TextFault.{TextFault}
 use Rattle.asm_text.specs.declared.statement.TextFault.TheVariants.{NotText, UnknownWord}
 use Rattle.asm_text.proofs.PieceLaws.{first_passes, pieces_again, pieces_spaced, pieces_written, prefix_all, prefix_stop}
-use Rattle.asm_text.proofs.WordLaws.{chosen, spelled_again, spelled_is}
+use Rattle.asm_text.proofs.WordLaws.{chosen, same_Ok, spelled_again, spelled_is}
 use Rattle.asm_text.proofs.SpelledNames.{and_then_is, front_register_comma, map_is, number_whole, register_comma_front, whole_number}
 use Rattle.asm_text.proofs.SpelledShifts.{data_again, data_is, product_again, product_is}
 use Rattle.asm_text.proofs.SpelledAddresses.{address_again, address_is}
@@ -42,12 +43,9 @@ action_is : (h : Head) (s : Suffix) (ps : List Piece) (a : Action) → action_of
 action_is (head.Data op) s ps a e =
     let k = map_is action.Data (data_of op s ps) a e in
     subst (λ x. SpellsAction x (head.Data op) s ps) k.2 (data_is op s ps k.0 k.1)
-action_is (head.Multiply false) s ps a e =
-    let k = map_is action.Multiply (product_of false s ps) a e in
-    subst (λ x. SpellsAction x (head.Multiply false) s ps) k.2 (product_is false s ps k.0 k.1)
-action_is (head.Multiply true) s ps a e =
-    let k = map_is action.Multiply (product_of true s ps) a e in
-    subst (λ x. SpellsAction x (head.Multiply true) s ps) k.2 (product_is true s ps k.0 k.1)
+action_is (head.Multiply b) s ps a e =
+    let k = map_is action.Multiply (product_of b s ps) a e in
+    subst (λ x. SpellsAction x (head.Multiply b) s ps) k.2 (product_is b s ps k.0 k.1)
 action_is (head.Block load) s ps a e =
     let k = map_is action.Block (block_of load s ps) a e in
     subst (λ x. SpellsAction x (head.Block load) s ps) k.2 (block_is load s ps k.0 k.1)
@@ -127,8 +125,7 @@ operands_is Dcd ps x e =
 
 action_again : (a : Action) (h : Head) (c : Cond) (s : Suffix) (ps : List Piece) → SpellsAction a h s ps → plain_said h c s ps ≡ Some (Codes (record { cond = c; action = a }))
 action_again (action.Data x) (head.Data op) c s ps h = rw (data_again op s x ps h) refl
-action_again (action.Multiply x) (head.Multiply false) c s ps h = rw (product_again false s x ps h) refl
-action_again (action.Multiply x) (head.Multiply true) c s ps h = rw (product_again true s x ps h) refl
+action_again (action.Multiply x) (head.Multiply b) c s ps h = rw (product_again b s x ps h) refl
 action_again (action.Single x) (head.Single load) c s ps h =
     rw (h.spelled, h.means, front_register_comma h.d h.rd (Sign OpenBracket ∷ h.rest) h.d-is, address_again (is_user s) h.at h.rest h.address) refl
 action_again (action.Block x) (head.Block load) c s ps h = rw (block_again load s x ps h) refl
@@ -179,22 +176,19 @@ statement_again x ps h = rw (h.spelled, spelled_again h.name h.word h.word-is, o
 abbrev PartsOf : List Piece → Parsed → Type 0
 PartsOf ps p = SpellsParts p.label p.said ps
 
-ok_is : (a b : Parsed) → ◌≡◌ {A = Result Parsed TextFault} (Ok a) (Ok b) → a ≡ b
-ok_is a b e = cc
-
 with_label_is : (l : Option (List ℕ)) (r : Result Said TextFault) (p : Parsed) → with_label l r ≡ Ok p → (x : Said) × (r ≡ Ok x) × (record { label = l; said = Some x } ≡ p)
-with_label_is l (Ok x) p e = (x, refl, ok_is (record { label = l; said = Some x }) p e)
+with_label_is l (Ok x) p e = (x, refl, same_Ok (record { label = l; said = Some x }) p e)
 with_label_is l (Err fault) p e = absurd cc
 
 label_is : (l : List ℕ) (ps : List Piece) (p : Parsed) → is_label l ≡ true → after_label l ps ≡ Ok p → PartsOf (Run l ∷ ps) p
-label_is l [] p is e = subst (PartsOf (Run l ∷ [])) (ok_is (record { label = Some l; said = None }) p e) (refl, is)
+label_is l [] p is e = subst (PartsOf (Run l ∷ [])) (same_Ok (record { label = Some l; said = None }) p e) (refl, is)
 label_is l (Gap ∷ ps) p is e =
     let k = with_label_is (Some l) (statement_of ps) p e in
     subst (PartsOf (Run l ∷ Gap ∷ ps)) k.2 (ps, refl, is, statement_is ps k.0 k.1)
 label_is l _ p is e = absurd cc
 
 parts_is : (ps : List Piece) (p : Parsed) → parsed ps ≡ Ok p → PartsOf ps p
-parts_is [] p e = subst (PartsOf []) (ok_is (record { label = None; said = None }) p e) refl
+parts_is [] p e = subst (PartsOf []) (same_Ok (record { label = None; said = None }) p e) refl
 parts_is (Gap ∷ ps) p e =
     let k = with_label_is None (statement_of ps) p e in
     subst (PartsOf (Gap ∷ ps)) k.2 (ps, refl, statement_is ps k.0 k.1)
@@ -213,32 +207,21 @@ parts_again (Some l) (Some x) ps h = rw (h.1, h.2, statement_again x h.0 h.3) re
 
 -- ---- lines
 
-abbrev no_semicolon : ℕ → Bool
-no_semicolon b = not (b == 59)
-
-semicolon : (b : ℕ) → no_semicolon b ≡ false → b ≡ 59
+semicolon : (b : ℕ) → is_in_body b ≡ false → b ≡ 59
 semicolon b h = elim (cases_Bool (b == 59)) [ inl e ↦ eqb-true b 59 e | inr e ↦ let k : not false ≡ false = rw e at h in absurd cc ]
 
-comment_is : (text : List ℕ) → first_passes no_semicolon text ≡ false → list_all is_comment_text text ≡ true → IsComment text
+comment_is : (text : List ℕ) → first_passes is_in_body text ≡ false → list_all is_comment_text text ≡ true → IsComment text
 comment_is [] h all = inl refl
 comment_is (b ∷ bs) h all = inr (bs, ap (λ (c : ℕ). c ∷ bs) (semicolon b h), (and_parts (is_comment_text b) (list_all is_comment_text bs) all).1)
 
 comment_text : (text : List ℕ) → IsComment text → list_all is_comment_text text ≡ true
 comment_text text h = elim h [ inl e ↦ rw e refl | inr k ↦ rw (k.1, k.2) refl ]
 
-front_len : (bs cs : List ℕ) → list_all no_semicolon bs ≡ true → IsComment cs → body_len (bs ++ cs) ≡ length bs
+front_len : (bs cs : List ℕ) → list_all is_in_body bs ≡ true → IsComment cs → body_len (bs ++ cs) ≡ length bs
 front_len [] cs all h = elim h [ inl e ↦ rw e refl | inr k ↦ rw k.1 refl ]
 front_len (b ∷ bs) cs all h =
-    let k = and_parts (no_semicolon b) (list_all no_semicolon bs) all in
+    let k = and_parts (is_in_body b) (list_all is_in_body bs) all in
     rw k.0 (omega (arith, front_len bs cs k.1 h))
-
-take_front : (bs cs : List ℕ) → take (length bs) (bs ++ cs) ≡ bs
-take_front [] cs = refl
-take_front (b ∷ bs) cs = ap (λ (xs : List ℕ). b ∷ xs) (take_front bs cs)
-
-drop_front : (bs cs : List ℕ) → drop (length bs) (bs ++ cs) ≡ cs
-drop_front [] cs = refl
-drop_front (b ∷ bs) cs = drop_front bs cs
 
 -- a line with a meaning has a word that ends, or none
 pub word_ended : (text : List ℕ) (p : Parsed) → parsed (pieces text) ≡ Ok p → word_ends text ≡ true
@@ -263,8 +246,8 @@ line_is line p e =
             comment = drop n line;
             parts = sym (take-append-drop n line);
             text = k.0;
-            no_semicolon = prefix_all no_semicolon line;
-            comment-is = comment_is (drop n line) (prefix_stop no_semicolon line) k.1;
+            no_semicolon = prefix_all is_in_body line;
+            comment-is = comment_is (drop n line) (prefix_stop is_in_body line) k.1;
             pieces = pieces (body line);
             written = pieces_written (body line);
             spaced = pieces_spaced (body line);
@@ -276,7 +259,7 @@ line_is line p e =
 pub line_again : (line : List ℕ) (p : Parsed) → Spells p line → line_of line ≡ Ok p
 line_again line p h =
     let len : body_len line ≡ length h.body = ap body_len h.parts ∙ front_len h.body h.comment h.no_semicolon h.comment-is in
-    let front : body line ≡ h.body = ap (λ n. take n line) len ∙ ap (take (length h.body)) h.parts ∙ take_front h.body h.comment in
-    let after : drop (body_len line) line ≡ h.comment = ap (λ n. drop n line) len ∙ ap (drop (length h.body)) h.parts ∙ drop_front h.body h.comment in
+    let front : body line ≡ h.body = ap (λ n. take n line) len ∙ ap (take (length h.body)) h.parts ∙ take-append_seam h.body h.comment in
+    let after : drop (body_len line) line ≡ h.comment = ap (λ n. drop n line) len ∙ ap (drop (length h.body)) h.parts ∙ drop-append_seam h.body h.comment in
     let said : parsed (pieces h.body) ≡ Ok p = ap parsed (pieces_again h.pieces h.body h.written h.spaced) ∙ parts_again p.label p.said h.pieces h.spelled in
     rw (front, after, h.text, comment_text h.comment h.comment-is) (body_said h.body p said)

@@ -26,8 +26,8 @@ use Rattle.asm_text.specs.declared.syntax.BlockTransfer.{BlockTransfer}
 use Rattle.asm_text.specs.declared.statement.Expects.{Expects}
 use Rattle.asm_text.specs.declared.statement.Expects.TheVariants as expects
 use Rattle.std.proofs.lemmas.List.{append-nil}
-use Rattle.std.proofs.lemmas.Option.{none-some}
-use Rattle.asm_text.proofs.WordLaws.{chosen, some_is}
+use Rattle.std.proofs.lemmas.Option.{none-some, same_Some}
+use Rattle.asm_text.proofs.WordLaws.{chosen}
 use Rattle.asm_text.proofs.SpelledNames.{and_then_is, digits_again, digits_is, front_register, map_is, number_again, number_front, number_is, register_again, register_front, register_is, whole_is, with_rest_is}
 
 -- ---- a list, one more in front
@@ -76,7 +76,7 @@ run_added list run f a qs h ended =
 bits_is : (a b : Register) (bits : ℕ) → run_bits a b ≡ Some bits → (register_number a ≤ register_number b) × (bits ≡ bits_of (a, b))
 bits_is a b bits e =
     elim (chosen (nat_le (register_number a) (register_number b)) (Some (bits_of (a, b))) None (Some bits) e) [
-      | inl h ↦ (grind (arith, nat_tests, h.0), sym (some_is (bits_of (a, b)) bits h.1))
+      | inl h ↦ (grind (arith, nat_tests, h.0), sym (same_Some (bits_of (a, b)) bits h.1))
       | inr h ↦ absurd (none-some bits h.1)
     ]
 
@@ -96,7 +96,7 @@ ended_is : (list : ℕ) (p : Piece) (ps : List Piece) (f : ℕ × List Piece)
     → list_by (λ more next. list_from more next ps) ps (after_step list p) ≡ Some f → Ended list f (p ∷ ps)
 unfolding Ended Runs
 ended_is list Comma ps f start e = inr (ps, refl, start list e)
-ended_is list (Sign CloseBrace) ps f start e = let same = some_is (list, ps) f e in inl (ap (λ (g : ℕ × List Piece). Sign CloseBrace ∷ g.1) same, sym (ap (λ (g : ℕ × List Piece). g.0) same))
+ended_is list (Sign CloseBrace) ps f start e = let same = same_Some (list, ps) f e in inl (ap (λ (g : ℕ × List Piece). Sign CloseBrace ∷ g.1) same, sym (ap (λ (g : ℕ × List Piece). g.0) same))
 ended_is list _ ps f start e = absurd (none-some f e)
 
 -- after a register that is alone
@@ -171,8 +171,8 @@ list_again (run ∷ next ∷ runs) a rest list h =
 -- ---- blocks
 
 caret_is : (ps : List Piece) (w : Bool) → caret_of ps ≡ Some w → ps ≡ marked w Caret
-caret_is [] w e = ap (λ b. marked b Caret) (some_is false w e)
-caret_is (Sign Caret ∷ []) w e = ap (λ b. marked b Caret) (some_is true w e)
+caret_is [] w e = ap (λ b. marked b Caret) (same_Some false w e)
+caret_is (Sign Caret ∷ []) w e = ap (λ b. marked b Caret) (same_Some true w e)
 caret_is (Sign Caret ∷ p ∷ ps) w e = absurd (none-some w e)
 caret_is _ w e = absurd (none-some w e)
 
@@ -243,10 +243,10 @@ label_no_number (c ∷ cs) h =
     ]
 
 target_by_is : (o : Option ℕ) (d : List ℕ) (t : Target) → run_number d ≡ o → target_by o d ≡ Some t → SpellsTarget t (Run d ∷ [])
-target_by_is (Some n) d t is e = subst (λ x. SpellsTarget x (Run d ∷ [])) (some_is (Number n) t e) (inl (d, refl, number_is d n is))
+target_by_is (Some n) d t is e = subst (λ x. SpellsTarget x (Run d ∷ [])) (same_Some (Number n) t e) (inl (d, refl, number_is d n is))
 target_by_is None d t is e =
     elim (chosen (is_label d) (Some (Label d)) None (Some t) e) [
-      | inl h ↦ subst (λ x. SpellsTarget x (Run d ∷ [])) (some_is (Label d) t h.1) (refl, h.0)
+      | inl h ↦ subst (λ x. SpellsTarget x (Run d ∷ [])) (same_Some (Label d) t h.1) (refl, h.0)
       | inr h ↦ absurd (none-some t h.1)
     ]
 
@@ -299,7 +299,7 @@ value_added t vs a qs h rest =
 
 values_is : (ps : List Piece) (at : Expects) (vs : List Target) → values_in at ps ≡ Some vs → Values at vs ps
 unfolding Values Rest
-values_is [] expects.After vs e = inl (refl, sym (some_is [] vs e))
+values_is [] expects.After vs e = inl (refl, sym (same_Some [] vs e))
 values_is [] at vs e = absurd (none-some vs e)
 values_is (Run d ∷ ps) expects.Start vs e =
     let k = and_then_is (λ f. option_map (with_value f.0) (values_in f.1 ps)) (option_map (λ v. (Some v, expects.After)) (run_target d)) vs e in

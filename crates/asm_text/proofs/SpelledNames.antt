@@ -8,7 +8,7 @@ use Rattle.std.specs.Str.Parse.{digits_value}
 use Rattle.std.proofs.lemmas.Bool.{and_parts, cases_Bool}
 use Rattle.std.proofs.lemmas.Bool.Decides.{nat_tests}
 use Rattle.std.proofs.lemmas.List.{append-nil}
-use Rattle.std.proofs.lemmas.Option.{none-some}
+use Rattle.std.proofs.lemmas.Option.{none-some, same_Some}
 use Rattle.arm2_decode.specs.declared.names.Register.{Register}
 use Rattle.arm2_decode.specs.declared.names.Shift.{Shift}
 use Rattle.asm_text.specs.Pieces.{Piece, Run, Comma, Sign}
@@ -17,7 +17,7 @@ use Rattle.asm_text.specs.Operands.{alone, all_read}
 use Rattle.asm_text.specs.Registers.{found, in_both_cases, is_rrx, register_comma_first, register_first, register_names, register_of, shift_names, shift_of}
 use Rattle.asm_text.specs.SpelledOperands.{IsDigits, IsNumber, IsRegister, IsRrx, IsShift, SpellsNumber}
 use Rattle.asm_text.specs.declared.token.Mark.TheVariants.{Ampersand}
-use Rattle.asm_text.proofs.WordLaws.{chosen, equal_bytes, false_true, same_bytes, some_is}
+use Rattle.asm_text.proofs.WordLaws.{chosen, equal_bytes, false_true, same_bytes}
 
 -- ---- what an option came from
 
@@ -27,14 +27,14 @@ and_then_is f (Some a) b e = (a, refl, e)
 
 pub map_is : {A B : Type 0} (f : A → B) (o : Option A) (b : B) → option_map f o ≡ Some b → (a : A) × (o ≡ Some a) × (f a ≡ b)
 map_is f None b e = absurd (none-some b e)
-map_is f (Some a) b e = (a, refl, some_is (f a) b e)
+map_is f (Some a) b e = (a, refl, same_Some (f a) b e)
 
 pub with_rest_is : {A : Type 0} (ps : List Piece) (o : Option A) (f : A × List Piece) → with_rest ps o ≡ Some f → (o ≡ Some f.0) × (ps ≡ f.1)
 with_rest_is ps None f e = absurd (none-some f e)
-with_rest_is ps (Some a) f e = let same = some_is (a, ps) f e in (ap (λ g. Some g.0) same, ap (λ g. g.1) same)
+with_rest_is ps (Some a) f e = let same = same_Some (a, ps) f e in (ap (λ g. Some g.0) same, ap (λ g. g.1) same)
 
 alone_is : {A : Type 0} (a : A) (ps : List Piece) (b : A) → alone a ps ≡ Some b → (ps ≡ []) × (a ≡ b)
-alone_is a [] b e = (refl, some_is a b e)
+alone_is a [] b e = (refl, same_Some a b e)
 alone_is a (p ∷ ps) b e = absurd (none-some b e)
 
 pub whole_is : {A : Type 0} (o : Option (A × List Piece)) (a : A) → all_read o ≡ Some a → o ≡ Some (a, [])
@@ -47,7 +47,7 @@ fits_is : (o : Option ℕ) (n : ℕ) → fits o ≡ Some n → (o ≡ Some n) ×
 fits_is None n e = absurd (none-some n e)
 fits_is (Some m) n e =
     elim (chosen (nat_lt m (2 ^ 32)) (Some m) None (Some n) e) [
-      | inl h ↦ let same = some_is m n h.1 in let lt : m < 2 ^ 32 = grind (arith, nat_tests, h.0) in (ap Some same, omega arith)
+      | inl h ↦ let same = same_Some m n h.1 in let lt : m < 2 ^ 32 = grind (arith, nat_tests, h.0) in (ap Some same, omega arith)
       | inr h ↦ absurd (none-some n h.1)
     ]
 
@@ -57,7 +57,7 @@ digits_is radix text n e =
     elim (chosen (nat_lt 0 (length text) && list_all (λ c. is_digit c radix) text) (Some (digits_value radix text)) None (Some n) f.0) [
       | inl h ↦
           let k = and_parts (nat_lt 0 (length text)) (list_all (λ c. is_digit c radix) text) h.0 in
-          record { some = grind (arith, nat_tests, k.0); digits = k.1; value = sym (some_is (digits_value radix text) n h.1); fits = f.1 }
+          record { some = grind (arith, nat_tests, k.0); digits = k.1; value = sym (same_Some (digits_value radix text) n h.1); fits = f.1 }
       | inr h ↦ absurd (none-some n h.1)
     ]
 
@@ -152,7 +152,7 @@ found_is : {A : Type 0} (names : List (List ℕ × A)) (text : List ℕ) (a : A)
 found_is [] text a e = absurd (none-some a e)
 found_is (x ∷ xs) text a e =
     elim (chosen (bytes_eq text x.0) (Some x.1) (found xs text) (Some a) e) [
-      | inl h ↦ (0, omega arith, rw (← (equal_bytes text x.0 h.0), ← (some_is x.1 a h.1)) refl)
+      | inl h ↦ (0, omega arith, rw (← (equal_bytes text x.0 h.0), ← (same_Some x.1 a h.1)) refl)
       | inr h ↦ in_more x xs (text, a) (found_is xs text a h.1)
     ]
 

@@ -12,7 +12,7 @@ use Rattle.arm2_decode.specs.Names.{is_compare}
 use Rattle.asm_text.specs.Numbers.{number_first}
 use Rattle.asm_text.specs.Registers.{is_rrx, register_comma_first, register_first, register_of, shift_of}
 use Rattle.asm_text.specs.Operands.{compare_of, compare_rd, data_with, data_of, factors_of, is_move, is_s, move_of, operand_of, product_of, shift_by, shift_first, shift_words, shifting_first, sum_of, three_of, all_read}
-use Rattle.asm_text.specs.SpelledOperands.{SpellsCompare, SpellsData, SpellsMove, SpellsOperand, SpellsProduct, SpellsShift, SpellsShifting, SpellsSum, SpellsThree}
+use Rattle.asm_text.specs.SpelledOperands.{SpellsCompare, SpellsData, SpellsFactors, SpellsMove, SpellsOperand, SpellsShift, SpellsShifting, SpellsThree}
 use Rattle.asm_text.specs.declared.token.Mark.TheVariants.{Hash}
 use Rattle.asm_text.specs.declared.names.Suffix.{Suffix}
 use Rattle.asm_text.specs.declared.syntax.Amount.TheVariants as amount
@@ -23,8 +23,8 @@ use Rattle.asm_text.specs.declared.syntax.Operand.TheVariants as operand
 use Rattle.asm_text.specs.declared.syntax.Data.{Data}
 use Rattle.asm_text.specs.declared.syntax.Product.{Product}
 use Rattle.std.proofs.lemmas.List.{append-nil}
-use Rattle.std.proofs.lemmas.Option.{none-some}
-use Rattle.asm_text.proofs.WordLaws.{chosen, some_is}
+use Rattle.std.proofs.lemmas.Option.{none-some, same_Some}
+use Rattle.asm_text.proofs.WordLaws.{chosen}
 use Rattle.asm_text.proofs.SpelledNames.{and_then_is, front_number, front_register, front_register_comma, map_is, number_front, number_whole, register_again, register_comma_front, register_front, register_is, rrx_again, rrx_is, shift_again, shift_is, whole_is, whole_number}
 
 -- ---- shifts
@@ -48,7 +48,7 @@ shift_by_is w s _ f is e = absurd (none-some f e)
 rrx_words_is : (w : List ℕ) (ps : List Piece) (f : Shifting × List Piece) → cond (is_rrx w) (Some (shifting.Amount amount.Rrx, ps)) None ≡ Some f → FrontShift (Run w ∷ ps) f
 rrx_words_is w ps f e =
     elim (chosen (is_rrx w) (Some (shifting.Amount amount.Rrx, ps)) None (Some f) e) [
-      | inl h ↦ subst (FrontShift (Run w ∷ ps)) (some_is (shifting.Amount amount.Rrx, ps) f h.1) (Run w ∷ [], refl, (w, refl, rrx_is w h.0))
+      | inl h ↦ subst (FrontShift (Run w ∷ ps)) (same_Some (shifting.Amount amount.Rrx, ps) f h.1) (Run w ∷ [], refl, (w, refl, rrx_is w h.0))
       | inr h ↦ absurd (none-some f h.1)
     ]
 
@@ -77,7 +77,7 @@ abbrev pub FrontShifting : List Piece → Shifting × List Piece → Type 0
 FrontShifting ps f = (a : List Piece) × (ps ≡ a ++ f.1) × SpellsShifting f.0 a
 
 no_shift : (ps : List Piece) (f : Shifting × List Piece) → Some (shifting.Amount (amount.By Lsl 0), ps) ≡ Some f → FrontShifting ps f
-no_shift ps f e = subst (FrontShifting ps) (some_is (shifting.Amount (amount.By Lsl 0), ps) f e) ([], refl, inr (refl, refl))
+no_shift ps f e = subst (FrontShifting ps) (same_Some (shifting.Amount (amount.By Lsl 0), ps) f e) ([], refl, inr (refl, refl))
 
 pub shifting_front : (ps : List Piece) (f : Shifting × List Piece) → shifting_first ps ≡ Some f → FrontShifting ps f
 shifting_front (Comma ∷ ps) f e = let k = shift_front ps f e in (Comma ∷ k.0, ap (λ (qs : List Piece). Comma ∷ qs) k.1, inl (k.0, refl, k.2))
@@ -172,10 +172,6 @@ data_again op s x ps h =
     ]
 
 -- ---- multiplies
-
-abbrev pub SpellsFactors : Bool → Suffix → Product → List Piece → Type 0
-SpellsFactors false s x ps = SpellsProduct s x ps
-SpellsFactors true s x ps = SpellsSum s x ps
 
 pub product_is : (a : Bool) (s : Suffix) (ps : List Piece) (x : Product) → product_of a s ps ≡ Some x → SpellsFactors a s x ps
 product_is false s ps x e =

@@ -6,7 +6,7 @@ use Rattle.std.proofs.Common.{◌≡◌, ◌<◌, length-take, ℕ, Bool, true, 
 use Rattle.std.specs.Str.{bytes_eq}
 use Rattle.std.proofs.lemmas.List.{take-append-drop}
 use Rattle.std.proofs.lemmas.Slice.Eq.{bytes_eq-Decides}
-use Rattle.std.proofs.lemmas.Option.{none-some}
+use Rattle.std.proofs.lemmas.Option.{none-some, same_Some}
 use Rattle.arm2_decode.specs.declared.names.Cond.{Cond}
 use Rattle.arm2_decode.specs.declared.names.Cond.TheVariants.{Eq, Al}
 use Rattle.arm2_decode.specs.declared.names.Opcode.TheVariants.{And}
@@ -23,8 +23,8 @@ pub chosen : {A : Type 0} (b : Bool) (x y z : A) → cond b x y ≡ z → ((b �
 chosen true x y z e = inl (refl, e)
 chosen false x y z e = inr (refl, e)
 
-pub some_is : {A : Type 0} (x y : A) → Some x ≡ Some y → x ≡ y
-some_is x y e = cc
+pub same_Ok : {A E : Type 0} (x y : A) → ◌≡◌ {A = Result A E} (Ok x) (Ok y) → x ≡ y
+same_Ok x y e = cc
 
 pub equal_bytes : (xs ys : List ℕ) → bytes_eq xs ys ≡ true → xs ≡ ys
 equal_bytes xs ys e = (bytes_eq-Decides xs ys).0 e
@@ -40,7 +40,7 @@ pub named_is : {A : Type 0} (name : A → List ℕ) (all : List A) (text : List 
 named_is name [] text a e = absurd cc
 named_is name (x ∷ xs) text a e =
     elim (chosen (bytes_eq text (name x)) (Some x) (named name xs text) (Some a) e) [
-      | inl w ↦ equal_bytes text (name x) w.0 ∙ ap name (some_is x a w.1)
+      | inl w ↦ equal_bytes text (name x) w.0 ∙ ap name (same_Some x a w.1)
       | inr w ↦ named_is name xs text a w.1
     ]
 
@@ -112,12 +112,12 @@ word_again text Dcd h = ap word_of h ∙ (let one : word_of (codes "DCD") ≡ So
 
 whole_is : (text : List ℕ) (c : Cond) → whole_cond text ≡ Some c → IsCond text c
 unfolding cond_of
-whole_is [] c e = inr (refl, sym (some_is Al c e))
+whole_is [] c e = inr (refl, sym (same_Some Al c e))
 whole_is (b ∷ bs) c e = inl (named_is cond_name conds (b ∷ bs) c e)
 
 made_is : (make : Cond → Word) (o : Option Cond) (w : Word) → word_of_cond make o ≡ Some w → (c : Cond) × (o ≡ Some c) × (make c ≡ w)
 made_is make None w e = absurd cc
-made_is make (Some c) w e = (c, refl, some_is (make c) w e)
+made_is make (Some c) w e = (c, refl, same_Some (make c) w e)
 
 linked_is : (text : List ℕ) (w : Word) → linked text ≡ Some w → (rest : List ℕ) × (c : Cond) × (text ≡ codes "L" ++ rest) × IsCond rest c × (w ≡ Branch true c)
 linked_is [] w e = absurd cc
@@ -130,7 +130,7 @@ linked_is (b ∷ rest) w e =
     ]
 
 branch_rest_is : (o : Option Cond) (rest : List ℕ) (w : Word) → whole_cond rest ≡ o → branch_rest o rest ≡ Some w → IsWord (codes "B" ++ rest) w
-branch_rest_is (Some c) rest w is e = subst (IsWord (codes "B" ++ rest)) (some_is (Branch false c) w e) (rest, whole_is rest c is, refl)
+branch_rest_is (Some c) rest w is e = subst (IsWord (codes "B" ++ rest)) (same_Some (Branch false c) w e) (rest, whole_is rest c is, refl)
 branch_rest_is None rest w is e =
     let l = linked_is rest w e in
     subst (IsWord (codes "B" ++ rest)) (sym l.4) (l.0, l.3, ap (λ (t : List ℕ). codes "B" ++ t) l.2)
@@ -148,7 +148,7 @@ unfolding suffix_of
 suffixed_is h c None rest w is e = absurd cc
 suffixed_is h c (Some s) rest w is e =
     elim (chosen (may_have h s) (Some (Plain h c s)) None (Some w) e) [
-      | inl m ↦ (s, m.0, named_is suffix_name suffixes rest s is, sym (some_is (Plain h c s) w m.1))
+      | inl m ↦ (s, m.0, named_is suffix_name suffixes rest s is, sym (same_Some (Plain h c s) w m.1))
       | inr m ↦ absurd (none-some w m.1)
     ]
 
@@ -179,9 +179,9 @@ pub word_is : (text : List ℕ) (w : Word) → word_of text ≡ Some w → IsWor
 unfolding word_of
 word_is text w e =
     elim (chosen (bytes_eq text (codes "ORG")) (Some Org) _ (Some w) e) [
-      | inl h ↦ subst (IsWord text) (some_is Org w h.1) (equal_bytes text (codes "ORG") h.0)
+      | inl h ↦ subst (IsWord text) (same_Some Org w h.1) (equal_bytes text (codes "ORG") h.0)
       | inr g ↦ elim (chosen (bytes_eq text (codes "DCD")) (Some Dcd) _ (Some w) g.1) [
-        | inl h ↦ subst (IsWord text) (some_is Dcd w h.1) (equal_bytes text (codes "DCD") h.0)
+        | inl h ↦ subst (IsWord text) (same_Some Dcd w h.1) (equal_bytes text (codes "DCD") h.0)
         | inr h ↦ unless_is (branch_of text) text w refl h.1
       ]
     ]

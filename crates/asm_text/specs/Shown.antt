@@ -1,18 +1,18 @@
 -- Lines as they are shown: in upper case, without a label and a comment.
-use Rattle.std.specs.Prelude.{ℕ, ◌==◌, ◌&&◌, not, nat_le, Bool, true, List, [], ◌∷◌, length, Option, Some}
+use Rattle.std.specs.Prelude.{ℕ, ◌&&◌, not, nat_le, Bool, true, List, [], ◌∷◌, length, Option, Some}
 use Rattle.std.specs.Prelude.{None, Result, Ok, Err}
 use Rattle.std.specs.Char.{is_ascii_lowercase}
 use Rattle.std.specs.List.{list_all}
 use Rattle.asm_text.specs.Pieces.{Piece, Run}
 use Rattle.asm_text.specs.Said.{Number, Said, Codes, Refers}
-use Rattle.asm_text.specs.Statements.{Parsed}
+use Rattle.asm_text.specs.Statements.{Parsed, is_in_body}
 use Rattle.asm_text.specs.declared.statement.TextFault.{TextFault}
 use Rattle.asm_text.specs.declared.printed_lines.Shown.{Shown}
 use Rattle.asm_text.specs.declared.printed_lines.Shown.TheVariants as shown
 
 -- 20 to 7E, but for `;`
 abbrev pub is_shown : ℕ → Bool
-is_shown b = (nat_le 32 b && nat_le b 126) && not (b == 59)
+is_shown b = (nat_le 32 b && nat_le b 126) && is_in_body b
 
 -- no letter is in lower case
 abbrev pub is_upper : List ℕ → Bool

@@ -1,5 +1,5 @@
 -- How a line is spelled, from what it says to its text (over the VL86C010 data sheet's assembler syntax).
-use Rattle.std.specs.Prelude.{◌≡◌, ◌⊎◌, ◌==◌, not, ℕ, Bool, true, false, List, [], ◌∷◌, ◌++◌, Option, Some}
+use Rattle.std.specs.Prelude.{◌≡◌, ◌⊎◌, ℕ, Bool, true, false, List, [], ◌∷◌, ◌++◌, Option, Some}
 use Rattle.std.specs.Prelude.{None}
 use Rattle.std.specs.List.{list_all}
 use Rattle.arm2_decode.specs.declared.names.Register.{Register}
@@ -9,8 +9,8 @@ use Rattle.asm_text.specs.Words.{IsSpelling}
 use Rattle.asm_text.specs.Said.{Target, Number, Label, Said, Codes, Refers, Orgs, Lists}
 use Rattle.asm_text.specs.Operands.{is_byte, is_user}
 use Rattle.asm_text.specs.SpelledOperands.{IsRegister, Listed, SpellsAddress, SpellsBlock, SpellsData}
-use Rattle.asm_text.specs.SpelledOperands.{SpellsNumber, SpellsProduct, SpellsSum}
-use Rattle.asm_text.specs.Statements.{Parsed, is_comment_text, is_label, is_text}
+use Rattle.asm_text.specs.SpelledOperands.{SpellsFactors, SpellsNumber}
+use Rattle.asm_text.specs.Statements.{Parsed, is_comment_text, is_in_body, is_label, is_text}
 use Rattle.asm_text.specs.declared.token.Mark.TheVariants.{OpenBracket}
 use Rattle.asm_text.specs.declared.names.Head.{Head}
 use Rattle.asm_text.specs.declared.names.Head.TheVariants as head
@@ -53,8 +53,7 @@ pub record SpellsAt (rd : Register) (t : Target) (ps : List Piece) : Type 0 wher
 -- an action whose operands are all numbers and registers
 abbrev pub SpellsAction : Action → Head → Suffix → List Piece → Type 0
 SpellsAction (action.Data x) (head.Data op) s ps = SpellsData op s x ps
-SpellsAction (action.Multiply x) (head.Multiply false) s ps = SpellsProduct s x ps
-SpellsAction (action.Multiply x) (head.Multiply true) s ps = SpellsSum s x ps
+SpellsAction (action.Multiply x) (head.Multiply accumulate) s ps = SpellsFactors accumulate s x ps
 SpellsAction (action.Single x) (head.Single load) s ps = SpellsTransfer load s x ps
 SpellsAction (action.Block x) (head.Block load) s ps = SpellsBlock load s x ps
 SpellsAction (action.Swi n) head.Swi s ps = SpellsNumber n ps
@@ -106,7 +105,7 @@ pub record Spells (p : Parsed) (line : List ℕ) : Type 0 where
   pub comment : List ℕ
   pub parts : line ≡ body ++ comment
   pub text : list_all is_text body ≡ true
-  pub no_semicolon : list_all (λ b. not (b == 59)) body ≡ true
+  pub no_semicolon : list_all is_in_body body ≡ true
   pub comment-is : IsComment comment
   pub pieces : List Piece
   pub written : Written pieces body

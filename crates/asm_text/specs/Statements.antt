@@ -174,8 +174,12 @@ is_text b = (nat_le 32 b && nat_le b 126) || b == 9
 abbrev pub is_comment_text : ℕ → Bool
 is_comment_text b = is_text b || nat_le 128 b
 
+-- no `;`, which begins a comment
+abbrev pub is_in_body : ℕ → Bool
+is_in_body b = not (b == 59)
+
 abbrev pub body_len : List ℕ → ℕ
-body_len line = prefix_len (λ b. not (b == 59)) line
+body_len line = prefix_len is_in_body line
 
 -- in front of the first `;`
 abbrev pub body : List ℕ → List ℕ
