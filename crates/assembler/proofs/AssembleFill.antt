@@ -4,7 +4,7 @@ use Rattle.std.specs.Prelude.{is_some, nat_le, nat_lt, flat_map}
 use Rattle.std.specs.List.{AllByRecursion, AllZip, fold}
 use Rattle.std.proofs.lemmas.Bool.Decides.{nat_tests}
 use Rattle.std.proofs.lemmas.Bool.{not-false, or_parts}
-use Rattle.asm_text.proofs.WordLaws.{chosen, false_true}
+use Rattle.asm_text.proofs.WordLaws.{chosen, false_true, same_Ok}
 use Rattle.loader.specs.Image.{Words, may_hold, put_fault, runs_of, with_word, word_of}
 use Rattle.loader.specs.declared.image.ImageFault.{ImageFault}
 use Rattle.loader.specs.declared.image.ImageFault.TheVariants as image_fault
@@ -130,9 +130,6 @@ filled_line names k at (p ∷ ps) image rest out e =
 
 -- ---- what they are
 
-ok_is : (a b : ℕ) → ◌≡◌ {A = Result ℕ LineFault} (Ok a) (Ok b) → a ≡ b
-ok_is a b e = cc
-
 targeted_is : (o : Option ℕ) (f : ℕ → Result ℕ LineFault) (w : ℕ) → targeted o f ≡ Ok w → (target : ℕ) × (o ≡ Some target) × (f target ≡ Ok w)
 targeted_is None f w e = absurd cc
 targeted_is (Some target) f w e = (target, refl, e)
@@ -149,8 +146,8 @@ empty names at [] h = refl
 empty names at (w ∷ words) h = absurd h
 
 value_is : (names : Names) (at : ℕ) (v : Target) (w : ℕ) → resolved names at (value_pending v) ≡ Ok w → IsTarget names v w
-value_is names at (Number n) w e = sym (ok_is n w e)
-value_is names at (Label name) w e = let t = targeted_is (names name) (λ target. Ok target) w e in t.1 ∙ ap Some (ok_is t.0 w t.2)
+value_is names at (Number n) w e = sym (same_Ok n w e)
+value_is names at (Label name) w e = let t = targeted_is (names name) (λ target. Ok target) w e in t.1 ∙ ap Some (same_Ok t.0 w t.2)
 
 values_are : (names : Names) (at : ℕ) (vs : List Target) (words : List ℕ) → Resolved names at (map value_pending vs) words → AllZip (IsTarget names) vs words
 unfolding Resolved

@@ -12,6 +12,7 @@ use Rattle.asm_text.specs.Said.{Said, Lists}
 use Rattle.asm_text.specs.declared.word.Word.{Word}
 use Rattle.asm_text.specs.declared.word.Word.TheVariants.{Dcd}
 use Rattle.asm_text.specs.declared.statement.TextFault.{TextFault}
+use Rattle.asm_text.proofs.WordLaws.{same_Ok}
 use Rattle.assembler.specs.Assembles.{AreWords, IsAssembly, Laid, Once, labels_of, laid, places}
 use Rattle.loader.specs.Labels.{Names, no_names}
 use Rattle.assembler.specs.Sweeps.{State, assembled, assembled_on, assembled_with, at_first, filled, swept}
@@ -116,9 +117,6 @@ all_read reads [] (p ∷ ps) h = absurd h
 all_read reads (line ∷ lines) [] h = absurd h
 all_read reads (line ∷ lines) (p ∷ ps) h = (reads line p h.0, all_read reads lines ps h.1)
 
-same_parsed : (p q : Parsed) → ◌≡◌ {A = Result Parsed TextFault} (Ok p) (Ok q) → p ≡ q
-same_parsed p q e = cc
-
 same_lines : (lines : List (List ℕ)) (ps qs : List Parsed) → AllZip (λ line p. line_of line ≡ Ok p) lines ps → AllZip (λ line p. line_of line ≡ Ok p) lines qs → ps ≡ qs
 same_lines [] [] [] h k = refl
 same_lines [] [] (q ∷ qs) h k = absurd k
@@ -126,7 +124,7 @@ same_lines [] (p ∷ ps) qs h k = absurd h
 same_lines (line ∷ lines) [] qs h k = absurd h
 same_lines (line ∷ lines) (p ∷ ps) [] h k = absurd k
 same_lines (line ∷ lines) (p ∷ ps) (q ∷ qs) h k =
-    let first = same_parsed p q (sym h.0 ∙ k.0) in
+    let first = same_Ok p q (sym h.0 ∙ k.0) in
     rw first (ap (λ (rs : List Parsed). q ∷ rs) (same_lines lines ps qs h.1 k.1))
 
 same_options : (o r : Option ℕ) → ((at : ℕ) → o ≡ Some at → r ≡ Some at) → ((at : ℕ) → r ≡ Some at → o ≡ Some at) → o ≡ r

@@ -3,7 +3,7 @@ use Rattle.std.proofs.Common.{◌≡◌, ◌≢◌, ◌+◌, ◌*◌, ◌≤◌,
 use Rattle.std.specs.Prelude.{nat_le, nat_lt, is_some, unwrap_or, if◌then◌else◌}
 use Rattle.std.proofs.lemmas.List.{length-append}
 use Rattle.std.specs.List.{AllByRecursion, list_any}
-use Rattle.std.proofs.lemmas.Bool.{and_parts, cases_Bool, not-false}
+use Rattle.std.proofs.lemmas.Bool.{and_parts, cases_Bool, not-false, or_parts}
 use Rattle.std.proofs.lemmas.Bool.Decides.{nat_tests}
 use Rattle.loader.specs.Image.{lies_in_memory, may_hold}
 use Rattle.asm_text.specs.Said.{Target, Number, Label, Said, Codes, Refers, Orgs, Lists}
@@ -18,14 +18,6 @@ use Rattle.std.proofs.lemmas.List.{append-nil}
 use Rattle.asm_text.proofs.WordLaws.{chosen, false_true}
 
 -- ---- small facts
-
-or_first : (a b : Bool) → (a || b) ≡ false → a ≡ false
-or_first true b e = absurd cc
-or_first false b e = refl
-
-or_second : (a b : Bool) → (a || b) ≡ false → b ≡ false
-or_second true b e = absurd cc
-or_second false b e = e
 
 pub unless_is : (o : Option LineFault) (s t : State) → unless o s ≡ Ok t → (o ≡ None) × (s ≡ t)
 unless_is None s t e = (refl, cc)
@@ -204,11 +196,8 @@ org_is s n e =
     elim (chosen (not (may_hold n) || (overlaps s.closed n (n + 1) || open_has s.start s.at n)) (Some OutOfRange) None None e) [
       | inl h ↦ let k = h.1 in absurd cc
       | inr h ↦
-          let rest = or_second (not (may_hold n)) (overlaps s.closed n (n + 1) || open_has s.start s.at n) h.0 in (
-            not-false (may_hold n) (or_first (not (may_hold n)) (overlaps s.closed n (n + 1) || open_has s.start s.at n) h.0),
-            or_first (overlaps s.closed n (n + 1)) (open_has s.start s.at n) rest,
-            or_second (overlaps s.closed n (n + 1)) (open_has s.start s.at n) rest,
-          )
+          let both = or_parts (not (may_hold n)) (overlaps s.closed n (n + 1) || open_has s.start s.at n) h.0 in
+          (not-false (may_hold n) both.0, or_parts (overlaps s.closed n (n + 1)) (open_has s.start s.at n) both.1)
     ]
 
 org_free : (s : State) (n : ℕ) (taken : List ℕ) → org_fault s n ≡ None → Covers s taken → IsFree taken (Some (Orgs n))
@@ -327,7 +316,7 @@ place_room s n e =
       | inl h ↦ let k = h.1 in absurd cc
       | inr h ↦ elim (chosen (nat_lt 65536 (s.words + n) || is_17th s) (Some TooLong) None None h.1) [
         | inl g ↦ let k = g.1 in absurd cc
-        | inr g ↦ or_second (nat_lt 65536 (s.words + n)) (is_17th s) g.0
+        | inr g ↦ (or_parts (nat_lt 65536 (s.words + n)) (is_17th s) g.0).1
       ]
     ]
 

@@ -12,6 +12,7 @@ use Rattle.asm_text.specs.Said.{Said, Orgs}
 use Rattle.asm_text.specs.Spelling.{Spells}
 use Rattle.asm_text.specs.Statements.{Parsed, line_of}
 use Rattle.asm_text.specs.declared.statement.TextFault.{TextFault}
+use Rattle.asm_text.proofs.WordLaws.{same_Ok}
 use Rattle.assembler.specs.Assembles.{Laid, Once, address_after, is_open, label_at, labels_of, laid, places_from, segments, word_count}
 use Rattle.assembler.specs.Refusals.{ArePassed, HasFault, IsLowest, IsUnreadable, IsWrong, address_of_next, asked}
 use Rattle.loader.specs.Labels.{Names}
@@ -172,14 +173,11 @@ front_first = record {
 
 -- ---- a line
 
-Reads : Type 0
-Reads = (line : List ℕ) → (p : Parsed) → Spells p line → line_of line ≡ Ok p
-
 spelled_some : (line : List ℕ) (p : Parsed) → Spells p line → NotEmpty p.said
 spelled_some line p s = parts_some p.label p.said s.pieces s.spelled
 
 pub one_meaning : (p q : Parsed) (r : Result Parsed TextFault) → r ≡ Ok p → r ≡ Ok q → p ≡ q
-one_meaning p q r e k = let same : ◌≡◌ {A = Result Parsed TextFault} (Ok p) (Ok q) = sym e ∙ k in cc
+one_meaning p q r e k = same_Ok p q (sym e ∙ k)
 
 no_meaning : (p : Parsed) (w : TextFault) (r : Result Parsed TextFault) → r ≡ Err w → r ≡ Ok p → ⊥
 no_meaning p w r e k = let same : ◌≡◌ {A = Result Parsed TextFault} (Err w) (Ok p) = sym e ∙ k in cc

@@ -5,13 +5,14 @@ use Rattle.std.specs.List.{list_all}
 use Rattle.std.proofs.lemmas.Bool.{and_parts, cases_Bool}
 use Rattle.std.proofs.lemmas.Bool.Decides.{nat_tests}
 use Rattle.std.proofs.lemmas.List.{take-append-drop}
+use Rattle.std.proofs.lemmas.List.Folds.{list_all-append}
 use Rattle.std.proofs.lemmas.Option.{none-some}
 use Rattle.asm_text.specs.Lines.{IsBlanks, WellSpaced, Written, starts_run}
 use Rattle.asm_text.specs.Names.{head_of}
 use Rattle.asm_text.specs.Pieces.{Piece, Run, Comma, Sign, Gap, gap_before, is_blank, is_name, pieces}
 use Rattle.asm_text.specs.Said.{Said}
 use Rattle.asm_text.specs.Spelling.{Spells}
-use Rattle.asm_text.specs.Statements.{Parsed, begins_blank_or_ends, after_label, after_word, body, body_len, is_comment_text, is_label, is_text, is_text_line, line_of, operands_of, or_bad, parsed, past, statement_of, with_label, with_word, word_ends}
+use Rattle.asm_text.specs.Statements.{Parsed, begins_blank_or_ends, after_label, after_word, body, body_len, is_comment_text, is_in_body, is_label, is_text, is_text_line, line_of, operands_of, or_bad, parsed, past, statement_of, with_label, with_word, word_ends}
 use Rattle.asm_text.specs.Words.{IsSpelling, spelled_word_of, word_of}
 use Rattle.asm_text.specs.declared.word.Word.{Word}
 use Rattle.asm_text.specs.declared.statement.TextFault.{TextFault}
@@ -29,19 +30,14 @@ use Rattle.assembler.proofs.RefuseLeast.{IsLeast}
 
 -- ---- stray bytes
 
-abbrev no_semicolon : ℕ → Bool
-no_semicolon b = not (b == 59)
-
 all_front : (p : ℕ → Bool) (xs ys : List ℕ) → list_all p (xs ++ ys) ≡ true → list_all p xs ≡ true
-all_front p [] ys h = refl
-all_front p (x ∷ xs) ys h =
-    let k = and_parts (p x) (list_all p (xs ++ ys)) h in rw (k.0, all_front p xs ys k.1) refl
+all_front p xs ys h = (and_parts (list_all p xs) (list_all p ys) (sym (list_all-append p xs ys) ∙ h)).0
 
-all_more : (p q : ℕ → Bool) (xs : List ℕ) → ((x : ℕ) → p x ≡ true → q x ≡ true) → list_all p xs ≡ true
+all_weaker : (p q : ℕ → Bool) (xs : List ℕ) → ((x : ℕ) → p x ≡ true → q x ≡ true) → list_all p xs ≡ true
     → list_all q xs ≡ true
-all_more p q [] f h = refl
-all_more p q (x ∷ xs) f h =
-    let k = and_parts (p x) (list_all p xs) h in rw (f x k.0, all_more p q xs f k.1) refl
+all_weaker p q [] f h = refl
+all_weaker p q (x ∷ xs) f h =
+    let k = and_parts (p x) (list_all p xs) h in rw (f x k.0, all_weaker p q xs f k.1) refl
 
 at_byte : (p : ℕ → Bool) (front rest : List ℕ) (b : ℕ) → list_all p (front ++ (b ∷ rest)) ≡ true → p b ≡ true
 at_byte p [] rest b h = (and_parts (p b) (list_all p rest) h).0
@@ -60,16 +56,16 @@ stray_in p (x ∷ xs) h =
       | inr e ↦ ([], xs, x, refl, e)
     ]
 
-body_front : (front rest : List ℕ) → list_all no_semicolon front ≡ true
+body_front : (front rest : List ℕ) → list_all is_in_body front ≡ true
     → body (front ++ rest) ≡ front ++ body rest
 body_front [] rest h = refl
 body_front (b ∷ front) rest h =
-    let k = and_parts (no_semicolon b) (list_all no_semicolon front) h in
+    let k = and_parts (is_in_body b) (list_all is_in_body front) h in
     let n : 1 + body_len (front ++ rest) ≡ suc (body_len (front ++ rest)) = omega arith in
     rw (k.0, n) (ap (λ (t : List ℕ). b ∷ t) (body_front front rest k.1))
 
-text_semicolon : (b : ℕ) → is_text b ≡ false → no_semicolon b ≡ true
-text_semicolon b h =
+text_in_body : (b : ℕ) → is_text b ≡ false → is_in_body b ≡ true
+text_in_body b h =
     elim (cases_Bool (b == 59)) [
       | inl e ↦ let k : is_text 59 ≡ false =
           subst (λ c. is_text c ≡ false) (eqb-true b 59 e) h in absurd cc
@@ -91,12 +87,12 @@ stray_text line (front, rest, b, is, why) =
                 let all : list_all is_comment_text line ≡ true =
                 subst (λ t. list_all is_comment_text t ≡ true) (take-append-drop (body_len line) line)
                 (all_append is_comment_text (body line) (drop (body_len line) line)
-                (all_more is_text is_comment_text (body line) comment_of_text k.0) k.1) in
+                (all_weaker is_text is_comment_text (body line) comment_of_text k.0) k.1) in
                 false_true
                 (sym odd ∙ at_byte is_comment_text front rest b
                 (subst (λ t. list_all is_comment_text t ≡ true) is all))
             | inr m ↦
-                let one : list_all no_semicolon (b ∷ []) ≡ true = rw (text_semicolon b m.0) refl in
+                let one : list_all is_in_body (b ∷ []) ≡ true = rw (text_in_body b m.0) refl in
                 let there : body line ≡ front ++ (b ∷ body rest) =
                 ap body is ∙ body_front front (b ∷ rest) m.1
                 ∙ ap (λ (t : List ℕ). front ++ t) (body_front (b ∷ []) rest one) in
@@ -123,8 +119,8 @@ text_stray line h =
             parts,
             inr (
               s.4,
-              all_front no_semicolon s.0 (s.2 ∷ s.1)
-                  (subst (λ t. list_all no_semicolon t ≡ true) s.3 (prefix_all no_semicolon line)),
+              all_front is_in_body s.0 (s.2 ∷ s.1)
+                  (subst (λ t. list_all is_in_body t ≡ true) s.3 (prefix_all is_in_body line)),
             ),
           )
       | inl all ↦

@@ -1,5 +1,5 @@
 -- Which fault a source that is refused gets, and of which line.
-use Rattle.std.specs.Prelude.{◌≡◌, ◌⊎◌, ◌+◌, ◌<◌, ◌≤◌, ◌==◌, not, ℕ, true, false, List, [], ◌∷◌, ◌++◌, length}
+use Rattle.std.specs.Prelude.{◌≡◌, ◌⊎◌, ◌+◌, ◌<◌, ◌≤◌, ℕ, true, false, List, [], ◌∷◌, ◌++◌, length}
 use Rattle.std.specs.Prelude.{flat_map, Option, Some, Err}
 use Rattle.std.specs.List.{AllByRecursion, Contains, list_all}
 use Rattle.loader.specs.Image.{may_hold}
@@ -11,7 +11,8 @@ use Rattle.asm_text.specs.declared.word.Word.{Word}
 use Rattle.asm_text.specs.Said.{Number, Label, Said, Codes, Refers, Orgs, Lists}
 use Rattle.asm_text.specs.Source.{lines_of}
 use Rattle.asm_text.specs.Spelling.{Spells}
-use Rattle.asm_text.specs.Statements.{Parsed, begins_blank_or_ends, body, is_comment_text, is_label, is_text}
+use Rattle.asm_text.specs.Statements.{Parsed, begins_blank_or_ends, body, is_comment_text, is_in_body}
+use Rattle.asm_text.specs.Statements.{is_label, is_text}
 use Rattle.assembler.specs.Assembles.{Laid, address_after, labels_of, laid, places, places_from, segments}
 use Rattle.assembler.specs.Assembles.{word_count}
 use Rattle.assembler.specs.Codes.{encoded, refer, use_fault}
@@ -26,7 +27,7 @@ use Rattle.assembler.specs.declared.fault.LineFault.TheVariants.{LabelMissing, O
 abbrev pub HasStrayByte : List ℕ → Type 0
 HasStrayByte line =
     (front rest : List ℕ) × (b : ℕ) × (line ≡ front ++ (b ∷ rest))
-    × ((is_comment_text b ≡ false) ⊎ ((is_text b ≡ false) × (list_all (λ c. not (c == 59)) front ≡ true)))
+    × ((is_comment_text b ≡ false) ⊎ ((is_text b ≡ false) × (list_all is_in_body front ≡ true)))
 
 -- blanks, and a word, which ends at a blank or with the text
 pub record BeginsStatement (text : List ℕ) : Type 0 where
