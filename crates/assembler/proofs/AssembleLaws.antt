@@ -11,7 +11,6 @@ use Rattle.asm_text.specs.Pieces.{Piece}
 use Rattle.asm_text.specs.Said.{Said, Lists}
 use Rattle.asm_text.specs.declared.word.Word.{Word}
 use Rattle.asm_text.specs.declared.word.Word.TheVariants.{Dcd}
-use Rattle.asm_text.specs.declared.statement.TextFault.{TextFault}
 use Rattle.asm_text.proofs.WordLaws.{same_Ok}
 use Rattle.assembler.specs.Assembles.{AreWords, IsAssembly, Laid, Once, labels_of, laid, places}
 use Rattle.loader.specs.Labels.{Names, no_names}

@@ -197,7 +197,8 @@ org_is s n e =
       | inl h ↦ let k = h.1 in absurd cc
       | inr h ↦
           let both = or_parts (not (may_hold n)) (overlaps s.closed n (n + 1) || open_has s.start s.at n) h.0 in
-          (not-false (may_hold n) both.0, or_parts (overlaps s.closed n (n + 1)) (open_has s.start s.at n) both.1)
+          let closed = or_parts (overlaps s.closed n (n + 1)) (open_has s.start s.at n) both.1 in
+          (not-false (may_hold n) both.0, closed.0, closed.1)
     ]
 
 org_free : (s : State) (n : ℕ) (taken : List ℕ) → org_fault s n ≡ None → Covers s taken → IsFree taken (Some (Orgs n))
