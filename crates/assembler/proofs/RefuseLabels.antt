@@ -38,12 +38,6 @@ late names at (p ∷ ps) = first (failed (resolved names at p)) (late names (at 
 
 -- ---- a word
 
-same_some : (a b : ℕ) → ◌≡◌ {A = Option ℕ} (Some a) (Some b) → a ≡ b
-same_some a b e = cc
-
-none_some : (a : ℕ) (o : Option ℕ) → o ≡ None → o ≡ Some a → ⊥
-none_some a o e k = let same : ◌≡◌ {A = Option ℕ} None (Some a) = sym e ∙ k in cc
-
 abbrev WordFault : List (List ℕ × ℕ) → List ℕ → (ℕ → Result ℕ LineFault) → LineFault → Type 0
 WordFault labels name word f =
     ((f ≡ LabelMissing) × IsMissing labels name)
@@ -52,7 +46,7 @@ WordFault labels name word f =
 missing : (names : Names) (labels : List (List ℕ × ℕ)) (name : List ℕ) → Known names labels
     → names name ≡ None → IsMissing labels name
 unfolding Known
-missing names labels name known none = λ at c. none_some at (names name) none ((known name at).1 c)
+missing names labels name known none = λ at c. none-some at (sym none ∙ (known name at).1 c)
 
 word_least : (names : Names) (labels : List (List ℕ × ℕ)) (name : List ℕ) (word : ℕ → Result ℕ LineFault)
     → Known names labels → IsLeast (WordFault labels name word) (failed (targeted (names name) word))
@@ -74,7 +68,7 @@ word_least names labels name word known = go (names name) refl
         (λ f e. inr (at, there, e))
         (λ f e. elim e [
           | inl x ↦ absurd (x.1 at there)
-          | inr x ↦ subst (λ a. word a ≡ Err f) (same_some x.0 at (sym ((known name x.0).1 x.1) ∙ is)) x.2
+          | inr x ↦ subst (λ a. word a ≡ Err f) (same_Some x.0 at (sym ((known name x.0).1 x.1) ∙ is)) x.2
         ]) (least_result (word at))
 
 -- ---- values

@@ -26,6 +26,7 @@ use Rattle.arm2_decode.specs.declared.names.Shift.TheVariants.{Lsl, Lsr, Asr, Ro
 use Rattle.arm2_decode.specs.Names.{is_pc, register_number}
 use Rattle.arm2_decode.specs.Table.{Means}
 use Rattle.asm_text.specs.Hex.{hex}
+use Rattle.bus_ticks.specs.declared.space.TheConstants.{SPACE_END}
 use Rattle.asm_text.specs.Names.{cond_name, opcode_name}
 use Rattle.asm_text.specs.Shown.{parsed_shown}
 use Rattle.asm_text.specs.Statements.{line_of}
@@ -249,7 +250,7 @@ block_text c x =
 
 -- the signed number of words from the address two words on; 0 where that is below 0
 abbrev pub target_of : ℕ → ℕ → ℕ
-target_of at offset = if nat_lt offset (2 ^ 23) then at + 8 + 4 * offset else (at + 8 + 4 * offset) - 2 ^ 26
+target_of at offset = if nat_lt offset (2 ^ 23) then at + 8 + 4 * offset else (at + 8 + 4 * offset) - SPACE_END
 
 abbrev pub branch_text : Cond → Branch → ℕ → List ℕ
 branch_text c x at = word_text (branch_name x.link) c [] ++ (codes "&" ++ hex (target_of at x.offset))

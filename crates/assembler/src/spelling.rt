@@ -18,6 +18,7 @@ use arm2_decode::{
     Operation, Register, Shift, SingleImmediate, SingleRegister, Swi,
 };
 use asm_text::{cond_letters, opcode_letters};
+use bus_ticks::SPACE_END;
 
 fn cond_bytes(cond: Cond) -> &'static [u8]
     ensures text { result.now ≡ cond_text cond }
@@ -582,7 +583,7 @@ fn branch_target(at: u32, offset: u32) -> u64
     if offset < 0x80_0000 {
         beyond
     } else {
-        beyond.saturating_sub(0x400_0000)
+        beyond.saturating_sub(u64::from(SPACE_END))
     }
 }
 
