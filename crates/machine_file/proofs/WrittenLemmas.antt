@@ -14,7 +14,7 @@ use Rattle.loader.specs.Image.{may_hold}
 use Rattle.memc.specs.Memory.{shift_of_size}
 use Rattle.memc.specs.declared.spots.PageSize.{PageSize}
 use Rattle.memc.specs.declared.spots.PageSize.TheVariants.{K4}
-use Rattle.toml_reading.specs.Documents.{is_one_of, list_of}
+use Rattle.toml_reading.specs.Documents.{is_one_of}
 use Rattle.toml_reading.specs.Lowest.{AtKey, AtKeyOr, IsListOf, IsNamed, IsNumber}
 use Rattle.toml_reading.proofs.ReadingLemmas.{list_of-items_of}
 use Rattle.machine_file.specs.MachineFile.{IsMachineFile, has, is_letter, is_mappable, is_single, machine_in, set_flags}

@@ -2,14 +2,14 @@
 use Rattle.std.specs.Prelude.{◌≡◌, ◌≢◌, ◌⊎◌, ◌-◌, ◌^◌, ⊤, ℕ, ℤ, pos, Bool, true, false, List, [], ◌∷◌, codes}
 use Rattle.std.specs.Prelude.{map, Any, nat_lt, None, IsSomeAnd, IsTrue, MatchOption}
 use Rattle.std.specs.List.{list_all}
-use Rattle.std.specs.Option.{option_and_then}
 use Rattle.toml.specs.Data.{Data, Members, as_integer, as_str, as_table, get_member}
 use Rattle.loader.specs.Image.{may_hold}
 use Rattle.memc.specs.Memory.{shift_of_size}
 use Rattle.memc.specs.declared.spots.PageSize.{PageSize}
 use Rattle.memc.specs.declared.spots.PageSize.TheVariants.{K4}
 use Rattle.toml_reading.specs.Documents.{are_distinct, has_only_keys, items_at}
-use Rattle.toml_reading.specs.Lowest.{AtKey, AtKeyOr, IsNoAddress, IsOutside, entries_at, numbers_at}
+use Rattle.toml_reading.specs.Lowest.{AtKey, AtKeyOr, IsNoAddress, IsOutside, NamesNothing, entries_at}
+use Rattle.toml_reading.specs.Lowest.{numbers_at}
 use Rattle.machine_file.specs.MachineFile.{is_letter, is_single}
 use Rattle.ioc.specs.LineNames.{line_named}
 use Rattle.machine_file.specs.MachineRules.{IsSize, kilobytes}
@@ -118,9 +118,9 @@ IsOtherKind (UpTo limit) d = as_integer d ≡ None
 IsOtherKind Address d = as_integer d ≡ None
 IsOtherKind WordAddress d = as_integer d ≡ None
 IsOtherKind Size d = as_integer d ≡ None
-IsOtherKind ModeName d = option_and_then named_mode (as_str d) ≡ None
+IsOtherKind ModeName d = NamesNothing named_mode d
 IsOtherKind FlagLetters d = MatchOption (as_str d) ⊤ (λ text. list_all is_letter text ≡ false)
-IsOtherKind LineNames d = MatchOption (items_at d) ⊤ (Any (λ e. option_and_then line_named (as_str e) ≡ None))
+IsOtherKind LineNames d = MatchOption (items_at d) ⊤ (Any (NamesNothing line_named))
 
 abbrev pub HasOtherKind : Shape → Members → Type 0
 HasOtherKind shape ms = Any (λ row. AtKey row.key ms (IsOtherKind row.takes)) shape.rows

@@ -6,7 +6,6 @@ use Rattle.std.specs.Prelude.{Ok, Err}
 use Rattle.std.specs.Int.RustNames.{bit_or}
 use Rattle.std.specs.List.{list_all}
 use Rattle.std.specs.Map.{keys_of}
-use Rattle.std.specs.Option.{option_and_then}
 use Rattle.toml.specs.Data.{Data, Members, get_member, as_integer, as_str, as_table}
 use Rattle.arm2_effect.specs.declared.modes.Mode.{Mode}
 use Rattle.arm2_effect.specs.declared.modes.Mode.TheVariants.{Svc}
@@ -16,9 +15,8 @@ use Rattle.loader.specs.Image.{may_hold}
 use Rattle.memc.specs.Memory.{shift_of_size}
 use Rattle.memc.specs.declared.spots.PageSize.{PageSize}
 use Rattle.memc.specs.declared.spots.PageSize.TheVariants.{K4, K8, K16, K32}
-use Rattle.toml_reading.specs.Documents.{IsAnswer, are_distinct, in_space, list_at, number_at, number_in}
-use Rattle.toml_reading.specs.Documents.{number_or}
-use Rattle.toml_reading.specs.Documents.{of_keys, tables_at}
+use Rattle.toml_reading.specs.Documents.{IsAnswer, are_distinct, in_space, list_at, name_at, number_at}
+use Rattle.toml_reading.specs.Documents.{number_in, number_or, of_keys, tables_at}
 use Rattle.toml_reading.specs.Readings.{Reading, all, and_then, both, optional, required, seen}
 use Rattle.ioc.specs.LineNames.{line_named}
 use Rattle.machine_file.specs.MachineFaults.{machine_faults}
@@ -91,7 +89,7 @@ abbrev pub pc_in : Members → Read ℕ
 pc_in ms = required machine_faults (get_member (codes "pc") ms) pc_at
 
 abbrev pub mode_at : Data → Read Mode
-mode_at d = required machine_faults (option_and_then named_mode (as_str d)) (λ m. Ok m)
+mode_at d = name_at machine_faults named_mode d
 
 abbrev pub mode_in : Members → Read Mode
 mode_in ms = optional Svc (get_member (codes "mode") ms) mode_at
@@ -190,7 +188,7 @@ abbrev pub union : List Lines → Lines
 union lines = fold (λ (a b : Lines). record { 0 = bit_or a.0 b.0 }) (record { 0 = 0 }) lines
 
 abbrev pub line_at : Data → Read Lines
-line_at d = required machine_faults (option_and_then line_named (as_str d)) (λ l. Ok l)
+line_at d = name_at machine_faults line_named d
 
 abbrev pub lines_at : Data → Read (Option Lines)
 lines_at d = seen (λ ls. Some (union ls)) (list_at machine_faults line_at d)

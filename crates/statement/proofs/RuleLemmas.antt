@@ -1,10 +1,10 @@
 -- What is read of addresses and words, against what they state and their faults.
-use Rattle.std.proofs.Common.{◌≡◌, ℕ, ◌∙◌, List, Option, Some, None, Ok, MatchOption, refl, sym, ap, subst, le_of_eq}
-use Rattle.std.specs.Option.{option_and_then}
+use Rattle.std.proofs.Common.{◌≡◌, ℕ, ◌∙◌, List, Option, Some, None, MatchOption, refl, sym, ap, subst, le_of_eq}
 use Rattle.std.proofs.lemmas.Option.{none-some, same_Some}
-use Rattle.toml.specs.Data.{Data, Members, string, integer, as_str, get_member}
+use Rattle.toml.specs.Data.{Data, Members, string, integer, get_member}
+use Rattle.toml_reading.specs.Documents.{name_at}
 use Rattle.toml_reading.specs.Lowest.{AtKey, IsInSpace, IsNamed, NameFault}
-use Rattle.toml_reading.specs.Readings.{Reading, required}
+use Rattle.toml_reading.specs.Readings.{required}
 use Rattle.toml_reading.proofs.AddressLemmas.{integer_judged, natural_judged}
 use Rattle.toml_reading.proofs.Following.{refusal_judged}
 use Rattle.toml_reading.proofs.LowestLemmas.{Judges, judged_as, required_judged}
@@ -13,7 +13,6 @@ use Rattle.statement.specs.StatementRules.{AddressFault, IsAddress, RequiredFaul
 use Rattle.loader.specs.Labels.{Names}
 use Rattle.statement.specs.Statement.{address_at, address_in, labelled}
 use Rattle.statement.specs.StatementFaults.{number_of, statement_faults}
-use Rattle.statement.specs.declared.faults.StatementFault.{StatementFault}
 use Rattle.statement.specs.declared.faults.StatementFault.TheVariants.{OutOfRange, UnknownLabel, WrongKind}
 
 -- ## Addresses
@@ -74,10 +73,6 @@ one_address names _ a b h k = absurd h
 
 -- ## Words
 
--- what is read of a word that is named
-abbrev word_of : {A : Type 0} → (List ℕ → Option A) → Data → Reading StatementFault A
-word_of named d = required statement_faults (option_and_then named (as_str d)) (λ a. Ok a)
-
 -- the word at a key that must be there
 pub word_in_judged :
     {A : Type 0} (named : List ℕ → Option A) (key : List ℕ) (ms : Members)
@@ -85,12 +80,12 @@ pub word_in_judged :
     statement_faults
     (λ a. AtKey key ms (λ d. IsNamed named d a))
     (RequiredFault key ms (NameFault statement_faults named))
-    (required statement_faults (get_member key ms) (word_of named))
+    (required statement_faults (get_member key ms) (name_at statement_faults named))
 word_in_judged named key ms =
     required_judged
     statement_faults
     (IsNamed named)
     (NameFault statement_faults named)
-    (word_of named)
+    (name_at statement_faults named)
     (named_judged statement_faults named)
     (get_member key ms)

@@ -3,14 +3,13 @@
 use Rattle.std.specs.Prelude.{◌&&◌, ◌==◌, ℕ, ℤ, pos, List, [], ◌∷◌, length, codes, is_none, Option, Some}
 use Rattle.std.specs.Prelude.{None, Ok, Err, nat_le, if◌then◌else◌}
 use Rattle.std.specs.Map.{keys_of}
-use Rattle.std.specs.Option.{option_and_then}
 use Rattle.std.specs.Str.{bytes_eq}
 use Rattle.toml.specs.Data.{Data, Members, get_member, as_integer, as_str, as_table}
 use Rattle.bus_ticks.specs.declared.profile.Class.{Class}
 use Rattle.bus_ticks.specs.declared.profile.Class.TheVariants.{Any, Ram, Rom, Io}
 use Rattle.loader.specs.Labels.{Names}
-use Rattle.toml_reading.specs.Documents.{IsAnswer, are_distinct, in_space, items_at, listed_up_to, number_in}
-use Rattle.toml_reading.specs.Documents.{of_keys, tables_up_to}
+use Rattle.toml_reading.specs.Documents.{IsAnswer, are_distinct, in_space, items_at, listed_up_to, name_at}
+use Rattle.toml_reading.specs.Documents.{number_in, of_keys, tables_up_to}
 use Rattle.toml_reading.specs.Readings.{Reading, and_then, both, optional, required, seen}
 use Rattle.statement.specs.Stated.{Stated, Target}
 use Rattle.statement.specs.StatementFaults.{statement_faults}
@@ -51,10 +50,10 @@ named_kind w = if bytes_eq w (codes "jump") then Some Jump else (if bytes_eq w (
     else (if bytes_eq w (codes "leave") then Some Leave else None)))
 
 abbrev pub class_at : Data → Read Class
-class_at d = required statement_faults (option_and_then named_class (as_str d)) (λ c. Ok c)
+class_at d = name_at statement_faults named_class d
 
 abbrev pub kind_at : Data → Read TargetKind
-kind_at d = required statement_faults (option_and_then named_kind (as_str d)) (λ k. Ok k)
+kind_at d = name_at statement_faults named_kind d
 
 -- ## Addresses
 

@@ -4,7 +4,7 @@ use Rattle.std.specs.List.{AllZip, cons_option}
 use Rattle.std.proofs.lemmas.Bool.{leb-true, leb-false, true≢false}
 use Rattle.std.proofs.lemmas.Option.{none-some, same_Some}
 use Rattle.toml.specs.Data.{Data, Members, as_integer, as_str, as_table, get_member}
-use Rattle.toml_reading.specs.Documents.{has_only_keys, items_at, list_at, listed, number_at, number_in, number_or, of_keys, tables_at}
+use Rattle.toml_reading.specs.Documents.{has_only_keys, items_at, list_at, listed, name_at, number_at, number_in, number_or, of_keys, tables_at}
 use Rattle.toml_reading.specs.Lowest.{AtKey, AtKeyOr, IsListOf, IsNamed, IsNumber, IsOutside, IsTable, KeysFault, ListFault, NameFault, NumberFault, TableFault, entries_at, natural, number_of_entry, numbers_at}
 use Rattle.toml_reading.specs.Readings.{Faults, Reading, after, all, both, required, seen, up_to}
 use Rattle.toml_reading.proofs.LowestLemmas.{Judges, Told, both_judged, checked_judged, judged_as, optional_judged, required_judged, seen_judged}
@@ -98,7 +98,7 @@ module _ {F A : Type 0} (fs : Faults F) where
   }
 
   pub named_judged : (named : List ℕ → Option A) (d : Data)
-      → Judges fs (IsNamed named d) (NameFault fs named d) (required fs (option_and_then named (as_str d)) (λ a. Ok a))
+      → Judges fs (IsNamed named d) (NameFault fs named d) (name_at fs named d)
   named_judged named d = found_judged (option_and_then named (as_str d))
 
 -- ## Tables

@@ -3,9 +3,10 @@ use Rattle.std.specs.Prelude.{◌≡◌, ◌&&◌, ◌==◌, ◌%◌, ◌^◌, �
 use Rattle.std.specs.Prelude.{◌∷◌, map, length, option_map, Option, Some, None, Ok, Err, nat_eq, nat_le}
 use Rattle.std.specs.Prelude.{nat_lt, if◌then◌else◌}
 use Rattle.std.specs.List.{list_any}
+use Rattle.std.specs.Option.{option_and_then}
 use Rattle.std.specs.Str.{IsUtf8, bytes_eq}
 use Rattle.toml.specs.Data.{Data, Items, Members, no_items, item, no_members, member, get_member, as_array}
-use Rattle.toml.specs.Data.{as_integer}
+use Rattle.toml.specs.Data.{as_integer, as_str}
 use Rattle.toml.specs.Parse.{parse_document}
 use Rattle.toml_reading.specs.Readings.{Faults, Reading, all, checked, optional, required, up_to}
 
@@ -35,6 +36,12 @@ number_in faults key limit ms = required faults (get_member key ms) (number_at f
 -- the number at a key, or `missing` where there is no such key
 abbrev pub number_or : {F : Type 0} → Faults F → List ℕ → ℕ → ℕ → Members → Reading F ℕ
 number_or faults key limit missing ms = optional missing (get_member key ms) (number_at faults limit)
+
+-- ## Names
+
+-- what a text names
+abbrev pub name_at : {F A : Type 0} → Faults F → (List ℕ → Option A) → Data → Reading F A
+name_at faults named d = required faults (option_and_then named (as_str d)) (λ a. Ok a)
 
 -- ## Addresses
 

@@ -65,8 +65,11 @@ abbrev pub IsNamed : {A : Type 0} → (List ℕ → Option A) → Data → A →
 IsNamed named d a = option_and_then named (as_str d) ≡ Some a
 
 -- a text that names nothing, or another type
+abbrev pub NamesNothing : {A : Type 0} → (List ℕ → Option A) → Data → Type 0
+NamesNothing named d = option_and_then named (as_str d) ≡ None
+
 abbrev pub NameFault : {F A : Type 0} → Faults F → (List ℕ → Option A) → Data → F → Type 0
-NameFault faults named d fault = (option_and_then named (as_str d) ≡ None) × (fault ≡ faults.wrong_kind)
+NameFault faults named d fault = NamesNothing named d × (fault ≡ faults.wrong_kind)
 
 -- ## Addresses
 
