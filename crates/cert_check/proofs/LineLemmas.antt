@@ -2,6 +2,7 @@
 use Rattle.std.proofs.Common.{◌≡◌, ◌∙◌, ℕ, List, [], ◌∷◌, ◌++◌, append_assoc, map, Option, Some, sym, ap, subst}
 use Rattle.std.specs.Prelude.{option_map}
 use Rattle.std.specs.List.{AllByRecursion}
+use Rattle.std.proofs.lemmas.List.Folds.{flat_map-map}
 use Rattle.walks.specs.Walk.{Leads}
 use Rattle.flow_graph.specs.declared.places.Place.{Place}
 use Rattle.flow_graph.specs.declared.edges.Edge.{Edge}
@@ -19,7 +20,6 @@ use Rattle.certificate.specs.declared.walk.CertItem.TheFolds.{fold-roll-CertItem
 use Rattle.certificate.specs.declared.line.WalkLine.{WalkLine}
 use Rattle.certificate.specs.declared.line.WalkLine.TheVariants as w
 use Rattle.certificate.specs.Walk.{cert_item_lines, cert_item_step, cert_walk_lines, item_lines, item_step, repeated_lines, step_of, walk_lines}
-use Rattle.certificate.proofs.WalkLaws.{flat_map-joined}
 use Rattle.cert_check.specs.Followed.{Followed, edge_named, follow_edge, follow_item, follow_row, follow_step, follow_turns, followed}
 use Rattle.cert_check.proofs.FollowLemmas.{Follows, IsSound, arrived, followed_both, followed_edge, followed_none, followed_turns}
 
@@ -38,7 +38,7 @@ lines_in (CertItem-F.Repeat k body) = repeated_lines k (cert_walk_lines body.ite
 
 lines_are : (x : CertItem-F CertItem) → cert_item_lines (roll-CertItem x) ≡ lines_in x
 lines_are (CertItem-F.Step s) = fold-roll-CertItem (List WalkLine) cert_item_step (CertItem-F.Step s)
-lines_are (CertItem-F.Repeat k body) = fold-roll-CertItem (List WalkLine) cert_item_step (CertItem-F.Repeat k body) ∙ ap (repeated_lines k) (flat_map-joined cert_item_lines body.items)
+lines_are (CertItem-F.Repeat k body) = fold-roll-CertItem (List WalkLine) cert_item_step (CertItem-F.Repeat k body) ∙ ap (repeated_lines k) (flat_map-map (λ x. x) cert_item_lines body.items)
 
 -- an item's lines do not end a row
 layer_goes_on : (x : CertItem-F CertItem) (rest : List WalkLine) → EndsRow (lines_in x ++ rest) → ⊥
@@ -122,7 +122,7 @@ module _ (flow : Flow) (tree : Tree) (named : (e : Edge) → HasEdge flow e → 
       let x = map-Item ((i : Item) × Good i) Item (λ e. e.0) (Item-F.Repeat k body) in
       let inner : List Item = map (λ y. y.0) body.value.items in
       let opened : open_item (roll-Item x) ≡ turned k (open_items inner) = fold-roll-Item Opened open_step x in
-      let lines : item_lines (roll-Item x) ≡ repeated_lines k (walk_lines inner) = fold-roll-Item (List WalkLine) item_step x ∙ ap (repeated_lines k) (flat_map-joined item_lines inner) in
+      let lines : item_lines (roll-Item x) ≡ repeated_lines k (walk_lines inner) = fold-roll-Item (List WalkLine) item_step x ∙ ap (repeated_lines k) (flat_map-map (λ x. x) item_lines inner) in
       subst (λ o. Matches o (item_lines (roll-Item x))) (sym opened) (subst (Matches (turned k (open_items inner))) (sym lines) (repeat_matches k inner (all_beside body.value.items)))
 
   good : (i : Item) → Good i

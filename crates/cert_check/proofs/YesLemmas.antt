@@ -18,6 +18,7 @@ use Rattle.numbered_walks.proofs.Members.{member_from}
 use Rattle.longest_walk.proofs.CarryWalks.{span_of}
 use Rattle.longest_walk.specs.Longest.{KeepsTree}
 use Rattle.longest_walk.specs.Rows.{RowsHold, is_exit}
+use Rattle.longest_walk.proofs.CarryPotentials.{exit_inside}
 use Rattle.certificate.specs.declared.cert.Cert.{Cert}
 use Rattle.cert_check.specs.declared.verdict.Objection.{Objection}
 use Rattle.cert_check.specs.declared.verdict.Verdict.TheVariants.{Yes}
@@ -50,13 +51,9 @@ module _ (flow : Flow) (tree : Tree) (well : IsWellFormed flow) (t : IsTree flow
   exit_outside i has (At calls a) is = cc
   exit_outside i has Exit is = refl
 
-  from_inside : (p : Place) → Contains flow.places p → is_exit p ≡ false
-  from_inside (At calls a) has = refl
-  from_inside Exit has = absurd (well.no_exit has)
-
   module _ (cert : Cert) (rows : RowsHold flow tree (potentials cert)) where
     pub upper : (walk : List Edge) → IsCompleteWalk flow walk → KeepsTree tree walk → cost_of edge_shape walk ≤ cert.bound
-    upper walk complete kept = walk_to_exit-le edge_shape place_loops is_exit (HasEdge flow) tree.instances (potentials cert) header_in exit_outside (λ e has. from_inside e.from (well.starts e has)) rows flow.entry Exit refl walk complete kept
+    upper walk complete kept = walk_to_exit-le edge_shape place_loops is_exit (HasEdge flow) tree.instances (potentials cert) header_in exit_outside (λ e has. exit_inside flow tree well t e.from (well.starts e has)) rows flow.entry Exit refl walk complete kept
 
 -- what gets Yes has passed each test
 pub all_passed : (flow : Flow) (tree : Tree) (cert : Cert) (xs : List Objection) → IsFirstOf flow tree cert xs Yes → AllByRecursion (Passes flow tree cert) xs

@@ -19,6 +19,7 @@ use Rattle.certificate.specs.Walk.{Nest, follow_all, outside}
 use Rattle.certificate.specs.Words.{InstanceFits, IsProfile, LineFits, PlaceFits, WalkFits}
 use Rattle.certificate.proofs.FollowLaws.{ascends_from_sorted, at, last_of, places_follow, sorted_from_ascends, tail_follows, walk_follows}
 use Rattle.certificate.proofs.ParseLaws.{Ends, Walked, not_done, walked_in}
+use Rattle.certificate.proofs.WalkLaws.{all_append}
 
 -- ## The first profile
 
@@ -121,10 +122,6 @@ cert_follows said spelled =
 
 -- ## Its lines fit
 
-pub all_append : (xs ys : List Line) → AllByRecursion LineFits xs → AllByRecursion LineFits ys → AllByRecursion LineFits (xs ++ ys)
-all_append [] ys f g = g
-all_append (x ∷ xs) ys f g = (f.0, all_append xs ys f.1 g)
-
 walk_fit : (ws : List WalkLine) → AllByRecursion WalkFits ws → AllByRecursion LineFits (map l.Walk ws)
 walk_fit [] f = tt
 walk_fit (x ∷ ws) f = (f.0, walk_fit ws f.1)
@@ -146,10 +143,10 @@ head_fits numbers profile = by (is_one numbers) refl
 
 pub cert_fits : (said : Said) → CanSpell said → AllByRecursion LineFits (cert_lines said)
 cert_fits said spelled =
-    all_append (head_lines said.numbers) _ (head_fits said.numbers spelled.profile) (
+    all_append LineFits (head_lines said.numbers) _ (head_fits said.numbers spelled.profile) (
       spelled.bound,
-      all_append (map l.Walk said.walk) _ (walk_fit said.walk spelled.steps)
-          (tt, all_append (map l.Place said.places) _ (places_fit said.places spelled.places) (all_append (map l.Instance said.instances) _ (instances_fit said.instances spelled.instances) (tt, tt))),
+      all_append LineFits (map l.Walk said.walk) _ (walk_fit said.walk spelled.steps)
+          (tt, all_append LineFits (map l.Place said.places) _ (places_fit said.places spelled.places) (all_append LineFits (map l.Instance said.instances) _ (instances_fit said.instances spelled.instances) (tt, tt))),
     )
 
 -- ## One certificate for some lines

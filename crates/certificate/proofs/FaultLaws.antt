@@ -22,10 +22,11 @@ use Rattle.certificate.specs.Follows.{Reached, follows, reached_by, start}
 use Rattle.certificate.specs.Lines.{CanSpell, Said, cert_lines, cert_text, said_by}
 use Rattle.certificate.specs.Walk.{Nest, follow_all, nest_after}
 use Rattle.certificate.specs.Words.{IsProfile, LineFits, StepFits, ended, text_of}
-use Rattle.certificate.proofs.CertLaws.{all_append, cert_fits, cert_follows, one_said, spelled_by}
+use Rattle.certificate.proofs.CertLaws.{cert_fits, cert_follows, one_said, spelled_by}
 use Rattle.certificate.proofs.FollowLaws.{at, follow-none, follow-on, walk_follows}
 use Rattle.certificate.proofs.ParseLaws.{Ends, stops}
 use Rattle.certificate.proofs.TextLaws.{begins, next_line, no_line, one_text}
+use Rattle.certificate.proofs.WalkLaws.{all_append}
 
 -- ## Lines that end a certificate, from anywhere before its last
 
@@ -98,7 +99,7 @@ all_after (x ∷ xs) ys f = all_after xs ys f.1
 are_first : (lines : List Line) (to : Reached) → Follow lines to → to.stage ≢ s.Done → AreFirst lines
 are_first lines to follow going =
     let c = complete_at to.stage to.nest going in
-    let whole = spelled_by (lines ++ c.next ∷ c.more) (all_append lines (c.next ∷ c.more) follow.fit c.fit) (c.ends.0, follow-on follows start to lines (c.next ∷ c.more) follow.reached ∙ c.ends.1, c.ends.2) in
+    let whole = spelled_by (lines ++ c.next ∷ c.more) (all_append LineFits lines (c.next ∷ c.more) follow.fit c.fit) (c.ends.0, follow-on follows start to lines (c.next ∷ c.more) follow.reached ∙ c.ends.1, c.ends.2) in
     record { said = whole.said; spelled = whole.spelled; next = c.next; more = c.more; lines_are = sym whole.lines_are }
 
 -- ## Each fault

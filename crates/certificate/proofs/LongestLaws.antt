@@ -16,6 +16,7 @@ use Rattle.std.specs.Prelude.{Contains, ◌⊎◌}
 use Rattle.std.specs.List.Sorted.{IsStrictlySortedBy}
 use Rattle.std.proofs.lemmas.Bool.{cases_lt, eq-eqb}
 use Rattle.std.proofs.lemmas.List.Elements.{All-contains, All-from_recursion, All-weaker, Contains-get_or, recursion_from_All}
+use Rattle.std.proofs.lemmas.List.Folds.{flat_map-map}
 use Rattle.bus_ticks.specs.declared.profile.Profile.{Profile}
 use Rattle.bus_ticks.specs.Numbers.{numbers_of}
 use Rattle.bus_ticks.specs.Ranges.{IsPrice}
@@ -38,7 +39,7 @@ use Rattle.longest_walk.specs.declared.rows.PlaceRow.{PlaceRow}
 use Rattle.certificate.specs.Lines.{CanSpell, said_of}
 use Rattle.certificate.proofs.FollowLaws.{follow-on}
 use Rattle.certificate.proofs.LeastLaws.{AreBelow, all_found, are_below, capped, capped_holds, finds}
-use Rattle.certificate.proofs.WalkLaws.{flat_map-joined}
+use Rattle.certificate.proofs.WalkLaws.{all_append}
 use Rattle.numbered_walks.proofs.Members.{no_span}
 
 -- bodies have edges, and counts are in range
@@ -68,10 +69,6 @@ all_right : {A : Type 0} (P : A → Type 0) (xs ys : List A) → AllByRecursion 
 all_right P [] ys f = f
 all_right P (x ∷ xs) ys f = all_right P xs ys f.1
 
-all_both : {A : Type 0} (P : A → Type 0) (xs ys : List A) → AllByRecursion P xs → AllByRecursion P ys → AllByRecursion P (xs ++ ys)
-all_both P [] ys f g = g
-all_both P (x ∷ xs) ys f g = (f.0, all_both P xs ys f.1 g)
-
 abbrev is_some : {A : Type 0} → Bool → List A → Bool
 is_some some [] = some
 is_some some (x ∷ xs) = true
@@ -96,7 +93,7 @@ module _ {Y : Type 0} (item : Y → Item) (good : (y : Y) → Good (item y)) whe
   row_fits : (ys : List Y) → IsSound (joined (map open_item (map item ys))) → AllByRecursion FineEdge (joined (map open_item (map item ys))).walk → AllByRecursion WalkFits (walk_lines (map item ys))
   row_fits [] s f = tt
   row_fits (y ∷ ys) s f =
-      all_both WalkFits (item_lines (item y)) (walk_lines (map item ys)) ((good y (sound_head y ys s)).fits (all_left FineEdge (open_item (item y)).walk _ f))
+      all_append WalkFits (item_lines (item y)) (walk_lines (map item ys)) ((good y (sound_head y ys s)).fits (all_left FineEdge (open_item (item y)).walk _ f))
       (row_fits ys (sound_tail y ys s) (all_right FineEdge (open_item (item y)).walk _ f))
 
   -- a repeat of them
@@ -111,7 +108,7 @@ module _ {Y : Type 0} (item : Y → Item) (good : (y : Y) → Good (item y)) whe
             let room : nat_lt depth 16 ≡ true = lt-ltb depth 16 (omega arith) in
             ap (λ (b : Bool). option_and_then (λ t. follow_all nest_after t (lines ++ w.End ∷ [])) (if b then Some (nest (suc depth) false) else None)) room
             ∙ follow-on nest_after (nest (suc depth) false) (nest (suc depth) true) lines (w.End ∷ []) (row_nests (y ∷ ys) inner (suc depth) false (omega arith));
-        fits = λ f. (s.counts.0, all_both WalkFits lines (w.End ∷ []) (row_fits (y ∷ ys) inner (once k o.walk s.counts.0.0 f)) (tt, tt));
+        fits = λ f. (s.counts.0, all_append WalkFits lines (w.End ∷ []) (row_fits (y ∷ ys) inner (once k o.walk s.counts.0.0 f)) (tt, tt));
       }
     where
       once : (n : ℕ) (xs : List Edge) → 0 < n → AllByRecursion FineEdge (repeated n xs) → AllByRecursion FineEdge xs
@@ -128,7 +125,7 @@ by_layer (Item-F.Repeat k body) = λ s.
     let x = map-Item ((i : Item) × Good i) Item (λ e. e.0) (Item-F.Repeat k body) in
     let inner : List Item = map (λ y. y.0) body.value.items in
     let opened : open_item (roll-Item x) ≡ turned k (joined (map open_item inner)) = fold-roll-Item Opened open_step x in
-    let lines : item_lines (roll-Item x) ≡ repeated_lines k (walk_lines inner) = fold-roll-Item (List WalkLine) item_step x ∙ ap (repeated_lines k) (flat_map-joined item_lines inner) in
+    let lines : item_lines (roll-Item x) ≡ repeated_lines k (walk_lines inner) = fold-roll-Item (List WalkLine) item_step x ∙ ap (repeated_lines k) (flat_map-map (λ x. x) item_lines inner) in
     subst (λ o. Writes o (item_lines (roll-Item x))) (sym opened) (subst (Writes (turned k (joined (map open_item inner)))) (sym lines) (around (λ y. y.0) (λ y. y.1) k body.value.items (subst IsSound opened s)))
 
 pub good : (i : Item) → Good i

@@ -1,8 +1,9 @@
 -- The lines of a walk, as it grows by a line.
-use Rattle.std.proofs.Common.{◌≡◌, ◌∙◌, Bool, true, ℕ, suc, List, [], ◌∷◌, ◌++◌, length, Vec, Some, None, map, refl, sym, ap, arith, append_assoc, append-nil, length-append, if◌then◌else◌}
-use Rattle.std.specs.List.{flat_map}
+use Rattle.std.proofs.Common.{◌≡◌, ◌∙◌, Bool, true, ℕ, suc, List, [], ◌∷◌, ◌++◌, length, Vec, Some, None, refl, sym, ap, arith, append_assoc, append-nil, length-append, if◌then◌else◌}
+use Rattle.std.specs.List.{AllByRecursion, flat_map}
 use Rattle.std.specs.declared.alloc.Global.{Global}
 use Rattle.std.proofs.lemmas.List.{flat_map_more}
+use Rattle.std.proofs.lemmas.List.Folds.{flat_map-map}
 use Rattle.certificate.specs.declared.walk.StepLine.{StepLine}
 use Rattle.certificate.specs.declared.walk.CertItem.{CertItem}
 use Rattle.certificate.specs.declared.walk.CertItem.TheOpen.{CertItem-F}
@@ -14,9 +15,11 @@ use Rattle.certificate.specs.declared.line.WalkLine.TheVariants as w
 use Rattle.certificate.specs.Walk.{cert_item_lines, cert_item_step, cert_walk_lines, closed, repeated_lines}
 use Rattle.certificate.specs.Drafts.{front_lines, is_some_item, open_lines}
 
-pub flat_map-joined : {A B : Type 0} (f : A → List B) (xs : List A) → flat_map (λ x. x) (map f xs) ≡ flat_map f xs
-flat_map-joined f [] = refl
-flat_map-joined f (x ∷ xs) = ap (λ rest. f x ++ rest) (flat_map-joined f xs)
+-- ## Lists
+
+pub all_append : {A : Type 0} (P : A → Type 0) (xs ys : List A) → AllByRecursion P xs → AllByRecursion P ys → AllByRecursion P (xs ++ ys)
+all_append P [] ys f g = g
+all_append P (x ∷ xs) ys f g = (f.0, all_append P xs ys f.1 g)
 
 -- ## One item
 
@@ -26,7 +29,7 @@ lines-step s = ap (fold-CertItem (List WalkLine) cert_item_step) (sym (rolls-Ste
 pub lines-repeat : (k : ℕ) (body : Vec CertItem Global) → cert_item_lines (Repeat k body) ≡ repeated_lines k (cert_walk_lines body.items)
 lines-repeat k body =
     ap (fold-CertItem (List WalkLine) cert_item_step) (sym (rolls-Repeat k body)) ∙ fold-roll-CertItem (List WalkLine) cert_item_step (CertItem-F.Repeat k body)
-    ∙ ap (repeated_lines k) (flat_map-joined cert_item_lines body.items)
+    ∙ ap (repeated_lines k) (flat_map-map (λ x. x) cert_item_lines body.items)
 
 -- ## A front that grows
 

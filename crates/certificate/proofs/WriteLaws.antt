@@ -9,6 +9,7 @@ use Rattle.std.specs.Fmt.{decimal}
 use Rattle.std.specs.declared.alloc.Global.{Global}
 use Rattle.std.specs.Cmp.Lexicographic.{pointwise}
 use Rattle.std.proofs.lemmas.Grind.{flat_map-append}
+use Rattle.std.proofs.lemmas.List.Folds.{flat_map-map}
 use Rattle.bus_ticks.specs.Numbers.{profile_one}
 use Rattle.flow_graph.specs.declared.edges.Edge.{Edge}
 use Rattle.longest_walk.specs.declared.folded.Item.{Item}
@@ -26,7 +27,6 @@ use Rattle.certificate.specs.Walk.{item_lines, item_step, repeated_lines, step_o
 use Rattle.asm_text.specs.Hex.{hex}
 use Rattle.certificate.specs.Words.{ended, instance_words, line_words, list_words, place_words, step_words, text_of, walk_words}
 use Rattle.certificate.specs.Written.{head_text, instances_text, places_text, walk_text}
-use Rattle.certificate.proofs.WalkLaws.{flat_map-joined}
 
 -- ## The walk
 
@@ -38,7 +38,7 @@ text-step e = ap walk_text (lines-step e) ∙ append-nil (ended (step_words (ste
 
 pub text-repeat : (k : ℕ) (body : Rc (Vec Item Global) Global) → walk_text (item_lines (Repeat k body)) ≡ ended (codes "repeat " ++ decimal k) ++ (walk_text (walk_lines body.value.items) ++ codes "end\n")
 text-repeat k body =
-    ap walk_text (ap (fold-Item (List WalkLine) item_step) (sym (rolls-Repeat k body)) ∙ fold-roll-Item (List WalkLine) item_step (Item-F.Repeat k body) ∙ ap (repeated_lines k) (flat_map-joined item_lines body.value.items))
+    ap walk_text (ap (fold-Item (List WalkLine) item_step) (sym (rolls-Repeat k body)) ∙ fold-roll-Item (List WalkLine) item_step (Item-F.Repeat k body) ∙ ap (repeated_lines k) (flat_map-map (λ x. x) item_lines body.value.items))
     ∙ ap (λ (t : List ℕ). ended (codes "repeat " ++ decimal k) ++ t) (flat_map-append (λ x. ended (walk_words x)) (walk_lines body.value.items) (w.End ∷ []))
 
 -- ## Calls and prices

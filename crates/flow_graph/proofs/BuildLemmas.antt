@@ -32,7 +32,7 @@ use Rattle.flow_graph.proofs.EdgeLemmas.{among_edges, is_edge, leaves, no_edge_a
 use Rattle.flow_graph.proofs.GrowLemmas.{wider}
 use Rattle.flow_graph.proofs.PlaceLemmas.{place_total, places_have}
 use Rattle.flow_graph.proofs.Ascending.{length_ascending}
-use Rattle.flow_graph.proofs.SortedLemmas.{length_within, no_member}
+use Rattle.flow_graph.proofs.SortedLemmas.{length_within, no_member, read_in}
 use borrow.Author.Count.{below_more}
 
 module _ (words : Words) (st : Stated) (profile : Profile) where
@@ -98,16 +98,13 @@ module _ (words : Words) (st : Stated) (profile : Profile) where
     done = λ k d h. absurd (omega arith);
   }
 
-  has_next : (order : List Place) (next : ℕ) (place : Place) → next < length order → place ≡ get_or order next place → Contains order place
-  has_next order next place lt is = (next, lt, sym is)
-
   -- the next place is done
   pub search_more : (order new : List Place) (next : ℕ) (place : Place) → IsSearch words st profile order next → next < length order → place ≡ get_or order next place → IsVisited words st profile order place new → IsSearch words st profile new (next + 1)
   search_more order new next place s lt is v =
       let more : List Place = (v.grows.more).0 in
       let new_is : new ≡ order ++ more = (v.grows.more).1 in
       let longer : length new ≡ length order + length more = ap length new_is ∙ length-append order more in
-      let r : IsReached words st profile place = s.reached place (has_next order next place lt is) in
+      let r : IsReached words st profile place = s.reached place (read_in order next place lt is) in
       record {
         bound = omega arith;
         entry = rw new_is (Contains-append_left order more (start_of st) s.entry);
@@ -191,7 +188,7 @@ module _ (words : Words) (st : Stated) (profile : Profile) where
 
   pub search_fault : (order : List Place) (next : ℕ) (place : Place) (f : BuildFault) → IsSearch words st profile order next → next < length order → place ≡ get_or order next place → IsVisitFault words st profile order place f → IsBuildFault words st profile f
   search_fault order next place f s lt is h =
-      let r : IsReached words st profile place = s.reached place (has_next order next place lt is) in
+      let r : IsReached words st profile place = s.reached place (read_in order next place lt is) in
       ⊎_elim
       (λ why. edge_refused place f r why)
       (λ many. subst (IsBuildFault words st profile) (sym many.0) (crowd_by order place many.1 s.reached r many.2 many.3))

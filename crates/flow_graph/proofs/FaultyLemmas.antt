@@ -3,7 +3,7 @@ use Rattle.std.proofs.Common.{◌≡◌, ℕ, ◌<◌, ◌≤◌, Option, List, 
 use Rattle.std.specs.Prelude.{Contains, IfNone, IfSome, Some, None}
 use Rattle.std.specs.BTreeSet.{BTreeSet}
 use Rattle.std.specs.declared.cmp.Reverse.{Reverse}
-use Rattle.std.proofs.lemmas.List.Elements.{Contains-append_left, Contains-append_right, Contains-append_cases, Contains-push_cases}
+use Rattle.std.proofs.lemmas.List.Elements.{Contains-append_right, Contains-append_cases, Contains-push_cases}
 use Rattle.bus_ticks.specs.declared.profile.Profile.{Profile}
 use Rattle.loader.specs.Image.{Words}
 use Rattle.flow_graph.specs.Edges.{AreEdgesOf, HasAction}
@@ -19,6 +19,7 @@ use Rattle.flow_graph.specs.declared.places.Place.TheVariants.{At, Exit}
 use Rattle.flow_graph.proofs.BuildLemmas.{search_all, search_allowed}
 use Rattle.flow_graph.proofs.EdgeLemmas.{is_edge, leaves, one_action_at}
 use Rattle.flow_graph.proofs.SortedLemmas.{no_member}
+use Rattle.flow_graph.proofs.GrowLemmas.{later}
 
 module _ (words : Words) (st : Stated) (profile : Profile) where
   pub reached_next : (order : List Place) (next : ℕ) (place : Place) → IsSearch words st profile order next → next < length order → place ≡ get_or order next place → IsReached words st profile place
@@ -36,9 +37,6 @@ module _ (words : Words) (st : Stated) (profile : Profile) where
     reached = subst (IsReached words st profile) (sym ((leaves words st profile p edges e are has).from)) r;
     is_edge = is_edge words st profile p edges e are has;
   }
-
-  later : (walked edges : List Edge) (p : Place) → EndsOne walked p → EndsOne (walked ++ edges) p
-  later walked edges p h = (h.0, Contains-append_left walked edges h.0 h.1, h.2)
 
   pub walked_more : (order new : List Place) (walked edges : List Edge) (place : Place) → IsWalked words st profile order walked → IsReached words st profile place → AreEdgesOf words st profile place edges → Grows order edges new → IsWalked words st profile new (walked ++ edges)
   walked_more order new walked edges place w r are grows = record {

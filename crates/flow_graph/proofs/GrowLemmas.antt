@@ -12,7 +12,7 @@ use Rattle.flow_graph.specs.Search.{IsFound, Adds, IsCrowded, Grows, IsCrowdedBy
 pub wider : (order more : List Place) (q : Place) → IsIn order q → IsIn (order ++ more) q
 wider order more q h = ⊎_elim (λ e. inl e) (λ w. inr (Contains-append_left order more q w)) h
 
-later : (done more : List Edge) (q : Place) → EndsOne done q → EndsOne (done ++ more) q
+pub later : (done more : List Edge) (q : Place) → EndsOne done q → EndsOne (done ++ more) q
 later done more q h = (h.0, Contains-append_left done more h.0 h.1, h.2)
 
 kept : (old mid : List Place) (done : List Edge) (e : Edge) → Grows old done mid → IsIn mid e.to → Grows old (done ++ e ∷ []) mid

@@ -1,5 +1,5 @@
 -- Strictly ascending lists, by a total order that tells all keys apart.
-use Rattle.std.proofs.Common.{◌≡◌, zero, suc, ◌<◌, ◌≤◌, List, [], ◌∷◌, length, ◌⊎◌, inl, inr, ⊎_elim, refl, sym, ap, ◌∙◌, subst, arith}
+use Rattle.std.proofs.Common.{◌≡◌, ℕ, zero, suc, ◌<◌, ◌≤◌, List, [], ◌∷◌, length, get_or, ◌⊎◌, inl, inr, ⊎_elim, refl, sym, ap, ◌∙◌, subst, arith}
 use Rattle.std.specs.Prelude.{Contains}
 use Rattle.std.specs.Cmp.{IsTotalOrder, tied_itself}
 use Rattle.std.specs.Ordering.{ordering_reverse}
@@ -17,6 +17,9 @@ here x xs = (0, omega arith, refl)
 
 pub there : {K : Type 0} (x : K) (xs : List K) (z : K) → Contains xs z → Contains (x ∷ xs) z
 there x xs z h = let lt : h.0 < length xs = h.1 in (suc h.0, omega arith, h.2)
+
+pub read_in : {K : Type 0} (xs : List K) (k : ℕ) (x : K) → k < length xs → x ≡ get_or xs k x → Contains xs x
+read_in xs k x lt is = (k, lt, sym is)
 
 pub cons_cases : {K : Type 0} (x : K) (xs : List K) (z : K) → Contains (x ∷ xs) z → (x ≡ z) ⊎ Contains xs z
 cons_cases x xs z (zero, lt, is) = inl is

@@ -125,6 +125,3 @@ pub part_joined : (parts : List (List Edge)) (v : ℕ) (e : Edge) → v < length
 part_joined [] v e h has = absurd (omega arith)
 part_joined (part ∷ parts) zero e h has = Contains-append_left part (joined parts) e has
 part_joined (part ∷ parts) (suc v) e h has = Contains-append_right part (joined parts) e (part_joined parts v e (omega arith) has)
-
-pub has_place : (places : List Place) (k : ℕ) (p : Place) → k < length places → p ≡ get_or places k p → Contains places p
-has_place places k p lt is = (k, lt, sym is)

@@ -17,7 +17,7 @@ use Rattle.numbered_walks.specs.declared.span.NumberedEdge.{NumberedEdge}
 use Rattle.numbered_walks.specs.declared.span.Span.{Span}
 use Rattle.numbered_walks.specs.Index.{edge_at}
 use Rattle.numbered_walks.proofs.Members.{no_numbered_edge}
-use Rattle.loop_bounds.specs.Tree.{IsTree, NumbersEdge, Tree, place_in}
+use Rattle.loop_bounds.specs.Tree.{IsTree, Tree, place_in}
 use Rattle.longest_walk.specs.Built.{step_at}
 use Rattle.longest_walk.proofs.CarryWalks.{edge_same, number_is}
 use Rattle.kept_runs.specs.declared.following.Follower.{Follower}
@@ -57,22 +57,19 @@ module _ (words : Words) (st : Stated) (flow : Flow) (tree : Tree) (well : IsWel
   stands = record { machine = can.machine; at = (can.at.0, sym place_is ∙ can.at.1) }
 
   -- an edge of the graph, by its number
-  pub numbers : (k : ℕ) → k < length flow.edges → NumbersEdge (place_in flow tree) (length flow.places) (step_at flow.edges k) (edge_at tree.edges k)
-  numbers k lt = edge_same flow tree well t k lt
-
   pub in_tree : (k : ℕ) → k < length flow.edges → Contains tree.edges (edge_at tree.edges k)
   in_tree k lt = Contains-get_or tree.edges k no_numbered_edge (omega (arith, lt, t.numbered.same))
 
   -- an edge leaves where the run is, as places and as numbers
   pub leaves_number : (k : ℕ) → k < length flow.edges → (step_at flow.edges k).from ≡ place_in flow tree x.number → (edge_at tree.edges k).from ≡ x.number
   leaves_number k lt from =
-      let n = numbers k lt in
+      let n = edge_same flow tree well t k lt in
       let low : (edge_at tree.edges k).from < length flow.places = n.from_in in
       let here : x.number < length flow.places = can.known in
       number_is flow tree well t (edge_at tree.edges k).from x.number (omega (arith, low)) (omega (arith, here)) (n.from_is ∙ from)
 
   pub leaves_place : (k : ℕ) → k < length flow.edges → (edge_at tree.edges k).from ≡ x.number → (step_at flow.edges k).from ≡ place_in flow tree x.number
-  leaves_place k lt from = sym (numbers k lt).from_is ∙ ap (place_in flow tree) from
+  leaves_place k lt from = sym (edge_same flow tree well t k lt).from_is ∙ ap (place_in flow tree) from
 
   module _ (i : Input) where
     -- no edge of the place
@@ -91,7 +88,7 @@ module _ (words : Words) (st : Stated) (flow : Flow) (tree : Tree) (well : IsWel
       e = edge_at tree.edges taken.edge
 
       pub to_in : (edge_at tree.edges taken.edge).to ≤ length flow.places
-      to_in = (numbers taken.edge takes.known).to_in
+      to_in = (edge_same flow tree well t taken.edge takes.known).to_in
 
       pub room : (edge_at tree.edges taken.edge).to < length x.turns.items
       room = let most = to_in in let long = can.room in omega (arith, most, long)
@@ -111,8 +108,8 @@ module _ (words : Words) (st : Stated) (flow : Flow) (tree : Tree) (well : IsWel
           let same : step_at flow.edges taken.edge ≡ step_at flow.edges k =
           one_edge_of words st flow.profile s i taken.stepped stepped after last (step_at flow.edges taken.edge) (step_at flow.edges k) takes.is_edge_of other.is_edge_of
           (takes.from ∙ sym (leaves_place k other.known other.from ∙ place_is)) in
-          let a = numbers taken.edge takes.known in
-          let b = numbers k other.known in
+          let a = edge_same flow tree well t taken.edge takes.known in
+          let b = edge_same flow tree well t k other.known in
           same_numbered (edge_at tree.edges taken.edge) (edge_at tree.edges k)
           (from_is ∙ sym other.from)
           (number_is flow tree well t (edge_at tree.edges taken.edge).to (edge_at tree.edges k).to a.to_in b.to_in (a.to_is ∙ ap (λ (d : Edge). d.to) same ∙ sym b.to_is))

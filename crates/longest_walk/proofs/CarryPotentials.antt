@@ -59,7 +59,7 @@ module _ (flow : Flow) (tree : Tree) (well : IsWellFormed flow) (t : IsTree flow
       let in_tree : Contains tree.spans s = Contains-get_or tree.spans k no_span (omega (arith, t.spans_are.same)) in
       subst (λ (x : Instance). f x ≤ g x) at (omega (arith, same k i no_span lt, other k i no_span lt, low s in_tree))
 
-  exit_inside : (p : Place) → Contains flow.places p → is_exit p ≡ false
+  pub exit_inside : (p : Place) → Contains flow.places p → is_exit p ≡ false
   exit_inside (At calls a) has = refl
   exit_inside Exit has = absurd (well.no_exit has)
 

@@ -30,7 +30,7 @@ use Rattle.longest_walk.specs.declared.folded.Longest.{Longest}
 use Rattle.longest_walk.proofs.CarryKeeps.{pass_back}
 use Rattle.longest_walk.proofs.CarryOnce.{rising_once}
 use Rattle.longest_walk.proofs.CarryPotentials.{least, rows_fit, rows_hold}
-use Rattle.longest_walk.proofs.CarryWalks.{agree_all, costs_same, exit_place, fault_up, greatest_up, instance_of, keeps_up, leads_up, too_large_down}
+use Rattle.longest_walk.proofs.CarryWalks.{agree_all, costs_same, exit_place, greatest_up, instance_of, keeps_up, leads_up, too_large_down}
 use Rattle.longest_walk.proofs.Opening.{AllZip-weaker}
 
 some_mapped : {X Y : Type 0} (f : X → Y) (xs : List X) → xs ≢ [] → map f xs ≢ []
@@ -43,10 +43,6 @@ module _ (flow : Flow) (tree : Tree) (well : IsWellFormed flow) (t : IsTree flow
 
   abbrev place : ℕ → Place
   place = place_in flow tree
-
-  -- each refusal over numbers is the one over places
-  pub carried_fault : (fault : WalkFault) → F.IsWalkFault (length flow.places) tree.edges tree.spans fault → IsWalkFault flow tree fault
-  carried_fault = fault_up flow tree well t
 
   module _ (c : Tables) (found : AreFound (length flow.places) tree.edges tree.spans c) where
     -- a walk to Exit with all its rounds costs the bound

@@ -44,25 +44,20 @@ module _ (flow : Flow) (tree : Tree) (t : IsTree flow tree) where
       let at : get_or tree.order k 0 ≡ exit = ap (λ (n : ℕ). get_or tree.order n 0) is ∙ t.exit_last in omega (arith, t.whole))
       (cases_lt k exit)
 
-  -- the number of the place at an index
-  pub number_is : (numbers : List ℕ) → AreNumbers tree.order numbers (length tree.order) → (index : ℕ) → index < exit → (get_or numbers index 0 < exit) × (place_in flow tree (get_or numbers index 0) ≡ place_at flow.places index)
-  number_is numbers all index lt =
+  -- what was read as the number of the place at an index
+  pub number_read : (numbers : List ℕ) → AreNumbers tree.order numbers (length tree.order) → (index number : ℕ) → index < exit → number ≡ get_or numbers index number → (number < exit) × (place_in flow tree number ≡ place_at flow.places index)
+  number_read numbers all index number lt read =
       let n = t.all index lt in
       let inside : n.0 < length tree.order = omega (arith, n.1, t.whole) in
-      let number : get_or numbers index 0 ≡ n.0 = ap (λ (k : ℕ). get_or numbers k 0) (sym n.2) ∙ all.each n.0 inside in
+      let small : index < length numbers = omega (arith, all.whole, t.whole) in
+      let is : number ≡ n.0 = read ∙ get_or_default numbers index number 0 small ∙ ap (λ (k : ℕ). get_or numbers k 0) (sym n.2) ∙ all.each n.0 inside in
       let at : get_or tree.order n.0 exit ≡ index = get_or_default tree.order n.0 exit 0 inside ∙ n.2 in
-      (omega (arith, n.1), ap (place_in flow tree) number ∙ ap (place_at flow.places) at)
+      (omega (arith, n.1, is), ap (place_in flow tree) is ∙ ap (place_at flow.places) at)
 
-  -- what was read for the place at an index
-  pub place_row_at : (c : Tables) (numbers : List ℕ) → AreNumbers tree.order numbers (length tree.order) → (index number : ℕ) (r : PlaceRow) → index < exit → number ≡ get_or numbers index 0 → place_of_row r ≡ place_at flow.places index → r.distance ≡ distance_of c number → IsPlaceRowAt flow tree c r
-  place_row_at c numbers all index number r lt number_at is distance =
-      let at = number_is numbers all index lt in
-      record {
-        number = number;
-        inside = omega (arith, at.0, number_at);
-        place_is = ap (place_in flow tree) number_at ∙ at.1 ∙ sym is;
-        distance_is = distance;
-      }
+  pub place_row_at : (c : Tables) (numbers : List ℕ) → AreNumbers tree.order numbers (length tree.order) → (index number : ℕ) (r : PlaceRow) → index < exit → number ≡ get_or numbers index number → place_of_row r ≡ place_at flow.places index → r.distance ≡ distance_of c number → IsPlaceRowAt flow tree c r
+  place_row_at c numbers all index number r lt read is distance =
+      let at = number_read numbers all index number lt read in
+      record { number = number; inside = at.0; place_is = at.1 ∙ sym is; distance_is = distance }
 
 -- no place among them is Exit
 pub not_exit : (places : List Place) → (Contains places Exit → ⊥) → (i : ℕ) (d : Place) → i < length places → (p : Place) → get_or places i d ≡ p → ((list : List ℕ) (a : ℕ) → get_or places i d ≡ At list a → ⊥) → ⊥

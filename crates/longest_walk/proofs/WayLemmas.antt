@@ -9,14 +9,14 @@ use Rattle.numbered_walks.specs.declared.span.NumberedEdge.{NumberedEdge}
 use Rattle.numbered_walks.specs.declared.span.Span.{Span}
 use Rattle.numbered_walks.specs.declared.tables.Tables.{Tables}
 use Rattle.numbered_walks.specs.declared.index.Index.{Index}
-use Rattle.numbered_walks.specs.Ordered.{IsOrdered, is_in}
+use Rattle.numbered_walks.specs.Ordered.{IsOrdered}
 use Rattle.numbered_walks.specs.Index.{edge_at, edges_of}
 use Rattle.numbered_walks.specs.Tables.{is_header_in}
-use Rattle.numbered_walks.specs.Found.{AreFound, IsEntering}
-use Rattle.numbered_walks.specs.Reach.{AreRoundsOf, InTree, IsPathTo, holds_in, start_of}
+use Rattle.numbered_walks.specs.Found.{IsEntering}
+use Rattle.numbered_walks.specs.Reach.{InTree, IsPathTo, holds_in, start_of}
 use Rattle.numbered_walks.proofs.Passing.{header_found}
 use Rattle.numbered_walks.proofs.Grouping.{edge_at-in}
-use Rattle.numbered_walks.proofs.Members.{member_header}
+use Rattle.numbered_walks.proofs.Members.{begins_in, member_header}
 use Rattle.numbered_walks.proofs.Paths as P
 use Rattle.loop_bounds.specs.Tree.{Tree}
 use Rattle.longest_walk.specs.Folded.{Opened, joined, one_edge}
@@ -29,12 +29,6 @@ use Rattle.longest_walk.proofs.Levels.{deep_some, level_below}
 -- ## Ways of numbers
 
 module _ (exit : ℕ) (edges : List NumberedEdge) (spans : List Span) (c : Tables) (order : IsOrdered exit edges spans) where
-  -- an edge to a later number of the context begins in it
-  pub begins_in : (context : Option Span) → InTree spans context → (e : NumberedEdge) → Contains edges e → holds_in context e.to ≡ true → start_of context < e.to → holds_in context e.from ≡ true
-  begins_in None here e in_graph goes_in later = refl
-  begins_in (Some k) here e in_graph goes_in later =
-      ⊎_elim (λ inside. inside) (λ out. absurd (omega (arith, order.entered e in_graph k here out goes_in))) (cases_Bool (is_in k e.from))
-
   -- a number of the context is its start or a later one
   pub starts_low : (context : Option Span) (p : ℕ) → holds_in context p ≡ true → start_of context ≤ p
   starts_low None p inside = omega arith
@@ -55,20 +49,11 @@ module _ (exit : ℕ) (edges : List NumberedEdge) (spans : List Span) (c : Table
       let goes_in : holds_in context e.to ≡ true = subst (λ (x : ℕ). holds_in context x ≡ true) (sym by.ends) inside in
       let later : start_of context < e.to = omega (arith, by.ends) in
       let longer : k ∷ reverse ks ≡ reverse (ks ++ k ∷ []) = sym (reverse-append ks (k ∷ [])) in (
-        begins_in context in_tree e in_graph goes_in later,
+        begins_in exit edges spans order context in_tree e in_graph goes_in later,
         omega (arith, (order.places e in_graph).0),
         subst (λ (l : List ℕ). IsWay edges spans c context e.from l to) longer
             (refl, subst (λ (x : ℕ). IsEntering edges spans c x k) (sym by.ends) by, goes_in, later, subst (λ (x : ℕ). IsWay edges spans c context x (reverse ks) to) (sym by.ends) way),
       )
-
-  module _ (found : AreFound exit edges spans c) where
-    step_in : (context : Option Span) → InTree spans context → (p k : ℕ) → IsEntering edges spans c p k → holds_in context p ≡ true → start_of context < p → is_header_in spans p ≡ false → (walk : List NumberedEdge) → IsPathTo edges spans c context (edge_at edges k).from walk → IsPathTo edges spans c context p (walk ++ edge_at edges k ∷ [])
-    step_in None here p k by inside later plain walk path = P.step exit edges spans c order found None here p k by inside later plain walk path
-    step_in (Some s) here p k by inside later plain walk path = P.step exit edges spans c order found (Some s) here p k by inside later plain walk path
-
-    enter_in : (context : Option Span) → InTree spans context → (p k : ℕ) → IsEntering edges spans c p k → holds_in context p ≡ true → start_of context < p → (s : Span) → Contains spans s → p ≡ s.header → (rounds walk : List NumberedEdge) → AreRoundsOf edges spans c s rounds → IsPathTo edges spans c context (edge_at edges k).from walk → IsPathTo edges spans c context p ((walk ++ edge_at edges k ∷ []) ++ rounds)
-    enter_in None here p k by inside later s s_in is rounds walk all path = P.enter exit edges spans c order found None here p k by inside later s s_in is rounds walk all path
-    enter_in (Some t) here p k by inside later s s_in is rounds walk all path = P.enter exit edges spans c order found (Some t) here p k by inside later s s_in is rounds walk all path
 
 -- ## Items along ways
 
@@ -108,7 +93,7 @@ module _ (flow : Flow) (tree : Tree) (index : Index) (c : Tables) (g : AreSearch
       let rounds : IsAlong flow tree c level all.numbers (joined (opened_rounds (rounds_at table e.to))) =
       along_weaker flow tree c level (depth_at tree.spans s.header) all.numbers _ low (subst (λ (o : Option Rounds). IsAlong flow tree c (depth_at tree.spans s.header) all.numbers (joined (opened_rounds o))) (sym entry) all.along) in
       let more : IsPathTo tree.edges tree.spans c context e.to ((edges_of tree.edges f.numbers ++ e ∷ []) ++ edges_of tree.edges all.numbers) =
-      enter_in exit tree.edges tree.spans c g.tree_is.ordered g.found context here e.to k by inside later s found.1 found.2 (edges_of tree.edges all.numbers) (edges_of tree.edges f.numbers) all.rounds path in
+      P.enter exit tree.edges tree.spans c g.tree_is.ordered g.found context here e.to k by inside later s found.1 found.2 (edges_of tree.edges all.numbers) (edges_of tree.edges f.numbers) all.rounds path in
       record {
         numbers = f.numbers ++ (k ∷ all.numbers);
         path = subst (IsPathTo tree.edges tree.spans c context e.to) (append_assoc (edges_of tree.edges f.numbers) (e ∷ []) (edges_of tree.edges all.numbers) ∙ sym (edges_more f.numbers (k ∷ all.numbers))) more;
@@ -117,7 +102,7 @@ module _ (flow : Flow) (tree : Tree) (index : Index) (c : Tables) (g : AreSearch
       })
       (λ plain.
       let none : [] ≡ opened_rounds (rounds_at table e.to) = ap opened_rounds (sym (has.plain e.to plain)) in
-      let more : IsPathTo tree.edges tree.spans c context e.to (edges_of tree.edges f.numbers ++ e ∷ []) = step_in exit tree.edges tree.spans c g.tree_is.ordered g.found context here e.to k by inside later plain (edges_of tree.edges f.numbers) path in
+      let more : IsPathTo tree.edges tree.spans c context e.to (edges_of tree.edges f.numbers ++ e ∷ []) = P.step exit tree.edges tree.spans c g.tree_is.ordered g.found context here e.to k by inside later plain (edges_of tree.edges f.numbers) path in
       record {
         numbers = f.numbers ++ k ∷ [];
         path = subst (IsPathTo tree.edges tree.spans c context e.to) (sym (edges_more f.numbers (k ∷ []))) more;

@@ -73,12 +73,12 @@ wrong_here extents from to k left out differs = (k, left.0, left.1, out, λ is. 
 
 -- ## The innermost extent
 
-innermost_from : (extents : List Extent) (limit p : ℕ) (o : Option ℕ) → limit ≤ length extents → ((j : ℕ) → j < limit → first_of extents j ≤ p) → ((j : ℕ) → limit ≤ j → j < length extents → p < first_of extents j) → IsOpen extents limit p o → IfSome o (λ k. p < end_of extents k) → IsInnermost extents p o
-innermost_from extents limit p None short begun later opened ends = λ j inside at. ⊎_elim
+pub innermost_is : (extents : List Extent) (limit p : ℕ) (o : Option ℕ) → limit ≤ length extents → ((j : ℕ) → j < limit → first_of extents j ≤ p) → ((j : ℕ) → limit ≤ j → j < length extents → p < first_of extents j) → IsOpen extents limit p o → IfSome o (λ k. p < end_of extents k) → IsInnermost extents p o
+innermost_is extents limit p None short begun later opened ends = λ j inside at. ⊎_elim
     (λ lt. let h = opened j lt in let e = at.1 in omega arith)
     (λ ge. let h = later j ge inside in let e = at.0 in omega arith)
     (cases_lt j limit)
-innermost_from extents limit p (Some k) short begun later opened ends =
+innermost_is extents limit p (Some k) short begun later opened ends =
     let k_lt : k < limit = opened.0 in (
       omega arith,
       (begun k k_lt, ends),
@@ -87,9 +87,6 @@ innermost_from extents limit p (Some k) short begun later opened ends =
           (λ ge. let h = later j ge inside in let e = at.0 in absurd (omega arith))
           (cases_lt j limit),
     )
-
-pub innermost_is : (extents : List Extent) (limit p : ℕ) (o : Option ℕ) → limit ≤ length extents → ((j : ℕ) → j < limit → first_of extents j ≤ p) → ((j : ℕ) → limit ≤ j → j < length extents → p < first_of extents j) → IsOpen extents limit p o → IfSome o (λ k. p < end_of extents k) → IsInnermost extents p o
-innermost_is extents limit p o short begun later opened ends = innermost_from extents limit p o short begun later opened ends
 
 rising : (extents : List Extent) → AreExtents extents → (i j : ℕ) (d : Extent) → i ≤ j → j < length extents → (get_or extents i d).first ≤ (get_or extents j d).first
 rising extents all i j d upto inside =
@@ -114,7 +111,7 @@ none_opened : (extents : List Extent) (limit p : ℕ) → limit ≡ 0 → IsOpen
 none_opened extents limit p none = λ j lt. absurd (omega arith)
 
 pub none_innermost : (extents : List Extent) (limit p : ℕ) → limit ≡ 0 → limit ≤ length extents → ((j : ℕ) → j < limit → first_of extents j ≤ p) × ((j : ℕ) → limit ≤ j → j < length extents → p < first_of extents j) → IsInnermost extents p None
-none_innermost extents limit p none short l = innermost_from extents limit p None short l.0 l.1 (none_opened extents limit p none) tt
+none_innermost extents limit p none short l = innermost_is extents limit p None short l.0 l.1 (none_opened extents limit p none) tt
 
 pub opened_last : (extents : List Extent) (parents : List (Option ℕ)) (limit p : ℕ) → AreParents extents parents (length extents) → (limit ≡ 0 → ⊥) → limit ≤ length extents → ((j : ℕ) → j < limit → first_of extents j ≤ p) → IsOpen extents limit p (Some (limit - 1))
 opened_last extents parents limit p known some short begun =

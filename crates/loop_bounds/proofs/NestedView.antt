@@ -27,9 +27,6 @@ module _ (flow : Flow) (tree : Tree) (t : IsTree flow tree) where
   abbrev S : ℕ → Span
   S k = span_at tree.spans k
 
-  spans_len : length tree.spans ≡ length tree.instances
-  spans_len = as_many flow tree t
-
   known : (k : ℕ) → k < length tree.instances → Contains tree.instances (I k)
   known k lt = Contains-get_or tree.instances k _ lt
 
@@ -37,22 +34,22 @@ module _ (flow : Flow) (tree : Tree) (t : IsTree flow tree) where
 
   shows_inside : (k j : ℕ) → k < length tree.instances → IsDirectlyIn tree.spans k j → IsDirectlyInside flow tree.instances (I j) (I k)
   shows_inside k j klt d =
-      let jlt : j < length tree.instances = omega (arith, d.0, spans_len) in
+      let jlt : j < length tree.instances = omega (arith, d.0, as_many flow tree t) in
       record {
         inside = inside_from flow tree t k j klt jlt d.1;
         none_between = λ i has ji ik.
             let same : I has.0 ≡ i = is_of flow tree t has.0 i has.1 has.2 in
-            d.2 has.0 (omega (arith, has.1, spans_len))
+            d.2 has.0 (omega (arith, has.1, as_many flow tree t))
             (inside_to flow tree t has.0 j has.1 jlt (subst (IsInside flow (I j)) (sym same) ji))
             (inside_to flow tree t k has.0 klt has.1 (subst (λ (x : Instance). IsInside flow x (I k)) (sym same) ik));
       }
 
   inside_shows : (k j : ℕ) → k < length tree.instances → j < length tree.instances → IsDirectlyInside flow tree.instances (I j) (I k) → IsDirectlyIn tree.spans k j
   inside_shows k j klt jlt d = (
-    omega (arith, spans_len),
+    omega (arith, as_many flow tree t),
     inside_to flow tree t k j klt jlt d.inside,
     (λ m lt mj km.
-        let mlt : m < length tree.instances = omega (arith, spans_len) in
+        let mlt : m < length tree.instances = omega (arith, as_many flow tree t) in
         d.none_between (I m) (known m mlt) (inside_from flow tree t m j mlt jlt mj) (inside_from flow tree t k m klt mlt km)),
   )
 
@@ -66,7 +63,7 @@ module _ (flow : Flow) (tree : Tree) (t : IsTree flow tree) where
     outer = heads old.instances.items
 
     in_spans : k < length tree.spans
-    in_spans = omega (arith, spans_len)
+    in_spans = omega (arith, as_many flow tree t)
 
     outer_len : length outer ≡ length indexes
     outer_len = ap length (a.outer).outer_are ∙ length-map indexes (instance_at tree.instances)
@@ -84,7 +81,7 @@ module _ (flow : Flow) (tree : Tree) (t : IsTree flow tree) where
         let j : ℕ = get_or indexes p 0 in
         let same : I j ≡ i = sym (outer_at p i inside) ∙ sym (get_or-drop e.first outer has.0 i) ∙ has.2 in
         let d : IsDirectlyIn tree.spans k j = direct_from (length flow.places) tree.edges tree.spans t.ordered tree.instances old.headers.items outer k in_spans a.outer e.first e.first_in e.apart e.within p (omega arith) inside in
-        subst IsInner same (known j (omega (arith, d.0, spans_len)), shows_inside k j lt d)
+        subst IsInner same (known j (omega (arith, d.0, as_many flow tree t)), shows_inside k j lt d)
 
     inner_to : (i : Instance) → IsInner i → Contains (drop e.first outer) i
     inner_to i inner =

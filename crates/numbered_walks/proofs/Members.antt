@@ -1,10 +1,11 @@
 -- Members of spans, and which numbers walks reach.
-use Rattle.std.proofs.Common.{◌≡◌, ℕ, zero, suc, ◌<◌, ◌≤◌, true, leb, List, [], ◌∷◌, ◌++◌, ⊎_elim, Contains, refl, arith}
-use Rattle.std.proofs.lemmas.Bool.{cases_lt, le-leb, leb-true, and_from, and_parts}
+use Rattle.std.proofs.Common.{◌≡◌, ℕ, zero, suc, ◌<◌, ◌≤◌, true, leb, List, [], ◌∷◌, ◌++◌, Option, Some, None, ⊎_elim, Contains, refl, arith}
+use Rattle.std.proofs.lemmas.Bool.{cases_Bool, cases_lt, le-leb, leb-true, and_from, and_parts}
 use Rattle.walks.proofs.Leading.{Leads-append}
 use Rattle.numbered_walks.specs.declared.span.NumberedEdge.{NumberedEdge}
 use Rattle.numbered_walks.specs.declared.span.Span.{Span}
 use Rattle.numbered_walks.specs.Ordered.{IsOrdered, Leads, is_in, number_shape}
+use Rattle.numbered_walks.specs.Reach.{InTree, holds_in, start_of}
 
 -- what a list has past its end
 abbrev pub no_span : Span
@@ -29,6 +30,12 @@ IsReachable edges p = (walk : List NumberedEdge) × Leads edges 0 walk p
 module _ (exit : ℕ) (edges : List NumberedEdge) (tree : List Span) (order : IsOrdered exit edges tree) where
   pub header_in : (i : Span) → Contains tree i → is_in i i.header ≡ true
   header_in i i_in = member_from i i.header (omega arith) (order.shape i i_in).0
+
+  -- an edge to a later number of a context begins in it
+  pub begins_in : (context : Option Span) → InTree tree context → (e : NumberedEdge) → Contains edges e → holds_in context e.to ≡ true → start_of context < e.to → holds_in context e.from ≡ true
+  begins_in None here e in_graph goes_in later = refl
+  begins_in (Some k) here e in_graph goes_in later =
+      ⊎_elim (λ inside. inside) (λ out. absurd (omega (arith, order.entered e in_graph k here out goes_in))) (cases_Bool (is_in k e.from))
 
   reach_place : (n p : ℕ) → p < n → p < exit → IsReachable edges p
   reach_place zero p small placed = absurd (omega arith)

@@ -13,7 +13,7 @@ use Rattle.numbered_walks.specs.Tables.{distance_of, arrival_of, round_of, numbe
 use Rattle.numbered_walks.specs.Found.{AreFound, IsEntering, IsTurning}
 use Rattle.numbered_walks.specs.Reach.{AreRoundsOf, InTree, IsPathTo, IsRoundOf, holds_in, start_of}
 use Rattle.numbered_walks.proofs.Grouping.{edge_at-in}
-use Rattle.numbered_walks.proofs.Members.{member_from, member_header}
+use Rattle.numbered_walks.proofs.Members.{begins_in, member_from, member_header}
 use Rattle.numbered_walks.proofs.Nesting.{structure}
 use Rattle.numbered_walks.proofs.Passing.{header_there}
 use Rattle.numbered_walks.proofs.Reaching as R
@@ -33,12 +33,7 @@ module _ (exit : ℕ) (edges : List NumberedEdge) (spans : List Span) (c : Table
   turns : Option Span → NumberedEdge → Bool
   turns context e = R.turns_in edges spans bound_of (distance_of c) (arrival_of c) (round_of c) context e
 
-  -- an edge to a later number of the context begins in it, and turns no round of it
-  pub begins_in : (context : Option Span) → InTree spans context → (e : NumberedEdge) → Contains edges e → holds_in context e.to ≡ true → start_of context < e.to → holds_in context e.from ≡ true
-  begins_in None here e in_graph goes_in later = refl
-  begins_in (Some k) here e in_graph goes_in later =
-      ⊎_elim (λ inside. inside) (λ out. absurd (omega (arith, order.entered e in_graph k here out goes_in))) (cases_Bool (is_in k e.from))
-
+  -- an edge to a later number of the context turns no round of it
   no_turn : (context : Option Span) (e : NumberedEdge) → start_of context < e.to → R.turns_in edges spans bound_of (distance_of c) (arrival_of c) (round_of c) context e ≡ false
   no_turn None e later = refl
   no_turn (Some k) e later = ne_eqb e.to k.header (λ same. absurd (omega arith))
@@ -59,7 +54,7 @@ module _ (exit : ℕ) (edges : List NumberedEdge) (spans : List Span) (c : Table
       subst (λ (x : ℕ). IsPathTo edges spans c context x (walk ++ e ∷ [])) by.ends
       (W.by_step edges spans bound_of (distance_of c) (arrival_of c) (round_of c) st context here e in_graph
       (λ j j_in is. both_ways (is_header_in spans p) plain (header_there spans p j j_in (sym by.ends ∙ is)))
-      goes_in (no_turn context e later_e) (ap (λ (x : ℕ). distance_of c x) by.ends ∙ sym number ∙ by.asks) (begins_in context here e in_graph goes_in later_e) walk path)
+      goes_in (no_turn context e later_e) (ap (λ (x : ℕ). distance_of c x) by.ends ∙ sym number ∙ by.asks) (begins_in exit edges spans order context here e in_graph goes_in later_e) walk path)
 
   -- an edge to a header, and all rounds of its instance
   pub enter : (context : Option Span) → InTree spans context → (p k : ℕ) → IsEntering edges spans c p k → holds_in context p ≡ true → start_of context < p → (s : Span) → Contains spans s → p ≡ s.header → (rounds walk : List NumberedEdge) → AreRoundsOf edges spans c s rounds → IsPathTo edges spans c context (edge_at edges k).from walk → IsPathTo edges spans c context p ((walk ++ edge_at edges k ∷ []) ++ rounds)
@@ -75,7 +70,7 @@ module _ (exit : ℕ) (edges : List NumberedEdge) (spans : List Span) (c : Table
       (⊎_elim (λ holds_from. absurd (omega (arith, member_header s e.from holds_from, by.up, is))) (λ out. out) (cases_Bool (is_in s e.from)))
       (is_below context s (subst (λ (x : ℕ). holds_in context x ≡ true) is inside) (omega (arith, is)))
       goes_in (no_turn context e later_e) (ap (λ (x : ℕ). distance_of c x) by.ends ∙ found.passed.header_distance p header) (sym number ∙ by.asks)
-      (begins_in context here e in_graph goes_in later_e) rounds walk all path)
+      (begins_in exit edges spans order context here e in_graph goes_in later_e) rounds walk all path)
 
   -- a back edge closes a round
   pub turn : (s : Span) → Contains spans s → (k : ℕ) → IsTurning edges spans c s k → (walk : List NumberedEdge) → IsPathTo edges spans c (Some s) (edge_at edges k).from walk → IsRoundOf edges spans c s (walk ++ edge_at edges k ∷ [])

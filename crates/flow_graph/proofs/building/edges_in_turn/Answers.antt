@@ -1,12 +1,13 @@
 use Rattle.std.proofs.Common.{◌≡◌, length, inl, inr, ⊎_elim, arith}
 use Rattle.std.proofs.lemmas.Result.{err_from_is_err_and}
-use Rattle.flow_graph.proofs.TurnLemmas.{turn_more, has_place}
+use Rattle.flow_graph.proofs.TurnLemmas.{turn_more}
 use Rattle.flow_graph.proofs.building.edges_in_turn.Goals as goal
+use Rattle.flow_graph.proofs.SortedLemmas.{read_in}
 
 pub returns-in_err-push_edges-clause-fault : goal.returns-in_err-push_edges-clause-fault
 returns-in_err-push_edges-clause-fault c =
     let p = err_from_is_err_and c.from_residual-in_err-push_edges.result c.from_residual-in_err-push_edges.ensures.1 in
-    let has = has_place c.args.places.now c.loop-place.place-index c.place-item.result c.loop-place-test.true c.place-item.is in
+    let has = read_in c.args.places.now c.loop-place.place-index c.place-item.result c.loop-place-test.true c.place-item.is in
     rw (p.1, p.2) (⊎_elim (λ e. inl e) (λ why. inr (c.place-item.result, has, why)) c.in_err-push_edges.ensures.err)
 
 pub loop-place-preserved : goal.loop-place-preserved
