@@ -1,6 +1,6 @@
 -- What loads return where an image's words are put into memory whose pages lie as a plan says.
 use Rattle.std.proofs.Common.{◌∷◌, [], ◌↔◌, ◌≡◌, ◌≢◌, ◌∙◌, ℕ, ◌+◌, ◌-◌, ◌*◌, ◌/◌, ◌%◌, ◌^◌, ◌<◌, ◌≤◌, ◌⊎◌, inl, inr, Bool, true, false, cond, List, map, get_or, Option, Some, None, Result, Ok, Err, refl, sym, ap, subst, arith}
-use Rattle.std.specs.Prelude.{IsSome, is_some, nat_le, All}
+use Rattle.std.specs.Prelude.{IsSome, is_err, is_some, nat_le, All}
 use Rattle.std.specs.List.{AllByRecursion, Contains}
 use Rattle.std.proofs.lemmas.Bool.{cases_lt, le-ltb, lt-ltb, or_parts}
 use Rattle.std.proofs.lemmas.Bool.Decides.{nat_tests}
@@ -8,7 +8,7 @@ use Rattle.std.proofs.lemmas.List.Elements.{All-contains, All-from_recursion, Al
 use Rattle.std.proofs.lemmas.Option.{same_Some}
 use Rattle.loader.specs.Image.{Words, word_of}
 use Rattle.loader.specs.Inside.{AreWhole}
-use Rattle.loader.specs.Loading.{GivesWord, is_refused, lacks_page, loaded, spot_of}
+use Rattle.loader.specs.Loading.{GivesWord, lacks_page, loaded, spot_of}
 use Rattle.loader.specs.PagePlan.{IsFree, IsPagePlan}
 use Rattle.loader.specs.Planned.{AreOf, IsBeside, IsFitted, IsMapped}
 use Rattle.loader.specs.declared.plan.PlacedPage.{PlacedPage}
@@ -386,21 +386,21 @@ beside_given beside pages spare m a w mapped fits all c = given_beside here.1
 
 -- ## Which words lead to a place at all
 
-found_fits : (m : Memory) (a : ℕ) → m.shift ≡ 15 → is_refused (spot_of m a) ≡ false → IsFitted a
+found_fits : (m : Memory) (a : ℕ) → m.shift ≡ 15 → is_err (spot_of m a) ≡ false → IsFitted a
 found_fits m a size e = elim (cases_lt a 0x2400000) [
   | inl below ↦ inl below
-  | inr past ↦ elim (cases_lt a 0x3000000) [ inl io ↦ (let refused = ap is_refused (spot_unfitted m a size past io) in absurd (cc)) | inr high ↦ inr high ]
+  | inr past ↦ elim (cases_lt a 0x3000000) [ inl io ↦ (let refused = ap is_err (spot_unfitted m a size past io) in absurd (cc)) | inr high ↦ inr high ]
 ]
 
 all_found : (m : Memory) (words : Words) → m.shift ≡ 15 → lacks_page m words ≡ false → AllByRecursion (λ e. IsFitted e.0) words
 all_found m [] size e = tt
 all_found m (x ∷ rest) size e =
-    let p = or_parts (is_refused (spot_of m x.0)) (lacks_page m rest) e in
+    let p = or_parts (is_err (spot_of m x.0)) (lacks_page m rest) e in
     (found_fits m x.0 size p.0, all_found m rest size p.1)
 
-found_by : (m : Memory) (a : ℕ) → InRam m a ⊎ InRom m a → is_refused (spot_of m a) ≡ false
-found_by m a (inl r) = ap is_refused r.at
-found_by m a (inr r) = ap is_refused r.at
+found_by : (m : Memory) (a : ℕ) → InRam m a ⊎ InRom m a → is_err (spot_of m a) ≡ false
+found_by m a (inl r) = ap is_err r.at
+found_by m a (inr r) = ap is_err r.at
 
 none_lacks : (image : Words) (pages : List PlacedPage) (spare : ℕ) (m : Memory) (words : Words) → IsPlanned image pages spare m → AllByRecursion (λ e. word_of image e.0 ≡ Some e.1) words → AllByRecursion (λ e. IsFitted e.0) words
     → lacks_page m words ≡ false

@@ -1,7 +1,7 @@
 -- What memory holds once words are put into it: each word goes where a privileged load of its address reads,
 -- and the words go in the order of their list, so that of two that lead to one place the later one stays. An
 -- image's words go in the order of their addresses.
-use Rattle.std.specs.Prelude.{◌≡◌, ℕ, suc, ◌/◌, Bool, true, false, ◌||◌, List, [], ◌∷◌, Result, Ok, Err}
+use Rattle.std.specs.Prelude.{◌≡◌, ℕ, suc, ◌/◌, Bool, false, ◌||◌, List, [], ◌∷◌, Result, Ok, is_err}
 use Rattle.arm2_exec.specs.State.{State}
 use Rattle.loader.specs.Image.{Words}
 use Rattle.memc.specs.Memory.{Memory, last_word, located, stored, with_words, word_at}
@@ -13,14 +13,10 @@ use Rattle.memc.specs.declared.spots.Spot.TheVariants.{Ram, Rom}
 abbrev pub spot_of : Memory → ℕ → Result Spot Refused
 spot_of m address = located m address false false
 
-abbrev pub is_refused : Result Spot Refused → Bool
-is_refused (Ok spot) = false
-is_refused (Err refused) = true
-
 -- some word lies on no page, or past the fitted RAM
 abbrev pub lacks_page : Memory → Words → Bool
 lacks_page m [] = false
-lacks_page m (e ∷ rest) = is_refused (spot_of m e.0) || lacks_page m rest
+lacks_page m (e ∷ rest) = is_err (spot_of m e.0) || lacks_page m rest
 
 -- one more word in front, where it goes to RAM: by the number of the word's place
 abbrev pub ram_before : Result Spot Refused → ℕ → List (ℕ × ℕ) → List (ℕ × ℕ)

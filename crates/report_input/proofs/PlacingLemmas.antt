@@ -1,12 +1,13 @@
 -- A machine file states one machine, and what the refusals of a run say.
 use Rattle.std.proofs.Common.{◌≡◌, ◌≢◌, ◌∙◌, ◌⊎◌, ◌*◌, ◌^◌, ◌||◌, ℕ, Bool, true, false, List, [], ◌∷◌, length, Option, None, Result, Ok, Err, refl, sym, ap, subst, inl, inr, ⊎_elim, arith}
+use Rattle.std.specs.Prelude.{is_err}
 use Rattle.std.proofs.lemmas.Bool.{cases_lt}
 use Rattle.std.proofs.lemmas.List.{ext_get_or}
 use Rattle.bus_ticks.specs.declared.profile.Profile.{Profile}
 use Rattle.toml_reading.proofs.Unique.{one_answer}
 use Rattle.arm2_exec.specs.State.{State}
 use Rattle.loader.specs.Image.{Words}
-use Rattle.loader.specs.Loading.{is_refused, lacks_page, put_words, spot_of}
+use Rattle.loader.specs.Loading.{lacks_page, put_words, spot_of}
 use Rattle.loader.specs.declared.loading.LoadFault.{LoadFault}
 use Rattle.loader.specs.declared.loading.LoadFault.TheVariants as load_fault
 use Rattle.memc.specs.Memory.{Memory, shift_of_size}
@@ -60,7 +61,7 @@ plain shift pages control = record { shift = shift; paged = record { words = [];
 
 lacks_plain : (m : Memory) (words : Words) → lacks_page m words ≡ lacks_page (plain m.shift m.paged.pages m.control) words
 lacks_plain m [] = refl
-lacks_plain m (e ∷ rest) = ap (λ (b : Bool). is_refused (spot_of m e.0) || b) (lacks_plain m rest)
+lacks_plain m (e ∷ rest) = ap (λ (b : Bool). is_err (spot_of m e.0) || b) (lacks_plain m rest)
 
 -- words that are put into memory do not change where a load goes
 pub lacks_after : (start after : State) (put words : Words) → after ≡ put_words put start → lacks_page after.bus.memc words ≡ lacks_page start.bus.memc words
