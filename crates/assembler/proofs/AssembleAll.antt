@@ -14,7 +14,8 @@ use Rattle.assembler.specs.Sweeps.{State, label_fault, labelled, swept, with_nam
 use Rattle.assembler.proofs.AssembleSteps.{Step, said_is, segments_in}
 use Rattle.assembler.proofs.AssembleBack.{Apart, Exact, In}
 use Rattle.assembler.proofs.AssembleReady.{NotEmpty, Passes, Ready, said_ok}
-use Rattle.assembler.proofs.AssembleBasics.{all_both, all_parts, all_true, count_places}
+use Rattle.loader.proofs.WordLemmas.{all_parts}
+use Rattle.assembler.proofs.AssembleBasics.{all_both, all_true, count_places}
 
 -- ---- lists in two parts
 

@@ -11,7 +11,7 @@ use Rattle.asm_text.proofs.WordLaws.{false_true}
 use Rattle.assembler.specs.Assembles.{places_from}
 use Rattle.assembler.specs.Sweeps.{Pending, State, closed_with, moved, open_has, overlaps, placed}
 use Rattle.assembler.proofs.AssembleSteps.{InSegments, put_all}
-use Rattle.assembler.proofs.AssembleBasics.{all_more}
+use Rattle.loader.proofs.WordLemmas.{all_push}
 use Rattle.std.proofs.lemmas.List.{append-nil}
 
 -- ---- addresses in a list
@@ -115,7 +115,7 @@ closed_parts (Some from) to a closed h =
 closed_spans : (o : Option ℕ) (to : ℕ) (closed : List (ℕ × ℕ)) → StartEven o to → AllByRecursion (λ p. (p.0 % 4 ≡ 0) × (p.0 < p.1)) closed → AllByRecursion (λ p. (p.0 % 4 ≡ 0) × (p.0 < p.1)) (closed_with o to closed)
 unfolding StartEven
 closed_spans None to closed h all = all
-closed_spans (Some from) to closed h all = all_more (λ p. (p.0 % 4 ≡ 0) × (p.0 < p.1)) closed (from, to) all (h.0, h.1)
+closed_spans (Some from) to closed h all = all_push (λ p. (p.0 % 4 ≡ 0) × (p.0 < p.1)) closed (from, to) all (h.0, h.1)
 
 pub exact_moved : (s : State) (n : ℕ) (taken : List ℕ) → n % 4 ≡ 0 → Exact s taken → Exact (moved s n) taken
 unfolding InSegments StartEven

@@ -13,7 +13,8 @@ use Rattle.asm_text.proofs.WordLaws.{false_true}
 use Rattle.assembler.specs.Assembles.{Laid, Once, address_after, is_open, laid_from, places, places_from, segments, word_count}
 use Rattle.assembler.proofs.AssembleAll.{apart_both, once_parts}
 use Rattle.assembler.proofs.AssembleBack.{Apart, In, may_four, in_first, in_last}
-use Rattle.assembler.proofs.AssembleBasics.{all_parts, count_places}
+use Rattle.loader.proofs.WordLemmas.{all_parts}
+use Rattle.assembler.proofs.AssembleBasics.{count_places}
 use Rattle.assembler.proofs.AssembleRuns.{Ascending, ascending_put, put_elsewhere, runs_more, runs_same}
 
 -- ---- what has been put so far

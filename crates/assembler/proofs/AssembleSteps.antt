@@ -13,7 +13,8 @@ use Rattle.assembler.specs.Faults.{lower}
 use Rattle.assembler.specs.Sweeps.{Pending, Fixed, Waits, Item, State, all_placed, around_fault, closed_with, is_17th, label_fault, labelled, moved, open_has, org_fault, overlaps, pending_step, pending_unless, place_fault, placed, said_step, unless, value_pending, word_pending}
 use Rattle.assembler.specs.declared.fault.LineFault.{LineFault}
 use Rattle.assembler.specs.declared.fault.LineFault.TheVariants.{OutOfRange, TooLong}
-use Rattle.assembler.proofs.AssembleBasics.{all_map, all_more, count_map, labelled_at}
+use Rattle.loader.proofs.WordLemmas.{all_push}
+use Rattle.assembler.proofs.AssembleBasics.{all_map, count_map, labelled_at}
 use Rattle.std.proofs.lemmas.List.{append-nil}
 use Rattle.asm_text.proofs.WordLaws.{chosen, false_true}
 
@@ -81,7 +82,7 @@ start_below (Some from) at h = omega arith
 covers_placed : (s : State) (k : ℕ) (p : Pending) (taken : List ℕ) → Covers s taken → Covers (placed s k p) (taken ++ s.at ∷ [])
 unfolding InSegments StartBelow
 covers_placed s k p taken h = record {
-  covered = all_more (InSegments (placed s k p)) taken s.at
+  covered = all_push (InSegments (placed s k p)) taken s.at
       (all_map (InSegments s) (InSegments (placed s k p)) taken (λ a held. elim held [ inl e ↦ inl e | inr e ↦ inr (open_longer s.start s.at a e) ]) h.covered)
       (inr (open_new s.start s.at h.below));
   below = start_below s.start s.at h.below;

@@ -9,6 +9,7 @@ use Rattle.std.specs.List.Sorted.{IsStrictlySortedBy}
 use Rattle.std.proofs.lemmas.List.{map-append, length-map, length-reverse}
 use Rattle.std.proofs.lemmas.List.Elements.{Contains-append_left, Contains-push, Contains-push_cases}
 use Rattle.std.proofs.lemmas.Grind.{reverse_onto}
+use Rattle.loader.proofs.WordLemmas.{all_push}
 use Rattle.flow_graph.specs.Search.{ascending}
 use Rattle.flow_graph.proofs.SortedLemmas.{cons_cases, here, no_member, there}
 
@@ -17,10 +18,6 @@ ascending_cons k ks = ap (map (λ r. r.0)) (reverse_onto ks k []) ∙ map-append
 
 pub length_ascending : {K : Type 0} (ks : List (Reverse K)) → length (ascending ks) ≡ length ks
 length_ascending ks = length-map (reverse ks) (λ r. r.0) ∙ length-reverse ks
-
-all_push : {K : Type 0} (P : K → Type 0) (xs : List K) (x : K) → AllByRecursion P xs → P x → AllByRecursion P (xs ++ x ∷ [])
-all_push P [] x all last = (last, tt)
-all_push P (y ∷ ys) x all last = (all.0, all_push P ys x all.1 last)
 
 all_ascending : {K : Type 0} (P : K → Type 0) (ks : List (Reverse K)) → AllByRecursion (λ r. P r.0) ks → AllByRecursion P (ascending ks)
 all_ascending P [] all = tt

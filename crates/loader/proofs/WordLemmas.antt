@@ -30,6 +30,10 @@ pub all_parts : {A : Type 0} (P : A → Type 0) (front back : List A) → AllByR
 all_parts P [] back all = (tt, all)
 all_parts P (e ∷ front) back all = let rest = all_parts P front back all.1 in ((all.0, rest.0), rest.1)
 
+pub all_push : {A : Type 0} (P : A → Type 0) (xs : List A) (x : A) → AllByRecursion P xs → P x → AllByRecursion P (xs ++ x ∷ [])
+all_push P [] x all last = (last, tt)
+all_push P (y ∷ ys) x all last = (all.0, all_push P ys x all.1 last)
+
 pub all_with_word : (P : ℕ × ℕ → Type 0) (words : Words) (a w : ℕ) → AllByRecursion P words → P (a, w) → AllByRecursion P (with_word words a w)
 all_with_word P [] a w all p = (p, tt)
 all_with_word P (e ∷ rest) a w all p = elim (cases_lt a e.0) [
