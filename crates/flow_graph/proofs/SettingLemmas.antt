@@ -5,9 +5,9 @@ use Rattle.bus_ticks.specs.declared.profile.Class.{Class}
 use Rattle.bus_ticks.specs.declared.profile.Class.TheVariants.{Any, Ram, Rom, Io}
 use Rattle.bus_ticks.specs.declared.profile.RomTimes.{RomTimes}
 use Rattle.bus_ticks.specs.Dearest.{AreDearest, IsDearestBlock}
-use Rattle.bus_ticks.specs.Prices.{class_at, word_address}
+use Rattle.bus_ticks.specs.Prices.{word_address}
 use Rattle.bus_ticks.specs.Worst.{IsBlockOf}
-use Rattle.bus_ticks.proofs.WorstLemmas.{rom_load, rom_store}
+use Rattle.bus_ticks.proofs.WorstLemmas.{class_rom, rom_load, rom_store}
 use Rattle.memc.specs.Memory.{Memory, located}
 use Rattle.memc.specs.declared.spots.Spot.TheVariants as spot
 use Rattle.ioc.specs.Registers.{is_register}
@@ -47,9 +47,6 @@ located_vidc m a low high =
 -- no register of IOC is below 3200000
 no_register : (a : ℕ) → a < 0x3200000 → is_register a ≡ false
 no_register a h = ne_eqb (a / 0x80) 0x64000 (λ e. omega (arith, e, h))
-
-in_rom : (a : ℕ) → 0x3400000 ≤ a → class_at a ≡ Rom
-in_rom a h = past a 0x3000000 Ram _ (omega arith) ∙ past a 0x3400000 Io Rom h
 
 -- ## Where transfers start
 
@@ -101,7 +98,7 @@ module _ (aim : Aim) (load : Bool) (words : ℕ) (some : 1 ≤ words) (few : wor
   rom_words : (lowest : ℕ) → lowest % 4 ≡ 0 → 0x3400000 ≤ lowest → lowest + 64 ≤ 2 ^ 26 → (rom : RomTimes) → IsBlockOf Rom words (record { address = lowest; rom = rom })
   rom_words lowest whole from to rom = record {
     below = omega (arith, to);
-    each = λ i h. in_rom (word_address lowest i) (let at : word_address lowest i ≡ lowest + 4 * i = next_word lowest i whole (omega (arith, h, to, few)) in omega (arith, at, from));
+    each = λ i h. class_rom (word_address lowest i) (let at : word_address lowest i ≡ lowest + 4 * i = next_word lowest i whole (omega (arith, h, to, few)) in omega (arith, at, from));
   }
 
   pub stores_in_rom : load ≡ false → aim.class ≡ Rom → MayStart aim load words 0x3400000

@@ -1,8 +1,9 @@
 -- What the registers hold of a machine that is at a word, with both interrupts masked.
-use Rattle.std.proofs.Common.{◌≡◌, ℕ, ◌/◌, ◌%◌, ◌^◌, ◌<◌, ◌==◌, ◌&&◌, not, Bool, true, false, cond, None}
+use Rattle.std.proofs.Common.{◌≡◌, ℕ, ◌/◌, ◌%◌, ◌^◌, ◌==◌, ◌&&◌, not, Bool, true, false, cond, None}
 use Rattle.std.proofs.Common.{Some, refl, ap, ◌∙◌, arith}
 use Rattle.arm2_decode.specs.Allowed.{bit_of}
 use Rattle.arm2_decode.specs.declared.flags.Flags.{Flags}
+use Rattle.arm2_decode.proofs.WordLemmas.{bit_fits}
 use Rattle.bus_ticks.specs.declared.profile.Profile.{Profile}
 use Rattle.arm2_effect.specs.declared.exceptions.Vector.TheVariants as vector
 use Rattle.arm2_effect.specs.declared.modes.Mode.TheVariants.{Svc}
@@ -25,10 +26,6 @@ mode_put f address h =
     ap mode_named three
 
 -- a flag as a number is told apart by its bit
-bit_small : (b : Bool) → bit_of b < 2
-bit_small true = omega arith
-bit_small false = omega arith
-
 bit_read : (b : Bool) → (bit_of b == 1) ≡ b
 bit_read true = refl
 bit_read false = refl
@@ -42,10 +39,10 @@ same_flags f g n z c v = λ i. record { negative = n i; zero = z i; carry = c i;
 
 flags_put : (f : Flags) (address : ℕ) → IsWordAddress address → flags_of (r15_at f address) ≡ f
 flags_put f address h =
-    let n = bit_small f.negative in
-    let z = bit_small f.zero in
-    let c = bit_small f.carry in
-    let v = bit_small f.overflow in
+    let n = bit_fits f.negative in
+    let z = bit_fits f.zero in
+    let c = bit_fits f.carry in
+    let v = bit_fits f.overflow in
     same_flags (flags_of (r15_at f address)) f
     (bit_is (r15_at f address / 2 ^ 31 % 2) f.negative (omega (arith, n, z, c, v, h.0, h.1)))
     (bit_is (r15_at f address / 2 ^ 30 % 2) f.zero (omega (arith, n, z, c, v, h.0, h.1)))
