@@ -1,5 +1,6 @@
 -- Addresses and their classes as a statement has them.
-use Rattle.std.specs.Prelude.{◌≡◌, ◌⊎◌, ℕ, ◌==◌, if◌then◌else◌, List, [], ◌∷◌, ◌++◌, length, codes, Some}
+use Rattle.std.specs.Prelude.{◌≡◌, ◌⊎◌, ℕ, ◌==◌, if◌then◌else◌, List, [], ◌∷◌, ◌++◌, length, codes}
+use Rattle.std.specs.Prelude.{Option, Some, None}
 use Rattle.asm_text.specs.Hex.{hex8}
 use Rattle.bus_ticks.specs.declared.profile.Class.{Class}
 use Rattle.bus_ticks.specs.declared.profile.Class.TheVariants.{Any, Ram, Rom, Io}
@@ -20,6 +21,11 @@ IsNamed names at label = (label ≡ []) ⊎ (address_of names label ≡ Some at)
 -- by its label, or where it has none by its number
 abbrev pub labelled : List ℕ → ℕ → List ℕ
 labelled label at = if length label == 0 then number_text at else quoted label
+
+-- by its line's label, or where it has no line by its number
+abbrev pub name_text : Option (List ℕ) → ℕ → List ℕ
+name_text None at = number_text at
+name_text (Some label) at = labelled label at
 
 abbrev pub class_name : Class → List ℕ
 class_name Any = codes "any"
