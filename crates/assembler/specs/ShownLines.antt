@@ -250,7 +250,8 @@ block_text c x =
 
 -- the signed number of words from the address two words on; 0 where that is below 0
 abbrev pub target_of : ℕ → ℕ → ℕ
-target_of at offset = if nat_lt offset (2 ^ 23) then at + 8 + 4 * offset else (at + 8 + 4 * offset) - SPACE_END
+target_of at offset =
+    if nat_lt offset (2 ^ 23) then at + 8 + 4 * offset else (at + 8 + 4 * offset) - SPACE_END
 
 abbrev pub branch_text : Cond → Branch → ℕ → List ℕ
 branch_text c x at = word_text (branch_name x.link) c [] ++ (codes "&" ++ hex (target_of at x.offset))
