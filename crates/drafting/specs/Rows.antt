@@ -1,14 +1,12 @@
 -- Rows of a draft: what a statement says, and beside it as a comment the line of the source.
 use Rattle.std.specs.Prelude.{ℕ, ◌-◌, ◌&&◌, nat_le, if◌then◌else◌, List, [], ◌++◌, length, map}
 use Rattle.std.specs.Prelude.{take}
-use Rattle.std.specs.Prelude.{codes, decimal, Option, Some, None}
-use Rattle.text_rows.specs.Addresses.{labelled}
+use Rattle.std.specs.Prelude.{codes, decimal, Option, Some, None, option_map}
 use Rattle.drafting.specs.declared.source_lines.SourceLine.{SourceLine}
 
--- an address by its label, or where it has none by its number
-abbrev pub name_text : Option SourceLine → ℕ → List ℕ
-name_text None at = labelled [] at
-name_text (Some line) at = labelled line.label.now at
+-- the label of a line
+abbrev pub label_of : Option SourceLine → Option (List ℕ)
+label_of line = option_map (λ l. l.label.now) line
 
 -- a byte in a comment: a full stop for what is no printed character of ASCII
 abbrev pub shown : ℕ → ℕ
