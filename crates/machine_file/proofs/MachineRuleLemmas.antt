@@ -177,6 +177,10 @@ mappable_numbers shift (p ∷ pages) =
     ap (λ b. is_mappable shift p && b) (mappable_numbers shift pages)
     ∙ shuffled (nat_lt p.logical (2 ^ (25 - shift))) (nat_lt p.physical 128) (nat_lt p.level 4) (are_below (2 ^ (25 - shift)) (map (λ p. p.logical) pages)) (are_below 128 (map (λ p. p.physical) pages)) (are_below 4 (map (λ p. p.level) pages))
 
+-- pages that cannot be mapped, or one of them twice
+abbrev PageLate : Members → MachineFileFault → Type 0
+PageLate ms f = (IsUnmappable ms × (f ≡ OutOfRange)) ⊎ (IsPageTwice ms × (f ≡ Twice))
+
 module _ (ms : Members) (a : PageSize × List MappedPage) (s : SizeStates ms a.0 × PageStates ms a.1) where
   abbrev low_logical : PageSize → Bool
   low_logical size = are_below (2 ^ (25 - shift_of_size size)) (page_numbers (codes "logical") ms)
@@ -228,10 +232,7 @@ module _ (ms : Members) (a : PageSize × List MappedPage) (s : SizeStates ms a.0
   single_iff =
       (λ e. and_cases once_logical once_physical (sym single_numbers ∙ e), λ x. single_numbers ∙ twice x)
 
-  abbrev LateFault : MachineFileFault → Type 0
-  LateFault f = (IsUnmappable ms × (f ≡ OutOfRange)) ⊎ (IsPageTwice ms × (f ≡ Twice))
-
-  mapped_judged : Judges machine_faults (λ b. (b ≡ a) × (list_all (is_mappable (shift_of_size a.0)) a.1 ≡ true) × (are_single a.1 ≡ true)) LateFault (mapped a)
+  mapped_judged : Judges machine_faults (λ b. (b ≡ a) × (list_all (is_mappable (shift_of_size a.0)) a.1 ≡ true) × (are_single a.1 ≡ true)) (PageLate ms) (mapped a)
   mapped_judged =
       two_tests
       machine_faults
@@ -251,10 +252,7 @@ module _ (ms : Members) where
   MappedStates p =
       (SizeStates ms p.0 × PageStates ms p.1) × (list_all (is_mappable (shift_of_size p.0)) p.1 ≡ true) × (are_single p.1 ≡ true)
 
-  abbrev PageLate : MachineFileFault → Type 0
-  PageLate f = (IsUnmappable ms × (f ≡ OutOfRange)) ⊎ (IsPageTwice ms × (f ≡ Twice))
-
-  pages_higher : (x y : MachineFileFault) → SizesFault ms x ⊎ PagesFault ms x → PageLate y
+  pages_higher : (x y : MachineFileFault) → SizesFault ms x ⊎ PagesFault ms x → PageLate ms y
       → number_of x ≤ number_of y
   pages_higher x y h late = omega (arith, first h, second late)
     where
@@ -262,7 +260,7 @@ module _ (ms : Members) where
       first (inl z) = some_low x _ (size_low x) (get_member (codes "pages") ms) z
       first (inr z) = some_low x _ (list_low x PageFault (page_low x)) (get_member (codes "map") ms) z
 
-      second : PageLate y → 5 ≤ number_of y
+      second : PageLate ms y → 5 ≤ number_of y
       second (inl z) = let r : number_of y ≡ 5 = ap number_of z.1 in omega (arith, r)
       second (inr z) = let r : number_of y ≡ 6 = ap number_of z.1 in omega (arith, r)
 
@@ -272,18 +270,18 @@ module _ (ms : Members) where
   abbrev Mapped : PageSize × List MappedPage → PageSize × List MappedPage → Type 0
   Mapped a b = (b ≡ a) × (list_all (is_mappable (shift_of_size a.0)) a.1 ≡ true) × (are_single a.1 ≡ true)
 
-  pages_judged : Judges machine_faults MappedStates (λ f. (SizesFault ms f ⊎ PagesFault ms f) ⊎ PageLate f) (pages_in ms)
+  pages_judged : Judges machine_faults MappedStates (λ f. (SizesFault ms f ⊎ PagesFault ms f) ⊎ PageLate ms f) (pages_in ms)
   pages_judged =
       judged_as
       machine_faults
       (λ b. (c : PageSize × List MappedPage) × Sized c × Mapped c b)
       MappedStates
-      (λ f. (SizesFault ms f ⊎ PagesFault ms f) ⊎ PageLate f)
-      (λ f. (SizesFault ms f ⊎ PagesFault ms f) ⊎ PageLate f)
+      (λ f. (SizesFault ms f ⊎ PagesFault ms f) ⊎ PageLate ms f)
+      (λ f. (SizesFault ms f ⊎ PagesFault ms f) ⊎ PageLate ms f)
       (λ b. (λ t. subst MappedStates (sym t.2.0) (t.1, t.2.1, t.2.2), λ w. (b, w.0, (refl, w.1, w.2))))
       (λ f. (λ h. h, λ h. h))
       (pages_in ms)
-      (and_then_judged machine_faults Sized (λ f. SizesFault ms f ⊎ PagesFault ms f) PageLate Mapped mapped (λ a s. mapped_judged ms a s) pages_higher _ (joint (size_in_judged ms) (listed_judged ms)))
+      (and_then_judged machine_faults Sized (λ f. SizesFault ms f ⊎ PagesFault ms f) (PageLate ms) Mapped mapped (λ a s. mapped_judged ms a s) pages_higher _ (joint (size_in_judged ms) (listed_judged ms)))
 
   -- ## The memory controller
 
@@ -303,7 +301,7 @@ module _ (ms : Members) where
 
   abbrev ControllerFault : MachineFileFault → Type 0
   ControllerFault f =
-      (RomFault (codes "low_rom") f ⊎ RomFault (codes "high_rom") f) ⊎ ((SizesFault ms f ⊎ PagesFault ms f) ⊎ PageLate f)
+      (RomFault (codes "low_rom") f ⊎ RomFault (codes "high_rom") f) ⊎ ((SizesFault ms f ⊎ PagesFault ms f) ⊎ PageLate ms f)
 
   controller_judged : Judges machine_faults ControllerStates ControllerFault (controller_in ms)
   controller_judged =
