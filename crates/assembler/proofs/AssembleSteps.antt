@@ -235,7 +235,7 @@ pub record Moves (s : State) (k : ℕ) (said : Option Said) (t : State) : Type 0
   pub opened : is_some t.start ≡ is_open (is_some s.start) said
   pub segments : segments_in s ≤ 16 → (segments_in t ≡ segments_in s + (if is_some s.start || word_count said == 0 then 0 else 1)) × (segments_in t ≤ 16)
 
-none_more : (b : Bool) (n : ℕ) → n ≡ n + (if b || true then 0 else 1)
+pub none_more : (b : Bool) (n : ℕ) → n ≡ n + (if b || true then 0 else 1)
 none_more true n = omega arith
 none_more false n = omega arith
 

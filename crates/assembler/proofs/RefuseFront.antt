@@ -19,7 +19,7 @@ use Rattle.assembler.specs.declared.fault.LineFault.TheVariants.{LabelTwice, Out
 use Rattle.assembler.proofs.AssembleBack.{Exact, exact_moved, exact_put, may_four}
 use Rattle.assembler.proofs.AssembleBasics.{count_map, count_places, labelled_at}
 use Rattle.assembler.proofs.AssembleReady.{NotEmpty, exact_labelled}
-use Rattle.assembler.proofs.AssembleSteps.{Covers, Pends, items_at, pending_is, put_all, segments_in, unless_is, values_put}
+use Rattle.assembler.proofs.AssembleSteps.{Covers, Pends, items_at, none_more, pending_is, put_all, segments_in, unless_is, values_put}
 use Rattle.assembler.proofs.RefuseLeast.{IsLeast, failed, least_both, least_guard, least_none, least_option, least_result, least_same}
 use Rattle.assembler.proofs.RefusePlaces.{Bad, org_least, place_least}
 
@@ -265,13 +265,9 @@ not_long s k before p h none e =
           let is : segments false (laid (before ++ p ∷ []))
           ≡ segments false (laid before) + (if is_some s.start || true then 0 else 1) =
           rw none at same in
-          let nothing = no_more (is_some s.start) (segments false (laid before)) in
+          let nothing = none_more (is_some s.start) (segments false (laid before)) in
           omega (arith, is, nothing, few_segments, x)
     ]
-  where
-    no_more : (b : Bool) (g : ℕ) → g ≡ g + (if b || true then 0 else 1)
-    no_more true g = omega arith
-    no_more false g = omega arith
 
 -- ---- a line's faults: with those before it
 
