@@ -251,7 +251,7 @@ pub with_one : (places : List Place) (loops : List Loop) (list : List ℕ) (foun
 with_one places loops list found k so_far lt reached =
     let l : Loop = get_or loops k no_loop in
     let more : take (k + 1) loops ≡ take k loops ++ l ∷ [] = one_more loops k lt in
-    let all : map found_instance (found ++ found_at list l ∷ []) ≡ map found_instance found ++ instance_of l list ∷ [] = map_more found_instance found (found_at list l ∷ []) in
+    let all : map found_instance (found ++ found_at list l ∷ []) ≡ map found_instance found ++ instance_of l list ∷ [] = map-append found_instance found (found_at list l ∷ []) in
     record {
       exact = λ i. (
         (λ has. ⊎_elim

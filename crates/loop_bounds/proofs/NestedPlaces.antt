@@ -132,8 +132,8 @@ module _ (flow : Flow) (tree : Tree) (t : IsTree flow tree) where
       let last : exit ≡ n = omega (arith, length-map tree.order (place_at flow.places), t.whole) in
       both_ways (is_member i Exit) refl (ap (is_member i) (sym last_place ∙ ap (place_in flow tree) last ∙ is) ∙ passes)
 
-  pub member_from : (i : Instance) (p : Place) → Contains (members flow tree i) p → Contains flow.places p × (is_member i p ≡ true)
-  member_from i p has =
+  pub members_from : (i : Instance) (p : Place) → Contains (members flow tree i) p → Contains flow.places p × (is_member i p ≡ true)
+  members_from i p has =
       let in_all : Contains all_places p = subst (Contains all_places) has.2 (All-filter (is_member i) (Contains all_places) all_places (λ k d lt. Contains-get_or all_places k d lt) has.0 p has.1) in
       let passes : is_member i p ≡ true = subst (λ (q : Place). is_member i q ≡ true) has.2 (filter_passes (is_member i) all_places has.0 p has.1) in
       let n : ℕ = in_all.0 in
@@ -145,8 +145,8 @@ module _ (flow : Flow) (tree : Tree) (t : IsTree flow tree) where
         passes,
       )
 
-  pub member_to : (i : Instance) (p : Place) → Contains flow.places p × (is_member i p ≡ true) → Contains (members flow tree i) p
-  member_to i p both =
+  pub members_to : (i : Instance) (p : Place) → Contains flow.places p × (is_member i p ≡ true) → Contains (members flow tree i) p
+  members_to i p both =
       let n = number_of p both.0 in
       let lt : n.0 < length all_places = omega (arith, n.1, length-map tree.order (place_at flow.places), t.whole) in
       filter_has (is_member i) all_places p (n.0, lt, in_order n.0 p lt ∙ n.2) both.1

@@ -15,7 +15,7 @@ use Rattle.numbered_walks.specs.Index.{span_at}
 use Rattle.loop_bounds.specs.NestedParts.{AreNestedUpto, AreOutermost, Encloses, HoldsSpan, IsShown, instance_at}
 use Rattle.loop_bounds.specs.Tree.{IsTree, Tree}
 use Rattle.loop_bounds.proofs.NestedSpans.{IsDirectlyIn, direct_from, direct_to, outermost_more}
-use Rattle.loop_bounds.proofs.NestedPlaces.{as_many, inside_from, inside_to, is_of, member_from, member_to}
+use Rattle.loop_bounds.proofs.NestedPlaces.{as_many, inside_from, inside_to, is_of, members_from, members_to}
 
 pub found_at : (found : List Found) (instances : List Instance) (k : ℕ) (f : Found) → map found_instance found ≡ instances → k < length found → f ≡ get_or found k f → found_instance f ≡ instance_at instances k
 found_at found instances k f same lt is = ap found_instance is ∙ sym (get_or-map found_instance found k f _ lt) ∙ ap (λ (is : List Instance). instance_at is k) same
@@ -175,7 +175,7 @@ module _ (flow : Flow) (tree : Tree) (t : IsTree flow tree) where
     pub nested_all : IsNestedView flow tree o.instances.items
     nested_all = record {
       each_once = a.each_once ∙ take_all (length tree.instances) tree.instances (omega arith);
-      members_are = λ k d lt p. subst (λ (ps : List Place). Contains ps p ↔ (Contains flow.places p × (is_member (get_or (nodes o.instances.items) k d).instance p ≡ true))) (sym (a.shown k d lt).0) (member_from flow tree t (get_or (nodes o.instances.items) k d).instance p, member_to flow tree t (get_or (nodes o.instances.items) k d).instance p);
+      members_are = λ k d lt p. subst (λ (ps : List Place). Contains ps p ↔ (Contains flow.places p × (is_member (get_or (nodes o.instances.items) k d).instance p ≡ true))) (sym (a.shown k d lt).0) (members_from flow tree t (get_or (nodes o.instances.items) k d).instance p, members_to flow tree t (get_or (nodes o.instances.items) k d).instance p);
       in_order = λ k d lt. (a.shown k d lt).0;
       inner_are = λ k d lt. (a.shown k d lt).1;
       outermost_are = λ i. (outer_from i, outer_to i);
