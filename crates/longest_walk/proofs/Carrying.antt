@@ -16,7 +16,6 @@ use Rattle.numbered_walks.specs.declared.fault.WalkFault.{WalkFault}
 use Rattle.numbered_walks.specs.declared.fault.WalkFault.TheVariants.{Memory, NoCompleteWalk, BoundTooLarge}
 use Rattle.numbered_walks.specs.Index.{edge_at, edges_of}
 use Rattle.numbered_walks.specs.Found.{AreFound}
-use Rattle.numbered_walks.specs.Found as F
 use Rattle.numbered_walks.specs.Ordered as O
 use Rattle.numbered_walks.specs.Reach.{Reach, Round}
 use Rattle.numbered_walks.specs.Tables.{arrival_of, distance_of, round_of}

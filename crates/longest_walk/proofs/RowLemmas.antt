@@ -134,12 +134,12 @@ headers_once flow tree t i j d i_lt j_lt same =
     let low : at_i.header ≤ length flow.places = omega (arith, shape.0, shape.1) in
     let heads : header_of (get_or tree.instances i x) ≡ header_of (get_or tree.instances j x) = sym (get_or-map header_of tree.instances i x d i_in) ∙ same ∙ get_or-map header_of tree.instances j x d j_in in
     let p = place_in flow tree at_i.header in
-    let one : is_header (get_or tree.instances i x) p ≡ true = (spans.each i x none i_in).headers at_i.header low ∙ eq-eqb at_i.header at_i.header refl in
+    let one : is_header (get_or tree.instances i x) p ≡ true = (spans.each i x no_span i_in).headers at_i.header low ∙ eq-eqb at_i.header at_i.header refl in
     let two : is_header (get_or tree.instances j x) p ≡ true = sym (header_test (get_or tree.instances i x) (get_or tree.instances j x) p heads) ∙ one in
-    let equal : at_i.header ≡ at_j.header = eqb-true at_i.header at_j.header (sym ((spans.each j x none j_in).headers at_i.header low) ∙ two) in
+    let equal : at_i.header ≡ at_j.header = eqb-true at_i.header at_j.header (sym ((spans.each j x no_span j_in).headers at_i.header low) ∙ two) in
     ⊎_elim
-    (λ less. absurd (t.ordered.headers_differ i j none less j_small equal))
-    (λ ge. ⊎_elim (λ more. absurd (t.ordered.headers_differ j i none more i_small (sym equal))) (λ le. omega arith) (cases_lt j i))
+    (λ less. absurd (t.ordered.headers_differ i j no_span less j_small equal))
+    (λ ge. ⊎_elim (λ more. absurd (t.ordered.headers_differ j i no_span more i_small (sym equal))) (λ le. omega arith) (cases_lt j i))
     (cases_lt i j)
   where
     some_instance : (xs : List Instance) {n : ℕ} → n < length xs → Instance
