@@ -1,6 +1,7 @@
 ghost use Rattle.std.specs.Prelude.{◌≡◌, ◌+◌, ◌<◌, ◌≤◌, ◌++◌, ◌∷◌, [], decimal, length};
 ghost use Rattle.asm_text.specs.Hex.{hex};
 
+use arrayvec::ArrayVec;
 use asm_text::hex_text;
 use itoa::Buffer;
 use std::marker::Model;
@@ -8,18 +9,15 @@ use std::marker::Model;
 /// A line of at most 64 bytes, in place.
 #[derive(Drop)]
 pub struct Line {
-    bytes: [u8; 64],
-    len: usize,
+    bytes: ArrayVec<u8, 64>,
 }
 
 impl Model for Line {
-    ghost use Rattle.std.specs.Prelude.{ℕ, List, take, ◌≤◌};
+    ghost use Rattle.std.specs.Prelude.{ℕ, List};
 
     ghost Value = { List ℕ };
 
-    ghost view = { λ l. take l.len l.bytes };
-
-    ghost invariant = { λ l. l.len ≤ 64 };
+    ghost view = { λ l. l.bytes.items };
 }
 
 impl Line {
@@ -28,8 +26,7 @@ impl Line {
         ensures { result ≡ [] }
     {
         Line {
-            bytes: [0; 64],
-            len: 0,
+            bytes: ArrayVec::new(),
         }
     }
 
@@ -38,7 +35,7 @@ impl Line {
         ensures bytes { result.now ≡ self.now }
         ensures short { length result.now ≤ 64 }
     {
-        &self.bytes[..self.len]
+        self.bytes.as_slice()
     }
 
     /// Adds a byte.
@@ -46,8 +43,7 @@ impl Line {
         requires { length self.old < 64 }
         ensures { self.new ≡ self.old ++ b ∷ [] }
     {
-        self.bytes[self.len] = b;
-        self.len += 1;
+        self.bytes.push(b);
     }
 
     /// Adds all bytes of a text.
