@@ -1,12 +1,14 @@
 -- The lines of words.
-use Rattle.std.specs.Prelude.{◌≡◌, ◌==◌, ◌||◌, ◌+◌, ◌%◌, ◌^◌, not, zero, suc, Bool, false, ℕ}
+use Rattle.std.specs.Prelude.{◌≡◌, ◌==◌, ◌&&◌, ◌+◌, ◌%◌, ◌^◌, not, zero, suc, Bool, false, ℕ}
 use Rattle.std.specs.Prelude.{List, [], ◌∷◌, ◌++◌, length, take}
 use Rattle.std.specs.Prelude.{Option, None, Some, option_map, if◌then◌else◌, nat_eq}
 use Rattle.std.specs.BTreeMap.{BTreeMap, get}
 use Rattle.std.specs.List.{prefix_len}
 use Rattle.std.specs.Map.{update_all}
 use Rattle.std.specs.Ordering.{nat_cmp}
+use Rattle.asm_text.specs.Pieces.{is_blank}
 use Rattle.asm_text.specs.Source.{lines_of}
+use Rattle.asm_text.specs.Statements.{is_in_body}
 use Rattle.assembler.specs.declared.placed_line.PlacedLine.{PlacedLine}
 use Rattle.loader.specs.Labels.{NamedAddresses, address_of}
 use Rattle.text_rows.specs.Addresses.{IsNamed}
@@ -15,6 +17,10 @@ use Rattle.diagnosis.specs.declared.words.SourceLine.{SourceLine}
 -- the line of the word at an address
 abbrev pub line_at : BTreeMap ℕ SourceLine → ℕ → Option SourceLine
 line_at lines at = get nat_cmp lines at
+
+-- the label of its line
+abbrev pub label_at : BTreeMap ℕ SourceLine → ℕ → Option (List ℕ)
+label_at lines at = option_map (λ line. line.label.now) (line_at lines at)
 
 -- each line's label is none, or stands for the address
 abbrev pub AreNamed : NamedAddresses → BTreeMap ℕ SourceLine → Type 0
@@ -35,9 +41,9 @@ numbered line = record { number = line.number; label = line.label.now; text = li
 abbrev pub numbered_at : BTreeMap ℕ SourceLine → ℕ → Option Numbered
 numbered_at lines at = option_map numbered (line_at lines at)
 
--- no blank, no tab and no begin of a comment
+-- no blank and no begin of a comment
 abbrev pub is_in_word : ℕ → Bool
-is_in_word b = not (b == 32 || (b == 9 || b == 59))
+is_in_word b = is_in_body b && not (is_blank b)
 
 -- what is in the first column, up to a blank or a comment
 abbrev pub first_word : List ℕ → List ℕ

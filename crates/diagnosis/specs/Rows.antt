@@ -4,7 +4,6 @@ use Rattle.std.specs.Prelude.{◌≡◌, ℕ, List, [], Option, Some, None}
 use Rattle.flow_graph.specs.declared.places.Place.{Place}
 use Rattle.flow_graph.specs.declared.places.Place.TheVariants.{At, Exit}
 use Rattle.loader.specs.Image.{Words as Held, word_of}
-use Rattle.text_rows.specs.Addresses.{labelled, number_text}
 use Rattle.text_rows.specs.Rows.{IsShownRow, address_row, named_row}
 use Rattle.diagnosis.specs.Lines.{line_at}
 use Rattle.diagnosis.specs.declared.words.SourceLine.{SourceLine}
@@ -32,10 +31,3 @@ IsRow words at = IsLineRow words.image.now at (line_at words.lines at)
 abbrev pub IsPlaceRow : Words → Place → List ℕ → Type 0
 IsPlaceRow words (At calls at) row = IsRow words at row
 IsPlaceRow words Exit row = row ≡ []
-
--- ## Addresses as statements have them
-
--- an address by its label, or where it has none by its number
-abbrev pub name_text : Option SourceLine → ℕ → List ℕ
-name_text None at = number_text at
-name_text (Some line) at = labelled line.label.now at

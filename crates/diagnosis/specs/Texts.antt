@@ -16,8 +16,9 @@ use Rattle.loop_bounds.specs.Keys.{key_of}
 use Rattle.loop_bounds.specs.declared.loop_instances.Found.{Found}
 use Rattle.statement.specs.declared.stated.Loop.{Loop}
 use Rattle.text_rows.specs.Rows.{AreRows}
-use Rattle.diagnosis.specs.Lines.{line_at}
-use Rattle.diagnosis.specs.Rows.{IsPlaceRow, IsRow, name_text}
+use Rattle.text_rows.specs.Addresses.{name_text}
+use Rattle.diagnosis.specs.Lines.{label_at}
+use Rattle.diagnosis.specs.Rows.{IsPlaceRow, IsRow}
 use Rattle.diagnosis.specs.declared.crossings.Crossing.{Crossing}
 use Rattle.diagnosis.specs.declared.entries.MidEntry.{MidEntry}
 use Rattle.diagnosis.specs.declared.extents.Extent.{Extent}
@@ -30,7 +31,7 @@ use Rattle.diagnosis.specs.declared.words.Words.{Words}
 
 abbrev pub key_text : BTreeMap ℕ SourceLine → List ℕ → ℕ → List ℕ
 key_text lines key at =
-    codes "  " ++ (key ++ (codes " = " ++ (name_text (line_at lines at) at ++ codes "\n")))
+    codes "  " ++ (key ++ (codes " = " ++ (name_text (label_at lines at) at ++ codes "\n")))
 
 -- a loop of a statement without its bound
 abbrev pub addresses_text : BTreeMap ℕ SourceLine → Extent → List ℕ

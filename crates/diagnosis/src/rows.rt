@@ -1,7 +1,8 @@
 ghost use Rattle.std.specs.Prelude.{◌≡◌, ◌++◌, IfOk, OnOk, decimal};
+ghost use Rattle.text_rows.specs.Addresses.{name_text};
 ghost use Rattle.text_rows.specs.Rows.{Appends};
-ghost use Rattle.diagnosis.specs.Lines.{line_at};
-ghost use Rattle.diagnosis.specs.Rows.{IsImageRow, IsPlaceRow, IsRow, name_text, source_row};
+ghost use Rattle.diagnosis.specs.Lines.{label_at};
+ghost use Rattle.diagnosis.specs.Rows.{IsImageRow, IsPlaceRow, IsRow, source_row};
 
 use crate::words::{SourceLine, Words};
 use flow_graph::Place;
@@ -71,7 +72,7 @@ impl Words<'_> {
     /// Adds an address as a statement has it: its label in quotes, or a number.
     pub(crate) fn put_name(&self, out: &mut Vec<u8>, at: u32) -> Result<(), AllocError>
         ensures { OnOk result
-            (out.new.items ≡ out.old.items ++ name_text (line_at self.now.lines at) at) }
+            (out.new.items ≡ out.old.items ++ name_text (label_at self.now.lines at) at) }
     {
         match self.lines.get(&at) {
             Some(line) => put_labelled(out, line.label, at),

@@ -6,7 +6,7 @@ ghost use Rattle.text_rows.specs.Addresses.{IsNamed};
 ghost use Rattle.diagnosis.specs.Lines.{AreLinesOf, AreNamed, first_word, is_in_word, label_of, name_of};
 ghost use Rattle.diagnosis.specs.Lines.{numbered, numbered_at, words_from};
 
-use asm_text::first_line;
+use asm_text::{first_line, is_blank};
 use assembler::{PlacedLine, Program};
 use loader::{Image, Labels};
 use std::alloc::{AllocError, Global};
@@ -34,7 +34,7 @@ pub struct Words<'a> {
 fn is_in_word(byte: u8) -> bool
     ensures { result ≡ is_in_word byte }
 {
-    !(byte == b' ' || byte == b'\t' || byte == b';')
+    byte != b';' && !is_blank(byte)
 }
 
 // The bytes before a blank or a comment.
