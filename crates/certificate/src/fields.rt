@@ -59,7 +59,8 @@ pub(crate) fn to_first(words: &[u8]) -> Option<(To, &[u8])>
     Some((To::At(address), rest))
 }
 
-fn calls_at(word: &[u8]) -> Option<Calls>
+/// The calls that the word spells.
+pub(crate) fn calls_at(word: &[u8]) -> Option<Calls>
     ensures { MatchOption result ((calls : List ℕ) → AreCalls calls → word.now ≡ list_words calls → ⊥)
         (λ calls. AreCalls calls × (word.now ≡ list_words calls)) }
 {
@@ -73,14 +74,4 @@ fn calls_at(word: &[u8]) -> Option<Calls>
         rest = after;
     }
     calls.with(hex_at(rest)?)
-}
-
-/// The calls that the words begin with, and the words after the blank.
-pub(crate) fn calls_first(words: &[u8]) -> Option<(Calls, &[u8])>
-    ensures { MatchOption result
-        ((calls : List ℕ) (rest : List ℕ) → AreCalls calls → words.now ≡ list_words calls ++ 32 ∷ rest → ⊥)
-        (λ p. AreCalls p.0 × (words.now ≡ list_words p.0 ++ 32 ∷ p.1.now)) }
-{
-    let (word, rest) = cut_at(b' ', words)?;
-    Some((calls_at(word)?, rest))
 }
