@@ -3,7 +3,7 @@
 use Rattle.std.specs.Prelude.{◌≡◌, ◌≤◌, ◌⊎◌, ◌==◌, ◌&&◌, ◌||◌, ◌%◌, ◌+◌, not, nat_lt}
 use Rattle.std.specs.Prelude.{zero, suc, Bool, true, false, ℕ}
 use Rattle.std.specs.Prelude.{List, [], ◌∷◌, ◌++◌, length, take, drop, codes, decimal, count_by}
-use Rattle.std.specs.Prelude.{Option, Some, None, IsSome, IsUtf8, is_none, if◌then◌else◌}
+use Rattle.std.specs.Prelude.{Option, Some, None, IsSome, IsUtf8, is_none, option_map, if◌then◌else◌}
 use Rattle.std.specs.BTreeSet.{contains}
 use Rattle.std.specs.Char.{is_digit}
 use Rattle.std.specs.List.{list_any}
@@ -168,12 +168,22 @@ is_faulty names _ p = false
 
 -- ## Of a table, by the items after its begin
 
+-- the values at a key, before the next table
+unfoldable pub stated_at : List ℕ → List Item → List Stated
+stated_at key [] = []
+stated_at key (Begins t ∷ items) = []
+stated_at key (States p ∷ items) =
+    if bytes_eq p.key key then p ∷ stated_at key items else stated_at key items
+stated_at key (Ends ∷ items) = []
+
+-- the first of a list
+abbrev pub first_item : {A : Type 0} → List A → Option A
+first_item [] = None
+first_item (x ∷ xs) = Some x
+
 -- the value at a key, before the next table
 unfoldable pub value_at : List ℕ → List Item → Option Value
-value_at key [] = None
-value_at key (Begins t ∷ items) = None
-value_at key (States p ∷ items) = if bytes_eq p.key key then Some p.value else value_at key items
-value_at key (Ends ∷ items) = None
+value_at key items = option_map (λ p. p.value) (first_item (stated_at key items))
 
 abbrev pub missing_row : Table → List Item → List ℕ → List Row
 missing_row t items key = row_if (is_none (value_at key items)) (table_row t (codes " has no ") key)
@@ -217,19 +227,6 @@ is_misplaced names items =
     lies_outside (address_in names (codes "header") items)
     (address_in names (codes "first") items)
     (address_in names (codes "last") items)
-
--- the values at a key, before the next table
-unfoldable pub stated_at : List ℕ → List Item → List Stated
-stated_at key [] = []
-stated_at key (Begins t ∷ items) = []
-stated_at key (States p ∷ items) =
-    if bytes_eq p.key key then p ∷ stated_at key items else stated_at key items
-stated_at key (Ends ∷ items) = []
-
--- the first of a list
-abbrev pub first_item : {A : Type 0} → List A → Option A
-first_item [] = None
-first_item (x ∷ xs) = Some x
 
 -- the first of a list after so many
 abbrev pub first_after : {A : Type 0} → ℕ → List A → Option A

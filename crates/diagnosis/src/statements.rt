@@ -226,17 +226,8 @@ fn value_after<'a>(most: usize, key: &[u8], entries: &[Entry<'a>]) -> Option<Pai
 fn value_at<'a>(entries: &[Entry<'a>], key: &[u8]) -> Option<Word<'a>>
     ensures { option_map value_of result ≡ value_at key.now (map item_of entries.now) }
 {
-    for entry in entries {
-        match entry {
-            Entry::Value(pair) => {
-                if pair.key == key {
-                    return Some(pair.value);
-                }
-            }
-            Entry::Table(_) | Entry::End => return None,
-        }
-    }
-    None
+    let pair = value_after(0, key, entries)?;
+    Some(pair.value)
 }
 
 /// What is looked for.
