@@ -3,7 +3,7 @@ use Rattle.std.proofs.Common.{◌≡◌, ◌≤◌, ◌-◌, ◌+◌, ◌||◌, 
 use Rattle.std.specs.Prelude.{not}
 use Rattle.std.specs.List.{list_all, prefix_len}
 use Rattle.std.proofs.Math.Seq.{drop-append-add, drop-append_seam, take-append_seam}
-use Rattle.std.proofs.lemmas.Bool.{and_from, and_parts, not-true}
+use Rattle.std.proofs.lemmas.Bool.{and_from, and_parts, not-true, or_parts}
 use Rattle.std.proofs.lemmas.List.{length-append}
 use Rattle.std.proofs.lemmas.List.Folds.{list_all-append}
 use Rattle.asm_text.specs.Pieces.{is_blank}
@@ -16,10 +16,6 @@ use Rattle.diagnosis.proofs.OutlineLemmas.{after_first, one_piece}
 not_or : (x y : Bool) → not (x || y) ≡ true → (x ≡ false) × (not y ≡ true)
 not_or false y h = (refl, h)
 not_or true y h = cc
-
-or_false : (x y : Bool) → (x || y) ≡ false → (x ≡ false) × (y ≡ false)
-or_false false y h = (refl, h)
-or_false true y h = cc
 
 -- what a byte of a word is not
 record BareByte (b : ℕ) : Type 0 where
@@ -44,11 +40,11 @@ record NoGap (b : ℕ) : Type 0 where
 
 no_gap : (b : ℕ) → is_gap b ≡ false → NoGap b
 no_gap b h =
-    let one = or_false (is_blank b) (b == 13 || (b == 61 || (b == 44 || (b == 91 || b == 93)))) h in
-    let two = or_false (b == 13) (b == 61 || (b == 44 || (b == 91 || b == 93))) one.1 in
-    let three = or_false (b == 61) (b == 44 || (b == 91 || b == 93)) two.1 in
-    let four = or_false (b == 44) (b == 91 || b == 93) three.1 in
-    record { blank = one.0; return = two.0; bracket = (or_false (b == 91) (b == 93) four.1).0 }
+    let one = or_parts (is_blank b) (b == 13 || (b == 61 || (b == 44 || (b == 91 || b == 93)))) h in
+    let two = or_parts (b == 13) (b == 61 || (b == 44 || (b == 91 || b == 93))) one.1 in
+    let three = or_parts (b == 61) (b == 44 || (b == 91 || b == 93)) two.1 in
+    let four = or_parts (b == 44) (b == 91 || b == 93) three.1 in
+    record { blank = one.0; return = two.0; bracket = (or_parts (b == 91) (b == 93) four.1).0 }
 
 -- ## Words
 

@@ -144,14 +144,11 @@ abbrev pub IsLeadText : Words → Option Edge → List ℕ → Type 0
 IsLeadText words None text = text ≡ []
 IsLeadText words (Some e) text = IsUnder words leads e.from text
 
-abbrev pub IsRowText : Words → Place → List ℕ → Type 0
-IsRowText words place text = IsPlaceRow words place text
-
 -- what shows why the place has no edges
 abbrev pub IsFaultText : Words → FaultyPlace → BuildFault → List ℕ → Type 0
 IsFaultText words faulty build.TooDeep text = IsChainText words faulty.place text
 IsFaultText words faulty (build.OutsideImage at) text = IsLeadText words faulty.edge text
-IsFaultText words faulty _ text = IsRowText words faulty.place text
+IsFaultText words faulty _ text = IsPlaceRow words faulty.place text
 
 -- ## Lines that cannot be assembled
 

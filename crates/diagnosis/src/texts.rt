@@ -1,9 +1,9 @@
 ghost use Rattle.std.specs.Prelude.{◌≡◌, ◌++◌, [], IfOk, OnOk};
 ghost use Rattle.loop_bounds.specs.Keys.{key_of};
 ghost use Rattle.text_rows.specs.Rows.{Appends, AreRows};
-ghost use Rattle.diagnosis.specs.Rows.{IsRow};
+ghost use Rattle.diagnosis.specs.Rows.{IsPlaceRow, IsRow};
 ghost use Rattle.diagnosis.specs.Texts.{IsCycleText, IsEntryFront, IsEntryText, IsStartRow, IsUnder};
-ghost use Rattle.diagnosis.specs.Texts.{IsChainText, IsFaultText, IsLeadText, IsRowText, addresses_text};
+ghost use Rattle.diagnosis.specs.Texts.{IsChainText, IsFaultText, IsLeadText, addresses_text};
 ghost use Rattle.diagnosis.specs.Texts.{IsCrossingText, key_text, loop_text, shared_text};
 ghost use Rattle.diagnosis.specs.Texts.{IsDeepText, headers_of, in_loops, stated_text, two_loops};
 
@@ -295,7 +295,7 @@ fn lead_text(alloc: Global, words: &Words<'_>, edge: &Option<Edge>) -> Result<Ve
 
 // The row of a place.
 fn row_text(alloc: Global, words: &Words<'_>, place: &Place) -> Result<Vec<u8>, AllocError>
-    ensures { IfOk result (λ text. IsRowText words.now place.now text.items) }
+    ensures { IfOk result (λ text. IsPlaceRow words.now place.now text.items) }
 {
     let mut out = Vec::new(alloc);
     words.put_place(&mut out, place)?;
