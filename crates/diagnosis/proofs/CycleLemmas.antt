@@ -3,6 +3,7 @@ use Rattle.std.proofs.Common.{◌≡◌, ℕ, ◌<◌, zero, suc, Bool, true, fa
 use Rattle.std.specs.Prelude.{Contains, ◌&&◌}
 use Rattle.std.specs.List.{list_any}
 use Rattle.std.specs.Cmp.Lexicographic.{pointwise}
+use Rattle.std.proofs.Math.Bool.{and-false}
 use Rattle.std.proofs.lemmas.Bool.{and_parts, cases_Bool, eqb-true, false≢true}
 use Rattle.std.proofs.lemmas.List.{length-drop}
 use Rattle.std.proofs.lemmas.List.Folds.{Any-from_list_any, list_any_at}
@@ -26,23 +27,19 @@ none_passes p xs x none has = ⊎_elim
     (λ (f : p x ≡ false). f)
     (cases_Bool (p x))
 
-and_false : (b : Bool) → b && false ≡ false
-and_false true = refl
-and_false false = refl
-
 -- no back edge of an instance whose loop it does not turn in
 no_back : (e : Edge) (to : Place) (l : Loop) (list : List ℕ) → to ≡ e.to → is_back_edge_to l e to ≡ false
     → is_back_edge edge_shape place_loops (instance_of l list) e ≡ false
 no_back e Exit l list ends none =
     ap (λ (p : Place). is_member (instance_of l list) e.from && is_header (instance_of l list) p) (sym ends)
-    ∙ and_false (is_member (instance_of l list) e.from)
+    ∙ and-false (is_member (instance_of l list) e.from)
 no_back e (At calls a) l list ends none = ⊎_elim
     (λ (t : pointwise eqb calls list ≡ true).
     ap (λ (x : List ℕ). is_back_edge edge_shape place_loops (instance_of l x) e) (sym (same_list calls list t)) ∙ none)
     (λ (f : pointwise eqb calls list ≡ false).
     ap (λ (p : Place). is_member (instance_of l list) e.from && is_header (instance_of l list) p) (sym ends)
     ∙ ap (λ (b : Bool). is_member (instance_of l list) e.from && (b && eqb a l.header)) f
-    ∙ and_false (is_member (instance_of l list) e.from))
+    ∙ and-false (is_member (instance_of l list) e.from))
     (cases_Bool (pointwise eqb calls list))
 
 -- an instance that the edge turns back to
