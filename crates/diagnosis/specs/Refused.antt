@@ -14,6 +14,7 @@ use Rattle.bus_ticks.specs.declared.space.TheConstants.{SPACE_END}
 use Rattle.asm_text.specs.Numbers.{run_number}
 use Rattle.loader.specs.Labels.{NamedAddresses, address_of}
 use Rattle.toml.specs.Parse.{parse_document}
+use Rattle.toml_reading.specs.Documents.{is_one_of}
 use Rattle.diagnosis.specs.Lines.{is_at}
 use Rattle.statement.specs.Statement.{access_keys, loop_keys, statement_keys, target_keys}
 use Rattle.statement.specs.declared.faults.StatementFault.{StatementFault}
@@ -63,9 +64,6 @@ row_if b row = if b then row ∷ [] else []
 
 -- ## Keys
 
-abbrev pub is_among : List (List ℕ) → List ℕ → Bool
-is_among words word = list_any (λ w. bytes_eq w word) words
-
 -- the keys that a table may have, by the name of its list; none where there is no such list
 abbrev pub keys_of : List ℕ → Option (List (List ℕ))
 keys_of list =
@@ -86,7 +84,7 @@ abbrev pub address_keys : List (List ℕ)
 address_keys = codes "entry" ∷ codes "header" ∷ codes "first" ∷ codes "last" ∷ codes "at" ∷ codes "to" ∷ []
 
 abbrev pub takes_address : List ℕ → Bool
-takes_address key = is_among address_keys key
+takes_address key = is_one_of address_keys key
 
 -- ## Values
 
@@ -114,7 +112,7 @@ is_text (Quoted quote w) = true
 -- one of the words, in quotes
 abbrev pub is_word_of : List (List ℕ) → Value → Bool
 is_word_of words (Bare w) = false
-is_word_of words (Quoted quote w) = is_among words w
+is_word_of words (Quoted quote w) = is_one_of words w
 
 abbrev pub class_words : List (List ℕ)
 class_words = codes "any" ∷ codes "ram" ∷ codes "rom" ∷ codes "io" ∷ []
@@ -156,7 +154,7 @@ is_out_of_range names p = is_negative p.value || is_number_outside p.key (addres
 
 abbrev pub is_unknown_key : Option (List (List ℕ)) → List ℕ → Bool
 is_unknown_key None key = false
-is_unknown_key (Some keys) key = not (is_among keys key)
+is_unknown_key (Some keys) key = not (is_one_of keys key)
 
 -- the value has the fault
 abbrev pub is_faulty : NamedAddresses → StatementFault → Stated → Bool

@@ -18,7 +18,7 @@ use crate::repeats::Taken;
 use crate::rows::around_number;
 use crate::tokens::Word;
 use crate::values::{
-    address_at, fits_key, is_among, is_out_of_range, is_unknown_label, is_word_of,
+    address_at, fits_key, is_one_of, is_out_of_range, is_unknown_label, is_word_of,
 };
 use flow_graph::StatementFault;
 use loader::Labels;
@@ -298,7 +298,7 @@ fn is_unknown_key(list: &[u8], key: &[u8]) -> bool
     ensures { result ≡ is_unknown_key (keys_of list.now) key.now }
 {
     match keys_of(list) {
-        Some(keys) => !is_among(keys, key),
+        Some(keys) => !is_one_of(keys, key),
         None => false,
     }
 }

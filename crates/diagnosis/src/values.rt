@@ -1,6 +1,7 @@
 ghost use Rattle.std.specs.Prelude.{◌≡◌, map};
 ghost use Rattle.diagnosis.specs.Outline.{stated_of, value_of};
-ghost use Rattle.diagnosis.specs.Refused.{address_at, class_words, fits_key, is_among, is_negative};
+ghost use Rattle.toml_reading.specs.Documents.{is_one_of};
+ghost use Rattle.diagnosis.specs.Refused.{address_at, class_words, fits_key, is_negative};
 ghost use Rattle.diagnosis.specs.Refused.{is_number, is_number_outside, is_out_of_range, is_outside, is_text};
 ghost use Rattle.diagnosis.specs.Refused.{is_unknown_label, is_word_of, kind_words, starts_digit};
 ghost use Rattle.diagnosis.specs.Refused.{starts_number, takes_address};
@@ -13,8 +14,8 @@ use loader::Labels;
 use statement::MOST_ROUNDS;
 
 /// Whether the word is one of those.
-pub(crate) fn is_among(words: &[&str], word: &[u8]) -> bool
-    ensures { result ≡ is_among (map (λ w. w.now) words.now) word.now }
+pub(crate) fn is_one_of(words: &[&str], word: &[u8]) -> bool
+    ensures { result ≡ is_one_of (map (λ w. w.now) words.now) word.now }
 {
     for known in words {
         if known.as_bytes() == word {
@@ -81,7 +82,7 @@ pub(crate) fn is_word_of(words: &[&str], value: Word<'_>) -> bool
 {
     match value {
         Word::Bare(_) => false,
-        Word::Quoted(_, text) => is_among(words, text),
+        Word::Quoted(_, text) => is_one_of(words, text),
     }
 }
 
@@ -90,7 +91,7 @@ fn takes_address(key: &[u8]) -> bool
     ensures { result ≡ takes_address key.now }
 {
     const KEYS: &[&str] = &["entry", "header", "first", "last", "at", "to"];
-    is_among(KEYS, key)
+    is_one_of(KEYS, key)
 }
 
 // Whether the value is a class.
