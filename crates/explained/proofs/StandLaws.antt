@@ -1,6 +1,6 @@
 -- Each place of a graph is at one word of its source.
-use Rattle.std.proofs.Common.{◌≡◌, ◌≢◌, ◌∙◌, ℕ, zero, suc, ◌+◌, ◌*◌, ◌%◌, ◌<◌, ◌≤◌, Bool, true, false, cond, List, [], ◌∷◌, ◌++◌, drop, take, length, flat_map, map, Option, Some, None, Result, Ok, Err, inl, inr, refl, sym, ap, subst, arith}
-use Rattle.std.specs.Prelude.{◌==◌, ◌&&◌, ◌||◌, not, nat_le, nat_lt, Contains, count_by, is_some}
+use Rattle.std.proofs.Common.{◌≡◌, ◌≢◌, ◌∙◌, ℕ, zero, suc, ◌+◌, ◌*◌, ◌<◌, ◌≤◌, Bool, true, false, cond, List, [], ◌∷◌, ◌++◌, drop, take, length, flat_map, map, Option, Some, None, Result, Ok, Err, inl, inr, refl, sym, ap, subst, arith}
+use Rattle.std.specs.Prelude.{◌==◌, ◌&&◌, ◌||◌, nat_le, nat_lt, Contains, count_by, is_some}
 use Rattle.std.specs.List.{AllByRecursion, AllZip, fold}
 use Rattle.std.proofs.lemmas.Bool.{cases_Bool, eq-eqb, eqb-true}
 use Rattle.std.proofs.lemmas.Bool.Decides.{nat_tests}
@@ -18,11 +18,12 @@ use Rattle.assembler.specs.Placed.{ArePlaced, IsPlaced}
 use Rattle.assembler.specs.Refusals.{ArePassed}
 use Rattle.loader.specs.Labels.{Names}
 use Rattle.assembler.specs.declared.placed_line.PlacedLine.{PlacedLine}
-use Rattle.loader.specs.Image.{Words, lies_in_memory, with_word, word_of}
-use Rattle.loader.specs.ImageBytes.{count_read, cut_fault, end_fault, head_address, head_count, image_read, magic, numbers, overlaps, read_by, segment_fault, segments_read, with_words}
-use Rattle.loader.specs.declared.places.TheConstants.{MOST_SEGMENTS, MOST_WORDS}
-use Rattle.loader.specs.declared.reading.ReadFault.{ReadFault}
-use Rattle.loader.specs.declared.reading.ReadFault.TheVariants.{BadMagic, Misaligned, OutOfRange, Overlap, Truncated}
+use Rattle.loader.specs.Image.{Words, with_word, word_of}
+use Rattle.loader.specs.ImageBytes.{count_read, cut_fault, head_address, head_count, image_read, magic, numbers, overlaps, segment_fault, segments_read, with_words}
+use Rattle.loader.specs.declared.places.TheConstants.{MOST_SEGMENTS}
+use Rattle.loader.specs.declared.reading.ReadFault.TheVariants.{OutOfRange, Truncated}
+use Rattle.loader.proofs.AcceptLemmas.{count_parts, magic_parts, ok_parts, whole_part}
+use Rattle.loader.proofs.SegmentLemmas.{can_stand, length_numbers}
 use Rattle.flow_graph.specs.Flow.{Flow}
 use Rattle.flow_graph.specs.Graph.{IsBuildFault, IsFlowGraph}
 use Rattle.flow_graph.specs.declared.faults.BuildFault.{BuildFault}
@@ -181,10 +182,6 @@ source_stands reads source image names flow_places placed a stand_there no_exit 
 
 -- ## Images
 
-count_numbers : (n : ℕ) (bytes : List ℕ) → length (numbers n bytes) ≡ n
-count_numbers zero bytes = refl
-count_numbers (suc n) bytes = ap suc (count_numbers n (drop 4 bytes))
-
 put_words : (b : ℕ) (words : Words) (a : ℕ) (ws : List ℕ) → times b (ats (with_words words a ws)) ≡ times b (ats words) + times b (places_from a (length ws))
 put_words b words a [] = omega arith
 put_words b words a (w ∷ ws) = omega (arith, put_words b (with_word words a w) (a + 4) ws, put_once b words a w, first b a (places_from (a + 4) (length ws)))
@@ -250,28 +247,6 @@ segment_once words a ws free few b =
           ]
     ]
 
-whole_part : (b : Bool) (fault : ReadFault) (r : Result Words ReadFault) (new : Words) → cond b (Err fault) r ≡ Ok new → r ≡ Ok new
-whole_part true fault r new e = absurd cc
-whole_part false fault r new e = e
-
-no_fault : (o : Option ReadFault) (r : Result Words ReadFault) (new : Words) → read_by o r ≡ Ok new → (o ≡ None) × (r ≡ Ok new)
-no_fault None r new e = (refl, e)
-no_fault (Some fault) r new e = absurd cc
-
-not_faulty : (b : Bool) (fault : ReadFault) (rest : Option ReadFault) → cond b (Some fault) rest ≡ None → rest ≡ None
-not_faulty true fault rest e = absurd cc
-not_faulty false fault rest e = e
-
-none_taken : (b : Bool) (fault : ReadFault) → cond b (Some fault) None ≡ None → b ≡ false
-none_taken true fault e = absurd cc
-none_taken false fault e = refl
-
-no_overlap : (words : Words) (a n : ℕ) → segment_fault words a n ≡ None → overlaps words a n ≡ false
-no_overlap words a n e =
-    let whole = not_faulty (n == 0 || (not (lies_in_memory a (a + 4 * n)) || nat_lt MOST_WORDS (length words + n))) OutOfRange _
-    (not_faulty (not (a % 4 == 0)) Misaligned _ e) in
-    none_taken (overlaps words a n) Overlap whole
-
 segments_once : (left : ℕ) (words : Words) (bytes : List ℕ) (new : Words) → segments_read left words bytes ≡ Ok new → ((b : ℕ) → times b (ats words) ≤ 1) → (b : ℕ) → times b (ats new) ≤ 1
 segments_once zero words [] new e few b = let same : words ≡ new = cc in subst (λ (ws : Words). times b (ats ws) ≤ 1) same (few b)
 segments_once zero words (x ∷ bytes) new e few b = absurd cc
@@ -279,27 +254,22 @@ segments_once (suc left) words bytes new e few b =
     let a = head_address bytes in
     let n = head_count bytes in
     let ws = numbers n (drop 8 bytes) in
-    let parts = no_fault (segment_fault words a n) _ new (whole_part (nat_lt (length bytes) 4) (cut_fault words left bytes) _ new e) in
-    let rest = whole_part (nat_lt (length bytes) (8 + 4 * n)) (end_fault (length words + n) left) _ new parts.1 in
-    let free = subst (λ m. overlaps words a m ≡ false) (sym (count_numbers n (drop 8 bytes))) (no_overlap words a n parts.0) in
-    segments_once left (with_words words a ws) (drop (8 + 4 * n) bytes) new rest (segment_once words a ws free few) b
+    let parts = ok_parts (segment_fault words a n) (nat_lt (length bytes) (8 + 4 * n)) _ _ new (whole_part (nat_lt (length bytes) 4) (cut_fault words left bytes) _ new e) in
+    let free = subst (λ m. overlaps words a m ≡ false) (sym (length_numbers n (drop 8 bytes))) (can_stand words a n parts.0).apart in
+    segments_once left (with_words words a ws) (drop (8 + 4 * n) bytes) new parts.2 (segment_once words a ws free few) b
 
 counted : (left : ℕ) (bytes : List ℕ) (words : Words)
     → cond (nat_lt MOST_SEGMENTS left) (Err OutOfRange) (cond (nat_lt (length bytes) 4) (Err Truncated) (segments_read left [] (drop 4 bytes))) ≡ Ok words
     → (b : ℕ) → times b (ats words) ≤ 1
 counted left bytes words e b =
-    segments_once left [] (drop 4 bytes) words (whole_part (nat_lt (length bytes) 4) Truncated _ words (whole_part (nat_lt MOST_SEGMENTS left) OutOfRange _ words e)) (λ x. omega arith) b
+    segments_once left [] (drop 4 bytes) words (count_parts (nat_lt MOST_SEGMENTS left) (nat_lt (length bytes) 4) _ words e).2 (λ x. omega arith) b
 
 count_once : (bytes : List ℕ) (words : Words) → count_read bytes ≡ Ok words → (b : ℕ) → times b (ats words) ≤ 1
 count_once bytes words e b = counted _ bytes words e b
 
-bad_magic : (b : Bool) (fault : ReadFault) (r : Result Words ReadFault) (new : Words) → cond b r (Err fault) ≡ Ok new → r ≡ Ok new
-bad_magic true fault r new e = e
-bad_magic false fault r new e = absurd cc
-
 image_once : (bytes : List ℕ) (words : Words) → image_read bytes ≡ Ok words → (b : ℕ) → times b (ats words) ≤ 1
 image_once bytes words e b =
-    count_once (drop 8 bytes) words (whole_part (nat_lt (length bytes) 8) Truncated _ words (bad_magic (bytes_eq (take 8 bytes) (take (length bytes) magic)) BadMagic _ words e)) b
+    count_once (drop 8 bytes) words (magic_parts (bytes_eq (take 8 bytes) (take (length bytes) magic)) (nat_lt (length bytes) 8) _ words e).2 b
 
 pub image_stands : (bytes : List ℕ) (words : Words) (flow_places : List Place) → image_read bytes ≡ Ok words → (Contains flow_places Exit → ⊥) → AreOnWords words flow_places → StandOnce flow_places (ats words)
 image_stands bytes words flow_places read no_exit on = λ p has.

@@ -4,7 +4,7 @@ use Rattle.std.specs.Prelude.{◌↔◌, Contains, filter, fold, if◌then◌els
 use Rattle.std.specs.List.{AllZip, zip}
 use Rattle.std.proofs.lemmas.Bool.{cases_Bool, cases_lt, false≢true}
 use Rattle.std.proofs.lemmas.List.{map-append, take_all}
-use Rattle.std.proofs.lemmas.List.Elements.{Contains-append_cases, Contains-append_left, Contains-append_right, Contains-push, Contains-push_cases, filter_more}
+use Rattle.std.proofs.lemmas.List.Elements.{filter_more}
 use Rattle.std.proofs.lemmas.List.Sums.{fold-append}
 use Rattle.std.proofs.lemmas.Slice.Zip.{get_or-zip, length-zip}
 use Rattle.walks.specs.Walk.{Leads}
@@ -12,6 +12,7 @@ use Rattle.flow_graph.specs.Flow.{Flow, HasEdge, IsWellFormed, edge_shape}
 use Rattle.flow_graph.specs.declared.edges.Edge.{Edge}
 use Rattle.flow_graph.specs.declared.places.Place.{Place}
 use Rattle.flow_graph.specs.declared.places.Place.TheVariants.{Exit}
+use Rattle.flow_graph.proofs.SortedLemmas.{cons_cases, here, no_member, there}
 use Rattle.loop_bounds.specs.Tree.{Tree}
 use Rattle.longest_walk.specs.Starts.{AreWorstStarts, IsWorstStart}
 use Rattle.explained.specs.Starts.{Begins, ComesAt, IsLatestStart, greatest_of, later, latest_at, starts_at}
@@ -38,12 +39,12 @@ module _ (places : List Place) (starts : List ℕ) where
     front_more : (a : ℕ) → front_at (k + 1) a ≡ front_at k a ++ map (λ (e : Place × ℕ). e.1) (cond (is_at a place) ((place, start) ∷ []) [])
     front_more a =
         let pairs = zip places starts in
-        let there = λ (e : Place × ℕ). is_at a e.0 in
+        let is_there = λ (e : Place × ℕ). is_at a e.0 in
         let lt : k < length pairs = omega (arith, length-zip places starts) in
-        let one : filter there (take (k + 1) pairs) ≡ filter there (take k pairs) ++ cond (is_at a place) ((place, start) ∷ []) [] =
-        filter_more there pairs k (place, start) lt
-        ∙ ap (λ (e : Place × ℕ). filter there (take k pairs) ++ cond (is_at a e.0) (e ∷ []) []) pair_is in
-        ap (map (λ (e : Place × ℕ). e.1)) one ∙ map-append (λ (e : Place × ℕ). e.1) (filter there (take k pairs)) (cond (is_at a place) ((place, start) ∷ []) [])
+        let one : filter is_there (take (k + 1) pairs) ≡ filter is_there (take k pairs) ++ cond (is_at a place) ((place, start) ∷ []) [] =
+        filter_more is_there pairs k (place, start) lt
+        ∙ ap (λ (e : Place × ℕ). filter is_there (take k pairs) ++ cond (is_at a e.0) (e ∷ []) []) pair_is in
+        ap (map (λ (e : Place × ℕ). e.1)) one ∙ map-append (λ (e : Place × ℕ). e.1) (filter is_there (take k pairs)) (cond (is_at a place) ((place, start) ∷ []) [])
 
     pub one_told : (old new : ℕ → Option ℕ) → AreTold k old → Begins place start old new → AreTold (k + 1) new
     one_told old new before adds a = adds a ∙ ⊎_elim
@@ -82,28 +83,13 @@ one_most F (Some m) x most = (
   λ n h. ⊎_elim (λ old. let le : n ≤ m = most.1 n old in omega (arith, le)) (λ (e : x ≡ n). omega (arith, e)) h,
 )
 
-first_or : (x : ℕ) (xs : List ℕ) (n : ℕ) → Contains (x ∷ xs) n → (x ≡ n) ⊎ Contains xs n
-first_or x xs n has = ⊎_elim
-    (λ first. ⊎_elim (λ nowhere. absurd (let lt : nowhere.0 < 0 = nowhere.1 in omega arith)) (λ same. inl same) (Contains-push_cases [] x n first))
-    (λ more. inr more)
-    (Contains-append_cases (x ∷ []) xs n has)
-
-has_first : (x : ℕ) (xs : List ℕ) → Contains (x ∷ xs) x
-has_first x xs = Contains-append_left (x ∷ []) xs x (Contains-push [] x)
-
-has_rest : (x : ℕ) (xs : List ℕ) (n : ℕ) → Contains xs n → Contains (x ∷ xs) n
-has_rest x xs n has = Contains-append_right (x ∷ []) xs n has
-
-none_in : (n : ℕ) → Contains {X = ℕ} [] n → ⊥
-none_in n has = let lt : has.0 < 0 = has.1 in omega arith
-
 all_most : (F : ℕ → Type 0) (r : Option ℕ) (xs : List ℕ) → IsMost F r → IsMost (λ n. F n ⊎ Contains xs n) (fold later r xs)
-all_most F r [] most = most_like F (λ n. F n ⊎ Contains {X = ℕ} [] n) (λ n. (λ f. inl f, λ h. ⊎_elim (λ f. f) (λ has. absurd (none_in n has)) h)) r most
+all_most F r [] most = most_like F (λ n. F n ⊎ Contains {X = ℕ} [] n) (λ n. (λ f. inl f, λ h. ⊎_elim (λ f. f) (λ has. absurd (no_member n has)) h)) r most
 all_most F r (x ∷ xs) most =
     most_like (λ n. (F n ⊎ (x ≡ n)) ⊎ Contains xs n) (λ n. F n ⊎ Contains (x ∷ xs) n)
     (λ n. (
-      λ h. ⊎_elim (λ f. ⊎_elim (λ old. inl old) (λ (e : x ≡ n). inr (subst (Contains (x ∷ xs)) e (has_first x xs))) f) (λ has. inr (has_rest x xs n has)) h,
-      λ h. ⊎_elim (λ old. inl (inl old)) (λ has. ⊎_elim (λ e. inl (inr e)) (λ more. inr more) (first_or x xs n has)) h,
+      λ h. ⊎_elim (λ f. ⊎_elim (λ old. inl old) (λ (e : x ≡ n). inr (subst (Contains (x ∷ xs)) e (here x xs))) f) (λ has. inr (there x xs n has)) h,
+      λ h. ⊎_elim (λ old. inl (inl old)) (λ has. ⊎_elim (λ e. inl (inr e)) (λ more. inr more) (cons_cases x xs n has)) h,
     ))
     (fold later (later r x) xs) (all_most (λ n. F n ⊎ (x ≡ n)) (later r x) xs (one_most F r x most))
 
@@ -125,36 +111,33 @@ module _ (R : Place → ℕ → Type 0) (a : ℕ) where
 
   -- each of them is that of a place there
   of_place : (ps : List Place) (ss : List ℕ) → AllZip R ps ss → (n : ℕ) → Contains (starts_at ps ss a) n → (p : Place) × (is_at a p ≡ true) × R p n
-  of_place [] [] all n has = absurd (none_in n has)
+  of_place [] [] all n has = absurd (no_member n has)
   of_place [] (s ∷ ss) all n has = absurd all
   of_place (p ∷ ps) [] all n has = absurd all
   of_place (p ∷ ps) (s ∷ ss) all n has = ⊎_elim
       (λ here. ⊎_elim
       (λ (same : s ≡ n). (p, here, subst (R p) same all.0))
       (λ more. of_place ps ss all.1 n more)
-      (first_or s (starts_at ps ss a) n (subst (λ xs. Contains xs n) (kept p ps s ss here) has)))
+      (cons_cases s (starts_at ps ss a) n (subst (λ xs. Contains xs n) (kept p ps s ss here) has)))
       (λ apart. of_place ps ss all.1 n (subst (λ xs. Contains xs n) (left p ps s ss apart) has))
       (cases_Bool (is_at a p))
 
   -- each place there has one of them
   has_start : (ps : List Place) (ss : List ℕ) → AllZip R ps ss → (p : Place) → Contains ps p → is_at a p ≡ true → (n : ℕ) × R p n × Contains (starts_at ps ss a) n
-  has_start [] ss all p has there = absurd (let lt : has.0 < 0 = has.1 in omega arith)
-  has_start (q ∷ ps) [] all p has there = absurd all
-  has_start (q ∷ ps) (s ∷ ss) all p has there = ⊎_elim
-      (λ first. ⊎_elim
-      (λ nowhere. absurd (let lt : nowhere.0 < 0 = nowhere.1 in omega arith))
-      (λ (same : q ≡ p). (s, subst (λ (o : Place). R o s) same all.0, subst (λ xs. Contains xs s) (sym (kept q ps s ss (ap (is_at a) same ∙ there))) (has_first s (starts_at ps ss a))))
-      (Contains-push_cases [] q p first))
+  has_start [] ss all p has at = absurd (no_member p has)
+  has_start (q ∷ ps) [] all p has at = absurd all
+  has_start (q ∷ ps) (s ∷ ss) all p has at = ⊎_elim
+      (λ (same : q ≡ p). (s, subst (λ (o : Place). R o s) same all.0, subst (λ xs. Contains xs s) (sym (kept q ps s ss (ap (is_at a) same ∙ at))) (here s (starts_at ps ss a))))
       (λ later_one.
-      let w = has_start ps ss all.1 p later_one there in (
+      let w = has_start ps ss all.1 p later_one at in (
         w.0,
         w.1,
         ⊎_elim
-            (λ here. subst (λ xs. Contains xs w.0) (sym (kept q ps s ss here)) (has_rest s (starts_at ps ss a) w.0 w.2))
+            (λ first. subst (λ xs. Contains xs w.0) (sym (kept q ps s ss first)) (there s (starts_at ps ss a) w.0 w.2))
             (λ apart. subst (λ xs. Contains xs w.0) (sym (left q ps s ss apart)) w.2)
             (cases_Bool (is_at a q)),
       ))
-      (Contains-append_cases (q ∷ []) ps p has)
+      (cons_cases q ps p has)
 
 -- ## Walks
 
