@@ -5,7 +5,8 @@ use Rattle.std.specs.List.{range_with_len}
 use Rattle.std.proofs.Math.ListN.{drop_of_length-le}
 use Rattle.std.proofs.lemmas.List.Concat.{flat_map-cons}
 use Rattle.std.proofs.lemmas.List.Sums.{sum_by-cons}
-use Rattle.assembler.proofs.PutLaws.{joined, three}
+use Rattle.assembler.proofs.PutLaws.{joined}
+use Rattle.text_rows.proofs.ColumnLaws.{seven_parts}
 use Rattle.walk_counts.specs.Counts.{capped}
 use Rattle.walk_counts.proofs.SumLemmas.{capped_more}
 use Rattle.dot_text.specs.Stretches.{between}
@@ -24,23 +25,10 @@ between_none n end le =
 
 -- ## Texts
 
-pub four : {m1 m2 m3 new : List ℕ} (old p1 p2 p3 p4 : List ℕ) → m1 ≡ old ++ p1 → m2 ≡ m1 ++ p2 → m3 ≡ m2 ++ p3 → new ≡ m3 ++ p4 → new ≡ old ++ (p1 ++ (p2 ++ (p3 ++ p4)))
-four {m1} {m2} {m3} {new} old p1 p2 p3 p4 e1 e2 e3 e4 = joined old m1 new p1 (p2 ++ (p3 ++ p4)) e1 (three m1 p2 p3 p4 e2 e3 e4)
-
-pub five : {m1 m2 m3 m4 new : List ℕ} (old p1 p2 p3 p4 p5 : List ℕ) → m1 ≡ old ++ p1 → m2 ≡ m1 ++ p2 → m3 ≡ m2 ++ p3 → m4 ≡ m3 ++ p4 → new ≡ m4 ++ p5 → new ≡ old ++ (p1 ++ (p2 ++ (p3 ++ (p4 ++ p5))))
-five {m1} {m2} {m3} {m4} {new} old p1 p2 p3 p4 p5 e1 e2 e3 e4 e5 = joined old m1 new p1 (p2 ++ (p3 ++ (p4 ++ p5))) e1 (four m1 p2 p3 p4 p5 e2 e3 e4 e5)
-
-pub six : {m1 m2 m3 m4 m5 new : List ℕ} (old p1 p2 p3 p4 p5 p6 : List ℕ) → m1 ≡ old ++ p1 → m2 ≡ m1 ++ p2 → m3 ≡ m2 ++ p3 → m4 ≡ m3 ++ p4 → m5 ≡ m4 ++ p5 → new ≡ m5 ++ p6 → new ≡ old ++ (p1 ++ (p2 ++ (p3 ++ (p4 ++ (p5 ++ p6)))))
-six {m1} {m2} {m3} {m4} {m5} {new} old p1 p2 p3 p4 p5 p6 e1 e2 e3 e4 e5 e6 = joined old m1 new p1 (p2 ++ (p3 ++ (p4 ++ (p5 ++ p6)))) e1 (five m1 p2 p3 p4 p5 p6 e2 e3 e4 e5 e6)
-
-pub seven : {m1 m2 m3 m4 m5 m6 new : List ℕ} (old p1 p2 p3 p4 p5 p6 p7 : List ℕ) → m1 ≡ old ++ p1 → m2 ≡ m1 ++ p2 → m3 ≡ m2 ++ p3 → m4 ≡ m3 ++ p4 → m5 ≡ m4 ++ p5 → m6 ≡ m5 ++ p6 → new ≡ m6 ++ p7 → new ≡ old ++ (p1 ++ (p2 ++ (p3 ++ (p4 ++ (p5 ++ (p6 ++ p7))))))
-seven {m1} {m2} {m3} {m4} {m5} {m6} {new} old p1 p2 p3 p4 p5 p6 p7 e1 e2 e3 e4 e5 e6 e7 = joined old m1 new p1 (p2 ++ (p3 ++ (p4 ++ (p5 ++ (p6 ++ p7))))) e1 (six m1 p2 p3 p4 p5 p6 p7 e2 e3 e4 e5 e6 e7)
-
-pub eight : {m1 m2 m3 m4 m5 m6 m7 new : List ℕ} (old p1 p2 p3 p4 p5 p6 p7 p8 : List ℕ) → m1 ≡ old ++ p1 → m2 ≡ m1 ++ p2 → m3 ≡ m2 ++ p3 → m4 ≡ m3 ++ p4 → m5 ≡ m4 ++ p5 → m6 ≡ m5 ++ p6 → m7 ≡ m6 ++ p7 → new ≡ m7 ++ p8 → new ≡ old ++ (p1 ++ (p2 ++ (p3 ++ (p4 ++ (p5 ++ (p6 ++ (p7 ++ p8)))))))
-eight {m1} {m2} {m3} {m4} {m5} {m6} {m7} {new} old p1 p2 p3 p4 p5 p6 p7 p8 e1 e2 e3 e4 e5 e6 e7 e8 = joined old m1 new p1 (p2 ++ (p3 ++ (p4 ++ (p5 ++ (p6 ++ (p7 ++ p8)))))) e1 (seven m1 p2 p3 p4 p5 p6 p7 p8 e2 e3 e4 e5 e6 e7 e8)
-
 pub nine : {m1 m2 m3 m4 m5 m6 m7 m8 new : List ℕ} (old p1 p2 p3 p4 p5 p6 p7 p8 p9 : List ℕ) → m1 ≡ old ++ p1 → m2 ≡ m1 ++ p2 → m3 ≡ m2 ++ p3 → m4 ≡ m3 ++ p4 → m5 ≡ m4 ++ p5 → m6 ≡ m5 ++ p6 → m7 ≡ m6 ++ p7 → m8 ≡ m7 ++ p8 → new ≡ m8 ++ p9 → new ≡ old ++ (p1 ++ (p2 ++ (p3 ++ (p4 ++ (p5 ++ (p6 ++ (p7 ++ (p8 ++ p9))))))))
-nine {m1} {m2} {m3} {m4} {m5} {m6} {m7} {m8} {new} old p1 p2 p3 p4 p5 p6 p7 p8 p9 e1 e2 e3 e4 e5 e6 e7 e8 e9 = joined old m1 new p1 (p2 ++ (p3 ++ (p4 ++ (p5 ++ (p6 ++ (p7 ++ (p8 ++ p9))))))) e1 (eight m1 p2 p3 p4 p5 p6 p7 p8 p9 e2 e3 e4 e5 e6 e7 e8 e9)
+nine {m1} {m2} {m3} {m4} {m5} {m6} {m7} {m8} {new} old p1 p2 p3 p4 p5 p6 p7 p8 p9 e1 e2 e3 e4 e5 e6 e7 e8 e9 =
+    joined old m1 new p1 (p2 ++ (p3 ++ (p4 ++ (p5 ++ (p6 ++ (p7 ++ (p8 ++ p9))))))) e1
+    (joined m1 m2 new p2 (p3 ++ (p4 ++ (p5 ++ (p6 ++ (p7 ++ (p8 ++ p9)))))) e2 (seven_parts m2 p3 p4 p5 p6 p7 p8 p9 m3 m4 m5 m6 m7 m8 new e3 e4 e5 e6 e7 e8 e9))
 
 pub ten : {m1 m2 m3 m4 m5 m6 m7 m8 m9 new : List ℕ} (old p1 p2 p3 p4 p5 p6 p7 p8 p9 p10 : List ℕ) → m1 ≡ old ++ p1 → m2 ≡ m1 ++ p2 → m3 ≡ m2 ++ p3 → m4 ≡ m3 ++ p4 → m5 ≡ m4 ++ p5 → m6 ≡ m5 ++ p6 → m7 ≡ m6 ++ p7 → m8 ≡ m7 ++ p8 → m9 ≡ m8 ++ p9 → new ≡ m9 ++ p10 → new ≡ old ++ (p1 ++ (p2 ++ (p3 ++ (p4 ++ (p5 ++ (p6 ++ (p7 ++ (p8 ++ (p9 ++ p10)))))))))
 ten {m1} {m2} {m3} {m4} {m5} {m6} {m7} {m8} {m9} {new} old p1 p2 p3 p4 p5 p6 p7 p8 p9 p10 e1 e2 e3 e4 e5 e6 e7 e8 e9 e10 = joined old m1 new p1 (p2 ++ (p3 ++ (p4 ++ (p5 ++ (p6 ++ (p7 ++ (p8 ++ (p9 ++ p10)))))))) e1 (nine m1 p2 p3 p4 p5 p6 p7 p8 p9 p10 e2 e3 e4 e5 e6 e7 e8 e9 e10)
