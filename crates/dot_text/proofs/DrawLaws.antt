@@ -1,5 +1,5 @@
 -- One piece more of a text, and one number more of a sum.
-use Rattle.std.proofs.Common.{◌≡◌, ◌∙◌, ℕ, zero, suc, ◌+◌, ◌-◌, ◌^◌, ◌<◌, ◌≤◌, List, [], ◌∷◌, ◌++◌, append-nil, append_assoc, length, drop, flat_map, replicate, sym, ap, arith}
+use Rattle.std.proofs.Common.{◌≡◌, ◌∙◌, ℕ, suc, ◌+◌, ◌-◌, ◌^◌, ◌<◌, ◌≤◌, List, [], ◌∷◌, ◌++◌, append-nil, append_assoc, length, drop, flat_map, sym, ap, arith}
 use Rattle.std.specs.Prelude.{sum_by}
 use Rattle.std.specs.List.{range_with_len}
 use Rattle.std.proofs.Math.ListN.{drop_of_length-le}
@@ -32,12 +32,6 @@ nine {m1} {m2} {m3} {m4} {m5} {m6} {m7} {m8} {new} old p1 p2 p3 p4 p5 p6 p7 p8 p
 
 pub ten : {m1 m2 m3 m4 m5 m6 m7 m8 m9 new : List ℕ} (old p1 p2 p3 p4 p5 p6 p7 p8 p9 p10 : List ℕ) → m1 ≡ old ++ p1 → m2 ≡ m1 ++ p2 → m3 ≡ m2 ++ p3 → m4 ≡ m3 ++ p4 → m5 ≡ m4 ++ p5 → m6 ≡ m5 ++ p6 → m7 ≡ m6 ++ p7 → m8 ≡ m7 ++ p8 → m9 ≡ m8 ++ p9 → new ≡ m9 ++ p10 → new ≡ old ++ (p1 ++ (p2 ++ (p3 ++ (p4 ++ (p5 ++ (p6 ++ (p7 ++ (p8 ++ (p9 ++ p10)))))))))
 ten {m1} {m2} {m3} {m4} {m5} {m6} {m7} {m8} {m9} {new} old p1 p2 p3 p4 p5 p6 p7 p8 p9 p10 e1 e2 e3 e4 e5 e6 e7 e8 e9 e10 = joined old m1 new p1 (p2 ++ (p3 ++ (p4 ++ (p5 ++ (p6 ++ (p7 ++ (p8 ++ (p9 ++ p10)))))))) e1 (nine m1 p2 p3 p4 p5 p6 p7 p8 p9 p10 e2 e3 e4 e5 e6 e7 e8 e9 e10)
-
-pub as_many : (m n b : ℕ) → replicate m b ++ replicate n b ≡ replicate (m + n) b
-as_many zero n b = ap (λ k. replicate k b) (omega arith)
-as_many (suc m) n b =
-    let is : suc (m + n) ≡ suc m + n = omega arith in
-    ap (λ xs. b ∷ xs) (as_many m n b) ∙ ap (λ k. replicate k b) is
 
 pub piece_more : {X : Type 0} (f : X → List ℕ) (x : X) (rest : List X) (text new all : List ℕ) → text ++ flat_map f (x ∷ rest) ≡ all → new ≡ text ++ f x → new ++ flat_map f rest ≡ all
 piece_more f x rest text new all h one =

@@ -1,9 +1,9 @@
 use Rattle.std.proofs.Common.{◌∙◌, ◌++◌, ℕ, List, ap, length, replicate}
 use Rattle.numbered_walks.specs.declared.span.Span.{Span}
+use Rattle.std.proofs.lemmas.List.{replicate-append-replicate}
 use Rattle.std.proofs.lemmas.Result.{on_ok_weaker}
 use Rattle.assembler.proofs.PutLaws.{joined}
 use Rattle.dot_text.specs.Stretches.{calls_in, loops_of}
-use Rattle.dot_text.proofs.DrawLaws.{as_many}
 use Rattle.dot_text.proofs.clusters.put_closed.Goals as goal
 
 pub returns : goal.returns
@@ -17,5 +17,5 @@ returns c =
     (λ last. joined old mid c.put_ends-2.new.out.items (replicate calls 125) (replicate loops 125)
     (c.in_ok-put_ends.ensures ∙ ap (λ (xs : List ℕ). old ++ replicate (length xs) 125) (c.as_slice.ensures.value ∙ c.calls_in.ensures))
     (last ∙ ap (λ (ss : List Span). mid ++ replicate (length ss) 125) c.loops_of.ensures)
-    ∙ ap (λ xs. old ++ xs) (as_many calls loops 125))
+    ∙ ap (λ xs. old ++ xs) (replicate-append-replicate calls loops 125))
     c.put_ends-2.ensures
