@@ -28,6 +28,11 @@ use Rattle.explained.proofs.RangeLaws.{HasCost, IsRange, is_counted, range_is, s
 use Rattle.explained.proofs.SumLaws.{capped_sums, counted_sum, exchanged, same_terms, sum-flat_map, sum-map_terms}
 use Rattle.explained.proofs.TallyLaws.{reached, same_taken}
 
+-- a number that counts only where a test passes
+pub cond_within : (b : Bool) (n cost : ℕ) → n ≤ cost → cond b n 0 ≤ cost
+cond_within true n cost le = le
+cond_within false n cost le = omega arith
+
 module _ (flow : Flow) (walk : List Edge) (well : IsWellFormed flow) (on : All (HasEdge flow) walk) (fits : cost_of edge_shape walk < 2 ^ 64) where
   -- what is added up over the graph's edges is added up over the walk
   all_of_walk : (number : Edge → ℕ) → in_all flow.edges walk (length flow.edges) number ≡ sum_by number walk
@@ -44,15 +49,11 @@ module _ (flow : Flow) (walk : List Edge) (well : IsWellFormed flow) (on : All (
       let small : capped (sum_by number walk) ≡ sum_by number walk = omega arith in
       ap capped is ∙ small
 
-  within : (b : Bool) (n cost : ℕ) → n ≤ cost → cond b n 0 ≤ cost
-  within true n cost le = le
-  within false n cost le = omega arith
-
   passes_is : (a : ℕ) → capped (in_all flow.edges walk (length flow.edges) (pass_at a)) ≡ sum_by (pass_at a) walk
-  passes_is a = part_of_cost (pass_at a) (λ e some. within (is_at a e.from) 1 e.cost (omega arith))
+  passes_is a = part_of_cost (pass_at a) (λ e some. cond_within (is_at a e.from) 1 e.cost (omega arith))
 
   ticks_is : (a : ℕ) → capped (in_all flow.edges walk (length flow.edges) (cost_at a)) ≡ sum_by (cost_at a) walk
-  ticks_is a = part_of_cost (cost_at a) (λ e some. within (is_at a e.from) e.cost e.cost (omega arith))
+  ticks_is a = part_of_cost (cost_at a) (λ e some. cond_within (is_at a e.from) e.cost e.cost (omega arith))
 
   abbrev pub costs_here : ℕ → Option Costs
   costs_here a = range_of (costs_from flow.edges walk (length flow.edges) a)

@@ -6,6 +6,7 @@ use Rattle.std.proofs.lemmas.List.Elements.{All-weaker}
 use Rattle.std.proofs.lemmas.List.{get_or_default}
 use Rattle.explained.specs.Taken.{in_all}
 use Rattle.explained.proofs.TallyLaws.{counts_not, counts_once}
+use Rattle.explained.proofs.TotalLaws.{cond_within}
 use Rattle.flow_graph.specs.declared.places.Place.TheVariants.{Exit}
 use Rattle.flow_graph.specs.declared.edges.Edge.{Edge}
 use Rattle.flow_graph.specs.Flow.{Flow, HasEdge, IsWellFormed, edge_shape}
@@ -48,10 +49,6 @@ none_added edges walk times none = none
 
 -- ## The times of a walk
 
-within : (b : Bool) (cost : ℕ) → 0 < cost → cond b 1 0 ≤ cost
-within true cost some = omega arith
-within false cost some = omega arith
-
 module _ (flow : Flow) (walk : List Edge) (well : IsWellFormed flow) (on : All (HasEdge flow) walk) (a : ℕ) where
   all_of_walk : in_all flow.edges walk (length flow.edges) (done_at a) ≡ count_by (carries_out a) walk
   all_of_walk =
@@ -62,7 +59,7 @@ module _ (flow : Flow) (walk : List Edge) (well : IsWellFormed flow) (on : All (
   few : count_by (carries_out a) walk ≤ cost_of edge_shape walk
   few =
       sum_by-le_all (done_at a) (λ e. e.cost) walk
-      (All-weaker (HasEdge flow) (λ e. done_at a e ≤ e.cost) (λ e has. within (carries_out a e) e.cost (well.costs_some e has)) walk on)
+      (All-weaker (HasEdge flow) (λ e. done_at a e ≤ e.cost) (λ e has. let some : 0 < e.cost = well.costs_some e has in cond_within (carries_out a e) 1 e.cost (omega arith)) walk on)
 
   pub times_are : cost_of edge_shape walk < 2 ^ 64 → times_done flow.edges walk a ≡ count_by (carries_out a) walk
   times_are fits =
