@@ -7,7 +7,7 @@ use flow_graph::{Edge, Graph, Label, Place};
 use longest_walk::FoldedWalk;
 use std::alloc::{AllocError, Global};
 use std::collections::BTreeMap;
-use walk_counts::edge_counts;
+use walk_counts::{capped_sum, edge_counts};
 
 /// How often the word at an address is carried out, capped at 2^64 - 1.
 pub(crate) fn times_at(times: &BTreeMap<u32, u64>, at: u32) -> u64
@@ -27,7 +27,7 @@ fn add(times: &mut BTreeMap<u32, u64>, edge: &Edge, count: u64) -> Result<(), Al
         return Ok(());
     };
     let before = times_at(times, address);
-    times.insert(address, before.saturating_add(count))?;
+    times.insert(address, capped_sum(before, count))?;
     Ok(())
 }
 
