@@ -33,17 +33,14 @@ one_of present price = ⊎_elim
     (λ (le : present ≤ price). inr (ap (λ b. if b then price else 0) (le-ltb price present le)))
     (cases_lt price present)
 
-not_more : (present price : ℕ) → if_less present price ≤ present
-not_more present price = ⊎_elim
-    (λ less. let same : if_less present price ≡ price = less.0 in let lt : price < present = less.1 in let goal : if_less present price ≤ present = omega arith in goal)
-    (λ (none : if_less present price ≡ 0). let goal : if_less present price ≤ present = omega arith in goal)
-    (one_of present price)
-
 under : (present price : ℕ) → if_less present price < max present 1
 under present price = ⊎_elim
     (λ less. let same : if_less present price ≡ price = less.0 in let lt : price < present = less.1 in let goal : if_less present price < max present 1 = omega arith in goal)
     (λ (none : if_less present price ≡ 0). let goal : if_less present price < max present 1 = omega arith in goal)
     (one_of present price)
+
+not_more : (present price : ℕ) → if_less present price ≤ present
+not_more present price = omega (arith, under present price)
 
 includes : (present price : ℕ) → price < present → price ≤ if_less present price
 includes present price less = let same : if_less present price ≡ price = ap (λ b. if b then price else 0) (lt-ltb price present less) in omega arith
