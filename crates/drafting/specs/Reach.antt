@@ -14,7 +14,7 @@ use Rattle.drafting.specs.declared.words.Reading.{Reading}
 use Rattle.drafting.specs.declared.words.Way.{Way}
 use Rattle.drafting.specs.declared.words.Way.TheVariants as way
 use Rattle.loader.specs.Image.{Words, word_of}
-use Rattle.word_shapes.specs.Shapes.{is_return, is_table_jump, is_way_back, writes_pc}
+use Rattle.word_shapes.specs.Shapes.{is_return, is_table_jump, keeps_return_address, writes_pc}
 use Rattle.word_shapes.specs.Words.{HasShape}
 
 -- ## Operations
@@ -85,8 +85,8 @@ module _ (words : Words) where
   JumpsIntoTable at = HasShape is_table_jump words at
 
   -- the word before puts the address of the word after this one into R14
-  abbrev pub KeepsWayBack : ℕ → Type 0
-  KeepsWayBack at = HasShape is_way_back words (before at)
+  abbrev pub HasReturnAddress : ℕ → Type 0
+  HasReturnAddress at = HasShape keeps_return_address words (before at)
 
   -- a place of the table after a jump, from 0 on: up to it all are branches, and a table has 64 at most
   pub record IsTablePlace (at n : ℕ) : Type 0 where
@@ -102,7 +102,7 @@ module _ (words : Words) where
   abbrev pub ComesPast : ℕ → Way → Type 0
   ComesPast at way.On = Unit {0}
   ComesPast at (way.Call offset) = Unit {0}
-  ComesPast at way.Writer = KeepsWayBack at
+  ComesPast at way.Writer = HasReturnAddress at
   ComesPast at _ = ⊥
 
   -- it comes past that, or the word may be passed over

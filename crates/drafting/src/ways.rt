@@ -1,7 +1,7 @@
 ghost use Rattle.std.specs.Prelude.{◌≡◌, ◌↔◌, ℕ, ◌<◌, true, false, IfSome, IsTrue, Some, OnOk};
 ghost use Rattle.arm2_decode.specs.Names.{is_never};
 ghost use Rattle.drafting.specs.Exploring.{Gains};
-ghost use Rattle.drafting.specs.Reach.{CallsTo, GoesOn, HasPlaces, IsBranchAt, KeepsWayBack, LeadsAway};
+ghost use Rattle.drafting.specs.Reach.{CallsTo, GoesOn, HasPlaces, IsBranchAt, HasReturnAddress, LeadsAway};
 ghost use Rattle.drafting.specs.Reach.{StepsTo, before, next_of, words_on};
 ghost use Rattle.drafting.specs.declared.words.Way.TheVariants.{Writer};
 
@@ -10,7 +10,7 @@ use arm2_effect::ahead_of;
 use bus_ticks::SPACE_END;
 use loader::Image;
 use std::alloc::AllocError;
-use word_shapes::{is_table_jump_at, is_way_back_at};
+use word_shapes::{is_table_jump_at, keeps_return_address_at};
 
 // The most destinations of a target.
 const MOST_BRANCHES: u32 = 64;
@@ -65,10 +65,10 @@ fn push_table(out: &mut Vec<u32>, image: &Image, at: u32) -> Result<(), AllocErr
 }
 
 // Whether the word before puts the address of the word after this one into R14.
-fn keeps_way_back(image: &Image, at: u32) -> bool
-    ensures { IsTrue result ↔ KeepsWayBack image.now at }
+fn has_return_address(image: &Image, at: u32) -> bool
+    ensures { IsTrue result ↔ HasReturnAddress image.now at }
 {
-    is_way_back_at(image, before(at))
+    keeps_return_address_at(image, before(at))
 }
 
 // Whether control may go on at the next word.
@@ -81,7 +81,7 @@ fn goes_on(image: &Image, at: u32, reading: Reading) -> bool
     }
     match reading.way {
         Way::On | Way::Call(_) => true,
-        Way::Writer => keeps_way_back(image, at),
+        Way::Writer => has_return_address(image, at),
         Way::Branch(_) | Way::Return | Way::Trap | Way::Unallocated => false,
     }
 }

@@ -1,5 +1,5 @@
 -- Shapes of words (VL86C010 data sheet, by the table of instruction words, but for which shapes are returns,
--- jumps into tables of branches and ways back).
+-- jumps into tables of branches and kept return addresses).
 use Rattle.std.specs.Prelude.{ℕ, Bool, true, false, not, ◌&&◌, ◌||◌, ◌==◌, nat_le}
 use Rattle.arm2_decode.specs.Names.{is_compare, is_link, is_lsl, is_mov, is_pc, register_number}
 use Rattle.arm2_decode.specs.declared.instr.DataRegister.{DataRegister}
@@ -72,6 +72,7 @@ is_table_jump (operation.DataRegister x) = is_add x.opcode && is_pc x.rn && is_p
 is_table_jump _ = false
 
 -- MOV R14,PC: control comes back to the second word after it
-abbrev pub is_way_back : Operation → Bool
-is_way_back (operation.DataRegister x) = is_mov x.opcode && is_link x.rd && is_pc x.rm && is_lsl_by 0 x
-is_way_back _ = false
+abbrev pub keeps_return_address : Operation → Bool
+keeps_return_address (operation.DataRegister x) =
+    is_mov x.opcode && is_link x.rd && is_pc x.rm && is_lsl_by 0 x
+keeps_return_address _ = false

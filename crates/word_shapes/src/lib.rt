@@ -5,5 +5,9 @@
 mod shapes;
 mod words;
 
-pub use shapes::{is_odd_writer, is_return, is_table_jump, is_transfer, is_way_back, writes_pc};
-pub use words::{instr_at, is_odd_writer_at, is_table_jump_at, is_transfer_at, is_way_back_at};
+pub use shapes::{
+    is_odd_writer, is_return, is_table_jump, is_transfer, keeps_return_address, writes_pc,
+};
+pub use words::{
+    instr_at, is_odd_writer_at, is_table_jump_at, is_transfer_at, keeps_return_address_at,
+};

@@ -2,7 +2,8 @@ ghost use Rattle.std.specs.Prelude.{◌≡◌};
 ghost use Rattle.arm2_effect.specs.Operations.{is_transfer};
 ghost use Rattle.word_shapes.specs.Shapes.{copies_link, data_writes_pc, is_add, is_lsl_by};
 ghost use Rattle.word_shapes.specs.Shapes.{is_odd_writer, is_return, is_stack, is_subtraction};
-ghost use Rattle.word_shapes.specs.Shapes.{is_table_jump, is_way_back, subtracts_from_link, writes_pc};
+ghost use Rattle.word_shapes.specs.Shapes.{is_table_jump, keeps_return_address, subtracts_from_link};
+ghost use Rattle.word_shapes.specs.Shapes.{writes_pc};
 
 use arm2_decode::{DataRegister, Opcode, Operation, Register};
 
@@ -110,8 +111,8 @@ pub fn is_table_jump(operation: &Operation) -> bool
 }
 
 /// Whether an operation keeps the address of the second word after it as the return address: MOV R14,PC.
-pub fn is_way_back(operation: &Operation) -> bool
-    ensures { result ≡ is_way_back operation.now }
+pub fn keeps_return_address(operation: &Operation) -> bool
+    ensures { result ≡ keeps_return_address operation.now }
 {
     match operation {
         Operation::DataRegister(x) => {

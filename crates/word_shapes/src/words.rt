@@ -2,10 +2,10 @@ ghost use Rattle.std.specs.Prelude.{◌≡◌, ◌↔◌, IfSome, IsTrue, Some};
 ghost use Rattle.arm2_decode.specs.Table.{Means};
 ghost use Rattle.arm2_decode.specs.declared.instr.Instr.{Instr};
 ghost use Rattle.arm2_effect.specs.Operations.{is_transfer};
-ghost use Rattle.word_shapes.specs.Shapes.{is_odd_writer, is_table_jump, is_way_back};
+ghost use Rattle.word_shapes.specs.Shapes.{is_odd_writer, is_table_jump, keeps_return_address};
 ghost use Rattle.word_shapes.specs.Words.{HasInstr, HasShape};
 
-use crate::shapes::{is_odd_writer, is_table_jump, is_transfer, is_way_back};
+use crate::shapes::{is_odd_writer, is_table_jump, is_transfer, keeps_return_address};
 use arm2_decode::{Instr, decode};
 use loader::Image;
 
@@ -54,8 +54,8 @@ pub fn is_table_jump_at(image: &Image, at: u32) -> bool
 }
 
 /// Whether the image has a word at an address that keeps the return address.
-pub fn is_way_back_at(image: &Image, at: u32) -> bool
-    ensures { IsTrue result ↔ HasShape is_way_back image.now at }
+pub fn keeps_return_address_at(image: &Image, at: u32) -> bool
+    ensures { IsTrue result ↔ HasShape keeps_return_address image.now at }
 {
-    instr_at(image, at).is_some_and(|instr| is_way_back(&instr.operation))
+    instr_at(image, at).is_some_and(|instr| keeps_return_address(&instr.operation))
 }
