@@ -8,7 +8,7 @@ use Rattle.command_line.specs.Line.{Asked, FileNames, asm, list, draft, run, tra
 use Rattle.report_input.specs.Placing.{IsRunRefused}
 use Rattle.report_input.specs.Priced.{ByProfile, HasNoProfile, IsUnpriced, Priced, PricedFault}
 use Rattle.arcwcet.specs.Files.{FailsToRead, ReadsAll, Reading, Texts, Writing, in_front, two_of}
-use Rattle.arcwcet.specs.Run.{ByThree, ByTwo, HasPrinted, IsSessionOf, OfThree, OfTwo, Plain, RefusesThree, RefusesTwo, Runs, RunsAsked, RunsAsm, RunsDebug, RunsOf, Answers, AnswersOf}
+use Rattle.arcwcet.specs.Run.{ByThree, ByTwo, HasPrinted, IsSessionOf, OfThree, OfTwo, Plain, RefusesThree, RefusesTwo, Runs, RunsAsked, RunsAsm, RunsDebug, RunsOf, PrintsOrRefuses, PrintsOrRefusesOf}
 use Rattle.arcwcet.specs.Run.{answer_status, answered, fault_of, files_of, report_status, store_status, text_of}
 use Rattle.report_output.specs.declared.fault.ReportFault.{ReportFault}
 use Rattle.report_output.specs.declared.fault.ReportFault.TheVariants.{Memory, Source, Image, Statement, Graph, Loops, Walk, MachineFile, Load, Cert, Device}
@@ -129,7 +129,7 @@ module _ {S O : Type 0} (reads : Reading S) (taken : O → Option (List ℕ)) (f
         ]
 
     -- what the report answers
-    pub answered_ran : (result : Result Bool ReportFault) → Answers taken failures (λ answer. IsRunText answer files) (IsRunFault files) before after result
+    pub answered_ran : (result : Result Bool ReportFault) → PrintsOrRefuses taken failures (λ answer. IsRunText answer files) (IsRunFault files) before after result
         → (status : ℕ) → status ≡ answer_status result → Ran status
     answered_ran (Ok true) h status is = subst Ran (sym is) (done (record { files = files; read = read; printed = h.printed }))
     answered_ran (Ok false) h status is = subst Ran (sym is) (denied (record { files = files; read = read; printed = h.printed }))
@@ -143,11 +143,11 @@ module _ {S O : Type 0} (reads : Reading S) (taken : O → Option (List ℕ)) (f
       subst (λ (s : ℕ). RunsOf reads taken failures asked old new out out s) (sym is)
       (unread reads taken failures (text_of asked) (fault_of asked) (files_of asked) old new out out fault (subst (λ (n : Texts). FailsToRead reads old n fault new) named fails) refl)
 
-  pub ran_of : (before after : O) (kept lent : Texts) → lent ≡ kept → ReadsAll reads old names kept new → (result : Result Bool ReportFault) → AnswersOf taken failures asked lent before after result
+  pub ran_of : (before after : O) (kept lent : Texts) → lent ≡ kept → ReadsAll reads old names kept new → (result : Result Bool ReportFault) → PrintsOrRefusesOf taken failures asked lent before after result
       → (status : ℕ) → status ≡ answer_status result → RunsOf reads taken failures asked old new before after status
   ran_of before after kept lent same read result tells =
       answered_ran reads taken failures (text_of asked) (fault_of asked) (files_of asked) old new before after kept (subst (λ (n : Texts). ReadsAll reads old n kept new) named read)
-      result (subst (λ (files : Texts). AnswersOf taken failures asked files before after result) same tells)
+      result (subst (λ (files : Texts). PrintsOrRefusesOf taken failures asked files before after result) same tells)
 
 -- what is refused has another status than 0
 pub refused_status : (fault : ReportFault) (status : ℕ) → status ≡ report_status fault → status ≡ 0 → ⊥
@@ -228,7 +228,7 @@ module _ {O : Type 0} (taken : O → Option (List ℕ)) (failures : O → ℕ) (
   module _ (IsTold : Bool → List ℕ → Type 0) (IsRefused : ReportFault → Type 0) where
     pub answered_answer : (IsText : Bool → List ℕ → Type 0) (IsFine : Type 0) (IsFault : ReportFault → Type 0)
         → ((x : Bool) (text : List ℕ) → IsText x text → IsTold x text) → ((fault : ReportFault) → IsFault fault → IsRefused fault)
-        → (result : Result Bool ReportFault) → Answers taken failures IsText IsFine IsFault before after result → Answers taken failures IsTold IsRefused before after result
+        → (result : Result Bool ReportFault) → Answers taken failures IsText IsFine IsFault before after result → PrintsOrRefuses taken failures IsTold IsRefused before after result
     answered_answer IsText IsFine IsFault texts faults (Ok x) h =
         let p = h.printed in
         record {
@@ -251,7 +251,7 @@ module _ {O : Type 0} (taken : O → Option (List ℕ)) (failures : O → ℕ) (
       no_device None h = h
       no_device (Some t) h = h
 
-      answered_unpriced : (result : Result Bool ReportFault) → IsUnpriced file before after result → Answers taken failures IsTold IsRefused before after result
+      answered_unpriced : (result : Result Bool ReportFault) → IsUnpriced file before after result → PrintsOrRefuses taken failures IsTold IsRefused before after result
       answered_unpriced (Ok x) u = absurd (cc u.answered)
       answered_unpriced (Err fault) u =
           let same : u.fault ≡ fault = cc u.answered in
@@ -268,7 +268,7 @@ module _ {O : Type 0} (taken : O → Option (List ℕ)) (failures : O → ℕ) (
     pub answered_priced : (file : Option (List ℕ)) (IsText : Profile → Bool → List ℕ → Type 0) (IsFine : Profile → Type 0) (IsFault : Profile → ReportFault → Type 0)
         → ((x : Bool) (text : List ℕ) → ByProfile file (λ p. IsText p x text) → IsTold x text) → ((fault : ReportFault) → PricedFault file IsFault fault → IsRefused fault)
         → (result : Result Bool ReportFault) → Priced file (λ p. Answers taken failures (IsText p) (IsFine p) (IsFault p) before after result) before after result
-        → Answers taken failures IsTold IsRefused before after result
+        → PrintsOrRefuses taken failures IsTold IsRefused before after result
     answered_priced file IsText IsFine IsFault texts faults result (inl b) =
         answered_answer (IsText b.profile) (IsFine b.profile) (IsFault b.profile)
         (λ x text is. texts x text (record { profile = b.profile; is = b.is; holds = is }))
@@ -277,9 +277,9 @@ module _ {O : Type 0} (taken : O → Option (List ℕ)) (failures : O → ℕ) (
 
   -- of a source alone
   pub answered_source : (Is : List ℕ → Type 0) (IsFine : Type 0) (IsFault : ReportFault → Type 0) (result : Result (Unit {0}) ReportFault)
-      → Answers taken failures (λ _ text. Is text) IsFine IsFault before after result → (answer : Result Bool ReportFault) → answer ≡ answered result → Answers taken failures (Plain Is) IsFault before after answer
+      → Answers taken failures (λ _ text. Is text) IsFine IsFault before after result → (answer : Result Bool ReportFault) → answer ≡ answered result → PrintsOrRefuses taken failures (Plain Is) IsFault before after answer
   answered_source Is IsFine IsFault result h answer is =
-      subst (λ (r : Result Bool ReportFault). Answers taken failures (Plain Is) IsFault before after r) (sym is)
+      subst (λ (r : Result Bool ReportFault). PrintsOrRefuses taken failures (Plain Is) IsFault before after r) (sym is)
       (answered_answer (Plain Is) IsFault (Plain Is) IsFine IsFault (λ x text t. t) (λ fault t. t) (answered result) (answers_plain Is IsFine IsFault result h))
 
 -- the files in front of which a cycle profile's may be
@@ -294,7 +294,7 @@ of_three Is (Some f) a b c h = h
 module _ {O : Type 0} (taken : O → Option (List ℕ)) (failures : O → ℕ) (before after : O) (file : Option (List ℕ)) (one two : List ℕ) where
   pub answered_two : (Is : List ℕ → List ℕ → Profile → Bool → List ℕ → Type 0) (IsFine : List ℕ → List ℕ → Profile → Type 0) (IsFault : List ℕ → List ℕ → Profile → ReportFault → Type 0)
       → (result : Result Bool ReportFault) → Priced file (λ p. Answers taken failures (Is one two p) (IsFine one two p) (IsFault one two p) before after result) before after result
-      → Answers taken failures (λ answer text. ByTwo (λ a b p. Is a b p answer text) (in_front file (one ∷ two ∷ []))) (RefusesTwo IsFault (in_front file (one ∷ two ∷ []))) before after result
+      → PrintsOrRefuses taken failures (λ answer text. ByTwo (λ a b p. Is a b p answer text) (in_front file (one ∷ two ∷ []))) (RefusesTwo IsFault (in_front file (one ∷ two ∷ []))) before after result
   answered_two Is IsFine IsFault =
       answered_priced taken failures before after (λ answer text. ByTwo (λ a b p. Is a b p answer text) (in_front file (one ∷ two ∷ []))) (RefusesTwo IsFault (in_front file (one ∷ two ∷ [])))
       file (Is one two) (IsFine one two) (IsFault one two)
@@ -304,14 +304,14 @@ module _ {O : Type 0} (taken : O → Option (List ℕ)) (failures : O → ℕ) (
   pub answered_two_plain : (Is : List ℕ → List ℕ → Profile → List ℕ → Type 0) (IsFine : List ℕ → List ℕ → Profile → Type 0) (IsFault : List ℕ → List ℕ → Profile → ReportFault → Type 0)
       → (result : Result (Unit {0}) ReportFault) → Priced file (λ p. Answers taken failures (λ _ text. Is one two p text) (IsFine one two p) (IsFault one two p) before after result) before after result
       → (answer : Result Bool ReportFault) → answer ≡ answered result
-      → Answers taken failures (λ answer text. ByTwo (λ a b p. Plain (Is a b p) answer text) (in_front file (one ∷ two ∷ []))) (RefusesTwo IsFault (in_front file (one ∷ two ∷ []))) before after answer
+      → PrintsOrRefuses taken failures (λ answer text. ByTwo (λ a b p. Plain (Is a b p) answer text) (in_front file (one ∷ two ∷ []))) (RefusesTwo IsFault (in_front file (one ∷ two ∷ []))) before after answer
   answered_two_plain Is IsFine IsFault result h answer is =
       answered_two (λ a b p. Plain (Is a b p)) IsFine IsFault answer (priced_plain taken failures before after file (Is one two) (IsFine one two) (IsFault one two) result h answer is)
 
   pub answered_three : (three : List ℕ) (Is : List ℕ → List ℕ → List ℕ → Profile → Bool → List ℕ → Type 0) (IsFine : List ℕ → List ℕ → List ℕ → Profile → Type 0)
       (IsFault : List ℕ → List ℕ → List ℕ → Profile → ReportFault → Type 0)
       → (result : Result Bool ReportFault) → Priced file (λ p. Answers taken failures (Is one two three p) (IsFine one two three p) (IsFault one two three p) before after result) before after result
-      → Answers taken failures (λ answer text. ByThree (λ a b c p. Is a b c p answer text) (in_front file (one ∷ two ∷ three ∷ []))) (RefusesThree IsFault (in_front file (one ∷ two ∷ three ∷ []))) before after result
+      → PrintsOrRefuses taken failures (λ answer text. ByThree (λ a b c p. Is a b c p answer text) (in_front file (one ∷ two ∷ three ∷ []))) (RefusesThree IsFault (in_front file (one ∷ two ∷ three ∷ []))) before after result
   answered_three three Is IsFine IsFault =
       answered_priced taken failures before after (λ answer text. ByThree (λ a b c p. Is a b c p answer text) (in_front file (one ∷ two ∷ three ∷ []))) (RefusesThree IsFault (in_front file (one ∷ two ∷ three ∷ [])))
       file (Is one two three) (IsFine one two three) (IsFault one two three)
@@ -322,7 +322,7 @@ module _ {O : Type 0} (taken : O → Option (List ℕ)) (failures : O → ℕ) (
       (IsFault : List ℕ → List ℕ → List ℕ → Profile → ReportFault → Type 0)
       → (result : Result (Unit {0}) ReportFault) → Priced file (λ p. Answers taken failures (λ _ text. Is one two three p text) (IsFine one two three p) (IsFault one two three p) before after result) before after result
       → (answer : Result Bool ReportFault) → answer ≡ answered result
-      → Answers taken failures (λ answer text. ByThree (λ a b c p. Plain (Is a b c p) answer text) (in_front file (one ∷ two ∷ three ∷ []))) (RefusesThree IsFault (in_front file (one ∷ two ∷ three ∷ []))) before after answer
+      → PrintsOrRefuses taken failures (λ answer text. ByThree (λ a b c p. Plain (Is a b c p) answer text) (in_front file (one ∷ two ∷ three ∷ []))) (RefusesThree IsFault (in_front file (one ∷ two ∷ three ∷ []))) before after answer
   answered_three_plain three Is IsFine IsFault result h answer is =
       answered_three three (λ a b c p. Plain (Is a b c p)) IsFine IsFault answer (priced_plain taken failures before after file (Is one two three) (IsFine one two three) (IsFault one two three) result h answer is)
 
@@ -343,14 +343,14 @@ module _ {S I O : Type 0} (reads : Reading S) (remaining : I → Option (List �
   module _ (commands : List ℕ) (heard : Consumes (remaining heard_old) (remaining heard_new) commands) (at_end : IsAtEnd (remaining heard_new)) (few : length commands ≤ 16777216)
       (kept lent : Texts) (same : lent ≡ kept) (read : ReadsAll reads old (two_of names) kept new) where
     -- a session of the commands was printed, or refused
-    pub debug_ran : (result : Result Bool ReportFault) → Answers taken failures (λ answer. IsSessionOf commands answer lent) (RefusesTwo IsRunRefused lent) before after result
+    pub debug_ran : (result : Result Bool ReportFault) → PrintsOrRefuses taken failures (λ answer. IsSessionOf commands answer lent) (RefusesTwo IsRunRefused lent) before after result
         → (status : ℕ) → status ≡ answer_status result → RunsDebug reads remaining taken failures names old new heard_old heard_new before after status
     debug_ran result tells status is =
         inl (
           commands,
           record { files = kept; read = read; heard = heard; at_end = at_end; few = few },
           answered_ran reads taken failures (IsSessionOf commands) (RefusesTwo IsRunRefused) (two_of names) old new before after kept read result
-              (subst (λ (files : Texts). Answers taken failures (λ answer. IsSessionOf commands answer files) (RefusesTwo IsRunRefused files) before after result) same tells) status is,
+              (subst (λ (files : Texts). PrintsOrRefuses taken failures (λ answer. IsSessionOf commands answer files) (RefusesTwo IsRunRefused files) before after result) same tells) status is,
         )
 
 -- ## Without memory for the words

@@ -214,8 +214,8 @@ abbrev pub answered : Result (Unit {0}) ReportFault → Result Bool ReportFault
 answered (Ok _) = Ok true
 answered (Err fault) = Err fault
 
--- what a report answers, with the output before it and after it
-pub record Answers {O : Type 0} (taken : O → Option (List ℕ)) (failures : O → ℕ)
+-- the report is printed, or refused, with the output before it and after it
+pub record PrintsOrRefuses {O : Type 0} (taken : O → Option (List ℕ)) (failures : O → ℕ)
     (IsText : Bool → List ℕ → Type 0) (IsFault : ReportFault → Type 0) (before after : O)
     (result : Result Bool ReportFault) : Type 0 where
   pub printed : IfOk result (λ answer. Prints (IsText answer) (taken before) (taken after))
@@ -225,10 +225,11 @@ pub record Answers {O : Type 0} (taken : O → Option (List ℕ)) (failures : O 
       → FailsWithin (OfSome IsText) (taken before) (taken after) (failures before) (failures after)
 
 -- what that of a command answers, by its files' bytes
-abbrev pub AnswersOf : {O : Type 0} → (O → Option (List ℕ)) → (O → ℕ) → Asked → Texts → (before after : O)
-    → Result Bool ReportFault → Type 0
-AnswersOf taken failures asked files before after result =
-    Answers taken failures (λ answer. text_of asked answer files) (fault_of asked files) before after result
+abbrev pub PrintsOrRefusesOf : {O : Type 0} → (O → Option (List ℕ)) → (O → ℕ) → Asked → Texts
+    → (before after : O) → Result Bool ReportFault → Type 0
+PrintsOrRefusesOf taken failures asked files before after result =
+    PrintsOrRefuses taken failures (λ answer. text_of asked answer files) (fault_of asked files) before after
+    result
 
 -- ## Of a command that reads its files and prints its report
 

@@ -5,7 +5,7 @@ ghost use Rattle.command_line.specs.Line.{names_of};
 ghost use Rattle.arcwcet.specs.Asked.{pair_asked, source_asked, triple_asked};
 ghost use Rattle.arcwcet.specs.Files.{three_of, two_of};
 ghost use Rattle.arcwcet.specs.FileTexts.{lent_three, lent_two};
-ghost use Rattle.arcwcet.specs.Run.{AnswersOf, answered, files_of};
+ghost use Rattle.arcwcet.specs.Run.{PrintsOrRefusesOf, answered, files_of};
 
 use crate::files::{ThreeTexts, TwoTexts};
 use crate::visits::visits_report;
@@ -50,8 +50,8 @@ impl<'a> SourceReport<'a> {
         source: &[u8],
         out: &mut O,
     ) -> Result<bool, ReportFault>
-        ensures { AnswersOf O.taken O.failures (source_asked self.entry) (source.now ∷ []) out.old out.new
-            result }
+        ensures { PrintsOrRefusesOf O.taken O.failures (source_asked self.entry) (source.now ∷ []) out.old
+            out.new result }
     {
         match self {
             SourceReport::List(_) => answered(list_report(alloc, source, out)),
@@ -93,8 +93,8 @@ impl<'a> PairReport<'a> {
         texts: TwoTexts<'_>,
         out: &mut O,
     ) -> Result<bool, ReportFault>
-        ensures { AnswersOf O.taken O.failures (pair_asked self.entry) (lent_two texts.entry) out.old out.new
-            result }
+        ensures { PrintsOrRefusesOf O.taken O.failures (pair_asked self.entry) (lent_two texts.entry)
+            out.old out.new result }
     {
         let TwoTexts {
             profile,
@@ -152,8 +152,8 @@ impl<'a> TripleReport<'a> {
         texts: ThreeTexts<'_>,
         out: &mut O,
     ) -> Result<bool, ReportFault>
-        ensures { AnswersOf O.taken O.failures (triple_asked self.entry) (lent_three texts.entry) out.old
-            out.new result }
+        ensures { PrintsOrRefusesOf O.taken O.failures (triple_asked self.entry) (lent_three texts.entry)
+            out.old out.new result }
     {
         let third = texts.third;
         let TwoTexts {

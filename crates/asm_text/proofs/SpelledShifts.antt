@@ -12,7 +12,7 @@ use Rattle.arm2_decode.specs.Names.{is_compare}
 use Rattle.asm_text.specs.Numbers.{number_first}
 use Rattle.asm_text.specs.Registers.{is_rrx, register_comma_first, register_first, register_of, shift_of}
 use Rattle.asm_text.specs.Operands.{compare_of, compare_rd, data_with, data_of, factors_of, is_move, is_s, move_of, operand_of, product_of, shift_by, shift_first, shift_words, shifting_first, sum_of, three_of, all_read}
-use Rattle.asm_text.specs.SpelledOperands.{SpellsCompare, SpellsData, SpellsFactors, SpellsMove, SpellsOperand, SpellsShift, SpellsShifting, SpellsThree}
+use Rattle.asm_text.specs.SpelledOperands.{SpellsCompare, SpellsData, SpellsMultiply, SpellsMove, SpellsOperand, SpellsShift, SpellsShifting, SpellsThree}
 use Rattle.asm_text.specs.declared.token.Mark.TheVariants.{Hash}
 use Rattle.asm_text.specs.declared.names.Suffix.{Suffix}
 use Rattle.asm_text.specs.declared.syntax.Amount.TheVariants as amount
@@ -173,7 +173,7 @@ data_again op s x ps h =
 
 -- ---- multiplies
 
-pub product_is : (a : Bool) (s : Suffix) (ps : List Piece) (x : Product) → product_of a s ps ≡ Some x → SpellsFactors a s x ps
+pub product_is : (a : Bool) (s : Suffix) (ps : List Piece) (x : Product) → product_of a s ps ≡ Some x → SpellsMultiply a s x ps
 product_is false s ps x e =
     let f = and_then_is (λ f. option_and_then (λ g. factors_of s f.0 g.0 g.1) (register_comma_first f.1)) (register_comma_first ps) x e in
     let g = and_then_is (λ g. factors_of s f.0.0 g.0 g.1) (register_comma_first f.0.1) x f.2 in
@@ -220,7 +220,7 @@ product_is true s ps x e =
       n-is = n.2;
     }
 
-pub product_again : (a : Bool) (s : Suffix) (x : Product) (ps : List Piece) → SpellsFactors a s x ps → product_of a s ps ≡ Some x
+pub product_again : (a : Bool) (s : Suffix) (x : Product) (ps : List Piece) → SpellsMultiply a s x ps → product_of a s ps ≡ Some x
 product_again false s x ps h =
     rw (h.spelled, h.means, front_register_comma h.d h.rd (Run h.m ∷ Comma ∷ Run h.f ∷ []) h.d-is, front_register_comma h.m h.rm (Run h.f ∷ []) h.m-is, front_register h.f h.rs [] h.f-is) refl
 product_again true s x ps h =

@@ -169,10 +169,10 @@ pub record SpellsSum (s : Suffix) (x : Product) (ps : List Piece) : Type 0 where
   pub f-is : IsRegister f rs
   pub n-is : IsRegister n rn
 
--- of MLA, which accumulates, or of MUL
-abbrev pub SpellsFactors : Bool → Suffix → Product → List Piece → Type 0
-SpellsFactors false s x ps = SpellsProduct s x ps
-SpellsFactors true s x ps = SpellsSum s x ps
+-- MUL, or where it accumulates MLA
+abbrev pub SpellsMultiply : Bool → Suffix → Product → List Piece → Type 0
+SpellsMultiply false s x ps = SpellsProduct s x ps
+SpellsMultiply true s x ps = SpellsSum s x ps
 
 -- ---- addresses
 

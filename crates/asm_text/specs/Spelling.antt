@@ -9,7 +9,7 @@ use Rattle.asm_text.specs.Words.{IsSpelling}
 use Rattle.asm_text.specs.Said.{Target, Number, Label, Said, Codes, Refers, Orgs, Lists}
 use Rattle.asm_text.specs.Operands.{is_byte, is_user}
 use Rattle.asm_text.specs.SpelledOperands.{IsRegister, Listed, SpellsAddress, SpellsBlock, SpellsData}
-use Rattle.asm_text.specs.SpelledOperands.{SpellsFactors, SpellsNumber}
+use Rattle.asm_text.specs.SpelledOperands.{SpellsMultiply, SpellsNumber}
 use Rattle.asm_text.specs.Statements.{Parsed, is_comment_text, is_in_body, is_label, is_text}
 use Rattle.asm_text.specs.declared.token.Mark.TheVariants.{OpenBracket}
 use Rattle.asm_text.specs.declared.names.Head.{Head}
@@ -53,7 +53,7 @@ pub record SpellsAt (rd : Register) (t : Target) (ps : List Piece) : Type 0 wher
 -- an action whose operands are all numbers and registers
 abbrev pub SpellsAction : Action → Head → Suffix → List Piece → Type 0
 SpellsAction (action.Data x) (head.Data op) s ps = SpellsData op s x ps
-SpellsAction (action.Multiply x) (head.Multiply accumulate) s ps = SpellsFactors accumulate s x ps
+SpellsAction (action.Multiply x) (head.Multiply accumulate) s ps = SpellsMultiply accumulate s x ps
 SpellsAction (action.Single x) (head.Single load) s ps = SpellsTransfer load s x ps
 SpellsAction (action.Block x) (head.Block load) s ps = SpellsBlock load s x ps
 SpellsAction (action.Swi n) head.Swi s ps = SpellsNumber n ps

@@ -25,8 +25,8 @@ use Rattle.arm2_decode.specs.declared.names.Shift.{Shift}
 use Rattle.arm2_decode.specs.declared.names.Shift.TheVariants.{Lsl, Lsr, Asr, Ror}
 use Rattle.arm2_decode.specs.Names.{is_pc, register_number}
 use Rattle.arm2_decode.specs.Table.{Means}
-use Rattle.asm_text.specs.Hex.{hex}
 use Rattle.bus_ticks.specs.declared.space.TheConstants.{SPACE_END}
+use Rattle.asm_text.specs.Hex.{hex}
 use Rattle.asm_text.specs.Names.{cond_name, opcode_name}
 use Rattle.asm_text.specs.Shown.{parsed_shown}
 use Rattle.asm_text.specs.Statements.{line_of}

@@ -5,8 +5,7 @@ use Rattle.asm_text.specs.Numbers.{run_number}
 use Rattle.bus_ticks.specs.declared.space.TheConstants.{SPACE_END}
 use Rattle.drafting.specs.Draft.{IsDraft}
 use Rattle.loader.specs.Image.{Words}
-use Rattle.loader.specs.Labels as labels
-use Rattle.loader.specs.Labels.{Names}
+use Rattle.loader.specs.Labels.{NamedAddresses, Names, address_of}
 use Rattle.report_input.specs.Source.{IsSourceFault, source_of}
 use Rattle.report_output.specs.declared.fault.ReportFault.{ReportFault}
 use Rattle.report_output.specs.declared.fault.ReportFault.TheVariants as report_fault
@@ -39,8 +38,8 @@ module _ (source entry : List ℕ) where
   -- a draft of the handler that begins there
   pub record IsDraftReport (text : List ℕ) : Type 0 where
     pub draftable : IsDraftable
-    pub list : labels.Names
-    pub names_are : draftable.names ≡ labels.address_of list
+    pub list : NamedAddresses
+    pub names_are : draftable.names ≡ address_of list
     pub is_draft : IsDraft draftable.words list draftable.at text
 
   -- the source has words and labels, and the entry is no address by them

@@ -23,7 +23,7 @@ use Rattle.report_output.specs.declared.fault.ReportFault.{ReportFault}
 
 -- the answer on a run that is kept: its ticks, and where it and the walk differ, whatever its steps are, by
 -- numbers that are counted up to 2^64 - 1
-pub record IsKeptRunText (source : List ℕ) (words : Words) (flow : Flow) (longest : Longest) (ticks : ℕ)
+pub record IsTallyText (source : List ℕ) (words : Words) (flow : Flow) (longest : Longest) (ticks : ℕ)
     (by_place : List Passed) (text : List ℕ) : Type 0 where
   pub table : List ℕ
   pub table_is : (passes : List Pass) → IsTally flow passes by_place
@@ -39,7 +39,7 @@ HasAllPlaces flow (Strayed steps at why) = Unit {0}
 abbrev pub IsFollowedText : (source : List ℕ) → Words → statement.Stated → Flow → Longest → Followed → Bool
     → List ℕ → Type 0
 IsFollowedText source words st flow longest (Kept steps ticks by_place) kept text =
-    (kept ≡ true) × IsKeptRunText source words flow longest ticks by_place.items text
+    (kept ≡ true) × IsTallyText source words flow longest ticks by_place.items text
 IsFollowedText source words st flow longest (Strayed steps at why) kept text =
     (kept ≡ false)
     × ((line : Option ℕ) × IsLineAt source at line × (text ≡ strayed_text steps at line (why_text st at why)))

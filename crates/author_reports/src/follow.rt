@@ -9,7 +9,7 @@ ghost use Rattle.loop_bounds.specs.Bounds.{IsGreatestCost};
 ghost use Rattle.author_reports.specs.FollowReport.{FollowsRun};
 ghost use Rattle.author_reports.specs.FollowText.{IsLineAt, strayed_text, why_text};
 ghost use Rattle.author_reports.specs.FollowWork.{HasAllPlaces, IsJudgedRun, IsRefusalOf, IsReportOn};
-ghost use Rattle.author_reports.specs.FollowWork.{IsFollowedText, IsKeptRunText};
+ghost use Rattle.author_reports.specs.FollowWork.{IsFollowedText, IsTallyText};
 ghost use Rattle.report_input.specs.Priced.{Priced};
 ghost use Rattle.report_input.specs.Report.{BeforeOutput, HasLoops, IsTreeOf};
 ghost use Rattle.report_input.specs.Source.{IsSourceFault, Says};
@@ -63,7 +63,7 @@ fn kept_run(
 ) -> Result<Vec<u8>, ReportFault>
     requires { length by_place.now ≡ length bounded.handler.now.graph.places }
     ensures text { IfOk result
-        (λ text. IsKeptRunText bounded.entry.source.now bounded.entry.image.now
+        (λ text. IsTallyText bounded.entry.source.now bounded.entry.image.now
         bounded.entry.handler.now.graph bounded.entry.longest.now ticks by_place.now text.items) }
     ensures fault { IfErr result (IsSourceFault bounded.entry.source.now) }
 {

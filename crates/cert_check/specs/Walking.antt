@@ -24,14 +24,14 @@ use Rattle.cert_check.specs.declared.walker.Round.{Round}
 use Rattle.cert_check.specs.Followed.{Followed}
 use Rattle.cert_check.specs.Index.{IsIndex}
 
--- ## What a walker says of a walk
+-- ## What a walker holds of a walk
 
 -- sums are capped at 2^64, which is more than any bound
 abbrev pub capped : ℕ → ℕ
 capped n = min n (2 ^ 64)
 
--- its cost; the back edges of its stay in each instance that it is in; and an instance in which a stay has
--- more of them than the bound, if there is one
+-- what a walker holds after a walk: its cost; the back edges of the stay in each instance where it ends; and
+-- an instance in which a stay has more of them than the bound, if there is one
 pub record IsWalkerAfter (spans : List Span) (x : Walker) (walk : List NumberedEdge) : Type 0 where
   pub cost_is : x.cost ≡ capped (O.cost_of walk)
   pub turns_are : (s : Span) → Contains spans s → is_in s x.number ≡ true
@@ -39,7 +39,7 @@ pub record IsWalkerAfter (spans : List Span) (x : Walker) (walk : List NumberedE
   pub broken : (s : Span) → x.over ≡ Some s → Contains spans s × (s.bound < most_in s walk)
   pub kept : x.over ≡ None → (s : Span) → Contains spans s → most_in s walk ≤ s.bound
 
--- what the old one says of any walk, the new one says of it with this one after it
+-- what the old one holds of any walk, the new one holds of it with this one after it
 abbrev pub Adds : List Span → Walker → Walker → List NumberedEdge → Type 0
 Adds spans old new more =
     (walk : List NumberedEdge) → IsWalkerAfter spans old walk → IsWalkerAfter spans new (walk ++ more)

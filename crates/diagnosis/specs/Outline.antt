@@ -217,7 +217,7 @@ piece_of token.Gap = Gap
 piece_of token.Opens = Opens
 piece_of token.Closes = Closes
 piece_of (token.Key w) = Key w.now
-piece_of (token.Value w) = OfValue (value_of w)
+piece_of (token.OfValue w) = OfValue (value_of w)
 
 -- with what follows it
 abbrev pub in_pieces : Token × Bor (List ℕ) → Piece × List ℕ

@@ -123,7 +123,7 @@ impl<'a> Reader<'a> {
                 self.at.key = key;
                 Ok(())
             }
-            Token::Value(value) => self.value(line, value),
+            Token::OfValue(value) => self.value(line, value),
         }
     }
 

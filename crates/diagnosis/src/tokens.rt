@@ -27,7 +27,7 @@ pub(crate) enum Token<'a> {
     /// A word before `=`.
     Key(&'a [u8]),
     /// Any other word.
-    Value(Word<'a>),
+    OfValue(Word<'a>),
 }
 
 fn is_gap(byte: u8) -> bool
@@ -112,7 +112,7 @@ fn key_or_value<'a>(word: Word<'a>, after: &[u8]) -> Token<'a>
     if starts_equals(after_blanks(after)) {
         return Token::Key(text_of(word));
     }
-    Token::Value(word)
+    Token::OfValue(word)
 }
 
 // The token of a text in quotes, after its first quote, and what follows it.

@@ -8,7 +8,7 @@ use Rattle.arm2_effect.specs.ProgramCounter.{ahead_of}
 use Rattle.bus_ticks.specs.declared.profile.Class.{Class}
 use Rattle.text_rows.specs.Addresses.{class_name, name_text}
 use Rattle.drafting.specs.Named.{Lines}
-use Rattle.drafting.specs.Rows.{label_of, row}
+use Rattle.drafting.specs.Rows.{line_label, row}
 use Rattle.drafting.specs.declared.ends.End.{End}
 use Rattle.drafting.specs.declared.ends.End.TheVariants.{NoWord, Unallocated, Trap}
 use Rattle.drafting.specs.declared.found_loop.FoundLoop.{FoundLoop}
@@ -41,11 +41,11 @@ module _ (lines : Lines) where
   -- a key and an address, that many columns in
   abbrev pub place_text : ℕ → List ℕ → ℕ → List ℕ
   place_text indent key at =
-      row (replicate indent 32 ++ (key ++ (codes " = " ++ name_text (label_of (lines at)) at))) (lines at)
+      row (replicate indent 32 ++ (key ++ (codes " = " ++ name_text (line_label (lines at)) at))) (lines at)
 
   -- an address between two texts
   abbrev pub element_text : List ℕ → ℕ → List ℕ → List ℕ
-  element_text front at back = row (front ++ (name_text (label_of (lines at)) at ++ back)) (lines at)
+  element_text front at back = row (front ++ (name_text (line_label (lines at)) at ++ back)) (lines at)
 
   -- a comment on an address
   abbrev pub comment_text : ℕ → List ℕ → List ℕ

@@ -5,8 +5,8 @@ use Rattle.std.specs.Prelude.{codes, decimal, Option, Some, None, option_map}
 use Rattle.drafting.specs.declared.source_lines.SourceLine.{SourceLine}
 
 -- the label of a line
-abbrev pub label_of : Option SourceLine → Option (List ℕ)
-label_of line = option_map (λ l. l.label.now) line
+abbrev pub line_label : Option SourceLine → Option (List ℕ)
+line_label line = option_map (λ l. l.label.now) line
 
 -- a byte in a comment: a full stop for what is no printed character of ASCII
 abbrev pub shown : ℕ → ℕ

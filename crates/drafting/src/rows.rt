@@ -1,7 +1,7 @@
 ghost use Rattle.std.specs.Prelude.{◌≡◌, ◌++◌, ℕ, List, OnOk, length, map, replicate};
 ghost use Rattle.asm_text.specs.Hex.{hex8};
 ghost use Rattle.text_rows.specs.Addresses.{name_text};
-ghost use Rattle.drafting.specs.Rows.{label_of, remark, row, shown};
+ghost use Rattle.drafting.specs.Rows.{line_label, remark, row, shown};
 
 use crate::source_lines::SourceLine;
 use asm_text::hex8;
@@ -21,7 +21,7 @@ pub(crate) fn put_name(
     line: Option<SourceLine>,
     at: u32,
 ) -> Result<(), AllocError>
-    ensures { OnOk result (out.new.items ≡ out.old.items ++ name_text (label_of line.entry) at) }
+    ensures { OnOk result (out.new.items ≡ out.old.items ++ name_text (line_label line.entry) at) }
 {
     match line {
         Some(line) => put_labelled(out, line.label, at),

@@ -3,7 +3,7 @@ use std::test::Fail;
 use trace_text::write_stop;
 
 #[test]
-fn stop_is_told(rt: HostRuntime) -> Result<(), Fail> {
+fn stop_is_reported(rt: HostRuntime) -> Result<(), Fail> {
     let mut out = String::new(rt.alloc());
     write_stop(&mut out, Why::UnsupportedWrite, 0x3F)?;
     assert!(rt; out.as_str() == "stopped UnsupportedWrite at 3F\n");

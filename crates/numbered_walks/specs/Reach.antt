@@ -21,10 +21,12 @@ abbrev pub start_of : Option Span → ℕ
 start_of None = 0
 start_of (Some i) = i.header
 
+-- its places
 abbrev pub holds_in : Option Span → ℕ → Bool
 holds_in None p = true
 holds_in (Some i) p = is_in i p
 
+-- the whole graph, or an instance of the tree
 abbrev pub InTree : List Span → Option Span → Type 0
 InTree spans None = Unit {0}
 InTree spans (Some i) = Contains spans i

@@ -22,7 +22,7 @@ IsNamed names at label = (label ≡ []) ⊎ (address_of names label ≡ Some at)
 abbrev pub labelled : List ℕ → ℕ → List ℕ
 labelled label at = if length label == 0 then number_text at else quoted label
 
--- by its line's label, or where it has no line by its number
+-- by its line's label, or by its number where it has no line or the line no label
 abbrev pub name_text : Option (List ℕ) → ℕ → List ℕ
 name_text None at = number_text at
 name_text (Some label) at = labelled label at

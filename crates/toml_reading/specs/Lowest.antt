@@ -29,9 +29,9 @@ AtKey key ms P = IsSomeAnd (get_member key ms) P
 abbrev pub AtKeyOr : List ℕ → Members → Type 0 → (Data → Type 0) → Type 0
 AtKeyOr key ms Missing P = MatchOption (get_member key ms) Missing P
 
--- a table with no other keys than those, of which `Tells` says more
+-- a table with no other keys than those, of which `Has` holds
 abbrev pub IsTable : List (List ℕ) → (Members → Type 0) → Data → Type 0
-IsTable keys Tells d = IsSomeAnd (as_table d) (λ ms. (has_only_keys keys ms ≡ true) × Tells ms)
+IsTable keys Has d = IsSomeAnd (as_table d) (λ ms. (has_only_keys keys ms ≡ true) × Has ms)
 
 -- the faults of a table's keys: an unknown one, and those of its values
 abbrev pub KeysFault : {F : Type 0} → Faults F → List (List ℕ) → (Members → F → Type 0) → Members → F → Type 0

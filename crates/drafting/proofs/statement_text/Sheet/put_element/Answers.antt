@@ -1,6 +1,6 @@
 use Rattle.std.proofs.Common.{◌≡◌, ◌++◌, arith, subst}
 use Rattle.std.proofs.lemmas.Result.{on_ok_weaker}
-use Rattle.drafting.specs.Rows.{label_of, row}
+use Rattle.drafting.specs.Rows.{line_label, row}
 use Rattle.text_rows.specs.Addresses.{name_text}
 use Rattle.assembler.proofs.PutLaws.{three}
 use Rattle.drafting.proofs.statement_text.Sheet.put_element.Goals as goal
@@ -13,9 +13,9 @@ returns c =
     let back = c.args.back.now in
     let line = c.line-line.result in
     on_ok_weaker c.end_row.result
-    (λ row_is. subst (λ l. new ≡ old ++ row (front ++ (name_text (label_of l) c.args.at ++ back)) l)
-    c.line-line.ensures (row_is old (front ++ (name_text (label_of line) c.args.at ++ back))
-    (three old front (name_text (label_of line) c.args.at) back c.in_ok-put.ensures c.in_ok-put_name.ensures
+    (λ row_is. subst (λ l. new ≡ old ++ row (front ++ (name_text (line_label l) c.args.at ++ back)) l)
+    c.line-line.ensures (row_is old (front ++ (name_text (line_label line) c.args.at ++ back))
+    (three old front (name_text (line_label line) c.args.at) back c.in_ok-put.ensures c.in_ok-put_name.ensures
     c.in_ok-put-2.ensures)
     (omega (arith, c.len-start.ensures))))
     c.end_row.ensures
