@@ -109,12 +109,9 @@ handler_refusals source statement profile st flow e a r =
         a.no_fault f r.not_memory (subst (λ (s : Stated). Applies flow s.loops f) same.same_stated (subst (λ (w : Flow). Applies w r.stated.loops f) same.same_flow (applies r.flow r.stated.loops f r.holds)))
 
 -- what holds of a fault holds of an answer that is that fault
-pub refused_with : {T E : Type 0} (r : Result T E) (e : E) (P : E → Type 0) → IsErrAnd r (λ x. x ≡ e) → P e → IfErr r P
-refused_with (Ok x) e P h p = tt
-refused_with (Err x) e P h p = subst P (sym h) p
-
-pub refused_as : {T : Type 0} (r : Result T ReportFault) (e : ReportFault) (P : ReportFault → Type 0) → IsErrAnd r (λ x. x ≡ e) → P e → IfErr r P
-refused_as r e P h p = refused_with r e P h p
+pub refused_as : {T E : Type 0} (r : Result T E) (e : E) (P : E → Type 0) → IsErrAnd r (λ x. x ≡ e) → P e → IfErr r P
+refused_as (Ok x) e P h p = tt
+refused_as (Err x) e P h p = subst P (sym h) p
 
 -- ## The faults of the statement and of the graph
 

@@ -15,7 +15,7 @@ use Rattle.machine_file.specs.Started.{IsStarted}
 use Rattle.machine_file.specs.Stated.{Stated}
 use Rattle.machine_file.specs.declared.machine_faults.MachineFileFault.{MachineFileFault}
 use Rattle.machine_file.specs.declared.machine_faults.MachineFileFault.TheVariants as machine_fault
-use Rattle.report_input.specs.Source.{source_of}
+use Rattle.report_input.specs.Source.{IsSourceFault, source_of}
 use Rattle.report_output.specs.declared.fault.ReportFault.{ReportFault}
 use Rattle.report_output.specs.declared.fault.ReportFault.TheVariants as report_fault
 
@@ -76,15 +76,9 @@ pub record IsLoadRefused (source machine : List ℕ) (profile : Profile) (fault 
   pub fault_is : fault ≡ NoPage
   pub lacks : LacksPage start words file
 
--- when each refusal is answered: the first in the order of the work. An allocation may fail, and an
--- output, whatever the texts
+-- when each refusal is answered: the first in the order of the work. An output may fail whatever the texts
 abbrev pub IsRunRefused : List ℕ → List ℕ → Profile → ReportFault → Type 0
-IsRunRefused source machine profile report_fault.Memory = Unit {0}
 IsRunRefused source machine profile report_fault.Device = Unit {0}
-IsRunRefused source machine profile (report_fault.Source fault) =
-    source_of source ≡ Err (report_fault.Source fault)
-IsRunRefused source machine profile (report_fault.Image fault) =
-    source_of source ≡ Err (report_fault.Image fault)
 IsRunRefused source machine profile (report_fault.MachineFile fault) = IsFileRefused source machine fault
 IsRunRefused source machine profile (report_fault.Load fault) = IsLoadRefused source machine profile fault
-IsRunRefused source machine profile fault = ⊥
+IsRunRefused source machine profile fault = IsSourceFault source fault

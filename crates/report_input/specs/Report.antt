@@ -32,7 +32,7 @@ use Rattle.certificate.specs.declared.cert.Cert.{Cert}
 use Rattle.cert_check.specs.Verdict.{IsVerdict}
 use Rattle.cert_check.specs.declared.verdict.Verdict.TheVariants.{Yes}
 use Rattle.report_input.specs.Keeping.{BoundsRuns}
-use Rattle.report_input.specs.Source.{source_of}
+use Rattle.report_input.specs.Source.{IsSourceFault, source_of}
 use Rattle.report_input.specs.declared.handler.Handler.{Handler}
 use Rattle.report_output.specs.declared.fault.ReportFault.{ReportFault}
 use Rattle.report_output.specs.declared.fault.ReportFault.TheVariants as report_fault
@@ -145,20 +145,15 @@ pub record IsWalkRefused (source statement : List ℕ) (profile : Profile) (faul
   pub holds : IsWalkRefusal flow stated.loops fault
 
 -- when each refusal of a source and a statement is answered, up to the loops: the first in the order of the
--- work. An allocation may fail whatever they are
+-- work
 abbrev pub IsHandlerRefused : List ℕ → List ℕ → Profile → ReportFault → Type 0
-IsHandlerRefused source statement profile report_fault.Memory = Unit {0}
-IsHandlerRefused source statement profile (report_fault.Source fault) =
-    source_of source ≡ Err (report_fault.Source fault)
-IsHandlerRefused source statement profile (report_fault.Image fault) =
-    source_of source ≡ Err (report_fault.Image fault)
 IsHandlerRefused source statement profile (report_fault.Statement fault) =
     IsStatementRefused source statement fault
 IsHandlerRefused source statement profile (report_fault.Graph fault) =
     IsGraphRefused source statement profile fault
 IsHandlerRefused source statement profile (report_fault.Loops fault) =
     AreLoopsRefused source statement profile fault
-IsHandlerRefused source statement profile fault = ⊥
+IsHandlerRefused source statement profile fault = IsSourceFault source fault
 
 -- when each refusal of a report is answered; an output fails whatever the source and the statement
 abbrev pub IsRefused : List ℕ → List ℕ → Profile → ReportFault → Type 0
