@@ -1,6 +1,15 @@
 ghost use Rattle.std.specs.Prelude.{◌≡◌, ◌≤◌, ◌<◌, ◌+◌, ◌-◌, ◌*◌, ◌^◌};
-ghost use Rattle.arm2_decode.specs.Bits.{bits};
+ghost use Rattle.arm2_decode.specs.Bits.{bit_of_word, bits};
 ghost use Rattle.arm2_decode.specs.Allowed.{bit_of};
+
+/// Whether a bit of a word, counted from 0, is set.
+#[inline(always)]
+pub fn bit_of_word(word: u32, place: u32) -> bool
+    requires in_word { place < 32 }
+    ensures { result ≡ bit_of_word word place }
+{
+    (word >> place) & 1 == 1
+}
 
 /// The bits HI to LO of a word of 32 bits, counted from 0, as one number.
 pub struct Field<const HI: u32, const LO: u32>;

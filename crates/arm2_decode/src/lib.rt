@@ -17,7 +17,7 @@ pub use clashes::{
     SingleFields, block_clash, data_clash, data_shift_clash, multiply_clash, single_clash,
     single_register_clash,
 };
-pub use field::Field;
+pub use field::{Field, bit_of_word};
 pub use flags::{Flags, holds};
 pub use instr::{
     Block, Branch, Coprocessor, CoprocessorTransfer, DataImmediate, DataRegister,

@@ -17,8 +17,8 @@ use Rattle.arm2_effect.specs.declared.outcomes.Outcome.{Outcome}
 use Rattle.arm2_effect.specs.declared.exceptions.Vector.TheVariants as vector
 use Rattle.arm2_effect.specs.declared.step_end.Kind.TheVariants.{Plain}
 use Rattle.arm2_effect.specs.Modes.{r15_in, with_r15, with_register}
-use Rattle.arm2_effect.specs.ProgramCounter.{address_of, ahead_of, flags_of, jumped_of, mode_of, psr_of}
-use Rattle.arm2_effect.specs.ProgramCounter.{psr_with, r15_ahead, r15_of, restored_of}
+use Rattle.arm2_effect.specs.ProgramCounter.{address_of, ahead_of, branch_target, flags_of, jumped_of, mode_of}
+use Rattle.arm2_effect.specs.ProgramCounter.{psr_of, psr_with, r15_ahead, r15_of, restored_of}
 use Rattle.arm2_effect.specs.Effects.{Effect, Internal, onward, straight}
 use Rattle.arm2_effect.specs.Exceptions.{taken}
 use Rattle.arm2_effect.specs.Operands.{current_in, first_of, rotated_byte}
@@ -123,20 +123,16 @@ unfoldable pub multiply_effect : Multiply → List ℕ → Effect
 multiply_effect x regs =
     delayed (cycles_of (current_in x.rs regs)) (entered x.sets_flags x.rd (product_of x regs) regs)
 
--- where a branch leads: its offset in words is signed, which makes no difference modulo 2 ^ 26
-abbrev pub target_of : Branch → ℕ → ℕ
-target_of x r = ahead_of (address_of r) (8 + 4 * x.offset)
-
 -- with a link R14 keeps the PSR, the mode and the return address
 unfoldable pub branch_effect : Branch → List ℕ → Effect
 branch_effect x regs =
     let r = r15_in regs in
     record {
       kind = Plain;
-      accesses = onward (address_of r) (target_of x r);
+      accesses = onward (address_of r) (branch_target (address_of r) x.offset);
       regs =
           with_r15
-          (r15_of (psr_of r) (target_of x r) (mode_of r))
+          (r15_of (psr_of r) (branch_target (address_of r) x.offset) (mode_of r))
           (if x.link then with_register (mode_of r) 14 (r15_ahead r 4) regs else regs);
     }
 

@@ -4,6 +4,7 @@ use Rattle.std.specs.Prelude.{Bool, ℕ, ◌+◌, ◌*◌, ◌/◌, ◌%◌, ◌
 use Rattle.bus_ticks.specs.declared.space.TheConstants.{SPACE_END}
 use Rattle.arm2_decode.specs.declared.flags.Flags.{Flags}
 use Rattle.arm2_decode.specs.Allowed.{bit_of}
+use Rattle.arm2_decode.specs.Bits.{bit_of_word}
 use Rattle.arm2_effect.specs.declared.modes.Mode.{Mode}
 use Rattle.arm2_effect.specs.declared.modes.Mode.TheVariants.{User}
 use Rattle.arm2_effect.specs.Modes.{mode_named, mode_number}
@@ -25,22 +26,27 @@ r15_of psr address mode = psr * 2 ^ 26 + address + mode_number mode
 abbrev pub ahead_of : ℕ → ℕ → ℕ
 ahead_of a by = (a + by) % SPACE_END
 
+-- where a branch leads: so many words on from the second word after it. The number is signed in 24 bits,
+-- which makes no difference, as addresses wrap after 2^24 words
+abbrev pub branch_target : ℕ → ℕ → ℕ
+branch_target address offset = ahead_of address (8 + 4 * offset)
+
 -- the condition flags
 abbrev pub flags_of : ℕ → Flags
 flags_of r =
     record {
-      negative = r / 2 ^ 31 % 2 == 1;
-      zero = r / 2 ^ 30 % 2 == 1;
-      carry = r / 2 ^ 29 % 2 == 1;
-      overflow = r / 2 ^ 28 % 2 == 1;
+      negative = bit_of_word r 31;
+      zero = bit_of_word r 30;
+      carry = bit_of_word r 29;
+      overflow = bit_of_word r 28;
     }
 
 -- F and I: FIQ and IRQ are not taken
 abbrev pub is_fiq_masked : ℕ → Bool
-is_fiq_masked r = r / 2 ^ 26 % 2 == 1
+is_fiq_masked r = bit_of_word r 26
 
 abbrev pub is_irq_masked : ℕ → Bool
-is_irq_masked r = r / 2 ^ 27 % 2 == 1
+is_irq_masked r = bit_of_word r 27
 
 -- the PSR with other condition flags: I and F stay
 abbrev pub psr_with : Flags → ℕ → ℕ

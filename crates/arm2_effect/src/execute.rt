@@ -10,7 +10,9 @@ use crate::exceptions::Vector;
 use crate::modes::Reg;
 use crate::outcomes::Outcome;
 use crate::prices::Prices;
-use crate::program_counter::{address_of, advanced, ahead_of, flags_of, mode_of, psr_of, r15_of};
+use crate::program_counter::{
+    address_of, advanced, branch_target, flags_of, mode_of, psr_of, r15_of,
+};
 use crate::registers::Registers;
 use crate::step_end::Done;
 use arm2_decode::{Branch, Cond, Multiply, Operation, Register, holds};
@@ -70,7 +72,7 @@ impl Registers {
         ensures bound { result.ticks < 2 ^ 16 }
     {
         let r15 = self.get(Reg::R15);
-        let to = ahead_of(address_of(r15), 8 + 4 * branch.offset);
+        let to = branch_target(address_of(r15), branch.offset);
         if branch.link {
             self.write(mode_of(r15), Register::R14, advanced(r15, 4));
         }

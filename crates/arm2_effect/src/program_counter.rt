@@ -1,6 +1,6 @@
 //! R15: N Z C V I F in bits 31 to 26, a word address in bits 25 to 2, the mode in bits 1 and 0.
 ghost use Rattle.std.specs.Prelude.{◌≡◌, ◌%◌, ◌^◌, ◌<◌};
-ghost use Rattle.arm2_effect.specs.ProgramCounter.{address_of, ahead_of};
+ghost use Rattle.arm2_effect.specs.ProgramCounter.{address_of, ahead_of, branch_target};
 ghost use Rattle.arm2_effect.specs.ProgramCounter.{flags_of, is_fiq_masked, is_irq_masked};
 ghost use Rattle.arm2_effect.specs.ProgramCounter.{jumped_of, mode_of};
 ghost use Rattle.arm2_effect.specs.ProgramCounter.{psr_of, r15_ahead, r15_of};
@@ -67,6 +67,16 @@ pub fn ahead_of(address: u32, bytes: u32) -> u32
     ensures aligned { address % 4 ≡ 0 → bytes % 4 ≡ 0 → result % 4 ≡ 0 }
 {
     address.wrapping_add(bytes) % SPACE_END
+}
+
+/// The address to which a branch at an address leads: `offset` is its number of words, signed in 24 bits.
+#[inline(always)]
+pub fn branch_target(address: u32, offset: u32) -> u32
+    ensures sum { result ≡ branch_target address offset }
+    ensures fits { result < SPACE_END }
+    ensures aligned { address % 4 ≡ 0 → result % 4 ≡ 0 }
+{
+    ahead_of(address, offset.wrapping_mul(4).wrapping_add(8))
 }
 
 /// R15 of its parts: the PSR from 0 to 63, and a word address below 2^26.

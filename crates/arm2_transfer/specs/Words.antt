@@ -1,9 +1,10 @@
 -- The words of a block: their registers, their addresses, and what the memory controller says of them all
 -- together (VL86C010 data sheet, block data transfer; it is silent on three rules: all words are located
 -- before the first is moved, an abort comes before an unsupported write, and the addresses wrap at 2^26).
-use Rattle.std.specs.Prelude.{ℕ, ◌+◌, ◌/◌, ◌%◌, ◌^◌, ◌==◌, Bool, true, false, if◌then◌else◌, List, [], ◌∷◌}
+use Rattle.std.specs.Prelude.{ℕ, ◌+◌, Bool, true, false, if◌then◌else◌, List, [], ◌∷◌}
 use Rattle.std.specs.Prelude.{filter, All, Result, Ok, Err}
 use Rattle.std.specs.List.{list_any}
+use Rattle.arm2_decode.specs.Bits.{bit_of_word}
 use Rattle.arm2_decode.specs.declared.names.Register.{Register}
 use Rattle.arm2_decode.specs.declared.names.Register.TheVariants.{R0, R1, R2, R3, R4, R5, R6, R7, R8, R9, R10}
 use Rattle.arm2_decode.specs.declared.names.Register.TheVariants.{R11, R12, R13, R14, R15}
@@ -23,7 +24,7 @@ all_registers = R0 ∷ R1 ∷ R2 ∷ R3 ∷ R4 ∷ R5 ∷ R6 ∷ R7 ∷ R8 ∷ R
 
 -- bit n of a list stands for register n
 abbrev pub is_listed : ℕ → Register → Bool
-is_listed list register = list / 2 ^ register_number register % 2 == 1
+is_listed list register = bit_of_word list (register_number register)
 
 -- the registers of a list, the lowest first
 abbrev pub registers_in : ℕ → List Register

@@ -4,7 +4,7 @@ ghost use Rattle.memc.specs.Memory.{Fits, located};
 ghost use Rattle.arm2_transfer.specs.Words.{all_registers, is_listed, registers_in, or_fault, words_from};
 ghost use Rattle.arm2_transfer.specs.Words.{verdict_of, AllFit};
 
-use arm2_decode::Register;
+use arm2_decode::{Register, bit_of_word};
 use arrayvec::ArrayVec;
 use bus_ticks::word_address;
 use memc::{Memc, Refused, Spot};
@@ -50,7 +50,7 @@ fn all_registers() -> [Register; 16]
 pub(crate) fn is_listed(list: u32, register: Register) -> bool
     ensures { result ≡ is_listed list register }
 {
-    (list >> register.number()) % 2 == 1
+    bit_of_word(list, register.number())
 }
 
 /// How many registers a list has.

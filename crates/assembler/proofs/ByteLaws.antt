@@ -26,7 +26,8 @@ use Rattle.asm_text.specs.Names.{opcode_name}
 use Rattle.asm_text.specs.Shown.{is_shown, is_shown_text, is_upper}
 use Rattle.asm_text.specs.Words.{branch_name}
 use Rattle.asm_text.specs.Hex.{hex}
-use Rattle.assembler.specs.ShownLines.{amount_text, block_name, block_suffix, block_text, closed, comma_register, compare_front, compare_text, cond_text, data_front, factors_text, flags_text, follows, has, is_plain, is_user, list_operand, list_text, listed, listed_below, load_name, mark_if, move_front, multiply_text, numbered, offset_text, opened, operation_text, register_text, run_first, run_last, shift_text, shifted_text, shown_line, sign_of, single_immediate_text, single_register_text, target_of, three_front, transfer_front, transfer_suffix, word_text}
+use Rattle.arm2_decode.specs.Bits.{bit_of_word}
+use Rattle.assembler.specs.ShownLines.{amount_text, block_name, block_suffix, block_text, closed, comma_register, compare_front, compare_text, cond_text, data_front, factors_text, flags_text, follows, is_plain, is_user, list_operand, list_text, listed, listed_below, load_name, mark_if, move_front, multiply_text, numbered, offset_text, opened, operation_text, register_text, run_first, run_last, shift_text, shifted_text, shown_line, sign_of, single_immediate_text, single_register_text, shown_target, three_front, transfer_front, transfer_suffix, word_text}
 
 is_spelled : ℕ → Bool
 is_spelled b = is_shown b && not (is_ascii_lowercase b)
@@ -227,9 +228,9 @@ single_register_spelled c x =
 listed_spelled : (list n : ℕ) → Spelled (listed list n)
 unfolding is_spelled
 listed_spelled list n =
-    one_of (has list n) (cond (follows list n) (run_last list n) (run_first list n)) []
+    one_of (bit_of_word list n) (cond (follows list n) (run_last list n) (run_first list n)) []
     (one_of (follows list n) (run_last list n) (run_first list n)
-    (one_of (has list (n + 1)) [] (codes "-" ++ numbered n) refl (both (codes "-") (numbered n) refl (numbered_spelled n)))
+    (one_of (bit_of_word list (n + 1)) [] (codes "-" ++ numbered n) refl (both (codes "-") (numbered n) refl (numbered_spelled n)))
     (both (cond (list % 2 ^ n == 0) [] (codes ",")) (numbered n) (one_of (list % 2 ^ n == 0) [] (codes ",") refl refl) (numbered_spelled n)))
     refl
 
@@ -290,8 +291,8 @@ operation_spelled c (operation.SingleImmediate x) at = single_immediate_spelled 
 operation_spelled c (operation.SingleRegister x) at = single_register_spelled c x
 operation_spelled c (operation.Block x) at = block_spelled c x
 operation_spelled c (operation.Branch x) at =
-    both (word_text (branch_name x.link) c []) (codes "&" ++ hex (target_of at x.offset)) (word_spelled (branch_name x.link) [] c (branch_spelled x.link) refl)
-    (both (codes "&") (hex (target_of at x.offset)) refl (hex_spelled (target_of at x.offset)))
+    both (word_text (branch_name x.link) c []) (codes "&" ++ hex (shown_target at x.offset)) (word_spelled (branch_name x.link) [] c (branch_spelled x.link) refl)
+    (both (codes "&") (hex (shown_target at x.offset)) refl (hex_spelled (shown_target at x.offset)))
 operation_spelled c (operation.Swi x) at = both (word_text (codes "SWI") c []) (decimal x.comment) (word_spelled (codes "SWI") [] c refl refl) (decimal_spelled x.comment)
 operation_spelled c _ at = refl
 

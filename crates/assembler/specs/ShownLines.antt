@@ -1,6 +1,6 @@
 -- How an instruction is spelled at an address (over the VL86C010 data sheet's assembler syntax: one spelling
 -- of each word).
-use Rattle.std.specs.Prelude.{◌≡◌, ℕ, zero, suc, ◌+◌, ◌-◌, ◌*◌, ◌/◌, ◌%◌, ◌^◌, ◌==◌, ◌&&◌, not, nat_lt, Bool}
+use Rattle.std.specs.Prelude.{◌≡◌, ℕ, zero, suc, ◌+◌, ◌-◌, ◌*◌, ◌%◌, ◌^◌, ◌==◌, ◌&&◌, not, nat_lt, Bool}
 use Rattle.std.specs.Prelude.{true, false, List, [], ◌∷◌, ◌++◌, codes, decimal, Option, Some, None, Result}
 use Rattle.std.specs.Prelude.{Ok, Err, if◌then◌else◌}
 use Rattle.std.specs.Int.{w32, rotate_right}
@@ -23,6 +23,7 @@ use Rattle.arm2_decode.specs.declared.names.Opcode.TheVariants.{Tst, Teq, Cmp, C
 use Rattle.arm2_decode.specs.declared.names.Register.{Register}
 use Rattle.arm2_decode.specs.declared.names.Shift.{Shift}
 use Rattle.arm2_decode.specs.declared.names.Shift.TheVariants.{Lsl, Lsr, Asr, Ror}
+use Rattle.arm2_decode.specs.Bits.{bit_of_word}
 use Rattle.arm2_decode.specs.Names.{is_pc, register_number}
 use Rattle.arm2_decode.specs.Table.{Means}
 use Rattle.bus_ticks.specs.declared.space.TheConstants.{SPACE_END}
@@ -206,24 +207,20 @@ block_suffix true true = codes "IB"
 block_suffix false false = codes "DA"
 block_suffix true false = codes "DB"
 
--- the list has the register of the number
-abbrev pub has : ℕ → ℕ → Bool
-has list n = list / 2 ^ n % 2 == 1
-
 -- it has the register before
 abbrev pub follows : ℕ → ℕ → Bool
-follows list n = nat_lt 0 n && has list (n - 1)
+follows list n = nat_lt 0 n && bit_of_word list (n - 1)
 
 -- the first register, or a comma and the register
 abbrev pub run_first : ℕ → ℕ → List ℕ
 run_first list n = (if list % 2 ^ n == 0 then [] else codes ",") ++ numbered n
 
 abbrev pub run_last : ℕ → ℕ → List ℕ
-run_last list n = if has list (n + 1) then [] else codes "-" ++ numbered n
+run_last list n = if bit_of_word list (n + 1) then [] else codes "-" ++ numbered n
 
 -- what a register adds: it begins a run, ends one of two or more, or is none of the list or within a run
 abbrev pub listed : ℕ → ℕ → List ℕ
-listed list n = if has list n then (if follows list n then run_last list n else run_first list n) else []
+listed list n = if bit_of_word list n then (if follows list n then run_last list n else run_first list n) else []
 
 -- what the registers below a number add
 abbrev pub listed_below : ℕ → ℕ → List ℕ
@@ -249,12 +246,12 @@ block_text c x =
 -- ---- branches
 
 -- the signed number of words from the address two words on; 0 where that is below 0
-abbrev pub target_of : ℕ → ℕ → ℕ
-target_of at offset =
+abbrev pub shown_target : ℕ → ℕ → ℕ
+shown_target at offset =
     if nat_lt offset (2 ^ 23) then at + 8 + 4 * offset else (at + 8 + 4 * offset) - SPACE_END
 
 abbrev pub branch_text : Cond → Branch → ℕ → List ℕ
-branch_text c x at = word_text (branch_name x.link) c [] ++ (codes "&" ++ hex (target_of at x.offset))
+branch_text c x at = word_text (branch_name x.link) c [] ++ (codes "&" ++ hex (shown_target at x.offset))
 
 abbrev pub swi_text : Cond → Swi → List ℕ
 swi_text c x = word_text (codes "SWI") c [] ++ decimal x.comment

@@ -1,21 +1,22 @@
-ghost use Rattle.std.specs.Prelude.{◌≡◌, ◌+◌, ◌*◌, ◌<◌, ◌≤◌, ◌/◌, ◌%◌, ◌^◌, ◌==◌, ◌&&◌, ◌++◌, ◌∷◌, [], codes};
+ghost use Rattle.std.specs.Prelude.{◌≡◌, ◌+◌, ◌*◌, ◌<◌, ◌≤◌, ◌%◌, ◌^◌, ◌==◌, ◌&&◌, ◌++◌, ◌∷◌, [], codes};
 ghost use Rattle.std.specs.Prelude.{decimal, length, not, if◌then◌else◌};
+ghost use Rattle.arm2_decode.specs.Bits.{bit_of_word};
 ghost use Rattle.asm_text.specs.Words.{branch_name};
 ghost use Rattle.assembler.specs.ShownLines.{amount_text, block_name, block_suffix, block_text, branch_text};
 ghost use Rattle.assembler.specs.ShownLines.{closed, comma_register, compare_front, cond_text, data_front};
 ghost use Rattle.assembler.specs.ShownLines.{data_immediate_text, data_register_shift_text};
-ghost use Rattle.assembler.specs.ShownLines.{data_register_text, factors_text, flags_text, has, list_operand};
+ghost use Rattle.assembler.specs.ShownLines.{data_register_text, factors_text, flags_text, list_operand};
 ghost use Rattle.assembler.specs.ShownLines.{list_text, listed, listed_below, load_name, mark_if, move_front};
 ghost use Rattle.assembler.specs.ShownLines.{multiply_text, numbered, offset_text, opened, register_text};
 ghost use Rattle.assembler.specs.ShownLines.{shift_text, shifted_text, shown_line, sign_of};
-ghost use Rattle.assembler.specs.ShownLines.{single_immediate_text, single_register_text, target_of};
+ghost use Rattle.assembler.specs.ShownLines.{single_immediate_text, single_register_text, shown_target};
 ghost use Rattle.assembler.specs.ShownLines.{three_front, transfer_front, transfer_suffix, is_plain};
 ghost use Rattle.assembler.specs.ShownLines.{word_text, compare_text, run_first, run_last, follows, swi_text};
 
 use crate::text::Line;
 use arm2_decode::{
     Block, Branch, Cond, DataImmediate, DataRegister, DataRegisterShift, Instr, Multiply, Opcode,
-    Operation, Register, Shift, SingleImmediate, SingleRegister, Swi,
+    Operation, Register, Shift, SingleImmediate, SingleRegister, Swi, bit_of_word,
 };
 use asm_text::{cond_letters, opcode_letters};
 use bus_ticks::SPACE_END;
@@ -124,14 +125,6 @@ fn sign_bytes(up: bool) -> &'static [u8]
     ensures room { length result.now ≤ 1 }
 {
     if up { b"" } else { b"-" }
-}
-
-// Whether a list has a register, by its number.
-fn holds(list: u32, n: u32) -> bool
-    requires { n < 32 }
-    ensures { result ≡ has list n }
-{
-    (list >> n) & 1 == 1
 }
 
 // Whether a list has no register below a number.
@@ -351,7 +344,7 @@ impl Line {
         requires room { length self.old + length (run_last list n) ≤ 64 }
         ensures { self.new ≡ self.old ++ run_last list n }
     {
-        if holds(list, n + 1) {
+        if bit_of_word(list, n + 1) {
             return;
         }
         self.put_all(b"-");
@@ -364,7 +357,7 @@ impl Line {
         requires room { length self.old + length (listed list n) ≤ 64 }
         ensures { self.new ≡ self.old ++ listed list n }
     {
-        if !holds(list, n) {
+        if !bit_of_word(list, n) {
             return;
         }
         if follows(list, n) {
@@ -448,7 +441,7 @@ fn follows(list: u32, n: u32) -> bool
     requires { n < 16 }
     ensures { result ≡ follows list n }
 {
-    n > 0 && holds(list, n - 1)
+    n > 0 && bit_of_word(list, n - 1)
 }
 
 fn is_user(before: bool, write_back: bool) -> bool
@@ -574,9 +567,9 @@ fn block(cond: Cond, x: Block) -> Line
 }
 
 // Where the branch wraps, the line does not assemble to the word.
-fn branch_target(at: u32, offset: u32) -> u64
+fn shown_target(at: u32, offset: u32) -> u64
     requires { offset < 2 ^ 24 }
-    ensures target { result ≡ target_of at offset }
+    ensures target { result ≡ shown_target at offset }
     ensures fits { result < 2 ^ 33 }
 {
     let beyond = u64::from(at) + 8 + 4 * u64::from(offset);
@@ -594,7 +587,7 @@ fn branch(cond: Cond, x: Branch, at: u32) -> Line
     let mut line = Line::new();
     line.push_word(branch_bytes(x.link), cond, b"");
     line.put_all(b"&");
-    line.push_hex(branch_target(at, x.offset));
+    line.push_hex(shown_target(at, x.offset));
     line
 }
 

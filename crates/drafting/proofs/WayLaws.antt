@@ -5,7 +5,8 @@ use Rattle.std.proofs.lemmas.List.Elements.{Contains-append_left, Contains-push,
 use Rattle.std.proofs.lemmas.Bool.{cases_lt}
 use Rattle.arm2_decode.proofs.Unique.{never_both, one_instr, one_unallocated}
 use Rattle.drafting.specs.Exploring.{Gains}
-use Rattle.drafting.specs.Reach.{Calls, HasPlaces, HasReading, IsBranchAt, IsReading, IsTablePlace, JumpsIntoTable, LeadsAway, Steps, StepsTo, instr_reading, unallocated_reading, words_on}
+use Rattle.arm2_effect.specs.ProgramCounter.{branch_target}
+use Rattle.drafting.specs.Reach.{Calls, HasPlaces, HasReading, IsBranchAt, IsReading, IsTablePlace, JumpsIntoTable, LeadsAway, Steps, StepsTo, instr_reading, unallocated_reading}
 use Rattle.drafting.specs.declared.words.Reading.{Reading}
 use Rattle.drafting.specs.declared.words.Way.{Way}
 use Rattle.drafting.specs.declared.words.Way.TheVariants as way
@@ -14,7 +15,7 @@ use borrow.Author.Count.{below_more, below_none}
 
 -- one of the first so many places of the table after a word
 abbrev pub IsPlaceBelow : ℕ → ℕ → ℕ → Type 0
-IsPlaceBelow at n a = (k : ℕ) × (k < n) × (a ≡ words_on at k)
+IsPlaceBelow at n a = (k : ℕ) × (k < n) × (a ≡ branch_target at k)
 
 -- ## What a word shows
 
@@ -49,14 +50,14 @@ module _ (words : Words) (at : ℕ) where
 
   -- the first so many places of a table are branches
   pub record AreBranches (n : ℕ) : Type 0 where
-    pub each : (m : ℕ) → m < n → IsBranchAt words (words_on at m)
+    pub each : (m : ℕ) → m < n → IsBranchAt words (branch_target at m)
 
   pub branches_none : AreBranches 0
-  branches_none = record { each = below_none (λ m. IsBranchAt words (words_on at m)) }
+  branches_none = record { each = below_none (λ m. IsBranchAt words (branch_target at m)) }
 
-  pub branches_more : (n place : ℕ) → AreBranches n → place ≡ words_on at n → IsBranchAt words place → AreBranches (n + 1)
+  pub branches_more : (n place : ℕ) → AreBranches n → place ≡ branch_target at n → IsBranchAt words place → AreBranches (n + 1)
   branches_more n place b is here = record {
-    each = below_more (λ m. IsBranchAt words (words_on at m)) n b.each (subst (IsBranchAt words) is here);
+    each = below_more (λ m. IsBranchAt words (branch_target at m)) n b.each (subst (IsBranchAt words) is here);
   }
 
   -- where no place follows, these are all
@@ -142,12 +143,12 @@ gains_as P Q xs ys same g = λ a. (
 
 -- one place of a table more
 pub places_more : (at : ℕ) (old : List ℕ) (n : ℕ) (mid new : List ℕ) (place : ℕ) → Gains (IsPlaceBelow at n) old mid
-    → place ≡ words_on at n → new ≡ mid ++ place ∷ [] → Gains (IsPlaceBelow at (n + 1)) old new
+    → place ≡ branch_target at n → new ≡ mid ++ place ∷ [] → Gains (IsPlaceBelow at (n + 1)) old new
 places_more at old n mid new place g is more =
     gains_on (IsPlaceBelow at n) (λ a. place ≡ a) (IsPlaceBelow at (n + 1)) old mid new
     (λ a. (
       (λ h. ⊎_elim (λ lt. inl (h.0, lt, h.2))
-          (λ le. let same : h.0 ≡ n = omega (arith, h.1, le) in inr (is ∙ sym (ap (λ k. words_on at k) same) ∙ sym h.2))
+          (λ le. let same : h.0 ≡ n = omega (arith, h.1, le) in inr (is ∙ sym (ap (λ k. branch_target at k) same) ∙ sym h.2))
           (cases_lt h.0 n)),
       (λ h. ⊎_elim (λ below. (below.0, omega (arith, below.1), below.2)) (λ e. (n, omega arith, sym e ∙ is)) h),
     ))

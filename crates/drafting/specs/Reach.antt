@@ -1,6 +1,6 @@
 -- Where control goes from the words of a handler, as far as they show it (VL86C010 data sheet, but for the
 -- choice of shapes).
-use Rattle.std.specs.Prelude.{◌≡◌, ◌⊎◌, ◌↔◌, ℕ, ◌+◌, ◌-◌, ◌*◌, ◌<◌, ◌≤◌, true, false}
+use Rattle.std.specs.Prelude.{◌≡◌, ◌⊎◌, ◌↔◌, ℕ, ◌-◌, ◌<◌, ◌≤◌, true, false}
 use Rattle.std.specs.Prelude.{if◌then◌else◌, List, length, Contains, Some}
 use Rattle.arm2_decode.specs.Names.{is_always, is_never}
 use Rattle.arm2_decode.specs.Table.{IsUnallocated, Means}
@@ -8,7 +8,7 @@ use Rattle.arm2_decode.specs.declared.instr.Instr.{Instr}
 use Rattle.arm2_decode.specs.declared.instr.Operation.{Operation}
 use Rattle.arm2_decode.specs.declared.instr.Operation.TheVariants as operation
 use Rattle.arm2_decode.specs.declared.instr.Unallocated.{Unallocated}
-use Rattle.arm2_effect.specs.ProgramCounter.{ahead_of}
+use Rattle.arm2_effect.specs.ProgramCounter.{ahead_of, branch_target}
 use Rattle.bus_ticks.specs.declared.space.TheConstants.{SPACE_END}
 use Rattle.drafting.specs.declared.words.Reading.{Reading}
 use Rattle.drafting.specs.declared.words.Way.{Way}
@@ -55,10 +55,6 @@ next_of at = ahead_of at 4
 abbrev pub before : ℕ → ℕ
 before at = ahead_of at (SPACE_END - 4)
 
--- so many words from 8 bytes on: where a branch leads, and where the places of a table are
-abbrev pub words_on : ℕ → ℕ → ℕ
-words_on at count = ahead_of (at + 8) (4 * count)
-
 -- how many addresses are looked at: as many as the flow graph of a handler has places at most
 abbrev pub most_addresses : ℕ
 most_addresses = 16384
@@ -88,11 +84,12 @@ module _ (words : Words) where
   abbrev pub HasReturnAddress : ℕ → Type 0
   HasReturnAddress at = HasShape keeps_return_address words (before at)
 
-  -- a place of the table after a jump, from 0 on: up to it all are branches, and a table has 64 at most
+  -- a place of the table after a jump, from 0 on, which is where a branch by its number would lead: up to it
+  -- all are branches, and a table has 64 at most
   pub record IsTablePlace (at n : ℕ) : Type 0 where
     pub jumps : JumpsIntoTable at
     pub few : n < 64
-    pub branches : (m : ℕ) → m ≤ n → IsBranchAt (words_on at m)
+    pub branches : (m : ℕ) → m ≤ n → IsBranchAt (branch_target at m)
 
   -- so many places the table has
   abbrev pub HasPlaces : ℕ → ℕ → Type 0
@@ -111,13 +108,13 @@ module _ (words : Words) where
 
   -- where else inside its routine a word leads that is carried out
   abbrev pub LeadsAway : ℕ → Way → ℕ → Type 0
-  LeadsAway at (way.Branch offset) to = to ≡ words_on at offset
-  LeadsAway at way.Writer to = (n : ℕ) × IsTablePlace at n × (to ≡ words_on at n)
+  LeadsAway at (way.Branch offset) to = to ≡ branch_target at offset
+  LeadsAway at way.Writer to = (n : ℕ) × IsTablePlace at n × (to ≡ branch_target at n)
   LeadsAway at _ to = ⊥
 
   -- the routine that it calls
   abbrev pub Calls : ℕ → Way → ℕ → Type 0
-  Calls at (way.Call offset) to = to ≡ words_on at offset
+  Calls at (way.Call offset) to = to ≡ branch_target at offset
   Calls at _ to = ⊥
 
   -- a step inside a routine

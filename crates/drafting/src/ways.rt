@@ -1,12 +1,12 @@
-ghost use Rattle.std.specs.Prelude.{◌≡◌, ◌↔◌, ℕ, ◌<◌, true, false, IfSome, IsTrue, Some, OnOk};
+ghost use Rattle.std.specs.Prelude.{◌≡◌, ◌↔◌, ℕ, true, false, IfSome, IsTrue, Some, OnOk};
 ghost use Rattle.arm2_decode.specs.Names.{is_never};
 ghost use Rattle.drafting.specs.Exploring.{Gains};
 ghost use Rattle.drafting.specs.Reach.{CallsTo, GoesOn, HasPlaces, IsBranchAt, HasReturnAddress, LeadsAway};
-ghost use Rattle.drafting.specs.Reach.{StepsTo, before, next_of, words_on};
+ghost use Rattle.drafting.specs.Reach.{StepsTo, before, next_of};
 ghost use Rattle.drafting.specs.declared.words.Way.TheVariants.{Writer};
 
 use crate::words::{Reading, Way, reading_at};
-use arm2_effect::ahead_of;
+use arm2_effect::{ahead_of, branch_target};
 use bus_ticks::SPACE_END;
 use loader::Image;
 use std::alloc::AllocError;
@@ -20,13 +20,6 @@ pub(crate) fn before(address: u32) -> u32
     ensures { result ≡ before address }
 {
     ahead_of(address, SPACE_END - 4)
-}
-
-// The address so many words from 8 bytes on: where a branch leads, and where the places of a table are.
-fn words_on(at: u32, count: u32) -> u32
-    ensures { result ≡ words_on at count }
-{
-    ahead_of(ahead_of(at, 8), count.wrapping_mul(4))
 }
 
 fn is_branch(image: &Image, at: u32) -> bool
@@ -47,7 +40,7 @@ pub(crate) fn table_len(image: &Image, at: u32) -> u32
         return 0;
     }
     for n in 0..MOST_BRANCHES {
-        if !is_branch(image, words_on(at, n)) {
+        if !is_branch(image, branch_target(at, n)) {
             return n;
         }
     }
@@ -59,7 +52,7 @@ fn push_table(out: &mut Vec<u32>, image: &Image, at: u32) -> Result<(), AllocErr
     ensures { OnOk result (Gains (LeadsAway image.now at Writer) out.old.items out.new.items) }
 {
     for n in 0..table_len(image, at) {
-        out.push(words_on(at, n))?;
+        out.push(branch_target(at, n))?;
     }
     Ok(())
 }
@@ -113,7 +106,7 @@ fn push_others(
     }
     match reading.way {
         Way::Branch(offset) => {
-            out.push(words_on(at, offset))?;
+            out.push(branch_target(at, offset))?;
             Ok(())
         }
         Way::Writer => push_table(out, image, at),
@@ -143,7 +136,7 @@ pub(crate) fn called(image: &Image, at: u32) -> Option<u32>
         return None;
     }
     match reading.way {
-        Way::Call(offset) => Some(words_on(at, offset)),
+        Way::Call(offset) => Some(branch_target(at, offset)),
         _ => None,
     }
 }

@@ -1,14 +1,16 @@
 -- Returns by an R14 that a call has overwritten. What writes R14 is the VL86C010 data sheet's.
-use Rattle.std.specs.Prelude.{◌≡◌, ◌↔◌, ℕ, ◌/◌, ◌%◌, ◌^◌, Bool, true, false, not, ◌&&◌, ◌||◌, ◌==◌, nat_lt}
+use Rattle.std.specs.Prelude.{◌≡◌, ◌↔◌, ℕ, Bool, true, false, not, ◌&&◌, ◌||◌, nat_lt}
 use Rattle.std.specs.Prelude.{if◌then◌else◌, List, length, Contains, Option, Some, None}
 use Rattle.std.specs.List.Sorted.{IsStrictlySortedBy}
 use Rattle.std.specs.Ordering.{nat_cmp}
-use Rattle.arm2_decode.specs.Names.{is_compare, is_link, is_never}
+use Rattle.arm2_decode.specs.Bits.{bit_of_word}
+use Rattle.arm2_decode.specs.Names.{is_compare, is_link, is_never, register_number}
 use Rattle.arm2_decode.specs.declared.instr.Instr.{Instr}
 use Rattle.arm2_decode.specs.declared.instr.Operation.{Operation}
 use Rattle.arm2_decode.specs.declared.instr.Operation.TheVariants as operation
 use Rattle.arm2_decode.specs.declared.names.Opcode.{Opcode}
 use Rattle.arm2_decode.specs.declared.names.Register.{Register}
+use Rattle.arm2_decode.specs.declared.names.Register.TheVariants.{R14}
 use Rattle.arm2_effect.specs.Operations.{is_transfer}
 use Rattle.arm2_effect.specs.ProgramCounter.{ahead_of}
 use Rattle.flow_graph.specs.Flow.{Flow, HasEdge}
@@ -35,7 +37,7 @@ single_writes_link load moves rn rd = (load && is_link rd) || (moves && is_link 
 
 -- bit 14 of a list stands for R14
 abbrev pub has_link : (list : ℕ) → Bool
-has_link list = list / 2 ^ 14 % 2 == 1
+has_link list = bit_of_word list (register_number R14)
 
 -- the operation writes R14, other than a call
 abbrev pub writes_link : Operation → Bool

@@ -1,4 +1,4 @@
-ghost use Rattle.std.specs.Prelude.{◌≡◌, ◌↔◌, ◌+◌, ◌<◌, ℕ, true, Contains, IfOk, IsTrue, OnOk};
+ghost use Rattle.std.specs.Prelude.{◌≡◌, ◌↔◌, ◌<◌, ℕ, true, Contains, IfOk, IsTrue, OnOk};
 ghost use Rattle.std.specs.BTreeSet.{contains};
 ghost use Rattle.std.specs.Ordering.{nat_cmp};
 ghost use Rattle.flow_graph.specs.Flow.{HasEdge, IsWellFormed};
@@ -13,7 +13,7 @@ ghost use Rattle.explained.specs.Losing.{Adds, ByEdge, Grows, IsAfter, IsFound, 
 ghost use Rattle.explained.specs.Taken.{is_reached};
 
 use crate::assumptions::sorted;
-use arm2_decode::{Instr, Opcode, Operation, Register};
+use arm2_decode::{Instr, Opcode, Operation, Register, bit_of_word};
 use arm2_effect::ahead_of;
 use flow_graph::{Calls, Edge, Graph, Place};
 use loader::Image;
@@ -44,7 +44,7 @@ fn single_writes_link(load: bool, moves: bool, rn: Register, rd: Register) -> bo
 fn has_link(list: u32) -> bool
     ensures { result ≡ has_link list }
 {
-    list / 0x4000 % 2 == 1
+    bit_of_word(list, Register::R14.number())
 }
 
 // Whether an operation writes R14, other than a call.

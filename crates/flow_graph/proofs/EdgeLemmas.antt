@@ -9,7 +9,7 @@ use Rattle.std.proofs.lemmas.Nat.{mul-le}
 use Rattle.arm2_decode.specs.Names.{is_always, is_never}
 use Rattle.arm2_decode.proofs.Unique.{one_instr, never_both, one_unallocated}
 use Rattle.bus_ticks.proofs.WorstLemmas.{worst_block_small}
-use Rattle.arm2_effect.specs.ProgramCounter.{ahead_of}
+use Rattle.arm2_effect.specs.ProgramCounter.{ahead_of, branch_target}
 use Rattle.bus_ticks.specs.Prices.{by_class, class_at}
 use Rattle.bus_ticks.specs.Ranges.{IsPrice}
 use Rattle.bus_ticks.specs.Worst.{worst_block, worst_n_price, worst_s_price, worst_rom, worst_leave_of}
@@ -17,7 +17,7 @@ use Rattle.bus_ticks.specs.declared.profile.Class.{Class}
 use Rattle.bus_ticks.specs.declared.profile.Class.TheVariants.{Any, Ram, Rom, Io}
 use Rattle.bus_ticks.specs.declared.profile.Profile.{Profile}
 use Rattle.loader.specs.Image.{Words}
-use Rattle.flow_graph.specs.Edges.{AreEdgesOf, HasAction, IsEdge, arrival_ticks, call_places, do_edge, landing_edges, do_edges, fetch_ticks, places_at, jump_ticks, landings, return_place, skip_edge, skip_edges, stated_landings, branch_target, word_edges, work_ticks, writer_landings}
+use Rattle.flow_graph.specs.Edges.{AreEdgesOf, HasAction, IsEdge, arrival_ticks, call_places, do_edge, landing_edges, do_edges, fetch_ticks, places_at, jump_ticks, landings, return_place, skip_edge, skip_edges, stated_landings, word_edges, work_ticks, writer_landings}
 use Rattle.flow_graph.specs.Kinds.{IsAction, IsWork, instr_action, unallocated_action}
 use Rattle.flow_graph.specs.Places.{IsInRange}
 use Rattle.statement.specs.Stated.{IsStated, IsTarget, Stated, Target, class_of, target_of}
@@ -165,7 +165,7 @@ writer_in_range calls address (Some t) h target = stated_in_range calls address 
 
 landings_in_range : (st : Stated) (calls : List ℕ) (address : ℕ) (k : Kind) → IsStated st → IsInRange calls address → All IsSmall (landings st calls address k)
 landings_in_range st calls address Plain s h = one_in_range (At calls (ahead_of address 4)) (ahead_in_range calls address address 4 h)
-landings_in_range st calls address (Branch offset) s h = one_in_range (At calls (branch_target address offset)) (ahead_in_range calls address (address + 8) (4 * offset) h)
+landings_in_range st calls address (Branch offset) s h = one_in_range (At calls (branch_target address offset)) (ahead_in_range calls address address (8 + 4 * offset) h)
 landings_in_range st calls address (Call offset) s h =
     let small : branch_target address offset < 2 ^ 26 = omega arith in
     calling_in_range calls address (branch_target address offset ∷ []) h (All-cons (λ a. a < 2 ^ 26) (branch_target address offset) [] small (All-nil (λ a. a < 2 ^ 26)))

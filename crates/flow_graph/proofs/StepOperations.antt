@@ -1,5 +1,5 @@
 -- What each instruction does, against the kind and the work of its word.
-use Rattle.std.proofs.Common.{◌≡◌, ℕ, zero, suc, ◌+◌, ◌*◌, ◌-◌, ◌%◌, ◌^◌, ◌<◌, ◌≤◌, ◌==◌, ◌&&◌, ◌||◌, not, nat_lt, ltb, Bool, true, false, cond, List, length, Result, Ok, Err, count_ones, refl, sym, ap, subst, ◌∙◌, arith}
+use Rattle.std.proofs.Common.{◌≡◌, ℕ, zero, suc, ◌+◌, ◌*◌, ◌-◌, ◌^◌, ◌<◌, ◌≤◌, ◌==◌, ◌&&◌, ◌||◌, not, nat_lt, ltb, Bool, true, false, cond, List, length, Result, Ok, Err, count_ones, refl, sym, ap, subst, ◌∙◌, arith}
 use Rattle.std.proofs.lemmas.Bool.{ltb-true}
 use Rattle.bus_ticks.specs.declared.profile.Class.{Class}
 use Rattle.bus_ticks.specs.declared.profile.Profile.{Profile}
@@ -23,7 +23,7 @@ use Rattle.arm2_effect.specs.Exceptions.{taken}
 use Rattle.arm2_effect.specs.Modes.{r15_in, register_in, with_r15, with_register}
 use Rattle.arm2_effect.specs.Operations.{branch_effect, compared, cycles_from, cycles_of, data_immediate_effect, data_register_effect, data_register_shift_effect, entered, jumped, multiply_effect, next_r15, operation_effect, placed, product_of}
 use Rattle.arm2_effect.specs.Outcomes as effect
-use Rattle.arm2_effect.specs.ProgramCounter.{address_of, ahead_of, jumped_of, mode_of, psr_of, psr_with, r15_ahead, r15_of, restored_of}
+use Rattle.arm2_effect.specs.ProgramCounter.{address_of, ahead_of, branch_target, jumped_of, mode_of, psr_of, psr_with, r15_ahead, r15_of, restored_of}
 use Rattle.arm2_transfer.specs.declared.bus.Bus.{Bus}
 use Rattle.arm2_transfer.specs.declared.single_fields.Single.{Single}
 use Rattle.arm2_transfer.specs.declared.span.Span.{Span}
@@ -36,7 +36,6 @@ use Rattle.arm2_transfer.specs.Operations.{operation_moved}
 use Rattle.arm2_transfer.specs.Registers.{is_user, moved_by, passed, with_base}
 use Rattle.arm2_transfer.specs.Single.{address_for, base_after, of_immediate, of_register, single_at, single_by, single_carried_out, single_loaded, single_loads, single_stores, writes_base}
 use Rattle.arm2_transfer.specs.Words.{is_listed, registers_in}
-use Rattle.flow_graph.specs.Edges.{branch_target}
 use Rattle.flow_graph.specs.Kinds.{IsWork, data_kind, kind_of, lists_pc, transfer, work_of, writer_if}
 use Rattle.flow_graph.specs.StepLaw.{TransfersIn}
 use Rattle.flow_graph.specs.declared.kinds.Kind.{Kind}
@@ -158,7 +157,7 @@ module _ (p : Profile) (rom : RomTimes) (class : Class) (regs : List ℕ) (long 
   pub branch_lands : (x : Branch) → address_of (r15_in (branch_effect x regs).regs) ≡ ahead_of (address_of (r15_in regs)) (8 + 4 * x.offset)
   unfolding branch_effect
   branch_lands x =
-      let t : ℕ = ahead_of (address_of (r15_in regs)) (8 + 4 * x.offset) in
+      let t : ℕ = branch_target (address_of (r15_in regs)) x.offset in
       let is_word : IsWordAddress t = (omega arith, omega arith) in
       goes (cond x.link (with_register (mode_of (r15_in regs)) 14 (r15_ahead (r15_in regs) 4) regs) regs) (r15_of (psr_of (r15_in regs)) t (mode_of (r15_in regs))) t
       (linked x.link) (address_put (psr_of (r15_in regs)) t (mode_of (r15_in regs)) is_word)
@@ -171,11 +170,10 @@ module _ (p : Profile) (rom : RomTimes) (class : Class) (regs : List ℕ) (long 
   branch_goes : (x : Branch) → EffectCosts (cond x.link (kind.Call x.offset) (kind.Branch x.offset)) (work.Internal 0) (branch_effect x regs)
   unfolding branch_effect
   branch_goes x =
-      let t : ℕ = ahead_of (address_of (r15_in regs)) (8 + 4 * x.offset) in
-      let same : t ≡ branch_target (address_of (r15_in regs)) x.offset = ap (λ n. n % 2 ^ 26) (let e : address_of (r15_in regs) + (8 + 4 * x.offset) ≡ address_of (r15_in regs) + 8 + 4 * x.offset = omega arith in e) in
+      let t : ℕ = branch_target (address_of (r15_in regs)) x.offset in
       subst (Costs p rom class (address_of (r15_in regs)) (cond x.link (kind.Call x.offset) (kind.Branch x.offset)) (work.Internal 0) (onward (address_of (r15_in regs)) t))
       (sym (branch_lands x))
-      (branch_by x.link x.offset t same)
+      (branch_by x.link x.offset t refl)
 
   -- ## What ends in another way
 

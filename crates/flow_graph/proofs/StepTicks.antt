@@ -12,10 +12,10 @@ use Rattle.bus_ticks.specs.Worst.{IsBlockOf, worst_block, worst_n_price, worst_s
 use Rattle.bus_ticks.proofs.FetchLemmas.{n_greatest, s_greatest}
 use Rattle.bus_ticks.proofs.WorstLemmas.{worst_transfer_greatest}
 use Rattle.arm2_effect.specs.Effects.{Access, FetchN, FetchS, Internal, Word, straight, refill, ticks_of}
-use Rattle.arm2_effect.specs.ProgramCounter.{ahead_of}
+use Rattle.arm2_effect.specs.ProgramCounter.{ahead_of, branch_target}
 use Rattle.arm2_transfer.proofs.Ticks.{load_ticks-jumps, load_ticks-passes, ticks_of-append, ticks_of-words_at}
 use Rattle.arm2_transfer.specs.Moved.{load_accesses, store_accesses, words_at}
-use Rattle.flow_graph.specs.Edges.{fetch_ticks, passing_ticks, branch_target, work_ticks}
+use Rattle.flow_graph.specs.Edges.{fetch_ticks, passing_ticks, work_ticks}
 use Rattle.flow_graph.specs.Kinds.{writer_if}
 use Rattle.flow_graph.specs.StepLaw.{TransfersIn}
 use Rattle.flow_graph.specs.declared.kinds.Kind.{Kind}

@@ -7,8 +7,8 @@ use Rattle.bus_ticks.specs.declared.profile.Class.{Class}
 use Rattle.bus_ticks.specs.declared.profile.Profile.{Profile}
 use Rattle.bus_ticks.specs.declared.profile.RomTimes.{RomTimes}
 use Rattle.bus_ticks.specs.Prices.{n_price, s_price}
-use Rattle.arm2_effect.specs.ProgramCounter.{ahead_of}
-use Rattle.flow_graph.specs.Edges.{arrival_ticks, branch_target, jump_ticks, landings}
+use Rattle.arm2_effect.specs.ProgramCounter.{ahead_of, branch_target}
+use Rattle.flow_graph.specs.Edges.{arrival_ticks, jump_ticks, landings}
 use Rattle.flow_graph.specs.Kinds.{is_writer}
 use Rattle.flow_graph.specs.StepLaw.{IsPlaceOf}
 use Rattle.flow_graph.specs.TightWork.{IsDearestTarget}

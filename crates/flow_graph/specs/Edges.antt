@@ -4,7 +4,7 @@
 use Rattle.std.specs.Prelude.{◌≡◌, ℕ, ◌+◌, ◌-◌, ◌*◌, true, false, cond, nat_eq, nat_lt, List, []}
 use Rattle.std.specs.Prelude.{◌∷◌, ◌++◌, length, take, map, slice_index, Option, Some, None, Contains}
 use Rattle.arm2_decode.specs.Names.{is_always, is_never}
-use Rattle.arm2_effect.specs.ProgramCounter.{ahead_of}
+use Rattle.arm2_effect.specs.ProgramCounter.{ahead_of, branch_target}
 use Rattle.bus_ticks.specs.Worst.{worst_n_price, worst_s_price, worst_block, worst_leave_of}
 use Rattle.bus_ticks.specs.declared.profile.Class.{Class}
 use Rattle.bus_ticks.specs.declared.profile.Profile.{Profile}
@@ -24,11 +24,6 @@ use Rattle.statement.specs.declared.stated.TargetKind.{TargetKind}
 use Rattle.statement.specs.declared.stated.TargetKind.TheVariants as stated
 
 -- ## Where a word leads
-
--- a branch counts words from the one after the next, signed in 24 bits: as addresses wrap after 2^24 words,
--- the number leads to the same word unsigned
-abbrev pub branch_target : ℕ → ℕ → ℕ
-branch_target address offset = ahead_of (address + 8) (4 * offset)
 
 -- a return takes the last call away and goes past it; with no call it leaves the handler
 abbrev pub return_place : List ℕ → Place

@@ -1,7 +1,5 @@
 ghost use Rattle.std.specs.Prelude.{◌≡◌, ◌+◌, ◌*◌, ◌<◌};
-ghost use Rattle.bus_ticks.specs.declared.space.TheConstants.{SPACE_END};
-ghost use Rattle.bus_ticks.specs.Worst.{worst_n_price, worst_s_price};
-ghost use Rattle.flow_graph.specs.Edges.{arrival_ticks, branch_target, do_ticks, fetch_ticks, jump_ticks};
+ghost use Rattle.flow_graph.specs.Edges.{arrival_ticks, do_ticks, fetch_ticks, jump_ticks};
 ghost use Rattle.flow_graph.specs.Edges.{passing_ticks, work_ticks};
 ghost use Rattle.flow_graph.specs.Kinds.{IsWork};
 ghost use Rattle.flow_graph.specs.Places.{IsInSpace};
@@ -11,14 +9,6 @@ use crate::places::Place;
 use arm2_effect::ahead_of;
 use bus_ticks::{Class, Profile, worst_fetch_n, worst_fetch_s, worst_leave, worst_transfer};
 use statement::Statement;
-
-/// The address to which a branch leads.
-pub fn branch_target(address: u32, offset: u32) -> u32
-    ensures sum { result ≡ branch_target address offset }
-    ensures fits { result < SPACE_END }
-{
-    ahead_of(ahead_of(address, 8), offset.wrapping_mul(4))
-}
 
 /// What a word costs that is passed over: the fetch of the word after the next.
 pub fn passing_ticks(profile: &Profile, address: u32) -> u32

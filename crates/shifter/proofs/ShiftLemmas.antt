@@ -12,7 +12,8 @@ use Rattle.std.proofs.Math.Seq.{drop-append-add, take-append-add}
 use Rattle.arm2_decode.specs.declared.names.Shift.{Shift as Kind}
 use Rattle.arm2_decode.specs.declared.names.Shift.TheVariants.{Lsr, Asr}
 use Rattle.shifter.specs.declared.shifts.Shifted.{Shifted}
-use Rattle.shifter.specs.Word.{bits_from, bit_of_word, fill_word, word_bits}
+use Rattle.arm2_decode.specs.Bits.{bit_of_word}
+use Rattle.shifter.specs.Word.{bits_from, fill_word, word_bits}
 use Rattle.shifter.specs.Shifts.{Has, TakesCycles, by_immediate, by_register, left, right}
 use Rattle.shifter.proofs.BitLists.{length-bits_from, get_or-bits_from, same_bits, bits_from-cat, bits_from-zero, drop-bits_from, take-bits_from, rest_below}
 

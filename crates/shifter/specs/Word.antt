@@ -1,10 +1,6 @@
 -- A word as a list of its bits, the lowest first.
 use Rattle.std.specs.Prelude.{ℕ, zero, suc, ◌/◌, ◌%◌, ◌^◌, ◌-◌, ◌==◌, Bool, true, false, List, [], ◌∷◌}
 
--- bit number i
-abbrev pub bit_of_word : ℕ → ℕ → Bool
-bit_of_word word i = word / 2 ^ i % 2 == 1
-
 -- the lowest bits of a number
 unfoldable pub bits_from : ℕ → ℕ → List Bool
 bits_from zero number = []

@@ -1,9 +1,10 @@
 ghost use Rattle.std.specs.Prelude.{◌≡◌, ◌≤◌, ◌<◌, ◌*◌, ◌++◌, drop, take};
 ghost use Rattle.shifter.specs.Shifts.{by_immediate, by_register, extended, left, right, rotated, Has};
 ghost use Rattle.shifter.specs.Shifts.{TakesCycles};
-ghost use Rattle.shifter.specs.Word.{bit_of_word, fill_word, word_bits};
+ghost use Rattle.arm2_decode.specs.Bits.{bit_of_word};
+ghost use Rattle.shifter.specs.Word.{fill_word, word_bits};
 
-use arm2_decode::Shift;
+use arm2_decode::{Shift, bit_of_word};
 
 /// The result of a shift.
 #[derive(Clone, Copy, Debug, PartialEq, Eq)]
@@ -14,13 +15,6 @@ pub struct Shifted {
     pub carry: bool,
 }
 
-fn bit(value: u32, place: u32) -> bool
-    requires { place < 32 }
-    ensures { result ≡ bit_of_word value place }
-{
-    (value >> place) & 1 == 1
-}
-
 fn shift_left(amount: u32, value: u32) -> Shifted
     requires { 1 ≤ amount }
     ensures { Has result (left amount (word_bits value)) }
@@ -28,12 +22,12 @@ fn shift_left(amount: u32, value: u32) -> Shifted
     if amount < 32 {
         Shifted {
             value: value << amount,
-            carry: bit(value, 32 - amount),
+            carry: bit_of_word(value, 32 - amount),
         }
     } else {
         Shifted {
             value: 0,
-            carry: amount == 32 && bit(value, 0),
+            carry: amount == 32 && bit_of_word(value, 0),
         }
     }
 }
@@ -53,12 +47,16 @@ fn shift_right(amount: u32, fill: bool, value: u32) -> Shifted
     if amount < 32 {
         Shifted {
             value: (value >> amount) + (ones << (32 - amount)),
-            carry: bit(value, amount - 1),
+            carry: bit_of_word(value, amount - 1),
         }
     } else {
         Shifted {
             value: ones,
-            carry: if amount == 32 { bit(value, 31) } else { fill },
+            carry: if amount == 32 {
+                bit_of_word(value, 31)
+            } else {
+                fill
+            },
         }
     }
 }
@@ -80,7 +78,7 @@ fn rotate(amount: u32, value: u32) -> Shifted
     let value = turn(amount % 32, value);
     Shifted {
         value,
-        carry: bit(value, 31),
+        carry: bit_of_word(value, 31),
     }
 }
 
@@ -90,7 +88,7 @@ fn extend(value: u32, carry: bool) -> Shifted
 {
     Shifted {
         value: value / 2 + u32::from(carry) * 0x8000_0000,
-        carry: bit(value, 0),
+        carry: bit_of_word(value, 0),
     }
 }
 
@@ -99,7 +97,7 @@ macro_rules! moved {
         match $kind {
             Shift::Lsl => shift_left($amount, $value),
             Shift::Lsr => shift_right($amount, false, $value),
-            Shift::Asr => shift_right($amount, bit($value, 31), $value),
+            Shift::Asr => shift_right($amount, bit_of_word($value, 31), $value),
             Shift::Ror => rotate($amount, $value),
         }
     };

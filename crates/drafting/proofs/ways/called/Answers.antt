@@ -1,6 +1,7 @@
 use Rattle.std.proofs.Common.{◌≡◌, ◌∙◌, true, ap, sym, subst}
 use Rattle.arm2_decode.specs.Names.{is_never}
-use Rattle.drafting.specs.Reach.{Calls, words_on}
+use Rattle.arm2_effect.specs.ProgramCounter.{branch_target}
+use Rattle.drafting.specs.Reach.{Calls}
 use Rattle.drafting.specs.declared.words.Reading.{Reading}
 use Rattle.drafting.proofs.WayLaws.{no_call, same_reading}
 use Rattle.drafting.proofs.ways.called.Goals as goal
@@ -16,15 +17,15 @@ returns-in-Call-clause-some c = (
   c.in_ok-reading.reading,
   c.in_ok-reading.ensures.some,
   sym c.is_never.ensures ∙ c.if-is_never.false,
-  subst (λ w. Calls c.args.image.now c.args.at w c.words_on.result) (sym c.in-Call.is) c.words_on.ensures,
+  subst (λ w. Calls c.args.image.now c.args.at w c.branch_target.result) (sym c.in-Call.is) c.branch_target.ensures.sum,
 )
 
 pub returns-in-Call-clause-only : goal.returns-in-Call-clause-only
 returns-in-Call-clause-only c = λ to h.
     let same = same_reading c.in_ok-reading.reading h.0 (c.in_ok-reading.ensures.only h.0 h.1) in
-    let leads : to ≡ words_on c.args.at c.in-Call.offset =
+    let leads : to ≡ branch_target c.args.at c.in-Call.offset =
     subst (λ w. Calls c.args.image.now c.args.at w to) (sym (ap (λ (r : Reading). r.way) same) ∙ c.in-Call.is) h.3 in
-    cc (leads, c.words_on.ensures)
+    cc (leads, c.branch_target.ensures.sum)
 
 pub returns-in_default-clause-only : goal.returns-in_default-clause-only
 returns-in_default-clause-only c = λ to h.

@@ -10,7 +10,7 @@ loop-n-init c = gains_none (IsPlaceBelow c.args.at 0) c.args.out.now.items (λ a
 pub loop-n-preserved : goal.loop-n-preserved
 loop-n-preserved c =
     places_more c.args.at c.args.out.now.items c.loop-n.n c.loop-n.out.items c.push.new.self.items _ c.loop-n.invariant
-    c.words_on.ensures c.in_ok-push.ensures.items
+    c.branch_target.ensures.sum c.in_ok-push.ensures.items
 
 pub returns : goal.returns
 returns c =

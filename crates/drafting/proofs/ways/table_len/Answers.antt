@@ -8,7 +8,7 @@ loop-n-init c = branches_none _ _
 
 pub loop-n-preserved : goal.loop-n-preserved
 loop-n-preserved c =
-    branches_more c.args.image.now c.args.at c.loop-n.n c.words_on.result c.loop-n.invariant c.words_on.ensures
+    branches_more c.args.image.now c.args.at c.loop-n.n c.branch_target.result c.loop-n.invariant c.branch_target.ensures.sum
     (c.is_branch.ensures.yes c.if-not-is_branch.false)
 
 pub returns-then-not-is_branch : goal.returns-then-not-is_branch
@@ -16,7 +16,7 @@ returns-then-not-is_branch c =
     places_all c.args.image.now c.args.at c.loop-n.n c.loop-n.invariant
     (c.is_table_jump_at.ensures.0 c.if-not-is_table_jump_at.false) c.loop-n.auto.n-end
     (λ place.
-    let here = subst (IsBranchAt c.args.image.now) (sym c.words_on.ensures) (place.branches c.loop-n.n (omega arith)) in
+    let here = subst (IsBranchAt c.args.image.now) (sym c.branch_target.ensures.sum) (place.branches c.loop-n.n (omega arith)) in
     cc (c.is_branch.ensures.no here, c.if-not-is_branch.true))
 
 pub returns : goal.returns
