@@ -1,9 +1,9 @@
 -- The first line of a source.
 use Rattle.std.proofs.Common.{◌≡◌, ℕ, suc, ◌+◌, ◌-◌, ◌<◌, Bool, true, false, cond, not, ◌==◌, ◌&&◌, List, [], ◌∷◌, ◌++◌, length, take, drop, get_or, refl, sym, ap, ◌∙◌, inl, inr, eqb-true, arith}
-use Rattle.std.specs.List.{list_all}
+use Rattle.std.specs.List.{list_all, onto_first}
 use Rattle.std.proofs.lemmas.List.{take-append-drop, take_all, drop_more}
 use Rattle.std.proofs.lemmas.Bool.{and_parts, cases_Bool}
-use Rattle.asm_text.specs.Source.{feed_len, in_front, lines_of, no_return, starts_feed}
+use Rattle.asm_text.specs.Source.{feed_len, lines_of, no_return, starts_feed}
 use Rattle.asm_text.proofs.PieceLaws.{first_passes, prefix_all, prefix_stop}
 
 pub line_none : lines_of [] ≡ []
@@ -23,11 +23,11 @@ other b h = elim (cases_Bool (b == 10)) [ inl e ↦ let k : not true ≡ true = 
 feed : (b : ℕ) → no_feed b ≡ false → b ≡ 10
 feed b h = elim (cases_Bool (b == 10)) [ inl e ↦ eqb-true b 10 e | inr e ↦ let k : not false ≡ false = rw e at h in absurd cc ]
 
-line_step : (b : ℕ) (bs : List ℕ) → lines_of (b ∷ bs) ≡ cond (b == 10) ([] ∷ lines_of bs) (cond (b == 13 && starts_feed bs) (lines_of bs) (in_front b (lines_of bs)))
+line_step : (b : ℕ) (bs : List ℕ) → lines_of (b ∷ bs) ≡ cond (b == 10) ([] ∷ lines_of bs) (cond (b == 13 && starts_feed bs) (lines_of bs) (onto_first b (lines_of bs)))
 unfolding lines_of
 line_step b bs = refl
 
-plain_step : (b : ℕ) (bs : List ℕ) → no_feed b ≡ true → (b == 13 && starts_feed bs) ≡ false → lines_of (b ∷ bs) ≡ in_front b (lines_of bs)
+plain_step : (b : ℕ) (bs : List ℕ) → no_feed b ≡ true → (b == 13 && starts_feed bs) ≡ false → lines_of (b ∷ bs) ≡ onto_first b (lines_of bs)
 plain_step b bs h k = line_step b bs ∙ rw (other b h, k) refl
 
 feed_step : (rest : List ℕ) → lines_of (10 ∷ rest) ≡ [] ∷ lines_of rest
@@ -40,11 +40,11 @@ no_end b bs h = elim (cases_Bool (b == 13)) [ inl e ↦ rw (e, h) refl | inr e �
 one_line : (b : ℕ) (bs : List ℕ) → list_all no_feed (b ∷ bs) ≡ true → lines_of (b ∷ bs) ≡ (b ∷ bs) ∷ []
 one_line b [] h =
     let k = and_parts (no_feed b) true h in
-    plain_step b [] k.0 (no_end b [] refl) ∙ ap (in_front b) line_none
+    plain_step b [] k.0 (no_end b [] refl) ∙ ap (onto_first b) line_none
 one_line b (c ∷ bs) h =
     let k = and_parts (no_feed b) (list_all no_feed (c ∷ bs)) h in
     let m = and_parts (no_feed c) (list_all no_feed bs) k.1 in
-    plain_step b (c ∷ bs) k.0 (no_end b (c ∷ bs) (other c m.0)) ∙ ap (in_front b) (one_line c bs k.1)
+    plain_step b (c ∷ bs) k.0 (no_end b (c ∷ bs) (other c m.0)) ∙ ap (onto_first b) (one_line c bs k.1)
 
 return_one : (b : ℕ) (t : Bool) → (b == 13) ≡ t → no_return (b ∷ []) ≡ cond t [] (b ∷ [])
 unfolding no_return
@@ -56,7 +56,7 @@ return_more b c rest = refl
 
 ends_one : (b : ℕ) (rest : List ℕ) (t : Bool) → no_feed b ≡ true → (b == 13) ≡ t → lines_of (b ∷ 10 ∷ rest) ≡ no_return (b ∷ []) ∷ lines_of rest
 ends_one b rest true h e = line_step b (10 ∷ rest) ∙ rw (other b h, e) (feed_step rest ∙ ap (λ (l : List ℕ). l ∷ lines_of rest) (sym (return_one b true e)))
-ends_one b rest false h e = line_step b (10 ∷ rest) ∙ rw (other b h, e) (ap (in_front b) (feed_step rest) ∙ ap (λ (l : List ℕ). l ∷ lines_of rest) (sym (return_one b false e)))
+ends_one b rest false h e = line_step b (10 ∷ rest) ∙ rw (other b h, e) (ap (onto_first b) (feed_step rest) ∙ ap (λ (l : List ℕ). l ∷ lines_of rest) (sym (return_one b false e)))
 
 -- in front of an LF a line ends
 ended : (text rest : List ℕ) → list_all no_feed text ≡ true → lines_of (text ++ 10 ∷ rest) ≡ no_return text ∷ lines_of rest
@@ -67,7 +67,7 @@ ended (b ∷ []) rest h =
 ended (b ∷ c ∷ bs) rest h =
     let k = and_parts (no_feed b) (list_all no_feed (c ∷ bs)) h in
     let m = and_parts (no_feed c) (list_all no_feed bs) k.1 in
-    plain_step b ((c ∷ bs) ++ 10 ∷ rest) k.0 (no_end b ((c ∷ bs) ++ 10 ∷ rest) (other c m.0)) ∙ ap (in_front b) (ended (c ∷ bs) rest k.1)
+    plain_step b ((c ∷ bs) ++ 10 ∷ rest) k.0 (no_end b ((c ∷ bs) ++ 10 ∷ rest) (other c m.0)) ∙ ap (onto_first b) (ended (c ∷ bs) rest k.1)
     ∙ ap (λ (l : List ℕ). l ∷ lines_of rest) (sym (return_more b c bs))
 
 passes_at : (p : ℕ → Bool) (text : List ℕ) (n : ℕ) → n < length text → first_passes p (drop n text) ≡ p (get_or text n 0)

@@ -2,6 +2,7 @@
 use Rattle.std.proofs.Common.{◌≡◌, ℕ, Bool, true, false, cond, not, List, [], ◌∷◌, ◌++◌, Some, None, refl, sym, ap, subst, ◌∙◌, inl, inr, append_assoc}
 use Rattle.std.specs.Prelude.{option_map, option_and_then}
 use Rattle.arm2_decode.specs.declared.names.Register.{Register}
+use Rattle.asm_text.proofs.WordLaws.{map_is}
 use Rattle.asm_text.specs.Pieces.{Piece, Run, Comma, Sign}
 use Rattle.asm_text.specs.Numbers.{number_first}
 use Rattle.asm_text.specs.Registers.{register_first}
@@ -16,7 +17,7 @@ use Rattle.asm_text.specs.declared.syntax.Distance.TheVariants as distance
 use Rattle.asm_text.specs.declared.syntax.Address.{Address}
 use Rattle.std.proofs.lemmas.List.{append-nil}
 use Rattle.std.proofs.lemmas.Option.{none-some, same_Some}
-use Rattle.asm_text.proofs.SpelledNames.{and_then_is, front_number, front_register, map_is, number_front, register_again, register_front, whole_is}
+use Rattle.asm_text.proofs.SpelledNames.{and_then_is, front_number, front_register, number_front, register_again, register_front, whole_is}
 use Rattle.asm_text.proofs.SpelledShifts.{ends_shift, front_shifting, shifting_front}
 
 -- ---- offsets

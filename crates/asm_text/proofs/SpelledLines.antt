@@ -30,8 +30,8 @@ use Rattle.asm_text.specs.declared.statement.Expects.TheVariants as expects
 use Rattle.asm_text.specs.declared.statement.TextFault.{TextFault}
 use Rattle.asm_text.specs.declared.statement.TextFault.TheVariants.{NotText, UnknownWord}
 use Rattle.asm_text.proofs.PieceLaws.{first_passes, pieces_again, pieces_spaced, pieces_written, prefix_all, prefix_stop}
-use Rattle.asm_text.proofs.WordLaws.{chosen, same_Ok, spelled_again, spelled_is}
-use Rattle.asm_text.proofs.SpelledNames.{and_then_is, front_register_comma, map_is, number_whole, register_comma_front, whole_number}
+use Rattle.asm_text.proofs.WordLaws.{chosen, map_is, same_Ok, spelled_again, spelled_is}
+use Rattle.asm_text.proofs.SpelledNames.{and_then_is, front_register_comma, number_whole, register_comma_front, whole_number}
 use Rattle.asm_text.proofs.SpelledShifts.{data_again, data_is, product_again, product_is}
 use Rattle.asm_text.proofs.SpelledAddresses.{address_again, address_is}
 use Rattle.asm_text.proofs.WordEnds.{parts_end}

@@ -2,7 +2,7 @@
 use Rattle.std.proofs.Common.{◌≡◌, ◌≤◌, ℕ, Bool, true, false, List, [], ◌∷◌, ◌++◌, Option, Some, None, refl, sym, ap, subst, ◌∙◌, inl, inr, ◌⊎◌, append_assoc, arith, map}
 use Rattle.std.specs.Prelude.{◌==◌, ◌||◌, nat_le, nat_lt, length, bit_or, option_map, option_and_then}
 use Rattle.std.specs.Char.{is_ascii_alphabetic, is_digit}
-use Rattle.std.specs.List.{fold}
+use Rattle.std.specs.List.{cons_option, fold}
 use Rattle.std.proofs.Common.{eqb-true}
 use Rattle.std.proofs.lemmas.Bool.{and_parts, cases_Bool}
 use Rattle.std.proofs.lemmas.Bool.Decides.{nat_tests}
@@ -12,7 +12,7 @@ use Rattle.asm_text.specs.Pieces.{Piece, Run, Comma, Sign}
 use Rattle.asm_text.specs.Numbers.{hex_first, number_by, run_number, with_rest}
 use Rattle.asm_text.specs.Registers.{register_first, register_of}
 use Rattle.asm_text.specs.Operands.{after_step, block, block_based, block_of, braced, caret_of, list_from, list_by, run_bits, with_bits}
-use Rattle.asm_text.specs.Statements.{is_label, only_target, run_target, target_by, values_in, with_value}
+use Rattle.asm_text.specs.Statements.{is_label, only_target, run_target, target_by, values_in}
 use Rattle.asm_text.specs.Said.{Target, Number, Label}
 use Rattle.asm_text.specs.SpelledOperands.{IsDigits, IsRegister, Listed, SpellsBlock, SpellsNumber, SpellsRun, all_bits, bits_of, marked}
 use Rattle.asm_text.specs.Spelling.{SpellsTarget}
@@ -27,8 +27,8 @@ use Rattle.asm_text.specs.declared.statement.Expects.{Expects}
 use Rattle.asm_text.specs.declared.statement.Expects.TheVariants as expects
 use Rattle.std.proofs.lemmas.List.{append-nil}
 use Rattle.std.proofs.lemmas.Option.{none-some, same_Some}
-use Rattle.asm_text.proofs.WordLaws.{chosen}
-use Rattle.asm_text.proofs.SpelledNames.{and_then_is, digits_again, digits_is, front_register, map_is, number_again, number_front, number_is, register_again, register_front, register_is, whole_is, with_rest_is}
+use Rattle.asm_text.proofs.WordLaws.{chosen, map_is}
+use Rattle.asm_text.proofs.SpelledNames.{and_then_is, digits_again, digits_is, front_register, number_again, number_front, number_is, register_again, register_front, register_is, whole_is, with_rest_is}
 
 -- ---- a list, one more in front
 
@@ -302,26 +302,26 @@ unfolding Values Rest
 values_is [] expects.After vs e = inl (refl, sym (same_Some [] vs e))
 values_is [] at vs e = absurd (none-some vs e)
 values_is (Run d ∷ ps) expects.Start vs e =
-    let k = and_then_is (λ f. option_map (with_value f.0) (values_in f.1 ps)) (option_map (λ v. (Some v, expects.After)) (run_target d)) vs e in
+    let k = and_then_is (λ f. option_map (cons_option f.0) (values_in f.1 ps)) (option_map (λ v. (Some v, expects.After)) (run_target d)) vs e in
     let v = map_is (λ v. (Some v, expects.After)) (run_target d) k.0 k.1 in
-    let there : option_map (with_value (Some v.0)) (values_in expects.After ps) ≡ Some vs = ap (λ (f : Option Target × Expects). option_map (with_value f.0) (values_in f.1 ps)) v.2 ∙ k.2 in
-    let m = map_is (with_value (Some v.0)) (values_in expects.After ps) vs there in
+    let there : option_map (cons_option (Some v.0)) (values_in expects.After ps) ≡ Some vs = ap (λ (f : Option Target × Expects). option_map (cons_option f.0) (values_in f.1 ps)) v.2 ∙ k.2 in
+    let m = map_is (cons_option (Some v.0)) (values_in expects.After ps) vs there in
     subst (λ (ws : List Target). Listed SpellsTarget ws (Run d ∷ ps)) m.2 (value_added v.0 m.0 (Run d ∷ []) ps (run_target_is d v.0 v.1) (values_is ps expects.After m.0 m.1))
 values_is (Sign Ampersand ∷ ps) expects.Start vs e =
-    let m = map_is (with_value None) (values_in expects.Hex ps) vs e in
+    let m = map_is (cons_option None) (values_in expects.Hex ps) vs e in
     let h = values_is ps expects.Hex m.0 m.1 in
     let front = value_added (Number h.1) h.2 (Sign Ampersand ∷ Run h.0 ∷ []) h.3 (inr (h.0, refl, h.5)) h.7 in
     subst (λ (rs : List Piece). Listed SpellsTarget vs (Sign Ampersand ∷ rs)) (sym h.4) (subst (λ (ws : List Target). Listed SpellsTarget ws (Sign Ampersand ∷ Run h.0 ∷ h.3)) (sym h.6 ∙ m.2) front)
 values_is (p ∷ ps) expects.Start vs e = absurd (none-some vs e)
 values_is (Run d ∷ ps) expects.Hex vs e =
-    let k = and_then_is (λ f. option_map (with_value f.0) (values_in f.1 ps)) (option_map (λ n. (Some (Number n), expects.After)) (number_by 16 d)) vs e in
+    let k = and_then_is (λ f. option_map (cons_option f.0) (values_in f.1 ps)) (option_map (λ n. (Some (Number n), expects.After)) (number_by 16 d)) vs e in
     let n = map_is (λ n. (Some (Number n), expects.After)) (number_by 16 d) k.0 k.1 in
-    let there : option_map (with_value (Some (Number n.0))) (values_in expects.After ps) ≡ Some vs = ap (λ (f : Option Target × Expects). option_map (with_value f.0) (values_in f.1 ps)) n.2 ∙ k.2 in
-    let m = map_is (with_value (Some (Number n.0))) (values_in expects.After ps) vs there in
+    let there : option_map (cons_option (Some (Number n.0))) (values_in expects.After ps) ≡ Some vs = ap (λ (f : Option Target × Expects). option_map (cons_option f.0) (values_in f.1 ps)) n.2 ∙ k.2 in
+    let m = map_is (cons_option (Some (Number n.0))) (values_in expects.After ps) vs there in
     (d, n.0, m.0, ps, refl, digits_is 16 d n.0 n.1, sym m.2, values_is ps expects.After m.0 m.1)
 values_is (p ∷ ps) expects.Hex vs e = absurd (none-some vs e)
 values_is (Comma ∷ ps) expects.After vs e =
-    let m = map_is (with_value None) (values_in expects.Start ps) vs e in
+    let m = map_is (cons_option None) (values_in expects.Start ps) vs e in
     inr (ps, refl, subst (λ (ws : List Target). Listed SpellsTarget ws ps) m.2 (values_is ps expects.Start m.0 m.1))
 values_is (p ∷ ps) expects.After vs e = absurd (none-some vs e)
 
@@ -337,7 +337,7 @@ value_front (Number n) a qs h =
       | inr k ↦ rw (k.1, digits_again 16 k.0 n k.2) (hex_more n (values_in expects.After qs))
     ]
   where
-    hex_more : (n : ℕ) (o : Option (List Target)) → option_map (with_value None) (option_map (with_value (Some (Number n))) o) ≡ option_map (λ (vs : List Target). Number n ∷ vs) o
+    hex_more : (n : ℕ) (o : Option (List Target)) → option_map (cons_option None) (option_map (cons_option (Some (Number n))) o) ≡ option_map (λ (vs : List Target). Number n ∷ vs) o
     hex_more n None = refl
     hex_more n (Some vs) = refl
 value_front (Label d) a qs h = rw (h.0, label_no_number d h.1, h.1) refl

@@ -1,6 +1,6 @@
 -- Numbers and names are read as they are spelled.
 use Rattle.std.proofs.Common.{◌≡◌, ◌<◌, ◌^◌, ℕ, zero, suc, Bool, true, ◌==◌, ◌&&◌, List, [], ◌∷◌, ◌++◌, length, Option, Some, None, codes, refl, sym, ap, subst, ◌∙◌, inl, inr, ◌⊎◌, arith, eqb-true, get_or}
-use Rattle.std.specs.Prelude.{nat_lt, is_none, option_map, option_and_then}
+use Rattle.std.specs.Prelude.{nat_lt, is_none, option_and_then}
 use Rattle.std.specs.Char.{is_digit}
 use Rattle.std.specs.List.{Contains, list_all}
 use Rattle.std.specs.Str.{bytes_eq}
@@ -24,10 +24,6 @@ use Rattle.asm_text.proofs.WordLaws.{chosen, equal_bytes, false_true, same_bytes
 pub and_then_is : {A B : Type 0} (f : A → Option B) (o : Option A) (b : B) → option_and_then f o ≡ Some b → (a : A) × (o ≡ Some a) × (f a ≡ Some b)
 and_then_is f None b e = absurd (none-some b e)
 and_then_is f (Some a) b e = (a, refl, e)
-
-pub map_is : {A B : Type 0} (f : A → B) (o : Option A) (b : B) → option_map f o ≡ Some b → (a : A) × (o ≡ Some a) × (f a ≡ b)
-map_is f None b e = absurd (none-some b e)
-map_is f (Some a) b e = (a, refl, same_Some (f a) b e)
 
 pub with_rest_is : {A : Type 0} (ps : List Piece) (o : Option A) (f : A × List Piece) → with_rest ps o ≡ Some f → (o ≡ Some f.0) × (ps ≡ f.1)
 with_rest_is ps None f e = absurd (none-some f e)

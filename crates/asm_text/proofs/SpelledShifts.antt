@@ -24,8 +24,8 @@ use Rattle.asm_text.specs.declared.syntax.Data.{Data}
 use Rattle.asm_text.specs.declared.syntax.Product.{Product}
 use Rattle.std.proofs.lemmas.List.{append-nil}
 use Rattle.std.proofs.lemmas.Option.{none-some, same_Some}
-use Rattle.asm_text.proofs.WordLaws.{chosen}
-use Rattle.asm_text.proofs.SpelledNames.{and_then_is, front_number, front_register, front_register_comma, map_is, number_front, number_whole, register_again, register_comma_front, register_front, register_is, rrx_again, rrx_is, shift_again, shift_is, whole_is, whole_number}
+use Rattle.asm_text.proofs.WordLaws.{chosen, map_is}
+use Rattle.asm_text.proofs.SpelledNames.{and_then_is, front_number, front_register, front_register_comma, number_front, number_whole, register_again, register_comma_front, register_front, register_is, rrx_again, rrx_is, shift_again, shift_is, whole_is, whole_number}
 
 -- ---- shifts
 

@@ -1,5 +1,5 @@
 -- What is read is spelled so, and what is spelled so is read.
-use Rattle.std.specs.Prelude.{IfSome, IfOk, ◌==◌, ◌&&◌, ◌||◌, map}
+use Rattle.std.specs.Prelude.{IfSome, IfOk, ◌==◌, ◌&&◌, ◌||◌, map, option_map}
 use Rattle.std.specs.Char.{to_ascii_lowercase, to_ascii_uppercase}
 use Rattle.std.specs.List.{list_all}
 use Rattle.std.proofs.Common.{◌≡◌, ◌<◌, length-take, ℕ, Bool, true, false, cond, List, [], ◌∷◌, ◌++◌, length, take, drop, Option, Some, None, Result, Ok, Err, codes, refl, sym, ap, subst, ◌∙◌, inl, inr, ◌⊎◌, arith}
@@ -17,7 +17,7 @@ use Rattle.asm_text.specs.declared.names.Suffix.TheVariants.{Bare}
 use Rattle.asm_text.specs.declared.word.Word.{Word}
 use Rattle.asm_text.specs.declared.word.Word.TheVariants.{Plain, Branch, Org, Dcd}
 use Rattle.asm_text.specs.Names.{cond_name, head_name, suffix_name, conds, heads, suffixes, named, cond_of, head_of, suffix_of, may_have}
-use Rattle.asm_text.specs.Words.{IsCond, branch_name, IsWord, IsSpelling, is_one_case, upper, spelled_word_of, word_of_cond, whole_cond, linked, branch_rest, branch_of, with_suffix, head_cond, head_rest, plain_of, plain_unless, word_of}
+use Rattle.asm_text.specs.Words.{IsCond, branch_name, IsWord, IsSpelling, is_one_case, upper, spelled_word_of, whole_cond, linked, branch_rest, branch_of, with_suffix, head_cond, head_rest, plain_of, plain_unless, word_of}
 
 pub chosen : {A : Type 0} (b : Bool) (x y z : A) → cond b x y ≡ z → ((b ≡ true) × (x ≡ z)) ⊎ ((b ≡ false) × (y ≡ z))
 chosen true x y z e = inl (refl, e)
@@ -115,16 +115,16 @@ unfolding cond_of
 whole_is [] c e = inr (refl, sym (same_Some Al c e))
 whole_is (b ∷ bs) c e = inl (named_is cond_name conds (b ∷ bs) c e)
 
-made_is : (make : Cond → Word) (o : Option Cond) (w : Word) → word_of_cond make o ≡ Some w → (c : Cond) × (o ≡ Some c) × (make c ≡ w)
-made_is make None w e = absurd cc
-made_is make (Some c) w e = (c, refl, same_Some (make c) w e)
+pub map_is : {A B : Type 0} (f : A → B) (o : Option A) (b : B) → option_map f o ≡ Some b → (a : A) × (o ≡ Some a) × (f a ≡ b)
+map_is f None b e = absurd (none-some b e)
+map_is f (Some a) b e = (a, refl, same_Some (f a) b e)
 
 linked_is : (text : List ℕ) (w : Word) → linked text ≡ Some w → (rest : List ℕ) × (c : Cond) × (text ≡ codes "L" ++ rest) × IsCond rest c × (w ≡ Branch true c)
 linked_is [] w e = absurd cc
 linked_is (b ∷ rest) w e =
-    elim (chosen (bytes_eq (b ∷ []) (codes "L")) (word_of_cond (Branch true) (whole_cond rest)) None (Some w) e) [
+    elim (chosen (bytes_eq (b ∷ []) (codes "L")) (option_map (Branch true) (whole_cond rest)) None (Some w) e) [
       | inl h ↦
-          let m = made_is (Branch true) (whole_cond rest) w h.1 in
+          let m = map_is (Branch true) (whole_cond rest) w h.1 in
           (rest, m.0, ap (λ (t : List ℕ). t ++ rest) (equal_bytes (b ∷ []) (codes "L") h.0), whole_is rest m.0 m.1, sym m.2)
       | inr h ↦ absurd (none-some w h.1)
     ]

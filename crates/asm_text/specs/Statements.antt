@@ -3,7 +3,7 @@ use Rattle.std.specs.Prelude.{ℕ, ◌==◌, ◌&&◌, ◌||◌, not, nat_le, na
 use Rattle.std.specs.Prelude.{Option, Some, None, Result, Ok, Err, option_map, option_and_then, if◌then◌else◌}
 use Rattle.std.specs.Prelude.{length, take, drop}
 use Rattle.std.specs.Char.{is_ascii_alphabetic}
-use Rattle.std.specs.List.{list_all, prefix_len}
+use Rattle.std.specs.List.{cons_option, list_all, prefix_len}
 use Rattle.arm2_decode.specs.declared.names.Cond.{Cond}
 use Rattle.arm2_decode.specs.declared.names.Register.{Register}
 use Rattle.asm_text.specs.Pieces.{Piece, Run, Comma, Sign, Gap, is_blank, is_name, pieces}
@@ -101,10 +101,6 @@ value_step Hex (Run d) = option_map (λ n. (Some (Number n), After)) (number_by 
 value_step After Comma = Some (None, Start)
 value_step _ _ = None
 
-abbrev pub with_value : Option Target → List Target → List Target
-with_value None vs = vs
-with_value (Some v) vs = v ∷ vs
-
 abbrev pub no_values : Expects → Option (List Target)
 no_values After = Some []
 no_values _ = None
@@ -113,7 +109,7 @@ no_values _ = None
 abbrev pub values_in : Expects → List Piece → Option (List Target)
 values_in expects [] = no_values expects
 values_in expects (p ∷ ps) =
-    option_and_then (λ f. option_map (with_value f.0) (values_in f.1 ps)) (value_step expects p)
+    option_and_then (λ f. option_map (cons_option f.0) (values_in f.1 ps)) (value_step expects p)
 
 abbrev pub dcd_said : List Piece → Option Said
 dcd_said ps = option_map Lists (values_in Start ps)

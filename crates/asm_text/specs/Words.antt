@@ -1,6 +1,6 @@
 -- The words of the source: a head, a condition or none, and a suffix.
 use Rattle.std.specs.Prelude.{◌≡◌, ◌||◌, ℕ, List, [], ◌∷◌, ◌++◌, codes, Bool, true, false, Option, Some, None}
-use Rattle.std.specs.Prelude.{◌⊎◌, map, take, drop, if◌then◌else◌}
+use Rattle.std.specs.Prelude.{◌⊎◌, map, take, drop, if◌then◌else◌, option_map}
 use Rattle.std.specs.Char.{to_ascii_uppercase, to_ascii_lowercase}
 use Rattle.std.specs.Str.{bytes_eq}
 use Rattle.arm2_decode.specs.declared.names.Cond.{Cond}
@@ -42,10 +42,6 @@ IsSpelling text w = (is_one_case text ≡ true) × IsWord (upper text) w
 
 -- ---- reading one
 
-abbrev pub word_of_cond : (Cond → Word) → Option Cond → Option Word
-word_of_cond make None = None
-word_of_cond make (Some c) = Some (make c)
-
 -- a condition that is all of the text
 abbrev pub whole_cond : List ℕ → Option Cond
 whole_cond [] = Some Al
@@ -54,7 +50,7 @@ whole_cond (c ∷ cs) = cond_of (c ∷ cs)
 abbrev pub linked : List ℕ → Option Word
 linked [] = None
 linked (c ∷ rest) =
-    if bytes_eq (c ∷ []) (codes "L") then word_of_cond (Branch true) (whole_cond rest) else None
+    if bytes_eq (c ∷ []) (codes "L") then option_map (Branch true) (whole_cond rest) else None
 
 abbrev pub branch_rest : Option Cond → List ℕ → Option Word
 branch_rest (Some c) rest = Some (Branch false c)

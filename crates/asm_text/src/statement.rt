@@ -1,5 +1,5 @@
 ghost use Rattle.std.specs.Prelude.{◌≡◌, ◌++◌, ◌⊎◌, IfOk, IfErr, OnOk, Ok, Err, [], map, option_map};
-ghost use Rattle.std.specs.List.{list_all};
+ghost use Rattle.std.specs.List.{cons_option, list_all};
 ghost use Rattle.asm_text.specs.Pieces.{is_name, piece_of};
 ghost use Rattle.asm_text.specs.Operands.{alone, is_byte, is_user};
 ghost use Rattle.asm_text.specs.Said.{said, target_of};
@@ -7,7 +7,7 @@ ghost use Rattle.asm_text.specs.Statements.{action_of, adr_said, code_said, dcd_
 ghost use Rattle.asm_text.specs.Statements.{after_word, operands_of};
 ghost use Rattle.asm_text.specs.Statements.{only_number, only_target};
 ghost use Rattle.asm_text.specs.Statements.{is_label, plain_said, run_target};
-ghost use Rattle.asm_text.specs.Statements.{target_first, with_value, single_said, single_with, statement_of};
+ghost use Rattle.asm_text.specs.Statements.{target_first, single_said, single_with, statement_of};
 ghost use Rattle.asm_text.specs.Statements.{value_step, values_in};
 ghost use Rattle.asm_text.specs.declared.statement.Expects.TheVariants.{Start};
 ghost use Rattle.asm_text.specs.declared.statement.TextFault.TheVariants.{Memory};
@@ -268,7 +268,7 @@ fn next_value<'a>(expects: Expects, token: Token<'a>) -> Option<(Option<Value<'a
 fn push_some<'a>(values: &mut Vec<Value<'a>>, value: Option<Value<'a>>) -> Result<(), AllocError>
     ensures { OnOk result
         (map target_of values.new.items
-        ≡ map target_of values.old.items ++ with_value (option_map target_of value.entry) []) }
+        ≡ map target_of values.old.items ++ cons_option (option_map target_of value.entry) []) }
 {
     if let Some(value) = value {
         values.push(value)?;

@@ -8,7 +8,7 @@ use Rattle.std.proofs.lemmas.List.{length-append}
 use Rattle.std.proofs.lemmas.Slice.Eq.{bytes_eq-Decides}
 use Rattle.loader.specs.Image.{may_hold}
 use Rattle.asm_text.specs.Statements.{Parsed, line_of}
-use Rattle.assembler.specs.Assembles.{AreFree, AreWords, Laid, Once, address_after, label_at, labels_of, laid_from, places, places_from, segments, word_count}
+use Rattle.assembler.specs.Assembles.{AreFree, AreWords, Laid, Once, address_after, label_at, labels_of, laid_from, places, addresses_from, segments, word_count}
 use Rattle.loader.specs.Labels.{Names}
 use Rattle.assembler.specs.Sweeps.{State, label_fault, labelled, swept, with_name}
 use Rattle.assembler.proofs.AssembleSteps.{Step, said_is, segments_in}
@@ -85,7 +85,7 @@ pub record CanSweep (s : State) (taken : List ℕ) (names : Names) (lines : List
 line_ready : (s : State) (taken : List ℕ) (names : Names) (p : Parsed) (rest : List Laid) (ws : List ℕ) (words : List (List ℕ)) → NotEmpty p.said
     → CanSweep s taken names (record { at = s.at; label = p.label; said = p.said } ∷ rest) (ws ∷ words) → Ready s p.label p.said names ws taken
 line_ready s taken names p rest ws words some h =
-    let here = places_from s.at (word_count p.said) in
+    let here = addresses_from s.at (word_count p.said) in
     let there = flat_map places rest in
     record {
       exact = h.exact;
@@ -100,10 +100,10 @@ line_ready s taken names p rest ws words some h =
     }
 
 rest_ready : (s t : State) (k : ℕ) (taken : List ℕ) (names : Names) (p : Parsed) (rest : List Laid) (ws : List ℕ) (words : List (List ℕ))
-    → CanSweep s taken names (record { at = s.at; label = p.label; said = p.said } ∷ rest) (ws ∷ words) → Step s k p.label p.said t → Exact t (taken ++ places_from s.at (word_count p.said))
-    → CanSweep t (taken ++ places_from s.at (word_count p.said)) names rest words
+    → CanSweep s taken names (record { at = s.at; label = p.label; said = p.said } ∷ rest) (ws ∷ words) → Step s k p.label p.said t → Exact t (taken ++ addresses_from s.at (word_count p.said))
+    → CanSweep t (taken ++ addresses_from s.at (word_count p.said)) names rest words
 rest_ready s t k taken names p rest ws words h step exact =
-    let here = places_from s.at (word_count p.said) in
+    let here = addresses_from s.at (word_count p.said) in
     let there = flat_map places rest in
     let labels = free_after s p.label (labels_of rest) h.fresh h.once in
     let m = step.moves in
@@ -134,7 +134,7 @@ swept_ok (line ∷ lines) (p ∷ said) s k taken names (ws ∷ words) read some 
     let rest = laid_from (address_after s.at p.said) said in
     let one = said_ok s k p.label p.said names ws taken (line_ready s taken names p rest ws words some.0 h) in
     let step = said_is s k p.label p.said one.0 one.1 in
-    let here = places_from s.at (word_count p.said) in
+    let here = addresses_from s.at (word_count p.said) in
     let next = rest_ready s one.0 k taken names p rest ws words h step one.2 in
     let at-next : CanSweep one.0 (taken ++ here) names (laid_from one.0.at said) words = subst (λ (a : ℕ). CanSweep one.0 (taken ++ here) names (laid_from a said) words) (sym step.moves.at) next in
     let more = swept_ok lines said one.0 (k + 1) (taken ++ here) names words read.1 some.1 at-next in

@@ -8,7 +8,7 @@ use Rattle.std.proofs.lemmas.List.{length-append}
 use Rattle.loader.specs.Image.{lies_in_memory, may_hold}
 use Rattle.loader.proofs.PlaceLemmas.{Lies, lies_in, lies_more, lies_one, may_parts}
 use Rattle.asm_text.proofs.WordLaws.{false_true}
-use Rattle.assembler.specs.Assembles.{places_from}
+use Rattle.assembler.specs.Assembles.{addresses_from}
 use Rattle.assembler.specs.Sweeps.{Pending, State, closed_with, moved, open_has, overlaps, placed}
 use Rattle.assembler.proofs.AssembleSteps.{InSegments, put_all}
 use Rattle.loader.proofs.WordLemmas.{all_push}
@@ -84,11 +84,11 @@ exact_placed s k p taken h = record {
   words = omega (arith, h.words, length-append taken (s.at ∷ []));
 }
 
-pub exact_put : (s : State) (k : ℕ) (ps : List Pending) (taken : List ℕ) → Exact s taken → Exact (put_all s k ps) (taken ++ places_from s.at (length ps))
+pub exact_put : (s : State) (k : ℕ) (ps : List Pending) (taken : List ℕ) → Exact s taken → Exact (put_all s k ps) (taken ++ addresses_from s.at (length ps))
 unfolding put_all
 exact_put s k [] taken h = subst (Exact s) (sym (append-nil taken)) h
 exact_put s k (p ∷ ps) taken h =
-    subst (Exact (put_all (placed s k p) k ps)) (append_assoc taken (s.at ∷ []) (places_from (s.at + 4) (length ps)))
+    subst (Exact (put_all (placed s k p) k ps)) (append_assoc taken (s.at ∷ []) (addresses_from (s.at + 4) (length ps)))
     (exact_put (placed s k p) k ps (taken ++ s.at ∷ []) (exact_placed s k p taken h))
 
 any_split : (p : ℕ × ℕ → Bool) (xs : List (ℕ × ℕ)) (x : ℕ × ℕ) → list_any p (xs ++ x ∷ []) ≡ true → (list_any p xs ≡ true) ⊎ (p x ≡ true)
@@ -132,14 +132,14 @@ exact_moved s n taken four h = record {
 pub may_four : (a : ℕ) → may_hold a ≡ true → a % 4 ≡ 0
 may_four a h = (may_parts a h).0
 
-memory_all : (n at : ℕ) → AllByRecursion (λ a. may_hold a ≡ true) (places_from at (suc n)) → Lies at (at + 4 * suc n)
+memory_all : (n at : ℕ) → AllByRecursion (λ a. may_hold a ≡ true) (addresses_from at (suc n)) → Lies at (at + 4 * suc n)
 memory_all zero at h = lies_one at h.0
 memory_all (suc n) at h =
     let rest = memory_all n (at + 4) h.1 in
     let to : at + 4 + 4 * suc n ≡ at + 4 * suc (suc n) = omega arith in
     lies_more at (at + 4 * suc (suc n)) h.0 (subst (Lies (at + 4)) to rest) (omega arith)
 
-pub in_memory_all : (n at : ℕ) → AllByRecursion (λ a. may_hold a ≡ true) (places_from at (suc n))
+pub in_memory_all : (n at : ℕ) → AllByRecursion (λ a. may_hold a ≡ true) (addresses_from at (suc n))
     → lies_in_memory at (at + 4 * suc n) ≡ true
 in_memory_all n at h = lies_in at (at + 4 * suc n) (memory_all n at h)
 
@@ -172,7 +172,7 @@ overlap_point (s ∷ closed) from to four lt spans h =
           (p.0, p.1, p.2, p.3, or_right (nat_lt s.0 (p.0 + 1) && nat_lt p.0 s.1) (overlaps closed p.0 (p.0 + 1)) p.4)
     ]
 
-in_places : (n at a : ℕ) → at % 4 ≡ 0 → a % 4 ≡ 0 → at ≤ a → a < at + 4 * n → In (places_from at n) a
+in_places : (n at a : ℕ) → at % 4 ≡ 0 → a % 4 ≡ 0 → at ≤ a → a < at + 4 * n → In (addresses_from at n) a
 unfolding In
 in_places zero at a e k le lt = absurd (omega (arith, le, lt))
 in_places (suc n) at a e k le lt =
@@ -190,12 +190,12 @@ unfolding Apart In
 apart_at taken [] a h k there = k
 apart_at taken (x ∷ xs) a h k there = elim k [ inl e ↦ h.0 (subst (In taken) (sym e) there) | inr m ↦ apart_at taken xs a h.1 m there ]
 
-pub no_overlap : (s : State) (taken : List ℕ) (n : ℕ) → Exact s taken → Apart taken (places_from s.at n) → 0 < n → overlaps s.closed s.at (s.at + 4 * n) ≡ false
+pub no_overlap : (s : State) (taken : List ℕ) (n : ℕ) → Exact s taken → Apart taken (addresses_from s.at n) → 0 < n → overlaps s.closed s.at (s.at + 4 * n) ≡ false
 unfolding InSegments
 no_overlap s taken n h apart some =
     elim (cases_Bool (overlaps s.closed s.at (s.at + 4 * n))) [
       | inl e ↦
           let p = overlap_point s.closed s.at (s.at + 4 * n) h.even (omega (arith, some)) h.spans e in
-          absurd (apart_at taken (places_from s.at n) p.0 apart (in_places n s.at p.0 h.even p.1 p.2 p.3) (h.within p.0 p.1 (inl p.4)))
+          absurd (apart_at taken (addresses_from s.at n) p.0 apart (in_places n s.at p.0 h.even p.1 p.2 p.3) (h.within p.0 p.1 (inl p.4)))
       | inr e ↦ e
     ]

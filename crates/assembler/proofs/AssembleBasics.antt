@@ -2,7 +2,7 @@
 use Rattle.std.proofs.Common.{◌≡◌, ◌+◌, ℕ, zero, suc, List, [], ◌∷◌, length, map, Option, Some, None, refl, ap}
 use Rattle.std.specs.List.{AllByRecursion}
 use Rattle.asm_text.specs.Said.{Target}
-use Rattle.assembler.specs.Assembles.{places_from}
+use Rattle.assembler.specs.Assembles.{addresses_from}
 use Rattle.assembler.specs.Sweeps.{State, labelled, value_pending}
 
 pub all_map : {A : Type 0} (P Q : A → Type 0) (xs : List A) → ((x : A) → P x → Q x) → AllByRecursion P xs → AllByRecursion Q xs
@@ -17,7 +17,7 @@ pub all_true : {A : Type 0} (P : A → Type 0) (xs : List A) → ((x : A) → P 
 all_true P [] f = tt
 all_true P (x ∷ xs) f = (f x, all_true P xs f)
 
-pub count_places : (at n : ℕ) → length (places_from at n) ≡ n
+pub count_places : (at n : ℕ) → length (addresses_from at n) ≡ n
 count_places at zero = refl
 count_places at (suc n) = ap suc (count_places (at + 4) n)
 

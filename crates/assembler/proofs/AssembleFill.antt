@@ -10,13 +10,13 @@ use Rattle.loader.specs.declared.image.ImageFault.{ImageFault}
 use Rattle.loader.specs.declared.image.ImageFault.TheVariants as image_fault
 use Rattle.loader.proofs.WordLemmas.{length_with_word, none_held}
 use Rattle.asm_text.specs.Said.{Target, Number, Label, Said, Codes, Refers, Orgs, Lists}
-use Rattle.assembler.specs.Assembles.{AreWords, IsTarget, Laid, Once, places, places_from, words_at, words_from}
+use Rattle.assembler.specs.Assembles.{AreWords, IsTarget, Laid, Once, places, addresses_from, words_at, words_from}
 use Rattle.assembler.specs.Codes.{encoded, refer}
 use Rattle.loader.specs.Labels.{Names}
-use Rattle.assembler.specs.Sweeps.{Fixed, Waits, Item, Pending, filled, filled_on, item_step, put_on, resolved, targeted, value_pending, word_put}
+use Rattle.assembler.specs.Sweeps.{Fixed, Waits, Item, Pending, filled, item_step, put_on, resolved, targeted, value_pending, word_put}
 use Rattle.assembler.specs.declared.fault.LineFault.{LineFault}
 use Rattle.assembler.proofs.AssembleSteps.{Pends, items_at}
-use Rattle.assembler.proofs.AssembleSweep.{NewItems, flat}
+use Rattle.assembler.proofs.AssembleSweep.{NewItems, after_line_is, flat}
 use Rattle.assembler.proofs.AssembleBasics.{all_map}
 
 -- ---- one word put
@@ -70,10 +70,6 @@ still_free (f ∷ rest) at w x e = go (nat_lt at f.0) refl (still_free rest at w
 unfoldable pub put_words : Words → Words → Words
 put_words image words = fold (λ i e. with_word i e.0 e.1) image words
 
-filled_on_is : (k : ℕ) (r : Result Words LineFault) (on : Words → Result Words (LineFault × ℕ)) (out : Words) → filled_on k r on ≡ Ok out → (image : Words) × (r ≡ Ok image) × (on image ≡ Ok out)
-filled_on_is k (Ok image) on out e = (image, refl, e)
-filled_on_is k (Err fault) on out e = absurd cc
-
 put_on_is : (o : Option ImageFault) (at w : ℕ) (image new : Words) → put_on o at w image ≡ Ok new → (o ≡ None) × (new ≡ with_word image at w)
 put_on_is None at w image new e = (refl, cc)
 put_on_is (Some fault) at w image new e = absurd cc
@@ -86,7 +82,7 @@ fill_step : (names : Names) (image : Words) (i : Item) (items : List Item) (out 
     → (w : ℕ) × (resolved names i.at i.pending ≡ Ok w) × (put_fault image i.at w ≡ None) × (filled names (with_word image i.at w) items ≡ Ok out)
 unfolding filled
 fill_step names image i items out e =
-    let one = filled_on_is i.line (item_step names image i) (λ more. filled names more items) out e in
+    let one = after_line_is i.line (item_step names image i) (λ more. filled names more items) out e in
     let put = word_put_is image i.at (resolved names i.at i.pending) one.0 one.1 in
     (put.0, put.1, put.2, subst (λ (next : Words). filled names next items ≡ Ok out) put.3 one.2)
 
@@ -197,7 +193,7 @@ map_append : (xs ys : List Item) → map (λ i. i.at) (xs ++ ys) ≡ map (λ i. 
 map_append [] ys = refl
 map_append (x ∷ xs) ys = ap (λ (zs : List ℕ). x.at ∷ zs) (map_append xs ys)
 
-item_places : (k at : ℕ) (ps : List Pending) → map (λ i. i.at) (items_at k at ps) ≡ places_from at (length ps)
+item_places : (k at : ℕ) (ps : List Pending) → map (λ i. i.at) (items_at k at ps) ≡ addresses_from at (length ps)
 unfolding items_at
 item_places k at [] = refl
 item_places k at (p ∷ ps) = ap (λ (zs : List ℕ). at ∷ zs) (item_places k (at + 4) ps)
@@ -209,5 +205,5 @@ all_places [] (n ∷ new) h = absurd h
 all_places (line ∷ lines) [] h = absurd h
 all_places (line ∷ lines) (n ∷ new) h =
     let p = h.0 in
-    let here : map (λ i. i.at) n ≡ places line = ap (map (λ i. i.at)) p.2 ∙ item_places p.0 line.at p.1 ∙ ap (places_from line.at) p.4 in
+    let here : map (λ i. i.at) n ≡ places line = ap (map (λ i. i.at)) p.2 ∙ item_places p.0 line.at p.1 ∙ ap (addresses_from line.at) p.4 in
     map_append n (flat new) ∙ ap (λ (zs : List ℕ). zs ++ map (λ i. i.at) (flat new)) here ∙ ap (λ (zs : List ℕ). places line ++ zs) (all_places lines new h.1)

@@ -10,7 +10,7 @@ use Rattle.loader.proofs.WordLemmas.{length_with_word}
 use Rattle.asm_text.specs.Said.{Said, Orgs}
 use Rattle.asm_text.specs.Statements.{Parsed}
 use Rattle.asm_text.proofs.WordLaws.{false_true}
-use Rattle.assembler.specs.Assembles.{Laid, Once, address_after, is_open, laid_from, places, places_from, segments, word_count}
+use Rattle.assembler.specs.Assembles.{Laid, Once, address_after, is_open, laid_from, places, addresses_from, segments, word_count}
 use Rattle.assembler.proofs.AssembleAll.{apart_both, once_parts}
 use Rattle.assembler.proofs.AssembleBack.{Apart, In, may_four, in_first, in_last}
 use Rattle.loader.proofs.WordLemmas.{all_parts}
@@ -68,9 +68,9 @@ joins_next image at w none = (at, w, refl, word_of_here image at w none)
 
 -- what a line's places ask
 pub record Stands (taken : List ℕ) (at n : ℕ) : Type 0 where
-  pub held : AllByRecursion (λ a. may_hold a ≡ true) (places_from at n)
-  pub apart : Apart taken (places_from at n)
-  pub once : Once (places_from at n)
+  pub held : AllByRecursion (λ a. may_hold a ≡ true) (addresses_from at n)
+  pub apart : Apart taken (addresses_from at n)
+  pub once : Once (addresses_from at n)
   pub few : length taken + n ≤ 65536
 
 one_apart : (at : ℕ) (ats : List ℕ) → AllByRecursion (λ y. at ≢ y) ats → Apart (at ∷ []) ats
@@ -82,8 +82,8 @@ stands_after : (taken : List ℕ) (at n : ℕ) → Stands taken at (suc n) → S
 unfolding Apart
 stands_after taken at n h = record {
   held = h.held.1;
-  apart = apart_both taken (at ∷ []) (places_from (at + 4) n) h.apart.1
-      (one_apart at (places_from (at + 4) n) h.once.0);
+  apart = apart_both taken (at ∷ []) (addresses_from (at + 4) n) h.apart.1
+      (one_apart at (addresses_from (at + 4) n) h.once.0);
   once = h.once.1;
   few = omega (arith, h.few, length-append taken (at ∷ []));
 }
@@ -126,14 +126,14 @@ goes_on taken now most begun at to rest same there h =
 -- after a word
 fits_on : (n at : ℕ) (image : Words) (taken : List ℕ) (most : ℕ) (rest : List ℕ) → most ≤ 16
     → Put image taken most → Joins image at → Stands taken at n
-    → GoesOn (taken ++ places_from at n) most true (at + 4 * n) rest → Fits image (places_from at n ++ rest)
+    → GoesOn (taken ++ addresses_from at n) most true (at + 4 * n) rest → Fits image (addresses_from at n ++ rest)
 unfolding Fits GoesOn JoinsIf
 fits_on zero at image taken most rest le h j s on =
     goes_on (taken ++ []) taken most true (at + 4 * 0) at rest (append-nil taken) (omega arith) on image h
     (λ e. j)
 fits_on (suc n) at image taken most rest le h j s on = λ w.
     let four = may_four at s.held.0 in
-    let free = first_apart taken at (places_from (at + 4) n) s.apart in
+    let free = first_apart taken at (addresses_from (at + 4) n) s.apart in
     let none = h.absent at free in
     let few : runs_of (with_word image at w) ≤ most =
     omega (arith, run_on image at w four h.ascends none j, h.runs) in (
@@ -141,18 +141,18 @@ fits_on (suc n) at image taken most rest le h j s on = λ w.
       fits_on n (at + 4) (with_word image at w) (taken ++ at ∷ []) most rest le
           (put_more image taken at w most h four free most few) (joins_next image at w none)
           (stands_after taken at n s)
-          (goes_on (taken ++ places_from at (suc n))
-          ((taken ++ at ∷ []) ++ places_from (at + 4) n) most true (at + 4 * suc n)
+          (goes_on (taken ++ addresses_from at (suc n))
+          ((taken ++ at ∷ []) ++ addresses_from (at + 4) n) most true (at + 4 * suc n)
           (at + 4 + 4 * n) rest
-          (sym (append_assoc taken (at ∷ []) (places_from (at + 4) n))) (omega arith) on),
+          (sym (append_assoc taken (at ∷ []) (addresses_from (at + 4) n))) (omega arith) on),
     )
 
 -- a line's words, after others or first of a segment
 fits_line : (n at : ℕ) (begun : Bool) (image : Words) (taken : List ℕ) (most : ℕ) (rest : List ℕ)
     → most + (if begun || n == 0 then 0 else 1) ≤ 16 → Put image taken most → JoinsIf begun image at
     → Stands taken at n
-    → GoesOn (taken ++ places_from at n) (most + (if begun || n == 0 then 0 else 1))
-    (begun || not (n == 0)) (at + 4 * n) rest → Fits image (places_from at n ++ rest)
+    → GoesOn (taken ++ addresses_from at n) (most + (if begun || n == 0 then 0 else 1))
+    (begun || not (n == 0)) (at + 4 * n) rest → Fits image (addresses_from at n ++ rest)
 unfolding Fits GoesOn JoinsIf
 fits_line zero at begun image taken most rest le h j s on =
     let now : ℕ = most + (if begun || true then 0 else 1) in
@@ -168,20 +168,20 @@ fits_line (suc n) at true image taken most rest le h j s on =
     (put_weaker image taken most (most + 0) (omega arith) h) (j refl) s on
 fits_line (suc n) at false image taken most rest le h j s on = λ w.
     let four = may_four at s.held.0 in
-    let free = first_apart taken at (places_from (at + 4) n) s.apart in
+    let free = first_apart taken at (addresses_from (at + 4) n) s.apart in
     let none = h.absent at free in
     let bound : most + 1 ≤ 16 = rw (suc_zero n) at le in
     let few : runs_of (with_word image at w) ≤ most + 1 =
     omega (arith, runs_more image at w four h.ascends none, h.runs) in
-    let there : GoesOn (taken ++ places_from at (suc n)) (most + 1) true (at + 4 * suc n) rest =
+    let there : GoesOn (taken ++ addresses_from at (suc n)) (most + 1) true (at + 4 * suc n) rest =
     rw (suc_zero n) at on in (
       may_put image at w s.held.0 none (omega (arith, h.count, s.few)) (omega (arith, few, bound)),
       fits_on n (at + 4) (with_word image at w) (taken ++ at ∷ []) (most + 1) rest bound
           (put_more image taken at w most h four free (most + 1) few) (joins_next image at w none)
           (stands_after taken at n s)
-          (goes_on (taken ++ places_from at (suc n)) ((taken ++ at ∷ []) ++ places_from (at + 4) n)
+          (goes_on (taken ++ addresses_from at (suc n)) ((taken ++ at ∷ []) ++ addresses_from (at + 4) n)
           (most + 1) true (at + 4 * suc n) (at + 4 + 4 * n) rest
-          (sym (append_assoc taken (at ∷ []) (places_from (at + 4) n))) (omega arith) there),
+          (sym (append_assoc taken (at ∷ []) (addresses_from (at + 4) n))) (omega arith) there),
     )
 
 -- after an ORG no word is after another
@@ -216,7 +216,7 @@ fits [] at begun image taken most h = tt
 fits (p ∷ said) at begun image taken most h =
     let n = word_count p.said in
     let lines = laid_from (address_after at p.said) said in
-    let here = places_from at n in
+    let here = addresses_from at n in
     let there = flat_map places lines in
     let held = all_parts (λ b. may_hold b ≡ true) here there h.held in
     let apart = all_parts (λ b. In taken b → ⊥) here there h.apart in

@@ -5,7 +5,7 @@ use Rattle.std.specs.List.{AllZip}
 use Rattle.loader.specs.Image.{Words, with_word}
 use Rattle.asm_text.specs.Said.{Target, Number, Label, Said, Codes, Refers, Orgs, Lists}
 use Rattle.asm_text.specs.Statements.{Parsed}
-use Rattle.assembler.specs.Assembles.{AreWords, IsTarget, address_after, laid_from, places, places_from, word_count, words_at, words_from}
+use Rattle.assembler.specs.Assembles.{AreWords, IsTarget, address_after, laid_from, places, addresses_from, word_count, words_at, words_from}
 use Rattle.assembler.specs.Codes.{encoded, refer}
 use Rattle.loader.specs.Labels.{Names}
 use Rattle.assembler.specs.Sweeps.{Item, Pending, filled, value_pending}
@@ -38,7 +38,7 @@ resolved_are names None at ps ws p a = rw (p, a) tt
 -- ---- the words of a line
 
 filled_line : (names : Names) (k at : ℕ) (ps : List Pending) (ws : List ℕ) (image : Words) (rest : List Item) (ats : List ℕ)
-    → Resolved names at ps ws → Fits image (places_from at (length ps) ++ ats)
+    → Resolved names at ps ws → Fits image (addresses_from at (length ps) ++ ats)
     → (filled names image (items_at k at ps ++ rest) ≡ filled names (put_words image (words_from at ws)) rest) × Fits (put_words image (words_from at ws)) ats
 unfolding Resolved put_words items_at Fits filled
 filled_line names k at [] [] image rest ats r h = (refl, h)
@@ -64,7 +64,7 @@ filled_ok names (p ∷ said) at (x ∷ new) (ws ∷ words) image n a h =
     let lines = laid_from (address_after at p.said) said in
     let there = flat_map places lines in
     let count : word_count p.said ≡ length m.1 = sym m.4 in
-    let fit : Fits image (places_from at (length m.1) ++ there) = subst (λ c. Fits image (places_from at c ++ there)) count h in
+    let fit : Fits image (addresses_from at (length m.1) ++ there) = subst (λ c. Fits image (addresses_from at c ++ there)) count h in
     let one = filled_line names m.0 at m.1 ws image (flat new) there (resolved_are names p.said at m.1 ws m.3 a.0) fit in
     let more = filled_ok names said (address_after at p.said) new words (put_words image (words_from at ws)) n.1 a.1 one.1 in
     ap (λ (is : List Item). filled names image (is ++ flat new)) m.2 ∙ one.0 ∙ more

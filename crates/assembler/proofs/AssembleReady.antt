@@ -9,7 +9,7 @@ use Rattle.loader.specs.Image.{may_hold}
 use Rattle.asm_text.specs.Said.{Number, Label, Said, Codes, Refers, Orgs, Lists}
 use Rattle.asm_text.specs.declared.syntax.Use.{Use}
 use Rattle.asm_text.specs.declared.syntax.Use.TheVariants as use_of
-use Rattle.assembler.specs.Assembles.{AreWords, IsFree, places_from, word_count}
+use Rattle.assembler.specs.Assembles.{AreWords, IsFree, addresses_from, word_count}
 use Rattle.assembler.specs.Codes.{action_word, encoded, refer, use_action, use_fault}
 use Rattle.assembler.specs.Faults.{lower}
 use Rattle.loader.specs.Labels.{Names}
@@ -22,7 +22,7 @@ use Rattle.std.proofs.lemmas.List.{append-nil}
 
 -- ---- places
 
-place_ok : (s : State) (taken : List ℕ) (m : ℕ) → Exact s taken → AllByRecursion (λ a. may_hold a ≡ true) (places_from s.at (suc m)) → Apart taken (places_from s.at (suc m))
+place_ok : (s : State) (taken : List ℕ) (m : ℕ) → Exact s taken → AllByRecursion (λ a. may_hold a ≡ true) (addresses_from s.at (suc m)) → Apart taken (addresses_from s.at (suc m))
     → length taken + suc m ≤ 65536 → is_17th s ≡ false → place_fault s (suc m) ≡ None
 place_ok s taken m h held apart few room =
     let inside = in_memory_all m s.at held in
@@ -62,25 +62,25 @@ pub record Ready (s : State) (label : Option (List ℕ)) (said : Option Said) (n
   pub fresh : label_fault s label ≡ None
   pub some : NotEmpty said
   pub coded : AreWords names said s.at words
-  pub held : AllByRecursion (λ a. may_hold a ≡ true) (places_from s.at (word_count said))
-  pub apart : Apart taken (places_from s.at (word_count said))
+  pub held : AllByRecursion (λ a. may_hold a ≡ true) (addresses_from s.at (word_count said))
+  pub apart : Apart taken (addresses_from s.at (word_count said))
   pub free : IsFree taken said
   pub few : length taken + word_count said ≤ 65536
   pub few_segments : segments_in s + (if is_some s.start || word_count said == 0 then 0 else 1) ≤ 16
 
 words_ok : (s : State) (label : Option (List ℕ)) (said : Option Said) (names : Names) (words taken : List ℕ) (k m : ℕ) (ps : List Pending) → Ready s label said names words taken
     → word_count said ≡ suc m → length ps ≡ word_count said
-    → (unless (around_fault s label (word_count said)) (put_all (labelled s label) k ps) ≡ Ok (put_all (labelled s label) k ps)) × Exact (put_all (labelled s label) k ps) (taken ++ places_from s.at (word_count said))
+    → (unless (around_fault s label (word_count said)) (put_all (labelled s label) k ps) ≡ Ok (put_all (labelled s label) k ps)) × Exact (put_all (labelled s label) k ps) (taken ++ addresses_from s.at (word_count said))
 words_ok s label said names words taken k m ps h n-is count =
     let some : (word_count said == 0) ≡ false = rw n-is (grind (arith, nat_tests)) in
     let room = no_17th s (word_count said) some h.few_segments in
     let place : place_fault s (word_count said) ≡ None =
-    rw n-is (place_ok s taken m h.exact (subst (λ n. AllByRecursion (λ a. may_hold a ≡ true) (places_from s.at n)) n-is h.held) (subst (λ n. Apart taken (places_from s.at n)) n-is h.apart) (subst (λ n. length taken + n ≤ 65536) n-is h.few) room) in
+    rw n-is (place_ok s taken m h.exact (subst (λ n. AllByRecursion (λ a. may_hold a ≡ true) (addresses_from s.at n)) n-is h.held) (subst (λ n. Apart taken (addresses_from s.at n)) n-is h.apart) (subst (λ n. length taken + n ≤ 65536) n-is h.few) room) in
     let around : around_fault s label (word_count said) ≡ None = rw (h.fresh, place) refl in
     let u = labelled s label in (
       unless_ok (around_fault s label (word_count said)) (put_all u k ps) around,
-      subst (λ a. Exact (put_all u k ps) (taken ++ places_from a (word_count said))) (labelled_at s label)
-          (subst (λ n. Exact (put_all u k ps) (taken ++ places_from u.at n)) count (exact_put u k ps taken (exact_labelled s label taken h.exact))),
+      subst (λ a. Exact (put_all u k ps) (taken ++ addresses_from a (word_count said))) (labelled_at s label)
+          (subst (λ n. Exact (put_all u k ps) (taken ++ addresses_from u.at n)) count (exact_put u k ps taken (exact_labelled s label taken h.exact))),
     )
 
 -- a word that has a code does not wait for a refusal
@@ -107,7 +107,7 @@ org_ok s n taken h free =
     ]
 
 unfoldable pub Passes : State → ℕ → Option (List ℕ) → Option Said → List ℕ → Type 0
-Passes s k label said taken = (t : State) × (said_step s k label said ≡ Ok t) × Exact t (taken ++ places_from s.at (word_count said))
+Passes s k label said taken = (t : State) × (said_step s k label said ≡ Ok t) × Exact t (taken ++ addresses_from s.at (word_count said))
 
 pub said_ok : (s : State) (k : ℕ) (label : Option (List ℕ)) (said : Option Said) (names : Names) (words taken : List ℕ) → Ready s label said names words taken → Passes s k label said taken
 unfolding Passes NotEmpty put_all

@@ -7,10 +7,10 @@ use Rattle.std.proofs.lemmas.Bool.{and_parts, cases_Bool, not-false, or_parts}
 use Rattle.std.proofs.lemmas.Bool.Decides.{nat_tests}
 use Rattle.loader.specs.Image.{lies_in_memory, may_hold}
 use Rattle.asm_text.specs.Said.{Target, Number, Label, Said, Codes, Refers, Orgs, Lists}
-use Rattle.assembler.specs.Assembles.{IsFree, address_after, is_open, places_from, word_count}
+use Rattle.assembler.specs.Assembles.{IsFree, address_after, is_open, addresses_from, word_count}
 use Rattle.assembler.specs.Codes.{encoded, refer, use_fault}
 use Rattle.assembler.specs.Faults.{lower}
-use Rattle.assembler.specs.Sweeps.{Pending, Fixed, Waits, Item, State, all_placed, around_fault, closed_with, is_17th, label_fault, labelled, moved, open_has, org_fault, overlaps, pending_step, pending_unless, place_fault, placed, said_step, unless, value_pending, word_pending}
+use Rattle.assembler.specs.Sweeps.{Pending, Fixed, Waits, Item, State, all_placed, around_fault, closed_with, is_17th, label_fault, labelled, moved, open_has, org_fault, overlaps, pending_step, place_fault, placed, said_step, unless, value_pending, word_pending}
 use Rattle.assembler.specs.declared.fault.LineFault.{LineFault}
 use Rattle.assembler.specs.declared.fault.LineFault.TheVariants.{OutOfRange, TooLong}
 use Rattle.loader.proofs.WordLemmas.{all_push}
@@ -20,7 +20,7 @@ use Rattle.asm_text.proofs.WordLaws.{chosen, false_true}
 
 -- ---- small facts
 
-pub unless_is : (o : Option LineFault) (s t : State) → unless o s ≡ Ok t → (o ≡ None) × (s ≡ t)
+pub unless_is : {A : Type 0} (o : Option LineFault) (s t : A) → unless o s ≡ Ok t → (o ≡ None) × (s ≡ t)
 unless_is None s t e = (refl, cc)
 unless_is (Some fault) s t e = absurd cc
 
@@ -88,11 +88,11 @@ covers_placed s k p taken h = record {
   below = start_below s.start s.at h.below;
 }
 
-covers_put : (s : State) (k : ℕ) (ps : List Pending) (taken : List ℕ) → Covers s taken → Covers (put_all s k ps) (taken ++ places_from s.at (length ps))
+covers_put : (s : State) (k : ℕ) (ps : List Pending) (taken : List ℕ) → Covers s taken → Covers (put_all s k ps) (taken ++ addresses_from s.at (length ps))
 unfolding put_all
 covers_put s k [] taken h = subst (Covers s) (sym (append-nil taken)) h
 covers_put s k (p ∷ ps) taken h =
-    subst (Covers (put_all (placed s k p) k ps)) (append_assoc taken (s.at ∷ []) (places_from (s.at + 4) (length ps)))
+    subst (Covers (put_all (placed s k p) k ps)) (append_assoc taken (s.at ∷ []) (addresses_from (s.at + 4) (length ps)))
     (covers_put (placed s k p) k ps (taken ++ s.at ∷ []) (covers_placed s k p taken h))
 
 put_items : (s : State) (k : ℕ) (ps : List Pending) → (put_all s k ps).items ≡ s.items ++ items_at k s.at ps
@@ -230,7 +230,7 @@ pub record Moves (s : State) (k : ℕ) (said : Option Said) (t : State) : Type 0
   pub pends : Pends said s.at new
   pub count : length new ≡ word_count said
   pub at : t.at ≡ address_after s.at said
-  pub covers : (taken : List ℕ) → Covers s taken → Covers t (taken ++ places_from s.at (word_count said))
+  pub covers : (taken : List ℕ) → Covers s taken → Covers t (taken ++ addresses_from s.at (word_count said))
   pub free : (taken : List ℕ) → Covers s taken → IsFree taken said
   pub opened : is_some t.start ≡ is_open (is_some s.start) said
   pub segments : segments_in s ≤ 16 → (segments_in t ≡ segments_in s + (if is_some s.start || word_count said == 0 then 0 else 1)) × (segments_in t ≤ 16)
@@ -263,7 +263,7 @@ words_moves s said k ps pends count at free opens room = record {
   pends = pends;
   count = count;
   at = put_at s k ps ∙ ap (λ (n : ℕ). s.at + 4 * n) count ∙ sym at;
-  covers = λ taken h. subst (λ (n : ℕ). Covers (put_all s k ps) (taken ++ places_from s.at n)) count (covers_put s k ps taken h);
+  covers = λ taken h. subst (λ (n : ℕ). Covers (put_all s k ps) (taken ++ addresses_from s.at n)) count (covers_put s k ps taken h);
   free = λ taken h. free taken;
   opened = put_open s k ps ∙ ap (λ (n : ℕ). is_some s.start || not (n == 0)) count ∙ sym opens;
   segments = λ few. subst (λ (n : ℕ). (segments_in (put_all s k ps) ≡ segments_in s + (if is_some s.start || n == 0 then 0 else 1)) × (segments_in (put_all s k ps) ≤ 16)) count (put_segments s k ps room few);
@@ -346,10 +346,6 @@ word_is : (r : Result ℕ LineFault) (p : Pending) → word_pending r ≡ Ok p �
 word_is (Ok w) p e = (w, cc, refl)
 word_is (Err fault) p e = absurd cc
 
-waits_is : (o : Option LineFault) (q p : Pending) → pending_unless o q ≡ Ok p → p ≡ q
-waits_is None q p e = cc
-waits_is (Some fault) q p e = absurd cc
-
 pub pending_is : (s : State) (k : ℕ) (label : Option (List ℕ)) (r : Result Pending LineFault) (t : State) → pending_step s k label r ≡ Ok t
     → (p : Pending) × (r ≡ Ok p) × (unless (around_fault s label 1) (placed (labelled s label) k p) ≡ Ok t)
 pending_is s k label (Ok p) t e = (p, refl, e)
@@ -375,8 +371,8 @@ said_is s k label (Some (Refers r (Number n))) t e =
     let w = word_is (encoded (refer r s.at n) s.at) p.0 p.1 in
     words_step s label (Some (Refers r (Number n))) k (p.0 ∷ []) t (w.0, ap (λ q. q ∷ []) w.1, w.2) refl refl (λ taken. tt) (λ b. refl) p.2
 said_is s k label (Some (Refers r (Label name))) t e =
-    let p = pending_is s k label (pending_unless (use_fault r.how) (Waits r name)) t e in
-    words_step s label (Some (Refers r (Label name))) k (p.0 ∷ []) t (ap (λ q. q ∷ []) (waits_is (use_fault r.how) (Waits r name) p.0 p.1)) refl refl (λ taken. tt) (λ b. refl) p.2
+    let p = pending_is s k label (unless (use_fault r.how) (Waits r name)) t e in
+    words_step s label (Some (Refers r (Label name))) k (p.0 ∷ []) t (ap (λ q. q ∷ []) (sym (unless_is (use_fault r.how) (Waits r name) p.0 p.1).1)) refl refl (λ taken. tt) (λ b. refl) p.2
 said_is s k label (Some (Orgs n)) t e =
     let u = labelled s label in
     let done = unless_is (lower (label_fault s label) (org_fault s n)) (moved u n) t e in

@@ -8,7 +8,7 @@ use Rattle.asm_text.specs.Statements.{Parsed, line_of}
 use Rattle.asm_text.specs.declared.statement.TextFault.{TextFault}
 use Rattle.assembler.specs.Assembles.{AreFree, Laid, Once, address_after, is_open, label_at, labels_of, laid_from, segments, word_count}
 use Rattle.loader.specs.Labels.{Names}
-use Rattle.assembler.specs.Sweeps.{Item, Pending, State, label_fault, labelled, line_step, swept, swept_on, with_name}
+use Rattle.assembler.specs.Sweeps.{Item, Pending, State, label_fault, labelled, line_step, swept, after_line, with_name}
 use Rattle.assembler.specs.declared.fault.LineFault.{LineFault}
 use Rattle.assembler.specs.declared.fault.LineFault.TheVariants.{LabelTwice}
 use Rattle.assembler.proofs.AssembleSteps.{Covers, Pends, Step, items_at, said_is, segments_in}
@@ -134,9 +134,9 @@ one_line s u t k line lines p read step rest =
           omega (arith, after, more.0);
     }
 
-swept_on_is : (k : ℕ) (r : Result State LineFault) (on : State → Result State (LineFault × ℕ)) (t : State) → swept_on k r on ≡ Ok t → (u : State) × (r ≡ Ok u) × (on u ≡ Ok t)
-swept_on_is k (Ok u) on t e = (u, refl, e)
-swept_on_is k (Err fault) on t e = absurd cc
+pub after_line_is : {A : Type 0} (k : ℕ) (r : Result A LineFault) (on : A → Result A (LineFault × ℕ)) (t : A) → after_line k r on ≡ Ok t → (u : A) × (r ≡ Ok u) × (on u ≡ Ok t)
+after_line_is k (Ok u) on t e = (u, refl, e)
+after_line_is k (Err fault) on t e = absurd cc
 
 pub step_is : (s : State) (k : ℕ) (r : Result Parsed TextFault) (u : State) → line_step s k r ≡ Ok u → (p : Parsed) × (r ≡ Ok p) × Step s k p.label p.said u
 step_is s k (Ok p) u e = (p, refl, said_is s k p.label p.said u e)
@@ -149,6 +149,6 @@ swept_is s k [] t e =
     subst (λ (u : State). Swept s u []) same
     (record { said = []; read = tt; new = []; pending = tt; items = sym (append-nil s.items); names = no_labels s.names; free = λ taken h. tt; few = λ small. omega (arith, small) })
 swept_is s k (line ∷ lines) t e =
-    let one = swept_on_is k (line_step s k (line_of line)) (λ u. swept u (k + 1) lines) t e in
+    let one = after_line_is k (line_step s k (line_of line)) (λ u. swept u (k + 1) lines) t e in
     let step = step_is s k (line_of line) one.0 one.1 in
     one_line s one.0 t k line lines step.0 step.1 step.2 (swept_is one.0 (k + 1) lines t one.2)

@@ -10,7 +10,7 @@ use Rattle.asm_text.specs.declared.statement.TextFault.{TextFault}
 use Rattle.assembler.specs.Assembles.{address_after, laid, laid_from, word_count}
 use Rattle.assembler.specs.Placed.{ArePlaced, IsPlaceFault, IsPlaced}
 use Rattle.assembler.specs.Refusals.{ArePassed, IsRefusedAtOnce}
-use Rattle.assembler.specs.Sweeps.{State, at_first, line_step, swept, swept_on}
+use Rattle.assembler.specs.Sweeps.{State, at_first, line_step, swept, after_line}
 use Rattle.assembler.specs.Views.{Faulted, FaultedAt, item_of, state_of}
 use Rattle.assembler.specs.declared.fault.AsmFault.{AsmFault}
 use Rattle.assembler.specs.declared.fault.AsmFault.TheVariants.{Memory, Line}
@@ -155,7 +155,7 @@ pub swept_next : (s : State) (k : ℕ) (now : List (List ℕ)) (line : List ℕ)
     → line_step s k (line_of line) ≡ Ok t → swept t (k + 1) rest ≡ whole
 unfolding swept
 swept_next s k now line rest t whole same parts e =
-    ap (λ r. swept_on k r (λ u. swept u (k + 1) rest)) (sym e) ∙ ap (swept s k) (sym parts) ∙ same
+    ap (λ r. after_line k r (λ u. swept u (k + 1) rest)) (sym e) ∙ ap (swept s k) (sym parts) ∙ same
 
 -- ---- a line with a fault
 
@@ -182,7 +182,7 @@ pub sweep_fault : (source line : List ℕ) (now rest : List (List ℕ)) (s : Sta
 unfolding swept
 sweep_fault source line now rest s k Memory same parts h = tt
 sweep_fault source line now rest s k (Line fault n) same parts h =
-    sym same ∙ ap (swept s k) parts ∙ ap (λ r. swept_on k r (λ t. swept t (k + 1) rest)) h.1 ∙ ap (λ m. Err (fault, m)) (sym h.0)
+    sym same ∙ ap (swept s k) parts ∙ ap (λ r. after_line k r (λ t. swept t (k + 1) rest)) h.1 ∙ ap (λ m. Err (fault, m)) (sym h.0)
 
 pub fault_at_once : Texts → (source : List ℕ) (fault : AsmFault)
     → FaultedAt fault (swept at_first 1 (lines_of source)) → IsPlaceFault source fault

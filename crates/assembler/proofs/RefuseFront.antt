@@ -1,26 +1,27 @@
 -- After lines without a fault: what the first sweep's state says of them.
 use Rattle.std.specs.Prelude.{flat_map, is_some, nat_le, nat_lt, if◌then◌else◌}
 use Rattle.std.proofs.Common.{◌≡◌, ◌||◌, ◌↔◌, ◌+◌, ◌<◌, ◌≤◌, ◌==◌, ℕ, suc, Bool, true, false, List, [], ◌∷◌, ◌++◌, length, map, Option, Some, None, Result, Ok, Err, refl, sym, ap, subst, ◌∙◌, inl, inr, ◌⊎◌, arith, append_assoc}
-use Rattle.std.proofs.lemmas.Bool.{cases_Bool, or_cases}
+use Rattle.std.proofs.lemmas.Bool.{cases_Bool, or_cases, or_left, or_right}
 use Rattle.std.specs.List.{AllByRecursion, Contains}
 use Rattle.std.proofs.lemmas.Bool.Decides.{nat_tests}
 use Rattle.std.proofs.lemmas.List.{append-nil, length-append}
+use Rattle.std.specs.Result.{result_err}
 use Rattle.loader.specs.Image.{may_hold}
 use Rattle.asm_text.specs.Said.{Number, Label, Said, Codes, Refers, Orgs, Lists}
 use Rattle.asm_text.specs.Statements.{Parsed}
 use Rattle.asm_text.proofs.WordLaws.{false_true}
-use Rattle.assembler.specs.Assembles.{Laid, Once, address_after, is_open, label_at, labels_of, laid, laid_from, places, places_from, segments, word_count}
+use Rattle.assembler.specs.Assembles.{Laid, Once, address_after, is_open, label_at, labels_of, laid, laid_from, places, addresses_from, segments, word_count}
 use Rattle.assembler.specs.Codes.{encoded, refer, use_fault}
 use Rattle.assembler.specs.Faults.{lower}
 use Rattle.assembler.specs.Refusals.{AreTooLong, Clashes, HasCodeFault, IsMisplaced, IsRepeated, IsWrong, address_after_all, address_of_next, asked}
-use Rattle.assembler.specs.Sweeps.{Waits, Item, Pending, State, all_placed, around_fault, is_17th, label_fault, labelled, moved, org_fault, pending_step, pending_unless, place_fault, placed, said_step, unless, value_pending, word_pending}
+use Rattle.assembler.specs.Sweeps.{Waits, Item, Pending, State, all_placed, around_fault, is_17th, label_fault, labelled, moved, org_fault, pending_step, place_fault, placed, said_step, unless, value_pending, word_pending}
 use Rattle.assembler.specs.declared.fault.LineFault.{LineFault}
 use Rattle.assembler.specs.declared.fault.LineFault.TheVariants.{LabelTwice, OutOfRange, TooLong}
 use Rattle.assembler.proofs.AssembleBack.{Exact, exact_moved, exact_put, may_four}
 use Rattle.assembler.proofs.AssembleBasics.{count_map, count_places, labelled_at}
 use Rattle.assembler.proofs.AssembleReady.{NotEmpty, exact_labelled}
 use Rattle.assembler.proofs.AssembleSteps.{Covers, Pends, items_at, none_more, pending_is, put_all, segments_in, unless_is, values_put}
-use Rattle.assembler.proofs.RefuseLeast.{IsLeast, failed, least_both, least_guard, least_none, least_option, least_result, least_same}
+use Rattle.assembler.proofs.RefuseLeast.{IsLeast, least_both, least_guard, least_none, least_option, least_result, least_same}
 use Rattle.assembler.proofs.RefusePlaces.{Bad, org_least, place_least}
 
 -- ---- a line more
@@ -68,7 +69,7 @@ taken_by lines = flat_map places (laid lines)
 
 pub taken_more : (before : List Parsed) (p : Parsed)
     → taken_by (before ++ p ∷ [])
-    ≡ taken_by before ++ places_from (address_of_next before) (word_count p.said)
+    ≡ taken_by before ++ addresses_from (address_of_next before) (word_count p.said)
 taken_more before p =
     ap (flat_map places) (laid_more 32768 before p)
     ∙ flat_more places (laid before)
@@ -196,14 +197,6 @@ seventeenth s n g some is few =
           )
     ]
 
-left_true : (a b : Bool) → a ≡ true → (a || b) ≡ true
-left_true true b e = refl
-left_true false b e = false_true e
-
-right_true : (a b : Bool) → b ≡ true → (a || b) ≡ true
-right_true true b e = refl
-right_true false b e = e
-
 pub record Counts (s : State) (before : List Parsed) (p : Parsed) : Type 0 where
   pub words : length (taken_by (before ++ p ∷ [])) ≡ s.words + word_count p.said
   pub segment_count : segments false (laid (before ++ p ∷ []))
@@ -212,7 +205,7 @@ pub record Counts (s : State) (before : List Parsed) (p : Parsed) : Type 0 where
 pub counts : (s : State) (k : ℕ) (before : List Parsed) (p : Parsed) → Front s k before → Counts s before p
 counts s k before p h =
     let n = word_count p.said in
-    let more = length-append (taken_by before) (places_from (address_of_next before) n) in
+    let more = length-append (taken_by before) (addresses_from (address_of_next before) n) in
     record {
       words = ap length (taken_more before p)
           ∙ omega (arith, more, count_places (address_of_next before) n, h.exact.words);
@@ -243,8 +236,8 @@ long_again s k before p h some e =
     elim e [
       | inl x ↦
           let lt : 65536 < s.words + word_count p.said = omega (arith, c.words, x) in
-          left_true (nat_lt 65536 (s.words + word_count p.said)) (is_17th s) (grind (arith, nat_tests, lt))
-      | inr x ↦ right_true (nat_lt 65536 (s.words + word_count p.said)) (is_17th s)
+          or_left (nat_lt 65536 (s.words + word_count p.said)) (is_17th s) (grind (arith, nat_tests, lt))
+      | inr x ↦ or_right (nat_lt 65536 (s.words + word_count p.said)) (is_17th s)
           ((seventeenth s (word_count p.said)
           (segments false (laid before)) some h.segment_count h.few_segments).1
           (subst (λ n. 16 < n) c.segment_count x))
@@ -310,12 +303,12 @@ clash_least s k before p o h place =
 
 words_clash : (s : State) (k : ℕ) (before : List Parsed) (p : Parsed) (m : ℕ) → Front s k before
     → word_count p.said ≡ suc m
-    → asked (address_of_next before) p.said ≡ places_from (address_of_next before) (word_count p.said)
+    → asked (address_of_next before) p.said ≡ addresses_from (address_of_next before) (word_count p.said)
     → IsLeast (Clashes before p) (lower (label_fault s p.label) (place_fault s (word_count p.said)))
 words_clash s k before p m h n-is asks =
     let some : (word_count p.said == 0) ≡ false = rw n-is (grind (arith, nat_tests)) in
-    let same : places_from s.at (suc m) ≡ asked (address_of_next before) p.said =
-    ap (λ a. places_from a (suc m)) h.at ∙ ap (places_from (address_of_next before)) (sym n-is)
+    let same : addresses_from s.at (suc m) ≡ asked (address_of_next before) p.said =
+    ap (λ a. addresses_from a (suc m)) h.at ∙ ap (addresses_from (address_of_next before)) (sym n-is)
     ∙ sym asks in
     let Long = AreTooLong (before ++ p ∷ []) in
     let place = place_least s (taken_by before) m Long h.exact h.covers
@@ -351,22 +344,18 @@ org_clash s k before label n h =
 
 -- ---- a line's faults: all
 
-failed_unless : (o : Option LineFault) (s : State) → failed (unless o s) ≡ o
+failed_unless : {A : Type 0} (o : Option LineFault) (s : A) → result_err (unless o s) ≡ o
 failed_unless None s = refl
 failed_unless (Some f) s = refl
 
 failed_pending : (s : State) (k : ℕ) (label : Option (List ℕ)) (r : Result Pending LineFault)
-    → failed (pending_step s k label r) ≡ lower (failed r) (around_fault s label 1)
+    → result_err (pending_step s k label r) ≡ lower (result_err r) (around_fault s label 1)
 failed_pending s k label (Ok p) = failed_unless (around_fault s label 1) (placed (labelled s label) k p)
 failed_pending s k label (Err f) = failed_unless (lower (Some f) (around_fault s label 1)) s
 
-failed_word : (r : Result ℕ LineFault) → failed (word_pending r) ≡ failed r
+failed_word : (r : Result ℕ LineFault) → result_err (word_pending r) ≡ result_err r
 failed_word (Ok w) = refl
 failed_word (Err f) = refl
-
-failed_waits : (o : Option LineFault) (p : Pending) → failed (pending_unless o p) ≡ o
-failed_waits None p = refl
-failed_waits (Some f) p = refl
 
 joined : (before : List Parsed) (p : Parsed) (code clash o : Option LineFault)
     → IsLeast (HasCodeFault (address_of_next before) p.said) code → IsLeast (Clashes before p) clash
@@ -382,7 +371,7 @@ no_asked before (a, there, why) = omega (arith, there.1)
 pub said_least : (s : State) (k : ℕ) (before : List Parsed) (label : Option (List ℕ)) (said : Option Said)
     → Front s k before → NotEmpty said
     → IsLeast (IsWrong before (record { label = label; said = said }))
-    (failed (said_step s k label said))
+    (result_err (said_step s k label said))
 unfolding NotEmpty
 said_least s k before label None h some =
     let p : Parsed = record { label = label; said = None } in
@@ -396,25 +385,25 @@ said_least s k before label None h some =
 said_least s k before label (Some (Codes c)) h some =
     let p : Parsed = record { label = label; said = Some (Codes c) } in
     let code =
-    subst (λ a. IsLeast (λ f. encoded c a ≡ Err f) (failed (encoded c s.at))) h.at
+    subst (λ a. IsLeast (λ f. encoded c a ≡ Err f) (result_err (encoded c s.at))) h.at
     (least_result (encoded c s.at)) in
-    joined before p (failed (encoded c s.at)) (around_fault s label 1) _ code
+    joined before p (result_err (encoded c s.at)) (around_fault s label 1) _ code
     (words_clash s k before p 0 h refl refl)
     (ap (λ o. lower o (around_fault s label 1)) (sym (failed_word (encoded c s.at)))
     ∙ sym (failed_pending s k label (word_pending (encoded c s.at))))
 said_least s k before label (Some (Refers r (Number n))) h some =
     let p : Parsed = record { label = label; said = Some (Refers r (Number n)) } in
     let e = encoded (refer r s.at n) s.at in
-    let code = subst (λ a. IsLeast (λ f. encoded (refer r a n) a ≡ Err f) (failed e)) h.at (least_result e) in
-    joined before p (failed e) (around_fault s label 1) _ code (words_clash s k before p 0 h refl refl)
+    let code = subst (λ a. IsLeast (λ f. encoded (refer r a n) a ≡ Err f) (result_err e)) h.at (least_result e) in
+    joined before p (result_err e) (around_fault s label 1) _ code (words_clash s k before p 0 h refl refl)
     (ap (λ o. lower o (around_fault s label 1)) (sym (failed_word e))
     ∙ sym (failed_pending s k label (word_pending e)))
 said_least s k before label (Some (Refers r (Label name))) h some =
     let p : Parsed = record { label = label; said = Some (Refers r (Label name)) } in
     let o = use_fault r.how in
     joined before p o (around_fault s label 1) _ (least_option o) (words_clash s k before p 0 h refl refl)
-    (ap (λ x. lower x (around_fault s label 1)) (sym (failed_waits o (Waits r name)))
-    ∙ sym (failed_pending s k label (pending_unless o (Waits r name))))
+    (ap (λ x. lower x (around_fault s label 1)) (sym (failed_unless o (Waits r name)))
+    ∙ sym (failed_pending s k label (unless o (Waits r name))))
 said_least s k before label (Some (Orgs n)) h some =
     let p : Parsed = record { label = label; said = Some (Orgs n) } in
     let clash = lower (label_fault s label) (org_fault s n) in
@@ -442,7 +431,7 @@ one_exact s k label r t taken e h =
 
 pub exact_said : (s : State) (k : ℕ) (label : Option (List ℕ)) (said : Option Said) (t : State)
     (taken : List ℕ) → (IsFreeOrg : (n : ℕ) → said ≡ Some (Orgs n) → may_hold n ≡ true)
-    → said_step s k label said ≡ Ok t → Exact s taken → Exact t (taken ++ places_from s.at (word_count said))
+    → said_step s k label said ≡ Ok t → Exact s taken → Exact t (taken ++ addresses_from s.at (word_count said))
 unfolding put_all
 exact_said s k label None t taken org e h =
     let done = unless_is (label_fault s label) (labelled s label) t e in
@@ -453,7 +442,7 @@ exact_said s k label (Some (Codes c)) t taken org e h =
 exact_said s k label (Some (Refers r (Number n))) t taken org e h =
     one_exact s k label (word_pending (encoded (refer r s.at n) s.at)) t taken e h
 exact_said s k label (Some (Refers r (Label name))) t taken org e h =
-    one_exact s k label (pending_unless (use_fault r.how) (Waits r name)) t taken e h
+    one_exact s k label (unless (use_fault r.how) (Waits r name)) t taken e h
 exact_said s k label (Some (Orgs n)) t taken org e h =
     let u = labelled s label in
     let done = unless_is (lower (label_fault s label) (org_fault s n)) (moved u n) t e in
@@ -463,8 +452,8 @@ exact_said s k label (Some (Orgs n)) t taken org e h =
 exact_said s k label (Some (Lists vs)) t taken org e h =
     let u = labelled s label in
     let done = unless_is (around_fault s label (length vs)) (all_placed u k vs) t e in
-    subst (λ v. Exact v (taken ++ places_from s.at (length vs))) (sym (values_put u k vs) ∙ done.1)
-    (subst (λ n. Exact (put_all u k (map value_pending vs)) (taken ++ places_from s.at n)) (count_map vs)
+    subst (λ v. Exact v (taken ++ addresses_from s.at (length vs))) (sym (values_put u k vs) ∙ done.1)
+    (subst (λ n. Exact (put_all u k (map value_pending vs)) (taken ++ addresses_from s.at n)) (count_map vs)
     (subst (λ a. Exact (put_all u k (map value_pending vs))
-    (taken ++ places_from a (length (map value_pending vs)))) (labelled_at s label)
+    (taken ++ addresses_from a (length (map value_pending vs)))) (labelled_at s label)
     (exact_put u k (map value_pending vs) taken (exact_labelled s label taken h))))

@@ -3,19 +3,21 @@ use Rattle.std.specs.Prelude.{flat_map}
 use Rattle.std.proofs.Common.{◌≡◌, ◌↔◌, ◌+◌, ℕ, zero, suc, List, [], ◌∷◌, ◌++◌, length, map, Option, Some, None, Result, Ok, Err, refl, sym, ap, subst, ◌∙◌, inl, inr, ◌⊎◌, arith}
 use Rattle.std.specs.List.{AllByRecursion, Contains}
 use Rattle.std.proofs.lemmas.Option.{none-some, same_Some}
+use Rattle.std.specs.Result.{result_err}
+use Rattle.std.specs.Option.{option_or}
 use Rattle.loader.specs.Image.{Words, put_fault, with_word}
 use Rattle.asm_text.specs.Said.{Target, Number, Label, Said, Codes, Refers, Orgs, Lists}
-use Rattle.assembler.specs.Assembles.{Laid, places, places_from, word_count}
+use Rattle.assembler.specs.Assembles.{Laid, places, addresses_from, word_count}
 use Rattle.assembler.specs.Codes.{encoded, refer}
 use Rattle.assembler.specs.Refusals.{HasLabelFault, IsFaultless, IsLowest, IsMissing}
 use Rattle.loader.specs.Labels.{Names}
-use Rattle.assembler.specs.Sweeps.{Item, Pending, filled, filled_on, resolved, targeted, value_pending, word_put}
+use Rattle.assembler.specs.Sweeps.{Item, Pending, filled, after_line, resolved, targeted, value_pending, word_put}
 use Rattle.assembler.specs.declared.fault.LineFault.{LineFault}
 use Rattle.assembler.specs.declared.fault.LineFault.TheVariants.{LabelMissing}
 use Rattle.assembler.proofs.AssembleSteps.{Pends, items_at}
 use Rattle.assembler.proofs.AssembleFits.{Fits}
 use Rattle.assembler.proofs.RefuseFront.{ItemsOf}
-use Rattle.assembler.proofs.RefuseLeast.{IsLeast, either, failed, is_least, least_is, least_no, least_none, least_result, least_same, no_least, same_le}
+use Rattle.assembler.proofs.RefuseLeast.{IsLeast, either, is_least, least_is, least_no, least_none, least_result, least_same, no_least, same_le}
 
 -- the names of all labels, and no others
 unfoldable pub Known : Names → List (List ℕ × ℕ) → Type 0
@@ -23,18 +25,14 @@ Known names labels = (name : List ℕ) → (at : ℕ) → (names name ≡ Some a
 
 -- ---- what waits
 
-abbrev first : Option LineFault → Option LineFault → Option LineFault
-first None o = o
-first (Some f) o = Some f
-
-first_alone : (o : Option LineFault) → first o None ≡ o
+first_alone : (o : Option LineFault) → option_or o None ≡ o
 first_alone None = refl
 first_alone (Some f) = refl
 
 -- the first fault of words side by side
 abbrev late : Names → ℕ → List Pending → Option LineFault
 late names at [] = None
-late names at (p ∷ ps) = first (failed (resolved names at p)) (late names (at + 4) ps)
+late names at (p ∷ ps) = option_or (result_err (resolved names at p)) (late names (at + 4) ps)
 
 -- ---- a word
 
@@ -49,11 +47,11 @@ unfolding Known
 missing names labels name known none = λ at c. none-some at (sym none ∙ (known name at).1 c)
 
 word_least : (names : Names) (labels : List (List ℕ × ℕ)) (name : List ℕ) (word : ℕ → Result ℕ LineFault)
-    → Known names labels → IsLeast (WordFault labels name word) (failed (targeted (names name) word))
+    → Known names labels → IsLeast (WordFault labels name word) (result_err (targeted (names name) word))
 unfolding IsLeast Known
 word_least names labels name word known = go (names name) refl
   where
-    go : (o : Option ℕ) → names name ≡ o → IsLeast (WordFault labels name word) (failed (targeted o word))
+    go : (o : Option ℕ) → names name ≡ o → IsLeast (WordFault labels name word) (result_err (targeted o word))
     go None is = record {
       holds = inl (refl, missing names labels name known is);
       lowest = λ f e. elim e [
@@ -64,7 +62,7 @@ word_least names labels name word known = go (names name) refl
     }
     go (Some at) is =
         let there = (known name at).0 is in
-        least_same (λ f. word at ≡ Err f) (WordFault labels name word) (failed (word at))
+        least_same (λ f. word at ≡ Err f) (WordFault labels name word) (result_err (word at))
         (λ f e. inr (at, there, e))
         (λ f e. elim e [
           | inl x ↦ absurd (x.1 at there)
@@ -115,7 +113,7 @@ values_least names labels at (Label l ∷ vs) known =
     go : (o : Option ℕ) → names l ≡ o
         → IsLeast (ValueFault labels vs) (late names (at + 4) (map value_pending vs))
         → IsLeast (ValueFault labels (Label l ∷ vs))
-        (first (failed (targeted o (λ target. Ok target))) (late names (at + 4) (map value_pending vs)))
+        (option_or (result_err (targeted o (λ target. Ok target))) (late names (at + 4) (map value_pending vs)))
     go None is rest = record {
       holds = (l, refl, (0, omega arith, refl), missing names labels l known is);
       lowest = λ f e. same_le LabelMissing f (sym e.1);
@@ -141,7 +139,7 @@ late_least names labels at (Some (Refers r (Number n))) new known h =
 late_least names labels at (Some (Refers r (Label name))) new known h =
     let word = λ (target : ℕ). encoded (refer r at target) at in
     subst (λ ps. IsLeast (WordFault labels name word) (late names at ps)) (sym h)
-    (subst (IsLeast (WordFault labels name word)) (sym (first_alone (failed (targeted (names name) word))))
+    (subst (IsLeast (WordFault labels name word)) (sym (first_alone (result_err (targeted (names name) word))))
     (word_least names labels name word known))
 late_least names labels at (Some (Lists vs)) new known h =
     subst (λ ps. IsLeast (ValueFault labels vs) (late names at ps)) (sym h)
@@ -159,7 +157,7 @@ put_ok : (image : Words) (at w : ℕ) → put_fault image at w ≡ None
 put_ok image at w e = rw e refl
 
 fill_all : (names : Names) (k at : ℕ) (ps : List Pending) (image : Words) (rest : List Item) (ats : List ℕ)
-    → Fits image (places_from at (length ps) ++ ats) → late names at ps ≡ None
+    → Fits image (addresses_from at (length ps) ++ ats) → late names at ps ≡ None
     → Filled names image (items_at k at ps) rest ats
 unfolding Fits items_at filled
 fill_all names k at [] image rest ats h none = record { next = image; fits = h; same = refl }
@@ -167,7 +165,7 @@ fill_all names k at (p ∷ ps) image rest ats h none =
     go (resolved names at p) refl none
     (λ w. fill_all names k (at + 4) ps (with_word image at w) rest ats (h w).1)
   where
-    go : (r : Result ℕ LineFault) → resolved names at p ≡ r → first (failed r) (late names (at + 4) ps) ≡ None
+    go : (r : Result ℕ LineFault) → resolved names at p ≡ r → option_or (result_err r) (late names (at + 4) ps) ≡ None
         → ((w : ℕ) → late names (at + 4) ps ≡ None
         → Filled names (with_word image at w) (items_at k (at + 4) ps) rest ats)
         → Filled names image (items_at k at (p ∷ ps)) rest ats
@@ -177,15 +175,15 @@ fill_all names k at (p ∷ ps) image rest ats h none =
           next = more.next;
           fits = more.fits;
           same = ap
-              (λ r. filled_on k (word_put image at r)
+              (λ r. after_line k (word_put image at r)
               (λ i. filled names i (items_at k (at + 4) ps ++ rest))) is
-              ∙ ap (λ r. filled_on k r (λ i. filled names i (items_at k (at + 4) ps ++ rest)))
+              ∙ ap (λ r. after_line k r (λ i. filled names i (items_at k (at + 4) ps ++ rest)))
               (put_ok image at w (h w).0) ∙ more.same;
         }
     go (Err f) is e deeper = absurd (none-some f (sym e))
 
 fill_stop : (names : Names) (k at : ℕ) (ps : List Pending) (image : Words) (rest : List Item) (ats : List ℕ)
-    (f : LineFault) → Fits image (places_from at (length ps) ++ ats) → late names at ps ≡ Some f
+    (f : LineFault) → Fits image (addresses_from at (length ps) ++ ats) → late names at ps ≡ Some f
     → filled names image (items_at k at ps ++ rest) ≡ Err (f, k)
 unfolding Fits items_at filled
 fill_stop names k at [] image rest ats f h some = absurd (none-some f some)
@@ -193,16 +191,16 @@ fill_stop names k at (p ∷ ps) image rest ats f h some =
     go (resolved names at p) refl some
     (λ w. fill_stop names k (at + 4) ps (with_word image at w) rest ats f (h w).1)
   where
-    go : (r : Result ℕ LineFault) → resolved names at p ≡ r → first (failed r) (late names (at + 4) ps) ≡ Some f
+    go : (r : Result ℕ LineFault) → resolved names at p ≡ r → option_or (result_err r) (late names (at + 4) ps) ≡ Some f
         → ((w : ℕ) → late names (at + 4) ps ≡ Some f
         → filled names (with_word image at w) (items_at k (at + 4) ps ++ rest) ≡ Err (f, k))
         → filled names image (items_at k at (p ∷ ps) ++ rest) ≡ Err (f, k)
     go (Ok w) is e deeper =
-        ap (λ r. filled_on k (word_put image at r) (λ i. filled names i (items_at k (at + 4) ps ++ rest))) is
-        ∙ ap (λ r. filled_on k r (λ i. filled names i (items_at k (at + 4) ps ++ rest)))
+        ap (λ r. after_line k (word_put image at r) (λ i. filled names i (items_at k (at + 4) ps ++ rest))) is
+        ∙ ap (λ r. after_line k r (λ i. filled names i (items_at k (at + 4) ps ++ rest)))
         (put_ok image at w (h w).0) ∙ deeper w e
     go (Err g) is e deeper =
-        ap (λ r. filled_on k (word_put image at r)
+        ap (λ r. after_line k (word_put image at r)
         (λ i. filled names i (items_at k (at + 4) ps ++ rest))) is ∙ ap (λ x. Err (x, k)) (same_Some g f e)
 
 -- ---- all lines
@@ -212,8 +210,8 @@ AreFaultless labels lines = AllByRecursion (IsFaultless labels) lines
 
 line_fits : (image : Words) (line : Laid) (new : List Pending) (ats : List ℕ)
     → length new ≡ word_count line.said → Fits image (places line ++ ats)
-    → Fits image (places_from line.at (length new) ++ ats)
-line_fits image line new ats count h = subst (λ n. Fits image (places_from line.at n ++ ats)) (sym count) h
+    → Fits image (addresses_from line.at (length new) ++ ats)
+line_fits image line new ats count h = subst (λ n. Fits image (addresses_from line.at n ++ ats)) (sym count) h
 
 pub filled_all : (names : Names) (labels : List (List ℕ × ℕ)) (k : ℕ) (lines : List Laid)
     (items : List Item) (image : Words) → Known names labels → ItemsOf k lines items

@@ -3,6 +3,7 @@ use Rattle.std.proofs.Common.{◌≡◌, ◌≤◌, ◌==◌, ℕ, Bool, true, f
 use Rattle.std.proofs.lemmas.Bool.{cases_Bool}
 use Rattle.std.specs.Prelude.{nat_lt, if◌then◌else◌}
 use Rattle.std.proofs.lemmas.Bool.Decides.{nat_tests}
+use Rattle.std.specs.Result.{result_err}
 use Rattle.asm_text.proofs.WordLaws.{false_true}
 use Rattle.assembler.specs.Faults.{lower, number}
 use Rattle.assembler.specs.Refusals.{IsLowest}
@@ -54,11 +55,7 @@ unfolding IsLeast
 least_option None = λ f e. let k = e in absurd cc
 least_option (Some g) = record { holds = refl; lowest = λ f e. same_le g f (let k = e in cc) }
 
-abbrev pub failed : {A : Type 0} → Result A LineFault → Option LineFault
-failed (Ok a) = None
-failed (Err f) = Some f
-
-pub least_result : {A : Type 0} (r : Result A LineFault) → IsLeast (λ f. r ≡ Err f) (failed r)
+pub least_result : {A : Type 0} (r : Result A LineFault) → IsLeast (λ f. r ≡ Err f) (result_err r)
 unfolding IsLeast
 least_result (Ok a) = λ f e. let k = e in absurd cc
 least_result (Err g) = record { holds = refl; lowest = λ f e. same_le g f (let k = e in cc) }

@@ -7,7 +7,7 @@ use Rattle.std.proofs.lemmas.Bool.Decides.{nat_tests}
 use Rattle.loader.specs.Image.{lies_in_memory, may_hold}
 use Rattle.loader.proofs.PlaceLemmas.{may_within}
 use Rattle.asm_text.proofs.WordLaws.{false_true}
-use Rattle.assembler.specs.Assembles.{places_from}
+use Rattle.assembler.specs.Assembles.{addresses_from}
 use Rattle.assembler.specs.Faults.{lower}
 use Rattle.assembler.specs.Sweeps.{State, is_17th, open_has, org_fault, overlaps, place_fault}
 use Rattle.assembler.specs.declared.fault.LineFault.TheVariants.{OutOfRange, TooLong}
@@ -97,7 +97,7 @@ record Within (at n a : ℕ) : Type 0 where
   high : a + 4 ≤ at + 4 * n
   four : at % 4 ≡ 0 → a % 4 ≡ 0
 
-within : (n at a : ℕ) → In (places_from at n) a → Within at n a
+within : (n at a : ℕ) → In (addresses_from at n) a → Within at n a
 unfolding In
 within zero at a h = absurd h
 within (suc n) at a h =
@@ -139,14 +139,14 @@ abbrev outside : State → ℕ → Bool
 outside s n = not (lies_in_memory s.at (s.at + 4 * n)) || overlaps s.closed s.at (s.at + 4 * n)
 
 bad_outside : (s : State) (taken : List ℕ) (n : ℕ) → Exact s taken → Covers s taken
-    → Bad taken (places_from s.at n) → outside s n ≡ true
+    → Bad taken (addresses_from s.at n) → outside s n ≡ true
 unfolding InSegments
 bad_outside s taken n exact covers (a, there, why) =
     elim (cases_Bool (outside s n)) [
       | inl e ↦ e
       | inr e ↦
           let k = or_parts (not (lies_in_memory s.at (s.at + 4 * n))) (overlaps s.closed s.at (s.at + 4 * n)) e in
-          let w = within n s.at a (contains_in (places_from s.at n) a there) in
+          let w = within n s.at a (contains_in (addresses_from s.at n) a there) in
           elim why [
             | inl not-may ↦
                 false_true
@@ -164,9 +164,9 @@ bad_outside s taken n exact covers (a, there, why) =
     ]
 
 outside_bad : (s : State) (taken : List ℕ) (m : ℕ) → Exact s taken → outside s (suc m) ≡ true
-    → Bad taken (places_from s.at (suc m))
+    → Bad taken (addresses_from s.at (suc m))
 outside_bad s taken m exact h =
-    elim (bad_or_fine taken (places_from s.at (suc m))) [
+    elim (bad_or_fine taken (addresses_from s.at (suc m))) [
       | inl b ↦ b
       | inr f ↦
           let inside = in_memory_all m s.at f.held in
@@ -187,12 +187,12 @@ guards false false = refl
 pub place_least : (s : State) (taken : List ℕ) (m : ℕ) (Long : Type 0) → Exact s taken → Covers s taken
     → ((nat_lt 65536 (s.words + suc m) || is_17th s) ≡ true → Long)
     → (Long → (nat_lt 65536 (s.words + suc m) || is_17th s) ≡ true)
-    → IsLeast (λ f. ((f ≡ OutOfRange) × Bad taken (places_from s.at (suc m))) ⊎ ((f ≡ TooLong) × Long))
+    → IsLeast (λ f. ((f ≡ OutOfRange) × Bad taken (addresses_from s.at (suc m))) ⊎ ((f ≡ TooLong) × Long))
     (place_fault s (suc m))
 place_least s taken m Long exact covers there again =
     let out = outside s (suc m) in
     let long = nat_lt 65536 (s.words + suc m) || is_17th s in
-    let B = Bad taken (places_from s.at (suc m)) in
+    let B = Bad taken (addresses_from s.at (suc m)) in
     subst (IsLeast (λ f. ((f ≡ OutOfRange) × B) ⊎ ((f ≡ TooLong) × Long))) (guards out long)
     (least_both (λ f. (f ≡ OutOfRange) × B) (λ f. (f ≡ TooLong) × Long) (guard out OutOfRange)
     (guard long TooLong)

@@ -7,16 +7,17 @@ use Rattle.std.proofs.lemmas.Bool.Decides.{nat_tests}
 use Rattle.std.proofs.lemmas.List.{append-nil, length-append}
 use Rattle.std.proofs.lemmas.List.Elements.{Contains-append_cases, Contains-append_left, Contains-append_right}
 use Rattle.std.proofs.lemmas.Option.{none-some, same_Some}
+use Rattle.std.specs.Result.{result_err}
 use Rattle.loader.specs.Image.{may_hold}
 use Rattle.asm_text.specs.Said.{Said, Orgs}
 use Rattle.asm_text.specs.Spelling.{Spells}
 use Rattle.asm_text.specs.Statements.{Parsed, line_of}
 use Rattle.asm_text.specs.declared.statement.TextFault.{TextFault}
 use Rattle.asm_text.proofs.WordLaws.{same_Ok}
-use Rattle.assembler.specs.Assembles.{Laid, Once, address_after, is_open, label_at, labels_of, laid, places_from, segments, word_count}
+use Rattle.assembler.specs.Assembles.{Laid, Once, address_after, is_open, label_at, labels_of, laid, addresses_from, segments, word_count}
 use Rattle.assembler.specs.Refusals.{ArePassed, HasFault, IsLowest, IsUnreadable, IsWrong, address_of_next, asked}
 use Rattle.loader.specs.Labels.{Names}
-use Rattle.assembler.specs.Sweeps.{State, at_first, label_fault, labelled, line_step, said_step, swept, swept_on}
+use Rattle.assembler.specs.Sweeps.{State, at_first, label_fault, labelled, line_step, said_step, swept, after_line}
 use Rattle.assembler.specs.declared.fault.LineFault.{LineFault}
 use Rattle.assembler.specs.declared.fault.LineFault.TheVariants.{OutOfRange, TooLong}
 use Rattle.assembler.proofs.AssembleBack.{Apart, Exact, In}
@@ -26,7 +27,7 @@ use Rattle.assembler.proofs.AssembleReady.{NotEmpty}
 use Rattle.assembler.proofs.AssembleSteps.{Covers, Pends, items_at, said_is, segments_in}
 use Rattle.assembler.proofs.AssembleSweep.{NamesOf, label_names, no_labels, step_is}
 use Rattle.assembler.proofs.RefuseFront.{Front, ItemsOf, address_more, count_laid, counts, exact_said, items_more, laid_more, labels_more, open_after, open_more, said_least, taken_by, taken_more}
-use Rattle.assembler.proofs.RefuseLeast.{IsLeast, either, failed, is_least, least_is, least_no, least_same, no_least}
+use Rattle.assembler.proofs.RefuseLeast.{IsLeast, either, is_least, least_is, least_no, least_same, no_least}
 use Rattle.assembler.proofs.RefusePlaces.{Fine, fine}
 use Rattle.assembler.proofs.RefuseText.{fault_in_reading}
 
@@ -46,19 +47,19 @@ once_join (x ∷ xs) ys h k apart = (
   once_join xs ys h.1 k (all_map (λ a. In (x ∷ xs) a → ⊥) (λ a. In xs a → ⊥) ys (λ a f m. f (inr m)) apart),
 )
 
-above_places : (n at b : ℕ) → b < at → AllByRecursion (λ y. b ≢ y) (places_from at n)
+above_places : (n at b : ℕ) → b < at → AllByRecursion (λ y. b ≢ y) (addresses_from at n)
 above_places zero at b lt = tt
 above_places (suc n) at b lt =
     (λ same. omega (arith, lt, same), above_places n (at + 4) b (omega (arith, lt)))
 
-once_places : (n at : ℕ) → Once (places_from at n)
+once_places : (n at : ℕ) → Once (addresses_from at n)
 once_places zero at = tt
 once_places (suc n) at = (above_places n (at + 4) at (omega arith), once_places n (at + 4))
 
 -- ---- a line without a fault
 
 fine_words : (taken : List ℕ) (at : ℕ) (said : Option Said) → Fine taken (asked at said)
-    → Fine taken (places_from at (word_count said))
+    → Fine taken (addresses_from at (word_count said))
 unfolding Apart
 fine_words taken at (Some (Orgs n)) h = record { held = tt; apart = tt }
 fine_words taken at said h = h
@@ -105,11 +106,11 @@ pub front_next : (s : State) (k : ℕ) (before : List Parsed) (p : Parsed) (t : 
 front_next s k before p t h some e =
     let at = address_of_next before in
     let n = word_count p.said in
-    let here = places_from at n in
+    let here = addresses_from at n in
     let taken = taken_by before in
     let none =
-    no_least (IsWrong before p) (failed (said_step s k p.label p.said))
-    (said_least s k before p.label p.said h some) (ap failed e) in
+    no_least (IsWrong before p) (result_err (said_step s k p.label p.said))
+    (said_least s k before p.label p.said h some) (ap result_err e) in
     let asks = fine taken (asked at p.said) (λ bad. none OutOfRange (inr bad)) in
     let words = fine_words taken at p.said asks in
     let step = said_is s k p.label p.said t e in
@@ -117,8 +118,8 @@ front_next s k before p t h some e =
     let small : segments_in s ≤ 16 = omega (arith, h.segment_count, h.few_segments) in
     let segs = m.segments small in
     let c = counts s k before p h in
-    let now : taken ++ places_from s.at n ≡ taken_by (before ++ p ∷ []) =
-    ap (λ a. taken ++ places_from a n) h.at ∙ sym (taken_more before p) in
+    let now : taken ++ addresses_from s.at n ≡ taken_by (before ++ p ∷ []) =
+    ap (λ a. taken ++ addresses_from a n) h.at ∙ sym (taken_more before p) in
     let line : Laid = record { at = at; label = p.label; said = p.said } in
     let same_segments : segments_in t ≡ segments false (laid (before ++ p ∷ [])) =
     segs.0 ∙ ap (λ g. g + (if is_some s.start || n == 0 then 0 else 1)) h.segment_count
@@ -189,12 +190,12 @@ pub record Texts : Type 0 where
   pub least : (line : List ℕ) → IsLeast (IsUnreadable line) (fault_in_reading (line_of line))
 
 pub line_least : Texts → (s : State) (k : ℕ) (before : List Parsed) (line : List ℕ) → Front s k before
-    → IsLeast (HasFault before line) (failed (line_step s k (line_of line)))
+    → IsLeast (HasFault before line) (result_err (line_step s k (line_of line)))
 unfolding IsLeast
 line_least texts s k before line h = go (line_of line) refl (texts.least line)
   where
     go : (r : Result Parsed TextFault) → line_of line ≡ r → IsLeast (IsUnreadable line) (fault_in_reading r)
-        → IsLeast (HasFault before line) (failed (line_step s k r))
+        → IsLeast (HasFault before line) (result_err (line_step s k r))
     go (Err w) is least =
         least_same (IsUnreadable line) (HasFault before line) (fault_in_reading (Err w)) (λ f u. inl u)
         (λ f e. elim e [
@@ -203,7 +204,7 @@ line_least texts s k before line h = go (line_of line) refl (texts.least line)
               absurd (no_meaning x.0 w (line_of line) is (texts.reads line x.0 x.1))
         ]) least
     go (Ok p) is least =
-        least_same (IsWrong before p) (HasFault before line) (failed (said_step s k p.label p.said))
+        least_same (IsWrong before p) (HasFault before line) (result_err (said_step s k p.label p.said))
         (λ f e. inr (p, texts.spells line p is, e))
         (λ f e. elim e [
           | inl u ↦ absurd (least f u)
@@ -212,11 +213,11 @@ line_least texts s k before line h = go (line_of line) refl (texts.least line)
               (one_meaning x.0 p (line_of line) (texts.reads line x.0 x.1) is) x.2
         ]) (said_least s k before p.label p.said h (spelled_some line p (texts.spells line p is)))
 
-went_on : (r : Result State LineFault) → failed r ≡ None → (t : State) × (r ≡ Ok t)
+went_on : (r : Result State LineFault) → result_err r ≡ None → (t : State) × (r ≡ Ok t)
 went_on (Ok t) e = (t, refl)
 went_on (Err f) e = absurd (none-some f (sym e))
 
-stopped : (r : Result State LineFault) (f : LineFault) → failed r ≡ Some f → r ≡ Err f
+stopped : (r : Result State LineFault) (f : LineFault) → result_err r ≡ Some f → r ≡ Err f
 stopped (Ok t) f e = absurd (none-some f e)
 stopped (Err g) f e = ap Err (same_Some g f e)
 
@@ -250,7 +251,7 @@ passed_on texts s k before (line ∷ lines) (p ∷ said) rest h a =
     let read = texts.reads line p a.0 in
     let one =
     went_on (line_step s k (line_of line))
-    (least_no (HasFault before line) (failed (line_step s k (line_of line)))
+    (least_no (HasFault before line) (result_err (line_step s k (line_of line)))
     (line_least texts s k before line h) a.1) in
     let step : said_step s k p.label p.said ≡ Ok one.0 = sym (ap (line_step s k) read) ∙ one.1 in
     let next = front_next s k before p one.0 h (spelled_some line p a.0) step in
@@ -260,7 +261,7 @@ passed_on texts s k before (line ∷ lines) (p ∷ said) rest h a =
       next = more.next;
       next-is = omega (arith, more.next-is);
       front = subst (Front more.state more.next) (append_assoc before (p ∷ []) said) more.front;
-      same = ap (λ r. swept_on k r (λ u. swept u (k + 1) (lines ++ rest))) one.1 ∙ more.same;
+      same = ap (λ r. after_line k r (λ u. swept u (k + 1) (lines ++ rest))) one.1 ∙ more.same;
     }
 
 -- ---- all lines pass, or one is the first that does not
@@ -279,7 +280,7 @@ pub pass_or_stop : Texts → (s : State) (k : ℕ) (before : List Parsed) (lines
     → Front s k before → ((said : List Parsed) × ArePassed before lines said) ⊎ Stops before lines
 pass_or_stop texts s k before [] h = inl ([], tt)
 pass_or_stop texts s k before (line ∷ lines) h =
-    let o = failed (line_step s k (line_of line)) in
+    let o = result_err (line_step s k (line_of line)) in
     let least = line_least texts s k before line h in
     elim (either o) [
       | inr f ↦ inr (record {
@@ -327,6 +328,6 @@ pub stops_swept : Texts
 unfolding swept
 stops_swept texts s k before line after fault h low =
     let is = stopped (line_step s k (line_of line)) fault
-    (least_is (HasFault before line) (failed (line_step s k (line_of line))) fault
+    (least_is (HasFault before line) (result_err (line_step s k (line_of line))) fault
     (line_least texts s k before line h) low) in
     rw is refl

@@ -7,6 +7,7 @@ use Rattle.std.specs.List.{list_all}
 use Rattle.std.proofs.lemmas.Bool.{and_parts}
 use Rattle.std.proofs.lemmas.Bool.Decides.{nat_tests}
 use Rattle.std.proofs.lemmas.List.{append-nil}
+use Rattle.std.specs.Result.{result_ok}
 use Rattle.arm2_decode.specs.declared.instr.Operation.{Operation}
 use Rattle.arm2_decode.specs.declared.instr.Operation.TheVariants as operation
 use Rattle.arm2_decode.specs.declared.names.Cond.{Cond}
@@ -48,7 +49,7 @@ use Rattle.asm_text.proofs.PieceLaws.{comma_step, first_no_run, pieces-run, sign
 use Rattle.asm_text.proofs.ShownLaws.{blank_line, upper_spelled, blank_pieces}
 use Rattle.asm_text.proofs.WordLaws.{word_again}
 use Rattle.assembler.proofs.PutLaws.{all_append}
-use Rattle.assembler.specs.ShownLines.{GivesBack, shown_line as spelling, target_word, word_given, block_name, block_suffix, comma_register, compare_front, compare_text, cond_text, data_front, factors_text, flags_text, is_user, load_name, move_front, operation_text, register_text, three_front, transfer_front, transfer_suffix, word_text}
+use Rattle.assembler.specs.ShownLines.{GivesBack, shown_line as spelling, target_word, block_name, block_suffix, comma_register, compare_front, compare_text, cond_text, data_front, factors_text, flags_text, is_user, load_name, move_front, operation_text, register_text, three_front, transfer_front, transfer_suffix, word_text}
 
 -- ---- what is said
 
@@ -322,7 +323,7 @@ branch_back (use_of.Adr d) r w h e = absurd cc
 branch_back (use_of.Transfer load byte d) r w h e = absurd cc
 
 says_back : (text : List ℕ) (at w : ℕ) (s : Said) → plainly s ≡ true → line_of (32 ∷ text) ≡ Ok (record { label = None; said = Some s }) → Says s at w → GivesBack text at w
-says_back text at w (Codes c) h line says = (shown.Code c, line, ap word_given says)
+says_back text at w (Codes c) h line says = (shown.Code c, line, ap result_ok says)
 says_back text at w (Refers r (Number n)) h line says = (shown.Refer r n, line, branch_back r.how (encoded (refer r at n) at) w h says)
 says_back text at w (Refers r (Label d)) h line says = absurd says
 says_back text at w (Orgs n) h line says = absurd says

@@ -9,6 +9,7 @@ use Rattle.std.proofs.lemmas.Int.Digits.{digits_value_push}
 use Rattle.std.proofs.lemmas.List.{append-nil}
 use Rattle.std.proofs.lemmas.Bool.{lt-ltb}
 use Rattle.std.proofs.lemmas.Bool.Decides.{nat_tests}
+use Rattle.std.specs.Result.{result_ok}
 use Rattle.asm_text.specs.declared.printed_lines.Shown.TheVariants as shown
 use Rattle.asm_text.specs.declared.token.Mark.TheVariants.{Ampersand}
 use Rattle.asm_text.specs.declared.word.Word.TheVariants.{Dcd}
@@ -31,7 +32,7 @@ use Rattle.arm2_decode.specs.declared.instr.Unallocated.{Unallocated}
 use Rattle.arm2_decode.specs.Table.{Means}
 use Rattle.asm_text.specs.declared.syntax.Use.{Use}
 use Rattle.asm_text.specs.declared.syntax.Use.TheVariants as use_of
-use Rattle.assembler.specs.ShownLines.{GivesBack, IsShown, numbered, shown_line as spelling, target_word, word_given}
+use Rattle.assembler.specs.ShownLines.{GivesBack, IsShown, numbered, shown_line as spelling, target_word}
 use Rattle.assembler.specs.Shown.{Gives, hex_line}
 
 -- ---- what assembles back to a word is a line of it
@@ -40,7 +41,7 @@ abbrev ok_by : Option ℕ → Result ℕ LineFault
 ok_by None = Err NotText
 ok_by (Some w) = Ok w
 
-given_ok : (r : Result ℕ LineFault) (w : ℕ) → word_given r ≡ Some w → r ≡ Ok w
+given_ok : (r : Result ℕ LineFault) (w : ℕ) → result_ok r ≡ Some w → r ≡ Ok w
 given_ok (Ok v) w h = ap ok_by h
 given_ok (Err fault) w h = absurd cc
 

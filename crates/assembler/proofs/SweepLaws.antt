@@ -5,7 +5,7 @@ use Rattle.std.specs.List.{list_any}
 use Rattle.std.proofs.lemmas.List.{drop_all, drop_more}
 use Rattle.std.specs.Str.{bytes_eq}
 use Rattle.loader.specs.Labels.{NamedAddresses, Names, address_of}
-use Rattle.assembler.specs.Sweeps.{State, all_placed, filled, filled_on, item_step, line_step, overlaps, placed, swept, swept_on, value_pending, with_name}
+use Rattle.assembler.specs.Sweeps.{State, all_placed, filled, after_line, item_step, line_step, overlaps, placed, swept, value_pending, with_name}
 use Rattle.assembler.specs.Views.{item_of, span_of}
 use Rattle.assembler.specs.declared.fault.LineFault.{LineFault}
 use Rattle.assembler.specs.declared.item.Item.{Item as CodeItem}
@@ -29,12 +29,12 @@ pub placed_more : (s : State) (k : ℕ) (values : List Value) (i : ℕ) (d : Val
 placed_more s k values i d lt = rw (drop_more values i d lt) refl
 
 pub filled_more : (names : Names) (image : Words) (items : List CodeItem) (i : ℕ) (d : CodeItem) → i < length items
-    → filled names image (map item_of (drop i items)) ≡ filled_on (get_or items i d).line (item_step names image (item_of (get_or items i d))) (λ more. filled names more (map item_of (drop (i + 1) items)))
+    → filled names image (map item_of (drop i items)) ≡ after_line (get_or items i d).line (item_step names image (item_of (get_or items i d))) (λ more. filled names more (map item_of (drop (i + 1) items)))
 unfolding filled
 filled_more names image items i d lt = rw (drop_more items i d lt) refl
 
 pub swept_more : (s : State) (k : ℕ) (text line : List ℕ) (rest : List ℕ) → lines_of text ≡ line ∷ lines_of rest
-    → swept s k (lines_of text) ≡ swept_on k (line_step s k (line_of line)) (λ t. swept t (k + 1) (lines_of rest))
+    → swept s k (lines_of text) ≡ after_line k (line_step s k (line_of line)) (λ t. swept t (k + 1) (lines_of rest))
 unfolding swept
 swept_more s k text line rest e = rw e refl
 
@@ -43,7 +43,7 @@ pub filled_step : (names : Names) (old new : Words) (items : List CodeItem) (i :
     → item_step names old (item_of item) ≡ Ok new → filled names old (map item_of (drop i items)) ≡ whole → filled names new (map item_of (drop (i + 1) items)) ≡ whole
 filled_step names old new items i item whole lt is put before =
     let there = ap (λ (x : CodeItem). item_step names old (item_of x)) (sym is) ∙ put in
-    let more = ap (λ (r : Result Words LineFault). filled_on (get_or items i item).line r (λ image. filled names image (map item_of (drop (i + 1) items)))) there in
+    let more = ap (λ (r : Result Words LineFault). after_line (get_or items i item).line r (λ image. filled names image (map item_of (drop (i + 1) items)))) there in
     sym (filled_more names old items i item lt ∙ more) ∙ before
 
 pub filled_end : (names : Names) (image : Words) (items : List CodeItem) (i : ℕ) (whole : Result Words (LineFault × ℕ)) → length items ≤ i

@@ -37,14 +37,14 @@ laid_from at [] = []
 laid_from at (p ∷ ps) =
     record { at = at; label = p.label; said = p.said } ∷ laid_from (address_after at p.said) ps
 
--- so many addresses of words, side by side
-abbrev pub places_from : ℕ → ℕ → List ℕ
-places_from at zero = []
-places_from at (suc n) = at ∷ places_from (at + 4) n
+-- the addresses of so many words from one on
+abbrev pub addresses_from : (at count : ℕ) → List ℕ
+addresses_from at zero = []
+addresses_from at (suc n) = at ∷ addresses_from (at + 4) n
 
 -- the addresses of a line's words
 abbrev pub places : Laid → List ℕ
-places line = places_from line.at (word_count line.said)
+places line = addresses_from line.at (word_count line.said)
 
 -- ---- labels
 

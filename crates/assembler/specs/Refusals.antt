@@ -13,7 +13,7 @@ use Rattle.asm_text.specs.Source.{lines_of}
 use Rattle.asm_text.specs.Spelling.{Spells}
 use Rattle.asm_text.specs.Statements.{Parsed, begins_blank_or_ends, body, is_comment_text, is_in_body}
 use Rattle.asm_text.specs.Statements.{is_label, is_text}
-use Rattle.assembler.specs.Assembles.{Laid, address_after, labels_of, laid, places, places_from, segments}
+use Rattle.assembler.specs.Assembles.{Laid, address_after, labels_of, laid, places, addresses_from, segments}
 use Rattle.assembler.specs.Assembles.{word_count}
 use Rattle.assembler.specs.Codes.{encoded, refer, use_fault}
 use Rattle.assembler.specs.Faults.{number}
@@ -84,7 +84,7 @@ IsRepeated before label =
 -- the addresses that a line asks for: those of its words, or its ORG's
 abbrev pub asked : ℕ → Option Said → List ℕ
 asked at (Some (Orgs n)) = n ∷ []
-asked at said = places_from at (word_count said)
+asked at said = addresses_from at (word_count said)
 
 -- one of them may hold no word, or a line before it has a word there
 abbrev pub IsMisplaced : List Parsed → Option Said → Type 0

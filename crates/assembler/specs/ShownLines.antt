@@ -2,8 +2,9 @@
 -- of each word).
 use Rattle.std.specs.Prelude.{◌≡◌, ℕ, zero, suc, ◌+◌, ◌-◌, ◌*◌, ◌%◌, ◌^◌, ◌==◌, ◌&&◌, not, nat_lt, Bool}
 use Rattle.std.specs.Prelude.{true, false, List, [], ◌∷◌, ◌++◌, codes, decimal, Option, Some, None, Result}
-use Rattle.std.specs.Prelude.{Ok, Err, if◌then◌else◌}
+use Rattle.std.specs.Prelude.{Ok, if◌then◌else◌}
 use Rattle.std.specs.Int.{w32, rotate_right}
+use Rattle.std.specs.Result.{result_ok}
 use Rattle.arm2_decode.specs.declared.instr.Block.{Block}
 use Rattle.arm2_decode.specs.declared.instr.Branch.{Branch}
 use Rattle.arm2_decode.specs.declared.instr.DataImmediate.{DataImmediate}
@@ -288,13 +289,9 @@ abbrev pub target_word : Use → Result ℕ LineFault → Option ℕ
 target_word (use_of.Branch link) (Ok word) = Some word
 target_word _ _ = None
 
-abbrev pub word_given : Result ℕ LineFault → Option ℕ
-word_given (Ok word) = Some word
-word_given (Err fault) = None
-
 -- the word that what is read has at an address; of words with a target only branches are shown
 abbrev pub shown_word : Shown → ℕ → Option ℕ
-shown_word (shown.Code c) at = word_given (encoded c at)
+shown_word (shown.Code c) at = result_ok (encoded c at)
 shown_word (shown.Refer r n) at = target_word r.how (encoded (refer r at n) at)
 
 -- after a blank the text is a line of an instruction alone, which has the word at the address

@@ -120,22 +120,18 @@ abbrev pub all_placed : State → ℕ → List Target → State
 all_placed s k [] = s
 all_placed s k (v ∷ vs) = all_placed (placed s k (value_pending v)) k vs
 
-abbrev pub unless : Option LineFault → State → Result State LineFault
-unless None s = Ok s
-unless (Some fault) s = Err fault
+abbrev pub unless : {A : Type 0} → Option LineFault → A → Result A LineFault
+unless None x = Ok x
+unless (Some fault) x = Err fault
 
 abbrev pub word_pending : Result ℕ LineFault → Result Pending LineFault
 word_pending (Ok w) = Ok (Fixed w)
 word_pending (Err fault) = Err fault
 
-abbrev pub pending_unless : Option LineFault → Pending → Result Pending LineFault
-pending_unless None p = Ok p
-pending_unless (Some fault) p = Err fault
-
 -- a word with a target, whose address is known or not
 abbrev pub target_pending : Reference → ℕ → Target → Result Pending LineFault
 target_pending r at (Number n) = word_pending (encoded (refer r at n) at)
-target_pending r at (Label name) = pending_unless (use_fault r.how) (Waits r name)
+target_pending r at (Label name) = unless (use_fault r.how) (Waits r name)
 
 -- the faults of a line's label and place
 abbrev pub around_fault : State → Option (List ℕ) → ℕ → Option LineFault
@@ -168,15 +164,16 @@ abbrev pub line_step : State → ℕ → Result Parsed TextFault → Result Stat
 line_step s k (Ok p) = said_step s k p.label p.said
 line_step s k (Err w) = Err (line_fault w)
 
-abbrev pub swept_on : ℕ → Result State LineFault → (State → Result State (LineFault × ℕ))
-    → Result State (LineFault × ℕ)
-swept_on k (Ok s) on = on s
-swept_on k (Err fault) on = Err (fault, k)
+-- what comes after the line of a number, or its fault with the number
+abbrev pub after_line : {A : Type 0} → ℕ → Result A LineFault → (A → Result A (LineFault × ℕ))
+    → Result A (LineFault × ℕ)
+after_line k (Ok x) on = on x
+after_line k (Err fault) on = Err (fault, k)
 
 -- all lines, from the one of a number on; or the first that has a fault
 unfoldable pub swept : State → ℕ → List (List ℕ) → Result State (LineFault × ℕ)
 swept s k [] = Ok s
-swept s k (line ∷ lines) = swept_on k (line_step s k (line_of line)) (λ t. swept t (k + 1) lines)
+swept s k (line ∷ lines) = after_line k (line_step s k (line_of line)) (λ t. swept t (k + 1) lines)
 
 -- ---- the second sweep: what needs one
 
@@ -205,15 +202,10 @@ word_put image at (Ok word) = put_on (put_fault image at word) at word image
 abbrev pub item_step : Names → Words → Item → Result Words LineFault
 item_step names image i = word_put image i.at (resolved names i.at i.pending)
 
-abbrev pub filled_on : ℕ → Result Words LineFault → (Words → Result Words (LineFault × ℕ))
-    → Result Words (LineFault × ℕ)
-filled_on k (Ok image) on = on image
-filled_on k (Err fault) on = Err (fault, k)
-
 -- the image of items, or the first that has a fault, by its line
 unfoldable pub filled : Names → Words → List Item → Result Words (LineFault × ℕ)
 filled names image [] = Ok image
-filled names image (i ∷ items) = filled_on i.line (item_step names image i) (λ more. filled names more items)
+filled names image (i ∷ items) = after_line i.line (item_step names image i) (λ more. filled names more items)
 
 -- ---- the whole
 

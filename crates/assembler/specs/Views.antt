@@ -1,7 +1,6 @@
 -- What the code keeps, as the definitions see it.
-use Rattle.std.specs.Prelude.{◌≡◌, ℕ, List, Option, option_map, map, Result, Ok, Err}
+use Rattle.std.specs.Prelude.{◌≡◌, ℕ, List, map, Result, Ok, Err}
 use Rattle.loader.specs.Labels.{address_of}
-use Rattle.std.specs.Borrow.{Bor}
 use Rattle.assembler.specs.declared.fault.AsmFault.{AsmFault}
 use Rattle.assembler.specs.declared.fault.AsmFault.TheVariants.{Memory, Line}
 use Rattle.assembler.specs.declared.fault.LineFault.{LineFault}
@@ -38,9 +37,6 @@ state_of s =
       names = address_of s.labels;
       items = map item_of s.items.items;
     }
-
-abbrev pub name_of : Option (Bor (List ℕ)) → Option (List ℕ)
-name_of label = option_map (λ name. name.now) label
 
 -- a refusal for memory, or the fault of a line
 abbrev pub Faulted : {A : Type 0} → AsmFault → ℕ → Result A LineFault → Type 0

@@ -1,8 +1,9 @@
 ghost use Rattle.std.specs.Prelude.{◌≡◌, IfSome, Some, ℕ, true};
+ghost use Rattle.std.specs.Result.{result_ok};
 ghost use Rattle.asm_text.specs.Shown.{is_shown_text};
 ghost use Rattle.assembler.specs.Codes.{encoded};
 ghost use Rattle.assembler.specs.Shown.{hex_line};
-ghost use Rattle.assembler.specs.ShownLines.{GivesBack, IsShown, shown_word, word_given};
+ghost use Rattle.assembler.specs.ShownLines.{GivesBack, IsShown, shown_word};
 
 use crate::encoded::encoded;
 use crate::spelling::spelled;
@@ -11,7 +12,7 @@ use arm2_decode::decode;
 use asm_text::{Action, Code, Shown, Use, hex8, read_shown};
 
 fn word_or_none(code: Code, at: u32) -> Option<u32>
-    ensures { result ≡ word_given (encoded code at) }
+    ensures { result ≡ result_ok (encoded code at) }
 {
     match encoded(code, at) {
         Ok(word) => Some(word),

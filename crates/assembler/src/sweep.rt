@@ -1,17 +1,18 @@
-ghost use Rattle.std.specs.Prelude.{◌≡◌, nat_lt, ◌&&◌, ◌-◌, ◌++◌, ◌+◌, ◌*◌, ◌∷◌, ◌≤◌, ◌<◌, ◌⊎◌, [], ℕ};
-ghost use Rattle.std.specs.Prelude.{List, None, IfNone, IfOk, IfErr, OnOk, Ok, Err, length, map, option_map};
+ghost use Rattle.std.specs.Prelude.{◌≡◌, nat_lt, ◌&&◌, ◌+◌, ◌*◌, ◌≤◌, ◌<◌};
+ghost use Rattle.std.specs.Prelude.{None, IfNone, IfErr, OnOk, Ok, Err, length, map};
 ghost use Rattle.std.specs.Prelude.{is_some};
 ghost use Rattle.std.specs.List.{list_any};
+ghost use Rattle.std.specs.Option.{option_copied};
 ghost use Rattle.bus_ticks.specs.declared.space.TheConstants.{SPACE_END};
 ghost use Rattle.asm_text.specs.Said.{target_of};
 ghost use Rattle.asm_text.specs.Source.{line_view};
 ghost use Rattle.asm_text.specs.Statements.{line_of};
-ghost use Rattle.assembler.specs.Sweeps.{all_placed, at_first, closed_state, is_17th, label_fault};
-ghost use Rattle.assembler.specs.Sweeps.{labelled, line_step, list_step, moved, org_fault, open_has};
+ghost use Rattle.assembler.specs.Sweeps.{all_placed, at_first, closed_state, label_fault};
+ghost use Rattle.assembler.specs.Sweeps.{labelled, line_step, list_step, org_fault, open_has};
 ghost use Rattle.assembler.specs.Sweeps.{org_step, overlaps, pending_step, place_fault, placed, said_step};
 ghost use Rattle.assembler.specs.Sweeps.{target_pending, value_pending, word_pending, line_fault};
 ghost use Rattle.assembler.specs.Codes.{encoded};
-ghost use Rattle.assembler.specs.Views.{Faulted, item_of, name_of, pending_of, result_pending, span_of};
+ghost use Rattle.assembler.specs.Views.{Faulted, pending_of, result_pending, span_of};
 ghost use Rattle.assembler.specs.Views.{state_of};
 
 use crate::encoded::encoded;
@@ -113,7 +114,7 @@ impl<'a> Sweep<'a> {
     }
 
     fn label_fault(&self, label: Option<&[u8]>) -> Option<LineFault>
-        ensures { result ≡ label_fault (state_of self.now) (name_of label.entry) }
+        ensures { result ≡ label_fault (state_of self.now) (option_copied label.entry) }
     {
         let name = label?;
         if self.labels.get(name).is_some() {
@@ -179,7 +180,7 @@ impl<'a> Sweep<'a> {
     // Puts a label that no earlier line has.
     #[tactic(auto, using(crate::proofs::SweepLaws::named_more))]
     fn put_label(&mut self, alloc: Global, label: Option<&[u8]>) -> Result<(), AsmFault>
-        ensures ok { OnOk result (state_of self.new ≡ labelled (state_of self.old) (name_of label.entry)) }
+        ensures ok { OnOk result (state_of self.new ≡ labelled (state_of self.old) (option_copied label.entry)) }
         ensures at { OnOk result (self.new.at ≡ self.old.at) }
         ensures words { OnOk result (self.new.words ≡ self.old.words) }
         ensures memory { IfErr result (λ fault. fault ≡ AsmFault.Memory) }
@@ -223,12 +224,12 @@ impl<'a> Sweep<'a> {
         pending: Result<Pending<'a>, LineFault>,
     ) -> Result<(), AsmFault>
         ensures ok { OnOk result
-            (pending_step (state_of self.old) line (name_of label.entry) (result_pending pending.entry)
+            (pending_step (state_of self.old) line (option_copied label.entry) (result_pending pending.entry)
             ≡ Ok (state_of self.new)) }
         ensures within { OnOk result (self.new.at ≤ SPACE_END) }
         ensures err { IfErr result
             (λ fault. Faulted fault line
-            (pending_step (state_of self.old) line (name_of label.entry) (result_pending pending.entry))) }
+            (pending_step (state_of self.old) line (option_copied label.entry) (result_pending pending.entry))) }
     {
         let around = lower(self.label_fault(label), self.place_fault(1));
         match pending {
@@ -262,10 +263,10 @@ impl<'a> Sweep<'a> {
         address: u32,
     ) -> Result<(), AsmFault>
         ensures ok { OnOk result
-            (org_step (state_of self.old) (name_of label.entry) address ≡ Ok (state_of self.new)) }
+            (org_step (state_of self.old) (option_copied label.entry) address ≡ Ok (state_of self.new)) }
         ensures within { OnOk result (self.new.at ≤ SPACE_END) }
         ensures err { IfErr result
-            (λ fault. Faulted fault line (org_step (state_of self.old) (name_of label.entry) address)) }
+            (λ fault. Faulted fault line (org_step (state_of self.old) (option_copied label.entry) address)) }
     {
         let twice = self.label_fault(label);
         let taken = self.org_fault(address);
@@ -303,12 +304,12 @@ impl<'a> Sweep<'a> {
         values: &[Value<'a>],
     ) -> Result<(), AsmFault>
         ensures ok { OnOk result
-            (list_step (state_of self.old) line (name_of label.entry) (map target_of values.now)
+            (list_step (state_of self.old) line (option_copied label.entry) (map target_of values.now)
             ≡ Ok (state_of self.new)) }
         ensures within { OnOk result (self.new.at ≤ SPACE_END) }
         ensures err { IfErr result
             (λ fault. Faulted fault line
-            (list_step (state_of self.old) line (name_of label.entry) (map target_of values.now))) }
+            (list_step (state_of self.old) line (option_copied label.entry) (map target_of values.now))) }
     {
         let around = lower(self.label_fault(label), self.place_fault(values.len()));
         if let Some(fault) = around {
@@ -326,10 +327,10 @@ impl<'a> Sweep<'a> {
     ) -> Result<(), AsmFault>
         requires { self.old.at ≤ SPACE_END }
         ensures ok { OnOk result
-            (said_step (state_of self.old) line (name_of label.entry) None ≡ Ok (state_of self.new)) }
+            (said_step (state_of self.old) line (option_copied label.entry) None ≡ Ok (state_of self.new)) }
         ensures within { OnOk result (self.new.at ≤ SPACE_END) }
         ensures err { IfErr result
-            (λ fault. Faulted fault line (said_step (state_of self.old) line (name_of label.entry) None)) }
+            (λ fault. Faulted fault line (said_step (state_of self.old) line (option_copied label.entry) None)) }
     {
         if let Some(fault) = self.label_fault(label) {
             return Err(AsmFault::Line(fault, line));

@@ -13,7 +13,7 @@ use Rattle.asm_text.specs.Source.{lines_of}
 use Rattle.asm_text.specs.Spelling.{Spells}
 use Rattle.asm_text.specs.Statements.{Parsed, line_of}
 use Rattle.asm_text.specs.declared.statement.TextFault.{TextFault}
-use Rattle.assembler.specs.Assembles.{AreWords, IsAssembly, IsTarget, Laid, Once, image_of, laid, places, places_from, word_count, words_at, words_from}
+use Rattle.assembler.specs.Assembles.{AreWords, IsAssembly, IsTarget, Laid, Once, image_of, laid, places, addresses_from, word_count, words_at, words_from}
 use Rattle.assembler.specs.Placed.{ArePlaced, IsPlaced}
 use Rattle.assembler.specs.Refusals.{ArePassed}
 use Rattle.loader.specs.Labels.{Names}
@@ -31,7 +31,6 @@ use Rattle.flow_graph.specs.declared.faults.BuildFault.TheVariants as build_faul
 use Rattle.flow_graph.specs.declared.places.Place.{Place}
 use Rattle.flow_graph.specs.declared.places.Place.TheVariants.{At, Exit}
 use Rattle.statement.specs.Stated.{Stated}
-use Rattle.text_rows.specs.Lines.{addresses}
 use Rattle.explained.specs.Table.{words_of}
 use Rattle.explained.specs.Taken.{AreOnWords, StandOnce, is_at}
 
@@ -81,7 +80,7 @@ held b (e ∷ rest) h =
 
 -- ## Sources
 
-side_by_side : (at : ℕ) (ws : List ℕ) → ats (words_from at ws) ≡ places_from at (length ws)
+side_by_side : (at : ℕ) (ws : List ℕ) → ats (words_from at ws) ≡ addresses_from at (length ws)
 side_by_side at [] = refl
 side_by_side at (w ∷ ws) = ap (λ xs. at ∷ xs) (side_by_side (at + 4) ws)
 
@@ -103,7 +102,7 @@ all_words names [] words h = refl
 all_words names (line ∷ lines) [] h = absurd h
 all_words names (line ∷ lines) (ws ∷ more) h =
     map-append (λ e. e.0) (words_from line.at ws) (words_at lines more)
-    ∙ ap (λ xs. xs ++ ats (words_at lines more)) (side_by_side line.at ws ∙ ap (places_from line.at) (word_number names line.said line.at ws h.0))
+    ∙ ap (λ xs. xs ++ ats (words_at lines more)) (side_by_side line.at ws ∙ ap (addresses_from line.at) (word_number names line.said line.at ws h.0))
     ∙ ap (λ xs. places line ++ xs) (all_words names lines more h.1)
 
 put_all : (b : ℕ) (image words : Words) → times b (ats (fold (λ i e. with_word i e.0 e.1) image words)) ≡ times b (ats image) + times b (ats words)
@@ -132,16 +131,12 @@ at_most_once b (x ∷ xs) h =
       | inr other ↦ omega (arith, first b x xs, one_else b x other, at_most_once b xs h.1)
     ]
 
-same_addresses : (at n : ℕ) → places_from at n ≡ addresses at n
-same_addresses at zero = refl
-same_addresses at (suc n) = ap (λ xs. at ∷ xs) (same_addresses (at + 4) n)
-
 same_places : (lines : List Laid) (placed : List PlacedLine) → AllZip IsPlaced lines placed → flat_map places lines ≡ flat_map words_of placed
 same_places [] [] h = refl
 same_places [] (p ∷ placed) h = absurd h
 same_places (line ∷ lines) [] h = absurd h
 same_places (line ∷ lines) (p ∷ placed) h =
-    let here : places line ≡ words_of p = same_addresses line.at (word_count line.said) ∙ ap (λ a. addresses a (word_count line.said)) (sym h.0.0) ∙ ap (addresses p.at) (sym h.0.1) in
+    let here : places line ≡ words_of p = ap (λ a. addresses_from a (word_count line.said)) (sym h.0.0) ∙ ap (addresses_from p.at) (sym h.0.1) in
     ap (λ xs. xs ++ flat_map places lines) here ∙ ap (λ xs. words_of p ++ xs) (same_places lines placed h.1)
 
 abbrev pub Reads : Type 0
@@ -182,27 +177,27 @@ source_stands reads source image names flow_places placed a stand_there no_exit 
 
 -- ## Images
 
-put_words : (b : ℕ) (words : Words) (a : ℕ) (ws : List ℕ) → times b (ats (with_words words a ws)) ≡ times b (ats words) + times b (places_from a (length ws))
+put_words : (b : ℕ) (words : Words) (a : ℕ) (ws : List ℕ) → times b (ats (with_words words a ws)) ≡ times b (ats words) + times b (addresses_from a (length ws))
 put_words b words a [] = omega arith
-put_words b words a (w ∷ ws) = omega (arith, put_words b (with_word words a w) (a + 4) ws, put_once b words a w, first b a (places_from (a + 4) (length ws)))
+put_words b words a (w ∷ ws) = omega (arith, put_words b (with_word words a w) (a + 4) ws, put_once b words a w, first b a (addresses_from (a + 4) (length ws)))
 
 apart : (b x : ℕ) → (b ≡ x → ⊥) → (b == x) ≡ false
 apart b x differs = elim (cases_Bool (b == x)) [ inl same ↦ absurd (differs (eqb-true b x same)) | inr other ↦ other ]
 
-below : (b a n : ℕ) → b < a → times b (places_from a n) ≡ 0
+below : (b a n : ℕ) → b < a → times b (addresses_from a n) ≡ 0
 below b a zero lt = refl
-below b a (suc n) lt = omega (arith, first b a (places_from (a + 4) n), one_else b a (apart b a (λ same. omega (arith, same, lt))), below b (a + 4) n (omega (arith, lt)))
+below b a (suc n) lt = omega (arith, first b a (addresses_from (a + 4) n), one_else b a (apart b a (λ same. omega (arith, same, lt))), below b (a + 4) n (omega (arith, lt)))
 
-above : (b a n : ℕ) → a + 4 * n ≤ b → times b (places_from a n) ≡ 0
+above : (b a n : ℕ) → a + 4 * n ≤ b → times b (addresses_from a n) ≡ 0
 above b a zero le = refl
-above b a (suc n) le = omega (arith, first b a (places_from (a + 4) n), one_else b a (apart b a (λ same. omega (arith, same, le))), above b (a + 4) n (omega (arith, le)))
+above b a (suc n) le = omega (arith, first b a (addresses_from (a + 4) n), one_else b a (apart b a (λ same. omega (arith, same, le))), above b (a + 4) n (omega (arith, le)))
 
-once_in : (b a n : ℕ) → times b (places_from a n) ≤ 1
+once_in : (b a n : ℕ) → times b (addresses_from a n) ≤ 1
 once_in b a zero = omega arith
 once_in b a (suc n) =
     elim (cases_Bool (b == a)) [
-      | inl same ↦ omega (arith, first b a (places_from (a + 4) n), one_here b a same, below b (a + 4) n (omega (arith, eqb-true b a same)))
-      | inr other ↦ omega (arith, first b a (places_from (a + 4) n), one_else b a other, once_in b (a + 4) n)
+      | inl same ↦ omega (arith, first b a (addresses_from (a + 4) n), one_here b a same, below b (a + 4) n (omega (arith, eqb-true b a same)))
+      | inr other ↦ omega (arith, first b a (addresses_from (a + 4) n), one_else b a other, once_in b (a + 4) n)
     ]
 
 any_else : {A : Type 0} (x y : Bool) → y ≡ true → (x || y) ≡ false → A

@@ -3,6 +3,7 @@ use Rattle.std.specs.Prelude.{◌≡◌, ℕ, Bool, ◌==◌, if◌then◌else�
 use Rattle.std.specs.Prelude.{decimal, sum_by, Option, Some, None, is_some}
 use Rattle.std.specs.List.{list_any}
 use Rattle.asm_text.specs.Source.{lines_of}
+use Rattle.assembler.specs.Assembles.{addresses_from}
 use Rattle.assembler.specs.ShownLines.{IsShown}
 use Rattle.assembler.specs.declared.placed_line.PlacedLine.{PlacedLine}
 use Rattle.flow_graph.specs.Flow.{Flow}
@@ -12,7 +13,7 @@ use Rattle.statement.specs.Stated.{Stated}
 use Rattle.walk_counts.specs.Counts.{capped}
 use Rattle.explained.specs.Columns.{bound_line, ticks_text, total_row}
 use Rattle.text_rows.specs.Columns.{in_columns}
-use Rattle.text_rows.specs.Lines.{addresses, rows_by_line}
+use Rattle.text_rows.specs.Lines.{rows_by_line}
 use Rattle.text_rows.specs.Rows.{AreRows, address_column, row_end}
 use Rattle.explained.specs.Pricing.{ArePriced, pricing_text}
 use Rattle.explained.specs.Taken.{taken_at}
@@ -23,7 +24,7 @@ use Rattle.explained.specs.declared.tally.Taken.{Taken}
 -- ## Lines
 
 abbrev pub words_of : PlacedLine → List ℕ
-words_of line = addresses line.at line.words
+words_of line = addresses_from line.at line.words
 
 abbrev pub passes_of : Option Taken → ℕ
 passes_of None = 0
@@ -41,11 +42,11 @@ ticks_of (Some t) = t.ticks
 module _ (taken : ℕ → Option Taken) where
   -- a place is at one of the words
   abbrev pub is_any_reached : (from count : ℕ) → Bool
-  is_any_reached from count = list_any (λ a. is_some (taken a)) (addresses from count)
+  is_any_reached from count = list_any (λ a. is_some (taken a)) (addresses_from from count)
 
   -- the ticks at the words
   abbrev pub ticks_in : (from count : ℕ) → ℕ
-  ticks_in from count = capped (sum_by (λ a. ticks_of (taken a)) (addresses from count))
+  ticks_in from count = capped (sum_by (λ a. ticks_of (taken a)) (addresses_from from count))
 
   -- the passes of the first word and the ticks of each, and the ticks of all words; None where no place is on
   -- the line

@@ -5,13 +5,13 @@ use Rattle.std.specs.BTreeMap.{BTreeMap, get}
 use Rattle.std.specs.List.{list_any}
 use Rattle.std.specs.Ordering.{nat_cmp}
 use Rattle.asm_text.specs.Source.{lines_of}
+use Rattle.assembler.specs.Assembles.{addresses_from}
 use Rattle.assembler.specs.declared.placed_line.PlacedLine.{PlacedLine}
-use Rattle.text_rows.specs.Lines.{addresses}
 use Rattle.text_rows.specs.declared.rows.NumberedLine.{NumberedLine}
 
 -- the words from one on include the address
 abbrev pub has_word : (from count a : ℕ) → Bool
-has_word from count a = list_any (λ b. a == b) (addresses from count)
+has_word from count a = list_any (λ b. a == b) (addresses_from from count)
 
 -- the number and the text of the last line with a word at the address, where the first line has the number;
 -- if none has one, what was found before

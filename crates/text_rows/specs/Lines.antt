@@ -7,11 +7,6 @@ abbrev pub rows_by_line : (ℕ → List ℕ → PlacedLine → List ℕ) → ℕ
 rows_by_line rows n (text ∷ lines) (p ∷ placed) = rows n text p ++ rows_by_line rows (n + 1) lines placed
 rows_by_line rows n _ _ = []
 
--- the addresses of so many words from one on
-abbrev pub addresses : (from count : ℕ) → List ℕ
-addresses from zero = []
-addresses from (suc n) = from ∷ addresses (from + 4) n
-
 -- a row for each of so many words from an address on
 abbrev pub rows_from : (ℕ → List ℕ) → (from count : ℕ) → List ℕ
 rows_from row from zero = []
