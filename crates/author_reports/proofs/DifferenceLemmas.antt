@@ -1,15 +1,13 @@
 -- What a run does at each address, and the rows where it and a walk differ.
 use Rattle.std.proofs.Common.{◌≡◌, ◌∙◌, ℕ, ◌+◌, ◌-◌, ◌*◌, ◌<◌, Bool, true, false, cond, eqb, List, [], ◌∷◌, ◌++◌, append-nil, append_assoc, length, get_or, ⊎_elim, refl, sym, ap, subst, arith, add-one}
-use Rattle.std.specs.Prelude.{All, Option, sum_by, if◌then◌else◌}
+use Rattle.std.specs.Prelude.{All, sum_by, if◌then◌else◌}
 use Rattle.std.specs.List.{range_with_len}
 use Rattle.std.proofs.lemmas.Bool.{cases_Bool, false≢true}
 use Rattle.std.proofs.lemmas.List.{get_or_default, length-append}
 use Rattle.std.proofs.lemmas.List.Elements.{All-head, All-tail}
 use Rattle.std.proofs.lemmas.List.Sums.{sum_by-cons, sum_by_push}
 use Rattle.text_rows.specs.Rows.{Appends, IsShownRow}
-use Rattle.explained.specs.Taken.{IsTally as IsWalkTally, is_at, taken_at}
-use Rattle.explained.specs.Table.{passes_of, ticks_of}
-use Rattle.explained.specs.declared.tally.Taken.{Taken}
+use Rattle.explained.specs.Taken.{IsTally as IsWalkTally, is_at}
 use Rattle.explained.specs.declared.tally.Tally.{Tally}
 use Rattle.explained.proofs.RangeLaws.{range_push}
 use Rattle.flow_graph.specs.Flow.{Flow}
@@ -26,7 +24,7 @@ use Rattle.walk_counts.proofs.SumLemmas.{picked, same_sums, sum_both, sum_none}
 use Rattle.author_reports.specs.declared.differences.Compared.{Compared}
 use Rattle.author_reports.specs.declared.differences.Numbers.{Numbers}
 use Rattle.author_reports.specs.declared.differences.RunTally.{RunTally}
-use Rattle.author_reports.specs.Differences.{Adds, HasAdded, IsRowIfApart, IsTable, agree, compared_in, compared_text, in_all, numbers_in, run_at, tallied, capped_at, with_place}
+use Rattle.author_reports.specs.Differences.{Adds, HasAdded, IsRowIfApart, IsTable, agree, compared_in, compared_text, capped_run, in_all, numbers_of, tallied, capped_at, with_place}
 
 -- ## Sums over places
 
@@ -64,12 +62,6 @@ by_places at weight n (p ∷ passes) inside =
 pub same_numbers : (m n : Numbers) → m.passes ≡ n.passes → m.ticks ≡ n.ticks → m ≡ n
 same_numbers m n passes ticks = λ i. record { passes = passes i; ticks = ticks i }
 
-abbrev capped_run : Flow → List Pass → ℕ → Numbers
-capped_run flow passes a = record { passes = capped (run_at flow passes a).passes; ticks = capped (run_at flow passes a).ticks }
-
-abbrev capped_walk : Flow → List Edge → ℕ → Numbers
-capped_walk flow walk a = record { passes = passes_of (taken_at flow walk a); ticks = ticks_of (taken_at flow walk a) }
-
 module _ (flow : Flow) (passes : List Pass) (by_place : List Passed) (t : RunTally) (added : HasAdded flow.places by_place (length flow.places) t) (tally : IsTally flow passes by_place) where
   -- a number of each place, as the steps have it
   all_of : (number : Passed → ℕ) (a : ℕ)
@@ -80,7 +72,7 @@ module _ (flow : Flow) (passes : List Pass) (by_place : List Passed) (t : RunTal
       (λ k. cond (is_at a (place_at flow.places k)) (number (passed_at passes k)) 0) (length flow.places) 0
       (λ k low high. ap (λ p. cond (is_at a (place_at flow.places k)) (number p) 0) (tally.each k (omega (arith, high))))
 
-  pub run_capped : (a : ℕ) → tallied t a ≡ capped_run flow passes a
+  run_capped : (a : ℕ) → tallied t a ≡ capped_run flow passes a
   run_capped a =
       added a
       ∙ same_numbers _ (capped_run flow passes a)
@@ -100,8 +92,7 @@ table_capped source words flow walk by_place run of_walk text added taken table 
     at : (a : ℕ) → compared_in run of_walk a ≡ capped_at flow passes walk a
     at a = same_compared (compared_in run of_walk a) (capped_at flow passes walk a)
         (run_capped flow passes by_place run added tally a)
-        (same_numbers (numbers_in of_walk a) (capped_walk flow walk a)
-        (ap (λ (o : Option Taken). passes_of o) (taken a)) (ap (λ (o : Option Taken). ticks_of o) (taken a)))
+        (ap numbers_of (taken a))
 
     same : compared_in run of_walk ≡ capped_at flow passes walk
     same = λ i a. at a i

@@ -1,5 +1,5 @@
 -- Where a run that keeps its statement and a greatest walk differ.
-use Rattle.std.specs.Prelude.{◌≡◌, ℕ, ◌+◌, ◌==◌, ◌&&◌, Bool, true, false, cond}
+use Rattle.std.specs.Prelude.{◌≡◌, ℕ, ◌+◌, ◌==◌, ◌&&◌, Bool, true, false, cond, Option}
 use Rattle.std.specs.Prelude.{if◌then◌else◌, List}
 use Rattle.std.specs.Prelude.{[], ◌++◌, codes, decimal, count_by, length, sum_by, unwrap_or}
 use Rattle.std.specs.Prelude.{slice_index_or}
@@ -9,6 +9,7 @@ use Rattle.std.specs.Ordering.{nat_cmp}
 use Rattle.asm_text.specs.Source.{lines_of}
 use Rattle.assembler.specs.Placed.{ArePlaced}
 use Rattle.assembler.specs.declared.placed_line.PlacedLine.{PlacedLine}
+use Rattle.explained.specs.declared.tally.Taken.{Taken}
 use Rattle.text_rows.specs.Columns.{in_columns}
 use Rattle.text_rows.specs.Lines.{rows_by_line, rows_by_word}
 use Rattle.text_rows.specs.Rows.{AreRows, IsShownRow, named_row, section}
@@ -102,16 +103,18 @@ pub record IsTable (source : List ℕ) (words : Words) (compared : ℕ → Compa
 
 -- ## Tallies
 
--- the same, counted up to 2^64 - 1
+-- the same of the steps, counted up to 2^64 - 1
+abbrev pub capped_run : Flow → List Pass → ℕ → Numbers
+capped_run flow passes a =
+    record { passes = capped (run_at flow passes a).passes; ticks = capped (run_at flow passes a).ticks }
+
+-- what a walk takes at an address, counted so
+abbrev pub numbers_of : Option Taken → Numbers
+numbers_of taken = record { passes = passes_of taken; ticks = ticks_of taken }
+
 abbrev pub capped_at : Flow → List Pass → List Edge → ℕ → Compared
 capped_at flow passes walk a =
-    record {
-      run = record {
-        passes = capped (run_at flow passes a).passes;
-        ticks = capped (run_at flow passes a).ticks;
-      };
-      bound = record { passes = passes_of (taken_at flow walk a); ticks = ticks_of (taken_at flow walk a) };
-    }
+    record { run = capped_run flow passes a; bound = numbers_of (taken_at flow walk a) }
 
 abbrev pub none : Numbers
 none = record { passes = 0; ticks = 0 }
@@ -120,13 +123,8 @@ none = record { passes = 0; ticks = 0 }
 abbrev pub tallied : RunTally → ℕ → Numbers
 tallied t a = unwrap_or (get nat_cmp t.by_address a) none
 
--- what a walk takes there
-abbrev pub numbers_in : Tally → ℕ → Numbers
-numbers_in t a =
-    record { passes = passes_of (get nat_cmp t.by_address a); ticks = ticks_of (get nat_cmp t.by_address a) }
-
 abbrev pub compared_in : RunTally → Tally → ℕ → Compared
-compared_in run walk a = record { run = tallied run a; bound = numbers_in walk a }
+compared_in run walk a = record { run = tallied run a; bound = numbers_of (get nat_cmp walk.by_address a) }
 
 -- what is done at a place more
 abbrev pub with_place : Numbers → Passed → Numbers
