@@ -88,6 +88,6 @@ impl OpenWalk {
         requires { (nest_of self).opened ≡ 0 }
         ensures { cert_walk_lines result ≡ walk_so_far self }
     {
-        CertWalk { list: self.items }
+        CertWalk::of(self.items)
     }
 }

@@ -1,4 +1,4 @@
-ghost use Rattle.std.specs.Prelude.{◌≡◌, ◌+◌, ◌<◌, IfOk, length, map};
+ghost use Rattle.std.specs.Prelude.{◌≡◌, ◌+◌, ◌<◌, IfOk, length};
 ghost use Rattle.numbered_walks.specs.Tables.{HasRoom, arrival_of, round_of};
 ghost use Rattle.loop_bounds.specs.Extents.{found_instance};
 ghost use Rattle.loop_bounds.specs.Layout.{AreNumbers};
@@ -6,10 +6,10 @@ ghost use Rattle.loop_bounds.specs.Tree.{IsTree};
 ghost use Rattle.longest_walk.specs.Built.{AreInstanceRowsAt, ArePlaceRowsAt};
 ghost use Rattle.longest_walk.specs.Rows.{header_of, header_of_row};
 
-use crate::rows::{InstanceRow, PlaceRow, Rows};
+use crate::rows::{InstanceRow, PlaceRow};
 use flow_graph::{Graph, Place, order_of_places};
 use loop_bounds::{Found, LoopTree};
-use numbered_walks::{Span, Tables};
+use numbered_walks::{Items, Span, Tables};
 use std::alloc::{AllocError, Global};
 
 /// The number of each place, by its index among the places.
@@ -34,7 +34,7 @@ pub(crate) fn place_rows(
     graph: &Graph,
     tree: &LoopTree,
     tables: &Tables,
-) -> Result<Rows<PlaceRow>, AllocError>
+) -> Result<Items<PlaceRow>, AllocError>
     requires tree { IsTree graph.now tree.now }
     requires room { HasRoom (length graph.now.places + 1) tables.now }
     ensures { IfOk result (ArePlaceRowsAt graph.now tree.now tables.now) }
@@ -54,7 +54,7 @@ pub(crate) fn place_rows(
             distance,
         })?;
     }
-    Ok(Rows::of(rows))
+    Ok(Items::of(rows))
 }
 
 // The row of an instance.
@@ -79,7 +79,7 @@ pub(crate) fn instance_rows(
     graph: &Graph,
     tree: &LoopTree,
     tables: &Tables,
-) -> Result<Rows<InstanceRow>, AllocError>
+) -> Result<Items<InstanceRow>, AllocError>
     requires tree { IsTree graph.now tree.now }
     requires room { HasRoom (length graph.now.places + 1) tables.now }
     ensures { IfOk result (AreInstanceRowsAt tree.now tables.now) }
@@ -92,5 +92,5 @@ pub(crate) fn instance_rows(
         rows.push(instance_row(&found[index], &spans[index], tables))?;
     }
     rows.sort_unstable_by_key(|row| Place::At(row.list, row.header));
-    Ok(Rows::of(rows))
+    Ok(Items::of(rows))
 }

@@ -11,9 +11,8 @@ ghost use Rattle.loop_bounds.specs.Tree.{IsTree};
 use crate::loop_instances::Found;
 use crate::tree::LoopTree;
 use flow_graph::{Calls, Graph, Place};
-use numbered_walks::Span;
+use numbered_walks::{Items, Span};
 use std::alloc::{AllocError, Global};
-use std::marker::Model;
 
 /// An instance of a loop, with its places and the instances directly inside it.
 #[derive(Drop)]
@@ -62,33 +61,8 @@ impl Instance {
     }
 }
 
-/// The instances that are inside no other, each with those inside it.
-#[derive(Drop)]
-pub struct Instances {
-    list: Vec<Instance>,
-}
-
-impl Model for Instances {
-    ghost use Rattle.std.specs.Prelude.{List};
-    ghost use Rattle.std.specs.Coded.{codes};
-    ghost use Rattle.loop_bounds.specs.declared.nested.Instance.{Instance};
-    ghost use Rattle.loop_bounds.specs.contracts.nested.Instance.{the_row};
-
-    ghost Value = { List Instance };
-
-    ghost coded = { Prim.hlevel (codes, the_row.coded) };
-
-    ghost view = { λ instances. instances.list.items };
-}
-
-impl Instances {
-    /// The instances, by the last of their numbers.
-    pub fn items(&self) -> &[Instance]
-        ensures { result.now ≡ self.now }
-    {
-        &self.list
-    }
-}
+/// The instances that are inside no other, each with those inside it, by the last of their numbers.
+pub type Instances = Items<Instance>;
 
 // Of the instances so far those that are inside no other, and the numbers of their headers.
 #[derive(Drop)]
@@ -159,8 +133,6 @@ impl LoopTree {
             let places = places_of(alloc, graph.places(), self.order(), span)?;
             outermost.enclose(span.header, instances[k], places)?;
         }
-        Ok(Instances {
-            list: outermost.instances,
-        })
+        Ok(Instances::of(outermost.instances))
     }
 }
