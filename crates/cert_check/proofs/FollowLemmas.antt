@@ -2,8 +2,8 @@
 use Rattle.std.proofs.Common.{◌≡◌, ◌≢◌, ◌∙◌, ℕ, zero, suc, ◌<◌, List, [], ◌∷◌, ◌++◌, append-nil, Option, Some, option_and_then, refl, sym, ap, subst, arith}
 use Rattle.std.specs.Prelude.{Contains, max, option_map}
 use Rattle.std.proofs.lemmas.List.Elements.{Contains-append_left, Contains-append_right}
+use Rattle.std.specs.List.{repeat}
 use Rattle.walks.specs.Walk.{Leads, Shape}
-use Rattle.walks.specs.Segments.{repeated}
 use Rattle.walks.proofs.Leading.{Leads-repeated}
 use Rattle.flow_graph.specs.declared.places.Place.{Place}
 use Rattle.flow_graph.specs.declared.edges.Edge.{Edge}
@@ -53,9 +53,9 @@ module _ (flow : Flow) (tree : Tree) where
   followed_edge named e p q sound leads =
       ap (λ x. option_map follow_edge (edge_named flow x (step_of e))) (sym leads.1) ∙ ap (option_map follow_edge) (named e leads.0) ∙ ap (λ x. Some (arrived x (one_edge e))) leads.2
 
-  once_from : (k : ℕ) (body : List Edge) (p q r : Place) → 0 < k → body ≢ [] → Leads edge_shape (HasEdge flow) p (repeated k body) q → Leads edge_shape (HasEdge flow) r body r → p ≡ r
+  once_from : (k : ℕ) (body : List Edge) (p q r : Place) → 0 < k → body ≢ [] → Leads edge_shape (HasEdge flow) p (repeat k body) q → Leads edge_shape (HasEdge flow) r body r → p ≡ r
   once_from zero body p q r some edges leads turns = absurd (omega arith)
-  once_from (suc k) body p q r some edges leads turns = one_start edge_shape (HasEdge flow) p q r r body (repeated k body) edges leads turns
+  once_from (suc k) body p q r some edges leads turns = one_start edge_shape (HasEdge flow) p q r r body (repeat k body) edges leads turns
 
   -- rounds lead from where they begin back there, so once along the body is enough
   pub followed_turns : (k : ℕ) (follow : Place → Option Followed) (o : Opened) → Follows follow o → Follows (λ p. option_map (follow_turns k) (follow p)) (turned k o)
@@ -63,7 +63,7 @@ module _ (flow : Flow) (tree : Tree) where
       let body = sound.bodies o.walk (here o.walk o.bodies) in
       let h : Place = body.header in
       let from : p ≡ h = once_from k o.walk p q h (sound.counts k (here k o.counts)) body.some leads body.turns in
-      let back : q ≡ h = ends_same edge_shape (HasEdge flow) h q h (repeated k o.walk) (subst (λ x. Leads edge_shape (HasEdge flow) x (repeated k o.walk) q) from leads) (Leads-repeated edge_shape (HasEdge flow) k h o.walk body.turns) in
+      let back : q ≡ h = ends_same edge_shape (HasEdge flow) h q h (repeat k o.walk) (subst (λ x. Leads edge_shape (HasEdge flow) x (repeat k o.walk) q) from leads) (Leads-repeated edge_shape (HasEdge flow) k h o.walk body.turns) in
       let inner : IsSound o = record { bodies = λ b has. sound.bodies b (there o.walk o.bodies b has); counts = λ n has. sound.counts n (there k o.counts n has) } in
       ap (λ x. option_map (follow_turns k) (follow x)) from ∙ ap (option_map (follow_turns k)) (once h h inner body.turns) ∙ ap (λ x. Some (arrived x (turned k o))) (sym back)
 

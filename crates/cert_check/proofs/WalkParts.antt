@@ -1,8 +1,8 @@
--- Parts of walks that are in a row or are repeated.
+-- Parts of walks that are in a row or are repeat.
 use Rattle.std.proofs.Common.{◌≡◌, ◌≢◌, ◌∙◌, ℕ, zero, suc, ◌<◌, ◌≤◌, List, [], ◌∷◌, ◌++◌, length, All, Option, Some, None, refl, sym, ap, subst, arith, length-append}
 use Rattle.std.specs.Prelude.{option_map}
 use Rattle.std.proofs.lemmas.List.Elements.{All-nil, All-cons, All-head, All-tail}
-use Rattle.walks.specs.Segments.{repeated}
+use Rattle.std.specs.List.{repeat}
 use Rattle.walks.specs.Walk.{Leads, Shape}
 
 -- ## Lists
@@ -15,9 +15,9 @@ pub All-right : {X : Type 0} (P : X → Type 0) (xs ys : List X) → All P (xs +
 All-right P [] ys all = all
 All-right P (x ∷ xs) ys all = All-right P xs ys (All-tail P x (xs ++ ys) all)
 
-pub repeated-long : {X : Type 0} (n k : ℕ) (xs : List X) → 0 < k → n ≤ length xs → n ≤ length (repeated k xs)
+pub repeated-long : {X : Type 0} (n k : ℕ) (xs : List X) → 0 < k → n ≤ length xs → n ≤ length (repeat k xs)
 repeated-long n zero xs some long = absurd (omega arith)
-repeated-long n (suc k) xs some long = omega (arith, long, length-append xs (repeated k xs))
+repeated-long n (suc k) xs some long = omega (arith, long, length-append xs (repeat k xs))
 
 pub some_element : {X : Type 0} (xs : List X) → 0 < length xs → xs ≢ []
 some_element xs some is = omega (arith, some, ap length is)
@@ -45,6 +45,6 @@ module _ {P E : Type 0} (shape : Shape P E) (is_edge : E → Type 0) where
   starts_same p q a b [] some one other = absurd (some refl)
   starts_same p q a b (e ∷ v) some (in_graph, starts, one) (also, begins, other) = sym starts ∙ begins
 
-  pub leads_once : (p q : P) (k : ℕ) (v : List E) → 0 < k → Leads shape is_edge p (repeated k v) q → (m : P) × Leads shape is_edge p v m
+  pub leads_once : (p q : P) (k : ℕ) (v : List E) → 0 < k → Leads shape is_edge p (repeat k v) q → (m : P) × Leads shape is_edge p v m
   leads_once p q zero v some leads = absurd (omega arith)
-  leads_once p q (suc k) v some leads = leads_left p q v (repeated k v) leads
+  leads_once p q (suc k) v some leads = leads_left p q v (repeat k v) leads

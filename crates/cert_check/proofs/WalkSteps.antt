@@ -7,8 +7,7 @@ use Rattle.std.proofs.lemmas.List.{length-map}
 use Rattle.std.proofs.lemmas.List.Elements.{All-nil, All-cons, All-head, All-tail, All-weaker, Contains-get_or}
 use Rattle.std.proofs.lemmas.List.Sums.{AllPass-from_list_all}
 use Rattle.std.proofs.lemmas.Option.{none-some, same_Some}
-use Rattle.std.specs.List.{AllPass}
-use Rattle.walks.specs.Segments.{repeated}
+use Rattle.std.specs.List.{AllPass, repeat}
 use Rattle.walks.specs.Walk.{Leads}
 use Rattle.walks.specs.Greatest as G
 use Rattle.walks.proofs.Leading.{Leads-repeated}
@@ -159,7 +158,7 @@ module _ (flow : Flow) (tree : Tree) (index : Index) (well : IsWellFormed flow) 
       few : k ≤ 1048576
       some_line : 0 < lines
 
-    turns_in : (g : Followed) (q : Place) → row (place x.number) ≡ Some g → LeadsTo (place x.number) (repeated k g.opened.walk) q → AreRounds flow tree levels (follow_turns k g).opened → TurnsIn x.number g
+    turns_in : (g : Followed) (q : Place) → row (place x.number) ≡ Some g → LeadsTo (place x.number) (repeat k g.opened.walk) q → AreRounds flow tree levels (follow_turns k g).opened → TurnsIn x.number g
     turns_in g q is leads rounds =
         let v : List Edge = g.opened.walk in
         let body : IsBody flow tree v = All-head (IsBody flow tree) v g.opened.bodies rounds.bodies in
@@ -230,7 +229,7 @@ module _ (flow : Flow) (tree : Tree) (index : Index) (well : IsWellFormed flow) 
           back : y.number ≡ x.number
           back = closed ∙ header_is
 
-          many : edges_of tree.edges (repeated k once.numbers) ≡ repeated k (edges_of tree.edges once.numbers)
+          many : edges_of tree.edges (repeat k once.numbers) ≡ repeat k (edges_of tree.edges once.numbers)
           many = map-repeated (edge_at tree.edges) k once.numbers
 
           body_long : 1 ≤ length once.walk.opened.walk
@@ -270,7 +269,7 @@ module _ (flow : Flow) (tree : Tree) (index : Index) (well : IsWellFormed flow) 
               (subst (λ (c : ℕ). Arrives index.headers.items y.number (gained c y.cost k) (gained (get_or x.turns.items x.number 0) (get_or y.turns.items y.number 0) k) y z) begins.cost_is
               (subst (λ (c : ℕ). Arrives index.headers.items y.number (gained r.cost y.cost k) (gained c (get_or y.turns.items y.number 0) k) y z) begins.turns_are goes))
 
-          repeat_told : Adds tree.spans x z (edges_of tree.edges (repeated k once.numbers))
+          repeat_told : Adds tree.spans x z (edges_of tree.edges (repeat k once.numbers))
           repeat_told =
               subst (λ (w : List NumberedEdge). Adds tree.spans x z w) (sym many)
               (rounds_add exit tree.edges tree.spans t.ordered index.headers.items can.indexed.headers r.span span_known.0 x.number k header_is (edges_of tree.edges once.numbers) numbers_some turn once.stays x y z refl back (omega (arith, once.ready.room, can.known)) begins.some arrives once.adds)
@@ -278,13 +277,13 @@ module _ (flow : Flow) (tree : Tree) (index : Index) (well : IsWellFormed flow) 
           pub repeat_taken : IsTaken flow tree index within levels 1 times x z
           repeat_taken = record {
             walk = follow_turns k once.walk;
-            numbers = repeated k once.numbers;
+            numbers = repeat k once.numbers;
             walk_is = ap (option_map (follow_turns k)) once.walk_is;
             ends = once.ends ∙ ap place (sym goes.number_is);
             inside = All-repeated (λ (n : ℕ). n < length flow.edges) k once.numbers once.inside;
-            edges_are = ap (repeated k) once.edges_are ∙ sym (map-repeated (step_at flow.edges) k once.numbers);
+            edges_are = ap (repeat k) once.edges_are ∙ sym (map-repeated (step_at flow.edges) k once.numbers);
             leads = subst (λ (w : List NumberedEdge). O.Leads tree.edges x.number w z.number) (sym many)
-                (subst (λ (n : ℕ). O.Leads tree.edges x.number (repeated k (edges_of tree.edges once.numbers)) n) (sym (goes.number_is ∙ back)) (Leads-repeated number_shape (Contains tree.edges) k x.number (edges_of tree.edges once.numbers) turn));
+                (subst (λ (n : ℕ). O.Leads tree.edges x.number (repeat k (edges_of tree.edges once.numbers)) n) (sym (goes.number_is ∙ back)) (Leads-repeated number_shape (Contains tree.edges) k x.number (edges_of tree.edges once.numbers) turn));
             stays = subst (λ (w : List NumberedEdge). All (λ e. is_in within e.to ≡ true) w) (sym many)
                 (All-repeated (λ (e : NumberedEdge). is_in within e.to ≡ true) k (edges_of tree.edges once.numbers)
                 (All-weaker (λ (e : NumberedEdge). is_in r.span e.to ≡ true) (λ (e : NumberedEdge). is_in within e.to ≡ true)

@@ -5,7 +5,8 @@ use Rattle.std.specs.Option.{option_or}
 use Rattle.std.proofs.lemmas.Option.{none-some, same_Some}
 use Rattle.std.proofs.lemmas.List.Elements.{All-head, All-tail, All-weaker}
 use Rattle.std.proofs.lemmas.List.Sums.{sum_by-cons}
-use Rattle.walks.specs.Segments.{count, head, most, repeated, tail, whole}
+use Rattle.std.specs.List.{repeat}
+use Rattle.walks.specs.Segments.{count, head, most, tail, whole}
 use Rattle.walks.proofs.Joins as J
 use Rattle.walks.proofs.Leading.{cost-append, cost-repeated}
 use Rattle.walks.proofs.Segments.{rounds_head, tail-le-most}
@@ -41,7 +42,7 @@ gained-exact limit a b k some = ⊎_elim
     left ∙ sym right)
     (cases_lt (a + b) limit)
 
-pub gained_is : (a b k : ℕ) → 0 < k → gained (capped a) (capped (a + b)) k ≡ capped (a + k * b)
+gained_is : (a b k : ℕ) → 0 < k → gained (capped a) (capped (a + b)) k ≡ capped (a + k * b)
 gained_is a b k some = gained-exact (2 ^ 64) a b k some
 
 -- the first of two, if there is one
@@ -79,7 +80,7 @@ broken_none o turns s at is = ⊎_elim
 
 module _ {E : Type 0} (inside turns : E → Bool) (w : List E) where
   -- a walk that lies inside, after another
-  pub whole_after : (u : List E) → whole inside turns u ≡ true → (most inside turns (w ++ u) ≡ max (most inside turns w) (tail inside turns w + count inside turns u)) × (tail inside turns (w ++ u) ≡ tail inside turns w + count inside turns u)
+  whole_after : (u : List E) → whole inside turns u ≡ true → (most inside turns (w ++ u) ≡ max (most inside turns w) (tail inside turns w + count inside turns u)) × (tail inside turns (w ++ u) ≡ tail inside turns w + count inside turns u)
   whole_after u all =
       let first : head inside turns u ≡ count inside turns u = J.head_whole inside turns u all in
       let own : most inside turns u ≡ count inside turns u = J.most_whole inside turns u all in
@@ -89,12 +90,12 @@ module _ {E : Type 0} (inside turns : E → Bool) (w : List E) where
       )
 
   -- the most of rounds that begin outside is that of one
-  pub rounds_apart : (k : ℕ) (r : List E) → 0 < k → head inside turns r ≡ 0 → whole inside turns r ≡ false → most inside turns (w ++ repeated k r) ≡ most inside turns (w ++ r)
+  rounds_apart : (k : ℕ) (r : List E) → 0 < k → head inside turns r ≡ 0 → whole inside turns r ≡ false → most inside turns (w ++ repeat k r) ≡ most inside turns (w ++ r)
   rounds_apart k r some none part =
-      let same : most inside turns (repeated k r) ≡ most inside turns r = of k some in
-      omega (arith, same, J.most-append inside turns w (repeated k r), J.most-append inside turns w r, rounds_head inside turns k r none, none)
+      let same : most inside turns (repeat k r) ≡ most inside turns r = of k some in
+      omega (arith, same, J.most-append inside turns w (repeat k r), J.most-append inside turns w r, rounds_head inside turns k r none, none)
     where
-      of : (n : ℕ) → 0 < n → most inside turns (repeated n r) ≡ most inside turns r
+      of : (n : ℕ) → 0 < n → most inside turns (repeat n r) ≡ most inside turns r
       of zero positive = absurd (omega arith)
       of (suc zero) positive = ap (most inside turns) (append-nil r)
       of (suc (suc n)) positive = omega (arith, J.most-repeated inside turns n r part, none, tail-le-most inside turns r)
@@ -261,17 +262,17 @@ module _ (exit : ℕ) (edges : List NumberedEdge) (spans : List Span) (order : I
     joined_once : (s : Span) → Contains spans s → is_in s n ≡ true → (most_in s (w ++ v) ≡ max (most_in s w) (turns_at_end s w + count (is_inside s) (ends_at_header s) v)) × (turns_at_end s (w ++ v) ≡ turns_at_end s w + count (is_inside s) (ends_at_header s) v)
     joined_once s s_in here = whole_after (is_inside s) (ends_at_header s) w v (held s s_in here)
 
-    joined_rounds : (s : Span) → Contains spans s → is_in s n ≡ true → (most_in s (w ++ repeated k v) ≡ max (most_in s w) (turns_at_end s w + k * count (is_inside s) (ends_at_header s) v)) × (turns_at_end s (w ++ repeated k v) ≡ turns_at_end s w + k * count (is_inside s) (ends_at_header s) v)
+    joined_rounds : (s : Span) → Contains spans s → is_in s n ≡ true → (most_in s (w ++ repeat k v) ≡ max (most_in s w) (turns_at_end s w + k * count (is_inside s) (ends_at_header s) v)) × (turns_at_end s (w ++ repeat k v) ≡ turns_at_end s w + k * count (is_inside s) (ends_at_header s) v)
     joined_rounds s s_in here =
-        let all_in : whole (is_inside s) (ends_at_header s) (repeated k v) ≡ true = J.whole-repeated (is_inside s) (ends_at_header s) k v (held s s_in here) in
-        let times : count (is_inside s) (ends_at_header s) (repeated k v) ≡ k * count (is_inside s) (ends_at_header s) v = J.count-repeated (is_inside s) (ends_at_header s) k v in
-        let b = whole_after (is_inside s) (ends_at_header s) w (repeated k v) all_in in
+        let all_in : whole (is_inside s) (ends_at_header s) (repeat k v) ≡ true = J.whole-repeated (is_inside s) (ends_at_header s) k v (held s s_in here) in
+        let times : count (is_inside s) (ends_at_header s) (repeat k v) ≡ k * count (is_inside s) (ends_at_header s) v = J.count-repeated (is_inside s) (ends_at_header s) k v in
+        let b = whole_after (is_inside s) (ends_at_header s) w (repeat k v) all_in in
         (b.0 ∙ ap (λ (x : ℕ). max (most_in s w) (turns_at_end s w + x)) times, b.1 ∙ ap (λ (x : ℕ). turns_at_end s w + x) times)
 
     none_many : (c : ℕ) → c ≡ 0 → k * c ≡ 0
     none_many c is = rw is (omega arith)
 
-    rounds_change : 0 < k → Changes n n (w ++ v) (w ++ repeated k v)
+    rounds_change : 0 < k → Changes n n (w ++ v) (w ++ repeat k v)
     rounds_change positive = record {
       there = λ s s_in is.
           let here = holds_header s s_in is in
@@ -300,13 +301,13 @@ module _ (exit : ℕ) (edges : List NumberedEdge) (spans : List Span) (order : I
 
     module _ (old mid new : Walker) (start : old.number ≡ n) (back : mid.number ≡ n) (room : n < length mid.turns.items) (positive : 0 < k)
         (goes : Arrives headers n (gained old.cost mid.cost k) (gained (get_or old.turns.items n 0) (get_or mid.turns.items n 0) k) mid new) (before : IsWalkerAfter spans old w) (once : IsWalkerAfter spans mid (w ++ v)) where
-      rounds_cost : gained old.cost mid.cost k ≡ capped (cost_of (w ++ repeated k v))
+      rounds_cost : gained old.cost mid.cost k ≡ capped (cost_of (w ++ repeat k v))
       rounds_cost =
           let more : mid.cost ≡ capped (cost_of w + cost_of v) = once.cost_is ∙ ap capped (cost-append number_shape w v) in
-          let all_of : cost_of (w ++ repeated k v) ≡ cost_of w + k * cost_of v = cost-append number_shape w (repeated k v) ∙ ap (λ (x : ℕ). cost_of w + x) (cost-repeated number_shape k v) in
+          let all_of : cost_of (w ++ repeat k v) ≡ cost_of w + k * cost_of v = cost-append number_shape w (repeat k v) ∙ ap (λ (x : ℕ). cost_of w + x) (cost-repeated number_shape k v) in
           (λ i. gained (before.cost_is i) (more i) k) ∙ gained_is (cost_of w) (cost_of v) k positive ∙ ap capped (sym all_of)
 
-      rounds_turns : (s : Span) → Contains spans s → s.header ≡ n → gained (get_or old.turns.items n 0) (get_or mid.turns.items n 0) k ≡ capped (turns_at_end s (w ++ repeated k v))
+      rounds_turns : (s : Span) → Contains spans s → s.header ≡ n → gained (get_or old.turns.items n 0) (get_or mid.turns.items n 0) k ≡ capped (turns_at_end s (w ++ repeat k v))
       rounds_turns s s_in is =
           let here = holds_header s s_in is in
           let c : ℕ = count (is_inside s) (ends_at_header s) v in
@@ -314,12 +315,12 @@ module _ (exit : ℕ) (edges : List NumberedEdge) (spans : List Span) (order : I
           let second : get_or mid.turns.items n 0 ≡ capped (turns_at_end s w + c) = ap (λ (p : ℕ). get_or mid.turns.items p 0) (sym is) ∙ once.turns_are s s_in (subst (λ (p : ℕ). is_in s p ≡ true) (sym back) here) ∙ ap capped (joined_once s s_in here).1 in
           (λ i. gained (first i) (second i) k) ∙ gained_is (turns_at_end s w) c k positive ∙ ap capped (sym (joined_rounds s s_in here).1)
 
-      rounds_told : IsWalkerAfter spans new (w ++ repeated k v)
+      rounds_told : IsWalkerAfter spans new (w ++ repeat k v)
       rounds_told =
-          tells_on mid new (w ++ v) (w ++ repeated k v) n (gained old.cost mid.cost k) (gained (get_or old.turns.items n 0) (get_or mid.turns.items n 0) k) goes
-          (subst (λ (m : ℕ). Changes m n (w ++ v) (w ++ repeated k v)) (sym back) (rounds_change positive)) once room rounds_cost rounds_turns
+          tells_on mid new (w ++ v) (w ++ repeat k v) n (gained old.cost mid.cost k) (gained (get_or old.turns.items n 0) (get_or mid.turns.items n 0) k) goes
+          (subst (λ (m : ℕ). Changes m n (w ++ v) (w ++ repeat k v)) (sym back) (rounds_change positive)) once room rounds_cost rounds_turns
 
   pub rounds_add : (r : Span) → Contains spans r → (n k : ℕ) → r.header ≡ n → (v : List NumberedEdge) → v ≢ [] → Leads edges n v n → All (λ e. is_in r e.to ≡ true) v → (old mid new : Walker) → old.number ≡ n → mid.number ≡ n → n < length mid.turns.items → 0 < k
-      → Arrives headers n (gained old.cost mid.cost k) (gained (get_or old.turns.items n 0) (get_or mid.turns.items n 0) k) mid new → Adds spans old mid v → Adds spans old new (repeated k v)
+      → Arrives headers n (gained old.cost mid.cost k) (gained (get_or old.turns.items n 0) (get_or mid.turns.items n 0) k) mid new → Adds spans old mid v → Adds spans old new (repeat k v)
   rounds_add r r_in n k at v some leads ends old mid new start back room positive goes adds w told =
       rounds_told r r_in n k at v some leads ends w old mid new start back room positive goes told (adds w told)

@@ -3,8 +3,9 @@ use Rattle.std.proofs.Common.{◌≡◌, ◌≢◌, ◌∙◌, ℕ, ◌<◌, ◌
 use Rattle.std.specs.List.{AllByRecursion, join_with_byte}
 use Rattle.std.proofs.lemmas.List.Elements.{All-push, recursion_from_All}
 use Rattle.std.proofs.lemmas.List.{map_push}
+use Rattle.std.specs.Str.Iter.{LacksByte}
 use Rattle.asm_text.specs.Hex.{hex}
-use Rattle.certificate.specs.Words.{AreCalls, Lacks, list_words}
+use Rattle.certificate.specs.Words.{AreCalls, list_words}
 use Rattle.certificate.proofs.JoinLaws.{join_cut, join_end, join_whole, marked}
 
 -- the numbers that are still to be read, and their words
@@ -26,7 +27,7 @@ module _ (mark : ℕ) (spell : ℕ → List ℕ) where
       ∙ sym (append_assoc (spell m ++ mark ∷ []) (marked mark (map spell (ns ++ n ∷ []))) rest)
 
   -- the next word spells the next number
-  pub next_word : (all read words word after : List ℕ) → (ahead : Ahead mark spell all read words) → Lacks mark (spell ahead.first) → Lacks mark word
+  pub next_word : (all read words word after : List ℕ) → (ahead : Ahead mark spell all read words) → LacksByte mark (spell ahead.first) → LacksByte mark word
       → words ≡ word ++ mark ∷ after → (word ≡ spell ahead.first) × Ahead mark spell all (read ++ ahead.first ∷ []) after
   next_word all read words word after ahead lacks free e =
       let cut = join_cut mark (spell ahead.first) (map spell ahead.left) word after lacks free (sym ahead.words_are ∙ e) in
@@ -38,9 +39,9 @@ module _ (mark : ℕ) (spell : ℕ → List ℕ) where
           record { first = x; left = left; all_are = is ∙ sym (append_assoc read (ahead.first ∷ []) (x ∷ left)); words_are = f ∙ ap (join_with_byte mark) (sym e) }
 
   -- the last word spells the last number
-  pub last_word : (all read words : List ℕ) → (ahead : Ahead mark spell all read words) → Lacks mark words → (words ≡ spell ahead.first) × (all ≡ read ++ ahead.first ∷ [])
+  pub last_word : (all read words : List ℕ) → (ahead : Ahead mark spell all read words) → LacksByte mark words → (words ≡ spell ahead.first) × (all ≡ read ++ ahead.first ∷ [])
   last_word all read words ahead lacks =
-      let none = join_whole mark (spell ahead.first) (map spell ahead.left) (subst (Lacks mark) ahead.words_are lacks) in
+      let none = join_whole mark (spell ahead.first) (map spell ahead.left) (subst (LacksByte mark) ahead.words_are lacks) in
       by ahead.left ahead.all_are ahead.words_are none
     where
       by : (left : List ℕ) → all ≡ read ++ ahead.first ∷ left → words ≡ join_with_byte mark (spell ahead.first ∷ map spell left) → map spell left ≡ [] → (words ≡ spell ahead.first) × (all ≡ read ++ ahead.first ∷ [])

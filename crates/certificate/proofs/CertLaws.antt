@@ -1,6 +1,6 @@
 -- The lines of a certificate are those that follow one another up to the last.
-use Rattle.std.proofs.Common.{◌≡◌, ◌≢◌, ◌∙◌, ◌==◌, Bool, true, false, ℕ, ◌<◌, ◌^◌, List, [], ◌∷◌, ◌++◌, Option, Some, None, map, filter_map, take, refl, sym, ap, ap₂, subst, arith, append-nil, if◌then◌else◌, true≢false}
-use Rattle.std.specs.List.{AllByRecursion, cons_option}
+use Rattle.std.proofs.Common.{◌≡◌, ◌≢◌, ◌∙◌, Bool, true, false, ℕ, ◌<◌, ◌^◌, List, [], ◌∷◌, ◌++◌, Option, Some, None, map, filter_map, take, refl, sym, ap, ap₂, subst, arith, append-nil, if◌then◌else◌, true≢false}
+use Rattle.std.specs.List.{AllByRecursion, cons_option, last_or}
 use Rattle.std.specs.Cmp.Lexicographic.{bytes_decides, pointwise}
 use Rattle.std.proofs.lemmas.List.Elements.{All-from_recursion}
 use Rattle.bus_ticks.specs.Numbers.{profile_one}
@@ -17,7 +17,7 @@ use Rattle.certificate.specs.Follows.{follows, reached_by, start}
 use Rattle.certificate.specs.Lines.{CanSpell, Said, cert_lines, head_lines}
 use Rattle.certificate.specs.Walk.{Nest, follow_all, outside}
 use Rattle.certificate.specs.Words.{InstanceFits, IsProfile, LineFits, PlaceFits, WalkFits}
-use Rattle.certificate.proofs.FollowLaws.{ascends_from_sorted, at, last_of, places_follow, sorted_from_ascends, tail_follows, walk_follows}
+use Rattle.certificate.proofs.FollowLaws.{ascends_from_sorted, at, places_follow, sorted_from_ascends, tail_follows, walk_follows}
 use Rattle.certificate.proofs.ParseLaws.{Ends, Walked, not_done, walked_in}
 use Rattle.certificate.proofs.WalkLaws.{all_append}
 
@@ -118,7 +118,7 @@ cert_follows said spelled =
     head_follows said.numbers _
     ∙ walk_follows outside n said.walk _ spelled.nested.ends
     ∙ places_follow n None said.places _ (ascends_from_sorted (map place_of_row said.places) spelled.places_ascend)
-    ∙ tail_follows n (last_of None (map place_of_row said.places)) said.instances (ascends_from_sorted (map header_of_row said.instances) spelled.instances_ascend)
+    ∙ tail_follows n (last_or None (map place_of_row said.places)) said.instances (ascends_from_sorted (map header_of_row said.instances) spelled.instances_ascend)
 
 -- ## Its lines fit
 

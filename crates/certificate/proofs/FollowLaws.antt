@@ -3,7 +3,7 @@ use Rattle.std.proofs.Common.{◌≡◌, ◌∙◌, Bool, true, List, [], ◌∷
 use Rattle.std.specs.Ordering.{is_lt}
 use Rattle.std.specs.declared.cmp.Ordering.{Ordering}
 use Rattle.std.specs.declared.cmp.Ordering.TheVariants.{Less, Equal, Greater}
-use Rattle.std.specs.List.{AllByRecursion}
+use Rattle.std.specs.List.{AllByRecursion, last_or}
 use Rattle.std.specs.List.Sorted.{IsStrictlySortedBy}
 use Rattle.std.proofs.lemmas.Map.Keys.{sorted_head, sorted_tail}
 use Rattle.flow_graph.specs.declared.places.Place.{Place}
@@ -78,10 +78,6 @@ sorted_from_ascends [] ascends = tt
 sorted_from_ascends (p ∷ ps) ascends = sorted_after p ps ascends.1
 
 -- the last of some places
-abbrev pub last_of : Option Place → List Place → Option Place
-last_of last [] = last
-last_of last (p ∷ ps) = last_of (Some p) ps
-
 -- ## Sections of a certificate
 
 abbrev pub at : Nest → Stage → Reached
@@ -98,7 +94,7 @@ walk_follows n m (x ∷ ws) rest e = by (λ k f. walk_follows k m ws rest f) (ne
     by again (Some k) f = again k f
 
 pub places_follow : (n : Nest) (last : Option Place) (rows : List PlaceRow) (rest : List Line) → Ascends last (map place_of_row rows)
-    → follow_all follows (at n (s.Places last)) (map l.Place rows ++ rest) ≡ follow_all follows (at n (s.Places (last_of last (map place_of_row rows)))) rest
+    → follow_all follows (at n (s.Places last)) (map l.Place rows ++ rest) ≡ follow_all follows (at n (s.Places (last_or last (map place_of_row rows)))) rest
 places_follow n last [] rest ascends = refl
 places_follow n last (r ∷ rows) rest ascends =
     ap (λ (b : Bool). option_and_then (λ t. follow_all follows t (map l.Place rows ++ rest)) (if b then at_stage n (s.Places (Some (place_of_row r))) else None)) ascends.0

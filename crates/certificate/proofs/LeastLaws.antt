@@ -6,7 +6,7 @@ use Rattle.std.specs.List.Sorted.{IsStrictlySortedBy}
 use Rattle.std.specs.Cmp.{tied_itself}
 use Rattle.std.specs.declared.cmp.Ordering.TheVariants.{Less, Equal}
 use Rattle.std.proofs.Math.Nat.{mul-le-mul_left}
-use Rattle.std.proofs.lemmas.List.Sums.{sum_by-cons}
+use Rattle.std.proofs.lemmas.List.Sums.{sum_by-le-sum_by}
 use Rattle.std.proofs.lemmas.Map.Keys.{sorted_head, sorted_tail}
 use Rattle.walks.specs.Walk.{Shape}
 use Rattle.walks.specs.Greatest.{Loops}
@@ -20,13 +20,6 @@ use Rattle.longest_walk.proofs.CarryFind.{at_itself, at_place}
 
 abbrev top : ℕ
 top = 9223372036854775807
-
-sum_less : {A : Type 0} (f g : A → ℕ) (xs : List A) → ((x : A) → f x ≤ g x) → sum_by f xs ≤ sum_by g xs
-sum_less f g [] le = omega arith
-sum_less f g (x ∷ xs) le =
-    let rest : sum_by f xs ≤ sum_by g xs = sum_less f g xs le in
-    let one : f x ≤ g x = le x in
-    omega (arith, sum_by-cons f x xs, sum_by-cons g x xs, rest, one)
 
 min_less : (n : ℕ) → min n top ≤ n
 min_less n = omega arith
@@ -54,7 +47,7 @@ module _ {P E I : Type 0} (shape : Shape P E) (loops : Loops P I) (tree : List I
 
   needed_less : (e : E) → needed shape loops tree (capped c) e ≤ needed shape loops tree c e
   needed_less e =
-      let stays = sum_less (λ i. cond (is_left shape loops e i) (stay_of shape loops tree (capped c) i) 0) (λ i. cond (is_left shape loops e i) (stay_of shape loops tree c i) 0) tree (λ i. left_less (is_left shape loops e i) i) in
+      let stays = sum_by-le-sum_by (λ i. cond (is_left shape loops e i) (stay_of shape loops tree (capped c) i) 0) (λ i. cond (is_left shape loops e i) (stay_of shape loops tree c i) 0) tree (λ i. left_less (is_left shape loops e i) i) in
       let start : min (c.distance (shape.from e)) top ≤ c.distance (shape.from e) = min_less (c.distance (shape.from e)) in
       omega (arith, stays, start)
 

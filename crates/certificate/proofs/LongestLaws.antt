@@ -1,7 +1,6 @@
 -- What a walk that is opened says of its lines.
 use Rattle.std.proofs.Common.{◌≡◌, ◌≢◌, ◌∙◌, ◌+◌, ◌<◌, ◌≤◌, ◌^◌, Bool, true, false, ℕ, zero, suc, List, [], ◌∷◌, ◌++◌, Some, None, option_and_then, map-id, map, take, nat_lt, inl, inr, refl, sym, ap, subst, arith, length, get_or, lt-ltb, if◌then◌else◌}
-use Rattle.std.specs.List.{AllByRecursion, find}
-use Rattle.walks.specs.Segments.{repeated}
+use Rattle.std.specs.List.{AllByRecursion, find, repeat}
 use Rattle.flow_graph.specs.declared.edges.Edge.{Edge}
 use Rattle.longest_walk.specs.Folded.{Opened, deepest, joined, open_item, open_step, turned, unfolded}
 use Rattle.longest_walk.specs.declared.folded.Item.{Item}
@@ -111,9 +110,9 @@ module _ {Y : Type 0} (item : Y → Item) (good : (y : Y) → Good (item y)) whe
         fits = λ f. (s.counts.0, all_append WalkFits lines (w.End ∷ []) (row_fits (y ∷ ys) inner (once k o.walk s.counts.0.0 f)) (tt, tt));
       }
     where
-      once : (n : ℕ) (xs : List Edge) → 0 < n → AllByRecursion FineEdge (repeated n xs) → AllByRecursion FineEdge xs
+      once : (n : ℕ) (xs : List Edge) → 0 < n → AllByRecursion FineEdge (repeat n xs) → AllByRecursion FineEdge xs
       once zero xs some f = absurd (omega arith)
-      once (suc n) xs some f = all_left FineEdge xs (repeated n xs) f
+      once (suc n) xs some f = all_left FineEdge xs (repeat n xs) f
 
 by_layer : (y : Item-F ((i : Item) × Good i)) → Good (roll-Item (map-Item ((i : Item) × Good i) Item (λ e. e.0) y))
 by_layer (Item-F.Step e) = λ s.

@@ -5,24 +5,24 @@ use Rattle.std.specs.Str.Parse.{AllDigits, IsNumeral, digits_value}
 use Rattle.std.specs.Fmt.{decimal, digit_glyph}
 use Rattle.std.proofs.lemmas.Bool.{cases_lt}
 use Rattle.std.proofs.lemmas.Fmt.{digits_is_IsNumeral, decimal_injective, decimal_is_IsNumeral, hex_one_digit}
+use Rattle.std.specs.Str.Iter.{LacksByte}
 use Rattle.asm_text.specs.Hex.{hex}
 use Rattle.asm_text.proofs.HexLaws.{hex_step}
-use Rattle.certificate.specs.Words.{Lacks}
 use Rattle.loop_bounds.proofs.KeyLemmas.{one_end}
 
 hex_is_IsNumeral : (n : ℕ) → n < 2 ^ 26 → IsNumeral 16 (hex n) × (digits_value 16 (hex n) ≡ n)
 hex_is_IsNumeral n h = digits_is_IsNumeral 16 true (omega arith) (omega arith) n (omega arith)
 
 -- a byte that is no hex digit is in no numeral
-digits_lack : (base c : ℕ) (ds : List ℕ) → base ≤ digit_value c → AllDigits base ds → Lacks c ds
+digits_lack : (base c : ℕ) (ds : List ℕ) → base ≤ digit_value c → AllDigits base ds → LacksByte c ds
 digits_lack base c [] h d k lt = absurd (omega arith)
 digits_lack base c (x ∷ ds) h d zero lt = λ e. let low : digit_value c < base = subst (λ (y : ℕ). digit_value y < base) e d.0 in omega arith
 digits_lack base c (x ∷ ds) h d (suc k) lt = digits_lack base c ds h d.1 k (omega arith)
 
-pub hex_lacks : (c n : ℕ) → 16 ≤ digit_value c → n < 2 ^ 26 → Lacks c (hex n)
+pub hex_lacks : (c n : ℕ) → 16 ≤ digit_value c → n < 2 ^ 26 → LacksByte c (hex n)
 hex_lacks c n h small = digits_lack 16 c (hex n) h (hex_is_IsNumeral n small).0.1
 
-pub decimal_lacks : (c n : ℕ) → 10 ≤ digit_value c → n < 2 ^ 63 → Lacks c (decimal n)
+pub decimal_lacks : (c n : ℕ) → 10 ≤ digit_value c → n < 2 ^ 63 → LacksByte c (decimal n)
 decimal_lacks c n h small = digits_lack 10 c (decimal n) h (decimal_is_IsNumeral n (omega arith)).0.1
 
 -- ## One spelling for each number

@@ -3,11 +3,12 @@ use Rattle.std.proofs.Common.{◌≡◌, ◌∙◌, ℕ, suc, ◌+◌, ◌<◌, 
 use Rattle.std.specs.Fmt.{decimal}
 use Rattle.std.specs.List.{AllByRecursion, join_with_byte}
 use Rattle.std.proofs.lemmas.List.Elements.{All-push, All-weaker, recursion_from_All}
+use Rattle.std.specs.Str.Iter.{LacksByte}
 use Rattle.bus_ticks.specs.declared.profile.Profile.{Profile}
 use Rattle.bus_ticks.specs.declared.profile.NumbersFault.{NumbersFault}
 use Rattle.bus_ticks.specs.declared.profile.NumbersFault.TheVariants.{Disordered, OutOfRange}
 use Rattle.bus_ticks.specs.Ranges.{AreInRange, AreOrdered, IsPrice}
-use Rattle.certificate.specs.Words.{IsProfile, Lacks}
+use Rattle.certificate.specs.Words.{IsProfile}
 use Rattle.certificate.proofs.CallLaws.{Ahead, last_word}
 use Rattle.certificate.proofs.FieldLaws.{decimal-blank}
 use Rattle.certificate.proofs.JoinLaws.{map_one, one_join}
@@ -31,7 +32,7 @@ count : (all read words : List ℕ) (ahead : Ahead 32 decimal all read words) �
 count all read words ahead = ap length ahead.all_are ∙ length-append read (ahead.first ∷ ahead.left)
 
 -- before the last there is a blank
-pub some_blank : (all prices words : List ℕ) (i : ℕ) → Ahead 32 decimal all (take i prices) words → length all ≡ 15 → i < 14 → Lacks 32 words → ⊥
+pub some_blank : (all prices words : List ℕ) (i : ℕ) → Ahead 32 decimal all (take i prices) words → length all ≡ 15 → i < 14 → LacksByte 32 words → ⊥
 some_blank all prices words i ahead whole few lacks =
     let last = (last_word 32 decimal all (take i prices) words ahead lacks).1 in
     let long : length all ≡ length (take i prices) + 1 = ap length last ∙ length-append (take i prices) (ahead.first ∷ []) in
@@ -57,7 +58,7 @@ price_last prices v full =
 
 -- ## One reading
 
-all_lack : (ns : List ℕ) → AllByRecursion (λ n. n < 256) ns → AllByRecursion (Lacks 32) (map decimal ns)
+all_lack : (ns : List ℕ) → AllByRecursion (λ n. n < 256) ns → AllByRecursion (LacksByte 32) (map decimal ns)
 all_lack [] small = tt
 all_lack (n ∷ ns) small = (decimal-blank n (omega (arith, small.0)), all_lack ns small.1)
 

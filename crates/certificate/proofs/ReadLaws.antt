@@ -1,6 +1,7 @@
 -- What the lines that are read say of the text.
 use Rattle.std.proofs.Common.{◌≡◌, ◌≢◌, ◌∙◌, ℕ, ◌+◌, List, [], ◌∷◌, ◌++◌, Option, Some, None, length, sym, ap, subst, append_assoc, length-append}
 use Rattle.std.proofs.lemmas.List.{flat_map_more}
+use Rattle.std.specs.Str.Iter.{LacksByte}
 use Rattle.certificate.specs.declared.draft.Stage.{Stage}
 use Rattle.certificate.specs.declared.draft.Stage.TheVariants as s
 use Rattle.certificate.specs.declared.line.WalkLine.{WalkLine}
@@ -9,7 +10,7 @@ use Rattle.certificate.specs.declared.line.Line.TheVariants as l
 use Rattle.certificate.specs.Faults.{Follow, StopsAt}
 use Rattle.certificate.specs.Follows.{Reached, follows, in_walk, next_stage, start}
 use Rattle.certificate.specs.Walk.{Nest, nest_after}
-use Rattle.certificate.specs.Words.{Lacks, LineFits, ended, line_words, text_of}
+use Rattle.certificate.specs.Words.{LineFits, ended, line_words, text_of}
 use Rattle.certificate.proofs.FollowLaws.{follow-end}
 use Rattle.certificate.proofs.ParseLaws.{not_done}
 use Rattle.certificate.proofs.TextLaws.{one_line}
@@ -46,7 +47,7 @@ no_other to words x fits is none y other same = ap (follows to) (one_line y x ot
 
 -- the line that is cut off next does not follow
 pub stops_at : (text : List ℕ) (n : ℕ) (lines : List Line) (to : Reached) (rest words after : List ℕ) → Follow lines to
-    → to.stage ≢ s.Done → text ≡ text_of lines ++ rest → rest ≡ words ++ 10 ∷ after → Lacks 10 words
+    → to.stage ≢ s.Done → text ≡ text_of lines ++ rest → rest ≡ words ++ 10 ∷ after → LacksByte 10 words
     → n ≡ length lines + 1 → ((l : Line) → LineFits l → words ≡ line_words l → follows to l ≡ None) → StopsAt text n
 stops_at text n lines to rest words after follow going e cut within counted misfit = record {
   lines = lines;

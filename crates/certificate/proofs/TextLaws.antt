@@ -3,6 +3,7 @@ use Rattle.std.proofs.Common.{◌≡◌, ◌∙◌, ℕ, ◌<◌, List, [], ◌�
 use Rattle.std.specs.Fmt.{decimal}
 use Rattle.std.specs.List.{AllByRecursion, join_with_byte}
 use Rattle.std.proofs.lemmas.List.Elements.{recursion_from_All}
+use Rattle.std.specs.Str.Iter.{LacksByte}
 use Rattle.longest_walk.specs.declared.rows.PlaceRow.{PlaceRow}
 use Rattle.longest_walk.specs.declared.rows.InstanceRow.{InstanceRow}
 use Rattle.flow_graph.specs.declared.edges.Label.{Label}
@@ -15,7 +16,7 @@ use Rattle.certificate.specs.declared.line.WalkLine.TheVariants as w
 use Rattle.certificate.specs.declared.line.Line.{Line}
 use Rattle.certificate.specs.declared.line.Line.TheVariants as l
 use Rattle.asm_text.specs.Hex.{hex}
-use Rattle.certificate.specs.Words.{InstanceFits, Lacks, LineFits, PlaceFits, StepFits, WalkFits, ended, instance_words, label_words, line_words, list_words, place_words, step_words, text_of, title_words, to_words, walk_words}
+use Rattle.certificate.specs.Words.{InstanceFits, LineFits, PlaceFits, StepFits, WalkFits, ended, instance_words, label_words, line_words, list_words, place_words, step_words, text_of, title_words, to_words, walk_words}
 use Rattle.certificate.proofs.CutLaws.{Lacks-append, Lacks-middle, Lacks-tested, one_cut}
 use Rattle.certificate.proofs.FieldLaws.{decimal-end, decimal_first, hex-end, hex_first, joined_lacks, label_first, list-end, list_first, to-end, to_first}
 use Rattle.certificate.proofs.NumberLaws.{decimal_is_one}
@@ -24,29 +25,29 @@ use Rattle.certificate.proofs.PriceLaws.{one_prices, profile_small}
 -- ## No line feed is in a line
 
 -- a field, a blank and the rest
-field-end : (field rest : List ℕ) → Lacks 10 field → Lacks 10 rest → Lacks 10 (field ++ 32 ∷ rest)
+field-end : (field rest : List ℕ) → LacksByte 10 field → LacksByte 10 rest → LacksByte 10 (field ++ 32 ∷ rest)
 field-end field rest f r = Lacks-append 10 field (32 ∷ rest) f (Lacks-append 10 (32 ∷ []) rest (Lacks-tested 10 (32 ∷ []) refl) r)
 
-label-end : (label : Label) → Lacks 10 (label_words label)
+label-end : (label : Label) → LacksByte 10 (label_words label)
 label-end Do = Lacks-tested 10 (codes "do") refl
 label-end Skip = Lacks-tested 10 (codes "skip") refl
 
-title-end : (v : Version) → Lacks 10 (title_words v)
+title-end : (v : Version) → LacksByte 10 (title_words v)
 title-end One = Lacks-tested 10 (codes "arcwcet certificate 1") refl
 title-end Two = Lacks-tested 10 (codes "arcwcet certificate 2") refl
 
-prices-end : (ns : List ℕ) → AllByRecursion (λ n. n < 256) ns → AllByRecursion (Lacks 10) (map decimal ns)
+prices-end : (ns : List ℕ) → AllByRecursion (λ n. n < 256) ns → AllByRecursion (LacksByte 10) (map decimal ns)
 prices-end [] small = tt
 prices-end (n ∷ ns) small = (decimal-end n (omega (arith, small.0)), prices-end ns small.1)
 
-walk-end : (x : WalkLine) → WalkFits x → Lacks 10 (walk_words x)
+walk-end : (x : WalkLine) → WalkFits x → LacksByte 10 (walk_words x)
 walk-end (w.Step s) fits =
     Lacks-append 10 (codes "step ") (hex s.address ++ 32 ∷ (label_words s.label ++ 32 ∷ (to_words s.to ++ 32 ∷ decimal s.cost))) (Lacks-tested 10 (codes "step ") refl)
     (field-end (hex s.address) _ (hex-end s.address fits.address) (field-end (label_words s.label) _ (label-end s.label) (field-end (to_words s.to) _ (to-end s.to fits.to) (decimal-end s.cost fits.cost))))
 walk-end (w.Repeat k) fits = Lacks-append 10 (codes "repeat ") (decimal k) (Lacks-tested 10 (codes "repeat ") refl) (decimal-end k (omega (arith, fits.1)))
 walk-end w.End fits = Lacks-tested 10 (codes "end") refl
 
-pub line-end : (x : Line) → LineFits x → Lacks 10 (line_words x)
+pub line-end : (x : Line) → LineFits x → LacksByte 10 (line_words x)
 line-end (l.Title v) fits = title-end v
 line-end (l.Profile ns) fits =
     Lacks-append 10 (codes "profile ") (join_with_byte 32 (map decimal ns)) (Lacks-tested 10 (codes "profile ") refl)
@@ -146,7 +147,7 @@ pub record Next (more : List Line) (words rest : List ℕ) : Type 0 where
   pub more_are : more ≡ line ∷ left
   pub words_are : words ≡ line_words line
 
-pub next_line : (more : List Line) (words rest : List ℕ) → AllByRecursion LineFits more → Lacks 10 words → text_of more ≡ ended words ++ rest → Next more words rest
+pub next_line : (more : List Line) (words rest : List ℕ) → AllByRecursion LineFits more → LacksByte 10 words → text_of more ≡ ended words ++ rest → Next more words rest
 next_line [] words rest g lacks e = absurd (nothing words rest (e ∙ append_assoc words (10 ∷ []) rest))
   where
     nothing : (a b : List ℕ) → [] ≡ a ++ 10 ∷ b → ⊥
@@ -157,9 +158,9 @@ next_line (y ∷ more) words rest g lacks e =
     record { line = y; left = more; more_are = refl; words_are = sym cut.0 }
 
 -- lines do not end within a line
-pub no_line : (more : List Line) (rest : List ℕ) → Lacks 10 rest → rest ≡ text_of more → more ≡ []
+pub no_line : (more : List Line) (rest : List ℕ) → LacksByte 10 rest → rest ≡ text_of more → more ≡ []
 no_line [] rest lacks e = refl
-no_line (y ∷ more) rest lacks e = absurd (Lacks-middle 10 (line_words y) (text_of more) (subst (Lacks 10) (e ∙ append_assoc (line_words y) (10 ∷ []) (text_of more)) lacks))
+no_line (y ∷ more) rest lacks e = absurd (Lacks-middle 10 (line_words y) (text_of more) (subst (LacksByte 10) (e ∙ append_assoc (line_words y) (10 ∷ []) (text_of more)) lacks))
 
 -- lines have one text
 pub one_text : (xs ys : List Line) → AllByRecursion LineFits xs → AllByRecursion LineFits ys → text_of xs ≡ text_of ys → xs ≡ ys

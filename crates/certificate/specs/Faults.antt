@@ -1,6 +1,7 @@
 -- What each fault of a text means.
 use Rattle.std.specs.Prelude.{◌≡◌, ◌≢◌, ℕ, ◌+◌, List, [], ◌∷◌, ◌++◌, length, Some, None, Result, MatchResult}
 use Rattle.std.specs.List.{AllByRecursion}
+use Rattle.std.specs.Str.Iter.{LacksByte}
 use Rattle.certificate.specs.declared.cert.Cert.{Cert}
 use Rattle.certificate.specs.declared.draft.Stage.TheVariants as s
 use Rattle.certificate.specs.declared.fault.CertFault.{CertFault}
@@ -8,7 +9,7 @@ use Rattle.certificate.specs.declared.fault.CertFault.TheVariants.{Memory}
 use Rattle.certificate.specs.declared.line.Line.{Line}
 use Rattle.certificate.specs.Follows.{Reached, follows, reached_by}
 use Rattle.certificate.specs.Lines.{CanSpell, Said, cert_lines, cert_text, said_by}
-use Rattle.certificate.specs.Words.{Lacks, LineFits, ended, line_words, text_of}
+use Rattle.certificate.specs.Words.{LineFits, ended, line_words, text_of}
 
 -- ## Of a whole text
 
@@ -26,7 +27,7 @@ pub record HasBadLine (text : List ℕ) (n : ℕ) : Type 0 where
   pub words : List ℕ
   pub rest : List ℕ
   pub text_is : text ≡ text_of lines ++ (ended words ++ rest)
-  pub within : Lacks 10 words
+  pub within : LacksByte 10 words
   pub counted : n ≡ length lines + 1
   pub first : AreFirst lines
   pub misfit : (said : Said) → CanSpell said → (more : List ℕ)
@@ -37,7 +38,7 @@ pub record EndsEarly (text : List ℕ) : Type 0 where
   pub lines : List Line
   pub rest : List ℕ
   pub text_is : text ≡ text_of lines ++ rest
-  pub within : Lacks 10 rest
+  pub within : LacksByte 10 rest
   pub first : AreFirst lines
 
 -- bytes follow a whole certificate
@@ -68,7 +69,7 @@ pub record StopsAt (text : List ℕ) (n : ℕ) : Type 0 where
   pub words : List ℕ
   pub rest : List ℕ
   pub text_is : text ≡ text_of lines ++ (ended words ++ rest)
-  pub within : Lacks 10 words
+  pub within : LacksByte 10 words
   pub counted : n ≡ length lines + 1
   pub misfit : (l : Line) → LineFits l → words ≡ line_words l → follows to l ≡ None
 
@@ -80,7 +81,7 @@ pub record StopsShort (text : List ℕ) : Type 0 where
   pub going : to.stage ≢ s.Done
   pub rest : List ℕ
   pub text_is : text ≡ text_of lines ++ rest
-  pub within : Lacks 10 rest
+  pub within : LacksByte 10 rest
 
 -- the lines of this certificate follow one another up to the last
 pub record IsRead (text : List ℕ) (cert : Cert) : Type 0 where

@@ -1,6 +1,6 @@
 -- How the lines of a certificate are spelled.
 use Rattle.std.specs.Prelude.{◌≡◌, ◌≢◌, ℕ, ◌<◌, ◌≤◌, ◌^◌, List, [], ◌∷◌, ◌++◌, length, map, codes}
-use Rattle.std.specs.Prelude.{slice_index, All, ⊤}
+use Rattle.std.specs.Prelude.{All, ⊤}
 use Rattle.std.specs.Coded.{Unit-prop, le_prop}
 use Rattle.std.specs.Fmt.{decimal}
 use Rattle.std.specs.List.{flat_map, join_with_byte}
@@ -22,10 +22,6 @@ use Rattle.certificate.specs.declared.line.WalkLine.{WalkLine}
 use Rattle.certificate.specs.declared.line.WalkLine.TheVariants as w
 use Rattle.certificate.specs.declared.line.Line.{Line}
 use Rattle.certificate.specs.declared.line.Line.TheVariants as l
-
--- no such byte is among these
-abbrev pub Lacks : ℕ → List ℕ → Type 0
-Lacks mark bytes = (k : ℕ) → k < length bytes → slice_index bytes k ≢ mark
 
 -- ## Fields
 

@@ -1,12 +1,12 @@
 ghost use Rattle.std.specs.Prelude.{◌≡◌, ◌∷◌, ◌++◌, ℕ, List, MatchOption};
-ghost use Rattle.certificate.specs.Words.{Lacks};
+ghost use Rattle.std.specs.Str.Iter.{LacksByte};
 
 use memchr::memchr;
 
 /// The first line, without its line feed, and what follows it; `None` where no line ends.
 pub(crate) fn line_first(text: &[u8]) -> Option<(&[u8], &[u8])>
-    ensures { MatchOption result (Lacks 10 text.now)
-        (λ p. (text.now ≡ p.0.now ++ 10 ∷ p.1.now) × Lacks 10 p.0.now) }
+    ensures { MatchOption result (LacksByte 10 text.now)
+        (λ p. (text.now ≡ p.0.now ++ 10 ∷ p.1.now) × LacksByte 10 p.0.now) }
 {
     match memchr(b'\n', text) {
         Some(at) => Some((&text[..at], &text[at + 1..])),
@@ -17,8 +17,8 @@ pub(crate) fn line_first(text: &[u8]) -> Option<(&[u8], &[u8])>
 /// What comes before the first such byte, and what follows it; `None` where there is none. For the
 /// parts of a line, which are short.
 pub(crate) fn cut_at(mark: u8, text: &[u8]) -> Option<(&[u8], &[u8])>
-    ensures { MatchOption result (Lacks mark text.now)
-        (λ p. (text.now ≡ p.0.now ++ mark ∷ p.1.now) × Lacks mark p.0.now) }
+    ensures { MatchOption result (LacksByte mark text.now)
+        (λ p. (text.now ≡ p.0.now ++ mark ∷ p.1.now) × LacksByte mark p.0.now) }
 {
     for (i, byte) in text.iter().enumerate() {
         if *byte == mark {

@@ -5,6 +5,7 @@ use Rattle.std.proofs.lemmas.Bool.{eqb-false}
 use Rattle.std.proofs.lemmas.List.{get_or-set_same, get_or_append_left, get_or_push, length-append, length-replicate, length-set}
 use Rattle.std.proofs.lemmas.List.Elements.{All-from_recursion, recursion_from_All}
 use Rattle.std.proofs.lemmas.Option.{same_Some}
+use Rattle.std.specs.Option.{option_to_list}
 use Rattle.bus_ticks.specs.declared.profile.Profile.{Profile}
 use Rattle.bus_ticks.specs.declared.profile.RomTimes.{RomTimes}
 use Rattle.bus_ticks.specs.Dearest.{AreDearest}
@@ -44,7 +45,7 @@ use Rattle.flow_graph.specs.Places.{place_address, place_at}
 use Rattle.flow_graph.specs.Free.{IsFree}
 use Rattle.flow_graph.specs.Setting.{HasSetting, IsData}
 use Rattle.flow_graph.specs.Tight.{IsTight}
-use Rattle.flow_graph.specs.TightFile.{CanPlace, HasPlaceWord, HasWordAt, IsEntryOf, IsPlaceWord, IsPlaced, IsStand, IsTightFile, file_of, listed, masked_flags, registers_with}
+use Rattle.flow_graph.specs.TightFile.{CanPlace, HasPlaceWord, HasWordAt, IsEntryOf, IsPlaceWord, IsPlaced, IsStand, IsTightFile, file_of, masked_flags, registers_with}
 use Rattle.flow_graph.specs.TightWork.{StandsAt, masked}
 use Rattle.flow_graph.specs.declared.edges.Edge.{Edge}
 use Rattle.flow_graph.specs.declared.places.Place.{Place}
@@ -119,20 +120,20 @@ module _ (words : Words) (st : Stated) (profile : Profile) (e : Edge) (spare : �
   fits : IsFitted stand.address
   fits = fitted stand.address (subst (λ n. is_past_ram n ≡ false) (ap place_address (sym free.from ∙ h.from)) free.not_past_ram)
 
-  besides : All (λ x. IsBeside spare x.0 × (x.0 ≡ stand.address → ⊥)) (listed stand.setting.word)
+  besides : All (λ x. IsBeside spare x.0 × (x.0 ≡ stand.address → ⊥)) (option_to_list stand.setting.word)
   besides = by_word stand.setting.word h.setting.word_apart
     where
-      by_word : (o : Option (ℕ × ℕ)) → IfSome o (λ x. IsData spare stand.address x.0) → All (λ x. IsBeside spare x.0 × (x.0 ≡ stand.address → ⊥)) (listed o)
+      by_word : (o : Option (ℕ × ℕ)) → IfSome o (λ x. IsData spare stand.address x.0) → All (λ x. IsBeside spare x.0 × (x.0 ≡ stand.address → ⊥)) (option_to_list o)
       by_word None has = All-from_recursion (λ x. IsBeside spare x.0 × (x.0 ≡ stand.address → ⊥)) [] tt
       by_word (Some x) has = All-from_recursion (λ y. IsBeside spare y.0 × (y.0 ≡ stand.address → ⊥)) (x ∷ []) (apart_of words pages spare stand.address x.0 plan some_word has, tt)
 
   module _ (some : Words) (start : State) (i : Input) (of : AreOf words some) (has_place : HasPlaceWord words e.from some)
       (begun : IsStarted (file_of stand pages rom) profile start) (port : i.port ≡ stand.setting.port) where
     abbrev s : State
-    s = put_words (listed stand.setting.word) (put_words some start)
+    s = put_words (option_to_list stand.setting.word) (put_words some start)
 
     abbrev m : Memc
-    m = loaded (listed stand.setting.word) (loaded some start.bus.memc)
+    m = loaded (option_to_list stand.setting.word) (loaded some start.bus.memc)
 
     mapped : IsMapped pages start.bus.memc
     mapped = is_mapped words pages spare rom.low rom.high plan start.bus.memc begun.memory
@@ -141,11 +142,11 @@ module _ (words : Words) (st : Stated) (profile : Profile) (e : Edge) (spare : �
     mapped_then = mapped_stays pages start.bus.memc some mapped
 
     mapped_last : IsMapped pages m
-    mapped_last = mapped_stays pages (loaded some start.bus.memc) (listed stand.setting.word) mapped_then
+    mapped_last = mapped_stays pages (loaded some start.bus.memc) (option_to_list stand.setting.word) mapped_then
 
     gives : GivesWord m stand.address h.word
     gives =
-        image_stays words (listed stand.setting.word) pages spare (loaded some start.bus.memc) stand.address h.word whole plan mapped_then some_word
+        image_stays words (option_to_list stand.setting.word) pages spare (loaded some start.bus.memc) stand.address h.word whole plan mapped_then some_word
         (image_given words some pages spare start.bus.memc stand.address h.word whole plan mapped of (has_place h.calls stand.address h.word h.from h.has) fits) besides
 
     r15_is : r15_in s.regs ≡ r15_of (psr_with stand.flags masked) stand.address Svc
@@ -203,8 +204,8 @@ module _ (words : Words) (st : Stated) (profile : Profile) (e : Edge) (spare : �
         by_register None other is = tt
         by_register (Some held) other is = ap (register_in Svc (register_number held.register)) is ∙ held_is held (started.r15_in (file_of stand pages rom).processor) other
 
-        by_word : (o : Option (ℕ × ℕ)) → All (λ x. IsBeside spare x.0 × (x.0 ≡ stand.address → ⊥)) (listed o)
-            → IfSome o (λ x. (spot : Spot) → located (loaded (listed o) (loaded some start.bus.memc)) x.0 false false ≡ Ok spot → word_at (loaded (listed o) (loaded some start.bus.memc)) spot ≡ x.1)
+        by_word : (o : Option (ℕ × ℕ)) → All (λ x. IsBeside spare x.0 × (x.0 ≡ stand.address → ⊥)) (option_to_list o)
+            → IfSome o (λ x. (spot : Spot) → located (loaded (option_to_list o) (loaded some start.bus.memc)) x.0 false false ≡ Ok spot → word_at (loaded (option_to_list o) (loaded some start.bus.memc)) spot ≡ x.1)
         by_word None all = tt
         by_word (Some x) all = λ spot at_spot.
             gives_at (loaded (x ∷ []) (loaded some start.bus.memc)) x.0 x.1 spot
@@ -236,7 +237,7 @@ module _ (words : Words) (st : Stated) (profile : Profile) (e : Edge) (spare : �
   image_has_places some start of begun fit =
       (image_fits words some pages spare start.bus.memc whole plan (is_mapped words pages spare rom.low rom.high plan start.bus.memc begun.memory) of).1 fit
 
-  words_have_places : (some : Words) (start : State) → IsStarted (file_of stand pages rom) profile start → lacks_page (put_words some start).bus.memc (listed stand.setting.word) ≡ false
+  words_have_places : (some : Words) (start : State) → IsStarted (file_of stand pages rom) profile start → lacks_page (put_words some start).bus.memc (option_to_list stand.setting.word) ≡ false
   words_have_places some start begun = by_word stand.setting.word besides
     where
       m : Memc
@@ -252,7 +253,7 @@ module _ (words : Words) (st : Stated) (profile : Profile) (e : Edge) (spare : �
           (All-from_recursion (λ y. IsBeside spare y.0 × (y.0 ≡ x.0 → y.1 ≡ x.1)) (x ∷ []) ((beside, λ same. refl), tt)) (here x []) in
           (g.spot, sym (same_spot (x ∷ []) m x.0) ∙ g.leads)
 
-      by_word : (o : Option (ℕ × ℕ)) → All (λ x. IsBeside spare x.0 × (x.0 ≡ stand.address → ⊥)) (listed o) → lacks_page m (listed o) ≡ false
+      by_word : (o : Option (ℕ × ℕ)) → All (λ x. IsBeside spare x.0 × (x.0 ≡ stand.address → ⊥)) (option_to_list o) → lacks_page m (option_to_list o) ≡ false
       by_word None all = refl
       by_word (Some x) all =
           let l = led x ((recursion_from_All (λ y. IsBeside spare y.0 × (y.0 ≡ stand.address → ⊥)) (x ∷ []) all).0.0) in
@@ -293,14 +294,14 @@ in_range words st profile e spare pages stand rom h whole plan =
       | inr rom_at ↦ may_within 0x3400000 0x4000000 a refl has.0 rom_at.0 (omega (arith, rom_at.1, has.0))
     ]
 
-    by_word : (o : Option (ℕ × ℕ)) → IfSome o (λ x. IsData spare stand.address x.0) → All (λ x. IsTrue (may_hold x.0)) (listed o)
+    by_word : (o : Option (ℕ × ℕ)) → IfSome o (λ x. IsData spare stand.address x.0) → All (λ x. IsTrue (may_hold x.0)) (option_to_list o)
     by_word None has = All-from_recursion (λ y. IsTrue (may_hold y.0)) [] tt
     by_word (Some x) has = All-from_recursion (λ y. IsTrue (may_hold y.0)) (x ∷ []) (may_be x.0 has plan.spare_free.below, tt)
 
 pub stands_once : (words : Words) (pages : List PlacedPage) (spare : ℕ) (stand : Stand) (rom : RomTimes) → IsPagePlan words pages spare → StandsOnce (file_of stand pages rom)
 stands_once words pages spare stand rom plan = record { pages_once = all_single words pages spare plan; words_once = by_word stand.setting.word }
   where
-    by_word : (o : Option (ℕ × ℕ)) → are_distinct (keys_of (listed o)) ≡ true
+    by_word : (o : Option (ℕ × ℕ)) → are_distinct (keys_of (option_to_list o)) ≡ true
     by_word None = refl
     by_word (Some x) = refl
 

@@ -4,6 +4,7 @@
 use Rattle.std.specs.Prelude.{◌≡◌, ◌<◌, ◌⊎◌, ℕ, true, false, [], ◌∷◌, replicate, slice_set, map, All}
 use Rattle.std.specs.Prelude.{List, Option, Contains}
 use Rattle.std.specs.Prelude.{Some, None, IfSome}
+use Rattle.std.specs.Option.{option_to_list}
 use Rattle.bus_ticks.specs.declared.space.TheConstants.{SPACE_END}
 use Rattle.bus_ticks.specs.declared.profile.Profile.{Profile}
 use Rattle.bus_ticks.specs.declared.profile.RomTimes.{RomTimes}
@@ -101,10 +102,6 @@ masked_flags f =
 abbrev pub open_page : PlacedPage → MappedPage
 open_page p = record { logical = p.logical; physical = p.physical; level = 0 }
 
-abbrev pub listed : Option (ℕ × ℕ) → Words
-listed None = []
-listed (Some e) = e ∷ []
-
 -- one step from there
 abbrev pub file_of : Stand → List PlacedPage → RomTimes → file.Stated
 file_of stand pages rom =
@@ -118,7 +115,7 @@ file_of stand pages rom =
           };
       controller = record { size = K32; low_rom = rom.low; high_rom = rom.high; pages = map open_page pages };
       schedule = record { steps = 1; port = stand.setting.port; events = [] };
-      words = listed stand.setting.word;
+      words = option_to_list stand.setting.word;
     }
 
 -- ## What such a file is for

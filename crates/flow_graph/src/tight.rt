@@ -2,6 +2,7 @@
 
 ghost use Rattle.std.specs.Prelude.{◌≡◌, ◌⊎◌, ◌<◌, Err, IfErr, IfOk, IfSome, IsNone, OnOk, All};
 ghost use Rattle.std.specs.Prelude.{Some, [], ◌∷◌, ◌↔◌, false, length, map, slice_index_or};
+ghost use Rattle.std.specs.Option.{option_to_list};
 ghost use Rattle.bus_ticks.specs.declared.space.TheConstants.{SPACE_END};
 ghost use Rattle.loader.specs.Loading.{lacks_page, put_words};
 ghost use Rattle.flow_graph.specs.Graph.{IsFlowGraph};
@@ -14,7 +15,7 @@ ghost use Rattle.flow_graph.specs.Edges.{IsEdge};
 ghost use Rattle.flow_graph.specs.Free.{IsFree, IsFreeWord};
 ghost use Rattle.flow_graph.specs.TightFile.{CanPlace, HasWordAt, IsEntryOf, IsPlaceWord, IsPlaced};
 ghost use Rattle.flow_graph.specs.TightFile.{IsSettingOf, IsStand, IsTightAt, IsTightFile};
-ghost use Rattle.flow_graph.specs.TightFile.{file_of, listed, masked_flags};
+ghost use Rattle.flow_graph.specs.TightFile.{file_of, masked_flags};
 ghost use Rattle.flow_graph.specs.TightFile.{open_page, registers_with};
 ghost use Rattle.flow_graph.specs.TightWork.{IsDearestTarget};
 ghost use Rattle.statement.specs.Stated.{Stated};
@@ -191,8 +192,8 @@ fn open_pages(alloc: Global, plan: &PagePlan) -> Result<Vec<MappedPage>, AllocEr
         .collect(alloc)
 }
 
-fn listed(alloc: Global, word: Option<(u32, u32)>) -> Result<Vec<(u32, u32)>, AllocError>
-    ensures { IfOk result (λ words. words.items ≡ listed word) }
+fn option_to_list(alloc: Global, word: Option<(u32, u32)>) -> Result<Vec<(u32, u32)>, AllocError>
+    ensures { IfOk result (λ words. words.items ≡ option_to_list word) }
 {
     let mut words = Vec::new(alloc);
     if let Some(word) = word {
@@ -212,7 +213,7 @@ fn parts(
     ensures { IfOk result (λ parts. stated_by parts ≡ file_of stand.now plan.now.pages.items rom) }
 {
     let pages = open_pages(alloc, plan)?;
-    let words = listed(alloc, stand.setting.word)?;
+    let words = option_to_list(alloc, stand.setting.word)?;
     Ok(MachineParts {
         processor: ProcessorParts {
             pc: stand.address,

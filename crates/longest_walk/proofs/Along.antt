@@ -1,10 +1,9 @@
 -- Items that follow the edges of numbers, put together.
 use Rattle.std.proofs.Common.{◌≡◌, ◌≢◌, ◌∙◌, ℕ, ◌+◌, ◌<◌, ◌≤◌, List, [], ◌∷◌, ◌++◌, All, Contains, length, flat_map, refl, sym, ap, subst, arith, append-nil}
-use Rattle.std.specs.List.{AllZip}
+use Rattle.std.specs.List.{AllZip, repeat}
 use Rattle.std.proofs.lemmas.List.{map-append}
 use Rattle.std.proofs.lemmas.List.Concat.{flat_map-append}
 use Rattle.std.proofs.lemmas.List.Elements.{All-nil, All-cons, All-append}
-use Rattle.walks.specs.Segments.{repeated}
 use Rattle.flow_graph.specs.declared.edges.Edge.{Edge}
 use Rattle.flow_graph.specs.Flow.{Flow}
 use Rattle.numbered_walks.specs.declared.span.Span.{Span}
@@ -77,12 +76,12 @@ module _ (flow : Flow) (tree : Tree) (c : Tables) where
   along_room outer ks o a = omega (arith, a.shallow)
 
   -- a round, as often as its bound says
-  pub along_repeat : (s : Span) → Contains tree.spans s → s.bound ≤ 1048576 → (outer : ℕ) (ks : List ℕ) (o : Opened) → ks ≢ [] → 0 < s.bound → IsRoundOf tree.edges tree.spans c s (edges_of tree.edges ks) → IsAlong flow tree c (outer + 1) ks o → IsRisingBody flow tree o.outside → IsAlong flow tree c outer (repeated s.bound ks) (joined (turned s.bound o ∷ []))
+  pub along_repeat : (s : Span) → Contains tree.spans s → s.bound ≤ 1048576 → (outer : ℕ) (ks : List ℕ) (o : Opened) → ks ≢ [] → 0 < s.bound → IsRoundOf tree.edges tree.spans c s (edges_of tree.edges ks) → IsAlong flow tree c (outer + 1) ks o → IsRisingBody flow tree o.outside → IsAlong flow tree c outer (repeat s.bound ks) (joined (turned s.bound o ∷ []))
   along_repeat s s_in small outer ks o some more round a rising =
       let body : IsNumberedBody flow tree c o.walk = record { span = s; in_tree = s_in; numbers = ks; inside = a.inside; body_is = a.walk_is; some = some; round = round } in
       record {
         inside = All-repeated (λ k. k < length flow.edges) s.bound ks a.inside;
-        walk_is = append-nil (repeated s.bound o.walk) ∙ ap (repeated s.bound) a.walk_is ∙ sym (map-repeated (step_at flow.edges) s.bound ks);
+        walk_is = append-nil (repeat s.bound o.walk) ∙ ap (repeat s.bound) a.walk_is ∙ sym (map-repeated (step_at flow.edges) s.bound ks);
         bodies = subst (All (IsNumberedBody flow tree c)) (sym (append-nil (o.walk ∷ o.bodies)))
             (All-cons (IsNumberedBody flow tree c) o.walk o.bodies body a.bodies);
         counts = subst (All IsCount) (sym (append-nil (s.bound ∷ o.counts))) (All-cons IsCount s.bound o.counts (more, small) a.counts);

@@ -2,10 +2,9 @@
 use Rattle.std.proofs.Common.{◌≡◌, ◌∙◌, ℕ, zero, suc, ◌+◌, ◌<◌, ◌≤◌, List, [], ◌∷◌, ◌++◌, Option, Vec, All, flat_map, length, get_or, map, take, refl, sym, ap, arith, append_assoc}
 use Rattle.std.specs.Global.{Global}
 use Rattle.std.specs.declared.rc.Rc.{Rc}
-use Rattle.std.specs.List.{AllZip}
+use Rattle.std.specs.List.{AllZip, repeat}
 use Rattle.std.proofs.lemmas.List.{flat_map_more, get_or_default, map-append, take_more}
 use Rattle.std.proofs.lemmas.List.Elements.{All-nil, All-append}
-use Rattle.walks.specs.Segments.{repeated}
 use Rattle.flow_graph.specs.declared.edges.Edge.{Edge}
 use Rattle.flow_graph.specs.Flow.{Flow}
 use Rattle.numbered_walks.specs.Index.{edge_at}
@@ -35,13 +34,13 @@ deepest-append (x ∷ xs) ys outer limit one two =
     let rest : deepest (xs ++ ys) + outer ≤ limit = deepest-append xs ys outer limit (omega arith) two in
     omega arith
 
-pub map-repeated : {A B : Type 0} (f : A → B) (k : ℕ) (xs : List A) → map f (repeated k xs) ≡ repeated k (map f xs)
+pub map-repeated : {A B : Type 0} (f : A → B) (k : ℕ) (xs : List A) → map f (repeat k xs) ≡ repeat k (map f xs)
 map-repeated f zero xs = refl
-map-repeated f (suc k) xs = map-append f xs (repeated k xs) ∙ ap (λ rest. map f xs ++ rest) (map-repeated f k xs)
+map-repeated f (suc k) xs = map-append f xs (repeat k xs) ∙ ap (λ rest. map f xs ++ rest) (map-repeated f k xs)
 
-pub All-repeated : {A : Type 0} (P : A → Type 0) (k : ℕ) (xs : List A) → All P xs → All P (repeated k xs)
+pub All-repeated : {A : Type 0} (P : A → Type 0) (k : ℕ) (xs : List A) → All P xs → All P (repeat k xs)
 All-repeated P zero xs all = All-nil P
-All-repeated P (suc k) xs all = All-append P xs (repeated k xs) all (All-repeated P k xs all)
+All-repeated P (suc k) xs all = All-append P xs (repeat k xs) all (All-repeated P k xs all)
 
 pub AllZip-append : {A B : Type 0} (R : A → B → Type 0) (xs xs' : List A) (ys ys' : List B) → AllZip R xs ys → AllZip R xs' ys' → AllZip R (xs ++ xs') (ys ++ ys')
 AllZip-append R [] xs' [] ys' one two = two

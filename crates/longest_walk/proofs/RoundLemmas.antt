@@ -4,7 +4,7 @@ use Rattle.std.proofs.Math.ListN.{length-set}
 use Rattle.std.proofs.lemmas.Bool.{cases_lt, both_ways}
 use Rattle.std.proofs.lemmas.List.{get_or-set_same, get_or-set_other, get_or_default, map-append}
 use Rattle.std.proofs.lemmas.List.Elements.{Contains-get_or}
-use Rattle.walks.specs.Segments.{repeated}
+use Rattle.std.specs.List.{repeat}
 use Rattle.flow_graph.specs.declared.edges.Edge.{Edge}
 use Rattle.flow_graph.specs.Flow.{Flow}
 use Rattle.numbered_walks.specs.declared.span.Span.{Span}
@@ -66,9 +66,9 @@ module _ (flow : Flow) (tree : Tree) (index : Index) (c : Tables) (g : AreSearch
   -- as many rounds as the bound says
   pub rounds_some : (s : Span) → Contains tree.spans s → (r : Rounds) → r.count ≡ s.bound → IsRound flow tree c s (map open_item r.body.value.items) → IsRounds flow tree c s (Some r)
   rounds_some s s_in r count one = record {
-    numbers = repeated s.bound one.numbers;
+    numbers = repeat s.bound one.numbers;
     rounds = subst (AreRoundsOf tree.edges tree.spans c s) (sym (map-repeated (edge_at tree.edges) s.bound one.numbers)) (P.rounds exit tree.edges tree.spans c g.tree_is.ordered g.found s s_in (edges_of tree.edges one.numbers) one.round);
-    along = subst (λ (n : ℕ). IsAlong flow tree c (depth_at tree.spans s.header) (repeated s.bound one.numbers) (joined (turned n (open_items r.body.value.items) ∷ []))) (sym count)
+    along = subst (λ (n : ℕ). IsAlong flow tree c (depth_at tree.spans s.header) (repeat s.bound one.numbers) (joined (turned n (open_items r.body.value.items) ∷ []))) (sym count)
         (along_repeat flow tree c s s_in (g.tree_is.ordered.shape s s_in).2 (depth_at tree.spans s.header) one.numbers (open_items r.body.value.items) one.some one.bound_some one.round one.along one.rising);
   }
 

@@ -1,6 +1,6 @@
 -- A walk written with repeats, and what it unfolds to.
 use Rattle.std.specs.Prelude.{ℕ, ◌+◌, max, List, [], ◌∷◌, flat_map, map}
-use Rattle.walks.specs.Segments.{repeated}
+use Rattle.std.specs.List.{repeat}
 use Rattle.flow_graph.specs.declared.edges.Edge.{Edge}
 use Rattle.longest_walk.specs.declared.folded.Item.{Item}
 use Rattle.longest_walk.specs.declared.folded.Item.TheOpen.{Item-F}
@@ -34,7 +34,7 @@ joined items = record {
 -- a body, so many times
 abbrev pub turned : ℕ → Opened → Opened
 turned k body = record {
-  walk = repeated k body.walk;
+  walk = repeat k body.walk;
   outside = [];
   counts = k ∷ body.counts;
   bodies = body.walk ∷ body.bodies;

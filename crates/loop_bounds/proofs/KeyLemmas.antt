@@ -12,6 +12,7 @@ use Rattle.std.proofs.lemmas.Bool.{both_ways, cases_order, lt-ltb, le-ltb, eq-eq
 use Rattle.std.proofs.lemmas.Bool.Decides.{nat_tests}
 use Rattle.std.proofs.lemmas.Cmp.{nat_list_cmp_total, same_from_slice_cmp}
 use Rattle.std.proofs.lemmas.List.Sorted.{ranks_by, sorted_far}
+use Rattle.std.proofs.lemmas.List.{same_from_push}
 use Rattle.flow_graph.specs.declared.places.Place.{Place}
 use Rattle.flow_graph.specs.declared.places.Place.TheVariants.{At, Exit}
 use Rattle.flow_graph.specs.Places.{place_at}
@@ -154,26 +155,13 @@ point_from listed bound n le parts = record {
 
 -- ## Places with one key
 
-last_call : (a : ℕ) (c : List ℕ) (b : ℕ) → a ∷ [] ≡ c ++ b ∷ [] → (c ≡ []) × (a ≡ b)
-last_call a [] b e = (refl, ap (λ (xs : List ℕ). get_or xs 0 0) e)
-last_call a (x ∷ []) b e = cc
-last_call a (x ∷ y ∷ c) b e = cc
-
-pub one_end : (c d : List ℕ) (a b : ℕ) → c ++ a ∷ [] ≡ d ++ b ∷ [] → (c ≡ d) × (a ≡ b)
-one_end [] d a b e = let h = last_call a d b e in (sym h.0, h.1)
-one_end (x ∷ c) [] a b e = let h = last_call b (x ∷ c) a (sym e) in (h.0, sym h.1)
-one_end (x ∷ c) (y ∷ d) a b e =
-    let here : x ≡ y = cc in
-    let h = one_end c d a b (cc) in
-    ((λ i. here i ∷ h.0 i), h.1)
-
 not_empty : (c : List ℕ) (a : ℕ) → [] ≡ c ++ a ∷ [] → ⊥
 not_empty [] a e = cc
 not_empty (x ∷ c) a e = cc
 
 -- the key determines the place
 pub same_key : (p q : Place) → key_of p ≡ key_of q → p ≡ q
-same_key (At c a) (At d b) e = let h = one_end c d a b e in (λ i. At (h.0 i) (h.1 i))
+same_key (At c a) (At d b) e = let h = same_from_push c d a b e in (λ i. At (h.0 i) (h.1 i))
 same_key (At c a) Exit e = absurd (not_empty c a (sym e))
 same_key Exit (At d b) e = absurd (not_empty d b e)
 same_key Exit Exit e = refl

@@ -2,7 +2,7 @@
 use Rattle.std.proofs.Common.{◌≡◌, ℕ, ◌+◌, ◌*◌, ◌<◌, Bool, true, false, cond, not, eqb, ◌&&◌, List, [], ◌∷◌, ◌++◌, ⊎_elim, Option, Some, None, Contains, slice_index, sum_by, refl, sym, ap, ◌∙◌, subst, arith}
 use Rattle.std.proofs.lemmas.Bool.{cases_Bool, both_ways, and_from, and_parts, eqb-true, eqb-false, ne_eqb}
 use Rattle.std.proofs.lemmas.List.Elements.{All-nil}
-use Rattle.walks.specs.Segments.{repeated}
+use Rattle.std.specs.List.{repeat}
 use Rattle.walks.proofs.SumLe.{sum_by-same_all}
 use Rattle.numbered_walks.specs.declared.span.NumberedEdge.{NumberedEdge}
 use Rattle.numbered_walks.specs.declared.span.Span.{Span}
@@ -79,7 +79,7 @@ module _ (exit : ℕ) (edges : List NumberedEdge) (spans : List Span) (c : Table
       (member_from s (edge_at edges k).from by.low by.high) by.ends by.asks walk path
 
   -- as many rounds as the bound says
-  pub rounds : (s : Span) → Contains spans s → (walk : List NumberedEdge) → IsRoundOf edges spans c s walk → AreRoundsOf edges spans c s (repeated s.bound walk)
+  pub rounds : (s : Span) → Contains spans s → (walk : List NumberedEdge) → IsRoundOf edges spans c s walk → AreRoundsOf edges spans c s (repeat s.bound walk)
   rounds s s_in walk one = W.by_repeat edges spans bound_of (distance_of c) (arrival_of c) (round_of c) st s s_in walk one
 
   -- no round, where a round costs nothing

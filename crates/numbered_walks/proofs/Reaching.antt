@@ -1,6 +1,6 @@
 -- Numbers that edges attain are the costs of walks.
 use Rattle.std.proofs.Common.{◌≡◌, ◌≢◌, ℕ, zero, suc, ◌+◌, ◌*◌, ◌<◌, ◌≤◌, Bool, true, false, cond, not, eqb, ◌&&◌, List, [], ◌∷◌, ◌++◌, ◌⊎◌, ⊎_elim, inl, inr, Option, Some, None, All, Contains, count_by, sum_by, refl, sym, ap, ◌∙◌, subst, arith, append-nil}
-use Rattle.std.specs.List.{list_all}
+use Rattle.std.specs.List.{list_all, repeat}
 use Rattle.std.proofs.lemmas.Bool.{true≢false, false≢true, cases_Bool, eqb-true, eqb-false, eq-eqb, ne_eqb, and_from, and_parts, both_ways}
 use Rattle.std.proofs.Math.Nat.{mul-le-mul_right}
 use Rattle.std.proofs.lemmas.List.Sums.{sum_by-cons, AllPass-from_list_all}
@@ -8,7 +8,7 @@ use Rattle.std.proofs.lemmas.List.Elements.{All-nil, All-head, All-tail, All-pus
 use Rattle.numbered_walks.specs.declared.span.NumberedEdge.{NumberedEdge}
 use Rattle.numbered_walks.specs.declared.span.Span.{Span}
 use Rattle.numbered_walks.specs.Ordered.{number_shape, Leads, is_in, is_inside, ends_at_header}
-use Rattle.walks.specs.Segments.{repeated, head, tail}
+use Rattle.walks.specs.Segments.{head, tail}
 use Rattle.numbered_walks.specs.Reach.{InTree, holds_in, most_in, start_of}
 use Rattle.numbered_walks.specs.Reach as S
 use Rattle.walks.proofs.Joins as J
@@ -142,13 +142,13 @@ module _ (edges : List NumberedEdge) (tree : List Span) (taken : Span → ℕ) (
 
   unfoldable pub all_rounds : (st : Structure) (i : Span) → Contains tree i → Round i → Rounds i
   all_rounds st i i_in r = record {
-    walk = repeated (taken i) r.walk;
+    walk = repeat (taken i) r.walk;
     leads = Leads-repeated number_shape (Contains edges) (taken i) i.header r.walk r.leads;
     within = J.whole-repeated (is_inside i) (ends_at_header i) (taken i) r.walk r.within;
     kept = λ j in_tree v kept entered. ⊎_elim
         (λ same.
         let is : j ≡ i = st.one_header j i in_tree i_in (eqb-true j.header i.header same) in
-        subst (λ (x : Span). most_in x (v ++ repeated (taken i) r.walk) ≤ taken x) (sym is)
+        subst (λ (x : Span). most_in x (v ++ repeat (taken i) r.walk) ≤ taken x) (sym is)
         (G.push_own_rounds (is_inside i) (ends_at_header i) (taken i) v r.walk
         (subst (λ (x : Span). most_in x v ≤ taken x) is kept)
         (subst (λ (x : Span). tail {E = NumberedEdge} (is_inside x) (ends_at_header x) v ≡ 0) is (entered (eqb-true j.header i.header same)))

@@ -1,9 +1,9 @@
 -- The walks that the steps of the reaching theory make, for a builder of the folded walk.
 use Rattle.std.proofs.Common.{◌≡◌, ℕ, ◌*◌, true, false, List, [], ◌∷◌, ◌++◌, Option, Some, Contains, refl, ap, ◌∙◌}
+use Rattle.std.specs.List.{repeat}
 use Rattle.numbered_walks.specs.declared.span.NumberedEdge.{NumberedEdge}
 use Rattle.numbered_walks.specs.declared.span.Span.{Span}
 use Rattle.numbered_walks.specs.Ordered.{is_in}
-use Rattle.walks.specs.Segments.{repeated}
 use Rattle.numbered_walks.proofs.Reaching as R
 use Rattle.numbered_walks.specs.Reach.{InTree, holds_in}
 
@@ -36,9 +36,9 @@ module _ (edges : List NumberedEdge) (tree : List Span) (taken : Span → ℕ) (
   by_back st i e i_in in_graph from_in to_header attained walk (r, is) =
       (R.round_of edges tree taken dist arr rnd st i e i_in in_graph from_in to_header attained r, ap (λ (w : List NumberedEdge). w ++ e ∷ []) is)
 
-  pub by_repeat : (st : R.Structure edges tree taken dist arr rnd) (i : Span) (i_in : Contains tree i) (walk : List NumberedEdge) → RoundBy i walk → RoundsBy i (repeated (taken i) walk)
+  pub by_repeat : (st : R.Structure edges tree taken dist arr rnd) (i : Span) (i_in : Contains tree i) (walk : List NumberedEdge) → RoundBy i walk → RoundsBy i (repeat (taken i) walk)
   unfolding R.all_rounds
-  by_repeat st i i_in walk (r, is) = (R.all_rounds edges tree taken dist arr rnd st i i_in r, ap (λ (w : List NumberedEdge). repeated (taken i) w) is)
+  by_repeat st i i_in walk (r, is) = (R.all_rounds edges tree taken dist arr rnd st i i_in r, ap (λ (w : List NumberedEdge). repeat (taken i) w) is)
 
   pub by_none : (i : Span) → taken i * rnd i ≡ 0 → RoundsBy i []
   unfolding R.no_rounds

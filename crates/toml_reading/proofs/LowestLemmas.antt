@@ -1,6 +1,7 @@
 -- Readings, each against what is stated and the faults that are there.
 use Rattle.std.proofs.Common.{◌≡◌, ℕ, ◌≤◌, ◌⊎◌, ◌↔◌, Bool, true, false, cond, leb, Option, Some, None, Ok, Err, IsSomeAnd, MatchOption, inl, inr, refl, sym, ap, ◌∙◌, arith, le_of_eq, le_antisymm}
 use Rattle.std.proofs.lemmas.Bool.{leb-true, leb-false, true≢false, false≢true}
+use Rattle.std.specs.Result.{is_ok}
 use Rattle.toml_reading.specs.Lowest.{IsLowest, IsOnly}
 use Rattle.toml_reading.specs.Readings.{Faults, Reading, and_then, both, checked, lower, optional, required, seen}
 
@@ -23,28 +24,24 @@ ok_of : {F A : Type 0} → A → Reading F A → A
 ok_of a (Ok b) = b
 ok_of a (Err g) = a
 
-is_ok_as : {F A : Type 0} → Reading F A → Bool
-is_ok_as (Ok b) = true
-is_ok_as (Err g) = false
-
 err_of : {F A : Type 0} → F → Reading F A → F
 err_of f (Ok b) = f
 err_of f (Err g) = g
 
 module _ {F A : Type 0} (fs : Faults F) (S : A → Type 0) (H : F → Type 0) where
   told_value : (r : Reading F A) (a : A) → Told fs S H r → r ≡ Ok a ↔ S a
-  unfolding ok_of is_ok_as
+  unfolding ok_of
   told_value (Ok b) a h =
       (λ e. subst_value b a (ap (ok_of b) e) h.0.stated, λ s. ap (λ (x : A). Ok x) (sym (h.0.only a s)))
     where
       subst_value : (b a : A) → b ≡ a → S b → S a
       subst_value b a e s = rw e at s
-  told_value (Err g) a h = (λ e. absurd (false≢true (ap is_ok_as e)), λ s. absurd (h.0 a s))
+  told_value (Err g) a h = (λ e. absurd (false≢true (ap is_ok e)), λ s. absurd (h.0 a s))
 
   told_fault : ((f g : F) → fs.rank f ≡ fs.rank g → f ≡ g) → (r : Reading F A) (f : F) → Told fs S H r
       → r ≡ Err f ↔ IsLowest fs H f
-  unfolding err_of is_ok_as
-  told_fault one (Ok b) f h = (λ e. absurd (true≢false (ap is_ok_as e)), λ l. absurd (h.1 f l.has))
+  unfolding err_of
+  told_fault one (Ok b) f h = (λ e. absurd (true≢false (ap is_ok e)), λ l. absurd (h.1 f l.has))
   told_fault one (Err g) f h = (
     λ e. subst_fault g f (ap (err_of g) e) h.1,
     λ l. ap (λ (x : F). Err x) (one g f (le_antisymm (h.1.least f l.has) (l.least g h.1.has))),

@@ -8,8 +8,8 @@ use Rattle.std.proofs.lemmas.List.{get_or-replicate, length-replicate, map-appen
 use Rattle.std.proofs.lemmas.List.Concat.{flat_map-append}
 use Rattle.std.proofs.lemmas.List.Elements.{All-head, All-tail, All-weaker, All-nil, All-cons}
 use Rattle.std.proofs.lemmas.List.Sums.{count_by-le-length, sum_by-append, sum_by-cons}
+use Rattle.std.specs.List.{repeat}
 use Rattle.walks.specs.Walk.{Leads, cost_of}
-use Rattle.walks.specs.Segments.{repeated}
 use Rattle.flow_graph.specs.declared.edges.Edge.{Edge}
 use Rattle.flow_graph.specs.declared.places.Place.{Place}
 use Rattle.flow_graph.specs.declared.places.Place.TheVariants.{Exit}
@@ -50,12 +50,12 @@ module _ (edges : List Edge) (times : ℕ) where
         ∙ ap (λ n. capped (get_or old k 0 + n)) joins;
   }
 
-  pub counts_rounds : (n : ℕ) (walk : List Edge) (old new : List ℕ) → Counts edges walk (capped (times * n)) old new → Counts edges (repeated n walk) times old new
+  pub counts_rounds : (n : ℕ) (walk : List Edge) (old new : List ℕ) → Counts edges walk (capped (times * n)) old new → Counts edges (repeat n walk) times old new
   counts_rounds n walk old new h = record {
     whole = h.whole;
     each = λ k lt.
         let x = occurrences edges walk k in
-        let all : times * n * x ≡ times * occurrences edges (repeated n walk) k =
+        let all : times * n * x ≡ times * occurrences edges (repeat n walk) k =
         omega arith ∙ ap (λ m. times * m) (sym (count-repeated (λ e. eqb (number_of edges e) k) n walk)) in
         h.each k lt ∙ capped_times (2 ^ 64 - 1) (get_or old k 0) (times * n) x ∙ ap (λ m. capped (get_or old k 0 + m)) all;
   }

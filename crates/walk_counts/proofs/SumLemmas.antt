@@ -1,11 +1,10 @@
 -- Sums with a greatest number, and sums over the numbers of a list.
 use Rattle.std.proofs.Common.{◌≡◌, ◌∙◌, ℕ, zero, suc, ◌+◌, ◌*◌, ◌<◌, ◌≤◌, min, Bool, cond, eqb, List, [], ◌∷◌, ⊎_elim, refl, sym, ap, arith}
 use Rattle.std.specs.Prelude.{All, count_by, sum_by}
-use Rattle.std.specs.List.{range_with_len}
+use Rattle.std.specs.List.{range_with_len, repeat}
 use Rattle.std.proofs.lemmas.Bool.{cases_lt, eq-eqb, ne_eqb}
 use Rattle.std.proofs.lemmas.List.Elements.{All-head, All-tail}
 use Rattle.std.proofs.lemmas.List.Sums.{sum_by-cons, sum_by-append}
-use Rattle.walks.specs.Segments.{repeated}
 
 -- ## With a greatest number
 
@@ -28,9 +27,9 @@ capped_times m old times (suc n) = ⊎_elim
 
 -- ## Counts of walks
 
-pub count-repeated : {E : Type 0} (p : E → Bool) (k : ℕ) (walk : List E) → count_by p (repeated k walk) ≡ k * count_by p walk
+pub count-repeated : {E : Type 0} (p : E → Bool) (k : ℕ) (walk : List E) → count_by p (repeat k walk) ≡ k * count_by p walk
 count-repeated p zero walk = omega arith
-count-repeated p (suc k) walk = omega (arith, sum_by-append (λ x. cond (p x) 1 0) walk (repeated k walk), count-repeated p k walk)
+count-repeated p (suc k) walk = omega (arith, sum_by-append (λ x. cond (p x) 1 0) walk (repeat k walk), count-repeated p k walk)
 
 -- ## Sums over numbers
 

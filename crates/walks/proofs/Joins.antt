@@ -1,12 +1,11 @@
--- What two walks joined, and one walk repeated, take of a bound.
+-- What two walks joined, and one walk repeat, take of a bound.
 use Rattle.std.proofs.Common.{◌≡◌, ℕ, zero, suc, ◌+◌, ◌*◌, ◌≤◌, max, Bool, true, false, cond, ◌&&◌, List, [], ◌∷◌, ◌++◌, ⊎_elim, refl, ap, ◌∙◌, arith, append-nil}
-use Rattle.std.specs.List.{AllPass}
+use Rattle.std.specs.List.{AllPass, repeat}
 use Rattle.std.proofs.lemmas.Bool.{cases_Bool, and_parts, and_from}
 use Rattle.std.proofs.lemmas.List.Sums.{sum_by-cons, sum_by-append, list_all-from_AllPass}
 use Rattle.std.proofs.lemmas.List.Elements.{All-nil, All-cons}
 use Rattle.walks.specs.Segments as S
 use Rattle.walks.specs.Stretch.{Keeps}
-use Rattle.walks.specs.Segments.{repeated}
 
 tail_pick : (x y z : Bool) (all cv tv cw tw : ℕ) → all ≡ cv + cw → cond (x && (y && z)) all (cond z (tv + cw) tw) ≡ cond z (cond (x && y) cv tv + cw) tw
 tail_pick true true true all cv tv cw tw is = omega arith
@@ -150,28 +149,28 @@ module _ {E : Type 0} (inside turns : E → Bool) where
       let parts : (inside e ≡ true) × (whole w ≡ true) = and_parts (inside e) (whole w) all in
       omega (arith, head_whole (e ∷ w) all, most_whole w parts.1, count-cons e w)
 
-  pub count-repeated : (k : ℕ) (w : List E) → count (repeated k w) ≡ k * count w
+  pub count-repeated : (k : ℕ) (w : List E) → count (repeat k w) ≡ k * count w
   count-repeated zero w = omega arith
-  count-repeated (suc k) w = omega (arith, count-append w (repeated k w), count-repeated k w)
+  count-repeated (suc k) w = omega (arith, count-append w (repeat k w), count-repeated k w)
 
-  pub whole-repeated : (k : ℕ) (w : List E) → whole w ≡ true → whole (repeated k w) ≡ true
+  pub whole-repeated : (k : ℕ) (w : List E) → whole w ≡ true → whole (repeat k w) ≡ true
   whole-repeated zero w all = refl
-  whole-repeated (suc k) w all = whole-append w (repeated k w) ∙ and_from (whole w) (whole (repeated k w)) all (whole-repeated k w all)
+  whole-repeated (suc k) w all = whole-append w (repeat k w) ∙ and_from (whole w) (whole (repeat k w)) all (whole-repeated k w all)
 
-  pub part-repeated : (k : ℕ) (w : List E) → whole w ≡ false → whole (repeated (suc k) w) ≡ false
-  part-repeated k w part = rw (whole-append w (repeated k w), part) refl
+  pub part-repeated : (k : ℕ) (w : List E) → whole w ≡ false → whole (repeat (suc k) w) ≡ false
+  part-repeated k w part = rw (whole-append w (repeat k w), part) refl
 
-  pub head-repeated : (k : ℕ) (w : List E) → whole w ≡ false → head (repeated (suc k) w) ≡ head w
-  head-repeated k w part = rw (head-append w (repeated k w), part) refl
+  pub head-repeated : (k : ℕ) (w : List E) → whole w ≡ false → head (repeat (suc k) w) ≡ head w
+  head-repeated k w part = rw (head-append w (repeat k w), part) refl
 
-  once : (w : List E) → repeated 1 w ≡ w
+  once : (w : List E) → repeat 1 w ≡ w
   once w = append-nil w
 
-  pub tail-repeated : (k : ℕ) (w : List E) → whole w ≡ false → tail (repeated (suc k) w) ≡ tail w
+  pub tail-repeated : (k : ℕ) (w : List E) → whole w ≡ false → tail (repeat (suc k) w) ≡ tail w
   tail-repeated zero w part = ap tail (once w)
-  tail-repeated (suc k) w part = rw (tail-append w (repeated (suc k) w), part-repeated k w part) (tail-repeated k w part)
+  tail-repeated (suc k) w part = rw (tail-append w (repeat (suc k) w), part-repeated k w part) (tail-repeated k w part)
 
-  pub most-repeated : (k : ℕ) (w : List E) → whole w ≡ false → most (repeated (suc (suc k)) w) ≡ max (most w) (tail w + head w)
-  most-repeated zero w part = rw (most-append w (repeated 1 w), once w) (omega arith)
+  pub most-repeated : (k : ℕ) (w : List E) → whole w ≡ false → most (repeat (suc (suc k)) w) ≡ max (most w) (tail w + head w)
+  most-repeated zero w part = rw (most-append w (repeat 1 w), once w) (omega arith)
   most-repeated (suc k) w part =
-      rw (most-append w (repeated (suc (suc k)) w), head-repeated (suc k) w part, most-repeated k w part) (omega arith)
+      rw (most-append w (repeat (suc (suc k)) w), head-repeated (suc k) w part, most-repeated k w part) (omega arith)

@@ -1,13 +1,9 @@
 -- What a walk takes of an instance's bound, by two tests of an edge: the working form of keeping a bound,
--- which composes over joined and repeated walks.
-use Rattle.std.specs.Prelude.{ℕ, zero, suc, ◌+◌, max, Bool, cond, List, [], ◌∷◌, ◌++◌, count_by}
+-- which composes over joined and repeat walks.
+use Rattle.std.specs.Prelude.{ℕ, ◌+◌, max, Bool, cond, List, [], ◌∷◌, count_by}
 use Rattle.std.specs.List.{list_all}
 
 -- a walk, k times
-abbrev pub repeated : {E : Type 0} → ℕ → List E → List E
-repeated zero walk = []
-repeated (suc k) walk = walk ++ repeated k walk
-
 module _ {E : Type 0} (inside turns : E → Bool) where
   abbrev pub turn : E → ℕ
   turn e = cond (turns e) 1 0

@@ -1,6 +1,7 @@
 use Rattle.std.proofs.Common.{eqb-true, sym, arith}
+use Rattle.std.proofs.lemmas.List.{nil_from_length}
 use Rattle.loop_bounds.proofs.Visit.{visit_starts, visit_met, step_nearer}
-use Rattle.loop_bounds.proofs.Steps.{empty, visited}
+use Rattle.loop_bounds.proofs.Steps.{visited}
 use Rattle.loop_bounds.proofs.order.Search.visit.Goals as goal
 
 pub loop-self-init : goal.loop-self-init
@@ -24,4 +25,4 @@ loop-self-preserved c = record {
 pub returns-clause-searched : goal.returns-clause-searched
 returns-clause-searched c =
     visited c.args.firsts.now c.args.edges.now c.loop-self.self c.args.node c.loop-self.invariant
-    (empty c.loop-self.self.path.items (omega (arith, eqb-true _ 0 (sym c.loop-self-test.ensures))))
+    (nil_from_length c.loop-self.self.path.items (omega (arith, eqb-true _ 0 (sym c.loop-self-test.ensures))))
