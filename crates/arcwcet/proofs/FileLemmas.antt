@@ -1,31 +1,32 @@
 -- Files that are read one after another, a cycle profile's first.
 use Rattle.std.proofs.Common.{ℕ, List, [], ◌∷◌, Option, Some, None, Err, subst, inl, inr}
-use Rattle.arcwcet.specs.Files.{FailsToRead, ReadsAll, Reading, Texts, in_front}
+use Rattle.std.specs.List.{cons_option}
+use Rattle.arcwcet.specs.Files.{FailsToRead, ReadsAll, Reading, Texts}
 use Rattle.arcwcet.specs.declared.fault.StoreFault.{StoreFault}
 
 module _ {S : Type 0} (reads : Reading S) where
-  pub front_read : (n f : Option (List ℕ)) (names files : Texts) (a b c : S) → ReadsAll reads a (in_front n []) (in_front f []) b → ReadsAll reads b names files c
-      → ReadsAll reads a (in_front n names) (in_front f files) c
+  pub front_read : (n f : Option (List ℕ)) (names files : Texts) (a b c : S) → ReadsAll reads a (cons_option n []) (cons_option f []) b → ReadsAll reads b names files c
+      → ReadsAll reads a (cons_option n names) (cons_option f files) c
   front_read None None names files a b c h k = subst (λ (s : S). ReadsAll reads s names files c) h k
   front_read (Some n) (Some f) names files a b c (between, read, same) k = (between, read, subst (λ (s : S). ReadsAll reads s names files c) same k)
   front_read None (Some f) names files a b c h k = absurd h
   front_read (Some n) None names files a b c h k = absurd h
 
-  pub front_fails : (n : Option (List ℕ)) (names : Texts) (e : StoreFault) (a b : S) → FailsToRead reads a (in_front n []) e b → FailsToRead reads a (in_front n names) e b
+  pub front_fails : (n : Option (List ℕ)) (names : Texts) (e : StoreFault) (a b : S) → FailsToRead reads a (cons_option n []) e b → FailsToRead reads a (cons_option n names) e b
   front_fails None names e a b h = absurd h
   front_fails (Some n) names e a b (inl h) = inl h
   front_fails (Some n) names e a b (inr h) = absurd h.3
 
-  pub later_fails : (n f : Option (List ℕ)) (names : Texts) (e : StoreFault) (a b c : S) → ReadsAll reads a (in_front n []) (in_front f []) b → FailsToRead reads b names e c
-      → FailsToRead reads a (in_front n names) e c
+  pub later_fails : (n f : Option (List ℕ)) (names : Texts) (e : StoreFault) (a b c : S) → ReadsAll reads a (cons_option n []) (cons_option f []) b → FailsToRead reads b names e c
+      → FailsToRead reads a (cons_option n names) e c
   later_fails None None names e a b c h k = subst (λ (s : S). FailsToRead reads s names e c) h k
   later_fails (Some n) (Some f) names e a b c (between, read, same) k = inr (between, f, read, subst (λ (s : S). FailsToRead reads s names e c) same k)
   later_fails None (Some f) names e a b c h k = absurd h
   later_fails (Some n) None names e a b c h k = absurd h
 
   -- the last of three files could not be read
-  pub third_fails : (n f : Option (List ℕ)) (x y z p q : List ℕ) (e : StoreFault) (a b c : S) → ReadsAll reads a (in_front n (x ∷ y ∷ [])) (in_front f (p ∷ q ∷ [])) b → reads b z (Err e) c
-      → FailsToRead reads a (in_front n (x ∷ y ∷ z ∷ [])) e c
+  pub third_fails : (n f : Option (List ℕ)) (x y z p q : List ℕ) (e : StoreFault) (a b c : S) → ReadsAll reads a (cons_option n (x ∷ y ∷ [])) (cons_option f (p ∷ q ∷ [])) b → reads b z (Err e) c
+      → FailsToRead reads a (cons_option n (x ∷ y ∷ z ∷ [])) e c
   third_fails None None x y z p q e a b c (s, r, (t, k, same)) h = inr (s, p, r, inr (t, q, k, inl (subst (λ (u : S). reads u z (Err e) c) same h)))
   third_fails (Some n) (Some f) x y z p q e a b c (o, g, (s, r, (t, k, same))) h = inr (o, f, g, inr (s, p, r, inr (t, q, k, inl (subst (λ (u : S). reads u z (Err e) c) same h))))
   third_fails None (Some f) x y z p q e a b c (s, r, (t, k, never)) h = absurd never

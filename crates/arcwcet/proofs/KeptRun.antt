@@ -8,10 +8,9 @@ use Rattle.vidc.specs.Video as vidc
 use Rattle.arm2_transfer.specs.declared.bus.Bus.{Bus}
 use Rattle.arm2_exec.specs.Run.{at_rest, counted, why_stopped}
 use Rattle.arm2_exec.specs.State.{State}
-use Rattle.arm2_exec.specs.declared.machine.Input.{Input}
 use Rattle.report_input.specs.Keeping.{HasKeptRun}
 use Rattle.arcwcet.proofs.OneWord as one
-use Rattle.arcwcet.proofs.OneWord.{goes_before}
+use Rattle.arcwcet.proofs.OneWord.{goes_before, quiet}
 
 abbrev entry : ℕ
 entry = 0x3800000
@@ -35,14 +34,11 @@ bus = record {
 regs : List ℕ
 regs = replicate 23 0 ++ 8 ∷ 0 ∷ 0 ∷ 0x0F800002 ∷ []
 
-abbrev input : Input
-input = record { bursts = 0; lines = record { 0 = 0 }; port = 0 }
-
 module _ (profile : Profile) where
   start : State
   start = record { regs = regs; bus = bus; profile = profile }
 
-  ready : one.IsAtWord entry profile start input
+  ready : one.IsAtWord entry profile start quiet
   unfolding start bus regs
   ready = record { registers = refl; at = refl; prices = refl; fetches = refl; none_due = refl }
 
@@ -53,19 +49,19 @@ module _ (profile : Profile) where
     flow = one.flow words entry stands profile;
     graph_is = one.graph_is words entry stands profile;
     s = start;
-    inputs = input ∷ [];
+    inputs = quiet ∷ [];
     keeps = record {
       walk = one.edge words entry stands profile ∷ [];
       complete = one.complete words entry stands profile;
       kept = one.keeps_bounds words entry stands profile;
-      follows = one.follows words entry stands profile start input ready;
+      follows = one.follows words entry stands profile start quiet ready;
     };
-    ran = counted start.profile.burst input (one.stepped words entry stands profile start input ready) (at_rest None);
-    after = one.after words entry stands profile start input ready;
+    ran = counted start.profile.burst quiet (one.stepped words entry stands profile start quiet ready) (at_rest None);
+    after = one.after words entry stands profile start quiet ready;
     runs =
-        goes_before start input [] (one.stepped words entry stands profile start input ready)
-        (one.after words entry stands profile start input ready) (at_rest None)
-        (one.after words entry stands profile start input ready)
-        (one.step words entry stands profile start input ready)
-        (ap why_stopped (one.plain words entry stands profile start input ready)) (refl, refl);
+        goes_before start quiet [] (one.stepped words entry stands profile start quiet ready)
+        (one.after words entry stands profile start quiet ready) (at_rest None)
+        (one.after words entry stands profile start quiet ready)
+        (one.step words entry stands profile start quiet ready)
+        (ap why_stopped (one.plain words entry stands profile start quiet ready)) (refl, refl);
   }

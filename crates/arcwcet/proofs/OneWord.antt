@@ -1,9 +1,11 @@
 -- A handler of one word, SUBS PC,R14,#4: its flow graph, and its step from any state.
-use Rattle.std.proofs.Common.{◌≡◌, ◌∙◌, ℕ, zero, suc, List, [], ◌∷◌, length, true, Option, None, Some, Contains, ⊎_elim, refl, sym, ap, subst, inl, lit<, arith}
-use Rattle.std.specs.Prelude.{unwrap_or}
+use Rattle.std.proofs.Common.{◌≡◌, ◌∙◌, ℕ, List, [], ◌∷◌, length, true, Option, None, Some, Contains, ⊎_elim, refl, sym, ap, subst, inl, lit<}
 use Rattle.std.specs.List.Sorted.{IsStrictlySortedBy}
+use Rattle.std.proofs.lemmas.Option.{same_Some}
 use Rattle.bus_ticks.specs.declared.profile.Profile.{Profile}
 use Rattle.bus_ticks.specs.declared.profile.Class.TheVariants.{Any}
+use Rattle.flow_graph.proofs.SortedLemmas.{no_member}
+use Rattle.flow_graph.proofs.StepEdges.{only_one}
 use Rattle.loader.specs.Image.{Words, word_of}
 use Rattle.arm2_decode.specs.declared.instr.Instr.{Instr}
 use Rattle.arm2_decode.specs.declared.instr.Operation.TheVariants as operation
@@ -45,16 +47,6 @@ instr = record {
   operation = operation.DataImmediate (record { opcode = Sub; sets_flags = true; rn = R14; rd = R15; rotation = 0; value = 4; allocated = refl; rotation_fits = lit< tt; value_fits = lit< tt });
 }
 
-in_none : {A : Type 0} (x : A) → Contains [] x → ⊥
-in_none x (k, lt, at) = absurd (omega (arith, lt))
-
-in_one : {A : Type 0} (x y : A) → Contains (x ∷ []) y → x ≡ y
-in_one x y (zero, lt, at) = at
-in_one x y (suc k, lt, at) = absurd (omega (arith, lt))
-
-Some-inj : {A : Type 0} {x y : A} → Some x ≡ Some y → x ≡ y
-Some-inj {A} {x} is = ap (λ (o : Option A). unwrap_or o x) is
-
 means : Means word instr
 unfolding instr
 means = record { fixed = refl; fields = refl }
@@ -66,6 +58,10 @@ pub record IsAtWord (entry : ℕ) (profile : Profile) (s : State) (i : Input) : 
   pub prices : s.profile ≡ profile
   pub fetches : fetched s.bus.memc (r15_in s.regs) ≡ Some word
   pub none_due : interrupt_due (with_lines i.lines.0 s.bus) (r15_in s.regs) ≡ None
+
+-- without a burst and with all lines low
+abbrev pub quiet : Input
+quiet = record { bursts = 0; lines = record { 0 = 0 }; port = 0 }
 
 -- the image has the word at the entry
 module _ (words : Words) (entry : ℕ) (stands : word_of words entry ≡ Some word) (profile : Profile) where
@@ -90,7 +86,7 @@ module _ (words : Words) (entry : ℕ) (stands : word_of words entry ≡ Some wo
   -- the word does nothing else
   one_action : (a : Action) → HasAction words entry a → a ≡ instr_action instr
   one_action a h =
-      let word_is : word ≡ h.word = Some-inj (sym stands ∙ h.stands) in
+      let word_is : word ≡ h.word = same_Some word h.word (sym stands ∙ h.stands) in
       ⊎_elim
       (λ m. m.2 ∙ ap instr_action (sym (one_instr word instr m.0 means (subst (λ (w : ℕ). Means w m.0) (sym word_is) m.1))))
       (λ u. absurd (never_both word instr u.0 means (subst (λ (w : ℕ). IsUnallocated w u.0) (sym word_is) u.1)))
@@ -102,12 +98,12 @@ module _ (words : Words) (entry : ℕ) (stands : word_of words entry ≡ Some wo
   one_edge e is from =
       let are : AreEdgesOf words stated profile (At [] entry) is.0 = subst (λ (p : Place). AreEdgesOf words stated profile p is.0) from is.1 in
       let edges_are : is.0 ≡ edge ∷ [] = are.2 ∙ ap (word_edges stated profile [] entry) (one_action are.0 are.1) in
-      sym (in_one edge e (subst (λ (es : List Edge). Contains es e) edges_are is.2))
+      sym (only_one edge e (subst (λ (es : List Edge). Contains es e) edges_are is.2))
 
   no_edge : (e : Edge) → IsEdge words stated profile e → e.from ≡ Exit → ⊥
   no_edge e is from =
       let none : is.0 ≡ [] = subst (λ (p : Place). AreEdgesOf words stated profile p is.0) from is.1 in
-      in_none e (subst (λ (es : List Edge). Contains es e) none is.2)
+      no_member e (subst (λ (es : List Edge). Contains es e) none is.2)
 
   reached : (p : Place) (walk : List Edge) → Leads edge_shape (IsEdge words stated profile) (At [] entry) walk p → (p ≡ Exit → ⊥) → At [] entry ≡ p
   unfolding edge
@@ -121,7 +117,7 @@ module _ (words : Words) (entry : ℕ) (stands : word_of words entry ≡ Some wo
     entry_is = refl;
     ordered = (tt, tt);
     exact = λ p. (
-      λ has. let same = in_one (At [] entry) p has in (([], same), λ exit. cc (same ∙ exit)),
+      λ has. let same = only_one (At [] entry) p has in (([], same), λ exit. cc (same ∙ exit)),
       λ r. (0, lit< tt, reached p r.0.0 r.0.1 r.1),
     );
     parts = (edge ∷ []) ∷ [];
@@ -184,7 +180,7 @@ module _ (words : Words) (entry : ℕ) (stands : word_of words entry ≡ Some wo
   complete = ((0, lit< tt, refl), refl, refl)
 
   pub keeps_bounds : KeepsTheBounds flow [] (edge ∷ [])
-  keeps_bounds = λ i is. absurd (in_none is.stated_loop is.stated)
+  keeps_bounds = λ i is. absurd (no_member is.stated_loop is.stated)
 
 -- ## Runs
 

@@ -1,13 +1,14 @@
 -- What a run of a command did, from what its reads and its call returned.
 use Rattle.std.proofs.Common.{◌≡◌, ◌≢◌, ◌∙◌, ◌≤◌, ℕ, Bool, true, false, List, [], ◌∷◌, length, Option, Some, None, Result, Ok, Err, refl, sym, ap, subst, inl, inr, arith}
 use Rattle.std.specs.Io.KnownBytes.{Consumes, IsAtEnd}
+use Rattle.std.specs.List.{cons_option}
 use Rattle.bus_ticks.specs.declared.profile.Profile.{Profile}
 use Rattle.report_output.specs.Answers.{Answers, FailsWithin, OfSome}
 use Rattle.machine_reports.specs.Assembly.{IsSourceRefused}
 use Rattle.command_line.specs.Line.{Asked, FileNames, asm, list, draft, run, trace, debug, bound, explain, tight, check, explain_verdict, visits, follow, graph}
 use Rattle.report_input.specs.Placing.{IsRunRefused}
 use Rattle.report_input.specs.Priced.{ByProfile, HasNoProfile, IsUnpriced, Priced, PricedFault}
-use Rattle.arcwcet.specs.Files.{FailsToRead, ReadsAll, Reading, Texts, Writing, in_front, two_of}
+use Rattle.arcwcet.specs.Files.{FailsToRead, ReadsAll, Reading, Texts, Writing, two_of}
 use Rattle.arcwcet.specs.Run.{ByThree, ByTwo, HasPrinted, IsSessionOf, OfThree, OfTwo, Plain, RefusesThree, RefusesTwo, Runs, RunsAsked, RunsAsm, RunsDebug, RunsOf, PrintsOrRefuses, PrintsOrRefusesOf}
 use Rattle.arcwcet.specs.Run.{answer_status, answered, fault_of, files_of, report_status, store_status, text_of}
 use Rattle.report_output.specs.declared.fault.ReportFault.{ReportFault}
@@ -283,20 +284,20 @@ module _ {O : Type 0} (taken : O → Option (List ℕ)) (failures : O → ℕ) (
       (answered_answer (Plain Is) IsFault (Plain Is) IsFine IsFault (λ x text t. t) (λ fault t. t) (answered result) (answers_plain Is IsFine IsFault result h))
 
 -- the files in front of which a cycle profile's may be
-pub of_two : (Is : Option (List ℕ) → List ℕ → List ℕ → Type 0) (file : Option (List ℕ)) (a b : List ℕ) → Is file a b → OfTwo Is (in_front file (a ∷ b ∷ []))
+pub of_two : (Is : Option (List ℕ) → List ℕ → List ℕ → Type 0) (file : Option (List ℕ)) (a b : List ℕ) → Is file a b → OfTwo Is (cons_option file (a ∷ b ∷ []))
 of_two Is None a b h = h
 of_two Is (Some f) a b h = h
 
-pub of_three : (Is : Option (List ℕ) → List ℕ → List ℕ → List ℕ → Type 0) (file : Option (List ℕ)) (a b c : List ℕ) → Is file a b c → OfThree Is (in_front file (a ∷ b ∷ c ∷ []))
+pub of_three : (Is : Option (List ℕ) → List ℕ → List ℕ → List ℕ → Type 0) (file : Option (List ℕ)) (a b c : List ℕ) → Is file a b c → OfThree Is (cons_option file (a ∷ b ∷ c ∷ []))
 of_three Is None a b c h = h
 of_three Is (Some f) a b c h = h
 
 module _ {O : Type 0} (taken : O → Option (List ℕ)) (failures : O → ℕ) (before after : O) (file : Option (List ℕ)) (one two : List ℕ) where
   pub answered_two : (Is : List ℕ → List ℕ → Profile → Bool → List ℕ → Type 0) (IsFine : List ℕ → List ℕ → Profile → Type 0) (IsFault : List ℕ → List ℕ → Profile → ReportFault → Type 0)
       → (result : Result Bool ReportFault) → Priced file (λ p. Answers taken failures (Is one two p) (IsFine one two p) (IsFault one two p) before after result) before after result
-      → PrintsOrRefuses taken failures (λ answer text. ByTwo (λ a b p. Is a b p answer text) (in_front file (one ∷ two ∷ []))) (RefusesTwo IsFault (in_front file (one ∷ two ∷ []))) before after result
+      → PrintsOrRefuses taken failures (λ answer text. ByTwo (λ a b p. Is a b p answer text) (cons_option file (one ∷ two ∷ []))) (RefusesTwo IsFault (cons_option file (one ∷ two ∷ []))) before after result
   answered_two Is IsFine IsFault =
-      answered_priced taken failures before after (λ answer text. ByTwo (λ a b p. Is a b p answer text) (in_front file (one ∷ two ∷ []))) (RefusesTwo IsFault (in_front file (one ∷ two ∷ [])))
+      answered_priced taken failures before after (λ answer text. ByTwo (λ a b p. Is a b p answer text) (cons_option file (one ∷ two ∷ []))) (RefusesTwo IsFault (cons_option file (one ∷ two ∷ [])))
       file (Is one two) (IsFine one two) (IsFault one two)
       (λ x text b. of_two (λ f s t. ByProfile f (λ p. Is s t p x text)) file one two b)
       (λ fault k. of_two (λ f s t. PricedFault f (IsFault s t) fault) file one two k)
@@ -304,16 +305,16 @@ module _ {O : Type 0} (taken : O → Option (List ℕ)) (failures : O → ℕ) (
   pub answered_two_plain : (Is : List ℕ → List ℕ → Profile → List ℕ → Type 0) (IsFine : List ℕ → List ℕ → Profile → Type 0) (IsFault : List ℕ → List ℕ → Profile → ReportFault → Type 0)
       → (result : Result (Unit {0}) ReportFault) → Priced file (λ p. Answers taken failures (λ _ text. Is one two p text) (IsFine one two p) (IsFault one two p) before after result) before after result
       → (answer : Result Bool ReportFault) → answer ≡ answered result
-      → PrintsOrRefuses taken failures (λ answer text. ByTwo (λ a b p. Plain (Is a b p) answer text) (in_front file (one ∷ two ∷ []))) (RefusesTwo IsFault (in_front file (one ∷ two ∷ []))) before after answer
+      → PrintsOrRefuses taken failures (λ answer text. ByTwo (λ a b p. Plain (Is a b p) answer text) (cons_option file (one ∷ two ∷ []))) (RefusesTwo IsFault (cons_option file (one ∷ two ∷ []))) before after answer
   answered_two_plain Is IsFine IsFault result h answer is =
       answered_two (λ a b p. Plain (Is a b p)) IsFine IsFault answer (priced_plain taken failures before after file (Is one two) (IsFine one two) (IsFault one two) result h answer is)
 
   pub answered_three : (three : List ℕ) (Is : List ℕ → List ℕ → List ℕ → Profile → Bool → List ℕ → Type 0) (IsFine : List ℕ → List ℕ → List ℕ → Profile → Type 0)
       (IsFault : List ℕ → List ℕ → List ℕ → Profile → ReportFault → Type 0)
       → (result : Result Bool ReportFault) → Priced file (λ p. Answers taken failures (Is one two three p) (IsFine one two three p) (IsFault one two three p) before after result) before after result
-      → PrintsOrRefuses taken failures (λ answer text. ByThree (λ a b c p. Is a b c p answer text) (in_front file (one ∷ two ∷ three ∷ []))) (RefusesThree IsFault (in_front file (one ∷ two ∷ three ∷ []))) before after result
+      → PrintsOrRefuses taken failures (λ answer text. ByThree (λ a b c p. Is a b c p answer text) (cons_option file (one ∷ two ∷ three ∷ []))) (RefusesThree IsFault (cons_option file (one ∷ two ∷ three ∷ []))) before after result
   answered_three three Is IsFine IsFault =
-      answered_priced taken failures before after (λ answer text. ByThree (λ a b c p. Is a b c p answer text) (in_front file (one ∷ two ∷ three ∷ []))) (RefusesThree IsFault (in_front file (one ∷ two ∷ three ∷ [])))
+      answered_priced taken failures before after (λ answer text. ByThree (λ a b c p. Is a b c p answer text) (cons_option file (one ∷ two ∷ three ∷ []))) (RefusesThree IsFault (cons_option file (one ∷ two ∷ three ∷ [])))
       file (Is one two three) (IsFine one two three) (IsFault one two three)
       (λ x text b. of_three (λ f s t u. ByProfile f (λ p. Is s t u p x text)) file one two three b)
       (λ fault k. of_three (λ f s t u. PricedFault f (IsFault s t u) fault) file one two three k)
@@ -322,7 +323,7 @@ module _ {O : Type 0} (taken : O → Option (List ℕ)) (failures : O → ℕ) (
       (IsFault : List ℕ → List ℕ → List ℕ → Profile → ReportFault → Type 0)
       → (result : Result (Unit {0}) ReportFault) → Priced file (λ p. Answers taken failures (λ _ text. Is one two three p text) (IsFine one two three p) (IsFault one two three p) before after result) before after result
       → (answer : Result Bool ReportFault) → answer ≡ answered result
-      → PrintsOrRefuses taken failures (λ answer text. ByThree (λ a b c p. Plain (Is a b c p) answer text) (in_front file (one ∷ two ∷ three ∷ []))) (RefusesThree IsFault (in_front file (one ∷ two ∷ three ∷ []))) before after answer
+      → PrintsOrRefuses taken failures (λ answer text. ByThree (λ a b c p. Plain (Is a b c p) answer text) (cons_option file (one ∷ two ∷ three ∷ []))) (RefusesThree IsFault (cons_option file (one ∷ two ∷ three ∷ []))) before after answer
   answered_three_plain three Is IsFine IsFault result h answer is =
       answered_three three (λ a b c p. Plain (Is a b c p)) IsFine IsFault answer (priced_plain taken failures before after file (Is one two three) (IsFine one two three) (IsFault one two three) result h answer is)
 

@@ -26,7 +26,7 @@ use Rattle.flow_graph.specs.StepLaw.{IsEdgeOf}
 use Rattle.report_input.specs.Keeping.{KeepsStatement}
 use Rattle.arcwcet.specs.Visits.{HasVisitedRun, IsVisit, KeepsVisited, MainStep, Visit, inputs_of}
 use Rattle.arcwcet.proofs.OneWord as one
-use Rattle.arcwcet.proofs.OneWord.{goes_before}
+use Rattle.arcwcet.proofs.OneWord.{goes_before, quiet}
 
 abbrev main_entry : ℕ
 main_entry = 0x3800000
@@ -72,9 +72,6 @@ fiq_regs = replicate 21 0 ++ 0x0B800006 ∷ 0 ∷ 8 ∷ 0 ∷ 0 ∷ 0x0C00001D �
 
 abbrev asking : Input
 asking = record { bursts = 0; lines = record { 0 = 0x10000 }; port = 0 }
-
-abbrev quiet : Input
-quiet = record { bursts = 0; lines = record { 0 = 0 }; port = 0 }
 
 abbrev visit : Visit
 visit = record { taking = asking; handling = quiet ∷ [] }

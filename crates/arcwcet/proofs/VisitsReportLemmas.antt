@@ -1,6 +1,6 @@
 -- The report of a handler that FIQ interrupts, and its refusals.
 use Rattle.std.proofs.Common.{◌≡◌, ◌≢◌, ◌∙◌, ◌⊎◌, ◌++◌, ℕ, ◌≤◌, ◌<◌, List, Result, Ok, Err, refl, sym, ap, subst, inl, inr, arith}
-use Rattle.std.specs.Prelude.{IfErr, IfOk, OnOk, ◌^◌}
+use Rattle.std.specs.Prelude.{IfErr, ◌^◌}
 use Rattle.bus_ticks.specs.declared.profile.Profile.{Profile}
 use Rattle.bus_ticks.specs.Worst.{fiq_entry}
 use Rattle.bus_ticks.proofs.EntryLemmas.{fiq_entry_greatest}
@@ -24,11 +24,6 @@ use Rattle.report_output.specs.declared.fault.ReportFault.TheVariants as report_
 use Rattle.report_input.proofs.HandlerLemmas.{one_graph, one_ok, same_statement, statement_refusal}
 use Rattle.report_input.proofs.ReportLemmas.{accepted_refusals, report_refusal}
 use Rattle.arcwcet.proofs.VisitLemmas.{bounds_visited}
-
--- two claims on an answer
-pub when_small : {T E : Type 0} (r : Result T E) (P Q : T → Type 0) (S : Type 0) → ((x : T) → P x → S → Q x) → IfOk r P → OnOk r S → IfOk r Q
-when_small (Ok x) P Q S both p s = both x p s
-when_small (Err e) P Q S both p s = tt
 
 -- ## One bound
 

@@ -1,5 +1,6 @@
 -- Reading files from a store, one after another, and writing one.
-use Rattle.std.specs.Prelude.{◌≡◌, ◌⊎◌, ℕ, List, [], ◌∷◌, Option, Some, None, Result, Ok, Err}
+use Rattle.std.specs.Prelude.{◌≡◌, ◌⊎◌, ℕ, List, [], ◌∷◌, Result, Ok, Err}
+use Rattle.std.specs.List.{cons_option}
 use Rattle.command_line.specs.Line.{FileNames}
 use Rattle.arcwcet.specs.declared.fault.StoreFault.{StoreFault}
 
@@ -7,17 +8,12 @@ use Rattle.arcwcet.specs.declared.fault.StoreFault.{StoreFault}
 abbrev pub Texts : Type 0
 Texts = List (List ℕ)
 
--- a cycle profile's file comes first, where there is one
-abbrev pub in_front : Option (List ℕ) → Texts → Texts
-in_front None others = others
-in_front (Some file) others = file ∷ others
-
--- the names of two files, and of a third one
+-- the names of two files, and of a third one: a cycle profile's file comes first, where there is one
 abbrev pub two_of : FileNames → Texts
-two_of n = in_front n.profile (n.first ∷ n.second ∷ [])
+two_of n = cons_option n.profile (n.first ∷ n.second ∷ [])
 
 abbrev pub three_of : FileNames → (third : List ℕ) → Texts
-three_of n third = in_front n.profile (n.first ∷ n.second ∷ third ∷ [])
+three_of n third = cons_option n.profile (n.first ∷ n.second ∷ third ∷ [])
 
 -- how a store is read: what it was, a name, what the read returns, and the store after it
 abbrev pub Reading : Type 0 → Type 1

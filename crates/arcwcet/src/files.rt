@@ -1,9 +1,10 @@
-ghost use Rattle.std.specs.Prelude.{◌≡◌, ◌≤◌, ◌+◌, ℕ, List, [], ◌∷◌, length, vec_len, option_map};
+ghost use Rattle.std.specs.Prelude.{◌≡◌, ◌≤◌, ◌+◌, ℕ, List, [], length, vec_len, option_map};
 ghost use Rattle.std.specs.Prelude.{Result, IfErr, IfOk, IfSome, IsErrOf, OnOk};
 ghost use Rattle.std.specs.Io.KnownBytes.{Consumes, IsAtEnd};
 ghost use Rattle.std.specs.IoError.{error_kind};
+ghost use Rattle.std.specs.List.{cons_option};
 ghost use Rattle.command_line.specs.Line.{names_of};
-ghost use Rattle.arcwcet.specs.Files.{FailsToRead, Reading, ReadsAll, Writing, in_front, three_of, two_of};
+ghost use Rattle.arcwcet.specs.Files.{FailsToRead, Reading, ReadsAll, Writing, three_of, two_of};
 ghost use Rattle.arcwcet.specs.FileTexts.{kept_three, kept_two, lent_three, lent_two};
 ghost use Rattle.arcwcet.specs.FileFaults.{file_fault_of};
 ghost use Rattle.arcwcet.specs.Store.{bytes_read};
@@ -208,11 +209,11 @@ fn read_if_named<'a, S: Store>(
     store: &mut S,
 ) -> Result<Option<Vec<u8>>, Unread<'a>>
     ensures read { IfOk result
-        (λ f. ReadsAll S.read_gives store.old (in_front (option_map (λ n. n.now) name.entry) [])
-        (in_front (option_map (λ v. v.items) f) []) store.new) }
+        (λ f. ReadsAll S.read_gives store.old (cons_option (option_map (λ n. n.now) name.entry) [])
+        (cons_option (option_map (λ v. v.items) f) []) store.new) }
     ensures fault { IfErr result
         (λ u. FailsToRead S.read_gives store.old
-        (in_front (option_map (λ n. n.now) name.entry) []) u.fault store.new) }
+        (cons_option (option_map (λ n. n.now) name.entry) []) u.fault store.new) }
 {
     match name {
         Some(name) => Ok(Some(read_named(alloc, name, store)?)),

@@ -9,7 +9,6 @@ use Rattle.std.proofs.lemmas.List.Sums.{sum_by-cons, sum_by_push}
 use Rattle.text_rows.specs.Rows.{Appends, IsShownRow}
 use Rattle.explained.specs.Taken.{IsTally as IsWalkTally, is_at}
 use Rattle.explained.specs.declared.tally.Tally.{Tally}
-use Rattle.explained.proofs.RangeLaws.{range_push}
 use Rattle.flow_graph.specs.Flow.{Flow}
 use Rattle.flow_graph.specs.Places.{place_at}
 use Rattle.flow_graph.specs.declared.edges.Edge.{Edge}
@@ -20,7 +19,7 @@ use Rattle.kept_runs.specs.Passing.{IsTally, Pass, passed_at}
 use Rattle.kept_runs.specs.declared.tally.Passed.{Passed}
 use Rattle.loader.specs.Image.{Words}
 use Rattle.walk_counts.specs.Counts.{capped}
-use Rattle.walk_counts.proofs.SumLemmas.{picked, same_sums, sum_both, sum_none}
+use Rattle.walk_counts.proofs.SumLemmas.{picked, range_push, same_sums, sum_both, sum_none}
 use Rattle.author_reports.specs.declared.differences.Compared.{Compared}
 use Rattle.author_reports.specs.declared.differences.Numbers.{Numbers}
 use Rattle.author_reports.specs.declared.differences.RunTally.{RunTally}

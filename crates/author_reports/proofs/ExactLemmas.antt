@@ -24,7 +24,7 @@ use Rattle.explained.specs.Table.{passes_of, ticks_of}
 use Rattle.explained.specs.Taken.{cost_at, is_at, is_reached, pass_at, taken_at, taken_of}
 use Rattle.explained.specs.declared.tally.Taken.{Taken}
 use Rattle.explained.proofs.TallyLaws.{reached}
-use Rattle.explained.proofs.TotalLaws.{numbers_of_walk}
+use Rattle.explained.proofs.TotalLaws.{cond_within, numbers_of_walk}
 use Rattle.kept_runs.specs.Passing.{ArePasses, Pass}
 use Rattle.walk_counts.specs.Counts.{capped}
 use Rattle.author_reports.proofs.DifferenceLemmas.{same_compared, same_numbers}
@@ -56,14 +56,6 @@ module _ (words : Words) (st : Stated) (flow : Flow) (well : IsWellFormed flow) 
       let front : sum_by weight passes ≡ weight pass + sum_by weight later = ap (sum_by weight) eq ∙ sum_by-cons weight pass later in
       let cost : cost_of edge_shape (e ∷ walk) ≡ e.cost + cost_of edge_shape walk = sum_by-cons (λ (x : Edge). x.cost) e walk in
       omega (arith, front, cost, here, rest)
-
-one_fits : (b : Bool) (ticks cost : ℕ) → 0 < cost → ticks ≤ cost → cond b 1 0 ≤ cost
-one_fits true ticks cost some most = omega (arith, some)
-one_fits false ticks cost some most = omega arith
-
-ticks_fit : (b : Bool) (ticks cost : ℕ) → 0 < cost → ticks ≤ cost → cond b ticks 0 ≤ cost
-ticks_fit true ticks cost some most = most
-ticks_fit false ticks cost some most = omega arith
 
 -- ## The walk
 
@@ -119,9 +111,9 @@ table_exact source words st flow tree longest s inputs walk passes text well law
     at a = same_compared (capped_at flow passes (unfolded longest.walk) a) (compared_at flow passes (unfolded longest.walk) a)
         (same_numbers _ (run_at flow passes a)
         (capped_is (run_at flow passes a).passes
-        (small (λ p. cond (is_at a (place_at flow.places p.place)) 1 0) (λ p cost some ticks. one_fits (is_at a (place_at flow.places p.place)) p.ticks cost some ticks)))
+        (small (λ p. cond (is_at a (place_at flow.places p.place)) 1 0) (λ p cost some ticks. cond_within (is_at a (place_at flow.places p.place)) 1 cost some)))
         (capped_is (run_at flow passes a).ticks
-        (small (λ p. cond (is_at a (place_at flow.places p.place)) p.ticks 0) (λ p cost some ticks. ticks_fit (is_at a (place_at flow.places p.place)) p.ticks cost some ticks))))
+        (small (λ p. cond (is_at a (place_at flow.places p.place)) p.ticks 0) (λ p cost some ticks. cond_within (is_at a (place_at flow.places p.place)) p.ticks cost ticks))))
         (same_numbers _ (walk_at (unfolded longest.walk) a) (passes_exact flow well tree longest is a) (ticks_exact flow well tree longest is a))
 
     same : capped_at flow passes (unfolded longest.walk) ≡ compared_at flow passes (unfolded longest.walk)

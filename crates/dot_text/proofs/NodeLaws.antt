@@ -17,24 +17,18 @@ use Rattle.numbered_walks.specs.Index.{edge_at}
 use Rattle.dot_text.specs.Nodes.{HasNode, HoldEachOnce, LeadToNodes, numbers_in}
 use Rattle.dot_text.specs.Stretches.{arrivals, between, end_edge, first_edge, first_of, goes_on, leads_on, stays_inside}
 use Rattle.dot_text.proofs.StretchLaws.{first_kept, first_kept_suc, first_next_suc}
+use Rattle.walk_counts.proofs.SumLemmas.{range_push}
 
 -- ## Ranges
 
--- a range and one number more
-range_more : (a n : ℕ) → range_with_len a (suc n) ≡ range_with_len a n ++ (a + n) ∷ []
-range_more a zero = ap (λ k. k ∷ []) (omega arith)
-range_more a (suc n) =
-    let is : a + 1 + n ≡ a + suc n = omega arith in
-    ap (λ ks. a ∷ ks) (range_more (a + 1) n ∙ ap (λ k. range_with_len (a + 1) n ++ k ∷ []) is)
-
 pub first_more : (n : ℕ) → range_with_len 0 (suc n) ≡ range_with_len 0 n ++ n ∷ []
-first_more n = let is : 0 + n ≡ n = omega arith in range_more 0 n ∙ ap (λ k. range_with_len 0 n ++ k ∷ []) is
+first_more n = let is : 0 + n ≡ n = omega arith in range_push n 0 ∙ ap (λ k. range_with_len 0 n ++ k ∷ []) is
 
 pub between_last : (a n : ℕ) → a ≤ n → between a (n + 1) ≡ between a n ++ n ∷ []
 between_last a n le =
     let one : n + 1 - a ≡ suc (n - a) = omega arith in
     let is : a + (n - a) ≡ n = omega arith in
-    ap (range_with_len a) one ∙ range_more a (n - a) ∙ ap (λ k. between a n ++ k ∷ []) is
+    ap (range_with_len a) one ∙ range_push (n - a) a ∙ ap (λ k. between a n ++ k ∷ []) is
 
 pub between_self : (a : ℕ) → between a a ≡ []
 between_self a = let is : a - a ≡ 0 = omega arith in ap (range_with_len a) is

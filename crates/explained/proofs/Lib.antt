@@ -1,5 +1,5 @@
 mod AnyLaws
-mod AssumedLaws
+pub mod AssumedLaws
 mod BurstLaws
 mod ColumnLaws
 mod IdleLaws

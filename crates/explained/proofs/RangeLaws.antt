@@ -8,10 +8,7 @@ use Rattle.std.proofs.lemmas.List.Elements.{Contains-append_cases, Contains-appe
 use Rattle.std.proofs.lemmas.List.Sums.{fold-append, sum_by-cons}
 use Rattle.explained.specs.Taken.{range_of, widened}
 use Rattle.explained.specs.declared.tally.Costs.{Costs}
-
-pub range_push : (n a : ℕ) → range_with_len a (suc n) ≡ range_with_len a n ++ (a + n) ∷ []
-range_push zero a = ap (λ k. k ∷ []) (omega arith)
-range_push (suc n) a = ap (λ ks. a ∷ ks) (range_push n (a + 1) ∙ ap (λ k. range_with_len (a + 1) n ++ k ∷ []) (omega arith))
+use Rattle.walk_counts.proofs.SumLemmas.{range_push}
 
 numbers_more : (i : ℕ) → range_with_len 0 (i + 1) ≡ range_with_len 0 i ++ i ∷ []
 numbers_more i = ap (λ n. range_with_len 0 n) (add-one i) ∙ range_push i 0 ∙ ap (λ k. range_with_len 0 i ++ k ∷ []) (omega arith)

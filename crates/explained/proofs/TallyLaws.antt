@@ -14,9 +14,9 @@ use Rattle.flow_graph.specs.Flow.{Flow, IsWellFormed}
 use Rattle.flow_graph.proofs.Firsts.{no_edge}
 use Rattle.longest_walk.specs.Built.{step_at}
 use Rattle.walk_counts.specs.Counts.{capped, occurrences}
-use Rattle.walk_counts.proofs.SumLemmas.{capped_times}
+use Rattle.walk_counts.proofs.SumLemmas.{capped_times, range_push}
 use Rattle.explained.specs.Taken.{Adds, HasAdded, Starts, cost_at, costs_from, in_all, is_at, is_reached, is_taken_from, more, nothing, pass_at, range_of, taken_by, taken_of, widened}
-use Rattle.explained.proofs.RangeLaws.{range_kept, range_left, range_push}
+use Rattle.explained.proofs.RangeLaws.{range_kept, range_left}
 use Rattle.explained.specs.declared.tally.Costs.{Costs}
 use Rattle.explained.specs.declared.tally.Taken.{Taken}
 use Rattle.explained.specs.declared.tally.Tally.{Tally}

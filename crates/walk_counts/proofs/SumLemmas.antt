@@ -33,6 +33,11 @@ count-repeated p (suc k) walk = omega (arith, sum_by-append (λ x. cond (p x) 1 
 
 -- ## Sums over numbers
 
+-- a range and one number more
+pub range_push : (n a : ℕ) → range_with_len a (suc n) ≡ range_with_len a n ++ (a + n) ∷ []
+range_push zero a = ap (λ k. k ∷ []) (omega arith)
+range_push (suc n) a = ap (λ ks. a ∷ ks) (range_push n (a + 1) ∙ ap (λ k. range_with_len (a + 1) n ++ k ∷ []) (omega arith))
+
 pub same_sums : (g h : ℕ → ℕ) (n a : ℕ) → ((k : ℕ) → a ≤ k → k < a + n → g k ≡ h k) → sum_by g (range_with_len a n) ≡ sum_by h (range_with_len a n)
 same_sums g h zero a same = refl
 same_sums g h (suc n) a same =

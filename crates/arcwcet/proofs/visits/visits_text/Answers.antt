@@ -1,13 +1,14 @@
 use Rattle.std.proofs.lemmas.Result.{IfErr-weaker}
-use Rattle.arcwcet.proofs.VisitsReportLemmas.{joined_refusal, when_small, visits_reported}
+use Rattle.arcwcet.proofs.VisitsReportLemmas.{joined_refusal, visits_reported}
 use Rattle.arcwcet.proofs.visits.visits_text.Goals as goal
+use Rattle.explained.proofs.AssumedLaws.{both_ok}
 
 pub returns-clause-report : goal.returns-clause-report
 returns-clause-report c = λ source is.
     let asked = c.args.asked in
     let first = c.in_ok-irq.irq in
     let second = c.in_ok-fiq.fiq in
-    when_small c.joined_text.result _ _ _
+    both_ok c.joined_text.result _ _ _
     (λ v e small. visits_reported source asked.irq.now asked.fiq.now c.args.profile.now first.bound second.bound first.text.items second.text.items
     (c.in_ok-irq.ensures.report source is) (c.in_ok-fiq.ensures.report source is) asked.visits v.items small e)
     c.joined_text.ensures.text c.joined_text.ensures.small
