@@ -3,13 +3,13 @@ use Rattle.std.proofs.Common.{◌≡◌, ◌≢◌, ◌∙◌, ◌≤◌, ℕ, B
 use Rattle.std.specs.Io.KnownBytes.{Consumes, IsAtEnd}
 use Rattle.std.specs.List.{cons_option}
 use Rattle.bus_ticks.specs.declared.profile.Profile.{Profile}
-use Rattle.report_output.specs.Answers.{Answers, FailsWithin, OfSome}
+use Rattle.report_output.specs.Answers.{Answers, FailsWithin, OfSome, PrintsOrRefuses}
 use Rattle.machine_reports.specs.Assembly.{IsSourceRefused}
 use Rattle.command_line.specs.Line.{Asked, FileNames, asm, list, draft, run, trace, debug, bound, explain, tight, check, explain_verdict, visits, follow, graph}
 use Rattle.report_input.specs.Placing.{IsRunRefused}
 use Rattle.report_input.specs.Priced.{ByProfile, HasNoProfile, IsUnpriced, Priced, PricedFault}
 use Rattle.arcwcet.specs.Files.{FailsToRead, ReadsAll, Reading, Texts, Writing, two_of}
-use Rattle.arcwcet.specs.Run.{ByThree, ByTwo, HasPrinted, IsSessionOf, OfThree, OfTwo, Plain, RefusesThree, RefusesTwo, Runs, RunsAsked, RunsAsm, RunsDebug, RunsOf, PrintsOrRefuses, PrintsOrRefusesOf}
+use Rattle.arcwcet.specs.Run.{ByThree, ByTwo, HasPrinted, IsSessionOf, OfThree, OfTwo, Plain, RefusesThree, RefusesTwo, Runs, RunsAsked, RunsAsm, RunsDebug, RunsOf, PrintsOrRefusesOf}
 use Rattle.arcwcet.specs.Run.{answer_status, answered, fault_of, files_of, report_status, store_status, text_of}
 use Rattle.report_output.specs.declared.fault.ReportFault.{ReportFault}
 use Rattle.report_output.specs.declared.fault.ReportFault.TheVariants.{Memory, Source, Image, Statement, Graph, Loops, Walk, MachineFile, Load, Cert, Device}
@@ -194,25 +194,29 @@ module _ {O : Type 0} (taken : O → Option (List ℕ)) (failures : O → ℕ) (
   pub answers_plain : (Is : List ℕ → Type 0) (IsFine : Type 0) (IsFault : ReportFault → Type 0) (result : Result (Unit {0}) ReportFault)
       → Answers taken failures (λ _ text. Is text) IsFine IsFault before after result → Answers taken failures (Plain Is) IsFine IsFault before after (answered result)
   answers_plain Is IsFine IsFault (Ok x) h =
-      let p = h.printed in
+      let p = h.output.printed in
       record {
-        printed = record { text = p.text; is_text = p.is_text; printed = p.printed };
+        output = record {
+          printed = record { text = p.text; is_text = p.is_text; printed = p.printed };
+          fault = tt;
+          quiet = tt;
+          device = λ e. cc e;
+        };
         accepted = h.accepted;
         only = λ a. tt;
-        fault = tt;
-        quiet = tt;
-        device = λ e. cc e;
       }
   answers_plain Is IsFine IsFault (Err fault) h = record {
-    printed = tt;
+    output = record {
+      printed = tt;
+      fault = h.output.fault;
+      quiet = h.output.quiet;
+      device = λ e.
+          let same : fault ≡ Device = cc e in
+          let f = h.output.device (ap Err same) in
+          record { text = f.text; is_text = (true, f.is_text.1); taken = f.taken; failed = f.failed };
+    };
     accepted = tt;
     only = h.only;
-    fault = h.fault;
-    quiet = h.quiet;
-    device = λ e.
-        let same : fault ≡ Device = cc e in
-        let f = h.device (ap Err same) in
-        record { text = f.text; is_text = (true, f.is_text.1); taken = f.taken; failed = f.failed };
   }
 
   pub priced_plain : (file : Option (List ℕ)) (Is : Profile → List ℕ → Type 0) (IsFine : Profile → Type 0) (IsFault : Profile → ReportFault → Type 0) (result : Result (Unit {0}) ReportFault)
@@ -231,7 +235,7 @@ module _ {O : Type 0} (taken : O → Option (List ℕ)) (failures : O → ℕ) (
         → ((x : Bool) (text : List ℕ) → IsText x text → IsTold x text) → ((fault : ReportFault) → IsFault fault → IsRefused fault)
         → (result : Result Bool ReportFault) → Answers taken failures IsText IsFine IsFault before after result → PrintsOrRefuses taken failures IsTold IsRefused before after result
     answered_answer IsText IsFine IsFault texts faults (Ok x) h =
-        let p = h.printed in
+        let p = h.output.printed in
         record {
           printed = record { text = p.text; is_text = texts x p.text p.is_text; printed = p.printed };
           fault = tt;
@@ -240,10 +244,10 @@ module _ {O : Type 0} (taken : O → Option (List ℕ)) (failures : O → ℕ) (
         }
     answered_answer IsText IsFine IsFault texts faults (Err fault) h = record {
       printed = tt;
-      fault = faults fault h.fault;
-      quiet = h.quiet;
+      fault = faults fault h.output.fault;
+      quiet = h.output.quiet;
       device = λ e.
-          let f = h.device e in
+          let f = h.output.device e in
           record { text = f.text; is_text = (f.is_text.0, texts f.is_text.0 f.text f.is_text.1); taken = f.taken; failed = f.failed };
     }
 

@@ -1,8 +1,8 @@
 -- What a run of the program does, by its exit status.
 use Rattle.std.specs.Prelude.{◌≡◌, ◌≢◌, ◌⊎◌, ◌≤◌, ℕ, Bool, true, false, if◌then◌else◌, List, [], ◌∷◌, length}
-use Rattle.std.specs.Prelude.{Option, Some, None, Result, Ok, Err, IfOk, IfErr}
+use Rattle.std.specs.Prelude.{Option, Some, None, Result, Ok, Err}
 use Rattle.std.specs.Io.KnownBytes.{Appends, Consumes, IsAtEnd}
-use Rattle.report_output.specs.Answers.{FailsWithin, OfSome, Prints}
+use Rattle.report_output.specs.Answers.{FailsWithin, OfSome, Prints, PrintsOrRefuses}
 use Rattle.machine_reports.specs.Assembly.{IsAsmReport, IsSourceRefused, IsWritten}
 use Rattle.bound_reports.specs.Check.{IsAnswer, IsCheckRefused}
 use Rattle.bound_reports.specs.Verdict.{IsVerdictReport}
@@ -213,16 +213,6 @@ fault_of (follow n machine) files fault = RefusesThree IsFollowRefused files fau
 abbrev pub answered : Result (Unit {0}) ReportFault → Result Bool ReportFault
 answered (Ok _) = Ok true
 answered (Err fault) = Err fault
-
--- the report is printed, or refused, with the output before it and after it
-pub record PrintsOrRefuses {O : Type 0} (taken : O → Option (List ℕ)) (failures : O → ℕ)
-    (IsText : Bool → List ℕ → Type 0) (IsFault : ReportFault → Type 0) (before after : O)
-    (result : Result Bool ReportFault) : Type 0 where
-  pub printed : IfOk result (λ answer. Prints (IsText answer) (taken before) (taken after))
-  pub fault : IfErr result IsFault
-  pub quiet : IfErr result (λ e. e ≢ report_fault.Device → after ≡ before)
-  pub device : result ≡ Err report_fault.Device
-      → FailsWithin (OfSome IsText) (taken before) (taken after) (failures before) (failures after)
 
 -- what that of a command answers, by its files' bytes
 abbrev pub PrintsOrRefusesOf : {O : Type 0} → (O → Option (List ℕ)) → (O → ℕ) → Asked → Texts

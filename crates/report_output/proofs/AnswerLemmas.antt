@@ -15,12 +15,14 @@ module _ {O T : Type 0} (taken : O → Option (List ℕ)) (failures : O → ℕ)
   -- before anything was written
   pub ends_refused : (old : O) (e : ReportFault) → (e ≢ Device) × IsFault e → (IsFine → e ≡ Memory) → Ends old old (Err e)
   ends_refused old e h only = record {
-    printed = tt;
+    output = record {
+      printed = tt;
+      fault = h.1;
+      quiet = λ other. refl;
+      device = λ d. absurd (h.0 (cc d));
+    };
     accepted = tt;
     only = λ a. inl (only a);
-    fault = h.1;
-    quiet = λ other. refl;
-    device = λ d. absurd (h.0 (cc d));
   }
 
   -- by a `?` before anything was written
@@ -30,34 +32,40 @@ module _ {O T : Type 0} (taken : O → Option (List ℕ)) (failures : O → ℕ)
   ends_early old (Err x) e is h only =
       let holds : (x ≢ Device) × IsFault x = subst (λ (f : ReportFault). (f ≢ Device) × IsFault f) (sym is) h in
       record {
-        printed = tt;
+        output = record {
+          printed = tt;
+          fault = holds.1;
+          quiet = λ other. refl;
+          device = λ d. absurd (holds.0 (cc d));
+        };
         accepted = tt;
         only = only holds;
-        fault = holds.1;
-        quiet = λ other. refl;
-        device = λ d. absurd (holds.0 (cc d));
       }
 
   -- once all was written
   pub ends_told : (old new : O) (x : T) (text : List ℕ) → IsText x text → IsFine → Appends (taken old) (taken new) text → Ends old new (Ok x)
   ends_told old new x text is fine printed = record {
-    printed = record { text = text; is_text = is; printed = printed };
+    output = record {
+      printed = record { text = text; is_text = is; printed = printed };
+      fault = tt;
+      quiet = tt;
+      device = λ d. cc d;
+    };
     accepted = fine;
     only = λ a. tt;
-    fault = tt;
-    quiet = tt;
-    device = λ d. cc d;
   }
 
   -- within the text
   pub ends_failed : (old new : O) (x : T) (text : List ℕ) → IsText x text → IsFault Device → TakesFront (taken old) (taken new) text → FailsSince (failures old) (failures new) → Ends old new (Err Device)
   ends_failed old new x text is fails front failed = record {
-    printed = tt;
+    output = record {
+      printed = tt;
+      fault = fails;
+      quiet = λ other. absurd (other refl);
+      device = λ d. record { text = text; is_text = (x, is); taken = front; failed = failed };
+    };
     accepted = tt;
     only = λ a. inr refl;
-    fault = fails;
-    quiet = λ other. absurd (other refl);
-    device = λ d. record { text = text; is_text = (x, is); taken = front; failed = failed };
   }
 
   -- by what the output answered

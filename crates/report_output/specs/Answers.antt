@@ -23,16 +23,22 @@ pub record FailsWithin (IsText : List ℕ → Type 0) (old new : Option (List �
 abbrev pub OfSome : {T : Type 0} → (T → List ℕ → Type 0) → List ℕ → Type 0
 OfSome {T} IsText text = (x : T) × IsText x text
 
--- the answer to what a call gets, with the output before it and after it: Ok only with a text of that
--- answer, for what is accepted; for what is accepted no refusal but Memory and Device; each refusal where it
--- holds; and nothing written before a refusal other than Device
-pub record Answers {O T : Type 0} (taken : O → Option (List ℕ)) (failures : O → ℕ)
-    (IsText : T → List ℕ → Type 0) (IsFine : Type 0) (IsFault : ReportFault → Type 0)
+-- one text of the answer is printed, or refused, with the output before it and after it: each refusal where it
+-- holds, and nothing written before a refusal other than Device
+pub record PrintsOrRefuses {O T : Type 0} (taken : O → Option (List ℕ)) (failures : O → ℕ)
+    (IsText : T → List ℕ → Type 0) (IsFault : ReportFault → Type 0)
     (old new : O) (result : Result T ReportFault) : Type 0 where
   pub printed : IfOk result (λ x. Prints (IsText x) (taken old) (taken new))
-  pub accepted : OnOk result IsFine
-  pub only : IsFine → IfErr result (λ e. (e ≡ Memory) ⊎ (e ≡ Device))
   pub fault : IfErr result IsFault
   pub quiet : IfErr result (λ e. e ≢ Device → new ≡ old)
   pub device : result ≡ Err Device
       → FailsWithin (OfSome IsText) (taken old) (taken new) (failures old) (failures new)
+
+-- what a call does with what it gets: it prints or refuses it, Ok only for what is accepted, and for that with
+-- no refusal but Memory and Device
+pub record Answers {O T : Type 0} (taken : O → Option (List ℕ)) (failures : O → ℕ)
+    (IsText : T → List ℕ → Type 0) (IsFine : Type 0) (IsFault : ReportFault → Type 0)
+    (old new : O) (result : Result T ReportFault) : Type 0 where
+  pub output : PrintsOrRefuses taken failures IsText IsFault old new result
+  pub accepted : OnOk result IsFine
+  pub only : IsFine → IfErr result (λ e. (e ≡ Memory) ⊎ (e ≡ Device))
