@@ -13,7 +13,7 @@ use Rattle.asm_text.specs.Said.{Said, Orgs}
 use Rattle.asm_text.specs.Spelling.{Spells}
 use Rattle.asm_text.specs.Statements.{Parsed, line_of}
 use Rattle.asm_text.specs.declared.statement.TextFault.{TextFault}
-use Rattle.asm_text.proofs.WordLaws.{same_Ok}
+use Rattle.asm_text.proofs.WordLaws.{all_join, same_Ok}
 use Rattle.assembler.specs.Assembles.{Laid, Once, address_after, is_open, label_at, labels_of, laid, addresses_from, segments, word_count}
 use Rattle.assembler.specs.Refusals.{ArePassed, HasFault, IsLowest, IsUnreadable, IsWrong, address_of_next, asked}
 use Rattle.loader.specs.Labels.{Names}
@@ -32,11 +32,6 @@ use Rattle.assembler.proofs.RefusePlaces.{Fine, fine}
 use Rattle.assembler.proofs.RefuseText.{fault_in_reading}
 
 -- ---- lists
-
-all_join : {A : Type 0} (P : A → Type 0) (xs ys : List A) → AllByRecursion P xs → AllByRecursion P ys
-    → AllByRecursion P (xs ++ ys)
-all_join P [] ys h k = k
-all_join P (x ∷ xs) ys h k = (h.0, all_join P xs ys h.1 k)
 
 once_join : (xs ys : List ℕ) → Once xs → Once ys → Apart xs ys → Once (xs ++ ys)
 unfolding Apart In

@@ -19,11 +19,12 @@ use Rattle.kept_runs.specs.Passing.{IsTally, Pass, passed_at}
 use Rattle.kept_runs.specs.declared.tally.Passed.{Passed}
 use Rattle.loader.specs.Image.{Words}
 use Rattle.walk_counts.specs.Counts.{capped}
-use Rattle.walk_counts.proofs.SumLemmas.{picked, range_push, same_sums, sum_both, sum_none}
+use Rattle.walk_counts.proofs.SumLemmas.{picked, range_push, same_sums, sum_none}
 use Rattle.author_reports.specs.declared.differences.Compared.{Compared}
 use Rattle.author_reports.specs.declared.differences.Numbers.{Numbers}
 use Rattle.author_reports.specs.declared.differences.RunTally.{RunTally}
 use Rattle.author_reports.specs.Differences.{Adds, HasAdded, IsRowIfApart, IsTable, agree, compared_in, compared_text, capped_run, in_all, numbers_of, tallied, capped_at, with_place}
+use Rattle.walks.proofs.SumLe.{sum_by-both}
 
 -- ## Sums over places
 
@@ -52,7 +53,7 @@ by_places at weight n (p ∷ passes) inside =
     (λ k low high.
     ap (λ s. cond (at k) s 0) (sum_by-cons (λ q. cond (eqb q.place k) (weight q) 0) p passes)
     ∙ split_term (at k) (eqb p.place k) (weight p) (sum_by (λ q. cond (eqb q.place k) (weight q) 0) passes)) in
-    split ∙ sum_both own others (range_with_len 0 n)
+    split ∙ sum_by-both own others (range_with_len 0 n)
     ∙ (λ i. picked p.place (λ k. cond (at k) (weight p) 0) n 0 (omega arith) (omega (arith, here)) i + rest i)
     ∙ sym (sum_by-cons (λ q. cond (at q.place) (weight q) 0) p passes)
 

@@ -3,6 +3,7 @@ use Rattle.std.proofs.Common.{◌≡◌, ◌≢◌, ◌∙◌, Bool, true, false
 use Rattle.std.specs.List.{AllByRecursion, cons_option, last_or}
 use Rattle.std.specs.Cmp.Lexicographic.{bytes_decides, pointwise}
 use Rattle.std.proofs.lemmas.List.Elements.{All-from_recursion}
+use Rattle.asm_text.proofs.WordLaws.{all_join}
 use Rattle.bus_ticks.specs.Numbers.{profile_one}
 use Rattle.bus_ticks.specs.Ranges.{IsPrice}
 use Rattle.longest_walk.specs.declared.rows.PlaceRow.{PlaceRow}
@@ -19,7 +20,6 @@ use Rattle.certificate.specs.Walk.{Nest, follow_all, outside}
 use Rattle.certificate.specs.Words.{InstanceFits, IsProfile, LineFits, PlaceFits, WalkFits}
 use Rattle.certificate.proofs.FollowLaws.{ascends_from_sorted, at, places_follow, sorted_from_ascends, tail_follows, walk_follows}
 use Rattle.certificate.proofs.ParseLaws.{Ends, Walked, not_done, walked_in}
-use Rattle.certificate.proofs.WalkLaws.{all_append}
 
 -- ## The first profile
 
@@ -143,10 +143,10 @@ head_fits numbers profile = by (is_one numbers) refl
 
 pub cert_fits : (said : Said) → CanSpell said → AllByRecursion LineFits (cert_lines said)
 cert_fits said spelled =
-    all_append LineFits (head_lines said.numbers) _ (head_fits said.numbers spelled.profile) (
+    all_join LineFits (head_lines said.numbers) _ (head_fits said.numbers spelled.profile) (
       spelled.bound,
-      all_append LineFits (map l.Walk said.walk) _ (walk_fit said.walk spelled.steps)
-          (tt, all_append LineFits (map l.Place said.places) _ (places_fit said.places spelled.places) (all_append LineFits (map l.Instance said.instances) _ (instances_fit said.instances spelled.instances) (tt, tt))),
+      all_join LineFits (map l.Walk said.walk) _ (walk_fit said.walk spelled.steps)
+          (tt, all_join LineFits (map l.Place said.places) _ (places_fit said.places spelled.places) (all_join LineFits (map l.Instance said.instances) _ (instances_fit said.instances spelled.instances) (tt, tt))),
     )
 
 -- ## One certificate for some lines

@@ -2,6 +2,7 @@
 use Rattle.std.proofs.Common.{◌≡◌, ◌≢◌, ◌∙◌, true, ℕ, zero, suc, List, [], ◌∷◌, ◌++◌, Some, None, Result, Ok, Err, IfOk, IsErrOf, map, take, get_or, refl, sym, ap, subst, arith}
 use Rattle.std.specs.List.{AllByRecursion}
 use Rattle.std.proofs.lemmas.List.Elements.{All-from_recursion}
+use Rattle.asm_text.proofs.WordLaws.{all_join}
 use Rattle.bus_ticks.specs.Numbers.{profile_one}
 use Rattle.bus_ticks.specs.Ranges.{IsPrice}
 use Rattle.flow_graph.specs.declared.edges.Label.TheVariants.{Do}
@@ -26,7 +27,6 @@ use Rattle.certificate.proofs.CertLaws.{cert_fits, cert_follows, one_said, spell
 use Rattle.certificate.proofs.FollowLaws.{at, follow-none, follow-on, walk_follows}
 use Rattle.certificate.proofs.ParseLaws.{Ends, stops}
 use Rattle.certificate.proofs.TextLaws.{begins, next_line, no_line, one_text}
-use Rattle.certificate.proofs.WalkLaws.{all_append}
 
 -- ## Lines that end a certificate, from anywhere before its last
 
@@ -99,7 +99,7 @@ all_after (x ∷ xs) ys f = all_after xs ys f.1
 are_first : (lines : List Line) (to : Reached) → Follow lines to → to.stage ≢ s.Done → AreFirst lines
 are_first lines to follow going =
     let c = complete_at to.stage to.nest going in
-    let whole = spelled_by (lines ++ c.next ∷ c.more) (all_append LineFits lines (c.next ∷ c.more) follow.fit c.fit) (c.ends.0, follow-on follows start to lines (c.next ∷ c.more) follow.reached ∙ c.ends.1, c.ends.2) in
+    let whole = spelled_by (lines ++ c.next ∷ c.more) (all_join LineFits lines (c.next ∷ c.more) follow.fit c.fit) (c.ends.0, follow-on follows start to lines (c.next ∷ c.more) follow.reached ∙ c.ends.1, c.ends.2) in
     record { said = whole.said; spelled = whole.spelled; next = c.next; more = c.more; lines_are = sym whole.lines_are }
 
 -- ## Each fault

@@ -1,6 +1,7 @@
 -- What a walk that is opened says of its lines.
 use Rattle.std.proofs.Common.{◌≡◌, ◌≢◌, ◌∙◌, ◌+◌, ◌<◌, ◌≤◌, ◌^◌, Bool, true, false, ℕ, zero, suc, List, [], ◌∷◌, ◌++◌, Some, None, option_and_then, map-id, map, take, nat_lt, inl, inr, refl, sym, ap, subst, arith, length, get_or, lt-ltb, if◌then◌else◌}
 use Rattle.std.specs.List.{AllByRecursion, find, repeat}
+use Rattle.asm_text.proofs.WordLaws.{all_join}
 use Rattle.flow_graph.specs.declared.edges.Edge.{Edge}
 use Rattle.longest_walk.specs.Folded.{Opened, deepest, joined, open_item, open_step, turned, unfolded}
 use Rattle.longest_walk.specs.declared.folded.Item.{Item}
@@ -38,7 +39,6 @@ use Rattle.longest_walk.specs.declared.rows.PlaceRow.{PlaceRow}
 use Rattle.certificate.specs.Lines.{CanSpell, said_of}
 use Rattle.certificate.proofs.FollowLaws.{follow-on}
 use Rattle.certificate.proofs.LeastLaws.{AreBelow, all_found, are_below, capped, capped_holds, finds}
-use Rattle.certificate.proofs.WalkLaws.{all_append}
 use Rattle.numbered_walks.proofs.Members.{no_span}
 
 -- bodies have edges, and counts are in range
@@ -92,7 +92,7 @@ module _ {Y : Type 0} (item : Y → Item) (good : (y : Y) → Good (item y)) whe
   row_fits : (ys : List Y) → IsSound (joined (map open_item (map item ys))) → AllByRecursion FineEdge (joined (map open_item (map item ys))).walk → AllByRecursion WalkFits (walk_lines (map item ys))
   row_fits [] s f = tt
   row_fits (y ∷ ys) s f =
-      all_append WalkFits (item_lines (item y)) (walk_lines (map item ys)) ((good y (sound_head y ys s)).fits (all_left FineEdge (open_item (item y)).walk _ f))
+      all_join WalkFits (item_lines (item y)) (walk_lines (map item ys)) ((good y (sound_head y ys s)).fits (all_left FineEdge (open_item (item y)).walk _ f))
       (row_fits ys (sound_tail y ys s) (all_right FineEdge (open_item (item y)).walk _ f))
 
   -- a repeat of them
@@ -107,7 +107,7 @@ module _ {Y : Type 0} (item : Y → Item) (good : (y : Y) → Good (item y)) whe
             let room : nat_lt depth 16 ≡ true = lt-ltb depth 16 (omega arith) in
             ap (λ (b : Bool). option_and_then (λ t. follow_all nest_after t (lines ++ w.End ∷ [])) (if b then Some (nest (suc depth) false) else None)) room
             ∙ follow-on nest_after (nest (suc depth) false) (nest (suc depth) true) lines (w.End ∷ []) (row_nests (y ∷ ys) inner (suc depth) false (omega arith));
-        fits = λ f. (s.counts.0, all_append WalkFits lines (w.End ∷ []) (row_fits (y ∷ ys) inner (once k o.walk s.counts.0.0 f)) (tt, tt));
+        fits = λ f. (s.counts.0, all_join WalkFits lines (w.End ∷ []) (row_fits (y ∷ ys) inner (once k o.walk s.counts.0.0 f)) (tt, tt));
       }
     where
       once : (n : ℕ) (xs : List Edge) → 0 < n → AllByRecursion FineEdge (repeat n xs) → AllByRecursion FineEdge xs

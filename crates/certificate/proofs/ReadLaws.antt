@@ -2,6 +2,7 @@
 use Rattle.std.proofs.Common.{◌≡◌, ◌≢◌, ◌∙◌, ℕ, ◌+◌, List, [], ◌∷◌, ◌++◌, Option, Some, None, length, sym, ap, subst, append_assoc, length-append}
 use Rattle.std.proofs.lemmas.List.{flat_map_more}
 use Rattle.std.specs.Str.Iter.{LacksByte}
+use Rattle.asm_text.proofs.WordLaws.{all_join}
 use Rattle.certificate.specs.declared.draft.Stage.{Stage}
 use Rattle.certificate.specs.declared.draft.Stage.TheVariants as s
 use Rattle.certificate.specs.declared.line.WalkLine.{WalkLine}
@@ -14,7 +15,6 @@ use Rattle.certificate.specs.Words.{LineFits, ended, line_words, text_of}
 use Rattle.certificate.proofs.FollowLaws.{follow-end}
 use Rattle.certificate.proofs.ParseLaws.{not_done}
 use Rattle.certificate.proofs.TextLaws.{one_line}
-use Rattle.certificate.proofs.WalkLaws.{all_append}
 
 -- a line that is cut off
 pub cut_off : (text : List ℕ) (lines : List Line) (rest words after : List ℕ) → text ≡ text_of lines ++ rest → rest ≡ words ++ 10 ∷ after → text ≡ text_of lines ++ (ended words ++ after)
@@ -34,7 +34,7 @@ front_grows text lines longer to next rest words after x e follow cut is fits go
     cut_off text lines rest words after e cut ∙ ap (λ (t : List ℕ). text_of lines ++ (ended t ++ after)) is
     ∙ sym (append_assoc (text_of lines) (ended (line_words x)) after) ∙ ap (λ (t : List ℕ). t ++ after) (flat_map_more (λ y. ended (line_words y)) [] lines x) in
     let grown : Front text (lines ++ x ∷ []) next after = record {
-      follow = record { fit = all_append LineFits lines (x ∷ []) follow.fit (fits, tt); reached = follow-end follows start to next lines x follow.reached goes };
+      follow = record { fit = all_join LineFits lines (x ∷ []) follow.fit (fits, tt); reached = follow-end follows start to next lines x follow.reached goes };
       text_is = text_is;
       count = length lines + 1;
       count_is = sym (length-append lines (x ∷ []));

@@ -3,7 +3,8 @@ use Rattle.std.proofs.Common.{◌≡◌, ◌∙◌, ℕ, ◌+◌, ◌*◌, min, 
 use Rattle.std.specs.Prelude.{All, count_by, sum_by}
 use Rattle.std.proofs.lemmas.List.Elements.{All-head, All-tail}
 use Rattle.std.proofs.lemmas.List.Sums.{sum_by-append, sum_by-cons}
-use Rattle.walk_counts.proofs.SumLemmas.{sum_both, sum_none}
+use Rattle.walk_counts.proofs.SumLemmas.{sum_none}
+use Rattle.walks.proofs.SumLe.{sum_by-both}
 
 pub capped_sums : {X : Type 0} (m : ℕ) (f : X → ℕ) (xs : List X) → min (sum_by (λ x. min (f x) m) xs) m ≡ min (sum_by f xs) m
 capped_sums m f [] = refl
@@ -25,7 +26,7 @@ pub exchanged : {A E : Type 0} (f : A → E → ℕ) (rows : List A) (es : List 
 exchanged f [] es = sym (sum_none es)
 exchanged {A} {E} f (a ∷ rows) es =
     sum_by-cons (λ x. sum_by (f x) es) a rows ∙ ap (λ n. sum_by (f a) es + n) (exchanged f rows es)
-    ∙ sym (sum_both (f a) (λ e. sum_by (λ x. f x e) rows) es)
+    ∙ sym (sum_by-both (f a) (λ e. sum_by (λ x. f x e) rows) es)
     ∙ (λ i. sum_by (λ (e : E). sym (sum_by-cons (λ x. f x e) a rows) i) es)
 
 pub counted_sum : {X : Type 0} (p : X → Bool) (cost : ℕ) (xs : List X) → sum_by (λ x. cond (p x) cost 0) xs ≡ count_by p xs * cost

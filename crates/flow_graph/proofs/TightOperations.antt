@@ -3,6 +3,7 @@ use Rattle.std.proofs.Common.{◌≡◌, ℕ, ◌<◌, ◌==◌, ◌&&◌, ◌||
 use Rattle.std.proofs.Common.{count_ones, refl, sym, ap, subst, ◌∙◌, arith}
 use Rattle.std.specs.Prelude.{Contains}
 use Rattle.std.proofs.lemmas.Bool.{and_parts, cond-false, false≢true}
+use Rattle.arm2_transfer.specs.Bases.{words_in}
 use Rattle.bus_ticks.specs.Dearest.{AreDearest}
 use Rattle.bus_ticks.specs.declared.profile.Profile.{Profile}
 use Rattle.bus_ticks.specs.Prices.{word_address}
@@ -27,7 +28,7 @@ use Rattle.arm2_transfer.specs.Bus.{made_of, seen}
 use Rattle.arm2_transfer.specs.Operations.{operation_moved}
 use Rattle.arm2_transfer.specs.Registers.{is_user}
 use Rattle.arm2_transfer.specs.Single.{address_for, has_user_rights, of_immediate, single_at}
-use Rattle.arm2_transfer.specs.Words.{is_listed, registers_in}
+use Rattle.arm2_transfer.specs.Words.{is_listed}
 use Rattle.arm2_transfer.proofs.Listed.{words_are}
 use Rattle.arm2_exec.specs.State.{State}
 use Rattle.arm2_exec.specs.Step.{with_lines}
@@ -124,14 +125,11 @@ module _ (st : Stated) (profile : Profile) (address : ℕ) (to : Place) (s : Sta
         MovedPays setting (writer_if (x.load && last)) (transfer x.load words)
         (block_moved x i.port s.regs (with_lines i.lines.0 s.bus))
 
-    abbrev words_of : Block → ℕ
-    words_of x = length (registers_in x.list)
-
-    block_set : (x : Block) → BlockSet x (mode setting) (is_listed x.list R15) (words_of x)
-        → BlockDone x (is_listed x.list R15) (words_of x)
+    block_set : (x : Block) → BlockSet x (mode setting) (is_listed x.list R15) (words_in x)
+        → BlockDone x (is_listed x.list R15) (words_in x)
     unfolding block_moved
     block_set x h =
-        let span : Span = span_of x (register_in (mode setting) (register_number x.rn) s.regs) (words_of x) in
+        let span : Span = span_of x (register_in (mode setting) (register_number x.rn) s.regs) (words_in x) in
         let privileged : (j : ℕ)
         → located s.bus.memc (word_address span.lowest j) (is_user (mode setting)) (not x.load)
         ≡ located s.bus.memc (word_address span.lowest j) false (not x.load) =
@@ -142,7 +140,7 @@ module _ (st : Stated) (profile : Profile) (address : ℕ) (to : Place) (s : Sta
     block_done : (x : Block) → BlockSet x Svc (lists_pc x.list) (count_ones x.list)
         → OperationPays (operation.Block x)
     block_done x =
-        let all = words_of x in
+        let all = words_in x in
         let last = is_listed x.list R15 in
         subst (λ n. BlockSet x Svc (lists_pc x.list) n → BlockDone x (lists_pc x.list) n)
         (words_are x.list x.list_fits)

@@ -100,9 +100,6 @@ number_same false m n m' n' one two = two
 number-place : (tree : List Span) (q v : ℕ) (c new : Tables) → IsPlaceWritten tree q v c new → (p : ℕ) → p ≢ q → number_of tree new p ≡ number_of tree c p
 number-place tree q v c new w p other = number_same (is_header_in tree p) (slice_index new.arrivals.items p) (slice_index new.distances.items p) (slice_index c.arrivals.items p) (slice_index c.distances.items p) (w.arrivals p other) (w.distances p other)
 
-none_contains : {X : Type 0} (x : X) → Contains [] x → ⊥
-none_contains x at = absurd (omega (arith, at.1))
-
 pub place_step : (exit : ℕ) (edges : List NumberedEdge) (tree : List Span) (k q v : ℕ) (c new : Tables) (into : List NumberedEdge) → AllEntered edges (exit + 1) → q < (exit + 1) → ((e : NumberedEdge) → Contains into e ↔ (Contains edges e × (e.to ≡ q) × (e.from < q))) → IsHeaviest tree c into v → IsPlaceWritten tree q v c new → IsPassed edges tree k q c → IsPassed edges tree k (q + 1) new
 place_step exit edges tree k q v c new into entered below in_list heavy w pass = record {
   closed = λ n small. omega (arith, pass.closed n small);
@@ -133,7 +130,8 @@ place_step exit edges tree k q v c new into entered below in_list heavy w pass =
       (λ first. inl (first, w.here ∙ none.0))
       (λ later.
       let by = entered q (omega arith) below in
-      absurd (none_contains by.0 (subst (λ (xs : List NumberedEdge). Contains xs by.0) none.1 ((in_list by.0).1 (by.1, by.2, by.3)))))
+      let has : Contains [] by.0 = subst (λ (xs : List NumberedEdge). Contains xs by.0) none.1 ((in_list by.0).1 (by.1, by.2, by.3)) in
+      absurd (omega (arith, has.1)))
       (cases_eq q 0))
       (λ by.
       let at = (in_list by.0).0 by.1 in

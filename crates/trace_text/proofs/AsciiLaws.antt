@@ -1,5 +1,5 @@
 -- Words and their lines are ASCII.
-use Rattle.std.proofs.Common.{◌≡◌, ◌∙◌, ℕ, zero, suc, ◌<◌, ◌≤◌, true, ◌&&◌, nat_lt, List, []}
+use Rattle.std.proofs.Common.{◌≡◌, ◌∙◌, ℕ, zero, suc, ◌<◌, ◌≤◌, Bool, true, ◌&&◌, nat_lt, List, []}
 use Rattle.std.proofs.Common.{◌∷◌, length, inl, inr, refl, sym, ap, arith}
 use Rattle.std.specs.Prelude.{slice_index}
 use Rattle.std.specs.List.{list_all}
@@ -7,13 +7,15 @@ use Rattle.std.specs.Str.{IsUtf8}
 use Rattle.std.proofs.lemmas.Bool.{and_parts, cases_Bool, false≢true}
 use Rattle.std.proofs.lemmas.Bool.Decides.{nat_tests}
 use Rattle.std.proofs.lemmas.Str.{IsUtf8-from_ascii}
-use Rattle.std.specs.Char.{is_ascii}
 use Rattle.asm_text.specs.Hex.{hex8, hex_digit}
 use Rattle.asm_text.specs.Shown.{is_shown, is_upper}
 use Rattle.asm_text.proofs.HexLaws.{all_digits}
 use Rattle.assembler.specs.Shown.{hex_line}
 use Rattle.assembler.specs.ShownLines.{IsShown}
 use Rattle.assembler.proofs.ByteLaws.{spelling_shown}
+
+is_ascii : ℕ → Bool
+is_ascii b = nat_lt b 128
 
 shown_ascii : (b : ℕ) → is_shown b ≡ true → is_ascii b ≡ true
 unfolding is_ascii

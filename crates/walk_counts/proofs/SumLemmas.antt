@@ -5,6 +5,7 @@ use Rattle.std.specs.List.{range_with_len, repeat}
 use Rattle.std.proofs.lemmas.Bool.{cases_lt, eq-eqb, ne_eqb}
 use Rattle.std.proofs.lemmas.List.Elements.{All-head, All-tail}
 use Rattle.std.proofs.lemmas.List.Sums.{sum_by-cons, sum_by-append}
+use Rattle.walks.proofs.SumLe.{sum_by-both}
 
 -- ## With a greatest number
 
@@ -45,10 +46,6 @@ same_sums g h (suc n) a same =
     let rest : sum_by g (range_with_len (a + 1) n) ≡ sum_by h (range_with_len (a + 1) n) = same_sums g h n (a + 1) (λ k low high. same k (omega arith) (omega arith)) in
     omega (arith, sum_by-cons g a (range_with_len (a + 1) n), sum_by-cons h a (range_with_len (a + 1) n))
 
-pub sum_both : {X : Type 0} (g h : X → ℕ) (xs : List X) → sum_by (λ k. g k + h k) xs ≡ sum_by g xs + sum_by h xs
-sum_both g h [] = refl
-sum_both g h (x ∷ xs) = omega (arith, sum_by-cons (λ k. g k + h k) x xs, sum_by-cons g x xs, sum_by-cons h x xs, sum_both g h xs)
-
 pub sum_none : {X : Type 0} (xs : List X) → sum_by (λ (x : X). 0) xs ≡ 0
 sum_none [] = refl
 sum_none {X} (x ∷ xs) = omega (arith, sum_by-cons (λ (y : X). 0) x xs, sum_none xs)
@@ -87,5 +84,5 @@ sums_by_number {E} number f value n (e ∷ walk) all =
     let split : sum_by (λ k. count_by (λ x. eqb (number x) k) (e ∷ walk) * value k) (range_with_len 0 n) ≡ sum_by (λ k. first k + others k) (range_with_len 0 n) =
     same_sums (λ k. count_by (λ x. eqb (number x) k) (e ∷ walk) * value k) (λ k. first k + others k) n 0
     (λ k low high. ap (λ c. c * value k) (sum_by-cons (λ x. cond (eqb (number x) k) 1 0) e walk) ∙ omega arith) in
-    split ∙ sum_both first others (range_with_len 0 n)
+    split ∙ sum_by-both first others (range_with_len 0 n)
     ∙ (λ i. picked (number e) value n 0 (omega arith) (omega arith) i + rest i) ∙ ap (λ v. v + sum_by f walk) own ∙ sym (sum_by-cons f e walk)

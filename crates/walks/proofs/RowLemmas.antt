@@ -6,7 +6,7 @@ use Rattle.std.proofs.lemmas.Bool.{true≢false, false≢true, ne_eqb}
 use Rattle.std.proofs.lemmas.List.Sums.{sum_by-le}
 use Rattle.std.proofs.lemmas.List.Elements.{Contains-get_or}
 use Rattle.walks.specs.Walk.{Shape, Leads, cost_of}
-use Rattle.walks.specs.Greatest.{Loops, KeepsBounds}
+use Rattle.walks.specs.Greatest.{KeepsBounds, Loops, ends_at_header}
 use Rattle.walks.specs.Rows.{Potentials, RowsHold, limit_at, needed, stay_of, is_left}
 use Rattle.walks.proofs.Soundness.{Row, Follows, walk-le}
 
@@ -38,11 +38,8 @@ module _ {P E I : Type 0} (shape : Shape P E) (loops : Loops P I) (is_exit : P �
   abbrev pub at : P → ℕ
   at p = cond (is_exit p) c.bound (c.distance p)
 
-  abbrev turn : I → E → Bool
-  turn i e = loops.is_header i (shape.to e)
-
   abbrev RowOf : E → Type 0
-  RowOf e = Row shape.from shape.to shape.cost loops.is_member turn loops.bound c.arrival c.round at tree e
+  RowOf e = Row shape.from shape.to shape.cost loops.is_member (ends_at_header shape loops) loops.bound c.arrival c.round at tree e
 
   asks : E → ℕ
   asks e = cond (is_exit (shape.from e)) c.bound (c.distance (shape.from e)) + sum_by (λ i. cond (is_left shape loops e i) (stay_of shape loops tree c i) 0) tree + shape.cost e
@@ -66,7 +63,7 @@ module _ {P E I : Type 0} (shape : Shape P E) (loops : Loops P I) (is_exit : P �
         enter = λ is_out. subst (λ (n : ℕ). n ≤ c.arrival i) (sym (asks-is e from_inside)) (enter_row (loops.is_member i (shape.from e)) (loops.bound i) (c.round i) (c.arrival i) (needed shape loops tree c e) is_out row);
       })
 
-  follows_of : (p : P) (walk : List E) (q : P) → Leads shape is_edge p walk q → Follows shape.from shape.to shape.cost loops.is_member turn loops.bound c.arrival c.round at tree p walk q
+  follows_of : (p : P) (walk : List E) (q : P) → Leads shape is_edge p walk q → Follows shape.from shape.to shape.cost loops.is_member (ends_at_header shape loops) loops.bound c.arrival c.round at tree p walk q
   follows_of p [] q is = is
   follows_of p (e ∷ rest) q (in_graph, starts, leads) =
       (starts, row_cases e (exit_last e in_graph) (find (λ i. loops.is_header i (shape.to e)) tree) refl (rows e in_graph), follows_of (shape.to e) rest q leads)
@@ -79,7 +76,7 @@ module _ {P E I : Type 0} (shape : Shape P E) (loops : Loops P I) (is_exit : P �
   pub walk_to-le : (p q : P) (walk : List E) → Leads shape is_edge p walk q → KeepsBounds shape loops (Contains tree) walk → cost_of shape walk ≤ total_at q
   walk_to-le p q walk leads keeps =
       let all : 0 + sum_by shape.cost walk ≤ total_at q =
-      walk-le shape.from shape.to shape.cost loops.is_member turn loops.bound c.arrival c.round at tree [] walk 0 p q
+      walk-le shape.from shape.to shape.cost loops.is_member (ends_at_header shape loops) loops.bound c.arrival c.round at tree [] walk 0 p q
       (λ n d inside. keeps (get_or tree n d) (Contains-get_or tree n d inside)) (follows_of p walk q leads) (omega arith) in
       omega arith
 
