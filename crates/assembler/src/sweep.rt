@@ -180,7 +180,8 @@ impl<'a> Sweep<'a> {
     // Puts a label that no earlier line has.
     #[tactic(auto, using(crate::proofs::SweepLaws::named_more))]
     fn put_label(&mut self, alloc: Global, label: Option<&[u8]>) -> Result<(), AsmFault>
-        ensures ok { OnOk result (state_of self.new ≡ labelled (state_of self.old) (option_copied label.entry)) }
+        ensures ok { OnOk result
+            (state_of self.new ≡ labelled (state_of self.old) (option_copied label.entry)) }
         ensures at { OnOk result (self.new.at ≡ self.old.at) }
         ensures words { OnOk result (self.new.words ≡ self.old.words) }
         ensures memory { IfErr result (λ fault. fault ≡ AsmFault.Memory) }
@@ -229,7 +230,8 @@ impl<'a> Sweep<'a> {
         ensures within { OnOk result (self.new.at ≤ SPACE_END) }
         ensures err { IfErr result
             (λ fault. Faulted fault line
-            (pending_step (state_of self.old) line (option_copied label.entry) (result_pending pending.entry))) }
+            (pending_step (state_of self.old) line (option_copied label.entry)
+            (result_pending pending.entry))) }
     {
         let around = lower(self.label_fault(label), self.place_fault(1));
         match pending {
@@ -330,7 +332,8 @@ impl<'a> Sweep<'a> {
             (said_step (state_of self.old) line (option_copied label.entry) None ≡ Ok (state_of self.new)) }
         ensures within { OnOk result (self.new.at ≤ SPACE_END) }
         ensures err { IfErr result
-            (λ fault. Faulted fault line (said_step (state_of self.old) line (option_copied label.entry) None)) }
+            (λ fault. Faulted fault line
+            (said_step (state_of self.old) line (option_copied label.entry) None)) }
     {
         if let Some(fault) = self.label_fault(label) {
             return Err(AsmFault::Line(fault, line));
