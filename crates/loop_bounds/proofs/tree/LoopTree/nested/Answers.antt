@@ -1,7 +1,8 @@
-use Rattle.std.proofs.Common.{◌≡◌, ◌<◌, ℕ, length, subst, ap, ◌∙◌, arith}
+use Rattle.std.proofs.Common.{◌≡◌, ◌<◌, ℕ, length, subst, ap, sym, ◌∙◌, arith}
 use Rattle.std.proofs.lemmas.List.{length-map}
 use Rattle.loop_bounds.specs.Extents.{found_instance}
 use Rattle.loop_bounds.specs.Instance.{Instance}
+use Rattle.loop_bounds.specs.Nested.{IsNestedView}
 use Rattle.numbered_walks.specs.Index.{span_at}
 use Rattle.loop_bounds.specs.NestedParts.{AreNestedUpto, Encloses}
 use Rattle.loop_bounds.proofs.NestedPlaces.{as_many, members_are, shape}
@@ -47,4 +48,5 @@ returns c =
     let flow = c.args.graph.now in
     let tree = c.args.self.now in
     let ended : c.loop-k.k ≡ length tree.instances = omega (arith, ap length c.spans-span-items.ensures, as_many flow tree c.requires) in
-    nested_all flow tree c.requires c.loop-k.outermost (subst (AreNestedUpto flow tree c.loop-k.outermost) ended c.loop-k.invariant)
+    subst (IsNestedView flow tree) (sym c.of.ensures)
+    (nested_all flow tree c.requires c.loop-k.outermost (subst (AreNestedUpto flow tree c.loop-k.outermost) ended c.loop-k.invariant))
