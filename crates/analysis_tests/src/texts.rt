@@ -2,7 +2,7 @@ use bus_ticks::Profile;
 use cert_check::{longest_gets_yes, yes_means_greatest};
 use certificate::*;
 use flow_graph::{Calls, Edge, Label, Place};
-use longest_walk::{FoldedWalk, Item, Items, Longest, Potentials, WalkFault};
+use longest_walk::{FoldedWalk, Item, ItemList, Longest, Potentials, WalkFault};
 use samples::{countdown, lone_return, nested_countdown};
 use std::alloc::{AllocError, Global};
 use std::rc::Rc;
@@ -173,8 +173,8 @@ fn countdown_walk(alloc: Global) -> Result<Longest, Fail> {
         bound: 25,
         walk: FoldedWalk::new(alloc),
         potentials: Potentials {
-            places: Items::new(alloc),
-            instances: Items::new(alloc),
+            places: ItemList::new(alloc),
+            instances: ItemList::new(alloc),
         },
         profile: Profile::one(),
     };
@@ -219,13 +219,13 @@ fn keeps_an_item(alloc: Global) -> Result<bool, WalkFault> {
 }
 
 fn keeps_a_place(alloc: Global) -> Result<bool, WalkFault> {
-    let mut places = Items::new(alloc);
+    let mut places = ItemList::new(alloc);
     places.push(alloc, place(0x8000, 4))?;
     Ok(matches!(places.items(), [place] if place.distance == 4))
 }
 
 fn keeps_an_instance(alloc: Global) -> Result<bool, WalkFault> {
-    let mut instances = Items::new(alloc);
+    let mut instances = ItemList::new(alloc);
     instances.push(alloc, instance(0x8000))?;
     Ok(matches!(instances.items(), [instance] if instance.round == 6))
 }

@@ -3,7 +3,7 @@ use Rattle.std.specs.Prelude.{Bool, ℕ, ◌+◌, ◌-◌, ◌/◌, ◌%◌, ◌
 
 -- a bit of a word, counted from 0
 abbrev pub bit_of_word : ℕ → ℕ → Bool
-bit_of_word word place = word / 2 ^ place % 2 == 1
+bit_of_word word bit = word / 2 ^ bit % 2 == 1
 
 -- the bits hi to lo of a word, counted from 0, as a number
 abbrev pub bits : ℕ → ℕ → ℕ → ℕ

@@ -4,11 +4,11 @@ ghost use Rattle.arm2_decode.specs.Allowed.{bit_of};
 
 /// Whether a bit of a word, counted from 0, is set.
 #[inline(always)]
-pub fn bit_of_word(word: u32, place: u32) -> bool
-    requires in_word { place < 32 }
-    ensures { result ≡ bit_of_word word place }
+pub fn bit_of_word(word: u32, bit: u32) -> bool
+    requires in_word { bit < 32 }
+    ensures { result ≡ bit_of_word word bit }
 {
-    (word >> place) & 1 == 1
+    (word >> bit) & 1 == 1
 }
 
 /// The bits HI to LO of a word of 32 bits, counted from 0, as one number.

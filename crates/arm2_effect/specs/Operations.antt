@@ -17,8 +17,8 @@ use Rattle.arm2_effect.specs.declared.outcomes.Outcome.{Outcome}
 use Rattle.arm2_effect.specs.declared.exceptions.Vector.TheVariants as vector
 use Rattle.arm2_effect.specs.declared.step_end.Kind.TheVariants.{Plain}
 use Rattle.arm2_effect.specs.Modes.{r15_in, with_r15, with_register}
-use Rattle.arm2_effect.specs.ProgramCounter.{address_of, ahead_of, branch_target, flags_of, jumped_of, mode_of}
-use Rattle.arm2_effect.specs.ProgramCounter.{psr_of, psr_with, r15_ahead, r15_of, restored_of}
+use Rattle.arm2_effect.specs.ProgramCounter.{address_of, ahead_of, branch_target, flags_of, jumped_of}
+use Rattle.arm2_effect.specs.ProgramCounter.{mode_of, psr_of, psr_with, r15_ahead, r15_of, restored_of}
 use Rattle.arm2_effect.specs.Effects.{Effect, Internal, onward, straight}
 use Rattle.arm2_effect.specs.Exceptions.{taken}
 use Rattle.arm2_effect.specs.Operands.{current_in, first_of, rotated_byte}

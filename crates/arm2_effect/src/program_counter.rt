@@ -7,7 +7,7 @@ ghost use Rattle.arm2_effect.specs.ProgramCounter.{psr_of, r15_ahead, r15_of};
 ghost use Rattle.arm2_effect.specs.ProgramCounter.{restored_of};
 
 use crate::modes::Mode;
-use arm2_decode::Flags;
+use arm2_decode::{Flags, bit_of_word};
 use bus_ticks::SPACE_END;
 
 /// The address in R15 in bytes: a multiple of 4 below 2^26.
@@ -39,10 +39,10 @@ pub fn flags_of(r15: u32) -> Flags
     ensures { result ≡ flags_of r15 }
 {
     Flags {
-        negative: r15 / 0x8000_0000 % 2 == 1,
-        zero: r15 / 0x4000_0000 % 2 == 1,
-        carry: r15 / 0x2000_0000 % 2 == 1,
-        overflow: r15 / 0x1000_0000 % 2 == 1,
+        negative: bit_of_word(r15, 31),
+        zero: bit_of_word(r15, 30),
+        carry: bit_of_word(r15, 29),
+        overflow: bit_of_word(r15, 28),
     }
 }
 
@@ -50,14 +50,14 @@ pub fn flags_of(r15: u32) -> Flags
 pub fn is_fiq_masked(r15: u32) -> bool
     ensures { result ≡ is_fiq_masked r15 }
 {
-    r15 / 0x400_0000 % 2 == 1
+    bit_of_word(r15, 26)
 }
 
 /// Whether I in R15 keeps IRQ from being taken.
 pub fn is_irq_masked(r15: u32) -> bool
     ensures { result ≡ is_irq_masked r15 }
 {
-    r15 / 0x800_0000 % 2 == 1
+    bit_of_word(r15, 27)
 }
 
 /// The address so many bytes on, which wraps at [`SPACE_END`].
@@ -69,7 +69,8 @@ pub fn ahead_of(address: u32, bytes: u32) -> u32
     address.wrapping_add(bytes) % SPACE_END
 }
 
-/// The address to which a branch at an address leads: `offset` is its number of words, signed in 24 bits.
+/// The address to which a branch at an address leads: `offset` is the instruction's field of 24 bits, a signed
+/// number of words from `address` plus 8 on; addresses wrap at [`SPACE_END`].
 #[inline(always)]
 pub fn branch_target(address: u32, offset: u32) -> u32
     ensures sum { result ≡ branch_target address offset }

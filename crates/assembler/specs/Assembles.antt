@@ -37,7 +37,7 @@ laid_from at [] = []
 laid_from at (p ∷ ps) =
     record { at = at; label = p.label; said = p.said } ∷ laid_from (address_after at p.said) ps
 
--- the addresses of so many words from one on
+-- the addresses of so many words side by side, the first at this one
 abbrev pub addresses_from : (at count : ℕ) → List ℕ
 addresses_from at zero = []
 addresses_from at (suc n) = at ∷ addresses_from (at + 4) n

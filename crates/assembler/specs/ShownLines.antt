@@ -221,7 +221,8 @@ run_last list n = if bit_of_word list (n + 1) then [] else codes "-" ++ numbered
 
 -- what a register adds: it begins a run, ends one of two or more, or is none of the list or within a run
 abbrev pub listed : ℕ → ℕ → List ℕ
-listed list n = if bit_of_word list n then (if follows list n then run_last list n else run_first list n) else []
+listed list n =
+    if bit_of_word list n then (if follows list n then run_last list n else run_first list n) else []
 
 -- what the registers below a number add
 abbrev pub listed_below : ℕ → ℕ → List ℕ
@@ -246,7 +247,8 @@ block_text c x =
 
 -- ---- branches
 
--- the signed number of words from the address two words on; 0 where that is below 0
+-- the address that a branch's line shows: so many signed words on from its address plus 8, not wrapped, and 0
+-- where that is below 0
 abbrev pub shown_target : ℕ → ℕ → ℕ
 shown_target at offset =
     if nat_lt offset (2 ^ 23) then at + 8 + 4 * offset else (at + 8 + 4 * offset) - SPACE_END

@@ -120,6 +120,7 @@ abbrev pub all_placed : State → ℕ → List Target → State
 all_placed s k [] = s
 all_placed s k (v ∷ vs) = all_placed (placed s k (value_pending v)) k vs
 
+-- the value, or the fault if there is one
 abbrev pub unless : {A : Type 0} → Option LineFault → A → Result A LineFault
 unless None x = Ok x
 unless (Some fault) x = Err fault

@@ -23,7 +23,7 @@ use Rattle.walk_counts.proofs.SumLemmas.{picked, range_push, same_sums, sum_none
 use Rattle.author_reports.specs.declared.differences.Compared.{Compared}
 use Rattle.author_reports.specs.declared.differences.Numbers.{Numbers}
 use Rattle.author_reports.specs.declared.differences.RunTally.{RunTally}
-use Rattle.author_reports.specs.Differences.{Adds, HasAdded, IsRowIfApart, IsTable, agree, compared_in, compared_text, capped_run, in_all, numbers_of, tallied, capped_at, with_place}
+use Rattle.author_reports.specs.Differences.{Adds, HasAdded, IsRowIfApart, IsTable, agree, compared_in, compared_text, capped_run_at, in_all, numbers_of, tallied, capped_at, with_place}
 use Rattle.walks.proofs.SumLe.{sum_by-both}
 
 -- ## Sums over places
@@ -72,10 +72,10 @@ module _ (flow : Flow) (passes : List Pass) (by_place : List Passed) (t : RunTal
       (λ k. cond (is_at a (place_at flow.places k)) (number (passed_at passes k)) 0) (length flow.places) 0
       (λ k low high. ap (λ p. cond (is_at a (place_at flow.places k)) (number p) 0) (tally.each k (omega (arith, high))))
 
-  run_capped : (a : ℕ) → tallied t a ≡ capped_run flow passes a
+  run_capped : (a : ℕ) → tallied t a ≡ capped_run_at flow passes a
   run_capped a =
       added a
-      ∙ same_numbers _ (capped_run flow passes a)
+      ∙ same_numbers _ (capped_run_at flow passes a)
       (ap capped (all_of (λ p. p.passes) a ∙ by_places (λ k. is_at a (place_at flow.places k)) (λ p. 1) (length flow.places) passes tally.inside))
       (ap capped (all_of (λ p. p.ticks) a ∙ by_places (λ k. is_at a (place_at flow.places k)) (λ p. p.ticks) (length flow.places) passes tally.inside))
 

@@ -103,18 +103,18 @@ pub record IsTable (source : List ℕ) (words : Words) (compared : ℕ → Compa
 
 -- ## Tallies
 
--- the same of the steps, counted up to 2^64 - 1
-abbrev pub capped_run : Flow → List Pass → ℕ → Numbers
-capped_run flow passes a =
+-- the run's numbers at an address, counted up to 2^64 - 1
+abbrev pub capped_run_at : Flow → List Pass → ℕ → Numbers
+capped_run_at flow passes a =
     record { passes = capped (run_at flow passes a).passes; ticks = capped (run_at flow passes a).ticks }
 
--- what a walk takes at an address, counted so
+-- the walk's numbers at an address, 0 where it has none
 abbrev pub numbers_of : Option Taken → Numbers
 numbers_of taken = record { passes = passes_of taken; ticks = ticks_of taken }
 
 abbrev pub capped_at : Flow → List Pass → List Edge → ℕ → Compared
 capped_at flow passes walk a =
-    record { run = capped_run flow passes a; bound = numbers_of (taken_at flow walk a) }
+    record { run = capped_run_at flow passes a; bound = numbers_of (taken_at flow walk a) }
 
 abbrev pub none : Numbers
 none = record { passes = 0; ticks = 0 }

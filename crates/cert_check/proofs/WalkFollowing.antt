@@ -4,6 +4,7 @@ use Rattle.std.specs.Prelude.{option_map}
 use Rattle.std.proofs.lemmas.List.{drop_all, map-append}
 use Rattle.std.proofs.lemmas.List.Elements.{All-nil, All-append}
 use Rattle.std.proofs.lemmas.Option.{option_and_then_some, same_Some}
+use Rattle.asm_text.proofs.WordLaws.{map_is}
 use Rattle.walks.specs.Walk.{Leads}
 use Rattle.walks.proofs.Leading.{Leads-append}
 use Rattle.flow_graph.specs.declared.places.Place.{Place}
@@ -28,7 +29,7 @@ use Rattle.cert_check.specs.declared.index.Index.{Index}
 use Rattle.cert_check.specs.declared.walker.Walker.{Walker}
 use Rattle.cert_check.specs.Followed.{Followed, edge_named, follow_both, follow_edge, follow_item, follow_row, follow_step, follow_turns, followed, nothing_at}
 use Rattle.cert_check.specs.Walking.{AreRounds, CanFollow, EndsIn, Follows, IsRefused, IsTaken, IsWalkerAfter}
-use Rattle.cert_check.proofs.WalkParts.{All-left, All-right, leads_left, leads_right, map_some}
+use Rattle.cert_check.proofs.WalkParts.{All-left, All-right, leads_left, leads_right}
 
 -- the walk of a row is that of its first lines, and that of the others from where it ends
 pub record InRow (first : Place → Option Followed) (rest : List (Place → Option Followed)) (p : Place) (f : Followed) : Type 0 where
@@ -42,7 +43,7 @@ pub in_row : (first : Place → Option Followed) (rest : List (Place → Option 
 in_row first rest p f is =
     option_and_then_some (λ (g : Followed). option_map (follow_both g.opened) (follow_row rest g.at)) (first p) f is
     (λ front front_is more.
-    let back = map_some (follow_both front.opened) (follow_row rest front.at) f more in
+    let back = map_is (follow_both front.opened) (follow_row rest front.at) f more in
     record { front = front; back = back.0; front_is = front_is; back_is = back.1; both_is = back.2 })
 
 module _ (flow : Flow) (tree : Tree) (index : Index) (well : IsWellFormed flow) where

@@ -1,6 +1,5 @@
--- Parts of walks that are in a row or are repeat.
-use Rattle.std.proofs.Common.{◌≡◌, ◌≢◌, ◌∙◌, ℕ, zero, suc, ◌<◌, ◌≤◌, List, [], ◌∷◌, ◌++◌, length, All, Option, Some, None, refl, sym, ap, subst, arith, length-append}
-use Rattle.std.specs.Prelude.{option_map}
+-- Parts of walks that are in a row or are repeated.
+use Rattle.std.proofs.Common.{◌≡◌, ◌≢◌, ◌∙◌, ℕ, zero, suc, ◌<◌, ◌≤◌, List, [], ◌∷◌, ◌++◌, length, All, refl, sym, ap, subst, arith, length-append}
 use Rattle.std.proofs.lemmas.List.Elements.{All-nil, All-cons, All-head, All-tail}
 use Rattle.std.specs.List.{repeat}
 use Rattle.walks.specs.Walk.{Leads, Shape}
@@ -21,10 +20,6 @@ repeated-long n (suc k) xs some long = omega (arith, long, length-append xs (rep
 
 pub some_element : {X : Type 0} (xs : List X) → 0 < length xs → xs ≢ []
 some_element xs some is = omega (arith, some, ap length is)
-
-pub map_some : {A B : Type 0} (f : A → B) (o : Option A) (y : B) → option_map f o ≡ Some y → (x : A) × (o ≡ Some x) × (f x ≡ y)
-map_some f None y is = absurd (cc is)
-map_some f (Some x) y is = (x, refl, cc is)
 
 -- ## Walks
 

@@ -8,6 +8,7 @@ use Rattle.std.proofs.lemmas.List.Elements.{All-nil, All-cons, All-head, All-tai
 use Rattle.std.proofs.lemmas.List.Sums.{AllPass-from_list_all}
 use Rattle.std.proofs.lemmas.Option.{none-some, same_Some}
 use Rattle.std.specs.List.{AllPass, repeat}
+use Rattle.asm_text.proofs.WordLaws.{map_is}
 use Rattle.walks.specs.Walk.{Leads}
 use Rattle.walks.specs.Greatest as G
 use Rattle.walks.proofs.Leading.{Leads-repeated}
@@ -40,7 +41,7 @@ use Rattle.walk_counts.specs.Spans.{header_at}
 use Rattle.walk_counts.proofs.StayLemmas.{span_there}
 use Rattle.cert_check.specs.Walking.{Adds, AreRounds, Arrives, Begins, CanFollow, CannotBegin, EndsIn, IsRefused, IsTaken, capped, gained, turns_after}
 use Rattle.cert_check.proofs.WalkNamed.{named_from}
-use Rattle.cert_check.proofs.WalkParts.{ends_same, leads_once, map_some, repeated-long, some_element, starts_same}
+use Rattle.cert_check.proofs.WalkParts.{ends_same, leads_once, repeated-long, some_element, starts_same}
 use Rattle.cert_check.proofs.WalkFollowing.{item_repeat, leads_of, some_lines}
 use Rattle.cert_check.proofs.WalkerLemmas.{edge_adds, holds_whole, rounds_add, whole_in}
 
@@ -189,7 +190,7 @@ module _ (flow : Flow) (tree : Tree) (index : Index) (well : IsWellFormed flow) 
     -- a repeat is refused where no such turns are found
     refused_turns : ((g : Followed) → row (place x.number) ≡ Some g → TurnsIn x.number g → ⊥) → IsRefused flow tree within levels times x.number
     refused_turns none f q is leads ends rounds =
-        let g = map_some (follow_turns k) (row (place x.number)) f is in
+        let g = map_is (follow_turns k) (row (place x.number)) f is in
         none g.0 g.1 (turns_in g.0 q g.1 (subst (λ (h : Followed). LeadsTo (place x.number) h.opened.walk q) (sym g.2) leads) (subst (λ (h : Followed). AreRounds flow tree levels h.opened) (sym g.2) rounds))
 
     pub repeat_cannot : CannotBegin index.headers.items x levels k lines → IsRefused flow tree within levels times x.number

@@ -6,9 +6,9 @@ use Rattle.std.specs.Fmt.{decimal, digit_glyph}
 use Rattle.std.proofs.lemmas.Bool.{cases_lt}
 use Rattle.std.proofs.lemmas.Fmt.{digits_is_IsNumeral, decimal_injective, decimal_is_IsNumeral, hex_one_digit}
 use Rattle.std.specs.Str.Iter.{LacksByte}
+use Rattle.std.proofs.lemmas.List.{same_from_push}
 use Rattle.asm_text.specs.Hex.{hex}
 use Rattle.asm_text.proofs.HexLaws.{hex_step}
-use Rattle.loop_bounds.proofs.KeyLemmas.{one_end}
 
 hex_is_IsNumeral : (n : ℕ) → n < 2 ^ 26 → IsNumeral 16 (hex n) × (digits_value 16 (hex n) ≡ n)
 hex_is_IsNumeral n h = digits_is_IsNumeral 16 true (omega arith) (omega arith) n (omega arith)
@@ -76,12 +76,12 @@ hex_front (suc k) m n b bs le p q e =
   where
     by : ((front : List ℕ) → m / 16 ≤ k → m / 16 < 2 ^ 26 → hex (m / 16) ≡ hex n ++ b ∷ front → GoesOn (m / 16) n b) → (cs : List ℕ) → hex (m / 16) ++ (digit_glyph true (m % 16) ∷ []) ≡ hex n ++ b ∷ cs → 16 ≤ m → GoesOn m n b
     by again [] f big =
-        let parts = one_end (hex (m / 16)) (hex n) (digit_glyph true (m % 16)) b f in
+        let parts = same_from_push (hex (m / 16)) (hex n) (digit_glyph true (m % 16)) b f in
         let same : m / 16 ≡ n = hex_is_one (m / 16) n (omega arith) q parts.0 in
         record { some = omega (arith, same); small = omega (arith, same); digit = m % 16; digit_small = omega arith; byte_is = sym parts.1 }
     by again (c ∷ cs) f big =
         let view = snoc_view c cs in
-        let parts = one_end (hex (m / 16)) (hex n ++ b ∷ view.0) (digit_glyph true (m % 16)) view.1
+        let parts = same_from_push (hex (m / 16)) (hex n ++ b ∷ view.0) (digit_glyph true (m % 16)) view.1
         (f ∙ ap (λ (x : List ℕ). hex n ++ b ∷ x) view.2 ∙ sym (append_assoc (hex n) (b ∷ view.0) (view.1 ∷ []))) in
         let deeper = again view.0 (omega arith) (omega arith) parts.0 in
         record { some = deeper.some; small = omega (arith, deeper.small); digit = deeper.digit; digit_small = deeper.digit_small; byte_is = deeper.byte_is }

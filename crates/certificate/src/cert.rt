@@ -1,6 +1,6 @@
 use crate::walk::CertWalk;
 use bus_ticks::Profile;
-use longest_walk::{InstanceRow, Items, PlaceRow};
+use longest_walk::{InstanceRow, ItemList, PlaceRow};
 
 /// A certificate: a bound in ticks, a walk that is said to cost it, and the numbers that are said to prove
 /// that none costs more. Whoever wrote it, nothing is claimed of it but its form.
@@ -13,7 +13,7 @@ pub struct Cert {
     /// The walk.
     pub walk: CertWalk,
     /// A distance for each place, strictly ascending by call list and then by address.
-    pub places: Items<PlaceRow>,
+    pub places: ItemList<PlaceRow>,
     /// An arrival and a round for each instance of a loop, strictly ascending likewise.
-    pub instances: Items<InstanceRow>,
+    pub instances: ItemList<InstanceRow>,
 }

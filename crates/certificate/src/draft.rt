@@ -10,7 +10,7 @@ use crate::line::{Line, Version, WalkLine};
 use crate::open_walk::OpenWalk;
 use bus_ticks::Profile;
 use flow_graph::Place;
-use longest_walk::{InstanceRow, Items, PlaceRow};
+use longest_walk::{InstanceRow, ItemList, PlaceRow};
 use std::alloc::Global;
 
 /// Which lines may come next.
@@ -34,8 +34,8 @@ pub struct Draft {
     pub profile: Profile,
     pub bound: u64,
     pub walk: OpenWalk,
-    pub places: Items<PlaceRow>,
-    pub instances: Items<InstanceRow>,
+    pub places: ItemList<PlaceRow>,
+    pub instances: ItemList<InstanceRow>,
 }
 
 fn comes_after(last: Option<Place>, place: &Place) -> bool
@@ -59,8 +59,8 @@ impl Draft {
             profile: Profile::one(),
             bound: 0,
             walk: OpenWalk::new(alloc),
-            places: Items::new(alloc),
-            instances: Items::new(alloc),
+            places: ItemList::new(alloc),
+            instances: ItemList::new(alloc),
         }
     }
 

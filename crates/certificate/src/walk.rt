@@ -1,5 +1,5 @@
 use flow_graph::Label;
-use numbered_walks::Items;
+use numbered_walks::ItemList;
 
 /// Where an edge leads, as a certificate names it.
 #[derive(Clone, Copy, Debug, PartialEq, Eq)]
@@ -33,4 +33,4 @@ pub enum CertItem {
 }
 
 /// A certificate's walk: a list of edges and of walks that are taken several times.
-pub type CertWalk = Items<CertItem>;
+pub type CertWalk = ItemList<CertItem>;

@@ -1,13 +1,13 @@
 -- What plain lines state.
 use Rattle.std.proofs.Common.{◌≡◌, ◌≤◌, ◌-◌, ◌+◌, ◌||◌, ◌&&◌, ◌==◌, ◌++◌, zero, suc, ℕ, Bool, true, false, List, [], ◌∷◌, Some, None, length, take, drop, codes, refl, sym, ap, ◌∙◌, append_assoc, append-nil, arith}
 use Rattle.std.specs.Prelude.{not}
-use Rattle.std.specs.List.{list_all, prefix_len}
+use Rattle.std.specs.List.{list_all, onto_first, prefix_len}
 use Rattle.std.proofs.Math.Seq.{drop-append-add, drop-append_seam, take-append_seam}
 use Rattle.std.proofs.lemmas.Bool.{and_from, and_parts, not-true, or_parts}
 use Rattle.std.proofs.lemmas.List.{length-append}
 use Rattle.std.proofs.lemmas.List.Folds.{list_all-append}
 use Rattle.asm_text.specs.Pieces.{is_blank}
-use Rattle.asm_text.specs.Source.{in_front, lines_of}
+use Rattle.asm_text.specs.Source.{lines_of}
 use Rattle.diagnosis.specs.Outline.{Bare, Begins, Gap, Key, Piece, Quoted, Reading, Stated, States, Table, OfValue, Value, all_taken, bare_at, begun, first_piece, header_of, is_bare, is_gap, is_quote, keyed, line_read, lines_read, past_blanks, piece_at, pieces, quoted_len, taken, key_or_value, valued, word_at}
 use Rattle.diagnosis.specs.PlainLines.{ArePlain, Heading, IsPlainValue, PlainLine, Setting, is_plain, is_quotable, items_from, line_text, lines_text}
 use Rattle.diagnosis.specs.Refused.{value_text}
@@ -181,7 +181,7 @@ first_ends [] rest h = refl
 first_ends (b ∷ text) rest h =
     let parts = and_parts (goes_on b) (list_all goes_on text) h in
     let here = and_parts (not (b == 10)) (not (b == 13)) parts.0 in
-    rw (not-true (b == 10) here.0, not-true (b == 13) here.1) (ap (in_front b) (first_ends text rest parts.1))
+    rw (not-true (b == 10) here.0, not-true (b == 13) here.1) (ap (onto_first b) (first_ends text rest parts.1))
 
 plain_goes_on : (w : List ℕ) → list_all is_plain w ≡ true → list_all goes_on w ≡ true
 plain_goes_on [] h = refl

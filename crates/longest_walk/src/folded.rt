@@ -1,7 +1,7 @@
 use crate::rows::Potentials;
 use bus_ticks::Profile;
 use flow_graph::Edge;
-use numbered_walks::Items;
+use numbered_walks::ItemList;
 use std::rc::Rc;
 
 /// A part of a folded walk.
@@ -14,7 +14,7 @@ pub enum Item {
 }
 
 /// A walk written with repeats: a list of edges and of walks that are taken several times.
-pub type FoldedWalk = Items<Item>;
+pub type FoldedWalk = ItemList<Item>;
 
 /// The greatest cost of a complete walk that keeps the loop bounds, such a walk, and the numbers that prove
 /// it greatest.

@@ -14,7 +14,7 @@ mod visits;
 
 pub use folded::{FoldedWalk, Item, Longest};
 pub use greatest::longest;
-pub use numbered_walks::{Items, WalkFault};
+pub use numbered_walks::{ItemList, WalkFault};
 pub use rows::{InstanceRow, PlaceRow, Potentials};
 pub use starts::worst_starts;
 pub use visits::visits_bound;

@@ -9,7 +9,7 @@ ghost use Rattle.longest_walk.specs.Rows.{header_of, header_of_row};
 use crate::rows::{InstanceRow, PlaceRow};
 use flow_graph::{Graph, Place, order_of_places};
 use loop_bounds::{Found, LoopTree};
-use numbered_walks::{Items, Span, Tables};
+use numbered_walks::{ItemList, Span, Tables};
 use std::alloc::{AllocError, Global};
 
 /// The number of each place, by its index among the places.
@@ -34,7 +34,7 @@ pub(crate) fn place_rows(
     graph: &Graph,
     tree: &LoopTree,
     tables: &Tables,
-) -> Result<Items<PlaceRow>, AllocError>
+) -> Result<ItemList<PlaceRow>, AllocError>
     requires tree { IsTree graph.now tree.now }
     requires room { HasRoom (length graph.now.places + 1) tables.now }
     ensures { IfOk result (ArePlaceRowsAt graph.now tree.now tables.now) }
@@ -54,7 +54,7 @@ pub(crate) fn place_rows(
             distance,
         })?;
     }
-    Ok(Items::of(rows))
+    Ok(ItemList::of(rows))
 }
 
 // The row of an instance.
@@ -79,7 +79,7 @@ pub(crate) fn instance_rows(
     graph: &Graph,
     tree: &LoopTree,
     tables: &Tables,
-) -> Result<Items<InstanceRow>, AllocError>
+) -> Result<ItemList<InstanceRow>, AllocError>
     requires tree { IsTree graph.now tree.now }
     requires room { HasRoom (length graph.now.places + 1) tables.now }
     ensures { IfOk result (AreInstanceRowsAt tree.now tables.now) }
@@ -92,5 +92,5 @@ pub(crate) fn instance_rows(
         rows.push(instance_row(&found[index], &spans[index], tables))?;
     }
     rows.sort_unstable_by_key(|row| Place::At(row.list, row.header));
-    Ok(Items::of(rows))
+    Ok(ItemList::of(rows))
 }

@@ -1,5 +1,5 @@
 use flow_graph::Calls;
-use numbered_walks::Items;
+use numbered_walks::ItemList;
 
 /// The distance of a place, as a certificate states it.
 #[derive(Clone, Copy)]
@@ -30,7 +30,7 @@ pub struct InstanceRow {
 #[derive(Drop)]
 pub struct Potentials {
     /// A row for each place but Exit, ascending by call list and then by address.
-    pub places: Items<PlaceRow>,
+    pub places: ItemList<PlaceRow>,
     /// A row for each instance of a loop, ascending likewise.
-    pub instances: Items<InstanceRow>,
+    pub instances: ItemList<InstanceRow>,
 }

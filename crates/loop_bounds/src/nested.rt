@@ -11,7 +11,7 @@ ghost use Rattle.loop_bounds.specs.Tree.{IsTree};
 use crate::loop_instances::Found;
 use crate::tree::LoopTree;
 use flow_graph::{Calls, Graph, Place};
-use numbered_walks::{Items, Span};
+use numbered_walks::{ItemList, Span};
 use std::alloc::{AllocError, Global};
 
 /// An instance of a loop, with its places and the instances directly inside it.
@@ -62,7 +62,7 @@ impl Instance {
 }
 
 /// The instances that are inside no other, each with those inside it, by the last of their numbers.
-pub type Instances = Items<Instance>;
+pub type Instances = ItemList<Instance>;
 
 // Of the instances so far those that are inside no other, and the numbers of their headers.
 #[derive(Drop)]

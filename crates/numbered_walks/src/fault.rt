@@ -4,7 +4,7 @@ ghost use Rattle.numbered_walks.specs.declared.fault.WalkFault.TheVariants.{Memo
 use std::alloc::{AllocError, AllocFailed};
 use thiserror::Error;
 
-/// Why there is no greatest walk.
+/// Why there is no greatest walk, or why a list did not grow.
 #[derive(Clone, Copy, Debug, PartialEq, Eq, Error)]
 pub enum WalkFault {
     /// An allocation failed.

@@ -1,5 +1,6 @@
 //! The greatest cost of a walk along edges between numbers, in an order where each instance of a loop is an
-//! interval: the potentials of all numbers and instances, found in one pass.
+//! interval: the potentials of all numbers and instances, found in one pass. Also the list of items behind
+//! walks, rows and instances.
 #![tactic(auto)]
 
 mod fault;
@@ -7,7 +8,7 @@ mod graph;
 mod groups;
 mod holders;
 mod index;
-mod items;
+mod item_list;
 mod pass;
 mod potentials;
 mod row;
@@ -18,7 +19,7 @@ mod trace;
 pub use fault::WalkFault;
 pub use graph::NumberedGraph;
 pub use index::Index;
-pub use items::Items;
+pub use item_list::ItemList;
 pub use potentials::{find_tables, greatest_cost_to};
 pub use span::{NumberedEdge, Span};
 pub use tables::Tables;

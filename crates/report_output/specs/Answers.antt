@@ -23,8 +23,8 @@ pub record FailsWithin (IsText : List ℕ → Type 0) (old new : Option (List �
 abbrev pub OfSome : {T : Type 0} → (T → List ℕ → Type 0) → List ℕ → Type 0
 OfSome {T} IsText text = (x : T) × IsText x text
 
--- one text of the answer is printed, or refused, with the output before it and after it: each refusal where it
--- holds, and nothing written before a refusal other than Device
+-- one text of the answer is printed, or refused, with the output before it and after it: each refusal where
+-- it holds, and nothing written before a refusal other than Device
 pub record PrintsOrRefuses {O T : Type 0} (taken : O → Option (List ℕ)) (failures : O → ℕ)
     (IsText : T → List ℕ → Type 0) (IsFault : ReportFault → Type 0)
     (old new : O) (result : Result T ReportFault) : Type 0 where
@@ -34,8 +34,8 @@ pub record PrintsOrRefuses {O T : Type 0} (taken : O → Option (List ℕ)) (fai
   pub device : result ≡ Err Device
       → FailsWithin (OfSome IsText) (taken old) (taken new) (failures old) (failures new)
 
--- what a call does with what it gets: it prints or refuses it, Ok only for what is accepted, and for that with
--- no refusal but Memory and Device
+-- a call prints one text or refuses: Ok only for what is accepted, and for that no refusal but Memory and
+-- Device
 pub record Answers {O T : Type 0} (taken : O → Option (List ℕ)) (failures : O → ℕ)
     (IsText : T → List ℕ → Type 0) (IsFine : Type 0) (IsFault : ReportFault → Type 0)
     (old new : O) (result : Result T ReportFault) : Type 0 where

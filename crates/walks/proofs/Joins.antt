@@ -1,4 +1,4 @@
--- What two walks joined, and one walk repeat, take of a bound.
+-- What two walks joined, and one walk repeated, take of a bound.
 use Rattle.std.proofs.Common.{◌≡◌, ℕ, zero, suc, ◌+◌, ◌*◌, ◌≤◌, max, Bool, true, false, cond, ◌&&◌, List, [], ◌∷◌, ◌++◌, ⊎_elim, refl, ap, ◌∙◌, arith, append-nil}
 use Rattle.std.specs.List.{AllPass, repeat}
 use Rattle.std.proofs.lemmas.Bool.{cases_Bool, and_parts, and_from}

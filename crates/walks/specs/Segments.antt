@@ -1,9 +1,8 @@
 -- What a walk takes of an instance's bound, by two tests of an edge: the working form of keeping a bound,
--- which composes over joined and repeat walks.
+-- which composes over joined and repeated walks.
 use Rattle.std.specs.Prelude.{ℕ, ◌+◌, max, Bool, cond, List, [], ◌∷◌, count_by}
 use Rattle.std.specs.List.{list_all}
 
--- a walk, k times
 module _ {E : Type 0} (inside turns : E → Bool) where
   abbrev pub turn : E → ℕ
   turn e = cond (turns e) 1 0

@@ -4,14 +4,14 @@ use crate::fault::WalkFault;
 use std::alloc::Global;
 use std::marker::Model;
 
-/// A list that is read as a slice and grows at its end: the parts of a walk, the rows of a certificate, or the
+/// A list that is read as a slice and grows at its end: of a walk's parts, a certificate's rows, or the
 /// instances of loops.
 #[derive(Drop)]
-pub struct Items<T> {
+pub struct ItemList<T> {
     list: Vec<T>,
 }
 
-impl<T> Model for Items<T> {
+impl<T> Model for ItemList<T> {
     ghost use Rattle.std.specs.Prelude.{List};
     ghost use base.Stored.{coded_list};
 
@@ -22,21 +22,21 @@ impl<T> Model for Items<T> {
     ghost view = { λ items. items.list.items };
 }
 
-impl<T: Drop> Items<T> {
-    /// No items. It takes no memory.
-    pub fn new(alloc: Global) -> Items<T>
+impl<T: Drop> ItemList<T> {
+    /// The empty list. It takes no memory.
+    pub fn new(alloc: Global) -> ItemList<T>
         ensures { result ≡ [] }
     {
-        Items {
+        ItemList {
             list: Vec::new(alloc),
         }
     }
 
-    /// These items.
-    pub fn of(list: Vec<T>) -> Items<T>
+    /// The list of these items.
+    pub fn of(list: Vec<T>) -> ItemList<T>
         ensures { result ≡ list.items }
     {
-        Items { list }
+        ItemList { list }
     }
 
     /// Adds an item at the end. `Memory`: an allocation failed, and the list is as it was.
