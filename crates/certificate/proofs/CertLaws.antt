@@ -1,5 +1,5 @@
 -- The lines of a certificate are those that follow one another up to the last.
-use Rattle.std.proofs.Common.{◌≡◌, ◌≢◌, ◌∙◌, Bool, true, false, ℕ, ◌<◌, ◌^◌, List, [], ◌∷◌, ◌++◌, Option, Some, None, map, filter_map, take, refl, sym, ap, ap₂, subst, arith, append-nil, if◌then◌else◌, true≢false}
+use Rattle.std.proofs.Common.{◌≡◌, ◌≢◌, ◌∙◌, Bool, true, false, ℕ, ◌<◌, ◌^◌, List, [], ◌∷◌, ◌++◌, Option, Some, None, map, filter_map, take, refl, sym, ap, ap₂, subst, arith, append-nil, if◌then◌else◌, true≢false, ◌==◌}
 use Rattle.std.specs.List.{AllByRecursion, cons_option, last_or}
 use Rattle.std.specs.Cmp.Lexicographic.{bytes_decides, pointwise}
 use Rattle.std.proofs.lemmas.List.Elements.{All-from_recursion}
