@@ -3,7 +3,7 @@ use Rattle.std.proofs.Common.{◌≡◌, ◌≢◌, ◌⊎◌, ℕ, List, Option
 use Rattle.std.specs.Prelude.{IfOk, IfErr}
 use Rattle.std.specs.Result.{IsErrAnd}
 use Rattle.std.specs.Io.KnownBytes.{Appends}
-use Rattle.report_output.specs.Answers.{Answers}
+use Rattle.report_output.specs.Answers.{Answers, PrintsOrRefuses}
 use Rattle.outputs.specs.Output.{TakesFront, FailsSince}
 use Rattle.report_output.specs.declared.fault.ReportFault.{ReportFault}
 use Rattle.report_output.specs.declared.fault.ReportFault.TheVariants.{Memory, Device}
@@ -13,17 +13,16 @@ module _ {O T : Type 0} (taken : O → Option (List ℕ)) (failures : O → ℕ)
   Ends old new result = Answers taken failures IsText IsFine IsFault old new result
 
   -- before anything was written
-  pub ends_refused : (old : O) (e : ReportFault) → (e ≢ Device) × IsFault e → (IsFine → e ≡ Memory) → Ends old old (Err e)
-  ends_refused old e h only = record {
-    output = record {
-      printed = tt;
-      fault = h.1;
-      quiet = λ other. refl;
-      device = λ d. absurd (h.0 (cc d));
-    };
-    accepted = tt;
-    only = λ a. inl (only a);
+  refused : (old : O) (e : ReportFault) → (e ≢ Device) × IsFault e → PrintsOrRefuses taken failures IsText IsFault old old (Err e)
+  refused old e h = record {
+    printed = tt;
+    fault = h.1;
+    quiet = λ other. refl;
+    device = λ d. absurd (h.0 (cc d));
   }
+
+  pub ends_refused : (old : O) (e : ReportFault) → (e ≢ Device) × IsFault e → (IsFine → e ≡ Memory) → Ends old old (Err e)
+  ends_refused old e h only = record { output = refused old e h; accepted = tt; only = λ a. inl (only a) }
 
   -- by a `?` before anything was written
   pub ends_early : (old : O) (r : Result T ReportFault) (e : ReportFault) → IsErrAnd r (λ x. x ≡ e) → (e ≢ Device) × IsFault e
@@ -31,16 +30,7 @@ module _ {O T : Type 0} (taken : O → Option (List ℕ)) (failures : O → ℕ)
   ends_early old (Ok x) e is h only = absurd is
   ends_early old (Err x) e is h only =
       let holds : (x ≢ Device) × IsFault x = subst (λ (f : ReportFault). (f ≢ Device) × IsFault f) (sym is) h in
-      record {
-        output = record {
-          printed = tt;
-          fault = holds.1;
-          quiet = λ other. refl;
-          device = λ d. absurd (holds.0 (cc d));
-        };
-        accepted = tt;
-        only = only holds;
-      }
+      record { output = refused old x holds; accepted = tt; only = only holds }
 
   -- once all was written
   pub ends_told : (old new : O) (x : T) (text : List ℕ) → IsText x text → IsFine → Appends (taken old) (taken new) text → Ends old new (Ok x)
