@@ -26,8 +26,8 @@ r15_of psr address mode = psr * 2 ^ 26 + address + mode_number mode
 abbrev pub ahead_of : ℕ → ℕ → ℕ
 ahead_of a by = (a + by) % SPACE_END
 
--- where a branch leads: so many words on from its address plus 8. The number is signed in 24 bits, which makes
--- no difference, as addresses wrap after 2^24 words
+-- where a branch leads: so many words on from its address plus 8. The number is signed in 24 bits, which
+-- makes no difference, as addresses wrap after 2^24 words
 abbrev pub branch_target : ℕ → ℕ → ℕ
 branch_target address offset = ahead_of address (8 + 4 * offset)
 

@@ -69,8 +69,8 @@ pub fn ahead_of(address: u32, bytes: u32) -> u32
     address.wrapping_add(bytes) % SPACE_END
 }
 
-/// The address to which a branch at an address leads: `offset` is the instruction's field of 24 bits, a signed
-/// number of words from `address` plus 8 on; addresses wrap at [`SPACE_END`].
+/// The address to which a branch at an address leads: `offset` is the instruction's field of 24 bits, a
+/// signed number of words from `address` plus 8 on; addresses wrap at [`SPACE_END`].
 #[inline(always)]
 pub fn branch_target(address: u32, offset: u32) -> u32
     ensures sum { result ≡ branch_target address offset }
