@@ -38,22 +38,22 @@ class Judged:
     def __init__(self, bound, graph=None):
         self.bound, self.graph = bound, graph
 
-    def __call__(self, told, folder):
+    def __call__(self, outcome, folder):
         cert = (folder / "forged").read_bytes()
-        fault = fault_of("check", told)
+        fault = fault_of("check", outcome)
         if not fault and self.graph:
-            fault = self.differs(told, checker.verdict(self.graph, cert))
-        if fault or told.status:
+            fault = self.differs(outcome, checker.verdict(self.graph, cert))
+        if fault or outcome.status:
             return fault
         stated = [it for it in cert.split(b"\n")[:3] if it.startswith(b"bound ")]
-        if told.out == b"yes\n" and stated == [b"bound %d" % self.bound]:
+        if outcome.out == b"yes\n" and stated == [b"bound %d" % self.bound]:
             return None
-        return f"{told}, where the greatest bound is {self.bound}"
+        return f"{outcome}, where the greatest bound is {self.bound}"
 
     @staticmethod
-    def differs(told, wanted):
-        said = (told.out + told.err).decode(errors="replace")
-        return None if said == wanted + "\n" else f"{told}, where the other checker says {wanted}"
+    def differs(outcome, wanted):
+        said = (outcome.out + outcome.err).decode(errors="replace")
+        return None if said == wanted + "\n" else f"{outcome}, where the other checker says {wanted}"
 
 
 def handler(bench, name, files, bound=None, profile=False):
@@ -279,7 +279,7 @@ def deep_rounds(handlers):
 
 
 def end_of(lines):
-    """The place behind the end of the repeat with which the lines begin."""
+    """The place after the end of the repeat with which the lines begin."""
     depth = 0
     for at, line in enumerate(lines):
         depth += line.startswith(b"repeat ") - (line == b"end")
@@ -308,7 +308,7 @@ def large(it):
         ("16 MiB of ends", filled(front, b"end\n"), refused("BadLine", " at line 3")),
         ("16 MiB of one row", row, refused("BadLine", " at line 5")),
         ("a list of calls of 16 MiB", calls, Allowed("check", "BadLine")),
-        ("16 MiB behind it", filled(it.cert, b"x"), refused("TrailingBytes")),
+        ("16 MiB after it", filled(it.cert, b"x"), refused("TrailingBytes")),
         ("line ends CR LF", it.cert.replace(b"\n", b"\r\n"), refused("BadLine", " at line 1")),
         ("a mark of the byte order", b"\xef\xbb\xbf" + it.cert, refused("BadLine", " at line 1")),
         ("small letters", it.cert.lower(), Allowed("check", "BadLine")),

@@ -111,7 +111,7 @@ class Lines:
     def __init__(self, text):
         self.whole, self.at = text, 0
         self.parts = text.split(b"\n")
-        # What stands behind the last line end is no whole line.
+        # What comes after the last line end is no whole line.
         self.rest = self.parts.pop()
 
     def next(self):

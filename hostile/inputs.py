@@ -27,11 +27,11 @@ class ImageIs:
     def __init__(self, data):
         self.read = readers.read_image(data)
 
-    def __call__(self, told, folder):
+    def __call__(self, outcome, folder):
         if isinstance(self.read, str):
-            return refused(self.read)(told, folder)
+            return refused(self.read)(outcome, folder)
         runs = readers.runs(self.read)
-        fault = Is(0, f"words {len(self.read)} segments {len(runs)}\n".encode())(told, folder)
+        fault = Is(0, f"words {len(self.read)} segments {len(runs)}\n".encode())(outcome, folder)
         if fault:
             return fault
         made = (folder / "made.image").read_bytes()
@@ -44,36 +44,37 @@ class Follows:
     def __init__(self, bench, judge, words, files):
         self.bench, self.judge, self.words, self.files = bench, judge, words, files
 
-    def __call__(self, told, folder):
-        fault = self.judge(told, folder)
-        if fault or told.status:
+    def __call__(self, outcome, folder):
+        fault = self.judge(outcome, folder)
+        if fault or outcome.status:
             return fault
         words = ["check", *self.words[1:], "printed.cert"]
-        checked = self.bench.ask(words, {**self.files, "printed.cert": told.out})[0]
-        if checked.out == b"yes\n" or len(told.out) > MOST and checked.err == b"refused: InputTooLong\n":
+        checked = self.bench.ask(words, {**self.files, "printed.cert": outcome.out})[0]
+        if checked.out == b"yes\n" or len(outcome.out) > MOST and checked.err == b"refused: InputTooLong\n":
             return None
-        return f"{told}, and check on that: {checked}"
+        return f"{outcome}, and check on that: {checked}"
 
 
 class Explains:
-    """The table of the bound that `bound` prints, with rows that add up to it, and then what is taken for granted; or the
-    same refusal, with more lines on standard error after it."""
+    """The table of the bound that `bound` prints, with rows that add up to it, and then what is taken for
+    granted; or the same refusal, with more lines on standard error after it."""
 
     def __init__(self, bench, words, files):
         self.bench, self.words, self.files = bench, words, files
 
-    def __call__(self, told, folder):
+    def __call__(self, outcome, folder):
         bound = self.bench.ask(["bound", *self.words[1:]], self.files)[0]
         if bound.status:
-            is_same = (told.status, told.out) == (bound.status, bound.out) and told.err.startswith(bound.err)
-            return None if is_same else f"{told}, and bound: {bound}"
+            is_same = (outcome.status, outcome.out) == (bound.status, bound.out)
+            is_same = is_same and outcome.err.startswith(bound.err)
+            return None if is_same else f"{outcome}, and bound: {bound}"
         number = int(re.search(rb"^bound (\d+)$", bound.out, re.M)[1])
-        table = told.out.partition(b"\n\n")[0].rstrip(b"\n") + b"\n"
+        table = outcome.out.partition(b"\n\n")[0].rstrip(b"\n") + b"\n"
         ticks = re.findall(rb"^ *\d+ +\d+(?:-\d+)? +(\d+) +\d+\.\d% ", table, re.M)
         microseconds = f"{number // 8}.{number % 8 * 125:03}"
         end = f"       total {number:6} 100.0%\nbound {number} ticks, {microseconds} microseconds at 8 MHz\n"
-        is_right = not told.status and table.endswith(end.encode()) and sum(map(int, ticks)) == number
-        return None if is_right and not told.err else f"{told}, where the bound is {number}"
+        is_right = not outcome.status and table.endswith(end.encode()) and sum(map(int, ticks)) == number
+        return None if is_right and not outcome.err else f"{outcome}, where the bound is {number}"
 
 
 class OfSource:
@@ -82,14 +83,14 @@ class OfSource:
     def __init__(self, bench, source):
         self.bench, self.source = bench, source
 
-    def __call__(self, told, folder):
+    def __call__(self, outcome, folder):
         files = {"judged.s": self.source}
         asm, left = self.bench.ask(["asm", "judged.s", "made.image"], files)
         if asm.status:
-            return None if told == asm else f"{told}, and asm: {asm}"
-        if told.status or told.err:
-            return str(told)
-        return self.fault(told, asm, readers.read_image(left["made.image"]))
+            return None if outcome == asm else f"{outcome}, and asm: {asm}"
+        if outcome.status or outcome.err:
+            return str(outcome)
+        return self.fault(outcome, asm, readers.read_image(left["made.image"]))
 
 
 def cut(row, room):
@@ -100,18 +101,19 @@ def cut(row, room):
 
 
 class Lists(OfSource):
-    """Each line of the source in turn, up to column 80, beside exactly the words of the image, and then what `asm` prints."""
+    """Each line of the source in turn, up to column 80, beside exactly the words of the image, and then what
+    `asm` prints."""
 
-    def fault(self, told, asm, words):
-        rows = told.out.removesuffix(asm.out).split(b"\n")[:-1]
+    def fault(self, outcome, asm, words):
+        rows = outcome.out.removesuffix(asm.out).split(b"\n")[:-1]
         stands = re.findall(rb"^([0-9A-F]{8})  ([0-9A-F]{8})(?:  ?|$)", b"\n".join(rows), re.M)
-        if not told.out.endswith(asm.out) or {int(at, 16): int(word, 16) for at, word in stands} != words:
-            return f"other words than those of the image: {told}"
+        if not outcome.out.endswith(asm.out) or {int(at, 16): int(word, 16) for at, word in stands} != words:
+            return f"other words than those of the image: {outcome}"
         if self.source[:8] == readers.MAGIC:
-            return None if len(rows) == len(words) else f"other rows than words: {told}"
+            return None if len(rows) == len(words) else f"other rows than words: {outcome}"
         lines = self.source.removesuffix(b"\n").split(b"\n") if self.source else []
         numbered = [cut(b"%8d  %s" % (n + 1, line), 80 - 18) for n, line in enumerate(lines)]
-        return None if [it[18:] for it in rows if it[18:]] == numbered else f"other lines: {told}"
+        return None if [it[18:] for it in rows if it[18:]] == numbered else f"other lines: {outcome}"
 
 
 class Drafts(OfSource):
@@ -119,13 +121,14 @@ class Drafts(OfSource):
 
     UNREADABLE = ("NotToml", "UnknownKey", "WrongKind", "UnknownLabel")
 
-    def fault(self, told, asm, words):
-        filled_in = told.out.replace(b'bound = "?"', b"bound = 1").replace(b'kind = "?"', b'kind = "leave"')
+    def fault(self, outcome, asm, words):
+        filled_in = outcome.out.replace(b'bound = "?"', b"bound = 1")
+        filled_in = filled_in.replace(b'kind = "?"', b'kind = "leave"')
         files = {"judged.s": self.source, "draft.toml": filled_in}
         bound = self.bench.ask(["bound", "judged.s", "draft.toml"], files)[0]
         found = refusal(bound)
-        if readers.document(told.out) is None or found and found[0] in self.UNREADABLE and not found[1]:
-            return f"{told}, and bound by it: {bound}"
+        if readers.document(outcome.out) is None or found and found[0] in self.UNREADABLE and not found[1]:
+            return f"{outcome}, and bound by it: {bound}"
         return fault_of("bound", bound)
 
 
@@ -224,18 +227,18 @@ class ReadAs:
     def __init__(self, command, fault, names):
         self.command, self.fault, self.names = command, fault, names
 
-    def __call__(self, told, folder):
+    def __call__(self, outcome, folder):
         if self.fault:
-            return refused(self.fault)(told, folder)
-        fault = fault_of(self.command, told)
-        found = refusal(told)
+            return refused(self.fault)(outcome, folder)
+        fault = fault_of(self.command, outcome)
+        found = refusal(outcome)
         if not fault and found and found[0] in self.names and not found[1]:
-            return f"no fault was foretold: {told}"
+            return f"no fault was foretold: {outcome}"
         return fault
 
 
 def labels_of(bench, source):
-    """A source's labels with their addresses, found with a table of its labels that `asm` makes behind it."""
+    """A source's labels with their addresses, found with a table of its labels that `asm` makes after it."""
     names = sorted(readers.labels(source))
     table = source + b"         ORG    &3000\n" + "".join(f"         DCD    {it}\n" for it in names).encode()
     left = bench.ask(["asm", "handler.s", "made.image"], {"handler.s": table})[1]
@@ -449,19 +452,21 @@ class SourceCut:
     def __init__(self, text, words):
         self.text, self.words = text, words
 
-    def __call__(self, told, folder):
-        fault = fault_of("asm", told)
+    def __call__(self, outcome, folder):
+        fault = fault_of("asm", outcome)
         if fault:
             return fault
         last = self.text.count(b"\n") + (not self.text.endswith(b"\n"))
-        if told.status:
-            name, place = refusal(told)
+        if outcome.status:
+            name, place = refusal(outcome)
             is_last = place == f" at line {last}"
-            return None if is_last or name == "LabelMissing" else f"the lines above {last} are right: {told}"
+            if is_last or name == "LabelMissing":
+                return None
+            return f"the lines above {last} are right: {outcome}"
         made = readers.read_image((folder / "made.image").read_bytes())
         # The last line may have been cut to another word.
         others = [it for it in made if self.words.get(it) != made[it]]
-        return None if len(others) <= 1 else f"other words than those of the whole source: {told}"
+        return None if len(others) <= 1 else f"other words than those of the whole source: {outcome}"
 
 
 def source_cuts(bench):
@@ -548,12 +553,12 @@ class Begins:
     def __init__(self, front):
         self.front = front
 
-    def __call__(self, told, folder):
-        if told.status or told.err or not told.out.startswith(self.front):
-            return f"{told}; standard output does not begin with {shown(self.front)}"
-        names = re.findall(rb"^refused: (\w+)$", told.out, re.M)
+    def __call__(self, outcome, folder):
+        if outcome.status or outcome.err or not outcome.out.startswith(self.front):
+            return f"{outcome}; standard output does not begin with {shown(self.front)}"
+        names = re.findall(rb"^refused: (\w+)$", outcome.out, re.M)
         known = {b"UnknownCommand", b"BadNumber", b"NoPage", b"MachineStopped", b"TooManyBreaks"}
-        return None if set(names) <= known else str(told)
+        return None if set(names) <= known else str(outcome)
 
 
 def code(bench):
@@ -581,21 +586,22 @@ def code(bench):
 class Certified:
     """A certificate, and no refusal."""
 
-    def __call__(self, told, folder):
-        return str(told) if told.status or told.err or not told.out.endswith(b"\nstop\n") else None
+    def __call__(self, outcome, folder):
+        is_right = not outcome.status and not outcome.err and outcome.out.endswith(b"\nstop\n")
+        return None if is_right else str(outcome)
 
 
 class Made:
     """Any answer that is allowed to `asm`; an image is one by the reader, and in its one spelling."""
 
-    def __call__(self, told, folder):
-        fault = fault_of("asm", told)
-        if fault or told.status:
+    def __call__(self, outcome, folder):
+        fault = fault_of("asm", outcome)
+        if fault or outcome.status:
             return fault
         data = (folder / "made.image").read_bytes()
         read = readers.read_image(data)
         is_right = isinstance(read, dict) and readers.image_bytes(readers.runs(read)) == data
-        return None if is_right else f"{told}, and the image is {shown(data)}"
+        return None if is_right else f"{outcome}, and the image is {shown(data)}"
 
 
 def lines(bench):

@@ -60,49 +60,50 @@ SAMPLES = {name: int(it) for name, it in re.findall(r"^\| `(\w+)` \| (\d+) \|", 
 ALL_KEYS = re.search(r"^```toml file=all_keys.toml\n(.*?)^```$", MANUAL, re.M | re.S)[1].encode()
 
 
-def refusal(told):
+def refusal(outcome):
     """The name of the refusal on standard error, and what stands after it, or None."""
-    found = re.fullmatch(rb"refused: (\w+)((?: at [\w ]+)?)\n", told.err)
+    found = re.fullmatch(rb"refused: (\w+)((?: at [\w ]+)?)\n", outcome.err)
     return (found[1].decode(), found[2].decode()) if found else None
 
 
-def sections_of(told):
+def sections_of(outcome):
     """The sections that have the refusal on standard error."""
-    found = refusal(told)
+    found = refusal(outcome)
     if not found:
         return set()
     name, place = found
     return {title for title, it in REFUSALS.items() if name in it and re.fullmatch(it[name], place)}
 
 
-def ended_early(told):
-    """Whether an answer with status 1 and no refusal is the verdict No, the table of a bound that is more than
-    it may be, a run that does not keep its statement, or a machine that stopped."""
-    verdict = re.fullmatch(rb"no: (\w+)\n", told.out)
+def ended_early(outcome):
+    """Whether an answer with status 1 and no refusal is the verdict No, the table of a bound that is more
+    than it may be, a run that does not keep its statement, or a machine that stopped."""
+    verdict = re.fullmatch(rb"no: (\w+)\n", outcome.out)
     if verdict:
         return verdict[1].decode() in OBJECTIONS
-    if re.search(rb"^bound \d+ ticks, .*\n\Z", told.out, re.M):
+    if re.search(rb"^bound \d+ ticks, .*\n\Z", outcome.out, re.M):
         return True
-    if re.fullmatch(rb"step \d+, [0-9A-F]+(, line \d+)?: .+\n", told.out):
+    if re.fullmatch(rb"step \d+, [0-9A-F]+(, line \d+)?: .+\n", outcome.out):
         return True
-    return re.search(rb"^stopped \w+ at [0-9A-F]+\nticks \d+ elapsed \d+\n\Z", told.out, re.M) is not None
+    return re.search(rb"^stopped \w+ at [0-9A-F]+\nticks \d+ elapsed \d+\n\Z", outcome.out, re.M) is not None
 
 
-def fault_of(command, told):
+def fault_of(command, outcome):
     """What the manual does not allow in an answer, or None. Both outputs were read."""
-    if told.status not in range(5):
-        return str(told)
-    if told.status == 0:
-        return f"status 0 and standard error {shown(told.err)}" if told.err else None
-    if told.status == 1 and not told.err:
-        return None if command in ("check", "explain", "follow", "run", "trace") and ended_early(told) else str(told)
-    if told.status == 2:
-        return None if told.err and not told.out else str(told)
-    met = sections_of(told) & set(MET_BY.get(command, ()))
-    if told.out or not met:
-        return f"no answer of the manual: {told}"
-    name = refusal(told)[0]
-    return None if told.status == STATUSES.get(name, 1) else f"{name} with status {told.status}"
+    if outcome.status not in range(5):
+        return str(outcome)
+    if outcome.status == 0:
+        return f"status 0 and standard error {shown(outcome.err)}" if outcome.err else None
+    if outcome.status == 1 and not outcome.err:
+        may_end_so = command in ("check", "explain", "follow", "run", "trace")
+        return None if may_end_so and ended_early(outcome) else str(outcome)
+    if outcome.status == 2:
+        return None if outcome.err and not outcome.out else str(outcome)
+    met = sections_of(outcome) & set(MET_BY.get(command, ()))
+    if outcome.out or not met:
+        return f"no answer of the manual: {outcome}"
+    name = refusal(outcome)[0]
+    return None if outcome.status == STATUSES.get(name, 1) else f"{name} with status {outcome.status}"
 
 
 class Allowed:
@@ -111,13 +112,13 @@ class Allowed:
     def __init__(self, command, *names):
         self.command, self.names = command, names
 
-    def __call__(self, told, folder):
-        fault = fault_of(self.command, told)
+    def __call__(self, outcome, folder):
+        fault = fault_of(self.command, outcome)
         if fault or not self.names:
             return fault
-        found = refusal(told)
+        found = refusal(outcome)
         is_named = found and found[0] in self.names
-        return None if is_named else f"not refused as {' or '.join(self.names)}: {told}"
+        return None if is_named else f"not refused as {' or '.join(self.names)}: {outcome}"
 
 
 class Is:
@@ -126,11 +127,11 @@ class Is:
     def __init__(self, status, out=b"", err=b""):
         self.wanted = (status, out, err)
 
-    def __call__(self, told, folder):
-        if (told.status, told.out, told.err) == self.wanted:
+    def __call__(self, outcome, folder):
+        if (outcome.status, outcome.out, outcome.err) == self.wanted:
             return None
         status, out, err = self.wanted
-        return f"{told}; not status {status}, {shown(out)}, {shown(err)}"
+        return f"{outcome}; not status {status}, {shown(out)}, {shown(err)}"
 
 
 def refused(name, place=""):

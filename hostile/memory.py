@@ -6,7 +6,7 @@ import sys
 
 import worked
 from manual import ALL_KEYS, refused
-from running import TOP, Told, Trial, counts, shown
+from running import TOP, Outcome, Trial, counts, shown
 
 OLD_IMAGE = b"what stood here"
 
@@ -30,32 +30,32 @@ def settings(bench, at, goes_on=False, row=1):
     }
 
 
-def short_form(told):
-    """The answer without what `explain` says of a refusal after its one line, for which there may be no memory."""
-    return dataclasses.replace(told, err=b"".join(told.err.splitlines(keepends=True)[:1]))
+def short_form(outcome):
+    """The answer without what `explain` says after a refusal's one line, for which memory may be lacking."""
+    return dataclasses.replace(outcome, err=b"".join(outcome.err.splitlines(keepends=True)[:1]))
 
 
 @dataclasses.dataclass(frozen=True)
-class Starved:
+class OutOfMemory:
     """The right answer, or the refusal, and the file of an image as it was or whole."""
 
-    right: Told
+    right: Outcome
     image: bytes | None
     before: bytes | None
     is_within: bool
 
-    def __call__(self, told, folder):
+    def __call__(self, outcome, folder):
         requests, refused = counts(folder)
         if self.is_within != (refused > 0):
             return f"{refused} of {requests} requests were refused"
-        is_short = refused and self.right.status == 1 and told == short_form(self.right)
-        if told != self.right and not is_short and not (refused and told.status == 3):
-            return f"{told}; {refused} of {requests} requests were refused"
-        if told.status == 3 and (told.out or told.err not in (b"", b"refused: Memory\n")):
-            return str(told)
+        is_short = refused and self.right.status == 1 and outcome == short_form(self.right)
+        if outcome != self.right and not is_short and not (refused and outcome.status == 3):
+            return f"{outcome}; {refused} of {requests} requests were refused"
+        if outcome.status == 3 and (outcome.out or outcome.err not in (b"", b"refused: Memory\n")):
+            return str(outcome)
         there = made_image(folder)
-        is_so = there == (self.image if told == self.right else self.before)
-        return None if is_so else f"{told}; the image's file holds {shown(there)}"
+        is_so = there == (self.image if outcome == self.right else self.before)
+        return None if is_so else f"{outcome}; the image's file holds {shown(there)}"
 
 
 def made_image(folder):
@@ -65,11 +65,11 @@ def made_image(folder):
 
 def requests_of(bench, command):
     """How many requests a command makes for which nothing is refused."""
-    told, left = bench.ask(
+    outcome, left = bench.ask(
         command.words, command.files, stdin=command.stdin, settings=settings(bench, 0)
     )
-    if told != command.told:
-        sys.exit(f"{command.name}: another answer with the library alone: {told}")
+    if outcome != command.outcome:
+        sys.exit(f"{command.name}: another answer with the library alone: {outcome}")
     number = int.from_bytes(left["counts"][:8], "little")
     if not number:
         sys.exit(f"{command.name}: the library saw no request for memory: is the program linked statically?")
@@ -88,7 +88,7 @@ def refused_in_turn(bench, command):
         for at in [*range(1, most + 1, most // 100 if most > 5000 else 1), most + 1]:
             for goes_on in (False, True):
                 which = f"request {at} of {most}{' and all later ones' if goes_on else ''}"
-                judge = Starved(command.told, image, old, at <= most)
+                judge = OutOfMemory(command.outcome, image, old, at <= most)
                 how = {"stdin": command.stdin, "settings": settings(bench, at, goes_on)}
                 found.append(Trial(f"{command.name}: {which}", command.words, judge, files, **how))
     return found
@@ -102,7 +102,7 @@ def larger(bench):
     yield worked.command(bench, "debug handler.s machine.toml", files, b"step 1024\nticks\n")
     bound = worked.command(bench, "bound handler.s handler.toml", worked.sample("dispatch"))
     yield bound
-    files = {**bound.files, "handler.cert": bound.told.out}
+    files = {**bound.files, "handler.cert": bound.outcome.out}
     yield worked.command(bench, "check handler.s handler.toml handler.cert", files)
     of_handler = ("explain handler.s handler.toml", "graph handler.s handler.toml")
     for line in ("list handler.s", *of_handler, "draft handler.s irq"):
@@ -115,12 +115,12 @@ class Limited:
     def __init__(self, right, image):
         self.right, self.image = right, image
 
-    def __call__(self, told, folder):
+    def __call__(self, outcome, folder):
         there = made_image(folder)
-        if told == self.right and there == self.image:
+        if outcome == self.right and there == self.image:
             return None
-        is_refused = told.status == 3 and told.err == b"refused: Memory\n" and not told.out
-        return None if is_refused and there is None else f"{told}; the image's file holds {shown(there)}"
+        is_refused = outcome.status == 3 and outcome.err == b"refused: Memory\n" and not outcome.out
+        return None if is_refused and there is None else f"{outcome}; the image's file holds {shown(there)}"
 
 
 def limits(bench):
@@ -130,7 +130,7 @@ def limits(bench):
     for limit in range(8_000, 40_000, 1_000):
         shell = f"ulimit -v {limit}; exec {{}}"
         name = f"asm: a source of 65,536 labels in {limit} KiB"
-        yield Trial(name, made.words, Limited(made.told, made.image), made.files, shell=shell)
+        yield Trial(name, made.words, Limited(made.outcome, made.image), made.files, shell=shell)
     files = {"handler.s": worked.ROUND, "machine.toml": worked.LONG}
     words, session = ["debug", "handler.s", "machine.toml"], b"step 1024\n" * 10_000
     how = {"stdin": session, "shell": "ulimit -v 50000; exec {}"}
@@ -141,8 +141,8 @@ def trials(bench):
     build(bench)
     commands = [*worked.commands(bench), *worked.each_answer(bench), *larger(bench)]
     for it in commands:
-        if it.told.status not in (0, 1, 2, 4):
-            sys.exit(f"{it.name}: {it.told}")
+        if it.outcome.status not in (0, 1, 2, 4):
+            sys.exit(f"{it.name}: {it.outcome}")
     found = [trial for it in commands for trial in refused_in_turn(bench, it)]
     refusing = sum(it.judge.is_within for it in found)
     print(f"memory: {len(commands)} commands, {refusing} runs in which requests are refused", flush=True)

@@ -30,21 +30,21 @@ class Leaves:
     def __init__(self, judge, name, content):
         self.judge, self.name, self.content = judge, name, content
 
-    def __call__(self, told, folder):
-        fault = self.judge(told, folder)
+    def __call__(self, outcome, folder):
+        fault = self.judge(outcome, folder)
         file = folder / self.name
         there = file.read_bytes() if file.is_file() else None
         if fault or there == self.content:
             return fault
-        return f"{told}; the file {self.name} holds {shown(there)}, not {shown(self.content)}"
+        return f"{outcome}; the file {self.name} holds {shown(there)}, not {shown(self.content)}"
 
 
 def stream_rows(command):
     """What is done to a command's streams, and what it has to answer."""
-    told = command.told
-    right, silent = Is(told.status, told.out, told.err), Is(told.status, told.out)
-    unprinted = FAILED if told.out else right
-    unseen = Is(4 if told.out else told.status)
+    outcome = command.outcome
+    right, silent = Is(outcome.status, outcome.out, outcome.err), Is(outcome.status, outcome.out)
+    unprinted = FAILED if outcome.out else right
+    unseen = Is(4 if outcome.out else outcome.status)
     is_debug = command.words[:1] == ["debug"]
     return [
         ("standard output full", "exec {} >/dev/full", unprinted),
@@ -72,7 +72,7 @@ def long_answers(bench):
     """A trace that does not fit into a pipe."""
     files = {"handler.s": worked.ROUND, "machine.toml": worked.LONG}
     trace = worked.command(bench, "trace handler.s machine.toml", files)
-    front = Is(4, trace.told.out[:10], FAILED.wanted[2])
+    front = Is(4, trace.outcome.out[:10], FAILED.wanted[2])
     rows = [
         ("a reader that goes away", "", 10, front),
         ("a reader that goes away, and SIGPIPE ignored", "trap '' PIPE; exec {}", 10, front),
@@ -81,7 +81,7 @@ def long_answers(bench):
             "a file that may have 64 KiB",
             "trap '' XFSZ; ulimit -f 64; exec {} >answer",
             None,
-            Leaves(FAILED, "answer", trace.told.out[: 64 * 1024]),
+            Leaves(FAILED, "answer", trace.outcome.out[: 64 * 1024]),
         ),
     ]
     for name, shell, taken, judge in rows:
@@ -94,9 +94,9 @@ def fronts(commands):
         return
     for it in commands:
         # A longer answer would take too many runs.
-        for most in range(min(len(it.told.out), 1000)):
+        for most in range(min(len(it.outcome.out), 1000)):
             shell = f"trap '' XFSZ; exec prlimit --fsize={most} {{}} >answer"
-            judge = Leaves(FAILED, "answer", it.told.out[:most])
+            judge = Leaves(FAILED, "answer", it.outcome.out[:most])
             name = f"{it.name}: standard output takes {most} bytes"
             yield Trial(name, it.words, judge, it.files, stdin=it.stdin, shell=shell)
 
@@ -125,7 +125,7 @@ def locked_folder(folder):
 
 def image_files(command):
     """Names under which no image can be written, and what stands there then."""
-    source, line, image = command.files["handler.s"], command.told.out, command.image
+    source, line, image = command.files["handler.s"], command.outcome.out, command.image
     pipe = "mkfifo pipe; cat pipe >copy & {}; status=$?; wait; exit $status"
     rows = [
         ("a folder", "folder", lambda folder: (folder / "folder").mkdir(), "", FAILED),
@@ -215,7 +215,7 @@ def unread(command, file, refusal, reason):
 def files(commands):
     """Each file that a command reads, replaced by what cannot be read, never ends, or is a pipe."""
     for it in commands:
-        right = Is(it.told.status, it.told.out, it.told.err)
+        right = Is(it.outcome.status, it.outcome.out, it.outcome.err)
         for at, word in enumerate(it.words):
             if word not in it.files:
                 continue
@@ -288,8 +288,8 @@ def lines(command):
 class Usage:
     """Wrong words: status 2, and something on standard error alone."""
 
-    def __call__(self, told, folder):
-        return None if told.status == 2 and told.err and not told.out else str(told)
+    def __call__(self, outcome, folder):
+        return None if outcome.status == 2 and outcome.err and not outcome.out else str(outcome)
 
 
 def trials(bench):

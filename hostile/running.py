@@ -18,7 +18,7 @@ MOST_KEPT = 100
 
 
 @dataclasses.dataclass(frozen=True)
-class Told:
+class Outcome:
     """What a run answered. Its status is None if it did not end in time, below 0 if a signal ended it."""
 
     status: int | None
@@ -82,8 +82,8 @@ class Bench:
         trial = Trial("", words, None, files, **how)
         with tempfile.TemporaryDirectory(dir=self.place) as folder:
             folder = pathlib.Path(folder)
-            told = made(self, trial, folder)
-            return told, {it.name: it.read_bytes() for it in folder.iterdir() if it.is_file()}
+            outcome = made(self, trial, folder)
+            return outcome, {it.name: it.read_bytes() for it in folder.iterdir() if it.is_file()}
 
     def keep(self, trial):
         """Keeps what a trial's folder held at its start, and answers how to repeat the trial."""
@@ -111,7 +111,7 @@ def fill(trial, folder):
 
 
 def made(bench, trial, folder):
-    """Makes a trial in its folder, and answers what it told."""
+    """Makes a trial in its folder, and answers its outcome."""
     fill(trial, folder)
     settings = {key: str(value) for key, value in trial.settings.items()}
     how = {
@@ -136,8 +136,8 @@ def made(bench, trial, folder):
     except subprocess.TimeoutExpired:
         os.killpg(process.pid, signal.SIGKILL)
         process.communicate()
-        return Told(None, b"", b"")
-    return Told(process.returncode, out + (rest or b""), err)
+        return Outcome(None, b"", b"")
+    return Outcome(process.returncode, out + (rest or b""), err)
 
 
 def counts(folder):
@@ -166,8 +166,8 @@ def begin_worker():
 def judged(number):
     """A trial's number, what is wrong with the answer, and how to repeat it; or None."""
     trial = TRIALS[number]
-    told = made(BENCH, trial, FOLDER)
-    fault = f"no end in {trial.seconds} seconds" if told.status is None else trial.judge(told, FOLDER)
+    outcome = made(BENCH, trial, FOLDER)
+    fault = f"no end in {trial.seconds} seconds" if outcome.status is None else trial.judge(outcome, FOLDER)
     emptied(FOLDER)
     return (number, fault, BENCH.keep(trial)) if fault else None
 

@@ -85,7 +85,7 @@ class Command:
     words: list
     files: dict
     stdin: bytes
-    told: object
+    outcome: object
     image: bytes | None
 
     @property
@@ -104,8 +104,8 @@ def profile():
 
 def answered(bench, words, files, stdin=b""):
     """The command with the answer that it gives when nothing is in its way."""
-    told, left = bench.ask(words, files, stdin=stdin)
-    return Command(words, files, stdin, told, left.get("made.image"))
+    outcome, left = bench.ask(words, files, stdin=stdin)
+    return Command(words, files, stdin, outcome, left.get("made.image"))
 
 
 def command(bench, line, files, stdin=b""):
@@ -129,9 +129,9 @@ def commands(bench):
 def priced(bench, words, files):
     """The commands that have prices, over these words for profile and source."""
     bound = command(bench, f"bound {words} handler.toml", {**files, "handler.toml": STATEMENT})
-    judged = {**bound.files, "handler.cert": bound.told.out}
+    judged = {**bound.files, "handler.cert": bound.outcome.out}
     # Of another bound, so that the status is 1.
-    forged = {**bound.files, "handler.cert": bound.told.out.replace(b"bound ", b"bound 1", 1)}
+    forged = {**bound.files, "handler.cert": bound.outcome.out.replace(b"bound ", b"bound 1", 1)}
     machine = {**files, "machine.toml": MACHINE}
     followed = {**bound.files, "machine.toml": MACHINE}
     # A limit of two steps, which end inside the handler: the status is 1.
