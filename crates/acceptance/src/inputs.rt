@@ -38,9 +38,9 @@ const TOO_LONG: File = (b"#", LIMIT + 1);
 const NONE: File = (b"", 0);
 
 // A status, and what standard output and standard error then hold.
-type Told = (u8, &'static [u8], &'static [u8]);
+type Outcome = (u8, &'static [u8], &'static [u8]);
 
-const CERTIFICATE: Told = (
+const CERTIFICATE: Outcome = (
     0,
     b"arcwcet certificate 1
 bound 9
@@ -52,13 +52,13 @@ stop
     b"",
 );
 
-const UNKNOWN_COMMAND: Told = (0, b"refused: UnknownCommand\n", b"");
+const UNKNOWN_COMMAND: Outcome = (0, b"refused: UnknownCommand\n", b"");
 
-const RAN: Told = (0, countdown::RAN, b"");
+const RAN: Outcome = (0, countdown::RAN, b"");
 
-const REFUSED: Told = (1, b"", b"refused: InputTooLong\n");
+const REFUSED: Outcome = (1, b"", b"refused: InputTooLong\n");
 
-const DEVICE: Told = (4, b"", b"refused: Device\n");
+const DEVICE: Outcome = (4, b"", b"refused: Device\n");
 
 // A byte, how often it appears in standard input, how that fails then in place of its end, and how much of
 // it the program leaves.
@@ -89,7 +89,7 @@ const ASM: &[&str] = &["asm"];
 const DEBUG: &[&str] = &["debug"];
 
 // A command with its options; the files `source`, `second` and `profile`; its input, and the answer.
-type Row = (&'static [&'static str], [File; 3], Input, Told);
+type Row = (&'static [&'static str], [File; 3], Input, Outcome);
 
 const ROWS: [Row; 15] = [
     (BOUND, [TOO_LONG, ENTRY, NONE], NOTHING, REFUSED),

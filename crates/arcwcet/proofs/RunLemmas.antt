@@ -52,21 +52,21 @@ module _ {S O : Type 0} (reads : Reading S) (taken : O → Option (List ℕ)) (f
     done = λ e. absurd (omega (arith, e));
     denied = λ e. absurd (omega (arith, e));
     failed = λ e. absurd (omega (arith, e));
-    starved = λ e. (λ changed. inl fails, same);
+    out_of_memory = λ e. (λ changed. inl fails, same);
     known = inr (inr (inl refl));
   }
   unread store_fault.Device fails same = record {
     done = λ e. absurd (omega (arith, e));
     denied = λ e. absurd (omega (arith, e));
     failed = λ e. inl (fails, same);
-    starved = λ e. absurd (omega (arith, e));
+    out_of_memory = λ e. absurd (omega (arith, e));
     known = inr (inr (inr refl));
   }
   unread store_fault.InputTooLong fails same = record {
     done = λ e. absurd (omega (arith, e));
     denied = λ e. inr (inl fails, same);
     failed = λ e. absurd (omega (arith, e));
-    starved = λ e. absurd (omega (arith, e));
+    out_of_memory = λ e. absurd (omega (arith, e));
     known = inr (inl refl);
   }
 
@@ -80,7 +80,7 @@ module _ {S O : Type 0} (reads : Reading S) (taken : O → Option (List ℕ)) (f
       done = λ e. printed;
       denied = λ e. absurd (omega (arith, e));
       failed = λ e. absurd (omega (arith, e));
-      starved = λ e. absurd (omega (arith, e));
+      out_of_memory = λ e. absurd (omega (arith, e));
       known = inl refl;
     }
 
@@ -89,7 +89,7 @@ module _ {S O : Type 0} (reads : Reading S) (taken : O → Option (List ℕ)) (f
       done = λ e. absurd (omega (arith, e));
       denied = λ e. inl printed;
       failed = λ e. absurd (omega (arith, e));
-      starved = λ e. absurd (omega (arith, e));
+      out_of_memory = λ e. absurd (omega (arith, e));
       known = inr (inl refl);
     }
 
@@ -106,7 +106,7 @@ module _ {S O : Type 0} (reads : Reading S) (taken : O → Option (List ℕ)) (f
                 done = λ e. absurd (omega (arith, e, three));
                 denied = λ e. absurd (omega (arith, e, three));
                 failed = λ e. absurd (omega (arith, e, three));
-                starved = λ e. (λ changed. inr (record { files = files; read = read }), same);
+                out_of_memory = λ e. (λ changed. inr (record { files = files; read = read }), same);
                 known = inr (inr (inl three));
               }
           | of_device d ↦
@@ -115,7 +115,7 @@ module _ {S O : Type 0} (reads : Reading S) (taken : O → Option (List ℕ)) (f
                 done = λ e. absurd (omega (arith, e, four));
                 denied = λ e. absurd (omega (arith, e, four));
                 failed = λ e. inr (record { files = files; read = read; fails = device d });
-                starved = λ e. absurd (omega (arith, e, four));
+                out_of_memory = λ e. absurd (omega (arith, e, four));
                 known = inr (inr (inr four));
               }
           | of_other memory other one ↦
@@ -124,7 +124,7 @@ module _ {S O : Type 0} (reads : Reading S) (taken : O → Option (List ℕ)) (f
                 done = λ e. absurd (omega (arith, e, here));
                 denied = λ e. inr (inr (record { files = files; read = read; fault = fault; not_memory = memory; not_device = other; refused = holds }), quiet other);
                 failed = λ e. absurd (omega (arith, e, here));
-                starved = λ e. absurd (omega (arith, e, here));
+                out_of_memory = λ e. absurd (omega (arith, e, here));
                 known = inr (inl here);
               }
         ]
@@ -146,9 +146,9 @@ module _ {S O : Type 0} (reads : Reading S) (taken : O → Option (List ℕ)) (f
 
   pub ran_of : (before after : O) (kept lent : Texts) → lent ≡ kept → ReadsAll reads old names kept new → (result : Result Bool ReportFault) → PrintsOrRefusesOf taken failures asked lent before after result
       → (status : ℕ) → status ≡ answer_status result → RunsOf reads taken failures asked old new before after status
-  ran_of before after kept lent same read result tells =
+  ran_of before after kept lent same read result printed =
       answered_ran reads taken failures (text_of asked) (fault_of asked) (files_of asked) old new before after kept (subst (λ (n : Texts). ReadsAll reads old n kept new) named read)
-      result (subst (λ (files : Texts). PrintsOrRefusesOf taken failures asked files before after result) same tells)
+      result (subst (λ (files : Texts). PrintsOrRefusesOf taken failures asked files before after result) same printed)
 
 -- what is refused has another status than 0
 pub refused_status : (fault : ReportFault) (status : ℕ) → status ≡ report_status fault → status ≡ 0 → ⊥
@@ -176,7 +176,7 @@ module _ {S O : Type 0} (reads : Reading S) (writes : Writing S) (taken : O → 
       | inl unread ↦ inr (inr unread.0, unread.1)
       | inr printed ↦ absurd printed.fails.is_text.1
     ];
-    starved = r.starved;
+    out_of_memory = r.out_of_memory;
     known = r.known;
   }
 
@@ -230,10 +230,10 @@ module _ {O : Type 0} (taken : O → Option (List ℕ)) (failures : O → ℕ) (
       plain (inl b) = inl (record { profile = b.profile; is = b.is; holds = answers_plain (Is b.profile) (IsFine b.profile) (IsFault b.profile) result b.holds })
       plain (inr u) = inr (record { fault = u.fault; no_profile = u.no_profile; answered = ap answered u.answered; same = u.same })
 
-  module _ (IsTold : Bool → List ℕ → Type 0) (IsRefused : ReportFault → Type 0) where
+  module _ (IsPrinted : Bool → List ℕ → Type 0) (IsRefused : ReportFault → Type 0) where
     pub answered_answer : (IsText : Bool → List ℕ → Type 0) (IsFine : Type 0) (IsFault : ReportFault → Type 0)
-        → ((x : Bool) (text : List ℕ) → IsText x text → IsTold x text) → ((fault : ReportFault) → IsFault fault → IsRefused fault)
-        → (result : Result Bool ReportFault) → Answers taken failures IsText IsFine IsFault before after result → PrintsOrRefuses taken failures IsTold IsRefused before after result
+        → ((x : Bool) (text : List ℕ) → IsText x text → IsPrinted x text) → ((fault : ReportFault) → IsFault fault → IsRefused fault)
+        → (result : Result Bool ReportFault) → Answers taken failures IsText IsFine IsFault before after result → PrintsOrRefuses taken failures IsPrinted IsRefused before after result
     answered_answer IsText IsFine IsFault texts faults (Ok x) h =
         let p = h.output.printed in
         record {
@@ -256,7 +256,7 @@ module _ {O : Type 0} (taken : O → Option (List ℕ)) (failures : O → ℕ) (
       no_device None h = h
       no_device (Some t) h = h
 
-      answered_unpriced : (result : Result Bool ReportFault) → IsUnpriced file before after result → PrintsOrRefuses taken failures IsTold IsRefused before after result
+      answered_unpriced : (result : Result Bool ReportFault) → IsUnpriced file before after result → PrintsOrRefuses taken failures IsPrinted IsRefused before after result
       answered_unpriced (Ok x) u = absurd (cc u.answered)
       answered_unpriced (Err fault) u =
           let same : u.fault ≡ fault = cc u.answered in
@@ -271,9 +271,9 @@ module _ {O : Type 0} (taken : O → Option (List ℕ)) (failures : O → ℕ) (
           }
 
     pub answered_priced : (file : Option (List ℕ)) (IsText : Profile → Bool → List ℕ → Type 0) (IsFine : Profile → Type 0) (IsFault : Profile → ReportFault → Type 0)
-        → ((x : Bool) (text : List ℕ) → ByProfile file (λ p. IsText p x text) → IsTold x text) → ((fault : ReportFault) → PricedFault file IsFault fault → IsRefused fault)
+        → ((x : Bool) (text : List ℕ) → ByProfile file (λ p. IsText p x text) → IsPrinted x text) → ((fault : ReportFault) → PricedFault file IsFault fault → IsRefused fault)
         → (result : Result Bool ReportFault) → Priced file (λ p. Answers taken failures (IsText p) (IsFine p) (IsFault p) before after result) before after result
-        → PrintsOrRefuses taken failures IsTold IsRefused before after result
+        → PrintsOrRefuses taken failures IsPrinted IsRefused before after result
     answered_priced file IsText IsFine IsFault texts faults result (inl b) =
         answered_answer (IsText b.profile) (IsFine b.profile) (IsFault b.profile)
         (λ x text is. texts x text (record { profile = b.profile; is = b.is; holds = is }))
@@ -333,58 +333,58 @@ module _ {O : Type 0} (taken : O → Option (List ℕ)) (failures : O → ℕ) (
 
 -- ## `debug`
 
-module _ {S I O : Type 0} (reads : Reading S) (remaining : I → Option (List ℕ)) (taken : O → Option (List ℕ)) (failures : O → ℕ) (names : FileNames) (old new : S) (heard_old heard_new : I) (before after : O) where
+module _ {S I O : Type 0} (reads : Reading S) (remaining : I → Option (List ℕ)) (taken : O → Option (List ℕ)) (failures : O → ℕ) (names : FileNames) (old new : S) (input_old input_new : I) (before after : O) where
   -- a file could not be read
-  pub debug_unread : (fault : StoreFault) → FailsToRead reads old (two_of names) fault new → heard_new ≡ heard_old → after ≡ before → (status : ℕ) → status ≡ store_status fault
-      → RunsDebug reads remaining taken failures names old new heard_old heard_new before after status
-  debug_unread fault fails unheard same status is = inr (inl (record { fault = fault; fails = fails; status_is = is; unheard = unheard }), same)
+  pub debug_file_refused : (fault : StoreFault) → FailsToRead reads old (two_of names) fault new → input_new ≡ input_old → after ≡ before → (status : ℕ) → status ≡ store_status fault
+      → RunsDebug reads remaining taken failures names old new input_old input_new before after status
+  debug_file_refused fault fails input_unread same status is = inr (inl (record { fault = fault; fails = fails; status_is = is; input_unread = input_unread }), same)
 
   -- standard input could not
-  pub debug_unheard : (files : Texts) (fault : StoreFault) → ReadsAll reads old (two_of names) files new
-      → (fault ≡ store_fault.InputTooLong → (front : List ℕ) × (length front ≡ 16777217) × Consumes (remaining heard_old) (remaining heard_new) front) → after ≡ before → (status : ℕ) → status ≡ store_status fault
-      → RunsDebug reads remaining taken failures names old new heard_old heard_new before after status
-  debug_unheard files fault read too_long same status is = inr (inr (inl (record { files = files; read = read; fault = fault; status_is = is; too_long = too_long })), same)
+  pub debug_input_refused : (files : Texts) (fault : StoreFault) → ReadsAll reads old (two_of names) files new
+      → (fault ≡ store_fault.InputTooLong → (front : List ℕ) × (length front ≡ 16777217) × Consumes (remaining input_old) (remaining input_new) front) → after ≡ before → (status : ℕ) → status ≡ store_status fault
+      → RunsDebug reads remaining taken failures names old new input_old input_new before after status
+  debug_input_refused files fault read too_long same status is = inr (inr (inl (record { files = files; read = read; fault = fault; status_is = is; too_long = too_long })), same)
 
-  module _ (commands : List ℕ) (heard : Consumes (remaining heard_old) (remaining heard_new) commands) (at_end : IsAtEnd (remaining heard_new)) (few : length commands ≤ 16777216)
+  module _ (commands : List ℕ) (consumed : Consumes (remaining input_old) (remaining input_new) commands) (at_end : IsAtEnd (remaining input_new)) (few : length commands ≤ 16777216)
       (kept lent : Texts) (same : lent ≡ kept) (read : ReadsAll reads old (two_of names) kept new) where
     -- a session of the commands was printed, or refused
     pub debug_ran : (result : Result Bool ReportFault) → PrintsOrRefuses taken failures (λ answer. IsSessionOf commands answer lent) (RefusesTwo IsRunRefused lent) before after result
-        → (status : ℕ) → status ≡ answer_status result → RunsDebug reads remaining taken failures names old new heard_old heard_new before after status
-    debug_ran result tells status is =
+        → (status : ℕ) → status ≡ answer_status result → RunsDebug reads remaining taken failures names old new input_old input_new before after status
+    debug_ran result printed status is =
         inl (
           commands,
-          record { files = kept; read = read; heard = heard; at_end = at_end; few = few },
+          record { files = kept; read = read; consumed = consumed; at_end = at_end; few = few },
           answered_ran reads taken failures (IsSessionOf commands) (RefusesTwo IsRunRefused) (two_of names) old new before after kept read result
-              (subst (λ (files : Texts). PrintsOrRefuses taken failures (λ answer. IsSessionOf commands answer files) (RefusesTwo IsRunRefused files) before after result) same tells) status is,
+              (subst (λ (files : Texts). PrintsOrRefuses taken failures (λ answer. IsSessionOf commands answer files) (RefusesTwo IsRunRefused files) before after result) same printed) status is,
         )
 
 -- ## Without memory for the words
 
 module _ {S I O : Type 0} (reads : Reading S) (writes : Writing S) (remaining : I → Option (List ℕ)) (taken : O → Option (List ℕ)) (failures : O → ℕ) (store : S) (input : I) (out : O) where
-  starved_run : (IsText : Bool → Texts → List ℕ → Type 0) (IsFault : Texts → ReportFault → Type 0) (names : Texts) → Runs reads taken failures IsText IsFault names store store out out 3
-  starved_run IsText IsFault names = record {
+  run_out_of_memory : (IsText : Bool → Texts → List ℕ → Type 0) (IsFault : Texts → ReportFault → Type 0) (names : Texts) → Runs reads taken failures IsText IsFault names store store out out 3
+  run_out_of_memory IsText IsFault names = record {
     done = λ e. absurd (omega (arith, e));
     denied = λ e. absurd (omega (arith, e));
     failed = λ e. absurd (omega (arith, e));
-    starved = λ e. (λ changed. absurd (changed refl), refl);
+    out_of_memory = λ e. (λ changed. absurd (changed refl), refl);
     known = inr (inr (inl refl));
   }
 
-  starved_of : (asked : Asked) → RunsOf reads taken failures asked store store out out 3 × (input ≡ input)
-  starved_of asked = (starved_run (text_of asked) (fault_of asked) (files_of asked), refl)
+  command_out_of_memory : (asked : Asked) → RunsOf reads taken failures asked store store out out 3 × (input ≡ input)
+  command_out_of_memory asked = (run_out_of_memory (text_of asked) (fault_of asked) (files_of asked), refl)
 
-  pub starved_asked : (asked : Asked) → RunsAsked reads writes remaining taken failures asked store store input input out out 3
-  starved_asked (asm source image) = (asm_quiet reads writes taken failures source image store store out 3 (starved_run Nothing (fault_of (asm source image)) (source ∷ [])), refl)
-  starved_asked (debug n) = inr (inr (inr (refl, refl, refl)), refl)
-  starved_asked (list source) = starved_of (list source)
-  starved_asked (draft source entry) = starved_of (draft source entry)
-  starved_asked (run n) = starved_of (run n)
-  starved_asked (trace n) = starved_of (trace n)
-  starved_asked (bound n) = starved_of (bound n)
-  starved_asked (graph n) = starved_of (graph n)
-  starved_asked (explain n options) = starved_of (explain n options)
-  starved_asked (tight n edge) = starved_of (tight n edge)
-  starved_asked (check n cert) = starved_of (check n cert)
-  starved_asked (explain_verdict n cert) = starved_of (explain_verdict n cert)
-  starved_asked (visits n fiq k) = starved_of (visits n fiq k)
-  starved_asked (follow n machine) = starved_of (follow n machine)
+  pub asked_out_of_memory : (asked : Asked) → RunsAsked reads writes remaining taken failures asked store store input input out out 3
+  asked_out_of_memory (asm source image) = (asm_quiet reads writes taken failures source image store store out 3 (run_out_of_memory Nothing (fault_of (asm source image)) (source ∷ [])), refl)
+  asked_out_of_memory (debug n) = inr (inr (inr (refl, refl, refl)), refl)
+  asked_out_of_memory (list source) = command_out_of_memory (list source)
+  asked_out_of_memory (draft source entry) = command_out_of_memory (draft source entry)
+  asked_out_of_memory (run n) = command_out_of_memory (run n)
+  asked_out_of_memory (trace n) = command_out_of_memory (trace n)
+  asked_out_of_memory (bound n) = command_out_of_memory (bound n)
+  asked_out_of_memory (graph n) = command_out_of_memory (graph n)
+  asked_out_of_memory (explain n options) = command_out_of_memory (explain n options)
+  asked_out_of_memory (tight n edge) = command_out_of_memory (tight n edge)
+  asked_out_of_memory (check n cert) = command_out_of_memory (check n cert)
+  asked_out_of_memory (explain_verdict n cert) = command_out_of_memory (explain_verdict n cert)
+  asked_out_of_memory (visits n fiq k) = command_out_of_memory (visits n fiq k)
+  asked_out_of_memory (follow n machine) = command_out_of_memory (follow n machine)

@@ -151,7 +151,7 @@ module _ (source irq fiq : List ℕ) (profile : Profile) where
       absurd (omega (arith, same, a.1, r.1.1))
 
   -- the same of an answer
-  pub only_starved : {T : Type 0} (k : ℕ) (r : Result T ReportFault) → IfErr r (BeforeOutput (AreRefused source irq fiq k profile))
+  pub only_memory_or_device : {T : Type 0} (k : ℕ) (r : Result T ReportFault) → IfErr r (BeforeOutput (AreRefused source irq fiq k profile))
       → AreAccepted source irq fiq k profile → IfErr r (λ e. (e ≡ Memory) ⊎ (e ≡ Device))
-  only_starved k (Ok x) h a = tt
-  only_starved k (Err e) h a = visits_refusals k e a h.1
+  only_memory_or_device k (Ok x) h a = tt
+  only_memory_or_device k (Err e) h a = visits_refusals k e a h.1

@@ -88,8 +88,8 @@ module _ {S : Type 0} (reads : Reading S) (names : Texts) (old new : S) where
       ⊎ FailsToPrint IsText (taken before) (taken after) (failures before) (failures after)
 
   -- status 3: unless the store is as it was, a file could not be read for lack of memory, or all were read
-  abbrev pub IsStarvedRun : Type 0
-  IsStarvedRun = (new ≡ old → ⊥) → FailsToRead reads old names store_fault.Memory new ⊎ HasRead
+  abbrev pub IsOutOfMemory : Type 0
+  IsOutOfMemory = (new ≡ old → ⊥) → FailsToRead reads old names store_fault.Memory new ⊎ HasRead
 
 -- What a command did with the files of these names, by its status. At 0 it printed a text of `true`; at 1 it
 -- printed one of `false`, or the files are refused and nothing is printed; nor is anything for lack of
@@ -104,7 +104,7 @@ pub record Runs {S O : Type 0} (reads : Reading S) (taken : O → Option (List �
   pub failed : status ≡ 4
       → IsFailedRun reads names old new
       (λ files. OfSome (λ answer. IsText answer files)) taken failures before after
-  pub starved : status ≡ 3 → IsStarvedRun reads names old new × (after ≡ before)
+  pub out_of_memory : status ≡ 3 → IsOutOfMemory reads names old new × (after ≡ before)
   pub known : (status ≡ 0) ⊎ ((status ≡ 1) ⊎ ((status ≡ 3) ⊎ (status ≡ 4)))
 
 -- ## The files of a command, with a cycle profile's in front, where there is one
@@ -248,7 +248,7 @@ pub record HasAssembled {S : Type 0} (reads : Reading S) (writes : Writing S) (s
   pub printed : Appends out_old out_new report
 
 -- it was written, and the output failed within the report
-pub record FailsToTell {S : Type 0} (reads : Reading S) (writes : Writing S) (source image : List ℕ)
+pub record FailsToReport {S : Type 0} (reads : Reading S) (writes : Writing S) (source image : List ℕ)
     (old new : S) (out_old out_new : Option (List ℕ)) (before after : ℕ) : Type 0 where
   pub report : List ℕ
   pub written : HasWritten reads writes source image old new (Ok tt) report
@@ -270,56 +270,56 @@ pub record RunsAsm {S O : Type 0} (reads : Reading S) (writes : Writing S) (take
   pub denied : status ≡ 1
       → IsRefusedRun reads (source ∷ []) old new (fault_of (asm source image)) × (after ≡ before)
   pub failed : status ≡ 4
-      → FailsToTell reads writes source image old new (taken before) (taken after) (failures before)
+      → FailsToReport reads writes source image old new (taken before) (taken after) (failures before)
       (failures after)
       ⊎ ((FailsToWrite reads writes source image old new
       ⊎ FailsToRead reads old (source ∷ []) store_fault.Device new)
       × (after ≡ before))
-  pub starved : status ≡ 3 → IsStarvedRun reads (source ∷ []) old new × (after ≡ before)
+  pub out_of_memory : status ≡ 3 → IsOutOfMemory reads (source ∷ []) old new × (after ≡ before)
   pub known : (status ≡ 0) ⊎ ((status ≡ 1) ⊎ ((status ≡ 3) ⊎ (status ≡ 4)))
 
 -- ## `debug SOURCE MACHINE`
 
 module _ {S I : Type 0} (reads : Reading S) (remaining : I → Option (List ℕ)) (names : Texts) (old new : S)
-    (heard_old heard_new : I) where
+    (input_old input_new : I) where
   -- all files were read, and standard input to its end, which these commands are
-  pub record HasHeard (commands : List ℕ) : Type 0 where
+  pub record HasReadInput (commands : List ℕ) : Type 0 where
     pub files : Texts
     pub read : ReadsAll reads old names files new
-    pub heard : Consumes (remaining heard_old) (remaining heard_new) commands
-    pub at_end : IsAtEnd (remaining heard_new)
+    pub consumed : Consumes (remaining input_old) (remaining input_new) commands
+    pub at_end : IsAtEnd (remaining input_new)
     pub few : length commands ≤ 16777216
 
   -- a file could not be read, and standard input was not
-  pub record FailsBefore (status : ℕ) : Type 0 where
+  pub record FailsBeforeInput (status : ℕ) : Type 0 where
     pub fault : StoreFault
     pub fails : FailsToRead reads old names fault new
     pub status_is : status ≡ store_status fault
-    pub unheard : heard_new ≡ heard_old
+    pub input_unread : input_new ≡ input_old
 
   -- all files were read, and standard input failed, or it is too long and was left after its limit
-  pub record FailsToHear (status : ℕ) : Type 0 where
+  pub record FailsToReadInput (status : ℕ) : Type 0 where
     pub files : Texts
     pub read : ReadsAll reads old names files new
     pub fault : StoreFault
     pub status_is : status ≡ store_status fault
     pub too_long : fault ≡ store_fault.InputTooLong
         → (front : List ℕ) × (length front ≡ 16777217)
-        × Consumes (remaining heard_old) (remaining heard_new) front
+        × Consumes (remaining input_old) (remaining input_new) front
 
 module _ {S I O : Type 0} (reads : Reading S) (remaining : I → Option (List ℕ))
     (taken : O → Option (List ℕ)) (failures : O → ℕ) where
   -- What `debug` did: the files were read, and then standard input to its end, and the session with these
   -- commands is the report.
   abbrev pub RunsDebug : FileNames → S → S → I → I → O → O → ℕ → Type 0
-  RunsDebug n old new heard_old heard_new before after status =
+  RunsDebug n old new input_old input_new before after status =
       ((commands : List ℕ)
-      × HasHeard reads remaining (two_of n) old new heard_old heard_new commands
+      × HasReadInput reads remaining (two_of n) old new input_old input_new commands
       × Runs reads taken failures (IsSessionOf commands) (RefusesTwo IsRunRefused) (two_of n) old new before
       after status)
-      ⊎ ((FailsBefore reads remaining (two_of n) old new heard_old heard_new status
-      ⊎ (FailsToHear reads remaining (two_of n) old new heard_old heard_new status
-      ⊎ ((status ≡ 3) × (new ≡ old) × (heard_new ≡ heard_old))))
+      ⊎ ((FailsBeforeInput reads remaining (two_of n) old new input_old input_new status
+      ⊎ (FailsToReadInput reads remaining (two_of n) old new input_old input_new status
+      ⊎ ((status ≡ 3) × (new ≡ old) × (input_new ≡ input_old))))
       × (after ≡ before))
 
 -- ## Any command
@@ -328,9 +328,9 @@ module _ {S I O : Type 0} (reads : Reading S) (writes : Writing S) (remaining : 
     (taken : O → Option (List ℕ)) (failures : O → ℕ) where
   -- what was asked for was done; no other command than `debug` reads standard input
   abbrev pub RunsAsked : Asked → S → S → I → I → O → O → ℕ → Type 0
-  RunsAsked (debug n) old new heard_old heard_new before after status =
-      RunsDebug reads remaining taken failures n old new heard_old heard_new before after status
-  RunsAsked (asm source image) old new heard_old heard_new before after status =
-      RunsAsm reads writes taken failures source image old new before after status × (heard_new ≡ heard_old)
-  RunsAsked asked old new heard_old heard_new before after status =
-      RunsOf reads taken failures asked old new before after status × (heard_new ≡ heard_old)
+  RunsAsked (debug n) old new input_old input_new before after status =
+      RunsDebug reads remaining taken failures n old new input_old input_new before after status
+  RunsAsked (asm source image) old new input_old input_new before after status =
+      RunsAsm reads writes taken failures source image old new before after status × (input_new ≡ input_old)
+  RunsAsked asked old new input_old input_new before after status =
+      RunsOf reads taken failures asked old new before after status × (input_new ≡ input_old)

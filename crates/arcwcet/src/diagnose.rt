@@ -17,7 +17,7 @@ use flow_graph::{
 };
 use loader::MAGIC;
 use loop_bounds::NestFault;
-use machine_reports::{StatedGraph, read_graph};
+use machine_reports::{HandlerGraph, read_graph};
 use report_input::{profile_of, read_source};
 use report_output::{Output, ReportFault, write_whole};
 use std::alloc::{AllocError, Global};
@@ -51,7 +51,7 @@ fn source_words<'a>(
 fn loops_text(
     alloc: Global,
     words: &Words<'_>,
-    stated: &StatedGraph,
+    stated: &HandlerGraph,
     fault: NestFault,
 ) -> Result<Vec<u8>, AllocError> {
     let loops = stated.statement.loops();
@@ -90,7 +90,7 @@ fn nest_text(
     alloc: Global,
     explained: Explained<'_>,
     said: &Assembly,
-    stated: &StatedGraph,
+    stated: &HandlerGraph,
     fault: NestFault,
 ) -> Result<Vec<u8>, ReportFault> {
     let placed = placed_in(alloc, explained.source)?;

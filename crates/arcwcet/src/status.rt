@@ -3,7 +3,7 @@ ghost use Rattle.arcwcet.specs.Run.{answer_status, report_status, store_status};
 
 use crate::fault::StoreFault;
 use crate::files::{LIMIT, Store, Unread};
-use command_line::LineFault;
+use command_line::CommandLineFault;
 use report_output::{Output, ReportFault, write_whole};
 use std::fmt;
 use std::fmt::Write;
@@ -24,20 +24,21 @@ impl<O: Output> Write for Text<'_, O> {
 }
 
 /// Prints why a line of words asks for nothing, and answers the exit status.
-pub(crate) fn line_status<E: Output>(fault: LineFault, err: &mut E) -> u8
-    ensures { ((result ≡ 2) × (fault ≢ LineFault.Memory)) ⊎ ((result ≡ 3) × (fault ≡ LineFault.Memory)) }
+pub(crate) fn line_status<E: Output>(fault: CommandLineFault, err: &mut E) -> u8
+    ensures { ((result ≡ 2) × (fault ≢ CommandLineFault.Memory))
+        ⊎ ((result ≡ 3) × (fault ≡ CommandLineFault.Memory)) }
 {
     let mut text = Text { out: err };
     match fault {
-        LineFault::Memory => {
+        CommandLineFault::Memory => {
             let _ = writeln!(text, "refused: Memory");
             3
         }
-        LineFault::Usage(error) => {
+        CommandLineFault::Usage(error) => {
             let _ = write!(text, "{error}");
             2
         }
-        LineFault::SourceReplaced => {
+        CommandLineFault::SourceReplaced => {
             let _ = writeln!(text, "error: the image would be written over its source");
             2
         }

@@ -42,8 +42,8 @@ fn place_line<'a>(
 /// # Errors
 ///
 /// The first line with a fault that [`assemble`](crate::assembly::assemble) finds in its first pass, which
-/// needs no label's address; it answers the same. What it finds only in the second, by the address of a label
-/// or for want of one, is not looked for. `Memory`: an allocation failed.
+/// needs no label's address; it answers the same. What it finds only in the second, by a label's address or
+/// because it is missing, is not looked for. `Memory`: an allocation failed.
 #[tactic(auto, using(crate::proofs::SweepLaws::swept_more), unfolding(crate::specs::Sweeps::swept))]
 pub fn placed_lines(alloc: Global, source: &[u8]) -> Result<Vec<PlacedLine>, AsmFault>
     ensures ok { IfOk result (λ placed. ArePlaced source.now placed.items) }

@@ -6,7 +6,7 @@ use Rattle.bus_ticks.specs.declared.profile.RomTimes.{RomTimes}
 use Rattle.bus_ticks.specs.declared.profile.Class.TheVariants.{Ram, Rom, Io, Any}
 use Rattle.bus_ticks.specs.Prices.{s_price}
 use Rattle.bus_ticks.specs.Worst.{Access, IsGreatest, IsTargetOf, fiq_entry, fiq_entry_price, worst_rom}
-use Rattle.bus_ticks.proofs.LeaveLemmas.{class_tells, s_at, s_ram_le}
+use Rattle.bus_ticks.proofs.LeaveLemmas.{class_cases, s_at, s_ram_le}
 use Rattle.bus_ticks.proofs.WorstLemmas.{dearest_times, rom_le}
 
 -- the greatest price of a fetch that follows the one before it
@@ -15,7 +15,7 @@ dearest p = max p.quad (max (worst_rom p) p.unfitted)
 
 following_le : (p : Profile) (rom : RomTimes) (x : ℕ) → s_price p rom x ≤ dearest p
 following_le p rom x =
-    elim (class_tells x) [
+    elim (class_cases x) [
       | inl r ↦ omega (arith, s_at p rom x Ram r.0, s_ram_le p (eqb (x % 16) 0))
       | inr (inl r) ↦ omega (arith, s_at p rom x Io r.0)
       | inr (inr r) ↦ omega (arith, s_at p rom x Rom r.0, rom_le p rom x)

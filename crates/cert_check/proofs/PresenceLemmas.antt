@@ -32,13 +32,13 @@ module _ (places : List Place) (p : Place) (ascending : IsSorted place_cmp place
       (λ (ge : i ≤ has.0). let x : Greater ≡ Equal = sym (at.1 has.0 p ge has.1) ∙ tied in cc)
       (cases_lt has.0 i)
 
-  told_by : (r : Result ℕ ℕ) → IsSearchInRange r (length places) → IsBinarySearchResult (λ y. place_cmp y p) places r → IsTrue (is_ok r) ↔ Contains places p
-  told_by (Ok i) range found = (λ yes. (i, range, place_exact (get_or places i p) p (found p)), λ has. refl)
-  told_by (Err i) range found = (λ yes. absurd (false≢true yes), λ has. absurd (not_missed i has found))
+  search_decides_by : (r : Result ℕ ℕ) → IsSearchInRange r (length places) → IsBinarySearchResult (λ y. place_cmp y p) places r → IsTrue (is_ok r) ↔ Contains places p
+  search_decides_by (Ok i) range found = (λ yes. (i, range, place_exact (get_or places i p) p (found p)), λ has. refl)
+  search_decides_by (Err i) range found = (λ yes. absurd (false≢true yes), λ has. absurd (not_missed i has found))
 
   -- the search says whether a place is there
-  pub told : (r : Result ℕ ℕ) → IsSearchInRange r (length places) → IsBinarySearchResult (λ y. by_order y p) places r → IsTrue (is_ok r) ↔ Contains places p
-  told r range found = told_by r range (subst (λ R. IsBinarySearchResult (λ y. R y p) places r) by_place found)
+  pub search_decides : (r : Result ℕ ℕ) → IsSearchInRange r (length places) → IsBinarySearchResult (λ y. by_order y p) places r → IsTrue (is_ok r) ↔ Contains places p
+  search_decides r range found = search_decides_by r range (subst (λ R. IsBinarySearchResult (λ y. R y p) places r) by_place found)
 
 -- ## Lists of places
 

@@ -93,8 +93,8 @@ pairwise_itself x (a ∷ xs) = and_from (eqb x x) (pairwise a xs a xs) (eq-eqb x
 abbrev after_first : Profile → List ℕ
 after_first p = p.s ∷ p.quad ∷ p.rom_0 ∷ p.rom_1 ∷ p.rom_2 ∷ p.rom_3 ∷ p.slow ∷ p.medium ∷ p.fast ∷ p.synchronous ∷ p.control ∷ p.unfitted ∷ p.internal ∷ p.burst ∷ []
 
-pub told_profile : (p q r : Profile) (b : Bool) → b ≡ pairwise p.n (after_first p) r.n (after_first r) → r ≡ q → IsTrue b ↔ (p ≡ q)
-told_profile p q r b is read = (
+pub profile_decides : (p q r : Profile) (b : Bool) → b ≡ pairwise p.n (after_first p) r.n (after_first r) → r ≡ q → IsTrue b ↔ (p ≡ q)
+profile_decides p q r b is read = (
   λ yes. one_profile p r (pairwise_equal p.n (after_first p) r.n (after_first r) (sym is ∙ yes)) ∙ read,
   λ same. is ∙ ap (λ (t : Profile). pairwise p.n (after_first p) t.n (after_first t)) (read ∙ sym same) ∙ pairwise_itself p.n (after_first p),
 )

@@ -35,7 +35,7 @@ use Rattle.cert_check.specs.Verdict.{IsFollowed, walk_objections}
 use Rattle.cert_check.specs.Walking.{IsFresh, IsRefused, IsTaken, graph_span}
 use Rattle.cert_check.proofs.FailingLemmas.{failing_refutes}
 use Rattle.cert_check.proofs.WalkFollowing.{leads_of}
-use Rattle.cert_check.proofs.WalkVerdict.{at_entry, cost_left, cost_told, finished, same_cost, told}
+use Rattle.cert_check.proofs.WalkVerdict.{after_walk, at_entry, cost_after_walk, cost_left, finished, same_cost}
 
 module _ (flow : Flow) (tree : Tree) (index : Index) (well : IsWellFormed flow) (t : IsTree flow tree) (indexed : IsIndex (length flow.places) tree.spans index) (x : Walker) (fresh : IsFresh (length flow.places) x) (cert : Cert) where
   abbrev place : ℕ → Place
@@ -86,13 +86,13 @@ module _ (flow : Flow) (tree : Tree) (index : Index) (well : IsWellFormed flow) 
 
       pub over_inside : (s : Span) → y.over ≡ Some s → s.header < length flow.places
       over_inside s over =
-          let more = (told flow tree index well t indexed x fresh cert y a done).broken s over in
+          let more = (after_walk flow tree index well t indexed x fresh cert y a done).broken s over in
           let shape = t.ordered.shape s more.0 in
           omega (arith, shape.0, shape.1)
 
       breaks_bound : (s : Span) → y.over ≡ Some s → BreaksBound flow tree cert (place_in flow tree s.header) s.bound
       breaks_bound s over =
-          let more = (told flow tree index well t indexed x fresh cert y a done).broken s over in
+          let more = (after_walk flow tree index well t indexed x fresh cert y a done).broken s over in
           let i = instance_of flow tree well t s more.0 in
           let shape = t.ordered.shape s more.0 in
           record {
@@ -118,7 +118,7 @@ module _ (flow : Flow) (tree : Tree) (index : Index) (well : IsWellFormed flow) 
 
       costs_other : cert.bound < 2 ^ 64 → y.cost ≢ cert.bound → CostsOther flow tree cert y.cost
       costs_other fits other =
-          let cost = cost_told flow tree index well t indexed x fresh cert y a done in
+          let cost = cost_after_walk flow tree index well t indexed x fresh cert y a done in
           record { walk = a.walk; is_walk = is_walk; cost_is = cost; other = λ is. other (omega (arith, cost, is, fits)) }
 
       pub cost_walk : y.over ≡ None → cert.bound < 2 ^ 64 → y.cost ≢ cert.bound → IsFirstFailing flow tree cert walk_objections (Some (f.WalkCost y.cost))

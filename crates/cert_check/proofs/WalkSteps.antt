@@ -270,8 +270,8 @@ module _ (flow : Flow) (tree : Tree) (index : Index) (well : IsWellFormed flow) 
               (subst (λ (c : ℕ). Arrives index.headers.items y.number (gained c y.cost k) (gained (get_or x.turns.items x.number 0) (get_or y.turns.items y.number 0) k) y z) begins.cost_is
               (subst (λ (c : ℕ). Arrives index.headers.items y.number (gained r.cost y.cost k) (gained c (get_or y.turns.items y.number 0) k) y z) begins.turns_are goes))
 
-          repeat_told : Adds tree.spans x z (edges_of tree.edges (repeat k once.numbers))
-          repeat_told =
+          repeat_adds : Adds tree.spans x z (edges_of tree.edges (repeat k once.numbers))
+          repeat_adds =
               subst (λ (w : List NumberedEdge). Adds tree.spans x z w) (sym many)
               (rounds_add exit tree.edges tree.spans t.ordered index.headers.items can.indexed.headers r.span span_known.0 x.number k header_is (edges_of tree.edges once.numbers) numbers_some turn once.stays x y z refl back (omega (arith, once.ready.room, can.known)) begins.some arrives once.adds)
 
@@ -295,7 +295,7 @@ module _ (flow : Flow) (tree : Tree) (index : Index) (well : IsWellFormed flow) 
               counts = All-cons (λ (n : ℕ). (0 < n) × (n ≤ 1048576)) k once.walk.opened.counts (begins.some, begins.few) once.rounds.counts;
               shallow = omega (arith, once.rounds.shallow, begins.some_level);
             };
-            adds = repeat_told;
+            adds = repeat_adds;
             ready = repeat_ready;
           }
 

@@ -49,8 +49,8 @@ module _ (flow : Flow) (tree : Tree) (index : Index) (well : IsWellFormed flow) 
     room = ap length fresh.turns_are ∙ length-replicate (exit + 1) 0;
   }
 
-  nothing_told : IsWalkerAfter tree.spans x []
-  nothing_told = record {
+  after_nothing : IsWalkerAfter tree.spans x []
+  after_nothing = record {
     cost_is = omega (arith, fresh.cost_is);
     turns_are = λ s s_in here.
         let shape = t.ordered.shape s s_in in
@@ -81,16 +81,16 @@ module _ (flow : Flow) (tree : Tree) (index : Index) (well : IsWellFormed flow) 
           shallow = a.rounds.shallow;
         }
 
-        pub told : IsWalkerAfter tree.spans y (edges_of tree.edges a.numbers)
-        told = a.adds [] nothing_told
+        pub after_walk : IsWalkerAfter tree.spans y (edges_of tree.edges a.numbers)
+        after_walk = a.adds [] after_nothing
 
         pub within_bounds : y.over ≡ None → KeepsAll flow tree cert
         within_bounds fine f is =
-            let kept : KeepsTree tree (steps_of flow.edges a.numbers) = keeps_up flow tree well t a.numbers a.inside (λ s s_in. keeps_from_most (O.is_inside s) (O.ends_at_header s) s.bound (edges_of tree.edges a.numbers) (told.kept fine s s_in)) in
+            let kept : KeepsTree tree (steps_of flow.edges a.numbers) = keeps_up flow tree well t a.numbers a.inside (λ s s_in. keeps_from_most (O.is_inside s) (O.ends_at_header s) s.bound (edges_of tree.edges a.numbers) (after_walk.kept fine s s_in)) in
             subst (λ (g : Followed). KeepsTree tree g.opened.walk) (is_walk f is) (subst (λ (w : List Edge). KeepsTree tree w) (sym a.edges_are) kept)
 
-        pub cost_told : y.cost ≡ capped (cost_of edge_shape a.walk.opened.walk)
-        cost_told = told.cost_is ∙ ap capped (sym (ap (λ (w : List Edge). cost_of edge_shape w) a.edges_are ∙ costs_same flow tree well t a.numbers a.inside))
+        pub cost_after_walk : y.cost ≡ capped (cost_of edge_shape a.walk.opened.walk)
+        cost_after_walk = after_walk.cost_is ∙ ap capped (sym (ap (λ (w : List Edge). cost_of edge_shape w) a.edges_are ∙ costs_same flow tree well t a.numbers a.inside))
 
         -- of a walk within the bounds the cost alone is left to judge
         pub cost_left : (v : Verdict) → y.over ≡ None → IsFirstOf flow tree cert (WalkCost ∷ []) v → IsFirstOf flow tree cert walk_objections v
@@ -98,5 +98,5 @@ module _ (flow : Flow) (tree : Tree) (index : Index) (well : IsWellFormed flow) 
 
         pub same_cost : cert.bound < 2 ^ 64 → y.cost ≡ cert.bound → CostsBound flow tree cert
         same_cost fits same f is =
-            let here : cost_of edge_shape a.walk.opened.walk ≡ cert.bound = omega (arith, cost_told, same, fits) in
+            let here : cost_of edge_shape a.walk.opened.walk ≡ cert.bound = omega (arith, cost_after_walk, same, fits) in
             subst (λ (g : Followed). cost_of edge_shape g.opened.walk ≡ cert.bound) (is_walk f is) here

@@ -120,7 +120,7 @@ module _ (exit : ℕ) (edges : List NumberedEdge) (spans : List Span) (order : I
     pub elsewhere : (s : Span) → Contains spans s → s.header ≢ to → most_in s w ≡ most_in s v
     pub same_stay : (s : Span) → Contains spans s → s.header ≢ to → is_in s to ≡ true → (is_in s from ≡ true) × (turns_at_end s w ≡ turns_at_end s v)
 
-  module _ (old new : Walker) (v w : List NumberedEdge) (to cost turns : ℕ) (goes : Arrives headers to cost turns old new) (change : Changes old.number to v w) (told : IsWalkerAfter spans old v)
+  module _ (old new : Walker) (v w : List NumberedEdge) (to cost turns : ℕ) (goes : Arrives headers to cost turns old new) (change : Changes old.number to v w) (old_after : IsWalkerAfter spans old v)
       (room : to < length old.turns.items) (cost_is : cost ≡ capped (cost_of w)) (turns_is : (s : Span) → Contains spans s → s.header ≡ to → turns ≡ capped (turns_at_end s w)) where
     no_less : (s : Span) → Contains spans s → most_in s v ≤ most_in s w
     no_less s has = ⊎_elim
@@ -128,18 +128,18 @@ module _ (exit : ℕ) (edges : List NumberedEdge) (spans : List Span) (order : I
         (λ (other : s.header ≢ to). omega (arith, change.elsewhere s has other))
         (cases_eq s.header to)
 
-    stays_told : (s : Span) → Contains spans s → is_in s new.number ≡ true → get_or new.turns.items s.header 0 ≡ capped (turns_at_end s w)
-    stays_told s has here = ⊎_elim
+    turns_after_step : (s : Span) → Contains spans s → is_in s new.number ≡ true → get_or new.turns.items s.header 0 ≡ capped (turns_at_end s w)
+    turns_after_step s has here = ⊎_elim
         (λ (is : s.header ≡ to).
         ap (λ (xs : List ℕ). get_or xs s.header 0) goes.turns_are ∙ ap (λ (k : ℕ). get_or (slice_set old.turns.items to turns) k 0) is ∙ get_or-set_same old.turns.items to turns 0 room ∙ turns_is s has is)
         (λ (other : s.header ≢ to).
         let stay = change.same_stay s has other (subst (λ (k : ℕ). is_in s k ≡ true) goes.number_is here) in
-        ap (λ (xs : List ℕ). get_or xs s.header 0) goes.turns_are ∙ get_or-set_other old.turns.items to s.header turns 0 other ∙ told.turns_are s has stay.0 ∙ ap capped (sym stay.1))
+        ap (λ (xs : List ℕ). get_or xs s.header 0) goes.turns_are ∙ get_or-set_other old.turns.items to s.header turns 0 other ∙ old_after.turns_are s has stay.0 ∙ ap capped (sym stay.1))
         (cases_eq s.header to)
 
-    broken_told : (s : Span) → new.over ≡ Some s → Contains spans s × (s.bound < most_in s w)
-    broken_told s is = ⊎_elim
-        (λ before. let b = told.broken s before in (b.0, omega (arith, b.1, no_less s b.0)))
+    broken_after_step : (s : Span) → new.over ≡ Some s → Contains spans s × (s.bound < most_in s w)
+    broken_after_step s is = ⊎_elim
+        (λ before. let b = old_after.broken s before in (b.0, omega (arith, b.1, no_less s b.0)))
         (λ now.
         let found = broken_some (header_at headers to) turns s now.1 in
         let known = all.known to s found.0 in
@@ -147,10 +147,10 @@ module _ (exit : ℕ) (edges : List NumberedEdge) (spans : List Span) (order : I
         (known.0, omega (arith, found.1, t, change.there s known.0 known.1)))
         (or_some old.over (broken_by (header_at headers to) turns) s (sym goes.over_is ∙ is))
 
-    kept_told : new.over ≡ None → (s : Span) → Contains spans s → most_in s w ≤ s.bound
-    kept_told is s has =
+    kept_after_step : new.over ≡ None → (s : Span) → Contains spans s → most_in s w ≤ s.bound
+    kept_after_step is s has =
         let parts = or_none old.over (broken_by (header_at headers to) turns) (sym goes.over_is ∙ is) in
-        let before : most_in s v ≤ s.bound = told.kept parts.0 s has in
+        let before : most_in s v ≤ s.bound = old_after.kept parts.0 s has in
         ⊎_elim
         (λ (at : s.header ≡ to).
         let t : turns ≡ capped (turns_at_end s w) = turns_is s has at in
@@ -160,8 +160,8 @@ module _ (exit : ℕ) (edges : List NumberedEdge) (spans : List Span) (order : I
         (λ (other : s.header ≢ to). omega (arith, before, change.elsewhere s has other))
         (cases_eq s.header to)
 
-    pub tells_on : IsWalkerAfter spans new w
-    tells_on = record { cost_is = goes.cost_is ∙ cost_is; turns_are = stays_told; broken = broken_told; kept = kept_told }
+    pub after_step : IsWalkerAfter spans new w
+    after_step = record { cost_is = goes.cost_is ∙ cost_is; turns_are = turns_after_step; broken = broken_after_step; kept = kept_after_step }
 
   -- ## An edge
 
@@ -186,11 +186,11 @@ module _ (exit : ℕ) (edges : List NumberedEdge) (spans : List Span) (order : I
     turned o s from turns is = ap (λ (x : Option Span). turns_after x from turns) is
 
     edge_turns : (old : Walker) → old.number ≡ e.from → IsWalkerAfter spans old w → (s : Span) → Contains spans s → s.header ≡ e.to → turns_after (header_at headers e.to) e.from (get_or old.turns.items e.to 0) ≡ capped (turns_at_end s (w ++ e ∷ []))
-    edge_turns old from_is told s has is =
+    edge_turns old from_is old_after s has is =
         turned (header_at headers e.to) s e.from (get_or old.turns.items e.to 0) (span_there exit edges spans order headers all e.to s has is)
         ∙ ⊎_elim
         (λ (from_in : is_in s e.from ≡ true).
-        let before : get_or old.turns.items s.header 0 ≡ capped (turns_at_end s w) = told.turns_are s has (subst (λ (n : ℕ). is_in s n ≡ true) (sym from_is) from_in) in
+        let before : get_or old.turns.items s.header 0 ≡ capped (turns_at_end s w) = old_after.turns_are s has (subst (λ (n : ℕ). is_in s n ≡ true) (sym from_is) from_in) in
         let here : get_or old.turns.items e.to 0 ≡ capped (turns_at_end s w) = ap (λ (n : ℕ). get_or old.turns.items n 0) (sym is) ∙ before in
         let after : turns_at_end s (w ++ e ∷ []) ≡ turns_at_end s w + 1 = (back s has is from_in).1 in
         let more : capped (get_or old.turns.items e.to 0 + 1) ≡ capped (turns_at_end s (w ++ e ∷ [])) = omega (arith, here, after) in
@@ -201,17 +201,17 @@ module _ (exit : ℕ) (edges : List NumberedEdge) (spans : List Span) (order : I
         ap (λ (b : Bool). cond b (capped (get_or old.turns.items e.to 0 + 1)) 0) out ∙ none)
         (cases_Bool (is_in s e.from))
 
-    edge_told : (old new : Walker) → old.number ≡ e.from → e.to < length old.turns.items → Arrives headers e.to (capped (old.cost + e.cost)) (turns_after (header_at headers e.to) e.from (get_or old.turns.items e.to 0)) old new → IsWalkerAfter spans old w → IsWalkerAfter spans new (w ++ e ∷ [])
-    edge_told old new from_is room goes told =
-        tells_on old new w (w ++ e ∷ []) e.to (capped (old.cost + e.cost)) (turns_after (header_at headers e.to) e.from (get_or old.turns.items e.to 0)) goes
-        (subst (λ (n : ℕ). Changes n e.to w (w ++ e ∷ [])) (sym from_is) edge_changes) told room
+    after_edge : (old new : Walker) → old.number ≡ e.from → e.to < length old.turns.items → Arrives headers e.to (capped (old.cost + e.cost)) (turns_after (header_at headers e.to) e.from (get_or old.turns.items e.to 0)) old new → IsWalkerAfter spans old w → IsWalkerAfter spans new (w ++ e ∷ [])
+    after_edge old new from_is room goes old_after =
+        after_step old new w (w ++ e ∷ []) e.to (capped (old.cost + e.cost)) (turns_after (header_at headers e.to) e.from (get_or old.turns.items e.to 0)) goes
+        (subst (λ (n : ℕ). Changes n e.to w (w ++ e ∷ [])) (sym from_is) edge_changes) old_after room
         (let sum : cost_of (w ++ e ∷ []) ≡ cost_of w + cost_of (e ∷ []) = cost-append number_shape w (e ∷ []) in
         let last : cost_of (e ∷ []) ≡ e.cost + 0 = sum_by-cons (λ (x : NumberedEdge). x.cost) e [] in
-        omega (arith, sum, last, told.cost_is))
-        (edge_turns old from_is told)
+        omega (arith, sum, last, old_after.cost_is))
+        (edge_turns old from_is old_after)
 
   pub edge_adds : (e : NumberedEdge) → Contains edges e → (old new : Walker) → old.number ≡ e.from → e.to < length old.turns.items → Arrives headers e.to (capped (old.cost + e.cost)) (turns_after (header_at headers e.to) e.from (get_or old.turns.items e.to 0)) old new → Adds spans old new (e ∷ [])
-  edge_adds e in_graph old new from_is room goes w told = edge_told e in_graph w old new from_is room goes told
+  edge_adds e in_graph old new from_is room goes w old_after = after_edge e in_graph w old new from_is room goes old_after
 
   -- ## Rounds
 
@@ -315,12 +315,12 @@ module _ (exit : ℕ) (edges : List NumberedEdge) (spans : List Span) (order : I
           let second : get_or mid.turns.items n 0 ≡ capped (turns_at_end s w + c) = ap (λ (p : ℕ). get_or mid.turns.items p 0) (sym is) ∙ once.turns_are s s_in (subst (λ (p : ℕ). is_in s p ≡ true) (sym back) here) ∙ ap capped (joined_once s s_in here).1 in
           (λ i. gained (first i) (second i) k) ∙ gained_is (turns_at_end s w) c k positive ∙ ap capped (sym (joined_rounds s s_in here).1)
 
-      rounds_told : IsWalkerAfter spans new (w ++ repeat k v)
-      rounds_told =
-          tells_on mid new (w ++ v) (w ++ repeat k v) n (gained old.cost mid.cost k) (gained (get_or old.turns.items n 0) (get_or mid.turns.items n 0) k) goes
+      after_rounds : IsWalkerAfter spans new (w ++ repeat k v)
+      after_rounds =
+          after_step mid new (w ++ v) (w ++ repeat k v) n (gained old.cost mid.cost k) (gained (get_or old.turns.items n 0) (get_or mid.turns.items n 0) k) goes
           (subst (λ (m : ℕ). Changes m n (w ++ v) (w ++ repeat k v)) (sym back) (rounds_change positive)) once room rounds_cost rounds_turns
 
   pub rounds_add : (r : Span) → Contains spans r → (n k : ℕ) → r.header ≡ n → (v : List NumberedEdge) → v ≢ [] → Leads edges n v n → All (λ e. is_in r e.to ≡ true) v → (old mid new : Walker) → old.number ≡ n → mid.number ≡ n → n < length mid.turns.items → 0 < k
       → Arrives headers n (gained old.cost mid.cost k) (gained (get_or old.turns.items n 0) (get_or mid.turns.items n 0) k) mid new → Adds spans old mid v → Adds spans old new (repeat k v)
-  rounds_add r r_in n k at v some leads ends old mid new start back room positive goes adds w told =
-      rounds_told r r_in n k at v some leads ends w old mid new start back room positive goes told (adds w told)
+  rounds_add r r_in n k at v some leads ends old mid new start back room positive goes adds w old_after =
+      after_rounds r r_in n k at v some leads ends w old mid new start back room positive goes old_after (adds w old_after)

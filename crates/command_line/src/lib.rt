@@ -7,7 +7,7 @@ mod rows;
 mod words;
 
 pub use line::{
-    AsmNames, CheckNames, DraftNames, ExplainNames, FollowNames, LineFault, Names, Request,
+    AsmNames, CheckNames, CommandLineFault, DraftNames, ExplainNames, FollowNames, Names, Request,
     TightNames, VisitsNames,
 };
 pub use words::request;

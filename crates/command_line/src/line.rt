@@ -99,7 +99,7 @@ pub enum Request<'a> {
 
 /// Why a line of words asks for nothing.
 #[derive(Drop)]
-pub enum LineFault {
+pub enum CommandLineFault {
     /// An allocation failed.
     Memory,
     /// The command-line crate's own refusal, or its help.

@@ -12,7 +12,7 @@ ghost use Rattle.command_line.specs.Rows.{asked_as, first_asked};
 
 use crate::commands::arcwcet;
 use crate::line::{
-    AsmNames, CheckNames, DraftNames, ExplainNames, FollowNames, LineFault, Names, Request,
+    AsmNames, CheckNames, CommandLineFault, DraftNames, ExplainNames, FollowNames, Names, Request,
     TightNames, VisitsNames,
 };
 use crate::rows::{KINDS, Kind};
@@ -205,29 +205,30 @@ fn request_in<'a>(matches: &ArgMatches<'a>) -> Option<Request<'a>>
     asked(kind, values)
 }
 
-fn line_fault(error: Error) -> LineFault
-    ensures { result ≢ LineFault.Memory → kind_of error ≢ ErrorKind.OutOfMemory }
+fn line_fault(error: Error) -> CommandLineFault
+    ensures { result ≢ CommandLineFault.Memory → kind_of error ≢ ErrorKind.OutOfMemory }
 {
     if error.kind() == ErrorKind::OutOfMemory {
-        LineFault::Memory
+        CommandLineFault::Memory
     } else {
-        LineFault::Usage(error)
+        CommandLineFault::Usage(error)
     }
 }
 
 /// What the words ask for, the program's name first.
-pub fn request<'a>(alloc: Global, words: &'a [String]) -> Result<Request<'a>, LineFault>
+pub fn request<'a>(alloc: Global, words: &'a [String]) -> Result<Request<'a>, CommandLineFault>
     ensures read { IfOk result (λ q. asked_in words.entry.now ≡ Some (asked_of q)) }
-    ensures refused { IfErr result (λ e. e ≢ LineFault.Memory → asked_in words.entry.now ≡ None) }
+    ensures refused { IfErr result
+        (λ e. e ≢ CommandLineFault.Memory → asked_in words.entry.now ≡ None) }
 {
     let command = match arcwcet(alloc) {
         Ok(command) => command,
-        Err(_) => return Err(LineFault::Memory),
+        Err(_) => return Err(CommandLineFault::Memory),
     };
     match command.try_get_matches_from(words) {
         Ok(matches) => match request_in(&matches) {
             Some(asked) => Ok(asked),
-            None => Err(LineFault::SourceReplaced),
+            None => Err(CommandLineFault::SourceReplaced),
         },
         Err(error) => Err(line_fault(error)),
     }

@@ -58,8 +58,8 @@ one_row names before items i = refl
 -- the row of the entry at an index, if an earlier one has its address
 pub twice_more : (names : NamedAddresses) (before : List Item) (entries : List Entry) (k : ℕ) (d : Entry) (holds : Bool) → k < length entries → holds ≡ is_twice names before (item_of (get_or entries k d))
     → twice_rows names before (map item_of (drop k entries)) ≡ item_row_if holds (item_of (get_or entries k d)) ++ twice_rows names (item_of (get_or entries k d) ∷ before) (map item_of (drop (k + 1) entries))
-twice_more names before entries k d holds inside told =
+twice_more names before entries k d holds inside is_among =
     let i = item_of (get_or entries k d) in
     let rest = map item_of (drop (k + 1) entries) in
     ap (λ (es : List Entry). twice_rows names before (map item_of es)) (drop_more entries k d inside)
-    ∙ (one_row names before rest i ∙ ap (λ b. item_row_if b i ++ twice_rows names (i ∷ before) rest) (sym told))
+    ∙ (one_row names before rest i ∙ ap (λ b. item_row_if b i ++ twice_rows names (i ∷ before) rest) (sym is_among))

@@ -11,10 +11,10 @@ use Rattle.dot_text.specs.Clusters.{clusters, depth_in, loop_text, routines}
 use Rattle.dot_text.specs.Stretches.{first_of, goes_on}
 use Rattle.dot_text.specs.Text.{ended, stretch}
 
-pub inside_told : (a b c d : Bool) → a ≡ true → b ≡ true → d ≡ c → d ≡ (a && (b && c))
-inside_told true true c d calls loops is = is
-inside_told true false c d calls loops is = absurd cc
-inside_told false b c d calls loops is = absurd cc
+pub inside_decides : (a b c d : Bool) → a ≡ true → b ≡ true → d ≡ c → d ≡ (a && (b && c))
+inside_decides true true c d calls loops is = is
+inside_decides true false c d calls loops is = absurd cc
+inside_decides false b c d calls loops is = absurd cc
 
 module _ (flow : Flow) (tree : Tree) where
   -- ## Clusters

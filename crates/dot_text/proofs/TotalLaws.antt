@@ -90,27 +90,27 @@ module _ (at : ℕ → ℕ) (n : ℕ) (inside : (k : ℕ) → k < n → at k < n
 -- ## Sums counted up to a greatest number
 
 -- at most, and counted up to the greatest number the same
-abbrev Tells : ℕ → ℕ → Type 0
-Tells m n = (m ≤ n) × (capped m ≡ capped n)
+abbrev AgreesCapped : ℕ → ℕ → Type 0
+AgreesCapped m n = (m ≤ n) × (capped m ≡ capped n)
 
-tells_capped : (m n : ℕ) → Tells m n → Tells (capped m) n
-tells_capped m n h =
+agrees_capped : (m n : ℕ) → AgreesCapped m n → AgreesCapped (capped m) n
+agrees_capped m n h =
     let le : m ≤ n = h.0 in
     let same : capped m ≡ capped n = h.1 in
     (omega arith, omega arith)
 
-tells_sum : {X : Type 0} (f g : X → ℕ) → ((x : X) → Tells (f x) (g x)) → (xs : List X) → Tells (sum_by f xs) (sum_by g xs)
-tells_sum f g h [] = (omega arith, refl)
-tells_sum f g h (x ∷ xs) =
+agrees_sum : {X : Type 0} (f g : X → ℕ) → ((x : X) → AgreesCapped (f x) (g x)) → (xs : List X) → AgreesCapped (sum_by f xs) (sum_by g xs)
+agrees_sum f g h [] = (omega arith, refl)
+agrees_sum f g h (x ∷ xs) =
     let here : f x ≤ g x = (h x).0 in
     let same : capped (f x) ≡ capped (g x) = (h x).1 in
-    let rest = tells_sum f g h xs in
+    let rest = agrees_sum f g h xs in
     let le : sum_by f xs ≤ sum_by g xs = rest.0 in
     let more : capped (sum_by f xs) ≡ capped (sum_by g xs) = rest.1 in
     (omega (arith, here, le, sum_by-cons f x xs, sum_by-cons g x xs), omega (arith, same, more, sum_by-cons f x xs, sum_by-cons g x xs))
 
-told : (m n : ℕ) → Tells m n → n < 2 ^ 64 → m ≡ n
-told m n h lt =
+agrees_below_cap : (m n : ℕ) → AgreesCapped m n → n < 2 ^ 64 → m ≡ n
+agrees_below_cap m n h lt =
     let le : m ≤ n = h.0 in
     let same : capped m ≡ capped n = h.1 in
     omega arith
@@ -174,26 +174,26 @@ module _ (flow : Flow) (tree : Tree) (counts : List ℕ) where
       ∙ parts_sum (λ v. get_or flow.firsts v 0) of_edge exit well.first_zero well.rising
       ∙ ap (λ n. sum_by of_edge (range_with_len 0 n)) all
 
-  tells_edge : (k : ℕ) → Tells (edge_ticks flow counts k) (of_edge k)
-  tells_edge k = tells_capped (of_edge k) (of_edge k) (omega arith, refl)
+  agrees_edge : (k : ℕ) → AgreesCapped (edge_ticks flow counts k) (of_edge k)
+  agrees_edge k = agrees_capped (of_edge k) (of_edge k) (omega arith, refl)
 
-  tells_number : (n : ℕ) → Tells (ticks flow tree counts n) (of_number n)
-  tells_number n =
-      tells_capped (sum_by (edge_ticks flow counts) (leaving flow tree n)) (of_number n) (tells_sum (edge_ticks flow counts) of_edge tells_edge (leaving flow tree n))
+  agrees_number : (n : ℕ) → AgreesCapped (ticks flow tree counts n) (of_number n)
+  agrees_number n =
+      agrees_capped (sum_by (edge_ticks flow counts) (leaving flow tree n)) (of_number n) (agrees_sum (edge_ticks flow counts) of_edge agrees_edge (leaving flow tree n))
 
-  tells_stretch : (first last : ℕ) → Tells (stretch_ticks flow tree counts first last) (sum_by of_number (between first (last + 1)))
-  tells_stretch first last =
+  agrees_stretch : (first last : ℕ) → AgreesCapped (stretch_ticks flow tree counts first last) (sum_by of_number (between first (last + 1)))
+  agrees_stretch first last =
       let ns = between first (last + 1) in
-      tells_capped (sum_by (ticks flow tree counts) ns) (sum_by of_number ns) (tells_sum (ticks flow tree counts) of_number tells_number ns)
+      agrees_capped (sum_by (ticks flow tree counts) ns) (sum_by of_number ns) (agrees_sum (ticks flow tree counts) of_number agrees_number ns)
 
-  tells_node : (n : ℕ) → Tells (node_ticks flow tree counts n) (of_node n)
-  tells_node n =
+  agrees_node : (n : ℕ) → AgreesCapped (node_ticks flow tree counts n) (of_node n)
+  agrees_node n =
       let first = first_of flow tree n in
       let s = stretch_ticks flow tree counts first n in
       let u = sum_by of_number (between first (n + 1)) in
-      elim (goes_on flow tree n) as (λ b. Tells (if b then 0 else s) (if b then 0 else u)) [
+      elim (goes_on flow tree n) as (λ b. AgreesCapped (if b then 0 else s) (if b then 0 else u)) [
         | true ↦ (omega arith, refl)
-        | false ↦ tells_stretch first n
+        | false ↦ agrees_stretch first n
       ]
 
 pub ticks_in_all : (flow : Flow) (tree : Tree) (cost : ℕ) (items : List Item) (counts : List ℕ) → IsWellFormed flow → IsTree flow tree → IsWalkOf flow tree cost items → cost < 2 ^ 64
@@ -202,6 +202,6 @@ ticks_in_all flow tree cost items counts well t walk fits are =
     let numbers = range_with_len 0 (length flow.places) in
     let all : sum_by (of_node flow tree counts) numbers ≡ cost =
     nodes_to flow tree counts (length flow.places) refl ∙ numbers_sum flow tree counts well t ∙ total flow items counts tree cost well are walk fits in
-    told (all_ticks flow tree counts) (sum_by (of_node flow tree counts) numbers) (tells_sum (node_ticks flow tree counts) (of_node flow tree counts) (tells_node flow tree counts) numbers)
+    agrees_below_cap (all_ticks flow tree counts) (sum_by (of_node flow tree counts) numbers) (agrees_sum (node_ticks flow tree counts) (of_node flow tree counts) (agrees_node flow tree counts) numbers)
     (subst (λ n. n < 2 ^ 64) (sym all) fits)
     ∙ all

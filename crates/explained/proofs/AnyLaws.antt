@@ -8,13 +8,13 @@ use Rattle.std.proofs.lemmas.List.{take_all}
 use Rattle.std.proofs.lemmas.List.Folds.{list_any_more}
 
 module _ {X : Type 0} (p : ℕ → X → Bool) (xs : List X) where
-  -- of the first so many elements one passes the test of each number exactly where `told` says so
-  abbrev pub AreTold : (ℕ → Bool) → ℕ → Type 0
-  AreTold told k = (a : ℕ) → (told a ≡ true) ↔ (list_any (p a) (take k xs) ≡ true)
+  -- of the first so many elements one passes the test of each number exactly where `answers` says so
+  abbrev pub AnswerFront : (ℕ → Bool) → ℕ → Type 0
+  AnswerFront answers k = (a : ℕ) → (answers a ≡ true) ↔ (list_any (p a) (take k xs) ≡ true)
 
-  pub told_more : (old new : ℕ → Bool) (k : ℕ) (d : X) → k < length xs → AreTold old k
-      → ((a : ℕ) → (new a ≡ true) ↔ ((old a ≡ true) ⊎ (p a (get_or xs k d) ≡ true))) → AreTold new (k + 1)
-  told_more old new k d lt before more a =
+  pub answers_more : (old new : ℕ → Bool) (k : ℕ) (d : X) → k < length xs → AnswerFront old k
+      → ((a : ℕ) → (new a ≡ true) ↔ ((old a ≡ true) ⊎ (p a (get_or xs k d) ≡ true))) → AnswerFront new (k + 1)
+  answers_more old new k d lt before more a =
       let front = list_any (p a) (take k xs) in
       let last = p a (get_or xs k d) in
       let step : list_any (p a) (take (k + 1) xs) ≡ (front || last) = list_any_more (p a) xs k d lt in (
@@ -22,7 +22,7 @@ module _ {X : Type 0} (p : ℕ → X → Bool) (xs : List X) where
         λ h. (more a).1 (⊎_elim (λ was. inl ((before a).1 was)) (λ here. inr here) (or_cases front last (sym step ∙ h))),
       )
 
-  pub told_all : (told : ℕ → Bool) (k : ℕ) → length xs ≤ k → AreTold told k → (a : ℕ) → told a ≡ list_any (p a) xs
-  told_all told k le are a =
+  pub answers_all : (answers : ℕ → Bool) (k : ℕ) → length xs ≤ k → AnswerFront answers k → (a : ℕ) → answers a ≡ list_any (p a) xs
+  answers_all answers k le are a =
       let whole : list_any (p a) (take k xs) ≡ list_any (p a) xs = ap (list_any (p a)) (take_all k xs le) in
-      both_ways (told a) (list_any (p a) (take k xs)) ((are a).0) ((are a).1) ∙ whole
+      both_ways (answers a) (list_any (p a) (take k xs)) ((are a).0) ((are a).1) ∙ whole

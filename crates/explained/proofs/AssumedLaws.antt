@@ -29,11 +29,11 @@ use Rattle.explained.specs.declared.assumptions.Assumption.{Assumption}
 
 -- ## One word
 
-none_told : {A B : Type 0} (f : A → B) (found : Option A) (t : Option B) (r : Bool) → option_map f found ≡ t → is_some found ≡ not r → (r ≡ true) ↔ (t ≡ None)
-none_told f None t true is some = (λ e. sym is, λ h. refl)
-none_told f None t false is some = absurd (false≢true some)
-none_told f (Some x) t true is some = absurd (false≢true (sym some))
-none_told f (Some x) t false is some = (λ e. absurd (false≢true e), λ h. absurd (let both : Some (f x) ≡ None = is ∙ h in cc))
+none_found : {A B : Type 0} (f : A → B) (found : Option A) (t : Option B) (r : Bool) → option_map f found ≡ t → is_some found ≡ not r → (r ≡ true) ↔ (t ≡ None)
+none_found f None t true is some = (λ e. sym is, λ h. refl)
+none_found f None t false is some = absurd (false≢true some)
+none_found f (Some x) t true is some = absurd (false≢true (sym some))
+none_found f (Some x) t false is some = (λ e. absurd (false≢true e), λ h. absurd (let both : Some (f x) ≡ None = is ∙ h in cc))
 
 module _ (image : Words) (st : Stated) (a : ℕ) where
   pub no_writer : ((i : Instr) → HasInstr image a i → None ≡ Some i) → IsTrue false ↔ IsTakenForReturn image st a
@@ -52,11 +52,11 @@ module _ (image : Words) (st : Stated) (a : ℕ) where
       λ h. absurd (false≢true (sym none ∙ is ∙ ap may_write_oddly (the_one h.instr h.there) ∙ h.odd)),
     )
 
-    pub writer_told : {A : Type 0} (f : A → Target) (found : Option A) (b r : Bool) → b ≡ may_write_oddly i → b ≡ true → option_map f found ≡ target_of st a → is_some found ≡ not r → IsTrue r ↔ IsTakenForReturn image st a
-    writer_told f found b r is does target some =
-        let told = none_told f found (target_of st a) r target some in (
-          λ e. record { instr = i; there = there; odd = sym is ∙ does; unstated = told.0 e },
-          λ h. told.1 h.unstated,
+    pub writer_decides : {A : Type 0} (f : A → Target) (found : Option A) (b r : Bool) → b ≡ may_write_oddly i → b ≡ true → option_map f found ≡ target_of st a → is_some found ≡ not r → IsTrue r ↔ IsTakenForReturn image st a
+    writer_decides f found b r is does target some =
+        let decides = none_found f found (target_of st a) r target some in (
+          λ e. record { instr = i; there = there; odd = sym is ∙ does; unstated = decides.0 e },
+          λ h. decides.1 h.unstated,
         )
 
 -- ## All places
@@ -109,12 +109,12 @@ rising xs sorted i j le lt = ⊎_elim
     (λ (ge : j ≤ i). let same : i ≡ j = omega arith in let eq : get_or xs i 0 ≡ get_or xs j 0 = ap (λ n. get_or xs n 0) same in let goal : get_or xs i 0 ≤ get_or xs j 0 = omega arith in goal)
     (cases_lt i j)
 
-told_at : (xs : List ℕ) (x : ℕ) (r : Result ℕ ℕ) → MatchResult r (λ i. (i < length xs) × (get_or xs i 0 ≡ x)) (λ i. (i ≤ length xs) × ((k : ℕ) → k < i → get_or xs k 0 < x) × ((k : ℕ) → i ≤ k → k < length xs → x < get_or xs k 0)) → is_ok r ≡ list_any (λ a. eqb a x) xs
-told_at xs x (Ok i) h = sym (list_any_at (λ a. eqb a x) xs i 0 h.0 (eq-eqb (get_or xs i 0) x h.1))
-told_at xs x (Err i) h = sym (list_any_none (λ a. eqb a x) xs (All-from_get_or (λ a. eqb a x ≡ false) xs 0 (λ k lt. ne_eqb (get_or xs k 0) x (λ same. ⊎_elim
+search_decides : (xs : List ℕ) (x : ℕ) (r : Result ℕ ℕ) → MatchResult r (λ i. (i < length xs) × (get_or xs i 0 ≡ x)) (λ i. (i ≤ length xs) × ((k : ℕ) → k < i → get_or xs k 0 < x) × ((k : ℕ) → i ≤ k → k < length xs → x < get_or xs k 0)) → is_ok r ≡ list_any (λ a. eqb a x) xs
+search_decides xs x (Ok i) h = sym (list_any_at (λ a. eqb a x) xs i 0 h.0 (eq-eqb (get_or xs i 0) x h.1))
+search_decides xs x (Err i) h = sym (list_any_none (λ a. eqb a x) xs (All-from_get_or (λ a. eqb a x ≡ false) xs 0 (λ k lt. ne_eqb (get_or xs k 0) x (λ same. ⊎_elim
     (λ (before : k < i). let l : get_or xs k 0 < x = h.1 k before in absurd (omega arith))
     (λ (after : i ≤ k). let l : x < get_or xs k 0 = h.2 k after lt in absurd (omega arith))
     (cases_lt k i)))))
 
-pub named_told : (xs : List ℕ) (x : ℕ) (r : Result ℕ ℕ) → IsStrictlySortedBy nat_cmp xs → IsBinarySearchResult (λ y. nat_cmp y x) xs r → is_ok r ≡ list_any (λ a. eqb a x) xs
-named_told xs x r sorted found = told_at xs x r (searched xs x r found (rising xs sorted))
+pub named_decides : (xs : List ℕ) (x : ℕ) (r : Result ℕ ℕ) → IsStrictlySortedBy nat_cmp xs → IsBinarySearchResult (λ y. nat_cmp y x) xs r → is_ok r ≡ list_any (λ a. eqb a x) xs
+named_decides xs x r sorted found = search_decides xs x r (searched xs x r found (rising xs sorted))

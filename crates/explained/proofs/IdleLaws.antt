@@ -24,7 +24,7 @@ pub idle_row : (Counts : Type 0) (shown old new : List ℕ) → (Counts → ⊥)
 idle_row Counts shown old new none is = (shown, record { without = λ n. refl; with_one = λ c. absurd (none c) }, is)
 
 pub not_both : (b : Bool) (Counts : Type 0) → (Counts → b ≡ true) → b ≡ false → Counts → ⊥
-not_both b Counts told none counts = false≢true (sym none ∙ told counts)
+not_both b Counts is_done none counts = false≢true (sym none ∙ is_done counts)
 
 -- ## The rows
 
@@ -32,8 +32,8 @@ pub all_idle : (words : Words) (st : Stated) (flow : Flow) (done : ℕ → Bool)
     → ((x : ℕ) → done x ≡ is_carried_out flow.edges x) → loops ≡ st.loops → targets ≡ keys_of st.targets → accesses ≡ keys_of st.accesses → start ≡ []
     → Appends (AreRows (IsLoopRow flow) loops) start a → Appends (AreRows (IsTargetRow done) targets) a b → Appends (AreRows (IsAccessRow words done) accesses) b rows
     → AreIdleRows words st flow rows
-all_idle words st flow done loops targets accesses start a b rows told loops_are targets_are accesses_are none l t s =
-    let same : done ≡ is_carried_out flow.edges = λ i x. told x i in
+all_idle words st flow done loops targets accesses start a b rows is_done loops_are targets_are accesses_are none l t s =
+    let same : done ≡ is_carried_out flow.edges = λ i x. is_done x i in
     record {
       loops = l.0;
       targets = t.0;

@@ -12,9 +12,9 @@ use Rattle.explained.specs.declared.pricing.Pricing.{Pricing}
 use Rattle.explained.specs.declared.tally.Taken.{Taken}
 
 -- with what is taken there
-pub row_told : (taken : ℕ → Option Taken) (latest : ℕ → Option ℕ) (priced : ℕ → Option Pricing) (bound at word : ℕ) (here : Option Taken) (start : Option ℕ) (price : Option Pricing) (line old new : List ℕ) → here ≡ taken at → start ≡ latest at → price ≡ priced at
+pub row_written : (taken : ℕ → Option Taken) (latest : ℕ → Option ℕ) (priced : ℕ → Option Pricing) (bound at word : ℕ) (here : Option Taken) (start : Option ℕ) (price : Option Pricing) (line old new : List ℕ) → here ≡ taken at → start ≡ latest at → price ≡ priced at
     → IsShown word at line → new ≡ old ++ word_row bound here start price at line → Appends (IsWordRow taken latest priced bound (at, word)) old new
-row_told taken latest priced bound at word here start price line old new same last is shown row = (
+row_written taken latest priced bound at word here start price line old new same last is shown row = (
   word_row bound (taken at) (latest at) (priced at) at line,
   (line, shown, refl),
   row ∙ ap (λ (o : Option Taken). old ++ word_row bound o start price at line) same ∙ ap (λ (s : Option ℕ). old ++ word_row bound (taken at) s price at line) last
@@ -33,7 +33,7 @@ image_more taken words i d ticks one new lt before here sum_is =
 -- the heading, the rows and the end
 pub image_whole : (taken lookup : ℕ → Option Taken) (latest starts : ℕ → Option ℕ) (priced : ℕ → Option Pricing) (bound total : ℕ) (words listed : Words) (start rows new : List ℕ) → lookup ≡ taken → starts ≡ latest → listed ≡ words → start ≡ image_heading
     → Appends (AreRows (IsWordRow lookup starts priced bound) listed) start rows → total ≡ image_ticks lookup listed → new ≡ rows ++ table_end total bound → AreImageRows taken latest priced bound words new
-image_whole taken lookup latest starts priced bound total words listed start rows new same told are heading_is adds total_is last =
+image_whole taken lookup latest starts priced bound total words listed start rows new same starts_same are heading_is adds total_is last =
     let table : AreImageRows lookup starts priced bound listed new = (
       adds.0,
       adds.1,
@@ -42,16 +42,16 @@ image_whole taken lookup latest starts priced bound total words listed start row
           ∙ append_assoc image_heading adds.0 (table_end (image_ticks lookup listed) bound),
     ) in
     subst (λ ws. AreImageRows taken latest priced bound ws new) are
-    (subst (λ (g : ℕ → Option ℕ). AreImageRows taken g priced bound listed new) told
+    (subst (λ (g : ℕ → Option ℕ). AreImageRows taken g priced bound listed new) starts_same
     (subst (λ (f : ℕ → Option Taken). AreImageRows f starts priced bound listed new) same table))
 
 pub source_whole : (taken lookup : ℕ → Option Taken) (latest starts : ℕ → Option ℕ) (priced : ℕ → Option Pricing) (bound total : ℕ) (source : List ℕ) (placed : List PlacedLine) (start rows new : List ℕ) → lookup ≡ taken → starts ≡ latest → start ≡ heading
     → rows ≡ start ++ source_rows lookup starts priced bound 1 (lines_of source) placed → total ≡ source_ticks lookup placed → new ≡ rows ++ table_end total bound → new ≡ source_table taken latest priced bound source placed
-source_whole taken lookup latest starts priced bound total source placed start rows new same told heading_is rows_are total_is last =
+source_whole taken lookup latest starts priced bound total source placed start rows new same starts_same heading_is rows_are total_is last =
     let lines = source_rows lookup starts priced bound 1 (lines_of source) placed in
     let table : new ≡ source_table lookup starts priced bound source placed =
     last ∙ ap (λ n. rows ++ table_end n bound) total_is
     ∙ ap (λ xs. xs ++ table_end (source_ticks lookup placed) bound) (rows_are ∙ ap (λ xs. xs ++ lines) heading_is)
     ∙ append_assoc heading lines (table_end (source_ticks lookup placed) bound) in
     table ∙ ap (λ (f : ℕ → Option Taken). source_table f starts priced bound source placed) same
-    ∙ ap (λ (g : ℕ → Option ℕ). source_table taken g priced bound source placed) told
+    ∙ ap (λ (g : ℕ → Option ℕ). source_table taken g priced bound source placed) starts_same

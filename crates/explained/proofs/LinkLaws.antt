@@ -39,20 +39,20 @@ module _ (is : Instr → Bool) (image : Words) (a : ℕ) where
   abbrev pub Stands : Type 0
   Stands = (i : Instr) × HasInstr image a i × (is i ≡ true)
 
-  pub told : (i : Instr) (b : Bool) → HasInstr image a i → ((j : Instr) → HasInstr image a j → Some i ≡ Some j) → b ≡ is i → IsTrue b ↔ Stands
-  told i b has only same = (
+  pub word_decides : (i : Instr) (b : Bool) → HasInstr image a i → ((j : Instr) → HasInstr image a j → Some i ≡ Some j) → b ≡ is i → IsTrue b ↔ Stands
+  word_decides i b has only same = (
     λ e. (i, has, sym same ∙ e),
     λ h. let both : Some i ≡ Some h.0 = only h.0 h.1 in let one : i ≡ h.0 = cc in same ∙ ap is one ∙ h.2,
   )
 
-  pub not_told : ((j : Instr) → HasInstr image a j → None ≡ Some j) → IsTrue false ↔ Stands
-  not_told none = (
+  pub none_decides : ((j : Instr) → HasInstr image a j → None ≡ Some j) → IsTrue false ↔ Stands
+  none_decides none = (
     λ e. absurd (false≢true e),
     λ h. absurd (let both : None ≡ Some h.0 = none h.0 h.1 in cc),
   )
 
-pub returns_told : (image : Words) (a : ℕ) (b : Bool) → IsTrue b ↔ Stands may_return_by_link image a → IsTrue b ↔ MayReturnByLink image a
-returns_told image a b stands = (
+pub returns_decides : (image : Words) (a : ℕ) (b : Bool) → IsTrue b ↔ Stands may_return_by_link image a → IsTrue b ↔ MayReturnByLink image a
+returns_decides image a b stands = (
   λ e. let w = stands.0 e in record { instr = w.0; there = w.1; returns = w.2 },
   λ h. stands.1 (h.instr, h.there, h.returns),
 )
@@ -69,8 +69,8 @@ pub kept_one : (image : Words) (e : Edge) → KeepsLink image e.from e.to → (p
 kept_one image e keeps p = (λ w. w.1, λ same. (keeps, same))
 
 module _ (image : Words) (from to : Place) (calls inner : List ℕ) (a b : ℕ) (from_is : from ≡ At calls a) (to_is : to ≡ At inner b) where
-  pub keeps_told : (s w : Bool) → IsTrue s ↔ (calls ≡ inner) → s ≡ true → IsTrue w ↔ HasShape writes_link image a → IsTrue (not w) ↔ KeepsLink image from to
-  keeps_told s w same is writes =
+  pub keeps_decides : (s w : Bool) → IsTrue s ↔ (calls ≡ inner) → s ≡ true → IsTrue w ↔ HasShape writes_link image a → IsTrue (not w) ↔ KeepsLink image from to
+  keeps_decides s w same is writes =
       subst (λ (f : Place). IsTrue (not w) ↔ KeepsLink image f to) (sym from_is)
       (subst (λ (t : Place). IsTrue (not w) ↔ KeepsLink image (At calls a) t) (sym to_is) (by_case w writes))
     where
@@ -78,8 +78,8 @@ module _ (image : Words) (from to : Place) (calls inner : List ℕ) (a b : ℕ) 
       by_case true h = (λ e. absurd (false≢true e), λ k. absurd (k.1 (h.0 refl)))
       by_case false h = (λ e. (same.0 is, λ shape. false≢true (h.1 shape)), λ k. refl)
 
-  pub leaves_told : (s : Bool) → IsTrue s ↔ (calls ≡ inner) → s ≡ false → IsTrue s ↔ KeepsLink image from to
-  leaves_told s same is =
+  pub leaves_decides : (s : Bool) → IsTrue s ↔ (calls ≡ inner) → s ≡ false → IsTrue s ↔ KeepsLink image from to
+  leaves_decides s same is =
       subst (λ (f : Place). IsTrue s ↔ KeepsLink image f to) (sym from_is)
       (subst (λ (t : Place). IsTrue s ↔ KeepsLink image (At calls a) t) (sym to_is) (λ e. absurd (false≢true (sym is ∙ e)), λ k. same.1 k.0))
 

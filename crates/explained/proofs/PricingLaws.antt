@@ -17,17 +17,17 @@ use Rattle.explained.specs.declared.pricing.Pricing.{Pricing}
 
 module _ (words : Words) (st : Stated) (leaving : ℕ → Bool) where
   -- it is said of the first places
-  pub record AreTold (places : List Place) (priced : ℕ → Option Pricing) : Type 0 where
+  pub record ArePricedSoFar (places : List Place) (priced : ℕ → Option Pricing) : Type 0 where
     pub reached : (a : ℕ) → is_reached places a ≡ true → (p : Pricing) × (priced a ≡ Some p) × IsPricedBy words st leaving a p
     pub other : (a : ℕ) → is_reached places a ≡ false → priced a ≡ None
 
-  pub none_told : (priced : ℕ → Option Pricing) → ((a : ℕ) → priced a ≡ None) → AreTold [] priced
-  none_told priced none = record { reached = λ a e. absurd (false≢true e); other = λ a e. none a }
+  pub none_priced : (priced : ℕ → Option Pricing) → ((a : ℕ) → priced a ≡ None) → ArePricedSoFar [] priced
+  none_priced priced none = record { reached = λ a e. absurd (false≢true e); other = λ a e. none a }
 
   -- of one place more
-  pub more_told : (places : List Place) (k : ℕ) (d : Place) (old new : ℕ → Option Pricing) → k < length places → AreTold (take k places) old
-      → Prices words st leaving (get_or places k d) old new → AreTold (take (k + 1) places) new
-  more_told places k d old new lt before one = record {
+  pub more_priced : (places : List Place) (k : ℕ) (d : Place) (old new : ℕ → Option Pricing) → k < length places → ArePricedSoFar (take k places) old
+      → Prices words st leaving (get_or places k d) old new → ArePricedSoFar (take (k + 1) places) new
+  more_priced places k d old new lt before one = record {
     reached = λ a known. ⊎_elim (one.here a)
         (λ apart.
         let w = before.reached a (or_first (is_reached (take k places) a) (is_at a (get_or places k d)) apart (sym (step a) ∙ known)) in
@@ -45,13 +45,13 @@ module _ (words : Words) (st : Stated) (leaving : ℕ → Bool) where
       or_first true c apart e = e
       or_first false c apart e = absurd (false≢true (sym apart ∙ e))
 
-  pub all_told : (flow : Flow) (places : List Place) (k : ℕ) (priced : ℕ → Option Pricing) → places ≡ flow.places → length places ≤ k
-      → ((a : ℕ) → leaving a ≡ is_left_on LeadsOut flow.edges a) → AreTold (take k places) priced → ArePriced words st flow priced
-  all_told flow places k priced are le left told = record {
+  pub all_priced : (flow : Flow) (places : List Place) (k : ℕ) (priced : ℕ → Option Pricing) → places ≡ flow.places → length places ≤ k
+      → ((a : ℕ) → leaving a ≡ is_left_on LeadsOut flow.edges a) → ArePricedSoFar (take k places) priced → ArePriced words st flow priced
+  all_priced flow places k priced are le left so_far = record {
     reached = λ a known.
-        let w = told.reached a (same a ∙ known) in
+        let w = so_far.reached a (same a ∙ known) in
         (w.0, w.1, record { granted = w.2.granted; leave = w.2.leave ∙ ap (λ b. if b then Some st.leave else None) (left a) });
-    other = λ a never. told.other a (same a ∙ never);
+    other = λ a never. so_far.other a (same a ∙ never);
   }
     where
       same : (a : ℕ) → is_reached (take k places) a ≡ is_reached flow.places a

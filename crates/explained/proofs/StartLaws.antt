@@ -25,9 +25,9 @@ module _ (places : List Place) (starts : List ℕ) where
   abbrev front_at : ℕ → ℕ → List ℕ
   front_at k a = map (λ (e : Place × ℕ). e.1) (filter (λ (e : Place × ℕ). is_at a e.0) (take k (zip places starts)))
 
-  -- `told` says the greatest of them
-  abbrev pub AreTold : ℕ → (ℕ → Option ℕ) → Type 0
-  AreTold k told = (a : ℕ) → told a ≡ greatest_of (front_at k a)
+  -- `found` says the greatest of them
+  abbrev pub AreLatestSoFar : ℕ → (ℕ → Option ℕ) → Type 0
+  AreLatestSoFar k found = (a : ℕ) → found a ≡ greatest_of (front_at k a)
 
   module _ (k : ℕ) (place : Place) (start : ℕ) (in_places : k < length places) (in_starts : k < length starts)
       (place_is : place ≡ get_or places k place) (start_is : start ≡ get_or starts k start) where
@@ -46,8 +46,8 @@ module _ (places : List Place) (starts : List ℕ) where
         ∙ ap (λ (e : Place × ℕ). filter is_there (take k pairs) ++ cond (is_at a e.0) (e ∷ []) []) pair_is in
         ap (map (λ (e : Place × ℕ). e.1)) one ∙ map-append (λ (e : Place × ℕ). e.1) (filter is_there (take k pairs)) (cond (is_at a place) ((place, start) ∷ []) [])
 
-    pub one_told : (old new : ℕ → Option ℕ) → AreTold k old → Begins place start old new → AreTold (k + 1) new
-    one_told old new before adds a = adds a ∙ ⊎_elim
+    pub one_more : (old new : ℕ → Option ℕ) → AreLatestSoFar k old → Begins place start old new → AreLatestSoFar (k + 1) new
+    one_more old new before adds a = adds a ∙ ⊎_elim
         (λ (here : is_at a place ≡ true).
         ap (λ b. if b then later (old a) start else old a) here ∙ ap (λ o. later o start) (before a)
         ∙ sym (ap (λ ns. greatest_of ns) (front_more a ∙ ap (λ b. front_at k a ++ map (λ (e : Place × ℕ). e.1) (cond b ((place, start) ∷ []) [])) here)
@@ -57,8 +57,8 @@ module _ (places : List Place) (starts : List ℕ) where
         ∙ sym (ap (λ ns. greatest_of ns) (front_more a ∙ ap (λ b. front_at k a ++ map (λ (e : Place × ℕ). e.1) (cond b ((place, start) ∷ []) [])) apart ∙ append-nil (front_at k a))))
         (cases_Bool (is_at a place))
 
-  pub all_told : (k : ℕ) (told : ℕ → Option ℕ) → k ≡ min (length places) (length starts) → AreTold k told → (a : ℕ) → told a ≡ latest_at places starts a
-  all_told k told is are a =
+  pub all_latest : (k : ℕ) (found : ℕ → Option ℕ) → k ≡ min (length places) (length starts) → AreLatestSoFar k found → (a : ℕ) → found a ≡ latest_at places starts a
+  all_latest k found is are a =
       let pairs = zip places starts in
       let le : length pairs ≤ k = omega (arith, length-zip places starts) in
       are a ∙ ap (λ (es : List (Place × ℕ)). greatest_of (map (λ (e : Place × ℕ). e.1) (filter (λ (e : Place × ℕ). is_at a e.0) es))) (take_all k pairs le)

@@ -54,7 +54,7 @@ use Rattle.flow_graph.proofs.WorkLemmas.{action_fits}
 
 -- ## What a plain step reports
 
-pub record TellsPlain (s : State) (m : Moved) (stepped : Stepped) : Type 0 where
+pub record IsPlainStep (s : State) (m : Moved) (stepped : Stepped) : Type 0 where
   pub kind : m.kind ≡ ended.Plain
   pub ticks : stepped.ticks ≡ ticks_in s m
   pub to : stepped.to ≡ address_in m.regs
@@ -64,7 +64,7 @@ abbrev pub answer_by : Bool → State → Moved → Stepped
 answer_by stops s m =
     cond stops (record { kind = m.kind; ticks = 0; from = address_in s.regs; to = address_in s.regs }) (record { kind = m.kind; ticks = ticks_in s m; from = address_in s.regs; to = address_in m.regs })
 
-plain_by : (stops : Bool) (s : State) (m : Moved) (stepped : Stepped) → is_stopped m.kind ≡ stops → stepped ≡ answer_by stops s m → stepped.kind ≡ ended.Plain → TellsPlain s m stepped
+plain_by : (stops : Bool) (s : State) (m : Moved) (stepped : Stepped) → is_stopped m.kind ≡ stops → stepped ≡ answer_by stops s m → stepped.kind ≡ ended.Plain → IsPlainStep s m stepped
 plain_by true s m stepped e is plain =
     let same : stepped.kind ≡ m.kind = ap (λ (t : Stepped). t.kind) is in
     let goes_on : is_stopped m.kind ≡ false = ap is_stopped (sym same ∙ plain) in
@@ -75,9 +75,9 @@ plain_by false s m stepped e is plain = record {
   to = ap (λ (t : Stepped). t.to) is;
 }
 
-pub tells_plain : (s : State) (m : Moved) (stepped : Stepped) → stepped ≡ answer_of s m → stepped.kind ≡ ended.Plain → TellsPlain s m stepped
+pub plain_step : (s : State) (m : Moved) (stepped : Stepped) → stepped ≡ answer_of s m → stepped.kind ≡ ended.Plain → IsPlainStep s m stepped
 unfolding answer_of
-tells_plain s m stepped is plain = plain_by (is_stopped m.kind) s m stepped refl is plain
+plain_step s m stepped is plain = plain_by (is_stopped m.kind) s m stepped refl is plain
 
 -- no interrupt was taken
 pub works_plain : (due : Option Vector) (port : ℕ) (regs : List ℕ) (bus : Bus) (m : Moved) → Works due port regs bus m → m.kind ≡ ended.Plain → ObeysFetched (fetched bus.memc (r15_in regs)) port regs bus m
@@ -135,24 +135,24 @@ module _ (words : Words) (st : Stated) (profile : Profile) (calls : List ℕ) (a
   abbrev StepCosts : Bool → Type 0
   StepCosts holds = Costs profile s.bus.memc.control.rom_times (class_of st (address_in s.regs)) (address_in s.regs) (kind_by holds action) (work_by holds action) h.step.moved.accesses stepped.to
 
-  tells : TellsPlain s h.step.moved stepped
-  tells = tells_plain s h.step.moved stepped h.step.stepped_is h.plain
+  plain_is : IsPlainStep s h.step.moved stepped
+  plain_is = plain_step s h.step.moved stepped h.step.stepped_is h.plain
 
   small : stepped.to < 2 ^ 26
-  small = subst (λ t. t < 2 ^ 26) (sym tells.to) ((word_address_of (r15_in h.step.moved.regs)).0)
+  small = subst (λ t. t < 2 ^ 26) (sym plain_is.to) ((word_address_of (r15_in h.step.moved.regs)).0)
 
   ticks : stepped.ticks ≡ ticks_of profile s.bus.memc.control.rom_times h.step.moved.accesses
-  ticks = tells.ticks ∙ ap (λ (p : Profile). ticks_of p s.bus.memc.control.rom_times h.step.moved.accesses) h.prices
+  ticks = plain_is.ticks ∙ ap (λ (p : Profile). ticks_of p s.bus.memc.control.rom_times h.step.moved.accesses) h.prices
 
   step_costs : StepCosts (holds_in s.regs action.cond)
   step_costs =
       let bus : Bus = with_lines i.lines.0 s.bus in
-      let obeyed : ObeysFetched (fetched bus.memc (r15_in s.regs)) i.port s.regs bus h.step.moved = works_plain (interrupt_due bus (r15_in s.regs)) i.port s.regs bus h.step.moved h.step.works (tells.kind) in
+      let obeyed : ObeysFetched (fetched bus.memc (r15_in s.regs)) i.port s.regs bus h.step.moved = works_plain (interrupt_due bus (r15_in s.regs)) i.port s.regs bus h.step.moved h.step.works (plain_is.kind) in
       let stands : fetched s.bus.memc (r15_in s.regs) ≡ Some h.has.word = h.fetches ∙ h.has.stands in
       let obeys : Obeys h.has.word i.port s.regs bus h.step.moved = subst (λ o. ObeysFetched o i.port s.regs bus h.step.moved) stands obeyed in
-      subst (λ t. Costs profile s.bus.memc.control.rom_times (class_of st (address_in s.regs)) (address_in s.regs) (kind_by (holds_in s.regs action.cond) action) (work_by (holds_in s.regs action.cond) action) h.step.moved.accesses t) (sym tells.to)
+      subst (λ t. Costs profile s.bus.memc.control.rom_times (class_of st (address_in s.regs)) (address_in s.regs) (kind_by (holds_in s.regs action.cond) action) (work_by (holds_in s.regs action.cond) action) h.step.moved.accesses t) (sym plain_is.to)
       (obeys_costs profile s.bus.memc.control.rom_times (class_of st (address_in s.regs)) s.regs (let n : length s.regs ≡ 27 = h.registers in omega arith)
-      h.has.word action i.port bus h.step.moved h.has.is obeys h.transfers (tells.kind))
+      h.has.word action i.port bus h.step.moved h.has.is obeys h.transfers (plain_is.kind))
 
   -- ## Each edge of the step
 

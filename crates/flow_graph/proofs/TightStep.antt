@@ -38,7 +38,7 @@ use Rattle.flow_graph.specs.declared.places.Place.TheVariants.{At}
 use Rattle.statement.specs.Stated.{Stated, class_of}
 use Rattle.flow_graph.proofs.EdgeLemmas.{among_edges, one_action}
 use Rattle.flow_graph.proofs.StepEdges.{Which, not_both, which_edge}
-use Rattle.flow_graph.proofs.StepLemmas.{TellsPlain, answer_by, tells_plain}
+use Rattle.flow_graph.proofs.StepLemmas.{IsPlainStep, answer_by, plain_step}
 use Rattle.flow_graph.proofs.StepOperations.{operation_costs, skipped_costs}
 use Rattle.flow_graph.proofs.TightArrivals.{arrives_exactly}
 use Rattle.flow_graph.proofs.TightData.{skipped_pays}
@@ -49,13 +49,13 @@ use Rattle.flow_graph.proofs.WorkLemmas.{action_fits}
 
 -- ## What the step reports
 
-kind_told : (stops : Bool) (s : State) (m : Moved) → (answer_by stops s m).kind ≡ m.kind
-kind_told true s m = refl
-kind_told false s m = refl
+kind_kept : (stops : Bool) (s : State) (m : Moved) → (answer_by stops s m).kind ≡ m.kind
+kind_kept true s m = refl
+kind_kept false s m = refl
 
-told_kind : (s : State) (m : Moved) → (answer_of s m).kind ≡ m.kind
+kind_of_answer : (s : State) (m : Moved) → (answer_of s m).kind ≡ m.kind
 unfolding answer_of
-told_kind s m = kind_told (is_stopped m.kind) s m
+kind_of_answer s m = kind_kept (is_stopped m.kind) s m
 
 -- ## The label
 
@@ -118,9 +118,9 @@ module _ (words : Words) (st : Stated) (profile : Profile) (e : Edge) (s : State
       → TransfersIn class m.accesses → IsPlaceOf st (address_in m.regs) e.to
       → ticks_of profile rom m.accesses ≡ e.cost → IsTight words st profile e s i
   tight m obeys plain transfers to cost =
-      let plainly = told_kind s m ∙ plain in
-      let tells : TellsPlain s m (answer_of s m) = tells_plain s m (answer_of s m) refl plainly in
-      let ticks = tells.ticks ∙ ap (λ (p : Profile). ticks_of p rom m.accesses) h.stands.prices in
+      let plainly = kind_of_answer s m ∙ plain in
+      let plain_is : IsPlainStep s m (answer_of s m) = plain_step s m (answer_of s m) refl plainly in
+      let ticks = plain_is.ticks ∙ ap (λ (p : Profile). ticks_of p rom m.accesses) h.stands.prices in
       record {
         privileged = ap is_user svc;
         stepped = answer_of s m;
@@ -141,7 +141,7 @@ module _ (words : Words) (st : Stated) (profile : Profile) (e : Edge) (s : State
             is_edge = h.is_edge;
             from = from;
             label = label;
-            to = subst (λ t. IsPlaceOf st t e.to) (sym tells.to) to;
+            to = subst (λ t. IsPlaceOf st t e.to) (sym plain_is.to) to;
           };
         };
         exact = ticks ∙ cost;

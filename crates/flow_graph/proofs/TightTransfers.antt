@@ -35,9 +35,9 @@ use Rattle.flow_graph.proofs.TightWords.{last_is_r15, last_loaded, others_in, ve
 use Rattle.flow_graph.proofs.TightWords.{words_to}
 
 -- what writes R15 is a writer
-writer_told : (b : Bool) → is_writer (writer_if b) ≡ true → b ≡ true
-writer_told true e = refl
-writer_told false e = absurd (false≢true e)
+writer_decides : (b : Bool) → is_writer (writer_if b) ≡ true → b ≡ true
+writer_decides true e = refl
+writer_decides false e = absurd (false≢true e)
 
 module _ (c : Setting) where
   -- a load where the test holds, and else a store
@@ -80,7 +80,7 @@ module _ (c : Setting) where
       plain = refl;
       pays = load_pays c.profile c.rom c.class (start c) c.dear (address_for x base) 1 (is_pc x.rd) _ block;
       lands = λ w.
-          let writes = writer_told (is_pc x.rd) w in
+          let writes = writer_decides (is_pc x.rd) w in
           let based = long_after (writes_base x) x.rn (moved_by x.up base x.offset) in
           subst (IsDearestTarget c.st c.profile c.to)
           (sym (loaded_goes false (mode c) (r15_in c.regs) x.rd word (base_after x base c.regs) based writes))
@@ -163,7 +163,7 @@ module _ (c : Setting) where
           load_pays c.profile c.rom c.class (start c) c.dear span.lowest span.words (is_listed x.list R15) _
           block;
       lands = λ w.
-          let listed = writer_told (is_listed x.list R15) w in
+          let listed = writer_decides (is_listed x.list R15) w in
           let based = long_after x.write_back x.rn span.base in
           subst (IsDearestTarget c.st c.profile c.to) (sym (last_goes listed _ based)) (target listed);
     }

@@ -78,13 +78,13 @@ module _ (class : Class) where
 abbrev IsSplitAt : (all before : List effect.Access) → effect.Access → Type 0
 IsSplitAt all before x = (after : List effect.Access) × (all ≡ before ++ x ∷ after)
 
-split_behind : (front words before : List effect.Access) (x : effect.Access) → IsSplitAt words before x → IsSplitAt (front ++ words) (front ++ before) x
-split_behind front words before x (after, is) = (after, ap (λ ws. front ++ ws) is ∙ sym (append_assoc front before (x ∷ after)))
+split_after : (front words before : List effect.Access) (x : effect.Access) → IsSplitAt words before x → IsSplitAt (front ++ words) (front ++ before) x
+split_after front words before x (after, is) = (after, ap (λ ws. front ++ ws) is ∙ sym (append_assoc front before (x ∷ after)))
 
 split_within : (front words tail before : List effect.Access) (x : effect.Access) → IsSplitAt words before x → IsSplitAt ((front ++ words) ++ tail) (front ++ before) x
 split_within front words tail before x at =
-    let behind = split_behind front words before x at in
-    (behind.0 ++ tail, ap (λ ws. ws ++ tail) behind.1 ∙ append_assoc (front ++ before) (x ∷ behind.0) tail)
+    let after_front = split_after front words before x at in
+    (after_front.0 ++ tail, ap (λ ws. ws ++ tail) after_front.1 ∙ append_assoc (front ++ before) (x ∷ after_front.0) tail)
 
 -- the words of a transfer are in their order
 words_split : (store : Bool) (address k i : ℕ) → i < k → IsSplitAt (words_at store address k) (words_at store address i) (Word store (i == 0) (word_address address i))
@@ -288,7 +288,7 @@ module _ (class : Class) (regs : List ℕ) (bus : Bus) where
         (λ k lt. Contains-append_right (FetchN (ahead_of (address_of (r15_in regs)) 8) ∷ []) (words_at true address words) _ (words_there true address words k lt)));
     first_other = λ plain. subst (λ (xs : List effect.Access). (access : Access) → HasOther class (Some (record { address = address; words = words; store = true })) access → IsFirstOther class xs access) (sym are)
         (first_word true address words (FetchN (ahead_of (address_of (r15_in regs)) 8) ∷ []) (store_accesses (address_of (r15_in regs)) address words) (fetch_in class (ahead_of (address_of (r15_in regs)) 8))
-        (λ k lt. split_behind (FetchN (ahead_of (address_of (r15_in regs)) 8) ∷ []) (words_at true address words) _ _ (words_split true address words k lt)));
+        (λ k lt. split_after (FetchN (ahead_of (address_of (r15_in regs)) 8) ∷ []) (words_at true address words) _ _ (words_split true address words k lt)));
     registers = λ plain. long;
   }
 

@@ -17,7 +17,7 @@ use Rattle.flow_graph.specs.StepLaw.{IsEdgeOf, IsTaken}
 use Rattle.flow_graph.specs.declared.edges.Edge.{Edge}
 use Rattle.flow_graph.specs.declared.kinds.Action.{Action}
 use Rattle.flow_graph.proofs.EdgeLemmas.{one_action}
-use Rattle.flow_graph.proofs.StepLemmas.{tells_plain}
+use Rattle.flow_graph.proofs.StepLemmas.{plain_step}
 use Rattle.flow_graph.proofs.PlaceLemmas.{same_at}
 use Rattle.kept_runs.proofs.EdgeChoice.{one_edge}
 
@@ -29,9 +29,9 @@ regs_by false s a is = refl
 pub lands : (s : State) (i : Input) (stepped : Stepped) (after : State) → Step s i stepped after → stepped.kind ≡ ended.Plain → stepped.to ≡ address_in after.regs
 unfolding state_after
 lands s i stepped after step plain =
-    let tells = tells_plain s step.moved stepped step.stepped_is plain in
-    tells.to
-    ∙ sym (ap (λ (x : State). address_in x.regs) step.after_is ∙ ap address_in (regs_by (is_stopped step.moved.kind) s _ (ap is_stopped tells.kind)))
+    let plain_is = plain_step s step.moved stepped step.stepped_is plain in
+    plain_is.to
+    ∙ sym (ap (λ (x : State). address_in x.regs) step.after_is ∙ ap address_in (regs_by (is_stopped step.moved.kind) s _ (ap is_stopped plain_is.kind)))
 
 module _ (words : Words) (st : Stated) (profile : Profile) (s : State) (i : Input) where
   pub one_edge_of : (stepped other : Stepped) (after last : State) (d e : Edge) → IsEdgeOf words st profile s i stepped after d → IsEdgeOf words st profile s i other last e → d.from ≡ e.from → d ≡ e
@@ -40,7 +40,7 @@ module _ (words : Words) (st : Stated) (profile : Profile) (s : State) (i : Inpu
       let calls : h.calls ≡ g.calls = (same_at h.calls g.calls (address_in s.regs) (address_in s.regs) (sym h.taken.from ∙ from ∙ g.taken.from)).0 in
       let word : h.executes.has.word ≡ g.executes.has.word = same_Some h.executes.has.word g.executes.has.word (sym h.executes.has.stands ∙ g.executes.has.stands) in
       let act : h.action ≡ g.action = one_action g.executes.has.word h.action g.action (subst (λ w. IsAction w h.action) word h.executes.has.is) g.executes.has.is in
-      let told_same : IsTaken words st profile g.calls g.action s stepped e = subst (λ (x : Stepped). IsTaken words st profile g.calls g.action s x e) same.0 g.taken in
-      let act_same : IsTaken words st profile g.calls h.action s stepped e = subst (λ (x : Action). IsTaken words st profile g.calls x s stepped e) (sym act) told_same in
+      let taken_same : IsTaken words st profile g.calls g.action s stepped e = subst (λ (x : Stepped). IsTaken words st profile g.calls g.action s x e) same.0 g.taken in
+      let act_same : IsTaken words st profile g.calls h.action s stepped e = subst (λ (x : Action). IsTaken words st profile g.calls x s stepped e) (sym act) taken_same in
       let all_same : IsTaken words st profile h.calls h.action s stepped e = subst (λ (c : List ℕ). IsTaken words st profile c h.action s stepped e) (sym calls) act_same in
       one_edge words st profile h.calls h.action s stepped h.executes.has d e h.taken all_same

@@ -47,8 +47,8 @@ module _ (exit : ℕ) (edges : List NumberedEdge) (spans : List Span) (order : I
       kept_by None k other = refl
       kept_by (Some s) k other = get_or-set_other old e.to k (cond (is_in s e.from) (get_or old e.to 0 + 1) 0) 0 other
 
-      turns_told : (s : Span) → Contains spans s → is_in s e.to ≡ true → get_or new s.header 0 ≡ turns_at_end s (w ++ e ∷ [])
-      turns_told s has here = ⊎_elim
+      turns_after_edge : (s : Span) → Contains spans s → is_in s e.to ≡ true → get_or new s.header 0 ≡ turns_at_end s (w ++ e ∷ [])
+      turns_after_edge s has here = ⊎_elim
           (λ (is : s.header ≡ e.to). at_header s has is ∙ ⊎_elim
           (λ (from_in : is_in s e.from ≡ true).
           let b = back s has is from_in in
@@ -63,8 +63,8 @@ module _ (exit : ℕ) (edges : List NumberedEdge) (spans : List Span) (order : I
           ap (λ (xs : List ℕ). get_or xs s.header 0) t.turns_are ∙ kept_by (header_at headers e.to) s.header other ∙ stepped.turns_are s has stay.0 ∙ sym stay.1)
           (cases_eq s.header e.to)
 
-      kept_told : (s : Span) → Contains spans s → most_in s (w ++ e ∷ []) ≤ s.bound
-      kept_told s has =
+      kept_after_edge : (s : Span) → Contains spans s → most_in s (w ++ e ∷ []) ≤ s.bound
+      kept_after_edge s has =
           let before : most_in s w ≤ s.bound = stepped.kept s has in
           ⊎_elim
           (λ (is : s.header ≡ e.to). ⊎_elim
@@ -80,7 +80,7 @@ module _ (exit : ℕ) (edges : List NumberedEdge) (spans : List Span) (order : I
           (cases_eq s.header e.to)
 
       pub turns_on : AreTurnsAfter spans new e.to (w ++ e ∷ [])
-      turns_on = record { turns_are = turns_told; kept = kept_told }
+      turns_on = record { turns_are = turns_after_edge; kept = kept_after_edge }
 
 -- a walk's front keeps what the walk keeps
 pub front_keeps : (s : Span) (v w : List NumberedEdge) → most_in s (v ++ w) ≤ s.bound → most_in s v ≤ s.bound

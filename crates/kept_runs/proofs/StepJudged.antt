@@ -32,7 +32,7 @@ use Rattle.flow_graph.specs.declared.places.Place.{Place}
 use Rattle.flow_graph.specs.declared.places.Place.TheVariants.{At, Exit}
 use Rattle.flow_graph.proofs.EdgeLemmas.{one_action}
 use Rattle.flow_graph.proofs.FlowLemmas.{has_edge_is_edge, is_edge_has_edge}
-use Rattle.flow_graph.proofs.StepLemmas.{TellsPlain, tells_plain, works_plain}
+use Rattle.flow_graph.proofs.StepLemmas.{IsPlainStep, plain_step, works_plain}
 use Rattle.flow_graph.proofs.StepRegisters.{word_address_of}
 use Rattle.longest_walk.specs.Built.{step_at}
 use Rattle.kept_runs.specs.declared.edges.Going.{Going}
@@ -55,13 +55,13 @@ use Rattle.kept_runs.proofs.MovedLemmas.{Moves, word_moves}
 label_itself : (a b : Label) → a ≡ b → is_same_label a b ≡ true
 label_itself a b is = ap (λ x. is_same_label x b) is ∙ own_label b
 
-place_told : (st : Stated) (t : ℕ) (p : Place) → is_place_of st.leave t p ≡ true → IsPlaceOf st t p
-place_told st t (At calls a) is = eqb-true a t is
-place_told st t Exit is = covers_is st.leave t is
+place_from_test : (st : Stated) (t : ℕ) (p : Place) → is_place_of st.leave t p ≡ true → IsPlaceOf st t p
+place_from_test st t (At calls a) is = eqb-true a t is
+place_from_test st t Exit is = covers_is st.leave t is
 
-told_place : (st : Stated) (t : ℕ) (p : Place) → IsPlaceOf st t p → is_place_of st.leave t p ≡ true
-told_place st t (At calls a) is = eq-eqb a t is
-told_place st t Exit is = is_covers st.leave t is
+place_to_test : (st : Stated) (t : ℕ) (p : Place) → IsPlaceOf st t p → is_place_of st.leave t p ≡ true
+place_to_test st t (At calls a) is = eq-eqb a t is
+place_to_test st t Exit is = is_covers st.leave t is
 
 -- an access of another class is none of the class
 is_other : (class : Class) (access : Access) (t : Option Transfer) → HasOther class t access → IsOf class access.address → ⊥
@@ -115,7 +115,7 @@ module _ (words : Words) (st : Stated) (flow : Flow) (graph : IsFlowGraph words 
     plain_as h = ap (λ (x : Stepped). x.kind) (sym (same h).0) ∙ h.executes.plain
 
     pub to_small : stepped.kind ≡ ended.Plain → stepped.to < 2 ^ 26
-    to_small plain = subst (λ t. t < 2 ^ 26) (sym (tells_plain s step.moved stepped step.stepped_is plain).to) ((word_address_of (r15_in step.moved.regs)).0)
+    to_small plain = subst (λ t. t < 2 ^ 26) (sym (plain_step s step.moved stepped step.stepped_is plain).to) ((word_address_of (r15_in step.moved.regs)).0)
 
     none_unless_plain : (stepped.kind ≡ ended.Plain → ⊥) → TakesNone words st flow place s i
     none_unless_plain not_plain other last e h from = not_plain (plain_as h)
@@ -136,13 +136,13 @@ module _ (words : Words) (st : Stated) (flow : Flow) (graph : IsFlowGraph words 
     }
 
     module _ (plain : stepped.kind ≡ ended.Plain) (word : ℕ) (at_word : StandsThere words s word) (r : Reading) (reads : IsReading word s.regs r) where
-      tells : TellsPlain s step.moved stepped
-      tells = tells_plain s step.moved stepped step.stepped_is plain
+      plain_is : IsPlainStep s step.moved stepped
+      plain_is = plain_step s step.moved stepped step.stepped_is plain
 
       obeys : Obeys word i.port s.regs bus step.moved
       obeys =
           subst (λ o. ObeysFetched o i.port s.regs bus step.moved) at_word.fetches
-          (works_plain (interrupt_due bus (r15_in s.regs)) i.port s.regs bus step.moved step.works tells.kind)
+          (works_plain (interrupt_due bus (r15_in s.regs)) i.port s.regs bus step.moved step.works plain_is.kind)
 
       moves : Moves class s.regs r.transfer step.moved
       moves = word_moves class s.regs bus word i.port r step.moved reads obeys
@@ -157,7 +157,7 @@ module _ (words : Words) (st : Stated) (flow : Flow) (graph : IsFlowGraph words 
       none_with_other : (access : Access) → HasOther class r.transfer access → TakesNone words st flow place s i
       none_with_other access other other_stepped last e h from =
           let one : h.executes.step.moved ≡ step.moved = works_one i.port s.regs bus (interrupt_due bus (r15_in s.regs)) h.executes.step.moved step.moved h.executes.step.works step.works in
-          let word = moves.there tells.kind access other in
+          let word = moves.there plain_is.kind access other in
           is_other class access r.transfer other ((subst (λ (m : Moved). TransfersIn class m.accesses) one h.executes.transfers) access.store word.0 access.address word.1)
 
       pub other_class : (access : Access) → HasOther class r.transfer access → Strays words st flow place s i after (stray.OtherClass access)
@@ -166,7 +166,7 @@ module _ (words : Words) (st : Stated) (flow : Flow) (graph : IsFlowGraph words 
             none = none_with_other access other;
             is = record {
               ends = record { word = word; fetches = at_word; stepped = stepped; step = step; kind_is = plain };
-              is_first = moves.first_other tells.kind access other;
+              is_first = moves.first_other plain_is.kind access other;
             };
           }
 
@@ -182,7 +182,7 @@ module _ (words : Words) (st : Stated) (flow : Flow) (graph : IsFlowGraph words 
       met_by : (c : List ℕ) (e : Edge) → IsTaken words st flow.profile c read.action s stepped e → is_met going e ≡ true
       met_by c e taken =
           let label : e.label ≡ label_if r.holds = taken.label ∙ sym label_is in
-          and_from (is_same_label e.label (label_if r.holds)) (is_place_of st.leave stepped.to e.to) (label_itself e.label (label_if r.holds) label) (told_place st stepped.to e.to taken.to)
+          and_from (is_same_label e.label (label_if r.holds)) (is_place_of st.leave stepped.to e.to) (label_itself e.label (label_if r.holds) label) (place_to_test st stepped.to e.to taken.to)
 
       -- an edge of the step is one of the place's
       met : {other : Stepped} {last : State} {e : Edge} → (h : IsEdgeOf words st flow.profile s i other last e) → is_met going e ≡ true
@@ -212,7 +212,7 @@ module _ (words : Words) (st : Stated) (flow : Flow) (graph : IsFlowGraph words 
         fetches = at_word.fetches ∙ sym at_word.stands;
         step = step;
         plain = plain;
-        transfers = moves.in_class tells.kind clean;
+        transfers = moves.in_class plain_is.kind clean;
       }
 
       pub elsewhere : HasNoOther class r.transfer → Contains flow.places place → HasNoEdge flow place going → Strays words st flow place s i after (stray.Elsewhere stepped.to)
@@ -224,7 +224,7 @@ module _ (words : Words) (st : Stated) (flow : Flow) (graph : IsFlowGraph words 
       long : length after.regs ≡ 27
       unfolding state_after
       long =
-          let same_long : length step.moved.regs ≡ length s.regs = moves.registers tells.kind in
+          let same_long : length step.moved.regs ≡ length s.regs = moves.registers plain_is.kind in
           ap (λ (x : State). length x.regs) step.after_is
           ∙ after_regs (is_stopped step.moved.kind) s s _ refl same_long
           ∙ stands.machine.registers
@@ -243,7 +243,7 @@ module _ (words : Words) (st : Stated) (flow : Flow) (graph : IsFlowGraph words 
                 is_edge = has_edge_is_edge words st flow.profile flow graph e (Contains-get_or flow.edges k _ found.known);
                 from = found.from ∙ stands.at.1;
                 label = one_label e.label (label_if r.holds) both.0 ∙ label_is;
-                to = place_told st stepped.to e.to both.1;
+                to = place_from_test st stepped.to e.to both.1;
               };
             };
             from = found.from;

@@ -74,7 +74,7 @@ module _ (words : Words) (st : Stated) (flow : Flow) (tree : Tree) (well : IsWel
   module _ (i : Input) where
     -- no edge of the place
     none_goes : TakesNone words st flow (place_at flow.places (get_or tree.order x.number 0)) s i → CannotGo words st flow tree x s i
-    none_goes none stepped after k next walk tells keeps =
+    none_goes none stepped after k next walk turns_are keeps =
         none stepped after (step_at flow.edges k) next.is_edge_of (leaves_place k next.known next.from ∙ place_is)
 
     pub strays : (after : State) (stray : Stray) → Strays words st flow (place_at flow.places (get_or tree.order x.number 0)) s i after stray → Halts words st flow tree x s i after (unkept.Stray stray)
@@ -99,8 +99,8 @@ module _ (words : Words) (st : Stated) (flow : Flow) (tree : Tree) (well : IsWel
       next : IsNext words st flow tree x s i taken.stepped after taken.edge
       next = record { known = takes.known; is_edge_of = takes.is_edge_of; from = from_is }
 
-      tells_from : (walk : List NumberedEdge) → AreTurnsAfter tree.spans x.turns.items x.number walk → AreTurnsAfter tree.spans x.turns.items (edge_at tree.edges taken.edge).from walk
-      tells_from walk tells = subst (λ (n : ℕ). AreTurnsAfter tree.spans x.turns.items n walk) (sym from_is) tells
+      turns_from : (walk : List NumberedEdge) → AreTurnsAfter tree.spans x.turns.items x.number walk → AreTurnsAfter tree.spans x.turns.items (edge_at tree.edges taken.edge).from walk
+      turns_from walk turns_are = subst (λ (n : ℕ). AreTurnsAfter tree.spans x.turns.items n walk) (sym from_is) turns_are
 
       -- the step is the same for whoever makes it
       one : (stepped : Stepped) (last : State) (k : ℕ) → IsNext words st flow tree x s i stepped last k → edge_at tree.edges taken.edge ≡ edge_at tree.edges k
@@ -117,8 +117,8 @@ module _ (words : Words) (st : Stated) (flow : Flow) (tree : Tree) (well : IsWel
 
       -- one back edge too many
       over_goes : (span : Span) → IsOver headers (edge_at tree.edges taken.edge) x.turns.items span → CannotGo words st flow tree x s i
-      over_goes span is_over stepped last k other walk tells keeps =
-          over (length flow.places) tree.edges tree.spans t.ordered headers are.are (edge_at tree.edges taken.edge) (in_tree taken.edge takes.known) walk x.turns.items x.turns.items room (tells_from walk tells) span is_over
+      over_goes span is_over stepped last k other walk turns_are keeps =
+          over (length flow.places) tree.edges tree.spans t.ordered headers are.are (edge_at tree.edges taken.edge) (in_tree taken.edge takes.known) walk x.turns.items x.turns.items room (turns_from walk turns_are) span is_over
           (subst (λ (d : NumberedEdge). Keeps tree (walk ++ d ∷ [])) (sym (one stepped last k other)) keeps)
 
       pub turns_back : (span : Span) → IsOver headers (edge_at tree.edges taken.edge) x.turns.items span → Halts words st flow tree x s i after (TurnedBack span)
@@ -139,7 +139,7 @@ module _ (words : Words) (st : Stated) (flow : Flow) (tree : Tree) (well : IsWel
         small = takes.small;
         machine = takes.machine;
         room = ap length turns.turns_are ∙ turned_length (header_at headers (edge_at tree.edges taken.edge).to) (edge_at tree.edges taken.edge) x.turns.items ∙ can.room;
-        adds = λ walk tells.
+        adds = λ walk turns_are.
             subst (λ (n : ℕ). AreTurnsAfter tree.spans new.turns.items n (walk ++ edge_at tree.edges taken.edge ∷ [])) (sym number)
-            (turns_on (length flow.places) tree.edges tree.spans t.ordered headers are.are (edge_at tree.edges taken.edge) (in_tree taken.edge takes.known) walk x.turns.items new.turns.items room (tells_from walk tells) turns);
+            (turns_on (length flow.places) tree.edges tree.spans t.ordered headers are.are (edge_at tree.edges taken.edge) (in_tree taken.edge takes.known) walk x.turns.items new.turns.items room (turns_from walk turns_are) turns);
       }

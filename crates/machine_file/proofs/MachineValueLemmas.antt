@@ -10,7 +10,7 @@ use Rattle.toml_reading.specs.Lowest.{AtKey, AtKeyOr, IsInSpace, IsListOf, IsNam
 use Rattle.toml_reading.specs.Documents.{in_space, items_at, number_in, number_or}
 use Rattle.toml_reading.specs.Readings.{all, both, seen}
 use Rattle.toml_reading.proofs.AddressLemmas.{integer_judged}
-use Rattle.toml_reading.proofs.LowestLemmas.{Judges, Told, joint, judged_as, one_by_rank, optional_judged, required_judged, seen_judged, two_tests}
+use Rattle.toml_reading.proofs.LowestLemmas.{AnswersBy, Judges, joint, judged_as, one_by_rank, optional_judged, required_judged, seen_judged, two_tests}
 use Rattle.toml_reading.proofs.LowestParts.{all_judged, list_judged, named_judged, not_whole, number_in_judged, number_judged, number_or_judged, table_judged, whole_same}
 use Rattle.machine_file.specs.MachineFaults.{machine_faults, number_of}
 use Rattle.machine_file.specs.MachineFile.{Read, event_at, event_of, flags_at, is_letter, is_single, lettered, line_at, lines_at, lines_in, page_at, page_of, pc_at, port_at, port_in, register_in, registers_at, set_flags, size_at, size_of, union, word_in}
@@ -65,7 +65,7 @@ OtherSize z f = ((s : PageSize) → z ≡ pos (kilobytes s) → ⊥) × (f ≡ O
 
 module _ (n : ℕ) where
   sized : (s : PageSize) → n ≡ kilobytes s
-      → Told machine_faults (λ t. pos n ≡ pos (kilobytes t)) (OtherSize (pos n)) (Ok s)
+      → AnswersBy machine_faults (λ t. pos n ≡ pos (kilobytes t)) (OtherSize (pos n)) (Ok s)
   sized s e = (
     record {
       stated = ap pos e;
@@ -83,7 +83,7 @@ module _ (n : ℕ) where
   other_size a b c d K32 e = false≢true (sym d ∙ eq-eqb n 32 e)
 
   size_tested : (a b c d : Bool) → eqb n 4 ≡ a → eqb n 8 ≡ b → eqb n 16 ≡ c → eqb n 32 ≡ d
-      → Told machine_faults (λ t. pos n ≡ pos (kilobytes t)) (OtherSize (pos n)) (cond a (Ok K4) (cond b (Ok K8) (cond c (Ok K16) (cond d (Ok K32) (Err OutOfRange)))))
+      → AnswersBy machine_faults (λ t. pos n ≡ pos (kilobytes t)) (OtherSize (pos n)) (cond a (Ok K4) (cond b (Ok K8) (cond c (Ok K16) (cond d (Ok K32) (Err OutOfRange)))))
   size_tested true b c d ea eb ec ed = sized K4 (eqb-true n 4 ea)
   size_tested false true c d ea eb ec ed = sized K8 (eqb-true n 8 eb)
   size_tested false false true d ea eb ec ed = sized K16 (eqb-true n 16 ec)
@@ -92,9 +92,9 @@ module _ (n : ℕ) where
       let none : (s : PageSize) → pos n ≡ pos (kilobytes s) → ⊥ = λ s e. other_size ea eb ec ed s (whole_same n (kilobytes s) e) in
       (none, record { has = (none, refl); least = λ f x. is_fault f OutOfRange x.1 })
 
-size_told : (z : ℤ) → Told machine_faults (λ s. z ≡ pos (kilobytes s)) (OtherSize z) (size_of z)
-size_told (pos n) = size_tested n (eqb n 4) (eqb n 8) (eqb n 16) (eqb n 32) refl refl refl refl
-size_told (negsuc n) = (
+size_answers : (z : ℤ) → AnswersBy machine_faults (λ s. z ≡ pos (kilobytes s)) (OtherSize z) (size_of z)
+size_answers (pos n) = size_tested n (eqb n 4) (eqb n 8) (eqb n 16) (eqb n 32) refl refl refl refl
+size_answers (negsuc n) = (
   λ s e. not_whole n (kilobytes s) e,
   record { has = (λ s e. not_whole n (kilobytes s) e, refl); least = λ f x. is_fault f OutOfRange x.1 },
 )
@@ -106,7 +106,7 @@ size_judged d =
     (λ z s. z ≡ pos (kilobytes s))
     OtherSize
     size_of
-    (λ z. record { told = size_told z })
+    (λ z. record { answers = size_answers z })
     (as_integer d)
 
 -- ## Letters
@@ -179,9 +179,9 @@ port_judged d =
 
 -- ## Tables
 
-registers_told : (ms : Members)
+registers_answers : (ms : Members)
     → Judges machine_faults (λ ws. AllZip (λ r n. AtKeyOr (name_of r) ms (n ≡ 0) (λ e. IsWord e n)) named_registers ws) (λ f. Any (λ r. AtKey (name_of r) ms (λ e. WordFault e f)) named_registers) (all machine_faults (map (register_in ms) named_registers))
-registers_told ms =
+registers_answers ms =
     all_judged
     machine_faults
     (λ r n. AtKeyOr (name_of r) ms (n ≡ 0) (λ e. IsWord e n))
@@ -198,7 +198,7 @@ registers_judged d =
     (λ ms ws. AllZip (λ r n. AtKeyOr (name_of r) ms (n ≡ 0) (λ e. IsWord e n)) named_registers ws)
     (λ ms f. Any (λ r. AtKey (name_of r) ms (λ e. WordFault e f)) named_registers)
     (λ ms. all machine_faults (map (register_in ms) named_registers))
-    registers_told
+    registers_answers
     d
 
 module _ (ms : Members) where
@@ -243,9 +243,9 @@ page_numbers_judged ms =
     (numbers_of_page ms)
     (joint (joint (word ms (codes "logical")) (word ms (codes "physical"))) (word ms (codes "level")))
 
-page_told : (ms : Members)
+page_answers : (ms : Members)
     → Judges machine_faults (PageStates ms) (PageFaults ms) (seen page_of (numbers_of_page ms))
-page_told ms =
+page_answers ms =
     seen_judged
     machine_faults
     (λ (p : (ℕ × ℕ) × ℕ). PageStates ms (page_of p))
@@ -265,7 +265,7 @@ page_judged d =
     PageStates
     PageFaults
     (λ ms. seen page_of (numbers_of_page ms))
-    page_told
+    page_answers
     d
 
 abbrev EventStates : Members → ℕ × Event → Type 0
@@ -306,9 +306,9 @@ port_in_judged ms =
     None
     (get_member (codes "port") ms)
 
-event_told : (ms : Members)
+event_answers : (ms : Members)
     → Judges machine_faults (EventStates ms) (EventFaults ms) (seen event_of (event_parts ms))
-event_told ms =
+event_answers ms =
     seen_judged
     machine_faults
     _
@@ -328,7 +328,7 @@ event_judged d =
     EventStates
     EventFaults
     (λ ms. seen event_of (event_parts ms))
-    event_told
+    event_answers
     d
 
 -- ## Ranks of the faults of pages and events

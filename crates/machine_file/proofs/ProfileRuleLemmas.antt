@@ -9,7 +9,7 @@ use Rattle.bus_ticks.specs.Ranges.{AreInRange, AreOrdered, IsPrice, device_numbe
 use Rattle.toml_reading.specs.Documents.{has_only_keys, items_at}
 use Rattle.toml_reading.specs.Lowest.{AtKey, AtKeyOr, IsListOf, IsOutside, KeysFault}
 use Rattle.toml_reading.specs.Readings.{both}
-use Rattle.toml_reading.proofs.LowestLemmas.{Judges, Told, both_judged, judged_as, one_by_rank, required_judged, seen_judged}
+use Rattle.toml_reading.proofs.LowestLemmas.{AnswersBy, Judges, both_judged, judged_as, one_by_rank, required_judged, seen_judged}
 use Rattle.toml_reading.proofs.LowestParts.{OneOf, any_one_of, keys_judged, number_in_judged, number_judged}
 use Rattle.machine_file.specs.ProfileFaults.{number_of, profile_faults}
 use Rattle.machine_file.specs.ProfileFile.{Four, IsPriced, Parts, Read, four_at, four_in, four_of, joined, numbers_in, parts_in, profile_keys, word_at, word_in}
@@ -89,9 +89,9 @@ ItemsFault ds f = ((length ds ≢ 4) × (f ≡ WrongKind)) ⊎ Any (λ e. TicksF
 ticks_judged : (d : Data) → Judges profile_faults (IsTicks d) (TicksFault d) (word_at d)
 ticks_judged d = number_judged profile_faults (2 ^ 32 - 1) d
 
-wrong_told : (ds : List Data) → length ds ≢ 4
-    → Told profile_faults (ListsFour ds) (ItemsFault ds) (four_of ds)
-wrong_told ds other =
+wrong_answers : (ds : List Data) → length ds ≢ 4
+    → AnswersBy profile_faults (ListsFour ds) (ItemsFault ds) (four_of ds)
+wrong_answers ds other =
     rw (not_four ds other) (
       λ p z. other (sym (AllZip-long IsTicks ds (four_list p) z)),
       record {
@@ -136,13 +136,13 @@ four_exact a b c d =
     (four_of (a ∷ b ∷ c ∷ d ∷ []))
     (joint (joint (ticks_judged a) (ticks_judged b)) (joint (ticks_judged c) (ticks_judged d)))
 
-four_told : (ds : List Data) → Told profile_faults (ListsFour ds) (ItemsFault ds) (four_of ds)
-four_told [] = wrong_told [] (λ e. absurd (omega (arith, e)))
-four_told (a ∷ []) = wrong_told (a ∷ []) (λ e. absurd (omega (arith, e)))
-four_told (a ∷ b ∷ []) = wrong_told (a ∷ b ∷ []) (λ e. absurd (omega (arith, e)))
-four_told (a ∷ b ∷ c ∷ []) = wrong_told (a ∷ b ∷ c ∷ []) (λ e. absurd (omega (arith, e)))
-four_told (a ∷ b ∷ c ∷ d ∷ []) = (four_exact a b c d).told
-four_told (a ∷ b ∷ c ∷ d ∷ e ∷ ds) = wrong_told (a ∷ b ∷ c ∷ d ∷ e ∷ ds) (λ h. absurd (omega (arith, h)))
+four_answers : (ds : List Data) → AnswersBy profile_faults (ListsFour ds) (ItemsFault ds) (four_of ds)
+four_answers [] = wrong_answers [] (λ e. absurd (omega (arith, e)))
+four_answers (a ∷ []) = wrong_answers (a ∷ []) (λ e. absurd (omega (arith, e)))
+four_answers (a ∷ b ∷ []) = wrong_answers (a ∷ b ∷ []) (λ e. absurd (omega (arith, e)))
+four_answers (a ∷ b ∷ c ∷ []) = wrong_answers (a ∷ b ∷ c ∷ []) (λ e. absurd (omega (arith, e)))
+four_answers (a ∷ b ∷ c ∷ d ∷ []) = (four_exact a b c d).answers
+four_answers (a ∷ b ∷ c ∷ d ∷ e ∷ ds) = wrong_answers (a ∷ b ∷ c ∷ d ∷ e ∷ ds) (λ h. absurd (omega (arith, h)))
 
 four_at_judged : (d : Data)
     → Judges profile_faults (λ p. IsListOf IsTicks d (four_list p)) (FourFault d) (four_at d)
@@ -152,7 +152,7 @@ four_at_judged d =
     ListsFour
     ItemsFault
     four_of
-    (λ ds. record { told = four_told ds })
+    (λ ds. record { answers = four_answers ds })
     (items_at d)
 
 -- ## The nine keys
@@ -267,19 +267,19 @@ numbers_judged ms =
 
 -- ## Numbers that are a profile
 
-module _ {X : Type 0} (P : X → Type 0) (tells : (x : X) → P x ⊎ ¬ P x) where
-  all_tells : (xs : List X) → All P xs ⊎ ¬ All P xs
-  all_tells [] = inl (All-nil P)
-  all_tells (x ∷ xs) = elim (tells x) [
-    | inl p ↦ elim (all_tells xs) [
+module _ {X : Type 0} (P : X → Type 0) (decides : (x : X) → P x ⊎ ¬ P x) where
+  all_decide : (xs : List X) → All P xs ⊎ ¬ All P xs
+  all_decide [] = inl (All-nil P)
+  all_decide (x ∷ xs) = elim (decides x) [
+    | inl p ↦ elim (all_decide xs) [
       | inl a ↦ inl (All-cons P x xs p a)
       | inr other ↦ inr (λ a. other (All-tail P x xs a))
     ]
     | inr other ↦ inr (λ a. other (All-head P x xs a))
   ]
 
-price_tells : (x : ℕ) → IsPrice x ⊎ ¬ IsPrice x
-price_tells x = elim (cases_lt x 1) [
+price_decides : (x : ℕ) → IsPrice x ⊎ ¬ IsPrice x
+price_decides x = elim (cases_lt x 1) [
   | inl low ↦ inr (λ p. let least = p.0 in omega (arith, low, least))
   | inr some ↦ elim (cases_lt x 256) [
     | inl small ↦ inl (some, small)
@@ -287,8 +287,8 @@ price_tells x = elim (cases_lt x 1) [
   ]
 ]
 
-range_tells : (ns : List ℕ) → AreInRange ns ⊎ ¬ AreInRange ns
-range_tells ns = elim (all_tells IsPrice price_tells (take 14 ns)) [
+range_decides : (ns : List ℕ) → AreInRange ns ⊎ ¬ AreInRange ns
+range_decides ns = elim (all_decide IsPrice price_decides (take 14 ns)) [
   | inl all ↦ elim (cases_lt (slice_index ns 14) 256) [
     | inl small ↦ inl (record { prices = all; burst = small })
     | inr high ↦ inr (λ r. let below = r.burst in omega (arith, high, below))
@@ -296,15 +296,15 @@ range_tells ns = elim (all_tells IsPrice price_tells (take 14 ns)) [
   | inr other ↦ inr (λ r. other r.prices)
 ]
 
-le_tells : (x y : ℕ) → (x ≤ y) ⊎ ¬ (x ≤ y)
-le_tells x y = elim (cases_lt y x) [ inl above ↦ inr (λ le. omega (arith, above, le)) | inr le ↦ inl le ]
+le_decides : (x y : ℕ) → (x ≤ y) ⊎ ¬ (x ≤ y)
+le_decides x y = elim (cases_lt y x) [ inl above ↦ inr (λ le. omega (arith, above, le)) | inr le ↦ inl le ]
 
-order_tells : (ns : List ℕ) → AreOrdered ns ⊎ ¬ AreOrdered ns
-order_tells ns = elim (le_tells (slice_index ns 1) (slice_index ns 2)) [
-  | inl a ↦ elim (le_tells (slice_index ns 2) (slice_index ns 0)) [
-    | inl b ↦ elim (le_tells (slice_index ns 0) (device_number ns)) [
-      | inl c ↦ elim (le_tells (rom_number ns) (device_number ns)) [
-        | inl d ↦ elim (le_tells (slice_index ns 11) (device_number ns)) [
+order_decides : (ns : List ℕ) → AreOrdered ns ⊎ ¬ AreOrdered ns
+order_decides ns = elim (le_decides (slice_index ns 1) (slice_index ns 2)) [
+  | inl a ↦ elim (le_decides (slice_index ns 2) (slice_index ns 0)) [
+    | inl b ↦ elim (le_decides (slice_index ns 0) (device_number ns)) [
+      | inl c ↦ elim (le_decides (rom_number ns) (device_number ns)) [
+        | inl d ↦ elim (le_decides (slice_index ns 11) (device_number ns)) [
           | inl e ↦ inl (record { s_first = a; quad_second = b; n_below = c; rom_below = d; control_below = e })
           | inr other ↦ inr (λ r. other r.control_below)
         ]
@@ -340,7 +340,7 @@ module _ (ms : Members) where
     | inr e ↦ let r : number_of f ≡ 6 = ap number_of e.1 in omega (arith, r)
   ]
 
-  module _ (ns : List ℕ) (h : Told profile_faults States KeyFault (Ok ns)) where
+  module _ (ns : List ℕ) (h : AnswersBy profile_faults States KeyFault (Ok ns)) where
     same : (other : List ℕ) → StatesNumbers ms other → other ≡ ns
     same other s = h.0.only other (h.0.stated.0, s)
 
@@ -349,9 +349,9 @@ module _ (ms : Members) where
     only_order f (inr (inl p)) = absurd (h.1 f (inr p))
     only_order f (inr (inr o)) = o
 
-    profile_told : AreInRange ns → AreOrdered ns
-        → Told profile_faults (StatesProfile ms) (HasPriceFault ms) (Ok ns)
-    profile_told r o = (
+    profile_answers : AreInRange ns → AreOrdered ns
+        → AnswersBy profile_faults (StatesProfile ms) (HasPriceFault ms) (Ok ns)
+    profile_answers r o = (
       record {
         stated = record { known = h.0.stated.0; numbers_stated = h.0.stated.1; in_range = r; ordered = o };
         only = λ other s. same other s.numbers_stated;
@@ -362,8 +362,8 @@ module _ (ms : Members) where
       ],
     )
 
-    range_told : ¬ AreInRange ns → Told profile_faults (StatesProfile ms) (HasPriceFault ms) (Err OutOfRange)
-    range_told r = (
+    range_answers : ¬ AreInRange ns → AnswersBy profile_faults (StatesProfile ms) (HasPriceFault ms) (Err OutOfRange)
+    range_answers r = (
       λ other s. r (subst AreInRange (same other s.numbers_stated) s.in_range),
       record {
         has = inr (inr (ns, h.0.stated.1, inl (r, refl)));
@@ -371,9 +371,9 @@ module _ (ms : Members) where
       },
     )
 
-    order_told : AreInRange ns → ¬ AreOrdered ns
-        → Told profile_faults (StatesProfile ms) (HasPriceFault ms) (Err Disordered)
-    order_told r o = (
+    order_answers : AreInRange ns → ¬ AreOrdered ns
+        → AnswersBy profile_faults (StatesProfile ms) (HasPriceFault ms) (Err Disordered)
+    order_answers r o = (
       λ other s. o (subst AreOrdered (same other s.numbers_stated) s.ordered),
       record {
         has = inr (inr (ns, h.0.stated.1, inr (o, refl)));
@@ -384,16 +384,16 @@ module _ (ms : Members) where
       },
     )
 
-  read_told : (reading answer : Read (List ℕ)) → Told profile_faults States KeyFault reading
-      → IsPriced reading answer → Told profile_faults (StatesProfile ms) (HasPriceFault ms) answer
-  read_told (Ok ns) answer h p = elim (range_tells ns) [
-    | inl r ↦ elim (order_tells ns) [
-      | inl o ↦ rw (p.0 r o) (profile_told ns h r o)
-      | inr o ↦ rw (p.2 r o) (order_told ns h r o)
+  read_answers : (reading answer : Read (List ℕ)) → AnswersBy profile_faults States KeyFault reading
+      → IsPriced reading answer → AnswersBy profile_faults (StatesProfile ms) (HasPriceFault ms) answer
+  read_answers (Ok ns) answer h p = elim (range_decides ns) [
+    | inl r ↦ elim (order_decides ns) [
+      | inl o ↦ rw (p.0 r o) (profile_answers ns h r o)
+      | inr o ↦ rw (p.2 r o) (order_answers ns h r o)
     ]
-    | inr r ↦ rw (p.1 r) (range_told ns h r)
+    | inr r ↦ rw (p.1 r) (range_answers ns h r)
   ]
-  read_told (Err g) answer h p =
+  read_answers (Err g) answer h p =
       rw p (
         λ ns s. h.0 ns (s.known, s.numbers_stated),
         record { has = to_fault g h.1.has; least = λ f x. above f x },
@@ -407,4 +407,4 @@ module _ (ms : Members) where
 
   pub profile_judged : (answer : Read (List ℕ)) → IsPriced (numbers_in ms) answer
       → Judges profile_faults (StatesProfile ms) (HasPriceFault ms) answer
-  profile_judged answer p = record { told = read_told (numbers_in ms) answer (numbers_judged ms).told p }
+  profile_judged answer p = record { answers = read_answers (numbers_in ms) answer (numbers_judged ms).answers p }

@@ -32,8 +32,8 @@ WordAddress z a = (z ≡ pos a) × IsTrue (may_hold a)
 abbrev NoWordAddress : ℤ → MachineFileFault → Type 0
 NoWordAddress z f = IsNoWordAddress z × (f ≡ OutOfRange)
 
-word_address_told : (z : ℤ) → Judges machine_faults (WordAddress z) (NoWordAddress z) (word_address_of z)
-word_address_told =
+word_address_answers : (z : ℤ) → Judges machine_faults (WordAddress z) (NoWordAddress z) (word_address_of z)
+word_address_answers =
     tested_judged
     machine_faults
     (λ a. IsTrue (may_hold a))
@@ -44,7 +44,7 @@ word_address_told =
     (λ n. refl)
 
 word_address_judged : (d : Data) → Judges machine_faults (IsWordAddress d) (WordAddressFault d) (word_address_at d)
-word_address_judged d = required_judged machine_faults WordAddress NoWordAddress word_address_of word_address_told (as_integer d)
+word_address_judged d = required_judged machine_faults WordAddress NoWordAddress word_address_of word_address_answers (as_integer d)
 
 -- ## One word
 

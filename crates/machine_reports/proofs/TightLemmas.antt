@@ -341,6 +341,6 @@ module _ (source statement : List ℕ) (n : ℕ) (profile : Profile) where
   tight_refusals e h r = absurd r
 
   -- the same of an answer
-  pub only_starved : {T : Type 0} (r : Result T ReportFault) → IfErr r IsRefusal → HasTightReport source statement n profile → IfErr r (λ e. (e ≡ Memory) ⊎ (e ≡ Device))
-  only_starved (Ok x) h a = tt
-  only_starved (Err e) h a = tight_refusals e a h.1
+  pub only_memory_or_device : {T : Type 0} (r : Result T ReportFault) → IfErr r IsRefusal → HasTightReport source statement n profile → IfErr r (λ e. (e ≡ Memory) ⊎ (e ≡ Device))
+  only_memory_or_device (Ok x) h a = tt
+  only_memory_or_device (Err e) h a = tight_refusals e a h.1

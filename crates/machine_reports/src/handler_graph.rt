@@ -15,7 +15,7 @@ use std::alloc::Global;
 
 /// A handler's statement and its flow graph.
 #[derive(Drop)]
-pub struct StatedGraph {
+pub struct HandlerGraph {
     pub statement: Statement,
     pub graph: Graph,
 }
@@ -26,7 +26,7 @@ pub fn read_graph(
     said: &Assembly,
     text: &[u8],
     profile: &Profile,
-) -> Result<StatedGraph, ReportFault>
+) -> Result<HandlerGraph, ReportFault>
     ensures statement { IfOk result
         (λ g. IsStatement text.now (address_of said.now.labels) (Ok g.statement)) }
     ensures graph { IfOk result (λ g. IsFlowGraph said.now.image g.statement profile.now g.graph) }
@@ -38,5 +38,5 @@ pub fn read_graph(
 {
     let statement = read_statement(alloc, text, &said.labels)?;
     let graph = build(alloc, &said.image, &statement, profile)?;
-    Ok(StatedGraph { statement, graph })
+    Ok(HandlerGraph { statement, graph })
 }

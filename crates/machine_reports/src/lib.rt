@@ -4,14 +4,14 @@
 
 mod assembly;
 mod debug;
+mod handler_graph;
 mod list;
 mod machine;
-mod stated_graph;
 mod tight;
 
 pub use assembly::{Written, asm_report, image_written};
 pub use debug::debug_report;
+pub use handler_graph::{HandlerGraph, read_graph};
 pub use list::list_report;
 pub use machine::{Front, Registers, Steps, machine_report, run_report, trace_report};
-pub use stated_graph::{StatedGraph, read_graph};
 pub use tight::tight_report;

@@ -12,7 +12,7 @@ ghost use Rattle.machine_reports.specs.TightReport.{IsEdgeAt, IsEdgeRefused, IsT
 ghost use Rattle.machine_reports.specs.TightReport.{ReportsTight, edge_line};
 ghost use Rattle.machine_reports.specs.TightText.{HasTightFile, IsEdgeFile, IsEdgeText};
 
-use crate::stated_graph::{StatedGraph, read_graph};
+use crate::handler_graph::{HandlerGraph, read_graph};
 use bus_ticks::Profile;
 use certificate::write_edge;
 use flow_graph::{Edge, Graph, TightFault, is_free, tight_state};
@@ -52,7 +52,7 @@ fn fault_of(image: &Image, edge: &Edge) -> Option<ReportFault>
 fn tight_file(
     alloc: Global,
     image: &Image,
-    handler: &StatedGraph,
+    handler: &HandlerGraph,
     number: u32,
     edge: &Edge,
 ) -> Result<MachineFile, ReportFault>
@@ -94,7 +94,7 @@ fn file_text(alloc: Global, edge: &Edge, file: &MachineFile) -> Result<String, A
 fn edge_text(
     alloc: Global,
     image: &Image,
-    handler: &StatedGraph,
+    handler: &HandlerGraph,
     number: u32,
 ) -> Result<String, ReportFault>
     requires { IsFlowGraph image.now handler.now.statement handler.now.graph.profile handler.now.graph }

@@ -1,13 +1,23 @@
 use arm2_decode::decode;
 use arm2_effect::{Prices, Reg, Registers};
 use arm2_transfer::{Bus, execute};
+use assembler::assemble;
 use bus_ticks::{Profile, RomTimes};
 use ioc::Ioc;
 use memc::{Memc, PageSize};
+use std::alloc::Global;
 use std::test::Fail;
 use vidc::Vidc;
 
-// STMIA R1,{R2,R3} to VIDC: two pixels a raster and two rasters, at 8 MHz. Flyback rises after 2 ticks.
+// The word of a line.
+fn word_of(alloc: Global, line: &[u8]) -> Result<u32, Fail> {
+    let said = assemble(alloc, line)?;
+    let word = said.image.word_at(0x8000);
+    drop(said);
+    Ok(word.unwrap_or(0))
+}
+
+// A block's two words to VIDC: two pixels a raster and two rasters, at 8 MHz. Flyback rises after 2 ticks.
 #[test]
 fn block_to_vidc(rt: HostRuntime) -> Result<(), Fail> {
     let mut bus = Bus {
@@ -24,7 +34,8 @@ fn block_to_vidc(rt: HostRuntime) -> Result<(), Fail> {
         profile: Profile::one(),
         rom: RomTimes { low: 0, high: 0 },
     };
-    let instr = decode(0xE881_000C).expect(&rt, "an instruction");
+    let word = word_of(rt.alloc(), b" STMIA R1,{R2,R3}\n")?;
+    let instr = decode(word).expect(&rt, "an instruction");
     execute(&mut registers, &mut bus, 0, prices, &instr.operation);
     assert!(rt; bus.vidc.advance(2) == 1);
     Ok(())

@@ -1,6 +1,6 @@
 //! The greatest cost of a walk along edges between numbers, in an order where each instance of a loop is an
-//! interval: the potentials of all numbers and instances, found in one pass. Also the list of items behind
-//! walks, rows and instances.
+//! interval: the potentials of all numbers and instances, found in one pass. Also the list type
+//! of walks, rows and instances.
 #![tactic(auto)]
 
 mod fault;

@@ -100,10 +100,10 @@ module _ {O : Type 0} (taken : O → Option (List ℕ)) (failures : O → ℕ) w
       → OnOk r (Appends (taken old) (taken new) all) → OnOk r (failures new ≡ failures old)
       → OnErr r (TakesFront (taken old) (taken new) all) → OnErr r (FailsSince (failures old) (failures new))
       → Adds taken failures old before new after bytes
-  adds_written (Ok x) old new before after bytes all goes tells empty are took same front fails =
-      adds_sent old new before after bytes goes tells empty (subst (Appends (taken old) (taken new)) are took) same
-  adds_written (Err e) old new before after bytes all goes tells empty are took same front fails =
-      adds_failed old new before after bytes goes tells (subst (TakesFront (taken old) (taken new)) are front) fails
+  adds_written (Ok x) old new before after bytes all goes by_answer empty are took same front fails =
+      adds_sent old new before after bytes goes by_answer empty (subst (Appends (taken old) (taken new)) are took) same
+  adds_written (Err e) old new before after bytes all goes by_answer empty are took same front fails =
+      adds_failed old new before after bytes goes by_answer (subst (TakesFront (taken old) (taken new)) are front) fails
 
   -- one after the other
   pub adds_both : (a b c : O) (p q r : Held) (xs ys : List ℕ) → Adds taken failures a p b q xs

@@ -33,8 +33,8 @@ module _ {O T : Type 0} (taken : O → Option (List ℕ)) (failures : O → ℕ)
       record { output = refused old x holds; accepted = tt; only = only holds }
 
   -- once all was written
-  pub ends_told : (old new : O) (x : T) (text : List ℕ) → IsText x text → IsFine → Appends (taken old) (taken new) text → Ends old new (Ok x)
-  ends_told old new x text is fine printed = record {
+  pub ends_with_text : (old new : O) (x : T) (text : List ℕ) → IsText x text → IsFine → Appends (taken old) (taken new) text → Ends old new (Ok x)
+  ends_with_text old new x text is fine printed = record {
     output = record {
       printed = record { text = text; is_text = is; printed = printed };
       fault = tt;
@@ -62,6 +62,6 @@ module _ {O T : Type 0} (taken : O → Option (List ℕ)) (failures : O → ℕ)
   pub ends_printed : (old new : O) (x : T) (text : List ℕ) (r : Result T ReportFault) → IsText x text → IsFine → IsFault Device → IfOk r (λ y. (y ≡ x) × Appends (taken old) (taken new) text)
       → IfErr r (λ e. (e ≡ Device) × (TakesFront (taken old) (taken new) text × FailsSince (failures old) (failures new))) → Ends old new r
   ends_printed old new x text (Ok y) is fine fails ok err =
-      subst (λ (z : T). Ends old new (Ok z)) (sym ok.0) (ends_told old new x text is fine ok.1)
+      subst (λ (z : T). Ends old new (Ok z)) (sym ok.0) (ends_with_text old new x text is fine ok.1)
   ends_printed old new x text (Err e) is fine fails ok err =
       subst (λ (f : ReportFault). Ends old new (Err f)) (sym err.0) (ends_failed old new x text is fails err.1.0 err.1.1)

@@ -26,7 +26,7 @@ label_judged :
     (labelled o)
 label_judged None =
     record
-    { told = (λ a s. none-some a s.0, record { has = refl; least = λ o e. le_of_eq (ap number_of (sym e)) }) }
+    { answers = (λ a s. none-some a s.0, record { has = refl; least = λ o e. le_of_eq (ap number_of (sym e)) }) }
 label_judged (Some n) =
     judged_as
     statement_faults

@@ -277,7 +277,7 @@ module _ (names : Names) where
       → ds ≡ []
       → Judges statement_faults (AreSome (Some ds)) (SomeFault (Some ds)) (Err WrongKind)
   none_judged ds e = record {
-    told = (
+    answers = (
       λ to s. s.1 (zip_nil ds to e s.0.1),
       record {
         has = inl (e, refl);
@@ -371,7 +371,7 @@ module _ (names : Names) where
       (SomeFault o)
       (required statement_faults o (some_destinations names))
   listed_judged None = record {
-    told = (
+    answers = (
       λ to s. s.0,
       record {
         has = inr (inl refl);

@@ -65,7 +65,7 @@ module _ {F : Type 0} (fs : Faults F) where
         (if test n then Ok n else Err fs.out_of_range)
         (test_judged fs (Holds n) n fs.out_of_range (test n) (same n)))
     tested_judged (negsuc n) = rw (negative n) (record {
-      told = (
+      answers = (
         λ a s. not_whole n a s.0,
         record { has = (λ a e i. not_whole n a e, refl); least = λ o e. le_of_eq (ap fs.rank (sym e.1)) },
       );

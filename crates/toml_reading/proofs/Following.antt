@@ -6,23 +6,23 @@ use Rattle.toml.specs.Data.{Data}
 use Rattle.toml_reading.specs.Documents.{items_at, list_up_to, listed, listed_up_to, tables_up_to}
 use Rattle.toml_reading.specs.Lists.{IsListUpTo, ListUpToFault}
 use Rattle.toml_reading.specs.Readings.{Faults, Reading, and_then}
-use Rattle.toml_reading.proofs.LowestLemmas.{Judges, Told, checked_judged, judged_as, optional_judged, required_judged}
+use Rattle.toml_reading.proofs.LowestLemmas.{AnswersBy, Judges, checked_judged, judged_as, optional_judged, required_judged}
 use Rattle.toml_reading.proofs.LowestParts.{all_judged}
 
 -- ## A fault for certain, and a test
 
 module _ {F A : Type 0} (fs : Faults F) (x : F) where
-  refused : Told fs (λ (a : A). ⊥) (λ f. f ≡ x) (Err x)
+  refused : AnswersBy fs (λ (a : A). ⊥) (λ f. f ≡ x) (Err x)
   refused = (λ a s. s, record { has = refl; least = λ o e. le_of_eq (ap fs.rank (sym e)) })
 
   pub refusal_judged : Judges fs (λ (a : A). ⊥) (λ f. f ≡ x) (Err x)
-  refusal_judged = record { told = refused }
+  refusal_judged = record { answers = refused }
 
 module _ {F A : Type 0} (fs : Faults F) (P : Type 0) (a : A) (x : F) where
   tested :
       (b : Bool)
       → b ≡ true ↔ P
-      → Told fs (λ c. P × (c ≡ a)) (λ f. (¬ P) × (f ≡ x)) (cond b (Ok a) (Err x))
+      → AnswersBy fs (λ c. P × (c ≡ a)) (λ f. (¬ P) × (f ≡ x)) (cond b (Ok a) (Err x))
   tested true e = (record { stated = (e.0 refl, refl); only = λ c s. s.1 }, λ f h. h.0 (e.0 refl))
   tested false e = (
     λ c s. false≢true (e.1 s.0),
@@ -33,7 +33,7 @@ module _ {F A : Type 0} (fs : Faults F) (P : Type 0) (a : A) (x : F) where
       (b : Bool)
       → b ≡ true ↔ P
       → Judges fs (λ c. P × (c ≡ a)) (λ f. (¬ P) × (f ≡ x)) (cond b (Ok a) (Err x))
-  test_judged b e = record { told = tested b e }
+  test_judged b e = record { answers = tested b e }
 
 -- ## What is read from a value that was read
 
@@ -62,9 +62,9 @@ module _ {F A B : Type 0} (fs : Faults F) (S : A → Type 0) (T : A → B → Ty
       (f a)
       (each a s)
 
-  then_told : (r : Reading F A) → Told fs S H r → Told fs Follows FollowsFault (and_then r f)
-  then_told (Ok a) h = (followed a h.0.stated h.0.only h.1).told
-  then_told (Err g) h = (
+  then_answers : (r : Reading F A) → AnswersBy fs S H r → AnswersBy fs Follows FollowsFault (and_then r f)
+  then_answers (Ok a) h = (followed a h.0.stated h.0.only h.1).answers
+  then_answers (Err g) h = (
     λ b s. h.0 s.0 s.1,
     record { has = inl h.1.has; least = λ o y. elim y [ inl z ↦ h.1.least o z | inr u ↦ absurd (h.0 u.0 u.1) ] },
   )
@@ -74,15 +74,15 @@ module _ {F A B : Type 0} (fs : Faults F) (S : A → Type 0) (T : A → B → Ty
       (r : Reading F A)
       → Judges fs S H r
       → Judges fs (λ b. (c : A) × S c × T c b) (λ x. H x ⊎ ((c : A) × S c × K c x)) (and_then r f)
-  then_judged r h = record { told = then_told r h.told }
+  then_judged r h = record { answers = then_answers r h.answers }
 
 -- ## More faults, none lower than one that is there
 
 module _ {F A : Type 0} (fs : Faults F) (S : A → Type 0) (H K L : F → Type 0) (to : (x : F) → K x → L x) (under : (x : F) → L x → (g : F) × (H g ⊎ K g) × (fs.rank g ≤ fs.rank x)) where
-  widened_told : (r : Reading F A) → Told fs S (λ x. H x ⊎ K x) r → Told fs S (λ x. H x ⊎ L x) r
-  widened_told (Ok a) h =
+  widened_answers : (r : Reading F A) → AnswersBy fs S (λ x. H x ⊎ K x) r → AnswersBy fs S (λ x. H x ⊎ L x) r
+  widened_answers (Ok a) h =
       (h.0, λ x y. elim y [ inl z ↦ h.1 x (inl z) | inr z ↦ let u = under x z in h.1 u.0 u.1 ])
-  widened_told (Err g) h = (
+  widened_answers (Err g) h = (
     h.0,
     record {
       has = elim h.1.has [ inl z ↦ inl z | inr z ↦ inr (to g z) ];
@@ -94,16 +94,16 @@ module _ {F A : Type 0} (fs : Faults F) (S : A → Type 0) (H K L : F → Type 0
   )
 
   pub widened_judged : (r : Reading F A) → Judges fs S (λ x. H x ⊎ K x) r → Judges fs S (λ x. H x ⊎ L x) r
-  widened_judged r h = record { told = widened_told r h.told }
+  widened_judged r h = record { answers = widened_answers r h.answers }
 
 module _ {F A : Type 0} (fs : Faults F) (S : A → Type 0) (H : F → Type 0) where
-  stated_or_told : (r : Reading F A) → Told fs S H r → ((a : A) × S a) ⊎ ((f : F) × H f)
-  stated_or_told (Ok a) h = inl (a, h.0.stated)
-  stated_or_told (Err g) h = inr (g, h.1.has)
+  stated_or_answers : (r : Reading F A) → AnswersBy fs S H r → ((a : A) × S a) ⊎ ((f : F) × H f)
+  stated_or_answers (Ok a) h = inl (a, h.0.stated)
+  stated_or_answers (Err g) h = inr (g, h.1.has)
 
   -- a value is stated, or there is a fault
   pub stated_or_faulty : (r : Reading F A) → Judges fs S H r → ((a : A) × S a) ⊎ ((f : F) × H f)
-  stated_or_faulty r h = stated_or_told r h.told
+  stated_or_faulty r h = stated_or_answers r h.answers
 
 -- ## Lists of at most so many values
 

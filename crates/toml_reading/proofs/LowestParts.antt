@@ -7,7 +7,7 @@ use Rattle.toml.specs.Data.{Data, Members, as_integer, as_str, as_table, get_mem
 use Rattle.toml_reading.specs.Documents.{has_only_keys, items_at, list_at, listed, name_at, number_at, number_in, number_or, of_keys, tables_at}
 use Rattle.toml_reading.specs.Lowest.{AtKey, AtKeyOr, IsListOf, IsNamed, IsNumber, IsOutside, IsTable, KeysFault, ListFault, NameFault, NumberFault, TableFault, entries_at, natural, number_of_entry, numbers_at}
 use Rattle.toml_reading.specs.Readings.{Faults, Reading, after, all, both, required, seen, up_to}
-use Rattle.toml_reading.proofs.LowestLemmas.{Judges, Told, both_judged, checked_judged, judged_as, optional_judged, required_judged, seen_judged}
+use Rattle.toml_reading.proofs.LowestLemmas.{AnswersBy, Judges, both_judged, checked_judged, judged_as, optional_judged, required_judged, seen_judged}
 
 -- ## Numbers
 
@@ -35,7 +35,7 @@ module _ {F : Type 0} (fs : Faults F) (limit : ℕ) where
   UpFault z f = IsOutside limit z × (f ≡ fs.out_of_range)
 
   tested : (n : ℕ) (b : Bool) → leb n limit ≡ b
-      → Told fs (Up (pos n)) (UpFault (pos n)) (cond b (Ok n) (Err fs.out_of_range))
+      → AnswersBy fs (Up (pos n)) (UpFault (pos n)) (cond b (Ok n) (Err fs.out_of_range))
   tested n true e =
       let low = leb-true n limit e in (
         record { stated = (refl, low); only = λ m s. sym (whole_same n m s.0) },
@@ -50,9 +50,9 @@ module _ {F : Type 0} (fs : Faults F) (limit : ℕ) where
         },
       )
 
-  up_to_told : (z : ℤ) → Told fs (Up z) (UpFault z) (up_to fs limit z)
-  up_to_told (pos n) = tested n (leb n limit) refl
-  up_to_told (negsuc n) = (
+  up_to_answers : (z : ℤ) → AnswersBy fs (Up z) (UpFault z) (up_to fs limit z)
+  up_to_answers (pos n) = tested n (leb n limit) refl
+  up_to_answers (negsuc n) = (
     λ m s. not_whole n m s.0,
     record { has = (λ m s. absurd (not_whole n m s), refl); least = λ o y. le_of_eq (ap fs.rank (sym y.1)) },
   )
@@ -60,7 +60,7 @@ module _ {F : Type 0} (fs : Faults F) (limit : ℕ) where
   pub number_judged : (d : Data)
       → Judges fs (IsNumber limit d) (NumberFault fs limit d) (number_at fs limit d)
   number_judged d =
-      required_judged fs Up UpFault (up_to fs limit) (λ z. record { told = up_to_told z }) (as_integer d)
+      required_judged fs Up UpFault (up_to fs limit) (λ z. record { answers = up_to_answers z }) (as_integer d)
 
   pub number_in_judged : (key : List ℕ) (ms : Members)
       → Judges fs (λ n. AtKey key ms (λ d. IsNumber limit d n)) (λ f. AtKeyOr key ms (f ≡ fs.wrong_kind) (λ d. NumberFault fs limit d f)) (number_in fs key limit ms)
@@ -91,10 +91,10 @@ module _ {F A : Type 0} (fs : Faults F) where
   found_judged : (o : Option A)
       → Judges fs (λ a. o ≡ Some a) (λ f. (o ≡ None) × (f ≡ fs.wrong_kind)) (required fs o (λ a. Ok a))
   found_judged None = record {
-    told = (none-some, record { has = (refl, refl); least = λ o e. le_of_eq (ap fs.rank (sym e.1)) });
+    answers = (none-some, record { has = (refl, refl); least = λ o e. le_of_eq (ap fs.rank (sym e.1)) });
   }
   found_judged (Some x) = record {
-    told = (record { stated = refl; only = λ b e. sym (same_Some x b e) }, λ f h. none-some x (sym h.0));
+    answers = (record { stated = refl; only = λ b e. sym (same_Some x b e) }, λ f h. none-some x (sym h.0));
   }
 
   pub named_judged : (named : List ℕ → Option A) (d : Data)
@@ -240,7 +240,7 @@ module _ {F A X : Type 0} (fs : Faults F) (T : X → A → Type 0) (K : X → F 
       (λ xs. (λ t. subst (AllZip T ds) (sym (t.4 ∙ ap (λ us. us ++ t.1) t.2)) t.3, λ a. ([], xs, refl, a, refl)))
       (λ f. (λ y. elim y [ inl z ↦ absurd z | inr w ↦ w ], λ w. inr w))
       (all fs (map reads ds))
-      (gathered ds (λ xs. xs ≡ []) (λ f. ⊥) (Ok []) (record { told = (record { stated = refl; only = λ ys e. e }, λ f z. z) }))
+      (gathered ds (λ xs. xs ≡ []) (λ f. ⊥) (Ok []) (record { answers = (record { stated = refl; only = λ ys e. e }, λ f z. z) }))
 
 module _ {F A : Type 0} (fs : Faults F) (S : Data → A → Type 0) (H : Data → F → Type 0)
     (reads : Data → Reading F A) (each : (d : Data) → Judges fs (S d) (H d) (reads d)) where

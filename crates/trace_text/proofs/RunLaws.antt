@@ -31,22 +31,22 @@ goes_none k text goes_on not_stopped more =
 
 -- ---- what was printed, whatever follows
 
-abbrev pub ToldSoFar : State → List Input → State → List Input → List ℕ → Type 0
-ToldSoFar start inputs now left text =
+abbrev pub PrintedSoFar : State → List Input → State → List Input → List ℕ → Type 0
+PrintedSoFar start inputs now left text =
     (more : List ℕ) → TracesRun now left more → TracesRun start inputs (text ++ more)
 
 -- nothing more is printed
-told_whole : (start : State) (inputs : List Input) (now : State) (left : List Input) (old new : List ℕ)
-    → Adds (ToldSoFar start inputs now left) old new → TracesRun now left []
+printed_whole : (start : State) (inputs : List Input) (now : State) (left : List Input) (old new : List ℕ)
+    → Adds (PrintedSoFar start inputs now left) old new → TracesRun now left []
     → Adds (TracesRun start inputs) old new
-told_whole start inputs now left old new adds rest =
+printed_whole start inputs now left old new adds rest =
     (adds.0, subst (TracesRun start inputs) (append-nil adds.0) (adds.1 [] rest), adds.2)
 
 -- the last input was taken
 pub text_ends : (start : State) (inputs : List Input) (now : State) (left : List Input) (old new : List ℕ)
-    → Adds (ToldSoFar start inputs now left) old new → left ≡ [] → Adds (TracesRun start inputs) old new
+    → Adds (PrintedSoFar start inputs now left) old new → left ≡ [] → Adds (TracesRun start inputs) old new
 text_ends start inputs now left old new adds none =
-    told_whole start inputs now left old new adds
+    printed_whole start inputs now left old new adds
     (subst (λ (is : List Input). TracesRun now is []) (sym none) refl)
 
 -- ---- a step from here
@@ -56,18 +56,18 @@ module _ (start : State) (inputs : List Input) (now next : State) (left rest : L
     (at_hand : left ≡ i ∷ rest) (step : Step now i traced.stepped next) where
   -- it stopped
   pub text_stops : (w : Why) (old new : List ℕ) → traced.word ≡ traced_word now i
-      → traced.stepped.kind ≡ Stopped w → Adds (ToldSoFar start inputs now left) old new
+      → traced.stepped.kind ≡ Stopped w → Adds (PrintedSoFar start inputs now left) old new
       → Adds (TracesRun start inputs) old new
   text_stops w old new word is adds =
       let ends = goes_some traced.stepped.kind w (TextOn traced next rest []) is in
-      told_whole start inputs now left old new adds
+      printed_whole start inputs now left old new adds
       (subst (λ (is : List Input). TracesRun now is []) (sym at_hand) (traced, next, step, word, ends))
 
   -- it went on
-  pub told_goes : (text line : List ℕ) → traced.word ≡ traced_word now i
-      → ((w : Why) → traced.stepped.kind ≡ Stopped w → ⊥) → ToldSoFar start inputs now left text
-      → IsTraceLine traced line → ToldSoFar start inputs next rest (text ++ line)
-  told_goes text line word not_stopped so_far is = λ more stepped.
+  pub printed_goes : (text line : List ℕ) → traced.word ≡ traced_word now i
+      → ((w : Why) → traced.stepped.kind ≡ Stopped w → ⊥) → PrintedSoFar start inputs now left text
+      → IsTraceLine traced line → PrintedSoFar start inputs next rest (text ++ line)
+  printed_goes text line word not_stopped so_far is = λ more stepped.
       let on = TextOn traced next rest (line ++ more) in
       let ends = goes_none traced.stepped.kind (line ++ more) on not_stopped (line, is, more, stepped, refl) in
       let here =
@@ -76,12 +76,12 @@ module _ (start : State) (inputs : List Input) (now next : State) (left rest : L
       subst (TracesRun start inputs) (sym (append_assoc text line more)) (so_far (line ++ more) here)
 
   pub text_goes : (old mid new : List ℕ) → traced.word ≡ traced_word now i
-      → ((w : Why) → traced.stepped.kind ≡ Stopped w → ⊥) → Adds (ToldSoFar start inputs now left) old mid
+      → ((w : Why) → traced.stepped.kind ≡ Stopped w → ⊥) → Adds (PrintedSoFar start inputs now left) old mid
       → Adds (IsTraceLine traced) mid new
-      → Adds (ToldSoFar start inputs next rest) old new
+      → Adds (PrintedSoFar start inputs next rest) old new
   text_goes old mid new word not_stopped adds line = (
     adds.0 ++ line.0,
-    told_goes adds.0 line.0 word not_stopped adds.1 line.1,
+    printed_goes adds.0 line.0 word not_stopped adds.1 line.1,
     line.2 ∙ ap (λ (t : List ℕ). t ++ line.0) adds.2 ∙ append_assoc old adds.0 line.0,
   )
 
@@ -90,9 +90,9 @@ module _ (start : State) (inputs : List Input) (now next : State) (left rest : L
 abbrev pub FrontRuns : State → List Input → (n : ℕ) → Ran → State → Type 0
 FrontRuns start inputs n ran now = (tail : List Input) → SoFar start (take n inputs ++ tail) ran now tail
 
-abbrev pub FrontTold : State → List Input → (n : ℕ) → State → List ℕ → Type 0
-FrontTold start inputs n now text =
-    (tail : List Input) → ToldSoFar start (take n inputs ++ tail) now tail text
+abbrev pub FrontPrinted : State → List Input → (n : ℕ) → State → List ℕ → Type 0
+FrontPrinted start inputs n now text =
+    (tail : List Input) → PrintedSoFar start (take n inputs ++ tail) now tail text
 
 module _ (start : State) (inputs : List Input) (n : ℕ) (now next : State) (i : Input) (traced : Traced)
     (here : take (n + 1) inputs ≡ take n inputs ++ i ∷ []) (step : Step now i traced.stepped next)
@@ -118,16 +118,16 @@ module _ (start : State) (inputs : List Input) (n : ℕ) (now next : State) (i :
       (so_far (i ∷ tail)) refl step not_stopped in
       subst (λ (all : List Input). SoFar start all (one_more ran) next tail) (longer tail) goes
 
-  pub front_told : (old mid new : List ℕ) → traced.word ≡ traced_word now i
-      → Adds (FrontTold start inputs n now) old mid → Adds (IsTraceLine traced) mid new
-      → Adds (FrontTold start inputs (n + 1) next) old new
-  front_told old mid new word adds line =
+  pub front_printed : (old mid new : List ℕ) → traced.word ≡ traced_word now i
+      → Adds (FrontPrinted start inputs n now) old mid → Adds (IsTraceLine traced) mid new
+      → Adds (FrontPrinted start inputs (n + 1) next) old new
+  front_printed old mid new word adds line =
       let text = adds.0 ++ line.0 in
-      let stepped : FrontTold start inputs (n + 1) next text = λ tail.
+      let stepped : FrontPrinted start inputs (n + 1) next text = λ tail.
       let all = take n inputs ++ i ∷ tail in
       let law =
-      told_goes start all now next (i ∷ tail) tail i traced refl step adds.0 line.0 word not_stopped in
-      subst (λ (all : List Input). ToldSoFar start all next tail text) (longer tail)
+      printed_goes start all now next (i ∷ tail) tail i traced refl step adds.0 line.0 word not_stopped in
+      subst (λ (all : List Input). PrintedSoFar start all next tail text) (longer tail)
       (law (adds.1 (i ∷ tail)) line.1) in
       let is = line.2 ∙ ap (λ (t : List ℕ). t ++ line.0) adds.2 ∙ append_assoc old adds.0 line.0 in
       (text, stepped, is)
@@ -139,7 +139,7 @@ module _ (start : State) (inputs : List Input) (n : ℕ) (now next : State) (i :
   -- the line was refused
   pub run_refused : (rest : List Input) (ran : Ran) (old mid new : List ℕ)
       → drop n inputs ≡ i ∷ rest → FrontRuns start inputs n ran now
-      → Adds (FrontTold start inputs n now) old mid → new ≡ mid → RefusedRun start inputs next old new
+      → Adds (FrontPrinted start inputs n now) old mid → new ≡ mid → RefusedRun start inputs next old new
   run_refused rest ran old mid new left runs stepped kept = record {
     done = take n inputs;
     input = i;

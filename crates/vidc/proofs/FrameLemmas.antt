@@ -74,8 +74,8 @@ arrivals_are (suc n) w mark from at h =
     ]
 
 -- within a frame, a mark that is not ahead is not reached
-pub none_behind : (n w mark from : ℕ) → from + n < w → mark ≤ from → arrivals n w mark from ≡ 0
-none_behind n w mark from within behind =
+pub none_once_passed : (n w mark from : ℕ) → from + n < w → mark ≤ from → arrivals n w mark from ≡ 0
+none_once_passed n w mark from within passed =
     let e : from + (w - mark) ≡ (from - mark) + w = omega arith in
     let s : since w mark from ≡ from - mark = ap (λ (x : ℕ). x % w) e ∙ add-mod_right (from - mark) w ∙ mod-eq_of_lt (omega arith) in
     let low : since w mark from + n < 1 * w = omega (arith, s) in

@@ -1,7 +1,7 @@
 use Rattle.std.proofs.Common.{◌≡◌, ◌∙◌, ℕ, Some, None, sym, subst, inl, inr}
 use Rattle.command_line.specs.Line.{Asked, asked_of}
 use Rattle.arcwcet.specs.Run.{RunsAsked}
-use Rattle.arcwcet.proofs.RunLemmas.{starved_asked}
+use Rattle.arcwcet.proofs.RunLemmas.{asked_out_of_memory}
 use Rattle.arcwcet.proofs.commands.program.Goals as goal
 
 pub returns-in-Err-clause-done : goal.returns-in-Err-clause-done
@@ -10,7 +10,7 @@ returns-in-Err-clause-done g c = λ asked wanted.
       | inl two ↦ absurd (let both : None ≡ Some asked = sym (c.in-Err.ensures.refused two.1) ∙ wanted in cc both)
       | inr three ↦
           subst (λ (s : ℕ). RunsAsked g.S.Store.read_gives g.S.Store.write_gives g.I.Read.remaining g.O.Output.taken g.O.Output.failures asked c.args.store.now c.args.store.now c.args.input.now c.args.input.now c.args.out.now c.args.out.now s) (sym three.0)
-          (starved_asked g.S.Store.read_gives g.S.Store.write_gives g.I.Read.remaining g.O.Output.taken g.O.Output.failures c.args.store.now c.args.input.now c.args.out.now asked)
+          (asked_out_of_memory g.S.Store.read_gives g.S.Store.write_gives g.I.Read.remaining g.O.Output.taken g.O.Output.failures c.args.store.now c.args.input.now c.args.out.now asked)
     ]
 
 pub returns-clause-done : goal.returns-clause-done

@@ -10,13 +10,13 @@ use Rattle.arcwcet.proofs.commands.run_debug.Goals as goal
 pub returns-clause-ran : goal.returns-clause-ran
 returns-clause-ran g c =
     let t = c.texts-texts.result in
-    let heard = c.in-Ok-read_limited.ensures in
+    let input_read = c.in-Ok-read_limited.ensures in
     let commands = c.deref.result.now in
-    let limit : length c.in-Ok-read_limited.commands.items ≤ 16777216 = search (rules, heard.limit, c.in-Ok-read_limited.commands.ok) in
+    let limit : length c.in-Ok-read_limited.commands.items ≤ 16777216 = search (rules, input_read.limit, c.in-Ok-read_limited.commands.ok) in
     debug_ran g.S.Store.read_gives g.I.Read.remaining g.O.Output.taken g.O.Output.failures (names_of c.args.names) c.args.store.now c.read_two_files.new.store c.args.input.now c.read_limited.new.reader
     c.args.out.now c.debug_report-done.new.out commands
-    (subst (λ (xs : List ℕ). Consumes (g.I.Read.remaining c.args.input.now) (g.I.Read.remaining c.read_limited.new.reader) xs) (sym c.deref.ensures.value) heard.consumed)
-    heard.at_end (subst (λ (xs : List ℕ). length xs ≤ 16777216) (sym c.deref.ensures.value) limit)
+    (subst (λ (xs : List ℕ). Consumes (g.I.Read.remaining c.args.input.now) (g.I.Read.remaining c.read_limited.new.reader) xs) (sym c.deref.ensures.value) input_read.consumed)
+    input_read.at_end (subst (λ (xs : List ℕ). length xs ≤ 16777216) (sym c.deref.ensures.value) limit)
     (kept_two c.in-Ok.files) (lent_two t) c.texts-texts.ensures c.in-Ok.ensures.read c.answered.result
     (answered_two_plain _ _ _ _ _ _ _ (λ a b p. IsDebugReport a b commands p) IsRunnable IsRunRefused c.debug_report-done.result c.debug_report-done.ensures c.answered.result c.answered.ensures)
     c.answer_status.result c.answer_status.ensures.status

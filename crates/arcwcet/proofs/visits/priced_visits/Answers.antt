@@ -1,14 +1,14 @@
 use Rattle.std.proofs.Common.{sym, subst, inl}
 use Rattle.arcwcet.specs.VisitsReport.{IsVisitsReport}
 use Rattle.report_output.proofs.AnswerLemmas.{ends_early, ends_printed}
-use Rattle.arcwcet.proofs.VisitsReportLemmas.{only_starved}
+use Rattle.arcwcet.proofs.VisitsReportLemmas.{only_memory_or_device}
 use Rattle.arcwcet.proofs.visits.priced_visits.Goals as goal
 
 pub returns-in_err-text : goal.returns-in_err-text
 returns-in_err-text g c =
     let asked = c.args.asked in
     ends_early _ _ _ _ _ c.args.out.now c.from_residual.result c.in_err-text.field-0.0 c.from_residual.ensures.1 c.in_err-text.ensures.fault
-    (only_starved c.args.source.now asked.irq.now asked.fiq.now c.args.profile.now asked.visits c.from_residual.result)
+    (only_memory_or_device c.args.source.now asked.irq.now asked.fiq.now c.args.profile.now asked.visits c.from_residual.result)
 
 pub returns : goal.returns
 returns g c =

@@ -42,11 +42,11 @@ returns c =
     let own = c.weighing_of.result in
     let edge = c.index-edges-number.result in
     let edge_is = c.index-edges-number.is ∙ ap (λ (xs : List Edge). get_or xs c.args.number edge) c.edges-2.ensures.value ∙ get_or_default flow.edges c.args.number edge no_edge c.requires.inside in
-    let told = rw w.tables at c.weight-needed.ensures in
+    let weight_is = rw w.tables at c.weight-needed.ensures in
     record {
       edge = edge_is;
       heavy =
           is_heavy flow c.args.handler.tree.now w.well_formed c.requires.tree c.args.cert.now c.args.tables.now c.requires.tables c.args.number c.requires.inside
           (record { edge = edge; needed = c.weight-needed.result.0; stated = c.weight-needed.result.1 })
-          own.exit own.spans.now c.edges.result.now edge_is w.exit w.spans c.edges.ensures told.needed told.stated told.less;
+          own.exit own.spans.now c.edges.result.now edge_is w.exit w.spans c.edges.ensures weight_is.needed weight_is.stated weight_is.less;
     }

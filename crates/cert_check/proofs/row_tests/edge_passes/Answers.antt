@@ -15,10 +15,10 @@ returns c =
     let tables = c.args.tables.now in
     let w = c.weighing_of.ensures in
     let own = c.weighing_of.result in
-    let told = rw w.tables at c.passes.ensures in (
+    let row = rw w.tables at c.passes.ensures in (
       λ yes. passes_up flow tree w.well_formed c.requires.tree c.args.cert.now tables c.requires.tables c.args.number c.requires.inside c.args.test
-          (moved own.exit (length flow.places) own.spans.now tree.spans c.edges.result.now tree.edges tables c.args.test c.args.number w.exit w.spans c.edges.ensures (told.0 yes)),
-      λ asks. told.1
+          (moved own.exit (length flow.places) own.spans.now tree.spans c.edges.result.now tree.edges tables c.args.test c.args.number w.exit w.spans c.edges.ensures (row.0 yes)),
+      λ asks. row.1
           (moved (length flow.places) own.exit tree.spans own.spans.now tree.edges c.edges.result.now tables c.args.test c.args.number (sym w.exit) (sym w.spans) (sym c.edges.ensures)
           (passes_down flow tree w.well_formed c.requires.tree c.args.cert.now tables c.requires.tables c.args.number c.requires.inside c.args.test asks)),
     )

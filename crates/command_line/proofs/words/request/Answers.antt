@@ -20,6 +20,6 @@ returns-in-Ok-try_get_matches_from-clause-refused c = λ _.
     h.kinds (λ simple. (h.matches simple).1) ∙ sym c.in-None.ensures
 
 pub returns-clause-refused : goal.returns-clause-refused
-returns-clause-refused c = λ told.
+returns-clause-refused c = λ is_refused.
     asked_of_error (app_of c.in-Ok.command) (map (λ s. string_bytes s) c.args.words.now) c.in-Err-try_get_matches_from.error c.in-Ok.ensures
-    c.in-Err-try_get_matches_from.ensures.kinds (c.line_fault.ensures told)
+    c.in-Err-try_get_matches_from.ensures.kinds (c.line_fault.ensures is_refused)

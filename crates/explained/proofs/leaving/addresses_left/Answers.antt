@@ -5,12 +5,12 @@ use Rattle.std.specs.List.{list_any}
 use Rattle.std.specs.Ordering.{nat_cmp}
 use Rattle.flow_graph.specs.declared.edges.Edge.{Edge}
 use Rattle.explained.specs.Leaving.{leaves_on}
-use Rattle.explained.proofs.AnyLaws.{told_all, told_more}
+use Rattle.explained.proofs.AnyLaws.{answers_all, answers_more}
 use Rattle.explained.proofs.leaving.addresses_left.Goals as goal
 
 pub loop-edge-preserved : goal.loop-edge-preserved
 loop-edge-preserved c =
-    told_more (leaves_on c.args.kind) c.edges-edge-items.result.now (contains nat_cmp c.loop-edge.left) (contains nat_cmp c.note.new.left) c.loop-edge.edge-index
+    answers_more (leaves_on c.args.kind) c.edges-edge-items.result.now (contains nat_cmp c.loop-edge.left) (contains nat_cmp c.note.new.left) c.loop-edge.edge-index
     c.edge-item.result c.loop-edge-test.true c.loop-edge.invariant
     (subst
     (λ (e : Edge). (a : ℕ) → (contains nat_cmp c.note.new.left a ≡ true)
@@ -19,5 +19,5 @@ loop-edge-preserved c =
 
 pub returns : goal.returns
 returns c = λ a.
-    told_all (leaves_on c.args.kind) c.edges-edge-items.result.now (contains nat_cmp c.loop-edge.left) c.loop-edge.edge-index c.loop-edge-test.false c.loop-edge.invariant a
+    answers_all (leaves_on c.args.kind) c.edges-edge-items.result.now (contains nat_cmp c.loop-edge.left) c.loop-edge.edge-index c.loop-edge-test.false c.loop-edge.invariant a
     ∙ ap (list_any (leaves_on c.args.kind a)) c.edges-edge-items.ensures.value

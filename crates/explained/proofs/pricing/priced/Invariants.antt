@@ -2,9 +2,9 @@ use Rattle.std.proofs.Common.{take}
 use Rattle.std.specs.BTreeMap.{get}
 use Rattle.std.specs.BTreeSet.{contains}
 use Rattle.std.specs.Ordering.{nat_cmp}
-use Rattle.explained.proofs.PricingLaws.{AreTold}
+use Rattle.explained.proofs.PricingLaws.{ArePricedSoFar}
 use Rattle.explained.proofs.pricing.priced.Given as goal
 
 abbrev pub invariant-loop-place : goal.invariant-loop-place
 invariant-loop-place l =
-    AreTold l.handler.image.now l.handler.statement.now (contains nat_cmp l.leaving) (take l.place-index l.place-items) (get nat_cmp l.prices)
+    ArePricedSoFar l.handler.image.now l.handler.statement.now (contains nat_cmp l.leaving) (take l.place-index l.place-items) (get nat_cmp l.prices)

@@ -5,7 +5,7 @@ use Rattle.machine_reports.specs.TightReport.{IsTightRefused}
 use Rattle.report_input.specs.Report.{BeforeOutput}
 use Rattle.report_input.proofs.HandlerLemmas.{graph_refusal, refused_as, statement_refusal}
 use Rattle.machine_reports.proofs.TightLemmas.{graph_refused, statement_refused}
-use Rattle.machine_reports.proofs.stated_graph.read_graph.Goals as goal
+use Rattle.machine_reports.proofs.handler_graph.read_graph.Goals as goal
 
 pub returns-in_err-statement-clause-fault : goal.returns-in_err-statement-clause-fault
 returns-in_err-statement-clause-fault c = λ source number is.

@@ -2,7 +2,7 @@ use Rattle.std.proofs.Common.{sym, subst}
 use Rattle.machine_reports.specs.TightReport.{IsTightReport}
 use Rattle.report_input.proofs.PricedLemmas.{by_profile}
 use Rattle.report_output.proofs.AnswerLemmas.{ends_early, ends_printed}
-use Rattle.machine_reports.proofs.TightLemmas.{only_starved}
+use Rattle.machine_reports.proofs.TightLemmas.{only_memory_or_device}
 use Rattle.machine_reports.proofs.tight.tight_report.Goals as goal
 
 pub returns-in_err-text : goal.returns-in_err-text
@@ -10,7 +10,7 @@ returns-in_err-text g c =
     let profile = c.in_ok-profile.profile in
     by_profile profile c.in_ok-profile.ensures.is
     (ends_early _ _ _ _ _ c.args.out.now c.from_residual-in_err-text.result c.in_err-text.field-0.0 c.from_residual-in_err-text.ensures.1 c.in_err-text.ensures.fault
-    (only_starved c.args.source.now c.args.statement.now c.args.edge profile c.from_residual-in_err-text.result))
+    (only_memory_or_device c.args.source.now c.args.statement.now c.args.edge profile c.from_residual-in_err-text.result))
 
 pub returns : goal.returns
 returns g c =

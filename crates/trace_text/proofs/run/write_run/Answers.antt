@@ -6,7 +6,7 @@ use Rattle.bus_ticks.specs.declared.profile.Profile.{Profile}
 use Rattle.arm2_exec.specs.declared.machine.Input.{Input}
 use Rattle.arm2_exec.proofs.RunLemmas.{at_end, at_stop, more_steps}
 use Rattle.trace_text.specs.TraceText.{Adds, IsTraceLine}
-use Rattle.trace_text.proofs.RunLaws.{front_runs, front_told, on_err, run_refused, text_ends, text_goes}
+use Rattle.trace_text.proofs.RunLaws.{front_printed, front_runs, on_err, run_refused, text_ends, text_goes}
 use Rattle.trace_text.proofs.RunLaws.{text_stops}
 use Rattle.trace_text.proofs.run.write_run.Goals as goal
 
@@ -71,7 +71,7 @@ loop-input-preserved c =
     front_runs start inputs index now next input traced.result here traced.ensures.step
     c.in_default.not-Stopped c.loop-input.ran c.loop-input.invariant.6 in
     let front_text =
-    front_told start inputs index now next input traced.result here traced.ensures.step
+    front_printed start inputs index now next input traced.result here traced.ensures.step
     c.in_default.not-Stopped
     (string_bytes c.args.out.now) (string_bytes c.loop-input.out)
     (string_bytes c.put_trace.new.out) traced.ensures.word c.loop-input.invariant.7 line in (

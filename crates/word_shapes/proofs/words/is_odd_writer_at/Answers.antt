@@ -1,9 +1,9 @@
 use Rattle.std.proofs.Common.{rules}
 use Rattle.word_shapes.specs.Shapes.{is_odd_writer}
-use Rattle.word_shapes.proofs.ShapeLaws.{shape_told}
+use Rattle.word_shapes.proofs.ShapeLaws.{shape_decides}
 use Rattle.word_shapes.proofs.words.is_odd_writer_at.Goals as goal
 
 pub returns : goal.returns
 returns c =
-    shape_told is_odd_writer c.args.image.now c.args.at c.instr_at.result c.is_some_and.result c.instr_at.ensures.some
+    shape_decides is_odd_writer c.args.image.now c.args.at c.instr_at.result c.is_some_and.result c.instr_at.ensures.some
     c.instr_at.ensures.only (search rules)

@@ -1,9 +1,9 @@
 use Rattle.std.proofs.Common.{rules}
 use Rattle.word_shapes.specs.Shapes.{is_table_jump}
-use Rattle.word_shapes.proofs.ShapeLaws.{shape_told}
+use Rattle.word_shapes.proofs.ShapeLaws.{shape_decides}
 use Rattle.word_shapes.proofs.words.is_table_jump_at.Goals as goal
 
 pub returns : goal.returns
 returns c =
-    shape_told is_table_jump c.args.image.now c.args.at c.instr_at.result c.is_some_and.result c.instr_at.ensures.some
+    shape_decides is_table_jump c.args.image.now c.args.at c.instr_at.result c.is_some_and.result c.instr_at.ensures.some
     c.instr_at.ensures.only (search rules)
