@@ -32,8 +32,8 @@ pub talk_quits : (start : SessionState) (lines : List (List ℕ)) (now : Session
     → Converses start lines text
 talk_quits start lines now left text line rest so_far at_hand quits =
     let P : Bool → Type 0 =
-    λ b. Unless b [] ((own : List ℕ) × (after : SessionState) × AnswersOrRefuses now line own after × (more : List ℕ)
-    × Converses after rest more × ([] ≡ own ++ more)) in
+    λ b. Unless b [] ((own : List ℕ) × (after : SessionState) × AnswersOrRefuses now line own after
+    × (more : List ℕ) × Converses after rest more × ([] ≡ own ++ more)) in
     answered_end start lines now left text so_far
     (subst (λ (ls : List (List ℕ)). Converses now ls []) (sym at_hand) (subst P (sym quits) refl))
 

@@ -17,11 +17,11 @@ use Rattle.trace_text.specs.TraceText.{Adds, IsLineOf, IsTraceLine}
 use Rattle.arm2_effect.specs.declared.step_end.Kind.{Kind}
 use Rattle.arm2_effect.specs.declared.step_end.Kind.TheVariants.{Plain, Taken, Stopped}
 use Rattle.debugger.specs.Stepping.{Counts, IsWithin, Makes, Stops}
-use Rattle.debugger.specs.Watching.{EndsAt, IsLast, UpTo, Watches, as_shown, inputs_of, is_break}
+use Rattle.debugger.specs.Watching.{EndsAt, IsLast, UpTo, Watches, as_shown, inputs_of, is_at_break}
 use Rattle.debugger.specs.SessionState.{SessionState, without_bursts}
 use Rattle.debugger.specs.Answers.{RunsFirst}
 
--- ---- the inputs of a run
+-- ## the inputs of a run
 
 -- those that are left, with the first at hand
 pub at_hand : (i : Input) (steps made : ℕ) → made < steps
@@ -36,7 +36,7 @@ none_left i steps made all = let none : steps - made ≡ 0 = omega (arith, all) 
 pub nothing_is_within : IsWithin 0 (at_rest None)
 nothing_is_within = (omega arith, omega arith, omega arith)
 
--- ---- what has run, whatever follows
+-- ## what has run, whatever follows
 
 pub record SoFar (breaks : List ℕ) (start : State) (inputs : List Input) (now : State) (left : List Input)
     (ran : Ran) (last : Option Traced) : Type 0 where
@@ -101,7 +101,7 @@ run_ends breaks start inputs now left ran last so_far none =
     subst (λ (why : Option Why). Done breaks start inputs (record ran { stopped = why }) last now)
     (sym so_far.going) done
 
--- ---- a step more
+-- ## a step more
 
 module _ (breaks : List ℕ) (start : State) (inputs : List Input) (now next : State) (left rest : List Input)
     (i : Input) (ran sum : Ran) (last : Option Traced) (at_hand : left ≡ i ∷ rest)
@@ -110,7 +110,7 @@ module _ (breaks : List ℕ) (start : State) (inputs : List Input) (now next : S
   Onward traced made more after =
       (later : List Traced) × (rests : Ran)
       × (made ≡ traced ∷ later) × (more ≡ counted now.profile.burst i traced.stepped rests)
-      × UpTo (is_break breaks next) next later rests after (Watches breaks next rest later rests after)
+      × UpTo (is_at_break breaks next) next later rests after (Watches breaks next rest later rests after)
 
   abbrev On : Traced → List Traced → Ran → State → Type 0
   On traced made more after =
@@ -125,7 +125,8 @@ module _ (breaks : List ℕ) (start : State) (inputs : List Input) (now next : S
   -- it was stopped
   pub run_stops : Stops now i ran sum next → Done breaks start inputs sum last next
   run_stops (traced, w, makes, is, sum_is) =
-      let same : next ≡ now = stopped_same now i traced.stepped next makes.0 (stops traced.stepped.kind w is) in
+      let same : next ≡ now =
+      stopped_same now i traced.stepped next makes.0 (stops traced.stepped.kind w is) in
       let on : On traced [] (at_rest (Some w)) now =
       subst (λ (why : Option Why). EndsAt why now [] (at_rest (Some w)) now
       (Onward traced [] (at_rest (Some w)) now)) (sym (why_of traced.stepped.kind w is)) (refl, refl, refl) in
@@ -139,7 +140,7 @@ module _ (breaks : List ℕ) (start : State) (inputs : List Input) (now next : S
 
   module _ (traced : Traced) (counts : Counts now i ran traced sum next) where
     passes : (later : List Traced) (more : Ran) (after : State)
-        → UpTo (is_break breaks next) next later more after (Watches breaks next rest later more after)
+        → UpTo (is_at_break breaks next) next later more after (Watches breaks next rest later more after)
         → Watches breaks start inputs ((so_far.made ++ traced ∷ []) ++ later) (added sum more) after
     passes later more after up =
         let whole = counted now.profile.burst i traced.stepped more in
@@ -168,7 +169,8 @@ module _ (breaks : List ℕ) (start : State) (inputs : List Input) (now next : S
     still_going = ap (λ (r : Ran). r.stopped) counts.2 ∙ so_far.going
 
     -- it went on
-    pub run_goes : is_break breaks next ≡ false → SoFar breaks start inputs next rest sum (Some (as_shown traced))
+    pub run_goes : is_at_break breaks next ≡ false
+        → SoFar breaks start inputs next rest sum (Some (as_shown traced))
     run_goes clear = record {
       made = so_far.made ++ traced ∷ [];
       whole = λ later more after on. passes later more after
@@ -179,7 +181,8 @@ module _ (breaks : List ℕ) (start : State) (inputs : List Input) (now next : S
     }
 
     -- it reached a breakpoint
-    pub run_breaks : is_break breaks next ≡ true → Done breaks start inputs sum (Some (as_shown traced)) next
+    pub run_breaks : is_at_break breaks next ≡ true
+        → Done breaks start inputs sum (Some (as_shown traced)) next
     run_breaks at =
         let Up : Bool → Type 0 =
         λ b. UpTo b next [] (at_rest None) next (Watches breaks next rest [] (at_rest None) next) in
@@ -194,7 +197,7 @@ module _ (breaks : List ℕ) (start : State) (inputs : List Input) (now next : S
         let Q : Ran → Type 0 = λ r. Watches breaks start inputs made r next in
         (made, subst Q same (subst P (append-nil made) all), (so_far.made, traced, refl, refl))
 
--- ---- what a watched run is
+-- ## what a watched run is
 
 module _ (s next : State) (i : Input) (rest : List Input) (traced : Traced)
     (makes : Makes s i traced next) where
@@ -202,7 +205,7 @@ module _ (s next : State) (i : Input) (rest : List Input) (traced : Traced)
   Steps breaks made ran after =
       (later : List Traced) × (more : Ran)
       × (made ≡ traced ∷ later) × (ran ≡ counted s.profile.burst i traced.stepped more)
-      × UpTo (is_break breaks next) next later more after (Watches breaks next rest later more after)
+      × UpTo (is_at_break breaks next) next later more after (Watches breaks next rest later more after)
 
   -- no step was taken
   none_first : (ran : Ran) (after : State) → ran.steps ≡ 0 → ran.ticks ≡ 0 → ran.elapsed ≡ 0 → after ≡ s
@@ -255,7 +258,7 @@ module _ (s next : State) (i : Input) (rest : List Input) (traced : Traced)
       (ap (λ (r : Ran). r.elapsed) rests.1) rests.2
   first_of_end None breaks made ran after is on (later, more, made_are, ran_is, up) =
       one_first ran more after is ran_is
-      (first_of_up (is_break breaks next) breaks later more after (on later more) up)
+      (first_of_up (is_at_break breaks next) breaks later more after (on later more) up)
 
 -- it is the run of the first inputs
 pub first_of_watch : (breaks : List ℕ) (s : State) (inputs : List Input) (made : List Traced) (ran : Ran)
@@ -266,7 +269,7 @@ first_of_watch breaks s (i ∷ rest) made ran after (traced, next, makes, on) =
     first_of_end s next i rest traced makes (why_stopped traced.stepped.kind) breaks made ran after refl
     (λ later more watches. first_of_watch breaks next rest later more after watches) on
 
--- ---- a run of a step or more
+-- ## a run of a step or more
 
 counted_some : (r more : Ran) (burst : ℕ) (i : Input) (stepped : Stepped) → r ≡ counted burst i stepped more
     → 0 < r.steps
@@ -291,12 +294,13 @@ some_steps breaks s (i ∷ rest) before last ran after (traced, next, makes, on)
     some_end (why_stopped traced.stepped.kind) s (before ++ last ∷ []) ran after _ (no_last before last)
     (λ (later, more, made_are, ran_is, up). counted_some ran more s.profile.burst i traced.stepped ran_is) on
 
--- ---- a run without a step
+-- ## a run without a step
 
 -- the next step is stopped
 abbrev pub StopsAt : State → Input → Type 0
 StopsAt s i =
-    (stepped : Stepped) × (after : State) × Step s i stepped after × (is_some (why_stopped stepped.kind) ≡ true)
+    (stepped : Stepped) × (after : State) × Step s i stepped after
+    × (is_some (why_stopped stepped.kind) ≡ true)
 
 still_end : (why : Option Why) (s : State) (made : List Traced) (ran : Ran) (after : State)
     (goes_on : Type 0) → (goes_on → ⊥) → EndsAt why s made ran after goes_on
@@ -333,7 +337,7 @@ still_run s i (suc n) ran after some (stepped, next, step, on) none =
     omega (arith, some, none)) on in
     (at_end.0, (stepped, next, step, at_end.1))
 
--- ---- the last step
+-- ## the last step
 
 -- no step was made where there is no last one
 pub none_made : (made : List Traced) (last : Option Traced) → ((t : Traced) → last ≡ Some t → ⊥)
@@ -347,8 +351,10 @@ pub with_last : (made : List Traced) (o : Option Traced) (last : Traced) → o �
 with_last made o last is ends = subst (IsLast made) is ends
 
 -- which has the line of the step itself
-pub same_line : (step last : Traced) (line : List ℕ) → last ≡ as_shown step → IsTraceLine last line → IsTraceLine step line
-same_line step last line is shown = by_kind step.stepped.kind (subst (λ (t : Traced). IsTraceLine t line) is shown)
+pub same_line : (step last : Traced) (line : List ℕ) → last ≡ as_shown step → IsTraceLine last line
+    → IsTraceLine step line
+same_line step last line is shown =
+    by_kind step.stepped.kind (subst (λ (t : Traced). IsTraceLine t line) is shown)
   where
     by_kind : (kind : Kind) → IsLineOf kind (as_shown step) line → IsLineOf kind step line
     by_kind (Stopped why) h = h

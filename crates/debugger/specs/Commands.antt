@@ -8,43 +8,46 @@ use Rattle.ioc.specs.declared.lines.Lines.{Lines}
 use Rattle.debugger.specs.declared.command.Command.{Command}
 use Rattle.debugger.specs.declared.command.Command.TheVariants.{Step, Run, ListBreaks, Break, Regs, Mem, Dis}
 use Rattle.debugger.specs.declared.command.Command.TheVariants.{Ticks, Burst, Line, Port}
+use Rattle.debugger.specs.declared.command.TheConstants.{MOST_SHOWN_STEPS, MOST_SHOWN_WORDS, MOST_STEPS}
 use Rattle.debugger.specs.declared.fault.DebugFault.{DebugFault}
 use Rattle.debugger.specs.declared.fault.DebugFault.TheVariants.{UnknownCommand, BadNumber}
 use Rattle.debugger.specs.Words.{number_of, words_of}
 
--- ---- numbers
+-- ## numbers
 
-abbrev pub within : (low high : ℕ) → Option ℕ → Result ℕ DebugFault
-within low high None = Err BadNumber
-within low high (Some n) = if nat_le low n && nat_le n high then Ok n else Err BadNumber
+-- the number, where it is in the range
+abbrev pub number_between : (low high : ℕ) → Option ℕ → Result ℕ DebugFault
+number_between low high None = Err BadNumber
+number_between low high (Some n) = if nat_le low n && nat_le n high then Ok n else Err BadNumber
 
 abbrev pub number_in : (low high : ℕ) → List ℕ → Result ℕ DebugFault
-number_in low high word = within low high (number_of word)
+number_in low high word = number_between low high (number_of word)
 
 -- the address of so many words, none of them past 3FFFFFC
-abbrev pub spanning : (count : ℕ) → Option ℕ → Result ℕ DebugFault
-spanning count None = Err BadNumber
-spanning count (Some a) = if a % 4 == 0 && nat_le (a + 4 * count) SPACE_END then Ok a else Err BadNumber
+abbrev pub span_start : (count : ℕ) → Option ℕ → Result ℕ DebugFault
+span_start count None = Err BadNumber
+span_start count (Some a) = if a % 4 == 0 && nat_le (a + 4 * count) SPACE_END then Ok a else Err BadNumber
 
 abbrev pub address_in : (count : ℕ) → List ℕ → Result ℕ DebugFault
-address_in count word = spanning count (number_of word)
+address_in count word = span_start count (number_of word)
 
-abbrev pub given : Result ℕ DebugFault → (ℕ → Command) → Result Command DebugFault
-given (Ok n) command = Ok (command n)
-given (Err fault) command = Err fault
+-- the command with a number, where there is one
+abbrev pub number_command : Result ℕ DebugFault → (ℕ → Command) → Result Command DebugFault
+number_command (Ok n) command = Ok (command n)
+number_command (Err fault) command = Err fault
 
--- ---- interrupt lines, by their names
+-- ## interrupt lines, by their names
 
-abbrev pub switched : Option Lines → (on : Bool) → Result Command DebugFault
-switched (Some line) on = Ok (Line line on)
-switched None on = Err UnknownCommand
+abbrev pub switch_command : Option Lines → (on : Bool) → Result Command DebugFault
+switch_command (Some line) on = Ok (Line line on)
+switch_command None on = Err UnknownCommand
 
 abbrev pub line_command : (name state : List ℕ) → Result Command DebugFault
 line_command name state =
-    if bytes_eq state (codes "on") then switched (line_named name) true
-    else (if bytes_eq state (codes "off") then switched (line_named name) false else Err UnknownCommand)
+    if bytes_eq state (codes "on") then switch_command (line_named name) true
+    else (if bytes_eq state (codes "off") then switch_command (line_named name) false else Err UnknownCommand)
 
--- ---- commands, by the number of their words
+-- ## commands, by the number of their words
 
 abbrev pub one_word : List ℕ → Result Command DebugFault
 one_word name =
@@ -55,23 +58,24 @@ one_word name =
 
 abbrev pub two_words : (name number : List ℕ) → Result Command DebugFault
 two_words name number =
-    if bytes_eq name (codes "step") then given (number_in 1 1024 number) (λ n. Step n)
-    else (if bytes_eq name (codes "run") then given (number_in 1 65536 number) (λ n. Run n)
-    else (if bytes_eq name (codes "break") then given (address_in 1 number) (λ a. Break a)
-    else (if bytes_eq name (codes "burst") then given (number_in 0 65535 number) (λ n. Burst n)
+    if bytes_eq name (codes "step") then number_command (number_in 1 1024 number) (λ n. Step n)
+    else (if bytes_eq name (codes "run") then number_command (number_in 1 65536 number) (λ n. Run n)
+    else (if bytes_eq name (codes "break") then number_command (address_in 1 number) (λ a. Break a)
+    else (if bytes_eq name (codes "burst") then number_command (number_in 0 65535 number) (λ n. Burst n)
     else
-    (if bytes_eq name (codes "port") then given (number_in 0 (2 ^ 32 - 1) number) (λ n. Port n)
+    (if bytes_eq name (codes "port") then number_command (number_in 0 (2 ^ 32 - 1) number) (λ n. Port n)
     else Err UnknownCommand))))
 
--- an address and a number of words from 1 to 16
-abbrev pub span : Result ℕ DebugFault → (address : List ℕ) → (ℕ → ℕ → Command) → Result Command DebugFault
-span (Ok count) address command = given (address_in count address) (λ a. command a count)
-span (Err fault) address command = Err fault
+-- the command with an address and a number of words
+abbrev pub span_command : (count : Result ℕ DebugFault) → (address : List ℕ) → (ℕ → ℕ → Command)
+    → Result Command DebugFault
+span_command (Ok count) address command = number_command (address_in count address) (λ a. command a count)
+span_command (Err fault) address command = Err fault
 
 abbrev pub three_words : (name first second : List ℕ) → Result Command DebugFault
 three_words name first second =
-    if bytes_eq name (codes "mem") then span (number_in 1 16 second) first (λ a n. Mem a n)
-    else (if bytes_eq name (codes "dis") then span (number_in 1 16 second) first (λ a n. Dis a n)
+    if bytes_eq name (codes "mem") then span_command (number_in 1 16 second) first (λ a n. Mem a n)
+    else (if bytes_eq name (codes "dis") then span_command (number_in 1 16 second) first (λ a n. Dis a n)
     else (if bytes_eq name (codes "line") then line_command first second else Err UnknownCommand))
 
 abbrev pub command_in : List (List ℕ) → Result Command DebugFault
@@ -87,8 +91,8 @@ command_of line = command_in (words_of line)
 
 -- what is true of every command that a line says
 abbrev pub IsInRange : Command → Type 0
-IsInRange (Step n) = (1 ≤ n) × (n ≤ 1024)
-IsInRange (Run n) = (1 ≤ n) × (n ≤ 65536)
-IsInRange (Mem a n) = (a + 4 * n ≤ SPACE_END) × (n ≤ 16)
-IsInRange (Dis a n) = (a + 4 * n ≤ SPACE_END) × (n ≤ 16)
+IsInRange (Step n) = (1 ≤ n) × (n ≤ MOST_SHOWN_STEPS)
+IsInRange (Run n) = (1 ≤ n) × (n ≤ MOST_STEPS)
+IsInRange (Mem a n) = (a + 4 * n ≤ SPACE_END) × (n ≤ MOST_SHOWN_WORDS)
+IsInRange (Dis a n) = (a + 4 * n ≤ SPACE_END) × (n ≤ MOST_SHOWN_WORDS)
 IsInRange _ = Unit {0}

@@ -18,8 +18,8 @@ inputs_of i zero = []
 inputs_of i (suc n) = i ∷ inputs_of (without_bursts i) n
 
 -- the address in R15 is a breakpoint
-abbrev pub is_break : List ℕ → State → Bool
-is_break breaks s = list_any (λ a. a == address_in s.regs) breaks
+abbrev pub is_at_break : List ℕ → State → Bool
+is_at_break breaks s = list_any (λ a. a == address_in s.regs) breaks
 
 -- nothing more is run
 abbrev pub Rests : State → Option Why → (made : List Traced) → Ran → State → Type 0
@@ -44,7 +44,7 @@ Watches breaks s (i ∷ rest) made ran after =
     × EndsAt (why_stopped traced.stepped.kind) s made ran after (
     (later : List Traced) × (more : Ran)
     × (made ≡ traced ∷ later) × (ran ≡ counted s.profile.burst i traced.stepped more)
-    × UpTo (is_break breaks next) next later more after (Watches breaks next rest later more after))
+    × UpTo (is_at_break breaks next) next later more after (Watches breaks next rest later more after))
 
 -- a step without the address of the next, which its line does not show
 abbrev pub as_shown : Traced → Traced

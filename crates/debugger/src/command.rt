@@ -6,6 +6,9 @@ pub(crate) const MOST_STEPS: u32 = 65_536;
 /// How many steps `step` makes, and shows, at most.
 pub(crate) const MOST_SHOWN_STEPS: u32 = 1024;
 
+/// How many words `mem` and `dis` show at most.
+pub(crate) const MOST_SHOWN_WORDS: usize = 16;
+
 /// A command, with its numbers in their ranges.
 #[derive(Clone, Copy)]
 pub enum Command {

@@ -4,7 +4,7 @@ ghost use Rattle.trace_text.specs.TraceText.{Adds};
 ghost use Rattle.debugger.specs.Conversation.{Converses, AnswersOrRefuses, is_quit, refusal_text};
 ghost use Rattle.debugger.specs.SessionState.{begun};
 
-use crate::fault::{DebugFault, name_of};
+use crate::fault::{DebugFault, fault_name};
 use crate::session::Session;
 use crate::words::first_word;
 use arm2_exec::Machine;
@@ -25,7 +25,7 @@ fn put_refusal(out: &mut Vec<u8>, fault: DebugFault) -> Result<(), AllocError>
     ensures { OnOk result (out.new.items ≡ out.old.items ++ refusal_text fault) }
 {
     out.extend_from_slice(b"refused: ")?;
-    out.extend_from_slice(name_of(fault))?;
+    out.extend_from_slice(fault_name(fault))?;
     out.extend_from_slice(b"\n")
 }
 

@@ -40,7 +40,7 @@ impl From<AllocError> for DebugFault {
 }
 
 /// The name that a refusal's line has.
-pub(crate) fn name_of(fault: DebugFault) -> &'static [u8]
+pub(crate) fn fault_name(fault: DebugFault) -> &'static [u8]
     ensures { result.now ≡ fault_name fault }
 {
     match fault {

@@ -7,7 +7,7 @@ ghost use Rattle.trace_text.specs.TraceText.{Adds, IsTraceLine};
 
 use arm2_exec::Traced;
 use assembler::disassemble;
-use trace_text::{LINE_ROOM, hex_word, trace_line};
+use trace_text::{LINE_ROOM, WORD_LINE_ROOM, hex_word, trace_line};
 
 /// Adds a text.
 pub(crate) fn put(out: &mut Vec<u8>, text: &[u8])
@@ -33,9 +33,9 @@ pub(crate) fn put_hex(out: &mut Vec<u8>, word: u32)
 
 /// Adds the line of a word at its address.
 pub(crate) fn put_shown(out: &mut Vec<u8>, word: u32, at: u32)
-    requires { length out.old.items + 64 ≤ vec_capacity out.old }
+    requires { length out.old.items + WORD_LINE_ROOM ≤ vec_capacity out.old }
     ensures text { Adds (IsShown word at) out.old.items out.new.items }
-    ensures len { length out.new.items ≤ length out.old.items + 64 }
+    ensures len { length out.new.items ≤ length out.old.items + WORD_LINE_ROOM }
     ensures room { vec_capacity out.old ≤ vec_capacity out.new }
 {
     let line = disassemble(word, at);

@@ -2,11 +2,11 @@ ghost use Rattle.std.specs.Prelude.{◌≡◌, ◌+◌, ◌*◌, ◌≤◌, IfOk
 ghost use Rattle.debugger.specs.Commands.{IsInRange, address_in, command_of, line_command};
 ghost use Rattle.debugger.specs.Commands.{number_in, one_word};
 ghost use Rattle.ioc.specs.LineNames.{line_named};
-ghost use Rattle.debugger.specs.Commands.{switched, three_words, two_words};
+ghost use Rattle.debugger.specs.Commands.{switch_command, three_words, two_words};
 
-use crate::command::{Command, MOST_SHOWN_STEPS, MOST_STEPS};
+use crate::command::{Command, MOST_SHOWN_STEPS, MOST_SHOWN_WORDS, MOST_STEPS};
 use crate::fault::DebugFault;
-use crate::words::{first_word, read_number};
+use crate::words::{first_word, number_of};
 use bitflags::Flags;
 use bus_ticks::SPACE_END;
 use ioc::Lines;
@@ -15,19 +15,19 @@ fn number_in(low: u32, high: u32, word: &[u8]) -> Result<u32, DebugFault>
     ensures number { result ≡ number_in low high word.now }
     ensures bounds { IfOk result (λ n. (low ≤ n) × (n ≤ high)) }
 {
-    match read_number(word) {
+    match number_of(word) {
         Some(n) if low <= n && n <= high => Ok(n),
         _ => Err(DebugFault::BadNumber),
     }
 }
 
 // The address of so many words.
-fn address_of(count: u32, word: &[u8]) -> Result<u32, DebugFault>
-    requires { count ≤ 16 }
+fn address_in(count: u32, word: &[u8]) -> Result<u32, DebugFault>
+    requires { count ≤ MOST_SHOWN_WORDS }
     ensures address { result ≡ address_in count word.now }
     ensures bound { IfOk result (λ a. a + 4 * count ≤ SPACE_END) }
 {
-    match read_number(word) {
+    match number_of(word) {
         Some(a) if a % 4 == 0 && a <= SPACE_END - 4 * count => Ok(a),
         _ => Err(DebugFault::BadNumber),
     }
@@ -59,7 +59,7 @@ fn two_words(name: &[u8], number: &[u8]) -> Result<Command, DebugFault>
     } else if name == b"run".as_slice() {
         Ok(Command::Run(number_in(1, MOST_STEPS, number)?))
     } else if name == b"break".as_slice() {
-        Ok(Command::Break(address_of(1, number)?))
+        Ok(Command::Break(address_in(1, number)?))
     } else if name == b"burst".as_slice() {
         Ok(Command::Burst(number_in(0, 65535, number)? as u16))
     } else if name == b"port".as_slice() {
@@ -70,7 +70,7 @@ fn two_words(name: &[u8], number: &[u8]) -> Result<Command, DebugFault>
 }
 
 // The line of a name.
-fn line_of(name: &[u8]) -> Option<Lines>
+fn line_named(name: &[u8]) -> Option<Lines>
     ensures { result ≡ line_named name.now }
 {
     match str::from_utf8(name) {
@@ -79,24 +79,24 @@ fn line_of(name: &[u8]) -> Option<Lines>
     }
 }
 
-fn switch(name: &[u8], on: bool) -> Result<Command, DebugFault>
-    ensures command { result ≡ switched (line_named name.now) on }
+fn switch_command(line: Option<Lines>, on: bool) -> Result<Command, DebugFault>
+    ensures command { result ≡ switch_command line on }
     ensures range { IfOk result IsInRange }
 {
-    match line_of(name) {
+    match line {
         Some(line) => Ok(Command::Line(line, on)),
         None => Err(DebugFault::UnknownCommand),
     }
 }
 
-fn line(name: &[u8], state: &[u8]) -> Result<Command, DebugFault>
+fn line_command(name: &[u8], state: &[u8]) -> Result<Command, DebugFault>
     ensures command { result ≡ line_command name.now state.now }
     ensures range { IfOk result IsInRange }
 {
     if state == b"on".as_slice() {
-        switch(name, true)
+        switch_command(line_named(name), true)
     } else if state == b"off".as_slice() {
-        switch(name, false)
+        switch_command(line_named(name), false)
     } else {
         Err(DebugFault::UnknownCommand)
     }
@@ -107,20 +107,20 @@ fn three_words(name: &[u8], first: &[u8], second: &[u8]) -> Result<Command, Debu
     ensures range { IfOk result IsInRange }
 {
     if name == b"mem".as_slice() {
-        let count = number_in(1, 16, second)?;
-        Ok(Command::Mem(address_of(count, first)?, count))
+        let count = number_in(1, MOST_SHOWN_WORDS as u32, second)?;
+        Ok(Command::Mem(address_in(count, first)?, count))
     } else if name == b"dis".as_slice() {
-        let count = number_in(1, 16, second)?;
-        Ok(Command::Dis(address_of(count, first)?, count))
+        let count = number_in(1, MOST_SHOWN_WORDS as u32, second)?;
+        Ok(Command::Dis(address_in(count, first)?, count))
     } else if name == b"line".as_slice() {
-        line(first, second)
+        line_command(first, second)
     } else {
         Err(DebugFault::UnknownCommand)
     }
 }
 
 /// The command that a line says, without its end.
-pub(crate) fn read_command(line: &[u8]) -> Result<Command, DebugFault>
+pub(crate) fn command_of(line: &[u8]) -> Result<Command, DebugFault>
     ensures command { result ≡ command_of line.now }
     ensures range { IfOk result IsInRange }
 {

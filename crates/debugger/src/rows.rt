@@ -18,9 +18,9 @@ pub(crate) enum Row {
 }
 
 fn put_row(out: &mut Vec<u8>, row: Row, address: u32, word: u32)
-    requires { length out.old.items + 83 ≤ vec_capacity out.old }
+    requires { length out.old.items + ROW_ROOM ≤ vec_capacity out.old }
     ensures row { Adds (IsRowOf row address word) out.old.items out.new.items }
-    ensures len { length out.new.items ≤ length out.old.items + 83 }
+    ensures len { length out.new.items ≤ length out.old.items + ROW_ROOM }
     ensures room { vec_capacity out.old ≤ vec_capacity out.new }
 {
     put_hex(out, address);
@@ -38,7 +38,7 @@ fn put_row(out: &mut Vec<u8>, row: Row, address: u32, word: u32)
 
 /// Adds a row for each word of a span.
 pub(crate) fn put_rows(out: &mut Vec<u8>, row: Row, address: u32, words: &[u32])
-    requires room { length out.old.items + length words.now * 83 ≤ vec_capacity out.old }
+    requires room { length out.old.items + length words.now * ROW_ROOM ≤ vec_capacity out.old }
     requires span { address + 4 * length words.now ≤ SPACE_END }
     ensures { Adds (Rows (IsRowOf row) address words.now) out.old.items out.new.items }
 {

@@ -9,10 +9,10 @@ ghost use Rattle.debugger.specs.Answers.{seen, switched};
 ghost use Rattle.debugger.specs.Commands.{IsInRange};
 ghost use Rattle.debugger.specs.SessionState.{Ascending, begun, moved_on, toggled};
 
-use crate::command::{Command, MOST_SHOWN_STEPS, MOST_STEPS};
+use crate::command::{Command, MOST_SHOWN_STEPS, MOST_SHOWN_WORDS, MOST_STEPS};
 use crate::fault::DebugFault;
 use crate::printed::put_trace;
-use crate::reading::read_command;
+use crate::reading::command_of;
 use crate::rows::{ROW_ROOM, Row, put_breaks, put_rows};
 use crate::stepping::{put_steps, run_watched};
 use arm2_exec::{Input, Machine, Ran};
@@ -26,9 +26,6 @@ use trace_text::{LINE_ROOM, write_registers, write_ticks};
 
 // The most breakpoints.
 const BREAKS: usize = 16;
-
-// The most words that `mem` and `dis` show.
-const WORDS: usize = 16;
 
 /// A machine that is stepped by commands, with its breakpoints, the inputs of its next step, and the sums of
 /// its ticks.
@@ -109,7 +106,7 @@ impl Session {
             (λ fault. (fault ≡ DebugFault.Memory) ⊎ RefusesLine self.old line.now fault) }
         ensures unchanged { OnErr result (self.new ≡ self.old) }
     {
-        let command = read_command(line)?;
+        let command = command_of(line)?;
         self.obey(alloc, command)
     }
 
@@ -193,10 +190,11 @@ impl Session {
 
     fn toggle(&mut self, alloc: Global, address: u32) -> Result<Vec<u8>, DebugFault>
         ensures ok { IfOk result
-            (λ answer. (length (toggled address self.old.breaks) ≤ 16)
+            (λ answer. (length (toggled address self.old.breaks) ≤ BREAKS)
             × Sets answer.items self.new (record self.old { breaks = toggled address self.old.breaks })) }
         ensures err { IfErr result
-            (λ fault. (fault ≡ DebugFault.TooManyBreaks) × (16 < length (toggled address self.old.breaks))) }
+            (λ fault. (fault ≡ DebugFault.TooManyBreaks)
+            × (BREAKS < length (toggled address self.old.breaks))) }
         ensures unchanged { OnErr result (self.new ≡ self.old) }
     {
         toggle_break(&mut self.breaks, address)?;
@@ -243,8 +241,8 @@ impl Session {
         }
     }
 
-    fn words(&self, address: u32, count: u32) -> Option<ArrayVec<u32, WORDS>>
-        requires { (address + 4 * count ≤ SPACE_END) × (count ≤ 16) }
+    fn words(&self, address: u32, count: u32) -> Option<ArrayVec<u32, MOST_SHOWN_WORDS>>
+        requires { (address + 4 * count ≤ SPACE_END) × (count ≤ MOST_SHOWN_WORDS) }
         ensures { MatchOption result (HasGap self.now.machine.bus.memc address count)
             (λ words. AreSeen self.now.machine.bus.memc address words.items × (length words.items ≡ count)) }
     {
@@ -257,7 +255,7 @@ impl Session {
     }
 
     fn span(&self, alloc: Global, row: Row, address: u32, count: u32) -> Result<Vec<u8>, DebugFault>
-        requires { (address + 4 * count ≤ SPACE_END) × (count ≤ 16) }
+        requires { (address + 4 * count ≤ SPACE_END) × (count ≤ MOST_SHOWN_WORDS) }
         ensures ok { IfOk result
             (λ answer. ShowsSpan row self.now.machine.bus.memc address count answer.items) }
         ensures err { IfErr result
@@ -286,7 +284,7 @@ fn switched(line: Lines, on: bool, lines: Lines) -> Lines
 fn below(breaks: &ArrayVec<u32, BREAKS>, address: u32) -> usize
     ensures len { result ≡ prefix_len (λ a. nat_lt a address) breaks.now.items }
     ensures within { result ≤ length breaks.now.items }
-    ensures fits { length breaks.now.items ≤ 16 }
+    ensures fits { length breaks.now.items ≤ BREAKS }
 {
     breaks
         .as_slice()
@@ -311,10 +309,10 @@ fn has_at(breaks: &ArrayVec<u32, BREAKS>, at: usize, address: u32) -> bool
 fn toggle_break(breaks: &mut ArrayVec<u32, BREAKS>, address: u32) -> Result<(), DebugFault>
     requires { Ascending breaks.old.items }
     ensures ok { OnOk result (breaks.new.items ≡ toggled address breaks.old.items) }
-    ensures few { OnOk result (length (toggled address breaks.old.items) ≤ 16) }
+    ensures few { OnOk result (length (toggled address breaks.old.items) ≤ BREAKS) }
     ensures ascending { Ascending breaks.new.items }
     ensures err { IfErr result
-        (λ fault. (fault ≡ DebugFault.TooManyBreaks) × (16 < length (toggled address breaks.old.items))) }
+        (λ fault. (fault ≡ DebugFault.TooManyBreaks) × (BREAKS < length (toggled address breaks.old.items))) }
     ensures unchanged { OnErr result (breaks.new.items ≡ breaks.old.items) }
 {
     let at = below(breaks, address);

@@ -5,7 +5,7 @@ ghost use Rattle.arm2_exec.specs.declared.machine.Traced.{Traced};
 ghost use Rattle.trace_text.specs.TraceText.{Adds, TracesRun};
 ghost use Rattle.debugger.specs.SessionState.{without_bursts};
 ghost use Rattle.debugger.specs.Stepping.{Counts, IsWithin, Stops};
-ghost use Rattle.debugger.specs.Watching.{IsLast, Watches, as_shown, inputs_of, is_break};
+ghost use Rattle.debugger.specs.Watching.{IsLast, Watches, as_shown, inputs_of, is_at_break};
 
 use crate::printed::put_trace;
 use crate::tally::Tally;
@@ -22,7 +22,7 @@ pub(crate) struct Watched {
 }
 
 fn is_at_break(breaks: &[u32], machine: &Machine) -> bool
-    ensures { result ≡ is_break breaks.now machine.now }
+    ensures { result ≡ is_at_break breaks.now machine.now }
 {
     let address = address_of(machine.get(Reg::R15));
     breaks.iter().any(|a| *a == address)

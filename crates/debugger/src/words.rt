@@ -26,7 +26,7 @@ pub(crate) fn first_word(line: &[u8]) -> Option<(&[u8], &[u8])>
 }
 
 /// The number that a word spells: decimal, or hexadecimal after `&` or `0x`, below 2^32.
-pub(crate) fn read_number(word: &[u8]) -> Option<u32>
+pub(crate) fn number_of(word: &[u8]) -> Option<u32>
     ensures { result ≡ number_of word.now }
 {
     match word {

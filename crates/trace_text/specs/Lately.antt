@@ -3,10 +3,11 @@
 use Rattle.std.specs.Prelude.{◌≡◌, ◌≤◌, ℕ, List, take, Option, Some, None, slice_index_or}
 use Rattle.assembler.specs.ShownLines.{IsShown}
 use Rattle.trace_text.specs.declared.shown.Shown.{Shown}
+use Rattle.trace_text.specs.declared.trace.TheConstants.{WORD_LINE_ROOM}
 
--- the line that is kept, of at most 64 bytes, is the one that is shown for its word
+-- the line that is kept fits its room, and is the one that is shown for its word
 pub record IsRight (row : Shown) : Type 0 where
-  pub fits : row.len ≤ 64
+  pub fits : row.len ≤ WORD_LINE_ROOM
   pub shown : IsShown row.word row.at (take row.len row.bytes)
 
 -- so is each of them

@@ -25,7 +25,7 @@ use Rattle.arm2_exec.specs.declared.machine.Traced.{Traced}
 abbrev pub Adds : (Is : List ℕ → Type 0) → (old new : List ℕ) → Type 0
 Adds Is old new = (text : List ℕ) × Is text × (new ≡ old ++ text)
 
--- ---- registers
+-- ## registers
 
 -- a register of a mode and its word
 abbrev pub register_text : Mode → List ℕ → ℕ → List ℕ
@@ -46,7 +46,7 @@ mode_text mode regs =
 abbrev pub registers_text : List ℕ → List ℕ
 registers_text regs = mode_text (mode_of (r15_in regs)) regs
 
--- ---- ticks and stops
+-- ## ticks and stops
 
 abbrev pub ticks_text : (ticks elapsed : ℕ) → List ℕ
 ticks_text ticks elapsed =
@@ -59,7 +59,7 @@ why_name UnsupportedWrite = codes "UnsupportedWrite"
 abbrev pub stop_text : Why → (address : ℕ) → List ℕ
 stop_text why address = codes "stopped " ++ (why_name why ++ (codes " at " ++ (hex address ++ codes "\n")))
 
--- ---- steps
+-- ## steps
 
 abbrev pub exception_name : Vector → List ℕ
 exception_name Undefined = codes "undefined"
@@ -95,7 +95,7 @@ IsLineOf Plain t line =
 abbrev pub IsTraceLine : Traced → List ℕ → Type 0
 IsTraceLine t line = IsLineOf t.stepped.kind t line
 
--- ---- runs
+-- ## runs
 
 -- a stopped step ends the text
 abbrev pub Goes : Option Why → (text : List ℕ) → (goes_on : Type 0) → Type 0

@@ -5,7 +5,7 @@ ghost use Rattle.assembler.specs.ShownLines.{IsShown};
 ghost use Rattle.trace_text.specs.Lately.{AreRight, IsRight};
 ghost use Rattle.trace_text.specs.TraceText.{Adds};
 
-use crate::trace::LINE_ROOM;
+use crate::trace::{LINE_ROOM, WORD_LINE_ROOM};
 use arrayvec::ArrayString;
 use assembler::disassemble;
 
@@ -17,7 +17,7 @@ const ROWS: usize = 64;
 struct Shown {
     word: u32,
     at: u32,
-    bytes: [u8; 64],
+    bytes: [u8; WORD_LINE_ROOM],
     len: usize,
 }
 
@@ -35,7 +35,7 @@ impl Shown {
     {
         let line = disassemble(word, at);
         let items = line.items();
-        let mut bytes = [0; 64];
+        let mut bytes = [0; WORD_LINE_ROOM];
         bytes[..items.len()].copy_from_slice(items);
         Shown {
             word,
@@ -54,9 +54,9 @@ impl Shown {
     // Adds the line.
     fn put(&self, out: &mut ArrayString<LINE_ROOM>)
         requires right { IsRight self.now }
-        requires room { length out.old.bytes + 64 ≤ 94 }
+        requires room { length out.old.bytes + WORD_LINE_ROOM ≤ LINE_ROOM }
         ensures text { Adds (IsShown self.now.word self.now.at) out.old.bytes out.new.bytes }
-        ensures len { length out.new.bytes ≤ length out.old.bytes + 64 }
+        ensures len { length out.new.bytes ≤ length out.old.bytes + WORD_LINE_ROOM }
     {
         let line = &self.bytes[..self.len];
         // Every line of a word is ASCII.
@@ -75,10 +75,10 @@ impl ShownLately {
     /// Adds the line of a word at an address, which is made where it was not shown lately.
     pub(crate) fn put(&mut self, out: &mut ArrayString<LINE_ROOM>, word: u32, at: u32)
         requires right { AreRight self.old.rows }
-        requires room { length out.old.bytes + 64 ≤ 94 }
+        requires room { length out.old.bytes + WORD_LINE_ROOM ≤ LINE_ROOM }
         ensures right { AreRight self.new.rows }
         ensures text { Adds (IsShown word at) out.old.bytes out.new.bytes }
-        ensures len { length out.new.bytes ≤ length out.old.bytes + 64 }
+        ensures len { length out.new.bytes ≤ length out.old.bytes + WORD_LINE_ROOM }
     {
         let place = (at / 4) as usize % ROWS;
         if let Some(row) = &self.rows[place] {

@@ -10,8 +10,11 @@ use arrayvec::ArrayString;
 use itoa::Buffer;
 use std::alloc::AllocError;
 
-/// The most bytes of a step's line: 29 of its address, its word and its ticks, 64 of its word's line, and the
-/// line's end.
+/// The most bytes of a word's line.
+pub const WORD_LINE_ROOM: usize = 64;
+
+/// The most bytes of a step's line: 29 of its address, its word and its ticks, [`WORD_LINE_ROOM`] of its
+/// word's line, and the line's end.
 pub const LINE_ROOM: usize = 94;
 
 /// The name of an exception, as a trace has it: lower case, at most 9 letters.
@@ -31,7 +34,7 @@ pub fn exception_name(vector: Vector) -> &'static str
 }
 
 // The word, or dashes where there is none.
-fn word_shown(word: Option<u32>) -> ArrayString<8>
+fn word_text(word: Option<u32>) -> ArrayString<8>
     ensures { result.bytes ≡ word_text word }
 {
     match word {
@@ -45,12 +48,12 @@ fn word_shown(word: Option<u32>) -> ArrayString<8>
 }
 
 // The address, the word and the ticks.
-fn front_of(traced: &Traced) -> ArrayString<LINE_ROOM>
+fn front_text(traced: &Traced) -> ArrayString<LINE_ROOM>
     ensures text { result.bytes ≡ front_text traced.now }
     ensures short { length result.bytes ≤ 29 }
 {
     let from = hex_word(traced.stepped.from);
-    let word = word_shown(traced.word);
+    let word = word_text(traced.word);
     let mut ticks = Buffer::new();
     let mut front = ArrayString::new();
     front.push_str(from.as_str());
@@ -69,10 +72,10 @@ fn put_word_line(
     at: u32,
 )
     requires right { AreRight lately.old.rows }
-    requires room { length out.old.bytes + 64 ≤ 94 }
+    requires room { length out.old.bytes + WORD_LINE_ROOM ≤ LINE_ROOM }
     ensures right { AreRight lately.new.rows }
     ensures text { Adds (IsWordLine word at) out.old.bytes out.new.bytes }
-    ensures len { length out.new.bytes ≤ length out.old.bytes + 64 }
+    ensures len { length out.new.bytes ≤ length out.old.bytes + WORD_LINE_ROOM }
 {
     match word {
         Some(word) => lately.put(out, word, at),
@@ -89,13 +92,13 @@ pub(crate) fn line_of(traced: &Traced, lately: &mut ShownLately) -> ArrayString<
     match traced.stepped.kind {
         Kind::Stopped(_) => ArrayString::new(),
         Kind::Taken(vector) => {
-            let mut line = front_of(traced);
+            let mut line = front_text(traced);
             line.push_str(exception_name(vector));
             line.push_str("\n");
             line
         }
         Kind::Plain => {
-            let mut line = front_of(traced);
+            let mut line = front_text(traced);
             put_word_line(&mut line, lately, traced.word, traced.stepped.from);
             line.push_str("\n");
             line
@@ -129,15 +132,4 @@ pub(crate) fn put_trace(
 {
     let line = line_of(traced, lately);
     out.push_str(line.as_str())
-}
-
-/// Adds the line of a step.
-///
-/// An error says that an allocation failed; the text is then as it was.
-pub fn write_trace(out: &mut String, traced: &Traced) -> Result<(), AllocError>
-    ensures { MatchResult result
-        (λ _. Adds (IsTraceLine traced.now) (string_bytes out.old) (string_bytes out.new))
-        (λ _. string_bytes out.new ≡ string_bytes out.old) }
-{
-    put_trace(out, traced, &mut ShownLately::new())
 }

@@ -25,7 +25,8 @@ returns-clause-row c =
             address ++ (codes " " ++ (word ++ (codes " " ++ (shown.0 ++ codes "\n")))),
             rw w.in-Line.is (shown.0, shown.1, refl),
             end _ w.out-is ∙ ap (λ (t : List ℕ). t ++ codes "\n")
-                (shown.2 ∙ ap (λ (t : List ℕ). t ++ shown.0) (w.put-in-Line.ensures.text ∙ ap (λ (t : List ℕ). t ++ codes " ") both))
+                (shown.2 ∙ ap (λ (t : List ℕ). t ++ shown.0)
+                (w.put-in-Line.ensures.text ∙ ap (λ (t : List ℕ). t ++ codes " ") both))
                 ∙ simp append_assoc,
           )
     ]

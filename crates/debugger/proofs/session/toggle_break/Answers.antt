@@ -13,7 +13,8 @@ returns-then-stands c =
     record {
       ok = same;
       few = omega (arith, ap length same, c.remove.ensures.len, c.below-at.ensures.fits);
-      ascending = subst Ascending (sym same) (ascending_toggled c.args.address c.args.breaks.now.items c.requires);
+      ascending =
+          subst Ascending (sym same) (ascending_toggled c.args.address c.args.breaks.now.items c.requires);
       err = tt;
       unchanged = tt;
     }

@@ -27,7 +27,8 @@ returns-in-Stopped c =
     record {
       runs =
           at_stop start inputs c.loop-input.ran c.loop-input.machine traced.new.self left rest input
-          traced.result.stepped c.in-Stopped.why c.loop-input.invariant.0 at_hand traced.ensures.step c.in-Stopped.is;
+          traced.result.stepped c.in-Stopped.why c.loop-input.invariant.0 at_hand traced.ensures.step
+          c.in-Stopped.is;
       text =
           text_stops start inputs c.loop-input.machine traced.new.self left rest input traced.result at_hand
           traced.ensures.step c.in-Stopped.why (string_bytes c.args.out.now) (string_bytes c.loop-input.out)

@@ -6,5 +6,7 @@ use Rattle.trace_text.proofs.shown.Shown.of.Goals as goal
 pub returns-clause-right : goal.returns-clause-right
 returns-clause-right c =
     let line = c.items-items.result.now in
-    let shown = subst (IsShown c.args.word c.args.at) (sym c.items-items.ensures.bytes) c.disassemble-line.ensures in
-    right_of c.args.word c.args.at _ line c.copy_from_slice.new.self _ shown c.copy_from_slice.ensures.after refl c.items-items.ensures.short
+    let shown =
+    subst (IsShown c.args.word c.args.at) (sym c.items-items.ensures.bytes) c.disassemble-line.ensures in
+    right_of c.args.word c.args.at _ line c.copy_from_slice.new.self _ shown c.copy_from_slice.ensures.after
+    refl c.items-items.ensures.short

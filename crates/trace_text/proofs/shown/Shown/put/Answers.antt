@@ -6,5 +6,6 @@ use Rattle.trace_text.proofs.shown.Shown.put.Goals as goal
 pub from_utf8_unchecked-requires : goal.from_utf8_unchecked-requires
 from_utf8_unchecked-requires c =
     let row = c.args.self.now in
-    let short : length (take row.len row.bytes) ≤ 64 = omega (arith, length-take row.len row.bytes, c.requires.right.fits) in
+    let short : length (take row.len row.bytes) ≤ 64 =
+    omega (arith, length-take row.len row.bytes, c.requires.right.fits) in
     shown_utf8 row.word row.at (take row.len row.bytes) c.requires.right.shown short
