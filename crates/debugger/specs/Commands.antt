@@ -8,7 +8,6 @@ use Rattle.ioc.specs.declared.lines.Lines.{Lines}
 use Rattle.debugger.specs.declared.command.Command.{Command}
 use Rattle.debugger.specs.declared.command.Command.TheVariants.{Step, Run, ListBreaks, Break, Regs, Mem, Dis}
 use Rattle.debugger.specs.declared.command.Command.TheVariants.{Ticks, Burst, Line, Port}
-use Rattle.debugger.specs.declared.command.TheConstants.{MOST_SHOWN_STEPS, MOST_SHOWN_WORDS, MOST_STEPS}
 use Rattle.debugger.specs.declared.fault.DebugFault.{DebugFault}
 use Rattle.debugger.specs.declared.fault.DebugFault.TheVariants.{UnknownCommand, BadNumber}
 use Rattle.debugger.specs.Words.{number_of, words_of}
@@ -91,8 +90,8 @@ command_of line = command_in (words_of line)
 
 -- what is true of every command that a line says
 abbrev pub IsInRange : Command → Type 0
-IsInRange (Step n) = (1 ≤ n) × (n ≤ MOST_SHOWN_STEPS)
-IsInRange (Run n) = (1 ≤ n) × (n ≤ MOST_STEPS)
-IsInRange (Mem a n) = (a + 4 * n ≤ SPACE_END) × (n ≤ MOST_SHOWN_WORDS)
-IsInRange (Dis a n) = (a + 4 * n ≤ SPACE_END) × (n ≤ MOST_SHOWN_WORDS)
+IsInRange (Step n) = (1 ≤ n) × (n ≤ 1024)
+IsInRange (Run n) = (1 ≤ n) × (n ≤ 65536)
+IsInRange (Mem a n) = (a + 4 * n ≤ SPACE_END) × (n ≤ 16)
+IsInRange (Dis a n) = (a + 4 * n ≤ SPACE_END) × (n ≤ 16)
 IsInRange _ = Unit {0}
