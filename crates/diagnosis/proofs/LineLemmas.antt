@@ -7,8 +7,9 @@ use Rattle.std.specs.Ordering.{nat_cmp}
 use Rattle.std.specs.Prelude.{option_map}
 use Rattle.assembler.specs.declared.placed_line.PlacedLine.{PlacedLine}
 use Rattle.loader.specs.Labels.{NamedAddresses}
-use Rattle.diagnosis.specs.Lines.{Numbered, label_of, numbered, numbered_at, words_from, words_of}
-use Rattle.diagnosis.specs.declared.words.SourceLine.{SourceLine}
+use Rattle.text_rows.specs.LineLabels.{label_of}
+use Rattle.text_rows.specs.declared.line_labels.SourceLine.{SourceLine}
+use Rattle.diagnosis.specs.Lines.{Numbered, numbered, numbered_at, words_from, words_of}
 
 -- pairs over what holds the same at a key
 pub update_all_same : {K X : Type 0} (e : K → K → Bool) (f g : K → Option X) (xs : List (K × X)) (q : K) → f q ≡ g q → update_all e f xs q ≡ update_all e g xs q

@@ -5,7 +5,7 @@ use Rattle.std.specs.BTreeMap.{is_at as is_key}
 use Rattle.std.specs.List.{list_any}
 use Rattle.std.specs.Ordering.{nat_cmp}
 use Rattle.loader.specs.Labels.{NamedAddresses}
-use Rattle.diagnosis.specs.Lines.{is_at}
+use Rattle.text_rows.specs.LineLabels.{is_at}
 use Rattle.diagnosis.specs.Outline.{Item, Stated, Table, Begins, Ends, States, item_of, table_of}
 use Rattle.diagnosis.specs.Refused.{AreTaken, address_as, of_table, stands_among}
 use Rattle.diagnosis.specs.declared.outline.Entry.{Entry}

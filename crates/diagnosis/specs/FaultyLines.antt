@@ -12,7 +12,7 @@ use Rattle.assembler.specs.Sweeps.{assembled}
 use Rattle.assembler.specs.declared.fault.LineFault.{LineFault}
 use Rattle.assembler.specs.declared.fault.LineFault.TheVariants.{LabelTwice, TooLong}
 use Rattle.loader.specs.Image.{Words}
-use Rattle.diagnosis.specs.Lines.{first_word}
+use Rattle.text_rows.specs.LineLabels.{first_word}
 use Rattle.diagnosis.specs.declared.sources.FaultyLine.{FaultyLine}
 use Rattle.diagnosis.specs.declared.sources.TheConstants.{MOST_LINES}
 

@@ -15,7 +15,7 @@ use Rattle.asm_text.specs.Numbers.{run_number}
 use Rattle.loader.specs.Labels.{NamedAddresses, address_of}
 use Rattle.toml.specs.Parse.{parse_document}
 use Rattle.toml_reading.specs.Documents.{is_one_of}
-use Rattle.diagnosis.specs.Lines.{is_at}
+use Rattle.text_rows.specs.LineLabels.{is_at}
 use Rattle.statement.specs.Statement.{access_keys, loop_keys, statement_keys, target_keys}
 use Rattle.statement.specs.declared.faults.StatementFault.{StatementFault}
 use Rattle.statement.specs.declared.faults.StatementFault.TheVariants.{NotToml, UnknownKey, WrongKind}

@@ -5,8 +5,8 @@ use Rattle.flow_graph.specs.declared.places.Place.{Place}
 use Rattle.flow_graph.specs.declared.places.Place.TheVariants.{At, Exit}
 use Rattle.loader.specs.Image.{Words as Held, word_of}
 use Rattle.text_rows.specs.Rows.{IsShownRow, address_row, named_row}
+use Rattle.text_rows.specs.declared.line_labels.SourceLine.{SourceLine}
 use Rattle.diagnosis.specs.Lines.{line_at}
-use Rattle.diagnosis.specs.declared.words.SourceLine.{SourceLine}
 use Rattle.diagnosis.specs.declared.words.Words.{Words}
 
 -- ## Rows

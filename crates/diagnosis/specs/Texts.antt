@@ -17,6 +17,7 @@ use Rattle.loop_bounds.specs.declared.loop_instances.Found.{Found}
 use Rattle.statement.specs.declared.stated.Loop.{Loop}
 use Rattle.text_rows.specs.Rows.{AreRows}
 use Rattle.text_rows.specs.Addresses.{name_text}
+use Rattle.text_rows.specs.declared.line_labels.SourceLine.{SourceLine}
 use Rattle.diagnosis.specs.Lines.{label_at}
 use Rattle.diagnosis.specs.Rows.{IsPlaceRow, IsRow}
 use Rattle.diagnosis.specs.declared.crossings.Crossing.{Crossing}
@@ -24,7 +25,6 @@ use Rattle.diagnosis.specs.declared.entries.MidEntry.{MidEntry}
 use Rattle.diagnosis.specs.declared.extents.Extent.{Extent}
 use Rattle.diagnosis.specs.declared.nested.DeepPlace.{DeepPlace}
 use Rattle.diagnosis.specs.declared.sources.FaultyLine.{FaultyLine}
-use Rattle.diagnosis.specs.declared.words.SourceLine.{SourceLine}
 use Rattle.diagnosis.specs.declared.words.Words.{Words}
 
 -- ## A cycle

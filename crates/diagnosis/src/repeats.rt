@@ -1,7 +1,7 @@
 ghost use Rattle.std.specs.Prelude.{◌≡◌, ◌||◌, ◌∷◌, [], ℕ, codes, IfOk, List, OnOk};
 ghost use Rattle.std.specs.BTreeSet.{contains};
 ghost use Rattle.std.specs.Ordering.{nat_cmp};
-ghost use Rattle.diagnosis.specs.Lines.{is_at};
+ghost use Rattle.text_rows.specs.LineLabels.{is_at};
 ghost use Rattle.diagnosis.specs.Outline.{Item, States, item_of, stated_of};
 ghost use Rattle.loader.specs.Labels.{NamedAddresses};
 ghost use Rattle.diagnosis.specs.Refused.{AreTaken, address_as, is_twice, passes};

@@ -4,11 +4,12 @@ ghost use Rattle.text_rows.specs.Rows.{Appends};
 ghost use Rattle.diagnosis.specs.Lines.{label_at};
 ghost use Rattle.diagnosis.specs.Rows.{IsImageRow, IsPlaceRow, IsRow, source_row};
 
-use crate::words::{SourceLine, Words};
+use crate::words::Words;
 use flow_graph::Place;
 use std::alloc::{AllocError, Global};
 use text_rows::{
-    NumberedLine, put, put_address_row, put_decimal, put_labelled, put_named_row, put_shown_row,
+    NumberedLine, SourceLine, put, put_address_row, put_decimal, put_labelled, put_named_row,
+    put_shown_row,
 };
 
 /// A text, a number in decimal, and another text.

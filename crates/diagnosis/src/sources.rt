@@ -4,11 +4,10 @@ ghost use Rattle.diagnosis.specs.FaultyLines.{keeps_label, label_left, left_afte
 ghost use Rattle.text_rows.specs.Rows.{Appends, AreRows};
 ghost use Rattle.diagnosis.specs.Texts.{IsFaultyRow, fault_name};
 
-use crate::words::first_word;
 use asm_text::{TextFault, first_line, read_line};
 use assembler::{AsmFault, LineFault, assemble};
 use std::alloc::{AllocError, Global};
-use text_rows::{put, put_decimal};
+use text_rows::{first_word, put, put_decimal};
 
 // How many faults of a source are named at most.
 const MOST_LINES: usize = 20;

@@ -1,15 +1,15 @@
 -- Texts of one part after another.
 use Rattle.std.proofs.Common.{◌≡◌, ◌+◌, ◌-◌, ◌*◌, ℕ, suc, List, [], ◌∷◌, ◌++◌, length, take, arith, length-append, codes, ap, replicate, subst, ◌∙◌, append_assoc}
 use Rattle.arm2_effect.specs.ProgramCounter.{ahead_of}
+use Rattle.std.specs.BTreeMap.{BTreeMap}
 use Rattle.std.specs.Prelude.{Option}
+use Rattle.text_rows.specs.declared.line_labels.SourceLine.{SourceLine}
 use Rattle.drafting.specs.Rows.{remark, row}
-use Rattle.drafting.specs.declared.source_lines.SourceLine.{SourceLine}
 use Rattle.bus_ticks.specs.declared.profile.Class.{Class}
 use Rattle.drafting.specs.DraftText.{accesses_text, bound_text, cycle_text, destinations_text, draft_text, end_text, head_text, loop_text, place_text, target_text, way_text, words_from}
 use Rattle.drafting.specs.declared.ends.End.{End}
 use Rattle.drafting.specs.declared.found_loop.FoundLoop.{FoundLoop}
 use Rattle.drafting.specs.declared.writers.FoundTarget.{FoundTarget}
-use Rattle.drafting.specs.Named.{Lines}
 use Rattle.std.specs.List.{flat_map}
 use Rattle.std.proofs.Math.Seq.{take-append-add}
 use Rattle.assembler.proofs.PutLaws.{joined, three}
@@ -43,14 +43,14 @@ row_ended line before text old mid cut new start end width room is at ends wide 
     three before text (take (80 - length text) (remark line)) (codes "\n") is shorter last
 
 -- what is to be written of a word that writes R15
-pub way_whole : (lines : Lines) (at table branches : ℕ) (old front new : List ℕ) → table ≡ ahead_of at 8
+pub way_whole : (lines : BTreeMap ℕ SourceLine) (at table branches : ℕ) (old front new : List ℕ) → table ≡ ahead_of at 8
     → front ≡ old ++ codes "kind = \"?\"  # \"jump\", \"call\", \"return\" or \"leave\"\n"
     → new ≡ front ++ destinations_text lines table branches → new ≡ old ++ way_text lines at branches
 way_whole lines at table branches old front new is a b =
     joined old front new _ _ a (b ∙ ap (λ t. front ++ destinations_text lines t branches) is)
 
 -- a loop, part by part
-pub loop_whole : (lines : Lines) (l : FoundLoop) (old p q r s t u new : List ℕ) → p ≡ old ++ codes "\n"
+pub loop_whole : (lines : BTreeMap ℕ SourceLine) (l : FoundLoop) (old p q r s t u new : List ℕ) → p ≡ old ++ codes "\n"
     → q ≡ p ++ replicate (2 * l.depth) 32 → r ≡ q ++ codes "[[loop]]\n"
     → s ≡ r ++ place_text lines (2 * l.depth) (codes "header") l.header
     → t ≡ s ++ place_text lines (2 * l.depth) (codes "first") l.first
@@ -68,7 +68,7 @@ loop_whole lines l old p q r s t u new h1 h2 h3 h4 h5 h6 h7 =
     (three q c d (e ++ (f ++ g)) h3 h4 (three s e f g h5 h6 h7))
 
 -- a whole draft, part by part
-pub draft_whole : (lines : Lines) (entry : ℕ) (ends : List (ℕ × End)) (cycles : List ℕ) (accesses : List (ℕ × Class))
+pub draft_whole : (lines : BTreeMap ℕ SourceLine) (entry : ℕ) (ends : List (ℕ × End)) (cycles : List ℕ) (accesses : List (ℕ × Class))
     (loops : List FoundLoop) (targets : List FoundTarget) (old p q r s t new : List ℕ) → p ≡ old ++ head_text lines entry
     → q ≡ p ++ flat_map (end_text lines) ends → r ≡ q ++ flat_map (cycle_text lines) cycles
     → s ≡ r ++ accesses_text lines accesses → t ≡ s ++ flat_map (loop_text lines) loops

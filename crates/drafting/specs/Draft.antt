@@ -1,14 +1,16 @@
 -- What a draft of a statement is.
 use Rattle.std.specs.Prelude.{◌≡◌, ℕ, List}
+use Rattle.std.specs.BTreeMap.{BTreeMap}
 use Rattle.std.specs.List.Sorted.{IsStrictlySortedBy}
 use Rattle.std.specs.Map.{keys_of}
 use Rattle.std.specs.Ordering.{nat_cmp}
 use Rattle.bus_ticks.specs.declared.profile.Class.{Class}
 use Rattle.loader.specs.Image.{Words}
 use Rattle.loader.specs.Labels.{NamedAddresses}
+use Rattle.text_rows.specs.LineLabels.{AreNamed}
+use Rattle.text_rows.specs.declared.line_labels.SourceLine.{SourceLine}
 use Rattle.drafting.specs.DraftText.{draft_text}
 use Rattle.drafting.specs.Ends.{AreEnds}
-use Rattle.drafting.specs.Named.{AreNamed, Lines}
 use Rattle.drafting.specs.Picks.{Picks}
 use Rattle.drafting.specs.Reach.{AreReached}
 use Rattle.drafting.specs.Targets.{AreTargets}
@@ -32,7 +34,7 @@ pub record AreFound (words : Words) (entry : ℕ) (ends : List (ℕ × End)) (ac
 
 -- the text of what was found, with labels that stand for the addresses
 pub record IsDraft (words : Words) (names : NamedAddresses) (entry : ℕ) (text : List ℕ) : Type 0 where
-  pub lines : Lines
+  pub lines : BTreeMap ℕ SourceLine
   pub named : AreNamed names lines
   pub ends : List (ℕ × End)
   pub cycles : List ℕ

@@ -2,12 +2,14 @@
 use Rattle.std.specs.Prelude.{ℕ, zero, suc, ◌*◌, ◌==◌, if◌then◌else◌, List, [], ◌∷◌, ◌++◌, length}
 use Rattle.std.specs.Prelude.{replicate}
 use Rattle.std.specs.Prelude.{codes, decimal, Option, Some, None}
+use Rattle.std.specs.BTreeMap.{BTreeMap, get}
 use Rattle.std.specs.List.{flat_map}
+use Rattle.std.specs.Ordering.{nat_cmp}
 use Rattle.asm_text.specs.Hex.{hex8}
 use Rattle.arm2_effect.specs.ProgramCounter.{ahead_of}
 use Rattle.bus_ticks.specs.declared.profile.Class.{Class}
 use Rattle.text_rows.specs.Addresses.{class_name, name_text}
-use Rattle.drafting.specs.Named.{Lines}
+use Rattle.text_rows.specs.declared.line_labels.SourceLine.{SourceLine}
 use Rattle.drafting.specs.Rows.{line_label, row}
 use Rattle.drafting.specs.declared.ends.End.{End}
 use Rattle.drafting.specs.declared.ends.End.TheVariants.{NoWord, Unallocated, Trap}
@@ -37,19 +39,21 @@ words_from at (suc more) = at ∷ words_from (ahead_of at 4) more
 
 -- ## What is at the addresses
 
-module _ (lines : Lines) where
+module _ (lines : BTreeMap ℕ SourceLine) where
   -- a key and an address, that many columns in
   abbrev pub place_text : ℕ → List ℕ → ℕ → List ℕ
   place_text indent key at =
-      row (replicate indent 32 ++ (key ++ (codes " = " ++ name_text (line_label (lines at)) at))) (lines at)
+      row (replicate indent 32 ++ (key ++ (codes " = " ++ name_text (line_label (get nat_cmp lines at)) at)))
+      (get nat_cmp lines at)
 
   -- an address between two texts
   abbrev pub element_text : List ℕ → ℕ → List ℕ → List ℕ
-  element_text front at back = row (front ++ (name_text (line_label (lines at)) at ++ back)) (lines at)
+  element_text front at back =
+      row (front ++ (name_text (line_label (get nat_cmp lines at)) at ++ back)) (get nat_cmp lines at)
 
   -- a comment on an address
   abbrev pub comment_text : ℕ → List ℕ → List ℕ
-  comment_text at words = row (codes "# " ++ (hex8 at ++ words)) (lines at)
+  comment_text at words = row (codes "# " ++ (hex8 at ++ words)) (get nat_cmp lines at)
 
   abbrev pub end_text : ℕ × End → List ℕ
   end_text e = comment_text e.0 (end_words e.1)

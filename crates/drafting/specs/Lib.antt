@@ -3,7 +3,6 @@ pub mod DraftText
 pub mod Ends
 pub mod Exploring
 pub mod Found
-pub mod Named
 pub mod Picks
 pub mod Reach
 pub mod Rows

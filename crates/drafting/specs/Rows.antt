@@ -2,7 +2,7 @@
 use Rattle.std.specs.Prelude.{ℕ, ◌-◌, ◌&&◌, nat_le, if◌then◌else◌, List, [], ◌++◌, length, map}
 use Rattle.std.specs.Prelude.{take}
 use Rattle.std.specs.Prelude.{codes, decimal, Option, Some, None, option_map}
-use Rattle.drafting.specs.declared.source_lines.SourceLine.{SourceLine}
+use Rattle.text_rows.specs.declared.line_labels.SourceLine.{SourceLine}
 
 -- the label of a line
 abbrev pub line_label : Option SourceLine → Option (List ℕ)

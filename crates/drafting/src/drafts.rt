@@ -1,9 +1,9 @@
 ghost use Rattle.std.specs.Prelude.{◌≡◌, ◌++◌, IfOk, OnOk};
 ghost use Rattle.std.specs.List.Sorted.{IsStrictlySortedBy};
 ghost use Rattle.std.specs.Ordering.{nat_cmp};
+ghost use Rattle.text_rows.specs.LineLabels.{AreNamed};
 ghost use Rattle.drafting.specs.Draft.{AreFound, IsDraft};
 ghost use Rattle.drafting.specs.DraftText.{draft_text};
-ghost use Rattle.drafting.specs.Named.{AreNamed, lines_of};
 ghost use Rattle.drafting.specs.Reach.{AreReached};
 
 use crate::accesses::find_accesses;
@@ -59,7 +59,7 @@ fn put_found(out: &mut Vec<u8>, sheet: &Sheet, entry: u32, found: &Found) -> Res
     ensures { OnOk result
         (out.new.items
         ≡ out.old.items
-        ++ draft_text (lines_of sheet.now.lines.now) entry found.now.ends.items
+        ++ draft_text sheet.now.lines.now entry found.now.ends.items
         found.now.loops.cycles.items found.now.accesses.items found.now.loops.loops.items
         found.now.targets.items) }
 {
@@ -80,7 +80,7 @@ fn text_of(
 ) -> Result<Vec<u8>, AllocError>
     ensures { IfOk result
         (λ text. text.items
-        ≡ draft_text (lines_of lines.now) entry found.now.ends.items found.now.loops.cycles.items
+        ≡ draft_text lines.now entry found.now.ends.items found.now.loops.cycles.items
         found.now.accesses.items found.now.loops.loops.items found.now.targets.items) }
 {
     let mut out = Vec::new(alloc);
@@ -95,7 +95,7 @@ fn draft_by_lines(
     lines: &SourceLines,
     entry: u32,
 ) -> Result<Vec<u8>, AllocError>
-    requires { AreNamed program.now.labels.now (lines_of lines.now) }
+    requires { AreNamed program.now.labels.now lines.now }
     ensures { IfOk result (λ text. IsDraft program.now.image.now program.now.labels.now entry text.items) }
 {
     let found = find(alloc, program.image, entry)?;

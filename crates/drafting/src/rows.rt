@@ -3,10 +3,9 @@ ghost use Rattle.asm_text.specs.Hex.{hex8};
 ghost use Rattle.text_rows.specs.Addresses.{name_text};
 ghost use Rattle.drafting.specs.Rows.{line_label, remark, row, shown};
 
-use crate::source_lines::SourceLine;
 use asm_text::hex8;
 use std::alloc::AllocError;
-use text_rows::{ROW_COLUMNS, put, put_decimal, put_labelled};
+use text_rows::{ROW_COLUMNS, SourceLine, put, put_decimal, put_labelled};
 
 /// Adds an address in eight hexadecimal digits.
 pub(crate) fn put_address(out: &mut Vec<u8>, at: u32) -> Result<(), AllocError>

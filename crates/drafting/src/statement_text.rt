@@ -1,7 +1,7 @@
 ghost use Rattle.std.specs.Prelude.{◌≡◌, ◌++◌, ℕ, List, IfOk, OnOk, codes};
+ghost use Rattle.std.specs.BTreeMap.{get};
 ghost use Rattle.std.specs.List.{flat_map};
 ghost use Rattle.std.specs.Ordering.{nat_cmp};
-ghost use Rattle.drafting.specs.Named.{lines_of};
 ghost use Rattle.drafting.specs.DraftText.{access_list_text, access_text, accesses_text, bound_text};
 ghost use Rattle.drafting.specs.DraftText.{class_text};
 ghost use Rattle.drafting.specs.DraftText.{comment_text, cycle_text, destination_text, destinations_text};
@@ -12,12 +12,12 @@ ghost use Rattle.drafting.specs.DraftText.{way_text, words_from};
 use crate::ends::End;
 use crate::found_loop::FoundLoop;
 use crate::rows::{end_row, put_address, put_blanks, put_name};
-use crate::source_lines::{SourceLine, SourceLines};
+use crate::source_lines::SourceLines;
 use crate::writers::FoundTarget;
 use arm2_effect::ahead_of;
 use bus_ticks::Class;
 use std::alloc::AllocError;
-use text_rows::{put, put_decimal};
+use text_rows::{SourceLine, put, put_decimal};
 
 // Loads and stores with their classes.
 type Accesses<'a> = &'a [(u32, Class)];
@@ -38,7 +38,7 @@ pub struct Sheet<'s, 'a> {
 impl<'a> Sheet<'_, 'a> {
     // The line of the word at an address.
     fn line(&self, at: u32) -> Option<SourceLine<'a>>
-        ensures { result ≡ lines_of self.now.lines.now at }
+        ensures { result ≡ get nat_cmp self.now.lines.now at }
     {
         self.lines.get(&at).copied()
     }
@@ -52,7 +52,7 @@ impl<'a> Sheet<'_, 'a> {
         at: u32,
     ) -> Result<(), AllocError>
         ensures { OnOk result
-            (out.new.items ≡ out.old.items ++ place_text (lines_of self.now.lines.now) indent key.now at) }
+            (out.new.items ≡ out.old.items ++ place_text self.now.lines.now indent key.now at) }
     {
         let start = out.len();
         let line = self.line(at);
@@ -66,7 +66,7 @@ impl<'a> Sheet<'_, 'a> {
     // Adds a comment on an address.
     fn put_comment(&self, out: &mut Vec<u8>, at: u32, words: &[u8]) -> Result<(), AllocError>
         ensures { OnOk result
-            (out.new.items ≡ out.old.items ++ comment_text (lines_of self.now.lines.now) at words.now) }
+            (out.new.items ≡ out.old.items ++ comment_text self.now.lines.now at words.now) }
     {
         let start = out.len();
         put(out, b"# ")?;
@@ -84,8 +84,7 @@ impl<'a> Sheet<'_, 'a> {
         back: &[u8],
     ) -> Result<(), AllocError>
         ensures { OnOk result
-            (out.new.items
-            ≡ out.old.items ++ element_text (lines_of self.now.lines.now) front.now at back.now) }
+            (out.new.items ≡ out.old.items ++ element_text self.now.lines.now front.now at back.now) }
     {
         let start = out.len();
         let line = self.line(at);
@@ -96,16 +95,14 @@ impl<'a> Sheet<'_, 'a> {
     }
 
     fn put_access(&self, out: &mut Vec<u8>, at: u32, class: Class) -> Result<(), AllocError>
-        ensures { OnOk result
-            (out.new.items ≡ out.old.items ++ access_text (lines_of self.now.lines.now) (at, class)) }
+        ensures { OnOk result (out.new.items ≡ out.old.items ++ access_text self.now.lines.now (at, class)) }
     {
         self.put_element(out, b"  {at = ", at, class_text(class))
     }
 
     fn put_each_access(&self, out: &mut Vec<u8>, accesses: Accesses<'_>) -> Result<(), AllocError>
         ensures { OnOk result
-            (out.new.items
-            ≡ out.old.items ++ flat_map (access_text (lines_of self.now.lines.now)) accesses.now) }
+            (out.new.items ≡ out.old.items ++ flat_map (access_text self.now.lines.now) accesses.now) }
     {
         for (at, class) in accesses {
             self.put_access(out, *at, *class)?;
@@ -115,7 +112,7 @@ impl<'a> Sheet<'_, 'a> {
 
     fn put_access_list(&self, out: &mut Vec<u8>, accesses: Accesses<'_>) -> Result<(), AllocError>
         ensures { OnOk result
-            (out.new.items ≡ out.old.items ++ access_list_text (lines_of self.now.lines.now) accesses.now) }
+            (out.new.items ≡ out.old.items ++ access_list_text self.now.lines.now accesses.now) }
     {
         put(
             out,
@@ -128,7 +125,7 @@ impl<'a> Sheet<'_, 'a> {
     /// Adds the loads and stores with their classes.
     pub fn put_accesses(&self, out: &mut Vec<u8>, accesses: Accesses<'_>) -> Result<(), AllocError>
         ensures { OnOk result
-            (out.new.items ≡ out.old.items ++ accesses_text (lines_of self.now.lines.now) accesses.now) }
+            (out.new.items ≡ out.old.items ++ accesses_text self.now.lines.now accesses.now) }
     {
         if accesses.is_empty() {
             return Ok(());
@@ -137,8 +134,7 @@ impl<'a> Sheet<'_, 'a> {
     }
 
     fn put_loop(&self, out: &mut Vec<u8>, found: &FoundLoop) -> Result<(), AllocError>
-        ensures { OnOk result
-            (out.new.items ≡ out.old.items ++ loop_text (lines_of self.now.lines.now) found.now) }
+        ensures { OnOk result (out.new.items ≡ out.old.items ++ loop_text self.now.lines.now found.now) }
     {
         let indent = 2 * found.depth as usize;
         put(out, b"\n")?;
@@ -153,7 +149,7 @@ impl<'a> Sheet<'_, 'a> {
     /// Adds the loops, each inside those around it.
     pub fn put_loops(&self, out: &mut Vec<u8>, loops: &[FoundLoop]) -> Result<(), AllocError>
         ensures { OnOk result
-            (out.new.items ≡ out.old.items ++ flat_map (loop_text (lines_of self.now.lines.now)) loops.now) }
+            (out.new.items ≡ out.old.items ++ flat_map (loop_text self.now.lines.now) loops.now) }
     {
         for found in loops {
             self.put_loop(out, found)?;
@@ -165,8 +161,7 @@ impl<'a> Sheet<'_, 'a> {
         ensures { OnOk result
             (out.new.items
             ≡ out.old.items
-            ++ flat_map (destination_text (lines_of self.now.lines.now))
-            (words_from table.first table.branches)) }
+            ++ flat_map (destination_text self.now.lines.now) (words_from table.first table.branches)) }
     {
         let mut at = table.first;
         for _ in 0..table.branches {
@@ -180,8 +175,7 @@ impl<'a> Sheet<'_, 'a> {
     fn put_destinations(&self, out: &mut Vec<u8>, table: Table) -> Result<(), AllocError>
         ensures { OnOk result
             (out.new.items
-            ≡ out.old.items
-            ++ destinations_text (lines_of self.now.lines.now) table.first table.branches) }
+            ≡ out.old.items ++ destinations_text self.now.lines.now table.first table.branches) }
     {
         if table.branches == 0 {
             return put(
@@ -196,8 +190,7 @@ impl<'a> Sheet<'_, 'a> {
 
     // Adds what is to be written of a word that writes R15, with its table if it jumps into one.
     fn put_way(&self, out: &mut Vec<u8>, at: u32, branches: u32) -> Result<(), AllocError>
-        ensures { OnOk result
-            (out.new.items ≡ out.old.items ++ way_text (lines_of self.now.lines.now) at branches) }
+        ensures { OnOk result (out.new.items ≡ out.old.items ++ way_text self.now.lines.now at branches) }
     {
         let first = ahead_of(at, 8);
         put(
@@ -208,8 +201,7 @@ impl<'a> Sheet<'_, 'a> {
     }
 
     fn put_target(&self, out: &mut Vec<u8>, target: &FoundTarget) -> Result<(), AllocError>
-        ensures { OnOk result
-            (out.new.items ≡ out.old.items ++ target_text (lines_of self.now.lines.now) target.now) }
+        ensures { OnOk result (out.new.items ≡ out.old.items ++ target_text self.now.lines.now target.now) }
     {
         put(out, b"\n[[target]]\n")?;
         self.put_place(out, 0, b"at", target.at)?;
@@ -219,8 +211,7 @@ impl<'a> Sheet<'_, 'a> {
     /// Adds the words that write R15, with the branches to which they jump.
     pub fn put_targets(&self, out: &mut Vec<u8>, targets: &[FoundTarget]) -> Result<(), AllocError>
         ensures { OnOk result
-            (out.new.items
-            ≡ out.old.items ++ flat_map (target_text (lines_of self.now.lines.now)) targets.now) }
+            (out.new.items ≡ out.old.items ++ flat_map (target_text self.now.lines.now) targets.now) }
     {
         for target in targets {
             self.put_target(out, target)?;
@@ -231,7 +222,7 @@ impl<'a> Sheet<'_, 'a> {
     /// Adds a comment for each address at which the handler cannot go on.
     pub fn put_ends(&self, out: &mut Vec<u8>, ends: &[(u32, End)]) -> Result<(), AllocError>
         ensures { OnOk result
-            (out.new.items ≡ out.old.items ++ flat_map (end_text (lines_of self.now.lines.now)) ends.now) }
+            (out.new.items ≡ out.old.items ++ flat_map (end_text self.now.lines.now) ends.now) }
     {
         for (at, end) in ends {
             self.put_comment(out, *at, end_words(*end))?;
@@ -242,8 +233,7 @@ impl<'a> Sheet<'_, 'a> {
     /// Adds a comment for each cycle that no loop bounds.
     pub fn put_cycles(&self, out: &mut Vec<u8>, cycles: &[u32]) -> Result<(), AllocError>
         ensures { OnOk result
-            (out.new.items
-            ≡ out.old.items ++ flat_map (cycle_text (lines_of self.now.lines.now)) cycles.now) }
+            (out.new.items ≡ out.old.items ++ flat_map (cycle_text self.now.lines.now) cycles.now) }
     {
         for at in cycles {
             self.put_comment(out, *at, b": a cycle that no loop bounds.")?;
@@ -253,8 +243,7 @@ impl<'a> Sheet<'_, 'a> {
 
     /// Adds the head, with the entry.
     pub fn put_head(&self, out: &mut Vec<u8>, entry: u32) -> Result<(), AllocError>
-        ensures { OnOk result
-            (out.new.items ≡ out.old.items ++ head_text (lines_of self.now.lines.now) entry) }
+        ensures { OnOk result (out.new.items ≡ out.old.items ++ head_text self.now.lines.now entry) }
     {
         put(
             out,

@@ -1,5 +1,6 @@
 pub mod Columns
 pub mod Addresses
 pub mod ByAddress
+pub mod LineLabels
 pub mod Lines
 pub mod Rows

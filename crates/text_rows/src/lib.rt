@@ -1,14 +1,16 @@
-//! Texts for people: in columns, and in rows one after another.
+//! Texts for people: in columns, in rows one after another, and with the labels of a source's lines.
 #![tactic(auto)]
 
 mod addresses;
 mod by_address;
 mod columns;
+mod line_labels;
 mod lines;
 mod rows;
 
 pub use addresses::{class_name, put_labelled, put_quoted};
 pub use by_address::lines_by_address;
 pub use columns::{ROW_COLUMNS, put, put_cut_row, put_decimal, put_number, put_right};
+pub use line_labels::{SourceLine, first_word, label_of};
 pub use lines::{LineRows, WordRows, put_line_rows, put_word_rows};
 pub use rows::{NumberedLine, put_address, put_address_row, put_named_row, put_shown_row, section};

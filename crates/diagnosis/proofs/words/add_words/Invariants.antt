@@ -2,7 +2,8 @@ use Rattle.std.proofs.Common.{◌≡◌, ◌-◌, ℕ, eqb}
 use Rattle.std.specs.Map.{update_all}
 use Rattle.loader.specs.Labels.{NamedAddresses}
 use Rattle.text_rows.specs.Addresses.{IsNamed}
-use Rattle.diagnosis.specs.Lines.{AreNamed, numbered, numbered_at, words_from}
+use Rattle.text_rows.specs.LineLabels.{AreNamed}
+use Rattle.diagnosis.specs.Lines.{numbered, numbered_at, words_from}
 use Rattle.diagnosis.proofs.words.add_words.Given as goal
 
 abbrev pub invariant-loop : goal.invariant-loop

@@ -1,7 +1,8 @@
 use Rattle.std.proofs.Common.{◌≡◌, ◌≤◌, ◌+◌, ℕ, [], None, drop, eqb, length}
 use Rattle.std.specs.Map.{update_all}
 use Rattle.asm_text.specs.Source as source
-use Rattle.diagnosis.specs.Lines.{AreNamed, numbered_at, words_of}
+use Rattle.text_rows.specs.LineLabels.{AreNamed}
+use Rattle.diagnosis.specs.Lines.{numbered_at, words_of}
 use Rattle.diagnosis.proofs.words.lines_of.Given as goal
 
 abbrev pub invariant-loop-placed : goal.invariant-loop-placed

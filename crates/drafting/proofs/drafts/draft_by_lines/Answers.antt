@@ -1,12 +1,11 @@
 use Rattle.std.proofs.lemmas.Result.{IfOk-weaker}
-use Rattle.drafting.specs.Named.{lines_of}
 use Rattle.drafting.proofs.drafts.draft_by_lines.Goals as goal
 
 pub returns : goal.returns
 returns c =
     IfOk-weaker c.text_of.result _ _
     (λ text text_is. record {
-      lines = lines_of c.args.lines.now;
+      lines = c.args.lines.now;
       named = c.requires;
       ends = c.in_ok-found.found.ends.items;
       cycles = c.in_ok-found.found.loops.cycles.items;

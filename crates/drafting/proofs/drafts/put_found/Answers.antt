@@ -2,14 +2,13 @@ use Rattle.std.proofs.Common.{◌∙◌, ◌++◌, ap}
 use Rattle.std.proofs.lemmas.Result.{on_ok_weaker}
 use Rattle.std.specs.List.{flat_map}
 use Rattle.drafting.specs.DraftText.{accesses_text, cycle_text, end_text, loop_text, target_text}
-use Rattle.drafting.specs.Named.{lines_of}
 use Rattle.drafting.proofs.FlatLaws.{draft_whole}
 use Rattle.drafting.proofs.drafts.put_found.Goals as goal
 
 pub returns : goal.returns
 returns c =
     let found = c.args.found.now in
-    let lines = lines_of c.args.sheet.now.lines.now in
+    let lines = c.args.sheet.now.lines.now in
     on_ok_weaker c.put_targets.result
     (λ last. draft_whole lines c.args.entry found.ends.items found.loops.cycles.items found.accesses.items
     found.loops.loops.items found.targets.items c.args.out.now.items c.put_head.new.out.items c.put_ends.new.out.items

@@ -1,6 +1,5 @@
 use Rattle.std.proofs.Common.{◌-◌, ◌+◌, arith}
 use Rattle.drafting.specs.DraftText.{destination_text}
-use Rattle.drafting.specs.Named.{lines_of}
 use Rattle.drafting.proofs.FlatLaws.{words_more}
 use Rattle.drafting.proofs.statement_text.Sheet.put_each_destination.Goals as goal
 
@@ -8,6 +7,6 @@ pub loop-preserved : goal.loop-preserved
 loop-preserved c =
     let left = c.args.table.branches - c.loop.counter in
     let after = c.args.table.branches - (c.loop.counter + 1) in
-    words_more (destination_text (lines_of c.args.self.now.lines.now)) c.loop.at c.ahead_of-at.result left after c.loop.out.items
+    words_more (destination_text c.args.self.now.lines.now) c.loop.at c.ahead_of-at.result left after c.loop.out.items
     c.put_element.new.out.items _ (omega (arith, c.loop-test.true)) c.loop.invariant c.in_ok-put_element.ensures
     c.ahead_of-at.ensures.sum
