@@ -1,6 +1,6 @@
 -- The prices of accesses, in ticks of the 8 MHz processor (a cycle profile shaped on the N and S cycles of
 -- the VL86C010 data sheet).
-use Rattle.std.specs.Prelude.{ℕ, zero, suc, ◌+◌, ◌*◌, ◌/◌, ◌%◌, Bool, nat_lt, ◌==◌, if◌then◌else◌}
+use Rattle.std.specs.Prelude.{ℕ, zero, suc, ◌+◌, ◌*◌, ◌/◌, ◌%◌, Bool, nat_lt, ◌==◌, ◌&&◌, if◌then◌else◌}
 use Rattle.bus_ticks.specs.declared.space.TheConstants.{IO_START, ROM_START, SPACE_END}
 use Rattle.bus_ticks.specs.declared.profile.Profile.{Profile}
 use Rattle.bus_ticks.specs.declared.profile.RomTimes.{RomTimes}
@@ -51,6 +51,14 @@ word_price p rom store first x =
     (if first then p.n else ram_price p x)
     (if store then p.control else rom_price p rom x)
     (io_price p x)
+
+-- a number is the address of a word
+abbrev pub is_word_address : ℕ → Bool
+is_word_address n = n % 4 == 0 && nat_lt n SPACE_END
+
+-- an address some bytes on: addresses wrap (ARM data sheet, 26 bits of R15)
+abbrev pub ahead_of : ℕ → ℕ → ℕ
+ahead_of a by = (a + by) % SPACE_END
 
 -- the address of word number i of a block: a multiple of 4, wrapped at 4000000
 abbrev pub word_address : ℕ → ℕ → ℕ

@@ -1,11 +1,12 @@
 -- The greatest prices over all accesses of a class, in ticks.
-use Rattle.std.specs.Prelude.{ℕ, ◌+◌, ◌-◌, ◌*◌, ◌/◌, ◌%◌, ◌≤◌, ◌<◌, ◌≡◌, Bool, if◌then◌else◌, max}
+use Rattle.std.specs.Prelude.{ℕ, ◌+◌, ◌-◌, ◌*◌, ◌/◌, ◌≤◌, ◌<◌, ◌≡◌, Bool, if◌then◌else◌, max}
 use Rattle.bus_ticks.specs.declared.space.TheConstants.{SPACE_END}
 use Rattle.bus_ticks.specs.declared.profile.Profile.{Profile}
 use Rattle.bus_ticks.specs.declared.profile.RomTimes.{RomTimes}
 use Rattle.bus_ticks.specs.declared.profile.Class.{Class}
 use Rattle.bus_ticks.specs.declared.profile.Class.TheVariants.{Ram, Rom, Io, Any}
-use Rattle.bus_ticks.specs.Prices.{class_at, by_class, n_price, ram_price, s_price, block_price, word_address}
+use Rattle.bus_ticks.specs.Prices.{ahead_of, class_at, by_class, n_price, ram_price, s_price, block_price}
+use Rattle.bus_ticks.specs.Prices.{word_address}
 use Rattle.bus_ticks.specs.Ranges.{greatest}
 
 -- an address of the class; each is of Any
@@ -44,7 +45,7 @@ transfer_price p words store b = block_price p b.rom store b.address words
 
 -- the fetch at a target, and the one that follows
 abbrev pub leave_price : Profile → Access → ℕ
-leave_price p t = n_price p t.rom t.address + s_price p t.rom ((t.address + 4) % SPACE_END)
+leave_price p t = n_price p t.rom t.address + s_price p t.rom (ahead_of t.address 4)
 
 -- ROM at its dearest time field, and the dearest device
 abbrev pub worst_rom : Profile → ℕ
@@ -80,7 +81,7 @@ worst_leave_of p Any =
 -- taking FIQ before the instruction at an address: the fetch 8 bytes on, and the two at FIQ's vector
 abbrev pub fiq_entry_price : Profile → Access → ℕ
 fiq_entry_price p t =
-    s_price p t.rom ((t.address + 8) % SPACE_END) + (n_price p t.rom 0x1C + s_price p t.rom 0x20)
+    s_price p t.rom (ahead_of t.address 8) + (n_price p t.rom 0x1C + s_price p t.rom 0x20)
 
 -- the greatest price of taking FIQ: the first fetch may be of any class, and the vector is in Ram
 abbrev pub fiq_entry : Profile → ℕ

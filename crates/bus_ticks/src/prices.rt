@@ -1,4 +1,4 @@
-ghost use Rattle.std.specs.Prelude.{◌≡◌, ◌<◌, ◌≤◌, ◌*◌};
+ghost use Rattle.std.specs.Prelude.{◌≡◌, ◌↔◌, ◌<◌, ◌≤◌, ◌*◌, IsTrue};
 ghost use Rattle.bus_ticks.specs.Prices.{class_at, rom_price, io_price, n_price, ram_price, s_price};
 ghost use Rattle.bus_ticks.specs.Prices.{word_price, block_price};
 
@@ -15,6 +15,23 @@ pub fn class_of(address: u32) -> Class
         Class::Io
     } else {
         Class::Rom
+    }
+}
+
+impl Class {
+    ghost use Rattle.bus_ticks.specs.Worst.{IsOf};
+
+    /// Whether an address is of the class; each is of `Any`.
+    pub fn is_of(self, address: u32) -> bool
+        ensures { IsTrue result ↔ IsOf self address }
+    {
+        match (self, class_of(address)) {
+            (Class::Any, _)
+            | (Class::Ram, Class::Ram)
+            | (Class::Rom, Class::Rom)
+            | (Class::Io, Class::Io) => true,
+            _ => false,
+        }
     }
 }
 

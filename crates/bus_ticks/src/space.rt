@@ -1,7 +1,7 @@
 //! The processor's addresses, in bytes: RAM from 0, then I/O, then ROM.
 
-ghost use Rattle.std.specs.Prelude.{◌≡◌, ◌<◌};
-ghost use Rattle.bus_ticks.specs.Prices.{word_address};
+ghost use Rattle.std.specs.Prelude.{◌≡◌, ◌<◌, ◌%◌};
+ghost use Rattle.bus_ticks.specs.Prices.{ahead_of, is_word_address, word_address};
 
 /// Where logical RAM ends, and physical RAM begins.
 pub const PHYSICAL_START: u32 = 0x200_0000;
@@ -24,4 +24,20 @@ pub fn word_address(lowest: u32, word: u32) -> u32
     ensures below { result < SPACE_END }
 {
     4 * (lowest / 4 + word) % SPACE_END
+}
+
+/// Whether a number is the address of a word, in bytes: a multiple of 4 below [`SPACE_END`].
+pub fn is_word_address(number: u32) -> bool
+    ensures { result ≡ is_word_address number }
+{
+    number % 4 == 0 && number < SPACE_END
+}
+
+/// The address so many bytes on, which wraps at [`SPACE_END`].
+pub fn ahead_of(address: u32, bytes: u32) -> u32
+    ensures sum { result ≡ ahead_of address bytes }
+    ensures fits { result < SPACE_END }
+    ensures aligned { address % 4 ≡ 0 → bytes % 4 ≡ 0 → result % 4 ≡ 0 }
+{
+    address.wrapping_add(bytes) % SPACE_END
 }
