@@ -1,10 +1,10 @@
 -- Pages that are taken off the map and put onto it.
-use Rattle.std.proofs.Common.{◌≡◌, ℕ, zero, suc, ◌+◌, ◌^◌, ◌-◌, ◌<◌, ◌≤◌, ◌&&◌, cond, eqb, eq-eqb, ltb, Bool, true, false, nat_eq, List, [], ◌∷◌, ◌++◌, length, map, take, drop, Some, None, Result, Ok, Err, refl, sym, ap, ◌∙◌, subst, arith, inl, inr}
+use Rattle.std.proofs.Common.{◌≡◌, ℕ, zero, suc, ◌+◌, ◌-◌, ◌<◌, ◌≤◌, cond, eqb, eq-eqb, Bool, true, false, nat_eq, List, [], ◌∷◌, ◌++◌, length, map, take, drop, Some, None, Result, Ok, Err, refl, sym, ap, ◌∙◌, subst, arith, inl, inr}
 use Rattle.std.specs.Prelude.{◌⊎◌, ◌↔◌, OnOk, slice_index_or}
 use Rattle.std.specs.List.{list_all, list_any}
-use Rattle.std.proofs.lemmas.Bool.{and_parts, cases_Bool, cases_eq, cases_lt, false≢true, ltb-true, ne_eqb}
+use Rattle.std.proofs.lemmas.Bool.{and_parts, cases_Bool, cases_eq, cases_lt, false≢true, ne_eqb}
 use Rattle.std.proofs.lemmas.List.{drop_more, get_or-set_other, get_or-set_same, length-map, length-set, map-append, take-append-drop, take_more}
-use Rattle.memc.specs.Memory.{IsOutOfRange, Memory, with_map, without_page}
+use Rattle.memc.specs.Memory.{Memory, with_map, without_page}
 use Rattle.memc.specs.Paged.{mapped, off, page_at}
 use Rattle.memc.specs.declared.pages.Entry.{Entry}
 use Rattle.memc.specs.declared.spots.MapFault.{MapFault}
@@ -137,21 +137,7 @@ module _ (xs : List MappedPage) (x : MappedPage) (m n : Memory) (before : Mapped
     };
   }
 
-in_range : (shift : ℕ) (x : MappedPage) → is_mappable shift x ≡ true → IsOutOfRange shift x.physical x.logical x.level → ⊥
-in_range shift x can out = by_part out
-  where
-    parts : (ltb x.logical (2 ^ (25 - shift)) && ltb x.physical 128 ≡ true) × (ltb x.level 4 ≡ true)
-    parts = and_parts (ltb x.logical (2 ^ (25 - shift)) && ltb x.physical 128) (ltb x.level 4) can
-
-    pages : (ltb x.logical (2 ^ (25 - shift)) ≡ true) × (ltb x.physical 128 ≡ true)
-    pages = and_parts (ltb x.logical (2 ^ (25 - shift))) (ltb x.physical 128) parts.0
-
-    by_part : (128 ≤ x.physical) ⊎ ((4 ≤ x.level) ⊎ (2 ^ (25 - shift) ≤ x.logical)) → ⊥
-    by_part (inl h) = absurd (omega (arith, h, ltb-true x.physical 128 pages.1))
-    by_part (inr (inl h)) = absurd (omega (arith, h, ltb-true x.level 4 parts.1))
-    by_part (inr (inr h)) = absurd (omega (arith, h, ltb-true x.logical (2 ^ (25 - shift)) pages.0))
-
-pub mapped_next : (pages : List MappedPage) (k : ℕ) (d : MappedPage) (m n o : Memory) (r : Result (Unit {0}) MapFault) → CanMap m pages → MappedSoFar (take k pages) m n → k < length pages → OnOk r (o ≡ with_map (slice_index_or pages k d).physical (slice_index_or pages k d).logical (slice_index_or pages k d).level n) → (r ≡ Err OutOfRange ↔ IsOutOfRange n.shift (slice_index_or pages k d).physical (slice_index_or pages k d).logical (slice_index_or pages k d).level) → MappedSoFar (take (k + 1) pages) m o
+pub mapped_next : (pages : List MappedPage) (k : ℕ) (d : MappedPage) (m n o : Memory) (r : Result (Unit {0}) MapFault) → CanMap m pages → MappedSoFar (take k pages) m n → k < length pages → OnOk r (o ≡ with_map (slice_index_or pages k d).physical (slice_index_or pages k d).logical (slice_index_or pages k d).level n) → (r ≡ Err OutOfRange ↔ is_mappable n.shift (slice_index_or pages k d) ≡ false) → MappedSoFar (take (k + 1) pages) m o
 mapped_next pages k d m n o r can before lt ok refused =
     let x : MappedPage = slice_index_or pages k d in
     let valid : is_mappable m.shift x ≡ true = all_at (is_mappable m.shift) pages k d can.mappable lt in
@@ -159,5 +145,5 @@ mapped_next pages k d m n o r can before lt ok refused =
     let singles = and_parts (are_distinct (map (λ (p : MappedPage). p.logical) pages)) (are_distinct (map (λ (p : MappedPage). p.physical) pages)) can.single in
     let next : MappedSoFar (take k pages ++ x ∷ []) m (with_map x.physical x.logical x.level n) =
     put (take k pages) x m n before (can.room x valid) (once_before (λ p. p.logical) pages k d lt singles.0) (once_before (λ p. p.physical) pages k d lt singles.1) in
-    let is : o ≡ with_map x.physical x.logical x.level n = done r (o ≡ with_map x.physical x.logical x.level n) (IsOutOfRange n.shift x.physical x.logical x.level) ok refused (in_range n.shift x here) in
+    let is : o ≡ with_map x.physical x.logical x.level n = done r (o ≡ with_map x.physical x.logical x.level n) (is_mappable n.shift x ≡ false) ok refused (λ out. false≢true (sym out ∙ here)) in
     subst (MappedSoFar (take (k + 1) pages) m) (sym is) (subst (λ ps. MappedSoFar ps m (with_map x.physical x.logical x.level n)) (sym (take_more pages k d lt)) next)

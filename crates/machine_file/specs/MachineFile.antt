@@ -1,7 +1,7 @@
 -- Which machine a text states, and its faults, of which the lowest over the whole text is answered (over the
 -- documents of TOML).
 use Rattle.std.specs.Prelude.{◌==◌, ◌&&◌, not, ◌-◌, ◌^◌, ℕ, ℤ, pos, negsuc, Bool, List, map, fold}
-use Rattle.std.specs.Prelude.{replicate, codes, count_by, nat_lt, nat_le, if◌then◌else◌, Option, Some, None}
+use Rattle.std.specs.Prelude.{replicate, codes, count_by, nat_le, if◌then◌else◌, Option, Some, None}
 use Rattle.std.specs.Prelude.{Ok, Err}
 use Rattle.std.specs.Int.RustNames.{bit_or}
 use Rattle.std.specs.List.{list_all}
@@ -12,7 +12,7 @@ use Rattle.arm2_effect.specs.declared.modes.Mode.TheVariants.{Svc}
 use Rattle.arm2_effect.specs.declared.modes.Reg.{Reg}
 use Rattle.ioc.specs.declared.lines.Lines.{Lines}
 use Rattle.loader.specs.Image.{may_hold}
-use Rattle.memc.specs.Memory.{shift_of_size}
+use Rattle.memc.specs.Memory.{can_map, shift_of_size}
 use Rattle.memc.specs.declared.spots.PageSize.{PageSize}
 use Rattle.memc.specs.declared.spots.PageSize.TheVariants.{K4, K8, K16, K32}
 use Rattle.toml_reading.specs.Documents.{IsAnswer, are_distinct, in_space, list_at, name_at, number_at}
@@ -150,9 +150,9 @@ page_in ms =
 abbrev pub page_at : Data → Read MappedPage
 page_at d = required machine_faults (as_table d) page_in
 
--- what MEMC maps: 2 ^ 25 bytes of logical pages, 128 physical pages, levels 0 to 3
+-- MEMC can map the page, of 2 ^ shift bytes
 abbrev pub is_mappable : ℕ → MappedPage → Bool
-is_mappable shift p = nat_lt p.logical (2 ^ (25 - shift)) && nat_lt p.physical 128 && nat_lt p.level 4
+is_mappable shift p = can_map shift p.physical p.logical p.level
 
 abbrev pub are_single : List MappedPage → Bool
 are_single pages = are_distinct (map (λ p. p.logical) pages) && are_distinct (map (λ p. p.physical) pages)

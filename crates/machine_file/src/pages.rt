@@ -98,18 +98,10 @@ impl Entry<(), MachineFileFault> for MappedPage {
     }
 }
 
-fn is_mappable(shift: u32, page: MappedPage) -> bool
-    requires { shift ≤ 15 }
-    ensures { result ≡ is_mappable shift page }
-{
-    page.logical < 1 << (25 - shift) && page.physical < 128 && page.level < 4
-}
-
 pub(crate) fn are_mappable(size: PageSize, pages: &[MappedPage]) -> bool
     ensures { result ≡ list_all (is_mappable (shift_of_size size)) pages.now }
 {
-    let shift = size.shift();
-    pages.iter().all(|page| is_mappable(shift, *page))
+    pages.iter().all(|page| size.can_map(page.physical, page.logical, page.level))
 }
 
 // Whether no logical page is in the list twice.

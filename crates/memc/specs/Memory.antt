@@ -161,9 +161,10 @@ without_page physical m = record m { paged = unmapped physical m.paged }
 abbrev pub with_map : ℕ → ℕ → ℕ → Memory → Memory
 with_map physical logical level m = record m { paged = mapped physical logical level m.paged }
 
--- 128 physical pages, levels 0 to 3 and 2 ^ 25 bytes of logical pages
-abbrev pub IsOutOfRange : ℕ → ℕ → ℕ → ℕ → Type 0
-IsOutOfRange shift physical logical level = (128 ≤ physical) ⊎ ((4 ≤ level) ⊎ (2 ^ (25 - shift) ≤ logical))
+-- what can be mapped: 2 ^ 25 bytes of logical pages, 128 physical pages, levels 0 to 3
+abbrev pub can_map : (shift physical logical level : ℕ) → Bool
+can_map shift physical logical level =
+    nat_lt logical (2 ^ (25 - shift)) && nat_lt physical 128 && nat_lt level 4
 
 -- a translator write with pages of 4 KB: the physical page in bits 6 to 0, the level in 9 and 8, and of the
 -- logical page bits 12 and 11 in 11 and 10, and bits 10 to 0 in 22 to 12

@@ -1,14 +1,14 @@
 ghost use Rattle.std.specs.Prelude.{◌≡◌, ℕ, ◌*◌, ◌/◌, ◌^◌, ◌<◌, ◌≤◌, IfOk, ◌↔◌, OnErr, OnOk, IfSome};
-ghost use Rattle.std.specs.Prelude.{MatchOption};
+ghost use Rattle.std.specs.Prelude.{MatchOption, false};
 ghost use Rattle.bus_ticks.specs.declared.space.TheConstants.{SPACE_END};
 ghost use Rattle.memc.specs.Paged.{page_at, place_of, IsWhole};
 ghost use Rattle.memc.specs.Memory.{located, logical_at, physical_at, written_at, shift_of_size, IsStart};
-ghost use Rattle.memc.specs.Memory.{IsOutOfRange, IsMemorySpot, IsRamSpot, Fits, word_at, stored, with_map};
+ghost use Rattle.memc.specs.Memory.{IsMemorySpot, IsRamSpot, Fits, word_at, stored, with_map};
 ghost use Rattle.memc.specs.Memory.{without_page, translated, with_control, with_rom, rom_word, last_word};
-ghost use Rattle.memc.specs.Memory.{control_of, allowed, HasNoRun, IsOnOnePage, IsRun};
+ghost use Rattle.memc.specs.Memory.{can_map, control_of, allowed, HasNoRun, IsOnOnePage, IsRun};
 
 use crate::pages::{Entry, Pages};
-use crate::spots::{MapFault, MemcFault, PageSize, Refused, Spot};
+use crate::spots::{MapFault, MemcFault, PageSize, Refused, Spot, can_map};
 use bus_ticks::{IO_START, PHYSICAL_START, ROM_START, RomTimes};
 use std::alloc::Global;
 use std::collections::BTreeMap;
@@ -178,9 +178,9 @@ impl Memc {
         ensures ok { OnOk result (self.new ≡ with_map physical logical level self.old) }
         ensures err { OnErr result (self.new ≡ self.old) }
         ensures refused { (result ≡ Err MapFault.OutOfRange)
-            ↔ IsOutOfRange self.old.shift physical logical level }
+            ↔ (can_map self.old.shift physical logical level ≡ false) }
     {
-        if physical >= 128 || level > 3 || logical >= 1 << (25 - self.shift()) {
+        if !can_map(self.shift(), physical, logical, level) {
             return Err(MapFault::OutOfRange);
         }
         self.pages.map(physical as u8, logical as u16, level as u8);

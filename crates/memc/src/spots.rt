@@ -1,5 +1,5 @@
 ghost use Rattle.std.specs.Prelude.{◌≡◌, ◌≤◌};
-ghost use Rattle.memc.specs.Memory.{shift_of_size};
+ghost use Rattle.memc.specs.Memory.{can_map, shift_of_size};
 ghost use Rattle.memc.specs.declared.spots.MemcFault.TheVariants.{Memory};
 
 use std::alloc::{AllocError, AllocFailed};
@@ -31,6 +31,22 @@ impl PageSize {
             PageSize::K32 => 15,
         }
     }
+
+    /// Whether a logical page of this size, by number, can be mapped on a physical page at a level: logical
+    /// pages up to 2^25 bytes, 128 physical pages and the levels 0 to 3.
+    pub fn can_map(self, physical: u32, logical: u32, level: u32) -> bool
+        ensures { result ≡ can_map (shift_of_size self) physical logical level }
+    {
+        can_map(self.shift(), physical, logical, level)
+    }
+}
+
+/// The same for pages of 2^shift bytes.
+pub(crate) fn can_map(shift: u32, physical: u32, logical: u32, level: u32) -> bool
+    requires { shift ≤ 15 }
+    ensures { result ≡ can_map shift physical logical level }
+{
+    logical < 1 << (25 - shift) && physical < 128 && level < 4
 }
 
 /// What answers an access.
