@@ -3,13 +3,13 @@
 use Rattle.std.specs.Prelude.{◌≡◌, ℕ, ◌*◌, ◌/◌, Bool, true, false, List, [], ◌∷◌, map, sum}
 use Rattle.bus_ticks.specs.declared.profile.Profile.{Profile}
 use Rattle.bus_ticks.specs.declared.profile.RomTimes.{RomTimes}
-use Rattle.bus_ticks.specs.Prices.{n_price, s_price, word_price}
+use Rattle.bus_ticks.specs.Prices.{ahead_of, n_price, s_price, word_price}
 use Rattle.arm2_effect.specs.declared.step_end.Kind.{Kind}
 use Rattle.arm2_effect.specs.declared.step_end.Kind.TheVariants.{Plain, Stopped, Taken}
 use Rattle.arm2_effect.specs.declared.step_end.Why.{Why}
 use Rattle.arm2_effect.specs.declared.step_end.Done.{Done}
 use Rattle.arm2_effect.specs.Modes.{r15_in, with_r15}
-use Rattle.arm2_effect.specs.ProgramCounter.{address_of, ahead_of, r15_ahead}
+use Rattle.arm2_effect.specs.ProgramCounter.{address_of, r15_ahead}
 
 -- What a step does on the bus: a fetch that does not follow the access before it (N), one that does (S), a
 -- word of a transfer (a store or not, the first of its transfer or not), or cycles without an access.

@@ -1,5 +1,6 @@
 -- Operands, and what the barrel shifter makes of them (VL86C010 data sheet, data processing).
 use Rattle.std.specs.Prelude.{ℕ, ◌+◌, ◌*◌, ◌%◌, ◌^◌, Bool, if◌then◌else◌, List, [], ◌∷◌}
+use Rattle.bus_ticks.specs.Prices.{ahead_of}
 use Rattle.arm2_decode.specs.Allowed.{bit_of}
 use Rattle.arm2_decode.specs.Names.{is_pc, register_number}
 use Rattle.arm2_decode.specs.declared.names.Register.{Register}
@@ -9,7 +10,7 @@ use Rattle.shifter.specs.declared.shifts.Shifted.{Shifted}
 use Rattle.shifter.specs.Shifts.{BitsAndCarry, by_immediate, by_register}
 use Rattle.shifter.specs.Word.{word_bits}
 use Rattle.arm2_effect.specs.Modes.{r15_in, register_in}
-use Rattle.arm2_effect.specs.ProgramCounter.{address_of, ahead_of, flags_of, mode_of, r15_ahead}
+use Rattle.arm2_effect.specs.ProgramCounter.{address_of, flags_of, mode_of, r15_ahead}
 
 -- the number of a list of bits, the lowest first
 unfoldable pub word_of : List Bool → ℕ

@@ -1,7 +1,7 @@
 -- R15: N Z C V I F in bits 31 to 26, a word address in bits 25 to 2, the mode in bits 1 and 0 (VL86C010 data
 -- sheet, registers).
 use Rattle.std.specs.Prelude.{Bool, ℕ, ◌+◌, ◌*◌, ◌/◌, ◌%◌, ◌^◌, ◌==◌, if◌then◌else◌}
-use Rattle.bus_ticks.specs.declared.space.TheConstants.{SPACE_END}
+use Rattle.bus_ticks.specs.Prices.{ahead_of}
 use Rattle.arm2_decode.specs.declared.flags.Flags.{Flags}
 use Rattle.arm2_decode.specs.Allowed.{bit_of}
 use Rattle.arm2_decode.specs.Bits.{bit_of_word}
@@ -21,10 +21,6 @@ mode_of r = mode_named (r % 4)
 
 abbrev pub r15_of : ℕ → ℕ → Mode → ℕ
 r15_of psr address mode = psr * 2 ^ 26 + address + mode_number mode
-
--- an address some bytes on: addresses wrap
-abbrev pub ahead_of : ℕ → ℕ → ℕ
-ahead_of a by = (a + by) % SPACE_END
 
 -- where a branch leads: so many words on from its address plus 8. The number is signed in 24 bits, which
 -- makes no difference, as addresses wrap after 2^24 words

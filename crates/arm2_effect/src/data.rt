@@ -8,12 +8,11 @@ ghost use Rattle.arm2_effect.specs.ProgramCounter.{psr_with};
 use crate::modes::Reg;
 use crate::outcomes::{Outcome, flags_after, outcome_of};
 use crate::prices::Prices;
-use crate::program_counter::{
-    address_of, ahead_of, flags_of, jumped, mode_of, psr_of, r15_of, restored,
-};
+use crate::program_counter::{address_of, flags_of, jumped, mode_of, psr_of, r15_of, restored};
 use crate::registers::Registers;
 use crate::step_end::Done;
 use arm2_decode::{DataImmediate, DataRegister, DataRegisterShift, Flags, Opcode, Register};
+use bus_ticks::ahead_of;
 
 // The fields of a data processing word that say where its outcome goes.
 #[derive(Clone, Copy)]

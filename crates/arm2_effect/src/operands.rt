@@ -4,9 +4,10 @@ ghost use Rattle.arm2_effect.specs.Operands.{shifted_by_amount};
 ghost use Rattle.arm2_effect.specs.Operands.{shifted_by_register};
 
 use crate::modes::Reg;
-use crate::program_counter::{address_of, advanced, ahead_of, flags_of, mode_of};
+use crate::program_counter::{address_of, advanced, flags_of, mode_of};
 use crate::registers::Registers;
 use arm2_decode::{Register, Shift};
+use bus_ticks::ahead_of;
 use shifter::{Shifted, rotate_imm, shift_imm, shift_reg};
 
 impl Registers {

@@ -3,8 +3,7 @@ ghost use Rattle.bus_ticks.specs.declared.space.TheConstants.{SPACE_END};
 ghost use Rattle.arm2_effect.specs.Effects.{Internal, onward, refill};
 ghost use Rattle.arm2_effect.specs.Effects.{straight, ticks_of};
 
-use crate::program_counter::ahead_of;
-use bus_ticks::{Profile, RomTimes, fetch_n, fetch_s};
+use bus_ticks::{Profile, RomTimes, ahead_of, fetch_n, fetch_s};
 
 /// What prices the accesses of a step.
 #[derive(Clone, Copy)]

@@ -1,6 +1,7 @@
 //! R15: N Z C V I F in bits 31 to 26, a word address in bits 25 to 2, the mode in bits 1 and 0.
 ghost use Rattle.std.specs.Prelude.{◌≡◌, ◌%◌, ◌^◌, ◌<◌};
-ghost use Rattle.arm2_effect.specs.ProgramCounter.{address_of, ahead_of, branch_target};
+ghost use Rattle.bus_ticks.specs.Prices.{ahead_of};
+ghost use Rattle.arm2_effect.specs.ProgramCounter.{address_of, branch_target};
 ghost use Rattle.arm2_effect.specs.ProgramCounter.{flags_of, is_fiq_masked, is_irq_masked};
 ghost use Rattle.arm2_effect.specs.ProgramCounter.{jumped_of, mode_of};
 ghost use Rattle.arm2_effect.specs.ProgramCounter.{psr_of, r15_ahead, r15_of};
@@ -8,7 +9,7 @@ ghost use Rattle.arm2_effect.specs.ProgramCounter.{restored_of};
 
 use crate::modes::Mode;
 use arm2_decode::{Flags, bit_of_word};
-use bus_ticks::SPACE_END;
+use bus_ticks::{SPACE_END, ahead_of};
 
 /// The address in R15 in bytes: a multiple of 4 below 2^26.
 pub fn address_of(r15: u32) -> u32
@@ -58,15 +59,6 @@ pub fn is_irq_masked(r15: u32) -> bool
     ensures { result ≡ is_irq_masked r15 }
 {
     bit_of_word(r15, 27)
-}
-
-/// The address so many bytes on, which wraps at [`SPACE_END`].
-pub fn ahead_of(address: u32, bytes: u32) -> u32
-    ensures sum { result ≡ ahead_of address bytes }
-    ensures fits { result < SPACE_END }
-    ensures aligned { address % 4 ≡ 0 → bytes % 4 ≡ 0 → result % 4 ≡ 0 }
-{
-    address.wrapping_add(bytes) % SPACE_END
 }
 
 /// The address to which a branch at an address leads: `offset` is the instruction's field of 24 bits, a

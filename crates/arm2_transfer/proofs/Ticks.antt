@@ -3,8 +3,7 @@ use Rattle.std.proofs.Common.{◌≡◌, ℕ, zero, suc, ◌+◌, ◌*◌, ◌/�
 use Rattle.std.proofs.lemmas.List.Sums.{sum-map, sum_by-append}
 use Rattle.bus_ticks.specs.declared.profile.Profile.{Profile}
 use Rattle.bus_ticks.specs.declared.profile.RomTimes.{RomTimes}
-use Rattle.bus_ticks.specs.Prices.{word_address, n_price, word_price, block_price}
-use Rattle.arm2_effect.specs.ProgramCounter.{ahead_of}
+use Rattle.bus_ticks.specs.Prices.{ahead_of, block_price, n_price, word_address, word_price}
 use Rattle.arm2_effect.specs.Effects.{Access, FetchN, Word, Internal, price_of, ticks_of, straight, refill}
 use Rattle.arm2_transfer.specs.Moved.{words_at, load_accesses, store_accesses}
 

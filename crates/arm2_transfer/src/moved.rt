@@ -1,14 +1,13 @@
 ghost use Rattle.std.specs.Prelude.{◌≡◌, true, ◌<◌, ◌≤◌, ◌^◌, ◌%◌};
 ghost use Rattle.bus_ticks.specs.declared.space.TheConstants.{SPACE_END};
-ghost use Rattle.bus_ticks.specs.Prices.{n_price};
+ghost use Rattle.bus_ticks.specs.Prices.{ahead_of, n_price};
 ghost use Rattle.arm2_effect.specs.Effects.{is_stopped, ticks_of};
-ghost use Rattle.arm2_effect.specs.ProgramCounter.{ahead_of};
 ghost use Rattle.arm2_transfer.specs.Moved.{ChangesNothing, IsMoved, faulted, load_accesses, store_accesses};
 
 use crate::bus::Bus;
 use crate::words::TransferFault;
-use arm2_effect::{Done, Prices, Registers, Vector, Why, ahead_of};
-use bus_ticks::{fetch_n, transfer};
+use arm2_effect::{Done, Prices, Registers, Vector, Why};
+use bus_ticks::{ahead_of, fetch_n, transfer};
 
 /// What a transfer does none of whose words is moved.
 #[tactic(auto, unfolding(arm2_effect::specs::Effects::stopped))]

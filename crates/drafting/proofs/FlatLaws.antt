@@ -1,11 +1,11 @@
 -- Texts of one part after another.
 use Rattle.std.proofs.Common.{◌≡◌, ◌+◌, ◌-◌, ◌*◌, ℕ, suc, List, [], ◌∷◌, ◌++◌, length, take, arith, length-append, codes, ap, replicate, subst, ◌∙◌, append_assoc}
-use Rattle.arm2_effect.specs.ProgramCounter.{ahead_of}
 use Rattle.std.specs.BTreeMap.{BTreeMap}
 use Rattle.std.specs.Prelude.{Option}
 use Rattle.text_rows.specs.declared.line_labels.SourceLine.{SourceLine}
 use Rattle.drafting.specs.Rows.{remark, row}
 use Rattle.bus_ticks.specs.declared.profile.Class.{Class}
+use Rattle.bus_ticks.specs.Prices.{ahead_of}
 use Rattle.drafting.specs.DraftText.{accesses_text, bound_text, cycle_text, destinations_text, draft_text, end_text, head_text, loop_text, place_text, target_text, way_text, words_from}
 use Rattle.drafting.specs.declared.ends.End.{End}
 use Rattle.drafting.specs.declared.found_loop.FoundLoop.{FoundLoop}

@@ -6,8 +6,8 @@ use Rattle.std.specs.BTreeMap.{BTreeMap, get}
 use Rattle.std.specs.List.{flat_map}
 use Rattle.std.specs.Ordering.{nat_cmp}
 use Rattle.asm_text.specs.Hex.{hex8}
-use Rattle.arm2_effect.specs.ProgramCounter.{ahead_of}
 use Rattle.bus_ticks.specs.declared.profile.Class.{Class}
+use Rattle.bus_ticks.specs.Prices.{ahead_of}
 use Rattle.text_rows.specs.Addresses.{class_name, name_text}
 use Rattle.text_rows.specs.declared.line_labels.SourceLine.{SourceLine}
 use Rattle.drafting.specs.Rows.{line_label, row}

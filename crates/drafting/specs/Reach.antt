@@ -8,8 +8,9 @@ use Rattle.arm2_decode.specs.declared.instr.Instr.{Instr}
 use Rattle.arm2_decode.specs.declared.instr.Operation.{Operation}
 use Rattle.arm2_decode.specs.declared.instr.Operation.TheVariants as operation
 use Rattle.arm2_decode.specs.declared.instr.Unallocated.{Unallocated}
-use Rattle.arm2_effect.specs.ProgramCounter.{ahead_of, branch_target}
+use Rattle.arm2_effect.specs.ProgramCounter.{branch_target}
 use Rattle.bus_ticks.specs.declared.space.TheConstants.{SPACE_END}
+use Rattle.bus_ticks.specs.Prices.{ahead_of}
 use Rattle.drafting.specs.declared.words.Reading.{Reading}
 use Rattle.drafting.specs.declared.words.Way.{Way}
 use Rattle.drafting.specs.declared.words.Way.TheVariants as way

@@ -1,7 +1,7 @@
 use crate::counted::immediate;
 use crate::words::changed;
 use arm2_decode::{Cond, DataImmediate, DataRegister, Instr, Opcode, Operation, Register, Shift};
-use arm2_effect::ahead_of;
+use bus_ticks::ahead_of;
 
 /// The registers whose words the last words show.
 #[derive(Clone, Copy)]

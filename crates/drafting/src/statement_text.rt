@@ -14,8 +14,7 @@ use crate::found_loop::FoundLoop;
 use crate::rows::{end_row, put_address, put_blanks, put_name};
 use crate::source_lines::SourceLines;
 use crate::writers::FoundTarget;
-use arm2_effect::ahead_of;
-use bus_ticks::Class;
+use bus_ticks::{Class, ahead_of};
 use std::alloc::AllocError;
 use text_rows::{SourceLine, put, put_decimal};
 

@@ -6,8 +6,8 @@ ghost use Rattle.drafting.specs.Reach.{StepsTo, before, next_of};
 ghost use Rattle.drafting.specs.declared.words.Way.TheVariants.{Writer};
 
 use crate::words::{Reading, Way, reading_at};
-use arm2_effect::{ahead_of, branch_target};
-use bus_ticks::SPACE_END;
+use arm2_effect::branch_target;
+use bus_ticks::{SPACE_END, ahead_of};
 use loader::Image;
 use std::alloc::AllocError;
 use word_shapes::{is_table_jump_at, keeps_return_address_at};

@@ -14,7 +14,7 @@ ghost use Rattle.explained.specs.Taken.{is_reached};
 
 use crate::assumptions::sorted;
 use arm2_decode::{Instr, Opcode, Operation, Register, bit_of_word};
-use arm2_effect::ahead_of;
+use bus_ticks::ahead_of;
 use flow_graph::{Calls, Edge, Graph, Place};
 use loader::Image;
 use std::alloc::{AllocError, Global};

@@ -9,8 +9,8 @@ use Rattle.std.proofs.lemmas.Nat.{mul-le}
 use Rattle.arm2_decode.specs.Names.{is_always, is_never}
 use Rattle.arm2_decode.proofs.Unique.{one_instr, never_both, one_unallocated}
 use Rattle.bus_ticks.proofs.WorstLemmas.{worst_block_small}
-use Rattle.arm2_effect.specs.ProgramCounter.{ahead_of, branch_target}
-use Rattle.bus_ticks.specs.Prices.{by_class, class_at}
+use Rattle.arm2_effect.specs.ProgramCounter.{branch_target}
+use Rattle.bus_ticks.specs.Prices.{ahead_of, by_class, class_at}
 use Rattle.bus_ticks.specs.Ranges.{IsPrice}
 use Rattle.bus_ticks.specs.Worst.{worst_block, worst_n_price, worst_s_price, worst_rom, worst_leave_of}
 use Rattle.bus_ticks.specs.declared.profile.Class.{Class}

@@ -6,12 +6,12 @@ use Rattle.std.proofs.lemmas.Bool.Decides.{eqb_tells}
 use Rattle.std.proofs.lemmas.List.{get_or-map, length-map}
 use Rattle.std.proofs.lemmas.List.Elements.{Contains-append_cases, Contains-append_left, Contains-append_right}
 use Rattle.arm2_decode.specs.Names.{is_always, is_never}
-use Rattle.arm2_effect.specs.ProgramCounter.{ahead_of, branch_target}
+use Rattle.arm2_effect.specs.ProgramCounter.{branch_target}
 use Rattle.bus_ticks.specs.declared.profile.Class.{Class}
 use Rattle.bus_ticks.specs.declared.profile.Class.TheVariants.{Any, Ram, Rom, Io}
 use Rattle.bus_ticks.specs.declared.profile.Profile.{Profile}
 use Rattle.bus_ticks.specs.declared.profile.RomTimes.{RomTimes}
-use Rattle.bus_ticks.specs.Prices.{class_at, n_price, s_price}
+use Rattle.bus_ticks.specs.Prices.{ahead_of, class_at, n_price, s_price}
 use Rattle.bus_ticks.specs.Worst.{IsOf, worst_leave_of, worst_n_price, worst_s_price}
 use Rattle.bus_ticks.proofs.LeaveLemmas.{worst_leave_greatest}
 use Rattle.arm2_decode.specs.Conditions.{condition_holds}

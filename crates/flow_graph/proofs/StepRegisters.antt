@@ -2,12 +2,13 @@
 use Rattle.std.proofs.Common.{◌≡◌, ℕ, ◌+◌, ◌*◌, ◌/◌, ◌%◌, ◌^◌, ◌<◌, ◌==◌, Bool, true, false, cond, List, length, refl, ap, ◌∙◌, arith}
 use Rattle.std.proofs.lemmas.Bool.{eqb-false}
 use Rattle.std.proofs.lemmas.List.{get_or-set_same, get_or-set_other, length-set}
+use Rattle.bus_ticks.specs.Prices.{ahead_of}
 use Rattle.arm2_decode.specs.Names.{is_pc, register_number}
 use Rattle.arm2_decode.specs.declared.names.Register.{Register}
 use Rattle.arm2_effect.specs.declared.modes.Mode.{Mode}
 use Rattle.arm2_effect.specs.declared.modes.Mode.TheVariants.{User, Fiq, Irq, Svc}
 use Rattle.arm2_effect.specs.Modes.{mode_number, r15_in, slot_of, with_r15, with_register}
-use Rattle.arm2_effect.specs.ProgramCounter.{address_of, ahead_of, jumped_of, mode_of, psr_of, r15_ahead, r15_of, restored_of}
+use Rattle.arm2_effect.specs.ProgramCounter.{address_of, jumped_of, mode_of, psr_of, r15_ahead, r15_of, restored_of}
 use Rattle.arm2_transfer.specs.Registers.{with_base, with_loaded, loaded_r15, passed}
 use Rattle.arm2_transfer.proofs.Slots.{below_15, slot_below}
 

@@ -7,12 +7,12 @@ use Rattle.std.proofs.lemmas.List.Elements.{Contains-append_left, Contains-appen
 use Rattle.bus_ticks.specs.declared.profile.Class.{Class}
 use Rattle.bus_ticks.specs.declared.profile.Profile.{Profile}
 use Rattle.bus_ticks.specs.declared.profile.RomTimes.{RomTimes}
-use Rattle.bus_ticks.specs.Prices.{block_price, n_price, s_price, word_address}
+use Rattle.bus_ticks.specs.Prices.{ahead_of, block_price, n_price, s_price, word_address}
 use Rattle.bus_ticks.specs.Worst.{IsBlockOf, worst_block, worst_n_price, worst_s_price}
 use Rattle.bus_ticks.proofs.FetchLemmas.{n_greatest, s_greatest}
 use Rattle.bus_ticks.proofs.WorstLemmas.{worst_transfer_greatest}
 use Rattle.arm2_effect.specs.Effects.{Access, FetchN, FetchS, Internal, Word, straight, refill, ticks_of}
-use Rattle.arm2_effect.specs.ProgramCounter.{ahead_of, branch_target}
+use Rattle.arm2_effect.specs.ProgramCounter.{branch_target}
 use Rattle.arm2_transfer.proofs.Ticks.{load_ticks-jumps, load_ticks-passes, ticks_of-append, ticks_of-words_at}
 use Rattle.arm2_transfer.specs.Moved.{load_accesses, store_accesses, words_at}
 use Rattle.flow_graph.specs.Edges.{fetch_ticks, passing_ticks, work_ticks}

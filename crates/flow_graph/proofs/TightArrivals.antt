@@ -6,8 +6,8 @@ use Rattle.bus_ticks.specs.Dearest.{AreDearest}
 use Rattle.bus_ticks.specs.declared.profile.Class.{Class}
 use Rattle.bus_ticks.specs.declared.profile.Profile.{Profile}
 use Rattle.bus_ticks.specs.declared.profile.RomTimes.{RomTimes}
-use Rattle.bus_ticks.specs.Prices.{n_price, s_price}
-use Rattle.arm2_effect.specs.ProgramCounter.{ahead_of, branch_target}
+use Rattle.bus_ticks.specs.Prices.{ahead_of, n_price, s_price}
+use Rattle.arm2_effect.specs.ProgramCounter.{branch_target}
 use Rattle.flow_graph.specs.Edges.{arrival_ticks, jump_ticks, landings}
 use Rattle.flow_graph.specs.Kinds.{is_writer}
 use Rattle.flow_graph.specs.StepLaw.{IsPlaceOf}

@@ -4,7 +4,7 @@ use Rattle.std.proofs.lemmas.Bool.{false≢true}
 use Rattle.bus_ticks.specs.declared.profile.Class.{Class}
 use Rattle.bus_ticks.specs.declared.profile.Profile.{Profile}
 use Rattle.bus_ticks.specs.declared.profile.RomTimes.{RomTimes}
-use Rattle.bus_ticks.specs.Prices.{n_price, s_price}
+use Rattle.bus_ticks.specs.Prices.{ahead_of, n_price, s_price}
 use Rattle.arm2_decode.specs.Names.{is_compare, is_pc, register_number}
 use Rattle.arm2_decode.specs.declared.flags.Flags.{Flags}
 use Rattle.arm2_decode.specs.declared.instr.Branch.{Branch}
@@ -17,7 +17,7 @@ use Rattle.arm2_effect.specs.Modes.{r15_in, register_in}
 use Rattle.arm2_effect.specs.Operations.{branch_effect, compared, cycles_of, delayed, entered, jumped}
 use Rattle.arm2_effect.specs.Operations.{multiply_effect, placed, product_of}
 use Rattle.arm2_effect.specs.Outcomes.{outcome_of}
-use Rattle.arm2_effect.specs.ProgramCounter.{address_of, ahead_of}
+use Rattle.arm2_effect.specs.ProgramCounter.{address_of}
 use Rattle.flow_graph.specs.Free.{writes_pc}
 use Rattle.flow_graph.specs.Kinds.{data_kind, is_writer, writer_if}
 use Rattle.flow_graph.specs.declared.kinds.Kind.{Kind}

@@ -9,6 +9,7 @@ use Rattle.bus_ticks.specs.declared.profile.Class.{Class}
 use Rattle.bus_ticks.specs.declared.profile.Class.TheVariants.{Any}
 use Rattle.bus_ticks.specs.declared.profile.Profile.{Profile}
 use Rattle.bus_ticks.specs.Dearest.{IsDearestLeave}
+use Rattle.bus_ticks.specs.Prices.{ahead_of}
 use Rattle.loader.specs.Image.{Words, may_hold, word_of}
 use Rattle.loader.proofs.PlaceLemmas.{may_parts}
 use Rattle.arm2_decode.specs.Table.{Means}
@@ -16,7 +17,6 @@ use Rattle.arm2_decode.specs.declared.flags.Flags.{Flags}
 use Rattle.arm2_decode.specs.declared.instr.Instr.{Instr}
 use Rattle.arm2_decode.specs.declared.names.Cond.{Cond}
 use Rattle.arm2_decode.specs.declared.names.Cond.TheVariants as condition
-use Rattle.arm2_effect.specs.ProgramCounter.{ahead_of}
 use Rattle.flow_graph.specs.Edges.{AreEdgesOf, HasAction, IsEdge, do_edge, do_edges, landing_edges, landings}
 use Rattle.flow_graph.specs.Edges.{skip_edge, skip_edges, word_edges}
 use Rattle.flow_graph.specs.Free.{HasFreeWord, IsFree, IsFreeWord}

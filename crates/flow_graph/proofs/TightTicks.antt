@@ -7,11 +7,10 @@ use Rattle.bus_ticks.specs.Dearest.{AreDearest, IsDearestBlock}
 use Rattle.bus_ticks.specs.declared.profile.Class.{Class}
 use Rattle.bus_ticks.specs.declared.profile.Profile.{Profile}
 use Rattle.bus_ticks.specs.declared.profile.RomTimes.{RomTimes}
-use Rattle.bus_ticks.specs.Prices.{block_price, by_class, class_at, n_price, ram_price, s_price, word_address}
+use Rattle.bus_ticks.specs.Prices.{ahead_of, block_price, by_class, class_at, n_price, ram_price, s_price, word_address}
 use Rattle.bus_ticks.specs.Worst.{IsOf, worst_block, worst_n_price, worst_s_price}
 use Rattle.arm2_effect.specs.Effects.{Access, FetchN, FetchS, Internal, Word, straight, refill, onward}
 use Rattle.arm2_effect.specs.Effects.{ticks_of}
-use Rattle.arm2_effect.specs.ProgramCounter.{ahead_of}
 use Rattle.arm2_transfer.proofs.Ticks.{load_ticks-jumps, load_ticks-passes, ticks_of-append}
 use Rattle.arm2_transfer.proofs.Ticks.{ticks_of-words_at}
 use Rattle.arm2_transfer.specs.Moved.{load_accesses, store_accesses, words_at}

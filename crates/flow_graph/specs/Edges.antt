@@ -4,10 +4,11 @@
 use Rattle.std.specs.Prelude.{◌≡◌, ℕ, ◌+◌, ◌-◌, ◌*◌, true, false, cond, nat_eq, nat_lt, List, []}
 use Rattle.std.specs.Prelude.{◌∷◌, ◌++◌, length, take, map, slice_index, Option, Some, None, Contains}
 use Rattle.arm2_decode.specs.Names.{is_always, is_never}
-use Rattle.arm2_effect.specs.ProgramCounter.{ahead_of, branch_target}
+use Rattle.arm2_effect.specs.ProgramCounter.{branch_target}
 use Rattle.bus_ticks.specs.Worst.{worst_n_price, worst_s_price, worst_block, worst_leave_of}
 use Rattle.bus_ticks.specs.declared.profile.Class.{Class}
 use Rattle.bus_ticks.specs.declared.profile.Profile.{Profile}
+use Rattle.bus_ticks.specs.Prices.{ahead_of}
 use Rattle.loader.specs.Image.{Words, word_of}
 use Rattle.flow_graph.specs.Kinds.{IsAction}
 use Rattle.statement.specs.Stated.{Stated, Target, class_of, target_of}

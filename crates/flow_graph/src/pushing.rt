@@ -13,8 +13,8 @@ use crate::faults::BuildFault;
 use crate::kinds::{Action, Kind, action_of};
 use crate::places::Place;
 use crate::ticks::{do_ticks, passing_ticks};
-use arm2_effect::{ahead_of, branch_target};
-use bus_ticks::Profile;
+use arm2_effect::branch_target;
+use bus_ticks::{Profile, ahead_of};
 use loader::Image;
 use statement::{Statement, TargetKind};
 

@@ -6,8 +6,9 @@ ghost use Rattle.flow_graph.specs.Places.{IsInSpace};
 
 use crate::kinds::{Action, Kind, Work};
 use crate::places::Place;
-use arm2_effect::ahead_of;
-use bus_ticks::{Class, Profile, worst_fetch_n, worst_fetch_s, worst_leave, worst_transfer};
+use bus_ticks::{
+    Class, Profile, ahead_of, worst_fetch_n, worst_fetch_s, worst_leave, worst_transfer,
+};
 use statement::Statement;
 
 /// What a word costs that is passed over: the fetch of the word after the next.

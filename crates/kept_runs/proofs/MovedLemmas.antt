@@ -5,7 +5,7 @@ use Rattle.std.proofs.Math.ListN.{length-set}
 use Rattle.std.proofs.Math.Nat.{eq-or-lt_of_le}
 use Rattle.std.proofs.lemmas.Bool.{ltb-true}
 use Rattle.std.proofs.lemmas.List.Elements.{All-append, All-from_recursion, Contains-append_left, Contains-append_right}
-use Rattle.bus_ticks.specs.Prices.{word_address}
+use Rattle.bus_ticks.specs.Prices.{ahead_of, word_address}
 use Rattle.bus_ticks.specs.Worst.{IsOf}
 use Rattle.bus_ticks.specs.declared.profile.Class.{Class}
 use Rattle.arm2_decode.specs.Names.{is_compare, is_pc, register_number}
@@ -30,7 +30,7 @@ use Rattle.arm2_effect.specs.Effects.{Effect, FetchN, Internal, Word, onward, sk
 use Rattle.arm2_effect.specs.Exceptions.{taken}
 use Rattle.arm2_effect.specs.Modes.{r15_in, register_in, slot_of, with_r15, with_register}
 use Rattle.arm2_effect.specs.Operations.{branch_effect, compared, data_immediate_effect, data_register_effect, data_register_shift_effect, delayed, entered, jumped, multiply_effect, operation_effect, placed, product_of}
-use Rattle.arm2_effect.specs.ProgramCounter.{address_of, ahead_of, mode_of, r15_ahead}
+use Rattle.arm2_effect.specs.ProgramCounter.{address_of, mode_of, r15_ahead}
 use Rattle.arm2_transfer.specs.declared.bus.Bus.{Bus}
 use Rattle.arm2_transfer.specs.declared.single_fields.Single.{Single}
 use Rattle.arm2_transfer.specs.declared.span.Span.{Span}

@@ -8,8 +8,9 @@ ghost use Rattle.arm2_effect.specs.Operands.{current_in, first_of, operand_of, s
 ghost use Rattle.arm2_effect.specs.ProgramCounter.{flags_of};
 
 use arm2_decode::{Cond, Register, SingleRegister, holds};
-use arm2_effect::{address_of, advanced, ahead_of, flags_of, mode_of};
+use arm2_effect::{address_of, advanced, flags_of, mode_of};
 use arm2_exec::{Machine, Reg};
+use bus_ticks::ahead_of;
 use register_banks::banked;
 use shifter::{Shifted, shift_imm};
 

@@ -1,5 +1,5 @@
 use Rattle.std.proofs.Common.{refl}
-use Rattle.arm2_effect.specs.ProgramCounter.{ahead_of}
+use Rattle.bus_ticks.specs.Prices.{ahead_of}
 use Rattle.arm2_transfer.proofs.Ticks.{store_ticks-are}
 use Rattle.arm2_transfer.proofs.moved.store_ticks.Goals as goal
 
