@@ -14,6 +14,7 @@ use Rattle.arm2_decode.specs.Allowed.{single_clash, single_register_clash}
 use Rattle.arm2_decode.specs.Table.{multiply_row, data_register_row, data_register_shift_row}
 use Rattle.arm2_decode.specs.Table.{data_immediate_row, single_immediate_row, single_register_row, block_row}
 use Rattle.arm2_decode.specs.Table.{branch_row, swi_row, word_in}
+use Rattle.bus_ticks.specs.Prices.{is_word_address}
 use Rattle.asm_text.specs.declared.syntax.Amount.{Amount}
 use Rattle.asm_text.specs.declared.syntax.Amount.TheVariants.{By, Rrx}
 use Rattle.asm_text.specs.declared.syntax.Shifting.{Shifting}
@@ -157,10 +158,6 @@ block_word c b =
 abbrev pub is_far : ℕ → ℕ → Bool
 is_far at target = nat_lt (at + 8 + 33554428) target || nat_lt (target + 33554432) (at + 8)
 
--- a multiple of 4 up to 3FFFFFC
-abbrev pub is_target : ℕ → Bool
-is_target target = target % 4 == 0 && nat_le target 67108860
-
 -- the words from the address two words on to the target, as 24 bits of two's complement
 abbrev pub branch_offset : ℕ → ℕ → ℕ
 branch_offset at target = (target + 2 ^ 33 - (at + 8)) / 4 % 2 ^ 24
@@ -168,7 +165,7 @@ branch_offset at target = (target + 2 ^ 33 - (at + 8)) / 4 % 2 ^ 24
 abbrev pub branch_word : ℕ → ℕ → Bool → ℕ → Result ℕ LineFault
 branch_word c at link target =
     if is_far at target then Err BranchTooFar
-    else in_range (is_target target)
+    else in_range (is_word_address target)
     (Ok (word_in branch_row (c ∷ bit_of link ∷ branch_offset at target ∷ [])))
 
 abbrev pub swi_word : ℕ → ℕ → Result ℕ LineFault

@@ -3,7 +3,7 @@ ghost use Rattle.std.specs.Int.{w32, rotate_left};
 ghost use Rattle.arm2_decode.specs.Names.{cond_number, register_number, shift_number};
 ghost use Rattle.assembler.specs.Codes.{action_word, amount_field, amount_fits, amount_shift, block_word};
 ghost use Rattle.assembler.specs.Codes.{branch_offset, branch_word, encoded, immediate_word, is_far};
-ghost use Rattle.assembler.specs.Codes.{is_target, number_transfer, operand_word, product_word};
+ghost use Rattle.assembler.specs.Codes.{number_transfer, operand_word, product_word};
 ghost use Rattle.assembler.specs.Codes.{register_shift_word, register_transfer, register_word, rotated_word};
 ghost use Rattle.assembler.specs.Codes.{rotation_of, shifted_word, swi_word, transfer_word};
 ghost use Rattle.arm2_decode.specs.Table.{operands, row_of, word_in};
@@ -17,6 +17,7 @@ use arm2_decode::{
 use asm_text::{
     Action, Amount, BlockTransfer, Code, Data, Distance, Operand, Product, Shifting, Transfer,
 };
+use bus_ticks::is_word_address;
 
 // The word of an operation: its row's fixed bits and its fields.
 #[tactic(auto, using(crate::proofs::CodeLaws::means_word))]
@@ -285,12 +286,6 @@ fn is_far(at: u32, target: u32) -> bool
     target > next + 0x1FF_FFFC || target + 0x200_0000 < next
 }
 
-fn is_target(target: u32) -> bool
-    ensures { result ≡ is_target target }
-{
-    target % 4 == 0 && target <= 0x3FF_FFFC
-}
-
 // The words from the address two words on to the target, as 24 bits of two's complement.
 fn branch_offset(at: u32, target: u32) -> u32
     ensures value { result ≡ branch_offset at target }
@@ -307,7 +302,7 @@ fn branch(cond: Cond, at: u32, link: bool, target: u32) -> Result<u32, LineFault
     if is_far(at, target) {
         return Err(LineFault::BranchTooFar);
     }
-    if !is_target(target) {
+    if !is_word_address(target) {
         return Err(LineFault::OutOfRange);
     }
     let operation = Operation::Branch(Branch {

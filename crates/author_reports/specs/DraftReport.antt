@@ -1,8 +1,8 @@
 -- What has to be stated of a handler.
-use Rattle.std.specs.Prelude.{◌≡◌, ◌==◌, ◌%◌, ◌&&◌, ℕ, nat_lt, if◌then◌else◌, List, Option, Some, None, Ok}
+use Rattle.std.specs.Prelude.{◌≡◌, ℕ, if◌then◌else◌, List, Option, Some, None, Ok}
 use Rattle.std.specs.Prelude.{option_and_then}
 use Rattle.asm_text.specs.Numbers.{run_number}
-use Rattle.bus_ticks.specs.declared.space.TheConstants.{SPACE_END}
+use Rattle.bus_ticks.specs.Prices.{is_word_address}
 use Rattle.drafting.specs.Draft.{IsDraft}
 use Rattle.loader.specs.Image.{Words}
 use Rattle.loader.specs.Labels.{NamedAddresses, Names, address_of}
@@ -10,13 +10,13 @@ use Rattle.report_input.specs.Source.{IsSourceFault, source_of}
 use Rattle.report_output.specs.declared.fault.ReportFault.{ReportFault}
 use Rattle.report_output.specs.declared.fault.ReportFault.TheVariants as report_fault
 
--- a multiple of 4 in the address space
-abbrev pub word_address : ℕ → Option ℕ
-word_address n = if nat_lt n SPACE_END && n % 4 == 0 then Some n else None
+-- a number, where it is the address of a word
+abbrev pub if_word : ℕ → Option ℕ
+if_word n = if is_word_address n then Some n else None
 
 -- decimal, or hexadecimal after `0x`
 abbrev pub address_in : List ℕ → Option ℕ
-address_in text = option_and_then word_address (run_number text)
+address_in text = option_and_then if_word (run_number text)
 
 abbrev pub or_address : List ℕ → Option ℕ → Option ℕ
 or_address text (Some a) = Some a

@@ -11,7 +11,7 @@ ghost use Rattle.drafting.specs.Draft.{IsDraft};
 
 use asm_text::read_number;
 use assembler::{Assembly, Program, placed_lines};
-use bus_ticks::SPACE_END;
+use bus_ticks::is_word_address;
 use drafting::draft;
 use loader::{Labels, MAGIC};
 use report_input::read_source;
@@ -23,7 +23,7 @@ fn address_in(text: &[u8]) -> Option<u32>
     ensures { result ≡ address_in text.now }
 {
     let number = read_number(text)?;
-    if number < SPACE_END && number % 4 == 0 {
+    if is_word_address(number) {
         return Some(number);
     }
     None

@@ -1,6 +1,6 @@
 -- What is named of a statement that is refused: first what is wrong with the whole, and then the values and
 -- the tables that have the fault, in the order of the text, twenty at most.
-use Rattle.std.specs.Prelude.{◌≡◌, ◌≤◌, ◌⊎◌, ◌==◌, ◌&&◌, ◌||◌, ◌%◌, ◌+◌, not, nat_lt}
+use Rattle.std.specs.Prelude.{◌≡◌, ◌≤◌, ◌⊎◌, ◌==◌, ◌&&◌, ◌||◌, ◌+◌, not, nat_lt}
 use Rattle.std.specs.Prelude.{zero, suc, Bool, true, false, ℕ}
 use Rattle.std.specs.Prelude.{List, [], ◌∷◌, ◌++◌, length, take, drop, codes, decimal, count_by}
 use Rattle.std.specs.Prelude.{Option, Some, None, IsSome, IsUtf8, is_none, option_map, if◌then◌else◌}
@@ -10,7 +10,7 @@ use Rattle.std.specs.List.{list_any}
 use Rattle.std.specs.Option.{option_and_then}
 use Rattle.std.specs.Ordering.{nat_cmp}
 use Rattle.std.specs.Str.{bytes_eq}
-use Rattle.bus_ticks.specs.declared.space.TheConstants.{SPACE_END}
+use Rattle.bus_ticks.specs.Prices.{is_word_address}
 use Rattle.asm_text.specs.Numbers.{run_number}
 use Rattle.loader.specs.Labels.{NamedAddresses, address_of}
 use Rattle.toml.specs.Parse.{parse_document}
@@ -139,7 +139,7 @@ is_unknown_label names p = takes_address p.key && (is_text p.value && is_none (a
 
 abbrev pub is_outside : List ℕ → ℕ → Bool
 is_outside key n =
-    if takes_address key then not (n % 4 == 0 && nat_lt n SPACE_END)
+    if takes_address key then not (is_word_address n)
     else bytes_eq key (codes "bound") && nat_lt 1048576 n
 
 abbrev pub is_number_outside : List ℕ → Option ℕ → Bool

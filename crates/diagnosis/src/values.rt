@@ -9,7 +9,7 @@ ghost use Rattle.diagnosis.specs.Refused.{starts_number, takes_address};
 use crate::outline::Pair;
 use crate::tokens::Word;
 use asm_text::read_number;
-use bus_ticks::SPACE_END;
+use bus_ticks::is_word_address;
 use loader::Labels;
 use statement::MOST_ROUNDS;
 
@@ -151,7 +151,7 @@ fn is_outside(key: &[u8], number: u32) -> bool
     ensures { result ≡ is_outside key.now number }
 {
     if takes_address(key) {
-        return !(number % 4 == 0 && number < SPACE_END);
+        return !is_word_address(number);
     }
     key == b"bound".as_slice() && MOST_ROUNDS < number
 }

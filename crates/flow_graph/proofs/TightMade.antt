@@ -1,7 +1,7 @@
 -- The machine of an edge's file takes the edge at its price.
 use Rattle.std.proofs.Common.{◌≡◌, ℕ, ◌+◌, ◌*◌, ◌-◌, ◌/◌, ◌%◌, ◌^◌, ◌<◌, ◌≤◌, ◌⊎◌, inl, inr, true, false, Option, Some, None, Result, Ok, Err, List, [], ◌∷◌, ◌++◌, length, get_or, IsTrue, replicate, refl, sym, ap, subst, ◌∙◌, arith}
 use Rattle.std.specs.Prelude.{All, Contains, IfErr, IfSome, IsSome, is_some}
-use Rattle.std.proofs.lemmas.Bool.{eqb-false}
+use Rattle.std.proofs.lemmas.Bool.{eqb-false, eq-eqb, lt-ltb}
 use Rattle.std.proofs.lemmas.List.{get_or-set_same, get_or_append_left, get_or_push, length-append, length-replicate, length-set}
 use Rattle.std.proofs.lemmas.List.Elements.{All-from_recursion, recursion_from_All}
 use Rattle.std.proofs.lemmas.Option.{same_Some}
@@ -56,6 +56,7 @@ use Rattle.flow_graph.specs.declared.tight.TightFault.{TightFault}
 use Rattle.flow_graph.specs.declared.tight.TightFault.TheVariants.{Memory, NotFree}
 use Rattle.statement.specs.Stated.{Stated}
 use Rattle.std.proofs.lemmas.List.{get_or_read}
+use Rattle.std.specs.Cmp.Derive.{both_true}
 use Rattle.flow_graph.proofs.FlowLemmas.{part_of}
 use Rattle.flow_graph.proofs.SortedLemmas.{here, no_member}
 use Rattle.flow_graph.proofs.StepRegisters.{address_put}
@@ -280,7 +281,7 @@ pub in_range : (words : Words) (st : Stated) (profile : Profile) (e : Edge) (spa
 in_range words st profile e spare pages stand rom h whole plan =
     let at = parts words stand.address whole (ap is_some h.has) in
     record {
-      pc = (at.0, at.1);
+      pc = both_true (eq-eqb (stand.address % 4) 0 at.0) (lt-ltb stand.address 0x4000000 at.1);
       low_rom = let small = rom.low_in_range in omega (arith, small);
       high_rom = let small = rom.high_in_range in omega (arith, small);
       mappable = all_mappable words pages spare plan;

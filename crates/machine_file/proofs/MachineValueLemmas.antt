@@ -1,12 +1,13 @@
 -- What is read of the values of a machine file, against what they state and their faults.
-use Rattle.std.proofs.Common.{◌≡◌, ℕ, ℤ, pos, negsuc, ◌-◌, ◌^◌, ◌≤◌, ◌⊎◌, ◌↔◌, Bool, true, false, cond, eqb, get_or, List, [], ◌∷◌, map, codes, Any, Option, Some, None, Ok, Err, IsSomeAnd, MatchOption, inl, inr, refl, sym, ap, ◌∙◌, arith, le_of_eq}
+use Rattle.std.proofs.Common.{◌≡◌, ℕ, ℤ, pos, negsuc, ◌-◌, ◌^◌, ◌≤◌, ◌⊎◌, ◌↔◌, Bool, true, false, cond, eqb, get_or, List, [], ◌∷◌, map, codes, Any, Option, Some, None, Ok, Err, IsSomeAnd, MatchOption, inl, inr, refl, sym, ap, ◌∙◌, arith, le_of_eq, IsTrue}
 use Rattle.std.specs.List.{AllZip, list_all}
 use Rattle.std.proofs.lemmas.Bool.{eq-eqb, eqb-true, false≢true}
 use Rattle.toml.specs.Data.{Data, Members, as_integer, as_str, as_table, get_member}
 use Rattle.ioc.specs.declared.lines.Lines.{Lines}
 use Rattle.memc.specs.declared.spots.PageSize.{PageSize}
 use Rattle.memc.specs.declared.spots.PageSize.TheVariants.{K4, K8, K16, K32}
-use Rattle.toml_reading.specs.Lowest.{AtKey, AtKeyOr, IsInSpace, IsListOf, IsNamed, IsNoAddress, IsNumber, KeysFault, ListFault, NameFault, TableFault}
+use Rattle.bus_ticks.specs.Prices.{is_word_address}
+use Rattle.toml_reading.specs.Lowest.{AtKey, AtKeyOr, IsListOf, IsNamed, IsNoAddress, IsNumber, KeysFault, ListFault, NameFault, TableFault}
 use Rattle.toml_reading.specs.Documents.{in_space, items_at, number_in, number_or}
 use Rattle.toml_reading.specs.Readings.{all, both, seen}
 use Rattle.toml_reading.proofs.AddressLemmas.{integer_judged}
@@ -44,7 +45,7 @@ pub address_judged : (d : Data) → Judges machine_faults (IsAddress d) (Address
 address_judged d =
     required_judged
     machine_faults
-    (λ z n. (z ≡ pos n) × IsInSpace n)
+    (λ z n. (z ≡ pos n) × IsTrue (is_word_address n))
     (λ z f. IsNoAddress z × (f ≡ OutOfRange))
     (in_space machine_faults)
     (integer_judged machine_faults)

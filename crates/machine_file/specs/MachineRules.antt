@@ -11,7 +11,8 @@ use Rattle.memc.specs.Memory.{shift_of_size}
 use Rattle.memc.specs.declared.spots.PageSize.{PageSize}
 use Rattle.memc.specs.declared.spots.PageSize.TheVariants.{K4, K8, K16, K32}
 use Rattle.toml_reading.specs.Documents.{are_distinct, has_only_keys}
-use Rattle.toml_reading.specs.Lowest.{AtKey, AtKeyOr, IsInSpace, IsListOf, IsNamed, IsNumber, IsTable}
+use Rattle.bus_ticks.specs.Prices.{is_word_address}
+use Rattle.toml_reading.specs.Lowest.{AtKey, AtKeyOr, IsListOf, IsNamed, IsNumber, IsTable}
 use Rattle.machine_file.specs.MachineFile.{are_single, is_letter, is_mappable, is_single}
 use Rattle.ioc.specs.LineNames.{line_named}
 use Rattle.machine_file.specs.MachineFile.{set_flags, union}
@@ -30,7 +31,7 @@ IsWord d n = IsNumber (2 ^ 32 - 1) d n
 
 -- an address of the program
 abbrev pub IsAddress : Data → ℕ → Type 0
-IsAddress d n = IsSomeAnd (as_integer d) (λ z. (z ≡ pos n) × IsInSpace n)
+IsAddress d n = IsSomeAnd (as_integer d) (λ z. (z ≡ pos n) × IsTrue (is_word_address n))
 
 -- the address of a word in RAM or in ROM
 abbrev pub IsWordAddress : Data → ℕ → Type 0

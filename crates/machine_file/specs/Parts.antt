@@ -5,7 +5,7 @@ use Rattle.std.specs.Map.{keys_of}
 use Rattle.loader.specs.Image.{may_hold}
 use Rattle.memc.specs.Memory.{shift_of_size}
 use Rattle.toml_reading.specs.Documents.{are_distinct}
-use Rattle.toml_reading.specs.Lowest.{IsInSpace}
+use Rattle.bus_ticks.specs.Prices.{is_word_address}
 use Rattle.machine_file.specs.MachineFile.{Read, are_single, is_mappable}
 use Rattle.machine_file.specs.Stated.{Stated}
 use Rattle.machine_file.specs.declared.parts.MachineParts.{MachineParts}
@@ -35,7 +35,7 @@ stated_by p =
 
 -- each number is one that its key takes, and MEMC can map each page
 pub record IsInRange (s : Stated) : Type 0 where
-  pub pc : IsInSpace s.processor.pc
+  pub pc : IsTrue (is_word_address s.processor.pc)
   pub low_rom : s.controller.low_rom ≤ 3
   pub high_rom : s.controller.high_rom ≤ 3
   pub mappable : list_all (is_mappable (shift_of_size s.controller.size)) s.controller.pages ≡ true

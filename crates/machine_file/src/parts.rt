@@ -1,6 +1,6 @@
 ghost use Rattle.std.specs.Prelude.{◌≡◌, ◌≢◌, ◌≤◌, ◌↔◌, All, Err, IfOk, IsTrue};
 ghost use Rattle.loader.specs.Image.{may_hold};
-ghost use Rattle.toml_reading.specs.Lowest.{IsInSpace};
+ghost use Rattle.bus_ticks.specs.Prices.{is_word_address};
 ghost use Rattle.machine_file.specs.Parts.{IsBuilt, IsInRange, StandsOnce, stated_by};
 
 use crate::events::{MOST_STEPS, Schedule};
@@ -8,10 +8,11 @@ use crate::flags::PsrFlags;
 use crate::machine_faults::MachineFileFault;
 use crate::machine_files::MachineFile;
 use crate::pages::{Controller, MappedPage, Pages, RomFields, are_mappable, are_single};
-use crate::processor::{Processor, StartAddress, start_address};
+use crate::processor::{Processor, StartAddress};
 use crate::registers::Bank;
 use crate::words::{PutWords, have_own_addresses};
 use arm2_effect::Mode;
+use bus_ticks::is_word_address;
 use indexmap::IndexMap;
 use loader::may_hold;
 use memc::PageSize;
@@ -61,12 +62,6 @@ pub struct MachineParts {
     pub words: Vec<(u32, u32)>,
 }
 
-fn is_start(address: u32) -> bool
-    ensures { IsTrue result ↔ IsInSpace address }
-{
-    start_address(i64::from(address)).is_ok()
-}
-
 fn are_held(words: &[(u32, u32)]) -> bool
     ensures { IsTrue result ↔ All (λ w. IsTrue (may_hold w.0)) words.now }
 {
@@ -76,7 +71,7 @@ fn are_held(words: &[(u32, u32)]) -> bool
 fn are_in_range(parts: &MachineParts) -> bool
     ensures { IsTrue result ↔ IsInRange (stated_by parts.now) }
 {
-    if !is_start(parts.processor.pc) {
+    if !is_word_address(parts.processor.pc) {
         return false;
     }
     if parts.controller.low_rom > 3 {
@@ -103,7 +98,7 @@ fn stand_once(alloc: Global, parts: &MachineParts) -> Result<bool, AllocError>
 }
 
 fn processor(alloc: Global, parts: ProcessorParts) -> Result<Processor, AllocError>
-    requires { IsInSpace parts.pc }
+    requires { IsTrue (is_word_address parts.pc) }
     ensures { IfOk result (λ p. p
         ≡ record { pc = parts.pc; mode = parts.mode; flags = parts.flags; registers = parts.registers }) }
 {

@@ -21,14 +21,14 @@ pub(crate) struct StartAddress {
 }
 
 impl Model for StartAddress {
-    ghost use Rattle.std.specs.Prelude.{ℕ};
-    ghost use Rattle.toml_reading.specs.Lowest.{IsInSpace};
+    ghost use Rattle.std.specs.Prelude.{ℕ, IsTrue};
+    ghost use Rattle.bus_ticks.specs.Prices.{is_word_address};
 
     ghost Value = { ℕ };
 
     ghost view = { λ a. a.address };
 
-    ghost invariant = { λ a. IsInSpace a.address };
+    ghost invariant = { λ a. IsTrue (is_word_address a.address) };
 
     ghost inverse = { λ n. record { address = n } };
 }
@@ -50,7 +50,7 @@ impl Model for Processor {
     ghost view = { λ p. record { pc = p.pc; mode = p.mode; flags = p.flags; registers = p.registers } };
 }
 
-pub(crate) fn start_address(number: i64) -> Read<StartAddress>
+fn start_address(number: i64) -> Read<StartAddress>
     ensures { result ≡ in_space machine_faults number }
 {
     match in_space(number) {

@@ -4,7 +4,7 @@ ghost use Rattle.std.specs.Map.{keys_of};
 ghost use Rattle.loader.specs.Image.{may_hold};
 ghost use Rattle.memc.specs.Memory.{shift_of_size};
 ghost use Rattle.toml_reading.specs.Documents.{are_distinct};
-ghost use Rattle.toml_reading.specs.Lowest.{IsInSpace};
+ghost use Rattle.bus_ticks.specs.Prices.{is_word_address};
 ghost use Rattle.machine_file.specs.MachineFile.{are_single, is_mappable};
 ghost use Rattle.machine_file.specs.Parts.{AreWords, IsInRange, StandsOnce};
 
@@ -15,8 +15,8 @@ use crate::processor::StartAddress;
 use crate::registers::Bank;
 use crate::words::PutWords;
 
-fn is_in_space(start: &StartAddress)
-    ensures { IsInSpace start.now }
+fn is_word(start: &StartAddress)
+    ensures { IsTrue (is_word_address start.now) }
 {
     let _address = start.address;
 }
@@ -67,7 +67,7 @@ pub(crate) fn keeps_rules(file: &MachineFile)
     ensures once { StandsOnce file.now }
     ensures words { AreWords file.now }
 {
-    is_in_space(&file.processor.pc);
+    is_word(&file.processor.pc);
     is_bank(&file.processor.registers);
     are_fields(&file.controller.rom);
     are_pages(&file.controller.pages);

@@ -1,9 +1,10 @@
 -- What is read of addresses and words, against what they state and their faults.
-use Rattle.std.proofs.Common.{◌≡◌, ℕ, ◌∙◌, List, Option, Some, None, MatchOption, refl, sym, ap, subst, le_of_eq}
+use Rattle.std.proofs.Common.{◌≡◌, ℕ, ◌∙◌, List, Option, Some, None, MatchOption, refl, sym, ap, subst, le_of_eq, IsTrue}
 use Rattle.std.proofs.lemmas.Option.{none-some, same_Some}
 use Rattle.toml.specs.Data.{Data, Members, string, integer, get_member}
 use Rattle.toml_reading.specs.Documents.{name_at}
-use Rattle.toml_reading.specs.Lowest.{AtKey, IsInSpace, IsNamed, NameFault}
+use Rattle.bus_ticks.specs.Prices.{is_word_address}
+use Rattle.toml_reading.specs.Lowest.{AtKey, IsNamed, NameFault}
 use Rattle.toml_reading.specs.Readings.{required}
 use Rattle.toml_reading.proofs.AddressLemmas.{integer_judged, natural_judged}
 use Rattle.toml_reading.proofs.Following.{refusal_judged}
@@ -21,8 +22,8 @@ label_judged :
     (o : Option ℕ)
     → Judges
     statement_faults
-    (λ a. (o ≡ Some a) × IsInSpace a)
-    (λ f. MatchOption o (f ≡ UnknownLabel) (λ a. (¬ IsInSpace a) × (f ≡ OutOfRange)))
+    (λ a. (o ≡ Some a) × IsTrue (is_word_address a))
+    (λ f. MatchOption o (f ≡ UnknownLabel) (λ a. (¬ IsTrue (is_word_address a)) × (f ≡ OutOfRange)))
     (labelled o)
 label_judged None =
     record
@@ -30,13 +31,13 @@ label_judged None =
 label_judged (Some n) =
     judged_as
     statement_faults
-    (λ a. IsInSpace n × (a ≡ n))
-    (λ a. (Some n ≡ Some a) × IsInSpace a)
-    (λ f. (¬ IsInSpace n) × (f ≡ OutOfRange))
-    (λ f. (¬ IsInSpace n) × (f ≡ OutOfRange))
+    (λ a. IsTrue (is_word_address n) × (a ≡ n))
+    (λ a. (Some n ≡ Some a) × IsTrue (is_word_address a))
+    (λ f. (¬ IsTrue (is_word_address n)) × (f ≡ OutOfRange))
+    (λ f. (¬ IsTrue (is_word_address n)) × (f ≡ OutOfRange))
     (λ a. (
-      λ s. (ap (λ (m : ℕ). Some m) (sym s.1), subst IsInSpace (sym s.1) s.0),
-      λ s. (subst IsInSpace (sym (same_Some n a s.0)) s.1, sym (same_Some n a s.0)),
+      λ s. (ap (λ (m : ℕ). Some m) (sym s.1), subst (λ m. IsTrue (is_word_address m)) (sym s.1) s.0),
+      λ s. (subst (λ m. IsTrue (is_word_address m)) (sym (same_Some n a s.0)) s.1, sym (same_Some n a s.0)),
     ))
     (λ f. (λ h. h, λ h. h))
     (labelled (Some n))

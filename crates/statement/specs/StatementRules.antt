@@ -1,5 +1,5 @@
 -- What a document states of a handler and which faults it has, key by key (over the documents of TOML).
-use Rattle.std.specs.Prelude.{◌≡◌, ◌≢◌, ◌≤◌, ◌⊎◌, ℕ, pos, true, List, [], codes, Option, Some}
+use Rattle.std.specs.Prelude.{◌≡◌, ◌≢◌, ◌≤◌, ◌⊎◌, ℕ, pos, true, List, [], codes, Option, Some, IsTrue}
 use Rattle.std.specs.Prelude.{None, IsSomeAnd, MatchOption}
 use Rattle.std.specs.Map.{keys_of}
 use Rattle.toml.specs.Data.{Data, Members, integer, string, get_member, as_table}
@@ -7,7 +7,8 @@ use Rattle.bus_ticks.specs.declared.profile.Class.{Class}
 use Rattle.bus_ticks.specs.declared.profile.Class.TheVariants.{Any}
 use Rattle.toml_reading.specs.Documents.{are_distinct, has_only_keys, items_at}
 use Rattle.toml_reading.specs.Lists.{IsListUpTo, ListUpToFault, StandsTwice}
-use Rattle.toml_reading.specs.Lowest.{AtKey, AtKeyOr, IsInSpace, IsNamed, IsNoAddress, IsNumber, IsTable}
+use Rattle.bus_ticks.specs.Prices.{is_word_address}
+use Rattle.toml_reading.specs.Lowest.{AtKey, AtKeyOr, IsNamed, IsNoAddress, IsNumber, IsTable}
 use Rattle.toml_reading.specs.Lowest.{KeysFault, NameFault, NumberFault, TableFault}
 use Rattle.statement.specs.Stated.{Stated, Target}
 use Rattle.loader.specs.Labels.{Names}
@@ -25,15 +26,15 @@ use Rattle.statement.specs.declared.stated.TargetKind.TheVariants.{Jump, Call, R
 
 -- an integer is an address itself, and a text names a label at one
 abbrev pub IsAddress : Names → Data → ℕ → Type 0
-IsAddress names (integer z) a = (z ≡ pos a) × IsInSpace a
-IsAddress names (string name) a = (names name ≡ Some a) × IsInSpace a
+IsAddress names (integer z) a = (z ≡ pos a) × IsTrue (is_word_address a)
+IsAddress names (string name) a = (names name ≡ Some a) × IsTrue (is_word_address a)
 IsAddress names _ a = ⊥
 
 -- an integer or a label's address out of range, a text that names no label, or another type
 abbrev pub AddressFault : Names → Data → StatementFault → Type 0
 AddressFault names (integer z) fault = IsNoAddress z × (fault ≡ OutOfRange)
 AddressFault names (string name) fault =
-    MatchOption (names name) (fault ≡ UnknownLabel) (λ a. (¬ IsInSpace a) × (fault ≡ OutOfRange))
+    MatchOption (names name) (fault ≡ UnknownLabel) (λ a. (¬ IsTrue (is_word_address a)) × (fault ≡ OutOfRange))
 AddressFault names _ fault = fault ≡ WrongKind
 
 -- the fault of a key that must be there: it is missing, or its value has the fault

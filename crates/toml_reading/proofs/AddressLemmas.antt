@@ -1,39 +1,29 @@
 -- What is read of addresses, against what they state and their faults.
-use Rattle.std.proofs.Common.{◌≡◌, ℕ, ◌%◌, ◌^◌, ◌↔◌, ℤ, pos, negsuc, Bool, true, if◌then◌else◌, Ok, Err, ◌&&◌, eqb, ltb, refl, sym, ap, subst, le_of_eq}
-use Rattle.std.specs.Cmp.Derive.{both_true}
-use Rattle.std.proofs.lemmas.Bool.{and_parts, eq-eqb, eqb-true, lt-ltb, ltb-true}
+use Rattle.std.proofs.Common.{◌≡◌, ℕ, ◌↔◌, ℤ, pos, negsuc, Bool, true, if◌then◌else◌, Ok, Err, refl, sym, ap, subst, le_of_eq, IsTrue}
 use Rattle.toml_reading.specs.Documents.{in_space}
-use Rattle.toml_reading.specs.Lowest.{IsInSpace, IsNoAddress}
+use Rattle.bus_ticks.specs.Prices.{is_word_address}
+use Rattle.toml_reading.specs.Lowest.{IsNoAddress}
 use Rattle.toml_reading.specs.Readings.{Faults, Reading}
 use Rattle.toml_reading.proofs.Following.{test_judged}
 use Rattle.toml_reading.proofs.LowestLemmas.{Judges, judged_as}
 use Rattle.toml_reading.proofs.LowestParts.{not_whole, whole_same}
-
-abbrev is_word_address : ℕ → Bool
-is_word_address n = eqb (n % 4) 0 && ltb n (2 ^ 26)
-
-is_in_space : (n : ℕ) → is_word_address n ≡ true ↔ IsInSpace n
-is_in_space n = (
-  λ e. let parts = and_parts (eqb (n % 4) 0) (ltb n (2 ^ 26)) e in (eqb-true (n % 4) 0 parts.0, ltb-true n (2 ^ 26) parts.1),
-  λ h. both_true (eq-eqb (n % 4) 0 h.0) (lt-ltb n (2 ^ 26) h.1),
-)
 
 module _ {F : Type 0} (fs : Faults F) where
   pub natural_judged :
       (n : ℕ)
       → Judges
       fs
-      (λ a. IsInSpace n × (a ≡ n))
-      (λ f. (¬ IsInSpace n) × (f ≡ fs.out_of_range))
+      (λ a. IsTrue (is_word_address n) × (a ≡ n))
+      (λ f. (¬ IsTrue (is_word_address n)) × (f ≡ fs.out_of_range))
       (in_space fs (pos n))
   natural_judged n =
       test_judged
       fs
-      (IsInSpace n)
+      (IsTrue (is_word_address n))
       n
       fs.out_of_range
       (is_word_address n)
-      (is_in_space n)
+      (λ h. h, λ h. h)
 
   -- a number that is read where a test of it holds, and is out of range else
   module _
@@ -75,7 +65,7 @@ module _ {F : Type 0} (fs : Faults F) where
       (z : ℤ)
       → Judges
       fs
-      (λ a. (z ≡ pos a) × IsInSpace a)
+      (λ a. (z ≡ pos a) × IsTrue (is_word_address a))
       (λ f. IsNoAddress z × (f ≡ fs.out_of_range))
       (in_space fs z)
-  integer_judged = tested_judged IsInSpace is_word_address is_in_space (in_space fs) (λ n. refl) (λ n. refl)
+  integer_judged = tested_judged (λ n. IsTrue (is_word_address n)) is_word_address (λ n. (λ h. h, λ h. h)) (in_space fs) (λ n. refl) (λ n. refl)

@@ -1,13 +1,14 @@
 -- What is read of the documents of TOML: the keys of tables, lists, numbers and whole texts.
-use Rattle.std.specs.Prelude.{◌≡◌, ◌&&◌, ◌==◌, ◌%◌, ◌^◌, ◌⊎◌, not, ℕ, ℤ, pos, negsuc, Bool, true, List, []}
+use Rattle.std.specs.Prelude.{◌≡◌, ◌&&◌, ◌⊎◌, not, ℕ, ℤ, pos, negsuc, Bool, true, List, []}
 use Rattle.std.specs.Prelude.{◌∷◌, map, length, option_map, Option, Some, None, Ok, Err, nat_eq, nat_le}
-use Rattle.std.specs.Prelude.{nat_lt, if◌then◌else◌}
+use Rattle.std.specs.Prelude.{if◌then◌else◌}
 use Rattle.std.specs.List.{list_any}
 use Rattle.std.specs.Option.{option_and_then}
 use Rattle.std.specs.Str.{IsUtf8, bytes_eq}
 use Rattle.toml.specs.Data.{Data, Items, Members, no_items, item, no_members, member, get_member, as_array}
 use Rattle.toml.specs.Data.{as_integer, as_str}
 use Rattle.toml.specs.Parse.{parse_document}
+use Rattle.bus_ticks.specs.Prices.{is_word_address}
 use Rattle.toml_reading.specs.Readings.{Faults, Reading, all, checked, optional, required, up_to}
 
 -- ## Keys
@@ -47,7 +48,7 @@ name_at faults named d = required faults (option_and_then named (as_str d)) (λ 
 
 -- the address of a word
 abbrev pub in_space : {F : Type 0} → Faults F → ℤ → Reading F ℕ
-in_space faults (pos n) = if n % 4 == 0 && nat_lt n (2 ^ 26) then Ok n else Err faults.out_of_range
+in_space faults (pos n) = if is_word_address n then Ok n else Err faults.out_of_range
 in_space faults (negsuc n) = Err faults.out_of_range
 
 -- ## Lists

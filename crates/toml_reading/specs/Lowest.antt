@@ -1,11 +1,12 @@
 -- What a document of TOML states and which faults it has, by its keys, numbers, lists and tables; the
 -- lowest fault is the one that is answered.
-use Rattle.std.specs.Prelude.{◌≡◌, ◌≤◌, ◌<◌, ◌%◌, ◌^◌, ◌⊎◌, ℕ, ℤ, pos, negsuc, true, false, List, []}
+use Rattle.std.specs.Prelude.{◌≡◌, ◌≤◌, ◌<◌, ◌⊎◌, ℕ, ℤ, pos, negsuc, true, false, List, [], IsTrue}
 use Rattle.std.specs.Prelude.{Any, filter_map}
 use Rattle.std.specs.Prelude.{Option, Some, None, IsSomeAnd, MatchOption, unwrap_or}
 use Rattle.std.specs.List.{AllZip}
 use Rattle.std.specs.Option.{option_and_then}
 use Rattle.toml.specs.Data.{Data, Members, as_integer, as_str, as_table, get_member}
+use Rattle.bus_ticks.specs.Prices.{is_word_address}
 use Rattle.toml_reading.specs.Documents.{has_only_keys, items_at}
 use Rattle.toml_reading.specs.Readings.{Faults}
 
@@ -73,12 +74,9 @@ NameFault faults named d fault = NamesNothing named d × (fault ≡ faults.wrong
 
 -- ## Addresses
 
--- the address of a word: a multiple of 4 from 0 to 3FFFFFC
-abbrev pub IsInSpace : ℕ → Type 0
-IsInSpace a = (a % 4 ≡ 0) × (a < 2 ^ 26)
-
+-- no address of a word
 abbrev pub IsNoAddress : ℤ → Type 0
-IsNoAddress z = (a : ℕ) → z ≡ pos a → ¬ IsInSpace a
+IsNoAddress z = (a : ℕ) → z ≡ pos a → ¬ IsTrue (is_word_address a)
 
 -- ## Lists
 

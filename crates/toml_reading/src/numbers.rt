@@ -1,11 +1,12 @@
-ghost use Rattle.std.specs.Prelude.{◌≡◌, ◌≤◌, IfOk};
+ghost use Rattle.std.specs.Prelude.{◌≡◌, ◌≤◌, IfOk, IsTrue};
 ghost use Rattle.toml.specs.View.{table_view, view};
 ghost use Rattle.toml_reading.specs.Documents.{in_space, number_at, number_in, number_or};
-ghost use Rattle.toml_reading.specs.Lowest.{IsInSpace};
+ghost use Rattle.bus_ticks.specs.Prices.{is_word_address};
 ghost use Rattle.toml_reading.specs.Readings.{up_to};
 
 use crate::keys::value_at;
 use crate::readings::{Fault, Reading};
+use bus_ticks::is_word_address;
 use toml::{Table, Value};
 
 /// The number, where it is from 0 to the limit.
@@ -62,11 +63,11 @@ pub fn optional_number<F: Fault>(
 /// The address of a word, where the number is one.
 pub fn in_space<F: Fault>(number: i64) -> Reading<u32, F>
     ensures value { result ≡ in_space F.faults number }
-    ensures range { IfOk result IsInSpace }
+    ensures range { IfOk result (λ n. IsTrue (is_word_address n)) }
 {
     match u32::try_from(number) {
         Ok(n) => {
-            if n % 4 == 0 && n < 1 << 26 {
+            if is_word_address(n) {
                 Ok(n)
             } else {
                 Err(F::out_of_range())

@@ -2,7 +2,7 @@ use Rattle.std.proofs.Common.{rules, ◌≡◌, ℕ, List, sym, subst, arith, tr
 use Rattle.std.specs.List.{list_all}
 use Rattle.loader.specs.Image.{may_hold}
 use Rattle.memc.specs.Memory.{shift_of_size}
-use Rattle.toml_reading.specs.Lowest.{IsInSpace}
+use Rattle.bus_ticks.specs.Prices.{is_word_address}
 use Rattle.machine_file.specs.MachineFile.{is_mappable}
 use Rattle.machine_file.proofs.parts.are_in_range.Goals as goal
 
@@ -11,7 +11,7 @@ AreHeld words = All (λ w. IsTrue (may_hold w.0)) words
 
 pub returns : goal.returns
 returns c =
-    let pc : IsInSpace c.args.parts.now.processor.pc = search rules in
+    let pc : IsTrue (is_word_address c.args.parts.now.processor.pc) = search rules in
     let mappable : list_all (is_mappable (shift_of_size c.args.parts.now.controller.size)) c.args.parts.now.controller.pages.items ≡ true = search rules in (
       λ h. record {
         pc = pc;
