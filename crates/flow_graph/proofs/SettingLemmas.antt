@@ -71,7 +71,7 @@ module _ (aim : Aim) (load : Bool) (words : ℕ) (some : 1 ≤ words) (few : wor
         spots = λ i. spot.Ram ((word_address lowest i - 0x2000000) / 4 * 4);
         located_at = λ m shift i h. located_physical m (word_address lowest i) (not load) shift (omega (arith, at i h)) (omega (arith, at i h, h, few, spare, below));
         sources = λ l i h. rw class tt;
-        data_at = λ l i h. rw class (omega (arith, at i h), inl (omega (arith, at i h), omega (arith, at i h, h, few, below)));
+        data_at = λ l i h. rw class (omega (arith, at i h), inl (omega (arith, at i h, h, few, below)));
       }
 
   pub starts_at_device : (lowest : ℕ) (class : Class) → aim.class ≡ class → (class ≡ Io) ⊎ (class ≡ Any) → lowest % 4 ≡ 0 → 0x3000000 ≤ lowest → lowest + 64 ≤ 0x3200000 → Dearest class lowest → MayStart aim load words lowest

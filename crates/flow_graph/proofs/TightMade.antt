@@ -13,10 +13,9 @@ use Rattle.bus_ticks.specs.Prices.{rom_price}
 use Rattle.loader.specs.Image.{Words, is_past_ram, may_hold, word_of}
 use Rattle.loader.specs.Inside.{AreWhole}
 use Rattle.loader.specs.Loading.{GivesWord, lacks_page, loaded, put_words, spot_of}
-use Rattle.loader.specs.PagePlan.{IsPagePlan}
+use Rattle.loader.specs.PagePlan.{IsPagePlan, page_of, physical_page}
 use Rattle.loader.specs.Planned.{AreOf, IsBeside, IsFitted, IsMapped}
 use Rattle.loader.specs.declared.plan.PlacedPage.{PlacedPage}
-use Rattle.loader.proofs.FittedLemmas.{fitted}
 use Rattle.loader.proofs.MemoryLemmas.{same_spot}
 use Rattle.loader.proofs.PlaceLemmas.{may_within}
 use Rattle.loader.proofs.PlannedLemmas.{InRam, InRom, beside_given, found, gives_at, image_fits, image_given, image_stays, mapped_stays, parts}
@@ -96,10 +95,10 @@ svc_of psr a whole = ap mode_named (let e : (psr * 2 ^ 26 + a + 3) % 4 ≡ 3 = o
 apart_of : (words : Words) (pages : List PlacedPage) (spare a at : ℕ) → IsPagePlan words pages spare → IsSome (word_of words a) → IsData spare a at → IsBeside spare at × (at ≡ a → ⊥)
 apart_of words pages spare a at plan some has = by_place has.1
   where
-    by_place : ((0x2000000 + spare * 0x8000 ≤ at) × (at < 0x2000000 + spare * 0x8000 + 0x8000)) ⊎ ((0x3400000 ≤ at) × (at < 2 ^ 26) × (at ≡ a → ⊥)) → IsBeside spare at × (at ≡ a → ⊥)
+    by_place : (page_of at ≡ physical_page spare) ⊎ ((0x3400000 ≤ at) × (at < 2 ^ 26) × (at ≡ a → ⊥)) → IsBeside spare at × (at ≡ a → ⊥)
     by_place (inl ram) = (
-      (has.0, inl (at - (0x2000000 + spare * 0x8000), omega (arith, ram.0, ram.1), omega (arith, ram.0))),
-      λ e. plan.spare_free.unnamed (a, some, omega (arith, e, ram.0, ram.1)),
+      (has.0, inl ram),
+      λ e. plan.spare_free.unnamed (a, some, ap page_of (sym e) ∙ ram),
     )
     by_place (inr rom) = ((has.0, inr (rom.0, omega (arith, rom.1))), rom.2)
 
@@ -119,7 +118,7 @@ module _ (words : Words) (st : Stated) (profile : Profile) (e : Edge) (spare : �
   place = parts words stand.address whole some_word
 
   fits : IsFitted stand.address
-  fits = fitted stand.address (subst (λ n. is_past_ram n ≡ false) (ap place_address (sym free.from ∙ h.from)) free.not_past_ram)
+  fits = subst (λ n. is_past_ram n ≡ false) (ap place_address (sym free.from ∙ h.from)) free.not_past_ram
 
   besides : All (λ x. IsBeside spare x.0 × (x.0 ≡ stand.address → ⊥)) (option_to_list stand.setting.word)
   besides = by_word stand.setting.word h.setting.word_apart
@@ -291,7 +290,7 @@ in_range words st profile e spare pages stand rom h whole plan =
   where
     may_be : (a : ℕ) → IsData spare stand.address a → spare < 128 → IsTrue (may_hold a)
     may_be a has below = elim has.1 [
-      | inl ram ↦ may_within 0 0x3000000 a refl has.0 (omega arith) (omega (arith, ram.1, below))
+      | inl ram ↦ may_within 0 0x3000000 a refl has.0 (omega arith) (omega (arith, ram, below))
       | inr rom_at ↦ may_within 0x3400000 0x4000000 a refl has.0 rom_at.0 (omega (arith, rom_at.1, has.0))
     ]
 
@@ -318,7 +317,7 @@ same_pair words from x h calls address word at has =
     subst (Contains (x ∷ [])) (ap (λ a. (a, x.1)) here_at ∙ ap (λ w. (address, w)) same) (here x [])
 
 free_fits : (words : Words) (e : Edge) (x : ℕ × ℕ) → IsPlaceWord words e.from x → IsFree words e → IsFitted x.0
-free_fits words e x h free = fitted x.0 (subst (λ n. is_past_ram n ≡ false) (ap place_address (sym free.from ∙ h.is)) free.not_past_ram)
+free_fits words e x h free = subst (λ n. is_past_ram n ≡ false) (ap place_address (sym free.from ∙ h.is)) free.not_past_ram
 
 pub can_place : (words : Words) (st : Stated) (profile : Profile) (e : Edge) (f : _) (x : ℕ × ℕ) → IsTightFile words st profile e f → IsPlaceWord words e.from x → IsFree words e → CanPlace profile f x
 can_place words st profile e f x file h free = record {

@@ -1,8 +1,8 @@
 -- How a machine is set for one word, besides where it is: what the clauses of private functions cite. Our
 -- own choice, among the addresses that cost the most (bus_ticks, Dearest).
-use Rattle.std.specs.Prelude.{◌≡◌, ◌≢◌, ◌<◌, ◌≤◌, ◌+◌, ◌*◌, ◌%◌, ◌⊎◌, ℕ, Bool, true, false, not}
+use Rattle.std.specs.Prelude.{◌≡◌, ◌≢◌, ◌<◌, ◌≤◌, ◌*◌, ◌%◌, ◌⊎◌, ℕ, Bool, true, false, not}
 use Rattle.std.specs.Prelude.{Some, None, Ok, IfSome, if◌then◌else◌}
-use Rattle.bus_ticks.specs.declared.space.TheConstants.{PHYSICAL_START, ROM_START, SPACE_END}
+use Rattle.bus_ticks.specs.declared.space.TheConstants.{ROM_START, SPACE_END}
 use Rattle.bus_ticks.specs.declared.profile.Class.{Class}
 use Rattle.bus_ticks.specs.declared.profile.Class.TheVariants.{Any, Ram, Rom, Io}
 use Rattle.bus_ticks.specs.declared.profile.Profile.{Profile}
@@ -26,6 +26,7 @@ use Rattle.arm2_effect.specs.Operands.{shifted_of}
 use Rattle.arm2_effect.specs.ProgramCounter.{mode_of}
 use Rattle.arm2_exec.specs.State.{State}
 use Rattle.arm2_exec.specs.declared.machine.Input.{Input}
+use Rattle.loader.specs.PagePlan.{page_of, physical_page}
 use Rattle.flow_graph.specs.TightWork.{IsDearestTarget, IsSetFor}
 use Rattle.flow_graph.specs.declared.places.Place.{Place}
 use Rattle.flow_graph.specs.declared.setting.Aim.{Aim}
@@ -57,8 +58,7 @@ IsSource Any place = IsPort place
 abbrev pub IsData : (spare address : ℕ) → ℕ → Type 0
 IsData spare address at =
     (at % 4 ≡ 0)
-    × (((PHYSICAL_START + spare * 0x8000 ≤ at) × (at < PHYSICAL_START + spare * 0x8000 + 0x8000))
-    ⊎ ((ROM_START ≤ at) × (at < SPACE_END) × (at ≢ address)))
+    × ((page_of at ≡ physical_page spare) ⊎ ((ROM_START ≤ at) × (at < SPACE_END) × (at ≢ address)))
 
 -- of a class in memory, such an address
 abbrev pub IsDataOf : Class → (spare address : ℕ) → ℕ → Type 0

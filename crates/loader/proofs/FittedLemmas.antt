@@ -1,5 +1,5 @@
 -- The words of an image as a list, and where they have memory.
-use Rattle.std.proofs.Common.{◌≡◌, ◌≢◌, ◌↔◌, ℕ, ◌<◌, ◌∙◌, true, false, [], ◌∷◌, map, Some, inl, inr, refl, sym, arith}
+use Rattle.std.proofs.Common.{◌≡◌, ◌≢◌, ◌↔◌, ℕ, ◌<◌, ◌≤◌, ◌⊎◌, ◌∙◌, true, false, [], ◌∷◌, map, Some, inl, inr, refl, sym, arith}
 use Rattle.std.specs.Prelude.{All, not}
 use Rattle.std.specs.List.{AllByRecursion, list_all}
 use Rattle.std.proofs.lemmas.Bool.{and_parts, cases_lt, eq-eqb, le-leb, lt-ltb, ne_eqb, not-true}
@@ -10,8 +10,8 @@ use Rattle.loader.specs.Inside.{Ascends}
 use Rattle.loader.specs.Planned.{AreOf, IsFitted}
 
 -- below where no RAM is fitted, or past it
-pub fitted : (a : ℕ) → is_past_ram a ≡ false → IsFitted a
-fitted a h = elim (cases_lt a 0x2400000) [
+pub before_or_past : (a : ℕ) → IsFitted a → (a < 0x2400000) ⊎ (0x3000000 ≤ a)
+before_or_past a h = elim (cases_lt a 0x2400000) [
   | inl below ↦ inl below
   | inr past ↦ elim (cases_lt a 0x3000000) [
     | inl io ↦ absurd (both_true (sym (rw (le-leb 0x2400000 a past, lt-ltb a 0x3000000 io) refl) ∙ h))
@@ -22,25 +22,22 @@ fitted a h = elim (cases_lt a 0x2400000) [
     both_true : true ≡ false → ⊥
     both_true e = cc
 
-pub not_past : (a : ℕ) → IsFitted a → is_past_ram a ≡ false
+pub not_past : (a : ℕ) → (a < 0x2400000) ⊎ (0x3000000 ≤ a) → IsFitted a
 not_past a (inl below) = grind (arith, nat_tests)
 not_past a (inr high) = grind (arith, nat_tests)
 
 abbrev Within : Words → Type 0
 Within words = list_all (λ a. not (is_past_ram a)) (map (λ e. e.0) words) ≡ true
 
-is_within : (a : ℕ) → not (is_past_ram a) ≡ true → is_past_ram a ≡ false
-is_within a h = not-true (is_past_ram a) h
-
 each_fitted : (words : Words) → Within words → AllByRecursion (λ e. IsFitted e.0) words
 each_fitted [] h = tt
 each_fitted (e ∷ rest) h =
     let parts = and_parts (not (is_past_ram e.0)) (list_all (λ a. not (is_past_ram a)) (map (λ f. f.0) rest)) h in
-    (fitted e.0 (is_within e.0 parts.0), each_fitted rest parts.1)
+    (not-true (is_past_ram e.0) parts.0, each_fitted rest parts.1)
 
 none_past : (words : Words) → AllByRecursion (λ e. IsFitted e.0) words → Within words
 none_past [] h = refl
-none_past (e ∷ rest) h = rw (not_past e.0 h.0, none_past rest h.1) refl
+none_past (e ∷ rest) h = rw (h.0, none_past rest h.1) refl
 
 pub all_fitted : (words : Words) → Within words ↔ All (λ e. IsFitted e.0) words
 all_fitted words = (

@@ -9,10 +9,11 @@ use Rattle.std.proofs.lemmas.Option.{same_Some}
 use Rattle.loader.specs.Image.{Words, word_of}
 use Rattle.loader.specs.Inside.{AreWhole}
 use Rattle.loader.specs.Loading.{GivesWord, lacks_page, loaded, spot_of}
-use Rattle.loader.specs.PagePlan.{IsFree, IsPagePlan}
+use Rattle.loader.specs.PagePlan.{IsFree, IsPagePlan, page_of, physical_page}
 use Rattle.loader.specs.Planned.{AreOf, IsBeside, IsFitted, IsMapped}
 use Rattle.loader.specs.declared.plan.PlacedPage.{PlacedPage}
 use Rattle.loader.proofs.MemoryLemmas.{AreSame, last_kept, last_there, ram_entries, ram_gives, ram_number, rom_entries, rom_gives, rom_number, same_whole}
+use Rattle.loader.proofs.FittedLemmas.{before_or_past, not_past}
 use Rattle.loader.proofs.PlaceLemmas.{may_parts}
 use Rattle.loader.proofs.WordLemmas.{held}
 use Rattle.memc.specs.Memory.{Memory, last_word, on_page, physical_at, rom_word, word_at}
@@ -187,20 +188,20 @@ same_place image pages spare m h a b k sa sb (inr x) (inr y) =
     omega (arith, a4, b4, ka, kb, ha, hb)
 
 -- none of them lies on the spare page
-off_spare : (image : Words) (pages : List PlacedPage) (spare : ℕ) (m : Memory) → IsPlanned image pages spare m → (a b k offset : ℕ) → IsSome (word_of image a) → Where m a k → IsHigh b k
-    → offset < 2 ^ 15 → b ≡ 0x2000000 + 2 ^ 15 * spare + offset → ⊥
-off_spare image pages spare m h a b k offset sa (inl x) y lt is =
+off_spare : (image : Words) (pages : List PlacedPage) (spare : ℕ) (m : Memory) → IsPlanned image pages spare m → (a b k : ℕ) → IsSome (word_of image a) → Where m a k → IsHigh b k
+    → page_of b ≡ physical_page spare → ⊥
+off_spare image pages spare m h a b k sa (inl x) y is =
     let p = on_plan image pages spare m h a sa x.low in
     let same : x.entry.physical ≡ p.physical = planned_physical image pages spare m h a k sa x in
     let low = x.is in
     let up = y.is in
-    p.apart (omega (arith, same, low, up, lt, is))
-off_spare image pages spare m h a b k offset sa (inr x) y lt is =
+    p.apart (omega (arith, same, low, up, is))
+off_spare image pages spare m h a b k sa (inr x) y is =
     let ka = x.is in
     let kb = y.is in
     let ha = x.high in
     let a4 = (parts image a h.whole sa).0 in
-    h.plan.spare_free.unnamed (a, sa, omega (arith, ka, kb, ha, a4, lt, is))
+    h.plan.spare_free.unnamed (a, sa, omega (arith, ka, kb, ha, a4, is))
 
 -- ## One word
 
@@ -281,7 +282,7 @@ in_high m a size high below = record {
 pub found : (image : Words) (pages : List PlacedPage) (spare : ℕ) (m : Memory) (a : ℕ) → IsPlanned image pages spare m → IsSome (word_of image a) → IsFitted a → InRam m a ⊎ InRom m a
 found image pages spare m a h some fits = elim (cases_lt a 0x2000000) [
   | inl low ↦ inl (in_low image pages spare m a h some low)
-  | inr high ↦ elim fits [
+  | inr high ↦ elim (before_or_past a fits) [
     | inl below ↦ inl (in_high m a h.mapped.size high below)
     | inr past ↦
         let all = parts image a h.whole some in
@@ -314,18 +315,18 @@ gives_at m a w spot g at = subst (λ (s : Spot). word_at m s ≡ w) (same_ok g.s
 
 -- an address that yields a word leads somewhere
 given_fits : (m : Memory) (a w : ℕ) → m.shift ≡ 15 → GivesWord m a w → IsFitted a
-given_fits m a w size g = elim (cases_lt a 0x2400000) [
+given_fits m a w size g = not_past a (elim (cases_lt a 0x2400000) [
   | inl below ↦ inl below
   | inr past ↦ elim (cases_lt a 0x3000000) [ inl io ↦ absurd (no_ok g.spot NoPage (sym (spot_unfitted m a size past io) ∙ g.leads)) | inr high ↦ inr high ]
-]
+])
 
 -- a word of RAM beside the image is on the spare page
-beside_high : (m : Memory) (spare b k : ℕ) → IsBeside spare b → Where m b k → IsHigh b k × ((offset : ℕ) × (offset < 2 ^ 15) × (b ≡ 0x2000000 + 2 ^ 15 * spare + offset))
+beside_high : (m : Memory) (spare b k : ℕ) → IsBeside spare b → Where m b k → IsHigh b k × (page_of b ≡ physical_page spare)
 beside_high m spare b k beside at = high_by beside.1 at
   where
-    high_by : ((offset : ℕ) × (offset < 2 ^ 15) × (b ≡ 0x2000000 + 2 ^ 15 * spare + offset)) ⊎ ((0x3400000 ≤ b) × (b < 0x4000000)) → Where m b k
-        → IsHigh b k × ((offset : ℕ) × (offset < 2 ^ 15) × (b ≡ 0x2000000 + 2 ^ 15 * spare + offset))
-    high_by (inl s) (inl x) = (let is = s.2 in let low = x.low in absurd (omega (arith, is, low)))
+    high_by : (page_of b ≡ physical_page spare) ⊎ ((0x3400000 ≤ b) × (b < 0x4000000)) → Where m b k
+        → IsHigh b k × (page_of b ≡ physical_page spare)
+    high_by (inl s) (inl x) = (let low = x.low in absurd (omega (arith, s, low)))
     high_by (inl s) (inr y) = (y, s)
     high_by (inr r) (inl x) = (let rom = r.0 in let low = x.low in absurd (omega (arith, rom, low)))
     high_by (inr r) (inr y) = (let rom = r.0 in let below = y.below in absurd (omega (arith, rom, below)))
@@ -335,7 +336,7 @@ apart_ram : (image beside : Words) (pages : List PlacedPage) (spare : ℕ) (m : 
 apart_ram image beside pages spare m a w k h some here all = recursion_from_All (λ (e : ℕ × ℕ). ram_of m e.0 ≡ Some k → e.1 ≡ w) beside (λ i d lt at.
     let e = get_or beside i d in
     let p = beside_high m spare e.0 k (all i d lt).0 (ram_where m e.0 k h.mapped.size at) in
-    absurd (off_spare image pages spare m h a e.0 k p.1.0 some here p.0 p.1.1 p.1.2))
+    absurd (off_spare image pages spare m h a e.0 k some here p.0 p.1))
 
 apart_rom : (beside : Words) (spare : ℕ) (m : Memory) (a w : ℕ) → m.shift ≡ 15 → All (λ e. IsBeside spare e.0 × (e.0 ≢ a)) beside → AreSame (rom_of m) a w beside
 apart_rom beside spare m a w size all = recursion_from_All (λ (e : ℕ × ℕ). rom_of m e.0 ≡ Some a → e.1 ≡ w) beside (λ i d lt at. absurd ((all i d lt).1 (rom_where m (get_or beside i d).0 a size at)))
@@ -375,22 +376,20 @@ beside_given beside pages spare m a w mapped fits all c = given_beside here.1
     here : IsBeside spare a
     here = (All-contains (λ (e : ℕ × ℕ). IsBeside spare e.0 × (e.0 ≡ a → e.1 ≡ w)) beside (a, w) all c).0
 
-    given_beside : ((offset : ℕ) × (offset < 2 ^ 15) × (a ≡ 0x2000000 + 2 ^ 15 * spare + offset)) ⊎ ((0x3400000 ≤ a) × (a < 0x4000000)) → GivesWord (loaded beside m) a w
+    given_beside : (page_of a ≡ physical_page spare) ⊎ ((0x3400000 ≤ a) × (a < 0x4000000)) → GivesWord (loaded beside m) a w
     given_beside (inl s) =
-        let lt = s.1 in
-        let is = s.2 in
-        let high : 0x2000000 ≤ a = omega (arith, is) in
-        let below : a < 0x2400000 = omega (arith, is, lt, fits) in
+        let high : 0x2000000 ≤ a = omega (arith, s) in
+        let below : a < 0x2400000 = omega (arith, s, fits) in
         give_ram beside m a w ((a - 0x2000000) / 4 * 4) mapped.whole (omega (arith, below)) (spot_fitted m a mapped.size high below) (alone_ram beside spare m a w mapped.size here.0 high all) c
     given_beside (inr r) = give_rom beside m a w here.0 (spot_rom m a r.0) (alone_rom beside spare m a w mapped.size all) c
 
 -- ## Which words lead to a place at all
 
 found_fits : (m : Memory) (a : ℕ) → m.shift ≡ 15 → is_err (spot_of m a) ≡ false → IsFitted a
-found_fits m a size e = elim (cases_lt a 0x2400000) [
+found_fits m a size e = not_past a (elim (cases_lt a 0x2400000) [
   | inl below ↦ inl below
   | inr past ↦ elim (cases_lt a 0x3000000) [ inl io ↦ (let refused = ap is_err (spot_unfitted m a size past io) in absurd (cc)) | inr high ↦ inr high ]
-]
+])
 
 all_found : (m : Memory) (words : Words) → m.shift ≡ 15 → lacks_page m words ≡ false → AllByRecursion (λ e. IsFitted e.0) words
 all_found m [] size e = tt

@@ -3,7 +3,7 @@
 use Rattle.std.specs.Prelude.{ℕ, ◌+◌, ◌%◌, Bool, ◌&&◌, ◌||◌, ◌==◌, not, nat_lt, nat_le, if◌then◌else◌, List}
 use Rattle.std.specs.Prelude.{[], ◌∷◌, length, Option, Some, None, is_some}
 use Rattle.bus_ticks.specs.declared.space.TheConstants.{IO_START, ROM_START, SPACE_END}
-use Rattle.loader.specs.declared.places.TheConstants.{MOST_SEGMENTS, MOST_WORDS}
+use Rattle.loader.specs.declared.places.TheConstants.{LARGEST_RAM_END, MOST_SEGMENTS, MOST_WORDS}
 use Rattle.loader.specs.declared.image.ImageFault.{ImageFault}
 use Rattle.loader.specs.declared.image.ImageFault.TheVariants.{OutOfRange, TooLong}
 
@@ -32,7 +32,7 @@ may_hold address = address % 4 == 0 && lies_in_memory address (address + 4)
 
 -- from 2400000 to 2FFFFFF, where no RAM is fitted even with the largest pages, of 32 KB
 abbrev pub is_past_ram : ℕ → Bool
-is_past_ram address = nat_le 0x2400000 address && nat_lt address IO_START
+is_past_ram address = nat_le LARGEST_RAM_END address && nat_lt address IO_START
 
 -- 1 where a word does not follow the word before it, and so begins a run
 abbrev pub begins : Option ℕ → ℕ → ℕ

@@ -4,7 +4,7 @@ use Rattle.std.specs.Prelude.{◌∷◌, ◌++◌, length, None, is_some}
 use Rattle.std.specs.List.{AllByRecursion}
 use Rattle.loader.specs.Image.{Words, may_hold, runs_of, word_of}
 use Rattle.loader.specs.ImageBytes.{numbers, with_words}
-use Rattle.loader.specs.declared.places.TheConstants.{MOST_WORDS}
+use Rattle.loader.specs.declared.places.TheConstants.{MOST_SEGMENTS, MOST_WORDS}
 use Rattle.loader.specs.declared.image.Image.TheInside.{Inside}
 
 -- the words below a place, and those above it
@@ -29,7 +29,7 @@ pub record IsImage (image : Inside) : Type 0 where
   pub may_stand : MayStand (words_in image)
   pub numbers : HasNumbers (words_in image)
   pub counted : image.runs ≡ runs_of (words_in image)
-  pub few_runs : image.runs ≤ 16
+  pub few_runs : image.runs ≤ MOST_SEGMENTS
   pub few_words : length (words_in image) ≤ MOST_WORDS
 
 -- what every image keeps, by its words alone
@@ -37,7 +37,7 @@ pub record AreWhole (words : Words) : Type 0 where
   pub ascends : Ascends words
   pub may_stand : MayStand words
   pub numbers : HasNumbers words
-  pub few_runs : runs_of words ≤ 16
+  pub few_runs : runs_of words ≤ MOST_SEGMENTS
   pub few_words : length words ≤ MOST_WORDS
 
 -- so many words of a segment are put after the old ones, and the rest of it is free

@@ -1,17 +1,25 @@
 -- A plan of pages for an image: on which physical page of 32 KB each logical page with words of it lies.
 -- Pages are numbered by their addresses, of 32,768 bytes each: the pages 0 to 1023 are logical, and the page
 -- 1024 + p, which begins at 2000000 + 32768 * p, is the physical page p.
-use Rattle.std.specs.Prelude.{◌≡◌, ◌<◌, ◌≤◌, ◌↔◌, ◌+◌, ◌/◌, ◌^◌, ℕ, Bool, IsSome, List, length, map}
+use Rattle.std.specs.Prelude.{◌≡◌, ◌<◌, ◌≤◌, ◌↔◌, ◌+◌, ◌/◌, ℕ, Bool, IsSome, List, length, map}
 use Rattle.std.specs.Prelude.{All, nat_eq, nat_lt, not}
 use Rattle.std.specs.List.{Contains, list_any}
 use Rattle.std.specs.List.Sorted.{IsStrictlySortedBy}
 use Rattle.std.specs.Ordering.{nat_cmp}
 use Rattle.loader.specs.Image.{Words, word_of}
+use Rattle.loader.specs.declared.image.TheConstants.{PAGE_BYTES}
 use Rattle.loader.specs.declared.plan.PlacedPage.{PlacedPage}
+
+-- the page of an address, and a physical page by its own addresses
+abbrev pub page_of : ℕ → ℕ
+page_of address = address / PAGE_BYTES
+
+abbrev pub physical_page : ℕ → ℕ
+physical_page p = 1024 + p
 
 -- a word lies on the page
 abbrev pub HasWordOn : Words → ℕ → Type 0
-HasWordOn words page = (address : ℕ) × IsSome (word_of words address) × (address / 2 ^ 15 ≡ page)
+HasWordOn words page = (address : ℕ) × IsSome (word_of words address) × (page_of address ≡ page)
 
 -- numbers that ascend, no two of them equal
 abbrev pub Ascend : List ℕ → Type 0
@@ -29,7 +37,7 @@ abbrev pub is_logical : ℕ → Bool
 is_logical page = nat_lt page 1024
 
 abbrev pub is_unnamed : List ℕ → ℕ → Bool
-is_unnamed pages physical = not (list_any (nat_eq (1024 + physical)) pages)
+is_unnamed pages physical = not (list_any (nat_eq (physical_page physical)) pages)
 
 abbrev pub placed : ℕ × ℕ → PlacedPage
 placed p = record { logical = p.0; physical = p.1 }
@@ -37,7 +45,7 @@ placed p = record { logical = p.0; physical = p.1 }
 -- a physical page that no word names by its own address
 pub record IsFree (words : Words) (physical : ℕ) : Type 0 where
   pub below : physical < 128
-  pub unnamed : HasWordOn words (1024 + physical) → ⊥
+  pub unnamed : HasWordOn words (physical_page physical) → ⊥
 
 -- The logical pages are those with words, and ascend. Their physical pages, and then the spare one, are the
 -- lowest that no word names, and ascend.

@@ -1,7 +1,8 @@
 -- Memory whose logical pages lie as a plan says, and the words that are put there.
-use Rattle.std.specs.Prelude.{◌≡◌, ◌<◌, ◌≤◌, ◌⊎◌, ◌+◌, ◌*◌, ◌%◌, ◌^◌, ℕ, Some, List, All}
-use Rattle.bus_ticks.specs.declared.space.TheConstants.{IO_START, PHYSICAL_START, ROM_START, SPACE_END}
-use Rattle.loader.specs.Image.{Words, word_of}
+use Rattle.std.specs.Prelude.{◌≡◌, ◌<◌, ◌≤◌, ◌⊎◌, ◌%◌, ℕ, false, Some, List, All}
+use Rattle.bus_ticks.specs.declared.space.TheConstants.{ROM_START, SPACE_END}
+use Rattle.loader.specs.Image.{Words, is_past_ram, word_of}
+use Rattle.loader.specs.PagePlan.{page_of, physical_page}
 use Rattle.loader.specs.declared.plan.PlacedPage.{PlacedPage}
 use Rattle.memc.specs.Memory.{Memory}
 use Rattle.memc.specs.Paged.{IsWhole, page_at}
@@ -16,13 +17,12 @@ pub record IsMapped (pages : List PlacedPage) (m : Memory) : Type 0 where
 abbrev pub AreOf : Words → Words → Type 0
 AreOf image words = All (λ e. word_of image e.0 ≡ Some e.1) words
 
--- not past RAM, which with 128 pages of 32 KB ends at 2400000, and before I/O
+-- not past RAM
 abbrev pub IsFitted : ℕ → Type 0
-IsFitted address = (address < 0x2400000) ⊎ (IO_START ≤ address)
+IsFitted address = is_past_ram address ≡ false
 
 -- where a word may be beside an image's: on the spare page, by its own address, or in ROM
 abbrev pub IsBeside : ℕ → ℕ → Type 0
 IsBeside spare address =
     (address % 4 ≡ 0)
-    × (((offset : ℕ) × (offset < 2 ^ 15) × (address ≡ PHYSICAL_START + 2 ^ 15 * spare + offset))
-    ⊎ ((ROM_START ≤ address) × (address < SPACE_END)))
+    × ((page_of address ≡ physical_page spare) ⊎ ((ROM_START ≤ address) × (address < SPACE_END)))

@@ -3,6 +3,7 @@ use Rattle.std.specs.Prelude.{◌≡◌, ◌<◌, ◌≤◌, ◌^◌, ℕ, List,
 use Rattle.std.specs.List.{AllByRecursion}
 use Rattle.loader.specs.Image.{Words}
 use Rattle.loader.specs.ImageBytes.{Segment, image_bytes, segment_fault, with_words}
+use Rattle.loader.specs.declared.places.TheConstants.{MOST_SEGMENTS}
 
 -- the words of segments, after others
 abbrev pub with_segments : Words → List Segment → Words
@@ -23,7 +24,7 @@ AreNumbers words = AllByRecursion (λ w. w < 2 ^ 32) words
 
 -- an image is the words of at most 16 segments, each of which can come after those before it
 pub record Spell (segments : List Segment) (words : Words) : Type 0 where
-  pub few : length segments ≤ 16
+  pub few : length segments ≤ MOST_SEGMENTS
   pub numbers : AllByRecursion (λ s. AreNumbers s.words) segments
   pub follow : CanFollow [] segments
   pub words_are : words ≡ with_segments [] segments

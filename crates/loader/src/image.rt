@@ -1,11 +1,11 @@
-ghost use Rattle.std.specs.Prelude.{◌≡◌, ◌≤◌, ◌⊎◌, ◌↔◌, ◌+◌, ◌++◌, ◌-◌, ◌/◌, ◌^◌, []};
+ghost use Rattle.std.specs.Prelude.{◌≡◌, ◌≤◌, ◌⊎◌, ◌↔◌, ◌+◌, ◌++◌, ◌-◌, []};
 ghost use Rattle.std.specs.Prelude.{All, IsTrue, IsSome, IfOk, OnOk};
 ghost use Rattle.std.specs.Prelude.{is_some};
 ghost use Rattle.std.specs.Prelude.{OnErr, IfErr, length, map, not};
 ghost use Rattle.std.specs.List.{list_all, slice_get};
 ghost use Rattle.loader.specs.ImageBytes.{segments_of};
 ghost use Rattle.loader.specs.Inside.{AreWhole};
-ghost use Rattle.loader.specs.PagePlan.{AreHeld};
+ghost use Rattle.loader.specs.PagePlan.{AreHeld, page_of};
 ghost use Rattle.loader.specs.Planned.{AreOf, IsFitted};
 ghost use Rattle.loader.specs.Image.{is_past_ram, may_hold, put_fault, runs_of, with_word, word_of};
 ghost use Rattle.loader.specs.declared.image.ImageFault.TheVariants.{Memory};
@@ -197,7 +197,7 @@ impl Image {
 
     // The page of 32 KB of each word, by number.
     fn pages(&self, alloc: Global) -> Result<Vec<u32>, AllocError>
-        ensures { IfOk result (λ pages. pages.items ≡ map (λ e. e.0 / 2 ^ 15) self.now) }
+        ensures { IfOk result (λ pages. pages.items ≡ map (λ e. page_of e.0) self.now) }
     {
         let words = self.listed(alloc)?;
         words

@@ -10,7 +10,8 @@ ghost use Rattle.loader.specs.Spelling.{AreImage, BeginImage, PassImage, Spell};
 ghost use Rattle.loader.specs.declared.plan.PlacedPage.{PlacedPage};
 ghost use Rattle.memc.specs.Memory.{Memory};
 
-use crate::places::{MOST_SEGMENTS, MOST_WORDS};
+use crate::image::PAGE_BYTES;
+use crate::places::{LARGEST_RAM_END, MOST_SEGMENTS, MOST_WORDS};
 use crate::reading::ReadFault;
 
 /// States that [`read_image`](crate::read_image) takes the bytes of every list of segments that
@@ -42,10 +43,13 @@ pub fn trailing_bytes_follow_an_image()
     ensures trailing { (bytes : List ℕ) → PassImage bytes → image_read bytes ≡ Err ReadFault.TrailingBytes }
 {}
 
-/// States how large an image may be: 65536 words (256 KB) in 16 segments. It does nothing.
+/// States how large an image may be: 65536 words (256 KB) in 16 segments; and that with the largest pages, of
+/// 32 KB, RAM ends at 2400000. It does nothing.
 pub fn image_limits()
     ensures words { MOST_WORDS ≡ 65536 }
     ensures segments { MOST_SEGMENTS ≡ 16 }
+    ensures page { PAGE_BYTES ≡ 32768 }
+    ensures ram { LARGEST_RAM_END ≡ 0x2400000 }
 {}
 
 /// States what privileged loads return of words that are put into memory whose logical pages lie as an

@@ -245,7 +245,7 @@ fn read_segment<'a>(
 // The number of segments, and the bytes after it.
 fn read_count(bytes: &[u8]) -> Result<(u32, &[u8]), ReadFault>
     ensures count { IfOk result
-        (λ start. (image_read bytes.now ≡ segments_read start.0 [] start.1.now) × (start.0 ≤ 16)) }
+        (λ start. (image_read bytes.now ≡ segments_read start.0 [] start.1.now) × (start.0 ≤ MOST_SEGMENTS)) }
     ensures fault { IfErr result (λ fault. image_read bytes.now ≡ Err fault) }
 {
     let standing = bytes.len().min(8);
