@@ -1,6 +1,7 @@
 -- Which words are unallocated, by the numbers in their fields: the number of the first bar that they meet,
 -- or 0 (after the warnings of the VL86C010 data sheet).
-use Rattle.std.specs.Prelude.{ℕ, ◌/◌, Bool, true, false, ◌&&◌, ◌||◌, ◌==◌, if◌then◌else◌}
+use Rattle.std.specs.Prelude.{ℕ, Bool, true, false, ◌&&◌, ◌||◌, ◌==◌, if◌then◌else◌}
+use Rattle.arm2_decode.specs.Names.{is_compare_number}
 
 -- a bit as a number
 abbrev pub bit_of : Bool → ℕ
@@ -9,7 +10,7 @@ bit_of false = 0
 
 -- a compare (TST TEQ CMP CMN) that does not set the flags
 abbrev pub is_bad_compare : ℕ → ℕ → Bool
-is_bad_compare opcode sets_flags = (opcode / 4 == 2) && (sets_flags == 0)
+is_bad_compare opcode sets_flags = is_compare_number opcode && (sets_flags == 0)
 
 -- Rd is Rm; R15 is Rd, Rm or Rs; or R15 is Rn, and the multiply accumulates
 abbrev pub is_bad_multiply : ℕ → ℕ → ℕ → ℕ → ℕ → Bool

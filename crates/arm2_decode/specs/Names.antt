@@ -1,6 +1,6 @@
 -- The numbers of conditions, opcodes, shifts and registers in a word, and those of them that rules name
 -- (VL86C010 data sheet, instruction formats).
-use Rattle.std.specs.Prelude.{ℕ, Bool, true, false, ◌==◌}
+use Rattle.std.specs.Prelude.{ℕ, ◌/◌, Bool, true, false, ◌==◌}
 use Rattle.arm2_decode.specs.declared.names.Cond.{Cond}
 use Rattle.arm2_decode.specs.declared.names.Cond.TheVariants.{Eq, Ne, Cs, Cc, Mi, Pl, Vs, Vc, Hi, Ls, Ge, Lt}
 use Rattle.arm2_decode.specs.declared.names.Cond.TheVariants.{Gt, Le, Al, Nv}
@@ -62,13 +62,12 @@ abbrev pub is_mov : Opcode → Bool
 is_mov Mov = true
 is_mov _ = false
 
--- TST TEQ CMP CMN, which write flags alone
+-- the numbers 8 to 11 of TST TEQ CMP CMN, which write flags alone
+abbrev pub is_compare_number : ℕ → Bool
+is_compare_number number = number / 4 == 2
+
 abbrev pub is_compare : Opcode → Bool
-is_compare Tst = true
-is_compare Teq = true
-is_compare Cmp = true
-is_compare Cmn = true
-is_compare _ = false
+is_compare opcode = is_compare_number (opcode_number opcode)
 
 abbrev pub is_lsl : Shift → Bool
 is_lsl Lsl = true

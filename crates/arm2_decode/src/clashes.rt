@@ -7,11 +7,12 @@ ghost use Rattle.arm2_decode.specs.Allowed.{is_bad_compare, multiply_clash, sing
 ghost use Rattle.arm2_decode.specs.Allowed.{single_register_clash};
 
 use crate::instr::Unallocated;
+use crate::names::is_compare_number;
 
 fn is_compare_without_flags(opcode: u32, sets_flags: bool) -> bool
     ensures { result ≡ is_bad_compare opcode (bit_of sets_flags) }
 {
-    opcode / 4 == 2 && !sets_flags
+    is_compare_number(opcode) && !sets_flags
 }
 
 /// Of data processing, by its opcode's number: 0 or 1.

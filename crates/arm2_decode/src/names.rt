@@ -1,6 +1,7 @@
 ghost use Rattle.std.specs.Prelude.{◌≡◌, ◌<◌};
-ghost use Rattle.arm2_decode.specs.Names.{cond_number, is_always, is_compare, is_link, is_lsl, is_mov};
-ghost use Rattle.arm2_decode.specs.Names.{is_never, is_pc, opcode_number, register_number, shift_number};
+ghost use Rattle.arm2_decode.specs.Names.{cond_number, is_always, is_compare, is_compare_number, is_link};
+ghost use Rattle.arm2_decode.specs.Names.{is_lsl, is_mov, is_never, is_pc, opcode_number, register_number};
+ghost use Rattle.arm2_decode.specs.Names.{shift_number};
 
 // The variant of a number: the last one stands for all numbers that follow.
 macro_rules! variant {
@@ -122,6 +123,13 @@ pub enum Opcode {
     Mvn,
 }
 
+// Whether an opcode's number is that of TST, TEQ, CMP or CMN.
+pub(crate) fn is_compare_number(number: u32) -> bool
+    ensures { result ≡ is_compare_number number }
+{
+    number / 4 == 2
+}
+
 impl Opcode {
     /// The number in a word, in the order of the variants from 0.
     pub fn number(self) -> u32
@@ -155,7 +163,7 @@ impl Opcode {
     pub fn is_compare(self) -> bool
         ensures { result ≡ is_compare self }
     {
-        matches!(self, Opcode::Tst | Opcode::Teq | Opcode::Cmp | Opcode::Cmn)
+        is_compare_number(self.number())
     }
 }
 
