@@ -11,6 +11,7 @@ mod instr;
 mod law;
 mod names;
 mod reading;
+mod transfers;
 mod writing;
 
 pub use clashes::{

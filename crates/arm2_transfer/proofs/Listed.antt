@@ -7,9 +7,10 @@ use Rattle.std.proofs.lemmas.List.Sums.{count_by-le-length, length-filter}
 use lib.Count.{ones_step}
 use Rattle.arm2_decode.specs.Allowed.{bit_of, block_clash}
 use Rattle.arm2_decode.specs.Names.{register_number}
+use Rattle.arm2_decode.specs.Transfers.{is_listed}
 use Rattle.arm2_decode.specs.declared.names.Register.{Register}
 use Rattle.arm2_effect.proofs.Words.{low_bit}
-use Rattle.arm2_transfer.specs.Words.{all_registers, is_listed, registers_in}
+use Rattle.arm2_transfer.specs.Words.{all_registers, registers_in}
 
 -- registers whose numbers count up from n
 abbrev pub Counted : ℕ → List Register → Type 0

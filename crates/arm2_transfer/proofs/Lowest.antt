@@ -6,8 +6,9 @@ use Rattle.std.proofs.lemmas.Nat.{and_le_l}
 use Rattle.std.proofs.lemmas.Nat.Bits.{bit_at-trailing_zeros, bit_at_above, bit_at_clear_same, bit_at_clear_other}
 use Rattle.arm2_decode.proofs.NameLemmas.{same_register}
 use Rattle.arm2_decode.specs.Names.{register_number}
+use Rattle.arm2_decode.specs.Transfers.{is_listed}
 use Rattle.arm2_decode.specs.declared.names.Register.{Register}
-use Rattle.arm2_transfer.specs.Words.{all_registers, is_listed, registers_in}
+use Rattle.arm2_transfer.specs.Words.{all_registers, registers_in}
 use Rattle.arm2_transfer.proofs.Listed.{Counted, all_counted, sixteen}
 
 -- two lists that differ in one bit, their lowest

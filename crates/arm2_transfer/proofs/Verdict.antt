@@ -4,6 +4,7 @@ use Rattle.std.proofs.lemmas.List.{at_drop_more}
 use Rattle.std.proofs.lemmas.List.Elements.{All-push}
 use Rattle.std.specs.List.{list_any}
 use Rattle.arm2_decode.specs.declared.names.Register.{Register}
+use Rattle.arm2_decode.specs.Transfers.{is_listed}
 use Rattle.memc.specs.Memory.{Memory, located, Fits}
 use Rattle.memc.specs.declared.spots.Spot.{Spot}
 use Rattle.memc.specs.declared.spots.Refused.{Refused}
@@ -12,7 +13,7 @@ use Rattle.arm2_transfer.specs.declared.words.Move.{Move}
 use Rattle.arm2_transfer.specs.declared.words.TransferFault.{TransferFault}
 use Rattle.arm2_transfer.specs.declared.words.TransferFault.TheVariants as fault
 use Rattle.bus_ticks.specs.Prices.{word_address}
-use Rattle.arm2_transfer.specs.Words.{Word, is_listed, words_from, is_abort, is_unsupported, moves_of, or_fault, AllFit}
+use Rattle.arm2_transfer.specs.Words.{Word, words_from, is_abort, is_unsupported, moves_of, or_fault, AllFit}
 
 -- the verdict where some words before these were moves, or were unsupported
 abbrev pub verdict_after : Bool → List Move → List Word → Result (List Move) TransferFault

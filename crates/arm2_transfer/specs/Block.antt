@@ -5,6 +5,7 @@ use Rattle.bus_ticks.specs.declared.space.TheConstants.{SPACE_END}
 use Rattle.arm2_decode.specs.declared.instr.Block.{Block}
 use Rattle.arm2_decode.specs.declared.names.Register.TheVariants.{R15}
 use Rattle.arm2_decode.specs.Names.{register_number}
+use Rattle.arm2_decode.specs.Transfers.{is_listed}
 use Rattle.arm2_effect.specs.declared.modes.Mode.{Mode}
 use Rattle.arm2_effect.specs.declared.modes.Mode.TheVariants.{User}
 use Rattle.arm2_effect.specs.declared.step_end.Kind.TheVariants.{Plain}
@@ -15,7 +16,7 @@ use Rattle.arm2_transfer.specs.declared.words.Move.{Move}
 use Rattle.arm2_transfer.specs.declared.words.TransferFault.{TransferFault}
 use Rattle.arm2_transfer.specs.declared.span.Span.{Span}
 use Rattle.arm2_transfer.specs.Bus.{put, seen}
-use Rattle.arm2_transfer.specs.Words.{is_listed, registers_in, words_from, verdict_of}
+use Rattle.arm2_transfer.specs.Words.{registers_in, words_from, verdict_of}
 use Rattle.arm2_transfer.specs.Registers.{is_user, moved_by, given, with_loaded, with_base, passed}
 use Rattle.arm2_transfer.specs.Moved.{Moved, out_of_space, faulted, load_accesses, store_accesses}
 

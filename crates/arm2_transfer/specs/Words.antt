@@ -4,11 +4,10 @@
 use Rattle.std.specs.Prelude.{ℕ, ◌+◌, Bool, true, false, if◌then◌else◌, List, [], ◌∷◌}
 use Rattle.std.specs.Prelude.{filter, All, Result, Ok, Err}
 use Rattle.std.specs.List.{list_any}
-use Rattle.arm2_decode.specs.Bits.{bit_of_word}
 use Rattle.arm2_decode.specs.declared.names.Register.{Register}
 use Rattle.arm2_decode.specs.declared.names.Register.TheVariants.{R0, R1, R2, R3, R4, R5, R6, R7, R8, R9, R10}
 use Rattle.arm2_decode.specs.declared.names.Register.TheVariants.{R11, R12, R13, R14, R15}
-use Rattle.arm2_decode.specs.Names.{register_number}
+use Rattle.arm2_decode.specs.Transfers.{is_listed}
 use Rattle.bus_ticks.specs.Prices.{word_address}
 use Rattle.memc.specs.Memory.{Memory, located, Fits}
 use Rattle.memc.specs.declared.spots.Spot.{Spot}
@@ -21,10 +20,6 @@ use Rattle.arm2_transfer.specs.declared.words.TransferFault.TheVariants as fault
 
 unfoldable pub all_registers : List Register
 all_registers = R0 ∷ R1 ∷ R2 ∷ R3 ∷ R4 ∷ R5 ∷ R6 ∷ R7 ∷ R8 ∷ R9 ∷ R10 ∷ R11 ∷ R12 ∷ R13 ∷ R14 ∷ R15 ∷ []
-
--- bit n of a list stands for register n
-abbrev pub is_listed : ℕ → Register → Bool
-is_listed list register = bit_of_word list (register_number register)
 
 -- the registers of a list, the lowest first
 abbrev pub registers_in : ℕ → List Register

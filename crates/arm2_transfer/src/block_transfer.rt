@@ -1,7 +1,8 @@
 ghost use Rattle.std.specs.Prelude.{◌≡◌, true, false, ◌+◌, ◌*◌, ◌<◌, ◌≤◌, ◌^◌, length};
 ghost use Rattle.arm2_effect.specs.Effects.{is_stopped, ticks_of};
 ghost use Rattle.arm2_effect.specs.Modes.{r15_in, register_in};
-ghost use Rattle.arm2_transfer.specs.Words.{AllFit, is_listed, registers_in, moves_along};
+ghost use Rattle.arm2_decode.specs.Transfers.{is_listed};
+ghost use Rattle.arm2_transfer.specs.Words.{AllFit, registers_in, moves_along};
 ghost use Rattle.arm2_transfer.specs.Moved.{ChangesNothing, IsMoved, load_accesses};
 ghost use Rattle.arm2_effect.specs.ProgramCounter.{address_of, mode_of};
 ghost use Rattle.arm2_transfer.specs.Registers.{passed, with_base};
@@ -15,7 +16,7 @@ use crate::moved::{Accesses, load_ticks, refuse, store_ticks};
 use crate::registers::{Loading, enter, give, is_user, moved_by, pass, write_base};
 use crate::run::{load_along, put_along};
 use crate::span::Span;
-use crate::words::{Move, count, is_listed, locate_block, split_lowest};
+use crate::words::{Move, count, locate_block, split_lowest};
 use arm2_decode::{Block, Register};
 use arm2_effect::{Done, Kind, Mode, Prices, Reg, Registers, Vector, address_of, mode_of};
 use bus_ticks::SPACE_END;
@@ -49,7 +50,7 @@ fn span_of(transfer: &Block, base: u32, words: u32) -> Span
 fn mode_for(transfer: Block, mode: Mode) -> Mode
     ensures { result ≡ mode_for transfer mode }
 {
-    if transfer.user && !(transfer.load && is_listed(transfer.list, Register::R15)) {
+    if transfer.user && !(transfer.load && transfer.is_listed(Register::R15)) {
         Mode::User
     } else {
         mode
@@ -186,7 +187,7 @@ fn end_load(registers: &Registers, prices: &Prices, block: PlacedBlock, r15: u32
     ensures bound { result.ticks < 2 ^ 16 }
 {
     let to = address_of(registers.get(Reg::R15));
-    let jumps = is_listed(block.transfer.list, Register::R15);
+    let jumps = block.transfer.is_listed(Register::R15);
     Done::plain(load_ticks(prices, accesses(block, address_of(r15)), jumps, to))
 }
 
@@ -295,9 +296,8 @@ fn word_by_word(
     ensures stopped { is_stopped result.kind ≡ true
         → ChangesNothing result registers.old registers.new bus.old bus.new }
 {
-    let (list, lowest) = (block.transfer.list, block.span.lowest);
     let user = is_user(mode_of(registers.get(Reg::R15)));
-    match locate_block(&bus.memc, list, lowest, user, !block.transfer.load) {
+    match locate_block(&bus.memc, block.transfer, block.span.lowest, user) {
         Err(fault) => refuse(registers, bus, &inputs.prices, fault),
         Ok(moves) if block.transfer.load => load(registers, bus, inputs, block, moves.as_slice()),
         Ok(moves) => store(registers, bus, &inputs.prices, block, moves.as_slice()),

@@ -1,10 +1,10 @@
-ghost use Rattle.std.specs.Prelude.{◌≡◌, ◌<◌, ◌≤◌, ◌^◌, ◌∷◌, length, Ok, Err, IfOk, MatchResult};
+ghost use Rattle.std.specs.Prelude.{◌≡◌, ◌<◌, ◌≤◌, ◌^◌, ◌∷◌, not, length, Ok, Err, IfOk, MatchResult};
 ghost use Rattle.bus_ticks.specs.declared.space.TheConstants.{SPACE_END};
 ghost use Rattle.memc.specs.Memory.{Fits, located};
-ghost use Rattle.arm2_transfer.specs.Words.{all_registers, is_listed, registers_in, or_fault, words_from};
+ghost use Rattle.arm2_transfer.specs.Words.{all_registers, registers_in, or_fault, words_from};
 ghost use Rattle.arm2_transfer.specs.Words.{verdict_of, AllFit};
 
-use arm2_decode::{Register, bit_of_word};
+use arm2_decode::{Block, Register};
 use arrayvec::ArrayVec;
 use bus_ticks::word_address;
 use memc::{Memc, Refused, Spot};
@@ -43,14 +43,6 @@ fn all_registers() -> [Register; 16]
     [
         R0, R1, R2, R3, R4, R5, R6, R7, R8, R9, R10, R11, R12, R13, R14, R15,
     ]
-}
-
-/// Whether a list has a register.
-#[inline(always)]
-pub(crate) fn is_listed(list: u32, register: Register) -> bool
-    ensures { result ≡ is_listed list register }
-{
-    bit_of_word(list, register.number())
 }
 
 /// How many registers a list has.
@@ -94,28 +86,31 @@ pub(crate) fn locate_word(
     }
 }
 
-/// Where the words of a list's registers go or come from: the lowest register at the lowest address.
+/// Where the words of a block's registers go or come from: the lowest register at the lowest address.
 pub(crate) fn locate_block(
     memc: &Memc,
-    list: u32,
+    transfer: Block,
     lowest: u32,
     user: bool,
-    store: bool,
 ) -> Result<ArrayVec<Move, 16>, TransferFault>
     requires { lowest < SPACE_END }
     ensures verdict { MatchResult result
-        (λ moves. verdict_of (words_from memc.now user store lowest 0 (registers_in list)) ≡ Ok moves.items)
-        (λ fault. verdict_of (words_from memc.now user store lowest 0 (registers_in list)) ≡ Err fault) }
+        (λ moves. verdict_of
+        (words_from memc.now user (not transfer.load) lowest 0 (registers_in transfer.list))
+        ≡ Ok moves.items)
+        (λ fault. verdict_of
+        (words_from memc.now user (not transfer.load) lowest 0 (registers_in transfer.list))
+        ≡ Err fault) }
     ensures fitted { IfOk result (λ moves. AllFit memc.now.shift moves.items) }
 {
     let mut moves = ArrayVec::new();
     let mut unsupported = false;
     let mut word = 0;
     for register in all_registers() {
-        if !is_listed(list, register) {
+        if !transfer.is_listed(register) {
             continue;
         }
-        match locate_word(memc, word_address(lowest, word), user, store) {
+        match locate_word(memc, word_address(lowest, word), user, !transfer.load) {
             Ok(spot) => moves.push(Move { register, spot }),
             Err(TransferFault::UnsupportedWrite) => unsupported = true,
             Err(TransferFault::DataAbort) => return Err(TransferFault::DataAbort),

@@ -7,6 +7,7 @@ use Rattle.bus_ticks.specs.declared.profile.RomTimes.{RomTimes}
 use Rattle.bus_ticks.specs.Prices.{ahead_of}
 use Rattle.arm2_decode.specs.Allowed.{bit_of, single_clash, is_bad_base}
 use Rattle.arm2_decode.specs.Names.{is_compare, is_pc, register_number}
+use Rattle.arm2_decode.specs.Transfers.{is_listed}
 use Rattle.arm2_decode.specs.declared.instr.Block.{Block}
 use Rattle.arm2_decode.specs.declared.instr.Branch.{Branch}
 use Rattle.arm2_decode.specs.declared.instr.Multiply.{Multiply}
@@ -36,7 +37,7 @@ use Rattle.arm2_transfer.specs.Moved.{Moved, on_bus, faulted}
 use Rattle.arm2_transfer.specs.Operations.{operation_moved}
 use Rattle.arm2_transfer.specs.Registers.{is_user, moved_by, passed, with_base}
 use Rattle.arm2_transfer.specs.Single.{address_for, base_after, of_immediate, of_register, single_at, single_by, single_carried_out, single_loaded, single_loads, single_stores, writes_base}
-use Rattle.arm2_transfer.specs.Words.{is_listed, registers_in}
+use Rattle.arm2_transfer.specs.Words.{registers_in}
 use Rattle.flow_graph.specs.Kinds.{IsWork, data_kind, kind_of, lists_pc, transfer, work_of, writer_if}
 use Rattle.flow_graph.specs.StepLaw.{TransfersIn}
 use Rattle.flow_graph.specs.declared.kinds.Kind.{Kind}

@@ -5,6 +5,7 @@ use Rattle.std.proofs.lemmas.Bool.{cond-true, false≢true, lt-ltb}
 use Rattle.std.proofs.lemmas.List.{length-append}
 use Rattle.bus_ticks.specs.Prices.{word_address}
 use Rattle.arm2_decode.specs.Names.{is_pc}
+use Rattle.arm2_decode.specs.Transfers.{is_listed}
 use Rattle.arm2_decode.specs.declared.instr.Block.{Block}
 use Rattle.arm2_decode.specs.declared.names.Register.{Register}
 use Rattle.arm2_decode.specs.declared.names.Register.TheVariants.{R15}
@@ -23,7 +24,7 @@ use Rattle.arm2_transfer.specs.Registers.{is_user, moved_by, passed, with_base}
 use Rattle.arm2_transfer.specs.Single.{address_for, base_after, has_user_rights, single_at, single_by}
 use Rattle.arm2_transfer.specs.Single.{single_carried_out, single_loaded, single_loads, single_stores}
 use Rattle.arm2_transfer.specs.Single.{writes_base}
-use Rattle.arm2_transfer.specs.Words.{is_listed, moves_of, or_fault, registers_in, verdict_of}
+use Rattle.arm2_transfer.specs.Words.{moves_of, or_fault, registers_in, verdict_of}
 use Rattle.flow_graph.specs.Kinds.{is_writer, transfer, writer_if}
 use Rattle.flow_graph.specs.TightWork.{IsDearestTarget}
 use Rattle.flow_graph.specs.declared.kinds.Kind.TheVariants as kind

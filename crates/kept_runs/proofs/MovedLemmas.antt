@@ -9,6 +9,7 @@ use Rattle.bus_ticks.specs.Prices.{ahead_of, word_address}
 use Rattle.bus_ticks.specs.Worst.{IsOf}
 use Rattle.bus_ticks.specs.declared.profile.Class.{Class}
 use Rattle.arm2_decode.specs.Names.{is_compare, is_pc, register_number}
+use Rattle.arm2_decode.specs.Transfers.{is_listed}
 use Rattle.arm2_decode.specs.declared.instr.Block.{Block}
 use Rattle.arm2_decode.specs.declared.instr.Branch.{Branch}
 use Rattle.arm2_decode.specs.declared.instr.Instr.{Instr}
@@ -42,7 +43,7 @@ use Rattle.arm2_transfer.specs.Moved.{Moved, faulted, load_accesses, on_bus, sto
 use Rattle.arm2_transfer.specs.Operations.{operation_moved}
 use Rattle.arm2_transfer.specs.Registers.{passed, with_base, with_loaded}
 use Rattle.arm2_transfer.specs.Single.{address_for, base_after, of_immediate, of_register, single_at, single_by, single_carried_out, single_loaded, single_loads, single_stores}
-use Rattle.arm2_transfer.specs.Words.{is_listed, registers_in}
+use Rattle.arm2_transfer.specs.Words.{registers_in}
 use Rattle.arm2_transfer.proofs.Listed.{words_are}
 use Rattle.arm2_exec.specs.Step.{Obeys, instruction_moved, unallocated_moved}
 use Rattle.flow_graph.specs.StepLaw.{TransfersIn, holds_in}
