@@ -2,6 +2,7 @@
 -- or 0 (after the warnings of the VL86C010 data sheet).
 use Rattle.std.specs.Prelude.{ℕ, Bool, true, false, ◌&&◌, ◌||◌, ◌==◌, if◌then◌else◌}
 use Rattle.arm2_decode.specs.Names.{is_compare_number}
+use Rattle.arm2_decode.specs.Transfers.{writes_base}
 
 -- a bit as a number
 abbrev pub bit_of : Bool → ℕ
@@ -17,17 +18,14 @@ abbrev pub is_bad_multiply : ℕ → ℕ → ℕ → ℕ → ℕ → Bool
 is_bad_multiply accumulate rd rn rs rm =
     (rd == rm) || (rd == 15) || (rm == 15) || (rs == 15) || ((accumulate == 1) && (rn == 15))
 
--- a single transfer writes its base back
-abbrev pub writes_back : ℕ → ℕ → Bool
-writes_back before write_back = (before == 0) || (write_back == 1)
-
 -- the base R15, written back
 abbrev pub is_bad_base : ℕ → ℕ → ℕ → Bool
-is_bad_base before write_back rn = (rn == 15) && writes_back before write_back
+is_bad_base before write_back rn = (rn == 15) && writes_base (before == 1) (write_back == 1)
 
 -- a load of the base that is written back
 abbrev pub is_bad_load : ℕ → ℕ → ℕ → ℕ → ℕ → Bool
-is_bad_load before write_back load rn rd = (load == 1) && writes_back before write_back && (rd == rn)
+is_bad_load before write_back load rn rd =
+    (load == 1) && writes_base (before == 1) (write_back == 1) && (rd == rn)
 
 -- a byte of R15
 abbrev pub is_bad_byte : ℕ → ℕ → Bool

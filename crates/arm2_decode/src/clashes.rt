@@ -8,6 +8,7 @@ ghost use Rattle.arm2_decode.specs.Allowed.{single_register_clash};
 
 use crate::instr::Unallocated;
 use crate::names::is_compare_number;
+use crate::transfers::writes_base;
 
 fn is_compare_without_flags(opcode: u32, sets_flags: bool) -> bool
     ensures { result ≡ is_bad_compare opcode (bit_of sets_flags) }
@@ -73,10 +74,10 @@ pub fn single_clash(fields: SingleFields) -> u32
         ≡ single_clash (bit_of fields.before) (bit_of fields.byte) (bit_of fields.write_back)
         (bit_of fields.load) fields.rn fields.rd }
 {
-    let writes_back = !fields.before || fields.write_back;
-    if fields.rn == 15 && writes_back {
+    let writes_base = writes_base(fields.before, fields.write_back);
+    if fields.rn == 15 && writes_base {
         Unallocated::R15_WRITTEN_BACK
-    } else if fields.load && writes_back && fields.rd == fields.rn {
+    } else if fields.load && writes_base && fields.rd == fields.rn {
         Unallocated::BASE_LOADED
     } else if fields.byte && fields.rd == 15 {
         Unallocated::BYTE_OF_R15

@@ -28,4 +28,5 @@ pub use instr::{
 pub use law::{decode_encoded, encode_decoded};
 pub use names::{Cond, Opcode, Register, Shift};
 pub use reading::decode;
+pub use transfers::{asks_for_user, writes_base};
 pub use writing::encode;

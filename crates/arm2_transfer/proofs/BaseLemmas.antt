@@ -12,7 +12,7 @@ use Rattle.arm2_decode.specs.declared.instr.Block.{Block}
 use Rattle.arm2_decode.specs.declared.names.Register.{Register}
 use Rattle.arm2_decode.specs.Allowed.{block_clash}
 use Rattle.arm2_decode.specs.Names.{register_number}
-use Rattle.arm2_decode.specs.Transfers.{is_listed}
+use Rattle.arm2_decode.specs.Transfers.{is_listed, writes_base}
 use Rattle.arm2_effect.specs.declared.step_end.Kind.TheVariants.{Plain}
 use Rattle.arm2_effect.specs.declared.exceptions.Vector.{Vector}
 use Rattle.arm2_effect.specs.declared.exceptions.Vector.TheVariants as vector
@@ -32,7 +32,7 @@ use Rattle.arm2_transfer.specs.Block.{all_loaded, all_put, block_at, block_by, b
 use Rattle.arm2_transfer.specs.Bus.{made_of, put, put_single, seen}
 use Rattle.arm2_transfer.specs.Moved.{on_bus, out_of_space, faulted}
 use Rattle.arm2_transfer.specs.Registers.{given, is_user, moved_by, passed, with_base, with_loaded}
-use Rattle.arm2_transfer.specs.Single.{base_after, has_user_rights, single_at, single_by, single_carried_out, single_loaded, single_loads, single_moved, single_stores, writes_base}
+use Rattle.arm2_transfer.specs.Single.{base_after, has_user_rights, single_at, single_by, single_carried_out, single_loaded, single_loads, single_moved, single_stores}
 use Rattle.arm2_transfer.specs.Words.{Word, is_abort, is_unsupported, or_fault, moves_of, registers_in, verdict_of, words_from}
 use Rattle.arm2_transfer.proofs.Slots.{AtMostOne, base_slot, based_kept, based_long, based_written, given_apart, given_here, loaded_apart, loaded_here, loaded_long, one_listed, other_stands, passed_base, passed_long, place, same_stands, stands_at}
 
@@ -360,15 +360,15 @@ module _ (x : Single) (port : ℕ) (regs : List ℕ) (bus : Bus) (not_15 : regis
   long_passed = passed_long (mode_at regs) x.rn moved regs low long
 
   long_after : 26 < length (base_after x base regs)
-  long_after = based_long (mode_at regs) x.rn moved (passed regs) low long_passed (writes_base x)
+  long_after = based_long (mode_at regs) x.rn moved (passed regs) low long_passed (writes_base x.before x.write_back)
 
-  written : writes_base x ≡ true → slice_index (base_after x base regs) slot ≡ moved
+  written : writes_base x.before x.write_back ≡ true → slice_index (base_after x base regs) slot ≡ moved
   written writes =
-      based_written (mode_at regs) x.rn moved (passed regs) low long_passed (writes_base x) writes
+      based_written (mode_at regs) x.rn moved (passed regs) low long_passed (writes_base x.before x.write_back) writes
 
-  kept : writes_base x ≡ false → slice_index (base_after x base regs) slot ≡ base
+  kept : writes_base x.before x.write_back ≡ false → slice_index (base_after x base regs) slot ≡ base
   kept keeps =
-      based_kept (mode_at regs) x.rn moved (passed regs) low long_passed (writes_base x) keeps
+      based_kept (mode_at regs) x.rn moved (passed regs) low long_passed (writes_base x.before x.write_back) keeps
       ∙ passed_base (mode_at regs) x.rn moved regs low long
 
   module _ (spot : Spot) (here : IsSpot x regs bus spot) where

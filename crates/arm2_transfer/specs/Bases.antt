@@ -9,6 +9,7 @@ use Rattle.memc.specs.declared.spots.Spot.{Spot}
 use Rattle.arm2_decode.specs.declared.instr.Block.{Block}
 use Rattle.arm2_decode.specs.declared.names.Register.{Register}
 use Rattle.arm2_decode.specs.Names.{register_number}
+use Rattle.arm2_decode.specs.Transfers.{writes_base}
 use Rattle.arm2_effect.specs.declared.modes.Mode.{Mode}
 use Rattle.arm2_effect.specs.Modes.{r15_in, register_in, slot_of}
 use Rattle.arm2_effect.specs.ProgramCounter.{mode_of}
@@ -18,7 +19,7 @@ use Rattle.arm2_transfer.specs.Bus.{made_of, put, put_single, seen}
 use Rattle.arm2_transfer.specs.Words.{registers_in}
 use Rattle.arm2_transfer.specs.Registers.{given, is_user, moved_by}
 use Rattle.arm2_transfer.specs.Moved.{Moved}
-use Rattle.arm2_transfer.specs.Single.{address_for, has_user_rights, writes_base}
+use Rattle.arm2_transfer.specs.Single.{address_for, has_user_rights}
 use Rattle.arm2_transfer.specs.Block.{lowest_of, mode_for}
 
 -- the mode of an instruction: that in R15 before it
@@ -67,8 +68,9 @@ PutsWord x regs bus value after =
 -- a single transfer and its base, for any base but R15, which moves on with each instruction and is stored
 -- with its PSR
 pub record SingleBase (x : Single) (port : ℕ) (regs : List ℕ) (bus : Bus) (m : Moved) : Type 0 where
-  pub leaves : LeavesBase (x.load && is_own_base x) (writes_base x) (IsLoadedWord x port regs bus)
-      (base_at x.rn regs) (moved_by x.up (base_at x.rn regs) x.offset) (base_left x.rn regs m.regs)
+  pub leaves : LeavesBase (x.load && is_own_base x) (writes_base x.before x.write_back)
+      (IsLoadedWord x port regs bus) (base_at x.rn regs) (moved_by x.up (base_at x.rn regs) x.offset)
+      (base_left x.rn regs m.regs)
   pub gives_old : x.load ≡ false → is_own_base x ≡ true → PutsWord x regs bus (base_at x.rn regs) m.bus
 
 -- ## Blocks

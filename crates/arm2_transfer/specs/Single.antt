@@ -1,12 +1,13 @@
 -- Single transfers (VL86C010 data sheet, single data transfer, but for what a store of the base and the
 -- address exception do).
-use Rattle.std.specs.Prelude.{ℕ, Bool, false, not, ◌&&◌, ◌||◌, nat_lt, if◌then◌else◌, List, Result, Ok}
+use Rattle.std.specs.Prelude.{ℕ, Bool, false, not, ◌||◌, nat_lt, if◌then◌else◌, List, Result, Ok}
 use Rattle.std.specs.Prelude.{Err}
 use Rattle.bus_ticks.specs.declared.space.TheConstants.{SPACE_END}
 use Rattle.memc.specs.Memory.{located}
 use Rattle.memc.specs.declared.spots.Spot.{Spot}
 use Rattle.arm2_decode.specs.declared.instr.SingleImmediate.{SingleImmediate}
 use Rattle.arm2_decode.specs.declared.instr.SingleRegister.{SingleRegister}
+use Rattle.arm2_decode.specs.Transfers.{asks_for_user, writes_base}
 use Rattle.arm2_decode.specs.declared.names.Register.{Register}
 use Rattle.arm2_effect.specs.declared.modes.Mode.{Mode}
 use Rattle.arm2_effect.specs.declared.step_end.Kind.TheVariants.{Plain}
@@ -26,18 +27,15 @@ use Rattle.arm2_transfer.specs.Moved.{Moved, out_of_space, faulted, load_accesse
 abbrev pub address_for : Single → (base : ℕ) → ℕ
 address_for x base = if x.before then moved_by x.up base x.offset else base
 
--- whether the access has the rights of User: in User mode, and where W is set although P is not
+-- whether the access has the rights of User: in User mode, and where it asks for them
 abbrev pub has_user_rights : Single → Mode → Bool
-has_user_rights x mode = is_user mode || x.write_back && not x.before
-
--- whether the moved base is written back: where W is set, and always where P is not
-abbrev pub writes_base : Single → Bool
-writes_base x = x.write_back || not x.before
+has_user_rights x mode = is_user mode || asks_for_user x.before x.write_back
 
 -- R15 one instruction on, and the moved base in its register of the current mode where it is written back
 abbrev pub base_after : Single → (base : ℕ) → List ℕ → List ℕ
 base_after x base regs =
-    with_base (writes_base x) (mode_of (r15_in regs)) x.rn (moved_by x.up base x.offset) (passed regs)
+    with_base (writes_base x.before x.write_back) (mode_of (r15_in regs)) x.rn
+    (moved_by x.up base x.offset) (passed regs)
 
 -- a load's registers: the word comes after the base is written back, so that it stays where both name one
 -- register

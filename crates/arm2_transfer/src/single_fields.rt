@@ -1,5 +1,5 @@
 use crate::registers::{is_user, moved_by, pass, write_base};
-use arm2_decode::Register;
+use arm2_decode::{Register, asks_for_user, writes_base};
 use arm2_effect::{Mode, Reg, Registers, mode_of};
 
 /// A single transfer, with its offset as a number.
@@ -42,7 +42,7 @@ impl Single {
     pub(crate) fn has_user_rights(self, mode: Mode) -> bool
         ensures { result ≡ has_user_rights self mode }
     {
-        is_user(mode) || self.write_back && !self.before
+        is_user(mode) || asks_for_user(self.before, self.write_back)
     }
 
     /// R15 goes on, and the moved base is written back where it is.
@@ -53,7 +53,7 @@ impl Single {
         pass(registers);
         write_base(
             registers,
-            self.write_back || !self.before,
+            writes_base(self.before, self.write_back),
             mode,
             self.rn,
             moved_by(self.up, base, self.offset),

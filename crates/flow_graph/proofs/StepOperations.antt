@@ -7,7 +7,7 @@ use Rattle.bus_ticks.specs.declared.profile.RomTimes.{RomTimes}
 use Rattle.bus_ticks.specs.Prices.{ahead_of}
 use Rattle.arm2_decode.specs.Allowed.{bit_of, single_clash, is_bad_base}
 use Rattle.arm2_decode.specs.Names.{is_compare, is_pc, register_number}
-use Rattle.arm2_decode.specs.Transfers.{is_listed}
+use Rattle.arm2_decode.specs.Transfers.{is_listed, writes_base}
 use Rattle.arm2_decode.specs.declared.instr.Block.{Block}
 use Rattle.arm2_decode.specs.declared.instr.Branch.{Branch}
 use Rattle.arm2_decode.specs.declared.instr.Multiply.{Multiply}
@@ -36,7 +36,7 @@ use Rattle.arm2_transfer.specs.Block.{block_at, block_by, block_carried_out, blo
 use Rattle.arm2_transfer.specs.Moved.{Moved, on_bus, faulted}
 use Rattle.arm2_transfer.specs.Operations.{operation_moved}
 use Rattle.arm2_transfer.specs.Registers.{is_user, moved_by, passed, with_base}
-use Rattle.arm2_transfer.specs.Single.{address_for, base_after, of_immediate, of_register, single_at, single_by, single_carried_out, single_loaded, single_loads, single_stores, writes_base}
+use Rattle.arm2_transfer.specs.Single.{address_for, base_after, of_immediate, of_register, single_at, single_by, single_carried_out, single_loaded, single_loads, single_stores}
 use Rattle.arm2_transfer.specs.Words.{registers_in}
 use Rattle.flow_graph.specs.Kinds.{IsWork, data_kind, kind_of, lists_pc, transfer, work_of, writer_if}
 use Rattle.flow_graph.specs.StepLaw.{TransfersIn}
@@ -68,13 +68,14 @@ pub refused_else : (b : Bool) (m n : ℕ) → ◌≡◌ {A = ℕ} (cond b (suc m
 refused_else true m n e = absurd (omega (arith, e))
 refused_else false m n e = e
 
-base_by : (is_pc before write_back : Bool) → (is_pc && ((bit_of before == 0) || (bit_of write_back == 1))) ≡ false → (write_back || not before) ≡ true → is_pc ≡ false
+base_by : (is_pc before write_back : Bool) → (is_pc && writes_base (bit_of before == 1) (bit_of write_back == 1)) ≡ false → writes_base before write_back ≡ true → is_pc ≡ false
 base_by false before write_back h w = refl
-base_by true false write_back h w = absurd (cc)
+base_by true false true h w = absurd (cc)
+base_by true false false h w = absurd (cc)
 base_by true true true h w = absurd (cc)
 base_by true true false h w = absurd (cc)
 
-base_other : (before byte write_back load : Bool) (rn rd : Register) → single_clash (bit_of before) (bit_of byte) (bit_of write_back) (bit_of load) (register_number rn) (register_number rd) ≡ 0 → (write_back || not before) ≡ true → is_pc rn ≡ false
+base_other : (before byte write_back load : Bool) (rn rd : Register) → single_clash (bit_of before) (bit_of byte) (bit_of write_back) (bit_of load) (register_number rn) (register_number rd) ≡ 0 → writes_base before write_back ≡ true → is_pc rn ≡ false
 base_other before byte write_back load rn rd h w =
     base_by (is_pc rn) before write_back (refused_not (is_bad_base (bit_of before) (bit_of write_back) (register_number rn)) 5 _ h) w
 
@@ -194,11 +195,11 @@ module _ (p : Profile) (rom : RomTimes) (class : Class) (regs : List ℕ) (long 
 
   -- ## Single transfers
 
-  base_passed : (x : Single) (base : ℕ) → (writes_base x ≡ true → is_pc x.rn ≡ false) → address_of (r15_in (base_after x base regs)) ≡ ahead_of (address_of (r15_in regs)) 4
+  base_passed : (x : Single) (base : ℕ) → (writes_base x.before x.write_back ≡ true → is_pc x.rn ≡ false) → address_of (r15_in (base_after x base regs)) ≡ ahead_of (address_of (r15_in regs)) 4
   base_passed x base other =
-      ap address_of (base_stays (writes_base x) (mode_of (r15_in regs)) x.rn (moved_by x.up base x.offset) (passed regs) other) ∙ passed_goes regs long
+      ap address_of (base_stays (writes_base x.before x.write_back) (mode_of (r15_in regs)) x.rn (moved_by x.up base x.offset) (passed regs) other) ∙ passed_goes regs long
 
-  single_loads_cost : (x : Single) (base port : ℕ) (spot : Spot) (bus : Bus) → (writes_base x ≡ true → is_pc x.rn ≡ false) → address_for x base < 2 ^ 26 →
+  single_loads_cost : (x : Single) (base port : ℕ) (spot : Spot) (bus : Bus) → (writes_base x.before x.write_back ≡ true → is_pc x.rn ≡ false) → address_for x base < 2 ^ 26 →
       MovedCosts (writer_if (is_pc x.rd)) (work.Load 1) (single_loads x base port spot regs bus)
   unfolding single_loads single_loaded
   single_loads_cost x base port spot bus other below in_class plain =
@@ -206,7 +207,7 @@ module _ (p : Profile) (rom : RomTimes) (class : Class) (regs : List ℕ) (long 
       (load_block class rom (address_of (r15_in regs)) (address_for x base) 1 (is_pc x.rd) _ below in_class)
       (λ stays. ap address_of (loaded_stays false (mode_of (r15_in regs)) (r15_in regs) x.rd _ (base_after x base regs) stays) ∙ base_passed x base other)
 
-  single_stores_cost : (x : Single) (base : ℕ) (spot : Spot) (bus : Bus) → (writes_base x ≡ true → is_pc x.rn ≡ false) → address_for x base < 2 ^ 26 →
+  single_stores_cost : (x : Single) (base : ℕ) (spot : Spot) (bus : Bus) → (writes_base x.before x.write_back ≡ true → is_pc x.rn ≡ false) → address_for x base < 2 ^ 26 →
       MovedCosts kind.Plain (work.Store 1) (single_stores x base spot regs bus)
   unfolding single_stores
   single_stores_cost x base spot bus other below in_class plain =
@@ -219,7 +220,7 @@ module _ (p : Profile) (rom : RomTimes) (class : Class) (regs : List ℕ) (long 
   either_costs true to_pc words m n h g = h
   either_costs false to_pc words m n h g = g
 
-  single_by_costs : (x : Single) (base port : ℕ) (found : Result Spot TransferFault) (bus : Bus) → (writes_base x ≡ true → is_pc x.rn ≡ false) → address_for x base < 2 ^ 26 →
+  single_by_costs : (x : Single) (base port : ℕ) (found : Result Spot TransferFault) (bus : Bus) → (writes_base x.before x.write_back ≡ true → is_pc x.rn ≡ false) → address_for x base < 2 ^ 26 →
       MovedCosts (writer_if (x.load && is_pc x.rd)) (transfer x.load 1) (single_by x base port found regs bus)
   unfolding single_by single_carried_out
   single_by_costs x base port (Err why) bus other below = faulted_costs _ _ why bus
@@ -228,7 +229,7 @@ module _ (p : Profile) (rom : RomTimes) (class : Class) (regs : List ℕ) (long 
       (single_loads_cost x base port spot bus other below)
       (single_stores_cost x base spot bus other below)
 
-  single_costs : (x : Single) (base port : ℕ) (bus : Bus) → (writes_base x ≡ true → is_pc x.rn ≡ false) → MovedCosts (writer_if (x.load && is_pc x.rd)) (transfer x.load 1) (single_at x base port regs bus)
+  single_costs : (x : Single) (base port : ℕ) (bus : Bus) → (writes_base x.before x.write_back ≡ true → is_pc x.rn ≡ false) → MovedCosts (writer_if (x.load && is_pc x.rd)) (transfer x.load 1) (single_at x base port regs bus)
   unfolding single_at
   single_costs x base port bus other =
       choose (writer_if (x.load && is_pc x.rd)) (transfer x.load 1) (nat_lt (address_for x base) (2 ^ 26)) _ _

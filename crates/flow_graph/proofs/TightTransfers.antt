@@ -5,7 +5,7 @@ use Rattle.std.proofs.lemmas.Bool.{cond-true, false≢true, lt-ltb}
 use Rattle.std.proofs.lemmas.List.{length-append}
 use Rattle.bus_ticks.specs.Prices.{word_address}
 use Rattle.arm2_decode.specs.Names.{is_pc}
-use Rattle.arm2_decode.specs.Transfers.{is_listed}
+use Rattle.arm2_decode.specs.Transfers.{is_listed, writes_base}
 use Rattle.arm2_decode.specs.declared.instr.Block.{Block}
 use Rattle.arm2_decode.specs.declared.names.Register.{Register}
 use Rattle.arm2_decode.specs.declared.names.Register.TheVariants.{R15}
@@ -23,7 +23,6 @@ use Rattle.arm2_transfer.specs.Moved.{Moved}
 use Rattle.arm2_transfer.specs.Registers.{is_user, moved_by, passed, with_base}
 use Rattle.arm2_transfer.specs.Single.{address_for, base_after, has_user_rights, single_at, single_by}
 use Rattle.arm2_transfer.specs.Single.{single_carried_out, single_loaded, single_loads, single_stores}
-use Rattle.arm2_transfer.specs.Single.{writes_base}
 use Rattle.arm2_transfer.specs.Words.{moves_of, or_fault, registers_in, verdict_of}
 use Rattle.flow_graph.specs.Kinds.{is_writer, transfer, writer_if}
 use Rattle.flow_graph.specs.TightWork.{IsDearestTarget}
@@ -82,7 +81,7 @@ module _ (c : Setting) where
       pays = load_pays c.profile c.rom c.class (start c) c.dear (address_for x base) 1 (is_pc x.rd) _ block;
       lands = λ w.
           let writes = writer_decides (is_pc x.rd) w in
-          let based = long_after (writes_base x) x.rn (moved_by x.up base x.offset) in
+          let based = long_after (writes_base x.before x.write_back) x.rn (moved_by x.up base x.offset) in
           subst (IsDearestTarget c.st c.profile c.to)
           (sym (loaded_goes false (mode c) (r15_in c.regs) x.rd word (base_after x base c.regs) based writes))
           (target writes);
