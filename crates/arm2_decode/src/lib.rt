@@ -12,6 +12,7 @@ mod law;
 mod names;
 mod reading;
 mod transfers;
+mod writers;
 mod writing;
 
 pub use clashes::{
