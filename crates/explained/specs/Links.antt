@@ -4,8 +4,8 @@ use Rattle.std.specs.Prelude.{if◌then◌else◌, List, length, Contains, Optio
 use Rattle.std.specs.List.Sorted.{IsStrictlySortedBy}
 use Rattle.std.specs.Ordering.{nat_cmp}
 use Rattle.bus_ticks.specs.Prices.{ahead_of}
-use Rattle.arm2_decode.specs.Bits.{bit_of_word}
-use Rattle.arm2_decode.specs.Names.{is_compare, is_link, is_never, register_number}
+use Rattle.arm2_decode.specs.Names.{is_compare, is_link, is_never}
+use Rattle.arm2_decode.specs.Transfers.{is_listed}
 use Rattle.arm2_decode.specs.declared.instr.Instr.{Instr}
 use Rattle.arm2_decode.specs.declared.instr.Operation.{Operation}
 use Rattle.arm2_decode.specs.declared.instr.Operation.TheVariants as operation
@@ -35,10 +35,6 @@ moves_base before write_back = write_back || not before
 abbrev pub single_writes_link : (load moves : Bool) → (rn rd : Register) → Bool
 single_writes_link load moves rn rd = (load && is_link rd) || (moves && is_link rn)
 
--- bit 14 of a list stands for R14
-abbrev pub has_link : (list : ℕ) → Bool
-has_link list = bit_of_word list (register_number R14)
-
 -- the operation writes R14, other than a call
 abbrev pub writes_link : Operation → Bool
 writes_link (operation.Multiply x) = is_link x.rd
@@ -49,7 +45,7 @@ writes_link (operation.SingleImmediate x) =
     single_writes_link x.load (moves_base x.before x.write_back) x.rn x.rd
 writes_link (operation.SingleRegister x) =
     single_writes_link x.load (moves_base x.before x.write_back) x.rn x.rd
-writes_link (operation.Block x) = (x.load && has_link x.list) || (x.write_back && is_link x.rn)
+writes_link (operation.Block x) = (x.load && is_listed x.list R14) || (x.write_back && is_link x.rn)
 writes_link (operation.Branch x) = false
 writes_link (operation.Swi x) = false
 writes_link (operation.UndefinedTransfer x) = false

@@ -7,13 +7,13 @@ ghost use Rattle.flow_graph.specs.declared.places.Place.{Place};
 ghost use Rattle.word_shapes.specs.Words.{HasShape};
 ghost use Rattle.explained.specs.Assumed.{Notes};
 ghost use Rattle.explained.specs.Links.{AreLostLinks, IsLost, KeepsLink, MayReturnByLink, data_writes_link};
-ghost use Rattle.explained.specs.Links.{has_link, may_return_by_link, moves_base, place_after};
+ghost use Rattle.explained.specs.Links.{may_return_by_link, moves_base, place_after};
 ghost use Rattle.explained.specs.Links.{returns_by_link, single_writes_link, writes_link};
 ghost use Rattle.explained.specs.Losing.{Adds, ByEdge, Grows, IsAfter, IsFound, IsKeptTo};
 ghost use Rattle.explained.specs.Taken.{is_reached};
 
 use crate::assumptions::sorted;
-use arm2_decode::{Instr, Opcode, Operation, Register, bit_of_word};
+use arm2_decode::{Instr, Opcode, Operation, Register};
 use bus_ticks::ahead_of;
 use flow_graph::{Calls, Edge, Graph, Place};
 use loader::Image;
@@ -41,12 +41,6 @@ fn single_writes_link(load: bool, moves: bool, rn: Register, rd: Register) -> bo
     load && rd.is_link() || moves && rn.is_link()
 }
 
-fn has_link(list: u32) -> bool
-    ensures { result ≡ has_link list }
-{
-    bit_of_word(list, Register::R14.number())
-}
-
 // Whether an operation writes R14, other than a call.
 fn writes_link(operation: &Operation) -> bool
     ensures { result ≡ writes_link operation.now }
@@ -62,7 +56,8 @@ fn writes_link(operation: &Operation) -> bool
         Operation::SingleRegister(x) => {
             single_writes_link(x.load, moves_base(x.before, x.write_back), x.rn, x.rd)
         }
-        Operation::Block(x) => x.load && has_link(x.list) || x.write_back && x.rn.is_link(),
+        Operation::Block(x) => x.load && x.is_listed(Register::R14)
+            || x.write_back && x.rn.is_link(),
         Operation::Branch(_)
         | Operation::Swi(_)
         | Operation::UndefinedTransfer(_)

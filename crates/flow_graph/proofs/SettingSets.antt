@@ -14,6 +14,7 @@ use Rattle.shifter.specs.Shifts.{Has, by_register, moved}
 use Rattle.shifter.specs.Word.{word_bits}
 use Rattle.arm2_decode.specs.Allowed.{bit_of}
 use Rattle.arm2_decode.specs.Names.{is_lsl, is_mov, is_pc, register_number}
+use Rattle.arm2_decode.specs.Transfers.{is_listed}
 use Rattle.arm2_decode.specs.declared.flags.Flags.{Flags}
 use Rattle.arm2_decode.specs.declared.instr.Block.{Block}
 use Rattle.arm2_decode.specs.declared.instr.DataImmediate.{DataImmediate}
@@ -24,6 +25,7 @@ use Rattle.arm2_decode.specs.declared.instr.SingleImmediate.{SingleImmediate}
 use Rattle.arm2_decode.specs.declared.names.Opcode.{Opcode}
 use Rattle.arm2_decode.specs.declared.names.Opcode.TheVariants as opcode
 use Rattle.arm2_decode.specs.declared.names.Register.{Register}
+use Rattle.arm2_decode.specs.declared.names.Register.TheVariants.{R15}
 use Rattle.arm2_decode.specs.declared.names.Shift.{Shift}
 use Rattle.arm2_decode.specs.declared.names.Shift.TheVariants as shift
 use Rattle.arm2_decode.specs.declared.names.Shift.TheVariants.{Ror}
@@ -43,7 +45,6 @@ use Rattle.arm2_exec.specs.State.{State}
 use Rattle.arm2_exec.specs.Step.{with_lines}
 use Rattle.arm2_exec.specs.declared.machine.Input.{Input}
 use Rattle.flow_graph.specs.Free.{adds_an_immediate, asks_for_user, copies_a_register, is_add_or_sub, is_free_operation, writes_pc}
-use Rattle.flow_graph.specs.Kinds.{lists_pc}
 use Rattle.flow_graph.specs.Setting.{HasSetting, IsData, IsDataOf, IsMemory, IsPort, IsSource, MayStart, Sets, of_register, rotated, transfer_setting, with_source}
 use Rattle.flow_graph.specs.TightWork.{IsDearestTarget, TransfersDearest}
 use Rattle.flow_graph.specs.declared.places.Place.{Place}
@@ -194,18 +195,18 @@ no_clash true m n some e = absurd (omega (arith, e, some))
 no_clash false m n some e = refl
 
 pub block_sets : (aim : Aim) (x : Block) (lowest base : ℕ) → MayStart aim x.load (count_ones x.list) lowest → lowest_of x base (count_ones x.list) ≡ lowest
-    → Sets aim (operation.Block x) (transfer_setting aim (record { register = x.rn; word = base }) (x.load && lists_pc x.list) (word_address lowest (count_ones x.list - 1)))
+    → Sets aim (operation.Block x) (transfer_setting aim (record { register = x.rn; word = base }) (x.load && is_listed x.list R15) (word_address lowest (count_ones x.list - 1)))
 block_sets aim x lowest base may at =
     let held : Held = record { register = x.rn; word = base } in
     let last : ℕ = word_address lowest (count_ones x.list - 1) in
     record {
-      register_other = other aim (count_ones x.list) lowest held (some_words x) (x.load && lists_pc x.list) last (no_clash (is_pc x.rn) 7 _ (omega arith) x.allocated);
-      word_apart = apart aim (count_ones x.list) lowest held (some_words x) x.load (lists_pc x.list) may;
+      register_other = other aim (count_ones x.list) lowest held (some_words x) (x.load && is_listed x.list R15) last (no_clash (is_pc x.rn) 7 _ (omega arith) x.allocated);
+      word_apart = apart aim (count_ones x.list) lowest held (some_words x) x.load (is_listed x.list R15) may;
       set = λ st to s i class_is target has.
-          subst (λ r. TransfersDearest st aim.profile aim.address to s i x.load (lists_pc x.list) (count_ones x.list) (lowest_of x r (count_ones x.list)))
-          (sym (has_base aim s i held last (x.load && lists_pc x.list) has))
-          (subst (TransfersDearest st aim.profile aim.address to s i x.load (lists_pc x.list) (count_ones x.list)) (sym at)
-          (transfers aim st to s i class_is target x.load (lists_pc x.list) (count_ones x.list) lowest held (some_words x) may has));
+          subst (λ r. TransfersDearest st aim.profile aim.address to s i x.load (is_listed x.list R15) (count_ones x.list) (lowest_of x r (count_ones x.list)))
+          (sym (has_base aim s i held last (x.load && is_listed x.list R15) has))
+          (subst (TransfersDearest st aim.profile aim.address to s i x.load (is_listed x.list R15) (count_ones x.list)) (sym at)
+          (transfers aim st to s i class_is target x.load (is_listed x.list R15) (count_ones x.list) lowest held (some_words x) may has));
     }
 
 -- ## Data processing, and multiplies

@@ -1,5 +1,5 @@
 -- What each instruction does, against the kind and the work of its word.
-use Rattle.std.proofs.Common.{◌≡◌, ℕ, zero, suc, ◌+◌, ◌*◌, ◌-◌, ◌^◌, ◌<◌, ◌≤◌, ◌==◌, ◌&&◌, ◌||◌, not, nat_lt, ltb, Bool, true, false, cond, List, length, Result, Ok, Err, count_ones, refl, sym, ap, subst, ◌∙◌, arith}
+use Rattle.std.proofs.Common.{◌≡◌, ℕ, zero, suc, ◌+◌, ◌*◌, ◌-◌, ◌^◌, ◌<◌, ◌≤◌, ◌==◌, ◌&&◌, not, nat_lt, ltb, Bool, true, false, cond, List, length, Result, Ok, Err, count_ones, refl, sym, ap, subst, ◌∙◌, arith}
 use Rattle.std.proofs.lemmas.Bool.{ltb-true}
 use Rattle.bus_ticks.specs.declared.profile.Class.{Class}
 use Rattle.bus_ticks.specs.declared.profile.Profile.{Profile}
@@ -38,7 +38,7 @@ use Rattle.arm2_transfer.specs.Operations.{operation_moved}
 use Rattle.arm2_transfer.specs.Registers.{is_user, moved_by, passed, with_base}
 use Rattle.arm2_transfer.specs.Single.{address_for, base_after, of_immediate, of_register, single_at, single_by, single_carried_out, single_loaded, single_loads, single_stores}
 use Rattle.arm2_transfer.specs.Words.{registers_in}
-use Rattle.flow_graph.specs.Kinds.{IsWork, data_kind, kind_of, lists_pc, transfer, work_of, writer_if}
+use Rattle.flow_graph.specs.Kinds.{IsWork, data_kind, kind_of, transfer, work_of, writer_if}
 use Rattle.flow_graph.specs.StepLaw.{TransfersIn}
 use Rattle.flow_graph.specs.declared.kinds.Kind.{Kind}
 use Rattle.flow_graph.specs.declared.kinds.Kind.TheVariants as kind
@@ -47,7 +47,7 @@ use Rattle.flow_graph.specs.declared.kinds.Work.TheVariants as work
 use Rattle.flow_graph.proofs.StepRegisters.{IsWordAddress, address_ahead, address_jumped, address_put, address_restored, base_stays, goes, loaded_stays, long_based, long_with, passed_goes, word_address_ahead, word_address_of}
 use Rattle.flow_graph.proofs.StepTicks.{Costs, branch_costs, call_costs, delayed_costs, jump_costs, load_block, load_costs, store_block, store_costs, straight_costs}
 use Rattle.arm2_transfer.proofs.Listed.{words_are}
-use Rattle.flow_graph.proofs.StepWords.{AllMoveOther, all_stay, pc_listed, verdict_others}
+use Rattle.flow_graph.proofs.StepWords.{AllMoveOther, all_stay, verdict_others}
 
 cycles_few : (left m number : ℕ) → cycles_from left m number ≤ m + left
 unfolding cycles_from
@@ -278,7 +278,7 @@ module _ (p : Profile) (rom : RomTimes) (class : Class) (regs : List ℕ) (long 
       (λ moves e none. verdict_others bus.memc (is_user (mode_of (r15_in regs))) (not x.load) span.lowest x.list moves e none))
       (taken_costs _ _ _ bus)
 
-  block_done : (x : Block) (port : ℕ) (bus : Bus) → IsWork (transfer x.load (count_ones x.list)) → MovedCosts (writer_if (x.load && lists_pc x.list)) (transfer x.load (count_ones x.list)) (block_moved x port regs bus)
+  block_done : (x : Block) (port : ℕ) (bus : Bus) → IsWork (transfer x.load (count_ones x.list)) → MovedCosts (writer_if (x.load && is_listed x.list R15)) (transfer x.load (count_ones x.list)) (block_moved x port regs bus)
   unfolding block_moved
   block_done x port bus fits =
       let words : length (registers_in x.list) ≡ count_ones x.list = words_are x.list x.list_fits in
@@ -286,9 +286,8 @@ module _ (p : Profile) (rom : RomTimes) (class : Class) (regs : List ℕ) (long 
       let other : is_pc x.rn ≡ false = refused_not (is_pc x.rn) 6 _ x.allocated in
       let base : ℕ = register_in (mode_of (r15_in regs)) (register_number x.rn) regs in
       let moved : Moved = block_at x (span_of x base (length (registers_in x.list))) port regs bus in
-      subst (λ n. MovedCosts (writer_if (x.load && lists_pc x.list)) (transfer x.load n) moved) words
-      (subst (λ b. MovedCosts (writer_if (x.load && b)) (transfer x.load (length (registers_in x.list))) moved) (sym (pc_listed x.list x.list_fits))
-      (block_costs x (span_of x base (length (registers_in x.list))) port bus other (omega (arith, words, fit.0)) (omega (arith, words, fit.1))))
+      subst (λ n. MovedCosts (writer_if (x.load && is_listed x.list R15)) (transfer x.load n) moved) words
+      (block_costs x (span_of x base (length (registers_in x.list))) port bus other (omega (arith, words, fit.0)) (omega (arith, words, fit.1)))
 
   -- ## Any instruction
 

@@ -1,7 +1,6 @@
 -- The words of a block: R15 stays where the list has none for it.
-use Rattle.std.proofs.Common.{◌≡◌, ℕ, ◌+◌, ◌^◌, ◌<◌, Bool, true, false, cond, List, [], ◌∷◌, filter, Result, Ok, Err, refl, sym, subst, ◌∙◌, arith}
+use Rattle.std.proofs.Common.{◌≡◌, ℕ, ◌+◌, Bool, true, false, cond, List, [], ◌∷◌, filter, Result, Ok, Err, refl, sym, subst, ◌∙◌}
 use Rattle.std.proofs.lemmas.Bool.{false≢true}
-use Rattle.std.proofs.lemmas.Bool.Decides.{nat_tests}
 use Rattle.arm2_decode.specs.Names.{is_pc}
 use Rattle.arm2_decode.specs.Transfers.{is_listed}
 use Rattle.arm2_decode.specs.declared.names.Register.{Register}
@@ -22,11 +21,7 @@ use Rattle.arm2_transfer.specs.Bus.{seen}
 use Rattle.arm2_transfer.specs.Registers.{with_loaded}
 use Rattle.arm2_transfer.specs.Words.{Word, all_registers, is_abort, is_unsupported, moves_of, registers_in, verdict_of, words_from}
 use Rattle.std.specs.List.{list_any}
-use Rattle.flow_graph.specs.Kinds.{lists_pc}
 use Rattle.flow_graph.proofs.StepRegisters.{loaded_stays}
-
-pub pc_listed : (list : ℕ) → list < 2 ^ 16 → lists_pc list ≡ is_listed list R15
-pc_listed list fits = grind (arith, nat_tests)
 
 -- no register of the list is R15
 abbrev AllOther : List Register → Type 0

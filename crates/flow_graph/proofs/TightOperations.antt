@@ -35,13 +35,12 @@ use Rattle.arm2_exec.specs.Step.{with_lines}
 use Rattle.arm2_exec.specs.declared.machine.Input.{Input}
 use Rattle.flow_graph.specs.Edges.{landings}
 use Rattle.flow_graph.specs.Free.{asks_for_user}
-use Rattle.flow_graph.specs.Kinds.{data_kind, kind_of, lists_pc, transfer, work_of, writer_if}
+use Rattle.flow_graph.specs.Kinds.{data_kind, kind_of, transfer, work_of, writer_if}
 use Rattle.flow_graph.specs.TightWork.{IsDearestTarget, IsSetFor, TransfersDearest}
 use Rattle.flow_graph.specs.declared.places.Place.{Place}
 use Rattle.statement.specs.Stated.{Stated, class_of}
 use Rattle.flow_graph.proofs.SortedLemmas.{no_member}
 use Rattle.flow_graph.proofs.StepOperations.{refused_else, refused_not}
-use Rattle.flow_graph.proofs.StepWords.{pc_listed}
 use Rattle.flow_graph.proofs.TightSetting.{MovedPays, Setting, mode}
 use Rattle.flow_graph.proofs.TightData.{branch_pays, delayed_moves, multiply_pays, placed_pays}
 use Rattle.flow_graph.proofs.TightTransfers.{block_pays, single_pays}
@@ -137,15 +136,13 @@ module _ (st : Stated) (profile : Profile) (address : ℕ) (to : Place) (s : Sta
         block_pays setting x span h.spot (λ j less. privileged j ∙ h.transfer.spots j less) h.transfer.block
         h.target
 
-    block_done : (x : Block) → BlockSet x Svc (lists_pc x.list) (count_ones x.list)
+    block_done : (x : Block) → BlockSet x Svc (is_listed x.list R15) (count_ones x.list)
         → OperationPays (operation.Block x)
     block_done x =
         let all = words_in x in
         let last = is_listed x.list R15 in
-        subst (λ n. BlockSet x Svc (lists_pc x.list) n → BlockDone x (lists_pc x.list) n)
-        (words_are x.list x.list_fits)
-        (subst (λ b. BlockSet x Svc b all → BlockDone x b all) (sym (pc_listed x.list x.list_fits))
-        (subst (λ m. BlockSet x m last all → BlockDone x last all) svc (block_set x)))
+        subst (λ n. BlockSet x Svc last n → BlockDone x last n) (words_are x.list x.list_fits)
+        (subst (λ m. BlockSet x m last all → BlockDone x last all) svc (block_set x))
 
     -- a trap leads to no place
     pub operation_set : (o : Operation) (calls : List ℕ) (a : ℕ)

@@ -1,9 +1,10 @@
 -- What a word does: to the flow of control, and besides its fetches (VL86C010 data sheet, by the table of
 -- instruction words, but for the cycles, of which a multiply has its most).
-use Rattle.std.specs.Prelude.{◌≡◌, ℕ, ◌≤◌, Bool, true, false, not, nat_le, count_ones, ◌&&◌}
+use Rattle.std.specs.Prelude.{◌≡◌, ℕ, ◌≤◌, Bool, true, false, not, count_ones, ◌&&◌}
 use Rattle.std.specs.Prelude.{if◌then◌else◌, ◌⊎◌}
 use Rattle.arm2_decode.specs.Names.{is_compare, is_pc}
 use Rattle.arm2_decode.specs.Table.{Means, IsUnallocated}
+use Rattle.arm2_decode.specs.Transfers.{is_listed}
 use Rattle.arm2_decode.specs.declared.instr.Instr.{Instr}
 use Rattle.arm2_decode.specs.declared.instr.Unallocated.{Unallocated}
 use Rattle.arm2_decode.specs.declared.instr.Operation.{Operation}
@@ -11,6 +12,7 @@ use Rattle.arm2_decode.specs.declared.instr.Operation.TheVariants as operation
 use Rattle.arm2_decode.specs.declared.names.Cond.{Cond}
 use Rattle.arm2_decode.specs.declared.names.Opcode.{Opcode}
 use Rattle.arm2_decode.specs.declared.names.Register.{Register}
+use Rattle.arm2_decode.specs.declared.names.Register.TheVariants.{R15}
 use Rattle.flow_graph.specs.declared.kinds.Kind.{Kind}
 use Rattle.flow_graph.specs.declared.kinds.Kind.TheVariants as kind
 use Rattle.flow_graph.specs.declared.kinds.Work.{Work}
@@ -18,10 +20,6 @@ use Rattle.flow_graph.specs.declared.kinds.Work.TheVariants as work
 use Rattle.flow_graph.specs.declared.kinds.Action.{Action}
 
 -- ## The flow of control
-
--- bit 15 of a list, the highest, stands for R15
-abbrev pub lists_pc : ℕ → Bool
-lists_pc list = nat_le 0x8000 list
 
 -- a word that writes R15 where the test holds
 abbrev pub writer_if : Bool → Kind
@@ -37,7 +35,7 @@ kind_of (operation.DataRegisterShift x) = data_kind x.opcode x.rd
 kind_of (operation.DataImmediate x) = data_kind x.opcode x.rd
 kind_of (operation.SingleImmediate x) = writer_if (x.load && is_pc x.rd)
 kind_of (operation.SingleRegister x) = writer_if (x.load && is_pc x.rd)
-kind_of (operation.Block x) = writer_if (x.load && lists_pc x.list)
+kind_of (operation.Block x) = writer_if (x.load && is_listed x.list R15)
 kind_of (operation.Branch x) = if x.link then kind.Call x.offset else kind.Branch x.offset
 kind_of (operation.Swi x) = kind.Trap
 kind_of (operation.UndefinedTransfer x) = kind.Trap

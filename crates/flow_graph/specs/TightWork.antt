@@ -14,10 +14,12 @@ use Rattle.memc.specs.Memory.{Memory, located}
 use Rattle.memc.specs.declared.spots.Spot.{Spot}
 use Rattle.arm2_decode.specs.Names.{is_pc, register_number}
 use Rattle.arm2_decode.specs.Table.{Means}
+use Rattle.arm2_decode.specs.Transfers.{is_listed}
 use Rattle.arm2_decode.specs.declared.flags.Flags.{Flags}
 use Rattle.arm2_decode.specs.declared.instr.Instr.{Instr}
 use Rattle.arm2_decode.specs.declared.instr.Operation.{Operation}
 use Rattle.arm2_decode.specs.declared.instr.Operation.TheVariants as operation
+use Rattle.arm2_decode.specs.declared.names.Register.TheVariants.{R15}
 use Rattle.arm2_effect.specs.declared.modes.Mode.TheVariants.{Svc}
 use Rattle.arm2_effect.specs.Modes.{r15_in, register_in}
 use Rattle.arm2_effect.specs.Operands.{first_of, rotated_byte, shifted_by_amount}
@@ -32,7 +34,7 @@ use Rattle.arm2_exec.specs.Step.{fetched, with_lines}
 use Rattle.arm2_exec.specs.declared.machine.Input.{Input}
 use Rattle.flow_graph.specs.Edges.{IsEdge, jump_ticks}
 use Rattle.flow_graph.specs.Free.{asks_for_user, writes_pc}
-use Rattle.flow_graph.specs.Kinds.{IsAction, lists_pc}
+use Rattle.flow_graph.specs.Kinds.{IsAction}
 use Rattle.flow_graph.specs.StepLaw.{IsPlaceOf, label_by}
 use Rattle.flow_graph.specs.Tight.{IsTight}
 use Rattle.flow_graph.specs.declared.edges.Edge.{Edge}
@@ -106,7 +108,7 @@ module _ (st : Stated) (profile : Profile) (address : ℕ) (to : Place) (s : Sta
       (address_for (of_immediate x) (register_in Svc (register_number x.rn) s.regs))
   IsSetFor (operation.SingleRegister x) = ⊥
   IsSetFor (operation.Block x) =
-      TransfersDearest x.load (lists_pc x.list) (count_ones x.list)
+      TransfersDearest x.load (is_listed x.list R15) (count_ones x.list)
       (lowest_of x (register_in Svc (register_number x.rn) s.regs) (count_ones x.list))
   IsSetFor _ = Unit {0}
 

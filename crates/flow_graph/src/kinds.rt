@@ -1,6 +1,6 @@
 ghost use Rattle.std.specs.Prelude.{◌≡◌};
 ghost use Rattle.flow_graph.specs.Kinds.{IsAction, IsWork, data_kind, is_writer};
-ghost use Rattle.flow_graph.specs.Kinds.{kind_of, lists_pc, transfer, work_of, writer_if};
+ghost use Rattle.flow_graph.specs.Kinds.{kind_of, transfer, work_of, writer_if};
 
 use arm2_decode::{Cond, Opcode, Operation, Register, decode};
 
@@ -53,13 +53,6 @@ pub fn data_processing(opcode: Opcode, rd: Register) -> Kind
     kind_if(rd.is_pc() && !opcode.is_compare())
 }
 
-/// Whether a block's list names R15, by bit 15.
-pub(crate) fn lists_pc(list: u32) -> bool
-    ensures { result ≡ lists_pc list }
-{
-    list >= 0x8000
-}
-
 fn operation_kind(operation: &Operation) -> Kind
     ensures { result ≡ kind_of operation.now }
 {
@@ -70,7 +63,7 @@ fn operation_kind(operation: &Operation) -> Kind
         Operation::DataImmediate(x) => data_processing(x.opcode, x.rd),
         Operation::SingleImmediate(x) => kind_if(x.load && x.rd.is_pc()),
         Operation::SingleRegister(x) => kind_if(x.load && x.rd.is_pc()),
-        Operation::Block(x) => kind_if(x.load && lists_pc(x.list)),
+        Operation::Block(x) => kind_if(x.load && x.is_listed(Register::R15)),
         Operation::Branch(x) => {
             if x.link {
                 Kind::Call(x.offset)

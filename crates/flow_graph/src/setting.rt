@@ -10,7 +10,6 @@ ghost use Rattle.flow_graph.specs.Free.{adds_an_immediate, is_free_operation};
 ghost use Rattle.flow_graph.specs.Setting.{MayStart, Sets, of_register, rotated, transfer_setting};
 
 use crate::free::writes_pc;
-use crate::kinds::lists_pc;
 use arm2_decode::{Block, DataImmediate, Opcode, Operation, Register, SingleImmediate};
 use bus_ticks::{
     Class, PHYSICAL_START, Profile, ROM_START, dearest_device, dearest_ram_start, word_address,
@@ -160,7 +159,7 @@ fn of_block(aim: &Aim, x: &Block) -> Setting
         word: base_of_block(x, first, words),
     };
     let last = word_address(first, words - 1);
-    transfer_setting(aim, base, x.load & lists_pc(x.list), last)
+    transfer_setting(aim, base, x.load & x.is_listed(Register::R15), last)
 }
 
 // The word in Rn by which the sum or the difference is the target.

@@ -12,5 +12,5 @@ overflow_sub-words c = some_words c.args.x.now
 
 pub returns : goal.returns
 returns c =
-    rw (c.transfer_setting.ensures, c.word_address-last.ensures.address, c.lists_pc.ensures)
+    rw (c.transfer_setting.ensures, c.word_address-last.ensures.address, c.is_listed.ensures)
     (block_sets c.args.aim.now c.args.x.now c.start-first.result c.base_of_block.result c.start-first.ensures c.base_of_block.ensures)
