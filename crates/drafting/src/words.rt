@@ -3,7 +3,7 @@ ghost use Rattle.drafting.specs.Reach.{HasReading, IsReading, way_of, writer_way
 ghost use Rattle.drafting.specs.declared.words.Reading.{Reading};
 ghost use Rattle.loader.specs.Image.{word_of};
 
-use arm2_decode::{Block, Cond, Opcode, Operation, Register, decode};
+use arm2_decode::{Block, Cond, Opcode, Operation, Register, decode, writes_base};
 use loader::Image;
 use word_shapes::{is_odd_writer, is_return, writes_pc};
 
@@ -106,9 +106,9 @@ fn data_written(opcode: Opcode, rd: Register) -> u32 {
     }
 }
 
-fn single_written(load: bool, rd: Register, moves_base: bool, rn: Register) -> u32 {
+fn single_written(load: bool, rd: Register, writes_rn: bool, rn: Register) -> u32 {
     let loaded = if load { bit(rd) } else { 0 };
-    let moved = if moves_base { bit(rn) } else { 0 };
+    let moved = if writes_rn { bit(rn) } else { 0 };
     loaded | moved
 }
 
@@ -129,10 +129,10 @@ fn written(operation: &Operation) -> u32 {
         Operation::DataRegisterShift(x) => data_written(x.opcode, x.rd),
         Operation::DataImmediate(x) => data_written(x.opcode, x.rd),
         Operation::SingleImmediate(x) => {
-            single_written(x.load, x.rd, !x.before || x.write_back, x.rn)
+            single_written(x.load, x.rd, writes_base(x.before, x.write_back), x.rn)
         }
         Operation::SingleRegister(x) => {
-            single_written(x.load, x.rd, !x.before || x.write_back, x.rn)
+            single_written(x.load, x.rd, writes_base(x.before, x.write_back), x.rn)
         }
         Operation::Block(x) => block_written(x),
         Operation::Branch(x) => { if x.link { ALL_REGISTERS } else { 0 } }

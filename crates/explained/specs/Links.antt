@@ -5,7 +5,7 @@ use Rattle.std.specs.List.Sorted.{IsStrictlySortedBy}
 use Rattle.std.specs.Ordering.{nat_cmp}
 use Rattle.bus_ticks.specs.Prices.{ahead_of}
 use Rattle.arm2_decode.specs.Names.{is_compare, is_link, is_never}
-use Rattle.arm2_decode.specs.Transfers.{is_listed}
+use Rattle.arm2_decode.specs.Transfers.{is_listed, writes_base}
 use Rattle.arm2_decode.specs.declared.instr.Instr.{Instr}
 use Rattle.arm2_decode.specs.declared.instr.Operation.{Operation}
 use Rattle.arm2_decode.specs.declared.instr.Operation.TheVariants as operation
@@ -27,13 +27,9 @@ use Rattle.word_shapes.specs.Words.{HasInstr, HasShape}
 abbrev pub data_writes_link : Opcode → Register → Bool
 data_writes_link o rd = is_link rd && not (is_compare o)
 
--- the base of a transfer of one word is written by W, and where the offset is added after the access
-abbrev pub moves_base : (before write_back : Bool) → Bool
-moves_base before write_back = write_back || not before
-
--- a load writes Rd
-abbrev pub single_writes_link : (load moves : Bool) → (rn rd : Register) → Bool
-single_writes_link load moves rn rd = (load && is_link rd) || (moves && is_link rn)
+-- a load of one word writes Rd, and a load or a store may write its base
+abbrev pub single_writes_link : (load writes_rn : Bool) → (rn rd : Register) → Bool
+single_writes_link load writes_rn rn rd = (load && is_link rd) || (writes_rn && is_link rn)
 
 -- the operation writes R14, other than a call
 abbrev pub writes_link : Operation → Bool
@@ -42,9 +38,9 @@ writes_link (operation.DataRegister x) = data_writes_link x.opcode x.rd
 writes_link (operation.DataRegisterShift x) = data_writes_link x.opcode x.rd
 writes_link (operation.DataImmediate x) = data_writes_link x.opcode x.rd
 writes_link (operation.SingleImmediate x) =
-    single_writes_link x.load (moves_base x.before x.write_back) x.rn x.rd
+    single_writes_link x.load (writes_base x.before x.write_back) x.rn x.rd
 writes_link (operation.SingleRegister x) =
-    single_writes_link x.load (moves_base x.before x.write_back) x.rn x.rd
+    single_writes_link x.load (writes_base x.before x.write_back) x.rn x.rd
 writes_link (operation.Block x) = (x.load && is_listed x.list R14) || (x.write_back && is_link x.rn)
 writes_link (operation.Branch x) = false
 writes_link (operation.Swi x) = false

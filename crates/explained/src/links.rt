@@ -7,13 +7,13 @@ ghost use Rattle.flow_graph.specs.declared.places.Place.{Place};
 ghost use Rattle.word_shapes.specs.Words.{HasShape};
 ghost use Rattle.explained.specs.Assumed.{Notes};
 ghost use Rattle.explained.specs.Links.{AreLostLinks, IsLost, KeepsLink, MayReturnByLink, data_writes_link};
-ghost use Rattle.explained.specs.Links.{may_return_by_link, moves_base, place_after};
+ghost use Rattle.explained.specs.Links.{may_return_by_link, place_after};
 ghost use Rattle.explained.specs.Links.{returns_by_link, single_writes_link, writes_link};
 ghost use Rattle.explained.specs.Losing.{Adds, ByEdge, Grows, IsAfter, IsFound, IsKeptTo};
 ghost use Rattle.explained.specs.Taken.{is_reached};
 
 use crate::assumptions::sorted;
-use arm2_decode::{Instr, Opcode, Operation, Register};
+use arm2_decode::{Instr, Opcode, Operation, Register, writes_base};
 use bus_ticks::ahead_of;
 use flow_graph::{Calls, Edge, Graph, Place};
 use loader::Image;
@@ -28,17 +28,10 @@ fn data_writes_link(opcode: Opcode, rd: Register) -> bool
     rd.is_link() && !opcode.is_compare()
 }
 
-// Whether a load or a store of one word writes its base.
-fn moves_base(before: bool, write_back: bool) -> bool
-    ensures { result ≡ moves_base before write_back }
+fn single_writes_link(load: bool, writes_rn: bool, rn: Register, rd: Register) -> bool
+    ensures { result ≡ single_writes_link load writes_rn rn rd }
 {
-    write_back || !before
-}
-
-fn single_writes_link(load: bool, moves: bool, rn: Register, rd: Register) -> bool
-    ensures { result ≡ single_writes_link load moves rn rd }
-{
-    load && rd.is_link() || moves && rn.is_link()
+    load && rd.is_link() || writes_rn && rn.is_link()
 }
 
 // Whether an operation writes R14, other than a call.
@@ -51,10 +44,10 @@ fn writes_link(operation: &Operation) -> bool
         Operation::DataRegisterShift(x) => data_writes_link(x.opcode, x.rd),
         Operation::DataImmediate(x) => data_writes_link(x.opcode, x.rd),
         Operation::SingleImmediate(x) => {
-            single_writes_link(x.load, moves_base(x.before, x.write_back), x.rn, x.rd)
+            single_writes_link(x.load, writes_base(x.before, x.write_back), x.rn, x.rd)
         }
         Operation::SingleRegister(x) => {
-            single_writes_link(x.load, moves_base(x.before, x.write_back), x.rn, x.rd)
+            single_writes_link(x.load, writes_base(x.before, x.write_back), x.rn, x.rd)
         }
         Operation::Block(x) => x.load && x.is_listed(Register::R14)
             || x.write_back && x.rn.is_link(),

@@ -14,7 +14,7 @@ use Rattle.shifter.specs.Shifts.{Has, by_register, moved}
 use Rattle.shifter.specs.Word.{word_bits}
 use Rattle.arm2_decode.specs.Allowed.{bit_of}
 use Rattle.arm2_decode.specs.Names.{is_lsl, is_mov, is_pc, register_number}
-use Rattle.arm2_decode.specs.Transfers.{is_listed}
+use Rattle.arm2_decode.specs.Transfers.{asks_for_user, is_listed}
 use Rattle.arm2_decode.specs.declared.flags.Flags.{Flags}
 use Rattle.arm2_decode.specs.declared.instr.Block.{Block}
 use Rattle.arm2_decode.specs.declared.instr.DataImmediate.{DataImmediate}
@@ -44,7 +44,7 @@ use Rattle.arm2_transfer.specs.Words.{registers_in}
 use Rattle.arm2_exec.specs.State.{State}
 use Rattle.arm2_exec.specs.Step.{with_lines}
 use Rattle.arm2_exec.specs.declared.machine.Input.{Input}
-use Rattle.flow_graph.specs.Free.{adds_an_immediate, asks_for_user, copies_a_register, is_add_or_sub, is_free_operation, writes_pc}
+use Rattle.flow_graph.specs.Free.{adds_an_immediate, copies_a_register, is_add_or_sub, is_free_operation, writes_pc}
 use Rattle.flow_graph.specs.Setting.{HasSetting, IsData, IsDataOf, IsMemory, IsPort, IsSource, MayStart, Sets, of_register, rotated, transfer_setting, with_source}
 use Rattle.flow_graph.specs.TightWork.{IsDearestTarget, TransfersDearest}
 use Rattle.flow_graph.specs.declared.places.Place.{Place}
@@ -159,7 +159,7 @@ module _ (aim : Aim) (words lowest : ℕ) (base : Held) (some : 1 ≤ words) whe
   other false last h = h
   other true last h = other_of aim.class last h
 
-pub single_sets : (aim : Aim) (x : SingleImmediate) (lowest base : ℕ) → is_pc x.rn ≡ false → asks_for_user x ≡ false → MayStart aim x.load 1 lowest → address_for (of_immediate x) base ≡ lowest
+pub single_sets : (aim : Aim) (x : SingleImmediate) (lowest base : ℕ) → is_pc x.rn ≡ false → asks_for_user x.before x.write_back ≡ false → MayStart aim x.load 1 lowest → address_for (of_immediate x) base ≡ lowest
     → Sets aim (operation.SingleImmediate x) (transfer_setting aim (record { register = x.rn; word = base }) (x.load && is_pc x.rd) (word_address lowest 0))
 single_sets aim x lowest base rn user may at =
     let held : Held = record { register = x.rn; word = base } in
@@ -182,7 +182,7 @@ pub single_sets_at : (aim : Aim) (x : SingleImmediate) (lowest base : ℕ) → I
 single_sets_at aim x lowest base free may at =
     let first : word_address lowest 0 ≡ lowest = omega (arith, next_word lowest 0 may.whole (omega (arith, may.below))) in
     subst (λ n. Sets aim (operation.SingleImmediate x) (transfer_setting aim (record { register = x.rn; word = base }) (x.load && is_pc x.rd) n)) first
-    (single_sets aim x lowest base (not-true (is_pc x.rn) (both _ _ free).0) (not-true (asks_for_user x) (both _ _ free).1) may at)
+    (single_sets aim x lowest base (not-true (is_pc x.rn) (both _ _ free).0) (not-true (asks_for_user x.before x.write_back) (both _ _ free).1) may at)
 
 pub some_words : (x : Block) → 1 ≤ count_ones x.list
 some_words x =

@@ -9,7 +9,7 @@ use Rattle.bus_ticks.specs.declared.profile.Profile.{Profile}
 use Rattle.bus_ticks.specs.Prices.{word_address}
 use Rattle.arm2_decode.specs.Allowed.{bit_of, is_bad_base, is_bad_byte, is_bad_load}
 use Rattle.arm2_decode.specs.Names.{is_pc, register_number}
-use Rattle.arm2_decode.specs.Transfers.{is_listed}
+use Rattle.arm2_decode.specs.Transfers.{asks_for_user, is_listed}
 use Rattle.arm2_decode.specs.declared.instr.Block.{Block}
 use Rattle.arm2_decode.specs.declared.instr.Operation.{Operation}
 use Rattle.arm2_decode.specs.declared.instr.Operation.TheVariants as operation
@@ -34,7 +34,6 @@ use Rattle.arm2_exec.specs.State.{State}
 use Rattle.arm2_exec.specs.Step.{with_lines}
 use Rattle.arm2_exec.specs.declared.machine.Input.{Input}
 use Rattle.flow_graph.specs.Edges.{landings}
-use Rattle.flow_graph.specs.Free.{asks_for_user}
 use Rattle.flow_graph.specs.Kinds.{data_kind, kind_of, transfer, work_of, writer_if}
 use Rattle.flow_graph.specs.TightWork.{IsDearestTarget, IsSetFor, TransfersDearest}
 use Rattle.flow_graph.specs.declared.places.Place.{Place}
@@ -89,14 +88,14 @@ module _ (st : Stated) (profile : Profile) (address : ℕ) (to : Place) (s : Sta
     abbrev lowest_at : SingleImmediate → ℕ
     lowest_at x = address_for (of_immediate x) (base_of x)
 
-    single_set : (x : SingleImmediate) → is_pc x.rn ≡ false → asks_for_user x ≡ false
+    single_set : (x : SingleImmediate) → is_pc x.rn ≡ false → asks_for_user x.before x.write_back ≡ false
         → TransfersDearest st profile address to s i x.load (is_pc x.rd) 1 (lowest_at x)
         → OperationPays (operation.SingleImmediate x)
     single_set x other not_user h =
         let base_is : first_of 8 x.rn s.regs ≡ base_of x =
         cond-false (is_pc x.rn) _ _ other ∙ ap (λ m. register_in m (register_number x.rn) s.regs) svc in
         let user : has_user_rights (of_immediate x) (mode setting) ≡ false =
-        ap (λ m. is_user m || (x.write_back && not x.before)) svc ∙ not_user in
+        ap (λ m. is_user m || asks_for_user x.before x.write_back) svc ∙ not_user in
         let below = h.transfer.block.of_class.below in
         let at : word_address (lowest_at x) 0 ≡ lowest_at x = omega (arith, h.transfer.whole, below) in
         let found = ap (λ u. located s.bus.memc (lowest_at x) u (not x.load)) user

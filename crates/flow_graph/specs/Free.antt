@@ -6,12 +6,12 @@ use Rattle.std.specs.Prelude.{Some, ◌⊎◌}
 use Rattle.loader.specs.Image.{Words, is_past_ram, word_of}
 use Rattle.arm2_decode.specs.Names.{is_lsl, is_mov, is_pc}
 use Rattle.arm2_decode.specs.Table.{Means}
+use Rattle.arm2_decode.specs.Transfers.{asks_for_user}
 use Rattle.arm2_decode.specs.declared.instr.DataImmediate.{DataImmediate}
 use Rattle.arm2_decode.specs.declared.instr.DataRegister.{DataRegister}
 use Rattle.arm2_decode.specs.declared.instr.Instr.{Instr}
 use Rattle.arm2_decode.specs.declared.instr.Operation.{Operation}
 use Rattle.arm2_decode.specs.declared.instr.Operation.TheVariants as operation
-use Rattle.arm2_decode.specs.declared.instr.SingleImmediate.{SingleImmediate}
 use Rattle.arm2_decode.specs.declared.names.Opcode.{Opcode}
 use Rattle.arm2_decode.specs.declared.names.Opcode.TheVariants as opcode
 use Rattle.arm2_decode.specs.declared.names.Register.{Register}
@@ -39,10 +39,6 @@ copies_a_register x = is_mov x.opcode && not (is_pc x.rm) && is_lsl x.shift && (
 abbrev pub adds_an_immediate : DataImmediate → Bool
 adds_an_immediate x = is_add_or_sub x.opcode && not (is_pc x.rn)
 
--- a single transfer asks for User rights: W is set although P is not
-abbrev pub asks_for_user : SingleImmediate → Bool
-asks_for_user x = x.write_back && not x.before
-
 -- not free are: data processing that writes R15, other than MOV of a register and ADD or SUB of an immediate
 -- as above; and single transfers whose base is R15, that ask for User rights, or whose offset is in a
 -- register. A trap counts as free, but no `do` edge leaves one
@@ -50,7 +46,8 @@ abbrev pub is_free_operation : Operation → Bool
 is_free_operation (operation.DataRegister x) = not (writes_pc x.opcode x.rd) || copies_a_register x
 is_free_operation (operation.DataRegisterShift x) = not (writes_pc x.opcode x.rd)
 is_free_operation (operation.DataImmediate x) = not (writes_pc x.opcode x.rd) || adds_an_immediate x
-is_free_operation (operation.SingleImmediate x) = not (is_pc x.rn) && not (asks_for_user x)
+is_free_operation (operation.SingleImmediate x) =
+    not (is_pc x.rn) && not (asks_for_user x.before x.write_back)
 is_free_operation (operation.SingleRegister x) = false
 is_free_operation _ = true
 

@@ -14,7 +14,7 @@ use Rattle.memc.specs.Memory.{Memory, located}
 use Rattle.memc.specs.declared.spots.Spot.{Spot}
 use Rattle.arm2_decode.specs.Names.{is_pc, register_number}
 use Rattle.arm2_decode.specs.Table.{Means}
-use Rattle.arm2_decode.specs.Transfers.{is_listed}
+use Rattle.arm2_decode.specs.Transfers.{asks_for_user, is_listed}
 use Rattle.arm2_decode.specs.declared.flags.Flags.{Flags}
 use Rattle.arm2_decode.specs.declared.instr.Instr.{Instr}
 use Rattle.arm2_decode.specs.declared.instr.Operation.{Operation}
@@ -33,7 +33,7 @@ use Rattle.arm2_exec.specs.State.{State}
 use Rattle.arm2_exec.specs.Step.{fetched, with_lines}
 use Rattle.arm2_exec.specs.declared.machine.Input.{Input}
 use Rattle.flow_graph.specs.Edges.{IsEdge, jump_ticks}
-use Rattle.flow_graph.specs.Free.{asks_for_user, writes_pc}
+use Rattle.flow_graph.specs.Free.{writes_pc}
 use Rattle.flow_graph.specs.Kinds.{IsAction}
 use Rattle.flow_graph.specs.StepLaw.{IsPlaceOf, label_by}
 use Rattle.flow_graph.specs.Tight.{IsTight}
@@ -103,7 +103,7 @@ module _ (st : Stated) (profile : Profile) (address : ℕ) (to : Place) (s : Sta
       (outcome_of x.opcode (first_of 8 x.rn s.regs) (rotated_byte x.value x.rotation s.regs)
       (flags_of (r15_in s.regs))).value
   IsSetFor (operation.SingleImmediate x) =
-      (is_pc x.rn ≡ false) × (asks_for_user x ≡ false)
+      (is_pc x.rn ≡ false) × (asks_for_user x.before x.write_back ≡ false)
       × TransfersDearest x.load (is_pc x.rd) 1
       (address_for (of_immediate x) (register_in Svc (register_number x.rn) s.regs))
   IsSetFor (operation.SingleRegister x) = ⊥

@@ -1,12 +1,12 @@
 ghost use Rattle.std.specs.Prelude.{◌≡◌, ◌↔◌, IsTrue};
 ghost use Rattle.flow_graph.specs.Free.{HasFreeWord, IsFree, IsFreeWord, adds_an_immediate};
-ghost use Rattle.flow_graph.specs.Free.{asks_for_user, copies_a_register, is_free_operation, writes_pc};
+ghost use Rattle.flow_graph.specs.Free.{copies_a_register, is_free_operation, writes_pc};
 
 use crate::edges::{Edge, Label};
 use crate::kinds::{data_processing, is_r15_writer};
 use crate::places::Place;
 use arm2_decode::{
-    DataImmediate, DataRegister, Opcode, Operation, Register, SingleImmediate, decode,
+    DataImmediate, DataRegister, Opcode, Operation, Register, asks_for_user, decode,
 };
 use loader::{Image, is_past_ram};
 
@@ -28,12 +28,6 @@ fn adds_an_immediate(x: &DataImmediate) -> bool
     matches!(x.opcode, Opcode::Add | Opcode::Sub) && !x.rn.is_pc()
 }
 
-fn asks_for_user(x: &SingleImmediate) -> bool
-    ensures { result ≡ asks_for_user x.now }
-{
-    x.write_back && !x.before
-}
-
 fn is_free_operation(operation: &Operation) -> bool
     ensures { result ≡ is_free_operation operation.now }
 {
@@ -41,7 +35,7 @@ fn is_free_operation(operation: &Operation) -> bool
         Operation::DataRegister(x) => !writes_pc(x.opcode, x.rd) || copies_a_register(x),
         Operation::DataRegisterShift(x) => !writes_pc(x.opcode, x.rd),
         Operation::DataImmediate(x) => !writes_pc(x.opcode, x.rd) || adds_an_immediate(x),
-        Operation::SingleImmediate(x) => !x.rn.is_pc() && !asks_for_user(x),
+        Operation::SingleImmediate(x) => !x.rn.is_pc() && !asks_for_user(x.before, x.write_back),
         Operation::SingleRegister(_) => false,
         _ => true,
     }
