@@ -3,16 +3,16 @@ ghost use Rattle.std.specs.Borrow.{sem};
 ghost use Rattle.memc.specs.Memory.{shift_of_size};
 ghost use Rattle.arm2_effect.specs.Modes.{r15_in};
 ghost use Rattle.arm2_exec.specs.State.{IsReset, register_of, reset_r15, with_register_of};
-ghost use Rattle.arm2_exec.specs.Step.{HasOneOutcome, Step, fetched, interrupt_due, traced_word, with_lines};
+ghost use Rattle.arm2_exec.specs.Step.{HasOneOutcome, Step, fetched, traced_word};
 ghost use Rattle.arm2_exec.specs.Run.{Runs};
 ghost use Rattle.arm2_exec.specs.Lent.{LendsIoc, LendsMemc, LendsVidc};
 ghost use Rattle.arm2_effect.specs.declared.modes.Reg.TheVariants.{R15};
 ghost use Rattle.arm2_exec.specs.declared.machine.MachineFault.TheVariants.{Memory};
 
 use crate::decoded::Decoded;
-use crate::work::{elapse, fetch, interrupt, work};
+use crate::work::{elapse, fetch, work};
 use arm2_decode::decode;
-use arm2_effect::{Kind, Prices, Reg, Registers, Vector, Why, address_of};
+use arm2_effect::{Kind, Prices, Reg, Registers, Why, address_of};
 use arm2_transfer::{Bus, Inputs};
 use bus_ticks::Profile;
 use ioc::{Ioc, Lines};
@@ -207,15 +207,6 @@ impl Machine {
         ensures { result ≡ self.now.profile }
     {
         self.inputs.prices.profile
-    }
-
-    /// The interrupt that a step takes once the lines are these: FIQ, or else IRQ, each unless R15 masks it.
-    pub fn interrupt_due(&self, lines: Lines) -> Option<Vector>
-        ensures { result ≡ interrupt_due (with_lines lines.0 self.now.bus) (r15_in self.now.regs) }
-    {
-        let mut ioc = self.bus.ioc.snapshot();
-        ioc.lines(lines);
-        interrupt(&ioc, self.registers.get(Reg::R15))
     }
 
     /// The word at the address in R15; none where the mode may not fetch there, and among the devices.

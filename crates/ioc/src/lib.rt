@@ -94,21 +94,6 @@ impl Ioc {
         }
     }
 
-    /// A copy of IOC as it is now.
-    pub fn snapshot(&self) -> Ioc
-        ensures { result ≡ self.now }
-    {
-        Ioc {
-            lines: self.lines,
-            a2_rose: self.a2_rose,
-            flyback_rose: self.flyback_rose,
-            mask_a: self.mask_a,
-            mask_b: self.mask_b,
-            mask_f: self.mask_f,
-            timers: Countdown::new(self.timers.current()),
-        }
-    }
-
     /// Sets all lines to what they are now. [`Lines::A2`] is latched where it becomes active; the others
     /// are levels.
     #[inline(always)]
