@@ -1,9 +1,9 @@
-ghost use Rattle.std.specs.Prelude.{◌≡◌, ◌<◌, ◌^◌, IfOk};
+ghost use Rattle.std.specs.Prelude.{◌≡◌, ◌<◌, ◌%◌, ◌^◌, IfOk};
 ghost use Rattle.std.specs.Borrow.{sem};
 ghost use Rattle.memc.specs.Memory.{shift_of_size};
 ghost use Rattle.arm2_effect.specs.Modes.{r15_in};
 ghost use Rattle.arm2_exec.specs.State.{IsReset, register_of, reset_r15, with_register_of};
-ghost use Rattle.arm2_exec.specs.Step.{HasOneOutcome, Step, fetched, traced_word};
+ghost use Rattle.arm2_exec.specs.Step.{HasOneOutcome, Step, address_in, fetched, traced_word};
 ghost use Rattle.arm2_exec.specs.Run.{Runs};
 ghost use Rattle.arm2_exec.specs.Lent.{LendsIoc, LendsMemc, LendsVidc};
 ghost use Rattle.arm2_effect.specs.declared.modes.Reg.TheVariants.{R15};
@@ -14,7 +14,7 @@ use crate::work::{elapse, fetch, work};
 use arm2_decode::decode;
 use arm2_effect::{Kind, Prices, Reg, Registers, Why, address_of};
 use arm2_transfer::{Bus, Inputs};
-use bus_ticks::Profile;
+use bus_ticks::{Profile, SPACE_END};
 use ioc::{Ioc, Lines};
 use memc::{Memc, MemcFault, PageSize};
 use std::alloc::{AllocError, Global};
@@ -155,6 +155,23 @@ impl Machine {
         ensures { self.new ≡ with_register_of register word self.old }
     {
         self.registers.set(register, word);
+    }
+
+    /// All registers.
+    pub fn registers(&self) -> &Registers
+        ensures { result.now ≡ self.now.regs }
+    {
+        &self.registers
+    }
+
+    /// The address in R15, in bytes: a multiple of 4 below 2^26.
+    #[inline(always)]
+    pub fn address(&self) -> u32
+        ensures address { result ≡ address_in self.now.regs }
+        ensures below { result < SPACE_END }
+        ensures aligned { result % 4 ≡ 0 }
+    {
+        address_of(self.get(Reg::R15))
     }
 
     /// The memory controller, with its RAM and ROM.
