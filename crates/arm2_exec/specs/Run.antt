@@ -1,5 +1,5 @@
 -- A run: steps, one input each, up to the first that is stopped.
-use Rattle.std.specs.Prelude.{◌≡◌, ℕ, ◌+◌, ◌*◌, List, [], ◌∷◌, Option, Some, None}
+use Rattle.std.specs.Prelude.{◌≡◌, ℕ, ◌+◌, ◌*◌, ◌^◌, ◌≤◌, List, [], ◌∷◌, Option, Some, None}
 use Rattle.arm2_effect.specs.declared.step_end.Kind.{Kind}
 use Rattle.arm2_effect.specs.declared.step_end.Kind.TheVariants.{Plain, Taken, Stopped}
 use Rattle.arm2_effect.specs.declared.step_end.Why.{Why}
@@ -28,6 +28,21 @@ counted burst i stepped rest =
       elapsed = stepped.ticks + burst * i.bursts + rest.elapsed;
       stopped = rest.stopped;
     }
+
+-- one step after others
+abbrev pub further : (burst : ℕ) → Input → Stepped → Ran → Ran
+further burst i stepped ran =
+    record {
+      steps = ran.steps + 1;
+      ticks = ran.ticks + stepped.ticks;
+      elapsed = ran.elapsed + (stepped.ticks + burst * i.bursts);
+      stopped = ran.stopped;
+    }
+
+-- what so many steps can report at most
+abbrev pub IsWithin : (steps : ℕ) → Ran → Type 0
+IsWithin steps ran =
+    (ran.steps ≤ steps) × (ran.ticks ≤ steps * 2 ^ 16) × (ran.elapsed ≤ steps * 2 ^ 33)
 
 -- a stopped step ends the run and does not count; after any other the run goes on
 abbrev pub Ends : Option Why → State → Ran → State → (goes_on : Type 0) → Type 0

@@ -1,10 +1,10 @@
-ghost use Rattle.std.specs.Prelude.{◌≡◌, ◌<◌, ◌%◌, ◌^◌, IfOk};
+ghost use Rattle.std.specs.Prelude.{◌≡◌, ◌+◌, ◌<◌, ◌%◌, ◌^◌, ℕ, IfOk, None};
 ghost use Rattle.std.specs.Borrow.{sem};
 ghost use Rattle.memc.specs.Memory.{shift_of_size};
 ghost use Rattle.arm2_effect.specs.Modes.{r15_in};
 ghost use Rattle.arm2_exec.specs.State.{IsReset, register_of, reset_r15, with_register_of};
 ghost use Rattle.arm2_exec.specs.Step.{HasOneOutcome, Step, address_in, fetched, traced_word};
-ghost use Rattle.arm2_exec.specs.Run.{Runs};
+ghost use Rattle.arm2_exec.specs.Run.{IsWithin, Runs, at_rest, further};
 ghost use Rattle.arm2_exec.specs.Lent.{LendsIoc, LendsMemc, LendsVidc};
 ghost use Rattle.arm2_effect.specs.declared.modes.Reg.TheVariants.{R15};
 ghost use Rattle.arm2_exec.specs.declared.machine.MachineFault.TheVariants.{Memory};
@@ -88,6 +88,34 @@ pub struct Ran {
     pub elapsed: u128,
     /// Why the machine stopped, if it did.
     pub stopped: Option<Why>,
+}
+
+impl Ran {
+    /// No steps, before the first.
+    pub fn new() -> Ran
+        ensures { result ≡ at_rest None }
+    {
+        Ran {
+            steps: 0,
+            ticks: 0,
+            elapsed: 0,
+            stopped: None,
+        }
+    }
+
+    /// Counts one step more, which was not stopped: its ticks, and those of its bursts by the profile.
+    #[inline(always)]
+    pub fn count(&mut self, profile: &Profile, input: Input, stepped: Stepped)
+        requires within { IsWithin (2 ^ 63) self.old }
+        requires small { stepped.ticks < 2 ^ 16 }
+        ensures counted { self.new ≡ further profile.now.burst input stepped self.old }
+        ensures bound { (made : ℕ) → IsWithin made self.old → IsWithin (made + 1) self.new }
+    {
+        let ticks = u128::from(stepped.ticks);
+        self.steps += 1;
+        self.ticks += ticks;
+        self.elapsed += ticks + u128::from(profile.burst_ticks(input.bursts));
+    }
 }
 
 /// The machine: processor, memory, devices, and the prices of their accesses.
@@ -284,22 +312,14 @@ impl Machine {
     pub fn run(&mut self, inputs: &[Input]) -> Ran
         ensures { Runs self.old inputs.now result self.new }
     {
-        let mut ran = Ran {
-            steps: 0,
-            ticks: 0,
-            elapsed: 0,
-            stopped: None,
-        };
+        let mut ran = Ran::new();
         for input in inputs {
             let stepped = self.step(*input);
             if let Kind::Stopped(why) = stepped.kind {
                 ran.stopped = Some(why);
                 return ran;
             }
-            let stretched = self.inputs.prices.profile.burst_ticks(input.bursts);
-            ran.steps += 1;
-            ran.ticks += u128::from(stepped.ticks);
-            ran.elapsed += u128::from(stepped.ticks) + u128::from(stretched);
+            ran.count(&self.inputs.prices.profile, *input, stepped);
         }
         ran
     }

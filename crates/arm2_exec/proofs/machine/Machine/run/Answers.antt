@@ -1,11 +1,13 @@
-use Rattle.std.proofs.Common.{◌≡◌, ◌∙◌, ◌+◌, ◌*◌, ap, arith, drop}
+use Rattle.std.proofs.Common.{◌≡◌, ◌∙◌, ◌+◌, ap, drop, subst, sym}
 use Rattle.std.specs.Prelude.{slice_index_or}
 use Rattle.std.proofs.lemmas.List.{drop_more}
 use Rattle.std.proofs.Math.ListN.{drop_of_length-le}
 use Rattle.arm2_exec.specs.declared.machine.Input.{Input}
 use Rattle.bus_ticks.specs.declared.profile.Profile.{Profile}
+use Rattle.arm2_exec.specs.declared.machine.Ran.{Ran}
+use Rattle.arm2_exec.specs.Run.{further}
 use Rattle.arm2_exec.specs.State.{State}
-use Rattle.arm2_exec.proofs.RunLemmas.{at_end, at_stop, more_steps}
+use Rattle.arm2_exec.proofs.RunLemmas.{SoFar, at_end, at_stop, more_steps}
 use Rattle.arm2_exec.proofs.StepLemmas.{same_profile}
 use Rattle.arm2_exec.proofs.machine.Machine.run.Goals as goal
 
@@ -17,21 +19,19 @@ returns-in-Stopped c =
 
 pub loop-input-preserved : goal.loop-input-preserved
 loop-input-preserved c =
-    let input : Input = slice_index_or c.args.inputs.now c.loop-input.input-index (record { bursts = 0; lines = record { 0 = 0 }; port = 0 }) in
+    let start = c.args.self.now in
+    let inputs = c.args.inputs.now in
+    let s = c.loop-input.self in
+    let ran = c.loop-input.ran in
+    let next = c.step-stepped.new.self in
+    let stepped = c.step-stepped.result in
+    let index = c.loop-input.input-index in
+    let input : Input = slice_index_or inputs index (record { bursts = 0; lines = record { 0 = 0 }; port = 0 }) in
     let step = c.step-stepped.ensures.step in
-    let price : c.self.inside.inputs.prices.profile ≡ c.loop-input.self.profile = ap (λ (s : State). s.profile) c.self.view_is ∙ same_profile c.loop-input.self input c.step-stepped.result c.step-stepped.new.self step in
-    let stretched : c.from-in-loop-input-2.result ≡ c.loop-input.self.profile.burst * input.bursts = c.from-in-loop-input-2.ensures ∙ c.burst_ticks-stretched.ensures.ticks ∙ ap (λ (p : Profile). p.burst * input.bursts) price in
-    let goes = more_steps c.args.self.now c.args.inputs.now c.loop-input.ran c.loop-input.self c.step-stepped.new.self (drop c.loop-input.input-index c.args.inputs.now) (drop (c.loop-input.input-index + 1) c.args.inputs.now) input
-    c.step-stepped.result c.loop-input.invariant.0 (drop_more c.args.inputs.now c.loop-input.input-index _ c.loop-input-test.true) step c.in_default.not-Stopped in
-    let bound = c.step-stepped.ensures.bound in
-    let same = c.from.ensures in
-    let again = c.from-in-loop-input.ensures in
-    let long = c.loop-input.invariant.2 in
-    let spent = c.loop-input.invariant.3 in
-    let passed = c.loop-input.invariant.4 in
-    let stretch = c.burst_ticks-stretched.ensures.bound in
-    let small = c.from-in-loop-input-2.ensures in
-    (rw (same, again, stretched) goes, c.loop-input.invariant.1, omega (arith, long), omega (arith, spent, same, bound), omega (arith, passed, again, bound, small, stretch))
+    let price : c.self.inside.inputs.prices.profile ≡ s.profile = ap (λ (x : State). x.profile) c.self.view_is ∙ same_profile s input stepped next step in
+    let counted : c.count.new.self ≡ further s.profile.burst input stepped ran = c.count.ensures.counted ∙ ap (λ (p : Profile). further p.burst input stepped ran) price in
+    let goes = more_steps start inputs ran s next (drop index inputs) (drop (index + 1) inputs) input stepped c.loop-input.invariant.0 (drop_more inputs index _ c.loop-input-test.true) step c.in_default.not-Stopped in
+    (subst (λ (r : Ran). SoFar start inputs r next (drop (index + 1) inputs)) (sym counted) goes, ap (λ (r : Ran). r.stopped) counted ∙ c.loop-input.invariant.1, c.count.ensures.bound index c.loop-input.invariant.2)
 
 pub returns : goal.returns
 returns c =
