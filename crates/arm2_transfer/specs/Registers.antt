@@ -17,6 +17,10 @@ is_user Svc = false
 abbrev pub moved_by : (up : Bool) → (base offset : ℕ) → ℕ
 moved_by up base offset = if up then (base + offset) % 2 ^ 32 else (base + (2 ^ 32 - offset)) % 2 ^ 32
 
+-- the address of a single transfer, of 32 bits: the base, moved before the access where P is set
+abbrev pub address_by : (before up : Bool) → (base offset : ℕ) → ℕ
+address_by before up base offset = if before then moved_by up base offset else base
+
 -- what a store takes from a register of a mode: R15 is three words on, with its PSR and mode
 abbrev pub given : Mode → Register → List ℕ → ℕ
 given mode register regs =

@@ -20,12 +20,13 @@ use Rattle.arm2_transfer.specs.declared.words.TransferFault.{TransferFault}
 use Rattle.arm2_transfer.specs.declared.single_fields.Single.{Single}
 use Rattle.arm2_transfer.specs.Bus.{seen, made_of, put_single}
 use Rattle.arm2_transfer.specs.Words.{or_fault}
-use Rattle.arm2_transfer.specs.Registers.{is_user, moved_by, given, with_loaded, with_base, passed}
+use Rattle.arm2_transfer.specs.Registers.{address_by, is_user, moved_by, given, with_loaded, with_base}
+use Rattle.arm2_transfer.specs.Registers.{passed}
 use Rattle.arm2_transfer.specs.Moved.{Moved, out_of_space, faulted, load_accesses, store_accesses}
 
--- the address, of 32 bits: the base, moved before the access where P is set
+-- the address, from the base
 abbrev pub address_for : Single → (base : ℕ) → ℕ
-address_for x base = if x.before then moved_by x.up base x.offset else base
+address_for x base = address_by x.before x.up base x.offset
 
 -- whether the access has the rights of User: in User mode, and where it asks for them
 abbrev pub has_user_rights : Single → Mode → Bool

@@ -7,13 +7,14 @@ ghost use Rattle.arm2_transfer.specs.Moved.{ChangesNothing, IsMoved, load_access
 ghost use Rattle.arm2_effect.specs.ProgramCounter.{address_of, mode_of};
 ghost use Rattle.arm2_transfer.specs.Registers.{passed, with_base};
 ghost use Rattle.arm2_transfer.specs.Block.{all_loaded, all_put, block_at, block_loads, block_mode};
-ghost use Rattle.arm2_transfer.specs.Block.{block_moved, block_put, block_stores, lowest_of, mode_for};
+ghost use Rattle.arm2_transfer.specs.Block.{block_moved, block_put, block_stores, mode_for};
 ghost use Rattle.arm2_transfer.specs.Block.{span_of, written_back};
 
+use crate::addresses::{lowest_of, moved_by};
 use crate::bus::{Bus, put, see};
 use crate::inputs::Inputs;
 use crate::moved::{Accesses, load_ticks, refuse, store_ticks};
-use crate::registers::{Loading, enter, give, is_user, moved_by, pass, write_base};
+use crate::registers::{Loading, enter, give, is_user, pass, write_base};
 use crate::run::{load_along, put_along};
 use crate::span::Span;
 use crate::words::{Move, count, locate_block, split_lowest};
@@ -22,25 +23,12 @@ use arm2_effect::{Done, Kind, Mode, Prices, Reg, Registers, Vector, address_of, 
 use bus_ticks::SPACE_END;
 use memc::Spot;
 
-fn lowest(transfer: &Block, base: u32, words: u32) -> u32
-    requires { words ≤ 16 }
-    ensures { result ≡ lowest_of transfer.now base words }
-{
-    let lowest = match (transfer.up, transfer.before) {
-        (true, true) => base.wrapping_add(4),
-        (true, false) => base,
-        (false, true) => base.wrapping_sub(4 * words),
-        (false, false) => base.wrapping_sub(4 * words).wrapping_add(4),
-    };
-    lowest / 4 * 4
-}
-
 fn span_of(transfer: &Block, base: u32, words: u32) -> Span
     requires { words ≤ 16 }
     ensures { result ≡ span_of transfer.now base words }
 {
     Span {
-        lowest: lowest(transfer, base, words),
+        lowest: lowest_of(transfer, base, words),
         words,
         base: moved_by(transfer.up, base, 4 * words),
     }

@@ -7,6 +7,7 @@
 //! constant time.
 #![tactic(auto)]
 
+mod addresses;
 mod block_transfer;
 mod bus;
 mod inputs;
@@ -20,6 +21,7 @@ mod single_transfer;
 mod span;
 mod words;
 
+pub use addresses::{address_by, lowest_of, moved_by};
 pub use bus::Bus;
 pub use inputs::Inputs;
 pub use law::bases_after_transfers;

@@ -1,5 +1,5 @@
 ghost use Rattle.std.specs.Prelude.{◌≡◌, ◌<◌};
-ghost use Rattle.arm2_transfer.specs.Registers.{is_user, moved_by, given, with_loaded, with_base};
+ghost use Rattle.arm2_transfer.specs.Registers.{is_user, given, with_loaded, with_base};
 ghost use Rattle.arm2_transfer.specs.Registers.{passed, loaded_r15};
 
 use arm2_decode::Register;
@@ -10,18 +10,6 @@ pub(crate) fn is_user(mode: Mode) -> bool
     ensures { result ≡ is_user mode }
 {
     matches!(mode, Mode::User)
-}
-
-/// A base and an offset, on 32 bits.
-#[inline(always)]
-pub(crate) fn moved_by(up: bool, base: u32, offset: u32) -> u32
-    ensures { result ≡ moved_by up base offset }
-{
-    if up {
-        base.wrapping_add(offset)
-    } else {
-        base.wrapping_sub(offset)
-    }
 }
 
 /// What a store takes from a register.

@@ -1,4 +1,5 @@
-use crate::registers::{is_user, moved_by, pass, write_base};
+use crate::addresses::{address_by, moved_by};
+use crate::registers::{is_user, pass, write_base};
 use arm2_decode::{Register, asks_for_user, writes_base};
 use arm2_effect::{Mode, Reg, Registers, mode_of};
 
@@ -31,11 +32,7 @@ impl Single {
     pub(crate) fn address(self, base: u32) -> u32
         ensures { result ≡ address_for self base }
     {
-        if self.before {
-            moved_by(self.up, base, self.offset)
-        } else {
-            base
-        }
+        address_by(self.before, self.up, base, self.offset)
     }
 
     /// Whether the access has the rights of User.
