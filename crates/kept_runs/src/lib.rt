@@ -9,7 +9,6 @@ mod following;
 mod handler;
 mod judging;
 mod reading;
-mod registers;
 mod stays;
 mod tally;
 mod transfers;

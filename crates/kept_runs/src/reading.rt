@@ -5,10 +5,9 @@ ghost use Rattle.arm2_effect.specs.Modes.{r15_in};
 ghost use Rattle.arm2_exec.specs.Step.{fetched};
 ghost use Rattle.kept_runs.specs.Reading.{HasNoWord, IsReading, StandsThere, transfer_if};
 
-use crate::registers::passes;
 use crate::transfers::{Transfer, words_of};
 use arm2_decode::{Instr, decode};
-use arm2_effect::address_of;
+use arm2_effect::{Registers, address_of};
 use arm2_exec::{Machine, Reg};
 use loader::Image;
 
@@ -37,12 +36,12 @@ pub(crate) fn own_word(image: &Image, machine: &Machine) -> Option<u32>
     Some(word)
 }
 
-fn transfer(machine: &Machine, instr: &Instr, holds: bool) -> Option<Transfer>
-    ensures words { result ≡ transfer_if holds instr.now.operation machine.now.regs }
+fn transfer(registers: &Registers, instr: &Instr, holds: bool) -> Option<Transfer>
+    ensures words { result ≡ transfer_if holds instr.now.operation registers.now }
     ensures few { IfSome result (λ t. t.words ≤ 16) }
 {
     if holds {
-        words_of(machine, &instr.operation)
+        words_of(registers, &instr.operation)
     } else {
         None
     }
@@ -53,16 +52,17 @@ pub(crate) fn read_word(machine: &Machine, word: u32) -> Reading
     ensures reading { IsReading word machine.now.regs result }
     ensures few { IfSome result.transfer (λ t. t.words ≤ 16) }
 {
+    let registers = machine.registers();
     match decode(word) {
         Ok(instr) => {
-            let holds = passes(machine, instr.cond);
+            let holds = registers.passes(instr.cond);
             Reading {
                 holds,
-                transfer: transfer(machine, &instr, holds),
+                transfer: transfer(registers, &instr, holds),
             }
         }
         Err(unallocated) => Reading {
-            holds: passes(machine, unallocated.cond),
+            holds: registers.passes(unallocated.cond),
             transfer: None,
         },
     }

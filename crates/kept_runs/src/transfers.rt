@@ -7,9 +7,8 @@ ghost use Rattle.arm2_transfer.specs.Registers.{moved_by};
 ghost use Rattle.kept_runs.specs.Transfers.{covers, words_of};
 ghost use Rattle.kept_runs.specs.Transfers.{AllOf, HasNoOther, HasOther, HasOtherOf, address_by};
 
-use crate::registers::{base, current, offset};
 use arm2_decode::{Block, Operation};
-use arm2_exec::Machine;
+use arm2_effect::{Reg, Registers, mode_of};
 use bus_ticks::{Class, SPACE_END, class_of, word_address};
 
 /// The words that an instruction transfers where it is carried out.
@@ -66,29 +65,30 @@ fn lowest(block: &Block, base: u32, words: u32) -> u32
     lowest / 4 * 4
 }
 
-/// The words that an operation transfers from where the machine is.
-pub(crate) fn words_of(machine: &Machine, operation: &Operation) -> Option<Transfer>
-    ensures words { result ≡ words_of operation.now machine.now.regs }
+/// The words that an operation transfers, by the registers before it.
+pub(crate) fn words_of(registers: &Registers, operation: &Operation) -> Option<Transfer>
+    ensures words { result ≡ words_of operation.now registers.now }
     ensures few { IfSome result (λ t. t.words ≤ 16) }
 {
     match operation {
         Operation::SingleImmediate(x) => Some(Transfer {
-            address: address(x.before, x.up, base(machine, x.rn), x.offset),
+            address: address(x.before, x.up, registers.first(x.rn, 8), x.offset),
             words: 1,
             store: !x.load,
         }),
         Operation::SingleRegister(x) => {
-            let offset = offset(machine, x).value;
+            let offset = registers.shifted_by_amount(x.shift, x.amount, x.rm).value;
             Some(Transfer {
-                address: address(x.before, x.up, base(machine, x.rn), offset),
+                address: address(x.before, x.up, registers.first(x.rn, 8), offset),
                 words: 1,
                 store: !x.load,
             })
         }
         Operation::Block(x) => {
             let words = x.list.count_ones();
+            let mode = mode_of(registers.get(Reg::R15));
             Some(Transfer {
-                address: lowest(x, current(machine, x.rn), words),
+                address: lowest(x, registers.read(mode, x.rn), words),
                 words,
                 store: !x.load,
             })

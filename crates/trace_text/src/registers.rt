@@ -2,9 +2,9 @@ ghost use Rattle.std.specs.Prelude.{◌≡◌, ◌++◌, ◌+◌, ◌<◌, Match
 ghost use Rattle.trace_text.specs.TraceText.{four_text, register_text, registers_text};
 
 use crate::figures::hex_word;
+use arm2_decode::Register;
 use arm2_effect::{Mode, mode_of};
 use arm2_exec::{Machine, Reg};
-use register_banks::banked;
 use std::alloc::AllocError;
 use std::fmt::Write;
 
@@ -21,7 +21,7 @@ fn put_register(
         (string_bytes out.new
         ≡ string_bytes out.old ++ (register_text mode machine.now.regs number ++ end.now)) }
 {
-    let word = hex_word(machine.get(banked(mode, number)));
+    let word = hex_word(machine.registers().read(mode, Register::of(number)));
     write!(out, "R{number}={word}{end}")
 }
 
