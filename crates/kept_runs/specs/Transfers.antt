@@ -1,6 +1,6 @@
 -- The words that an instruction transfers where it is carried out, by the registers before it (VL86C010 data
 -- sheet, single and block data transfer).
-use Rattle.std.specs.Prelude.{◌≡◌, ℕ, ◌<◌, Bool, true, false, not, count_ones, if◌then◌else◌}
+use Rattle.std.specs.Prelude.{◌≡◌, ℕ, ◌<◌, Bool, true, false, not, count_ones}
 use Rattle.std.specs.Prelude.{List, Option, Some, None}
 use Rattle.bus_ticks.specs.declared.space.TheConstants.{SPACE_END}
 use Rattle.bus_ticks.specs.Prices.{word_address}
@@ -12,13 +12,9 @@ use Rattle.arm2_decode.specs.declared.instr.Operation.{Operation}
 use Rattle.arm2_decode.specs.declared.instr.Operation.TheVariants as operation
 use Rattle.arm2_effect.specs.Operands.{current_in, first_of, shifted_by_amount}
 use Rattle.arm2_transfer.specs.Block.{lowest_of}
-use Rattle.arm2_transfer.specs.Registers.{moved_by}
+use Rattle.arm2_transfer.specs.Registers.{address_by}
 use Rattle.kept_runs.specs.declared.transfers.Access.{Access}
 use Rattle.kept_runs.specs.declared.transfers.Transfer.{Transfer}
-
--- the address of a single transfer, of 32 bits: the base, moved before the access where P is set
-abbrev pub address_by : (before up : Bool) → (base offset : ℕ) → ℕ
-address_by before up base offset = if before then moved_by up base offset else base
 
 abbrev pub one_word : (load : Bool) → (address : ℕ) → Transfer
 one_word load address = record { address = address; words = 1; store = not load }

@@ -2,13 +2,12 @@
 
 ghost use Rattle.std.specs.Prelude.{◌≡◌, ◌≤◌, ◌<◌, ℕ, IfSome, MatchOption};
 ghost use Rattle.bus_ticks.specs.Prices.{class_at};
-ghost use Rattle.arm2_transfer.specs.Block.{lowest_of};
-ghost use Rattle.arm2_transfer.specs.Registers.{moved_by};
 ghost use Rattle.kept_runs.specs.Transfers.{covers, words_of};
-ghost use Rattle.kept_runs.specs.Transfers.{AllOf, HasNoOther, HasOther, HasOtherOf, address_by};
+ghost use Rattle.kept_runs.specs.Transfers.{AllOf, HasNoOther, HasOther, HasOtherOf};
 
-use arm2_decode::{Block, Operation};
+use arm2_decode::Operation;
 use arm2_effect::{Reg, Registers, mode_of};
+use arm2_transfer::{address_by, lowest_of};
 use bus_ticks::{Class, SPACE_END, class_of, word_address};
 
 /// The words that an instruction transfers where it is carried out.
@@ -31,40 +30,6 @@ pub struct Access {
     pub store: bool,
 }
 
-fn moved(up: bool, base: u32, offset: u32) -> u32
-    ensures { result ≡ moved_by up base offset }
-{
-    if up {
-        base.wrapping_add(offset)
-    } else {
-        base.wrapping_sub(offset)
-    }
-}
-
-// The address of a single transfer's word.
-fn address(before: bool, up: bool, base: u32, offset: u32) -> u32
-    ensures { result ≡ address_by before up base offset }
-{
-    if before {
-        moved(up, base, offset)
-    } else {
-        base
-    }
-}
-
-fn lowest(block: &Block, base: u32, words: u32) -> u32
-    requires { words ≤ 32 }
-    ensures { result ≡ lowest_of block.now base words }
-{
-    let lowest = match (block.up, block.before) {
-        (true, true) => base.wrapping_add(4),
-        (true, false) => base,
-        (false, true) => base.wrapping_sub(4 * words),
-        (false, false) => base.wrapping_sub(4 * words).wrapping_add(4),
-    };
-    lowest / 4 * 4
-}
-
 /// The words that an operation transfers, by the registers before it.
 pub(crate) fn words_of(registers: &Registers, operation: &Operation) -> Option<Transfer>
     ensures words { result ≡ words_of operation.now registers.now }
@@ -72,14 +37,14 @@ pub(crate) fn words_of(registers: &Registers, operation: &Operation) -> Option<T
 {
     match operation {
         Operation::SingleImmediate(x) => Some(Transfer {
-            address: address(x.before, x.up, registers.first(x.rn, 8), x.offset),
+            address: address_by(x.before, x.up, registers.first(x.rn, 8), x.offset),
             words: 1,
             store: !x.load,
         }),
         Operation::SingleRegister(x) => {
             let offset = registers.shifted_by_amount(x.shift, x.amount, x.rm).value;
             Some(Transfer {
-                address: address(x.before, x.up, registers.first(x.rn, 8), offset),
+                address: address_by(x.before, x.up, registers.first(x.rn, 8), offset),
                 words: 1,
                 store: !x.load,
             })
@@ -88,7 +53,7 @@ pub(crate) fn words_of(registers: &Registers, operation: &Operation) -> Option<T
             let words = x.list.count_ones();
             let mode = mode_of(registers.get(Reg::R15));
             Some(Transfer {
-                address: lowest(x, registers.read(mode, x.rn), words),
+                address: lowest_of(x, registers.read(mode, x.rn), words),
                 words,
                 store: !x.load,
             })
