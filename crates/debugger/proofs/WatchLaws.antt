@@ -9,14 +9,14 @@ use Rattle.arm2_exec.specs.declared.machine.Ran.{Ran}
 use Rattle.arm2_exec.specs.declared.machine.Stepped.{Stepped}
 use Rattle.arm2_exec.specs.State.{State}
 use Rattle.arm2_exec.specs.Step.{Step}
-use Rattle.arm2_exec.specs.Run.{Ends, Runs, at_rest, counted, why_stopped}
+use Rattle.arm2_exec.specs.Run.{Ends, IsWithin, Runs, at_rest, counted, why_stopped}
 use Rattle.arm2_exec.proofs.StepLemmas.{stopped_same, stops}
 use Rattle.arm2_exec.proofs.RunLemmas.{added, goes, plus_none, why_of}
 use Rattle.arm2_exec.specs.declared.machine.Traced.{Traced}
 use Rattle.trace_text.specs.TraceText.{Adds, IsLineOf, IsTraceLine}
 use Rattle.arm2_effect.specs.declared.step_end.Kind.{Kind}
 use Rattle.arm2_effect.specs.declared.step_end.Kind.TheVariants.{Plain, Taken, Stopped}
-use Rattle.debugger.specs.Stepping.{Counts, IsWithin, Makes, Stops}
+use Rattle.debugger.specs.Stepping.{Counts, Makes, Stops}
 use Rattle.debugger.specs.Watching.{EndsAt, IsLast, UpTo, Watches, as_shown, inputs_of, is_at_break}
 use Rattle.debugger.specs.SessionState.{SessionState, without_bursts}
 use Rattle.debugger.specs.Answers.{RunsFirst}

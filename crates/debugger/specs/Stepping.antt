@@ -1,10 +1,10 @@
 -- A step of a run, with the word that shows it, and what the run reports after it.
-use Rattle.std.specs.Prelude.{◌≡◌, ◌≢◌, ◌+◌, ◌*◌, ◌^◌, ◌≤◌, ℕ, Some}
+use Rattle.std.specs.Prelude.{◌≡◌, ◌≢◌, Some}
 use Rattle.arm2_effect.specs.declared.step_end.Kind.TheVariants.{Stopped}
 use Rattle.arm2_effect.specs.declared.step_end.Why.{Why}
 use Rattle.arm2_exec.specs.declared.machine.Input.{Input}
 use Rattle.arm2_exec.specs.declared.machine.Ran.{Ran}
-use Rattle.arm2_exec.specs.declared.machine.Stepped.{Stepped}
+use Rattle.arm2_exec.specs.Run.{further}
 use Rattle.arm2_exec.specs.State.{State}
 use Rattle.arm2_exec.specs.Step.{Step}
 use Rattle.arm2_exec.specs.declared.machine.Traced.{Traced}
@@ -20,22 +20,8 @@ Stops s i ran sum after =
     (traced : Traced) × (why : Why) × Makes s i traced after × (traced.stepped.kind ≡ Stopped why)
     × (sum ≡ record ran { stopped = Some why })
 
--- one step after others: its ticks, and those that pass with its bursts
-abbrev pub further : (burst : ℕ) → Input → Stepped → Ran → Ran
-further burst i stepped ran = record {
-  steps = ran.steps + 1;
-  ticks = ran.ticks + stepped.ticks;
-  elapsed = ran.elapsed + (stepped.ticks + burst * i.bursts);
-  stopped = ran.stopped;
-}
-
 -- it is not stopped, and counted
 abbrev pub Counts : State → Input → (ran : Ran) → Traced → (sum : Ran) → State → Type 0
 Counts s i ran traced sum next =
     Makes s i traced next × ((why : Why) → traced.stepped.kind ≢ Stopped why)
     × (sum ≡ further s.profile.burst i traced.stepped ran)
-
--- what so many steps can report at most
-abbrev pub IsWithin : (steps : ℕ) → Ran → Type 0
-IsWithin steps ran =
-    (ran.steps ≤ steps) × (ran.ticks ≤ steps * 2 ^ 16) × (ran.elapsed ≤ steps * 2 ^ 33)

@@ -1,10 +1,10 @@
 ghost use Rattle.std.specs.Prelude.{◌≡◌, ◌+◌, ◌*◌, ◌^◌, ◌≤◌, ℕ, List, MatchOption, OnSome, length};
 ghost use Rattle.std.specs.Prelude.{vec_capacity};
-ghost use Rattle.arm2_exec.specs.Run.{Runs};
+ghost use Rattle.arm2_exec.specs.Run.{IsWithin, Runs};
 ghost use Rattle.arm2_exec.specs.declared.machine.Traced.{Traced};
 ghost use Rattle.trace_text.specs.TraceText.{Adds, TracesRun};
 ghost use Rattle.debugger.specs.SessionState.{without_bursts};
-ghost use Rattle.debugger.specs.Stepping.{Counts, IsWithin, Stops};
+ghost use Rattle.debugger.specs.Stepping.{Counts, Stops};
 ghost use Rattle.debugger.specs.Watching.{IsLast, Watches, as_shown, inputs_of, is_at_break};
 
 use crate::printed::put_trace;

@@ -1,8 +1,8 @@
-//! What a run counts, step by step: in few bits, since each step adds to it.
+//! What a run counts, step by step: in fewer bits than `Ran::count`, since each of a session's steps adds
+//! to it.
 
 ghost use Rattle.std.specs.Prelude.{◌≡◌, ◌+◌, ◌<◌, ◌^◌, ℕ, None, Some};
-ghost use Rattle.arm2_exec.specs.Run.{at_rest};
-ghost use Rattle.debugger.specs.Stepping.{IsWithin, further};
+ghost use Rattle.arm2_exec.specs.Run.{IsWithin, at_rest, further};
 
 use arm2_exec::{Input, Machine, Ran, Stepped, Why};
 use std::marker::Model;

@@ -23,25 +23,17 @@ pub fn write_run(
     ensures refused { OnErr result
         (RefusedRun machine.old inputs.now machine.new (string_bytes out.old) (string_bytes out.new)) }
 {
-    let mut ran = Ran {
-        steps: 0,
-        ticks: 0,
-        elapsed: 0,
-        stopped: None,
-    };
+    let mut ran = Ran::new();
     let mut lately = ShownLately::new();
     for input in inputs {
-        let stretched = machine.profile().burst_ticks(input.bursts);
+        let profile = machine.profile();
         let traced = machine.step_traced(*input);
         if let Kind::Stopped(why) = traced.stepped.kind {
             ran.stopped = Some(why);
             return Ok(ran);
         }
         put_trace(out, &traced, &mut lately)?;
-        let ticks = u128::from(traced.stepped.ticks);
-        ran.steps += 1;
-        ran.ticks += ticks;
-        ran.elapsed += ticks + u128::from(stretched);
+        ran.count(&profile, *input, traced.stepped);
     }
     Ok(ran)
 }

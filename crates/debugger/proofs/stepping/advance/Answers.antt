@@ -1,7 +1,7 @@
 use Rattle.std.proofs.Common.{◌≡◌, ◌∙◌, refl, ap}
 use Rattle.bus_ticks.specs.declared.profile.Profile.{Profile}
 use Rattle.arm2_exec.proofs.StepLemmas.{same_profile}
-use Rattle.debugger.specs.Stepping.{further}
+use Rattle.arm2_exec.specs.Run.{further}
 use Rattle.debugger.proofs.stepping.advance.Goals as goal
 
 pub returns : goal.returns

@@ -3,7 +3,7 @@ use Rattle.arm2_exec.proofs.RunLemmas.{SoFar}
 use Rattle.trace_text.specs.TraceText.{Adds}
 use Rattle.trace_text.specs.declared.trace.TheConstants.{LINE_ROOM}
 use Rattle.trace_text.proofs.RunLaws.{PrintedSoFar}
-use Rattle.debugger.specs.Stepping.{IsWithin}
+use Rattle.arm2_exec.specs.Run.{IsWithin}
 use Rattle.debugger.specs.Watching.{inputs_of}
 use Rattle.debugger.proofs.stepping.put_steps.Given as goal
 

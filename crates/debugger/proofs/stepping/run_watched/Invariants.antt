@@ -1,5 +1,5 @@
 use Rattle.std.proofs.Common.{◌-◌}
-use Rattle.debugger.specs.Stepping.{IsWithin}
+use Rattle.arm2_exec.specs.Run.{IsWithin}
 use Rattle.debugger.specs.Watching.{inputs_of}
 use Rattle.debugger.proofs.WatchLaws.{SoFar}
 use Rattle.debugger.proofs.stepping.run_watched.Given as goal

@@ -1,12 +1,15 @@
-use Rattle.std.proofs.Common.{◌≡◌, ◌∙◌, ◌+◌, ◌*◌, List, ℕ, ap, rules, arith, drop, string_bytes}
+use Rattle.std.proofs.Common.{◌≡◌, ◌∙◌, ◌+◌, List, ℕ, ap, rules, drop, string_bytes, subst}
+use Rattle.std.proofs.Common.{sym}
 use Rattle.std.specs.Prelude.{slice_index_or}
 use Rattle.std.proofs.lemmas.List.{drop_more, take_more}
 use Rattle.std.proofs.Math.ListN.{drop_of_length-le}
 use Rattle.bus_ticks.specs.declared.profile.Profile.{Profile}
 use Rattle.arm2_exec.specs.declared.machine.Input.{Input}
-use Rattle.arm2_exec.proofs.RunLemmas.{at_end, at_stop, more_steps}
+use Rattle.arm2_exec.specs.declared.machine.Ran.{Ran}
+use Rattle.arm2_exec.specs.Run.{further}
+use Rattle.arm2_exec.proofs.RunLemmas.{SoFar, at_end, at_stop, more_steps}
 use Rattle.trace_text.specs.TraceText.{Adds, IsTraceLine}
-use Rattle.trace_text.proofs.RunLaws.{front_printed, front_runs, on_err, run_refused, text_ends, text_goes}
+use Rattle.trace_text.proofs.RunLaws.{FrontRuns, front_printed, front_runs, on_err, run_refused, text_ends, text_goes}
 use Rattle.trace_text.proofs.RunLaws.{text_stops}
 use Rattle.trace_text.proofs.run.write_run.Goals as goal
 
@@ -57,32 +60,24 @@ loop-input-preserved c =
     (string_bytes c.args.out.now) (string_bytes c.loop-input.out)
     (string_bytes c.put_trace.new.out) traced.ensures.word c.in_default.not-Stopped
     c.loop-input.invariant.1 line in
-    let stretched : c.from.result ≡ now.profile.burst * input.bursts =
-    c.from.ensures ∙ c.burst_ticks-stretched.ensures.ticks
-    ∙ ap (λ (p : Profile). p.burst * input.bursts) c.profile.ensures in
-    let same = c.from-ticks.ensures in
-    let again = c.from.ensures in
-    let bound = traced.ensures.bound in
-    let stretch = c.burst_ticks-stretched.ensures.bound in
-    let long = c.loop-input.invariant.3 in
-    let spent = c.loop-input.invariant.4 in
-    let passed = c.loop-input.invariant.5 in
+    let counted : c.count.new.self ≡ further now.profile.burst input traced.result.stepped c.loop-input.ran =
+    c.count.ensures.counted
+    ∙ ap (λ (p : Profile). further p.burst input traced.result.stepped c.loop-input.ran)
+    c.profile-profile.ensures in
     let here = take_more inputs index _ c.loop-input-test.true in
     let front =
     front_runs start inputs index now next input traced.result here traced.ensures.step
-    c.in_default.not-Stopped c.loop-input.ran c.loop-input.invariant.6 in
+    c.in_default.not-Stopped c.loop-input.ran c.loop-input.invariant.4 in
     let front_text =
     front_printed start inputs index now next input traced.result here traced.ensures.step
     c.in_default.not-Stopped
     (string_bytes c.args.out.now) (string_bytes c.loop-input.out)
-    (string_bytes c.put_trace.new.out) traced.ensures.word c.loop-input.invariant.7 line in (
-      rw (same, stretched) runs,
+    (string_bytes c.put_trace.new.out) traced.ensures.word c.loop-input.invariant.5 line in (
+      subst (λ (r : Ran). SoFar start inputs r next (drop (index + 1) inputs)) (sym counted) runs,
       stepped,
-      c.loop-input.invariant.2,
-      omega (arith, long),
-      omega (arith, spent, same, bound),
-      omega (arith, passed, same, bound, again, stretch),
-      rw (same, stretched) front,
+      ap (λ (r : Ran). r.stopped) counted ∙ c.loop-input.invariant.2,
+      c.count.ensures.bound index c.loop-input.invariant.3,
+      subst (λ (r : Ran). FrontRuns start inputs (index + 1) r next) (sym counted) front,
       front_text,
       c.put_trace.ensures.right,
     )
@@ -115,4 +110,4 @@ returns-in_err-put_trace-clause-refused c =
     here traced.ensures.step c.in_default.not-Stopped (drop (index + 1) inputs) c.loop-input.ran in
     on_err c.from_residual.result _
     (law (string_bytes c.args.out.now) (string_bytes c.loop-input.out) (string_bytes c.put_trace.new.out)
-    left c.loop-input.invariant.6 c.loop-input.invariant.7 c.in_err-put_trace.ensures.text)
+    left c.loop-input.invariant.4 c.loop-input.invariant.5 c.in_err-put_trace.ensures.text)

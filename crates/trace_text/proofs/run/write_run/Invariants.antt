@@ -1,4 +1,5 @@
-use Rattle.std.proofs.Common.{◌≡◌, ◌≤◌, ◌*◌, None, drop, string_bytes}
+use Rattle.std.proofs.Common.{◌≡◌, None, drop, string_bytes}
+use Rattle.arm2_exec.specs.Run.{IsWithin}
 use Rattle.arm2_exec.proofs.RunLemmas.{SoFar}
 use Rattle.trace_text.specs.Lately.{AreRight}
 use Rattle.trace_text.specs.TraceText.{Adds}
@@ -10,8 +11,7 @@ invariant-loop-input l =
     SoFar l.initial.machine l.inputs l.ran l.machine (drop l.input-index l.inputs)
     × Adds (PrintedSoFar l.initial.machine l.inputs l.machine (drop l.input-index l.inputs))
     (string_bytes l.initial.out) (string_bytes l.out)
-    × (l.ran.stopped ≡ None) × (l.ran.steps ≤ l.input-index) × (l.ran.ticks ≤ l.input-index * 65536)
-    × (l.ran.elapsed ≤ l.input-index * 8589934592)
+    × (l.ran.stopped ≡ None) × IsWithin l.input-index l.ran
     × FrontRuns l.initial.machine l.inputs l.input-index l.ran l.machine
     × Adds (FrontPrinted l.initial.machine l.inputs l.input-index l.machine) (string_bytes l.initial.out)
     (string_bytes l.out)
