@@ -9,8 +9,7 @@ ghost use Rattle.debugger.specs.Watching.{IsLast, Watches, as_shown, inputs_of, 
 
 use crate::printed::put_trace;
 use crate::tally::Tally;
-use arm2_effect::address_of;
-use arm2_exec::{Input, Kind, Machine, Ran, Reg, Stepped, Traced};
+use arm2_exec::{Input, Kind, Machine, Ran, Stepped, Traced};
 use trace_text::LINE_ROOM;
 
 /// What a run reports, and the last of its steps, as its line shows it.
@@ -24,7 +23,7 @@ pub(crate) struct Watched {
 fn is_at_break(breaks: &[u32], machine: &Machine) -> bool
     ensures { result ≡ is_at_break breaks.now machine.now }
 {
-    let address = address_of(machine.get(Reg::R15));
+    let address = machine.address();
     breaks.iter().any(|a| *a == address)
 }
 

@@ -1,5 +1,4 @@
 ghost use Rattle.std.specs.Prelude.{◌≡◌, ◌+◌, ◌<◌, ◌^◌, IfErr, IfOk, MatchOption, length};
-ghost use Rattle.arm2_exec.specs.Step.{address_in};
 ghost use Rattle.flow_graph.specs.Flow.{IsWellFormed};
 ghost use Rattle.kept_runs.specs.Following.{AreHeadersOf, CanGo, Goes, IsFresh, Halts};
 ghost use Rattle.kept_runs.specs.Judging.{IsMachineFor};
@@ -9,8 +8,7 @@ use crate::handler::Handler;
 use crate::judging::{Stray, judge_step};
 use crate::stays::turn;
 use crate::tally::{Passed, count};
-use arm2_effect::address_of;
-use arm2_exec::{Input, Machine, Reg};
+use arm2_exec::{Input, Machine};
 use numbered_walks::Span;
 use std::alloc::{AllocError, Global};
 use walk_counts::headers;
@@ -62,13 +60,6 @@ pub(crate) struct Follower {
     pub(crate) ticks: u128,
     /// What it did at each place.
     pub(crate) by_place: Vec<Passed>,
-}
-
-// The address where the machine is, in bytes.
-fn address(machine: &Machine) -> u32
-    ensures { result ≡ address_in machine.now.regs }
-{
-    address_of(machine.get(Reg::R15))
 }
 
 // At the entry, before a run.
@@ -155,7 +146,7 @@ fn follow_from(
 {
     let exit = handler.graph.places().len();
     for input in inputs {
-        let (steps, at) = (follower.steps, address(machine));
+        let (steps, at) = (follower.steps, machine.address());
         if let Some(why) = take_step(handler, headers, &mut follower, machine, *input) {
             return Followed::Strayed { steps, at, why };
         }
@@ -165,7 +156,7 @@ fn follow_from(
     }
     Followed::Strayed {
         steps: follower.steps,
-        at: address(machine),
+        at: machine.address(),
         why: Unkept::Unfinished,
     }
 }
@@ -199,7 +190,7 @@ pub fn follow(
     let exit = handler.graph.places().len();
     let headers = headers(alloc, handler.tree.spans(), exit)?;
     let follower = start(alloc, exit)?;
-    let at = address(machine);
+    let at = machine.address();
     if at != handler.statement.entry() {
         return Ok(Followed::Strayed {
             steps: 0,

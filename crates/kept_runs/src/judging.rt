@@ -7,8 +7,7 @@ use crate::edges::{Going, edge_taken};
 use crate::handler::Handler;
 use crate::reading::{own_word, read_word};
 use crate::transfers::{Access, other_of};
-use arm2_effect::address_of;
-use arm2_exec::{Input, Kind, Machine, Reg, Stepped, Vector, Why};
+use arm2_exec::{Input, Kind, Machine, Stepped, Vector, Why};
 use flow_graph::Label;
 
 /// How a step is along no edge of its place, by the statement.
@@ -68,7 +67,7 @@ pub fn judge_step(
     let Some(word) = own_word(handler.image, machine) else {
         return Err(Stray::OtherWord);
     };
-    let address = address_of(machine.get(Reg::R15));
+    let address = machine.address();
     let reading = read_word(machine, word);
     let other = other_of(handler.statement.class_at(address), reading.transfer);
     let stepped = machine.step(input);

@@ -7,8 +7,8 @@ ghost use Rattle.kept_runs.specs.Reading.{HasNoWord, IsReading, StandsThere, tra
 
 use crate::transfers::{Transfer, words_of};
 use arm2_decode::{Instr, decode};
-use arm2_effect::{Registers, address_of};
-use arm2_exec::{Machine, Reg};
+use arm2_effect::Registers;
+use arm2_exec::Machine;
 use loader::Image;
 
 /// What a word is to do.
@@ -24,7 +24,7 @@ pub(crate) struct Reading {
 pub(crate) fn own_word(image: &Image, machine: &Machine) -> Option<u32>
     ensures { MatchOption result (HasNoWord image.now machine.now) (StandsThere image.now machine.now) }
 {
-    let Some(word) = image.word_at(address_of(machine.get(Reg::R15))) else {
+    let Some(word) = image.word_at(machine.address()) else {
         return None;
     };
     let Some(fetched) = machine.fetched() else {

@@ -9,8 +9,7 @@ ghost use Rattle.machine_reports.specs.Machine.{ShowsSteps, end_text};
 ghost use Rattle.report_input.specs.Priced.{Priced};
 ghost use Rattle.report_input.specs.Report.{BeforeOutput};
 
-use arm2_effect::address_of;
-use arm2_exec::{Input, Machine, Ran, Reg};
+use arm2_exec::{Input, Machine, Ran};
 use bus_ticks::Profile;
 use report_input::{Placed, place, profile_of};
 use report_output::{Output, ReportFault, print_answer};
@@ -29,7 +28,7 @@ fn put_end(out: &mut String, machine: &Machine, ran: &Ran) -> Result<(), AllocEr
     ensures { OnOk result (string_bytes out.new ≡ string_bytes out.old ++ end_text ran.now machine.now) }
 {
     if let Some(why) = ran.stopped {
-        write_stop(out, why, address_of(machine.get(Reg::R15)))?;
+        write_stop(out, why, machine.address())?;
     }
     write_ticks(out, ran.ticks, ran.elapsed)
 }

@@ -17,7 +17,7 @@ headers-requires-clause-small c =
 pub returns-then-at-entry-clause-followed : goal.returns-then-at-entry-clause-followed
 returns-then-at-entry-clause-followed c =
     elsewhere c.args.handler.image.now c.args.handler.statement.now c.args.handler.graph.now c.args.handler.tree.now c.places-exit.ensures.well_formed c.requires.handler c.args.machine.now c.args.inputs.now
-    c.address-at.result c.address-at.ensures (λ is. c.if-at-entry.true (c.address-at.ensures ∙ is ∙ sym c.entry.ensures.value))
+    c.address-at.result c.address-at.ensures.address (λ is. c.if-at-entry.true (c.address-at.ensures.address ∙ is ∙ sym c.entry.ensures.value))
 
 pub follow_from-requires-clause-handler : goal.follow_from-requires-clause-handler
 follow_from-requires-clause-handler c = c.requires.handler
@@ -34,6 +34,6 @@ pub follow_from-requires-clause-can : goal.follow_from-requires-clause-can
 follow_from-requires-clause-can c =
     can_begin c.args.handler.image.now c.args.handler.statement.now c.args.handler.graph.now c.args.handler.tree.now c.places-exit.ensures.well_formed c.requires.handler c.args.machine.now c.args.inputs.now
     c.in_ok-follower.follower c.requires.machine
-    (sym c.address-at.ensures ∙ c.if-at-entry.false ∙ c.entry.ensures.value)
+    (sym c.address-at.ensures.address ∙ c.if-at-entry.false ∙ c.entry.ensures.value)
     c.in_ok-follower.ensures
     (ap length c.places-exit.ensures.value)

@@ -38,7 +38,7 @@ returns-in-Some c =
     let inputs = c.args.inputs.now in
     strays c.args.handler.image.now c.args.handler.statement.now c.args.handler.graph.now c.args.handler.tree.now c.places-exit.ensures.well_formed c.requires.handler c.args.machine.now c.args.inputs.now
     c.loop-input.input-index (get_or inputs n none) c.loop-input-test.true (get_or_default inputs n (get_or inputs n none) none c.loop-input-test.true)
-    c.loop-input.follower c.loop-input.machine c.loop-input.invariant.1 c.loop-input.invariant.0 c.take_step.new.machine c.address-at.result c.in-Some.why c.address-at.ensures c.in-Some.ensures
+    c.loop-input.follower c.loop-input.machine c.loop-input.invariant.1 c.loop-input.invariant.0 c.take_step.new.machine c.address-at.result c.in-Some.why c.address-at.ensures.address c.in-Some.ensures
 
 pub returns-then-follower-exit : goal.returns-then-follower-exit
 returns-then-follower-exit c =
@@ -78,4 +78,4 @@ loop-input-preserved c =
 pub returns : goal.returns
 returns c =
     unfinished c.args.handler.image.now c.args.handler.statement.now c.args.handler.graph.now c.args.handler.tree.now c.places-exit.ensures.well_formed c.requires.handler c.args.machine.now c.args.inputs.now
-    c.loop-input.input-index c.loop-input.follower c.loop-input.machine c.loop-input.invariant.1 c.loop-input.invariant.0 c.loop-input-test.false c.loop-input.auto.input-index-end c.address.result c.address.ensures
+    c.loop-input.input-index c.loop-input.follower c.loop-input.machine c.loop-input.invariant.1 c.loop-input.invariant.0 c.loop-input-test.false c.loop-input.auto.input-index-end c.address.result c.address.ensures.address
