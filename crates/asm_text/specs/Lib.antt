@@ -4,6 +4,7 @@ pub mod Names
 pub mod Words
 pub mod Numbers
 pub mod Hex
+pub mod Appended
 pub mod Registers
 pub mod Said
 pub mod Operands

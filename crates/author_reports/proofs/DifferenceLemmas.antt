@@ -6,7 +6,8 @@ use Rattle.std.proofs.lemmas.Bool.{cases_Bool, false≢true}
 use Rattle.std.proofs.lemmas.List.{get_or_default, length-append}
 use Rattle.std.proofs.lemmas.List.Elements.{All-head, All-tail}
 use Rattle.std.proofs.lemmas.List.Sums.{sum_by-cons, sum_by_push}
-use Rattle.text_rows.specs.Rows.{Appends, IsShownRow}
+use Rattle.asm_text.specs.Appended.{Appends}
+use Rattle.text_rows.specs.Rows.{IsShownRow}
 use Rattle.explained.specs.Taken.{IsTally as IsWalkTally, is_at}
 use Rattle.explained.specs.declared.tally.Tally.{Tally}
 use Rattle.flow_graph.specs.Flow.{Flow}

@@ -3,7 +3,7 @@ use Rattle.std.proofs.Common.{◌≡◌, ◌∙◌, ℕ, ◌+◌, ◌*◌, List,
 use Rattle.std.proofs.Common.{append_assoc, subst, arith}
 use Rattle.std.proofs.lemmas.List.{append-nil}
 use Rattle.memc.specs.Memory.{Memory}
-use Rattle.trace_text.specs.TraceText.{Adds}
+use Rattle.asm_text.specs.Appended.{Appends}
 use Rattle.debugger.specs.declared.rows.Row.{Row}
 use Rattle.debugger.specs.Answers.{AreSeen, IsRowOf, Rows, seen}
 
@@ -23,20 +23,20 @@ RowsSoFar row address words at left text =
     (more : List ℕ) → Rows (IsRowOf row) at left more → Rows (IsRowOf row) address words (text ++ more)
 
 pub rows_start : (row : Row) (address : ℕ) (words old : List ℕ)
-    → Adds (RowsSoFar row address words address words) old old
+    → Appends (RowsSoFar row address words address words) old old
 rows_start row address words old = ([], (λ more rows. rows), sym (append-nil old))
 
 pub rows_end : (row : Row) (address : ℕ) (words : List ℕ) (at : ℕ) (left old new : List ℕ)
-    → Adds (RowsSoFar row address words at left) old new → left ≡ []
-    → Adds (Rows (IsRowOf row) address words) old new
+    → Appends (RowsSoFar row address words at left) old new → left ≡ []
+    → Appends (Rows (IsRowOf row) address words) old new
 rows_end row address words at left old new adds none =
     let last = adds.1 [] (subst (λ (ws : List ℕ). Rows (IsRowOf row) at ws []) (sym none) refl) in
     (adds.0, subst (Rows (IsRowOf row) address words) (append-nil adds.0) last, adds.2)
 
 pub rows_more : (row : Row) (address : ℕ) (words : List ℕ) (at word : ℕ) (left rest old mid new : List ℕ)
     → left ≡ word ∷ rest
-    → Adds (RowsSoFar row address words at left) old mid → Adds (IsRowOf row at word) mid new
-    → Adds (RowsSoFar row address words (at + 4) rest) old new
+    → Appends (RowsSoFar row address words at left) old mid → Appends (IsRowOf row at word) mid new
+    → Appends (RowsSoFar row address words (at + 4) rest) old new
 rows_more row address words at word left rest old mid new at_hand adds line =
     let on : RowsSoFar row address words (at + 4) rest (adds.0 ++ line.0) = λ more rows.
     let here : Rows (IsRowOf row) at left (line.0 ++ more) =

@@ -2,7 +2,7 @@
 use Rattle.std.proofs.Common.{◌≡◌, ◌∙◌, ℕ, Bool, true, false, List, [], ◌∷◌, ◌++◌, refl, sym, ap}
 use Rattle.std.proofs.Common.{append_assoc, subst}
 use Rattle.std.proofs.lemmas.List.{append-nil}
-use Rattle.trace_text.specs.TraceText.{Adds}
+use Rattle.asm_text.specs.Appended.{Appends}
 use Rattle.debugger.specs.SessionState.{SessionState}
 use Rattle.debugger.specs.Conversation.{Converses, AnswersOrRefuses, Unless, is_quit}
 
@@ -41,7 +41,7 @@ talk_quits start lines now left text line rest so_far at_hand quits =
 pub talk_goes : (start : SessionState) (lines : List (List ℕ)) (now next : SessionState)
     (left : List (List ℕ)) (old new line : List ℕ) (rest : List (List ℕ))
     → TalkSoFar start lines now left old → left ≡ line ∷ rest → is_quit line ≡ false
-    → Adds (λ text. AnswersOrRefuses now line text next) old new → TalkSoFar start lines next rest new
+    → Appends (λ text. AnswersOrRefuses now line text next) old new → TalkSoFar start lines next rest new
 talk_goes start lines now next left old new line rest so_far at_hand stays adds more stepped =
     let whole = adds.0 ++ more in
     let P : Bool → Type 0 =

@@ -13,7 +13,8 @@ use Rattle.arm2_exec.specs.Run.{Ends, IsWithin, Runs, at_rest, counted, why_stop
 use Rattle.arm2_exec.proofs.StepLemmas.{stopped_same, stops}
 use Rattle.arm2_exec.proofs.RunLemmas.{added, goes, plus_none, why_of}
 use Rattle.arm2_exec.specs.declared.machine.Traced.{Traced}
-use Rattle.trace_text.specs.TraceText.{Adds, IsLineOf, IsTraceLine}
+use Rattle.asm_text.specs.Appended.{Appends}
+use Rattle.trace_text.specs.TraceText.{IsLineOf, IsTraceLine}
 use Rattle.arm2_effect.specs.declared.step_end.Kind.{Kind}
 use Rattle.arm2_effect.specs.declared.step_end.Kind.TheVariants.{Plain, Taken, Stopped}
 use Rattle.debugger.specs.Stepping.{Counts, Makes, Stops}
@@ -362,7 +363,7 @@ same_line step last line is shown =
     by_kind Plain h = h
 
 -- what is added to nothing
-pub added_alone : (Is : List ℕ → Type 0) (old new : List ℕ) → old ≡ [] → Adds Is old new → Is new
+pub added_alone : (Is : List ℕ → Type 0) (old new : List ℕ) → old ≡ [] → Appends Is old new → Is new
 added_alone Is old new none (text, is, whole) =
     subst Is (sym (whole ∙ ap (λ (t : List ℕ). t ++ text) none)) is
 

@@ -1,6 +1,6 @@
 ghost use Rattle.std.specs.Prelude.{◌≡◌, [], ◌++◌, IfOk, IfErr, OnOk};
 ghost use Rattle.asm_text.specs.Source.{lines_of};
-ghost use Rattle.trace_text.specs.TraceText.{Adds};
+ghost use Rattle.asm_text.specs.Appended.{Appends};
 ghost use Rattle.debugger.specs.Conversation.{Converses, AnswersOrRefuses, is_quit, refusal_text};
 ghost use Rattle.debugger.specs.SessionState.{begun};
 
@@ -37,7 +37,8 @@ fn put_answer(
     line: &[u8],
 ) -> Result<(), DebugFault>
     ensures ok { OnOk result
-        (Adds (λ text. AnswersOrRefuses session.old line.now text session.new) out.old.items out.new.items) }
+        (Appends (λ text. AnswersOrRefuses session.old line.now text session.new) out.old.items
+        out.new.items) }
     ensures err { IfErr result (λ fault. fault ≡ DebugFault.Memory) }
 {
     match session.command(alloc, line) {

@@ -3,7 +3,8 @@
 ghost use Rattle.std.specs.Prelude.{◌≡◌, ◌++◌, ◌+◌, ◌≤◌, length, vec_capacity};
 ghost use Rattle.assembler.specs.ShownLines.{IsShown};
 ghost use Rattle.asm_text.specs.Hex.{hex8};
-ghost use Rattle.trace_text.specs.TraceText.{Adds, IsTraceLine};
+ghost use Rattle.asm_text.specs.Appended.{Appends};
+ghost use Rattle.trace_text.specs.TraceText.{IsTraceLine};
 
 use arm2_exec::Traced;
 use assembler::disassemble;
@@ -34,7 +35,7 @@ pub(crate) fn put_hex(out: &mut Vec<u8>, word: u32)
 /// Adds the line of a word at its address.
 pub(crate) fn put_shown(out: &mut Vec<u8>, word: u32, at: u32)
     requires { length out.old.items + WORD_LINE_ROOM ≤ vec_capacity out.old }
-    ensures text { Adds (IsShown word at) out.old.items out.new.items }
+    ensures text { Appends (IsShown word at) out.old.items out.new.items }
     ensures len { length out.new.items ≤ length out.old.items + WORD_LINE_ROOM }
     ensures room { vec_capacity out.old ≤ vec_capacity out.new }
 {
@@ -45,7 +46,7 @@ pub(crate) fn put_shown(out: &mut Vec<u8>, word: u32, at: u32)
 /// Adds the line of a step.
 pub(crate) fn put_trace(out: &mut Vec<u8>, traced: &Traced)
     requires { length out.old.items + LINE_ROOM ≤ vec_capacity out.old }
-    ensures text { Adds (IsTraceLine traced.now) out.old.items out.new.items }
+    ensures text { Appends (IsTraceLine traced.now) out.old.items out.new.items }
     ensures len { length out.new.items ≤ length out.old.items + LINE_ROOM }
     ensures room { vec_capacity out.old ≤ vec_capacity out.new }
 {

@@ -1,6 +1,6 @@
 ghost use Rattle.std.specs.Prelude.{◌≡◌, ◌+◌, ◌*◌, ◌≤◌, ◌++◌, length, vec_capacity};
 ghost use Rattle.bus_ticks.specs.declared.space.TheConstants.{SPACE_END};
-ghost use Rattle.trace_text.specs.TraceText.{Adds};
+ghost use Rattle.asm_text.specs.Appended.{Appends};
 ghost use Rattle.debugger.specs.Answers.{IsRowOf, Rows, breaks_text};
 
 use crate::printed::{put, put_hex, put_shown};
@@ -19,7 +19,7 @@ pub(crate) enum Row {
 
 fn put_row(out: &mut Vec<u8>, row: Row, address: u32, word: u32)
     requires { length out.old.items + ROW_ROOM ≤ vec_capacity out.old }
-    ensures row { Adds (IsRowOf row address word) out.old.items out.new.items }
+    ensures row { Appends (IsRowOf row address word) out.old.items out.new.items }
     ensures len { length out.new.items ≤ length out.old.items + ROW_ROOM }
     ensures room { vec_capacity out.old ≤ vec_capacity out.new }
 {
@@ -40,7 +40,7 @@ fn put_row(out: &mut Vec<u8>, row: Row, address: u32, word: u32)
 pub(crate) fn put_rows(out: &mut Vec<u8>, row: Row, address: u32, words: &[u32])
     requires room { length out.old.items + length words.now * ROW_ROOM ≤ vec_capacity out.old }
     requires span { address + 4 * length words.now ≤ SPACE_END }
-    ensures { Adds (Rows (IsRowOf row) address words.now) out.old.items out.new.items }
+    ensures { Appends (Rows (IsRowOf row) address words.now) out.old.items out.new.items }
 {
     let mut at = address;
     for word in words {

@@ -2,7 +2,8 @@ ghost use Rattle.std.specs.Prelude.{◌≡◌, ◌+◌, ◌*◌, ◌^◌, ◌≤
 ghost use Rattle.std.specs.Prelude.{vec_capacity};
 ghost use Rattle.arm2_exec.specs.Run.{IsWithin, Runs};
 ghost use Rattle.arm2_exec.specs.declared.machine.Traced.{Traced};
-ghost use Rattle.trace_text.specs.TraceText.{Adds, TracesRun};
+ghost use Rattle.asm_text.specs.Appended.{Appends};
+ghost use Rattle.trace_text.specs.TraceText.{TracesRun};
 ghost use Rattle.debugger.specs.SessionState.{without_bursts};
 ghost use Rattle.debugger.specs.Stepping.{Counts, Stops};
 ghost use Rattle.debugger.specs.Watching.{IsLast, Watches, as_shown, inputs_of, is_at_break};
@@ -52,7 +53,7 @@ fn advance(machine: &mut Machine, input: &mut Input, ran: &mut Tally) -> Option<
 pub(crate) fn put_steps(out: &mut Vec<u8>, machine: &mut Machine, first: Input, steps: u32) -> Ran
     requires { length out.old.items + steps * LINE_ROOM ≤ vec_capacity out.old }
     ensures runs { Runs machine.old (inputs_of first steps) result machine.new }
-    ensures text { Adds (TracesRun machine.old (inputs_of first steps)) out.old.items out.new.items }
+    ensures text { Appends (TracesRun machine.old (inputs_of first steps)) out.old.items out.new.items }
 {
     let mut ran = Tally::new();
     let mut input = first;

@@ -2,7 +2,7 @@
 use Rattle.std.proofs.Common.{◌≡◌, ◌∙◌, ℕ, List, ◌++◌, Option, Some, codes, refl, sym, ap, subst, append_assoc}
 use Rattle.flow_graph.specs.declared.edges.Edge.{Edge}
 use Rattle.flow_graph.specs.declared.places.Place.{Place}
-use Rattle.text_rows.specs.Rows.{Appends}
+use Rattle.asm_text.specs.Appended.{Appends}
 use Rattle.diagnosis.specs.Texts.{IsEntryFront, IsUnder}
 use Rattle.diagnosis.specs.declared.words.Words.{Words}
 

@@ -1,7 +1,8 @@
 ghost use Rattle.std.specs.Prelude.{◌≡◌, IfOk, MatchOption, OnOk};
 ghost use Rattle.diagnosis.specs.FaultyLines.{AreFaults, AreFaultyLines, IsAssembled, IsFaultOf};
 ghost use Rattle.diagnosis.specs.FaultyLines.{keeps_label, label_left, left_after, line_left, without};
-ghost use Rattle.text_rows.specs.Rows.{Appends, AreRows};
+ghost use Rattle.asm_text.specs.Appended.{Appends};
+ghost use Rattle.text_rows.specs.Rows.{AreRows};
 ghost use Rattle.diagnosis.specs.Texts.{IsFaultyRow, fault_name};
 
 use asm_text::{TextFault, first_line, read_line};

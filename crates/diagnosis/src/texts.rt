@@ -1,6 +1,7 @@
 ghost use Rattle.std.specs.Prelude.{◌≡◌, ◌++◌, [], IfOk, OnOk};
 ghost use Rattle.loop_bounds.specs.Keys.{key_of};
-ghost use Rattle.text_rows.specs.Rows.{Appends, AreRows};
+ghost use Rattle.asm_text.specs.Appended.{Appends};
+ghost use Rattle.text_rows.specs.Rows.{AreRows};
 ghost use Rattle.diagnosis.specs.Rows.{IsPlaceRow, IsRow};
 ghost use Rattle.diagnosis.specs.Texts.{IsCycleText, IsEntryFront, IsEntryText, IsStartRow, IsUnder};
 ghost use Rattle.diagnosis.specs.Texts.{IsChainText, IsFaultText, IsLeadText, addresses_text};

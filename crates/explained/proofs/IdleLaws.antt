@@ -7,7 +7,8 @@ use Rattle.loader.specs.Image.{Words}
 use Rattle.statement.specs.Stated.{Stated}
 use Rattle.statement.specs.declared.stated.Loop.{Loop}
 use Rattle.explained.specs.Idle.{AreIdleRows, IsAccessRow, IsIdleRow, IsLoopRow, IsTargetRow, is_carried_out}
-use Rattle.text_rows.specs.Rows.{Appends, AreRows}
+use Rattle.asm_text.specs.Appended.{Appends}
+use Rattle.text_rows.specs.Rows.{AreRows}
 
 -- ## One entry
 

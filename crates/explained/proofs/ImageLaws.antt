@@ -6,7 +6,8 @@ use Rattle.assembler.specs.declared.placed_line.PlacedLine.{PlacedLine}
 use Rattle.walk_counts.specs.Counts.{capped}
 use Rattle.assembler.specs.ShownLines.{IsShown}
 use Rattle.loader.specs.Image.{Words}
-use Rattle.text_rows.specs.Rows.{Appends, AreRows}
+use Rattle.asm_text.specs.Appended.{Appends}
+use Rattle.text_rows.specs.Rows.{AreRows}
 use Rattle.explained.specs.Table.{AreImageRows, IsWordRow, heading, image_heading, image_ticks, source_rows, source_table, source_ticks, table_end, ticks_of, word_row}
 use Rattle.explained.specs.declared.pricing.Pricing.{Pricing}
 use Rattle.explained.specs.declared.tally.Taken.{Taken}

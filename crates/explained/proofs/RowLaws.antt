@@ -6,7 +6,8 @@ use Rattle.std.proofs.lemmas.Bool.{false≢true}
 use Rattle.std.proofs.lemmas.List.{length-append}
 use Rattle.explained.specs.Assumed.{IsNamedRow}
 use Rattle.text_rows.specs.Columns.{cut_row}
-use Rattle.text_rows.specs.Rows.{Appends, IsShownRow, row_end}
+use Rattle.asm_text.specs.Appended.{Appends}
+use Rattle.text_rows.specs.Rows.{IsShownRow, row_end}
 
 -- a word that is not named has no row
 pub no_row : (named : List ℕ) (e : ℕ × ℕ) (text : List ℕ) → list_any (λ a. a == e.0) named ≡ false → Appends (IsNamedRow named e) text text

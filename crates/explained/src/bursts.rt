@@ -1,7 +1,7 @@
 ghost use Rattle.std.specs.Prelude.{◌≡◌, ◌++◌, IfOk, OnOk};
 ghost use Rattle.explained.specs.Bursts.{AreBurstLines, AreFewest, IsEveryLine, count_line, end_text};
 ghost use Rattle.explained.specs.Bursts.{with_bursts};
-ghost use Rattle.text_rows.specs.Rows.{Appends};
+ghost use Rattle.asm_text.specs.Appended.{Appends};
 
 use crate::columns::put_time;
 use bus_ticks::Profile;

@@ -7,7 +7,8 @@ ghost use Rattle.explained.specs.Idle.{AccessCounts, AreIdleEntries, AreIdleRows
 ghost use Rattle.explained.specs.Idle.{IsTargetRow};
 ghost use Rattle.explained.specs.Idle.{entry_row};
 ghost use Rattle.loop_bounds.specs.Instance.{is_back_edge_of};
-ghost use Rattle.text_rows.specs.Rows.{Appends, AreRows};
+ghost use Rattle.asm_text.specs.Appended.{Appends};
+ghost use Rattle.text_rows.specs.Rows.{AreRows};
 
 use crate::leaving::{EdgeKind, addresses_left};
 use crate::sections::StatedGraph;

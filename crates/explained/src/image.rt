@@ -2,7 +2,8 @@ ghost use Rattle.std.specs.Prelude.{◌≡◌, ◌++◌, IfOk, OnOk};
 ghost use Rattle.std.specs.BTreeMap.{get};
 ghost use Rattle.std.specs.Ordering.{nat_cmp};
 ghost use Rattle.longest_walk.specs.Folded.{unfolded};
-ghost use Rattle.text_rows.specs.Rows.{Appends, AreRows};
+ghost use Rattle.asm_text.specs.Appended.{Appends};
+ghost use Rattle.text_rows.specs.Rows.{AreRows};
 ghost use Rattle.explained.specs.Starts.{latest_at};
 ghost use Rattle.explained.specs.Table.{IsImageTable, IsWordRow, image_ticks, word_row};
 

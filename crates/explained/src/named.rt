@@ -5,7 +5,8 @@ ghost use Rattle.std.specs.Ordering.{nat_cmp};
 ghost use Rattle.std.proofs.Props.{props};
 ghost use Rattle.asm_text.specs.Source.{lines_of};
 ghost use Rattle.explained.specs.Assumed.{IsNamedRow, named_rows, row_if_named};
-ghost use Rattle.text_rows.specs.Rows.{Appends, AreRows};
+ghost use Rattle.asm_text.specs.Appended.{Appends};
+ghost use Rattle.text_rows.specs.Rows.{AreRows};
 
 use assembler::PlacedLine;
 use loader::Image;

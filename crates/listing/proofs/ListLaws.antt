@@ -2,7 +2,7 @@
 use Rattle.std.proofs.Common.{◌≡◌, ℕ, List, ◌++◌, codes, Some, refl, ap, ◌∙◌, append_assoc}
 use Rattle.assembler.specs.ShownLines.{IsShown}
 use Rattle.text_rows.specs.Columns.{cut_row}
-use Rattle.text_rows.specs.Rows.{Appends}
+use Rattle.asm_text.specs.Appended.{Appends}
 use Rattle.listing.specs.Listing.{IsWordRow, word_columns}
 
 pub word_row : (at word : ℕ) (line old columns gap new : List ℕ) → IsShown word at line

@@ -1,6 +1,6 @@
 ghost use Rattle.std.specs.Prelude.{IfOk, OnOk};
 ghost use Rattle.listing.specs.Listing.{AreWordRows, IsWordRow};
-ghost use Rattle.text_rows.specs.Rows.{Appends};
+ghost use Rattle.asm_text.specs.Appended.{Appends};
 
 use crate::columns::{WORD_COLUMNS, put_word_columns};
 use assembler::disassemble;

@@ -2,7 +2,7 @@ ghost use Rattle.std.specs.Prelude.{◌≡◌, ◌++◌, List, ℕ, IfErr, IfOk,
 ghost use Rattle.std.specs.Prelude.{string_bytes};
 ghost use Rattle.bus_ticks.specs.declared.profile.Profile.{Profile};
 ghost use Rattle.arm2_exec.specs.Run.{Runs};
-ghost use Rattle.trace_text.specs.TraceText.{Adds};
+ghost use Rattle.asm_text.specs.Appended.{Appends};
 ghost use Rattle.report_input.specs.Placing.{IsPlaced, IsRunRefused, IsRunnable};
 ghost use Rattle.machine_reports.specs.Machine.{Front, IsMachineReport, ReportsRun, ShowsRegisters};
 ghost use Rattle.machine_reports.specs.Machine.{ShowsSteps, end_text};
@@ -46,7 +46,8 @@ pub trait Front {
     ) -> Result<Ran, AllocError>
         ensures runs { IfOk result (λ ran. Runs machine.old inputs.now ran machine.new) }
         ensures text { OnOk result
-            (Adds (shows machine.old inputs.now machine.new) (string_bytes out.old) (string_bytes out.new)) };
+            (Appends (shows machine.old inputs.now machine.new) (string_bytes out.old)
+            (string_bytes out.new)) };
 }
 
 /// The registers in which the run ends.

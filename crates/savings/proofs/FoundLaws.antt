@@ -6,7 +6,8 @@ use Rattle.flow_graph.specs.declared.edges.Edge.{Edge}
 use Rattle.loader.specs.Image.{Words}
 use Rattle.statement.specs.Stated.{Stated}
 use Rattle.savings.specs.Carried.{times_done}
-use Rattle.text_rows.specs.Rows.{AreRows, Appends}
+use Rattle.asm_text.specs.Appended.{Appends}
+use Rattle.text_rows.specs.Rows.{AreRows}
 use Rattle.savings.specs.Savings.{AreFound, IsWordGain, IsWordSaved, leave_saved, saved}
 use Rattle.savings.specs.declared.gains.Gain.{Gain}
 use Rattle.savings.specs.declared.found.Saving.{Saving}

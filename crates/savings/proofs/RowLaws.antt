@@ -8,7 +8,8 @@ use Rattle.flow_graph.specs.Flow.{Flow}
 use Rattle.flow_graph.specs.declared.edges.Edge.{Edge}
 use Rattle.loader.specs.Image.{Words}
 use Rattle.statement.specs.Stated.{Stated}
-use Rattle.text_rows.specs.Rows.{AreRows, Appends}
+use Rattle.asm_text.specs.Appended.{Appends}
+use Rattle.text_rows.specs.Rows.{AreRows}
 use Rattle.savings.specs.Savings.{AreSavings}
 use Rattle.savings.specs.Sections.{AreSourceSavings, IsSavingRow, IsSourceEnd, front_text, heading}
 use Rattle.savings.specs.declared.found.Saving.{Saving}

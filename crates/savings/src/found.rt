@@ -1,7 +1,8 @@
 ghost use Rattle.std.specs.Prelude.{◌≡◌, ◌++◌, IfOk, OnOk};
 ghost use Rattle.longest_walk.specs.Folded.{unfolded};
 ghost use Rattle.savings.specs.Carried.{times_in};
-ghost use Rattle.text_rows.specs.Rows.{AreRows, Appends};
+ghost use Rattle.asm_text.specs.Appended.{Appends};
+ghost use Rattle.text_rows.specs.Rows.{AreRows};
 ghost use Rattle.savings.specs.Savings.{AreFound, AreSavings, IsWordGain, IsWordSaved, saved};
 
 use crate::carried::{times_at, times_carried_out};

@@ -1,6 +1,7 @@
 ghost use Rattle.std.specs.Prelude.{◌≡◌, ◌++◌, ℕ, List, IfOk, OnOk};
 ghost use Rattle.longest_walk.specs.Folded.{unfolded};
-ghost use Rattle.text_rows.specs.Rows.{AreRows, Appends};
+ghost use Rattle.asm_text.specs.Appended.{Appends};
+ghost use Rattle.text_rows.specs.Rows.{AreRows};
 ghost use Rattle.savings.specs.Sections.{AreImageSavings, AreSourceSavings, IsImageEnd, IsSavingRow};
 ghost use Rattle.savings.specs.Sections.{IsSourceEnd};
 ghost use Rattle.savings.specs.Sections.{entry_text, front_text, line_row, refinement_text};

@@ -5,7 +5,8 @@ use Rattle.std.proofs.lemmas.List.{drop_more}
 use Rattle.asm_text.specs.Hex.{hex8}
 use Rattle.assembler.specs.ShownLines.{IsShown}
 use Rattle.text_rows.specs.Columns.{cut_at, cut_row}
-use Rattle.text_rows.specs.Rows.{Appends, AreRows, IsShownRow, address_column}
+use Rattle.asm_text.specs.Appended.{Appends}
+use Rattle.text_rows.specs.Rows.{AreRows, IsShownRow, address_column}
 use Rattle.text_rows.proofs.ColumnLaws.{five_parts}
 
 module _ {A B : Type 0} (IsRow : A → List B → Type 0) (all : List A) where

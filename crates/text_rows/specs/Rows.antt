@@ -10,10 +10,6 @@ AreRows IsRow [] text = text ≡ []
 AreRows {A} {B} IsRow (e ∷ es) text =
     (row rest : List B) × IsRow e row × AreRows IsRow es rest × (text ≡ row ++ rest)
 
--- such a text is after the old one
-abbrev pub Appends : {B : Type 0} → (List B → Type 0) → (old new : List B) → Type 0
-Appends {B} Is old new = (text : List B) × Is text × (new ≡ old ++ text)
-
 -- rows under their heading; nothing where there are none
 abbrev pub section : List ℕ → List ℕ → List ℕ
 section heading [] = []

@@ -1,5 +1,6 @@
 ghost use Rattle.std.specs.Prelude.{◌≡◌, ◌+◌, ◌<◌, ◌++◌, IfOk, OnOk, length};
-ghost use Rattle.text_rows.specs.Rows.{Appends, IsShownRow, address_column, address_row, named_row, section};
+ghost use Rattle.asm_text.specs.Appended.{Appends};
+ghost use Rattle.text_rows.specs.Rows.{IsShownRow, address_column, address_row, named_row, section};
 
 use crate::columns::{put, put_cut_row, put_number};
 use asm_text::hex8;

@@ -12,7 +12,8 @@ use Rattle.arm2_exec.specs.Step.{Step}
 use Rattle.arm2_exec.specs.Run.{Runs, further, why_stopped}
 use Rattle.arm2_exec.proofs.RunLemmas.{SoFar, ends_with, goes, more_steps, why_of}
 use Rattle.arm2_exec.specs.declared.machine.Traced.{Traced}
-use Rattle.trace_text.specs.TraceText.{Adds, Goes, IsTraceLine, RefusedRun, TracesRun}
+use Rattle.asm_text.specs.Appended.{Appends}
+use Rattle.trace_text.specs.TraceText.{Goes, IsTraceLine, RefusedRun, TracesRun}
 use Rattle.arm2_exec.specs.Step.{traced_word}
 
 -- ## the text of a step
@@ -37,14 +38,14 @@ PrintedSoFar start inputs now left text =
 
 -- nothing more is printed
 printed_whole : (start : State) (inputs : List Input) (now : State) (left : List Input) (old new : List ℕ)
-    → Adds (PrintedSoFar start inputs now left) old new → TracesRun now left []
-    → Adds (TracesRun start inputs) old new
+    → Appends (PrintedSoFar start inputs now left) old new → TracesRun now left []
+    → Appends (TracesRun start inputs) old new
 printed_whole start inputs now left old new adds rest =
     (adds.0, subst (TracesRun start inputs) (append-nil adds.0) (adds.1 [] rest), adds.2)
 
 -- the last input was taken
 pub text_ends : (start : State) (inputs : List Input) (now : State) (left : List Input) (old new : List ℕ)
-    → Adds (PrintedSoFar start inputs now left) old new → left ≡ [] → Adds (TracesRun start inputs) old new
+    → Appends (PrintedSoFar start inputs now left) old new → left ≡ [] → Appends (TracesRun start inputs) old new
 text_ends start inputs now left old new adds none =
     printed_whole start inputs now left old new adds
     (subst (λ (is : List Input). TracesRun now is []) (sym none) refl)
@@ -56,8 +57,8 @@ module _ (start : State) (inputs : List Input) (now next : State) (left rest : L
     (at_hand : left ≡ i ∷ rest) (step : Step now i traced.stepped next) where
   -- it stopped
   pub text_stops : (w : Why) (old new : List ℕ) → traced.word ≡ traced_word now i
-      → traced.stepped.kind ≡ Stopped w → Adds (PrintedSoFar start inputs now left) old new
-      → Adds (TracesRun start inputs) old new
+      → traced.stepped.kind ≡ Stopped w → Appends (PrintedSoFar start inputs now left) old new
+      → Appends (TracesRun start inputs) old new
   text_stops w old new word is adds =
       let ends = goes_some traced.stepped.kind w (TextOn traced next rest []) is in
       printed_whole start inputs now left old new adds
@@ -77,9 +78,9 @@ module _ (start : State) (inputs : List Input) (now next : State) (left rest : L
       subst (TracesRun start inputs) (sym (append_assoc text line more)) (so_far (line ++ more) here)
 
   pub text_goes : (old mid new : List ℕ) → traced.word ≡ traced_word now i
-      → ((w : Why) → traced.stepped.kind ≡ Stopped w → ⊥) → Adds (PrintedSoFar start inputs now left) old mid
-      → Adds (IsTraceLine traced) mid new
-      → Adds (PrintedSoFar start inputs next rest) old new
+      → ((w : Why) → traced.stepped.kind ≡ Stopped w → ⊥) → Appends (PrintedSoFar start inputs now left) old mid
+      → Appends (IsTraceLine traced) mid new
+      → Appends (PrintedSoFar start inputs next rest) old new
   text_goes old mid new word not_stopped adds line = (
     adds.0 ++ line.0,
     printed_goes adds.0 line.0 word not_stopped adds.1 line.1,
@@ -112,8 +113,8 @@ module _ (start : State) (inputs : List Input) (n : ℕ) (now next : State) (i :
       subst (λ (all : List Input). SoFar start all (further now.profile.burst i traced.stepped ran) next tail) (longer tail) goes
 
   pub front_printed : (old mid new : List ℕ) → traced.word ≡ traced_word now i
-      → Adds (FrontPrinted start inputs n now) old mid → Adds (IsTraceLine traced) mid new
-      → Adds (FrontPrinted start inputs (n + 1) next) old new
+      → Appends (FrontPrinted start inputs n now) old mid → Appends (IsTraceLine traced) mid new
+      → Appends (FrontPrinted start inputs (n + 1) next) old new
   front_printed old mid new word adds line =
       let text = adds.0 ++ line.0 in
       let stepped : FrontPrinted start inputs (n + 1) next text = λ tail.
@@ -132,7 +133,7 @@ module _ (start : State) (inputs : List Input) (n : ℕ) (now next : State) (i :
   -- the line was refused
   pub run_refused : (rest : List Input) (ran : Ran) (old mid new : List ℕ)
       → drop n inputs ≡ i ∷ rest → FrontRuns start inputs n ran now
-      → Adds (FrontPrinted start inputs n now) old mid → new ≡ mid → RefusedRun start inputs next old new
+      → Appends (FrontPrinted start inputs n now) old mid → new ≡ mid → RefusedRun start inputs next old new
   run_refused rest ran old mid new left runs stepped kept = record {
     done = take n inputs;
     input = i;

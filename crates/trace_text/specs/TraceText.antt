@@ -17,13 +17,10 @@ use Rattle.arm2_exec.specs.declared.machine.Stepped.{Stepped}
 use Rattle.arm2_exec.specs.Run.{Runs, why_stopped}
 use Rattle.arm2_exec.specs.State.{State}
 use Rattle.arm2_exec.specs.Step.{Step, traced_word}
+use Rattle.asm_text.specs.Appended.{Appends}
 use Rattle.asm_text.specs.Hex.{hex, hex8}
 use Rattle.assembler.specs.ShownLines.{IsShown}
 use Rattle.arm2_exec.specs.declared.machine.Traced.{Traced}
-
--- a text of a kind follows the old one
-abbrev pub Adds : (Is : List ℕ → Type 0) → (old new : List ℕ) → Type 0
-Adds Is old new = (text : List ℕ) × Is text × (new ≡ old ++ text)
 
 -- ## registers
 
@@ -125,4 +122,4 @@ pub record RefusedRun (s : State) (inputs : List Input) (after : State) (old new
   pub stepped : Stepped
   pub step : Step between input stepped after
   pub not_stopped : why_stopped stepped.kind ≡ None
-  pub text : Adds (TracesRun s done) old new
+  pub text : Appends (TracesRun s done) old new

@@ -1,6 +1,7 @@
 ghost use Rattle.std.specs.Prelude.{◌≡◌, IfOk, OnErr, OnOk, string_bytes};
 ghost use Rattle.arm2_exec.specs.Run.{Runs};
-ghost use Rattle.trace_text.specs.TraceText.{Adds, RefusedRun, TracesRun};
+ghost use Rattle.asm_text.specs.Appended.{Appends};
+ghost use Rattle.trace_text.specs.TraceText.{RefusedRun, TracesRun};
 
 use crate::shown::ShownLately;
 use crate::trace::put_trace;
@@ -19,7 +20,7 @@ pub fn write_run(
 ) -> Result<Ran, AllocError>
     ensures runs { IfOk result (λ ran. Runs machine.old inputs.now ran machine.new) }
     ensures text { OnOk result
-        (Adds (TracesRun machine.old inputs.now) (string_bytes out.old) (string_bytes out.new)) }
+        (Appends (TracesRun machine.old inputs.now) (string_bytes out.old) (string_bytes out.new)) }
     ensures refused { OnErr result
         (RefusedRun machine.old inputs.now machine.new (string_bytes out.old) (string_bytes out.new)) }
 {

@@ -3,7 +3,7 @@
 ghost use Rattle.std.specs.Prelude.{◌≡◌, ◌+◌, ◌≤◌, ◌&&◌, ◌==◌, length};
 ghost use Rattle.assembler.specs.ShownLines.{IsShown};
 ghost use Rattle.trace_text.specs.Lately.{AreRight, IsRight};
-ghost use Rattle.trace_text.specs.TraceText.{Adds};
+ghost use Rattle.asm_text.specs.Appended.{Appends};
 
 use crate::trace::{LINE_ROOM, WORD_LINE_ROOM};
 use arrayvec::ArrayString;
@@ -55,7 +55,7 @@ impl Shown {
     fn put(&self, out: &mut ArrayString<LINE_ROOM>)
         requires right { IsRight self.now }
         requires room { length out.old.bytes + WORD_LINE_ROOM ≤ LINE_ROOM }
-        ensures text { Adds (IsShown self.now.word self.now.at) out.old.bytes out.new.bytes }
+        ensures text { Appends (IsShown self.now.word self.now.at) out.old.bytes out.new.bytes }
         ensures len { length out.new.bytes ≤ length out.old.bytes + WORD_LINE_ROOM }
     {
         let line = &self.bytes[..self.len];
@@ -77,7 +77,7 @@ impl ShownLately {
         requires right { AreRight self.old.rows }
         requires room { length out.old.bytes + WORD_LINE_ROOM ≤ LINE_ROOM }
         ensures right { AreRight self.new.rows }
-        ensures text { Adds (IsShown word at) out.old.bytes out.new.bytes }
+        ensures text { Appends (IsShown word at) out.old.bytes out.new.bytes }
         ensures len { length out.new.bytes ≤ length out.old.bytes + WORD_LINE_ROOM }
     {
         let place = (at / 4) as usize % ROWS;

@@ -1,6 +1,7 @@
 ghost use Rattle.std.specs.Prelude.{◌≡◌, ◌+◌, ◌<◌, ◌≤◌, MatchResult, length, string_bytes};
 ghost use Rattle.trace_text.specs.Lately.{AreRight};
-ghost use Rattle.trace_text.specs.TraceText.{Adds, IsTraceLine, IsWordLine, exception_name, front_text};
+ghost use Rattle.asm_text.specs.Appended.{Appends};
+ghost use Rattle.trace_text.specs.TraceText.{IsTraceLine, IsWordLine, exception_name, front_text};
 ghost use Rattle.trace_text.specs.TraceText.{word_text};
 
 use crate::figures::hex_word;
@@ -74,7 +75,7 @@ fn put_word_line(
     requires right { AreRight lately.old.rows }
     requires room { length out.old.bytes + WORD_LINE_ROOM ≤ LINE_ROOM }
     ensures right { AreRight lately.new.rows }
-    ensures text { Adds (IsWordLine word at) out.old.bytes out.new.bytes }
+    ensures text { Appends (IsWordLine word at) out.old.bytes out.new.bytes }
     ensures len { length out.new.bytes ≤ length out.old.bytes + WORD_LINE_ROOM }
 {
     match word {
@@ -127,7 +128,7 @@ pub(crate) fn put_trace(
     requires { AreRight lately.old.rows }
     ensures right { AreRight lately.new.rows }
     ensures text { MatchResult result
-        (λ _. Adds (IsTraceLine traced.now) (string_bytes out.old) (string_bytes out.new))
+        (λ _. Appends (IsTraceLine traced.now) (string_bytes out.old) (string_bytes out.new))
         (λ _. string_bytes out.new ≡ string_bytes out.old) }
 {
     let line = line_of(traced, lately);

@@ -3,7 +3,7 @@ use Rattle.arm2_exec.specs.declared.machine.Input.{Input}
 use Rattle.arm2_exec.specs.declared.machine.Ran.{Ran}
 use Rattle.arm2_exec.proofs.RunLemmas.{SoFar, at_end, at_stop, more_steps}
 use Rattle.arm2_exec.specs.Run.{Runs}
-use Rattle.trace_text.specs.TraceText.{Adds}
+use Rattle.asm_text.specs.Appended.{Appends}
 use Rattle.trace_text.proofs.RunLaws.{PrintedSoFar, text_ends, text_goes, text_stops}
 use Rattle.debugger.specs.SessionState.{without_bursts}
 use Rattle.debugger.specs.Watching.{inputs_of}
@@ -63,7 +63,7 @@ loop-made-preserved c =
     let line = c.put_trace.ensures.len in
     let kept = c.put_trace.ensures.room in (
       subst (λ (it : Input). SoFar start inputs c.advance.new.ran next (later it)) cleared counted,
-      subst (λ (it : Input). Adds (PrintedSoFar start inputs next (later it)) c.args.out.now.items
+      subst (λ (it : Input). Appends (PrintedSoFar start inputs next (later it)) c.args.out.now.items
           c.put_trace.new.out.items) cleared text,
       omega (arith, less, room, line, kept),
       ap (λ (r : Ran). r.stopped) counts.2 ∙ c.loop-made.invariant.3,

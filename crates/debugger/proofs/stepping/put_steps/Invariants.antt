@@ -1,6 +1,6 @@
 use Rattle.std.proofs.Common.{◌≡◌, ◌+◌, ◌-◌, ◌*◌, ◌≤◌, None, length, vec_capacity}
 use Rattle.arm2_exec.proofs.RunLemmas.{SoFar}
-use Rattle.trace_text.specs.TraceText.{Adds}
+use Rattle.asm_text.specs.Appended.{Appends}
 use Rattle.trace_text.specs.declared.trace.TheConstants.{LINE_ROOM}
 use Rattle.trace_text.proofs.RunLaws.{PrintedSoFar}
 use Rattle.arm2_exec.specs.Run.{IsWithin}
@@ -11,7 +11,7 @@ abbrev pub invariant-loop-made : goal.invariant-loop-made
 invariant-loop-made l =
     SoFar l.initial.machine (inputs_of l.initial.input l.steps) l.ran l.machine
     (inputs_of l.input (l.steps - l.made))
-    × Adds (PrintedSoFar l.initial.machine (inputs_of l.initial.input l.steps) l.machine
+    × Appends (PrintedSoFar l.initial.machine (inputs_of l.initial.input l.steps) l.machine
     (inputs_of l.input (l.steps - l.made))) l.initial.out.items l.out.items
     × (length l.out.items + (l.steps - l.made) * LINE_ROOM ≤ vec_capacity l.out) × (l.ran.stopped ≡ None)
     × IsWithin l.made l.ran

@@ -1,6 +1,6 @@
 use Rattle.std.proofs.Common.{subst}
 use Rattle.flow_graph.specs.declared.edges.Edge.{Edge}
-use Rattle.text_rows.specs.Rows.{Appends}
+use Rattle.asm_text.specs.Appended.{Appends}
 use Rattle.diagnosis.specs.Texts.{IsStartRow}
 use Rattle.text_rows.proofs.RowLaws.{so_far_all, so_far_none, so_far_one}
 use Rattle.diagnosis.proofs.texts.put_starts.Goals as goal

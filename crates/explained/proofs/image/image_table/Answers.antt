@@ -2,7 +2,8 @@ use Rattle.std.proofs.Common.{◌∙◌, ℕ, ap, subst, sym}
 use Rattle.std.specs.BTreeMap.{get}
 use Rattle.std.specs.Ordering.{nat_cmp}
 use Rattle.longest_walk.specs.Folded.{unfolded}
-use Rattle.text_rows.specs.Rows.{Appends, AreRows}
+use Rattle.asm_text.specs.Appended.{Appends}
+use Rattle.text_rows.specs.Rows.{AreRows}
 use Rattle.explained.specs.Starts.{latest_at}
 use Rattle.explained.specs.Table.{IsWordRow, image_ticks}
 use Rattle.explained.specs.Taken.{taken_at}

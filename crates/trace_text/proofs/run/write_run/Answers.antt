@@ -8,7 +8,8 @@ use Rattle.arm2_exec.specs.declared.machine.Input.{Input}
 use Rattle.arm2_exec.specs.declared.machine.Ran.{Ran}
 use Rattle.arm2_exec.specs.Run.{further}
 use Rattle.arm2_exec.proofs.RunLemmas.{SoFar, at_end, at_stop, more_steps}
-use Rattle.trace_text.specs.TraceText.{Adds, IsTraceLine}
+use Rattle.asm_text.specs.Appended.{Appends}
+use Rattle.trace_text.specs.TraceText.{IsTraceLine}
 use Rattle.trace_text.proofs.RunLaws.{FrontRuns, front_printed, front_runs, on_err, run_refused, text_ends, text_goes}
 use Rattle.trace_text.proofs.RunLaws.{text_stops}
 use Rattle.trace_text.proofs.run.write_run.Goals as goal
@@ -53,7 +54,7 @@ loop-input-preserved c =
     more_steps start inputs c.loop-input.ran now next (drop index inputs) (drop (index + 1) inputs) input
     traced.result.stepped c.loop-input.invariant.0 at_hand traced.ensures.step c.in_default.not-Stopped in
     let old = string_bytes c.loop-input.out in
-    let line : Adds (IsTraceLine traced.result) old (string_bytes c.put_trace.new.out) = search rules in
+    let line : Appends (IsTraceLine traced.result) old (string_bytes c.put_trace.new.out) = search rules in
     let stepped =
     text_goes start inputs now next (drop index inputs)
     (drop (index + 1) inputs) input traced.result at_hand traced.ensures.step

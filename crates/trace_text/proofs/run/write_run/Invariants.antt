@@ -2,17 +2,17 @@ use Rattle.std.proofs.Common.{◌≡◌, None, drop, string_bytes}
 use Rattle.arm2_exec.specs.Run.{IsWithin}
 use Rattle.arm2_exec.proofs.RunLemmas.{SoFar}
 use Rattle.trace_text.specs.Lately.{AreRight}
-use Rattle.trace_text.specs.TraceText.{Adds}
+use Rattle.asm_text.specs.Appended.{Appends}
 use Rattle.trace_text.proofs.RunLaws.{FrontPrinted, FrontRuns, PrintedSoFar}
 use Rattle.trace_text.proofs.run.write_run.Given as goal
 
 abbrev pub invariant-loop-input : goal.invariant-loop-input
 invariant-loop-input l =
     SoFar l.initial.machine l.inputs l.ran l.machine (drop l.input-index l.inputs)
-    × Adds (PrintedSoFar l.initial.machine l.inputs l.machine (drop l.input-index l.inputs))
+    × Appends (PrintedSoFar l.initial.machine l.inputs l.machine (drop l.input-index l.inputs))
     (string_bytes l.initial.out) (string_bytes l.out)
     × (l.ran.stopped ≡ None) × IsWithin l.input-index l.ran
     × FrontRuns l.initial.machine l.inputs l.input-index l.ran l.machine
-    × Adds (FrontPrinted l.initial.machine l.inputs l.input-index l.machine) (string_bytes l.initial.out)
+    × Appends (FrontPrinted l.initial.machine l.inputs l.input-index l.machine) (string_bytes l.initial.out)
     (string_bytes l.out)
     × AreRight l.lately.rows

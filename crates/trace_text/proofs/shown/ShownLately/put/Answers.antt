@@ -2,7 +2,7 @@ use Rattle.std.proofs.Common.{◌≡◌, ◌∙◌, ◌==◌, ◌/◌, ◌%◌, 
 use Rattle.std.proofs.lemmas.Bool.{and_parts}
 use Rattle.std.proofs.lemmas.Bool.Decides.{nat_tests}
 use Rattle.assembler.specs.ShownLines.{IsShown}
-use Rattle.trace_text.specs.TraceText.{Adds}
+use Rattle.asm_text.specs.Appended.{Appends}
 use Rattle.trace_text.proofs.LatelyLaws.{set_right}
 use Rattle.trace_text.proofs.shown.ShownLately.put.Goals as goal
 
@@ -16,8 +16,8 @@ returns-then-is_of-clause-text c =
     and_parts (row.word == c.args.word) (row.at == c.args.at) (sym c.is_of.ensures ∙ c.if-is_of.true) in
     let word : row.word ≡ c.args.word = grind (arith, nat_tests, same.0) in
     let at : row.at ≡ c.args.at = grind (arith, nat_tests, same.1) in
-    subst (λ w. Adds (IsShown w c.args.at) c.args.out.now.bytes c.put.new.out.bytes) word
-    (subst (λ a. Adds (IsShown row.word a) c.args.out.now.bytes c.put.new.out.bytes) at c.put.ensures.text)
+    subst (λ w. Appends (IsShown w c.args.at) c.args.out.now.bytes c.put.new.out.bytes) word
+    (subst (λ a. Appends (IsShown row.word a) c.args.out.now.bytes c.put.new.out.bytes) at c.put.ensures.text)
 
 pub returns-clause-right : goal.returns-clause-right
 returns-clause-right c =
