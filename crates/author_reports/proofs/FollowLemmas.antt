@@ -1,11 +1,9 @@
 -- A report on a followed run, from what is found of a source, a statement and a machine file.
-use Rattle.std.proofs.Common.{◌≡◌, ◌≢◌, ◌∙◌, ◌⊎◌, ◌++◌, ◌∷◌, [], ℕ, ◌+◌, ◌<◌, ◌≤◌, Bool, false, List, get_or, length, take, Result, Ok, Err, sym, ap, subst, ⊎_elim, arith}
+use Rattle.std.proofs.Common.{◌≡◌, ◌≢◌, ◌∙◌, ◌⊎◌, ◌++◌, ◌∷◌, [], ℕ, ◌+◌, ◌≤◌, Bool, List, length, take, Result, Ok, Err, sym, ap, subst}
 use Rattle.std.specs.Prelude.{IfErr}
-use Rattle.std.proofs.lemmas.Bool.{cases_lt}
-use Rattle.std.proofs.lemmas.List.{get_or_default, length-append}
+use Rattle.std.proofs.lemmas.List.{length-append}
 use Rattle.bus_ticks.specs.declared.profile.Profile.{Profile}
 use Rattle.loader.specs.Image.{Words}
-use Rattle.assembler.specs.declared.placed_line.PlacedLine.{PlacedLine}
 use Rattle.statement.specs.Stated.{Stated}
 use Rattle.loader.specs.Labels.{Names}
 use Rattle.arm2_exec.specs.State.{State}
@@ -28,7 +26,6 @@ use Rattle.kept_runs.specs.declared.following.Followed.{Followed}
 use Rattle.kept_runs.specs.declared.following.Followed.TheVariants.{Kept, Strayed}
 use Rattle.author_reports.proofs.SaidLemmas.{same_words}
 use Rattle.author_reports.specs.FollowReport.{IsFollowRefused, IsFollowReport, IsFollowable, KeepsWithin, NoneKeeps, IsRunText}
-use Rattle.author_reports.specs.FollowText.{has_word}
 use Rattle.author_reports.specs.FollowWork.{HasAllPlaces, IsJudgedRun, IsFollowedText}
 use Rattle.report_input.specs.Keeping.{KeepsStatement, TakesAtMost}
 use Rattle.report_input.specs.Placing.{IsPlaced, IsRunRefused}
@@ -120,22 +117,6 @@ machine_for source machine profile file state flow same count placed =
       registers = ap (λ (x : State). length x.regs) placed.loaded ∙ ap length placed.started.registers ∙ all ∙ ap (λ (n : ℕ). n + 1) count;
       prices = ap (λ (x : State). x.profile) placed.loaded ∙ placed.started.prices ∙ sym same;
     }
-
--- ## The line of a step
-
--- no line before the index has a word at the address
-abbrev pub NoneBefore : (address : ℕ) → List PlacedLine → ℕ → Type 0
-NoneBefore address placed n = (k : ℕ) (line : PlacedLine) → k < n → get_or placed k line ≡ line → has_word address line ≡ false
-
-pub none_more : (address : ℕ) (placed : List PlacedLine) (n : ℕ) (line : PlacedLine) → n < length placed → line ≡ get_or placed n line → has_word address line ≡ false
-    → NoneBefore address placed n → NoneBefore address placed (n + 1)
-none_more address placed n line within at other before k next less stands = ⊎_elim
-    (λ (l : k < n). before k next l stands)
-    (λ (m : n ≤ k).
-    let same : n ≡ k = omega (arith, less, m) in
-    let is : line ≡ next = at ∙ get_or_default placed n line next within ∙ ap (λ (j : ℕ). get_or placed j next) same ∙ stands in
-    subst (λ (x : PlacedLine). has_word address x ≡ false) is other)
-    (cases_lt k n)
 
 -- ## The report
 

@@ -1,8 +1,7 @@
 -- What is printed of a run that is judged by a statement.
-use Rattle.std.specs.Prelude.{◌≡◌, ℕ, ◌+◌, ◌*◌, ◌-◌, ◌<◌, Bool, true, false, ◌&&◌, if◌then◌else◌}
-use Rattle.std.specs.Prelude.{nat_eq, nat_le, nat_lt, List, [], ◌++◌, length, codes, decimal}
-use Rattle.std.specs.Prelude.{slice_index_or}
-use Rattle.std.specs.Prelude.{Contains, Option, Some, None, MatchOption}
+use Rattle.std.specs.Prelude.{◌≡◌, ℕ, ◌+◌, ◌-◌, Bool, true, false, if◌then◌else◌}
+use Rattle.std.specs.Prelude.{nat_eq, List, [], ◌++◌, codes, decimal}
+use Rattle.std.specs.Prelude.{Option, Some, None, option_map}
 use Rattle.bus_ticks.specs.Prices.{class_at}
 use Rattle.bus_ticks.specs.declared.profile.Class.{Class}
 use Rattle.asm_text.specs.Hex.{hex}
@@ -10,6 +9,7 @@ use Rattle.assembler.specs.Placed.{ArePlaced}
 use Rattle.assembler.specs.declared.placed_line.PlacedLine.{PlacedLine}
 use Rattle.statement.specs.Stated.{Stated, class_of}
 use Rattle.text_rows.specs.Addresses.{class_name}
+use Rattle.text_rows.specs.ByAddress.{line_of}
 use Rattle.trace_text.specs.TraceText.{exception_name, why_name}
 use Rattle.kept_runs.specs.declared.following.Unkept.{Unkept}
 use Rattle.kept_runs.specs.declared.following.Unkept.TheVariants as unkept
@@ -80,26 +80,9 @@ strayed_text steps at line why =
 
 -- ## The line
 
--- a word of the line is at the address
-abbrev pub has_word : (address : ℕ) → PlacedLine → Bool
-has_word address line = nat_le line.at address && nat_lt address (line.at + 4 * line.words)
-
--- no line has
-abbrev pub HasNoLine : (address : ℕ) → List PlacedLine → Type 0
-HasNoLine address placed = (line : PlacedLine) → Contains placed line → has_word address line ≡ false
-
--- the line of this number has, the first of which is 1
-pub record IsLine (address : ℕ) (placed : List PlacedLine) (number : ℕ) : Type 0 where
-  pub line : PlacedLine
-  pub index : ℕ
-  pub number_is : number ≡ index + 1
-  pub within : index < length placed
-  pub stands : slice_index_or placed index line ≡ line
-  pub has : has_word address line ≡ true
-
--- of a text; an image has no lines
+-- the number of the line of a text that has a word at the address; an image has no lines
 pub record IsLineAt (source : List ℕ) (address : ℕ) (line : Option ℕ) : Type 0 where
   pub of_image : is_image source ≡ true → line ≡ None
   pub of_text : is_image source ≡ false
       → (placed : List PlacedLine) × ArePlaced source placed
-      × MatchOption line (HasNoLine address placed) (IsLine address placed)
+      × (line ≡ option_map (λ (l : ℕ × List ℕ). l.0) (line_of source placed address))

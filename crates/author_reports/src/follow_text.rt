@@ -1,20 +1,20 @@
 //! What is printed of a run that is judged by a statement.
 
-ghost use Rattle.std.specs.Prelude.{◌≡◌, IfErr, IfOk, MatchOption, string_bytes};
-ghost use Rattle.author_reports.specs.FollowText.{HasNoLine, IsLine, IsLineAt, access_name, access_text};
-ghost use Rattle.author_reports.specs.FollowText.{has_word, kept_text, less_text, line_text};
+ghost use Rattle.std.specs.Prelude.{◌≡◌, IfErr, IfOk, string_bytes};
+ghost use Rattle.author_reports.specs.FollowText.{IsLineAt, access_name, access_text, kept_text};
+ghost use Rattle.author_reports.specs.FollowText.{less_text, line_text};
 ghost use Rattle.author_reports.specs.FollowText.{stray_text, strayed_text, times_text, turned_text};
 ghost use Rattle.author_reports.specs.FollowText.{why_text};
 ghost use Rattle.report_input.specs.Source.{IsSourceFault};
 
-use assembler::{PlacedLine, placed_lines};
+use assembler::placed_lines;
 use bus_ticks::{Class, class_of};
 use flow_graph::Statement;
 use kept_runs::{Access, Stray, Unkept};
 use loader::MAGIC;
 use report_output::ReportFault;
 use std::alloc::{AllocError, Global};
-use text_rows::class_name;
+use text_rows::{class_name, lines_by_address};
 use trace_text::{exception_name, why_name};
 
 // How much less than the bound the ticks are.
@@ -127,26 +127,7 @@ pub(crate) fn strayed_text(
     format!(in alloc; "step {steps}, {at:X}{line}: {why}\n")
 }
 
-// Whether a word of the line is at the address.
-fn has_word(line: &PlacedLine, address: u32) -> bool
-    ensures { result ≡ has_word address line.now }
-{
-    line.at <= address && (address as usize) < line.at as usize + 4 * line.words
-}
-
-// The number, from 1, of the line that has a word at the address.
-fn line_at(placed: &[PlacedLine], address: u32) -> Option<usize>
-    ensures { MatchOption result (HasNoLine address placed.now) (IsLine address placed.now) }
-{
-    for index in 0..placed.len() {
-        if has_word(&placed[index], address) {
-            return Some(index + 1);
-        }
-    }
-    None
-}
-
-/// The line of a source that has a word at the address; none of an image.
+/// The number of the line of a source that has a word at the address; none of an image.
 pub(crate) fn line_of(
     alloc: Global,
     source: &[u8],
@@ -159,5 +140,6 @@ pub(crate) fn line_of(
         return Ok(None);
     }
     let placed = placed_lines(alloc, source)?;
-    Ok(line_at(&placed, address))
+    let lines = lines_by_address(alloc, source, &placed)?;
+    Ok(lines.get(&address).map(|line| line.number))
 }
