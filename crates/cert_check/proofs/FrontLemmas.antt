@@ -12,7 +12,8 @@ use Rattle.flow_graph.specs.declared.edges.Edge.{Edge}
 use Rattle.flow_graph.specs.Flow.{Flow, HasEdge, IsWellFormed, edge_shape}
 use Rattle.numbered_walks.specs.declared.span.Span.{Span}
 use Rattle.loop_bounds.specs.Tree.{IsTree, Tree}
-use Rattle.longest_walk.specs.Longest.{IsBody}
+use Rattle.longest_walk.specs.Folded.{IsCount}
+use Rattle.longest_walk.specs.Longest.{AreRepeats, IsBody}
 use Rattle.certificate.specs.declared.walk.CertItem.{CertItem}
 use Rattle.cert_check.specs.declared.index.Index.{Index}
 use Rattle.cert_check.specs.declared.walker.Walker.{Walker}
@@ -20,7 +21,7 @@ use Rattle.cert_check.specs.Failing.{BreaksAt}
 use Rattle.cert_check.specs.Followed.{Followed, follow_both, follow_item, follow_row, followed, nothing_at}
 use Rattle.cert_check.specs.Straying.{StraysAt}
 use Rattle.cert_check.specs.Verdict.{IsFollowed}
-use Rattle.cert_check.specs.Walking.{AreRounds, CanFollow, Follows, IsRefused, IsTaken}
+use Rattle.cert_check.specs.Walking.{CanFollow, Follows, IsRefused, IsTaken}
 use Rattle.cert_check.proofs.WalkFollowing.{follows_more, in_row, refused_first, taken_none}
 use Rattle.cert_check.proofs.WalkParts.{All-left, All-right, leads_left, leads_right}
 
@@ -72,29 +73,29 @@ module _ (flow : Flow) (tree : Tree) (levels : ℕ) where
     walk_is : followed flow items p ≡ Some walk
     end : Place
     leads : Leads edge_shape (HasEdge flow) s walk.opened.walk end
-    rounds : AreRounds flow tree levels walk.opened
+    repeats : AreRepeats flow tree levels walk.opened
 
-  front_of : (xs ys : List CertItem) (p s q : Place) (f : Followed) → followed flow (xs ++ ys) p ≡ Some f → Leads edge_shape (HasEdge flow) s f.opened.walk q → AreRounds flow tree levels f.opened → IsFront xs p s
-  front_of [] ys p s q f is leads rounds = record {
+  front_of : (xs ys : List CertItem) (p s q : Place) (f : Followed) → followed flow (xs ++ ys) p ≡ Some f → Leads edge_shape (HasEdge flow) s f.opened.walk q → AreRepeats flow tree levels f.opened → IsFront xs p s
+  front_of [] ys p s q f is leads repeats = record {
     walk = nothing_at p;
     walk_is = refl;
     end = s;
     leads = refl;
-    rounds = record { bodies = All-nil (IsBody flow tree); counts = All-nil (λ k. (0 < k) × (k ≤ 1048576)); shallow = omega arith };
+    repeats = record { bodies = All-nil (IsBody flow tree); counts = All-nil IsCount; shallow = omega arith };
   }
-  front_of (x ∷ xs) ys p s q f is leads rounds =
+  front_of (x ∷ xs) ys p s q f is leads repeats =
       let r = in_row (follow_item flow x) (map (follow_item flow) (xs ++ ys)) p f is in
       let v : List Edge = r.front.opened.walk in
       let w : List Edge = r.back.opened.walk in
       let go : Leads edge_shape (HasEdge flow) s (v ++ (w ++ [])) q = subst (λ (g : Followed). Leads edge_shape (HasEdge flow) s g.opened.walk q) (sym r.both_is) leads in
-      let good : AreRounds flow tree levels (follow_both r.front.opened r.back).opened = subst (λ (g : Followed). AreRounds flow tree levels g.opened) (sym r.both_is) rounds in
+      let good : AreRepeats flow tree levels (follow_both r.front.opened r.back).opened = subst (λ (g : Followed). AreRepeats flow tree levels g.opened) (sym r.both_is) repeats in
       let first = leads_left edge_shape (HasEdge flow) s q v (w ++ []) go in
       let after : Leads edge_shape (HasEdge flow) first.0 (w ++ []) q = leads_right edge_shape (HasEdge flow) s first.0 q v (w ++ []) go first.1 in
       let more = front_of xs ys r.front.at first.0 q r.back r.back_is
       (subst (λ (u : List Edge). Leads edge_shape (HasEdge flow) first.0 u q) (append-nil w) after)
       (record {
         bodies = All-left (IsBody flow tree) r.back.opened.bodies [] (All-right (IsBody flow tree) r.front.opened.bodies (r.back.opened.bodies ++ []) good.bodies);
-        counts = All-left (λ k. (0 < k) × (k ≤ 1048576)) r.back.opened.counts [] (All-right (λ k. (0 < k) × (k ≤ 1048576)) r.front.opened.counts (r.back.opened.counts ++ []) good.counts);
+        counts = All-left IsCount r.back.opened.counts [] (All-right IsCount r.front.opened.counts (r.back.opened.counts ++ []) good.counts);
         shallow = omega (arith, good.shallow);
       }) in
       record {
@@ -104,12 +105,12 @@ module _ (flow : Flow) (tree : Tree) (levels : ℕ) where
         end = more.end;
         leads = Leads-append edge_shape (HasEdge flow) s first.0 more.end v (more.walk.opened.walk ++ []) first.1
             (subst (λ (u : List Edge). Leads edge_shape (HasEdge flow) first.0 u more.end) (sym (append-nil more.walk.opened.walk)) more.leads);
-        rounds = record {
+        repeats = record {
           bodies = All-append (IsBody flow tree) r.front.opened.bodies (more.walk.opened.bodies ++ []) (All-left (IsBody flow tree) r.front.opened.bodies (r.back.opened.bodies ++ []) good.bodies)
-              (All-append (IsBody flow tree) more.walk.opened.bodies [] more.rounds.bodies (All-nil (IsBody flow tree)));
-          counts = All-append (λ k. (0 < k) × (k ≤ 1048576)) r.front.opened.counts (more.walk.opened.counts ++ []) (All-left (λ k. (0 < k) × (k ≤ 1048576)) r.front.opened.counts (r.back.opened.counts ++ []) good.counts)
-              (All-append (λ k. (0 < k) × (k ≤ 1048576)) more.walk.opened.counts [] more.rounds.counts (All-nil (λ k. (0 < k) × (k ≤ 1048576))));
-          shallow = omega (arith, good.shallow, more.rounds.shallow);
+              (All-append (IsBody flow tree) more.walk.opened.bodies [] more.repeats.bodies (All-nil (IsBody flow tree)));
+          counts = All-append IsCount r.front.opened.counts (more.walk.opened.counts ++ []) (All-left IsCount r.front.opened.counts (r.back.opened.counts ++ []) good.counts)
+              (All-append IsCount more.walk.opened.counts [] more.repeats.counts (All-nil IsCount));
+          shallow = omega (arith, good.shallow, more.repeats.shallow);
         };
       }
 
@@ -117,6 +118,5 @@ module _ (flow : Flow) (tree : Tree) (levels : ℕ) where
 pub breaks_none : (flow : Flow) (tree : Tree) (items : List CertItem) (i : ℕ) → BreaksAt flow tree items i → (walk : Followed) × IsFollowed flow tree items walk → ⊥
 breaks_none flow tree items i b (f, is) =
     let front = front_of flow tree 16 (take (i + 1) items) (drop (i + 1) items) flow.entry flow.entry Exit f
-    (ap (λ (xs : List CertItem). followed flow xs flow.entry) (take-append-drop (i + 1) items) ∙ is.followed_is) is.complete
-    (record { bodies = is.bodies; counts = is.counts; shallow = is.shallow }) in
-    b.fails front.end (record { walk = front.walk; followed_is = front.walk_is; leads = front.leads; bodies = front.rounds.bodies; counts = front.rounds.counts; shallow = front.rounds.shallow })
+    (ap (λ (xs : List CertItem). followed flow xs flow.entry) (take-append-drop (i + 1) items) ∙ is.followed_is) is.complete is.repeats in
+    b.fails front.end (record { walk = front.walk; followed_is = front.walk_is; leads = front.leads; repeats = front.repeats })

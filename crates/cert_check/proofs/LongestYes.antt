@@ -1,5 +1,5 @@
 -- The certificate of a greatest walk passes each test.
-use Rattle.std.proofs.Common.{◌≡◌, ◌∙◌, ◌<◌, ◌≤◌, List, [], ◌∷◌, map, Some, inr, refl, sym, ap, subst}
+use Rattle.std.proofs.Common.{◌≡◌, ◌∙◌, List, [], ◌∷◌, map, Some, inr, refl, sym, ap, subst}
 use Rattle.std.specs.Prelude.{Contains}
 use Rattle.std.specs.List.{AllByRecursion}
 use Rattle.std.proofs.lemmas.List.Elements.{All-contains, All-contains_itself, All-weaker}
@@ -14,7 +14,7 @@ use Rattle.flow_graph.specs.Flow.{Flow, HasEdge, IsWellFormed, edge_shape}
 use Rattle.flow_graph.specs.Graph.{IsFlowGraph}
 use Rattle.loop_bounds.specs.Tree.{IsTree, Tree}
 use Rattle.longest_walk.specs.declared.folded.Longest.{Longest}
-use Rattle.longest_walk.specs.Folded.{open_items}
+use Rattle.longest_walk.specs.Folded.{IsCount, open_items}
 use Rattle.longest_walk.specs.Longest.{IsBody, IsLongest, KeepsTree}
 use Rattle.longest_walk.specs.Rows.{RowsFit, RowsHold, header_of, header_of_row, place_of_row, potentials_of}
 use Rattle.certificate.specs.Lines.{said_by, said_of}
@@ -85,7 +85,7 @@ module _ (flow : Flow) (tree : Tree) (l : Longest) (cert : Cert) (is : IsLongest
     sound : IsSound flow tree (open_items l.walk)
     sound = record {
       bodies = λ b h. All-contains (IsBody flow tree) (open_items l.walk).bodies b is.walk_is.repeats.bodies h;
-      counts = λ k h. (All-contains (λ n. (0 < n) × (n ≤ 1048576)) (open_items l.walk).counts k is.walk_is.repeats.counts h).0;
+      counts = λ k h. (All-contains IsCount (open_items l.walk).counts k is.walk_is.repeats.counts h).0;
     }
 
     followed_is : followed flow cert.walk flow.entry ≡ Some walked
@@ -95,9 +95,7 @@ module _ (flow : Flow) (tree : Tree) (l : Longest) (cert : Cert) (is : IsLongest
     is_followed = record {
       followed_is = followed_is;
       complete = is.walk_is.complete;
-      bodies = is.walk_is.repeats.bodies;
-      counts = is.walk_is.repeats.counts;
-      shallow = is.walk_is.repeats.shallow;
+      repeats = is.walk_is.repeats;
     }
 
     -- whatever is followed is that walk

@@ -50,17 +50,14 @@ module _ (flow : Flow) (tree : Tree) (index : Index) (well : IsWellFormed flow) 
     walk = a.walk;
     followed_is = ap (followed flow items) (sym entry_is) ∙ a.walk_is;
     leads = subst (λ (p : Place). Leads edge_shape (HasEdge flow) p a.walk.opened.walk (place y.number)) entry_is (leads_of flow tree index well (graph_span flow) 16 least (followed flow items) x y t a);
-    bodies = a.rounds.bodies;
-    counts = a.rounds.counts;
-    shallow = a.rounds.shallow;
+    repeats = a.repeats;
   }
 
   -- .. and lines that were refused begin none
   none_begun : (items : List CertItem) → IsRefused flow tree (graph_span flow) 16 (followed flow items) x.number → (p : Place) → IsBegun flow tree items p → ⊥
   none_begun items refused p b =
       refused b.walk p (ap (followed flow items) entry_is ∙ b.followed_is) (subst (λ (q : Place). Leads edge_shape (HasEdge flow) q b.walk.opened.walk p) (sym entry_is) b.leads)
-      (λ k d lt n le to. member_from (graph_span flow) n (omega arith) le)
-      (record { bodies = b.bodies; counts = b.counts; shallow = b.shallow })
+      (λ k d lt n le to. member_from (graph_span flow) n (omega arith) le) b.repeats
 
   breaks_at : (i : ℕ) → StraysAt flow tree index (graph_span flow) 16 cert.walk x i → BreaksAt flow tree cert.walk i
   breaks_at i s = record {

@@ -17,7 +17,8 @@ use Rattle.numbered_walks.specs.Ordered.{is_in, number_shape}
 use Rattle.numbered_walks.specs.Ordered as O
 use Rattle.loop_bounds.specs.Tree.{IsTree, Tree, place_in}
 use Rattle.longest_walk.specs.Built.{step_at}
-use Rattle.longest_walk.specs.Longest.{IsBody}
+use Rattle.longest_walk.specs.Folded.{IsCount}
+use Rattle.longest_walk.specs.Longest.{AreRepeats, IsBody}
 use Rattle.longest_walk.proofs.CarryWalks.{leads_up}
 use Rattle.certificate.specs.declared.walk.StepLine.{StepLine}
 use Rattle.certificate.specs.declared.walk.CertItem.{CertItem}
@@ -28,7 +29,7 @@ use Rattle.std.specs.declared.alloc.Global.{Global}
 use Rattle.cert_check.specs.declared.index.Index.{Index}
 use Rattle.cert_check.specs.declared.walker.Walker.{Walker}
 use Rattle.cert_check.specs.Followed.{Followed, edge_named, follow_both, follow_edge, follow_item, follow_row, follow_step, follow_turns, followed, nothing_at}
-use Rattle.cert_check.specs.Walking.{AreRounds, CanFollow, EndsIn, Follows, IsRefused, IsTaken, IsWalkerAfter}
+use Rattle.cert_check.specs.Walking.{CanFollow, EndsIn, Follows, IsRefused, IsTaken, IsWalkerAfter}
 use Rattle.cert_check.proofs.WalkParts.{All-left, All-right, leads_left, leads_right}
 
 -- the walk of a row is that of its first lines, and that of the others from where it ends
@@ -74,7 +75,7 @@ module _ (flow : Flow) (tree : Tree) (index : Index) (well : IsWellFormed flow) 
     leads = refl;
     stays = All-nil (λ e. is_in within e.to ≡ true);
     long = omega arith;
-    rounds = record { bodies = All-nil (IsBody flow tree); counts = All-nil (λ k. (0 < k) × (k ≤ 1048576)); shallow = omega arith };
+    repeats = record { bodies = All-nil (IsBody flow tree); counts = All-nil IsCount; shallow = omega arith };
     adds = λ w t. subst (λ (v : List NumberedEdge). IsWalkerAfter tree.spans x v) (sym (append-nil w)) t;
     ready = can;
   }
@@ -94,10 +95,10 @@ module _ (flow : Flow) (tree : Tree) (index : Index) (well : IsWellFormed flow) 
         leads = subst (λ (v : List NumberedEdge). O.Leads tree.edges x.number v z.number) (sym both) (Leads-append number_shape (Contains tree.edges) x.number y.number z.number (edges_of tree.edges a.numbers) (edges_of tree.edges b.numbers) a.leads b.leads);
         stays = subst (λ (v : List NumberedEdge). All (λ e. is_in within e.to ≡ true) v) (sym both) (All-append (λ e. is_in within e.to ≡ true) (edges_of tree.edges a.numbers) (edges_of tree.edges b.numbers) a.stays b.stays);
         long = omega (arith, length-append a.walk.opened.walk (b.walk.opened.walk ++ []), length-append b.walk.opened.walk [], a.long, b.long);
-        rounds = record {
-          bodies = All-append (IsBody flow tree) a.walk.opened.bodies (b.walk.opened.bodies ++ []) a.rounds.bodies (All-append (IsBody flow tree) b.walk.opened.bodies [] b.rounds.bodies (All-nil (IsBody flow tree)));
-          counts = All-append (λ k. (0 < k) × (k ≤ 1048576)) a.walk.opened.counts (b.walk.opened.counts ++ []) a.rounds.counts (All-append (λ k. (0 < k) × (k ≤ 1048576)) b.walk.opened.counts [] b.rounds.counts (All-nil (λ k. (0 < k) × (k ≤ 1048576))));
-          shallow = omega (arith, a.rounds.shallow, b.rounds.shallow);
+        repeats = record {
+          bodies = All-append (IsBody flow tree) a.walk.opened.bodies (b.walk.opened.bodies ++ []) a.repeats.bodies (All-append (IsBody flow tree) b.walk.opened.bodies [] b.repeats.bodies (All-nil (IsBody flow tree)));
+          counts = All-append IsCount a.walk.opened.counts (b.walk.opened.counts ++ []) a.repeats.counts (All-append IsCount b.walk.opened.counts [] b.repeats.counts (All-nil IsCount));
+          shallow = omega (arith, a.repeats.shallow, b.repeats.shallow);
         };
         adds = λ w t.
             subst (λ (v : List NumberedEdge). IsWalkerAfter tree.spans z v) (append_assoc w (edges_of tree.edges a.numbers) (edges_of tree.edges b.numbers) ∙ ap (λ (v : List NumberedEdge). w ++ v) (sym both)) (b.adds (w ++ edges_of tree.edges a.numbers) (a.adds w t));
@@ -106,29 +107,29 @@ module _ (flow : Flow) (tree : Tree) (index : Index) (well : IsWellFormed flow) 
 
   module _ (within : Span) (levels n : ℕ) (first : Place → Option Followed) (rest : List (Place → Option Followed)) where
     pub refused_first : IsRefused flow tree within levels first n → IsRefused flow tree within levels (follow_row (first ∷ rest)) n
-    refused_first refused f q is leads ends rounds =
+    refused_first refused f q is leads ends repeats =
         let r = in_row first rest (place n) f is in
         let v : List Edge = r.front.opened.walk in
         let w : List Edge = r.back.opened.walk ++ [] in
         let go : LeadsTo (place n) (v ++ w) q = subst (λ (g : Followed). LeadsTo (place n) g.opened.walk q) (sym r.both_is) leads in
         let stay : All (EndsIn flow tree within) (v ++ w) = subst (λ (g : Followed). All (EndsIn flow tree within) g.opened.walk) (sym r.both_is) ends in
-        let good : AreRounds flow tree levels (follow_both r.front.opened r.back).opened = subst (λ (g : Followed). AreRounds flow tree levels g.opened) (sym r.both_is) rounds in
+        let good : AreRepeats flow tree levels (follow_both r.front.opened r.back).opened = subst (λ (g : Followed). AreRepeats flow tree levels g.opened) (sym r.both_is) repeats in
         let front = leads_left edge_shape (HasEdge flow) (place n) q v w go in
         refused r.front front.0 r.front_is front.1 (All-left (EndsIn flow tree within) v w stay)
         (record {
           bodies = All-left (IsBody flow tree) r.front.opened.bodies (r.back.opened.bodies ++ []) good.bodies;
-          counts = All-left (λ k. (0 < k) × (k ≤ 1048576)) r.front.opened.counts (r.back.opened.counts ++ []) good.counts;
+          counts = All-left IsCount r.front.opened.counts (r.back.opened.counts ++ []) good.counts;
           shallow = omega (arith, good.shallow);
         })
 
     pub refused_rest : (least : ℕ) (x y : Walker) → IsTree flow tree → x.number ≡ n → IsTaken flow tree index within levels least first x y → IsRefused flow tree within levels (follow_row rest) y.number → IsRefused flow tree within levels (follow_row (first ∷ rest)) n
-    refused_rest least x y t at a refused f q is leads ends rounds =
+    refused_rest least x y t at a refused f q is leads ends repeats =
         let r = in_row first rest (place n) f is in
         let v : List Edge = r.front.opened.walk in
         let w : List Edge = r.back.opened.walk in
         let go : LeadsTo (place n) (v ++ (w ++ [])) q = subst (λ (g : Followed). LeadsTo (place n) g.opened.walk q) (sym r.both_is) leads in
         let stay : All (EndsIn flow tree within) (v ++ (w ++ [])) = subst (λ (g : Followed). All (EndsIn flow tree within) g.opened.walk) (sym r.both_is) ends in
-        let good : AreRounds flow tree levels (follow_both r.front.opened r.back).opened = subst (λ (g : Followed). AreRounds flow tree levels g.opened) (sym r.both_is) rounds in
+        let good : AreRepeats flow tree levels (follow_both r.front.opened r.back).opened = subst (λ (g : Followed). AreRepeats flow tree levels g.opened) (sym r.both_is) repeats in
         let same : a.walk ≡ r.front = same_Some a.walk r.front (sym a.walk_is ∙ ap (λ (m : ℕ). first (place m)) at ∙ r.front_is) in
         let there : r.front.at ≡ place y.number = ap (λ (g : Followed). g.at) (sym same) ∙ a.ends in
         let front : LeadsTo (place n) v (place y.number) = subst (λ (m : ℕ). LeadsTo (place m) v (place y.number)) at (subst (λ (g : Followed). LeadsTo (place x.number) g.opened.walk (place y.number)) same (leads_of within levels least first x y t a)) in
@@ -138,7 +139,7 @@ module _ (flow : Flow) (tree : Tree) (index : Index) (well : IsWellFormed flow) 
         (All-left (EndsIn flow tree within) w [] (All-right (EndsIn flow tree within) v (w ++ []) stay))
         (record {
           bodies = All-left (IsBody flow tree) r.back.opened.bodies [] (All-right (IsBody flow tree) r.front.opened.bodies (r.back.opened.bodies ++ []) good.bodies);
-          counts = All-left (λ k. (0 < k) × (k ≤ 1048576)) r.back.opened.counts [] (All-right (λ k. (0 < k) × (k ≤ 1048576)) r.front.opened.counts (r.back.opened.counts ++ []) good.counts);
+          counts = All-left IsCount r.back.opened.counts [] (All-right IsCount r.front.opened.counts (r.back.opened.counts ++ []) good.counts);
           shallow = omega (arith, good.shallow);
         })
 

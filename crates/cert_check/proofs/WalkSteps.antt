@@ -25,7 +25,8 @@ use Rattle.numbered_walks.proofs.Members.{header_in, no_numbered_edge}
 use Rattle.loop_bounds.specs.Instance.{is_header, is_member, place_loops}
 use Rattle.loop_bounds.specs.Tree.{IsTree, NumbersEdge, Tree, place_in}
 use Rattle.longest_walk.specs.Built.{step_at, steps_of}
-use Rattle.longest_walk.specs.Longest.{IsBody}
+use Rattle.longest_walk.specs.Folded.{IsCount}
+use Rattle.longest_walk.specs.Longest.{AreRepeats, IsBody}
 use Rattle.longest_walk.proofs.CarryKeeps.{pass_back}
 use Rattle.longest_walk.proofs.CarryWalks.{agree_all, edge_same, instance_of, member_same, number_is, span_of}
 use Rattle.longest_walk.proofs.Opening.{All-repeated, map-repeated}
@@ -39,7 +40,7 @@ use Rattle.cert_check.specs.declared.walker.Walker.{Walker}
 use Rattle.cert_check.specs.Followed.{Followed, edge_named, follow_edge, follow_item, follow_turns, followed, is_named}
 use Rattle.walk_counts.specs.Spans.{header_at}
 use Rattle.walk_counts.proofs.StayLemmas.{span_there}
-use Rattle.cert_check.specs.Walking.{Adds, AreRounds, Arrives, Begins, CanFollow, CannotBegin, EndsIn, IsRefused, IsTaken, capped, gained, turns_after}
+use Rattle.cert_check.specs.Walking.{Adds, Arrives, Begins, CanFollow, CannotBegin, EndsIn, IsRefused, IsTaken, capped, gained, turns_after}
 use Rattle.cert_check.proofs.WalkNamed.{named_from}
 use Rattle.cert_check.proofs.WalkParts.{ends_same, leads_once, repeated-long, some_element, starts_same}
 use Rattle.cert_check.proofs.WalkFollowing.{item_repeat, leads_of, some_lines}
@@ -78,7 +79,7 @@ module _ (flow : Flow) (tree : Tree) (index : Index) (well : IsWellFormed flow) 
 
   module _ (line : StepLine) where
     pub step_unnamed : None ≡ edge_named flow (place_in flow tree x.number) line → IsRefused flow tree within levels (by_line line) x.number
-    step_unnamed none f q is leads ends rounds = none-some f (ap (option_map follow_edge) none ∙ is)
+    step_unnamed none f q is leads ends repeats = none-some f (ap (option_map follow_edge) none ∙ is)
 
     module _ (k : ℕ) (lt : k < length flow.edges) (found : Some (step_at flow.edges k) ≡ edge_named flow (place_in flow tree x.number) line) where
       abbrev e : NumberedEdge
@@ -97,7 +98,7 @@ module _ (flow : Flow) (tree : Tree) (index : Index) (well : IsWellFormed flow) 
           number_is flow tree well t (edge_at tree.edges k).from x.number (omega arith) can.known (here.from_is ∙ named_from (place x.number) line (step_at flow.edges k) named.1)
 
       pub step_outside : is_in within (edge_at tree.edges k).to ≡ false → IsRefused flow tree within levels (by_line line) x.number
-      step_outside out f q is leads ends rounds =
+      step_outside out f q is leads ends repeats =
           let same : follow_edge (step_at flow.edges k) ≡ f = same_Some (follow_edge (step_at flow.edges k)) f (ap (option_map follow_edge) found ∙ is) in
           let stay : All (EndsIn flow tree within) (step_at flow.edges k ∷ []) = subst (λ (g : Followed). All (EndsIn flow tree within) g.opened.walk) (sym same) ends in
           both_ways (is_in within (edge_at tree.edges k).to) out (All-head (EndsIn flow tree within) (step_at flow.edges k) [] stay (edge_at tree.edges k).to here.to_in here.to_is)
@@ -121,7 +122,7 @@ module _ (flow : Flow) (tree : Tree) (index : Index) (well : IsWellFormed flow) 
           leads = (e_in, from_is, sym goes.number_is);
           stays = All-cons (λ (n : NumberedEdge). is_in within n.to ≡ true) (edge_at tree.edges k) [] inner (All-nil (λ (n : NumberedEdge). is_in within n.to ≡ true));
           long = omega arith;
-          rounds = record { bodies = All-nil (IsBody flow tree); counts = All-nil (λ n. (0 < n) × (n ≤ 1048576)); shallow = omega arith };
+          repeats = record { bodies = All-nil (IsBody flow tree); counts = All-nil IsCount; shallow = omega arith };
           adds = edge_adds exit tree.edges tree.spans t.ordered index.headers.items can.indexed.headers (edge_at tree.edges k) e_in x y (sym from_is) (omega (arith, to_in, can.room)) goes;
           ready = step_ready;
         }
@@ -153,18 +154,17 @@ module _ (flow : Flow) (tree : Tree) (index : Index) (well : IsWellFormed flow) 
       header_is : span.header ≡ n
       leads : LeadsTo (place n) g.opened.walk (place n)
       ends : All (EndsIn flow tree span) g.opened.walk
-      rounds : AreRounds flow tree (levels - 1) g.opened
+      repeats : AreRepeats flow tree (levels - 1) g.opened
       some_level : 0 < levels
-      some : 0 < k
-      few : k ≤ 1048576
+      count_is : IsCount k
       some_line : 0 < lines
 
-    turns_in : (g : Followed) (q : Place) → row (place x.number) ≡ Some g → LeadsTo (place x.number) (repeat k g.opened.walk) q → AreRounds flow tree levels (follow_turns k g).opened → TurnsIn x.number g
-    turns_in g q is leads rounds =
+    turns_in : (g : Followed) (q : Place) → row (place x.number) ≡ Some g → LeadsTo (place x.number) (repeat k g.opened.walk) q → AreRepeats flow tree levels (follow_turns k g).opened → TurnsIn x.number g
+    turns_in g q is leads repeats =
         let v : List Edge = g.opened.walk in
-        let body : IsBody flow tree v = All-head (IsBody flow tree) v g.opened.bodies rounds.bodies in
-        let counts : (0 < k) × (k ≤ 1048576) = All-head (λ (n : ℕ). (0 < n) × (n ≤ 1048576)) k g.opened.counts rounds.counts in
-        let once = leads_once edge_shape (HasEdge flow) (place x.number) q k v counts.0 leads in
+        let body : IsBody flow tree v = All-head (IsBody flow tree) v g.opened.bodies repeats.bodies in
+        let count : IsCount k = All-head IsCount k g.opened.counts repeats.counts in
+        let once = leads_once edge_shape (HasEdge flow) (place x.number) q k v count.0 leads in
         let at : place x.number ≡ body.header = starts_same edge_shape (HasEdge flow) (place x.number) body.header once.0 body.header v body.some once.1 body.turns in
         let h = span_of flow tree well t body.instance body.in_tree in
         let span : Span = h.span in
@@ -176,26 +176,25 @@ module _ (flow : Flow) (tree : Tree) (index : Index) (well : IsWellFormed flow) 
           leads = subst (λ (p : Place). LeadsTo p v p) (sym at) body.turns;
           ends = All-weaker (λ (e : Edge). G.is_inside edge_shape place_loops body.instance e ≡ true) (EndsIn flow tree span)
               (λ e in_it n le to. sym (member_same flow tree well t body.instance span h.span_is e.to n le to) ∙ (and_parts (is_member body.instance e.from) (is_member body.instance e.to) in_it).1) v body.stays;
-          rounds = record {
-            bodies = All-tail (IsBody flow tree) v g.opened.bodies rounds.bodies;
-            counts = All-tail (λ (n : ℕ). (0 < n) × (n ≤ 1048576)) k g.opened.counts rounds.counts;
-            shallow = omega (arith, rounds.shallow);
+          repeats = record {
+            bodies = All-tail (IsBody flow tree) v g.opened.bodies repeats.bodies;
+            counts = All-tail IsCount k g.opened.counts repeats.counts;
+            shallow = omega (arith, repeats.shallow);
           };
-          some_level = omega (arith, rounds.shallow);
-          some = counts.0;
-          few = counts.1;
+          some_level = omega (arith, repeats.shallow);
+          count_is = count;
           some_line = some_edge g (place x.number) is body.some;
         }
 
     -- a repeat is refused where no such turns are found
     refused_turns : ((g : Followed) → row (place x.number) ≡ Some g → TurnsIn x.number g → ⊥) → IsRefused flow tree within levels times x.number
-    refused_turns none f q is leads ends rounds =
+    refused_turns none f q is leads ends repeats =
         let g = map_is (follow_turns k) (row (place x.number)) f is in
-        none g.0 g.1 (turns_in g.0 q g.1 (subst (λ (h : Followed). LeadsTo (place x.number) h.opened.walk q) (sym g.2) leads) (subst (λ (h : Followed). AreRounds flow tree levels h.opened) (sym g.2) rounds))
+        none g.0 g.1 (turns_in g.0 q g.1 (subst (λ (h : Followed). LeadsTo (place x.number) h.opened.walk q) (sym g.2) leads) (subst (λ (h : Followed). AreRepeats flow tree levels h.opened) (sym g.2) repeats))
 
     pub repeat_cannot : CannotBegin index.headers.items x levels k lines → IsRefused flow tree within levels times x.number
     repeat_cannot cannot = refused_turns (λ g is turns.
-        cannot turns.span (span_there exit tree.edges tree.spans t.ordered index.headers.items can.indexed.headers x.number turns.span turns.in_tree turns.header_is) turns.some_level turns.some turns.few turns.some_line)
+        cannot turns.span (span_there exit tree.edges tree.spans t.ordered index.headers.items can.indexed.headers x.number turns.span turns.in_tree turns.header_is) turns.some_level turns.count_is turns.some_line)
 
     module _ (r : Round) (begins : Begins index.headers.items x levels k lines r) where
       span_known : Contains tree.spans r.span × (r.span.header ≡ x.number)
@@ -213,7 +212,7 @@ module _ (flow : Flow) (tree : Tree) (index : Index) (well : IsWellFormed flow) 
 
       pub repeat_refused : IsRefused flow tree r.span (levels - 1) row x.number → IsRefused flow tree within levels times x.number
       repeat_refused refused = refused_turns (λ g is turns.
-          refused g (place x.number) is turns.leads (subst (λ (s : Span). All (EndsIn flow tree s) g.opened.walk) (same_span turns.span turns.in_tree turns.header_is) turns.ends) turns.rounds)
+          refused g (place x.number) is turns.leads (subst (λ (s : Span). All (EndsIn flow tree s) g.opened.walk) (same_span turns.span turns.in_tree turns.header_is) turns.ends) turns.repeats)
 
       module _ (y : Walker) (once : IsTaken flow tree index r.span (levels - 1) lines row x y) where
         pub repeat_open : (y.number ≡ r.span.header → ⊥) → IsRefused flow tree within levels times x.number
@@ -273,7 +272,7 @@ module _ (flow : Flow) (tree : Tree) (index : Index) (well : IsWellFormed flow) 
           repeat_adds : Adds tree.spans x z (edges_of tree.edges (repeat k once.numbers))
           repeat_adds =
               subst (λ (w : List NumberedEdge). Adds tree.spans x z w) (sym many)
-              (rounds_add exit tree.edges tree.spans t.ordered index.headers.items can.indexed.headers r.span span_known.0 x.number k header_is (edges_of tree.edges once.numbers) numbers_some turn once.stays x y z refl back (omega (arith, once.ready.room, can.known)) begins.some arrives once.adds)
+              (rounds_add exit tree.edges tree.spans t.ordered index.headers.items can.indexed.headers r.span span_known.0 x.number k header_is (edges_of tree.edges once.numbers) numbers_some turn once.stays x y z refl back (omega (arith, once.ready.room, can.known)) begins.count_is.0 arrives once.adds)
 
           pub repeat_taken : IsTaken flow tree index within levels 1 times x z
           repeat_taken = record {
@@ -289,11 +288,11 @@ module _ (flow : Flow) (tree : Tree) (index : Index) (well : IsWellFormed flow) 
                 (All-repeated (λ (e : NumberedEdge). is_in within e.to ≡ true) k (edges_of tree.edges once.numbers)
                 (All-weaker (λ (e : NumberedEdge). is_in r.span e.to ≡ true) (λ (e : NumberedEdge). is_in within e.to ≡ true)
                 (λ e inner. can.holds_inner r.span span_known.0 (subst (λ (n : ℕ). is_in within n ≡ true) (sym header_is) can.inside) e.to inner) (edges_of tree.edges once.numbers) once.stays));
-            long = repeated-long 1 k once.walk.opened.walk begins.some body_long;
-            rounds = record {
-              bodies = All-cons (IsBody flow tree) once.walk.opened.walk once.walk.opened.bodies body once.rounds.bodies;
-              counts = All-cons (λ (n : ℕ). (0 < n) × (n ≤ 1048576)) k once.walk.opened.counts (begins.some, begins.few) once.rounds.counts;
-              shallow = omega (arith, once.rounds.shallow, begins.some_level);
+            long = repeated-long 1 k once.walk.opened.walk begins.count_is.0 body_long;
+            repeats = record {
+              bodies = All-cons (IsBody flow tree) once.walk.opened.walk once.walk.opened.bodies body once.repeats.bodies;
+              counts = All-cons IsCount k once.walk.opened.counts begins.count_is once.repeats.counts;
+              shallow = omega (arith, once.repeats.shallow, begins.some_level);
             };
             adds = repeat_adds;
             ready = repeat_ready;

@@ -76,9 +76,7 @@ module _ (flow : Flow) (tree : Tree) (index : Index) (well : IsWellFormed flow) 
         finished = record {
           followed_is = ap (followed flow cert.walk) (sym at_entry) ∙ a.walk_is;
           complete = subst (λ (p : Place). Leads edge_shape (HasEdge flow) flow.entry a.walk.opened.walk p) (ap place done ∙ exit_place flow tree well t) leads;
-          bodies = a.rounds.bodies;
-          counts = a.rounds.counts;
-          shallow = a.rounds.shallow;
+          repeats = a.repeats;
         }
 
         pub after_walk : IsWalkerAfter tree.spans y (edges_of tree.edges a.numbers)

@@ -1,6 +1,6 @@
 -- What fails in a certificate that gets an objection.
-use Rattle.std.specs.Prelude.{◌≡◌, ◌≢◌, ℕ, ◌+◌, ◌<◌, ◌≤◌, false, true, List, length, map, slice_index_or}
-use Rattle.std.specs.Prelude.{take, All, Contains, Option, Some, None, IfSome}
+use Rattle.std.specs.Prelude.{◌≡◌, ◌≢◌, ℕ, ◌+◌, ◌<◌, false, true, List, length, map, slice_index_or}
+use Rattle.std.specs.Prelude.{take, Contains, Option, Some, None, IfSome}
 use Rattle.walks.specs.Walk.{Leads, cost_of}
 use Rattle.walks.specs.Greatest.{KeepsBound}
 use Rattle.walks.specs.Rows as rows
@@ -10,7 +10,8 @@ use Rattle.flow_graph.specs.declared.edges.Edge.{Edge}
 use Rattle.flow_graph.specs.Flow.{Flow, HasEdge, edge_shape}
 use Rattle.loop_bounds.specs.Instance.{Instance, place_loops}
 use Rattle.loop_bounds.specs.Tree.{Tree}
-use Rattle.longest_walk.specs.Longest.{IsBody}
+use Rattle.longest_walk.specs.Folded.{most_nested}
+use Rattle.longest_walk.specs.Longest.{AreRepeats}
 use Rattle.longest_walk.specs.Rows.{header_of, header_of_row, is_exit, place_of_row}
 use Rattle.certificate.specs.declared.cert.Cert.{Cert}
 use Rattle.certificate.specs.declared.walk.CertItem.{CertItem}
@@ -64,9 +65,7 @@ pub record IsBegun (flow : Flow) (tree : Tree) (items : List CertItem) (p : Plac
   pub walk : Followed
   pub followed_is : followed flow items flow.entry ≡ Some walk
   pub leads : Leads edge_shape (HasEdge flow) flow.entry walk.opened.walk p
-  pub bodies : All (IsBody flow tree) walk.opened.bodies
-  pub counts : All (λ k. (0 < k) × (k ≤ 1048576)) walk.opened.counts
-  pub shallow : walk.opened.depth ≤ 16
+  pub repeats : AreRepeats flow tree most_nested walk.opened
 
 -- the items before this one stand for such a walk, and with this one for none
 pub record BreaksAt (flow : Flow) (tree : Tree) (items : List CertItem) (index : ℕ) : Type 0 where

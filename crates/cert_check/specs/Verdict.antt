@@ -1,5 +1,5 @@
 -- What the check of a certificate answers.
-use Rattle.std.specs.Prelude.{◌≡◌, ◌⊎◌, ◌<◌, ◌≤◌, Bool, true, false, List, [], ◌∷◌, map, All, Contains, Some}
+use Rattle.std.specs.Prelude.{◌≡◌, ◌⊎◌, Bool, true, false, List, [], ◌∷◌, map, All, Contains, Some}
 use Rattle.std.specs.List.{list_any}
 use Rattle.walks.specs.Walk.{cost_of}
 use Rattle.walks.specs.Greatest.{is_back_edge}
@@ -10,7 +10,8 @@ use Rattle.flow_graph.specs.Flow.{Flow, HasEdge, edge_shape}
 use Rattle.loop_bounds.specs.Bounds.{IsCompleteWalk}
 use Rattle.loop_bounds.specs.Instance.{Instance, place_loops}
 use Rattle.loop_bounds.specs.Tree.{Tree}
-use Rattle.longest_walk.specs.Longest.{IsBody, KeepsTree}
+use Rattle.longest_walk.specs.Folded.{most_nested}
+use Rattle.longest_walk.specs.Longest.{AreRepeats, KeepsTree}
 use Rattle.longest_walk.specs.Rows.{RowsFit, header_of, header_of_row, is_exit, place_of_row, potentials_of}
 use Rattle.certificate.specs.declared.cert.Cert.{Cert}
 use Rattle.certificate.specs.declared.walk.CertItem.{CertItem}
@@ -67,14 +68,11 @@ EdgesHold flow tree cert =
 
 -- ## The walk
 
--- what the walk's lines stand for from the entry is a complete walk, and each of its repeats is rounds of one
--- instance, so many times as the format allows
+-- what the walk's lines stand for from the entry is a complete walk, whose repeats are as they have to be
 pub record IsFollowed (flow : Flow) (tree : Tree) (items : List CertItem) (walk : Followed) : Type 0 where
   pub followed_is : followed flow items flow.entry ≡ Some walk
   pub complete : IsCompleteWalk flow walk.opened.walk
-  pub bodies : All (IsBody flow tree) walk.opened.bodies
-  pub counts : All (λ k. (0 < k) × (k ≤ 1048576)) walk.opened.counts
-  pub shallow : walk.opened.depth ≤ 16
+  pub repeats : AreRepeats flow tree most_nested walk.opened
 
 abbrev pub KeepsAll : Flow → Tree → Cert → Type 0
 KeepsAll flow tree cert =

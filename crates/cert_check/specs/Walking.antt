@@ -15,8 +15,8 @@ use Rattle.numbered_walks.specs.Ordered.{HoldsAll, is_in}
 use Rattle.numbered_walks.specs.Reach.{most_in}
 use Rattle.loop_bounds.specs.Tree.{IsTree, Tree, place_in}
 use Rattle.longest_walk.specs.Built.{steps_of}
-use Rattle.longest_walk.specs.Folded.{Opened}
-use Rattle.longest_walk.specs.Longest.{IsBody}
+use Rattle.longest_walk.specs.Folded.{IsCount}
+use Rattle.longest_walk.specs.Longest.{AreRepeats}
 use Rattle.walk_counts.specs.Spans.{header_at, turns_at_end}
 use Rattle.cert_check.specs.declared.index.Index.{Index}
 use Rattle.cert_check.specs.declared.walker.Walker.{Walker}
@@ -88,12 +88,6 @@ pub record CanFollow (flow : Flow) (tree : Tree) (index : Index) (within : Span)
   pub inside : is_in within x.number ≡ true
   pub room : length x.turns.items ≡ length flow.places + 1
 
--- repeats are rounds of one instance, so many as the format allows, and are nested no deeper than this
-pub record AreRounds (flow : Flow) (tree : Tree) (levels : ℕ) (o : Opened) : Type 0 where
-  pub bodies : All (IsBody flow tree) o.bodies
-  pub counts : All (λ k. (0 < k) × (k ≤ 1048576)) o.counts
-  pub shallow : o.depth ≤ levels
-
 -- the lines stand for a walk inside the span, of at least so many edges, that was followed
 pub record IsTaken (flow : Flow) (tree : Tree) (index : Index) (within : Span) (levels least : ℕ)
     (lines : Place → Option Followed) (old new : Walker) : Type 0 where
@@ -106,7 +100,7 @@ pub record IsTaken (flow : Flow) (tree : Tree) (index : Index) (within : Span) (
   pub leads : O.Leads tree.edges old.number (edges_of tree.edges numbers) new.number
   pub stays : All (λ e. is_in within e.to ≡ true) (edges_of tree.edges numbers)
   pub long : least ≤ length walk.opened.walk
-  pub rounds : AreRounds flow tree levels walk.opened
+  pub repeats : AreRepeats flow tree levels walk.opened
   pub adds : Adds tree.spans old new (edges_of tree.edges numbers)
   pub ready : CanFollow flow tree index within new
 
@@ -120,7 +114,7 @@ abbrev pub IsRefused : Flow → Tree → Span → ℕ → (Place → Option Foll
 IsRefused flow tree within levels lines n =
     (f : Followed) (q : Place) → lines (place_in flow tree n) ≡ Some f
     → Leads edge_shape (HasEdge flow) (place_in flow tree n) f.opened.walk q
-    → All (EndsIn flow tree within) f.opened.walk → AreRounds flow tree levels f.opened → ⊥
+    → All (EndsIn flow tree within) f.opened.walk → AreRepeats flow tree levels f.opened → ⊥
 
 -- by whether the lines were followed
 abbrev pub Follows : Flow → Tree → Index → Span → ℕ → ℕ → (Place → Option Followed) → Walker → Walker → Bool
@@ -143,12 +137,10 @@ pub record Begins (headers : List (Option Span)) (x : Walker) (levels count line
   pub cost_is : r.cost ≡ x.cost
   pub turns_are : r.turns ≡ slice_index x.turns.items x.number
   pub some_level : 0 < levels
-  pub some : 0 < count
-  pub few : count ≤ 1048576
+  pub count_is : IsCount count
   pub some_line : 0 < lines
 
 -- none may begin
 abbrev pub CannotBegin : List (Option Span) → Walker → ℕ → ℕ → ℕ → Type 0
 CannotBegin headers x levels count lines =
-    (s : Span) → header_at headers x.number ≡ Some s → 0 < levels → 0 < count → count ≤ 1048576 → 0 < lines
-    → ⊥
+    (s : Span) → header_at headers x.number ≡ Some s → 0 < levels → IsCount count → 0 < lines → ⊥

@@ -1,5 +1,6 @@
 ghost use Rattle.std.specs.Prelude.{IfOk, MatchOption, length};
 ghost use Rattle.loop_bounds.specs.Tree.{IsTree};
+ghost use Rattle.longest_walk.specs.Folded.{most_nested};
 ghost use Rattle.cert_check.specs.Failing.{IsFirstFailing};
 ghost use Rattle.cert_check.specs.Followed.{followed};
 ghost use Rattle.cert_check.specs.Index.{IsIndex};
@@ -15,12 +16,12 @@ use crate::walk_trace::follow_one;
 use crate::walker::Walker;
 use certificate::{Cert, CertItem};
 use flow_graph::Graph;
-use loop_bounds::LoopTree;
+use loop_bounds::{LoopTree, MOST_INSTANCES};
 use numbered_walks::Span;
 use std::alloc::{AllocError, Global};
 
-// How deep repeats may be nested.
-const LEVELS: u32 = 16;
+// How deep repeats may be nested: as deep as instances are.
+const LEVELS: u32 = MOST_INSTANCES as u32;
 
 // At the entry, before a walk.
 fn start(alloc: Global, graph: &Graph) -> Result<Walker, AllocError>
@@ -44,10 +45,10 @@ fn first_not_followed(
 ) -> Option<usize>
     requires { CanFollow handler.graph.now handler.tree.now handler.index.now within.now walker.old }
     ensures { MatchOption result
-        (IsTaken handler.entry.graph.now handler.entry.tree.now handler.entry.index.now within.now 16
-        (length items.now) (followed handler.entry.graph.now items.now) walker.old walker.new)
-        (StraysAt handler.entry.graph.now handler.entry.tree.now handler.entry.index.now within.now 16
-        items.now walker.old) }
+        (IsTaken handler.entry.graph.now handler.entry.tree.now handler.entry.index.now within.now
+        most_nested (length items.now) (followed handler.entry.graph.now items.now) walker.old walker.new)
+        (StraysAt handler.entry.graph.now handler.entry.tree.now handler.entry.index.now within.now
+        most_nested items.now walker.old) }
 {
     for (number, item) in items.iter().enumerate() {
         if !follow_one(handler, within, LEVELS, walker, item) {
@@ -64,10 +65,10 @@ fn first_broken(handler: Handler<'_>, cert: &Cert, walker: &mut Walker) -> Optio
     requires fresh { IsFresh (length handler.graph.now.places) walker.old }
     ensures { MatchOption result
         (IsTaken handler.entry.graph.now handler.entry.tree.now handler.entry.index.now
-        (graph_span handler.entry.graph.now) 16 (length cert.now.walk)
+        (graph_span handler.entry.graph.now) most_nested (length cert.now.walk)
         (followed handler.entry.graph.now cert.now.walk) walker.old walker.new)
         (StraysAt handler.entry.graph.now handler.entry.tree.now handler.entry.index.now
-        (graph_span handler.entry.graph.now) 16 cert.now.walk walker.old) }
+        (graph_span handler.entry.graph.now) most_nested cert.now.walk walker.old) }
 {
     let whole = Span {
         header: 0,

@@ -3,7 +3,7 @@ use Rattle.std.proofs.Common.{◌≡◌, ◌≢◌, ◌∙◌, ◌+◌, ◌<◌,
 use Rattle.std.specs.List.{AllByRecursion, find, repeat}
 use Rattle.asm_text.proofs.WordLaws.{all_join}
 use Rattle.flow_graph.specs.declared.edges.Edge.{Edge}
-use Rattle.longest_walk.specs.Folded.{Opened, deepest, joined, open_item, open_step, turned, unfolded}
+use Rattle.longest_walk.specs.Folded.{IsCount, Opened, deepest, joined, open_item, open_step, turned, unfolded}
 use Rattle.longest_walk.specs.declared.folded.Item.{Item}
 use Rattle.longest_walk.specs.declared.folded.Item.TheOpen.{Item-F}
 use Rattle.longest_walk.specs.declared.folded.Item.TheViews.{roll-Item}
@@ -44,7 +44,7 @@ use Rattle.numbered_walks.proofs.Members.{no_span}
 -- bodies have edges, and counts are in range
 pub record IsSound (o : Opened) : Type 0 where
   pub bodies : AllByRecursion (λ b. b ≢ []) o.bodies
-  pub counts : AllByRecursion (λ k. (0 < k) × (k ≤ 1048576)) o.counts
+  pub counts : AllByRecursion IsCount o.counts
 
 abbrev pub FineEdge : Edge → Type 0
 FineEdge e = StepFits (step_of e)
@@ -195,7 +195,7 @@ module _ (flow : Flow) (formed : IsWellFormed flow) where
       let repeats = is.walk_is.repeats in
       let sound : IsSound (joined (map open_item g.walk)) = record {
         bodies = recursion_from_All (λ b. b ≢ []) (joined (map open_item g.walk)).bodies (All-weaker (IsBody flow tree) (λ b. b ≢ []) (λ b body. body.some) (joined (map open_item g.walk)).bodies repeats.bodies);
-        counts = recursion_from_All (λ k. (0 < k) × (k ≤ 1048576)) (joined (map open_item g.walk)).counts repeats.counts;
+        counts = recursion_from_All IsCount (joined (map open_item g.walk)).counts repeats.counts;
       } in
       record {
         profile = profile_of g.profile;

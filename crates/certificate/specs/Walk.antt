@@ -6,6 +6,7 @@ use Rattle.flow_graph.specs.declared.places.Place.{Place}
 use Rattle.flow_graph.specs.declared.places.Place.TheVariants as place
 use Rattle.flow_graph.specs.declared.edges.Edge.{Edge}
 use Rattle.flow_graph.specs.Places.{place_address}
+use Rattle.longest_walk.specs.Folded.{most_nested}
 use Rattle.longest_walk.specs.declared.folded.Item.{Item}
 use Rattle.longest_walk.specs.declared.folded.Item.TheOpen.{Item-F}
 use Rattle.longest_walk.specs.declared.folded.Item.TheFolds.{fold-Item}
@@ -72,7 +73,7 @@ closed (suc depth) = Some (record { opened = depth; some = true })
 abbrev pub nest_after : Nest → WalkLine → Option Nest
 nest_after n (Step s) = Some (record { opened = n.opened; some = true })
 nest_after n (Repeat k) =
-    if nat_lt n.opened 16 then Some (record { opened = suc n.opened; some = false }) else None
+    if nat_lt n.opened most_nested then Some (record { opened = suc n.opened; some = false }) else None
 nest_after n End = if n.some then closed n.opened else None
 
 -- one after the other, each from where the one before led

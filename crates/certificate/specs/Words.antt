@@ -11,6 +11,7 @@ use Rattle.bus_ticks.specs.Ranges.{AreInRange, AreOrdered}
 use Rattle.flow_graph.specs.declared.edges.Label.{Label}
 use Rattle.flow_graph.specs.declared.edges.Label.TheVariants.{Skip, Do}
 use Rattle.flow_graph.specs.Places.{IsInRange}
+use Rattle.longest_walk.specs.Folded.{IsCount}
 use Rattle.longest_walk.specs.declared.rows.PlaceRow.{PlaceRow}
 use Rattle.longest_walk.specs.declared.rows.InstanceRow.{InstanceRow}
 use Rattle.certificate.specs.declared.walk.To.{To}
@@ -107,7 +108,7 @@ pub record StepFits (s : StepLine) : Type 0 where
 
 abbrev pub WalkFits : WalkLine → Type 0
 WalkFits (w.Step s) = StepFits s
-WalkFits (w.Repeat k) = (0 < k) × (k ≤ 1048576)
+WalkFits (w.Repeat k) = IsCount k
 WalkFits w.End = ⊤
 
 pub record PlaceFits (r : PlaceRow) : Type 0 where

@@ -4,10 +4,8 @@ ghost use Rattle.certificate.specs.Walk.{cert_walk_lines, outside};
 
 use crate::line::WalkLine;
 use crate::walk::{CertItem, CertWalk};
+use loop_bounds::MOST_INSTANCES;
 use std::alloc::{AllocError, Global};
-
-// How many repeats are inside one another at most.
-const DEEPEST: usize = 16;
 
 /// A repeat that has not ended: the items before it, and how often its body is taken.
 #[derive(Drop)]
@@ -54,7 +52,7 @@ impl OpenWalk {
     fn open(&mut self, alloc: Global, count: u32) -> Result<bool, AllocError>
         ensures { IfOk result (TakesWalk self.old self.new (WalkLine.Repeat count)) }
     {
-        if self.opened.len() >= DEEPEST {
+        if self.opened.len() >= MOST_INSTANCES {
             return Ok(false);
         }
         let before = std::mem::replace(&mut self.items, Vec::new(alloc));

@@ -11,14 +11,10 @@ use Rattle.numbered_walks.specs.declared.tables.Tables.{Tables}
 use Rattle.numbered_walks.specs.Index.{edges_of}
 use Rattle.numbered_walks.specs.Reach.{IsRoundOf}
 use Rattle.loop_bounds.specs.Tree.{Tree}
-use Rattle.longest_walk.specs.Folded.{Opened, joined, one_edge, turned}
+use Rattle.longest_walk.specs.Folded.{IsCount, Opened, joined, one_edge, turned}
 use Rattle.longest_walk.specs.Built.{AreAllNumbered, IsNumberedBody, IsRisingBody, step_at, steps_of}
 use Rattle.longest_walk.specs.Ways.{IsAlong}
 use Rattle.longest_walk.proofs.Opening.{AllZip-append, deepest-append, map-repeated, All-repeated}
-
--- how often a repeat is taken
-abbrev pub IsCount : ℕ → Type 0
-IsCount k = (0 < k) × (k ≤ 1048576)
 
 module _ (flow : Flow) (tree : Tree) (c : Tables) where
   -- edges in a row, without a repeat

@@ -16,7 +16,7 @@ use Rattle.numbered_walks.specs.Reach.{IsPathTo, IsRoundOf}
 use Rattle.numbered_walks.specs.Tables.{arrival_of, distance_of, round_of}
 use Rattle.loop_bounds.specs.Instance.{Instance}
 use Rattle.loop_bounds.specs.Tree.{Tree, place_in}
-use Rattle.longest_walk.specs.Folded.{open_items, unfolded}
+use Rattle.longest_walk.specs.Folded.{IsCount, most_nested, open_items, unfolded}
 use Rattle.longest_walk.specs.Rows.{header_of, header_of_row, place_of_row}
 use Rattle.longest_walk.specs.declared.folded.Item.{Item}
 use Rattle.longest_walk.specs.declared.rows.PlaceRow.{PlaceRow}
@@ -73,8 +73,8 @@ pub record IsBuilt (flow : Flow) (tree : Tree) (c : Tables) (items : List Item) 
   pub walk_is : unfolded items ≡ steps_of flow.edges numbers
   pub path : IsPathTo tree.edges tree.spans c None (length flow.places) (edges_of tree.edges numbers)
   pub bodies : All (IsNumberedBody flow tree c) (open_items items).bodies
-  pub counts : All (λ k. (0 < k) × (k ≤ 1048576)) (open_items items).counts
-  pub shallow : (open_items items).depth ≤ 16
+  pub counts : All IsCount (open_items items).counts
+  pub shallow : (open_items items).depth ≤ most_nested
   pub all_rounds : AllZip (AreAllNumbered flow tree c) (open_items items).counts (open_items items).bodies
   pub walk_rises : AreRising flow tree (open_items items).outside
   pub bodies_rise : All (IsRisingBody flow tree) (open_items items).bodies_outside

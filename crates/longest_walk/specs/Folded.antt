@@ -1,5 +1,5 @@
 -- A walk written with repeats, and what it unfolds to.
-use Rattle.std.specs.Prelude.{ℕ, ◌+◌, max, List, [], ◌∷◌, flat_map, map}
+use Rattle.std.specs.Prelude.{ℕ, ◌+◌, ◌<◌, ◌≤◌, max, List, [], ◌∷◌, flat_map, map}
 use Rattle.std.specs.List.{repeat}
 use Rattle.flow_graph.specs.declared.edges.Edge.{Edge}
 use Rattle.longest_walk.specs.declared.folded.Item.{Item}
@@ -60,3 +60,13 @@ open_items items = joined (map open_item items)
 -- the edges of a folded walk in order
 abbrev pub unfolded : List Item → List Edge
 unfolded items = (open_items items).walk
+
+-- ## What a certificate allows
+
+-- how often a repeat is taken: at most as often as a loop may turn back
+abbrev pub IsCount : ℕ → Type 0
+IsCount k = (0 < k) × (k ≤ 1048576)
+
+-- how many repeats lie one within the other: at most as many as instances may
+abbrev pub most_nested : ℕ
+most_nested = 16

@@ -1,5 +1,5 @@
 -- What the greatest walk through a flow graph and its tree of loop instances is.
-use Rattle.std.specs.Prelude.{◌≡◌, ◌≢◌, ℕ, ◌<◌, ◌≤◌, true, List, [], All, AllPairs, Contains}
+use Rattle.std.specs.Prelude.{◌≡◌, ◌≢◌, ℕ, ◌≤◌, true, List, [], All, AllPairs, Contains}
 use Rattle.std.specs.List.{AllPass, AllZip}
 use Rattle.walks.specs.Walk.{Leads, cost_of}
 use Rattle.walks.specs.Greatest.{KeepsBounds, IsGreatest, TooLarge, is_inside}
@@ -10,7 +10,7 @@ use Rattle.flow_graph.specs.Flow.{Flow, edge_shape, HasEdge}
 use Rattle.loop_bounds.specs.Bounds.{IsCompleteWalk}
 use Rattle.loop_bounds.specs.Instance.{Instance, is_header, place_loops}
 use Rattle.loop_bounds.specs.Tree.{Tree}
-use Rattle.longest_walk.specs.Folded.{open_items, unfolded}
+use Rattle.longest_walk.specs.Folded.{IsCount, Opened, most_nested, open_items, unfolded}
 use Rattle.longest_walk.specs.Rows.{AreLeast, AreRowsOf, RowsFit, RowsHold, potentials_of}
 use Rattle.numbered_walks.specs.declared.fault.WalkFault.{WalkFault}
 use Rattle.numbered_walks.specs.declared.fault.WalkFault.TheVariants.{Memory, NoCompleteWalk, BoundTooLarge}
@@ -37,11 +37,12 @@ pub record IsBody (flow : Flow) (tree : Tree) (body : List Edge) : Type 0 where
   pub turns : Leads edge_shape (HasEdge flow) header body header
   pub stays : AllPass (is_inside edge_shape place_loops instance) body
 
--- what a certificate asks of repeats
-pub record AreRepeats (flow : Flow) (tree : Tree) (items : List Item) : Type 0 where
-  pub bodies : All (IsBody flow tree) (open_items items).bodies
-  pub counts : All (λ k. (0 < k) × (k ≤ 1048576)) (open_items items).counts
-  pub shallow : (open_items items).depth ≤ 16
+-- what a certificate asks of repeats: each is rounds of one instance, taken so many times as it allows, and
+-- they are nested no deeper than this
+pub record AreRepeats (flow : Flow) (tree : Tree) (levels : ℕ) (o : Opened) : Type 0 where
+  pub bodies : All (IsBody flow tree) o.bodies
+  pub counts : All IsCount o.counts
+  pub shallow : o.depth ≤ levels
 
 -- one round of an instance, so many times as a stay may take one
 pub record AreAllRounds (flow : Flow) (tree : Tree) (count : ℕ) (body : List Edge) : Type 0 where
@@ -65,7 +66,7 @@ pub record IsWalkOf (flow : Flow) (tree : Tree) (cost : ℕ) (items : List Item)
   pub complete : IsCompleteWalk flow (unfolded items)
   pub kept : KeepsTree tree (unfolded items)
   pub costs : cost_of edge_shape (unfolded items) ≡ cost
-  pub repeats : AreRepeats flow tree items
+  pub repeats : AreRepeats flow tree most_nested (open_items items)
   pub folded : IsFolded flow tree items
 
 -- ## The whole answer

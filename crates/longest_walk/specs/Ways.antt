@@ -13,7 +13,7 @@ use Rattle.numbered_walks.specs.Tables.{is_header_in}
 use Rattle.numbered_walks.specs.Found.{AreFound, IsEntering}
 use Rattle.numbered_walks.specs.Reach.{AreRoundsOf, IsPathTo, IsRoundOf, holds_in, start_of}
 use Rattle.loop_bounds.specs.Tree.{Tree, IsTree}
-use Rattle.longest_walk.specs.Folded.{Opened, joined, one_edge, open_items, turned}
+use Rattle.longest_walk.specs.Folded.{IsCount, Opened, joined, most_nested, one_edge, open_items, turned}
 use Rattle.longest_walk.specs.Built.{AreAllNumbered, IsNumberedBody, IsRisingBody, step_at, steps_of}
 use Rattle.longest_walk.specs.declared.rounds.Rounds.{Rounds}
 
@@ -58,8 +58,8 @@ pub record IsAlong (flow : Flow) (tree : Tree) (c : Tables) (outer : ℕ) (numbe
   pub inside : All (λ k. k < length flow.edges) numbers
   pub walk_is : o.walk ≡ steps_of flow.edges numbers
   pub bodies : All (IsNumberedBody flow tree c) o.bodies
-  pub counts : All (λ k. (0 < k) × (k ≤ 1048576)) o.counts
-  pub shallow : o.depth + outer ≤ 17
+  pub counts : All IsCount o.counts
+  pub shallow : o.depth + outer ≤ most_nested + 1
   pub all_rounds : AllZip (AreAllNumbered flow tree c) o.counts o.bodies
   pub bodies_rise : All (IsRisingBody flow tree) o.bodies_outside
 
