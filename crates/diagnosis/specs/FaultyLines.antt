@@ -14,7 +14,7 @@ use Rattle.assembler.specs.declared.fault.LineFault.TheVariants.{LabelTwice, Too
 use Rattle.loader.specs.Image.{Words}
 use Rattle.text_rows.specs.LineLabels.{first_word}
 use Rattle.diagnosis.specs.declared.sources.FaultyLine.{FaultyLine}
-use Rattle.diagnosis.specs.declared.sources.TheConstants.{MOST_LINES}
+use Rattle.diagnosis.specs.declared.rows.TheConstants.{MOST_LINES}
 
 -- ## A source without a fault that was found
 

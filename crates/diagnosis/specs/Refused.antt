@@ -24,7 +24,7 @@ use Rattle.diagnosis.specs.Outline.{Item, Begins, States, Ends, Stated, Table, V
 use Rattle.diagnosis.specs.declared.repeats.Taken.{Taken}
 use Rattle.diagnosis.specs.declared.statements.Limit as declared
 use Rattle.diagnosis.specs.declared.statements.Report.{Report}
-use Rattle.diagnosis.specs.declared.statements.TheConstants.{MOST_LINES}
+use Rattle.diagnosis.specs.declared.rows.TheConstants.{MOST_LINES}
 
 -- ## Rows
 

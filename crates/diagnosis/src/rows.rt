@@ -12,6 +12,9 @@ use text_rows::{
     put_shown_row,
 };
 
+/// How many lines of a text are named at most.
+pub(crate) const MOST_LINES: usize = 20;
+
 /// A text, a number in decimal, and another text.
 pub(crate) fn around_number(
     alloc: Global,

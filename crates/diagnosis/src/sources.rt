@@ -5,13 +5,11 @@ ghost use Rattle.asm_text.specs.Appended.{Appends};
 ghost use Rattle.text_rows.specs.Rows.{AreRows};
 ghost use Rattle.diagnosis.specs.Texts.{IsFaultyRow, fault_name};
 
+use crate::rows::MOST_LINES;
 use asm_text::{TextFault, first_line, read_line};
 use assembler::{AsmFault, LineFault, assemble};
 use std::alloc::{AllocError, Global};
 use text_rows::{first_word, put, put_decimal};
-
-// How many faults of a source are named at most.
-const MOST_LINES: usize = 20;
 
 /// A line that cannot be assembled.
 #[derive(Clone, Copy)]

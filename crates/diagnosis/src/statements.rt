@@ -15,7 +15,7 @@ ghost use Rattle.diagnosis.specs.Refused.{wants_no_to, wants_to};
 
 use crate::outline::{Entry, Pair, Section, entries_of};
 use crate::repeats::Taken;
-use crate::rows::around_number;
+use crate::rows::{MOST_LINES, around_number};
 use crate::tokens::Word;
 use crate::values::{
     address_at, fits_key, is_one_of, is_out_of_range, is_unknown_label, is_word_of,
@@ -28,9 +28,6 @@ use statement::{
 };
 use std::alloc::{AllocError, Global};
 use text_rows::{put, put_decimal};
-
-// How many lines are named at most.
-const MOST_LINES: usize = 20;
 
 const NO_ENTRY: &[u8] = b"the statement has no entry";
 

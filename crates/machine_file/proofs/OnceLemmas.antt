@@ -2,13 +2,13 @@
 use Rattle.std.proofs.Common.{◌≡◌, ℕ, ◌≤◌, ◌⊎◌, ◌↔◌, true, false, List, [], Some, refl, sym, ap, subst, ◌∙◌, arith}
 use Rattle.std.specs.Map.{keys_of}
 use Rattle.toml.specs.Data.{Data, Members, get_member}
-use Rattle.toml_reading.specs.Documents.{are_distinct, tables_at}
+use Rattle.toml_reading.specs.Documents.{are_distinct, once, tables_at}
 use Rattle.toml_reading.specs.Lowest.{AtKey, AtKeyOr, IsListOf, ListFault, entries_at, number_of_entry, numbers_at}
 use Rattle.toml_reading.specs.Readings.{and_then}
 use Rattle.toml_reading.proofs.LowestLemmas.{Judges, and_then_judged, judged_as, one_test}
 use Rattle.toml_reading.proofs.LowestParts.{entries_state, numbers_read, tables_judged}
 use Rattle.machine_file.specs.MachineFaults.{machine_faults, number_of}
-use Rattle.machine_file.specs.MachineFile.{Read, once}
+use Rattle.machine_file.specs.MachineFile.{Read}
 use Rattle.machine_file.specs.declared.machine_faults.MachineFileFault.{MachineFileFault}
 use Rattle.machine_file.specs.declared.machine_faults.MachineFileFault.TheVariants.{Twice}
 use Rattle.machine_file.proofs.MachineValueLemmas.{IsLow, list_low, some_low}
@@ -48,7 +48,7 @@ module _ {A : Type 0} (IsEntry : Data → ℕ × A → Type 0) (EntryFault : Dat
   abbrev Once : List (ℕ × A) → List (ℕ × A) → Type 0
   Once a b = (b ≡ a) × (are_distinct (keys_of a) ≡ true)
 
-  pub once_judged : Judges machine_faults OnceListed (λ f. ListedFault f ⊎ TwiceFault f) (and_then (tables_at machine_faults entry_at (get_member key ms)) once)
+  pub once_judged : Judges machine_faults OnceListed (λ f. ListedFault f ⊎ TwiceFault f) (and_then (tables_at machine_faults entry_at (get_member key ms)) (once Twice keys_of))
   once_judged =
       judged_as
       machine_faults
@@ -58,7 +58,7 @@ module _ {A : Type 0} (IsEntry : Data → ℕ × A → Type 0) (EntryFault : Dat
       (λ f. ListedFault f ⊎ TwiceFault f)
       (λ b. (λ t. subst OnceListed (sym t.2.0) (t.1, t.2.1), λ w. (b, w.0, (refl, w.1))))
       (λ f. (λ h. h, λ h. h))
-      (and_then (tables_at machine_faults entry_at (get_member key ms)) once)
-      (and_then_judged machine_faults Listed ListedFault TwiceFault Once once
+      (and_then (tables_at machine_faults entry_at (get_member key ms)) (once Twice keys_of))
+      (and_then_judged machine_faults Listed ListedFault TwiceFault Once (once Twice keys_of)
       (λ a s. one_test machine_faults a (are_distinct (keys_of a)) IsTwice (twice_iff a s) Twice)
       twice_higher _ (tables_judged machine_faults IsEntry EntryFault entry_at entry_judged key ms))

@@ -16,7 +16,7 @@ use Rattle.memc.specs.Memory.{can_map, shift_of_size}
 use Rattle.memc.specs.declared.spots.PageSize.{PageSize}
 use Rattle.memc.specs.declared.spots.PageSize.TheVariants.{K4, K8, K16, K32}
 use Rattle.toml_reading.specs.Documents.{IsAnswer, are_distinct, in_space, list_at, name_at, number_at}
-use Rattle.toml_reading.specs.Documents.{number_in, number_or, of_keys, tables_at}
+use Rattle.toml_reading.specs.Documents.{number_in, number_or, of_keys, once, tables_at}
 use Rattle.toml_reading.specs.Readings.{Reading, all, and_then, both, optional, required, seen}
 use Rattle.ioc.specs.LineNames.{line_named}
 use Rattle.machine_file.specs.MachineFaults.{machine_faults}
@@ -220,12 +220,10 @@ event_in ms =
 abbrev pub event_at : Data → Read (ℕ × Event)
 event_at d = required machine_faults (as_table d) event_in
 
--- one at most for each number: one event for a step, one word for an address
-abbrev pub once : {A : Type 0} → List (ℕ × A) → Read (List (ℕ × A))
-once entries = if are_distinct (keys_of entries) then Ok entries else Err Twice
-
+-- one event at most for a step
 abbrev pub events_in : Members → Read (List (ℕ × Event))
-events_in ms = and_then (tables_at machine_faults event_at (get_member (codes "event") ms)) once
+events_in ms =
+    and_then (tables_at machine_faults event_at (get_member (codes "event") ms)) (once Twice keys_of)
 
 abbrev pub counts_in : Members → Read (ℕ × ℕ)
 counts_in ms =
@@ -265,7 +263,8 @@ put_word_at d = required machine_faults (as_table d) put_word_in
 
 -- in the text's order, no two at one address
 abbrev pub put_words_in : Members → Read (List (ℕ × ℕ))
-put_words_in ms = and_then (tables_at machine_faults put_word_at (get_member (codes "word") ms)) once
+put_words_in ms =
+    and_then (tables_at machine_faults put_word_at (get_member (codes "word") ms)) (once Twice keys_of)
 
 -- ## The file
 

@@ -1,11 +1,12 @@
 ghost use Rattle.std.specs.Prelude.{◌≡◌, IfOk, codes};
+ghost use Rattle.std.specs.Map.{keys_of};
 ghost use Rattle.toml_reading.specs.Readings.{seen};
 ghost use Rattle.toml.specs.View.{table_view, view};
-ghost use Rattle.toml_reading.specs.Documents.{number_at, number_or};
+ghost use Rattle.toml_reading.specs.Documents.{number_at, number_or, once};
 ghost use Rattle.machine_file.specs.MachineFaults.{machine_faults};
 ghost use Rattle.machine_file.specs.MachineFile.{counts_in, event_at, event_in, event_of};
 ghost use Rattle.machine_file.specs.MachineFile.{events_in, line_at, lines_at};
-ghost use Rattle.machine_file.specs.MachineFile.{lines_in, once, port_at, port_in, schedule_in};
+ghost use Rattle.machine_file.specs.MachineFile.{lines_in, port_at, port_in, schedule_in};
 ghost use Rattle.ioc.specs.LineNames.{line_named};
 ghost use Rattle.machine_file.specs.MachineFile.{union};
 
@@ -188,7 +189,8 @@ fn each_once(
     alloc: Global,
     events: Vec<(u32, Event)>,
 ) -> Result<Read<IndexMap<u32, Event>>, AllocError>
-    ensures { IfOk result (λ reading. seen (λ m. m.entries) reading ≡ once events.items) }
+    ensures { IfOk result
+        (λ reading. seen (λ m. m.entries) reading ≡ once MachineFileFault.Twice keys_of events.items) }
 {
     match by_number(alloc, events)? {
         Some(events) => Ok(Ok(events)),

@@ -2,8 +2,8 @@ ghost use Rattle.std.specs.Prelude.{◌≡◌, All, IfOk, IsTrue};
 ghost use Rattle.std.specs.Map.{keys_of};
 ghost use Rattle.toml.specs.View.{table_view, view};
 ghost use Rattle.loader.specs.Image.{may_hold};
-ghost use Rattle.toml_reading.specs.Documents.{are_distinct};
-ghost use Rattle.machine_file.specs.MachineFile.{once, put_word_at, word_address_at, word_address_in};
+ghost use Rattle.toml_reading.specs.Documents.{are_distinct, once};
+ghost use Rattle.machine_file.specs.MachineFile.{put_word_at, word_address_at, word_address_in};
 ghost use Rattle.machine_file.specs.MachineFile.{word_address_of};
 ghost use Rattle.machine_file.specs.MachineFile.{put_word_in, put_words_in};
 
@@ -102,7 +102,7 @@ pub(crate) fn have_own_addresses(alloc: Global, words: &[(u32, u32)]) -> Result<
 
 fn each_once(alloc: Global, words: Vec<(u32, u32)>) -> Result<Read<PutWords>, AllocError>
     requires { All (λ e. IsTrue (may_hold e.0)) words.items }
-    ensures { IfOk result (λ reading. reading ≡ once words.items) }
+    ensures { IfOk result (λ reading. reading ≡ once MachineFileFault.Twice keys_of words.items) }
 {
     if !have_own_addresses(alloc, &words)? {
         return Ok(Err(MachineFileFault::Twice));

@@ -4,13 +4,12 @@ ghost use Rattle.kept_runs.specs.Keeping.{IsHandler};
 
 use crate::analysis::{HandlerCall, Stated, on_handler};
 use crate::machine::word_in;
+use crate::machine_files::input;
 use crate::trial::Answer;
 use arcwcet::ReportFault;
 use arm2_exec::{Input, Machine, Reg};
-use bitflags::Flags;
 use bus_ticks::Profile;
 use flow_graph::{Graph, build};
-use ioc::Lines;
 use kept_runs::{Followed, Handler, follow};
 use loader::{Image, load};
 use loop_bounds::{LoopTree, nest};
@@ -48,11 +47,7 @@ fn shown(machine: &Machine) -> [Option<u32>; 3] {
 
 // Without bursts and interrupts, and one more than there are steps.
 fn inputs() -> [Input; 12] {
-    [Input {
-        bursts: 0,
-        lines: Lines::empty(),
-        port: 0,
-    }; 12]
+    [input(0); 12]
 }
 
 fn is_kept(found: &Followed) -> bool {

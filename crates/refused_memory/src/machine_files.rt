@@ -171,7 +171,8 @@ fn started(alloc: Global) -> Result<Answer, ReportFault> {
     Ok(answer)
 }
 
-fn input(bursts: u16) -> Input {
+/// So many bursts, and no interrupts.
+pub(crate) fn input(bursts: u16) -> Input {
     Input {
         bursts,
         lines: Lines::empty(),

@@ -6,13 +6,13 @@ use Rattle.std.proofs.lemmas.Bool.{and_parts, leb-true}
 use Rattle.std.proofs.lemmas.List.Elements.{All-nil}
 use Rattle.toml.specs.Data.{Data, Members, as_integer, as_str, as_table, get_member}
 use Rattle.bus_ticks.specs.declared.profile.Class.{Class}
-use Rattle.toml_reading.specs.Documents.{are_distinct, items_at, listed_up_to, number_in}
+use Rattle.toml_reading.specs.Documents.{are_distinct, items_at, listed_up_to, number_in, once}
 use Rattle.toml_reading.specs.Readings.{and_then, both, items_in, required, seen}
 use Rattle.toml_reading.proofs.ReadingLemmas.{also_holds, and_then_holds, both_hold, checked_holds, first_holds, follows_holds, implied, in_space_holds, listed_up_to_holds, number_in_holds, required_holds, second_holds, seen_both, seen_second, tables_few, tables_up_to_hold, test_holds}
 use Rattle.statement.specs.ReadingParts.{AreParts, parts_in}
 use Rattle.statement.specs.Stated.{IsLoop, IsTarget, Target}
 use Rattle.loader.specs.Labels.{Names}
-use Rattle.statement.specs.Statement.{Parts, Read, accesses_in, address_at, address_in, destinations, destinations_at, directed, ends_in, kind_in, labelled, leave_in, loop_at, loop_in, loop_parts, loops_in, number_or_name, once, parts_of, placed_loop, some_destinations, target_at, target_in, targets_in}
+use Rattle.statement.specs.Statement.{Parts, Read, accesses_in, address_at, address_in, destinations, destinations_at, directed, ends_in, kind_in, labelled, leave_in, loop_at, loop_in, loop_parts, loops_in, number_or_name, parts_of, placed_loop, some_destinations, target_at, target_in, targets_in}
 use Rattle.statement.specs.StatementFaults.{statement_faults}
 use Rattle.statement.specs.declared.faults.StatementFault.TheVariants.{OutOfRange, WrongKind, Twice}
 use Rattle.statement.specs.declared.stated.Loop.{Loop}
@@ -89,7 +89,7 @@ some_small names ds = by_length (eqb (length ds) 0)
     by_length :
         (b : Bool)
         → IfOk
-        (cond b (Err WrongKind) (and_then (listed_up_to statement_faults 64 (address_at names) ds) once))
+        (cond b (Err WrongKind) (and_then (listed_up_to statement_faults 64 (address_at names) ds) (once Twice (λ ns. ns))))
         AllSmall
     by_length true = tt
     by_length false =
@@ -98,7 +98,7 @@ some_small names ds = by_length (eqb (length ds) 0)
         AllSmall
         AllSmall
         (listed_up_to statement_faults 64 (address_at names) ds)
-        once
+        (once Twice (λ ns. ns))
         (listed_up_to_holds statement_faults IsSmall (address_at names) (address_small names) 64 ds)
         (λ to h. test_holds statement_faults AllSmall (are_distinct to) to Twice (λ _. h))
 

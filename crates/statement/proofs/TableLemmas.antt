@@ -8,7 +8,7 @@ use Rattle.std.proofs.lemmas.List.{nil_from_length}
 use Rattle.std.proofs.lemmas.Option.{none-some}
 use Rattle.toml.specs.Data.{Data, Members, as_integer, get_member}
 use Rattle.bus_ticks.specs.declared.profile.Class.{Class}
-use Rattle.toml_reading.specs.Documents.{are_distinct, items_at, listed_up_to, number_in}
+use Rattle.toml_reading.specs.Documents.{are_distinct, items_at, listed_up_to, number_in, once}
 use Rattle.toml_reading.specs.Lists.{StandsTwice}
 use Rattle.toml_reading.specs.Lowest.{AtKey, IsNamed, IsNumber, IsOutside, NameFault, NumberFault}
 use Rattle.toml_reading.specs.Readings.{Reading, and_then, both, required}
@@ -19,7 +19,7 @@ use Rattle.toml_reading.proofs.TwiceLemmas.{not_distinct}
 use Rattle.statement.specs.StatementRules.{AccessFault, AccessKeysFault, AddressFault, AreDestinations, DestinationsFault, GoesTo, HasAccess, HasLoop, HasTarget, IsAddress, IsMisplaced, IsPlaced, LoopFault, LoopKeysFault, RequiredFault, StatesAccess, StatesLoop, StatesTarget, TargetFault, TargetKeysFault, ToFault}
 use Rattle.statement.specs.Stated.{Target}
 use Rattle.loader.specs.Labels.{Names}
-use Rattle.statement.specs.Statement.{access_at, access_keys, address_at, address_in, class_in, destinations, destinations_at, directed, kind_in, loop_at, loop_keys, loop_parts, named_class, named_kind, once, placed_loop, some_destinations, target_at, target_keys}
+use Rattle.statement.specs.Statement.{access_at, access_keys, address_at, address_in, class_in, destinations, destinations_at, directed, kind_in, loop_at, loop_keys, loop_parts, named_class, named_kind, placed_loop, some_destinations, target_at, target_keys}
 use Rattle.statement.specs.StatementFaults.{number_of, statement_faults}
 use Rattle.statement.specs.declared.faults.StatementFault.{StatementFault}
 use Rattle.statement.specs.declared.faults.StatementFault.TheVariants.{Memory, WrongKind, OutOfRange, Twice}
@@ -301,7 +301,7 @@ module _ (names : Names) where
       statement_faults
       (λ to. (c : List ℕ) × AreRead ds c × ((are_distinct c ≡ true) × (to ≡ c)))
       (λ f. ReadFault ds f ⊎ ((c : List ℕ) × AreRead ds c × ((are_distinct c ≢ true) × (f ≡ Twice))))
-      (and_then (listed_up_to statement_faults 64 (address_at names) ds) once)
+      (and_then (listed_up_to statement_faults 64 (address_at names) ds) (once Twice (λ ns. ns)))
   once_judged ds =
       then_judged
       statement_faults
@@ -309,7 +309,7 @@ module _ (names : Names) where
       (λ c to. (are_distinct c ≡ true) × (to ≡ c))
       (ReadFault ds)
       (λ c f. (are_distinct c ≢ true) × (f ≡ Twice))
-      once
+      (once Twice (λ ns. ns))
       (λ c s. test_judged statement_faults (are_distinct c ≡ true) c Twice (are_distinct c) (λ e. e, λ e. e))
       (listed_up_to statement_faults 64 (address_at names) ds)
       (read_judged ds)
@@ -335,7 +335,7 @@ module _ (names : Names) where
       statement_faults
       (AreSome (Some ds))
       (SomeFault (Some ds))
-      (and_then (listed_up_to statement_faults 64 (address_at names) ds) once)
+      (and_then (listed_up_to statement_faults 64 (address_at names) ds) (once Twice (λ ns. ns)))
   some_judged ds ne =
       judged_as
       statement_faults
@@ -348,8 +348,8 @@ module _ (names : Names) where
         λ h. (to, h.0, (h.2, refl)),
       ))
       (λ f. (λ y. inr y, λ y. elim y [ inl z ↦ absurd (ne z.0) | inr y' ↦ y' ]))
-      (and_then (listed_up_to statement_faults 64 (address_at names) ds) once)
-      (widened_judged statement_faults _ (ReadFault ds) (λ f. (c : List ℕ) × AreRead ds c × ((are_distinct c ≢ true) × (f ≡ Twice))) (λ f. StandsTwice (IsAddress names) ds × (f ≡ Twice)) (λ f u. ((not_distinct (IsAddress names) (one_address names) ds u.0 u.1.1).0 (false_from_ne_true (are_distinct u.0) u.2.0), u.2.1)) (twice_under ds) (and_then (listed_up_to statement_faults 64 (address_at names) ds) once) (once_judged ds))
+      (and_then (listed_up_to statement_faults 64 (address_at names) ds) (once Twice (λ ns. ns)))
+      (widened_judged statement_faults _ (ReadFault ds) (λ f. (c : List ℕ) × AreRead ds c × ((are_distinct c ≢ true) × (f ≡ Twice))) (λ f. StandsTwice (IsAddress names) ds × (f ≡ Twice)) (λ f u. ((not_distinct (IsAddress names) (one_address names) ds u.0 u.1.1).0 (false_from_ne_true (are_distinct u.0) u.2.0), u.2.1)) (twice_under ds) (and_then (listed_up_to statement_faults 64 (address_at names) ds) (once Twice (λ ns. ns))) (once_judged ds))
 
   by_length :
       (ds : List Data) (b : Bool)
@@ -358,7 +358,7 @@ module _ (names : Names) where
       statement_faults
       (AreSome (Some ds))
       (SomeFault (Some ds))
-      (cond b (Err WrongKind) (and_then (listed_up_to statement_faults 64 (address_at names) ds) once))
+      (cond b (Err WrongKind) (and_then (listed_up_to statement_faults 64 (address_at names) ds) (once Twice (λ ns. ns))))
   by_length ds true e = none_judged ds (nil_from_length ds (eqb-true (length ds) 0 e))
   by_length ds false e =
       some_judged ds (λ n. false≢true (sym e ∙ ap (λ (xs : List Data). eqb (length xs) 0) n))

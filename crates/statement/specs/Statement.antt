@@ -9,7 +9,7 @@ use Rattle.bus_ticks.specs.declared.profile.Class.{Class}
 use Rattle.bus_ticks.specs.declared.profile.Class.TheVariants.{Any, Ram, Rom, Io}
 use Rattle.loader.specs.Labels.{Names}
 use Rattle.toml_reading.specs.Documents.{IsAnswer, are_distinct, in_space, items_at, listed_up_to, name_at}
-use Rattle.toml_reading.specs.Documents.{number_in, of_keys, tables_up_to}
+use Rattle.toml_reading.specs.Documents.{number_in, of_keys, once, tables_up_to}
 use Rattle.toml_reading.specs.Readings.{Reading, and_then, both, optional, required, seen}
 use Rattle.statement.specs.Stated.{Stated, Target}
 use Rattle.statement.specs.StatementFaults.{statement_faults}
@@ -78,10 +78,6 @@ placed_loop p =
     if nat_le p.0.0 p.1.0 && nat_le p.1.0 p.0.1
     then Ok (record { header = p.1.0; first = p.0.0; last = p.0.1; bound = p.1.1 }) else Err OutOfRange
 
--- each destination once
-abbrev pub once : List ℕ → Read (List ℕ)
-once to = if are_distinct to then Ok to else Err Twice
-
 abbrev pub kind_in : Members → Read TargetKind
 kind_in ms = required statement_faults (get_member (codes "kind") ms) kind_at
 
@@ -132,7 +128,7 @@ module _ (names : Names) where
   abbrev pub some_destinations : List Data → Read (List ℕ)
   some_destinations ds =
       if length ds == 0 then Err WrongKind
-      else and_then (listed_up_to statement_faults 64 (address_at names) ds) once
+      else and_then (listed_up_to statement_faults 64 (address_at names) ds) (once Twice (λ ns. ns))
 
   abbrev pub destinations_at : Data → Read (List ℕ)
   destinations_at d = required statement_faults (items_at d) some_destinations

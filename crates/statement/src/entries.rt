@@ -1,11 +1,12 @@
 ghost use Rattle.std.specs.Prelude.{◌≡◌, IfOk, map, option_map};
 ghost use Rattle.toml.specs.View.{table_view, view};
 ghost use Rattle.loader.specs.Labels.{address_of};
+ghost use Rattle.toml_reading.specs.Documents.{once};
 ghost use Rattle.toml_reading.specs.Readings.{and_then, items_in};
 ghost use Rattle.statement.specs.Statement.{access_at, access_in, address_at, address_in, class_at, class_in};
 ghost use Rattle.statement.specs.Statement.{destinations, destinations_at, directed, kind_at, kind_in};
 ghost use Rattle.statement.specs.Statement.{labelled, loop_at, loop_in, loop_parts, named_class, named_kind};
-ghost use Rattle.statement.specs.Statement.{once, placed_loop, some_destinations, target_at, target_in};
+ghost use Rattle.statement.specs.Statement.{placed_loop, some_destinations, target_at, target_in};
 
 use crate::faults::{Read, StatementFault};
 use crate::stated::{Loop, Target, TargetKind};
@@ -209,7 +210,7 @@ fn required_kind(table: &Table) -> Read<TargetKind>
 
 // The list, where no address is in it twice.
 fn each_once(alloc: Global, to: Vec<u32>) -> Result<Read<Vec<u32>>, AllocError>
-    ensures { IfOk result (λ list. items_in list ≡ once to.items) }
+    ensures { IfOk result (λ list. items_in list ≡ once StatementFault.Twice (λ ns. ns) to.items) }
 {
     if are_all_distinct(alloc, &to)? {
         Ok(Ok(to))

@@ -19,7 +19,7 @@ pub fn are_all_distinct(alloc: Global, numbers: &[u32]) -> Result<bool, AllocErr
     Ok(true)
 }
 
-/// The entries by their numbers, in their order, or None where an number comes twice.
+/// The entries by their numbers, in their order, or None where a number comes twice.
 pub fn by_number<T: Drop>(
     alloc: Global,
     entries: Vec<(u32, T)>,

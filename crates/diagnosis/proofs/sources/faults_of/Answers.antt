@@ -1,6 +1,6 @@
 use Rattle.std.proofs.Common.{rules, [], append-nil, inl, inr, subst, arith}
 use Rattle.diagnosis.specs.FaultyLines.{AreFaults, IsAssembled}
-use Rattle.diagnosis.specs.declared.sources.TheConstants.{MOST_LINES}
+use Rattle.diagnosis.specs.declared.rows.TheConstants.{MOST_LINES}
 use Rattle.diagnosis.proofs.sources.faults_of.Goals as goal
 
 pub returns-in_default : goal.returns-in_default

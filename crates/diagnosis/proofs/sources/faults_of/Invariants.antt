@@ -1,7 +1,7 @@
 use Rattle.std.proofs.Common.{◌++◌, List}
 use Rattle.diagnosis.specs.FaultyLines.{AreFaults}
 use Rattle.diagnosis.specs.declared.sources.FaultyLine.{FaultyLine}
-use Rattle.diagnosis.specs.declared.sources.TheConstants.{MOST_LINES}
+use Rattle.diagnosis.specs.declared.rows.TheConstants.{MOST_LINES}
 use Rattle.diagnosis.proofs.sources.faults_of.Given as goal
 
 abbrev pub invariant-loop-left : goal.invariant-loop-left
