@@ -76,7 +76,7 @@ pub fn fetch_n(profile: &Profile, address: u32, rom: RomTimes) -> u32
 
 /// The ticks of an access to RAM that follows the one before it.
 #[inline(always)]
-pub fn ram_following(profile: &Profile, address: u32) -> u32
+pub(crate) fn ram_following(profile: &Profile, address: u32) -> u32
     ensures price { result ≡ ram_price profile.now address }
     ensures small { result < 256 }
 {

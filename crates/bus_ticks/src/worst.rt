@@ -10,14 +10,14 @@ use crate::profile::{Class, Profile};
 use crate::space::SPACE_END;
 
 /// The greatest of four numbers.
-pub fn greatest_of(a: u32, b: u32, c: u32, d: u32) -> u32
+pub(crate) fn greatest_of(a: u32, b: u32, c: u32, d: u32) -> u32
     ensures { result ≡ greatest a b c d }
 {
     a.max(b).max(c.max(d))
 }
 
 /// The ticks of an access to ROM at its dearest time field.
-pub fn worst_rom_ticks(profile: &Profile) -> u32
+pub(crate) fn worst_rom_ticks(profile: &Profile) -> u32
     ensures { result ≡ worst_rom profile.now }
 {
     greatest_of(profile.rom_0, profile.rom_1, profile.rom_2, profile.rom_3)
@@ -100,7 +100,7 @@ pub fn worst_transfer(profile: &Profile, class: Class, words: u32, store: bool) 
 }
 
 /// The greatest price of leaving to an address of the class, as a number.
-pub fn worst_leave_ticks(profile: &Profile, class: Class) -> u32
+pub(crate) fn worst_leave_ticks(profile: &Profile, class: Class) -> u32
     ensures { result ≡ worst_leave_of profile.now class }
 {
     let worst_rom = worst_rom_ticks(profile);
