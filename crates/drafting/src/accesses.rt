@@ -97,7 +97,7 @@ fn passed(image: &Image, known: Constants, at: u32) -> Constants {
 
 /// Those of the addresses whose words load or store, in their order, each with the class of what it
 /// transfers where the words in front of it show it. No clause says that the class is right: that is tested.
-pub fn find_accesses(
+pub(crate) fn find_accesses(
     alloc: Global,
     image: &Image,
     reach: &Reached,

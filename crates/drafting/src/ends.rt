@@ -58,7 +58,7 @@ fn keep_end(found: &mut Vec<(u32, End)>, image: &Image, at: u32) -> Result<(), A
 }
 
 /// Those of the addresses at which a handler cannot go on, and why.
-pub fn find_ends(
+pub(crate) fn find_ends(
     alloc: Global,
     image: &Image,
     addresses: &[u32],

@@ -35,7 +35,7 @@ fn keep_target(found: &mut Vec<FoundTarget>, image: &Image, at: u32) -> Result<(
 }
 
 /// Those of the addresses whose words write R15 and do not look like returns, in their order.
-pub fn find_targets(
+pub(crate) fn find_targets(
     alloc: Global,
     image: &Image,
     addresses: &[u32],

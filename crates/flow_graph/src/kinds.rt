@@ -47,7 +47,7 @@ fn kind_if(writes: bool) -> Kind
 }
 
 /// What data processing does to the flow of control.
-pub fn data_processing(opcode: Opcode, rd: Register) -> Kind
+pub(crate) fn data_processing(opcode: Opcode, rd: Register) -> Kind
     ensures { result ≡ data_kind opcode rd }
 {
     kind_if(rd.is_pc() && !opcode.is_compare())
@@ -108,7 +108,7 @@ fn operation_work(operation: &Operation) -> Work
 }
 
 /// When a word is carried out, and what it then does.
-pub fn action_of(word: u32) -> Action
+pub(crate) fn action_of(word: u32) -> Action
     ensures value { IsAction word result }
     ensures fits { IsWork result.work }
 {
@@ -127,7 +127,7 @@ pub fn action_of(word: u32) -> Action
 }
 
 /// Whether the word writes R15, other than a branch or a call.
-pub fn is_r15_writer(kind: Kind) -> bool
+pub(crate) fn is_r15_writer(kind: Kind) -> bool
     ensures { result ≡ is_writer kind }
 {
     matches!(kind, Kind::Writer)

@@ -1,5 +1,14 @@
+ghost use Rattle.std.specs.Prelude.{◌≡◌};
+ghost use Rattle.flow_graph.specs.Places.{place_cmp};
 ghost use Rattle.flow_graph.specs.StepLaw.{RunLaw, StepCost, StepLaw};
 ghost use Rattle.flow_graph.specs.TightWork.{TightLaw};
+
+use crate::places::Place;
+
+/// States the order of places; it does nothing.
+pub fn order_of_places()
+    ensures { (x y : Place) → ⟦<Place as Ord>⟧.cmp x y ≡ place_cmp x y }
+{}
 
 /// What the machine's steps cost against the edges of the flow graph: a law over the definitions that
 /// [`build`](crate::build) and the machine's step keep.

@@ -28,8 +28,8 @@ pub use faulty::{FaultyPlace, faulty_place};
 pub use flags::flags_for;
 pub use flow::Graph;
 pub use free::is_free;
-pub use law::{run_law, step_law, tight_law};
-pub use places::{Place, order_of_places};
+pub use law::{order_of_places, run_law, step_law, tight_law};
+pub use places::Place;
 pub use search::MOST_PLACES;
 pub use statement::{
     Loop, MOST_ROUNDS, Statement, StatementFault, Target, TargetKind, read_statement,

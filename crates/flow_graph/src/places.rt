@@ -1,5 +1,5 @@
 ghost use Rattle.std.specs.Prelude.{◌≡◌};
-ghost use Rattle.flow_graph.specs.Places.{place_address, place_cmp};
+ghost use Rattle.flow_graph.specs.Places.{place_address};
 
 use crate::call_list::Calls;
 
@@ -21,8 +21,3 @@ impl Place {
         }
     }
 }
-
-/// States the order of places; it does nothing.
-pub fn order_of_places()
-    ensures { (x y : Place) → ⟦<Place as Ord>⟧.cmp x y ≡ place_cmp x y }
-{}

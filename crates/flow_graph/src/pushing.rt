@@ -179,7 +179,7 @@ fn push_word(out: &mut Vec<Edge>, site: &Site) -> Result<(), BuildFault>
 }
 
 /// Adds the edges of a place.
-pub fn push_edges(
+pub(crate) fn push_edges(
     out: &mut Vec<Edge>,
     image: &Image,
     statement: &Statement,

@@ -15,7 +15,7 @@ use std::collections::BTreeSet;
 pub const MOST_PLACES: usize = 16_384;
 
 /// Adds a place that is not yet found.
-pub fn add(
+pub(crate) fn add(
     seen: &mut BTreeSet<Reverse<Place>>,
     order: &mut Vec<Place>,
     place: &Place,
@@ -44,7 +44,7 @@ pub fn add(
 }
 
 /// Adds the ends of the edges.
-pub fn add_ends(
+pub(crate) fn add_ends(
     seen: &mut BTreeSet<Reverse<Place>>,
     order: &mut Vec<Place>,
     edges: &[Edge],
@@ -75,7 +75,10 @@ fn ascending<K: Ord + Copy>(alloc: Global, set: &BTreeSet<Reverse<K>>) -> Result
 }
 
 /// The places found, ascending.
-pub fn sorted(alloc: Global, seen: &BTreeSet<Reverse<Place>>) -> Result<Vec<Place>, AllocError>
+pub(crate) fn sorted(
+    alloc: Global,
+    seen: &BTreeSet<Reverse<Place>>,
+) -> Result<Vec<Place>, AllocError>
     ensures places { IfOk result (λ places. places.items ≡ places_in seen.now) }
     ensures ordered { IfOk result (λ places. IsStrictlySortedBy place_cmp places.items) }
 {

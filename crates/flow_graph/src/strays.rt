@@ -17,7 +17,7 @@ fn is_writer_at(image: &Image, address: u32) -> bool
 }
 
 /// An address for which a target is stated, and where the image has no word that writes R15.
-pub fn stray_target(image: &Image, statement: &Statement) -> Option<u32>
+pub(crate) fn stray_target(image: &Image, statement: &Statement) -> Option<u32>
     ensures stray { IfSome result (IsStray image.now statement.now) }
     ensures none { IsNone result → (address : ℕ) → IsStray image.now statement.now address → ⊥ }
 {

@@ -12,7 +12,7 @@ use bus_ticks::{
 use statement::Statement;
 
 /// What a word costs that is passed over: the fetch of the word after the next.
-pub fn passing_ticks(profile: &Profile, address: u32) -> u32
+pub(crate) fn passing_ticks(profile: &Profile, address: u32) -> u32
     ensures ticks { result ≡ passing_ticks profile.now address }
     ensures small { result < 256 }
 {
@@ -69,7 +69,7 @@ fn arrival_ticks(profile: &Profile, leave: Class, kind: Kind, to: &Place) -> u32
 }
 
 /// What a word costs that is done, and so goes to that place.
-pub fn do_ticks(
+pub(crate) fn do_ticks(
     statement: &Statement,
     profile: &Profile,
     address: u32,

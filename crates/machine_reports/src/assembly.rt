@@ -17,7 +17,7 @@ pub struct Written {
 }
 
 /// The line that says an image's size.
-pub fn size_line(alloc: Global, image: &Image) -> Result<String, AllocError>
+pub(crate) fn size_line(alloc: Global, image: &Image) -> Result<String, AllocError>
     ensures { IfOk result (λ line. string_bytes line ≡ size_text image.now) }
 {
     let words = image.words();
