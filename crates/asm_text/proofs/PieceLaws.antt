@@ -17,7 +17,7 @@ use Rattle.asm_text.specs.declared.token.Token.{Token}
 use Rattle.asm_text.specs.Pieces.{piece_of, Piece, Run, Comma, Sign, Gap, is_blank, is_name, first_blank, name_before, gap_before, without_gap, byte_before, mark_of, pieces}
 use Rattle.asm_text.specs.Lines.{IsBlanks, Written, starts_run, starts_gap, may_follow_gap, WellSpaced}
 
--- ---- one byte
+-- ## One byte
 
 pub at_blank : (b : ℕ) (ps : List Piece) → is_blank b ≡ true → byte_before b ps ≡ gap_before ps
 at_blank b ps h = rw h refl
@@ -34,7 +34,7 @@ at_sign b ps h k l = rw (h, k, l) refl
 pub at_comma : (ps : List Piece) → byte_before 44 ps ≡ Comma ∷ without_gap ps
 at_comma ps = refl
 
--- ---- what comes first
+-- ## What comes first
 
 pub first_no_gap : (bs : List ℕ) → first_blank bs ≡ false → starts_gap (pieces bs) ≡ false
 unfolding pieces
@@ -76,7 +76,7 @@ gap_again : (ps : List Piece) → gap_before (gap_before ps) ≡ gap_before ps
 gap_again (Run r ∷ ps) = refl
 gap_again ps = refl
 
--- ---- runs of bytes
+-- ## Runs of bytes
 
 -- a gap, however long
 pub pieces-gap : (gap rest : List ℕ) → IsBlanks gap → 0 < length gap → pieces (gap ++ rest) ≡ gap_before (pieces rest)
@@ -137,7 +137,7 @@ pub sign_step : (b : ℕ) (bs : List ℕ) → is_blank b ≡ false → is_name b
 unfolding pieces
 sign_step b bs h k l = at_sign b (pieces bs) h k l
 
--- ---- by the longest front
+-- ## By the longest front
 
 abbrev pub first_passes : (ℕ → Bool) → List ℕ → Bool
 first_passes p [] = false
@@ -190,7 +190,7 @@ blanks_first text =
       λ lt. ap pieces (sym (take-append-drop n text)) ∙ pieces-gap (take n text) (drop n text) (prefix_all is_blank text) (omega (arith, length-take n text, length-drop n text, prefix_len-le-length is_blank text)),
     )
 
--- ---- what is written so has these pieces
+-- ## What is written so has these pieces
 
 pub pieces_again : (ps : List Piece) (text : List ℕ) → Written ps text → WellSpaced ps → pieces text ≡ ps
 pieces_again [] text w s = pieces-blanks text w
@@ -209,7 +209,7 @@ pieces_again (Gap ∷ ps) text w s =
     let rest-is = pieces_again ps w.1 w.5 s.1 in
     ap pieces w.2 ∙ pieces-gap w.0 w.1 w.4 w.3 ∙ ap gap_before rest-is ∙ before_solid ps s.0
 
--- ---- and each text is written with its pieces
+-- ## And each text is written with its pieces
 
 no_blanks : IsBlanks []
 no_blanks = refl
@@ -291,7 +291,7 @@ pieces_spaced (b ∷ bs) =
       ]
     ]
 
--- ---- what the reader of one piece needs
+-- ## What the reader of one piece needs
 
 pub comma_text : (text : List ℕ) → 0 < length text → get_or text 0 0 ≡ 44 → pieces text ≡ Comma ∷ pieces (drop (prefix_len is_blank (drop 1 text)) (drop 1 text))
 comma_text [] lt e = absurd (omega arith)
@@ -312,7 +312,7 @@ pub sign_text : (text : List ℕ) → 0 < length text → first_blank text ≡ f
 sign_text [] lt e h k = absurd (omega arith)
 sign_text (b ∷ bs) lt e h k = sign_step b bs e h (no_comma b k)
 
--- ---- what the reader of gaps needs
+-- ## What the reader of gaps needs
 
 name_follows : (b : ℕ) (ps : List Piece) → may_follow_gap (name_before b ps) ≡ true
 name_follows b (Run r ∷ ps) = refl
@@ -358,7 +358,7 @@ pub next_by : (o : Option (Token × Bor (List ℕ))) (text rest : List ℕ) → 
 next_by None text rest e le some h = absurd (omega (arith, ap length h))
 next_by (Some found) text rest e le some h = (e ∙ h.0, omega arith)
 
--- ---- on the result of the reader
+-- ## On the result of the reader
 
 pub ok_written : {E : Type 0} (r : Result (Vec Token) E) (line : List ℕ) → IfOk r (λ v. map piece_of v.items ≡ pieces line) → IfOk r (λ v. Written (map piece_of v.items) line)
 ok_written (Ok v) line e = rw e (pieces_written line)

@@ -75,7 +75,7 @@ blank_read text p h e = ap parsed (sym (blank_pieces text)) ∙ body_is (32 ∷ 
 pub shown_line : (text : List ℕ) (x : Said) → list_all is_shown text ≡ true → starts_run (pieces text) ≡ true → statement_of (pieces text) ≡ Ok x → line_of (32 ∷ text) ≡ Ok (record { label = None; said = Some x })
 shown_line text x h run e = read_blank text (record { label = None; said = Some x }) h (gap_parsed (pieces text) run ∙ ap (with_label None) e)
 
--- ---- what is read, exactly
+-- ## What is read, exactly
 
 pub lists_hidden : (vs : Option (List Target)) → shown_result (or_bad (option_map Lists vs)) ≡ None
 lists_hidden None = refl

@@ -20,7 +20,7 @@ use Rattle.std.proofs.lemmas.Option.{none-some, same_Some}
 use Rattle.asm_text.proofs.SpelledNames.{and_then_is, front_number, front_register, number_front, register_again, register_front, whole_is}
 use Rattle.asm_text.proofs.SpelledShifts.{ends_shift, front_shifting, shifting_front}
 
--- ---- offsets
+-- ## Offsets
 
 abbrev FrontOffset : List Piece → Offset × List Piece → Type 0
 FrontOffset ps f = (a : List Piece) × (ps ≡ a ++ f.1) × SpellsOffset f.0.0 f.0.1 a
@@ -80,7 +80,7 @@ offset_whole ps o e =
 whole_offset : (up : Bool) (d : Distance) (ps : List Piece) → SpellsOffset up d ps → all_read (offset_first ps) ≡ Some (up, d)
 whole_offset up d ps h = ap (λ (qs : List Piece). all_read (offset_first qs)) (sym (append-nil ps)) ∙ ap all_read (front_offset up d ps [] h refl)
 
--- ---- the end
+-- ## The end
 
 bang_is : (ps : List Piece) (w : Bool) → bang_of ps ≡ Some w → ps ≡ marked w Bang
 bang_is [] w e = ap (λ b. marked b Bang) (same_Some false w e)
@@ -96,7 +96,7 @@ closed_is : (ps : List Piece) (w : Bool) → closed_of ps ≡ Some w → ps ≡ 
 closed_is (Sign CloseBracket ∷ ps) w e = ap (λ (qs : List Piece). Sign CloseBracket ∷ qs) (bang_is ps w e)
 closed_is _ w e = absurd (none-some w e)
 
--- ---- addresses
+-- ## Addresses
 
 before_is : (t : List ℕ) (n : Register) (ps : List Piece) (x : Address) → IsRegister t n → before_of n ps ≡ Some x → SpellsBefore x (Run t ∷ Comma ∷ ps)
 before_is t n ps x r e =

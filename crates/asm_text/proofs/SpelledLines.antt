@@ -37,7 +37,7 @@ use Rattle.asm_text.proofs.SpelledAddresses.{address_again, address_is}
 use Rattle.asm_text.proofs.WordEnds.{parts_end}
 use Rattle.asm_text.proofs.SpelledLists.{block_again, block_is, dcd_again, dcd_is, target_again, target_is}
 
--- ---- actions
+-- ## Actions
 
 action_is : (h : Head) (s : Suffix) (ps : List Piece) (a : Action) → action_of h s ps ≡ Some a → SpellsAction a h s ps
 action_is (head.Data op) s ps a e =
@@ -59,7 +59,7 @@ code_is h c s ps x e =
     let k = map_is (λ a. Codes (record { cond = c; action = a })) (action_of h s ps) x e in
     subst (λ y. SpellsOperands y (Plain h c s) ps) k.2 (refl, action_is h s ps k.0 k.1)
 
--- ---- targets and transfers
+-- ## Targets and transfers
 
 refers_is : (c : Cond) (how : Use) (ps : List Piece) (x : Said) → refers c how ps ≡ Some x → (t : Target) × SpellsTarget t ps × (Refers (record { cond = c; how = how }) t ≡ x)
 refers_is c how ps x e =
@@ -107,7 +107,7 @@ single_target : (c : Cond) (load : Bool) (s : Suffix) (d : Register) (t : Target
 single_target c load s d (Number n) ps h user = elim h [ inl k ↦ rw (k.1, user) refl | inr k ↦ rw (k.1, user) refl ]
 single_target c load s d (Label name) ps h user = rw (h.0, user) refl
 
--- ---- operands
+-- ## Operands
 
 operands_is : (w : Word) (ps : List Piece) (x : Said) → operands_of w ps ≡ Some x → SpellsOperands x w ps
 operands_is (Plain (head.Single load) c s) ps x e = single_said_is load c s ps x e
@@ -148,7 +148,7 @@ operands_again (Orgs n) Org ps k = rw (whole_number n ps k) refl
 operands_again (Lists vs) Dcd ps k = rw (dcd_again vs ps k) refl
 operands_again _ _ ps k = absurd k
 
--- ---- statements
+-- ## Statements
 
 or_bad_is : (o : Option Said) (x : Said) → or_bad o ≡ Ok x → o ≡ Some x
 or_bad_is None x e = absurd cc
@@ -171,7 +171,7 @@ statement_is _ x e = absurd cc
 statement_again : (x : Said) (ps : List Piece) → SpellsSaid x ps → statement_of ps ≡ Ok x
 statement_again x ps h = rw (h.spelled, spelled_again h.name h.word h.word-is, operands_again x h.word h.rest h.operands) refl
 
--- ---- the parts of a line
+-- ## The parts of a line
 
 abbrev PartsOf : List Piece → Parsed → Type 0
 PartsOf ps p = SpellsParts p.label p.said ps
@@ -205,7 +205,7 @@ parts_again None (Some x) ps h = rw (h.1, statement_again x h.0 h.2) refl
 parts_again (Some l) None ps h = rw (h.0, h.1) refl
 parts_again (Some l) (Some x) ps h = rw (h.1, h.2, statement_again x h.0 h.3) refl
 
--- ---- lines
+-- ## Lines
 
 semicolon : (b : ℕ) → is_in_body b ≡ false → b ≡ 59
 semicolon b h = elim (cases_Bool (b == 59)) [ inl e ↦ eqb-true b 59 e | inr e ↦ let k : not false ≡ false = rw e at h in absurd cc ]

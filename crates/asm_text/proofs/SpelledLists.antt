@@ -30,13 +30,13 @@ use Rattle.std.proofs.lemmas.Option.{none-some, same_Some}
 use Rattle.asm_text.proofs.WordLaws.{chosen, map_is}
 use Rattle.asm_text.proofs.SpelledNames.{and_then_is, digits_again, digits_is, front_register, number_again, number_front, number_is, register_again, register_front, register_is, whole_is, with_rest_is}
 
--- ---- a list, one more in front
+-- ## A list, one more in front
 
 pub listed_more : {A : Type 0} (spells : A → List Piece → Type 0) (a : A) (more : List A) (first rest : List Piece) → spells a first → Listed spells more rest → Listed spells (a ∷ more) (first ++ (Comma ∷ rest))
 listed_more spells a [] first rest h k = absurd k
 listed_more spells a (b ∷ more) first rest h k = (first, rest, refl, h, k)
 
--- ---- what is left of a list of registers, by what is before it
+-- ## What is left of a list of registers, by what is before it
 
 -- runs, and the brace that ends them
 Runs : ℕ → ℕ × List Piece → List Piece → Type 0
@@ -140,7 +140,7 @@ left_is (Run t ∷ ps) (place.To a) list f e =
 left_is (p ∷ ps) (place.To a) list f e = absurd (none-some f e)
 left_is (p ∷ ps) place.After list f e = ended_is list p ps f (λ m. left_is ps place.Start m f) e
 
--- ---- and back
+-- ## And back
 
 -- what follows a run: a comma (false), or the brace
 ends : Bool → Piece
@@ -168,7 +168,7 @@ list_again (run ∷ next ∷ runs) a rest list h =
     ap (list_from list place.Start) back ∙ run_again list run false h.0 (h.1 ++ (Sign CloseBrace ∷ rest)) h.3
     ∙ list_again (next ∷ runs) h.1 rest (bit_or list (bits_of run)) h.4
 
--- ---- blocks
+-- ## Blocks
 
 caret_is : (ps : List Piece) (w : Bool) → caret_of ps ≡ Some w → ps ≡ marked w Caret
 caret_is [] w e = ap (λ b. marked b Caret) (same_Some false w e)
@@ -227,7 +227,7 @@ block_again load s x ps h =
     ∙ ap (λ (n : ℕ). Some (block load s x.rn x.write_back n x.user)) (sym h.list)
     ∙ rw (← h.before, ← h.up, ← h.loads) refl
 
--- ---- targets
+-- ## Targets
 
 letter_is : (c : ℕ) → (is_ascii_alphabetic c || c == 95) ≡ true → is_digit c 10 ≡ false
 letter_is c h = grind (arith, nat_tests)
@@ -276,7 +276,7 @@ pub target_again : (t : Target) (ps : List Piece) → SpellsTarget t ps → only
 target_again (Number n) ps h = number_target ps n h
 target_again (Label d) ps h = rw (h.0, label_no_number d h.1, h.1) refl
 
--- ---- values
+-- ## Values
 
 -- what is left of a list of values, by what is before it
 

@@ -19,7 +19,7 @@ use Rattle.asm_text.specs.SpelledOperands.{IsDigits, IsNumber, IsRegister, IsRrx
 use Rattle.asm_text.specs.declared.token.Mark.TheVariants.{Ampersand}
 use Rattle.asm_text.proofs.WordLaws.{chosen, equal_bytes, false_true, same_bytes}
 
--- ---- what an option came from
+-- ## What an option came from
 
 pub and_then_is : {A B : Type 0} (f : A → Option B) (o : Option A) (b : B) → option_and_then f o ≡ Some b → (a : A) × (o ≡ Some a) × (f a ≡ Some b)
 and_then_is f None b e = absurd (none-some b e)
@@ -37,7 +37,7 @@ pub whole_is : {A : Type 0} (o : Option (A × List Piece)) (a : A) → all_read 
 whole_is None a e = absurd (none-some a e)
 whole_is (Some f) a e = let k = alone_is f.0 f.1 a e in ap Some (rw (← k.0, ← k.1) refl)
 
--- ---- digits
+-- ## Digits
 
 fits_is : (o : Option ℕ) (n : ℕ) → fits o ≡ Some n → (o ≡ Some n) × (n < 2 ^ 32)
 fits_is None n e = absurd (none-some n e)
@@ -64,7 +64,7 @@ digits_again radix text n h =
     let of : digits_of radix text ≡ Some n = rw (some, h.digits) (ap Some (sym h.value)) in
     ap fits of ∙ rw small refl
 
--- ---- numbers
+-- ## Numbers
 
 zero_is : (d : List ℕ) (n : ℕ) → after_zero d ≡ Some n → IsNumber (48 ∷ d) n
 zero_is [] n e = inl (digits_is 10 (48 ∷ []) n e)
@@ -104,7 +104,7 @@ decimal_again (c ∷ d) n h =
 pub number_again : (text : List ℕ) (n : ℕ) → IsNumber text n → run_number text ≡ Some n
 number_again text n h = elim h [ inl d ↦ decimal_again text n d | inr d ↦ ap run_number d.1 ∙ digits_again 16 d.0 n d.2 ]
 
--- ---- a number at the front
+-- ## A number at the front
 
 pub number_front : (ps : List Piece) (f : ℕ × List Piece) → number_first ps ≡ Some f → (a : List Piece) × (ps ≡ a ++ f.1) × SpellsNumber f.0 a
 number_front (Run d ∷ ps) f e =
@@ -130,7 +130,7 @@ number_whole ps n e =
 pub whole_number : (n : ℕ) (ps : List Piece) → SpellsNumber n ps → all_read (number_first ps) ≡ Some n
 whole_number n ps h = ap (λ (qs : List Piece). all_read (number_first qs)) (sym (append-nil ps)) ∙ ap all_read (front_number n ps [] h)
 
--- ---- names
+-- ## Names
 
 -- no name occurs twice
 abbrev once : {A : Type 0} → List (List ℕ × A) → Bool
@@ -192,7 +192,7 @@ rrx_is text e =
 pub rrx_again : (text : List ℕ) → IsRrx text → is_rrx text ≡ true
 rrx_again text h = elim h [ inl e ↦ rw e refl | inr e ↦ rw e refl ]
 
--- ---- a register at the front
+-- ## A register at the front
 
 pub register_front : (ps : List Piece) (f : Register × List Piece) → register_first ps ≡ Some f → (t : List ℕ) × (ps ≡ Run t ∷ f.1) × IsRegister t f.0
 register_front (Run t ∷ ps) f e =

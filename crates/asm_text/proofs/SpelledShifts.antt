@@ -27,7 +27,7 @@ use Rattle.std.proofs.lemmas.Option.{none-some, same_Some}
 use Rattle.asm_text.proofs.WordLaws.{chosen, map_is}
 use Rattle.asm_text.proofs.SpelledNames.{and_then_is, front_number, front_register, front_register_comma, number_front, number_whole, register_again, register_comma_front, register_front, register_is, rrx_again, rrx_is, shift_again, shift_is, whole_is, whole_number}
 
--- ---- shifts
+-- ## Shifts
 
 -- what was read, and its pieces in front of the rest
 abbrev pub FrontShift : List Piece → Shifting × List Piece → Type 0
@@ -71,7 +71,7 @@ front_shift (shifting.Amount (amount.By s n)) a rest h none = rw (h.2, shift_aga
 front_shift (shifting.Amount amount.Rrx) a rest h none = rw h.1 (rrx_first h.0 rest (rrx_again h.0 h.2) none)
 front_shift (shifting.Register s r) a rest h none = rw (h.2, shift_again h.0 s h.3, register_again h.1 r h.4) refl
 
--- ---- what follows a register
+-- ## What follows a register
 
 abbrev pub FrontShifting : List Piece → Shifting × List Piece → Type 0
 FrontShifting ps f = (a : List Piece) × (ps ≡ a ++ f.1) × SpellsShifting f.0 a
@@ -113,7 +113,7 @@ shifting_whole ps s e =
 whole_shifting : (s : Shifting) (ps : List Piece) → SpellsShifting s ps → all_read (shifting_first ps) ≡ Some s
 whole_shifting s ps h = ap (λ (qs : List Piece). all_read (shifting_first qs)) (sym (append-nil ps)) ∙ ap all_read (front_shifting s ps [] h refl)
 
--- ---- data processing
+-- ## Data processing
 
 pub operand_is : (ps : List Piece) (o : Operand) → operand_of ps ≡ Some o → SpellsOperand o ps
 operand_is (Sign Hash ∷ ps) o e =
@@ -171,7 +171,7 @@ data_again op s x ps h =
       ]
     ]
 
--- ---- multiplies
+-- ## Multiplies
 
 pub product_is : (a : Bool) (s : Suffix) (ps : List Piece) (x : Product) → product_of a s ps ≡ Some x → SpellsMultiply a s x ps
 product_is false s ps x e =

@@ -10,7 +10,7 @@ use Rattle.asm_text.specs.Spelling.{SpellsParts}
 use Rattle.asm_text.specs.Statements.{begins_blank_or_ends, past, word_ends}
 use Rattle.asm_text.proofs.PieceLaws.{first_passes, name_no_blank}
 
--- ---- fronts
+-- ## Fronts
 
 pub past_front : (sort : ℕ → Bool) (front rest : List ℕ) → list_all sort front ≡ true → first_passes sort rest ≡ false → past sort (front ++ rest) ≡ rest
 past_front sort [] [] h k = refl
@@ -26,7 +26,7 @@ past_none sort text h = past_front sort [] text refl h
 pub blank_no_name : (b : ℕ) → is_blank b ≡ true → is_name b ≡ false
 blank_no_name b h = grind (arith, nat_tests)
 
--- ---- what the front of a text is
+-- ## What the front of a text is
 
 gap_ends : (gap rest : List ℕ) → 0 < length gap → IsBlanks gap → begins_blank_or_ends (gap ++ rest) ≡ true
 gap_ends [] rest lt h = absurd (omega arith)
@@ -51,7 +51,7 @@ past_blanks (b ∷ bs) h =
     let n : 1 + prefix_len is_blank bs ≡ suc (prefix_len is_blank bs) = omega arith in
     rw (m.0, n) (past_blanks bs m.1)
 
--- ---- the parts of a line
+-- ## The parts of a line
 
 -- a word and a gap
 word_first : (name : List ℕ) (ps : List Piece) (text : List ℕ) → Written (Run name ∷ Gap ∷ ps) text → begins_blank_or_ends (past is_name text) ≡ true

@@ -44,7 +44,7 @@ named_is name (x ∷ xs) text a e =
       | inr w ↦ named_is name xs text a w.1
     ]
 
--- ---- each name is its own
+-- ## Each name is its own
 
 cond_again : (c : Cond) (rest : List ℕ) → cond_of (take 2 (cond_name c ++ rest)) ≡ Some c
 unfolding cond_of
@@ -108,7 +108,7 @@ word_again text (Branch link c) h =
 word_again text Org h = ap word_of h ∙ (let one : word_of (codes "ORG") ≡ Some Org = unfold word_of in refl in one)
 word_again text Dcd h = ap word_of h ∙ (let one : word_of (codes "DCD") ≡ Some Dcd = unfold word_of in refl in one)
 
--- ---- what is read is spelled so
+-- ## What is read is spelled so
 
 whole_is : (text : List ℕ) (c : Cond) → whole_cond text ≡ Some c → IsCond text c
 unfolding cond_of
@@ -221,7 +221,7 @@ short_head (Some h) text is lt = absurd (omega (arith, ap length (named_is head_
 pub short_plain : (text : List ℕ) → length text < 3 → None ≡ plain_of text
 short_plain text lt = ap (λ o. head_rest o (drop 3 text)) (sym (short_head (head_of (take 3 text)) (take 3 text) refl (omega (arith, length-take 3 text))))
 
--- ---- in either case
+-- ## In either case
 
 pub spelled_is : (text : List ℕ) (w : Word) → spelled_word_of text ≡ Some w → IsSpelling text w
 spelled_is text w e =
@@ -245,7 +245,7 @@ pub ok_only : {E : Type 0} (text : List ℕ) (r : Result (Option Word) E) → If
 ok_only text (Ok o) is = λ w h. is ∙ spelled_again text w h
 ok_only text (Err e) is = tt
 
--- ---- case
+-- ## Case
 
 -- a text is what a function makes of it exactly where that keeps each of its bytes
 same_as_mapped : (f : ℕ → ℕ) (text : List ℕ) → list_all (λ b. b == f b) text ≡ bytes_eq text (map f text)

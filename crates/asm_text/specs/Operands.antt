@@ -41,7 +41,7 @@ abbrev pub all_read : {A : Type 0} → Option (A × List Piece) → Option A
 all_read None = None
 all_read (Some f) = alone f.0 f.1
 
--- ---- shifts: LSL #3, LSL R2, RRX
+-- ## Shifts: LSL #3, LSL R2, RRX
 
 abbrev pub amount_first : Shift → List Piece → Option (Shifting × List Piece)
 amount_first s ps = option_map (λ f. (shifting.Amount (amount.By s f.0), f.1)) (number_first ps)
@@ -64,7 +64,7 @@ abbrev pub shifting_first : List Piece → Option (Shifting × List Piece)
 shifting_first (Comma ∷ ps) = shift_first ps
 shifting_first ps = Some (shifting.Amount (amount.By Lsl 0), ps)
 
--- ---- data processing
+-- ## Data processing
 
 -- #n; Rm; Rm,shift
 abbrev pub operand_of : List Piece → Option Operand
@@ -115,7 +115,7 @@ data_with op s r ps =
 abbrev pub data_of : Opcode → Suffix → List Piece → Option Data
 data_of op s ps = option_and_then (λ f. data_with op s f.0 f.1) (register_comma_first ps)
 
--- ---- multiplies
+-- ## Multiplies
 
 -- Rd,Rm,Rs, and of MLA Rn
 abbrev pub factors_of : Suffix → Register → Register → List Piece → Option Product
@@ -138,7 +138,7 @@ product_of accumulate s ps =
     (register_comma_first f.1))
     (register_comma_first ps)
 
--- ---- addresses
+-- ## Addresses
 
 -- whether an offset is added, and its distance
 abbrev pub Offset : Type 0
@@ -214,7 +214,7 @@ is_user T = true
 is_user Bt = true
 is_user _ = false
 
--- ---- lists of registers
+-- ## Lists of registers
 
 -- the registers from one to another, as bits; none where they fall
 abbrev pub run_bits : Register → Register → Option ℕ

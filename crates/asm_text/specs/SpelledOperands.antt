@@ -31,7 +31,7 @@ use Rattle.asm_text.specs.declared.syntax.Distance.TheVariants as distance
 use Rattle.asm_text.specs.declared.syntax.Address.{Address}
 use Rattle.asm_text.specs.declared.syntax.BlockTransfer.{BlockTransfer}
 
--- ---- numbers and names
+-- ## Numbers and names
 
 -- one digit or more, of either case, with a value below 2^32
 pub record IsDigits (radix : ℕ) (text : List ℕ) (n : ℕ) : Type 0 where
@@ -66,7 +66,7 @@ abbrev pub marked : Bool → Mark → List Piece
 marked true m = Sign m ∷ []
 marked false m = []
 
--- ---- shifts
+-- ## Shifts
 
 -- LSL #3; RRX; LSL R2
 abbrev pub SpellsShift : Shifting → List Piece → Type 0
@@ -84,7 +84,7 @@ SpellsShifting s ps =
     ((shift : List Piece) × (ps ≡ Comma ∷ shift) × SpellsShift s shift)
     ⊎ ((ps ≡ []) × (s ≡ shifting.Amount (amount.By Lsl 0)))
 
--- ---- data processing
+-- ## Data processing
 
 -- #n; Rm; Rm,shift
 abbrev pub SpellsOperand : Operand → List Piece → Type 0
@@ -136,7 +136,7 @@ SpellsData op s x ps =
     ⊎ ((is_compare op ≡ false) × (is_move op ≡ true) × SpellsMove op s x ps)
     ⊎ ((is_compare op ≡ false) × (is_move op ≡ false) × SpellsThree op s x ps)
 
--- ---- multiplies
+-- ## Multiplies
 
 -- MUL Rd,Rm,Rs
 pub record SpellsProduct (s : Suffix) (x : Product) (ps : List Piece) : Type 0 where
@@ -174,7 +174,7 @@ abbrev pub SpellsMultiply : Bool → Suffix → Product → List Piece → Type 
 SpellsMultiply false s x ps = SpellsProduct s x ps
 SpellsMultiply true s x ps = SpellsSum s x ps
 
--- ---- addresses
+-- ## Addresses
 
 -- #n; #-n; Rm; -Rm; with a shift by a number; whether it is added
 abbrev pub SpellsOffset : Bool → Distance → List Piece → Type 0
@@ -218,7 +218,7 @@ abbrev pub SpellsAddress : Bool → Address → List Piece → Type 0
 SpellsAddress user x ps =
     ((user ≡ false) × SpellsBase x ps) ⊎ ((user ≡ false) × SpellsBefore x ps) ⊎ SpellsAfter user x ps
 
--- ---- lists
+-- ## Lists
 
 -- one or more, each spelled in this way, with commas between them
 abbrev pub Listed : {A : Type 0} → (A → List Piece → Type 0) → List A → List Piece → Type 0
@@ -228,7 +228,7 @@ Listed spells (a ∷ b ∷ more) ps =
     (first rest : List Piece) × (ps ≡ first ++ (Comma ∷ rest)) × spells a first
     × Listed spells (b ∷ more) rest
 
--- ---- blocks
+-- ## Blocks
 
 -- a register, or those from one to another that is not below it: R1; R0-R3
 abbrev pub SpellsRun : Register × Register → List Piece → Type 0

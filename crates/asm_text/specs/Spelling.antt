@@ -48,7 +48,7 @@ pub record SpellsAt (rd : Register) (t : Target) (ps : List Piece) : Type 0 wher
   pub d-is : IsRegister d rd
   pub target : SpellsTarget t rest
 
--- ---- what follows a word
+-- ## What follows a word
 
 -- an action whose operands are all numbers and registers
 abbrev pub SpellsAction : Action → Head → Suffix → List Piece → Type 0
@@ -85,7 +85,7 @@ pub record SpellsSaid (x : Said) (ps : List Piece) : Type 0 where
   pub word-is : IsSpelling name word
   pub operands : SpellsOperands x word rest
 
--- ---- lines
+-- ## Lines
 
 -- [label] [blank word operands]
 abbrev pub SpellsParts : Option (List ℕ) → Option Said → List Piece → Type 0

@@ -32,7 +32,7 @@ abbrev pub is_label : List ℕ → Bool
 is_label [] = false
 is_label (c ∷ cs) = (is_ascii_alphabetic c || c == 95) && (list_all is_name cs && nat_lt (length cs) 32)
 
--- ---- targets
+-- ## Targets
 
 abbrev pub target_by : Option ℕ → List ℕ → Option Target
 target_by (Some n) d = Some (Number n)
@@ -53,7 +53,7 @@ only_target ps = all_read (target_first ps)
 abbrev pub only_number : List Piece → Option ℕ
 only_number ps = all_read (number_first ps)
 
--- ---- the operands of each word
+-- ## The operands of each word
 
 abbrev pub refers : Cond → Use → List Piece → Option Said
 refers c how ps = option_map (Refers (record { cond = c; how = how })) (only_target ps)
@@ -120,7 +120,7 @@ operands_of (Branch link c) ps = refers c (use_of.Branch link) ps
 operands_of Org ps = org_said ps
 operands_of Dcd ps = dcd_said ps
 
--- ---- statements
+-- ## Statements
 
 abbrev pub or_bad : Option Said → Result Said TextFault
 or_bad None = Err BadOperand
@@ -139,7 +139,7 @@ abbrev pub statement_of : List Piece → Result Said TextFault
 statement_of (Run w ∷ ps) = with_word (spelled_word_of w) ps
 statement_of _ = Err UnknownWord
 
--- ---- lines
+-- ## Lines
 
 -- what a line says: a label, and a statement
 pub record Parsed : Type 0 where

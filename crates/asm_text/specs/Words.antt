@@ -11,7 +11,7 @@ use Rattle.asm_text.specs.declared.word.Word.{Word}
 use Rattle.asm_text.specs.declared.word.Word.TheVariants.{Plain, Branch, Org, Dcd}
 use Rattle.asm_text.specs.Names.{cond_name, cond_of, head_name, head_of, suffix_name, suffix_of, may_have}
 
--- ---- what a word is
+-- ## What a word is
 
 -- a condition is spelled by its name, and AL also by nothing
 abbrev pub IsCond : List ℕ → Cond → Type 0
@@ -40,7 +40,7 @@ is_one_case text = bytes_eq text (upper text) || bytes_eq text (map to_ascii_low
 abbrev pub IsSpelling : List ℕ → Word → Type 0
 IsSpelling text w = (is_one_case text ≡ true) × IsWord (upper text) w
 
--- ---- reading one
+-- ## Reading one
 
 -- a condition that is all of the text
 abbrev pub whole_cond : List ℕ → Option Cond

@@ -166,8 +166,8 @@ pub(crate) fn next(text: &[u8]) -> Option<(Token<'_>, &[u8])>
     }
 }
 
-/// The pieces of a line without its comment: the one list that is written in this way. Refused where memory
-/// is.
+/// The pieces of a line without its comment: the one list that is written in this way. Fails where an
+/// allocation fails.
 pub fn tokens(alloc: Global, line: &[u8]) -> Result<Vec<Token<'_>>, AllocError>
     ensures written { IfOk result (λ v. Written (map piece_of v.items) line.now) }
     ensures spaced { IfOk result (λ v. WellSpaced (map piece_of v.items)) }

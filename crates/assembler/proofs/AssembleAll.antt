@@ -17,7 +17,7 @@ use Rattle.assembler.proofs.AssembleReady.{NotEmpty, Passes, Ready, said_ok}
 use Rattle.loader.proofs.WordLemmas.{all_parts}
 use Rattle.assembler.proofs.AssembleBasics.{all_both, all_true, count_places}
 
--- ---- lists in two parts
+-- ## Lists in two parts
 
 names_all : (P : List ℕ → Type 0) (xs : List (List ℕ × ℕ)) → AllByRecursion P (map (λ e. e.0) xs) → AllByRecursion (λ e. P e.0) xs
 names_all P [] h = tt
@@ -49,7 +49,7 @@ apart_parts : (taken xs ys : List ℕ) → Apart taken (xs ++ ys) → Apart take
 unfolding Apart
 apart_parts taken xs ys h = all_parts (λ a. In taken a → ⊥) xs ys h
 
--- ---- names
+-- ## Names
 
 free_label : (s : State) (label : Option (List ℕ)) (labels : List (List ℕ × ℕ)) → AllByRecursion (λ e. s.names e.0 ≡ None) (label_at s.at label ++ labels) → label_fault s label ≡ None
 free_label s None labels h = refl
@@ -68,7 +68,7 @@ free_after s None labels h once = (h, once)
 free_after s (Some name) labels h once =
     (all_both (λ e. s.names e.0 ≡ None) (λ e. name ≢ e.0) (λ e. with_name name s.at s.names e.0 ≡ None) labels (λ e free differs. still_none name s.at s.names e.0 free differs) h.1 (names_all (λ other. name ≢ other) labels once.0), once.1)
 
--- ---- all lines
+-- ## All lines
 
 pub record CanSweep (s : State) (taken : List ℕ) (names : Names) (lines : List Laid) (words : List (List ℕ)) : Type 0 where
   pub exact : Exact s taken

@@ -14,7 +14,7 @@ use Rattle.assembler.proofs.AssembleSteps.{InSegments, put_all}
 use Rattle.loader.proofs.WordLemmas.{all_push}
 use Rattle.std.proofs.lemmas.List.{append-nil}
 
--- ---- addresses in a list
+-- ## Addresses in a list
 
 unfoldable pub In : List ℕ → ℕ → Type 0
 In [] a = ⊥
@@ -35,7 +35,7 @@ unfolding In
 not_in [] a h k = k
 not_in (x ∷ xs) a h k = elim k [ inl e ↦ h.0 e | inr m ↦ not_in xs a h.1 m ]
 
--- ---- what a state holds: no more than the places after it
+-- ## What a state holds: no more than the places after it
 
 unfoldable pub StartEven : Option ℕ → ℕ → Type 0
 StartEven None at = Unit {0}
@@ -127,7 +127,7 @@ exact_moved s n taken four h = record {
   words = h.words;
 }
 
--- ---- words that are where they may be
+-- ## Words that are where they may be
 
 pub may_four : (a : ℕ) → may_hold a ≡ true → a % 4 ≡ 0
 may_four a h = (may_parts a h).0
@@ -143,7 +143,7 @@ pub in_memory_all : (n at : ℕ) → AllByRecursion (λ a. may_hold a ≡ true) 
     → lies_in_memory at (at + 4 * suc n) ≡ true
 in_memory_all n at h = lies_in at (at + 4 * suc n) (memory_all n at h)
 
--- ---- words on no other's place
+-- ## Words on no other's place
 
 -- a multiple of 4 that a span and some places share
 overlap_point : (closed : List (ℕ × ℕ)) (from to : ℕ) → from % 4 ≡ 0 → from < to → AllByRecursion (λ p. (p.0 % 4 ≡ 0) × (p.0 < p.1)) closed → overlaps closed from to ≡ true

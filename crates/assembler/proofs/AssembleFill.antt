@@ -19,7 +19,7 @@ use Rattle.assembler.proofs.AssembleSteps.{Pends, items_at}
 use Rattle.assembler.proofs.AssembleSweep.{NewItems, after_line_is, flat}
 use Rattle.assembler.proofs.AssembleBasics.{all_map}
 
--- ---- one word put
+-- ## One word put
 
 record MayPut (image : Words) (at : ℕ) : Type 0 where
   may : may_hold at ≡ true
@@ -65,7 +65,7 @@ still_free (f ∷ rest) at w x e = go (nat_lt at f.0) refl (still_free rest at w
           | inr h ↦ let below = deeper h.1 in (rw h.0 below.0, below.1)
         ]
 
--- ---- items put one after the other
+-- ## Items put one after the other
 
 unfoldable pub put_words : Words → Words → Words
 put_words image words = fold (λ i e. with_word i e.0 e.1) image words
@@ -108,7 +108,7 @@ filled_places names image (i ∷ items) out e =
       few = λ small. omega (arith, p.room, more, rest.few (omega (arith, p.room, more)));
     }
 
--- ---- the words of a line
+-- ## The words of a line
 
 unfoldable pub Resolved : Names → ℕ → List Pending → List ℕ → Type 0
 Resolved names at [] [] = Unit {0}
@@ -124,7 +124,7 @@ filled_line names k at (p ∷ ps) image rest out e =
     let more = filled_line names k (at + 4) ps (with_word image at s.0) rest out s.3 in
     (s.0 ∷ more.0, (s.1, more.1), more.2)
 
--- ---- what they are
+-- ## What they are
 
 targeted_is : (o : Option ℕ) (f : ℕ → Result ℕ LineFault) (w : ℕ) → targeted o f ≡ Ok w → (target : ℕ) × (o ≡ Some target) × (f target ≡ Ok w)
 targeted_is None f w e = absurd cc
@@ -168,7 +168,7 @@ are_words names (Some (Lists vs)) at ps words p h = values_are names at vs words
 are_words names (Some (Orgs n)) at ps words p h = empty names at words (subst (λ (qs : List Pending). Resolved names at qs words) p h)
 are_words names None at ps words p h = empty names at words (subst (λ (qs : List Pending). Resolved names at qs words) p h)
 
--- ---- the words of all lines
+-- ## The words of all lines
 
 pub fold_append : (image xs ys : Words) → put_words image (xs ++ ys) ≡ put_words (put_words image xs) ys
 unfolding put_words
@@ -187,7 +187,7 @@ filled_lines names (line ∷ lines) (n ∷ new) image out h e =
     let rest = filled_lines names lines new (put_words image (words_from line.at one.0)) out h.1 one.2 in
     (one.0 ∷ rest.0, (are_words names line.said line.at p.1 one.0 p.3 one.1, rest.1), rest.2 ∙ sym (fold_append image (words_from line.at one.0) (words_at lines rest.0)))
 
--- ---- where they are
+-- ## Where they are
 
 map_append : (xs ys : List Item) → map (λ i. i.at) (xs ++ ys) ≡ map (λ i. i.at) xs ++ map (λ i. i.at) ys
 map_append [] ys = refl

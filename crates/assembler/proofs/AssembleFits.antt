@@ -17,7 +17,7 @@ use Rattle.loader.proofs.WordLemmas.{all_parts}
 use Rattle.assembler.proofs.AssembleBasics.{count_places}
 use Rattle.assembler.proofs.AssembleRuns.{Ascending, ascending_put, put_elsewhere, runs_more, runs_same}
 
--- ---- what has been put so far
+-- ## What has been put so far
 
 pub record Put (image : Words) (taken : List ℕ) (most : ℕ) : Type 0 where
   pub ascends : Ascending image
@@ -64,7 +64,7 @@ joins_next : (image : Words) (at w : ℕ) → word_of image at ≡ None → Join
 unfolding Joins
 joins_next image at w none = (at, w, refl, word_of_here image at w none)
 
--- ---- the places of a line's words
+-- ## The places of a line's words
 
 -- what a line's places ask
 pub record Stands (taken : List ℕ) (at n : ℕ) : Type 0 where
@@ -98,7 +98,7 @@ put_weaker image taken a b le h =
     h.runs in
     record { ascends = h.ascends; absent = h.absent; count = h.count; runs = omega (arith, le, runs) }
 
--- ---- a line's words, after others or first of a segment
+-- ## A line's words, after others or first of a segment
 
 unfoldable pub JoinsIf : Bool → Words → ℕ → Type 0
 JoinsIf b image at = b ≡ true → Joins image at
@@ -106,7 +106,7 @@ JoinsIf b image at = b ≡ true → Joins image at
 suc_zero : (n : ℕ) → (suc n == 0) ≡ false
 suc_zero n = grind (arith, nat_tests)
 
--- ---- one word after the other
+-- ## One word after the other
 
 -- any words may be put at the addresses, one after the other
 unfoldable pub Fits : Words → List ℕ → Type 0
@@ -192,7 +192,7 @@ unfolding JoinsIf
 opened (Some (Orgs n)) begun at image j = λ e. false_true e
 opened said begun at image j = j
 
--- ---- all lines
+-- ## All lines
 
 pub record CanFill (image : Words) (taken : List ℕ) (most : ℕ) (begun : Bool) (at : ℕ)
     (lines : List Laid) : Type 0 where

@@ -14,7 +14,7 @@ use Rattle.assembler.proofs.AssembleSweep.{NewItems, flat}
 use Rattle.assembler.proofs.AssembleFill.{Resolved, put_words, fold_append}
 use Rattle.assembler.proofs.AssembleFits.{Fits}
 
--- ---- by what a line says
+-- ## By what a line says
 
 values_resolved : (names : Names) (at : ℕ) (vs : List Target) (ws : List ℕ) → AllZip (IsTarget names) vs ws → Resolved names at (map value_pending vs) ws
 unfolding Resolved
@@ -35,7 +35,7 @@ resolved_are names (Some (Lists vs)) at ps ws p a = rw p (values_resolved names 
 resolved_are names (Some (Orgs n)) at ps ws p a = rw (p, a) tt
 resolved_are names None at ps ws p a = rw (p, a) tt
 
--- ---- the words of a line
+-- ## The words of a line
 
 filled_line : (names : Names) (k at : ℕ) (ps : List Pending) (ws : List ℕ) (image : Words) (rest : List Item) (ats : List ℕ)
     → Resolved names at ps ws → Fits image (addresses_from at (length ps) ++ ats)
@@ -48,7 +48,7 @@ filled_line names k at (p ∷ ps) (w ∷ ws) image rest ats r h =
     let more = filled_line names k (at + 4) ps ws (with_word image at w) rest ats r.1 (h w).1 in
     (rw (r.0, (h w).0) more.0, more.1)
 
--- ---- all lines
+-- ## All lines
 
 pub filled_ok : (names : Names) (said : List Parsed) (at : ℕ) (new : List (List Item)) (words : List (List ℕ)) (image : Words)
     → AllZip NewItems (laid_from at said) new → AllZip (λ line ws. AreWords names line.said line.at ws) (laid_from at said) words

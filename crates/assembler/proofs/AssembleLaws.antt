@@ -90,7 +90,7 @@ assembly_is reads source image names e =
       few_segments = omega (arith, first_segments, s.few (omega (arith, first_segments)));
     }
 
--- ---- and an assembly is assembled
+-- ## And an assembly is assembled
 
 said_some : (x : Said) (w : Word) (ps : List Piece) → SpellsOperands x w ps → NotEmpty (Some x)
 unfolding NotEmpty

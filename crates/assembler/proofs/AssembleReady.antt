@@ -20,7 +20,7 @@ use Rattle.assembler.proofs.AssembleBack.{Apart, Exact, StartEven, exact_moved, 
 use Rattle.assembler.proofs.AssembleBasics.{count_map, labelled_at}
 use Rattle.std.proofs.lemmas.List.{append-nil}
 
--- ---- places
+-- ## Places
 
 place_ok : (s : State) (taken : List ℕ) (m : ℕ) → Exact s taken → AllByRecursion (λ a. may_hold a ≡ true) (addresses_from s.at (suc m)) → Apart taken (addresses_from s.at (suc m))
     → length taken + suc m ≤ 65536 → is_17th s ≡ false → place_fault s (suc m) ≡ None
@@ -41,7 +41,7 @@ no_17th s n some h =
           rw (e, small) refl
     ]
 
--- ---- a label
+-- ## A label
 
 pub exact_labelled : (s : State) (label : Option (List ℕ)) (taken : List ℕ) → Exact s taken → Exact (labelled s label) taken
 unfolding InSegments StartEven
@@ -51,7 +51,7 @@ exact_labelled s (Some name) taken h = record { within = λ a four held. h.withi
 unless_ok : (o : Option LineFault) (s : State) → o ≡ None → unless o s ≡ Ok s
 unless_ok o s e = rw e refl
 
--- ---- a statement
+-- ## A statement
 
 unfoldable pub NotEmpty : Option Said → Type 0
 NotEmpty (Some (Lists [])) = ⊥

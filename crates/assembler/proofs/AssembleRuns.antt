@@ -138,7 +138,7 @@ runs_more (e ∷ rest) at w q h none =
           rw high (omega (arith, deeper, begins_one (Some e.0) at))
     ]
 
--- ---- what is where
+-- ## What is where
 
 pub put_elsewhere : (image : Words) (at w x : ℕ) → word_of image x ≡ None → at ≢ x → word_of (with_word image at w) x ≡ None
 put_elsewhere [] at w x none other = rw (no_eq at x other) refl

@@ -18,7 +18,7 @@ use Rattle.assembler.proofs.AssembleBasics.{all_map, count_map, labelled_at}
 use Rattle.std.proofs.lemmas.List.{append-nil}
 use Rattle.asm_text.proofs.WordLaws.{chosen, false_true}
 
--- ---- small facts
+-- ## Small facts
 
 pub unless_is : {A : Type 0} (o : Option LineFault) (s t : A) → unless o s ≡ Ok t → (o ≡ None) × (s ≡ t)
 unless_is None s t e = (refl, cc)
@@ -29,7 +29,7 @@ lower_none None b e = (refl, e)
 lower_none (Some a) None e = absurd cc
 lower_none (Some a) (Some b) e = elim (chosen _ (Some b) (Some a) None e) [ inl h ↦ let k = h.1 in absurd cc | inr h ↦ let k = h.1 in absurd cc ]
 
--- ---- words put one after the other
+-- ## Words put one after the other
 
 unfoldable pub put_all : State → ℕ → List Pending → State
 put_all s k [] = s
@@ -128,7 +128,7 @@ put_open s k (p ∷ ps) = put_open (placed s k p) k ps ∙ or_all (is_some s.sta
     or_all true c e = refl
     or_all false c e = rw e refl
 
--- ---- segments
+-- ## Segments
 
 unfoldable pub segments_in : State → ℕ
 segments_in s = length s.closed + (if is_some s.start then 1 else 0)
@@ -156,7 +156,7 @@ put_segments s k ps h few =
     go false true is made = let was : segments_in s ≡ length s.closed + 0 = rw is refl in (omega (arith, made, was), omega (arith, made, was, few))
     go false false is made = let was : segments_in s ≡ length s.closed + 0 = rw is refl in (omega (arith, made, was), omega (arith, made, was, room s h few))
 
--- ---- an ORG
+-- ## An ORG
 
 any_first : (p : ℕ × ℕ → Bool) (xs ys : List (ℕ × ℕ)) → list_any p xs ≡ true → list_any p (xs ++ ys) ≡ true
 any_first p [] ys h = false_true h
@@ -214,7 +214,7 @@ org_free s n taken e h =
           ]) h.covered,
     )
 
--- ---- a line
+-- ## A line
 
 -- what is at an address, by what a line says
 unfoldable pub Pends : Option Said → ℕ → List Pending → Type 0
@@ -284,7 +284,7 @@ org_moves s k n e = record {
   segments = λ few. (moved_segments s n ∙ none_more (is_some s.start) (segments_in s), omega (arith, moved_segments s n));
 }
 
--- ---- after a label
+-- ## After a label
 
 relabel : (s : State) (name : List ℕ) (k : ℕ) (said : Option Said) (t : State) → Moves (labelled s (Some name)) k said t → Moves s k said t
 unfolding InSegments StartBelow segments_in
@@ -340,7 +340,7 @@ words_step s label said k ps t pends count at free opens e =
     (subst (λ (a : ℕ). address_after a said ≡ a + 4 * word_count said) (sym here) at) free (opens (is_some u.start)) (labelled_17th s label ∙ place_room s (word_count said) faults.1) in
     subst (Step s k label said) done.1 (record { moves = moves_of s label k said (put_all u k ps) moves; names = put_names u k ps; fresh = faults.0 })
 
--- ---- what a statement waits for
+-- ## What a statement waits for
 
 word_is : (r : Result ℕ LineFault) (p : Pending) → word_pending r ≡ Ok p → (w : ℕ) × (p ≡ Fixed w) × (r ≡ Ok w)
 word_is (Ok w) p e = (w, cc, refl)

@@ -22,7 +22,7 @@ nothing a e = absurd cc
 something : {A B : Type 0} (a : A) → Some a ≡ None → B
 something a e = absurd cc
 
--- ---- names
+-- ## Names
 
 pub record NamesOf (old new : Names) (labels : List (List ℕ × ℕ)) : Type 0 where
   pub fresh : AllByRecursion (λ e. old e.0 ≡ None) labels
@@ -91,7 +91,7 @@ label_names s (Some name) new labels free h = one_label s.names new name s.at la
     go None e = refl
     go (Some at) e = something LabelTwice e
 
--- ---- all lines
+-- ## All lines
 
 unfoldable pub flat : List (List Item) → List Item
 flat [] = []

@@ -45,7 +45,7 @@ one_of : (b : Bool) (xs ys : List ℕ) → Spelled xs → Spelled ys → Spelled
 one_of true xs ys h k = h
 one_of false xs ys h k = k
 
--- ---- numbers
+-- ## Numbers
 
 digits_spelled : (k base : ℕ) (upper : Bool) (n : ℕ) (acc : List ℕ) → ((m : ℕ) → is_spelled (digit_glyph upper (m % base)) ≡ true) → Spelled acc → Spelled (digits_onto k base upper n acc)
 digits_spelled zero base upper n acc glyph h = h
@@ -70,7 +70,7 @@ hex_spelled : (n : ℕ) → Spelled (hex n)
 unfolding digits
 hex_spelled n = digits_spelled 64 16 true n [] hex_glyph refl
 
--- ---- the parts
+-- ## The parts
 
 numbered_spelled : (n : ℕ) → Spelled (numbered n)
 unfolding is_spelled
@@ -118,7 +118,7 @@ shifted_spelled Lsr n = amount_spelled Lsr (cond (n == 0) 32 n)
 shifted_spelled Asr n = amount_spelled Asr (cond (n == 0) 32 n)
 shifted_spelled Ror n = one_of (n == 0) (codes ",RRX") (amount_text Ror n) refl (amount_spelled Ror n)
 
--- ---- data processing
+-- ## Data processing
 
 compare_spelled : (c : Cond) (op : Opcode) (rn rd : Register) → Spelled (compare_front c op rn rd)
 unfolding is_spelled
@@ -150,7 +150,7 @@ data_spelled c Mov s rn rd = move_spelled c Mov s rd
 data_spelled c Mvn s rn rd = move_spelled c Mvn s rd
 data_spelled c op s rn rd = three_spelled c op s rn rd
 
--- ---- multiplies
+-- ## Multiplies
 
 factors_spelled : (x : Multiply) → Spelled (factors_text x)
 factors_spelled x = both (register_text x.rd) (comma_register x.rm ++ comma_register x.rs) (register_spelled x.rd) (both (comma_register x.rm) (comma_register x.rs) (comma_spelled x.rm) (comma_spelled x.rs))
@@ -164,7 +164,7 @@ multiply_spelled c x =
     (both (word_text (codes "MLA") c (flags_text x.sets_flags)) (factors_text x ++ comma_register x.rn) (word_spelled (codes "MLA") (flags_text x.sets_flags) c refl (flags_spelled x.sets_flags)) (both (factors_text x) (comma_register x.rn) (factors_spelled x) (comma_spelled x.rn)))
     (both (word_text (codes "MUL") c (flags_text x.sets_flags)) (factors_text x) (word_spelled (codes "MUL") (flags_text x.sets_flags) c refl (flags_spelled x.sets_flags)) (factors_spelled x))
 
--- ---- transfers
+-- ## Transfers
 
 suffix_spelled : (byte user : Bool) → Spelled (transfer_suffix byte user)
 unfolding is_spelled
@@ -223,7 +223,7 @@ single_register_spelled c x =
     (transfer_spelled c x.load x.byte (is_user x.before x.write_back) x.rd x.rn)
     (both (opened x.before) (sign_of x.up ++ (register_text x.rm ++ (shifted_text x.shift x.amount ++ closed x.before x.write_back))) (opened_spelled x.before) signed)
 
--- ---- blocks
+-- ## Blocks
 
 listed_spelled : (list n : ℕ) → Spelled (listed list n)
 unfolding is_spelled
@@ -268,7 +268,7 @@ block_spelled c x =
     (word_spelled (block_name x.load) (block_suffix x.before x.up) c (block_name_spelled x.load) (block_suffix_spelled x.before x.up))
     (both (register_text x.rn) (mark_if x.write_back (codes "!") ++ list_operand x.list x.user) (register_spelled x.rn) end)
 
--- ---- any
+-- ## Any
 
 branch_spelled : (link : Bool) → Spelled (branch_name link)
 unfolding is_spelled

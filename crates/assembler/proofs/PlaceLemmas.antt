@@ -22,7 +22,7 @@ use Rattle.assembler.proofs.AssembleSweep.{step_is}
 use Rattle.assembler.proofs.RefuseLaws.{all_swept, refused_there, stopped_at_once}
 use Rattle.assembler.proofs.RefuseSweep.{Texts, front_first, one_meaning, pass_or_stop}
 
--- ---- one line
+-- ## One line
 
 items_count : (k at : ℕ) (new : List _) → length (items_at k at new) ≡ length new
 unfolding items_at
@@ -72,7 +72,7 @@ words_within s k r t e here there =
       within = omega (arith, words_below s.at t.at m.parsed.said here there m.at, m.words, before, after);
     }
 
--- ---- the lines so far
+-- ## The lines so far
 
 abbrev pub AreRead : List (List ℕ) → List Parsed → Type 0
 AreRead lines said = AllZip (λ line p. line_of line ≡ Ok p) lines said
@@ -113,7 +113,7 @@ so_far_all lines now at placed h0 none =
     let h = subst (λ ls. SoFar lines ls at placed) none h0 in
     subst (Found lines) (append-nil placed) (h.whole [] [] tt tt)
 
--- ---- all lines
+-- ## All lines
 
 same_said : Texts → (before : List Parsed) (lines : List (List ℕ)) (said other : List Parsed)
     → ArePassed before lines said → AreRead lines other → said ≡ other
@@ -157,7 +157,7 @@ unfolding swept
 swept_next s k now line rest t whole same parts e =
     ap (λ r. after_line k r (λ u. swept u (k + 1) rest)) (sym e) ∙ ap (swept s k) (sym parts) ∙ same
 
--- ---- a line with a fault
+-- ## A line with a fault
 
 refused_sweep : Texts → (source : List ℕ) (fault : LineFault) (k : ℕ)
     → swept at_first 1 (lines_of source) ≡ Err (fault, k) → IsRefusedAtOnce source fault k

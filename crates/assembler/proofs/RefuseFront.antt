@@ -24,7 +24,7 @@ use Rattle.assembler.proofs.AssembleSteps.{Covers, Pends, items_at, none_more, p
 use Rattle.assembler.proofs.RefuseLeast.{IsLeast, least_both, least_guard, least_none, least_option, least_result, least_same}
 use Rattle.assembler.proofs.RefusePlaces.{Bad, org_least, place_least}
 
--- ---- a line more
+-- ## A line more
 
 flat_more : {A B : Type 0} (f : A → List B) (xs : List A) (x : A)
     → flat_map f (xs ++ x ∷ []) ≡ flat_map f xs ++ f x
@@ -92,7 +92,7 @@ segments_next before p =
     ∙ segments_more false (laid before)
     (record { at = address_of_next before; label = p.label; said = p.said })
 
--- ---- the items of lines, from a line's number on
+-- ## The items of lines, from a line's number on
 
 unfoldable pub ItemsOf : ℕ → List Laid → List Item → Type 0
 ItemsOf k [] items = items ≡ []
@@ -126,7 +126,7 @@ items_more k n (x ∷ ls) l items new h is pends count =
       rest,
     )
 
--- ---- the state
+-- ## The state
 
 pub record Front (s : State) (k : ℕ) (before : List Parsed) : Type 0 where
   pub number : k ≡ length before + 1
@@ -143,7 +143,7 @@ pub record Front (s : State) (k : ℕ) (before : List Parsed) : Type 0 where
   pub few : length (taken_by before) ≤ 65536
   pub items : ItemsOf 1 (laid before) s.items
 
--- ---- a line's faults: its label
+-- ## A line's faults: its label
 
 some_is : (o : Option ℕ) → is_some o ≡ true → (a : ℕ) × (o ≡ Some a)
 some_is None e = false_true e
@@ -173,7 +173,7 @@ label_least s k before (Some name) h =
         names_same : (x y : List ℕ) → ◌≡◌ {A = Option (List ℕ)} (Some x) (Some y) → x ≡ y
         names_same x y e = cc
 
--- ---- too many words or segments
+-- ## Too many words or segments
 
 seventeenth : (s : State) (n g : ℕ) → (n == 0) ≡ false → segments_in s ≡ g → g ≤ 16
     → (is_17th s ≡ true → 16 < g + (if is_some s.start || n == 0 then 0 else 1))
@@ -262,7 +262,7 @@ not_long s k before p h none e =
           omega (arith, is, nothing, few_segments, x)
     ]
 
--- ---- a line's faults: with those before it
+-- ## A line's faults: with those before it
 
 sum_clash : (before : List Parsed) (p : Parsed) (f : LineFault)
     → ((f ≡ LabelTwice) × IsRepeated before p.label)
@@ -342,7 +342,7 @@ org_clash s k before label n h =
     (λ f e. elim e [ inl x ↦ x | inr x ↦ absurd (not_long s k before p h refl x.1) ])
     (org_least s n (taken_by before) h.exact h.covers))
 
--- ---- a line's faults: all
+-- ## A line's faults: all
 
 failed_unless : {A : Type 0} (o : Option LineFault) (s : A) → result_err (unless o s) ≡ o
 failed_unless None s = refl
@@ -416,7 +416,7 @@ said_least s k before label (Some (Lists (v ∷ vs))) h some =
     joined before p None clash _ least_none (words_clash s k before p (length vs) h refl refl)
     (sym (failed_unless clash (all_placed (labelled s label) k (v ∷ vs))))
 
--- ---- a line more without a fault
+-- ## A line more without a fault
 
 one_exact : (s : State) (k : ℕ) (label : Option (List ℕ)) (r : Result Pending LineFault) (t : State)
     (taken : List ℕ) → pending_step s k label r ≡ Ok t → Exact s taken → Exact t (taken ++ s.at ∷ [])

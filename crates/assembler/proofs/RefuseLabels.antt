@@ -23,7 +23,7 @@ use Rattle.assembler.proofs.RefuseLeast.{IsLeast, either, is_least, least_is, le
 unfoldable pub Known : Names → List (List ℕ × ℕ) → Type 0
 Known names labels = (name : List ℕ) → (at : ℕ) → (names name ≡ Some at) ↔ Contains labels (name, at)
 
--- ---- what waits
+-- ## What waits
 
 first_alone : (o : Option LineFault) → option_or o None ≡ o
 first_alone None = refl
@@ -34,7 +34,7 @@ abbrev late : Names → ℕ → List Pending → Option LineFault
 late names at [] = None
 late names at (p ∷ ps) = option_or (result_err (resolved names at p)) (late names (at + 4) ps)
 
--- ---- a word
+-- ## A word
 
 abbrev WordFault : List (List ℕ × ℕ) → List ℕ → (ℕ → Result ℕ LineFault) → LineFault → Type 0
 WordFault labels name word f =
@@ -69,7 +69,7 @@ word_least names labels name word known = go (names name) refl
           | inr x ↦ subst (λ a. word a ≡ Err f) (same_Some x.0 at (sym ((known name x.0).1 x.1) ∙ is)) x.2
         ]) (least_result (word at))
 
--- ---- values
+-- ## Values
 
 abbrev ValueFault : List (List ℕ × ℕ) → List Target → LineFault → Type 0
 ValueFault labels values f =
@@ -123,7 +123,7 @@ values_least names labels at (Label l ∷ vs) known =
         (late names (at + 4) (map value_pending vs)) (later labels (Label l) vs)
         (λ f. past_label labels l a vs f ((known l a).0 is)) rest
 
--- ---- a line
+-- ## A line
 
 late_least : (names : Names) (labels : List (List ℕ × ℕ)) (at : ℕ) (said : Option Said) (new : List Pending)
     → Known names labels → Pends said at new → IsLeast (HasLabelFault labels at said) (late names at new)
@@ -145,7 +145,7 @@ late_least names labels at (Some (Lists vs)) new known h =
     subst (λ ps. IsLeast (ValueFault labels vs) (late names at ps)) (sym h)
     (values_least names labels at vs known)
 
--- ---- the words of a line, put
+-- ## The words of a line, put
 
 record Filled (names : Names) (image : Words) (items rest : List Item) (ats : List ℕ) : Type 0 where
   next : Words
@@ -203,7 +203,7 @@ fill_stop names k at (p ∷ ps) image rest ats f h some =
         ap (λ r. after_line k (word_put image at r)
         (λ i. filled names i (items_at k (at + 4) ps ++ rest))) is ∙ ap (λ x. Err (x, k)) (same_Some g f e)
 
--- ---- all lines
+-- ## All lines
 
 abbrev pub AreFaultless : List (List ℕ × ℕ) → List Laid → Type 0
 AreFaultless labels lines = AllByRecursion (IsFaultless labels) lines

@@ -17,7 +17,7 @@ use Rattle.assembler.proofs.RefuseFront.{Front, ItemsOf}
 use Rattle.assembler.proofs.RefuseLabels.{Known, filled_all, filled_stops, known_or_stop}
 use Rattle.assembler.proofs.RefuseSweep.{Stops, Texts, front_first, pass_or_stop, passed_on, stops_swept}
 
--- ---- all lines pass the first sweep
+-- ## All lines pass the first sweep
 
 pub record Swept (source : List ℕ) (said : List Parsed) : Type 0 where
   pub state : State
@@ -64,7 +64,7 @@ names_known : (s : State) (k : ℕ) (said : List Parsed) → Front s k said
 unfolding Known
 names_known s k said h = h.named
 
--- ---- a refusal is refused
+-- ## A refusal is refused
 
 pub stopped_at_once : Texts → (source : List ℕ) (fault : LineFault) (n : ℕ) → IsRefusedAtOnce source fault n
     → swept at_first 1 (lines_of source) ≡ Err (fault, n)
@@ -97,7 +97,7 @@ pub refused_built : Texts → (source : List ℕ) (fault : LineFault) (n : ℕ) 
 refused_built texts source fault n h =
     elim h [ inl r ↦ at_once texts source fault n r | inr r ↦ for_labels texts source fault n r ]
 
--- ---- what is refused is a refusal
+-- ## What is refused is a refusal
 
 same_refusal : (source : List ℕ) (f g : LineFault) (m n : ℕ) → assembled source ≡ Err (f, m)
     → assembled source ≡ Err (g, n) → IsRefusal source f m → IsRefusal source g n

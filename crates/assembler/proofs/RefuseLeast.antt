@@ -19,7 +19,7 @@ pub either : (o : Option LineFault) → (o ≡ None) ⊎ ((f : LineFault) × (o 
 either None = inl refl
 either (Some f) = inr (f, refl)
 
--- ---- numbers
+-- ## Numbers
 
 pub same_le : (f g : LineFault) → f ≡ g → number f ≤ number g
 same_le f g e = subst (λ x. number f ≤ number x) e (omega arith)
@@ -44,7 +44,7 @@ back _ = refl
 same_number : (f g : LineFault) → number f ≡ number g → f ≡ g
 same_number f g e = sym (back f) ∙ ap fault_at e ∙ back g
 
--- ---- one part
+-- ## One part
 
 pub least_none : IsLeast (λ f. ⊥) None
 unfolding IsLeast
@@ -70,7 +70,7 @@ least_guard true g M there again =
     record { holds = (refl, there refl); lowest = λ f e. same_le g f (sym e.0) }
 least_guard false g M there again = λ f e. false_true (again e.1)
 
--- ---- two parts
+-- ## Two parts
 
 chain : (a b c : ℕ) → a ≤ b → b ≤ c → a ≤ c
 chain a b c h k = omega (arith, h, k)
@@ -108,7 +108,7 @@ least_same P Q None there again h = λ f e. h f (again f e)
 least_same P Q (Some g) there again h =
     record { holds = there g h.holds; lowest = λ f e. h.lowest f (again f e) }
 
--- ---- there is one answer
+-- ## There is one answer
 
 pub least_is : (P : LineFault → Type 0) (o : Option LineFault) (f : LineFault) → IsLeast P o → IsLowest P f → o ≡ Some f
 unfolding IsLeast

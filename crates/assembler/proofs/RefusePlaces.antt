@@ -15,7 +15,7 @@ use Rattle.assembler.proofs.AssembleBack.{Apart, Exact, In, in_memory_all, may_f
 use Rattle.assembler.proofs.AssembleSteps.{Covers, InSegments}
 use Rattle.assembler.proofs.RefuseLeast.{IsLeast, guard, least_both, least_guard}
 
--- ---- members
+-- ## Members
 
 pub in_contains : (xs : List ℕ) (a : ℕ) → In xs a → Contains xs a
 unfolding In
@@ -90,7 +90,7 @@ fine_not_bad taken ats f (a, there, why) =
       | inr c ↦ all_in (λ b. In taken b → ⊥) ats a f.apart m (contains_in taken a c)
     ]
 
--- ---- words
+-- ## Words
 
 record Within (at n a : ℕ) : Type 0 where
   low : at ≤ a
@@ -199,7 +199,7 @@ place_least s taken m Long exact covers there again =
     (least_guard out OutOfRange B (outside_bad s taken m exact) (bad_outside s taken (suc m) exact covers))
     (least_guard long TooLong Long there again))
 
--- ---- an ORG
+-- ## An ORG
 
 abbrev org_bad : State → ℕ → Bool
 org_bad s n = not (may_hold n) || (overlaps s.closed n (n + 1) || open_has s.start s.at n)

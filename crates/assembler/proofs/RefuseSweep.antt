@@ -31,7 +31,7 @@ use Rattle.assembler.proofs.RefuseLeast.{IsLeast, either, is_least, least_is, le
 use Rattle.assembler.proofs.RefusePlaces.{Fine, fine}
 use Rattle.assembler.proofs.RefuseText.{fault_in_reading}
 
--- ---- lists
+-- ## Lists
 
 once_join : (xs ys : List ℕ) → Once xs → Once ys → Apart xs ys → Once (xs ++ ys)
 unfolding Apart In
@@ -51,7 +51,7 @@ once_places : (n at : ℕ) → Once (addresses_from at n)
 once_places zero at = tt
 once_places (suc n) at = (above_places n (at + 4) at (omega arith), once_places n (at + 4))
 
--- ---- a line without a fault
+-- ## A line without a fault
 
 fine_words : (taken : List ℕ) (at : ℕ) (said : Option Said) → Fine taken (asked at said)
     → Fine taken (addresses_from at (word_count said))
@@ -167,7 +167,7 @@ front_first = record {
     nothing : (a : ℕ) → ◌≡◌ {A = Option ℕ} None (Some a) → ⊥
     nothing a e = cc
 
--- ---- a line
+-- ## A line
 
 spelled_some : (line : List ℕ) (p : Parsed) → Spells p line → NotEmpty p.said
 spelled_some line p s = parts_some p.label p.said s.pieces s.spelled
@@ -216,7 +216,7 @@ stopped : (r : Result State LineFault) (f : LineFault) → result_err r ≡ Some
 stopped (Ok t) f e = absurd (none-some f e)
 stopped (Err g) f e = ap Err (same_Some g f e)
 
--- ---- lines that pass
+-- ## Lines that pass
 
 pub record Passes (s : State) (k : ℕ) (before : List Parsed) (lines : List (List ℕ)) (said : List Parsed)
     (rest : List (List ℕ)) : Type 0 where
@@ -259,7 +259,7 @@ passed_on texts s k before (line ∷ lines) (p ∷ said) rest h a =
       same = ap (λ r. after_line k r (λ u. swept u (k + 1) (lines ++ rest))) one.1 ∙ more.same;
     }
 
--- ---- all lines pass, or one is the first that does not
+-- ## All lines pass, or one is the first that does not
 
 pub record Stops (before : List Parsed) (lines : List (List ℕ)) : Type 0 where
   pub front : List (List ℕ)

@@ -28,7 +28,7 @@ use Rattle.assembler.specs.declared.fault.LineFault.TheVariants.{NotText, Unknow
 use Rattle.assembler.proofs.PutLaws.{all_append}
 use Rattle.assembler.proofs.RefuseLeast.{IsLeast}
 
--- ---- stray bytes
+-- ## Stray bytes
 
 all_front : (p : ℕ → Bool) (xs ys : List ℕ) → list_all p (xs ++ ys) ≡ true → list_all p xs ≡ true
 all_front p xs ys h = (and_parts (list_all p xs) (list_all p ys) (sym (list_all-append p xs ys) ∙ h)).0
@@ -132,7 +132,7 @@ text_stray line h =
           (body line ++ s.0, s.1, s.2, parts, inl s.4)
     ]
 
--- ---- fronts
+-- ## Fronts
 
 spaced_no_name : (blanks rest : List ℕ) → IsBlanks blanks → first_passes is_name rest ≡ false
     → first_passes is_name (blanks ++ rest) ≡ false
@@ -157,7 +157,7 @@ label_letters : (label : List ℕ) → is_label label ≡ true
 label_letters [] h = false_true h
 label_letters (c ∷ cs) h = (grind (arith, nat_tests, h), omega arith)
 
--- ---- the pieces of a line that begins well
+-- ## The pieces of a line that begins well
 
 StartsWord : List Piece → Type 0
 StartsWord (Run name ∷ ps) = (w : Word) × (spelled_word_of name ≡ Some w)
@@ -210,7 +210,7 @@ begins_pieces text h =
       ]
     ]
 
--- ---- a line that begins well has a word that ends, or none
+-- ## A line that begins well has a word that ends, or none
 
 statement_ends : (text : List ℕ) → BeginsStatement text → WordAfter text
 statement_ends text b =
@@ -242,7 +242,7 @@ begins_end text h =
     ap (past is_name) h.parts ∙ past_front is_name h.label h.after letters k.0 in
     ap (λ (t : List ℕ). begins_blank_or_ends (past is_name (past is_blank t))) first ∙ k.1
 
--- ---- and pieces that begin well are those of such a line
+-- ## And pieces that begin well are those of such a line
 
 comma_no_name : (blanks rest : List ℕ) → IsBlanks blanks
     → first_passes is_name (blanks ++ (44 ∷ rest)) ≡ false
@@ -325,7 +325,7 @@ pieces_begin (Run label ∷ Gap ∷ ps) text (after, is, some, letters, w) space
     }
 pieces_begin ps text w spaced ends h = absurd h
 
--- ---- which of the two it is
+-- ## Which of the two it is
 
 Sorted : {A : Type 0} → Result A TextFault → Type 0 → Type 0
 Sorted {A} r Begins =
@@ -394,7 +394,7 @@ parsed_sorted (Run label ∷ ps) =
     ]
 parsed_sorted ps = inr (refl, λ h. h)
 
--- ---- the lowest
+-- ## The lowest
 
 abbrev pub fault_in_reading : Result Parsed TextFault → Option LineFault
 fault_in_reading (Ok p) = None

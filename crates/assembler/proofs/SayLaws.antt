@@ -51,7 +51,7 @@ use Rattle.asm_text.proofs.WordLaws.{word_again}
 use Rattle.assembler.proofs.PutLaws.{all_append}
 use Rattle.assembler.specs.ShownLines.{GivesBack, shown_line as spelling, target_word, block_name, block_suffix, comma_register, compare_front, compare_text, cond_text, data_front, factors_text, flags_text, is_user, load_name, move_front, operation_text, register_text, three_front, transfer_front, transfer_suffix, word_text}
 
--- ---- what is said
+-- ## What is said
 
 abbrev pub is_branch : Use → Bool
 is_branch (use_of.Branch link) = true
@@ -74,12 +74,13 @@ abbrev plain_of : Result Parsed TextFault → Bool
 plain_of (Ok p) = plain_option p.said
 plain_of (Err w) = true
 
-abbrev heard : List Piece → Result Parsed TextFault
-heard ps = parsed (gap_before ps)
+-- what pieces say after a blank
+abbrev parsed_after_blank : List Piece → Result Parsed TextFault
+parsed_after_blank ps = parsed (gap_before ps)
 
 -- what the text says after a blank
 abbrev Plain : List ℕ → Type 0
-Plain text = plain_of (heard (pieces text)) ≡ true
+Plain text = plain_of (parsed_after_blank (pieces text)) ≡ true
 
 label_plain : (r : Result Said TextFault) → plain_result r ≡ true → plain_of (with_label None r) ≡ true
 label_plain (Ok s) h = h
@@ -125,7 +126,7 @@ single_by : (c : Cond) (load : Bool) (s : Suffix) (qs : List Piece) (o : Option 
 single_by c load s qs None = refl
 single_by c load s qs (Some d) = at_plain c load s d (address_of (is_user_suffix s) qs)
 
--- ---- words
+-- ## Words
 
 abbrev is_letter : ℕ → Bool
 is_letter b = is_name b && not (is_ascii_lowercase b)
@@ -167,9 +168,9 @@ suffix_lettered suffix.Bare = refl
 suffix_lettered _ = refl
 
 -- the statement of a word and what follows its blank
-word_said : (w rest : List ℕ) (is : Word) → Lettered w → 0 < length w → word_of w ≡ Some is → heard (pieces (w ++ 32 ∷ rest)) ≡ with_label None (after_word is (gap_before (pieces rest)))
+word_said : (w rest : List ℕ) (is : Word) → Lettered w → 0 < length w → word_of w ≡ Some is → parsed_after_blank (pieces (w ++ 32 ∷ rest)) ≡ with_label None (after_word is (gap_before (pieces rest)))
 word_said w rest is letters some spelled =
-    ap heard (pieces-run w (32 ∷ rest) (letters_named w letters) some (first_no_run (32 ∷ rest) refl) ∙ ap (λ (ps : List Piece). Run w ∷ ps) (blank_pieces rest))
+    ap parsed_after_blank (pieces-run w (32 ∷ rest) (letters_named w letters) some (first_no_run (32 ∷ rest) refl) ∙ ap (λ (ps : List Piece). Run w ∷ ps) (blank_pieces rest))
     ∙ ap (λ (o : Option Word). with_label None (with_word o (gap_before (pieces rest)))) (upper_spelled w (letters_upper w letters) ∙ spelled)
 
 -- a word's text with what follows it
@@ -180,11 +181,11 @@ word_split a b d rest =
     ∙ sym (append_assoc a (b ++ d) (32 ∷ rest) ∙ ap (λ (l : List ℕ). a ++ l) (append_assoc b d (32 ∷ rest)))
 
 plain_said_by : (h : Head) (c : Cond) (s : Suffix) (rest : List ℕ) → may_have h s ≡ true
-    → heard (pieces (word_text (head_name h) c (suffix_name s) ++ rest)) ≡ with_label None (after_word (word.Plain h c s) (gap_before (pieces rest)))
+    → parsed_after_blank (pieces (word_text (head_name h) c (suffix_name s) ++ rest)) ≡ with_label None (after_word (word.Plain h c s) (gap_before (pieces rest)))
 plain_said_by h c s rest may =
     let text = head_name h ++ (cond_text c ++ suffix_name s) in
     let letters = all_append is_letter (head_name h) (cond_text c ++ suffix_name s) (head_lettered h).0 (all_append is_letter (cond_text c) (suffix_name s) (cond_lettered c) (suffix_lettered s)) in
-    ap (λ (l : List ℕ). heard (pieces l)) (word_split (head_name h) (cond_text c) (suffix_name s) rest)
+    ap (λ (l : List ℕ). parsed_after_blank (pieces l)) (word_split (head_name h) (cond_text c) (suffix_name s) rest)
     ∙ word_said text rest (word.Plain h c s) letters (omega (arith, (head_lettered h).1, length-append (head_name h) (cond_text c ++ suffix_name s))) (word_again text (word.Plain h c s) (cond_text c, cond_is c, may, refl))
 
 coded_line : (h : Head) (c : Cond) (s : Suffix) (rest : List ℕ) → may_have h s ≡ true → is_coded h ≡ true → Plain (word_text (head_name h) c (suffix_name s) ++ rest)
@@ -201,7 +202,7 @@ compared_line op c false rest k = coded_line (head.Data op) c suffix.Bare rest r
 joined : (a b rest : List ℕ) → Plain (a ++ (b ++ rest)) → Plain ((a ++ b) ++ rest)
 joined a b rest h = subst Plain (sym (append_assoc a b rest)) h
 
--- ---- data processing
+-- ## Data processing
 
 compare_line : (op : Opcode) (c : Cond) (rn rd : Register) (rest : List ℕ) → is_compare op ≡ true → Plain (compare_front c op rn rd ++ rest)
 compare_line op c rn rd rest k = joined (word_text (opcode_name op) c (compare_text rd)) (register_text rn ++ codes ",") rest (compared_line op c (register_number rd == 15) ((register_text rn ++ codes ",") ++ rest) k)
@@ -223,7 +224,7 @@ data_line Mov c s rn rd rest = move_line Mov c s rd rest
 data_line Mvn c s rn rd rest = move_line Mvn c s rd rest
 data_line op c s rn rd rest = three_line op c s rn rd rest
 
--- ---- transfers
+-- ## Transfers
 
 digits_named : (k n : ℕ) (acc : List ℕ) → list_all is_name acc ≡ true → list_all is_name (digits_onto k 10 false n acc) ≡ true
 digits_named zero n acc h = h
@@ -270,7 +271,7 @@ transfer_line c load byte user rd rn rest =
     joined whole (register_text rd ++ (codes ",[" ++ register_text rn)) rest
     (subst (λ (l : List ℕ). Plain (whole ++ l)) (sym operands) (loaded_line load byte user c rd (register_text rn ++ rest)))
 
--- ---- the others
+-- ## The others
 
 block_line : (load before up : Bool) (c : Cond) (rest : List ℕ) → Plain (word_text (block_name load) c (block_suffix before up) ++ rest)
 block_line true false true c rest = coded_line (head.Block true) c suffix.Ia rest refl refl
@@ -291,7 +292,7 @@ branch_line link c rest =
     let text = branch_name link ++ (cond_text c ++ []) in
     let letters = all_append is_letter (branch_name link) (cond_text c ++ []) (branch_lettered link).0 (all_append is_letter (cond_text c) [] (cond_lettered c) refl) in
     let is = word_again text (word.Branch link c) (cond_text c, cond_is c, ap (λ (l : List ℕ). branch_name link ++ l) (append-nil (cond_text c))) in
-    ap plain_of (ap (λ (l : List ℕ). heard (pieces l)) (word_split (branch_name link) (cond_text c) [] rest)
+    ap plain_of (ap (λ (l : List ℕ). parsed_after_blank (pieces l)) (word_split (branch_name link) (cond_text c) [] rest)
     ∙ word_said text rest (word.Branch link c) letters (omega (arith, (branch_lettered link).1, length-append (branch_name link) (cond_text c ++ []))) is)
     ∙ label_plain (after_word (word.Branch link c) (gap_before (pieces rest))) (after_word_plain (word.Branch link c) (gap_before (pieces rest)) (λ ps. branch_plain c link (only_target ps)))
 
@@ -315,7 +316,7 @@ operation_line c (operation.Branch x) at = branch_line x.link c _
 operation_line c (operation.Swi x) at = coded_line head.Swi c suffix.Bare (decimal x.comment) refl refl
 operation_line c _ at = refl
 
--- ---- what assembles to the word is an instruction or a branch
+-- ## What assembles to the word is an instruction or a branch
 
 branch_back : (u : Use) (r : Result ℕ LineFault) (w : ℕ) → is_branch u ≡ true → r ≡ Ok w → target_word u r ≡ Some w
 branch_back (use_of.Branch link) r w h e = ap (target_word (use_of.Branch link)) e

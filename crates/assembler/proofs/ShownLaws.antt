@@ -35,7 +35,7 @@ use Rattle.asm_text.specs.declared.syntax.Use.TheVariants as use_of
 use Rattle.assembler.specs.ShownLines.{GivesBack, IsShown, numbered, shown_line as spelling, target_word}
 use Rattle.assembler.specs.Shown.{Gives, hex_line}
 
--- ---- what assembles back to a word is a line of it
+-- ## What assembles back to a word is a line of it
 
 abbrev ok_by : Option ℕ → Result ℕ LineFault
 ok_by None = Err NotText
@@ -56,7 +56,7 @@ back_gives text at w (shown.Refer r n, line, word) = (Refers r (Number n), line,
 pub and_none : (text : List ℕ) → text ++ [] ≡ text
 and_none text = append-nil text
 
--- ---- lengths
+-- ## Lengths
 
 pub decimal_wide : (n : ℕ) → n < 2 ^ 32 → length (decimal n) ≤ 10
 decimal_wide n lt = length-decimal-le 10 n (omega arith) (omega arith) (omega arith)
@@ -64,7 +64,7 @@ decimal_wide n lt = length-decimal-le 10 n (omega arith) (omega arith) (omega ar
 pub numbered_short : (n : ℕ) → n < 16 → length (numbered n) ≤ 3
 numbered_short n lt = omega (arith, length-append (codes "R") (decimal n), length-decimal-le 2 n (omega arith) (omega arith) (omega arith))
 
--- ---- hexadecimal digits
+-- ## Hexadecimal digits
 
 char_value : (d : ℕ) → d < 16 → digit_value (hex_digit d) ≡ d
 char_value d lt = grind (arith, nat_tests)
@@ -93,7 +93,7 @@ eight w lt =
     let digits : digits_of 16 (hex8 w) ≡ Some (digits_value 16 (hex8 w)) = rw (all_digits (λ c. is_digit c 16) 8 w char_digit) refl in
     ap fits digits ∙ ap (λ (n : ℕ). fits (Some n)) (chars_value 8 w (omega arith)) ∙ rw (lt-ltb w (2 ^ 32) lt) refl
 
--- ---- the line
+-- ## The line
 
 dcd_word : spelled_word_of (codes "DCD") ≡ Some Dcd
 dcd_word = upper_spelled (codes "DCD") refl ∙ (let one : word_of (codes "DCD") ≡ Some Dcd = unfold word_of in refl in one)
@@ -116,7 +116,7 @@ dcd_gives w at lt =
     let statement = ap statement_of (dcd_pieces w) ∙ dcd_values (Some w) w refl (eight w lt) in
     (Lists (Number w ∷ []), shown_line (hex_line w) (Lists (Number w ∷ [])) shown-all (rw (dcd_pieces w) refl) statement, refl)
 
--- ---- the line that is shown
+-- ## The line that is shown
 
 abbrev spelling_by : ℕ → Result Instr Unallocated → List ℕ
 spelling_by at (Ok i) = spelling i at

@@ -12,7 +12,7 @@ use Rattle.asm_text.specs.Statements.{Parsed}
 use Rattle.assembler.specs.Codes.{encoded, refer}
 use Rattle.loader.specs.Labels.{Names}
 
--- ---- where each line is placed
+-- ## Where each line is placed
 
 -- what a line says, and its address
 pub record Laid : Type 0 where
@@ -46,7 +46,7 @@ addresses_from at (suc n) = at ∷ addresses_from (at + 4) n
 abbrev pub places : Laid → List ℕ
 places line = addresses_from line.at (word_count line.said)
 
--- ---- labels
+-- ## Labels
 
 -- a line's label, with its address
 abbrev pub label_at : ℕ → Option (List ℕ) → List (List ℕ × ℕ)
@@ -61,7 +61,7 @@ abbrev pub Once : {A : Type 0} → List A → Type 0
 Once [] = Unit {0}
 Once (x ∷ xs) = AllByRecursion (λ y. x ≢ y) xs × Once xs
 
--- ---- words
+-- ## Words
 
 abbrev pub IsTarget : Names → Target → ℕ → Type 0
 IsTarget names (Number n) address = address ≡ n
@@ -90,7 +90,7 @@ words_at (line ∷ lines) (words ∷ more) = words_from line.at words ++ words_a
 abbrev pub image_of : Words → Words
 image_of words = fold (λ image e. with_word image e.0 e.1) [] words
 
--- ---- limits
+-- ## Limits
 
 -- an ORG's address may hold a word, and there is no word there already
 abbrev pub IsFree : List ℕ → Option Said → Type 0
@@ -113,7 +113,7 @@ segments begun [] = 0
 segments begun (line ∷ lines) =
     (if begun || word_count line.said == 0 then 0 else 1) + segments (is_open begun line.said) lines
 
--- ---- the whole
+-- ## The whole
 
 -- the first line is at 8000
 abbrev pub laid : List Parsed → List Laid

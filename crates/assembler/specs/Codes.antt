@@ -46,7 +46,7 @@ allowed why word = if why == 0 then Ok word else Err Unallocated
 abbrev pub in_range : Bool → Result ℕ LineFault → Result ℕ LineFault
 in_range fits word = if fits then word else Err OutOfRange
 
--- ---- data processing
+-- ## Data processing
 
 -- to the left by twice as many places a number is a byte
 abbrev pub is_byte_by : ℕ → ℕ → Bool
@@ -107,7 +107,7 @@ abbrev pub operand_word : ℕ → Data → Operand → Result ℕ LineFault
 operand_word c d (operand.Immediate n) = immediate_word c d n
 operand_word c d (operand.Shifted m s) = shifted_word c d m s
 
--- ---- multiplies
+-- ## Multiplies
 
 abbrev pub product_word : ℕ → Product → Result ℕ LineFault
 product_word c p =
@@ -118,7 +118,7 @@ product_word c p =
     (c ∷ bit_of p.accumulate ∷ bit_of p.sets_flags ∷ register_number p.rd ∷ register_number p.rn
     ∷ register_number p.rs ∷ register_number p.rm ∷ []))
 
--- ---- transfers
+-- ## Transfers
 
 abbrev pub number_transfer : ℕ → Transfer → ℕ → Result ℕ LineFault
 number_transfer c t n =
@@ -152,7 +152,7 @@ block_word c b =
     (c ∷ bit_of b.before ∷ bit_of b.up ∷ bit_of b.user ∷ bit_of b.write_back ∷ bit_of b.load
     ∷ register_number b.rn ∷ b.list ∷ [])))
 
--- ---- branches
+-- ## Branches
 
 -- the target is less than -2^25 or more than 2^25 - 4 bytes from the address two words on
 abbrev pub is_far : ℕ → ℕ → Bool
@@ -171,7 +171,7 @@ branch_word c at link target =
 abbrev pub swi_word : ℕ → ℕ → Result ℕ LineFault
 swi_word c n = in_range (nat_lt n 16777216) (Ok (word_in swi_row (c ∷ n ∷ [])))
 
--- ---- any
+-- ## Any
 
 -- the word, or the lowest fault
 abbrev pub action_word : ℕ → ℕ → Action → Result ℕ LineFault
@@ -185,7 +185,7 @@ action_word c at (action.Swi n) = swi_word c n
 abbrev pub encoded : Code → ℕ → Result ℕ LineFault
 encoded code at = action_word (cond_number code.cond) at code.action
 
--- ---- targets
+-- ## Targets
 
 -- whether a target is at the address two words on or above, and how far from it
 abbrev pub is_ahead : ℕ → ℕ → Bool

@@ -21,7 +21,7 @@ use Rattle.assembler.specs.declared.fault.LineFault.{LineFault}
 use Rattle.assembler.specs.declared.fault.LineFault.TheVariants.{NotText, UnknownWord, BadOperand, LabelTwice}
 use Rattle.assembler.specs.declared.fault.LineFault.TheVariants.{LabelMissing, OutOfRange, TooLong}
 
--- ---- a line that cannot be read
+-- ## A line that cannot be read
 
 -- a byte that no line may have, or, with no `;` in front of it, one that only a comment may have
 abbrev pub HasStrayByte : List ℕ → Type 0
@@ -58,7 +58,7 @@ IsUnreadable line UnknownWord = BeginsLine (body line) → ⊥
 IsUnreadable line BadOperand = (p : Parsed) → Spells p line → ⊥
 IsUnreadable line _ = ⊥
 
--- ---- a line that can be read, after others
+-- ## A line that can be read, after others
 
 -- the address after lines
 abbrev pub address_after_all : ℕ → List Parsed → ℕ
@@ -112,7 +112,7 @@ IsWrong before p fault = HasCodeFault (address_of_next before) p.said fault ⊎ 
 abbrev pub HasFault : List Parsed → List ℕ → LineFault → Type 0
 HasFault before line fault = IsUnreadable line fault ⊎ ((p : Parsed) × Spells p line × IsWrong before p fault)
 
--- ---- what needs a label's address
+-- ## What needs a label's address
 
 -- no line has the label
 abbrev pub IsMissing : List (List ℕ × ℕ) → List ℕ → Type 0
@@ -130,7 +130,7 @@ HasLabelFault labels at _ fault = ⊥
 abbrev pub IsFaultless : List (List ℕ × ℕ) → Laid → Type 0
 IsFaultless labels line = (fault : LineFault) → HasLabelFault labels line.at line.said fault → ⊥
 
--- ---- the whole
+-- ## The whole
 
 -- a fault that holds, and of those that hold the one of the lowest number
 pub record IsLowest (Has : LineFault → Type 0) (fault : LineFault) : Type 0 where

@@ -41,7 +41,7 @@ use Rattle.assembler.specs.declared.fault.LineFault.{LineFault}
 use Rattle.assembler.specs.Codes.{encoded, refer}
 use Rattle.assembler.specs.Shown.{Gives, hex_line}
 
--- ---- words
+-- ## Words
 
 -- AL is not written
 abbrev pub cond_text : Cond → List ℕ
@@ -56,7 +56,7 @@ abbrev pub flags_text : Bool → List ℕ
 flags_text true = codes "S"
 flags_text false = []
 
--- ---- registers
+-- ## Registers
 
 -- R0 to R15, by their numbers
 abbrev pub numbered : ℕ → List ℕ
@@ -83,7 +83,7 @@ shifted_text Lsl n = if n == 0 then [] else amount_text Lsl n
 shifted_text Ror n = if n == 0 then codes ",RRX" else amount_text Ror n
 shifted_text s n = amount_text s (if n == 0 then 32 else n)
 
--- ---- data processing
+-- ## Data processing
 
 -- P where a compare has R15 as Rd; its S is not written
 abbrev pub compare_text : Register → List ℕ
@@ -124,7 +124,7 @@ data_immediate_text c x =
     data_front c x.opcode x.sets_flags x.rn x.rd
     ++ (codes "#" ++ decimal (rotate_right w32 x.value (2 * x.rotation)))
 
--- ---- multiplies
+-- ## Multiplies
 
 -- Rd,Rm,Rs
 abbrev pub factors_text : Multiply → List ℕ
@@ -137,7 +137,7 @@ multiply_text c x =
     then word_text (codes "MLA") c (flags_text x.sets_flags) ++ (factors_text x ++ comma_register x.rn)
     else word_text (codes "MUL") c (flags_text x.sets_flags) ++ factors_text x
 
--- ---- transfers
+-- ## Transfers
 
 abbrev pub load_name : Bool → List ℕ
 load_name true = codes "LDR"
@@ -196,7 +196,7 @@ single_register_text c x =
     (sign_of x.up
     ++ (register_text x.rm ++ (shifted_text x.shift x.amount ++ closed x.before x.write_back))))
 
--- ---- blocks
+-- ## Blocks
 
 abbrev pub block_name : Bool → List ℕ
 block_name true = codes "LDM"
@@ -245,7 +245,7 @@ block_text c x =
     word_text (block_name x.load) c (block_suffix x.before x.up)
     ++ (register_text x.rn ++ (mark_if x.write_back (codes "!") ++ list_operand x.list x.user))
 
--- ---- branches
+-- ## Branches
 
 -- the address that a branch's line shows: so many signed words on from its address plus 8, not wrapped, and 0
 -- where that is below 0
@@ -259,7 +259,7 @@ branch_text c x at = word_text (branch_name x.link) c [] ++ (codes "&" ++ hex (s
 abbrev pub swi_text : Cond → Swi → List ℕ
 swi_text c x = word_text (codes "SWI") c [] ++ decimal x.comment
 
--- ---- any
+-- ## Any
 
 -- an undefined word has no spelling
 abbrev pub operation_text : Cond → Operation → ℕ → List ℕ
@@ -285,7 +285,7 @@ pub record IsShown (word at : ℕ) (line : List ℕ) : Type 0 where
   pub spelled : (i : Instr) → Means word i → Gives (shown_line i at) at word → line ≡ shown_line i at
   pub dcd : ((i : Instr) → Means word i → Gives (shown_line i at) at word → ⊥) → line ≡ hex_line word
 
--- ---- what the code tries of a spelling; a spelling that assembles to its word passes
+-- ## What the code tries of a spelling; a spelling that assembles to its word passes
 
 abbrev pub target_word : Use → Result ℕ LineFault → Option ℕ
 target_word (use_of.Branch link) (Ok word) = Some word

@@ -50,7 +50,7 @@ pub record State : Type 0 where
 abbrev pub at_first : State
 at_first = record { at = 32768; start = None; closed = []; words = 0; names = no_names; items = [] }
 
--- ---- places
+-- ## Places
 
 -- an earlier segment has one of the addresses
 abbrev pub overlaps : List (ℕ × ℕ) → ℕ → ℕ → Bool
@@ -82,7 +82,7 @@ org_fault s n =
     if not (may_hold n) || (overlaps s.closed n (n + 1) || open_has s.start s.at n) then Some OutOfRange
     else None
 
--- ---- the first sweep: what needs no label's address
+-- ## The first sweep: what needs no label's address
 
 abbrev pub label_fault : State → Option (List ℕ) → Option LineFault
 label_fault s None = None
@@ -176,7 +176,7 @@ unfoldable pub swept : State → ℕ → List (List ℕ) → Result State (LineF
 swept s k [] = Ok s
 swept s k (line ∷ lines) = after_line k (line_step s k (line_of line)) (λ t. swept t (k + 1) lines)
 
--- ---- the second sweep: what needs one
+-- ## The second sweep: what needs one
 
 abbrev pub targeted : Option ℕ → (ℕ → Result ℕ LineFault) → Result ℕ LineFault
 targeted None word = Err LabelMissing
@@ -208,7 +208,7 @@ unfoldable pub filled : Names → Words → List Item → Result Words (LineFaul
 filled names image [] = Ok image
 filled names image (i ∷ items) = after_line i.line (item_step names image i) (λ more. filled names more items)
 
--- ---- the whole
+-- ## The whole
 
 abbrev pub assembled_with : Names → Result Words (LineFault × ℕ) → Result (Words × Names) (LineFault × ℕ)
 assembled_with names (Ok image) = Ok (image, names)

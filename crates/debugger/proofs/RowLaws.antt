@@ -15,7 +15,7 @@ seen_more m a (w ∷ ws) word are is =
     let here : a + 4 * length (w ∷ ws) ≡ a + 4 + 4 * length ws = omega arith in
     (are.0, seen_more m (a + 4) ws word are.1 (sym (ap (seen m) here) ∙ is))
 
--- ## rows
+-- ## Rows
 
 abbrev pub RowsSoFar : Row → (address : ℕ) → (words : List ℕ) → (at : ℕ) → (left : List ℕ) → (text : List ℕ)
     → Type 0

@@ -22,7 +22,7 @@ use Rattle.debugger.specs.Watching.{EndsAt, IsLast, UpTo, Watches, as_shown, inp
 use Rattle.debugger.specs.SessionState.{SessionState, without_bursts}
 use Rattle.debugger.specs.Answers.{RunsFirst}
 
--- ## the inputs of a run
+-- ## The inputs of a run
 
 -- those that are left, with the first at hand
 pub at_hand : (i : Input) (steps made : ℕ) → made < steps
@@ -37,7 +37,7 @@ none_left i steps made all = let none : steps - made ≡ 0 = omega (arith, all) 
 pub nothing_is_within : IsWithin 0 (at_rest None)
 nothing_is_within = (omega arith, omega arith, omega arith)
 
--- ## what has run, whatever follows
+-- ## What has run, whatever follows
 
 pub record SoFar (breaks : List ℕ) (start : State) (inputs : List Input) (now : State) (left : List Input)
     (ran : Ran) (last : Option Traced) : Type 0 where
@@ -102,7 +102,7 @@ run_ends breaks start inputs now left ran last so_far none =
     subst (λ (why : Option Why). Done breaks start inputs (record ran { stopped = why }) last now)
     (sym so_far.going) done
 
--- ## a step more
+-- ## A step more
 
 module _ (breaks : List ℕ) (start : State) (inputs : List Input) (now next : State) (left rest : List Input)
     (i : Input) (ran sum : Ran) (last : Option Traced) (at_hand : left ≡ i ∷ rest)
@@ -198,7 +198,7 @@ module _ (breaks : List ℕ) (start : State) (inputs : List Input) (now next : S
         let Q : Ran → Type 0 = λ r. Watches breaks start inputs made r next in
         (made, subst Q same (subst P (append-nil made) all), (so_far.made, traced, refl, refl))
 
--- ## what a watched run is
+-- ## What a watched run is
 
 module _ (s next : State) (i : Input) (rest : List Input) (traced : Traced)
     (makes : Makes s i traced next) where
@@ -270,7 +270,7 @@ first_of_watch breaks s (i ∷ rest) made ran after (traced, next, makes, on) =
     first_of_end s next i rest traced makes (why_stopped traced.stepped.kind) breaks made ran after refl
     (λ later more watches. first_of_watch breaks next rest later more after watches) on
 
--- ## a run of a step or more
+-- ## A run of a step or more
 
 counted_some : (r more : Ran) (burst : ℕ) (i : Input) (stepped : Stepped) → r ≡ counted burst i stepped more
     → 0 < r.steps
@@ -295,7 +295,7 @@ some_steps breaks s (i ∷ rest) before last ran after (traced, next, makes, on)
     some_end (why_stopped traced.stepped.kind) s (before ++ last ∷ []) ran after _ (no_last before last)
     (λ (later, more, made_are, ran_is, up). counted_some ran more s.profile.burst i traced.stepped ran_is) on
 
--- ## a run without a step
+-- ## A run without a step
 
 -- the next step is stopped
 abbrev pub StopsAt : State → Input → Type 0
@@ -338,7 +338,7 @@ still_run s i (suc n) ran after some (stepped, next, step, on) none =
     omega (arith, some, none)) on in
     (at_end.0, (stepped, next, step, at_end.1))
 
--- ## the last step
+-- ## The last step
 
 -- no step was made where there is no last one
 pub none_made : (made : List Traced) (last : Option Traced) → ((t : Traced) → last ≡ Some t → ⊥)

@@ -26,7 +26,7 @@ use Rattle.debugger.specs.Commands.{command_of}
 use Rattle.debugger.specs.SessionState.{Ascending, SessionState, moved_on, toggled}
 use Rattle.debugger.specs.Watching.{Watches, inputs_of}
 
--- ## runs
+-- ## Runs
 
 -- the trace lines of up to so many steps
 abbrev pub AnswersStep : SessionState → ℕ → List ℕ → SessionState → Type 0
@@ -54,7 +54,7 @@ IsStopped s =
     (stepped : Stepped) × (machine : State) × MachineStep s.machine s.next stepped machine
     × (is_some (why_stopped stepped.kind) ≡ true)
 
--- ## memory
+-- ## Memory
 
 -- the word that a privileged load finds in RAM or ROM
 abbrev pub seen : Memory → (address : ℕ) → Option ℕ
@@ -68,7 +68,7 @@ AreSeen m address (word ∷ words) = (seen m address ≡ Some word) × AreSeen m
 abbrev pub HasGap : Memory → (address count : ℕ) → Type 0
 HasGap m address count = (k : ℕ) × (k < count) × (seen m (address + 4 * k) ≡ None)
 
--- ## lines of memory
+-- ## Lines of memory
 
 abbrev pub IsWordRow : (address word : ℕ) → List ℕ → Type 0
 IsWordRow address word row = row ≡ hex8 address ++ (codes " " ++ (hex8 word ++ codes "\n"))
@@ -94,7 +94,7 @@ ShowsSpan shown m address count answer =
     (words : List ℕ) × AreSeen m address words × (length words ≡ count)
     × Rows (IsRowOf shown) address words answer
 
--- ## settings
+-- ## Settings
 
 abbrev pub breaks_text : List ℕ → List ℕ
 breaks_text [] = []
@@ -112,7 +112,7 @@ Sets answer after set = (answer ≡ []) × (after ≡ set)
 abbrev pub Shows : SessionState → (after : SessionState) → (is_answer : Type 0) → Type 0
 Shows s after is_answer = is_answer × (after ≡ s)
 
--- ## commands
+-- ## Commands
 
 abbrev pub Answers : SessionState → Command → (answer : List ℕ) → (after : SessionState) → Type 0
 Answers s (Step n) answer after = AnswersStep s n answer after
@@ -138,7 +138,7 @@ Refuses s (Mem a n) fault = (fault ≡ NoPage) × HasGap s.machine.bus.memc a n
 Refuses s (Dis a n) fault = (fault ≡ NoPage) × HasGap s.machine.bus.memc a n
 Refuses s _ fault = ⊥
 
--- ## lines
+-- ## Lines
 
 abbrev pub AnswersLine : SessionState → (line answer : List ℕ) → SessionState → Type 0
 AnswersLine s line answer after =

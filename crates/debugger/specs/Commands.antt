@@ -12,7 +12,7 @@ use Rattle.debugger.specs.declared.fault.DebugFault.{DebugFault}
 use Rattle.debugger.specs.declared.fault.DebugFault.TheVariants.{UnknownCommand, BadNumber}
 use Rattle.debugger.specs.Words.{number_of, words_of}
 
--- ## numbers
+-- ## Numbers
 
 -- the number, where it is in the range
 abbrev pub number_between : (low high : ℕ) → Option ℕ → Result ℕ DebugFault
@@ -35,7 +35,7 @@ abbrev pub number_command : Result ℕ DebugFault → (ℕ → Command) → Resu
 number_command (Ok n) command = Ok (command n)
 number_command (Err fault) command = Err fault
 
--- ## interrupt lines, by their names
+-- ## Interrupt lines, by their names
 
 abbrev pub switch_command : Option Lines → (on : Bool) → Result Command DebugFault
 switch_command (Some line) on = Ok (Line line on)
@@ -46,7 +46,7 @@ line_command name state =
     if bytes_eq state (codes "on") then switch_command (line_named name) true
     else (if bytes_eq state (codes "off") then switch_command (line_named name) false else Err UnknownCommand)
 
--- ## commands, by the number of their words
+-- ## Commands, by the number of their words
 
 abbrev pub one_word : List ℕ → Result Command DebugFault
 one_word name =

@@ -10,7 +10,7 @@ use Rattle.loader.specs.Labels.{NamedAddresses, address_of}
 use Rattle.text_rows.specs.Addresses.{IsNamed}
 use Rattle.text_rows.specs.declared.line_labels.SourceLine.{SourceLine}
 
--- no blank and no begin of a comment
+-- neither a blank nor the start of a comment
 abbrev pub is_in_word : ℕ → Bool
 is_in_word b = is_in_body b && not (is_blank b)
 

@@ -16,7 +16,7 @@ use Rattle.asm_text.specs.Appended.{Appends}
 use Rattle.trace_text.specs.TraceText.{Goes, IsTraceLine, RefusedRun, TracesRun}
 use Rattle.arm2_exec.specs.Step.{traced_word}
 
--- ## the text of a step
+-- ## The text of a step
 
 abbrev TextOn : Traced → State → List Input → List ℕ → Type 0
 TextOn traced next rest text = (line : List ℕ) × IsTraceLine traced line × (more : List ℕ)
@@ -30,7 +30,7 @@ goes_none : (k : Kind) (text : List ℕ) (goes_on : Type 0) → ((w : Why) → k
 goes_none k text goes_on not_stopped more =
     subst (λ (why : Option Why). Goes why text goes_on) (sym (goes k not_stopped)) more
 
--- ## what was printed, whatever follows
+-- ## What was printed, whatever follows
 
 abbrev pub PrintedSoFar : State → List Input → State → List Input → List ℕ → Type 0
 PrintedSoFar start inputs now left text =
@@ -50,7 +50,7 @@ text_ends start inputs now left old new adds none =
     printed_whole start inputs now left old new adds
     (subst (λ (is : List Input). TracesRun now is []) (sym none) refl)
 
--- ## a step from here
+-- ## A step from here
 
 module _ (start : State) (inputs : List Input) (now next : State) (left rest : List Input) (i : Input)
     (traced : Traced)
@@ -87,7 +87,7 @@ module _ (start : State) (inputs : List Input) (now next : State) (left rest : L
     line.2 ∙ ap (λ (t : List ℕ). t ++ line.0) adds.2 ∙ append_assoc old adds.0 line.0,
   )
 
--- ## a front of the inputs, whatever would follow it
+-- ## A front of the inputs, whatever would follow it
 
 abbrev pub FrontRuns : State → List Input → (n : ℕ) → Ran → State → Type 0
 FrontRuns start inputs n ran now = (tail : List Input) → SoFar start (take n inputs ++ tail) ran now tail

@@ -22,7 +22,7 @@ use Rattle.asm_text.specs.Hex.{hex, hex8}
 use Rattle.assembler.specs.ShownLines.{IsShown}
 use Rattle.arm2_exec.specs.declared.machine.Traced.{Traced}
 
--- ## registers
+-- ## Registers
 
 -- a register of a mode and its word
 abbrev pub register_text : Mode → List ℕ → ℕ → List ℕ
@@ -43,7 +43,7 @@ mode_text mode regs =
 abbrev pub registers_text : List ℕ → List ℕ
 registers_text regs = mode_text (mode_of (r15_in regs)) regs
 
--- ## ticks and stops
+-- ## Ticks and stops
 
 abbrev pub ticks_text : (ticks elapsed : ℕ) → List ℕ
 ticks_text ticks elapsed =
@@ -56,7 +56,7 @@ why_name UnsupportedWrite = codes "UnsupportedWrite"
 abbrev pub stop_text : Why → (address : ℕ) → List ℕ
 stop_text why address = codes "stopped " ++ (why_name why ++ (codes " at " ++ (hex address ++ codes "\n")))
 
--- ## steps
+-- ## Steps
 
 abbrev pub exception_name : Vector → List ℕ
 exception_name Undefined = codes "undefined"
@@ -92,7 +92,7 @@ IsLineOf Plain t line =
 abbrev pub IsTraceLine : Traced → List ℕ → Type 0
 IsTraceLine t line = IsLineOf t.stepped.kind t line
 
--- ## runs
+-- ## Runs
 
 -- a stopped step ends the text
 abbrev pub Goes : Option Why → (text : List ℕ) → (goes_on : Type 0) → Type 0
