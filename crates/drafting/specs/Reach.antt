@@ -4,6 +4,7 @@ use Rattle.std.specs.Prelude.{◌≡◌, ◌⊎◌, ◌↔◌, ℕ, ◌-◌, ◌
 use Rattle.std.specs.Prelude.{if◌then◌else◌, List, length, Contains, Some}
 use Rattle.arm2_decode.specs.Names.{is_always, is_never}
 use Rattle.arm2_decode.specs.Table.{IsUnallocated, Means}
+use Rattle.arm2_decode.specs.Writers.{writes_pc}
 use Rattle.arm2_decode.specs.declared.instr.Instr.{Instr}
 use Rattle.arm2_decode.specs.declared.instr.Operation.{Operation}
 use Rattle.arm2_decode.specs.declared.instr.Operation.TheVariants as operation
@@ -15,7 +16,7 @@ use Rattle.drafting.specs.declared.words.Reading.{Reading}
 use Rattle.drafting.specs.declared.words.Way.{Way}
 use Rattle.drafting.specs.declared.words.Way.TheVariants as way
 use Rattle.loader.specs.Image.{Words, word_of}
-use Rattle.word_shapes.specs.Shapes.{is_return, is_table_jump, keeps_return_address, writes_pc}
+use Rattle.word_shapes.specs.Shapes.{is_return, is_table_jump, keeps_return_address}
 use Rattle.word_shapes.specs.Words.{HasShape}
 
 -- ## Operations

@@ -5,7 +5,7 @@ ghost use Rattle.loader.specs.Image.{word_of};
 
 use arm2_decode::{Block, Cond, Opcode, Operation, Register, decode, writes_base};
 use loader::Image;
-use word_shapes::{is_odd_writer, is_return, writes_pc};
+use word_shapes::{is_odd_writer, is_return};
 
 /// What a word shows of where control goes.
 #[derive(Clone, Copy)]
@@ -36,7 +36,7 @@ pub(crate) struct Reading {
 fn writer_way(operation: &Operation) -> Way
     ensures { result ≡ writer_way operation.now }
 {
-    if !writes_pc(operation) {
+    if !operation.writes_pc() {
         Way::On
     } else if is_return(operation) {
         Way::Return

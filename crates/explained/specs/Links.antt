@@ -6,6 +6,7 @@ use Rattle.std.specs.Ordering.{nat_cmp}
 use Rattle.bus_ticks.specs.Prices.{ahead_of}
 use Rattle.arm2_decode.specs.Names.{is_compare, is_link, is_never}
 use Rattle.arm2_decode.specs.Transfers.{is_listed, writes_base}
+use Rattle.arm2_decode.specs.Writers.{writes_pc}
 use Rattle.arm2_decode.specs.declared.instr.Instr.{Instr}
 use Rattle.arm2_decode.specs.declared.instr.Operation.{Operation}
 use Rattle.arm2_decode.specs.declared.instr.Operation.TheVariants as operation
@@ -18,7 +19,7 @@ use Rattle.flow_graph.specs.declared.edges.Edge.{Edge}
 use Rattle.flow_graph.specs.declared.places.Place.{Place}
 use Rattle.flow_graph.specs.declared.places.Place.TheVariants.{At, Exit}
 use Rattle.loader.specs.Image.{Words}
-use Rattle.word_shapes.specs.Shapes.{is_return, writes_pc}
+use Rattle.word_shapes.specs.Shapes.{is_return}
 use Rattle.word_shapes.specs.Words.{HasInstr, HasShape}
 
 -- ## Words

@@ -15,6 +15,7 @@ use Rattle.shifter.specs.Word.{word_bits}
 use Rattle.arm2_decode.specs.Allowed.{bit_of}
 use Rattle.arm2_decode.specs.Names.{is_lsl, is_mov, is_pc, register_number}
 use Rattle.arm2_decode.specs.Transfers.{asks_for_user, is_listed}
+use Rattle.arm2_decode.specs.Writers.{data_writes_pc}
 use Rattle.arm2_decode.specs.declared.flags.Flags.{Flags}
 use Rattle.arm2_decode.specs.declared.instr.Block.{Block}
 use Rattle.arm2_decode.specs.declared.instr.DataImmediate.{DataImmediate}
@@ -44,7 +45,7 @@ use Rattle.arm2_transfer.specs.Words.{registers_in}
 use Rattle.arm2_exec.specs.State.{State}
 use Rattle.arm2_exec.specs.Step.{with_lines}
 use Rattle.arm2_exec.specs.declared.machine.Input.{Input}
-use Rattle.flow_graph.specs.Free.{adds_an_immediate, copies_a_register, is_add_or_sub, is_free_operation, writes_pc}
+use Rattle.flow_graph.specs.Free.{adds_an_immediate, copies_a_register, is_add_or_sub, is_free_operation}
 use Rattle.flow_graph.specs.Setting.{HasSetting, IsData, IsDataOf, IsMemory, IsPort, IsSource, MayStart, Sets, of_register, rotated, transfer_setting, with_source}
 use Rattle.flow_graph.specs.TightWork.{IsDearestTarget, TransfersDearest}
 use Rattle.flow_graph.specs.declared.places.Place.{Place}
@@ -238,10 +239,10 @@ operand_is register s word by other e = rw other e
 first_is : (register : Register) (s : State) (word by : ℕ) → is_pc register ≡ false → current_in register s.regs ≡ word → first_of by register s.regs ≡ word
 first_is register s word by other e = rw other e
 
-pub copy_sets : (aim : Aim) (x : DataRegister) → IsTrue (is_free_operation (operation.DataRegister x)) → writes_pc x.opcode x.rd ≡ true
+pub copy_sets : (aim : Aim) (x : DataRegister) → IsTrue (is_free_operation (operation.DataRegister x)) → data_writes_pc x.opcode x.rd ≡ true
     → Sets aim (operation.DataRegister x) (of_register (record { register = x.rm; word = aim.target }))
 copy_sets aim x free writes =
-    let copies : copies_a_register x ≡ true = either (writes_pc x.opcode x.rd) (copies_a_register x) free writes in
+    let copies : copies_a_register x ≡ true = either (data_writes_pc x.opcode x.rd) (copies_a_register x) free writes in
     let parts = both _ _ copies in
     let front = both _ _ parts.0 in
     let head = both _ _ front.0 in
@@ -260,11 +261,11 @@ copy_sets aim x free writes =
         → (outcome_of o (first_of 8 x.rn s.regs) (shifted_by_amount k amount x.rm s.regs) (flags_of (r15_in s.regs))).value ≡ aim.target
     copied below o k amount e f g s is = rw (e, f, g, is) (whole_word aim.target (flags_of (r15_in s.regs)).carry below)
 
-pub sum_sets : (aim : Aim) (x : DataImmediate) (addend : ℕ) → IsTrue (is_free_operation (operation.DataImmediate x)) → writes_pc x.opcode x.rd ≡ true
+pub sum_sets : (aim : Aim) (x : DataImmediate) (addend : ℕ) → IsTrue (is_free_operation (operation.DataImmediate x)) → data_writes_pc x.opcode x.rd ≡ true
     → ((flags : Flags) (carry : Bool) → (outcome_of x.opcode addend (rotated x carry) flags).value ≡ aim.target)
     → Sets aim (operation.DataImmediate x) (of_register (record { register = x.rn; word = addend }))
 sum_sets aim x addend free writes gives =
-    let adds : adds_an_immediate x ≡ true = either (writes_pc x.opcode x.rd) (adds_an_immediate x) free writes in
+    let adds : adds_an_immediate x ≡ true = either (data_writes_pc x.opcode x.rd) (adds_an_immediate x) free writes in
     let other : is_pc x.rn ≡ false = not-true (is_pc x.rn) (both _ _ adds).1 in
     record {
       register_other = other;
@@ -277,11 +278,11 @@ sum_sets aim x addend free writes gives =
     }
 
 -- where R15 is not written, nothing matters
-pub register_passes : (aim : Aim) (x : DataRegister) → writes_pc x.opcode x.rd ≡ false → Sets aim (operation.DataRegister x) (record { register = None; port = 0; word = None })
-register_passes aim x h = record { register_other = tt; word_apart = tt; set = λ st to s i class_is target has written. absurd (both_ways (writes_pc x.opcode x.rd) h written) }
+pub register_passes : (aim : Aim) (x : DataRegister) → data_writes_pc x.opcode x.rd ≡ false → Sets aim (operation.DataRegister x) (record { register = None; port = 0; word = None })
+register_passes aim x h = record { register_other = tt; word_apart = tt; set = λ st to s i class_is target has written. absurd (both_ways (data_writes_pc x.opcode x.rd) h written) }
 
-pub immediate_passes : (aim : Aim) (x : DataImmediate) → writes_pc x.opcode x.rd ≡ false → Sets aim (operation.DataImmediate x) (record { register = None; port = 0; word = None })
-immediate_passes aim x h = record { register_other = tt; word_apart = tt; set = λ st to s i class_is target has written. absurd (both_ways (writes_pc x.opcode x.rd) h written) }
+pub immediate_passes : (aim : Aim) (x : DataImmediate) → data_writes_pc x.opcode x.rd ≡ false → Sets aim (operation.DataImmediate x) (record { register = None; port = 0; word = None })
+immediate_passes aim x h = record { register_other = tt; word_apart = tt; set = λ st to s i class_is target has written. absurd (both_ways (data_writes_pc x.opcode x.rd) h written) }
 
 -- the most cycles
 most : cycles_of 0xFFFFFFFF ≡ 16

@@ -8,6 +8,7 @@ use Rattle.bus_ticks.specs.Prices.{ahead_of}
 use Rattle.arm2_decode.specs.Allowed.{bit_of, single_clash, is_bad_base}
 use Rattle.arm2_decode.specs.Names.{is_compare, is_pc, register_number}
 use Rattle.arm2_decode.specs.Transfers.{is_listed, writes_base}
+use Rattle.arm2_decode.specs.Writers.{data_writes_pc}
 use Rattle.arm2_decode.specs.declared.instr.Block.{Block}
 use Rattle.arm2_decode.specs.declared.instr.Branch.{Branch}
 use Rattle.arm2_decode.specs.declared.instr.Multiply.{Multiply}
@@ -38,7 +39,7 @@ use Rattle.arm2_transfer.specs.Operations.{operation_moved}
 use Rattle.arm2_transfer.specs.Registers.{is_user, moved_by, passed, with_base}
 use Rattle.arm2_transfer.specs.Single.{address_for, base_after, of_immediate, of_register, single_at, single_by, single_carried_out, single_loaded, single_loads, single_stores}
 use Rattle.arm2_transfer.specs.Words.{registers_in}
-use Rattle.flow_graph.specs.Kinds.{IsWork, data_kind, kind_of, transfer, work_of, writer_if}
+use Rattle.flow_graph.specs.Kinds.{IsWork, kind_of, transfer, work_of, writer_if}
 use Rattle.flow_graph.specs.StepLaw.{TransfersIn}
 use Rattle.flow_graph.specs.declared.kinds.Kind.{Kind}
 use Rattle.flow_graph.specs.declared.kinds.Kind.TheVariants as kind
@@ -138,7 +139,7 @@ module _ (p : Profile) (rom : RomTimes) (class : Class) (regs : List ℕ) (long 
   placed_by false true c j e hc hj he = hj
   placed_by false false c j e hc hj he = he
 
-  placed_costs : (o : Opcode) (sets_flags : Bool) (rd : Register) (out : _) → EffectCosts (data_kind o rd) (work.Internal 0) (placed o sets_flags rd out regs)
+  placed_costs : (o : Opcode) (sets_flags : Bool) (rd : Register) (out : _) → EffectCosts (writer_if (data_writes_pc o rd)) (work.Internal 0) (placed o sets_flags rd out regs)
   unfolding placed
   placed_costs o sets_flags rd out =
       placed_by (is_compare o) (is_pc rd) (compared rd out regs) (jumped sets_flags out regs) (entered sets_flags rd out regs)
@@ -296,7 +297,7 @@ module _ (p : Profile) (rom : RomTimes) (class : Class) (regs : List ℕ) (long 
   operation_costs (operation.Multiply x) port bus fits = λ in_class plain. multiply_costs x
   operation_costs (operation.DataRegister x) port bus fits = λ in_class plain. placed_costs x.opcode x.sets_flags x.rd _
   operation_costs (operation.DataRegisterShift x) port bus fits =
-      λ in_class plain. delayed_costs p rom class (address_of (r15_in regs)) 1 1 (data_kind x.opcode x.rd) _ _ (omega arith) (placed_costs x.opcode x.sets_flags x.rd _)
+      λ in_class plain. delayed_costs p rom class (address_of (r15_in regs)) 1 1 (writer_if (data_writes_pc x.opcode x.rd)) _ _ (omega arith) (placed_costs x.opcode x.sets_flags x.rd _)
   operation_costs (operation.DataImmediate x) port bus fits = λ in_class plain. placed_costs x.opcode x.sets_flags x.rd _
   operation_costs (operation.SingleImmediate x) port bus fits =
       single_costs (of_immediate x) _ port bus (base_other x.before x.byte x.write_back x.load x.rn x.rd x.allocated)

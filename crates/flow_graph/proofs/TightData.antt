@@ -6,6 +6,7 @@ use Rattle.bus_ticks.specs.declared.profile.Profile.{Profile}
 use Rattle.bus_ticks.specs.declared.profile.RomTimes.{RomTimes}
 use Rattle.bus_ticks.specs.Prices.{ahead_of, n_price, s_price}
 use Rattle.arm2_decode.specs.Names.{is_compare, is_pc, register_number}
+use Rattle.arm2_decode.specs.Writers.{data_writes_pc}
 use Rattle.arm2_decode.specs.declared.flags.Flags.{Flags}
 use Rattle.arm2_decode.specs.declared.instr.Branch.{Branch}
 use Rattle.arm2_decode.specs.declared.instr.Multiply.{Multiply}
@@ -18,8 +19,7 @@ use Rattle.arm2_effect.specs.Operations.{branch_effect, compared, cycles_of, del
 use Rattle.arm2_effect.specs.Operations.{multiply_effect, placed, product_of}
 use Rattle.arm2_effect.specs.Outcomes.{outcome_of}
 use Rattle.arm2_effect.specs.ProgramCounter.{address_of}
-use Rattle.flow_graph.specs.Free.{writes_pc}
-use Rattle.flow_graph.specs.Kinds.{data_kind, is_writer, writer_if}
+use Rattle.flow_graph.specs.Kinds.{is_writer, writer_if}
 use Rattle.flow_graph.specs.declared.kinds.Kind.{Kind}
 use Rattle.flow_graph.specs.declared.kinds.Kind.TheVariants as kind
 use Rattle.flow_graph.specs.declared.kinds.Work.TheVariants as work
@@ -102,7 +102,7 @@ module _ (c : Setting) where
       → EffectPays c kind.Plain (work.Internal 0) x
       → (T → EffectPays c kind.Writer (work.Internal 0) j)
       → EffectPays c kind.Plain (work.Internal 0) e
-      → (is_writer (writer_if (to_pc && not compares)) ≡ true → T)
+      → ((to_pc && not compares) ≡ true → T)
       → EffectPays c (writer_if (to_pc && not compares)) (work.Internal 0) (cond compares x (cond to_pc j e))
   placed_by true true T x j e hx hj he target = hx
   placed_by true false T x j e hx hj he target = hx
@@ -110,8 +110,9 @@ module _ (c : Setting) where
   placed_by false false T x j e hx hj he target = he
 
   pub placed_pays : (o : Opcode) (sets_flags : Bool) (rd : Register) (x : ℕ) (y : _) (f : Flags)
-      → (writes_pc o rd ≡ true → IsTarget c (outcome_of o x y f).value)
-      → EffectPays c (data_kind o rd) (work.Internal 0) (placed o sets_flags rd (outcome_of o x y f) c.regs)
+      → (data_writes_pc o rd ≡ true → IsTarget c (outcome_of o x y f).value)
+      → EffectPays c (writer_if (data_writes_pc o rd)) (work.Internal 0)
+      (placed o sets_flags rd (outcome_of o x y f) c.regs)
   unfolding placed
   placed_pays o sets_flags rd x y f target =
       let out = outcome_of o x y f in

@@ -10,6 +10,7 @@ use Rattle.bus_ticks.specs.Prices.{word_address}
 use Rattle.arm2_decode.specs.Allowed.{bit_of, is_bad_base, is_bad_byte, is_bad_load}
 use Rattle.arm2_decode.specs.Names.{is_pc, register_number}
 use Rattle.arm2_decode.specs.Transfers.{asks_for_user, is_listed}
+use Rattle.arm2_decode.specs.Writers.{data_writes_pc}
 use Rattle.arm2_decode.specs.declared.instr.Block.{Block}
 use Rattle.arm2_decode.specs.declared.instr.Operation.{Operation}
 use Rattle.arm2_decode.specs.declared.instr.Operation.TheVariants as operation
@@ -34,7 +35,7 @@ use Rattle.arm2_exec.specs.State.{State}
 use Rattle.arm2_exec.specs.Step.{with_lines}
 use Rattle.arm2_exec.specs.declared.machine.Input.{Input}
 use Rattle.flow_graph.specs.Edges.{landings}
-use Rattle.flow_graph.specs.Kinds.{data_kind, kind_of, transfer, work_of, writer_if}
+use Rattle.flow_graph.specs.Kinds.{kind_of, transfer, work_of, writer_if}
 use Rattle.flow_graph.specs.TightWork.{IsDearestTarget, IsSetFor, TransfersDearest}
 use Rattle.flow_graph.specs.declared.places.Place.{Place}
 use Rattle.statement.specs.Stated.{Stated, class_of}
@@ -153,7 +154,7 @@ module _ (st : Stated) (profile : Profile) (address : ℕ) (to : Place) (s : Sta
     operation_set (operation.DataRegister x) calls a lands h =
         placed_pays setting x.opcode x.sets_flags x.rd _ _ _ h
     operation_set (operation.DataRegisterShift x) calls a lands h =
-        delayed_moves setting 1 1 (data_kind x.opcode x.rd) _ refl
+        delayed_moves setting 1 1 (writer_if (data_writes_pc x.opcode x.rd)) _ refl
         (placed_pays setting x.opcode x.sets_flags x.rd _ _ _ (λ w. absurd (false≢true (sym h ∙ w))))
     operation_set (operation.DataImmediate x) calls a lands h =
         placed_pays setting x.opcode x.sets_flags x.rd _ _ _ h

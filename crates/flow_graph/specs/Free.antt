@@ -7,6 +7,7 @@ use Rattle.loader.specs.Image.{Words, is_past_ram, word_of}
 use Rattle.arm2_decode.specs.Names.{is_lsl, is_mov, is_pc}
 use Rattle.arm2_decode.specs.Table.{Means}
 use Rattle.arm2_decode.specs.Transfers.{asks_for_user}
+use Rattle.arm2_decode.specs.Writers.{data_writes_pc}
 use Rattle.arm2_decode.specs.declared.instr.DataImmediate.{DataImmediate}
 use Rattle.arm2_decode.specs.declared.instr.DataRegister.{DataRegister}
 use Rattle.arm2_decode.specs.declared.instr.Instr.{Instr}
@@ -14,8 +15,6 @@ use Rattle.arm2_decode.specs.declared.instr.Operation.{Operation}
 use Rattle.arm2_decode.specs.declared.instr.Operation.TheVariants as operation
 use Rattle.arm2_decode.specs.declared.names.Opcode.{Opcode}
 use Rattle.arm2_decode.specs.declared.names.Opcode.TheVariants as opcode
-use Rattle.arm2_decode.specs.declared.names.Register.{Register}
-use Rattle.flow_graph.specs.Kinds.{data_kind, is_writer}
 use Rattle.flow_graph.specs.declared.edges.Edge.{Edge}
 use Rattle.flow_graph.specs.declared.edges.Label.TheVariants.{Skip}
 use Rattle.flow_graph.specs.declared.places.Place.TheVariants.{At}
@@ -26,10 +25,6 @@ abbrev pub is_add_or_sub : Opcode → Bool
 is_add_or_sub opcode.Add = true
 is_add_or_sub opcode.Sub = true
 is_add_or_sub _ = false
-
--- data processing that writes R15
-abbrev pub writes_pc : Opcode → Register → Bool
-writes_pc o rd = is_writer (data_kind o rd)
 
 -- MOV of a register other than R15, not shifted (LSL #0)
 abbrev pub copies_a_register : DataRegister → Bool
@@ -43,9 +38,9 @@ adds_an_immediate x = is_add_or_sub x.opcode && not (is_pc x.rn)
 -- as above; and single transfers whose base is R15, that ask for User rights, or whose offset is in a
 -- register. A trap counts as free, but no `do` edge leaves one
 abbrev pub is_free_operation : Operation → Bool
-is_free_operation (operation.DataRegister x) = not (writes_pc x.opcode x.rd) || copies_a_register x
-is_free_operation (operation.DataRegisterShift x) = not (writes_pc x.opcode x.rd)
-is_free_operation (operation.DataImmediate x) = not (writes_pc x.opcode x.rd) || adds_an_immediate x
+is_free_operation (operation.DataRegister x) = not (data_writes_pc x.opcode x.rd) || copies_a_register x
+is_free_operation (operation.DataRegisterShift x) = not (data_writes_pc x.opcode x.rd)
+is_free_operation (operation.DataImmediate x) = not (data_writes_pc x.opcode x.rd) || adds_an_immediate x
 is_free_operation (operation.SingleImmediate x) =
     not (is_pc x.rn) && not (asks_for_user x.before x.write_back)
 is_free_operation (operation.SingleRegister x) = false

@@ -1,18 +1,14 @@
 -- What a word does: to the flow of control, and besides its fetches (VL86C010 data sheet, by the table of
 -- instruction words, but for the cycles, of which a multiply has its most).
-use Rattle.std.specs.Prelude.{◌≡◌, ℕ, ◌≤◌, Bool, true, false, not, count_ones, ◌&&◌}
+use Rattle.std.specs.Prelude.{◌≡◌, ℕ, ◌≤◌, Bool, true, false, count_ones}
 use Rattle.std.specs.Prelude.{if◌then◌else◌, ◌⊎◌}
-use Rattle.arm2_decode.specs.Names.{is_compare, is_pc}
 use Rattle.arm2_decode.specs.Table.{Means, IsUnallocated}
-use Rattle.arm2_decode.specs.Transfers.{is_listed}
+use Rattle.arm2_decode.specs.Writers.{writes_pc}
 use Rattle.arm2_decode.specs.declared.instr.Instr.{Instr}
 use Rattle.arm2_decode.specs.declared.instr.Unallocated.{Unallocated}
 use Rattle.arm2_decode.specs.declared.instr.Operation.{Operation}
 use Rattle.arm2_decode.specs.declared.instr.Operation.TheVariants as operation
 use Rattle.arm2_decode.specs.declared.names.Cond.{Cond}
-use Rattle.arm2_decode.specs.declared.names.Opcode.{Opcode}
-use Rattle.arm2_decode.specs.declared.names.Register.{Register}
-use Rattle.arm2_decode.specs.declared.names.Register.TheVariants.{R15}
 use Rattle.flow_graph.specs.declared.kinds.Kind.{Kind}
 use Rattle.flow_graph.specs.declared.kinds.Kind.TheVariants as kind
 use Rattle.flow_graph.specs.declared.kinds.Work.{Work}
@@ -25,22 +21,13 @@ use Rattle.flow_graph.specs.declared.kinds.Action.{Action}
 abbrev pub writer_if : Bool → Kind
 writer_if writes = if writes then kind.Writer else kind.Plain
 
-abbrev pub data_kind : Opcode → Register → Kind
-data_kind o rd = writer_if (is_pc rd && not (is_compare o))
-
 abbrev pub kind_of : Operation → Kind
-kind_of (operation.Multiply x) = kind.Plain
-kind_of (operation.DataRegister x) = data_kind x.opcode x.rd
-kind_of (operation.DataRegisterShift x) = data_kind x.opcode x.rd
-kind_of (operation.DataImmediate x) = data_kind x.opcode x.rd
-kind_of (operation.SingleImmediate x) = writer_if (x.load && is_pc x.rd)
-kind_of (operation.SingleRegister x) = writer_if (x.load && is_pc x.rd)
-kind_of (operation.Block x) = writer_if (x.load && is_listed x.list R15)
 kind_of (operation.Branch x) = if x.link then kind.Call x.offset else kind.Branch x.offset
 kind_of (operation.Swi x) = kind.Trap
 kind_of (operation.UndefinedTransfer x) = kind.Trap
 kind_of (operation.CoprocessorTransfer x) = kind.Trap
 kind_of (operation.Coprocessor x) = kind.Trap
+kind_of o = writer_if (writes_pc o)
 
 -- a word that writes R15, other than a branch or a call
 abbrev pub is_writer : Kind → Bool

@@ -15,6 +15,7 @@ use Rattle.memc.specs.declared.spots.Spot.{Spot}
 use Rattle.arm2_decode.specs.Names.{is_pc, register_number}
 use Rattle.arm2_decode.specs.Table.{Means}
 use Rattle.arm2_decode.specs.Transfers.{asks_for_user, is_listed}
+use Rattle.arm2_decode.specs.Writers.{data_writes_pc}
 use Rattle.arm2_decode.specs.declared.flags.Flags.{Flags}
 use Rattle.arm2_decode.specs.declared.instr.Instr.{Instr}
 use Rattle.arm2_decode.specs.declared.instr.Operation.{Operation}
@@ -33,7 +34,6 @@ use Rattle.arm2_exec.specs.State.{State}
 use Rattle.arm2_exec.specs.Step.{fetched, with_lines}
 use Rattle.arm2_exec.specs.declared.machine.Input.{Input}
 use Rattle.flow_graph.specs.Edges.{IsEdge, jump_ticks}
-use Rattle.flow_graph.specs.Free.{writes_pc}
 use Rattle.flow_graph.specs.Kinds.{IsAction}
 use Rattle.flow_graph.specs.StepLaw.{IsPlaceOf, label_by}
 use Rattle.flow_graph.specs.Tight.{IsTight}
@@ -94,12 +94,12 @@ module _ (st : Stated) (profile : Profile) (address : ℕ) (to : Place) (s : Sta
   abbrev pub IsSetFor : Operation → Type 0
   IsSetFor (operation.Multiply x) = cycles_of (register_in Svc (register_number x.rs) s.regs) ≡ 16
   IsSetFor (operation.DataRegister x) =
-      WritesTarget (writes_pc x.opcode x.rd)
+      WritesTarget (data_writes_pc x.opcode x.rd)
       (outcome_of x.opcode (first_of 8 x.rn s.regs) (shifted_by_amount x.shift x.amount x.rm s.regs)
       (flags_of (r15_in s.regs))).value
-  IsSetFor (operation.DataRegisterShift x) = writes_pc x.opcode x.rd ≡ false
+  IsSetFor (operation.DataRegisterShift x) = data_writes_pc x.opcode x.rd ≡ false
   IsSetFor (operation.DataImmediate x) =
-      WritesTarget (writes_pc x.opcode x.rd)
+      WritesTarget (data_writes_pc x.opcode x.rd)
       (outcome_of x.opcode (first_of 8 x.rn s.regs) (rotated_byte x.value x.rotation s.regs)
       (flags_of (r15_in s.regs))).value
   IsSetFor (operation.SingleImmediate x) =

@@ -1,20 +1,11 @@
 ghost use Rattle.std.specs.Prelude.{◌≡◌, ◌↔◌, IsTrue};
 ghost use Rattle.flow_graph.specs.Free.{HasFreeWord, IsFree, IsFreeWord, adds_an_immediate};
-ghost use Rattle.flow_graph.specs.Free.{copies_a_register, is_free_operation, writes_pc};
+ghost use Rattle.flow_graph.specs.Free.{copies_a_register, is_free_operation};
 
 use crate::edges::{Edge, Label};
-use crate::kinds::{data_processing, is_r15_writer};
 use crate::places::Place;
-use arm2_decode::{
-    DataImmediate, DataRegister, Opcode, Operation, Register, asks_for_user, decode,
-};
+use arm2_decode::{DataImmediate, DataRegister, Opcode, Operation, asks_for_user, decode};
 use loader::{Image, is_past_ram};
-
-pub(crate) fn writes_pc(opcode: Opcode, rd: Register) -> bool
-    ensures { result ≡ writes_pc opcode rd }
-{
-    is_r15_writer(data_processing(opcode, rd))
-}
 
 fn copies_a_register(x: &DataRegister) -> bool
     ensures { result ≡ copies_a_register x.now }
@@ -32,9 +23,9 @@ fn is_free_operation(operation: &Operation) -> bool
     ensures { result ≡ is_free_operation operation.now }
 {
     match operation {
-        Operation::DataRegister(x) => !writes_pc(x.opcode, x.rd) || copies_a_register(x),
-        Operation::DataRegisterShift(x) => !writes_pc(x.opcode, x.rd),
-        Operation::DataImmediate(x) => !writes_pc(x.opcode, x.rd) || adds_an_immediate(x),
+        Operation::DataRegister(x) => !operation.writes_pc() || copies_a_register(x),
+        Operation::DataRegisterShift(_) => !operation.writes_pc(),
+        Operation::DataImmediate(x) => !operation.writes_pc() || adds_an_immediate(x),
         Operation::SingleImmediate(x) => !x.rn.is_pc() && !asks_for_user(x.before, x.write_back),
         Operation::SingleRegister(_) => false,
         _ => true,

@@ -1,8 +1,8 @@
 ghost use Rattle.std.specs.Prelude.{◌≡◌};
-ghost use Rattle.flow_graph.specs.Kinds.{IsAction, IsWork, data_kind, is_writer};
-ghost use Rattle.flow_graph.specs.Kinds.{kind_of, transfer, work_of, writer_if};
+ghost use Rattle.flow_graph.specs.Kinds.{IsAction, IsWork, is_writer, kind_of, transfer, work_of};
+ghost use Rattle.flow_graph.specs.Kinds.{writer_if};
 
-use arm2_decode::{Cond, Opcode, Operation, Register, decode};
+use arm2_decode::{Cond, Operation, decode};
 
 /// What a word does to the flow of control where its condition holds.
 #[derive(Clone, Copy)]
@@ -46,24 +46,10 @@ fn kind_if(writes: bool) -> Kind
     if writes { Kind::Writer } else { Kind::Plain }
 }
 
-/// What data processing does to the flow of control.
-pub(crate) fn data_processing(opcode: Opcode, rd: Register) -> Kind
-    ensures { result ≡ data_kind opcode rd }
-{
-    kind_if(rd.is_pc() && !opcode.is_compare())
-}
-
 fn operation_kind(operation: &Operation) -> Kind
     ensures { result ≡ kind_of operation.now }
 {
     match operation {
-        Operation::Multiply(_) => Kind::Plain,
-        Operation::DataRegister(x) => data_processing(x.opcode, x.rd),
-        Operation::DataRegisterShift(x) => data_processing(x.opcode, x.rd),
-        Operation::DataImmediate(x) => data_processing(x.opcode, x.rd),
-        Operation::SingleImmediate(x) => kind_if(x.load && x.rd.is_pc()),
-        Operation::SingleRegister(x) => kind_if(x.load && x.rd.is_pc()),
-        Operation::Block(x) => kind_if(x.load && x.is_listed(Register::R15)),
         Operation::Branch(x) => {
             if x.link {
                 Kind::Call(x.offset)
@@ -75,6 +61,7 @@ fn operation_kind(operation: &Operation) -> Kind
         | Operation::UndefinedTransfer(_)
         | Operation::CoprocessorTransfer(_)
         | Operation::Coprocessor(_) => Kind::Trap,
+        _ => kind_if(operation.writes_pc()),
     }
 }
 

@@ -9,7 +9,6 @@ ghost use Rattle.arm2_transfer.specs.Single.{address_for, of_immediate};
 ghost use Rattle.flow_graph.specs.Free.{adds_an_immediate, is_free_operation};
 ghost use Rattle.flow_graph.specs.Setting.{MayStart, Sets, of_register, rotated, transfer_setting};
 
-use crate::free::writes_pc;
 use arm2_decode::{Block, DataImmediate, Opcode, Operation, Register, SingleImmediate};
 use bus_ticks::{
     Class, PHYSICAL_START, Profile, ROM_START, dearest_device, dearest_ram_start, word_address,
@@ -186,8 +185,8 @@ pub(crate) fn setting_for(aim: &Aim, operation: &Operation) -> Setting
     match operation {
         // a number that takes the most cycles
         Operation::Multiply(x) => of_register(x.rs, u32::MAX),
-        Operation::DataRegister(x) if writes_pc(x.opcode, x.rd) => of_register(x.rm, aim.target),
-        Operation::DataImmediate(x) if writes_pc(x.opcode, x.rd) => {
+        Operation::DataRegister(x) if operation.writes_pc() => of_register(x.rm, aim.target),
+        Operation::DataImmediate(x) if operation.writes_pc() => {
             of_register(x.rn, addend(x, aim.target))
         }
         Operation::SingleImmediate(x) => of_single(aim, x),

@@ -1,7 +1,8 @@
 -- Shapes of words (VL86C010 data sheet, by the table of instruction words, but for which shapes are returns,
 -- jumps into tables of branches and kept return addresses).
-use Rattle.std.specs.Prelude.{ℕ, Bool, true, false, not, ◌&&◌, ◌||◌, ◌==◌, nat_le}
-use Rattle.arm2_decode.specs.Names.{is_compare, is_link, is_lsl, is_mov, is_pc, register_number}
+use Rattle.std.specs.Prelude.{ℕ, Bool, true, false, not, ◌&&◌, ◌||◌, ◌==◌}
+use Rattle.arm2_decode.specs.Names.{is_link, is_lsl, is_mov, is_pc, register_number}
+use Rattle.arm2_decode.specs.Writers.{writes_pc}
 use Rattle.arm2_decode.specs.declared.instr.DataRegister.{DataRegister}
 use Rattle.arm2_decode.specs.declared.instr.Operation.{Operation}
 use Rattle.arm2_decode.specs.declared.instr.Operation.TheVariants as operation
@@ -48,19 +49,6 @@ is_return (operation.Block x) = is_stack x.rn
 is_return _ = false
 
 -- ## Writers of R15
-
-abbrev pub data_writes_pc : Opcode → Register → Bool
-data_writes_pc o rd = is_pc rd && not (is_compare o)
-
--- it writes R15, other than a branch or a call; bit 15 of a list, the highest, stands for R15
-abbrev pub writes_pc : Operation → Bool
-writes_pc (operation.DataRegister x) = data_writes_pc x.opcode x.rd
-writes_pc (operation.DataRegisterShift x) = data_writes_pc x.opcode x.rd
-writes_pc (operation.DataImmediate x) = data_writes_pc x.opcode x.rd
-writes_pc (operation.SingleImmediate x) = x.load && is_pc x.rd
-writes_pc (operation.SingleRegister x) = x.load && is_pc x.rd
-writes_pc (operation.Block x) = x.load && nat_le 0x8000 x.list
-writes_pc _ = false
 
 -- it writes R15, other than a branch or a call, and does not look like a return
 abbrev pub is_odd_writer : Operation → Bool

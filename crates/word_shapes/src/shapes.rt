@@ -1,9 +1,8 @@
 ghost use Rattle.std.specs.Prelude.{◌≡◌};
 ghost use Rattle.arm2_effect.specs.Operations.{is_transfer};
-ghost use Rattle.word_shapes.specs.Shapes.{copies_link, data_writes_pc, is_add, is_lsl_by};
-ghost use Rattle.word_shapes.specs.Shapes.{is_odd_writer, is_return, is_stack, is_subtraction};
-ghost use Rattle.word_shapes.specs.Shapes.{is_table_jump, keeps_return_address, subtracts_from_link};
-ghost use Rattle.word_shapes.specs.Shapes.{writes_pc};
+ghost use Rattle.word_shapes.specs.Shapes.{copies_link, is_add, is_lsl_by, is_odd_writer, is_return};
+ghost use Rattle.word_shapes.specs.Shapes.{is_stack, is_subtraction, is_table_jump};
+ghost use Rattle.word_shapes.specs.Shapes.{keeps_return_address, subtracts_from_link};
 
 use arm2_decode::{DataRegister, Opcode, Operation, Register};
 
@@ -60,32 +59,11 @@ pub fn is_return(operation: &Operation) -> bool
     }
 }
 
-fn data_writes_pc(opcode: Opcode, rd: Register) -> bool
-    ensures { result ≡ data_writes_pc opcode rd }
-{
-    rd.is_pc() && !opcode.is_compare()
-}
-
-/// Whether an operation writes R15, other than a branch or a call.
-pub fn writes_pc(operation: &Operation) -> bool
-    ensures { result ≡ writes_pc operation.now }
-{
-    match operation {
-        Operation::DataRegister(x) => data_writes_pc(x.opcode, x.rd),
-        Operation::DataRegisterShift(x) => data_writes_pc(x.opcode, x.rd),
-        Operation::DataImmediate(x) => data_writes_pc(x.opcode, x.rd),
-        Operation::SingleImmediate(x) => x.load && x.rd.is_pc(),
-        Operation::SingleRegister(x) => x.load && x.rd.is_pc(),
-        Operation::Block(x) => x.load && x.list >= 0x8000,
-        _ => false,
-    }
-}
-
 /// Whether an operation writes R15, other than a branch or a call, and does not look like a return.
 pub fn is_odd_writer(operation: &Operation) -> bool
     ensures { result ≡ is_odd_writer operation.now }
 {
-    writes_pc(operation) && !is_return(operation)
+    operation.writes_pc() && !is_return(operation)
 }
 
 /// Whether an operation loads or stores.
