@@ -152,28 +152,28 @@ of_class_or Ram t = same_class (class_at t) Ram
 of_class_or Rom t = same_class (class_at t) Rom
 of_class_or Io t = same_class (class_at t) Io
 
-place_or : (st : Stated) (t : ℕ) (p : Place) → IsPlaceOf st t p ⊎ (IsPlaceOf st t p → ⊥)
+place_or : (st : Stated) (t : ℕ) (p : Place) → IsPlaceOf st.leave t p ⊎ (IsPlaceOf st.leave t p → ⊥)
 place_or st t (At calls a) = elim (eqb_tells a t) [ inl e ↦ inl e.1 | inr e ↦ inr e.1 ]
 place_or st t Exit = of_class_or st.leave t
 
 -- one of the places is that of the address, or none is
 abbrev pub Found : Stated → ℕ → List Place → Type 0
-Found st t places = ((p : Place) × Contains places p × IsPlaceOf st t p) ⊎ ((p : Place) → Contains places p → IsPlaceOf st t p → ⊥)
+Found st t places = ((p : Place) × Contains places p × IsPlaceOf st.leave t p) ⊎ ((p : Place) → Contains places p → IsPlaceOf st.leave t p → ⊥)
 
 find_place : (st : Stated) (t : ℕ) (places : List Place) → Found st t places
 find_place st t [] = inr (λ p h is. no_member p h)
 find_place st t (x ∷ rest) = by_first (place_or st t x) (find_place st t rest)
   where
-    by_first : IsPlaceOf st t x ⊎ (IsPlaceOf st t x → ⊥) → Found st t rest → Found st t (x ∷ rest)
+    by_first : IsPlaceOf st.leave t x ⊎ (IsPlaceOf st.leave t x → ⊥) → Found st t rest → Found st t (x ∷ rest)
     by_first (inl is) more = inl (x, here x rest, is)
     by_first (inr apart) (inl w) = inl (w.0, there x rest w.0 w.1, w.2)
-    by_first (inr apart) (inr none) = inr (λ p h is. elim (cons_cases x rest p h) [ inl e ↦ apart (subst (IsPlaceOf st t) (sym e) is) | inr more ↦ none p more is ])
+    by_first (inr apart) (inr none) = inr (λ p h is. elim (cons_cases x rest p h) [ inl e ↦ apart (subst (IsPlaceOf st.leave t) (sym e) is) | inr more ↦ none p more is ])
 
 -- a place of the address to which the word leads; or the word writes R15, and there is none
 abbrev pub Lands : Stated → List ℕ → ℕ → Kind → ℕ → Type 0
 Lands st calls a k t =
-    ((p : Place) × Contains (landings st calls a k) p × IsPlaceOf st t p)
-    ⊎ ((is_writer k ≡ true) × ((p : Place) → Contains (landings st calls a k) p → IsPlaceOf st t p → ⊥))
+    ((p : Place) × Contains (landings st calls a k) p × IsPlaceOf st.leave t p)
+    ⊎ ((is_writer k ≡ true) × ((p : Place) → Contains (landings st calls a k) p → IsPlaceOf st.leave t p → ⊥))
 
 call_lands : (calls : List ℕ) (a to : ℕ) → length calls < 8 → Contains (call_places calls a (to ∷ [])) (At (calls ++ a ∷ []) to)
 call_lands calls a to few =
@@ -190,14 +190,14 @@ lands st p rom class calls a kind.Unallocated t e few = absurd e
 
 -- ## What a jump costs
 
-jump_arrives : (st : Stated) (p : Profile) (rom : RomTimes) (class : Class) (a : ℕ) (to : Place) (t : ℕ) → t < 2 ^ 26 → IsPlaceOf st t to → n_price p rom t + s_price p rom (ahead_of t 4) ≤ jump_ticks st.leave p to
+jump_arrives : (st : Stated) (p : Profile) (rom : RomTimes) (class : Class) (a : ℕ) (to : Place) (t : ℕ) → t < 2 ^ 26 → IsPlaceOf st.leave t to → n_price p rom t + s_price p rom (ahead_of t 4) ≤ jump_ticks st.leave p to
 jump_arrives st p rom class a (At calls x) t small e =
     subst (λ y. n_price p rom y + s_price p rom (ahead_of y 4) ≤ worst_n_price p x + worst_s_price p (ahead_of x 4)) e
     (omega (arith, n_most p rom class a x, s_most p rom class a (ahead_of x 4)))
 jump_arrives st p rom class a Exit t small is =
     (worst_leave_greatest p st.leave (worst_leave_of p st.leave) refl).none_above (record { address = t; rom = rom }) (record { below = small; is_of = is })
 
-pub arrives : (st : Stated) (p : Profile) (rom : RomTimes) (class : Class) (a : ℕ) (k : Kind) (to : Place) (t : ℕ) → t < 2 ^ 26 → IsPlaceOf st t to → jump_price p rom class a k t ≤ arrival_ticks st.leave p k to
+pub arrives : (st : Stated) (p : Profile) (rom : RomTimes) (class : Class) (a : ℕ) (k : Kind) (to : Place) (t : ℕ) → t < 2 ^ 26 → IsPlaceOf st.leave t to → jump_price p rom class a k t ≤ arrival_ticks st.leave p k to
 arrives st p rom class a kind.Plain to t small is = omega arith
 arrives st p rom class a (kind.Branch offset) to t small is = jump_arrives st p rom class a to t small is
 arrives st p rom class a (kind.Call offset) to t small is = jump_arrives st p rom class a to t small is

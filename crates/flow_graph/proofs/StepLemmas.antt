@@ -162,8 +162,8 @@ module _ (words : Words) (st : Stated) (profile : Profile) (calls : List ℕ) (a
   is_one : (e : Edge) → IsTaken words st profile calls action s stepped e → IsOne e
   is_one = which_taken words st profile calls action s stepped h.has
 
-  ends_at : (p : Place) (e : Edge) → do_edge st profile calls (address_in s.regs) action p ≡ e → IsPlaceOf st stepped.to e.to → IsPlaceOf st stepped.to p
-  ends_at p e is to = subst (λ (x : Edge). IsPlaceOf st stepped.to x.to) (sym is) to
+  ends_at : (p : Place) (e : Edge) → do_edge st profile calls (address_in s.regs) action p ≡ e → IsPlaceOf st.leave stepped.to e.to → IsPlaceOf st.leave stepped.to p
+  ends_at p e is to = subst (λ (x : Edge). IsPlaceOf st.leave stepped.to x.to) (sym is) to
 
   -- the two labels differ
   no_label : (x y : Edge) → x.label ≡ Skip → y.label ≡ Do → x ≡ y → ⊥
@@ -171,7 +171,7 @@ module _ (words : Words) (st : Stated) (profile : Profile) (calls : List ℕ) (a
       let both : Skip ≡ Do = sym skips ∙ ap (λ (e : Edge). e.label) same ∙ does in
       cc
 
-  cost_by : (holds : Bool) → StepCosts holds → (e : Edge) → IsOne e → e.label ≡ cond holds Do Skip → IsPlaceOf st stepped.to e.to → stepped.ticks ≤ e.cost
+  cost_by : (holds : Bool) → StepCosts holds → (e : Edge) → IsOne e → e.label ≡ cond holds Do Skip → IsPlaceOf st.leave stepped.to e.to → stepped.ticks ≤ e.cost
   cost_by true costs e (inl skip) label to = absurd (no_label (skip_edge profile calls (address_in s.regs)) e refl label skip)
   cost_by true costs e (inr (p, among, is)) label to =
       let jump = arrives st profile s.bus.memc.control.rom_times (class_of st (address_in s.regs)) (address_in s.regs) action.kind p stepped.to small (ends_at p e is to) in

@@ -30,7 +30,7 @@ module _ (st : Stated) (p : Profile) (rom : RomTimes) (class : Class) (dear : Ar
     (calls : List ℕ) (a : ℕ) where
   -- the address is that of the place, and the jump there costs what the edge says
   pub record Arrives (k : Kind) (t : ℕ) (to : Place) : Type 0 where
-    pub stands_for : IsPlaceOf st t to
+    pub stands_for : IsPlaceOf st.leave t to
     pub price : jump_price p rom class a k t ≡ arrival_ticks st.leave p k to
 
   jump_at : (inside : List ℕ) (x t : ℕ) → t ≡ x

@@ -115,7 +115,7 @@ module _ (words : Words) (st : Stated) (profile : Profile) (e : Edge) (s : State
 
   -- a step that does this takes the edge at its price
   tight : (m : Moved) → Obeys h.word i.port s.regs bus m → m.kind ≡ ended.Plain
-      → TransfersIn class m.accesses → IsPlaceOf st (address_in m.regs) e.to
+      → TransfersIn class m.accesses → IsPlaceOf st.leave (address_in m.regs) e.to
       → ticks_of profile rom m.accesses ≡ e.cost → IsTight words st profile e s i
   tight m obeys plain transfers to cost =
       let plainly = kind_of_answer s m ∙ plain in
@@ -141,7 +141,7 @@ module _ (words : Words) (st : Stated) (profile : Profile) (e : Edge) (s : State
             is_edge = h.is_edge;
             from = from;
             label = label;
-            to = subst (λ t. IsPlaceOf st t e.to) (sym plain_is.to) to;
+            to = subst (λ t. IsPlaceOf st.leave t e.to) (sym plain_is.to) to;
           };
         };
         exact = ticks ∙ cost;
@@ -171,7 +171,7 @@ module _ (words : Words) (st : Stated) (profile : Profile) (e : Edge) (s : State
       let exact : ticks_of profile rom (skipped s.regs).accesses
       ≡ passing_ticks profile a + 0 * profile.internal + 0 = done.pays.exact in
       tight (on_bus bus (skipped s.regs)) (obeys_skipped fails h.is) done.plain in_class
-      (subst (λ (x : Edge). IsPlaceOf st (address_in (skipped s.regs).regs) x.to) is (sym goes))
+      (subst (λ (x : Edge). IsPlaceOf st.leave (address_in (skipped s.regs).regs) x.to) is (sym goes))
       (omega (arith, exact, cost))
 
   -- ## The word is done

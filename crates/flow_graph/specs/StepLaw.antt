@@ -47,9 +47,9 @@ abbrev pub label_in : List ℕ → Cond → Label
 label_in regs c = label_by (flags_of (r15_in regs)) c
 
 -- an address is that of the place; Exit stands for each address of the leave class
-abbrev pub IsPlaceOf : Stated → ℕ → Place → Type 0
-IsPlaceOf st t (At calls address) = address ≡ t
-IsPlaceOf st t Exit = IsOf st.leave t
+abbrev pub IsPlaceOf : (leave : Class) → ℕ → Place → Type 0
+IsPlaceOf leave t (At calls address) = address ≡ t
+IsPlaceOf leave t Exit = IsOf leave t
 
 -- each word that is transferred is at an address of the class
 abbrev pub TransfersIn : Class → List Access → Type 0
@@ -80,7 +80,7 @@ module _ (words : Words) (st : Stated) (profile : Profile) where
     pub is_edge : IsEdge words st profile e
     pub from : e.from ≡ At calls (address_in s.regs)
     pub label : e.label ≡ label_in s.regs action.cond
-    pub to : IsPlaceOf st stepped.to e.to
+    pub to : IsPlaceOf st.leave stepped.to e.to
 
   -- the word writes R15, other than by a branch, and puts an address there to which no edge of the step's
   -- label leads

@@ -63,7 +63,7 @@ pub record StandsAt (profile : Profile) (word address : ℕ) (flags : Flags) (s 
 pub record IsDearestTarget (st : Stated) (profile : Profile) (to : Place) (t : ℕ) : Type 0 where
   pub whole : t % 4 ≡ 0
   pub below : t < SPACE_END
-  pub stands_for : IsPlaceOf st t to
+  pub stands_for : IsPlaceOf st.leave t to
   pub price : (rom : RomTimes) → AreDearest profile rom
       → leave_price profile (record { address = t; rom = rom }) ≡ jump_ticks st.leave profile to
 

@@ -21,7 +21,7 @@ use Rattle.flow_graph.proofs.StepLemmas.{which_taken}
 module _ (st : Stated) (t : ℕ) where
   -- no two of the places are that of the address
   abbrev IsOne : List Place → Type 0
-  IsOne places = (p q : Place) → Contains places p → Contains places q → IsPlaceOf st t p → IsPlaceOf st t q → p ≡ q
+  IsOne places = (p q : Place) → Contains places p → Contains places q → IsPlaceOf st.leave t p → IsPlaceOf st.leave t q → p ≡ q
 
   one_of_one : (x : Place) → IsOne (x ∷ [])
   one_of_one x p q p_in q_in p_is q_is = sym (only_one x p p_in) ∙ only_one x q q_in
@@ -30,10 +30,10 @@ module _ (st : Stated) (t : ℕ) where
   one_of_none p q p_in q_in p_is q_is = absurd (no_member p p_in)
 
   -- inside the same calls there is one place of the address
-  at_address : (calls to : List ℕ) (p : Place) → Contains (places_at calls to) p → IsPlaceOf st t p → p ≡ At calls t
+  at_address : (calls to : List ℕ) (p : Place) → Contains (places_at calls to) p → IsPlaceOf st.leave t p → p ≡ At calls t
   at_address calls to p p_in p_is =
       let w = from_map (λ (a : ℕ). At calls a) to p p_in in
-      let there : w.0 ≡ t = subst (IsPlaceOf st t) (sym w.2) p_is in
+      let there : w.0 ≡ t = subst (IsPlaceOf st.leave t) (sym w.2) p_is in
       sym w.2 ∙ ap (λ (a : ℕ). At calls a) there
 
   one_at : (calls to : List ℕ) → IsOne (places_at calls to)
@@ -51,4 +51,4 @@ module _ (words : Words) (st : Stated) (profile : Profile) (calls : List ℕ) (a
       same_by_label st profile calls (address_in s.regs) action d e (d_taken.label ∙ sym e_taken.label) (which d d_taken) (which e e_taken)
       (λ p q p_in q_in p_is q_is.
       one_landing st stepped.to calls (address_in s.regs) action.kind p q p_in q_in
-      (subst (IsPlaceOf st stepped.to) (sym p_is) d_taken.to) (subst (IsPlaceOf st stepped.to) (sym q_is) e_taken.to))
+      (subst (IsPlaceOf st.leave stepped.to) (sym p_is) d_taken.to) (subst (IsPlaceOf st.leave stepped.to) (sym q_is) e_taken.to))

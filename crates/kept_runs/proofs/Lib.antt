@@ -1,4 +1,3 @@
-pub mod ClassLemmas
 pub mod MovedLemmas
 pub mod EdgeChoice
 pub mod StepJudged

@@ -422,7 +422,7 @@ module _ (words : Words) (st : Stated) (flow : Flow) (tree : Tree) (well : IsWel
       }
 
       -- where it is inside the handler, it may go on
-      at_place : (p : Place) → (step_at flow.edges goes.edge).to ≡ p → IsPlaceOf st goes.stepped.to p → (p ≡ Exit → ⊥) → IsPlaceFor p after
+      at_place : (p : Place) → (step_at flow.edges goes.edge).to ≡ p → IsPlaceOf st.leave goes.stepped.to p → (p ≡ Exit → ⊥) → IsPlaceFor p after
       at_place (At calls a) is to other = (calls, ap (λ (b : ℕ). At calls b) (to ∙ lands now i goes.stepped after goes.next.is_edge_of.executes.step goes.next.is_edge_of.executes.plain))
       at_place Exit is to other = absurd (other refl)
 

@@ -1,7 +1,6 @@
 -- A step against the statement: what it executes, and along which edge.
 use Rattle.std.proofs.Common.{◌≡◌, ℕ, ◌<◌, ◌^◌, inl, inr, Bool, true, false, cond, List, length, Option, Some, None, refl, sym, ap, subst, ◌∙◌}
 use Rattle.std.specs.Prelude.{Contains}
-use Rattle.std.proofs.lemmas.Bool.{and_from, and_parts, eq-eqb, eqb-true}
 use Rattle.std.proofs.lemmas.List.Elements.{Contains-get_or}
 use Rattle.std.proofs.lemmas.Option.{same_Some}
 use Rattle.bus_ticks.specs.declared.profile.Class.{Class}
@@ -24,12 +23,11 @@ use Rattle.flow_graph.specs.Edges.{HasAction}
 use Rattle.flow_graph.specs.Flow.{Flow}
 use Rattle.flow_graph.specs.Graph.{IsFlowGraph}
 use Rattle.flow_graph.specs.Kinds.{IsAction, instr_action, unallocated_action}
-use Rattle.flow_graph.specs.StepLaw.{Executes, IsEdgeOf, IsPlaceOf, IsTaken, TransfersIn, holds_in, label_in}
+use Rattle.flow_graph.specs.StepLaw.{Executes, IsEdgeOf, IsTaken, TransfersIn, holds_in, label_in}
 use Rattle.flow_graph.specs.declared.edges.Edge.{Edge}
 use Rattle.flow_graph.specs.declared.edges.Label.{Label}
 use Rattle.flow_graph.specs.declared.kinds.Action.{Action}
 use Rattle.flow_graph.specs.declared.places.Place.{Place}
-use Rattle.flow_graph.specs.declared.places.Place.TheVariants.{At, Exit}
 use Rattle.flow_graph.proofs.EdgeLemmas.{one_action}
 use Rattle.flow_graph.proofs.FlowLemmas.{has_edge_is_edge, is_edge_has_edge}
 use Rattle.flow_graph.proofs.StepLemmas.{IsPlainStep, plain_step, works_plain}
@@ -42,26 +40,17 @@ use Rattle.kept_runs.specs.declared.transfers.Access.{Access}
 use Rattle.kept_runs.specs.declared.transfers.Transfer.{Transfer}
 use Rattle.walk_counts.specs.Counts.{is_same_label}
 use Rattle.walk_counts.proofs.NumberLemmas.{one_label, own_label}
-use Rattle.kept_runs.specs.Edges.{HasNoEdge, IsFound, is_met, is_place_of}
+use Rattle.kept_runs.specs.Edges.{HasNoEdge, IsFound, IsMet}
 use Rattle.kept_runs.specs.declared.judging.Stray.TheVariants as stray
 use Rattle.kept_runs.specs.Judging.{StandsAt, Strays, Takes, TakesNone, label_if}
 use Rattle.kept_runs.specs.Reading.{HasNoWord, IsReading, StandsThere}
 use Rattle.kept_runs.specs.Transfers.{HasNoOther, HasOther}
-use Rattle.kept_runs.proofs.ClassLemmas.{covers_is, is_covers}
 use Rattle.kept_runs.proofs.MovedLemmas.{Moves, word_moves}
 
 -- ## Labels and places
 
 label_itself : (a b : Label) → a ≡ b → is_same_label a b ≡ true
 label_itself a b is = ap (λ x. is_same_label x b) is ∙ own_label b
-
-place_from_test : (st : Stated) (t : ℕ) (p : Place) → is_place_of st.leave t p ≡ true → IsPlaceOf st t p
-place_from_test st t (At calls a) is = eqb-true a t is
-place_from_test st t Exit is = covers_is st.leave t is
-
-place_to_test : (st : Stated) (t : ℕ) (p : Place) → IsPlaceOf st t p → is_place_of st.leave t p ≡ true
-place_to_test st t (At calls a) is = eq-eqb a t is
-place_to_test st t Exit is = is_covers st.leave t is
 
 -- an access of another class is none of the class
 is_other : (class : Class) (access : Access) (t : Option Transfer) → HasOther class t access → IsOf class access.address → ⊥
@@ -179,13 +168,13 @@ module _ (words : Words) (st : Stated) (flow : Flow) (graph : IsFlowGraph words 
       label_is = ap label_if read.holds
 
       -- an edge by the step's label, to where it goes, is met
-      met_by : (c : List ℕ) (e : Edge) → IsTaken words st flow.profile c read.action s stepped e → is_met going e ≡ true
+      met_by : (c : List ℕ) (e : Edge) → IsTaken words st flow.profile c read.action s stepped e → IsMet going e
       met_by c e taken =
           let label : e.label ≡ label_if r.holds = taken.label ∙ sym label_is in
-          and_from (is_same_label e.label (label_if r.holds)) (is_place_of st.leave stepped.to e.to) (label_itself e.label (label_if r.holds) label) (place_to_test st stepped.to e.to taken.to)
+          (label_itself e.label (label_if r.holds) label, taken.to)
 
       -- an edge of the step is one of the place's
-      met : {other : Stepped} {last : State} {e : Edge} → (h : IsEdgeOf words st flow.profile s i other last e) → is_met going e ≡ true
+      met : {other : Stepped} {last : State} {e : Edge} → (h : IsEdgeOf words st flow.profile s i other last e) → IsMet going e
       met {other = other} {last = last} {e = e} h =
           let word_is : h.executes.has.word ≡ word = same_Some h.executes.has.word word (sym h.executes.has.stands ∙ at_word.stands) in
           let act : h.action ≡ read.action = one_action word h.action read.action (subst (λ w. IsAction w h.action) word_is h.executes.has.is) read.is in
@@ -232,7 +221,6 @@ module _ (words : Words) (st : Stated) (flow : Flow) (graph : IsFlowGraph words 
       pub takes : HasNoOther class r.transfer → stepped.ticks < 65536 → (k : ℕ) → IsFound flow place going k → Takes words st flow place s i after (record { edge = k; stepped = stepped })
       takes clean small k found =
           let e : Edge = step_at flow.edges k in
-          let both = and_parts (is_same_label e.label (label_if r.holds)) (is_place_of st.leave stepped.to e.to) found.met in
           record {
             known = found.known;
             is_edge_of = record {
@@ -242,8 +230,8 @@ module _ (words : Words) (st : Stated) (flow : Flow) (graph : IsFlowGraph words 
               taken = record {
                 is_edge = has_edge_is_edge words st flow.profile flow graph e (Contains-get_or flow.edges k _ found.known);
                 from = found.from ∙ stands.at.1;
-                label = one_label e.label (label_if r.holds) both.0 ∙ label_is;
-                to = place_from_test st stepped.to e.to both.1;
+                label = one_label e.label (label_if r.holds) found.met.0 ∙ label_is;
+                to = found.met.1;
               };
             };
             from = found.from;

@@ -1,12 +1,11 @@
 -- The words that an instruction transfers where it is carried out, by the registers before it (VL86C010 data
 -- sheet, single and block data transfer).
-use Rattle.std.specs.Prelude.{◌≡◌, ℕ, ◌<◌, Bool, true, false, not, count_ones}
+use Rattle.std.specs.Prelude.{◌≡◌, ℕ, ◌<◌, Bool, not, count_ones}
 use Rattle.std.specs.Prelude.{List, Option, Some, None}
 use Rattle.bus_ticks.specs.declared.space.TheConstants.{SPACE_END}
 use Rattle.bus_ticks.specs.Prices.{word_address}
 use Rattle.bus_ticks.specs.Worst.{IsOf}
 use Rattle.bus_ticks.specs.declared.profile.Class.{Class}
-use Rattle.bus_ticks.specs.declared.profile.Class.TheVariants.{Any, Ram, Rom, Io}
 use Rattle.arm2_decode.specs.declared.instr.Block.{Block}
 use Rattle.arm2_decode.specs.declared.instr.Operation.{Operation}
 use Rattle.arm2_decode.specs.declared.instr.Operation.TheVariants as operation
@@ -40,22 +39,6 @@ words_of (operation.Block x) regs = Some (block_words x regs)
 words_of other regs = None
 
 -- ## Classes
-
--- an address of the one class is always one of the other
-abbrev pub covers : Class → Class → Bool
-covers Any own = true
-covers Ram Ram = true
-covers Ram Rom = false
-covers Ram Io = false
-covers Ram Any = false
-covers Rom Ram = false
-covers Rom Rom = true
-covers Rom Io = false
-covers Rom Any = false
-covers Io Ram = false
-covers Io Rom = false
-covers Io Io = true
-covers Io Any = false
 
 -- each word is at an address of the class
 abbrev pub AllOf : Class → Transfer → Type 0

@@ -1,12 +1,12 @@
 //! Which edge of a place a step takes.
 
-ghost use Rattle.std.specs.Prelude.{◌≡◌, ◌<◌, length, MatchOption};
+ghost use Rattle.std.specs.Prelude.{◌↔◌, ◌<◌, length, IsTrue, MatchOption};
 ghost use Rattle.bus_ticks.specs.declared.space.TheConstants.{SPACE_END};
 ghost use Rattle.flow_graph.specs.Places.{place_at};
-ghost use Rattle.kept_runs.specs.Edges.{HasNoEdge, IsFound, is_met, is_place_of};
+ghost use Rattle.flow_graph.specs.StepLaw.{IsPlaceOf};
+ghost use Rattle.kept_runs.specs.Edges.{HasNoEdge, IsFound, IsMet};
 
-use crate::transfers::covers;
-use bus_ticks::{Class, class_of};
+use bus_ticks::Class;
 use flow_graph::{Edge, Graph, Label, Place};
 use walk_counts::is_same_label;
 
@@ -22,17 +22,17 @@ pub(crate) struct Going {
 
 fn is_place_of(place: &Place, going: Going) -> bool
     requires { going.to < SPACE_END }
-    ensures { result ≡ is_place_of going.leave going.to place.now }
+    ensures { IsTrue result ↔ IsPlaceOf going.leave going.to place.now }
 {
     match place {
         Place::At(_, address) => *address == going.to,
-        Place::Exit => covers(going.leave, class_of(going.to)),
+        Place::Exit => going.leave.is_of(going.to),
     }
 }
 
 fn is_met(edge: &Edge, going: Going) -> bool
     requires { going.to < SPACE_END }
-    ensures { result ≡ is_met going edge.now }
+    ensures { IsTrue result ↔ IsMet going edge.now }
 {
     is_same_label(edge.label, going.label) && is_place_of(&edge.to, going)
 }

@@ -1,14 +1,12 @@
 //! The words that an instruction transfers, by the registers before it.
 
 ghost use Rattle.std.specs.Prelude.{◌≡◌, ◌≤◌, ◌<◌, ℕ, IfSome, MatchOption};
-ghost use Rattle.bus_ticks.specs.Prices.{class_at};
-ghost use Rattle.kept_runs.specs.Transfers.{covers, words_of};
-ghost use Rattle.kept_runs.specs.Transfers.{AllOf, HasNoOther, HasOther, HasOtherOf};
+ghost use Rattle.kept_runs.specs.Transfers.{AllOf, HasNoOther, HasOther, HasOtherOf, words_of};
 
 use arm2_decode::Operation;
 use arm2_effect::{Reg, Registers, mode_of};
 use arm2_transfer::{address_by, lowest_of};
-use bus_ticks::{Class, SPACE_END, class_of, word_address};
+use bus_ticks::{Class, SPACE_END, word_address};
 
 /// The words that an instruction transfers where it is carried out.
 #[derive(Clone, Copy, Debug, PartialEq, Eq)]
@@ -62,19 +60,6 @@ pub(crate) fn words_of(registers: &Registers, operation: &Operation) -> Option<T
     }
 }
 
-/// Whether an address of the one class is always one of the other.
-pub(crate) fn covers(class: Class, own: Class) -> bool
-    ensures { result ≡ covers class own }
-{
-    match (class, own) {
-        (Class::Any, _)
-        | (Class::Ram, Class::Ram)
-        | (Class::Rom, Class::Rom)
-        | (Class::Io, Class::Io) => true,
-        _ => false,
-    }
-}
-
 // The first word that is of another class than the one stated, if one is.
 fn other_word(class: Class, transfer: &Transfer) -> Option<Access>
     requires below { transfer.now.address < SPACE_END }
@@ -83,7 +68,7 @@ fn other_word(class: Class, transfer: &Transfer) -> Option<Access>
 {
     for word in 0..transfer.words {
         let address = word_address(transfer.address, word);
-        if !covers(class, class_of(address)) {
+        if !class.is_of(address) {
             return Some(Access {
                 address,
                 store: transfer.store,

@@ -1,8 +1,8 @@
-use Rattle.std.proofs.Common.{◌≡◌, ℕ, ◌<◌, false}
+use Rattle.std.proofs.Common.{◌≡◌, ℕ, ◌<◌}
 use Rattle.flow_graph.specs.Places.{place_at}
 use Rattle.longest_walk.specs.Built.{step_at}
-use Rattle.kept_runs.specs.Edges.{is_met}
+use Rattle.kept_runs.specs.Edges.{IsMet}
 use Rattle.kept_runs.proofs.edges.edge_taken.Given as goal
 
 abbrev pub invariant-loop-edge : goal.invariant-loop-edge
-invariant-loop-edge l = (k : ℕ) → k < l.edge → (step_at l.graph.edges k).from ≡ place_at l.graph.places l.place → is_met l.going (step_at l.graph.edges k) ≡ false
+invariant-loop-edge l = (k : ℕ) → k < l.edge → (step_at l.graph.edges k).from ≡ place_at l.graph.places l.place → IsMet l.going (step_at l.graph.edges k) → ⊥
