@@ -38,7 +38,7 @@ pub use law::lines_are_spelled;
 pub use lines::{Line, first_line, read_line};
 pub use names::{Head, Suffix, cond_letters, opcode_letters};
 pub use number::{read_hex, read_number};
-pub use printed_lines::{Shown, read_shown};
+pub use printed_lines::{Shown, WORD_LINE_ROOM, read_shown};
 pub use statement::TextFault;
 pub use syntax::{
     Action, Address, Amount, BlockTransfer, Code, Data, Distance, Operand, Product, Reference,

@@ -16,6 +16,9 @@ use crate::token::{Token, next};
 use crate::word::{Word, read_word};
 use arrayvec::ArrayVec;
 
+/// The most bytes of the line of a word that is shown.
+pub const WORD_LINE_ROOM: usize = 64;
+
 /// A word that a line says: one of numbers and registers, or one with a number as its target.
 #[derive(Clone, Copy)]
 pub enum Shown {
@@ -24,8 +27,8 @@ pub enum Shown {
 }
 
 // The tokens of a short text, without memory.
-fn few_tokens(text: &[u8]) -> ArrayVec<Token<'_>, 64>
-    requires { length text.now ≤ 64 }
+fn few_tokens(text: &[u8]) -> ArrayVec<Token<'_>, WORD_LINE_ROOM>
+    requires { length text.now ≤ WORD_LINE_ROOM }
     ensures { map piece_of result.items ≡ pieces text.now }
 {
     let mut few = ArrayVec::new();
@@ -52,7 +55,7 @@ fn is_upper(text: &[u8]) -> bool
 fn is_shown_line(text: &[u8]) -> bool
     ensures { result ≡ is_shown_text text.now }
 {
-    are_shown_bytes(text) && is_upper(text) && text.len() <= 64
+    are_shown_bytes(text) && is_upper(text) && text.len() <= WORD_LINE_ROOM
 }
 
 fn shown_statement(statement: &Statement<'_>) -> Option<Shown>
@@ -127,7 +130,7 @@ fn blank_statement(tokens: &[Token<'_>]) -> Option<Shown>
 }
 
 /// Reads a line after its blank, without memory, where it may be shown (in upper case, without a comment, of
-/// at most 64 bytes) and says an instruction without a label. Every such line is read.
+/// at most [`WORD_LINE_ROOM`] bytes) and says an instruction without a label. Every such line is read.
 #[tactic(auto, using(crate::proofs::ShownLaws::upper_shown, crate::proofs::ShownLaws::short_shown))]
 pub fn read_shown(text: &[u8]) -> Option<Shown>
     ensures found { IfSome result (λ s. line_of (32 ∷ text.now) ≡ Ok (parsed_shown s)) }

@@ -18,7 +18,7 @@ use arm2_decode::{
     Block, Branch, Cond, DataImmediate, DataRegister, DataRegisterShift, Instr, Multiply, Opcode,
     Operation, Register, Shift, SingleImmediate, SingleRegister, Swi, bit_of_word,
 };
-use asm_text::{cond_letters, opcode_letters};
+use asm_text::{WORD_LINE_ROOM, cond_letters, opcode_letters};
 use bus_ticks::SPACE_END;
 
 fn cond_bytes(cond: Cond) -> &'static [u8]
@@ -158,7 +158,7 @@ struct TransferFront {
 impl Line {
     // A register, by its number.
     fn push_numbered(&mut self, n: u32)
-        requires { length self.old + length (numbered n) ≤ 64 }
+        requires { length self.old + length (numbered n) ≤ WORD_LINE_ROOM }
         ensures { self.new ≡ self.old ++ numbered n }
     {
         self.put_all(b"R");
@@ -167,7 +167,7 @@ impl Line {
 
     #[tactic(auto, using(crate::proofs::ShownLaws::numbered_short))]
     fn push_register(&mut self, register: Register)
-        requires { length self.old + 3 ≤ 64 }
+        requires { length self.old + 3 ≤ WORD_LINE_ROOM }
         ensures text { self.new ≡ self.old ++ register_text register }
         ensures room { length self.new ≤ length self.old + 3 }
     {
@@ -175,7 +175,7 @@ impl Line {
     }
 
     fn push_comma_register(&mut self, register: Register)
-        requires { length self.old + 4 ≤ 64 }
+        requires { length self.old + 4 ≤ WORD_LINE_ROOM }
         ensures text { self.new ≡ self.old ++ comma_register register }
         ensures room { length self.new ≤ length self.old + 4 }
     {
@@ -185,7 +185,7 @@ impl Line {
 
     // `#` and a number.
     fn push_number(&mut self, n: u32)
-        requires { length self.old + 11 ≤ 64 }
+        requires { length self.old + 11 ≤ WORD_LINE_ROOM }
         ensures text { self.new ≡ self.old ++ (codes "#" ++ decimal n) }
         ensures room { length self.new ≤ length self.old + 11 }
     {
@@ -195,7 +195,7 @@ impl Line {
 
     // A word with its condition and suffix, and the blank after it.
     fn push_word(&mut self, name: &[u8], cond: Cond, suffix: &[u8])
-        requires { length self.old + (length name.now + length suffix.now + 3) ≤ 64 }
+        requires { length self.old + (length name.now + length suffix.now + 3) ≤ WORD_LINE_ROOM }
         ensures text { self.new ≡ self.old ++ word_text name.now cond suffix.now }
         ensures room { length self.new ≤ length self.old + (length name.now + length suffix.now + 3) }
     {
@@ -206,7 +206,7 @@ impl Line {
     }
 
     fn push_amount(&mut self, shift: Shift, amount: u32)
-        requires { length self.old + 16 ≤ 64 }
+        requires { length self.old + 16 ≤ WORD_LINE_ROOM }
         ensures text { self.new ≡ self.old ++ amount_text shift amount }
         ensures room { length self.new ≤ length self.old + 16 }
     {
@@ -216,7 +216,7 @@ impl Line {
 
     // The shift by an amount, or what an amount of 0 is written as.
     fn push_amount_or(&mut self, shift: Shift, amount: u32, zero: &[u8])
-        requires { length self.old + (length zero.now + 16) ≤ 64 }
+        requires { length self.old + (length zero.now + 16) ≤ WORD_LINE_ROOM }
         ensures text { self.new ≡ self.old ++ (if amount == 0 then zero.now else amount_text shift amount) }
         ensures room { length self.new ≤ length self.old + (length zero.now + 16) }
     {
@@ -229,7 +229,7 @@ impl Line {
 
     // The shift of a register by an amount as a word has it; a plain register has none.
     fn push_shift(&mut self, shift: Shift, amount: u32)
-        requires { length self.old + 20 ≤ 64 }
+        requires { length self.old + 20 ≤ WORD_LINE_ROOM }
         ensures text { self.new ≡ self.old ++ shifted_text shift amount }
         ensures room { length self.new ≤ length self.old + 20 }
     {
@@ -242,7 +242,7 @@ impl Line {
     }
 
     fn push_compare(&mut self, cond: Cond, opcode: Opcode, rn: Register, rd: Register)
-        requires { length self.old + 16 ≤ 64 }
+        requires { length self.old + 16 ≤ WORD_LINE_ROOM }
         ensures text { self.new ≡ self.old ++ compare_front cond opcode rn rd }
         ensures room { length self.new ≤ length self.old + 16 }
     {
@@ -252,7 +252,7 @@ impl Line {
     }
 
     fn push_move(&mut self, cond: Cond, opcode: Opcode, sets_flags: bool, rd: Register)
-        requires { length self.old + 16 ≤ 64 }
+        requires { length self.old + 16 ≤ WORD_LINE_ROOM }
         ensures text { self.new ≡ self.old ++ move_front cond opcode sets_flags rd }
         ensures room { length self.new ≤ length self.old + 16 }
     {
@@ -262,7 +262,7 @@ impl Line {
     }
 
     fn push_three(&mut self, cond: Cond, x: DataFront)
-        requires { length self.old + 16 ≤ 64 }
+        requires { length self.old + 16 ≤ WORD_LINE_ROOM }
         ensures text { self.new ≡ self.old ++ three_front cond x.opcode x.sets_flags x.rn x.rd }
         ensures room { length self.new ≤ length self.old + 16 }
     {
@@ -274,7 +274,7 @@ impl Line {
 
     // The word, and the registers in front of the last operand.
     fn push_data(&mut self, cond: Cond, x: DataFront)
-        requires { length self.old + 16 ≤ 64 }
+        requires { length self.old + 16 ≤ WORD_LINE_ROOM }
         ensures text { self.new ≡ self.old ++ data_front cond x.opcode x.sets_flags x.rn x.rd }
         ensures room { length self.new ≤ length self.old + 16 }
     {
@@ -289,7 +289,7 @@ impl Line {
 
     // LDR or STR with Rd and the base, up to what follows the base.
     fn push_transfer(&mut self, cond: Cond, x: TransferFront)
-        requires { length self.old + 16 ≤ 64 }
+        requires { length self.old + 16 ≤ WORD_LINE_ROOM }
         ensures text { self.new ≡ self.old ++ transfer_front cond x.load x.byte x.user x.rd x.rn }
         ensures room { length self.new ≤ length self.old + 16 }
     {
@@ -300,7 +300,7 @@ impl Line {
     }
 
     fn push_offset(&mut self, before: bool, up: bool, offset: u32)
-        requires { length self.old + 14 ≤ 64 }
+        requires { length self.old + 14 ≤ WORD_LINE_ROOM }
         ensures text { self.new ≡ self.old ++ offset_text before up offset }
         ensures room { length self.new ≤ length self.old + 14 }
     {
@@ -312,7 +312,7 @@ impl Line {
 
     #[tactic(auto, using(crate::proofs::ShownLaws::and_none))]
     fn push_offset_of(&mut self, x: SingleImmediate)
-        requires { length self.old + 14 ≤ 64 }
+        requires { length self.old + 14 ≤ WORD_LINE_ROOM }
         ensures text { self.new
             ≡ self.old ++ (if is_plain x then [] else offset_text x.before x.up x.offset) }
         ensures room { length self.new ≤ length self.old + 14 }
@@ -326,7 +326,7 @@ impl Line {
     // A register of a list that is not in a run with the one before.
     fn push_first(&mut self, list: u32, n: u32)
         requires number { n < 16 }
-        requires room { length self.old + length (run_first list n) ≤ 64 }
+        requires room { length self.old + length (run_first list n) ≤ WORD_LINE_ROOM }
         ensures { self.new ≡ self.old ++ run_first list n }
     {
         if !is_lowest(list, n) {
@@ -341,7 +341,7 @@ impl Line {
     #[tactic(auto, using(crate::proofs::ShownLaws::and_none))]
     fn push_last(&mut self, list: u32, n: u32)
         requires number { n < 16 }
-        requires room { length self.old + length (run_last list n) ≤ 64 }
+        requires room { length self.old + length (run_last list n) ≤ WORD_LINE_ROOM }
         ensures { self.new ≡ self.old ++ run_last list n }
     {
         if bit_of_word(list, n + 1) {
@@ -354,7 +354,7 @@ impl Line {
     #[tactic(auto, using(crate::proofs::ShownLaws::and_none))]
     fn push_listed(&mut self, list: u32, n: u32)
         requires number { n < 16 }
-        requires room { length self.old + length (listed list n) ≤ 64 }
+        requires room { length self.old + length (listed list n) ≤ WORD_LINE_ROOM }
         ensures { self.new ≡ self.old ++ listed list n }
     {
         if !bit_of_word(list, n) {
@@ -368,7 +368,7 @@ impl Line {
     }
 
     fn push_registers(&mut self, list: u32)
-        requires { length self.old + 45 ≤ 64 }
+        requires { length self.old + 45 ≤ WORD_LINE_ROOM }
         ensures text { self.new ≡ self.old ++ listed_below list 16 }
         ensures room { length self.new ≤ length self.old + 45 }
     {
@@ -379,7 +379,7 @@ impl Line {
 
     // The registers of a list: those side by side as runs.
     fn push_list(&mut self, list: u32)
-        requires { length self.old + 47 ≤ 64 }
+        requires { length self.old + 47 ≤ WORD_LINE_ROOM }
         ensures text { self.new ≡ self.old ++ list_text list }
         ensures room { length self.new ≤ length self.old + 47 }
     {
@@ -391,7 +391,7 @@ impl Line {
     // A mark of one byte, or none.
     #[tactic(auto, using(crate::proofs::ShownLaws::and_none))]
     fn push_mark(&mut self, is_set: bool, mark: u8)
-        requires { length self.old + 1 ≤ 64 }
+        requires { length self.old + 1 ≤ WORD_LINE_ROOM }
         ensures text { self.new ≡ self.old ++ mark_if is_set (mark ∷ []) }
         ensures room { length self.new ≤ length self.old + 1 }
     {
@@ -403,7 +403,7 @@ impl Line {
 
     // The list of a block and its mark.
     fn push_last_operand(&mut self, list: u32, user: bool)
-        requires { length self.old + 49 ≤ 64 }
+        requires { length self.old + 49 ≤ WORD_LINE_ROOM }
         ensures text { self.new ≡ self.old ++ list_operand list user }
         ensures room { length self.new ≤ length self.old + 49 }
     {
@@ -414,7 +414,7 @@ impl Line {
 
     // Rd,Rm,Rs of a multiply.
     fn push_factors(&mut self, x: Multiply)
-        requires { length self.old + 11 ≤ 64 }
+        requires { length self.old + 11 ≤ WORD_LINE_ROOM }
         ensures text { self.new ≡ self.old ++ factors_text x }
         ensures room { length self.new ≤ length self.old + 11 }
     {

@@ -2,14 +2,14 @@ ghost use Rattle.std.specs.Prelude.{◌≡◌, ◌+◌, ◌<◌, ◌≤◌, ◌+
 ghost use Rattle.asm_text.specs.Hex.{hex};
 
 use arrayvec::ArrayVec;
-use asm_text::hex_text;
+use asm_text::{WORD_LINE_ROOM, hex_text};
 use itoa::Buffer;
 use std::marker::Model;
 
-/// A line of at most 64 bytes, in place.
+/// The line of a word, of at most [`WORD_LINE_ROOM`] bytes, in place.
 #[derive(Drop)]
 pub struct Line {
-    bytes: ArrayVec<u8, 64>,
+    bytes: ArrayVec<u8, WORD_LINE_ROOM>,
 }
 
 impl Model for Line {
@@ -33,14 +33,14 @@ impl Line {
     /// The bytes of the line.
     pub fn items(&self) -> &[u8]
         ensures bytes { result.now ≡ self.now }
-        ensures short { length result.now ≤ 64 }
+        ensures short { length result.now ≤ WORD_LINE_ROOM }
     {
         self.bytes.as_slice()
     }
 
     /// Adds a byte.
     pub(crate) fn put(&mut self, b: u8)
-        requires { length self.old < 64 }
+        requires { length self.old < WORD_LINE_ROOM }
         ensures { self.new ≡ self.old ++ b ∷ [] }
     {
         self.bytes.push(b);
@@ -48,7 +48,7 @@ impl Line {
 
     /// Adds all bytes of a text.
     pub(crate) fn put_all(&mut self, text: &[u8])
-        requires { length self.old + length text.now ≤ 64 }
+        requires { length self.old + length text.now ≤ WORD_LINE_ROOM }
         ensures { self.new ≡ self.old ++ text.now }
     {
         for b in text {
@@ -58,7 +58,7 @@ impl Line {
 
     /// Adds a number in decimal, which fits.
     pub(crate) fn put_decimal(&mut self, n: u32)
-        requires { length self.old + length (decimal n) ≤ 64 }
+        requires { length self.old + length (decimal n) ≤ WORD_LINE_ROOM }
         ensures { self.new ≡ self.old ++ decimal n }
     {
         let mut buffer = Buffer::new();
@@ -67,7 +67,7 @@ impl Line {
 
     /// Adds a number in decimal.
     pub(crate) fn push_decimal(&mut self, n: u32)
-        requires { length self.old + 10 ≤ 64 }
+        requires { length self.old + 10 ≤ WORD_LINE_ROOM }
         ensures text { self.new ≡ self.old ++ decimal n }
         ensures room { length self.new ≤ length self.old + 10 }
     {
@@ -76,7 +76,7 @@ impl Line {
 
     /// Adds a number in upper-case hexadecimal, without leading zeros.
     pub(crate) fn push_hex(&mut self, n: u64)
-        requires { length self.old + length (hex n) ≤ 64 }
+        requires { length self.old + length (hex n) ≤ WORD_LINE_ROOM }
         ensures { self.new ≡ self.old ++ hex n }
     {
         self.put_all(hex_text(n).as_slice());

@@ -7,8 +7,9 @@ ghost use Rattle.asm_text.specs.Appended.{Appends};
 ghost use Rattle.trace_text.specs.TraceText.{IsTraceLine};
 
 use arm2_exec::Traced;
+use asm_text::WORD_LINE_ROOM;
 use assembler::disassemble;
-use trace_text::{LINE_ROOM, WORD_LINE_ROOM, hex_word, trace_line};
+use trace_text::{LINE_ROOM, hex_word, trace_line};
 
 /// Adds a text.
 pub(crate) fn put(out: &mut Vec<u8>, text: &[u8])

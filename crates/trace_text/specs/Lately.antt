@@ -2,8 +2,8 @@
 -- them.
 use Rattle.std.specs.Prelude.{◌≡◌, ◌≤◌, ℕ, List, take, Option, Some, None, slice_index_or}
 use Rattle.assembler.specs.ShownLines.{IsShown}
+use Rattle.asm_text.specs.declared.printed_lines.TheConstants.{WORD_LINE_ROOM}
 use Rattle.trace_text.specs.declared.shown.Shown.{Shown}
-use Rattle.trace_text.specs.declared.trace.TheConstants.{WORD_LINE_ROOM}
 
 -- the line that is kept fits its room, and is the one that is shown for its word
 pub record IsRight (row : Shown) : Type 0 where

@@ -10,4 +10,4 @@ mod trace;
 pub use figures::{hex_word, why_name, write_stop, write_ticks};
 pub use registers::write_registers;
 pub use run::write_run;
-pub use trace::{LINE_ROOM, WORD_LINE_ROOM, exception_name, trace_line};
+pub use trace::{LINE_ROOM, exception_name, trace_line};

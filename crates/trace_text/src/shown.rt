@@ -5,8 +5,9 @@ ghost use Rattle.assembler.specs.ShownLines.{IsShown};
 ghost use Rattle.trace_text.specs.Lately.{AreRight, IsRight};
 ghost use Rattle.asm_text.specs.Appended.{Appends};
 
-use crate::trace::{LINE_ROOM, WORD_LINE_ROOM};
+use crate::trace::LINE_ROOM;
 use arrayvec::ArrayString;
+use asm_text::WORD_LINE_ROOM;
 use assembler::disassemble;
 
 // How many words are kept: one for each place in 256 bytes.

@@ -8,11 +8,9 @@ use crate::figures::hex_word;
 use crate::shown::ShownLately;
 use arm2_exec::{Kind, Traced, Vector};
 use arrayvec::ArrayString;
+use asm_text::WORD_LINE_ROOM;
 use itoa::Buffer;
 use std::alloc::AllocError;
-
-/// The most bytes of a word's line.
-pub const WORD_LINE_ROOM: usize = 64;
 
 /// The most bytes of a step's line: 29 of its address, its word and its ticks, [`WORD_LINE_ROOM`] of its
 /// word's line, and the line's end.
