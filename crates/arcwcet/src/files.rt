@@ -22,10 +22,10 @@ pub trait Store {
     /// What a read of a name may return, and the store after it; the default says nothing.
     ghost read_gives: { Reading Self } = { λ _ _ _ _. Unit {0} };
 
-    /// The file's bytes, of which there are at most 16,777,216.
+    /// The file's bytes, of which there are at most [`LIMIT`].
     fn read(&mut self, alloc: Global, name: &str) -> Result<Vec<u8>, StoreFault>
         ensures gives { read_gives self.old name.now (bytes_read result) self.new }
-        ensures limit { IfOk result (λ v. vec_len v ≤ 16777216) };
+        ensures limit { IfOk result (λ v. vec_len v ≤ LIMIT) };
 
     /// What a write of bytes to a name may return, and the store after it; the default says nothing.
     ghost write_gives: { Writing Self } = { λ _ _ _ _ _. Unit {0} };
