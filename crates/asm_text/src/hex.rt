@@ -3,8 +3,8 @@ ghost use Rattle.asm_text.specs.Hex.{hex, hex8, hex_digit};
 
 use arrayvec::ArrayVec;
 
-/// The upper-case hexadecimal digit of a number below 16.
-pub fn hex_digit(n: u32) -> u8
+// The upper-case hexadecimal digit of a number below 16.
+fn hex_digit(n: u32) -> u8
     requires { n < 16 }
     ensures { result ≡ hex_digit n }
 {

@@ -33,7 +33,7 @@ mod table;
 mod token;
 mod word;
 
-pub use hex::{hex_digit, hex_text, hex8};
+pub use hex::{hex_text, hex8};
 pub use law::lines_are_spelled;
 pub use lines::{Line, first_line, read_line};
 pub use names::{Head, Suffix, cond_letters, opcode_letters};
@@ -45,4 +45,4 @@ pub use syntax::{
     Shifting, Statement, Transfer, Use, Value,
 };
 pub use token::{Mark, Token, after_blanks, is_blank, tokens};
-pub use word::{Word, spelled_word};
+pub use word::Word;

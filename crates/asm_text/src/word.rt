@@ -126,7 +126,7 @@ fn read_spelling(alloc: Global, text: &[u8]) -> Result<Option<Word>, AllocError>
 
 /// The word that a text spells, wholly in upper or in lower case. No text spells two. Fails where an
 /// allocation fails.
-pub fn spelled_word(alloc: Global, text: &[u8]) -> Result<Option<Word>, AllocError>
+pub(crate) fn spelled_word(alloc: Global, text: &[u8]) -> Result<Option<Word>, AllocError>
     ensures found { IfOk result (λ word. IfSome word (λ w. IsSpelling text.now w)) }
     ensures only { IfOk result (λ word. (w : Word) → IsSpelling text.now w → word ≡ Some w) }
     ensures exact { IfOk result (λ word. word ≡ spelled_word_of text.now) }

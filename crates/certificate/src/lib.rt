@@ -25,7 +25,7 @@ pub use cert::Cert;
 pub use fault::CertFault;
 pub use law::{longest_can_be_spelled, one_text_each};
 pub use line::WalkLine;
-pub use longest_walk::{InstanceRow, ItemList, PlaceRow};
+pub use longest_walk::{InstanceRow, PlaceRow};
 pub use reading::read_cert;
 pub use walk::{CertItem, CertWalk, StepLine, To};
 pub use writing::{print_cert, write_cert, write_edge};

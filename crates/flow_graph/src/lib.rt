@@ -31,7 +31,5 @@ pub use free::is_free;
 pub use law::{order_of_places, run_law, step_law, tight_law};
 pub use places::Place;
 pub use search::MOST_PLACES;
-pub use statement::{
-    Loop, MOST_ROUNDS, Statement, StatementFault, Target, TargetKind, read_statement,
-};
+pub use statement::{Loop, MOST_ROUNDS, Statement, StatementFault, read_statement};
 pub use tight::{Tight, TightFault, tight_state};

@@ -6,7 +6,7 @@ use bus_ticks::Class;
 
 /// A class of addresses in place of another.
 #[derive(Clone, Copy)]
-pub struct ClassChange {
+pub(crate) struct ClassChange {
     pub present: Class,
     pub better: Class,
 }

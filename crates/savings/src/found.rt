@@ -18,7 +18,7 @@ use std::collections::BTreeMap;
 
 /// Whose price would be less.
 #[derive(Clone, Copy)]
-pub enum Subject {
+pub(crate) enum Subject {
     /// That of the word at an address: the address, and the word.
     Word(u32, u32),
     /// That of the way out of the handler.
@@ -27,11 +27,11 @@ pub enum Subject {
 
 /// What a greatest walk would cost less by a better entry of a statement, or a better multiplier.
 #[derive(Clone, Copy)]
-pub struct Saving {
-    pub subject: Subject,
-    pub refinement: Refinement,
+pub(crate) struct Saving {
+    pub(crate) subject: Subject,
+    pub(crate) refinement: Refinement,
     /// In all, capped at 2^64 - 1.
-    pub ticks: u64,
+    pub(crate) ticks: u64,
 }
 
 // What the prices of words take for granted, and how often the words are carried out, by their addresses.
@@ -145,7 +145,7 @@ fn found_savings(
 /// # Errors
 ///
 /// An allocation failed.
-pub fn savings(
+pub(crate) fn savings(
     alloc: Global,
     handler: StatedGraph<'_>,
     longest: &Longest,

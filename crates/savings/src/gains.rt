@@ -9,7 +9,7 @@ use bus_ticks::{Class, Profile, worst_leave, worst_transfer};
 
 /// What a price would take for granted in place of what it does.
 #[derive(Clone, Copy)]
-pub enum Refinement {
+pub(crate) enum Refinement {
     /// That a multiply takes 15 cycles, and not 16.
     Multiplier,
     /// Addresses of another class.

@@ -9,8 +9,5 @@ mod gains;
 mod law;
 mod sections;
 
-pub use classes::ClassChange;
-pub use found::{Saving, Subject, savings};
-pub use gains::Refinement;
 pub use law::{gains_are_of_the_prices, next_class_is_the_dearest_below, times_are_of_the_walk};
 pub use sections::{image_savings, source_savings};

@@ -6,8 +6,8 @@ use asm_text::hex8;
 use bus_ticks::Class;
 use std::alloc::AllocError;
 
-/// Adds a name in double quotes. An error says that an allocation failed.
-pub fn put_quoted(out: &mut Vec<u8>, name: &[u8]) -> Result<(), AllocError>
+// Adds a name in double quotes. An error says that an allocation failed.
+fn put_quoted(out: &mut Vec<u8>, name: &[u8]) -> Result<(), AllocError>
     ensures { OnOk result (out.new.items ≡ out.old.items ++ quoted name.now) }
 {
     put(out, b"\"")?;

@@ -8,7 +8,7 @@ mod line_labels;
 mod lines;
 mod rows;
 
-pub use addresses::{class_name, put_labelled, put_quoted};
+pub use addresses::{class_name, put_labelled};
 pub use by_address::lines_by_address;
 pub use columns::{ROW_COLUMNS, put, put_cut_row, put_decimal, put_number, put_right};
 pub use line_labels::{SourceLine, first_word, label_of};

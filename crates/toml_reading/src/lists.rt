@@ -30,7 +30,7 @@ pub fn values_of(value: &Value) -> Option<&[Value]>
 }
 
 /// What is read of each value of a list. An error says that an allocation failed.
-pub fn read_list<T: Entry<C, F>, C, F: Fault>(
+pub(crate) fn read_list<T: Entry<C, F>, C, F: Fault>(
     alloc: Global,
     context: &C,
     values: &[Value],

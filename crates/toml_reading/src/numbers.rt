@@ -9,8 +9,8 @@ use crate::readings::{Fault, Reading};
 use bus_ticks::is_word_address;
 use toml::{Table, Value};
 
-/// The number, where it is from 0 to the limit.
-pub fn up_to<F: Fault>(number: i64, limit: u32) -> Reading<u32, F>
+// The number, where it is from 0 to the limit.
+fn up_to<F: Fault>(number: i64, limit: u32) -> Reading<u32, F>
     ensures { result ≡ up_to F.faults limit number }
 {
     match u32::try_from(number) {
