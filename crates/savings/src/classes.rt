@@ -7,8 +7,8 @@ use bus_ticks::Class;
 /// A class of addresses in place of another.
 #[derive(Clone, Copy)]
 pub(crate) struct ClassChange {
-    pub present: Class,
-    pub better: Class,
+    pub(crate) present: Class,
+    pub(crate) better: Class,
 }
 
 /// What an access costs in ticks by the class of its addresses: by any, which is the present one, and by
