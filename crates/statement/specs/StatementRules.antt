@@ -34,7 +34,8 @@ IsAddress names _ a = ⊥
 abbrev pub AddressFault : Names → Data → StatementFault → Type 0
 AddressFault names (integer z) fault = IsNoAddress z × (fault ≡ OutOfRange)
 AddressFault names (string name) fault =
-    MatchOption (names name) (fault ≡ UnknownLabel) (λ a. (¬ IsTrue (is_word_address a)) × (fault ≡ OutOfRange))
+    MatchOption (names name) (fault ≡ UnknownLabel)
+    (λ a. (¬ IsTrue (is_word_address a)) × (fault ≡ OutOfRange))
 AddressFault names _ fault = fault ≡ WrongKind
 
 -- the fault of a key that must be there: it is missing, or its value has the fault
