@@ -34,7 +34,7 @@ pub struct StatedGraph<'a> {
 
 // A source, and where its lines are.
 #[derive(Clone, Copy)]
-struct StoodLines<'a> {
+struct PlacedSource<'a> {
     source: &'a [u8],
     placed: &'a [PlacedLine],
 }
@@ -52,7 +52,7 @@ fn heading(what: Assumption) -> &'static [u8]
 fn source_section(
     alloc: Global,
     heading: &[u8],
-    lines: StoodLines<'_>,
+    lines: PlacedSource<'_>,
     named: &[u32],
 ) -> Result<Vec<u8>, AllocError>
     requires { IsStrictlySortedBy nat_cmp named.now }
@@ -84,7 +84,7 @@ fn image_section(
 fn source_assumed(
     alloc: Global,
     handler: StatedGraph<'_>,
-    lines: StoodLines<'_>,
+    lines: PlacedSource<'_>,
     what: Assumption,
 ) -> Result<Vec<u8>, AllocError>
     ensures { IfOk result
@@ -101,7 +101,7 @@ fn source_assumed(
 fn source_lost(
     alloc: Global,
     handler: StatedGraph<'_>,
-    lines: StoodLines<'_>,
+    lines: PlacedSource<'_>,
 ) -> Result<Vec<u8>, AllocError>
     ensures { IfOk result
         (λ text. IsSection
@@ -157,7 +157,7 @@ pub fn source_assumptions(
         (λ text. AreSourceAssumptions source.now placed.now handler.entry.image.now
         handler.entry.statement.now handler.entry.graph.now text.items) }
 {
-    let lines = StoodLines { source, placed };
+    let lines = PlacedSource { source, placed };
     let mut text = source_assumed(alloc, handler, lines, Assumption::TakenForReturn)?;
     let lost = source_lost(alloc, handler, lines)?;
     put(&mut text, &lost)?;
