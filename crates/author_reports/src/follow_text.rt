@@ -103,7 +103,7 @@ pub(crate) fn why_text(
     }
 }
 
-fn line_text(alloc: Global, line: Option<usize>) -> Result<String, AllocError>
+fn line_text(alloc: Global, line: Option<u64>) -> Result<String, AllocError>
     ensures { IfOk result (λ text. string_bytes text ≡ line_text line) }
 {
     match line {
@@ -118,7 +118,7 @@ pub(crate) fn strayed_text(
     alloc: Global,
     steps: u64,
     at: u32,
-    line: Option<usize>,
+    line: Option<u64>,
     why: &str,
 ) -> Result<String, AllocError>
     ensures { IfOk result (λ text. string_bytes text ≡ strayed_text steps at line why.now) }
@@ -132,7 +132,7 @@ pub(crate) fn line_of(
     alloc: Global,
     source: &[u8],
     address: u32,
-) -> Result<Option<usize>, ReportFault>
+) -> Result<Option<u64>, ReportFault>
     ensures line { IfOk result (IsLineAt source.now address) }
     ensures fault { IfErr result (IsSourceFault source.now) }
 {
