@@ -62,7 +62,7 @@ abbrev pub is_mov : Opcode → Bool
 is_mov Mov = true
 is_mov _ = false
 
--- the numbers 8 to 11 of TST TEQ CMP CMN, which write flags alone
+-- the numbers 8 to 11, of TST TEQ CMP CMN, which leave no result in Rd
 abbrev pub is_compare_number : ℕ → Bool
 is_compare_number number = number / 4 == 2
 

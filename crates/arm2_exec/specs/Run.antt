@@ -29,7 +29,7 @@ counted burst i stepped rest =
       stopped = rest.stopped;
     }
 
--- one step after others
+-- one step after others: its ticks, and those that pass with its bursts
 abbrev pub further : (burst : ℕ) → Input → Stepped → Ran → Ran
 further burst i stepped ran =
     record {

@@ -108,7 +108,7 @@ impl Ran {
     pub fn count(&mut self, profile: &Profile, input: Input, stepped: Stepped)
         requires within { IsWithin (2 ^ 63) self.old }
         requires small { stepped.ticks < 2 ^ 16 }
-        ensures counted { self.new ≡ further profile.now.burst input stepped self.old }
+        ensures step { self.new ≡ further profile.now.burst input stepped self.old }
         ensures bound { (made : ℕ) → IsWithin made self.old → IsWithin (made + 1) self.new }
     {
         let ticks = u128::from(stepped.ticks);

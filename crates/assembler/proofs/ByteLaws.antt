@@ -27,7 +27,8 @@ use Rattle.asm_text.specs.Shown.{is_shown, is_shown_text, is_upper}
 use Rattle.asm_text.specs.Words.{branch_name}
 use Rattle.asm_text.specs.Hex.{hex}
 use Rattle.arm2_decode.specs.Bits.{bit_of_word}
-use Rattle.assembler.specs.ShownLines.{amount_text, block_name, block_suffix, block_text, closed, comma_register, compare_front, compare_text, cond_text, data_front, factors_text, flags_text, follows, is_plain, is_user, list_operand, list_text, listed, listed_below, load_name, mark_if, move_front, multiply_text, numbered, offset_text, opened, operation_text, register_text, run_first, run_last, shift_text, shifted_text, shown_line, sign_of, single_immediate_text, single_register_text, shown_target, three_front, transfer_front, transfer_suffix, word_text}
+use Rattle.arm2_decode.specs.Transfers.{asks_for_user}
+use Rattle.assembler.specs.ShownLines.{amount_text, block_name, block_suffix, block_text, closed, comma_register, compare_front, compare_text, cond_text, data_front, factors_text, flags_text, follows, is_plain, list_operand, list_text, listed, listed_below, load_name, mark_if, move_front, multiply_text, numbered, offset_text, opened, operation_text, register_text, run_first, run_last, shift_text, shifted_text, shown_line, sign_of, single_immediate_text, single_register_text, shown_target, three_front, transfer_front, transfer_suffix, word_text}
 
 is_spelled : ℕ → Bool
 is_spelled b = is_shown b && not (is_ascii_lowercase b)
@@ -209,8 +210,8 @@ offset_spelled before up n =
 
 single_immediate_spelled : (c : Cond) (x : SingleImmediate) → Spelled (single_immediate_text c x)
 single_immediate_spelled c x =
-    both (transfer_front c x.load x.byte (is_user x.before x.write_back) x.rd x.rn) (cond (is_plain x) [] (offset_text x.before x.up x.offset) ++ closed x.before x.write_back)
-    (transfer_spelled c x.load x.byte (is_user x.before x.write_back) x.rd x.rn)
+    both (transfer_front c x.load x.byte (asks_for_user x.before x.write_back) x.rd x.rn) (cond (is_plain x) [] (offset_text x.before x.up x.offset) ++ closed x.before x.write_back)
+    (transfer_spelled c x.load x.byte (asks_for_user x.before x.write_back) x.rd x.rn)
     (both (cond (is_plain x) [] (offset_text x.before x.up x.offset)) (closed x.before x.write_back)
     (one_of (is_plain x) [] (offset_text x.before x.up x.offset) refl (offset_spelled x.before x.up x.offset)) (closed_spelled x.before x.write_back))
 
@@ -219,8 +220,8 @@ single_register_spelled c x =
     let end = both (shifted_text x.shift x.amount) (closed x.before x.write_back) (shifted_spelled x.shift x.amount) (closed_spelled x.before x.write_back) in
     let operand = both (register_text x.rm) (shifted_text x.shift x.amount ++ closed x.before x.write_back) (register_spelled x.rm) end in
     let signed = both (sign_of x.up) (register_text x.rm ++ (shifted_text x.shift x.amount ++ closed x.before x.write_back)) (sign_spelled x.up) operand in
-    both (transfer_front c x.load x.byte (is_user x.before x.write_back) x.rd x.rn) (opened x.before ++ (sign_of x.up ++ (register_text x.rm ++ (shifted_text x.shift x.amount ++ closed x.before x.write_back))))
-    (transfer_spelled c x.load x.byte (is_user x.before x.write_back) x.rd x.rn)
+    both (transfer_front c x.load x.byte (asks_for_user x.before x.write_back) x.rd x.rn) (opened x.before ++ (sign_of x.up ++ (register_text x.rm ++ (shifted_text x.shift x.amount ++ closed x.before x.write_back))))
+    (transfer_spelled c x.load x.byte (asks_for_user x.before x.write_back) x.rd x.rn)
     (both (opened x.before) (sign_of x.up ++ (register_text x.rm ++ (shifted_text x.shift x.amount ++ closed x.before x.write_back))) (opened_spelled x.before) signed)
 
 -- ## Blocks

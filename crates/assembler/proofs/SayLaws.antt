@@ -32,7 +32,7 @@ use Rattle.asm_text.specs.declared.word.Word.TheVariants as word
 use Rattle.arm2_decode.specs.Names.{is_compare}
 use Rattle.asm_text.specs.Names.{head_name, may_have, opcode_name, suffix_name}
 use Rattle.asm_text.specs.Numbers.{with_rest}
-use Rattle.asm_text.specs.Operands.{address_of, is_byte, is_user as is_user_suffix}
+use Rattle.asm_text.specs.Operands.{address_of, is_byte, is_user}
 use Rattle.asm_text.specs.Pieces.{Piece, Run, Comma, Sign, Gap, gap_before, is_name, pieces, without_gap}
 use Rattle.asm_text.specs.Registers.{register_of}
 use Rattle.asm_text.specs.Said.{Target, Number, Label, Said, Codes, Refers, Orgs, Lists}
@@ -49,7 +49,8 @@ use Rattle.asm_text.proofs.PieceLaws.{comma_step, first_no_run, pieces-run, sign
 use Rattle.asm_text.proofs.ShownLaws.{blank_line, upper_spelled, blank_pieces}
 use Rattle.asm_text.proofs.WordLaws.{word_again}
 use Rattle.assembler.proofs.PutLaws.{all_append}
-use Rattle.assembler.specs.ShownLines.{GivesBack, shown_line as spelling, target_word, block_name, block_suffix, comma_register, compare_front, compare_text, cond_text, data_front, factors_text, flags_text, is_user, load_name, move_front, operation_text, register_text, three_front, transfer_front, transfer_suffix, word_text}
+use Rattle.arm2_decode.specs.Transfers.{asks_for_user}
+use Rattle.assembler.specs.ShownLines.{GivesBack, shown_line as spelling, target_word, block_name, block_suffix, comma_register, compare_front, compare_text, cond_text, data_front, factors_text, flags_text, load_name, move_front, operation_text, register_text, three_front, transfer_front, transfer_suffix, word_text}
 
 -- ## What is said
 
@@ -124,7 +125,7 @@ at_plain c load s d (Some a) = refl
 single_by : (c : Cond) (load : Bool) (s : Suffix) (qs : List Piece) (o : Option Register)
     → plain_option (option_and_then (λ f. single_with c load s f.0 f.1) (with_rest (Sign OpenBracket ∷ qs) o)) ≡ true
 single_by c load s qs None = refl
-single_by c load s qs (Some d) = at_plain c load s d (address_of (is_user_suffix s) qs)
+single_by c load s qs (Some d) = at_plain c load s d (address_of (is_user s) qs)
 
 -- ## Words
 
@@ -309,8 +310,8 @@ operation_line c (operation.Multiply x) at =
 operation_line c (operation.DataRegister x) at = data_line x.opcode c x.sets_flags x.rn x.rd _
 operation_line c (operation.DataRegisterShift x) at = data_line x.opcode c x.sets_flags x.rn x.rd _
 operation_line c (operation.DataImmediate x) at = data_line x.opcode c x.sets_flags x.rn x.rd _
-operation_line c (operation.SingleImmediate x) at = transfer_line c x.load x.byte (is_user x.before x.write_back) x.rd x.rn _
-operation_line c (operation.SingleRegister x) at = transfer_line c x.load x.byte (is_user x.before x.write_back) x.rd x.rn _
+operation_line c (operation.SingleImmediate x) at = transfer_line c x.load x.byte (asks_for_user x.before x.write_back) x.rd x.rn _
+operation_line c (operation.SingleRegister x) at = transfer_line c x.load x.byte (asks_for_user x.before x.write_back) x.rd x.rn _
 operation_line c (operation.Block x) at = block_line x.load x.before x.up c _
 operation_line c (operation.Branch x) at = branch_line x.link c _
 operation_line c (operation.Swi x) at = coded_line head.Swi c suffix.Bare (decimal x.comment) refl refl

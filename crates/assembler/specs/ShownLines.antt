@@ -27,6 +27,7 @@ use Rattle.arm2_decode.specs.declared.names.Shift.TheVariants.{Lsl, Lsr, Asr, Ro
 use Rattle.arm2_decode.specs.Bits.{bit_of_word}
 use Rattle.arm2_decode.specs.Names.{is_pc, register_number}
 use Rattle.arm2_decode.specs.Table.{Means}
+use Rattle.arm2_decode.specs.Transfers.{asks_for_user}
 use Rattle.bus_ticks.specs.declared.space.TheConstants.{SPACE_END}
 use Rattle.asm_text.specs.Hex.{hex}
 use Rattle.asm_text.specs.Names.{cond_name, opcode_name}
@@ -143,10 +144,6 @@ abbrev pub load_name : Bool → List ℕ
 load_name true = codes "LDR"
 load_name false = codes "STR"
 
--- a write-back after the access is a User access
-abbrev pub is_user : Bool → Bool → Bool
-is_user before write_back = not before && write_back
-
 -- B for a byte, T for a User access
 abbrev pub transfer_suffix : Bool → Bool → List ℕ
 transfer_suffix false false = []
@@ -184,12 +181,12 @@ is_plain x = (x.offset == 0 && x.up) && (x.before && not x.write_back)
 
 abbrev pub single_immediate_text : Cond → SingleImmediate → List ℕ
 single_immediate_text c x =
-    transfer_front c x.load x.byte (is_user x.before x.write_back) x.rd x.rn
+    transfer_front c x.load x.byte (asks_for_user x.before x.write_back) x.rd x.rn
     ++ ((if is_plain x then [] else offset_text x.before x.up x.offset) ++ closed x.before x.write_back)
 
 abbrev pub single_register_text : Cond → SingleRegister → List ℕ
 single_register_text c x =
-    transfer_front c x.load x.byte (is_user x.before x.write_back) x.rd x.rn
+    transfer_front c x.load x.byte (asks_for_user x.before x.write_back) x.rd x.rn
     ++
     (opened x.before
     ++

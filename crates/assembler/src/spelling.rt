@@ -1,5 +1,5 @@
-ghost use Rattle.std.specs.Prelude.{◌≡◌, ◌+◌, ◌*◌, ◌<◌, ◌≤◌, ◌%◌, ◌^◌, ◌==◌, ◌&&◌, ◌++◌, ◌∷◌, [], codes};
-ghost use Rattle.std.specs.Prelude.{decimal, length, not, if◌then◌else◌};
+ghost use Rattle.std.specs.Prelude.{◌≡◌, ◌+◌, ◌*◌, ◌<◌, ◌≤◌, ◌%◌, ◌^◌, ◌==◌, ◌++◌, ◌∷◌, [], codes};
+ghost use Rattle.std.specs.Prelude.{decimal, length, if◌then◌else◌};
 ghost use Rattle.arm2_decode.specs.Bits.{bit_of_word};
 ghost use Rattle.asm_text.specs.Words.{branch_name};
 ghost use Rattle.assembler.specs.ShownLines.{amount_text, block_name, block_suffix, block_text, branch_text};
@@ -16,7 +16,7 @@ ghost use Rattle.assembler.specs.ShownLines.{word_text, compare_text, run_first,
 use crate::text::Line;
 use arm2_decode::{
     Block, Branch, Cond, DataImmediate, DataRegister, DataRegisterShift, Instr, Multiply, Opcode,
-    Operation, Register, Shift, SingleImmediate, SingleRegister, Swi, bit_of_word,
+    Operation, Register, Shift, SingleImmediate, SingleRegister, Swi, asks_for_user, bit_of_word,
 };
 use asm_text::{WORD_LINE_ROOM, cond_letters, opcode_letters};
 use bus_ticks::SPACE_END;
@@ -444,12 +444,6 @@ fn follows(list: u32, n: u32) -> bool
     n > 0 && bit_of_word(list, n - 1)
 }
 
-fn is_user(before: bool, write_back: bool) -> bool
-    ensures { result ≡ (not before && write_back) }
-{
-    !before && write_back
-}
-
 fn multiply(cond: Cond, x: Multiply) -> Line
     ensures { result ≡ multiply_text cond x }
 {
@@ -520,7 +514,7 @@ fn single_immediate(cond: Cond, x: SingleImmediate) -> Line
     let front = TransferFront {
         load: x.load,
         byte: x.byte,
-        user: is_user(x.before, x.write_back),
+        user: asks_for_user(x.before, x.write_back),
         rd: x.rd,
         rn: x.rn,
     };
@@ -537,7 +531,7 @@ fn single_register(cond: Cond, x: SingleRegister) -> Line
     let front = TransferFront {
         load: x.load,
         byte: x.byte,
-        user: is_user(x.before, x.write_back),
+        user: asks_for_user(x.before, x.write_back),
         rd: x.rd,
         rn: x.rn,
     };

@@ -18,7 +18,7 @@ use Rattle.kept_runs.specs.Passing.{ArePasses, Pass}
 use Rattle.kept_runs.specs.declared.following.Unkept.{Unkept}
 use Rattle.report_output.specs.Answers.{Answers}
 use Rattle.author_reports.specs.Differences.{IsTable, compared_at}
-use Rattle.author_reports.specs.FollowText.{IsLineAt, kept_text, strayed_text, why_text}
+use Rattle.author_reports.specs.FollowText.{IsLineNumberAt, kept_text, strayed_text, why_text}
 use Rattle.report_input.specs.Keeping.{KeepsStatement}
 use Rattle.report_input.specs.Placing.{IsFileRefused, IsLoadRefused, IsLoaded, IsRunnable}
 use Rattle.report_input.specs.Report.{IsAccepted, IsRefused, IsTreeOf}
@@ -64,7 +64,7 @@ module _ (words : Words) (stated : Stated) (profile : Profile) (flow : Flow) (st
       pub line : Option ℕ
       pub none : NoneKeeps
       pub strays : IsStrayedRun words stated flow tree state inputs steps at why after
-      pub line_is : IsLineAt source at line
+      pub line_is : IsLineNumberAt source at line
       pub text_is : text ≡ strayed_text steps at line (why_text stated at why)
 
     -- true exactly where some number of the inputs makes a run that keeps the statement

@@ -81,7 +81,7 @@ strayed_text steps at line why =
 -- ## The line
 
 -- the number of the line of a text that has a word at the address; an image has no lines
-pub record IsLineAt (source : List ℕ) (address : ℕ) (line : Option ℕ) : Type 0 where
+pub record IsLineNumberAt (source : List ℕ) (address : ℕ) (line : Option ℕ) : Type 0 where
   pub of_image : is_image source ≡ true → line ≡ None
   pub of_text : is_image source ≡ false
       → (placed : List PlacedLine) × ArePlaced source placed

@@ -17,7 +17,7 @@ use Rattle.machine_file.specs.Inputs.{AreInputs}
 use Rattle.machine_file.specs.Stated.{Stated}
 use Rattle.author_reports.specs.Differences.{IsTable, capped_at}
 use Rattle.author_reports.specs.FollowReport.{IsFollowRefused, IsFollowReport, IsRunText}
-use Rattle.author_reports.specs.FollowText.{IsLineAt, kept_text, strayed_text, why_text}
+use Rattle.author_reports.specs.FollowText.{IsLineNumberAt, kept_text, strayed_text, why_text}
 use Rattle.author_reports.specs.declared.follow.FollowedRun.{FollowedRun}
 use Rattle.report_output.specs.declared.fault.ReportFault.{ReportFault}
 
@@ -42,7 +42,8 @@ IsFollowedText source words st flow longest (Kept steps ticks by_place) kept tex
     (kept ≡ true) × IsTallyText source words flow longest ticks by_place.items text
 IsFollowedText source words st flow longest (Strayed steps at why) kept text =
     (kept ≡ false)
-    × ((line : Option ℕ) × IsLineAt source at line × (text ≡ strayed_text steps at line (why_text st at why)))
+    × ((line : Option ℕ) × IsLineNumberAt source at line
+    × (text ≡ strayed_text steps at line (why_text st at why)))
 
 -- the answer on the run of a machine from a state, by the inputs that its file states
 pub record IsJudgedRun (words : Words) (st : statement.Stated) (flow : Flow) (tree : Tree)

@@ -7,7 +7,7 @@ ghost use Rattle.kept_runs.specs.Judging.{IsMachineFor};
 ghost use Rattle.longest_walk.specs.Longest.{IsLongest};
 ghost use Rattle.loop_bounds.specs.Bounds.{IsGreatestCost};
 ghost use Rattle.author_reports.specs.FollowReport.{FollowsRun};
-ghost use Rattle.author_reports.specs.FollowText.{IsLineAt, strayed_text, why_text};
+ghost use Rattle.author_reports.specs.FollowText.{IsLineNumberAt, strayed_text, why_text};
 ghost use Rattle.author_reports.specs.FollowWork.{HasAllPlaces, IsJudgedRun, IsRefusalOf, IsReportOn};
 ghost use Rattle.author_reports.specs.FollowWork.{IsFollowedText, IsTallyText};
 ghost use Rattle.report_input.specs.Priced.{Priced};
@@ -15,7 +15,7 @@ ghost use Rattle.report_input.specs.Report.{BeforeOutput, HasLoops, IsTreeOf};
 ghost use Rattle.report_input.specs.Source.{IsSourceFault, Says};
 
 use crate::differences::{Words, differences};
-use crate::follow_text::{kept_text, line_of, strayed_text, why_text};
+use crate::follow_text::{kept_text, line_number_at, strayed_text, why_text};
 use assembler::Assembly;
 use bus_ticks::Profile;
 use flow_graph::{Graph, run_law, step_law};
@@ -88,11 +88,11 @@ fn strayed_run(
     why: Unkept,
 ) -> Result<Vec<u8>, ReportFault>
     ensures text { IfOk result
-        (λ text. (line : Option ℕ) × IsLineAt bounded.entry.source.now at line
+        (λ text. (line : Option ℕ) × IsLineNumberAt bounded.entry.source.now at line
         × (text.items ≡ strayed_text steps at line (why_text bounded.entry.handler.now.statement at why))) }
     ensures fault { IfErr result (IsSourceFault bounded.entry.source.now) }
 {
-    let line = line_of(alloc, bounded.source, at)?;
+    let line = line_number_at(alloc, bounded.source, at)?;
     let why = why_text(alloc, &bounded.handler.statement, at, why)?;
     let text = strayed_text(alloc, steps, at, line, why.as_str())?;
     Ok(Vec::from_slice(alloc, text.as_bytes())?)

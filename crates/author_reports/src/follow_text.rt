@@ -1,7 +1,7 @@
 //! What is printed of a run that is judged by a statement.
 
 ghost use Rattle.std.specs.Prelude.{◌≡◌, IfErr, IfOk, string_bytes};
-ghost use Rattle.author_reports.specs.FollowText.{IsLineAt, access_name, access_text, kept_text};
+ghost use Rattle.author_reports.specs.FollowText.{IsLineNumberAt, access_name, access_text, kept_text};
 ghost use Rattle.author_reports.specs.FollowText.{less_text, line_text};
 ghost use Rattle.author_reports.specs.FollowText.{stray_text, strayed_text, times_text, turned_text};
 ghost use Rattle.author_reports.specs.FollowText.{why_text};
@@ -128,12 +128,12 @@ pub(crate) fn strayed_text(
 }
 
 /// The number of the line of a source that has a word at the address; none of an image.
-pub(crate) fn line_of(
+pub(crate) fn line_number_at(
     alloc: Global,
     source: &[u8],
     address: u32,
 ) -> Result<Option<u64>, ReportFault>
-    ensures line { IfOk result (IsLineAt source.now address) }
+    ensures line { IfOk result (IsLineNumberAt source.now address) }
     ensures fault { IfErr result (IsSourceFault source.now) }
 {
     if source.starts_with(&MAGIC) {

@@ -52,7 +52,7 @@ word_price p rom store first x =
     (if store then p.control else rom_price p rom x)
     (io_price p x)
 
--- a number is the address of a word
+-- the number is the address of a word: a multiple of 4 below 4000000
 abbrev pub is_word_address : ℕ → Bool
 is_word_address n = n % 4 == 0 && nat_lt n SPACE_END
 

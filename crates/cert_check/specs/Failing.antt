@@ -60,7 +60,7 @@ LeaveHolds tree cert e = goes_back tree e ≡ false → goes_out tree e ≡ true
 
 -- ## The walk
 
--- the items stand for a walk from the entry to this place, whose repeats are as they have to be
+-- the items stand for a walk from the entry to this place, whose repeats are as a certificate asks
 pub record IsBegun (flow : Flow) (tree : Tree) (items : List CertItem) (p : Place) : Type 0 where
   pub walk : Followed
   pub followed_is : followed flow items flow.entry ≡ Some walk

@@ -68,7 +68,7 @@ EdgesHold flow tree cert =
 
 -- ## The walk
 
--- what the walk's lines stand for from the entry is a complete walk, whose repeats are as they have to be
+-- what the walk's lines stand for from the entry is a complete walk, whose repeats are as a certificate asks
 pub record IsFollowed (flow : Flow) (tree : Tree) (items : List CertItem) (walk : Followed) : Type 0 where
   pub followed_is : followed flow items flow.entry ≡ Some walk
   pub complete : IsCompleteWalk flow walk.opened.walk

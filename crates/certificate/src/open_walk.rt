@@ -52,6 +52,7 @@ impl OpenWalk {
     fn open(&mut self, alloc: Global, count: u32) -> Result<bool, AllocError>
         ensures { IfOk result (TakesWalk self.old self.new (WalkLine.Repeat count)) }
     {
+        // Repeats are nested at most as deep as instances.
         if self.opened.len() >= MOST_INSTANCES {
             return Ok(false);
         }

@@ -1,4 +1,4 @@
-//! What a run counts, step by step: in fewer bits than `Ran::count`, since each of a session's steps adds
+//! What a run counts, step by step: in fewer bits than `Ran`, since each of a session's steps adds
 //! to it.
 
 ghost use Rattle.std.specs.Prelude.{◌≡◌, ◌+◌, ◌<◌, ◌^◌, ℕ, None, Some};
@@ -71,7 +71,7 @@ impl Tally {
     pub(crate) fn count(&mut self, machine: &Machine, input: Input, stepped: Stepped)
         requires within { IsWithin (2 ^ 32) self.old }
         requires small { stepped.ticks < 2 ^ 16 }
-        ensures counted { self.new ≡ further machine.now.profile.burst input stepped self.old }
+        ensures step { self.new ≡ further machine.now.profile.burst input stepped self.old }
         ensures bound { (made : ℕ) → IsWithin made self.old → IsWithin (made + 1) self.new }
     {
         self.steps += 1;

@@ -25,7 +25,7 @@ pub use crossings::{Crossing, loops_that_cross};
 pub use cycles::unbounded_cycle;
 pub use entries::{MidEntry, mid_entry};
 pub use extents::{Extent, extent_of};
-pub use law::plain_lines_are_seen;
+pub use law::{most_lines, plain_lines_are_seen};
 pub use nested::{DeepPlace, deep_place};
 pub use shared::shared_header;
 pub use sources::{FaultyLine, faulty_lines, faulty_text};

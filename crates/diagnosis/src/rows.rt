@@ -13,7 +13,7 @@ use text_rows::{
 };
 
 /// How many lines of a text are named at most.
-pub(crate) const MOST_LINES: usize = 20;
+pub const MOST_LINES: usize = 20;
 
 /// A text, a number in decimal, and another text.
 pub(crate) fn around_number(

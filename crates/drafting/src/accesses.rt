@@ -8,6 +8,7 @@ use crate::constants::Constants;
 use crate::reach::Reached;
 use crate::ways::before;
 use arm2_decode::{Block, Operation, SingleImmediate};
+use arm2_transfer::address_by;
 use bus_ticks::{Class, SPACE_END, class_of};
 use loader::Image;
 use std::alloc::{AllocError, Global};
@@ -30,13 +31,7 @@ fn single_class(known: &Constants, at: u32, x: &SingleImmediate) -> Class {
     let Some(base) = known.get(x.rn, at) else {
         return Class::Any;
     };
-    let address = if !x.before {
-        base
-    } else if x.up {
-        base.wrapping_add(x.offset)
-    } else {
-        base.wrapping_sub(x.offset)
-    };
+    let address = address_by(x.before, x.up, base, x.offset);
     class_from(address, address)
 }
 

@@ -8,7 +8,7 @@ use Rattle.longest_walk.specs.Built.{step_at}
 use Rattle.walk_counts.specs.Counts.{is_same_label}
 use Rattle.kept_runs.specs.declared.edges.Going.{Going}
 
--- the edge has the step's label, and leads to a place of its address
+-- the edge has the step's label, and leads to a place that stands for the address where the step goes
 abbrev pub IsMet : Going → Edge → Type 0
 IsMet going e = IsTrue (is_same_label e.label going.label) × IsPlaceOf going.leave going.to e.to
 

@@ -10,7 +10,7 @@ use Rattle.loader.specs.Image.{Words, word_of}
 use Rattle.loader.specs.declared.image.TheConstants.{PAGE_BYTES}
 use Rattle.loader.specs.declared.plan.PlacedPage.{PlacedPage}
 
--- the page of an address, and a physical page by its own addresses
+-- the number of the page of an address, and that of a physical page by its own addresses
 abbrev pub page_of : ℕ → ℕ
 page_of address = address / PAGE_BYTES
 

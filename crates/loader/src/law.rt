@@ -43,11 +43,14 @@ pub fn trailing_bytes_follow_an_image()
     ensures trailing { (bytes : List ℕ) → PassImage bytes → image_read bytes ≡ Err ReadFault.TrailingBytes }
 {}
 
-/// States how large an image may be: 65536 words (256 KB) in 16 segments; and that with the largest pages, of
-/// 32 KB, RAM ends at 2400000. It does nothing.
+/// States how large an image may be: 65536 words (256 KB) in 16 segments. It does nothing.
 pub fn image_limits()
     ensures words { MOST_WORDS ≡ 65536 }
     ensures segments { MOST_SEGMENTS ≡ 16 }
+{}
+
+/// States that the largest pages have 32 KB, with which RAM ends at 2400000. It does nothing.
+pub fn largest_ram()
     ensures page { PAGE_BYTES ≡ 32768 }
     ensures ram { LARGEST_RAM_END ≡ 0x2400000 }
 {}

@@ -14,11 +14,13 @@ mod writing;
 pub use image::{Image, ImageFault, PAGE_BYTES};
 pub use labels::{LabelFault, Labels};
 pub use law::{
-    image_limits, images_are_read, other_faults_begin_no_image, planned_words_are_loaded,
-    trailing_bytes_follow_an_image, truncated_begins_an_image,
+    image_limits, images_are_read, largest_ram, other_faults_begin_no_image,
+    planned_words_are_loaded, trailing_bytes_follow_an_image, truncated_begins_an_image,
 };
 pub use loading::{LoadFault, load, put_words};
-pub use places::{MOST_SEGMENTS, MOST_WORDS, is_past_ram, lies_in_memory, may_hold};
+pub use places::{
+    LARGEST_RAM_END, MOST_SEGMENTS, MOST_WORDS, is_past_ram, lies_in_memory, may_hold,
+};
 pub use plan::{PagePlan, PlacedPage, page_plan};
 pub use reading::{MAGIC, ReadFault, read_image};
 pub use writing::write_image;

@@ -8,7 +8,7 @@ use Rattle.toml_reading.specs.Lowest.{AtKey, AtKeyOr, IsNoAddress, ListFault, Na
 use Rattle.machine_file.specs.MachineFaults.{machine_faults}
 use Rattle.machine_file.specs.MachineFile.{is_letter, is_single}
 use Rattle.ioc.specs.LineNames.{line_named}
-use Rattle.machine_file.specs.MachineFaultRules.{IsNoWordAddress, IsPageTwice, IsStepTwice, IsUnmappable, IsWordTwice}
+use Rattle.machine_file.specs.MachineFaultRules.{IsNoPutAddress, IsPageTwice, IsStepTwice, IsUnmappable, IsWordTwice}
 use Rattle.machine_file.specs.MachineRules.{kilobytes}
 use Rattle.machine_file.specs.Names.{event_keys, file_keys, map_keys, name_of, named_mode, named_registers, register_keys, word_keys}
 use Rattle.machine_file.specs.declared.machine_faults.MachineFileFault.{MachineFileFault}
@@ -73,15 +73,15 @@ EventFaults ms f =
 abbrev pub EventFault : Data → MachineFileFault → Type 0
 EventFault d fault = TableFault machine_faults event_keys EventFaults d fault
 
-abbrev pub WordAddressFault : Data → MachineFileFault → Type 0
-WordAddressFault d fault =
-    MatchOption (as_integer d) (fault ≡ WrongKind) (λ z. IsNoWordAddress z × (fault ≡ OutOfRange))
+abbrev pub PutAddressFault : Data → MachineFileFault → Type 0
+PutAddressFault d fault =
+    MatchOption (as_integer d) (fault ≡ WrongKind) (λ z. IsNoPutAddress z × (fault ≡ OutOfRange))
 
-abbrev pub NeedsWordAddress : Members → MachineFileFault → Type 0
-NeedsWordAddress ms f = AtKeyOr (codes "at") ms (f ≡ WrongKind) (λ e. WordAddressFault e f)
+abbrev pub NeedsPutAddress : Members → MachineFileFault → Type 0
+NeedsPutAddress ms f = AtKeyOr (codes "at") ms (f ≡ WrongKind) (λ e. PutAddressFault e f)
 
 abbrev pub PutWordFaults : Members → MachineFileFault → Type 0
-PutWordFaults ms f = NeedsWordAddress ms f ⊎ NeedsWord ms (codes "value") f
+PutWordFaults ms f = NeedsPutAddress ms f ⊎ NeedsWord ms (codes "value") f
 
 abbrev pub PutWordFault : Data → MachineFileFault → Type 0
 PutWordFault d fault = TableFault machine_faults word_keys PutWordFaults d fault

@@ -11,7 +11,7 @@ use Rattle.toml_reading.specs.Lowest.{AtKey, AtKeyOr, IsLowest, IsNoAddress, IsO
 use Rattle.toml_reading.proofs.LowestLemmas.{Judges, judged_as, judged_fault, judged_value}
 use Rattle.toml_reading.proofs.LowestParts.{any_cases, any_first, any_later, any_none, any_one_of}
 use Rattle.machine_file.specs.MachineFaults.{machine_faults}
-use Rattle.machine_file.specs.MachineFaultRules.{HasMachineFault, IsNoWordAddress, IsNoTable, Takes, UpTo, Address, WordAddress, Size, ModeName, FlagLetters, LineNames, Word, event_shape, file_shape, map_shape, may_have, needs, register_shape, put_word_shape}
+use Rattle.machine_file.specs.MachineFaultRules.{HasMachineFault, IsNoPutAddress, IsNoTable, Takes, UpTo, Address, PutAddress, Size, ModeName, FlagLetters, LineNames, Word, event_shape, file_shape, map_shape, may_have, needs, register_shape, put_word_shape}
 use Rattle.machine_file.specs.MachineFile.{is_letter, is_single, machine_in}
 use Rattle.ioc.specs.LineNames.{line_named}
 use Rattle.machine_file.specs.MachineRules.{StatesMachine, kilobytes}
@@ -20,7 +20,7 @@ use Rattle.machine_file.specs.Stated.{Stated}
 use Rattle.machine_file.specs.declared.machine_faults.MachineFileFault.{MachineFileFault}
 use Rattle.machine_file.specs.declared.machine_faults.MachineFileFault.TheVariants.{WrongKind, OutOfRange, Twice}
 use Rattle.machine_file.proofs.FaultTableLemmas.{In, KindFault, RowFault, ShapeFault, TablesFault, any_map, from_machine_fault, to_machine_fault}
-use Rattle.machine_file.proofs.KeyFaults.{AddressFault, EventFault, FlagsFault, HasKeyFault, LinesFault, PageFault, WordAddressFault, PutWordFault, RegistersFault, SizeFault, UpToFault, WordFault}
+use Rattle.machine_file.proofs.KeyFaults.{AddressFault, EventFault, FlagsFault, HasKeyFault, LinesFault, PageFault, PutAddressFault, PutWordFault, RegistersFault, SizeFault, UpToFault, WordFault}
 use Rattle.machine_file.proofs.MachineRuleLemmas.{machine_judged}
 use Rattle.machine_file.proofs.MachineValueLemmas.{one_rank}
 
@@ -79,8 +79,8 @@ module _ (f : MachineFileFault) where
   address_kind : (d : Data) → AddressFault d f ↔ KindFault f Address d
   address_kind d = number_parts IsNoAddress (as_integer d)
 
-  word_address_kind : (d : Data) → WordAddressFault d f ↔ KindFault f WordAddress d
-  word_address_kind d = number_parts IsNoWordAddress (as_integer d)
+  put_address_kind : (d : Data) → PutAddressFault d f ↔ KindFault f PutAddress d
+  put_address_kind d = number_parts IsNoPutAddress (as_integer d)
 
   size_kind : (d : Data) → SizeFault d f ↔ KindFault f Size d
   size_kind d = number_parts (λ z. (size : PageSize) → z ≡ pos (kilobytes size) → ⊥) (as_integer d)
@@ -227,7 +227,7 @@ module _ (f : MachineFileFault) where
       _
       (ShapeFault f put_word_shape)
       (λ t. either same (along
-      (either (needs_row t (codes "at") WordAddress (λ e. WordAddressFault e f) word_address_kind) (ended (word_needed t (codes "value"))))
+      (either (needs_row t (codes "at") PutAddress (λ e. PutAddressFault e f) put_address_kind) (ended (word_needed t (codes "value"))))
       (any_one_of (RowFault f t) put_word_shape.rows)))
       (as_table d)
 

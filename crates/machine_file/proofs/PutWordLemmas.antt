@@ -13,48 +13,48 @@ use Rattle.toml_reading.proofs.AddressLemmas.{tested_judged}
 use Rattle.toml_reading.proofs.LowestLemmas.{Judges, joint, judged_value, required_judged}
 use Rattle.toml_reading.proofs.LowestParts.{entries_state, number_read, some_weaker, table_judged, tables_judged}
 use Rattle.machine_file.specs.MachineFaults.{machine_faults}
-use Rattle.machine_file.specs.MachineFile.{word_address_at, word_address_in, word_address_of, put_word_at, word_in, put_words_in}
-use Rattle.machine_file.specs.MachineFaultRules.{IsNoWordAddress, IsWordTwice}
-use Rattle.machine_file.specs.MachineRules.{IsWordAddress, IsPutWord}
+use Rattle.machine_file.specs.MachineFile.{put_address_at, put_address_in, put_address_of, put_word_at, word_in, put_words_in}
+use Rattle.machine_file.specs.MachineFaultRules.{IsNoPutAddress, IsWordTwice}
+use Rattle.machine_file.specs.MachineRules.{IsPutAddress, IsPutWord}
 use Rattle.machine_file.specs.Names.{word_keys}
 use Rattle.machine_file.specs.declared.machine_faults.MachineFileFault.{MachineFileFault}
 use Rattle.machine_file.specs.declared.machine_faults.MachineFileFault.TheVariants.{OutOfRange, Twice}
 use Rattle.machine_file.proofs.MachineValueLemmas.{IsLow, Word, low_at, match_low, needs_low, table_low, word}
 use Rattle.machine_file.proofs.FaultTableLemmas.{some_fact}
-use Rattle.machine_file.proofs.KeyFaults.{NeedsWordAddress, WordAddressFault, PutWordFault, PutWordFaults}
+use Rattle.machine_file.proofs.KeyFaults.{NeedsPutAddress, PutAddressFault, PutWordFault, PutWordFaults}
 use Rattle.machine_file.proofs.OnceLemmas.{once_judged}
 
 -- ## Addresses
 
-abbrev WordAddress : ℤ → ℕ → Type 0
-WordAddress z a = (z ≡ pos a) × IsTrue (may_hold a)
+abbrev PutAddress : ℤ → ℕ → Type 0
+PutAddress z a = (z ≡ pos a) × IsTrue (may_hold a)
 
-abbrev NoWordAddress : ℤ → MachineFileFault → Type 0
-NoWordAddress z f = IsNoWordAddress z × (f ≡ OutOfRange)
+abbrev NoPutAddress : ℤ → MachineFileFault → Type 0
+NoPutAddress z f = IsNoPutAddress z × (f ≡ OutOfRange)
 
-word_address_answers : (z : ℤ) → Judges machine_faults (WordAddress z) (NoWordAddress z) (word_address_of z)
-word_address_answers =
+put_address_answers : (z : ℤ) → Judges machine_faults (PutAddress z) (NoPutAddress z) (put_address_of z)
+put_address_answers =
     tested_judged
     machine_faults
     (λ a. IsTrue (may_hold a))
     may_hold
     (λ n. (λ e. e, λ e. e))
-    word_address_of
+    put_address_of
     (λ n. refl)
     (λ n. refl)
 
-word_address_judged : (d : Data) → Judges machine_faults (IsWordAddress d) (WordAddressFault d) (word_address_at d)
-word_address_judged d = required_judged machine_faults WordAddress NoWordAddress word_address_of word_address_answers (as_integer d)
+put_address_judged : (d : Data) → Judges machine_faults (IsPutAddress d) (PutAddressFault d) (put_address_at d)
+put_address_judged d = required_judged machine_faults PutAddress NoPutAddress put_address_of put_address_answers (as_integer d)
 
 -- ## One word
 
 module _ (ms : Members) where
   abbrev PutAt : ℕ → Type 0
-  PutAt a = AtKey (codes "at") ms (λ e. IsWordAddress e a)
+  PutAt a = AtKey (codes "at") ms (λ e. IsPutAddress e a)
 
-  word_address_in_judged : Judges machine_faults PutAt (NeedsWordAddress ms) (word_address_in ms)
-  word_address_in_judged =
-      required_judged machine_faults IsWordAddress WordAddressFault word_address_at word_address_judged (get_member (codes "at") ms)
+  put_address_in_judged : Judges machine_faults PutAt (NeedsPutAddress ms) (put_address_in ms)
+  put_address_in_judged =
+      required_judged machine_faults IsPutAddress PutAddressFault put_address_at put_address_judged (get_member (codes "at") ms)
 
 abbrev PutWordStates : Members → ℕ × ℕ → Type 0
 PutWordStates ms w = PutAt ms w.0 × Word ms (codes "value") w.1
@@ -66,12 +66,12 @@ put_word_judged d =
     word_keys
     PutWordStates
     PutWordFaults
-    (λ ms. both machine_faults (word_address_in ms) (word_in (codes "value") ms))
-    (λ ms. joint (word_address_in_judged ms) (word ms (codes "value")))
+    (λ ms. both machine_faults (put_address_in ms) (word_in (codes "value") ms))
+    (λ ms. joint (put_address_in_judged ms) (word ms (codes "value")))
     d
 
 module _ (f : MachineFileFault) where
-  word_address_low : (d : Data) → WordAddressFault d f → IsLow f
+  word_address_low : (d : Data) → PutAddressFault d f → IsLow f
   word_address_low d h = match_low f _ (λ z x. low_at f OutOfRange (omega arith) x.1) (as_integer d) h
 
   put_word_faults_low : (ms : Members) → PutWordFaults ms f → IsLow f

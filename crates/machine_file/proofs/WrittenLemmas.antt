@@ -18,7 +18,7 @@ use Rattle.toml_reading.specs.Documents.{is_one_of}
 use Rattle.toml_reading.specs.Lowest.{AtKey, AtKeyOr, IsListOf, IsNamed, IsNumber}
 use Rattle.toml_reading.proofs.ReadingLemmas.{list_of-items_of}
 use Rattle.machine_file.specs.MachineFile.{IsMachineFile, has, is_letter, is_mappable, is_single, machine_in, set_flags}
-use Rattle.machine_file.specs.MachineRules.{AreFlags, AreRegisters, IsAddress, IsEvent, IsPage, IsPutWord, IsSize, IsWord, IsWordAddress, StatesMachine}
+use Rattle.machine_file.specs.MachineRules.{AreFlags, AreRegisters, IsAddress, IsEvent, IsPage, IsPutWord, IsSize, IsWord, IsPutAddress, StatesMachine}
 use Rattle.machine_file.specs.Names.{file_keys, map_keys, name_of, named_mode, named_registers, register_keys, word_keys}
 use Rattle.machine_file.specs.Parts.{AreWords, IsInRange, StandsOnce}
 use Rattle.machine_file.specs.Stated.{Stated}
@@ -217,7 +217,7 @@ word_stated w held small =
     let ms : Members = table_of (word_rows w) in (
       known_in_table word_keys (word_rows w) refl,
       (
-        at_key (codes "at") ms (number w.0) (λ e. IsWordAddress e w.0) found.0 (refl, held),
+        at_key (codes "at") ms (number w.0) (λ e. IsPutAddress e w.0) found.0 (refl, held),
         at_key (codes "value") ms (number w.1) (λ e. IsWord e w.1) found.1.0 (refl, omega (arith, small)),
       ),
     )

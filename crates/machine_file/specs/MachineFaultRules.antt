@@ -26,7 +26,7 @@ use Rattle.machine_file.specs.declared.machine_faults.MachineFileFault.TheVarian
 pub data Takes : Type 0 where
   UpTo : ℕ → Takes
   Address : Takes
-  WordAddress : Takes
+  PutAddress : Takes
   Size : Takes
   ModeName : Takes
   FlagLetters : Takes
@@ -88,7 +88,7 @@ event_shape = record {
 
 abbrev pub put_word_shape : Shape
 put_word_shape =
-    record { keys = word_keys; rows = needs (codes "at") WordAddress ∷ needs (codes "value") Word ∷ [] }
+    record { keys = word_keys; rows = needs (codes "at") PutAddress ∷ needs (codes "value") Word ∷ [] }
 
 -- ## The tables of a file
 
@@ -116,7 +116,7 @@ LacksKey shape ms = Any (λ row. (row.required ≡ true) × (get_member row.key 
 abbrev pub IsOtherKind : Takes → Data → Type 0
 IsOtherKind (UpTo limit) d = as_integer d ≡ None
 IsOtherKind Address d = as_integer d ≡ None
-IsOtherKind WordAddress d = as_integer d ≡ None
+IsOtherKind PutAddress d = as_integer d ≡ None
 IsOtherKind Size d = as_integer d ≡ None
 IsOtherKind ModeName d = NamesNothing named_mode d
 IsOtherKind FlagLetters d = MatchOption (as_str d) ⊤ (λ text. list_all is_letter text ≡ false)
@@ -144,13 +144,13 @@ HasWrongKind ms =
 -- ## A number that its key does not take, or a page that cannot be mapped
 
 -- no multiple of 4, negative, past 3FFFFFC, or in I/O
-abbrev pub IsNoWordAddress : ℤ → Type 0
-IsNoWordAddress z = (n : ℕ) → z ≡ pos n → ¬ IsTrue (may_hold n)
+abbrev pub IsNoPutAddress : ℤ → Type 0
+IsNoPutAddress z = (n : ℕ) → z ≡ pos n → ¬ IsTrue (may_hold n)
 
 abbrev pub IsOtherNumber : Takes → Data → Type 0
 IsOtherNumber (UpTo limit) d = IsSomeAnd (as_integer d) (IsOutside limit)
 IsOtherNumber Address d = IsSomeAnd (as_integer d) IsNoAddress
-IsOtherNumber WordAddress d = IsSomeAnd (as_integer d) IsNoWordAddress
+IsOtherNumber PutAddress d = IsSomeAnd (as_integer d) IsNoPutAddress
 IsOtherNumber Size d = IsSomeAnd (as_integer d) (λ z. (size : PageSize) → z ≢ pos (kilobytes size))
 IsOtherNumber _ d = ⊥
 

@@ -239,15 +239,15 @@ schedule_in ms = seen schedule_of (both machine_faults (counts_in ms) (events_in
 -- ## Words put into memory
 
 -- the address of a word in RAM or in ROM
-abbrev pub word_address_of : ℤ → Read ℕ
-word_address_of (pos n) = if may_hold n then Ok n else Err OutOfRange
-word_address_of (negsuc n) = Err OutOfRange
+abbrev pub put_address_of : ℤ → Read ℕ
+put_address_of (pos n) = if may_hold n then Ok n else Err OutOfRange
+put_address_of (negsuc n) = Err OutOfRange
 
-abbrev pub word_address_at : Data → Read ℕ
-word_address_at d = required machine_faults (as_integer d) word_address_of
+abbrev pub put_address_at : Data → Read ℕ
+put_address_at d = required machine_faults (as_integer d) put_address_of
 
-abbrev pub word_address_in : Members → Read ℕ
-word_address_in ms = required machine_faults (get_member (codes "at") ms) word_address_at
+abbrev pub put_address_in : Members → Read ℕ
+put_address_in ms = required machine_faults (get_member (codes "at") ms) put_address_at
 
 -- a word, by its address
 abbrev pub put_word_in : Members → Read (ℕ × ℕ)
@@ -256,7 +256,7 @@ put_word_in ms =
     machine_faults
     word_keys
     ms
-    (both machine_faults (word_address_in ms) (word_in (codes "value") ms))
+    (both machine_faults (put_address_in ms) (word_in (codes "value") ms))
 
 abbrev pub put_word_at : Data → Read (ℕ × ℕ)
 put_word_at d = required machine_faults (as_table d) put_word_in

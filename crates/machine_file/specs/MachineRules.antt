@@ -34,8 +34,8 @@ abbrev pub IsAddress : Data → ℕ → Type 0
 IsAddress d n = IsSomeAnd (as_integer d) (λ z. (z ≡ pos n) × IsTrue (is_word_address n))
 
 -- the address of a word in RAM or in ROM
-abbrev pub IsWordAddress : Data → ℕ → Type 0
-IsWordAddress d n = IsSomeAnd (as_integer d) (λ z. (z ≡ pos n) × IsTrue (may_hold n))
+abbrev pub IsPutAddress : Data → ℕ → Type 0
+IsPutAddress d n = IsSomeAnd (as_integer d) (λ z. (z ≡ pos n) × IsTrue (may_hold n))
 
 -- the size of a page in KB
 abbrev pub kilobytes : PageSize → ℕ
@@ -97,7 +97,7 @@ IsPutWord d word =
     IsTable
     word_keys
     (λ ms.
-    AtKey (codes "at") ms (λ e. IsWordAddress e word.0)
+    AtKey (codes "at") ms (λ e. IsPutAddress e word.0)
     × AtKey (codes "value") ms (λ e. IsWord e word.1))
     d
 

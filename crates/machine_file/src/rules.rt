@@ -15,7 +15,7 @@ use crate::processor::StartAddress;
 use crate::registers::Bank;
 use crate::words::PutWords;
 
-fn is_word(start: &StartAddress)
+fn starts_at_word(start: &StartAddress)
     ensures { IsTrue (is_word_address start.now) }
 {
     let _address = start.address;
@@ -67,7 +67,7 @@ pub(crate) fn keeps_rules(file: &MachineFile)
     ensures once { StandsOnce file.now }
     ensures words { AreWords file.now }
 {
-    is_word(&file.processor.pc);
+    starts_at_word(&file.processor.pc);
     is_bank(&file.processor.registers);
     are_fields(&file.controller.rom);
     are_pages(&file.controller.pages);

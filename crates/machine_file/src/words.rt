@@ -3,9 +3,8 @@ ghost use Rattle.std.specs.Map.{keys_of};
 ghost use Rattle.toml.specs.View.{table_view, view};
 ghost use Rattle.loader.specs.Image.{may_hold};
 ghost use Rattle.toml_reading.specs.Documents.{are_distinct, once};
-ghost use Rattle.machine_file.specs.MachineFile.{put_word_at, word_address_at, word_address_in};
-ghost use Rattle.machine_file.specs.MachineFile.{word_address_of};
-ghost use Rattle.machine_file.specs.MachineFile.{put_word_in, put_words_in};
+ghost use Rattle.machine_file.specs.MachineFile.{put_address_at, put_address_in, put_address_of};
+ghost use Rattle.machine_file.specs.MachineFile.{put_word_at, put_word_in, put_words_in};
 
 use crate::machine_faults::{MachineFileFault, Read};
 use loader::may_hold;
@@ -19,8 +18,8 @@ use toml_reading::{
 // The keys of the table of a word that is put into memory.
 const WORD_KEYS: &[&str] = &["at", "value"];
 
-fn word_address_numbered(number: i64) -> Read<u32>
-    ensures { result ≡ word_address_of number }
+fn put_address_of(number: i64) -> Read<u32>
+    ensures { result ≡ put_address_of number }
 {
     match u32::try_from(number) {
         Ok(address) if may_hold(address) => Ok(address),
@@ -28,28 +27,28 @@ fn word_address_numbered(number: i64) -> Read<u32>
     }
 }
 
-fn word_address_value(value: &Value) -> Read<u32>
-    ensures { result ≡ word_address_at (view value.now) }
+fn put_address_at(value: &Value) -> Read<u32>
+    ensures { result ≡ put_address_at (view value.now) }
 {
     value
         .as_integer()
         .ok_or(MachineFileFault::WrongKind)
-        .and_then(word_address_numbered)
+        .and_then(put_address_of)
 }
 
-fn word_address(table: &Table) -> Read<u32>
-    ensures { result ≡ word_address_in (table_view table.now) }
+fn put_address_in(table: &Table) -> Read<u32>
+    ensures { result ≡ put_address_in (table_view table.now) }
 {
     value_at(table, "at")
         .ok_or(MachineFileFault::WrongKind)
-        .and_then(word_address_value)
+        .and_then(put_address_at)
 }
 
 fn put_word(table: &Table) -> Read<(u32, u32)>
     ensures { result ≡ put_word_in (table_view table.now) }
 {
     let word = pair(
-        word_address(table),
+        put_address_in(table),
         required_number(table, "value", u32::MAX),
     );
     check(

@@ -33,7 +33,7 @@ impl PageSize {
     }
 
     /// Whether a logical page of this size, by number, can be mapped on a physical page at a level: logical
-    /// pages up to 2^25 bytes, 128 physical pages and the levels 0 to 3.
+    /// pages in the first 2^25 bytes, 128 physical pages and the levels 0 to 3.
     pub fn can_map(self, physical: u32, logical: u32, level: u32) -> bool
         ensures { result ≡ can_map (shift_of_size self) physical logical level }
     {

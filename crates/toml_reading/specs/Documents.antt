@@ -88,7 +88,7 @@ abbrev pub are_distinct : List ℕ → Bool
 are_distinct [] = true
 are_distinct (x ∷ xs) = not (list_any (nat_eq x) xs) && are_distinct xs
 
--- what has these numbers, where no two are the same
+-- the value, where no two of its numbers are equal; else the fault
 abbrev pub once : {F A : Type 0} → (twice : F) → (numbers : A → List ℕ) → A → Reading F A
 once twice numbers a = if are_distinct (numbers a) then Ok a else Err twice
 

@@ -1,5 +1,5 @@
-//! Shapes of words: which load or store, and which look like a return, another word that writes R15, a jump
-//! into a table of branches, or the word that keeps the return address.
+//! Shapes of words: which load or store, and which look like a return, a jump into a table of branches, or
+//! the word that keeps the return address; and which write R15 and do not look like a return.
 #![tactic(auto)]
 
 mod shapes;

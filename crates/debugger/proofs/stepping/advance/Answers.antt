@@ -12,7 +12,7 @@ returns c =
     let step = c.step_traced-traced.ensures.step in
     let same = same_profile s i traced.stepped c.step_traced-traced.new.self step in
     let counted : c.count.new.self ≡ further s.profile.burst i traced.stepped c.args.ran.now
-    = c.count.ensures.counted ∙ ap (λ (p : Profile). further p.burst i traced.stepped c.args.ran.now) same in
+    = c.count.ensures.step ∙ ap (λ (p : Profile). further p.burst i traced.stepped c.args.ran.now) same in
     record {
       stepped = ((step, c.step_traced-traced.ensures.word), c.in_default.not-Stopped, counted);
       input = refl;

@@ -62,7 +62,7 @@ loop-input-preserved c =
     (string_bytes c.put_trace.new.out) traced.ensures.word c.in_default.not-Stopped
     c.loop-input.invariant.1 line in
     let counted : c.count.new.self ≡ further now.profile.burst input traced.result.stepped c.loop-input.ran =
-    c.count.ensures.counted
+    c.count.ensures.step
     ∙ ap (λ (p : Profile). further p.burst input traced.result.stepped c.loop-input.ran)
     c.profile-profile.ensures in
     let here = take_more inputs index _ c.loop-input-test.true in

@@ -1,6 +1,6 @@
 use Rattle.std.proofs.Common.{rules}
 use Rattle.report_input.proofs.SourceLemmas.{text_refused}
-use Rattle.author_reports.proofs.follow_text.line_of.Goals as goal
+use Rattle.author_reports.proofs.follow_text.line_number_at.Goals as goal
 
 pub returns-in_err-placed-clause-fault : goal.returns-in_err-placed-clause-fault
 returns-in_err-placed-clause-fault c =
