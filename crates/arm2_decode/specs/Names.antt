@@ -62,12 +62,17 @@ abbrev pub is_mov : Opcode → Bool
 is_mov Mov = true
 is_mov _ = false
 
--- the numbers 8 to 11, of TST TEQ CMP CMN, which leave no result in Rd
+-- it leaves no result in Rd
+abbrev pub is_compare : Opcode → Bool
+is_compare Tst = true
+is_compare Teq = true
+is_compare Cmp = true
+is_compare Cmn = true
+is_compare _ = false
+
+-- the numbers of these four, 8 to 11
 abbrev pub is_compare_number : ℕ → Bool
 is_compare_number number = number / 4 == 2
-
-abbrev pub is_compare : Opcode → Bool
-is_compare opcode = is_compare_number (opcode_number opcode)
 
 abbrev pub is_lsl : Shift → Bool
 is_lsl Lsl = true

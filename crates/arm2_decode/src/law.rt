@@ -1,7 +1,9 @@
 ghost use Rattle.std.specs.Prelude.{◌≡◌, ◌<◌, ◌^◌, ℕ, IfErr, IfOk, Ok, Result};
+ghost use Rattle.arm2_decode.specs.Names.{is_compare, is_compare_number, opcode_number};
 ghost use Rattle.arm2_decode.specs.Table.{IsUnallocated, Means};
 
 use crate::instr::{Instr, Unallocated};
+use crate::names::Opcode;
 
 /// States that an instruction, encoded and decoded again, is the same: of any word that
 /// [`encode`](crate::encode) may return for it, [`decode`](crate::decode) can answer nothing else. It does
@@ -17,4 +19,9 @@ pub fn decode_encoded()
 pub fn encode_decoded()
     ensures { (word : ℕ) → word < 2 ^ 32 → (instr : Instr) → Means word instr → (again : ℕ) → again < 2 ^ 32
         → Means again instr → again ≡ word }
+{}
+
+/// States that the compares are the opcodes whose numbers are 8 to 11. It does nothing.
+pub fn compares_by_number()
+    ensures { (opcode : Opcode) → is_compare_number (opcode_number opcode) ≡ is_compare opcode }
 {}

@@ -26,7 +26,7 @@ pub use instr::{
     DataRegisterShift, Instr, Multiply, Operation, SingleImmediate, SingleRegister, Swi,
     Unallocated, UndefinedTransfer,
 };
-pub use law::{decode_encoded, encode_decoded};
+pub use law::{compares_by_number, decode_encoded, encode_decoded};
 pub use names::{Cond, Opcode, Register, Shift};
 pub use reading::decode;
 pub use transfers::{asks_for_user, writes_base};
