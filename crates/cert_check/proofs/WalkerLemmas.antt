@@ -6,6 +6,7 @@ use Rattle.std.proofs.lemmas.Option.{none-some, same_Some}
 use Rattle.std.proofs.lemmas.List.Elements.{All-head, All-tail, All-weaker}
 use Rattle.std.proofs.lemmas.List.Sums.{sum_by-cons}
 use Rattle.std.specs.List.{repeat}
+use Rattle.walks.specs.declared.limits.TheConstants.{MOST_ROUNDS}
 use Rattle.walks.specs.Segments.{count, head, most, tail, whole}
 use Rattle.walks.proofs.Joins as J
 use Rattle.walks.proofs.Leading.{cost-append, cost-repeated}
@@ -155,7 +156,7 @@ module _ (exit : ℕ) (edges : List NumberedEdge) (spans : List Span) (order : I
         (λ (at : s.header ≡ to).
         let t : turns ≡ capped (turns_at_end s w) = turns_is s has at in
         let few : turns ≤ s.bound = broken_none (header_at headers to) turns s (span_there exit edges spans order headers all to s has at) parts.1 in
-        let small : s.bound ≤ 1048576 = (order.shape s has).2 in
+        let small : s.bound ≤ MOST_ROUNDS = (order.shape s has).2 in
         omega (arith, t, few, small, before, change.there s has at))
         (λ (other : s.header ≢ to). omega (arith, before, change.elsewhere s has other))
         (cases_eq s.header to)

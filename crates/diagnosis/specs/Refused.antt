@@ -10,6 +10,7 @@ use Rattle.std.specs.List.{list_any}
 use Rattle.std.specs.Option.{option_and_then}
 use Rattle.std.specs.Ordering.{nat_cmp}
 use Rattle.std.specs.Str.{bytes_eq}
+use Rattle.walks.specs.declared.limits.TheConstants.{MOST_ROUNDS}
 use Rattle.bus_ticks.specs.Prices.{is_word_address}
 use Rattle.asm_text.specs.Numbers.{run_number}
 use Rattle.loader.specs.Labels.{NamedAddresses, address_of}
@@ -140,7 +141,7 @@ is_unknown_label names p = takes_address p.key && (is_text p.value && is_none (a
 abbrev pub is_outside : List ℕ → ℕ → Bool
 is_outside key n =
     if takes_address key then not (is_word_address n)
-    else bytes_eq key (codes "bound") && nat_lt 1048576 n
+    else bytes_eq key (codes "bound") && nat_lt MOST_ROUNDS n
 
 abbrev pub is_number_outside : List ℕ → Option ℕ → Bool
 is_number_outside key None = false

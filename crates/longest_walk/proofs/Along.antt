@@ -4,6 +4,7 @@ use Rattle.std.specs.List.{AllZip, repeat}
 use Rattle.std.proofs.lemmas.List.{map-append}
 use Rattle.std.proofs.lemmas.List.Concat.{flat_map-append}
 use Rattle.std.proofs.lemmas.List.Elements.{All-nil, All-cons, All-append}
+use Rattle.walks.specs.declared.limits.TheConstants.{MOST_ROUNDS}
 use Rattle.flow_graph.specs.declared.edges.Edge.{Edge}
 use Rattle.flow_graph.specs.Flow.{Flow}
 use Rattle.numbered_walks.specs.declared.span.Span.{Span}
@@ -72,7 +73,7 @@ module _ (flow : Flow) (tree : Tree) (c : Tables) where
   along_room outer ks o a = omega (arith, a.shallow)
 
   -- a round, as often as its bound says
-  pub along_repeat : (s : Span) → Contains tree.spans s → s.bound ≤ 1048576 → (outer : ℕ) (ks : List ℕ) (o : Opened) → ks ≢ [] → 0 < s.bound → IsRoundOf tree.edges tree.spans c s (edges_of tree.edges ks) → IsAlong flow tree c (outer + 1) ks o → IsRisingBody flow tree o.outside → IsAlong flow tree c outer (repeat s.bound ks) (joined (turned s.bound o ∷ []))
+  pub along_repeat : (s : Span) → Contains tree.spans s → s.bound ≤ MOST_ROUNDS → (outer : ℕ) (ks : List ℕ) (o : Opened) → ks ≢ [] → 0 < s.bound → IsRoundOf tree.edges tree.spans c s (edges_of tree.edges ks) → IsAlong flow tree c (outer + 1) ks o → IsRisingBody flow tree o.outside → IsAlong flow tree c outer (repeat s.bound ks) (joined (turned s.bound o ∷ []))
   along_repeat s s_in small outer ks o some more round a rising =
       let body : IsNumberedBody flow tree c o.walk = record { span = s; in_tree = s_in; numbers = ks; inside = a.inside; body_is = a.walk_is; some = some; round = round } in
       record {

@@ -1,6 +1,7 @@
 -- A walk written with repeats, and what it unfolds to.
 use Rattle.std.specs.Prelude.{ℕ, ◌+◌, ◌<◌, ◌≤◌, max, List, [], ◌∷◌, flat_map, map}
 use Rattle.std.specs.List.{repeat}
+use Rattle.walks.specs.declared.limits.TheConstants.{MOST_INSTANCES, MOST_ROUNDS}
 use Rattle.flow_graph.specs.declared.edges.Edge.{Edge}
 use Rattle.longest_walk.specs.declared.folded.Item.{Item}
 use Rattle.longest_walk.specs.declared.folded.Item.TheOpen.{Item-F}
@@ -65,8 +66,8 @@ unfolded items = (open_items items).walk
 
 -- how often a repeat is taken: at most as often as a loop may turn back
 abbrev pub IsCount : ℕ → Type 0
-IsCount k = (0 < k) × (k ≤ 1048576)
+IsCount k = (0 < k) × (k ≤ MOST_ROUNDS)
 
 -- how many repeats lie one within the other: at most as many as instances may
 abbrev pub most_nested : ℕ
-most_nested = 16
+most_nested = MOST_INSTANCES

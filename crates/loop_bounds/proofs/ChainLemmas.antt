@@ -6,6 +6,7 @@ use Rattle.std.proofs.lemmas.List.Sums.{sum_by-cons, count_by_more_no, sum_by-ta
 use Rattle.std.proofs.lemmas.List.{get_or_default, get_or_append_left, length-map}
 use Rattle.std.proofs.lemmas.List.Elements.{filter_more}
 use Rattle.std.proofs.Math.Seq.{get_or-append_seam, take-length}
+use Rattle.walks.specs.declared.limits.TheConstants.{MOST_INSTANCES}
 use Rattle.numbered_walks.proofs.Nesting.{cond_le}
 use Rattle.loop_bounds.specs.declared.extents.Extent.{Extent}
 use Rattle.loop_bounds.specs.Extents.{AreExtents, AreParents, IsParent, IsWithin, IsInnermost, extent_at, parent_at, is_within}
@@ -158,7 +159,7 @@ chains_more rank extents chains k chain len deep is j lt = ⊎_elim
 -- ## Depth
 
 abbrev pub IsLow : List Extent → ℕ → Type 0
-IsLow extents limit = (k : ℕ) → k < limit → depth_at (take (k + 1) extents) (first_of extents k) ≤ 16
+IsLow extents limit = (k : ℕ) → k < limit → depth_at (take (k + 1) extents) (first_of extents k) ≤ MOST_INSTANCES
 
 pub chain_depth : (rank : ℕ → ℕ) (extents : List Extent) (p : ℕ) → length (headers_in rank extents p) ≡ depth_at extents p
 chain_depth rank extents p = length-map (holders extents p) (λ (s : Extent). rank s.header) ∙ length-filter (λ s. is_within s p) extents
@@ -193,11 +194,11 @@ upto_first extents k p all inside at =
     let begun : first_of extents j ≤ first_of extents k = upto_first_of extents j k all (omega arith) inside in
     at_take extents (k + 1) j (first_of extents k) d j_lt (omega arith) ∙ from_in (extent_at extents j) (first_of extents k) (begun, omega arith))
 
-bounded_upto : (extents : List Extent) (p : ℕ) → AreExtents extents → IsLow extents (length extents) → (n : ℕ) → n ≤ length extents → depth_at (take n extents) p ≤ 16
+bounded_upto : (extents : List Extent) (p : ℕ) → AreExtents extents → IsLow extents (length extents) → (n : ℕ) → n ≤ length extents → depth_at (take n extents) p ≤ MOST_INSTANCES
 bounded_upto extents p all low zero le = omega arith
 bounded_upto extents p all low (suc n) le =
     let inside : n < length extents = omega arith in
-    let h : depth_at (take (n + 1) extents) p ≤ 16 = ⊎_elim
+    let h : depth_at (take (n + 1) extents) p ≤ MOST_INSTANCES = ⊎_elim
     (λ within.
     let u = upto_first extents n p all inside (in_from (extent_at extents n) p within) in
     let l = low n inside in
@@ -206,17 +207,17 @@ bounded_upto extents p all low (suc n) le =
     let same : depth_at (take (n + 1) extents) p ≡ depth_at (take n extents) p = count_by_more_no (λ s. is_within s p) extents n (extent_at extents n) inside (at_default extents p n (extent_at extents n) inside ∙ out) in
     omega (arith, same, bounded_upto extents p all low n (omega arith)))
     (cases_Bool (is_within (extent_at extents n) p)) in
-    subst (λ (i : ℕ). depth_at (take i extents) p ≤ 16) (let e : n + 1 ≡ suc n = omega arith in e) h
+    subst (λ (i : ℕ). depth_at (take i extents) p ≤ MOST_INSTANCES) (let e : n + 1 ≡ suc n = omega arith in e) h
 
 pub shallow : (extents : List Extent) → AreExtents extents → IsLow extents (length extents) → AreShallow extents
-shallow extents all low p = subst (λ (xs : List Extent). depth_at xs p ≤ 16) (take-length extents) (bounded_upto extents p all low (length extents) (omega arith))
+shallow extents all low p = subst (λ (xs : List Extent). depth_at xs p ≤ MOST_INSTANCES) (take-length extents) (bounded_upto extents p all low (length extents) (omega arith))
 
-pub deep_place : (extents : List Extent) (k : ℕ) → 16 < depth_at (take (k + 1) extents) (first_of extents k) → 16 < depth_at extents (first_of extents k)
+pub deep_place : (extents : List Extent) (k : ℕ) → MOST_INSTANCES < depth_at (take (k + 1) extents) (first_of extents k) → MOST_INSTANCES < depth_at extents (first_of extents k)
 deep_place extents k over = omega (arith, sum_by-take-le (λ s. cond {A = ℕ} (is_within s (first_of extents k)) 1 0) extents (k + 1))
 
-pub low_more : (extents : List Extent) (i : ℕ) → IsLow extents i → depth_at (take (i + 1) extents) (first_of extents i) ≤ 16 → IsLow extents (i + 1)
+pub low_more : (extents : List Extent) (i : ℕ) → IsLow extents i → depth_at (take (i + 1) extents) (first_of extents i) ≤ MOST_INSTANCES → IsLow extents (i + 1)
 low_more extents i low here j lt = ⊎_elim
-    (λ same. subst (λ (k : ℕ). depth_at (take (k + 1) extents) (first_of extents k) ≤ 16) (sym same) here)
+    (λ same. subst (λ (k : ℕ). depth_at (take (k + 1) extents) (first_of extents k) ≤ MOST_INSTANCES) (sym same) here)
     (λ differ. ⊎_elim (λ below. low j below) (λ above. absurd (omega arith)) differ)
     (cases_order j i)
 

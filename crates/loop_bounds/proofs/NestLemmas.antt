@@ -8,6 +8,7 @@ use Rattle.std.proofs.lemmas.List.Edits.{length-remove, get_or-remove_below, get
 use Rattle.std.proofs.lemmas.List.Elements.{All-filter, Contains-get_or, Contains-append_right, filter_passes}
 use Rattle.std.proofs.lemmas.List.Sums.{length-filter}
 use Rattle.std.proofs.lemmas.List.Kept.{AllPairs-filter}
+use Rattle.walks.specs.declared.limits.TheConstants.{MOST_INSTANCES}
 use Rattle.flow_graph.specs.declared.places.Place.TheVariants.{At}
 use Rattle.statement.specs.declared.stated.Loop.{Loop}
 use Rattle.flow_graph.specs.Flow.{Flow, IsWellFormed}
@@ -90,7 +91,7 @@ module _ (flow : Flow) (loops : List Loop) (positions : HandlerPositions) (well_
     filter_passes (λ s. is_within s p) extents k d lt,
   )
 
-  pub deep : (k : ℕ) → k < length positions.extents.items → 16 < depth_at positions.extents.items (extent_at positions.extents.items k).first → HasDeepPlace flow loops
+  pub deep : (k : ℕ) → k < length positions.extents.items → MOST_INSTANCES < depth_at positions.extents.items (extent_at positions.extents.items k).first → HasDeepPlace flow loops
   deep k lt many =
       let s : Extent = extent_at extents k in
       let p : ℕ = s.first in

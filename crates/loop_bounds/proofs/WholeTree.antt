@@ -7,6 +7,7 @@ use Rattle.std.proofs.lemmas.Cmp.{nat_cmp_total, then_total, on_total, back_tota
 use Rattle.std.proofs.lemmas.List.{get_or_default, get_or_past, length-map, take_all, get_or-map}
 use Rattle.std.proofs.lemmas.List.Elements.{Contains-get_or}
 use Rattle.std.proofs.lemmas.List.Sorted.{ranks_by, sorted_far, Contains-permutation, IsPermutation-sym, length_permutation, sum_by-IsPermutation}
+use Rattle.walks.specs.declared.limits.TheConstants.{MOST_INSTANCES, MOST_ROUNDS}
 use Rattle.flow_graph.specs.declared.places.Place.TheVariants.{Exit}
 use Rattle.statement.specs.declared.stated.Loop.{Loop}
 use Rattle.flow_graph.specs.Flow.{Flow, IsWellFormed}
@@ -296,7 +297,7 @@ module _ (flow : Flow) (loops : List Loop) (positions : HandlerPositions) (well_
         let e = moved_to u.0 u.1 in
         (e.0, e.1, e.3 ∙ ap (λ (x : ℕ). get_or numbers_list x 0) u.2 ∙ k_is, omega (arith, e.2, u.3))
 
-    shape : (t : Span) → Contains spans t → (t.header ≤ t.last) × (t.last < exit) × (t.bound ≤ 1048576)
+    shape : (t : Span) → Contains spans t → (t.header ≤ t.last) × (t.last < exit) × (t.bound ≤ MOST_ROUNDS)
     shape t has =
         let s = span_source t has in
         let sh = span_shape edges positions.entry exit extents rank order numbers_list plan s.0 s.1 _ t s.2 in
@@ -394,7 +395,7 @@ module _ (flow : Flow) (loops : List Loop) (positions : HandlerPositions) (well_
         let zero_is : get_or numbers_list positions.entry 0 ≡ 0 = ap (λ (x : ℕ). get_or numbers_list x 0) (sym entry_first) ∙ number_of edges positions.entry exit extents rank order numbers_list plan 0 (omega arith) in
         sym zero_is ∙ ap (λ (x : ℕ). get_or numbers_list x 0) ((plan.entered).entry_at_header s.0 s.1 at) ∙ sym (s.2).header_is
 
-    shallow : (k : ℕ) → count_by (λ (t : Span). is_in t k) spans ≤ 16
+    shallow : (k : ℕ) → count_by (λ (t : Span). is_in t k) spans ≤ MOST_INSTANCES
     shallow k = ⊎_elim
         (λ (lt : k < exit).
         let p : ℕ = get_or order k 0 in

@@ -1,6 +1,7 @@
 -- What a handler's loops are in positions: what `nest` finds on its way from places to a tree.
 use Rattle.std.specs.Prelude.{◌≡◌, ℕ, ◌+◌, ◌<◌, ◌≤◌, ◌↔◌, ◌⊎◌, List, length, map, Contains, All, slice_index}
 use Rattle.walks.specs.Walk.{Cycle}
+use Rattle.walks.specs.declared.limits.TheConstants.{MOST_INSTANCES}
 use Rattle.statement.specs.declared.stated.Loop.{Loop}
 use Rattle.flow_graph.specs.Flow.{Flow}
 use Rattle.flow_graph.specs.Places.{place_at}
@@ -87,4 +88,4 @@ IsNestingFault exit edges entry extents UnboundedCycle =
     (HaveCrossing extents → ⊥) × EnterRight exit edges entry extents × HasPlainCycle edges extents
 IsNestingFault exit edges entry extents NestedTooDeep =
     (HaveCrossing extents → ⊥) × EnterRight exit edges entry extents × (HasPlainCycle edges extents → ⊥)
-    × ((k : ℕ) × (k < length extents) × (16 < depth_at extents (extent_at extents k).first))
+    × ((k : ℕ) × (k < length extents) × (MOST_INSTANCES < depth_at extents (extent_at extents k).first))

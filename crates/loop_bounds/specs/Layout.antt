@@ -8,6 +8,7 @@ use Rattle.std.specs.Cmp.Lexicographic.{slice_cmp}
 use Rattle.std.specs.declared.cmp.Ordering.{Ordering}
 use Rattle.std.specs.List.Sorted.{IsPermutation, IsSortedBy}
 use Rattle.walks.specs.Walk.{Cycle}
+use Rattle.walks.specs.declared.limits.TheConstants.{MOST_INSTANCES}
 use Rattle.numbered_walks.specs.declared.span.NumberedEdge.{NumberedEdge}
 use Rattle.loop_bounds.specs.declared.extents.Extent.{Extent}
 use Rattle.loop_bounds.specs.declared.layout.Keyed.{Keyed}
@@ -151,13 +152,13 @@ depth_at extents p = count_by (λ s. is_within s p) extents
 
 -- no position lies in more than sixteen extents
 abbrev pub AreShallow : List Extent → Type 0
-AreShallow extents = (p : ℕ) → depth_at extents p ≤ 16
+AreShallow extents = (p : ℕ) → depth_at extents p ≤ MOST_INSTANCES
 
 -- an extent's first position lies in more than sixteen
 abbrev pub IsChainFault : List Extent → NestFault → Type 0
 IsChainFault extents Memory = Unit {0}
 IsChainFault extents NestedTooDeep =
-    (k : ℕ) × (k < length extents) × (16 < depth_at extents (extent_at extents k).first)
+    (k : ℕ) × (k < length extents) × (MOST_INSTANCES < depth_at extents (extent_at extents k).first)
 IsChainFault extents LoopsCross = ⊥
 IsChainFault extents SharedHeader = ⊥
 IsChainFault extents EntersMidLoop = ⊥

@@ -4,6 +4,7 @@ use Rattle.std.specs.Prelude.{◌≡◌, ◌≢◌, true, false, ℕ, ◌<◌, �
 use Rattle.std.specs.Prelude.{AllPairs, All}
 use Rattle.walks.specs.Walk.{Cycle}
 use Rattle.walks.specs.Greatest.{is_back_edge}
+use Rattle.walks.specs.declared.limits.TheConstants.{MOST_INSTANCES}
 use Rattle.flow_graph.specs.declared.places.Place.{Place}
 use Rattle.flow_graph.specs.declared.edges.Edge.{Edge}
 use Rattle.statement.specs.declared.stated.Loop.{Loop}
@@ -90,7 +91,7 @@ pub record HasDeepPlace (flow : Flow) (loops : List Loop) : Type 0 where
   pub differ : AllPairs (λ i j. i ≢ j) instances
   pub each : All (IsInstance flow loops) instances
   pub members : All (λ i. is_member i place ≡ true) instances
-  pub many : 16 < length instances
+  pub many : MOST_INSTANCES < length instances
 
 -- ## Refusals
 

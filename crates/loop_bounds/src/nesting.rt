@@ -10,9 +10,7 @@ use crate::parents::{enters_right, parents};
 use crate::ranks::ranks;
 use numbered_walks::NumberedEdge;
 use std::alloc::{AllocError, Global};
-
-/// In how many instances of loops a place may lie.
-pub const MOST_INSTANCES: usize = 16;
+use walks::MOST_INSTANCES;
 
 // The chain, if there is one, and then the rank.
 fn extended(

@@ -6,6 +6,7 @@ use Rattle.walks.specs.Walk.{Shape}
 use Rattle.walks.specs.Walk as W
 use Rattle.walks.specs.Greatest.{Loops}
 use Rattle.walks.specs.Greatest as G
+use Rattle.walks.specs.declared.limits.TheConstants.{MOST_INSTANCES, MOST_ROUNDS}
 use Rattle.numbered_walks.specs.declared.span.NumberedEdge.{NumberedEdge}
 use Rattle.numbered_walks.specs.declared.span.Span.{Span}
 
@@ -44,7 +45,7 @@ pub record IsOrdered (exit : ℕ) (edges : List NumberedEdge) (spans : List Span
   pub places : (e : NumberedEdge) → Contains edges e → (e.from < exit) × (e.to ≤ exit)
   pub goes_up : (e : NumberedEdge) → Contains edges e → GoesUpOrBack spans e
   pub entered_up : (n : ℕ) → 0 < n → n < exit → IsEnteredUp edges n
-  pub shape : (s : Span) → Contains spans s → (s.header ≤ s.last) × (s.last < exit) × (s.bound ≤ 1048576)
+  pub shape : (s : Span) → Contains spans s → (s.header ≤ s.last) × (s.last < exit) × (s.bound ≤ MOST_ROUNDS)
   pub headers_differ : AllPairs (λ s t. s.header ≢ t.header) spans
   pub closing : AllPairs ClosesBefore spans
   -- two that share a number lie one within the other
@@ -55,7 +56,7 @@ pub record IsOrdered (exit : ℕ) (edges : List NumberedEdge) (spans : List Span
       → is_in s e.to ≡ true → e.to ≡ s.header
   -- an entry that is a member is the header
   pub entry_at_header : (s : Span) → Contains spans s → is_in s 0 ≡ true → 0 ≡ s.header
-  pub shallow : (n : ℕ) → count_by (λ s. is_in s n) spans ≤ 16
+  pub shallow : (n : ℕ) → count_by (λ s. is_in s n) spans ≤ MOST_INSTANCES
 
 -- ## Walks
 

@@ -6,6 +6,7 @@ use Rattle.std.proofs.lemmas.Bool.{and_parts, leb-true}
 use Rattle.std.proofs.lemmas.List.Elements.{All-nil}
 use Rattle.toml.specs.Data.{Data, Members, as_integer, as_str, as_table, get_member}
 use Rattle.bus_ticks.specs.declared.profile.Class.{Class}
+use Rattle.walks.specs.declared.limits.TheConstants.{MOST_ROUNDS}
 use Rattle.toml_reading.specs.Documents.{are_distinct, items_at, listed_up_to, number_in, once}
 use Rattle.toml_reading.specs.Readings.{and_then, both, items_in, required, seen}
 use Rattle.toml_reading.proofs.ReadingLemmas.{also_holds, and_then_holds, both_hold, checked_holds, first_holds, follows_holds, implied, in_space_holds, listed_up_to_holds, number_in_holds, required_holds, second_holds, seen_both, seen_second, tables_few, tables_up_to_hold, test_holds}
@@ -43,7 +44,7 @@ address_in_small names key ms =
     required_holds statement_faults IsSmall (get_member key ms) (address_at names) (address_small names)
 
 abbrev pub IsBound : ℕ → Type 0
-IsBound n = n ≤ 1048576
+IsBound n = n ≤ MOST_ROUNDS
 
 abbrev pub AreEnds : (ℕ × ℕ) × (ℕ × ℕ) → Type 0
 AreEnds p = (IsSmall p.0.0 × IsSmall p.0.1) × (IsSmall p.1.0 × IsBound p.1.1)
@@ -64,10 +65,10 @@ placed_is_loop p h =
 loop_parts_hold : (names : Names) (ms : Members) → IfOk (loop_parts names ms) AreEnds
 loop_parts_hold names ms =
     let ends = both statement_faults (address_in names (codes "first") ms) (address_in names (codes "last") ms) in
-    let rest = both statement_faults (address_in names (codes "header") ms) (number_in statement_faults (codes "bound") 1048576 ms) in
+    let rest = both statement_faults (address_in names (codes "header") ms) (number_in statement_faults (codes "bound") MOST_ROUNDS ms) in
     both_hold statement_faults (λ e. IsSmall e.0 × IsSmall e.1) (λ e. IsSmall e.0 × IsBound e.1) ends rest
     (both_hold statement_faults IsSmall IsSmall (address_in names (codes "first") ms) (address_in names (codes "last") ms) (address_in_small names (codes "first") ms) (address_in_small names (codes "last") ms))
-    (both_hold statement_faults IsSmall IsBound (address_in names (codes "header") ms) (number_in statement_faults (codes "bound") 1048576 ms) (address_in_small names (codes "header") ms) (number_in_holds statement_faults 1048576 (codes "bound") ms))
+    (both_hold statement_faults IsSmall IsBound (address_in names (codes "header") ms) (number_in statement_faults (codes "bound") MOST_ROUNDS ms) (address_in_small names (codes "header") ms) (number_in_holds statement_faults MOST_ROUNDS (codes "bound") ms))
 
 loop_in_holds : (names : Names) (ms : Members) → IfOk (loop_in names ms) IsLoop
 loop_in_holds names ms =

@@ -8,6 +8,7 @@ use Rattle.std.proofs.lemmas.List.{nil_from_length}
 use Rattle.std.proofs.lemmas.Option.{none-some}
 use Rattle.toml.specs.Data.{Data, Members, as_integer, get_member}
 use Rattle.bus_ticks.specs.declared.profile.Class.{Class}
+use Rattle.walks.specs.declared.limits.TheConstants.{MOST_ROUNDS}
 use Rattle.toml_reading.specs.Documents.{are_distinct, items_at, listed_up_to, number_in, once}
 use Rattle.toml_reading.specs.Lists.{StandsTwice}
 use Rattle.toml_reading.specs.Lowest.{AtKey, IsNamed, IsNumber, IsOutside, NameFault, NumberFault}
@@ -112,25 +113,25 @@ module _ (names : Names) where
   abbrev HasEnds : Members → (ℕ × ℕ) × (ℕ × ℕ) → Type 0
   HasEnds ms p =
       (AtKey (codes "first") ms (λ d. IsAddress names d p.0.0) × AtKey (codes "last") ms (λ d. IsAddress names d p.0.1))
-      × (AtKey (codes "header") ms (λ d. IsAddress names d p.1.0) × AtKey (codes "bound") ms (λ d. IsNumber 1048576 d p.1.1))
+      × (AtKey (codes "header") ms (λ d. IsAddress names d p.1.0) × AtKey (codes "bound") ms (λ d. IsNumber MOST_ROUNDS d p.1.1))
 
   abbrev EndsFault : Members → StatementFault → Type 0
   EndsFault ms f =
       (RequiredFault (codes "first") ms (AddressFault names) f ⊎ RequiredFault (codes "last") ms (AddressFault names) f)
-      ⊎ (RequiredFault (codes "header") ms (AddressFault names) f ⊎ RequiredFault (codes "bound") ms (NumberFault statement_faults 1048576) f)
+      ⊎ (RequiredFault (codes "header") ms (AddressFault names) f ⊎ RequiredFault (codes "bound") ms (NumberFault statement_faults MOST_ROUNDS) f)
 
   ends_judged : (ms : Members) → Judges statement_faults (HasEnds ms) (EndsFault ms) (loop_parts names ms)
   ends_judged ms =
       both_judged
       statement_faults
       (λ p. AtKey (codes "first") ms (λ d. IsAddress names d p.0) × AtKey (codes "last") ms (λ d. IsAddress names d p.1))
-      (λ p. AtKey (codes "header") ms (λ d. IsAddress names d p.0) × AtKey (codes "bound") ms (λ d. IsNumber 1048576 d p.1))
+      (λ p. AtKey (codes "header") ms (λ d. IsAddress names d p.0) × AtKey (codes "bound") ms (λ d. IsNumber MOST_ROUNDS d p.1))
       _
       _
       _
       _
       (both_judged statement_faults _ _ _ _ _ _ (address_in_judged names (codes "first") ms) (address_in_judged names (codes "last") ms))
-      (both_judged statement_faults _ _ _ _ _ _ (address_in_judged names (codes "header") ms) (number_in_judged statement_faults 1048576 (codes "bound") ms))
+      (both_judged statement_faults _ _ _ _ _ _ (address_in_judged names (codes "header") ms) (number_in_judged statement_faults MOST_ROUNDS (codes "bound") ms))
 
   is_placed : (l : Loop) → (leb l.first l.header && leb l.header l.last) ≡ true ↔ IsPlaced names l
   is_placed l = (
@@ -144,14 +145,14 @@ module _ (names : Names) where
 
   number_low :
       (o : Option ℤ) (g : StatementFault)
-      → MatchOption o (g ≡ WrongKind) (λ z. IsOutside 1048576 z × (g ≡ OutOfRange))
+      → MatchOption o (g ≡ WrongKind) (λ z. IsOutside MOST_ROUNDS z × (g ≡ OutOfRange))
       → number_of g ≤ number_of OutOfRange
   number_low None g h = at_most g WrongKind h (omega arith)
   number_low (Some z) g h = at_most g OutOfRange h.1 (omega arith)
 
   bound_low :
       (o : Option Data) (g : StatementFault)
-      → MatchOption o (g ≡ WrongKind) (λ d. NumberFault statement_faults 1048576 d g)
+      → MatchOption o (g ≡ WrongKind) (λ d. NumberFault statement_faults MOST_ROUNDS d g)
       → number_of g ≤ number_of OutOfRange
   bound_low None g h = at_most g WrongKind h (omega arith)
   bound_low (Some d) g h = number_low (as_integer d) g h
@@ -163,7 +164,7 @@ module _ (names : Names) where
       → (g : StatementFault) × (EndsFault ms g ⊎ PlaceFault ms g) × (number_of g ≤ number_of f)
   misplaced_under ms f h =
       elim
-      (stated_or_faulty statement_faults (λ n. AtKey (codes "bound") ms (λ d. IsNumber 1048576 d n)) (RequiredFault (codes "bound") ms (NumberFault statement_faults 1048576)) (number_in statement_faults (codes "bound") 1048576 ms) (number_in_judged statement_faults 1048576 (codes "bound") ms)) [
+      (stated_or_faulty statement_faults (λ n. AtKey (codes "bound") ms (λ d. IsNumber MOST_ROUNDS d n)) (RequiredFault (codes "bound") ms (NumberFault statement_faults MOST_ROUNDS)) (number_in statement_faults (codes "bound") MOST_ROUNDS ms) (number_in_judged statement_faults MOST_ROUNDS (codes "bound") ms)) [
         | inl b ↦ (OutOfRange, inr (((h.0.0, h.0.1), (h.0.2, b.0)), ((h.0.3, h.0.4), (h.0.5, b.1)), (h.0.6, refl)), le_of_eq (ap number_of (sym h.1)))
         | inr g ↦ (g.0, inl (inr (inr g.1)), subst (λ (y : StatementFault). number_of g.0 ≤ number_of y) (sym h.1) (bound_low (get_member (codes "bound") ms) g.0 g.1))
       ]

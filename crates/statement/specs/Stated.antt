@@ -4,6 +4,7 @@ use Rattle.std.specs.Map.{lookup}
 use Rattle.bus_ticks.specs.declared.space.TheConstants.{SPACE_END}
 use Rattle.bus_ticks.specs.declared.profile.Class.{Class}
 use Rattle.bus_ticks.specs.declared.profile.Class.TheVariants.{Any}
+use Rattle.walks.specs.declared.limits.TheConstants.{MOST_ROUNDS}
 use Rattle.statement.specs.declared.stated.Loop.{Loop}
 use Rattle.statement.specs.declared.stated.TargetKind.{TargetKind}
 
@@ -35,7 +36,7 @@ pub record IsLoop (l : Loop) : Type 0 where
   pub from_first : l.first ≤ l.header
   pub to_last : l.header ≤ l.last
   pub last_small : l.last < SPACE_END
-  pub bound_small : l.bound ≤ 1048576
+  pub bound_small : l.bound ≤ MOST_ROUNDS
 
 -- the destinations are addresses
 abbrev pub IsTarget : Target → Type 0

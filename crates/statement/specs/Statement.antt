@@ -8,6 +8,7 @@ use Rattle.toml.specs.Data.{Data, Members, get_member, as_integer, as_str, as_ta
 use Rattle.bus_ticks.specs.declared.profile.Class.{Class}
 use Rattle.bus_ticks.specs.declared.profile.Class.TheVariants.{Any, Ram, Rom, Io}
 use Rattle.loader.specs.Labels.{Names}
+use Rattle.walks.specs.declared.limits.TheConstants.{MOST_ROUNDS}
 use Rattle.toml_reading.specs.Documents.{IsAnswer, are_distinct, in_space, items_at, listed_up_to, name_at}
 use Rattle.toml_reading.specs.Documents.{number_in, of_keys, once, tables_up_to}
 use Rattle.toml_reading.specs.Readings.{Reading, and_then, both, optional, required, seen}
@@ -114,7 +115,7 @@ module _ (names : Names) where
       statement_faults
       (both statement_faults (address_in (codes "first") ms) (address_in (codes "last") ms))
       (both statement_faults (address_in (codes "header") ms)
-      (number_in statement_faults (codes "bound") 1048576 ms))
+      (number_in statement_faults (codes "bound") MOST_ROUNDS ms))
 
   abbrev pub loop_in : Members → Read Loop
   loop_in ms = of_keys statement_faults loop_keys ms (and_then (loop_parts ms) placed_loop)

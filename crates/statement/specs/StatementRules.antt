@@ -5,6 +5,7 @@ use Rattle.std.specs.Map.{keys_of}
 use Rattle.toml.specs.Data.{Data, Members, integer, string, get_member, as_table}
 use Rattle.bus_ticks.specs.declared.profile.Class.{Class}
 use Rattle.bus_ticks.specs.declared.profile.Class.TheVariants.{Any}
+use Rattle.walks.specs.declared.limits.TheConstants.{MOST_ROUNDS}
 use Rattle.toml_reading.specs.Documents.{are_distinct, has_only_keys, items_at}
 use Rattle.toml_reading.specs.Lists.{IsListUpTo, ListUpToFault, StandsTwice}
 use Rattle.bus_ticks.specs.Prices.{is_word_address}
@@ -50,7 +51,7 @@ module _ (names : Names) where
     pub first : AtKey (codes "first") ms (λ d. IsAddress names d l.first)
     pub last : AtKey (codes "last") ms (λ d. IsAddress names d l.last)
     pub header : AtKey (codes "header") ms (λ d. IsAddress names d l.header)
-    pub bound : AtKey (codes "bound") ms (λ d. IsNumber 1048576 d l.bound)
+    pub bound : AtKey (codes "bound") ms (λ d. IsNumber MOST_ROUNDS d l.bound)
 
   -- the header lies within first to last
   abbrev pub IsPlaced : Loop → Type 0
@@ -76,7 +77,7 @@ module _ (names : Names) where
       RequiredFault (codes "first") ms (AddressFault names) fault
       ⊎ RequiredFault (codes "last") ms (AddressFault names) fault
       ⊎ RequiredFault (codes "header") ms (AddressFault names) fault
-      ⊎ RequiredFault (codes "bound") ms (NumberFault statement_faults 1048576) fault
+      ⊎ RequiredFault (codes "bound") ms (NumberFault statement_faults MOST_ROUNDS) fault
       ⊎ (IsMisplaced ms × (fault ≡ OutOfRange))
 
   abbrev pub LoopFault : Data → StatementFault → Type 0

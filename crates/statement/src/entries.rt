@@ -18,6 +18,7 @@ use toml_reading::{
     Entry, are_all_distinct, check, in_space, only_keys, pair, read_list_up_to, required_number,
     value_at, values_of,
 };
+use walks::MOST_ROUNDS;
 
 /// The keys of a loop's table.
 pub const LOOP_KEYS: &[&str] = &["header", "first", "last", "bound"];
@@ -27,9 +28,6 @@ pub const TARGET_KEYS: &[&str] = &["at", "kind", "to"];
 
 /// The keys of an access's table.
 pub const ACCESS_KEYS: &[&str] = &["at", "class"];
-
-/// The highest bound of a loop.
-pub const MOST_ROUNDS: u32 = 1_048_576;
 
 /// The most destinations of a target.
 pub const MOST_DESTINATIONS: usize = 64;

@@ -8,8 +8,9 @@ mod law;
 mod reading;
 mod stated;
 
-pub use entries::{ACCESS_KEYS, LOOP_KEYS, MOST_DESTINATIONS, MOST_ROUNDS, TARGET_KEYS};
+pub use entries::{ACCESS_KEYS, LOOP_KEYS, MOST_DESTINATIONS, TARGET_KEYS};
 pub use faults::StatementFault;
 pub use law::statements_are_read;
 pub use reading::{MOST_ACCESSES, MOST_LOOPS, MOST_TARGETS, STATEMENT_KEYS, read_statement};
 pub use stated::{Loop, Statement, Target, TargetKind};
+pub use walks::MOST_ROUNDS;
