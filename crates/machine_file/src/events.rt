@@ -18,8 +18,8 @@ use std::alloc::{AllocError, Global};
 use std::marker::Model;
 use toml::{Table, Value};
 use toml_reading::{
-    Entry, by_number, check, list, number, only_keys, optional_number, pair, required_number,
-    tables, value_at,
+    Entry, by_number, check, list, number, only_keys, optional_number, pair, required,
+    required_number, tables, value_at,
 };
 
 /// How many steps a machine file asks for at most, and how many where it says nothing.
@@ -48,10 +48,7 @@ fn line_named(name: &str) -> Option<Lines>
 fn line(value: &Value) -> Read<Lines>
     ensures { result ≡ line_at (view value.now) }
 {
-    value
-        .as_str()
-        .and_then(line_named)
-        .ok_or(MachineFileFault::WrongKind)
+    required(value.as_str().and_then(line_named), Ok)
 }
 
 impl Entry<(), MachineFileFault> for Lines {

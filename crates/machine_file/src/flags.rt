@@ -6,7 +6,7 @@ ghost use Rattle.machine_file.specs.MachineFile.{set_flags, times};
 
 use crate::machine_faults::{MachineFileFault, Read};
 use toml::{Table, Value};
-use toml_reading::value_at;
+use toml_reading::{required, value_at};
 
 /// The flags of R15, with the masks of both interrupts.
 #[derive(Clone, Copy, Debug, PartialEq, Eq)]
@@ -80,10 +80,7 @@ fn lettered(text: &[u8]) -> Read<PsrFlags>
 fn flags_of(value: &Value) -> Read<PsrFlags>
     ensures { result ≡ flags_at (view value.now) }
 {
-    value
-        .as_str()
-        .ok_or(MachineFileFault::WrongKind)
-        .and_then(|text| lettered(text.as_bytes()))
+    required(value.as_str(), |text| lettered(text.as_bytes()))
 }
 
 /// The flags that the file's table states: both interrupts masked where it states none.

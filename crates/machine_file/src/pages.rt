@@ -14,8 +14,8 @@ use std::alloc::{AllocError, Global};
 use std::marker::Model;
 use toml::{Table, Value};
 use toml_reading::{
-    Entry, are_all_distinct, check, only_keys, optional_number, pair, required_number, tables,
-    value_at,
+    Entry, are_all_distinct, check, only_keys, optional_number, pair, required, required_number,
+    tables, value_at,
 };
 
 // The keys of a mapped page's table.
@@ -47,10 +47,7 @@ fn size_numbered(number: i64) -> Read<PageSize>
 fn size_value(value: &Value) -> Read<PageSize>
     ensures { result ≡ size_at (view value.now) }
 {
-    value
-        .as_integer()
-        .ok_or(MachineFileFault::WrongKind)
-        .and_then(size_numbered)
+    required(value.as_integer(), size_numbered)
 }
 
 fn size(table: &Table) -> Read<PageSize>
@@ -89,12 +86,7 @@ impl Entry<(), MachineFileFault> for MappedPage {
     ghost reads = { λ _. page_at };
 
     fn read(_alloc: Global, _context: &(), value: &Value) -> Result<Read<MappedPage>, AllocError> {
-        Ok(
-            value
-                .as_table()
-                .ok_or(MachineFileFault::WrongKind)
-                .and_then(page),
-        )
+        Ok(required(value.as_table(), page))
     }
 }
 

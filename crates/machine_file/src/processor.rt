@@ -12,7 +12,7 @@ use arm2_effect::Mode;
 use std::alloc::{AllocError, Global};
 use std::marker::Model;
 use toml::{Table, Value};
-use toml_reading::{in_space, pair, value_at};
+use toml_reading::{in_space, pair, required, value_at};
 
 /// The address in R15, in bytes.
 #[derive(Clone, Copy)]
@@ -62,18 +62,13 @@ fn start_address(number: i64) -> Read<StartAddress>
 fn pc_of(value: &Value) -> Read<StartAddress>
     ensures { result ≡ pc_at (view value.now) }
 {
-    value
-        .as_integer()
-        .ok_or(MachineFileFault::WrongKind)
-        .and_then(start_address)
+    required(value.as_integer(), start_address)
 }
 
 fn pc(table: &Table) -> Read<StartAddress>
     ensures { result ≡ pc_in (table_view table.now) }
 {
-    value_at(table, "pc")
-        .ok_or(MachineFileFault::WrongKind)
-        .and_then(pc_of)
+    required(value_at(table, "pc"), pc_of)
 }
 
 fn mode_named(word: &str) -> Option<Mode>
@@ -91,10 +86,7 @@ fn mode_named(word: &str) -> Option<Mode>
 fn mode_of(value: &Value) -> Read<Mode>
     ensures { result ≡ mode_at (view value.now) }
 {
-    value
-        .as_str()
-        .and_then(mode_named)
-        .ok_or(MachineFileFault::WrongKind)
+    required(value.as_str().and_then(mode_named), Ok)
 }
 
 fn mode(table: &Table) -> Read<Mode>

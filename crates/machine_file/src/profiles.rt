@@ -12,7 +12,8 @@ use bus_ticks::{NumbersFault, Profile};
 use std::alloc::Global;
 use toml::{Table, Value};
 use toml_reading::{
-    Reading, check, document, number, only_keys, pair, required_number, value_at, values_of,
+    Reading, check, document, number, only_keys, pair, required, required_number, value_at,
+    values_of,
 };
 
 type Read<T> = Reading<T, ProfileFileFault>;
@@ -47,17 +48,13 @@ fn four_numbers(values: &[Value]) -> Read<Four>
 fn four(value: &Value) -> Read<Four>
     ensures { result ≡ four_at (view value.now) }
 {
-    values_of(value)
-        .ok_or(ProfileFileFault::WrongKind)
-        .and_then(four_numbers)
+    required(values_of(value), four_numbers)
 }
 
 fn four_prices(table: &Table, key: &str) -> Read<Four>
     ensures { result ≡ four_in key.now (table_view table.now) }
 {
-    value_at(table, key)
-        .ok_or(ProfileFileFault::WrongKind)
-        .and_then(four)
+    required(value_at(table, key), four)
 }
 
 fn ram_prices(table: &Table) -> Read<(u32, (u32, u32))>

@@ -12,7 +12,7 @@ use std::alloc::{AllocError, Global};
 use std::marker::Model;
 use toml::{Table, Value};
 use toml_reading::{
-    Entry, are_all_distinct, check, only_keys, pair, required_number, tables, value_at,
+    Entry, are_all_distinct, check, only_keys, pair, required, required_number, tables, value_at,
 };
 
 // The keys of the table of a word that is put into memory.
@@ -30,18 +30,13 @@ fn put_address_of(number: i64) -> Read<u32>
 fn put_address_at(value: &Value) -> Read<u32>
     ensures { result ≡ put_address_at (view value.now) }
 {
-    value
-        .as_integer()
-        .ok_or(MachineFileFault::WrongKind)
-        .and_then(put_address_of)
+    required(value.as_integer(), put_address_of)
 }
 
 fn put_address_in(table: &Table) -> Read<u32>
     ensures { result ≡ put_address_in (table_view table.now) }
 {
-    value_at(table, "at")
-        .ok_or(MachineFileFault::WrongKind)
-        .and_then(put_address_at)
+    required(value_at(table, "at"), put_address_at)
 }
 
 fn put_word(table: &Table) -> Read<(u32, u32)>
@@ -62,12 +57,7 @@ impl Entry<(), MachineFileFault> for (u32, u32) {
     ghost reads = { λ _. put_word_at };
 
     fn read(_alloc: Global, _context: &(), value: &Value) -> Result<Read<(u32, u32)>, AllocError> {
-        Ok(
-            value
-                .as_table()
-                .ok_or(MachineFileFault::WrongKind)
-                .and_then(put_word),
-        )
+        Ok(required(value.as_table(), put_word))
     }
 }
 

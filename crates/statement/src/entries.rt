@@ -15,8 +15,8 @@ use loader::Labels;
 use std::alloc::{AllocError, Global};
 use toml::{Table, Value};
 use toml_reading::{
-    Entry, are_all_distinct, check, in_space, only_keys, pair, read_list_up_to, required_number,
-    value_at, values_of,
+    Entry, are_all_distinct, check, in_space, only_keys, pair, read_list_up_to, required,
+    required_number, value_at, values_of,
 };
 use walks::MOST_ROUNDS;
 
@@ -48,19 +48,17 @@ fn address(labels: &Labels, value: &Value) -> Read<u32>
     if let Some(number) = value.as_integer() {
         return in_space(number);
     }
-    value
-        .as_str()
-        .ok_or(StatementFault::WrongKind)
-        .and_then(|name| label_address(labels.get(name.as_bytes())))
+    required(
+        value.as_str(),
+        |name| label_address(labels.get(name.as_bytes())),
+    )
 }
 
 /// The address at a key that must be there.
 pub(crate) fn required_address(labels: &Labels, table: &Table, key: &str) -> Read<u32>
     ensures { result ≡ address_in (address_of labels.now) key.now (table_view table.now) }
 {
-    value_at(table, key)
-        .ok_or(StatementFault::WrongKind)
-        .and_then(|value| address(labels, value))
+    required(value_at(table, key), |value| address(labels, value))
 }
 
 // The loop of its first and last word, its header and its bound.
@@ -109,8 +107,7 @@ impl Entry<Labels, StatementFault> for Loop {
     ghost reads = { λ labels. loop_at (address_of labels) };
 
     fn read(_alloc: Global, labels: &Labels, value: &Value) -> Result<Read<Loop>, AllocError> {
-        let table = value.as_table().ok_or(StatementFault::WrongKind);
-        Ok(table.and_then(|table| read_loop(labels, table)))
+        Ok(required(value.as_table(), |table| read_loop(labels, table)))
     }
 }
 
@@ -139,18 +136,13 @@ fn class_named(word: &str) -> Option<Class>
 pub(crate) fn class(value: &Value) -> Read<Class>
     ensures { result ≡ class_at (view value.now) }
 {
-    value
-        .as_str()
-        .and_then(class_named)
-        .ok_or(StatementFault::WrongKind)
+    required(value.as_str().and_then(class_named), Ok)
 }
 
 fn required_class(table: &Table) -> Read<Class>
     ensures { result ≡ class_in (table_view table.now) }
 {
-    value_at(table, "class")
-        .ok_or(StatementFault::WrongKind)
-        .and_then(class)
+    required(value_at(table, "class"), class)
 }
 
 fn read_access(labels: &Labels, table: &Table) -> Read<(u32, Class)>
@@ -172,8 +164,7 @@ impl Entry<Labels, StatementFault> for (u32, Class) {
         labels: &Labels,
         value: &Value,
     ) -> Result<Read<(u32, Class)>, AllocError> {
-        let table = value.as_table().ok_or(StatementFault::WrongKind);
-        Ok(table.and_then(|table| read_access(labels, table)))
+        Ok(required(value.as_table(), |table| read_access(labels, table)))
     }
 }
 
@@ -192,18 +183,13 @@ fn kind_named(word: &str) -> Option<TargetKind>
 fn kind(value: &Value) -> Read<TargetKind>
     ensures { result ≡ kind_at (view value.now) }
 {
-    value
-        .as_str()
-        .and_then(kind_named)
-        .ok_or(StatementFault::WrongKind)
+    required(value.as_str().and_then(kind_named), Ok)
 }
 
 fn required_kind(table: &Table) -> Read<TargetKind>
     ensures { result ≡ kind_in (table_view table.now) }
 {
-    value_at(table, "kind")
-        .ok_or(StatementFault::WrongKind)
-        .and_then(kind)
+    required(value_at(table, "kind"), kind)
 }
 
 // The list, where no address is in it twice.

@@ -1,7 +1,8 @@
 //! Reading formats over TOML: a reading is a value, or the lowest of the faults of its parts.
 //!
 //! A format has a type of faults, which implements [`Fault`], and reads tables by [`value_at`],
-//! [`required_number`], [`tables`] and the like, whose readings [`pair`], [`append`] and [`check`] join.
+//! [`required_number`], [`tables`] and the like, whose readings [`pair`], [`append`] and [`check`] join;
+//! [`required`] reads of a value that must be there.
 #![tactic(auto)]
 
 mod distinct;
@@ -18,4 +19,4 @@ pub use keys::{only_keys, value_at};
 pub use limits::{read_list_up_to, tables_up_to};
 pub use lists::{Entry, list, tables, values_of};
 pub use numbers::{in_space, number, optional_number, required_number};
-pub use readings::{Fault, Reading, append, check, pair};
+pub use readings::{Fault, Reading, append, check, pair, required};

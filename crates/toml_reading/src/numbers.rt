@@ -5,7 +5,7 @@ ghost use Rattle.bus_ticks.specs.Prices.{is_word_address};
 ghost use Rattle.toml_reading.specs.Readings.{up_to};
 
 use crate::keys::value_at;
-use crate::readings::{Fault, Reading};
+use crate::readings::{Fault, Reading, required};
 use bus_ticks::is_word_address;
 use toml::{Table, Value};
 
@@ -29,20 +29,14 @@ fn up_to<F: Fault>(number: i64, limit: u32) -> Reading<u32, F>
 pub fn number<F: Fault>(value: &Value, limit: u32) -> Reading<u32, F>
     ensures { result ≡ number_at F.faults limit (view value.now) }
 {
-    match value.as_integer() {
-        Some(number) => up_to(number, limit),
-        None => Err(F::wrong_kind()),
-    }
+    required(value.as_integer(), |number| up_to(number, limit))
 }
 
 /// The number from 0 to the limit at a key that must be there.
 pub fn required_number<F: Fault>(table: &Table, key: &str, limit: u32) -> Reading<u32, F>
     ensures { result ≡ number_in F.faults key.now limit (table_view table.now) }
 {
-    let Some(value) = value_at(table, key) else {
-        return Err(F::wrong_kind());
-    };
-    number(value, limit)
+    required(value_at(table, key), |value| number(value, limit))
 }
 
 /// The number from 0 to the limit at a key, or another one where the key is missing.

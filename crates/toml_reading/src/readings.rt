@@ -1,4 +1,5 @@
-ghost use Rattle.std.specs.Prelude.{◌≡◌, IfOk};
+ghost use Rattle.std.specs.Prelude.{◌≡◌, Err, IfOk, MatchOption};
+ghost use Rattle.std.specs.Option.{ForSome};
 ghost use Rattle.toml_reading.specs.Readings.{Faults, after, both, checked, items_in, lower, lower_with};
 ghost use Rattle.toml_reading.specs.Readings.{out_of_range_of, rank_of, unknown_key_of, wrong_kind_of};
 
@@ -46,6 +47,20 @@ fn lowest_with<F: Fault>(fault: F, other: Option<F>) -> F
         return fault;
     };
     lowest(fault, other)
+}
+
+/// What is read of a value that must be there.
+pub fn required<T, U, F: Fault, R: FnOnce(T) -> Reading<U, F>>(
+    value: Option<T>,
+    read: R,
+) -> Reading<U, F>
+    requires { ForSome value (R.pre read) }
+    ensures { MatchOption value (result ≡ Err (wrong_kind_of F.faults)) (λ v. R.post read v result) }
+{
+    match value {
+        Some(value) => read(value),
+        None => Err(F::wrong_kind()),
+    }
 }
 
 /// The reading, with one more condition.
