@@ -4,6 +4,7 @@ use Rattle.std.specs.Prelude.{flat_map}
 use Rattle.std.specs.List.{AllByRecursion, AllZip}
 use Rattle.std.proofs.lemmas.Bool.{false≢true}
 use Rattle.loader.specs.Image.{Words, may_hold}
+use Rattle.loader.proofs.ZipLemmas.{AllZip-one, AllZip-weaker}
 use Rattle.asm_text.specs.Source.{lines_of}
 use Rattle.asm_text.specs.Spelling.{Spells, SpellsOperands, SpellsParts}
 use Rattle.asm_text.specs.Statements.{Parsed, line_of}
@@ -26,12 +27,6 @@ use Rattle.assembler.proofs.AssembleRuns.{Ascending}
 use Rattle.assembler.proofs.AssembleFits.{JoinsIf, Put, fits}
 use Rattle.assembler.proofs.AssembleFull.{filled_ok}
 use Rattle.assembler.proofs.AssembleBasics.{all_true}
-
-all_spelled : ((line : List ℕ) (p : Parsed) → line_of line ≡ Ok p → Spells p line) → (lines : List (List ℕ)) (ps : List Parsed) → AllZip (λ line p. line_of line ≡ Ok p) lines ps → AllZip (λ line p. Spells p line) lines ps
-all_spelled reads [] [] h = tt
-all_spelled reads [] (p ∷ ps) h = absurd h
-all_spelled reads (line ∷ lines) [] h = absurd h
-all_spelled reads (line ∷ lines) (p ∷ ps) h = (reads line p h.0, all_spelled reads lines ps h.1)
 
 record Assembled (source : List ℕ) (image : Words) (names : Names) : Type 0 where
   state : State
@@ -74,7 +69,7 @@ assembly_is reads source image names e =
     let same = a.names-are in
     record {
       lines = s.said;
-      read = all_spelled reads (lines_of source) s.said s.read;
+      read = AllZip-weaker (λ line p. line_of line ≡ Ok p) (λ line p. Spells p line) reads (lines_of source) s.said s.read;
       once = s.names.once;
       named = λ name at. (
         λ k. elim ((s.names.named name at).0 (ap (λ (n : Names). n name) same ∙ k)) [ inl n ↦ no_name at n | inr c ↦ c ],
@@ -110,22 +105,6 @@ all_some [] (p ∷ ps) h = absurd h
 all_some (line ∷ lines) [] h = absurd h
 all_some (line ∷ lines) (p ∷ ps) h = let k = h.0 in (parts_some p.label p.said k.pieces k.spelled, all_some lines ps h.1)
 
-all_read : ((line : List ℕ) (p : Parsed) → Spells p line → line_of line ≡ Ok p) → (lines : List (List ℕ)) (ps : List Parsed) → AllZip (λ line p. Spells p line) lines ps → AllZip (λ line p. line_of line ≡ Ok p) lines ps
-all_read reads [] [] h = tt
-all_read reads [] (p ∷ ps) h = absurd h
-all_read reads (line ∷ lines) [] h = absurd h
-all_read reads (line ∷ lines) (p ∷ ps) h = (reads line p h.0, all_read reads lines ps h.1)
-
-same_lines : (lines : List (List ℕ)) (ps qs : List Parsed) → AllZip (λ line p. line_of line ≡ Ok p) lines ps → AllZip (λ line p. line_of line ≡ Ok p) lines qs → ps ≡ qs
-same_lines [] [] [] h k = refl
-same_lines [] [] (q ∷ qs) h k = absurd k
-same_lines [] (p ∷ ps) qs h k = absurd h
-same_lines (line ∷ lines) [] qs h k = absurd h
-same_lines (line ∷ lines) (p ∷ ps) [] h k = absurd k
-same_lines (line ∷ lines) (p ∷ ps) (q ∷ qs) h k =
-    let first = same_Ok p q (sym h.0 ∙ k.0) in
-    rw first (ap (λ (rs : List Parsed). q ∷ rs) (same_lines lines ps qs h.1 k.1))
-
 same_options : (o r : Option ℕ) → ((at : ℕ) → o ≡ Some at → r ≡ Some at) → ((at : ℕ) → r ≡ Some at → o ≡ Some at) → o ≡ r
 same_options (Some at) r f g = sym (f at refl)
 same_options None None f g = refl
@@ -144,7 +123,7 @@ pub assembly_built : ((line : List ℕ) (p : Parsed) → line_of line ≡ Ok p �
 unfolding put_words JoinsIf
 assembly_built spells reads source image names a =
     let lines : List Laid = laid a.lines in
-    let read = all_read reads (lines_of source) a.lines a.read in
+    let read = AllZip-weaker (λ line p. Spells p line) (λ line p. line_of line ≡ Ok p) reads (lines_of source) a.lines a.read in
     let some = all_some (lines_of source) a.lines a.read in
     let alone = apart_none (flat_map places lines) in
     let sweep = swept_ok (lines_of source) a.lines at_first 1 [] names a.words read some
@@ -162,7 +141,9 @@ assembly_built spells reads source image names a =
     }) in
     let t = sweep.0 in
     let s = swept_is at_first 1 (lines_of source) t sweep.1 in
-    let same : s.said ≡ a.lines = same_lines (lines_of source) s.said a.lines s.read read in
+    let same : s.said ≡ a.lines =
+    AllZip-one (λ line p. line_of line ≡ Ok p) (λ line p q h k. same_Ok p q (sym h ∙ k))
+    (lines_of source) s.said a.lines s.read read in
     let pending : AllZip NewItems lines s.new = subst (λ (ps : List Parsed). AllZip NewItems (laid ps) s.new) same s.pending in
     let named : NamesOf no_names t.names (labels_of lines) = subst (λ (ps : List Parsed). NamesOf no_names t.names (labels_of (laid ps))) same s.names in
     let names-are : t.names ≡ names = λ i name. same_options (t.names name) (names name)

@@ -23,4 +23,4 @@ mod RefuseFront
 mod RefuseSweep
 mod RefuseLabels
 mod RefuseLaws
-mod PlaceLemmas
+pub mod PlaceLemmas

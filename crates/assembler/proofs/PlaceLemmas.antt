@@ -5,8 +5,10 @@ use Rattle.std.specs.Prelude.{IfErr, IsErrAnd}
 use Rattle.std.specs.List.{AllZip}
 use Rattle.asm_text.specs.Said.{Said, Orgs}
 use Rattle.asm_text.specs.Source.{lines_of}
+use Rattle.asm_text.specs.Spelling.{Spells}
 use Rattle.asm_text.specs.Statements.{Parsed, line_of}
 use Rattle.asm_text.specs.declared.statement.TextFault.{TextFault}
+use Rattle.loader.proofs.ZipLemmas.{AllZip-one}
 use Rattle.assembler.specs.Assembles.{address_after, laid, laid_from, word_count}
 use Rattle.assembler.specs.Placed.{ArePlaced, IsPlaceFault, IsPlaced}
 use Rattle.assembler.specs.Refusals.{ArePassed, IsRefusedAtOnce}
@@ -115,17 +117,23 @@ so_far_all lines now at placed h0 none =
 
 -- ## All lines
 
-same_said : Texts → (before : List Parsed) (lines : List (List ℕ)) (said other : List Parsed)
-    → ArePassed before lines said → AreRead lines other → said ≡ other
-same_said texts before [] [] [] a b = refl
-same_said texts before [] (p ∷ said) other a b = absurd a
-same_said texts before [] [] (q ∷ other) a b = absurd b
-same_said texts before (line ∷ lines) [] other a b = absurd a
-same_said texts before (line ∷ lines) (p ∷ said) [] a b = absurd b
-same_said texts before (line ∷ lines) (p ∷ said) (q ∷ other) a b =
-    let first : p ≡ q = one_meaning p q (line_of line) (texts.reads line p a.0) b.0 in
-    let later : said ≡ other = same_said texts (before ++ p ∷ []) lines said other a.2 b.1 in
-    rw (first, later) refl
+abbrev pub Reads : Type 0
+Reads = (line : List ℕ) (p : Parsed) → Spells p line → line_of line ≡ Ok p
+
+passed_read : Reads → (before : List Parsed) (lines : List (List ℕ)) (said : List Parsed)
+    → ArePassed before lines said → AreRead lines said
+passed_read reads before [] [] h = tt
+passed_read reads before [] (p ∷ said) h = absurd h
+passed_read reads before (line ∷ lines) [] h = absurd h
+passed_read reads before (line ∷ lines) (p ∷ said) h =
+    (reads line p h.0, passed_read reads (before ++ p ∷ []) lines said h.2)
+
+-- what passed says what is read
+pub one_passed : Reads → (lines : List (List ℕ)) (said other : List Parsed)
+    → ArePassed [] lines said → AreRead lines other → said ≡ other
+one_passed reads lines said other passed read =
+    AllZip-one (λ line p. line_of line ≡ Ok p) (λ line p q. one_meaning p q (line_of line)) lines said other
+    (passed_read reads [] lines said passed) read
 
 both_ways : {A : Type 0} (r : Result State (LineFault × ℕ)) (s : State) (f : LineFault × ℕ) → r ≡ Ok s → r ≡ Err f → A
 both_ways r s f e k = absurd (no (sym e ∙ k))
@@ -143,7 +151,7 @@ placed_all texts source s placed e h =
         passed = all.1;
         places =
             subst (λ said. AllZip IsPlaced (laid said) placed)
-            (sym (same_said texts [] (lines_of source) all.0 h.said all.1 h.read)) h.places;
+            (sym (one_passed texts.reads (lines_of source) all.0 h.said all.1 h.read)) h.places;
       }
       | inr stop ↦
           both_ways (swept at_first 1 (lines_of source)) s (stop.fault, length stop.front + 1) e

@@ -18,7 +18,7 @@ use Rattle.longest_walk.specs.declared.folded.Longest.{Longest}
 use Rattle.longest_walk.specs.Folded.{open_items}
 use Rattle.longest_walk.specs.Longest.{AreAllRounds, IsBody, IsLongest, KeepsTree, TreeTooLarge}
 use Rattle.longest_walk.specs.Rows.{RowsFit, RowsHold, header_of, is_exit, potentials_of}
-use Rattle.longest_walk.proofs.Opening.{AllZip-weaker}
+use Rattle.loader.proofs.ZipLemmas.{AllZip-weaker}
 use Rattle.longest_walk.proofs.RowLemmas.{headers_once}
 use Rattle.cert_check.proofs.SameMembers.{Differ, Within, find_same, sum_same}
 

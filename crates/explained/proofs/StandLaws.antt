@@ -1,21 +1,21 @@
 -- Each place of a graph is at one word of its source.
-use Rattle.std.proofs.Common.{◌≡◌, ◌≢◌, ◌∙◌, ℕ, zero, suc, ◌+◌, ◌*◌, ◌<◌, ◌≤◌, Bool, true, false, cond, List, [], ◌∷◌, ◌++◌, drop, take, length, flat_map, map, Option, Some, None, Result, Ok, Err, inl, inr, refl, sym, ap, subst, arith}
+use Rattle.std.proofs.Common.{◌≡◌, ◌≢◌, ◌∙◌, ℕ, zero, suc, ◌+◌, ◌*◌, ◌<◌, ◌≤◌, Bool, true, false, cond, List, [], ◌∷◌, ◌++◌, drop, take, length, flat_map, map, Option, Some, None, Ok, Err, inl, inr, refl, sym, ap, subst, arith}
 use Rattle.std.specs.Prelude.{◌==◌, ◌&&◌, ◌||◌, nat_le, nat_lt, Contains, count_by, is_some}
 use Rattle.std.specs.List.{AllByRecursion, AllZip, fold}
 use Rattle.std.proofs.lemmas.Bool.{cases_Bool, eq-eqb, eqb-true}
 use Rattle.std.proofs.lemmas.Bool.Decides.{nat_tests}
 use Rattle.std.proofs.lemmas.List.{map-append}
 use Rattle.std.proofs.lemmas.List.Sums.{sum_by-append, sum_by-cons}
+use Rattle.std.proofs.lemmas.Slice.Zip.{AllZip-long}
 use Rattle.std.specs.Str.{bytes_eq}
 use Rattle.bus_ticks.specs.declared.profile.Profile.{Profile}
-use Rattle.asm_text.specs.Said.{Target, Said, Codes, Refers, Orgs, Lists}
+use Rattle.asm_text.specs.Said.{Said, Codes, Refers, Orgs, Lists}
 use Rattle.asm_text.specs.Source.{lines_of}
 use Rattle.asm_text.specs.Spelling.{Spells}
 use Rattle.asm_text.specs.Statements.{Parsed, line_of}
-use Rattle.asm_text.specs.declared.statement.TextFault.{TextFault}
 use Rattle.assembler.specs.Assembles.{AreWords, IsAssembly, IsTarget, Laid, Once, image_of, laid, places, addresses_from, word_count, words_at, words_from}
 use Rattle.assembler.specs.Placed.{ArePlaced, IsPlaced}
-use Rattle.assembler.specs.Refusals.{ArePassed}
+use Rattle.assembler.proofs.PlaceLemmas.{Reads, one_passed}
 use Rattle.loader.specs.Labels.{Names}
 use Rattle.assembler.specs.declared.placed_line.PlacedLine.{PlacedLine}
 use Rattle.loader.specs.Image.{Words, with_word, word_of}
@@ -24,6 +24,7 @@ use Rattle.loader.specs.declared.places.TheConstants.{MOST_SEGMENTS}
 use Rattle.loader.specs.declared.reading.ReadFault.TheVariants.{OutOfRange, Truncated}
 use Rattle.loader.proofs.AcceptLemmas.{count_parts, magic_parts, ok_parts, whole_part}
 use Rattle.loader.proofs.SegmentLemmas.{can_stand, length_numbers}
+use Rattle.loader.proofs.ZipLemmas.{AllZip-weaker}
 use Rattle.flow_graph.specs.Flow.{Flow}
 use Rattle.flow_graph.specs.Graph.{IsBuildFault, IsFlowGraph}
 use Rattle.flow_graph.specs.declared.faults.BuildFault.{BuildFault}
@@ -84,16 +85,10 @@ side_by_side : (at : ℕ) (ws : List ℕ) → ats (words_from at ws) ≡ address
 side_by_side at [] = refl
 side_by_side at (w ∷ ws) = ap (λ xs. at ∷ xs) (side_by_side (at + 4) ws)
 
-as_many : (names : Names) (values : List Target) (ws : List ℕ) → AllZip (IsTarget names) values ws → length ws ≡ length values
-as_many names [] [] h = refl
-as_many names [] (w ∷ ws) h = absurd h
-as_many names (v ∷ vs) [] h = absurd h
-as_many names (v ∷ vs) (w ∷ ws) h = ap suc (as_many names vs ws h.1)
-
 word_number : (names : Names) (said : Option Said) (at : ℕ) (ws : List ℕ) → AreWords names said at ws → length ws ≡ word_count said
 word_number names (Some (Codes c)) at ws h = ap length h.1
 word_number names (Some (Refers r t)) at ws h = ap length h.2
-word_number names (Some (Lists values)) at ws h = as_many names values ws h
+word_number names (Some (Lists values)) at ws h = AllZip-long (IsTarget names) values ws h
 word_number names (Some (Orgs n)) at ws h = ap length h
 word_number names None at ws h = ap length h
 
@@ -139,21 +134,6 @@ same_places (line ∷ lines) (p ∷ placed) h =
     let here : places line ≡ words_of p = ap (λ a. addresses_from a (word_count line.said)) (sym h.0.0) ∙ ap (addresses_from p.at) (sym h.0.1) in
     ap (λ xs. xs ++ flat_map places lines) here ∙ ap (λ xs. words_of p ++ xs) (same_places lines placed h.1)
 
-abbrev pub Reads : Type 0
-Reads = (line : List ℕ) (p : Parsed) → Spells p line → line_of line ≡ Ok p
-
-same_lines : Reads → (before : List Parsed) (lines : List (List ℕ)) (said other : List Parsed) → ArePassed before lines said → AllZip (λ line p. Spells p line) lines other → said ≡ other
-same_lines reads before [] [] [] a b = refl
-same_lines reads before [] (p ∷ said) other a b = absurd a
-same_lines reads before [] [] (q ∷ other) a b = absurd b
-same_lines reads before (line ∷ lines) [] other a b = absurd a
-same_lines reads before (line ∷ lines) (p ∷ said) [] a b = absurd b
-same_lines reads before (line ∷ lines) (p ∷ said) (q ∷ other) a b =
-    let same : ◌≡◌ {A = Result Parsed TextFault} (Ok p) (Ok q) = sym (reads line p a.0) ∙ reads line q b.0 in
-    let here : p ≡ q = cc in
-    let later : said ≡ other = same_lines reads (before ++ p ∷ []) lines said other a.2 b.1 in
-    rw (here, later) refl
-
 exactly : (n m : ℕ) → 1 ≤ n → n ≡ m → m ≤ 1 → m ≡ 1
 exactly n m some same few = omega (arith, some, same, few)
 
@@ -166,7 +146,8 @@ stand words flow_places all on same few (At calls b) not_exit has = exactly (tim
 pub source_stands : Reads → (source : List ℕ) (image : Words) (names : Names) (flow_places : List Place) (placed : List PlacedLine) → IsAssembly source image names → ArePlaced source placed
     → (Contains flow_places Exit → ⊥) → AreOnWords image flow_places → StandOnce flow_places (flat_map words_of placed)
 source_stands reads source image names flow_places placed a stand_there no_exit on =
-    let said : stand_there.lines ≡ a.lines = same_lines reads [] (lines_of source) stand_there.lines a.lines stand_there.passed a.read in
+    let said : stand_there.lines ≡ a.lines = one_passed reads (lines_of source) stand_there.lines a.lines stand_there.passed
+    (AllZip-weaker (λ line p. Spells p line) (λ line p. line_of line ≡ Ok p) reads (lines_of source) a.lines a.read) in
     let there : flat_map places (laid a.lines) ≡ flat_map words_of placed =
     same_places (laid a.lines) placed (subst (λ (ls : List Parsed). AllZip IsPlaced (laid ls) placed) said stand_there.places) in
     let all = all_words names (laid a.lines) a.words a.coded in

@@ -4,6 +4,7 @@ use Rattle.std.proofs.Common.{◌≡◌, ℕ, suc, ◌+◌, ◌<◌, ◌≤◌, 
 use Rattle.std.specs.Prelude.{Contains}
 use Rattle.std.proofs.lemmas.List.{get_or_read}
 use Rattle.std.proofs.lemmas.List.Elements.{All-nil, Contains-get_or}
+use Rattle.std.proofs.lemmas.Slice.Zip.{AllZip-long}
 use Rattle.bus_ticks.specs.declared.profile.Profile.{Profile}
 use Rattle.loader.specs.Image.{Words}
 use Rattle.walks.specs.Walk.{Leads}
@@ -17,7 +18,7 @@ use Rattle.flow_graph.specs.declared.places.Place.{Place}
 use Rattle.flow_graph.specs.declared.places.Place.TheVariants.{At, Exit}
 use Rattle.flow_graph.proofs.BuildLemmas.{reached_push}
 use Rattle.flow_graph.proofs.EdgeLemmas.{IsSmall, Leaves, among_edges, is_edge, leaves, no_edge_at_exit}
-use Rattle.flow_graph.proofs.TurnLemmas.{before, before_all, before_more, in_part, joined, length_starts, part_joined, some_part, starts_at, zip_at, zip_length}
+use Rattle.flow_graph.proofs.TurnLemmas.{before, before_all, before_more, in_part, joined, length_starts, part_joined, some_part, starts_at, zip_at}
 
 pub exit_or : (p : Place) → (p ≡ Exit) ⊎ (p ≡ Exit → ⊥)
 exit_or (At calls address) = inr (λ e. cc)
@@ -31,7 +32,7 @@ module _ (words : Words) (st : Stated) (profile : Profile) (flow : Flow) (g : Is
   part_of v lt = zip_at (AreEdgesOf words st profile) flow.places g.parts v Exit [] g.parts_are lt
 
   same_length : length flow.places ≡ length g.parts
-  same_length = zip_length (AreEdgesOf words st profile) flow.places g.parts g.parts_are
+  same_length = sym (AllZip-long (AreEdgesOf words st profile) flow.places g.parts g.parts_are)
 
   has_place_at : (v : ℕ) → v < length flow.places → Contains flow.places (place_at flow.places v)
   has_place_at v lt = Contains-get_or flow.places v Exit lt

@@ -4,6 +4,7 @@ use Rattle.std.specs.Prelude.{Contains}
 use Rattle.std.specs.List.{AllZip}
 use Rattle.std.proofs.lemmas.List.{get_or_append_left, get_or-append_right, flat_map_more, take_more}
 use Rattle.std.proofs.lemmas.List.Elements.{Contains-append_left, Contains-append_right, Contains-append_cases, Contains-get_or}
+use Rattle.std.proofs.lemmas.Slice.Zip.{all_zipped_more}
 use Rattle.bus_ticks.specs.declared.profile.Profile.{Profile}
 use Rattle.loader.specs.Image.{Words}
 use Rattle.flow_graph.specs.Edges.{AreEdgesOf}
@@ -20,18 +21,6 @@ joined parts = flat_map (λ part. part) parts
 -- ## Places and their parts side by side
 
 module _ {A B : Type 0} (R : A → B → Type 0) where
-  zip_push : (xs : List A) (ys : List B) (x : A) (y : B) → AllZip R xs ys → R x y → AllZip R (xs ++ x ∷ []) (ys ++ y ∷ [])
-  zip_push [] [] x y h r = (r, tt)
-  zip_push [] (b ∷ ys) x y h r = absurd h
-  zip_push (a ∷ xs) [] x y h r = absurd h
-  zip_push (a ∷ xs) (b ∷ ys) x y h r = (h.0, zip_push xs ys x y h.1 r)
-
-  pub zip_length : (xs : List A) (ys : List B) → AllZip R xs ys → length xs ≡ length ys
-  zip_length [] [] h = refl
-  zip_length [] (b ∷ ys) h = absurd h
-  zip_length (a ∷ xs) [] h = absurd h
-  zip_length (a ∷ xs) (b ∷ ys) h = let e : length xs ≡ length ys = zip_length xs ys h.1 in omega arith
-
   pub zip_at : (xs : List A) (ys : List B) (k : ℕ) (d : A) (e : B) → AllZip R xs ys → k < length xs → R (get_or xs k d) (get_or ys k e)
   zip_at [] ys k d e h lt = absurd (omega arith)
   zip_at (a ∷ xs) [] k d e h lt = absurd h
@@ -60,7 +49,7 @@ module _ (words : Words) (st : Stated) (profile : Profile) where
       let ends : 0 + length (joined turn.parts) + length adds.edges ≡ length new = omega arith in
       record {
         parts = turn.parts ++ adds.edges ∷ [];
-        parts_are = rw (take_more places k place lt ∙ ap (λ x. take k places ++ x ∷ []) (sym is)) (zip_push (AreEdgesOf words st profile) (take k places) turn.parts place adds.edges turn.parts_are adds.are);
+        parts_are = rw (take_more places k place lt ∙ ap (λ x. take k places ++ x ∷ []) (sym is)) (all_zipped_more (AreEdgesOf words st profile) (take k places) turn.parts place adds.edges turn.parts_are adds.are);
         edges_are = adds.is ∙ ap (λ xs. xs ++ adds.edges) turn.edges_are ∙ flat_map_more (λ (part : List Edge). part) [] turn.parts adds.edges;
         firsts_are = ap (λ xs. xs ++ length new ∷ []) turn.firsts_are ∙ sym (starts_more 0 turn.parts adds.edges ∙ ap (λ (m : ℕ). starts_from 0 turn.parts ++ m ∷ []) ends);
       }

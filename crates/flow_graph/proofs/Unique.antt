@@ -1,14 +1,13 @@
 -- A handler has one flow graph.
-use Rattle.std.proofs.Common.{◌≡◌, List, [], ◌∷◌, refl, sym, ap, ◌∙◌, subst}
+use Rattle.std.proofs.Common.{◌≡◌, sym, ap, ◌∙◌, subst}
 use Rattle.std.specs.List.{AllZip}
 use Rattle.bus_ticks.specs.declared.profile.Profile.{Profile}
 use Rattle.loader.specs.Image.{Words}
+use Rattle.loader.proofs.ZipLemmas.{AllZip-one}
 use Rattle.flow_graph.specs.Edges.{AreEdgesOf}
 use Rattle.flow_graph.specs.Flow.{Flow}
 use Rattle.flow_graph.specs.Graph.{IsFlowGraph, starts_from}
 use Rattle.statement.specs.Stated.{Stated}
-use Rattle.flow_graph.specs.declared.edges.Edge.{Edge}
-use Rattle.flow_graph.specs.declared.places.Place.{Place}
 use Rattle.flow_graph.proofs.EdgeLemmas.{one_list}
 use Rattle.flow_graph.proofs.PlaceLemmas.{place_total}
 use Rattle.flow_graph.proofs.SortedLemmas.{same_members}
@@ -18,23 +17,13 @@ same_flow : (f g : Flow) → f.entry ≡ g.entry → f.places ≡ g.places → f
 same_flow f g entry places edges firsts profile = λ i. record { entry = entry i; places = places i; edges = edges i; firsts = firsts i; profile = profile i }
 
 module _ (words : Words) (st : Stated) (profile : Profile) where
-  one_parts : (places : List Place) (parts others : List (List Edge)) → AllZip (AreEdgesOf words st profile) places parts → AllZip (AreEdgesOf words st profile) places others → parts ≡ others
-  one_parts [] [] [] h k = refl
-  one_parts [] [] (y ∷ others) h k = absurd k
-  one_parts [] (x ∷ parts) others h k = absurd h
-  one_parts (p ∷ places) [] others h k = absurd h
-  one_parts (p ∷ places) (x ∷ parts) [] h k = absurd k
-  one_parts (p ∷ places) (x ∷ parts) (y ∷ others) h k =
-      let e : x ≡ y = one_list words st profile p x y h.0 k.0 in
-      let rest : parts ≡ others = one_parts places parts others h.1 k.1 in
-      cc
-
   pub one_flow : (f g : Flow) → IsFlowGraph words st profile f → IsFlowGraph words st profile g → f ≡ g
   one_flow f g h k =
       let places : f.places ≡ g.places = same_members place_total f.places g.places h.ordered k.ordered
       (λ p w. (k.exact p).1 ((h.exact p).0 w))
       (λ p w. (h.exact p).1 ((k.exact p).0 w)) in
-      let parts : h.parts ≡ k.parts = one_parts g.places h.parts k.parts (subst (λ ps. AllZip (AreEdgesOf words st profile) ps h.parts) places h.parts_are) k.parts_are in
+      let parts : h.parts ≡ k.parts = AllZip-one (AreEdgesOf words st profile) (one_list words st profile) g.places h.parts k.parts
+      (subst (λ ps. AllZip (AreEdgesOf words st profile) ps h.parts) places h.parts_are) k.parts_are in
       same_flow f g
       (h.entry_is ∙ sym k.entry_is)
       places

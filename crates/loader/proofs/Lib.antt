@@ -1,4 +1,5 @@
 pub mod WordLemmas
+pub mod ZipLemmas
 pub mod GapLemmas
 mod LabelLemmas
 pub mod PlaceLemmas

@@ -30,7 +30,7 @@ use Rattle.longest_walk.proofs.CarryKeeps.{pass_back}
 use Rattle.longest_walk.proofs.CarryOnce.{rising_once}
 use Rattle.longest_walk.proofs.CarryPotentials.{least, rows_fit, rows_hold}
 use Rattle.longest_walk.proofs.CarryWalks.{agree_all, costs_same, exit_place, greatest_up, instance_of, keeps_up, leads_up, too_large_down}
-use Rattle.longest_walk.proofs.Opening.{AllZip-weaker}
+use Rattle.loader.proofs.ZipLemmas.{AllZip-weaker}
 
 some_mapped : {X Y : Type 0} (f : X → Y) (xs : List X) → xs ≢ [] → map f xs ≢ []
 some_mapped f [] some is = some refl

@@ -48,12 +48,6 @@ AllZip-append R [] xs' (y ∷ ys) ys' one two = absurd one
 AllZip-append R (x ∷ xs) xs' [] ys' one two = absurd one
 AllZip-append R (x ∷ xs) xs' (y ∷ ys) ys' one two = (one.0, AllZip-append R xs xs' ys ys' one.1 two)
 
-pub AllZip-weaker : {A B : Type 0} (R S : A → B → Type 0) → ((x : A) (y : B) → R x y → S x y) → (xs : List A) (ys : List B) → AllZip R xs ys → AllZip S xs ys
-AllZip-weaker R S weaker [] [] all = tt
-AllZip-weaker R S weaker [] (y ∷ ys) all = absurd all
-AllZip-weaker R S weaker (x ∷ xs) [] all = absurd all
-AllZip-weaker R S weaker (x ∷ xs) (y ∷ ys) all = (weaker x y all.0, AllZip-weaker R S weaker xs ys all.1)
-
 -- ## Ways
 
 -- one edge of a way more
