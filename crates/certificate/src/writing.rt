@@ -174,7 +174,7 @@ pub fn write_cert(alloc: Global, longest: &Longest) -> Result<Vec<u8>, CertFault
     ensures text { IfOk result (λ text. text.items ≡ cert_text (said_of longest.now)) }
     ensures memory { IfErr result (λ fault. fault ≡ CertFault.Memory) }
 {
-    let mut out = VecOutput::new(alloc);
+    let mut out = VecOutput::with_room(alloc, 0)?;
     match print_cert(longest, &mut out) {
         Ok(()) => Ok(out.into_bytes()),
         Err(_) => Err(CertFault::Memory),

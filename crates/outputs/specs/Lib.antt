@@ -1,3 +1,3 @@
-pub mod Collected
+pub mod Kept
 pub mod OnTheWay
 pub mod Output

@@ -1,3 +1,3 @@
 pub mod Answers
 pub mod Faults
-pub mod Kept
+pub mod Sent

@@ -3,7 +3,7 @@ ghost use Rattle.std.specs.Io.KnownBytes.{Appends, WriteAppends};
 ghost use Rattle.outputs.specs.Output.{FailsSince, TakesFront, failures_after};
 
 use crate::fault::ReportFault;
-use outputs::{Output, OutputFault, write_whole};
+use outputs::{Output, OutputFault, VecOutput, write_whole};
 use std::alloc::Global;
 use std::io::Write;
 use std::marker::Model;
@@ -11,20 +11,15 @@ use std::marker::Model;
 /// An output that keeps what it takes.
 #[derive(Drop)]
 pub struct MemoryOutput {
-    bytes: Vec<u8>,
-    room: usize,
-    failures: u64,
+    kept: VecOutput,
 }
 
 impl Model for MemoryOutput {
-    ghost use Rattle.std.specs.Prelude.{◌≤◌, vec_capacity};
-    ghost use Rattle.report_output.specs.Kept.{Kept};
+    ghost use Rattle.outputs.specs.Kept.{Kept};
 
     ghost Value = { Kept };
 
-    ghost view = { λ m. record { bytes = m.bytes.items; room = m.room; failures = m.failures } };
-
-    ghost invariant = { λ m. m.room ≤ vec_capacity m.bytes };
+    ghost view = { λ m. m.kept };
 }
 
 impl MemoryOutput {
@@ -35,19 +30,15 @@ impl MemoryOutput {
         ensures failures { IfOk result (λ m. m.failures ≡ 0) }
         ensures memory { IfErr result (λ e. e ≡ ReportFault.Memory) }
     {
-        let bytes = Vec::with_capacity(alloc, room)?;
-        Ok(MemoryOutput {
-            bytes,
-            room,
-            failures: 0,
-        })
+        let kept = VecOutput::with_room(alloc, room)?;
+        Ok(MemoryOutput { kept })
     }
 
     /// What was taken.
     pub fn bytes(&self) -> &[u8]
         ensures { result.now ≡ self.now.bytes }
     {
-        self.bytes.as_slice()
+        self.kept.bytes()
     }
 }
 
@@ -56,7 +47,6 @@ impl Output for MemoryOutput {
 
     ghost failures = { λ m. m.failures };
 
-    // A write within the room takes the whole slice; past it, a failed allocation is a failure.
     fn write(&mut self, bytes: &[u8]) -> Result<usize, OutputFault>
         ensures bound { IfOk result (λ n. n ≤ length bytes.now) }
         ensures bytes { WriteAppends (Some self.old.bytes) (Some self.new.bytes) result bytes.now }
@@ -65,13 +55,7 @@ impl Output for MemoryOutput {
         ensures fits { length self.old.bytes + length bytes.now ≤ self.old.room
             → result ≡ Ok (length bytes.now) }
     {
-        match self.bytes.extend_from_slice(bytes) {
-            Ok(()) => Ok(bytes.len()),
-            Err(_) => {
-                self.failures = self.failures.saturating_add(1);
-                Err(OutputFault::Failed)
-            }
-        }
+        self.kept.write(bytes)
     }
 }
 
@@ -83,7 +67,7 @@ pub struct StreamOutput<W: Write> {
 }
 
 impl<W: Write> Model for StreamOutput<W> {
-    ghost use Rattle.report_output.specs.Kept.{Sent};
+    ghost use Rattle.report_output.specs.Sent.{Sent};
 
     ghost Value = { Sent };
 
