@@ -15,7 +15,7 @@ use Rattle.loop_bounds.specs.Bounds.{IsGreatestCost}
 use Rattle.longest_walk.specs.Visits.{visits_bound}
 use Rattle.numbered_walks.specs.declared.fault.WalkFault.TheVariants as walk_fault
 use Rattle.report_output.specs.Faults.{of_statement}
-use Rattle.report_input.specs.Report.{BeforeOutput, IsRefused, IsReport}
+use Rattle.report_input.specs.Report.{BeforeOutput, IsBounded, IsRefused}
 use Rattle.report_input.specs.Source.{Said, source_of}
 use Rattle.arcwcet.specs.VisitsReport.{AreAccepted, AreRefused, EntersElsewhere, HasBound, HasFiqBound, HaveReports, IsFiqRefused, IsVisitsReport, summary, total_of}
 use Rattle.report_output.specs.declared.fault.ReportFault.{ReportFault}
@@ -33,8 +33,8 @@ one_greatest flow st n m g h =
     let down = g.upper h.walk h.complete h.kept in
     omega (arith, up, down, g.costs, h.costs)
 
-one_bound : (source statement : List ℕ) (profile : Profile) (text other : List ℕ) (r : IsReport source statement profile text) (s : IsReport source statement profile other) → r.longest.bound ≡ s.longest.bound
-one_bound source statement profile text other r s =
+one_bound : (source statement : List ℕ) (profile : Profile) (r s : IsBounded source statement profile) → r.longest.bound ≡ s.longest.bound
+one_bound source statement profile r s =
     let a = r.accepted in
     let b = s.accepted in
     let same = one_graph source statement profile a.stated b.stated a.flow b.flow a.loops.graph b.loops.graph in
@@ -106,8 +106,8 @@ module _ (source irq fiq : List ℕ) (profile : Profile) where
     pub visits_reported : (k : ℕ) (text : List ℕ) → visits_bound profile b c k < 2 ^ 63 → text ≡ summary profile b c k ++ (t ++ u) → IsVisitsReport source irq fiq k profile text
     unfolding both_reports
     visits_reported k text small e =
-        let first = h.1.report in
-        let second = f.1.report in
+        let first = h.1.report.bounded in
+        let second = f.1.report.bounded in
         record {
           both = both_reports;
           small = subst (λ n. n < 2 ^ 63) (sym (total_is k)) small;
@@ -128,8 +128,8 @@ module _ (source irq fiq : List ℕ) (profile : Profile) where
 
   other_entry : HaveReports source irq fiq profile → EntersElsewhere source fiq → ⊥
   other_entry both other =
-      let g = both.fiq_is.accepted.loops.graph in
-      enters_there source fiq profile g.words g.names g.source_is both.fiq_is.accepted.stated g.statement_is both.entry_is other
+      let g = both.fiq_is.bounded.accepted.loops.graph in
+      enters_there source fiq profile g.words g.names g.source_is both.fiq_is.bounded.accepted.stated g.statement_is both.entry_is other
 
   fiq_refusals : (e : ReportFault) → HaveReports source irq fiq profile → IsFiqRefused source fiq profile e → (e ≡ Memory) ⊎ (e ≡ Device)
   fiq_refusals Memory both r = inl refl
@@ -138,15 +138,15 @@ module _ (source irq fiq : List ℕ) (profile : Profile) where
   fiq_refusals report_fault.NoSuchEntry both r = absurd r.0
   fiq_refusals (report_fault.NotFree at) both r = absurd r.0
   fiq_refusals Device both r = inr refl
-  fiq_refusals e both r = accepted_refusals source fiq profile e both.fiq_is.accepted r.0
+  fiq_refusals e both r = accepted_refusals source fiq profile e both.fiq_is.bounded.accepted r.0
 
   visits_refusals : (k : ℕ) (e : ReportFault) → AreAccepted source irq fiq k profile → AreRefused source irq fiq k profile e → (e ≡ Memory) ⊎ (e ≡ Device)
-  visits_refusals k e a (inl r) = accepted_refusals source irq profile e a.0.irq_is.accepted r
+  visits_refusals k e a (inl r) = accepted_refusals source irq profile e a.0.irq_is.bounded.accepted r
   visits_refusals k e a (inr (inl r)) = fiq_refusals e a.0 r.1
   visits_refusals k e a (inr (inr r)) =
       let both = r.1.0 in
-      let first = one_bound source irq profile both.irq_text a.0.irq_text both.irq_is a.0.irq_is in
-      let second = one_bound source fiq profile both.fiq_text a.0.fiq_text both.fiq_is a.0.fiq_is in
+      let first = one_bound source irq profile both.irq_is.bounded a.0.irq_is.bounded in
+      let second = one_bound source fiq profile both.fiq_is.bounded a.0.fiq_is.bounded in
       let same : total_of source irq fiq k profile both ≡ total_of source irq fiq k profile a.0 = λ i. visits_bound profile (first i) (second i) k in
       absurd (omega (arith, same, a.1, r.1.1))
 

@@ -51,12 +51,12 @@ pub record HaveReports (source irq fiq : List ℕ) (profile : Profile) : Type 0 
   pub irq_is : IsReport source irq profile irq_text
   pub fiq_text : List ℕ
   pub fiq_is : IsReport source fiq profile fiq_text
-  pub entry_is : fiq_is.accepted.stated.entry ≡ 0x1C
+  pub entry_is : fiq_is.bounded.accepted.stated.entry ≡ 0x1C
 
 module _ (source irq fiq : List ℕ) (k : ℕ) (profile : Profile) where
   -- the most ticks of the interrupted handler with k visits
   abbrev pub total_of : HaveReports source irq fiq profile → ℕ
-  total_of both = visits_bound profile both.irq_is.longest.bound both.fiq_is.longest.bound k
+  total_of both = visits_bound profile both.irq_is.bounded.longest.bound both.fiq_is.bounded.longest.bound k
 
   -- The report of a source and two statements, of which FIQ's handler has the second: the summary, and the
   -- reports of both statements. Every run of the machine that keeps both with at most k visits takes at most
@@ -64,9 +64,10 @@ module _ (source irq fiq : List ℕ) (k : ℕ) (profile : Profile) where
   pub record IsVisitsReport (text : List ℕ) : Type 0 where
     pub both : HaveReports source irq fiq profile
     pub small : total_of both < 2 ^ 63
-    pub runs : BoundsVisitedRuns both.irq_is.accepted.loops.graph.words both.fiq_is.accepted.stated profile
-        both.fiq_is.accepted.flow both.irq_is.accepted.stated both.irq_is.accepted.flow k (total_of both)
-    pub spelled : text ≡ summary profile both.irq_is.longest.bound both.fiq_is.longest.bound k
+    pub runs : BoundsVisitedRuns both.irq_is.bounded.accepted.loops.graph.words
+        both.fiq_is.bounded.accepted.stated profile both.fiq_is.bounded.accepted.flow
+        both.irq_is.bounded.accepted.stated both.irq_is.bounded.accepted.flow k (total_of both)
+    pub spelled : text ≡ summary profile both.irq_is.bounded.longest.bound both.fiq_is.bounded.longest.bound k
         ++ (both.irq_text ++ both.fiq_text)
 
   -- what has a report

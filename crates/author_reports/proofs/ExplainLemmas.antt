@@ -20,7 +20,7 @@ use Rattle.report_input.specs.Report.{BeforeOutput, HasLoops, IsRefused, IsTreeO
 use Rattle.report_input.specs.Source.{IsSourceFault, source_of}
 use Rattle.report_output.specs.declared.fault.ReportFault.{ReportFault}
 use Rattle.report_input.proofs.HandlerLemmas.{source_refusal}
-use Rattle.report_input.proofs.ReportLemmas.{accepted, report_refusal, tree_is_greatest}
+use Rattle.report_input.proofs.ReportLemmas.{accepted, bounded, report_refusal}
 use Rattle.author_reports.proofs.SaidLemmas.{same_words}
 
 -- a greatest walk of 2^63 ticks or more would have been refused
@@ -42,17 +42,12 @@ module _ (source statement : List ℕ) (profile : Profile) (words : Words) (name
   pub explained : (bursts : Bursts) (l : Longest) (latest : ℕ → Option ℕ) (text : List ℕ) → IsLongest flow tree l → ((a : ℕ) → IsLatestStart flow tree a (latest a)) → ((f : WalkFault) → f ≢ walk_fault.Memory → IsWalkFault flow tree f → ⊥)
       → IsTextOf source words st flow l latest profile.burst bursts text → IsTotal source loops.graph.words flow l
       → IsExplanation source statement bursts profile l.bound text
-  unfolding accepted
+  unfolding accepted bounded
   explained bursts l latest text is are allowed explains total = record {
-    accepted = accepted source statement profile st flow tree loops of allowed;
-    tree = tree;
-    longest = l;
+    bounded = bounded source statement profile st flow tree loops of l is allowed;
     latest = latest;
-    tree_of = of;
-    longest_is = is;
     latest_is = are;
     bound_is = refl;
-    greatest = tree_is_greatest flow st.loops tree of.instances l.bound is.greatest;
     explains = subst (λ (w : Words). IsTextOf source w st flow l latest profile.burst bursts text) (same_words source statement profile words names st flow said loops) explains;
     total = total;
   }

@@ -36,7 +36,7 @@ use Rattle.report_output.specs.declared.fault.ReportFault.TheVariants.{Memory, S
 use Rattle.report_output.specs.declared.fault.ReportFault.TheVariants as report_fault
 use Rattle.author_reports.proofs.ExactLemmas.{table_exact}
 use Rattle.report_input.proofs.PlacingLemmas.{runnable_refusals}
-use Rattle.report_input.proofs.ReportLemmas.{accepted, accepted_refusals, bounds_runs, kept_here, kept_there}
+use Rattle.report_input.proofs.ReportLemmas.{accepted, accepted_refusals, bounded, bounds_runs, kept_here, kept_there}
 
 -- ## The run
 
@@ -132,18 +132,13 @@ module _ (source statement machine : List ℕ) (profile : Profile) (words : Word
       (subst (λ (w : Words). IsFlowGraph w st profile flow) own_words loops.graph.graph_is)
 
   pub followed : (longest : Longest) (file : machine_file.Stated) (state : State) (kept : Bool) (text : List ℕ)
-      → ((f : WalkFault) → f ≢ walk_fault.Memory → IsWalkFault flow tree f → ⊥) → IsLongest flow tree longest → IsGreatestCost flow st.loops longest.bound
+      → ((f : WalkFault) → f ≢ walk_fault.Memory → IsWalkFault flow tree f → ⊥) → IsLongest flow tree longest
       → IsPlaced source machine profile file state → IsJudgedRun words st flow tree source longest file state kept text → IsFollowReport source statement machine profile kept text
-  unfolding accepted
-  followed longest file state kept text allowed is_longest greatest placed j = record {
-    accepted = accepted source statement profile st flow tree loops of allowed;
-    tree = tree;
-    longest = longest;
+  unfolding accepted bounded
+  followed longest file state kept text allowed is_longest placed j = record {
+    bounded = bounded source statement profile st flow tree loops of longest is_longest allowed;
     state = state;
     inputs = j.inputs;
-    tree_of = of;
-    longest_is = is_longest;
-    greatest = greatest;
     loaded = record { file = file; placed = placed; inputs_are = j.inputs_are };
     is_text =
         subst (λ (p : Profile). IsRunText loops.graph.words st p flow state j.inputs source tree longest kept text) loops.graph.graph_is.profile_is
@@ -189,4 +184,4 @@ module _ (source statement machine : List ℕ) (profile : Profile) where
   only_memory (Err e) h a = follow_refusals e a h.1
 
   pub followable : (kept : Bool) (text : List ℕ) → IsFollowReport source statement machine profile kept text → IsFollowable source statement machine profile
-  followable kept text r = record { accepted = r.accepted; runnable = record { file = r.loaded.file; state = r.state; placed = r.loaded.placed } }
+  followable kept text r = record { accepted = r.bounded.accepted; runnable = record { file = r.loaded.file; state = r.state; placed = r.loaded.placed } }

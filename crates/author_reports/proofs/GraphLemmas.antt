@@ -16,7 +16,7 @@ use Rattle.dot_text.specs.Text.{IsDrawing}
 use Rattle.author_reports.specs.GraphReport.{AreLabelsOf, IsGraphReport}
 use Rattle.report_input.specs.Report.{HasLoops, IsTreeOf}
 use Rattle.report_input.specs.Source.{source_of}
-use Rattle.report_input.proofs.ReportLemmas.{accepted, tree_is_greatest}
+use Rattle.report_input.proofs.ReportLemmas.{accepted, bounded}
 use Rattle.author_reports.proofs.SaidLemmas.{same_words}
 
 module _ (source statement : List ℕ) (profile : Profile) (words : Words) (names : Names) (said : source_of source ≡ Ok (words, names))
@@ -25,15 +25,10 @@ module _ (source statement : List ℕ) (profile : Profile) (words : Words) (name
   pub drawn : (l : Longest) (labels : List (Vec ℕ Global)) (text : List ℕ) → IsLongest flow tree l → ((f : WalkFault) → f ≢ walk_fault.Memory → IsWalkFault flow tree f → ⊥)
       → AreLabelsOf source words flow.places labels → HoldEachOnce flow tree → LeadToNodes flow tree → (d : IsDrawing flow tree l labels text) → all_ticks flow tree d.counts ≡ l.bound
       → IsGraphReport source statement profile text
-  unfolding accepted
+  unfolding accepted bounded
   drawn l labels text is allowed labels_are once leads d total = record {
-    accepted = accepted source statement profile st flow tree loops of allowed;
-    tree = tree;
-    longest = l;
+    bounded = bounded source statement profile st flow tree loops of l is allowed;
     labels = labels;
-    tree_of = of;
-    longest_is = is;
-    greatest = tree_is_greatest flow st.loops tree of.instances l.bound is.greatest;
     labels_are = subst (λ (w : Words). AreLabelsOf source w flow.places labels) (same_words source statement profile words names st flow said loops) labels_are;
     drawn = d;
     once = once;

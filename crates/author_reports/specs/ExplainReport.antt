@@ -7,10 +7,7 @@ use Rattle.statement.specs.Stated.{Stated}
 use Rattle.assembler.specs.Placed.{ArePlaced}
 use Rattle.assembler.specs.declared.placed_line.PlacedLine.{PlacedLine}
 use Rattle.flow_graph.specs.Flow.{Flow}
-use Rattle.loop_bounds.specs.Bounds.{IsGreatestCost}
-use Rattle.loop_bounds.specs.Tree.{Tree}
 use Rattle.longest_walk.specs.Folded.{unfolded}
-use Rattle.longest_walk.specs.Longest.{IsLongest}
 use Rattle.longest_walk.specs.declared.folded.Longest.{Longest}
 use Rattle.explained.specs.Assumed.{AreImageAssumptions, AreSourceAssumptions}
 use Rattle.explained.specs.Bursts.{AreBurstLines}
@@ -21,7 +18,7 @@ use Rattle.explained.specs.Table.{IsImageTable, IsSourceTable, image_ticks, sour
 use Rattle.explained.specs.Taken.{taken_at}
 use Rattle.savings.specs.Sections.{AreImageSavings, AreSourceSavings}
 use Rattle.report_output.specs.Answers.{Answers}
-use Rattle.report_input.specs.Report.{IsAccepted, IsRefused, IsTreeOf}
+use Rattle.report_input.specs.Report.{IsAccepted, IsBounded, IsRefused}
 use Rattle.report_input.specs.Source.{is_image}
 use Rattle.report_output.specs.declared.fault.ReportFault.{ReportFault}
 
@@ -86,18 +83,13 @@ pub record IsTotal (source : List ℕ) (words : Words) (flow : Flow) (longest : 
 -- better entries would save
 pub record IsExplanation (source statement : List ℕ) (bursts : Bursts) (profile : Profile) (bound : ℕ)
     (text : List ℕ) : Type 0 where
-  pub accepted : IsAccepted source statement profile
-  pub tree : Tree
-  pub longest : Longest
+  pub bounded : IsBounded source statement profile
   pub latest : ℕ → Option ℕ
-  pub tree_of : IsTreeOf accepted.flow accepted.stated.loops tree
-  pub longest_is : IsLongest accepted.flow tree longest
-  pub latest_is : (a : ℕ) → IsLatestStart accepted.flow tree a (latest a)
-  pub bound_is : longest.bound ≡ bound
-  pub greatest : IsGreatestCost accepted.flow accepted.stated.loops bound
-  pub explains : IsTextOf source accepted.loops.graph.words accepted.stated accepted.flow longest latest
-      profile.burst bursts text
-  pub total : IsTotal source accepted.loops.graph.words accepted.flow longest
+  pub latest_is : (a : ℕ) → IsLatestStart bounded.accepted.flow bounded.tree a (latest a)
+  pub bound_is : bounded.longest.bound ≡ bound
+  pub explains : IsTextOf source bounded.accepted.loops.graph.words bounded.accepted.stated
+      bounded.accepted.flow bounded.longest latest profile.burst bursts text
+  pub total : IsTotal source bounded.accepted.loops.graph.words bounded.accepted.flow bounded.longest
 
 -- no more ticks than are wanted, without bursts; any number where none is
 abbrev pub is_enough : Option ℕ → ℕ → Bool

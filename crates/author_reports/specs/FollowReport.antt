@@ -8,10 +8,8 @@ use Rattle.arm2_exec.specs.State.{State}
 use Rattle.arm2_exec.specs.declared.machine.Input.{Input}
 use Rattle.arm2_exec.specs.declared.machine.Ran.{Ran}
 use Rattle.flow_graph.specs.Flow.{Flow}
-use Rattle.loop_bounds.specs.Bounds.{IsGreatestCost}
 use Rattle.loop_bounds.specs.Tree.{Tree}
 use Rattle.longest_walk.specs.Folded.{unfolded}
-use Rattle.longest_walk.specs.Longest.{IsLongest}
 use Rattle.longest_walk.specs.declared.folded.Longest.{Longest}
 use Rattle.kept_runs.specs.Keeping.{IsStrayedRun}
 use Rattle.kept_runs.specs.Passing.{ArePasses, Pass}
@@ -21,7 +19,7 @@ use Rattle.author_reports.specs.Differences.{IsTable, compared_at}
 use Rattle.author_reports.specs.FollowText.{IsLineNumberAt, kept_text, strayed_text, why_text}
 use Rattle.report_input.specs.Keeping.{KeepsStatement}
 use Rattle.report_input.specs.Placing.{IsFileRefused, IsLoadRefused, IsLoaded, IsRunnable}
-use Rattle.report_input.specs.Report.{IsAccepted, IsRefused, IsTreeOf}
+use Rattle.report_input.specs.Report.{IsAccepted, IsBounded, IsRefused}
 use Rattle.report_output.specs.declared.fault.ReportFault.{ReportFault}
 use Rattle.report_output.specs.declared.fault.ReportFault.TheVariants as report_fault
 
@@ -77,17 +75,12 @@ module _ (words : Words) (stated : Stated) (profile : Profile) (flow : Flow) (st
 -- the answer on the run of a machine through an accepted handler, and its text
 pub record IsFollowReport (source statement machine : List ℕ) (profile : Profile) (kept : Bool)
     (text : List ℕ) : Type 0 where
-  pub accepted : IsAccepted source statement profile
-  pub tree : Tree
-  pub longest : Longest
+  pub bounded : IsBounded source statement profile
   pub state : State
   pub inputs : List Input
-  pub tree_of : IsTreeOf accepted.flow accepted.stated.loops tree
-  pub longest_is : IsLongest accepted.flow tree longest
-  pub greatest : IsGreatestCost accepted.flow accepted.stated.loops longest.bound
   pub loaded : IsLoaded source machine profile state inputs
-  pub is_text : IsRunText accepted.loops.graph.words accepted.stated profile accepted.flow state inputs source
-      tree longest kept text
+  pub is_text : IsRunText bounded.accepted.loops.graph.words bounded.accepted.stated profile
+      bounded.accepted.flow state inputs source bounded.tree bounded.longest kept text
 
 -- ## Refusals
 

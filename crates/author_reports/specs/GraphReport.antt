@@ -6,15 +6,11 @@ use Rattle.loader.specs.Image.{Words}
 use Rattle.assembler.specs.Placed.{ArePlaced}
 use Rattle.assembler.specs.declared.placed_line.PlacedLine.{PlacedLine}
 use Rattle.flow_graph.specs.declared.places.Place.{Place}
-use Rattle.loop_bounds.specs.Bounds.{IsGreatestCost}
-use Rattle.loop_bounds.specs.Tree.{Tree}
-use Rattle.longest_walk.specs.Longest.{IsLongest}
-use Rattle.longest_walk.specs.declared.folded.Longest.{Longest}
 use Rattle.dot_text.specs.Labels.{AreImageLabels, AreSourceLabels}
 use Rattle.dot_text.specs.Nodes.{HoldEachOnce, LeadToNodes, all_ticks}
 use Rattle.dot_text.specs.Text.{IsDrawing}
 use Rattle.report_output.specs.Answers.{Answers}
-use Rattle.report_input.specs.Report.{IsAccepted, IsRefused, IsTreeOf}
+use Rattle.report_input.specs.Report.{IsAccepted, IsBounded, IsRefused}
 use Rattle.report_input.specs.Source.{is_image}
 use Rattle.report_output.specs.declared.fault.ReportFault.{ReportFault}
 
@@ -33,18 +29,13 @@ pub record AreLabelsOf (source : List ℕ) (words : Words) (places : List Place)
 -- of an accepted source and statement: the drawing of their graph with a greatest walk. Its nodes hold each
 -- place once, its edges lead to nodes, and the ticks of all nodes are the bound.
 pub record IsGraphReport (source statement : List ℕ) (profile : Profile) (text : List ℕ) : Type 0 where
-  pub accepted : IsAccepted source statement profile
-  pub tree : Tree
-  pub longest : Longest
+  pub bounded : IsBounded source statement profile
   pub labels : List (Vec ℕ Global)
-  pub tree_of : IsTreeOf accepted.flow accepted.stated.loops tree
-  pub longest_is : IsLongest accepted.flow tree longest
-  pub greatest : IsGreatestCost accepted.flow accepted.stated.loops longest.bound
-  pub labels_are : AreLabelsOf source accepted.loops.graph.words accepted.flow.places labels
-  pub drawn : IsDrawing accepted.flow tree longest labels text
-  pub once : HoldEachOnce accepted.flow tree
-  pub leads : LeadToNodes accepted.flow tree
-  pub total : all_ticks accepted.flow tree drawn.counts ≡ longest.bound
+  pub labels_are : AreLabelsOf source bounded.accepted.loops.graph.words bounded.accepted.flow.places labels
+  pub drawn : IsDrawing bounded.accepted.flow bounded.tree bounded.longest labels text
+  pub once : HoldEachOnce bounded.accepted.flow bounded.tree
+  pub leads : LeadToNodes bounded.accepted.flow bounded.tree
+  pub total : all_ticks bounded.accepted.flow bounded.tree drawn.counts ≡ bounded.longest.bound
 
 -- the answer to a source and a statement: the drawing of their graph
 abbrev pub Draws : {O T : Type 0} → (O → Option (List ℕ)) → (O → ℕ) → List ℕ → List ℕ → Profile → O → O

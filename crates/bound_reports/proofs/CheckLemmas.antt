@@ -80,14 +80,15 @@ checkable source statement text profile v j = record { stated = j.stated; flow =
 -- the text of a report can be checked, ..
 pub report_is_checkable : (source statement text : List ℕ) (profile : Profile) → IsReport source statement profile text → IsCheckable source statement text profile
 report_is_checkable source statement text profile r =
-    record { stated = r.accepted.stated; flow = r.accepted.flow; said = said_of r.longest; loops = r.accepted.loops; can_spell = r.can_spell; spelled = r.spelled }
+    let a = r.bounded.accepted in
+    record { stated = a.stated; flow = a.flow; said = said_of r.bounded.longest; loops = a.loops; can_spell = r.can_spell; spelled = r.spelled }
 
 -- .. and is judged Yes: both speak of the same graph, the text says one thing, and there is one verdict
 pub report_gets_yes : (source statement text : List ℕ) (profile : Profile) (v : Verdict) → IsReport source statement profile text → IsJudged source statement text profile v → v ≡ Yes
 report_gets_yes source statement text profile v r j =
-    let a = r.accepted in
+    let a = r.bounded.accepted in
     let same = one_graph source statement profile j.stated a.stated j.flow a.flow j.loops.graph a.loops.graph in
-    let said : said_by j.cert ≡ said_of r.longest = one_cert (said_by j.cert) (said_of r.longest) j.can_spell r.can_spell (sym j.spelled ∙ r.spelled) in
+    let said : said_by j.cert ≡ said_of r.bounded.longest = one_cert (said_by j.cert) (said_of r.bounded.longest) j.can_spell r.can_spell (sym j.spelled ∙ r.spelled) in
     let of : IsTreeOf a.flow a.stated.loops j.tree = subst (λ (s : Stated). IsTreeOf a.flow s.loops j.tree) same.same_stated (subst (λ (w : Flow). IsTreeOf w j.stated.loops j.tree) same.same_flow j.tree_of) in
     let verdict : IsVerdict a.flow j.tree j.cert v = subst (λ (w : Flow). IsVerdict w j.tree j.cert v) same.same_flow j.verdict_is in
     one_verdict a.flow j.tree j.cert v Yes verdict (r.judged j.tree of j.cert said)

@@ -27,7 +27,7 @@ use Rattle.certificate.proofs.LongestLaws.{longest_is_spelled}
 use Rattle.cert_check.proofs.OtherTree.{longest_by_other}
 use Rattle.report_output.specs.Faults.{of_walk}
 use Rattle.report_input.specs.Keeping.{BoundsRuns}
-use Rattle.report_input.specs.Report.{BeforeOutput, HasLoops, IsAccepted, IsBoundReport, IsGreatestWalk, IsHandlerRefused, IsRefused, IsReport, IsTreeOf, IsWalkRefusal}
+use Rattle.report_input.specs.Report.{BeforeOutput, HasLoops, IsAccepted, IsBounded, IsBoundReport, IsGreatestWalk, IsHandlerRefused, IsRefused, IsReport, IsTreeOf, IsWalkRefusal}
 use Rattle.report_output.specs.declared.fault.ReportFault.{ReportFault}
 use Rattle.report_output.specs.declared.fault.ReportFault.TheVariants.{Memory, Walk, Device}
 use Rattle.report_output.specs.declared.fault.ReportFault.TheVariants as report_fault
@@ -116,27 +116,26 @@ module _ (source statement : List ℕ) (profile : Profile) (st : Stated) (flow :
   unfoldable pub accepted : ((f : WalkFault) → f ≢ walk_fault.Memory → IsWalkFault flow tree f → ⊥) → IsAccepted source statement profile
   accepted allowed = record { stated = st; flow = flow; loops = loops; no_fault = none_holds allowed }
 
+  -- a greatest walk by the tree
+  unfoldable pub bounded : (l : Longest) → IsLongest flow tree l → ((f : WalkFault) → f ≢ walk_fault.Memory → IsWalkFault flow tree f → ⊥) → IsBounded source statement profile
+  unfolding accepted
+  bounded l is allowed = record { accepted = accepted allowed; tree = tree; longest = l; tree_of = of; longest_is = is; walk = greatest_walk flow st.loops tree of.instances l is }
+
   pub reported : (l : Longest) (text : List ℕ) → RunLaw → IsWellFormed flow → IsLongest flow tree l → ((f : WalkFault) → f ≢ walk_fault.Memory → IsWalkFault flow tree f → ⊥)
       → ((other : Tree) → IsTreeOf flow st.loops other → (cert : Cert) → said_by cert ≡ said_of l → IsVerdict flow other cert Yes) → text ≡ cert_text (said_of l) → IsReport source statement profile text
-  reported l text law formed is allowed judged e =
-      let walk = greatest_walk flow st.loops tree of.instances l is in
-      record {
-        accepted = record { stated = st; flow = flow; loops = loops; no_fault = none_holds allowed };
-        tree = tree;
-        longest = l;
-        tree_of = of;
-        longest_is = is;
-        walk = walk;
-        judged = judged;
-        runs = bounds_runs loops.graph.words profile st flow l.bound law walk.greatest;
-        can_spell = longest_is_spelled flow formed tree of.tree_is l is;
-        spelled = e;
-      }
+  unfolding accepted bounded
+  reported l text law formed is allowed judged e = record {
+    bounded = bounded l is allowed;
+    judged = judged;
+    runs = bounds_runs loops.graph.words profile st flow l.bound law (tree_is_greatest flow st.loops tree of.instances l.bound is.greatest);
+    can_spell = longest_is_spelled flow formed tree of.tree_is l is;
+    spelled = e;
+  }
 
   -- the same, with its statement and its bound
   pub reported_bound : (l : Longest) (text : List ℕ) → RunLaw → IsWellFormed flow → IsLongest flow tree l → ((f : WalkFault) → f ≢ walk_fault.Memory → IsWalkFault flow tree f → ⊥)
       → ((other : Tree) → IsTreeOf flow st.loops other → (cert : Cert) → said_by cert ≡ said_of l → IsVerdict flow other cert Yes) → text ≡ cert_text (said_of l) → IsBoundReport source statement profile st l.bound text
-  unfolding reported
+  unfolding accepted bounded reported
   reported_bound l text law formed is allowed judged e = record { report = reported l text law formed is allowed judged e; stated_is = refl; bound_is = refl }
 
   -- a refusal of the walk

@@ -87,28 +87,33 @@ pub record IsAccepted (source statement : List ℕ) (profile : Profile) : Type 0
   pub loops : HasLoops source statement profile stated flow
   pub no_fault : (f : WalkFault) → f ≢ walk_fault.Memory → IsWalkRefusal flow stated.loops f → ⊥
 
--- A report for an accepted source and statement, the certificate of a greatest walk: its bound is the
--- greatest cost, its walk has it, each certificate that says the same is judged Yes by each tree of the
--- loops, and every machine run that keeps the statement takes at most the bound.
-pub record IsReport (source statement : List ℕ) (profile : Profile) (text : List ℕ) : Type 0 where
+-- an accepted source and statement, with a tree of its loops and a greatest walk by it
+pub record IsBounded (source statement : List ℕ) (profile : Profile) : Type 0 where
   pub accepted : IsAccepted source statement profile
   pub tree : Tree
   pub longest : Longest
   pub tree_of : IsTreeOf accepted.flow accepted.stated.loops tree
   pub longest_is : IsLongest accepted.flow tree longest
   pub walk : IsGreatestWalk accepted.flow accepted.stated.loops longest.bound longest.walk
-  pub judged : (other : Tree) → IsTreeOf accepted.flow accepted.stated.loops other → (cert : Cert)
-      → said_by cert ≡ said_of longest → IsVerdict accepted.flow other cert Yes
-  pub runs : BoundsRuns accepted.loops.graph.words accepted.stated profile accepted.flow longest.bound
-  pub can_spell : CanSpell (said_of longest)
-  pub spelled : text ≡ cert_text (said_of longest)
+
+-- A report, the certificate of a greatest walk: each certificate that says the same is judged Yes by each
+-- tree of the loops, and every machine run that keeps the statement takes at most the bound.
+pub record IsReport (source statement : List ℕ) (profile : Profile) (text : List ℕ) : Type 0 where
+  pub bounded : IsBounded source statement profile
+  pub judged : (other : Tree) → IsTreeOf bounded.accepted.flow bounded.accepted.stated.loops other
+      → (cert : Cert) → said_by cert ≡ said_of bounded.longest
+      → IsVerdict bounded.accepted.flow other cert Yes
+  pub runs : BoundsRuns bounded.accepted.loops.graph.words bounded.accepted.stated profile
+      bounded.accepted.flow bounded.longest.bound
+  pub can_spell : CanSpell (said_of bounded.longest)
+  pub spelled : text ≡ cert_text (said_of bounded.longest)
 
 -- a report of this statement and with this bound, in ticks
 pub record IsBoundReport (source statement : List ℕ) (profile : Profile) (stated : Stated) (bound : ℕ)
     (text : List ℕ) : Type 0 where
   pub report : IsReport source statement profile text
-  pub stated_is : report.accepted.stated ≡ stated
-  pub bound_is : report.longest.bound ≡ bound
+  pub stated_is : report.bounded.accepted.stated ≡ stated
+  pub bound_is : report.bounded.longest.bound ≡ bound
 
 -- a fault of the statement, of a source that has an image
 pub record IsStatementRefused (source statement : List ℕ) (fault : StatementFault) : Type 0 where

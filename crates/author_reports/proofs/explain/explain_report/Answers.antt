@@ -21,4 +21,4 @@ returns g c =
     let explains = subst (IsExplanation x.source.now x.statement.now x.bursts profile bound) (sym c.deref.ensures.value) c.in_ok-found.ensures.explains in
     by_profile profile c.in_ok-profile.ensures.is
     (ends_printed _ _ _ _ _ c.args.out.now c.print_answer.new.out c.is_enough.result c.deref.result.now c.print_answer.result
-    (record { bound = bound; explains = explains; answer_is = c.is_enough.ensures }) explains.accepted tt c.print_answer.ensures.printed c.print_answer.ensures.device)
+    (record { bound = bound; explains = explains; answer_is = c.is_enough.ensures }) explains.bounded.accepted tt c.print_answer.ensures.printed c.print_answer.ensures.device)

@@ -47,7 +47,7 @@ returns-clause-judged c =
     let placed = c.in_ok-placed.placed in
     IfOk-weaker c.judged_run.result _ _
     (λ j is. followed r.source.now r.statement.now r.machine.now c.args.profile.now said.image (address_of said.labels) c.requires.said h.statement h.graph h.tree c.requires.loops c.requires.tree
-    c.in_ok-longest.longest placed.file placed.machine j.kept j.text.items c.in_ok-longest.ensures.allowed c.in_ok-longest.ensures.longest c.in_ok-longest.ensures.greatest (c.in_ok-placed.ensures.placed r.source.now c.requires.said) is)
+    c.in_ok-longest.longest placed.file placed.machine j.kept j.text.items c.in_ok-longest.ensures.allowed c.in_ok-longest.ensures.longest (c.in_ok-placed.ensures.placed r.source.now c.requires.said) is)
     c.judged_run.ensures.judged
 
 pub returns-clause-fault : goal.returns-clause-fault

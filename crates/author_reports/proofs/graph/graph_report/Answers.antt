@@ -18,4 +18,4 @@ returns g c =
     let draws = subst (IsGraphReport c.args.source.now c.args.statement.now profile) (sym c.deref.ensures.value) c.in_ok-text.ensures.draws in
     by_profile profile c.in_ok-profile.ensures.is
     (ends_printed _ _ _ _ _ c.args.out.now c.print_answer.new.out tt c.deref.result.now c.print_answer.result
-    draws draws.accepted tt c.print_answer.ensures.printed c.print_answer.ensures.device)
+    draws draws.bounded.accepted tt c.print_answer.ensures.printed c.print_answer.ensures.device)
