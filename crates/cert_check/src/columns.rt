@@ -5,7 +5,7 @@ ghost use Rattle.loop_bounds.specs.Tree.{IsTree, place_in};
 ghost use Rattle.longest_walk.specs.Rows.{distance_in, header_of_row, place_of_row};
 ghost use Rattle.cert_check.specs.Columns.{AreTablesOf, Ascends, IsColumn, arrival_in, by_number, round_in};
 
-use crate::finding::{instance_row, place_row};
+use crate::finding::row_about;
 use certificate::{Cert, InstanceRow, PlaceRow};
 use flow_graph::{Graph, Place};
 use loop_bounds::LoopTree;
@@ -17,7 +17,7 @@ fn distance_at(rows: &[PlaceRow], place: &Place) -> u64
     requires ascending { IsStrictlySortedBy place_cmp (map place_of_row rows.now) }
     ensures { result ≡ distance_in rows.now place.now }
 {
-    match place_row(rows, place) {
+    match row_about(rows, place) {
         Some(row) => row.distance,
         None => 0,
     }
@@ -29,7 +29,7 @@ fn arrival_and_round(rows: &[InstanceRow], header: &Place) -> (u64, u64)
     ensures arrival { result.0 ≡ arrival_in rows.now header.now }
     ensures round { result.1 ≡ round_in rows.now header.now }
 {
-    match instance_row(rows, header) {
+    match row_about(rows, header) {
         Some(row) => (row.arrival, row.round),
         None => (0, 0),
     }

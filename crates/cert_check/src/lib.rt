@@ -4,6 +4,7 @@
 //! With the crates that find walks it shares types and definitions, and calls no function of theirs.
 #![tactic(auto)]
 
+mod about;
 mod checking;
 mod columns;
 mod explaining;

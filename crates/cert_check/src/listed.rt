@@ -7,9 +7,7 @@ ghost use Rattle.cert_check.specs.Failing.{IsFirstFailing, IsFirstWithout};
 ghost use Rattle.cert_check.specs.Verdict.{HasAll, presence_objections};
 
 use crate::failing::FailingRow;
-use crate::presence::{
-    found_headers, has_its_prices, headers_of, is_among, places_of, sorted_headers,
-};
+use crate::presence::{has_its_prices, is_among, places_of, sorted_headers};
 use certificate::Cert;
 use flow_graph::{Graph, Place};
 use loop_bounds::LoopTree;
@@ -53,8 +51,8 @@ fn instance_without_row(
         (IsFirstWithout (Contains (map header_of_row cert.now.instances))
         (map header_of tree.now.instances))) }
 {
-    let instances = found_headers(alloc, tree.instances())?;
-    let rows = headers_of(alloc, cert.instances.items())?;
+    let instances = places_of(alloc, tree.instances())?;
+    let rows = places_of(alloc, cert.instances.items())?;
     Ok(first_without(&instances, &rows))
 }
 
@@ -81,7 +79,7 @@ fn row_without_instance(
         (map header_of_row cert.now.instances))) }
 {
     let instances = sorted_headers(alloc, tree)?;
-    let rows = headers_of(alloc, cert.instances.items())?;
+    let rows = places_of(alloc, cert.instances.items())?;
     Ok(first_without(&rows, &instances))
 }
 

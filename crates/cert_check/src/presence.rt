@@ -1,13 +1,13 @@
 ghost use Rattle.std.specs.Prelude.{◌≡◌, ◌↔◌, Contains, IfOk, IsTrue, map};
 ghost use Rattle.std.specs.List.Sorted.{IsSorted};
 ghost use Rattle.flow_graph.specs.Places.{place_cmp};
-ghost use Rattle.loop_bounds.specs.Extents.{found_instance};
-ghost use Rattle.longest_walk.specs.Rows.{header_of, header_of_row, place_of_row};
+ghost use Rattle.longest_walk.specs.Rows.{header_of};
 ghost use Rattle.cert_check.specs.Presence.{Lists};
 
-use certificate::{Cert, InstanceRow, PlaceRow};
+use crate::about::AboutPlace;
+use certificate::Cert;
 use flow_graph::{Graph, Place};
-use loop_bounds::{Found, LoopTree};
+use loop_bounds::LoopTree;
 use std::alloc::{AllocError, Global};
 
 /// Whether the prices are those of the handler's graph.
@@ -17,39 +17,19 @@ pub(crate) fn has_its_prices(cert: &Cert, graph: &Graph) -> bool
     cert.profile == graph.profile()
 }
 
-/// The places that the rows are about.
-pub(crate) fn places_of(alloc: Global, rows: &[PlaceRow]) -> Result<Vec<Place>, AllocError>
-    ensures { IfOk result (λ places. places.items ≡ map place_of_row rows.now) }
+/// The places that these are about.
+pub(crate) fn places_of<R: AboutPlace>(alloc: Global, rows: &[R]) -> Result<Vec<Place>, AllocError>
+    ensures { IfOk result
+        (λ places. places.items ≡ map (λ r. Place.At (R.calls r) (R.address r)) rows.now) }
 {
-    rows.iter()
-        .map(|row| Place::At(row.list, row.address))
-        .collect(alloc)
-}
-
-/// The headers of the instances that the rows are about.
-pub(crate) fn headers_of(alloc: Global, rows: &[InstanceRow]) -> Result<Vec<Place>, AllocError>
-    ensures { IfOk result (λ headers. headers.items ≡ map header_of_row rows.now) }
-{
-    rows.iter()
-        .map(|row| Place::At(row.list, row.header))
-        .collect(alloc)
-}
-
-/// The headers of the instances.
-pub(crate) fn found_headers(alloc: Global, instances: &[Found]) -> Result<Vec<Place>, AllocError>
-    ensures { IfOk result (λ headers. headers.items ≡ map (λ f. header_of (found_instance f)) instances.now) }
-{
-    instances
-        .iter()
-        .map(|found| Place::At(found.list, found.stated.header))
-        .collect(alloc)
+    rows.iter().map(|row| row.place()).collect(alloc)
 }
 
 /// The headers of the instances, ascending.
 pub(crate) fn sorted_headers(alloc: Global, tree: &LoopTree) -> Result<Vec<Place>, AllocError>
     ensures { IfOk result (λ headers. Lists (map header_of tree.now.instances) headers.items) }
 {
-    let mut headers = found_headers(alloc, tree.instances())?;
+    let mut headers = places_of(alloc, tree.instances())?;
     headers.sort_unstable();
     Ok(headers)
 }
