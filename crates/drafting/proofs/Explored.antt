@@ -1,6 +1,6 @@
 -- The search for addresses goes on.
-use Rattle.std.proofs.Common.{◌≡◌, ℕ, ◌+◌, ◌<◌, ◌≤◌, ◌⊎◌, inl, inr, List, [], ◌∷◌, ◌++◌, length, take, get_or, ⊎_elim, sym, ap, ◌∙◌, subst, arith, length-append, append_assoc, append-nil}
-use Rattle.std.specs.Prelude.{Contains, ◌↔◌}
+use Rattle.std.proofs.Common.{◌≡◌, ℕ, ◌+◌, ◌<◌, ◌≤◌, ◌⊎◌, inl, inr, List, [], ◌∷◌, ◌++◌, length, take, get_or, ⊎_elim, sym, ap, ◌∙◌, subst, arith}
+use Rattle.std.specs.Prelude.{Contains}
 use Rattle.std.specs.BTreeSet.{BTreeSet}
 use Rattle.std.specs.Cmp.{nat_cmp_total}
 use Rattle.std.proofs.lemmas.List.{get_or_append_left, get_or_read, take_more}
@@ -8,59 +8,17 @@ use Rattle.std.proofs.lemmas.List.Elements.{Contains-append_left, Contains-push,
 use Rattle.std.proofs.lemmas.Map.Lookups.{exact_unsigned}
 use Rattle.std.proofs.lemmas.Map.Views.{btree_set_contains_iff}
 use borrow.Author.Count.{below_more}
-use Rattle.drafting.specs.Exploring.{Adds, Grows, IsFound}
+use Rattle.drafting.specs.Exploring.{HasRoom, IsFound}
 use Rattle.drafting.specs.Reach.{AreReached, LeadsTo, Reaches, begins, leads_on, most_addresses}
 use Rattle.loader.specs.Image.{Words}
+use Rattle.word_shapes.specs.Growing.{Adds, Grows}
+use Rattle.word_shapes.proofs.GrowLaws.{grows_on, grows_one, kept, no_shorter}
 
 -- ## Lists that grow
 
-pub kept : {P : ℕ → Type 0} (xs ys : List ℕ) (a : ℕ) → Grows P xs ys → Contains xs a → Contains ys a
-kept xs ys a g h = subst (λ t. Contains t a) (sym g.more.1) (Contains-append_left xs g.more.0 a h)
-
-pub no_shorter : {P : ℕ → Type 0} (xs ys : List ℕ) → Grows P xs ys → length xs ≤ length ys
-no_shorter xs ys g =
-    let longer : length ys ≡ length xs + length g.more.0 = ap length g.more.1 ∙ length-append xs g.more.0 in
-    omega arith
-
-pub grows_none : (P : ℕ → Type 0) (xs : List ℕ) → ((a : ℕ) → P a → ⊥) → Grows P xs xs
-grows_none P xs none = record {
-  more = ([], sym (append-nil xs));
-  from = λ a h. inl h;
-  to = λ room a p. absurd (none a p);
-}
-
--- one address that is added is the one to be added
-pub grows_one : (P : ℕ → Type 0) (xs : List ℕ) (at : ℕ) (ys : List ℕ) → ((a : ℕ) → P a ↔ (at ≡ a)) → Adds xs at ys
-    → Grows P xs ys
-grows_one P xs at ys one (inl (same, why)) = record {
-  more = ([], same ∙ sym (append-nil xs));
-  from = λ a h. inl (subst (λ t. Contains t a) same h);
-  to = λ room a p.
-      subst (λ t. Contains t a) (sym same) (subst (Contains xs) ((one a).0 p) (⊎_elim (λ there. there)
-      (λ full. let shorter : length ys ≡ length xs = ap length same in absurd (omega (arith, full, room))) why));
-}
-grows_one P xs at ys one (inr new) = record {
-  more = (at ∷ [], new);
-  from = λ a h. ⊎_elim (λ w. inl w) (λ e. inr ((one a).1 e)) (Contains-push_cases xs at a (subst (λ t. Contains t a) new h));
-  to = λ room a p. subst (λ t. Contains t a) (sym new) (subst (Contains (xs ++ at ∷ [])) ((one a).0 p) (Contains-push xs at));
-}
-
--- first some and then others
-pub grows_on : (P Q R : ℕ → Type 0) (xs ys zs : List ℕ) → ((a : ℕ) → R a ↔ (P a ⊎ Q a)) → Grows P xs ys → Grows Q ys zs
-    → Grows R xs zs
-grows_on P Q R xs ys zs both g h = record {
-  more = (g.more.0 ++ h.more.0, h.more.1 ∙ ap (λ t. t ++ h.more.0) g.more.1 ∙ append_assoc xs g.more.0 h.more.0);
-  from = λ a w. ⊎_elim
-      (λ there. ⊎_elim (λ old. inl old) (λ p. inr ((both a).1 (inl p))) (g.from a there))
-      (λ q. inr ((both a).1 (inr q))) (h.from a w);
-  to = λ room a r. ⊎_elim
-      (λ p. kept ys zs a h (g.to (let longer = no_shorter ys zs h in omega (arith, room, longer)) a p))
-      (λ q. h.to room a q) ((both a).0 r);
-}
-
 -- one of some addresses after the other
 pub grows_more : (ways : List ℕ) (i to : ℕ) (old mid new : List ℕ) → i < length ways → get_or ways i 0 ≡ to
-    → Grows (Contains (take i ways)) old mid → Adds mid to new → Grows (Contains (take (i + 1) ways)) old new
+    → Grows HasRoom (Contains (take i ways)) old mid → Adds HasRoom mid to new → Grows HasRoom (Contains (take (i + 1) ways)) old new
 grows_more ways i to old mid new lt is g adds =
     let left : take (i + 1) ways ≡ take i ways ++ to ∷ [] = take_more ways i 0 lt ∙ ap (λ x. take i ways ++ x ∷ []) is in
     grows_on (Contains (take i ways)) (λ a. to ≡ a) (Contains (take (i + 1) ways)) old mid new
@@ -70,14 +28,14 @@ grows_more ways i to old mid new lt is g adds =
           (⊎_elim (λ w. Contains-append_left (take i ways) (to ∷ []) a w)
           (λ e. subst (Contains (take i ways ++ to ∷ [])) e (Contains-push (take i ways) to)) h)),
     ))
-    g (grows_one (λ a. to ≡ a) mid to new (λ a. ((λ e. e), (λ e. e))) adds)
+    (λ longer room. omega (arith, longer, room)) g (grows_one (λ a. to ≡ a) mid to new (λ a. ((λ e. e), (λ e. e))) adds)
 
 -- ## Addresses that were looked at
 
 module _ (words : Words) where
   -- all to which an address leads are in the list, if that is not full
   abbrev pub IsFollowed : List ℕ → ℕ → Type 0
-  IsFollowed order at = length order < most_addresses → (to : ℕ) → LeadsTo words at to → Contains order to
+  IsFollowed order at = HasRoom order → (to : ℕ) → LeadsTo words at to → Contains order to
 
   -- the search goes on: from the entry, where all is reached, and what the addresses before the next one lead to is there
   pub record IsSearch (entry : ℕ) (order : List ℕ) (next : ℕ) : Type 0 where
@@ -86,8 +44,8 @@ module _ (words : Words) where
     pub bound : next ≤ length order
     pub followed : (k : ℕ) (d : ℕ) → k < next → IsFollowed order (get_or order k d)
 
-  pub search_begun : (entry : ℕ) (order : List ℕ) → Adds [] entry order → IsSearch entry order 0
-  search_begun entry order (inl (same, why)) = absurd (⊎_elim (λ there. omega (arith, there.1)) (λ full. omega (arith, full)) why)
+  pub search_begun : (entry : ℕ) (order : List ℕ) → Adds HasRoom [] entry order → IsSearch entry order 0
+  search_begun entry order (inl (same, there)) = absurd (omega (arith, (there (omega arith)).1))
   search_begun entry order (inr new) = record {
     begun = subst (λ t. Contains t entry) (sym new) (Contains-push [] entry);
     reached = λ at h. ⊎_elim (λ w. absurd (omega (arith, w.1))) (λ e. subst (Reaches words entry) e begins)
@@ -97,7 +55,7 @@ module _ (words : Words) where
   }
 
   pub search_more : (entry : ℕ) (order new : List ℕ) (next at : ℕ) → IsSearch entry order next → next < length order
-      → at ≡ get_or order next at → Grows (LeadsTo words at) order new → IsSearch entry new (next + 1)
+      → at ≡ get_or order next at → Grows HasRoom (LeadsTo words at) order new → IsSearch entry new (next + 1)
   search_more entry order new next at s lt is g =
       let longer = no_shorter order new g in
       let here : Reaches words entry at =

@@ -1,8 +1,9 @@
 ghost use Rattle.std.specs.Prelude.{◌≡◌, ◌≤◌, [], length, IfOk, OnOk, Contains};
 ghost use Rattle.std.specs.List.Sorted.{IsStrictlySortedBy};
 ghost use Rattle.std.specs.Ordering.{nat_cmp};
-ghost use Rattle.drafting.specs.Exploring.{Adds, Grows, IsFound};
+ghost use Rattle.drafting.specs.Exploring.{HasRoom, IsFound};
 ghost use Rattle.drafting.specs.Reach.{AreReached, CallsTo, LeadsTo};
+ghost use Rattle.word_shapes.specs.Growing.{Adds, Grows};
 
 use crate::ways::{called, push_ways};
 use loader::Image;
@@ -73,7 +74,7 @@ impl Exploration {
     // Begins with the entry.
     fn of(alloc: Global, entry: u32) -> Result<Exploration, AllocError>
         ensures found { IfOk result (λ x. IsFound x.seen x.order.items) }
-        ensures begun { IfOk result (λ x. Adds [] entry x.order.items) }
+        ensures begun { IfOk result (λ x. Adds HasRoom [] entry x.order.items) }
     {
         let mut found = Exploration {
             seen: BTreeSet::new(alloc),
@@ -88,7 +89,7 @@ impl Exploration {
     fn add(&mut self, at: u32) -> Result<(), AllocError>
         requires { IsFound self.old.seen self.old.order.items }
         ensures found { OnOk result (IsFound self.new.seen self.new.order.items) }
-        ensures adds { OnOk result (Adds self.old.order.items at self.new.order.items) }
+        ensures adds { OnOk result (Adds HasRoom self.old.order.items at self.new.order.items) }
     {
         if self.order.len() >= MOST_ADDRESSES {
             return Ok(());
@@ -103,7 +104,7 @@ impl Exploration {
     fn add_root(&mut self, at: u32) -> Result<(), AllocError>
         requires { IsFound self.old.seen self.old.order.items }
         ensures found { OnOk result (IsFound self.new.seen self.new.order.items) }
-        ensures adds { OnOk result (Adds self.old.order.items at self.new.order.items) }
+        ensures adds { OnOk result (Adds HasRoom self.old.order.items at self.new.order.items) }
     {
         self.roots.insert(at)?;
         self.add(at)
@@ -114,7 +115,7 @@ impl Exploration {
         requires { IsFound self.old.seen self.old.order.items }
         ensures found { OnOk result (IsFound self.new.seen self.new.order.items) }
         ensures grows { OnOk result
-            (Grows (Contains ways.now) self.old.order.items self.new.order.items) }
+            (Grows HasRoom (Contains ways.now) self.old.order.items self.new.order.items) }
     {
         for to in ways {
             self.add(*to)?;
@@ -127,7 +128,7 @@ impl Exploration {
         requires { IsFound self.old.seen self.old.order.items }
         ensures found { OnOk result (IsFound self.new.seen self.new.order.items) }
         ensures grows { OnOk result
-            (Grows (CallsTo image.now at) self.old.order.items self.new.order.items) }
+            (Grows HasRoom (CallsTo image.now at) self.old.order.items self.new.order.items) }
     {
         match called(image, at) {
             Some(to) => self.add_root(to),
@@ -140,7 +141,7 @@ impl Exploration {
         requires { IsFound self.old.seen self.old.order.items }
         ensures found { OnOk result (IsFound self.new.seen self.new.order.items) }
         ensures grows { OnOk result
-            (Grows (LeadsTo image.now at) self.old.order.items self.new.order.items) }
+            (Grows HasRoom (LeadsTo image.now at) self.old.order.items self.new.order.items) }
     {
         ways.clear();
         push_ways(ways, image, at)?;

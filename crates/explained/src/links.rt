@@ -4,12 +4,13 @@ ghost use Rattle.std.specs.Ordering.{nat_cmp};
 ghost use Rattle.flow_graph.specs.Flow.{HasEdge, IsWellFormed};
 ghost use Rattle.flow_graph.specs.declared.edges.Edge.{Edge};
 ghost use Rattle.flow_graph.specs.declared.places.Place.{Place};
+ghost use Rattle.word_shapes.specs.Growing.{Adds, Grows};
 ghost use Rattle.word_shapes.specs.Words.{HasShape};
 ghost use Rattle.explained.specs.Assumed.{Notes};
 ghost use Rattle.explained.specs.Links.{AreLostLinks, IsLost, KeepsLink, MayReturnByLink, data_writes_link};
 ghost use Rattle.explained.specs.Links.{may_return_by_link, place_after};
 ghost use Rattle.explained.specs.Links.{returns_by_link, single_writes_link, writes_link};
-ghost use Rattle.explained.specs.Losing.{Adds, ByEdge, Grows, IsAfter, IsFound, IsKeptTo};
+ghost use Rattle.explained.specs.Losing.{ByEdge, HasRoom, IsAfter, IsFound, IsKeptTo};
 ghost use Rattle.explained.specs.Taken.{is_reached};
 
 use crate::assumptions::sorted;
@@ -158,7 +159,7 @@ impl Lost {
     fn add(&mut self, place: &Place) -> Result<(), AllocError>
         requires { IsFound self.old.seen self.old.order.items }
         ensures found { OnOk result (IsFound self.new.seen self.new.order.items) }
-        ensures adds { OnOk result (Adds self.old.order.items place.now self.new.order.items) }
+        ensures adds { OnOk result (Adds HasRoom self.old.order.items place.now self.new.order.items) }
     {
         if self.seen.insert(*place)? {
             self.order.push(*place)?;
@@ -171,7 +172,7 @@ impl Lost {
         requires { IsFound self.old.seen self.old.order.items }
         ensures found { OnOk result (IsFound self.new.seen self.new.order.items) }
         ensures grows { OnOk result
-            (Grows (IsAfter graph.now edge.now) self.old.order.items self.new.order.items) }
+            (Grows HasRoom (IsAfter graph.now edge.now) self.old.order.items self.new.order.items) }
     {
         let Some(place) = place_after(edge) else {
             return Ok(());
@@ -187,7 +188,7 @@ impl Lost {
         requires { IsFound self.old.seen self.old.order.items }
         ensures found { OnOk result (IsFound self.new.seen self.new.order.items) }
         ensures grows { OnOk result
-            (Grows (ByEdge (IsAfter graph.now) graph.now.edges) self.old.order.items
+            (Grows HasRoom (ByEdge (IsAfter graph.now) graph.now.edges) self.old.order.items
             self.new.order.items) }
         ensures well_formed { IsWellFormed graph.now }
     {
@@ -202,7 +203,7 @@ impl Lost {
         requires { IsFound self.old.seen self.old.order.items }
         ensures found { OnOk result (IsFound self.new.seen self.new.order.items) }
         ensures grows { OnOk result
-            (Grows (IsKeptTo image.now edge.now) self.old.order.items self.new.order.items) }
+            (Grows HasRoom (IsKeptTo image.now edge.now) self.old.order.items self.new.order.items) }
     {
         if !keeps_link(image, edge) {
             return Ok(());
@@ -215,7 +216,8 @@ impl Lost {
         requires { IsFound self.old.seen self.old.order.items }
         ensures found { OnOk result (IsFound self.new.seen self.new.order.items) }
         ensures grows { OnOk result
-            (Grows (ByEdge (IsKeptTo image.now) edges.now) self.old.order.items self.new.order.items) }
+            (Grows HasRoom (ByEdge (IsKeptTo image.now) edges.now) self.old.order.items
+            self.new.order.items) }
     {
         for edge in edges {
             self.add_kept(image, edge)?;

@@ -1,1 +1,2 @@
+pub mod GrowLaws
 mod ShapeLaws

@@ -1,8 +1,10 @@
 use Rattle.std.proofs.Common.{arith, refl, subst}
 use Rattle.std.specs.Prelude.{Contains}
 use Rattle.std.proofs.lemmas.List.{take_all}
-use Rattle.drafting.specs.Exploring.{Grows}
-use Rattle.drafting.proofs.Explored.{grows_more, grows_none}
+use Rattle.drafting.specs.Exploring.{HasRoom}
+use Rattle.drafting.proofs.Explored.{grows_more}
+use Rattle.word_shapes.specs.Growing.{Grows}
+use Rattle.word_shapes.proofs.GrowLaws.{grows_none}
 use Rattle.drafting.proofs.reach.Exploration.add_all.Goals as goal
 
 pub loop-to-init : goal.loop-to-init
@@ -18,5 +20,5 @@ loop-to-preserved c = record {
 
 pub returns-clause-grows : goal.returns-clause-grows
 returns-clause-grows c =
-    subst (λ t. Grows (Contains t) c.args.self.now.order.items c.loop-to.self.order.items)
+    subst (λ t. Grows HasRoom (Contains t) c.args.self.now.order.items c.loop-to.self.order.items)
     (take_all c.loop-to.to-index c.args.ways.now c.loop-to-test.false) c.loop-to.invariant.grows

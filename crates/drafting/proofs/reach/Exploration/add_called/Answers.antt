@@ -1,7 +1,7 @@
 use Rattle.std.proofs.Common.{subst}
 use Rattle.std.proofs.lemmas.Result.{on_ok_weaker}
 use Rattle.drafting.specs.Reach.{CallsTo}
-use Rattle.drafting.proofs.Explored.{grows_none, grows_one}
+use Rattle.word_shapes.proofs.GrowLaws.{grows_none, grows_one}
 use Rattle.drafting.proofs.reach.Exploration.add_called.Goals as goal
 
 pub returns-in-Some-clause-grows : goal.returns-in-Some-clause-grows

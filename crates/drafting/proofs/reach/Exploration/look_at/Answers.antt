@@ -1,10 +1,11 @@
-use Rattle.std.proofs.Common.{inl, inr, subst, ⊎_elim}
+use Rattle.std.proofs.Common.{arith, inl, inr, subst, ⊎_elim}
 use Rattle.std.specs.Prelude.{Contains}
 use Rattle.std.proofs.lemmas.Result.{on_ok_weaker}
-use Rattle.drafting.specs.Exploring.{Grows}
+use Rattle.drafting.specs.Exploring.{HasRoom}
 use Rattle.drafting.specs.Reach.{CallsTo, LeadsTo, StepsTo}
-use Rattle.drafting.proofs.Explored.{grows_on}
 use Rattle.drafting.proofs.WayLaws.{gains_from_none}
+use Rattle.word_shapes.specs.Growing.{Grows}
+use Rattle.word_shapes.proofs.GrowLaws.{grows_on}
 use Rattle.drafting.proofs.reach.Exploration.look_at.Goals as goal
 
 pub returns-clause-grows : goal.returns-clause-grows
@@ -18,6 +19,7 @@ returns-clause-grows c =
       (λ leads. ⊎_elim (λ w. inl ((steps a).1 w)) (λ w. inr w) leads),
       (λ leads. ⊎_elim (λ w. inl ((steps a).0 w)) (λ w. inr w) leads),
     ))
-    (subst (λ t. Grows (Contains t) c.args.self.now.order.items c.add_all.new.self.order.items) c.deref.ensures.value
+    (λ longer room. omega (arith, longer, room))
+    (subst (λ t. Grows HasRoom (Contains t) c.args.self.now.order.items c.add_all.new.self.order.items) c.deref.ensures.value
     c.in_ok-add_all.ensures.grows))
     c.add_called.ensures.grows

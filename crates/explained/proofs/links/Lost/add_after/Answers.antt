@@ -1,6 +1,7 @@
 use Rattle.std.proofs.lemmas.Result.{on_ok_weaker}
 use Rattle.explained.specs.Losing.{IsAfter}
-use Rattle.explained.proofs.LinkLaws.{after_one, grows_one}
+use Rattle.explained.proofs.LinkLaws.{after_one}
+use Rattle.word_shapes.proofs.GrowLaws.{grows_one}
 use Rattle.explained.proofs.links.Lost.add_after.Goals as goal
 
 pub returns-clause-grows : goal.returns-clause-grows

@@ -1,6 +1,7 @@
 use Rattle.std.proofs.Common.{List, subst}
 use Rattle.flow_graph.specs.declared.edges.Edge.{Edge}
-use Rattle.explained.specs.Losing.{ByEdge, Grows, IsAfter}
+use Rattle.explained.specs.Losing.{ByEdge, HasRoom, IsAfter}
+use Rattle.word_shapes.specs.Growing.{Grows}
 use Rattle.explained.proofs.LinkLaws.{grows_all, grows_begun, grows_more}
 use Rattle.explained.proofs.links.Lost.add_calls.Goals as goal
 
@@ -20,6 +21,6 @@ loop-edge-preserved c = record {
 
 pub returns-clause-grows : goal.returns-clause-grows
 returns-clause-grows c =
-    subst (λ (es : List Edge). Grows (ByEdge (IsAfter c.args.graph.now) es) c.args.self.now.order.items c.loop-edge.self.order.items) c.edges-edge-items.ensures.value
+    subst (λ (es : List Edge). Grows HasRoom (ByEdge (IsAfter c.args.graph.now) es) c.args.self.now.order.items c.loop-edge.self.order.items) c.edges-edge-items.ensures.value
     (grows_all (IsAfter c.args.graph.now) c.edges-edge-items.result.now c.loop-edge.edge-index c.args.self.now.order.items c.loop-edge.self.order.items c.loop-edge-test.false
     c.loop-edge.invariant.grows)
