@@ -3,50 +3,34 @@ use Rattle.std.proofs.Common.{◌≡◌, ℕ, ◌+◌, ◌<◌, ◌≤◌, List,
 use Rattle.std.specs.Prelude.{Contains, ◌↔◌, ◌⊎◌}
 use Rattle.std.proofs.lemmas.List.Elements.{Contains-append_left, Contains-push, Contains-push_cases}
 use Rattle.std.proofs.lemmas.Bool.{cases_lt}
-use Rattle.arm2_decode.proofs.Unique.{never_both, one_instr, one_unallocated}
 use Rattle.drafting.specs.Exploring.{Gains}
 use Rattle.arm2_effect.specs.ProgramCounter.{branch_target}
-use Rattle.drafting.specs.Reach.{Calls, HasPlaces, HasReading, IsBranchAt, IsReading, IsTablePlace, JumpsIntoTable, LeadsAway, Steps, StepsTo, instr_reading, unallocated_reading}
-use Rattle.drafting.specs.declared.words.Reading.{Reading}
-use Rattle.drafting.specs.declared.words.Way.{Way}
-use Rattle.drafting.specs.declared.words.Way.TheVariants as way
-use Rattle.loader.specs.Image.{Words, word_of}
+use Rattle.drafting.specs.Reach.{Calls, HasPlaces, IsBranchAt, IsTablePlace, JumpsIntoTable, LeadsAway, Steps, StepsTo}
+use Rattle.flow_graph.specs.Edges.{HasAction}
+use Rattle.flow_graph.specs.declared.kinds.Action.{Action}
+use Rattle.flow_graph.specs.declared.kinds.Kind.{Kind}
+use Rattle.flow_graph.specs.declared.kinds.Kind.TheVariants as kind
+use Rattle.loader.specs.Image.{Words}
 use borrow.Author.Count.{below_more, below_none}
 
 -- one of the first so many places of the table after a word
 abbrev pub IsPlaceBelow : ℕ → ℕ → ℕ → Type 0
 IsPlaceBelow at n a = (k : ℕ) × (k < n) × (a ≡ branch_target at k)
 
--- ## What a word shows
+-- ## What a word does
 
-pub one_reading : (word : ℕ) (r s : Reading) → IsReading word r → IsReading word s → r ≡ s
-one_reading word r s (inl m) (inl n) =
-    m.2 ∙ ap instr_reading (one_instr word m.0 n.0 m.1 n.1) ∙ sym n.2
-one_reading word r s (inl m) (inr v) = absurd (never_both word m.0 v.0 m.1 v.1)
-one_reading word r s (inr u) (inl n) = absurd (never_both word n.0 u.0 n.1 u.1)
-one_reading word r s (inr u) (inr v) =
-    u.2 ∙ ap unallocated_reading (one_unallocated word u.0 v.0 u.1 v.1) ∙ sym v.2
-
--- the one word at an address shows one thing
-pub one_reading_at : (words : Words) (at word : ℕ) (r s : Reading) → word_of words at ≡ Some word
-    → IsReading word r → HasReading words at s → Some r ≡ Some s
-one_reading_at words at word r s stands shows has =
-    let same : has.word ≡ word = cc (stands, has.stands) in
-    ap (λ (x : Reading). Some x) (one_reading word r s shows (subst (λ w. IsReading w s) same has.shows))
-
-pub same_reading : (r s : Reading) → Some r ≡ Some s → r ≡ s
-same_reading r s both = cc
+pub same_action : (r s : Action) → Some r ≡ Some s → r ≡ s
+same_action r s both = cc
 
 module _ (words : Words) (at : ℕ) where
   -- what is no call calls nothing
-  pub no_call : (w : Way) (to : ℕ) → ((offset : ℕ) → w ≡ way.Call offset → ⊥) → Calls words at w to → ⊥
-  no_call way.On to not h = h
-  no_call (way.Branch offset) to not h = h
-  no_call (way.Call offset) to not h = not offset refl
-  no_call way.Return to not h = h
-  no_call way.Writer to not h = h
-  no_call way.Trap to not h = h
-  no_call way.Unallocated to not h = h
+  pub no_call : (w : Kind) (to : ℕ) → ((offset : ℕ) → w ≡ kind.Call offset → ⊥) → Calls words at w to → ⊥
+  no_call kind.Plain to not h = h
+  no_call (kind.Branch offset) to not h = h
+  no_call (kind.Call offset) to not h = not offset refl
+  no_call kind.Writer to not h = h
+  no_call kind.Trap to not h = h
+  no_call kind.Unallocated to not h = h
 
   -- the first so many places of a table are branches
   pub record AreBranches (n : ℕ) : Type 0 where
@@ -79,25 +63,24 @@ module _ (words : Words) (at : ℕ) where
 
   -- the places of the table after a word are all others to which it leads
   pub places_lead : (count n : ℕ) → HasPlaces words at count → count ≤ n → n ≤ count → (to : ℕ)
-      → IsPlaceBelow at n to ↔ LeadsAway words at way.Writer to
+      → IsPlaceBelow at n to ↔ LeadsAway words at kind.Writer to
   places_lead count n has all few to = (
     (λ h. (h.0, (has h.0).0 (omega (arith, h.1, few)), h.2)),
     (λ h. let place = (has h.0).1 h.1 in (h.0, omega (arith, place, all), h.2)),
   )
 
   -- a word that is no branch and no other writer of R15 leads nowhere else inside its routine
-  pub leads_nowhere : (w : Way) (to : ℕ) → ((offset : ℕ) → w ≡ way.Branch offset → ⊥) → (w ≡ way.Writer → ⊥)
+  pub leads_nowhere : (w : Kind) (to : ℕ) → ((offset : ℕ) → w ≡ kind.Branch offset → ⊥) → (w ≡ kind.Writer → ⊥)
       → LeadsAway words at w to → ⊥
-  leads_nowhere way.On to branch writer h = h
-  leads_nowhere (way.Branch offset) to branch writer h = branch offset refl
-  leads_nowhere (way.Call offset) to branch writer h = h
-  leads_nowhere way.Return to branch writer h = h
-  leads_nowhere way.Writer to branch writer h = writer refl
-  leads_nowhere way.Trap to branch writer h = h
-  leads_nowhere way.Unallocated to branch writer h = h
+  leads_nowhere kind.Plain to branch writer h = h
+  leads_nowhere (kind.Branch offset) to branch writer h = branch offset refl
+  leads_nowhere (kind.Call offset) to branch writer h = h
+  leads_nowhere kind.Writer to branch writer h = writer refl
+  leads_nowhere kind.Trap to branch writer h = h
+  leads_nowhere kind.Unallocated to branch writer h = h
 
-  -- the one reading of an address shows all steps from there
-  pub steps_are : (r : Reading) → HasReading words at r → ((s : Reading) → HasReading words at s → r ≡ s) → (to : ℕ)
+  -- the one action of an address shows all steps from there
+  pub steps_are : (r : Action) → HasAction words at r → ((s : Action) → HasAction words at s → r ≡ s) → (to : ℕ)
       → Steps words at r to ↔ StepsTo words at to
   steps_are r has only to = (
     (λ h. (r, has, h)),

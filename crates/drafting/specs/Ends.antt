@@ -3,30 +3,30 @@ use Rattle.std.specs.Prelude.{◌≡◌, ◌⊎◌, ℕ, if◌then◌else◌, Li
 use Rattle.std.specs.Map.{keys_of}
 use Rattle.arm2_decode.specs.Names.{is_never}
 use Rattle.drafting.specs.Picks.{Picks}
-use Rattle.drafting.specs.Reach.{HasReading}
 use Rattle.drafting.specs.declared.ends.End.{End}
 use Rattle.drafting.specs.declared.ends.End.TheVariants as end
-use Rattle.drafting.specs.declared.words.Reading.{Reading}
-use Rattle.drafting.specs.declared.words.Way.{Way}
-use Rattle.drafting.specs.declared.words.Way.TheVariants as way
+use Rattle.flow_graph.specs.Edges.{HasAction}
+use Rattle.flow_graph.specs.declared.kinds.Action.{Action}
+use Rattle.flow_graph.specs.declared.kinds.Kind.{Kind}
+use Rattle.flow_graph.specs.declared.kinds.Kind.TheVariants as kind
 use Rattle.loader.specs.Image.{Words, word_of}
 
 -- why control does not come past a word that is carried out
-abbrev pub way_end : Way → Option End
-way_end way.Trap = Some end.Trap
-way_end way.Unallocated = Some end.Unallocated
-way_end _ = None
+abbrev pub kind_end : Kind → Option End
+kind_end kind.Trap = Some end.Trap
+kind_end kind.Unallocated = Some end.Unallocated
+kind_end _ = None
 
 -- a word under NV is passed over
-abbrev pub reading_end : Reading → Option End
-reading_end r = if is_never r.cond then None else way_end r.way
+abbrev pub action_end : Action → Option End
+action_end a = if is_never a.cond then None else kind_end a.kind
 
 module _ (words : Words) where
   -- why a handler cannot go on at an address
   abbrev pub IsEnd : ℕ → End → Type 0
   IsEnd at e =
       ((word_of words at ≡ None) × (e ≡ end.NoWord))
-      ⊎ ((r : Reading) × HasReading words at r × (reading_end r ≡ Some e))
+      ⊎ ((a : Action) × HasAction words at a × (action_end a ≡ Some e))
 
   -- it cannot
   abbrev pub Ends : ℕ → Type 0

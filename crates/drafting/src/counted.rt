@@ -1,8 +1,9 @@
 use crate::found_loop::FoundLoop;
 use crate::reach::Reached;
 use crate::ways::before;
-use crate::words::{Way, changed, reading_at};
+use crate::words::{action_at, changed};
 use arm2_decode::{Cond, DataImmediate, Opcode, Operation, Register};
+use flow_graph::Kind;
 use loader::Image;
 use statement::MOST_ROUNDS;
 use word_shapes::instr_at;
@@ -32,8 +33,8 @@ fn counter_at(image: &Image, at: u32) -> Option<Register> {
 }
 
 fn is_branch_if_not_zero(image: &Image, at: u32) -> bool {
-    match reading_at(image, at) {
-        Some(reading) => reading.cond == Cond::Ne && matches!(reading.way, Way::Branch(_)),
+    match action_at(image, at) {
+        Some(action) => action.cond == Cond::Ne && matches!(action.kind, Kind::Branch(_)),
         None => false,
     }
 }

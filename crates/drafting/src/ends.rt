@@ -1,10 +1,11 @@
 ghost use Rattle.std.specs.Prelude.{◌≡◌, All, IfOk, IfSome, OnOk, Some};
 ghost use Rattle.std.specs.Map.{keys_of};
-ghost use Rattle.drafting.specs.Ends.{AreEnds, Ends, IsEnd, reading_end};
+ghost use Rattle.drafting.specs.Ends.{AreEnds, Ends, IsEnd, action_end};
 ghost use Rattle.drafting.specs.Picks.{Keeps};
 ghost use Rattle.drafting.specs.declared.ends.End.{End};
 
-use crate::words::{Reading, Way, reading_at};
+use crate::words::action_at;
+use flow_graph::{Action, Kind};
 use loader::Image;
 use std::alloc::{AllocError, Global};
 
@@ -19,16 +20,16 @@ pub enum End {
     Trap,
 }
 
-fn reading_end(reading: Reading) -> Option<End>
-    ensures { result ≡ reading_end reading }
+fn action_end(action: Action) -> Option<End>
+    ensures { result ≡ action_end action }
 {
-    if reading.cond.is_never() {
+    if action.cond.is_never() {
         return None;
     }
-    match reading.way {
-        Way::Trap => Some(End::Trap),
-        Way::Unallocated => Some(End::Unallocated),
-        Way::On | Way::Branch(_) | Way::Call(_) | Way::Return | Way::Writer => None,
+    match action.kind {
+        Kind::Trap => Some(End::Trap),
+        Kind::Unallocated => Some(End::Unallocated),
+        Kind::Plain | Kind::Branch(_) | Kind::Call(_) | Kind::Writer => None,
     }
 }
 
@@ -36,8 +37,8 @@ fn end_at(image: &Image, at: u32) -> Option<End>
     ensures some { IfSome result (IsEnd image.now at) }
     ensures only { (end : End) → IsEnd image.now at end → result ≡ Some end }
 {
-    match reading_at(image, at) {
-        Some(reading) => reading_end(reading),
+    match action_at(image, at) {
+        Some(action) => action_end(action),
         None => Some(End::NoWord),
     }
 }

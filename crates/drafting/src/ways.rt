@@ -1,16 +1,17 @@
 ghost use Rattle.std.specs.Prelude.{◌≡◌, ◌↔◌, ℕ, true, false, IfSome, IsTrue, Some, OnOk};
 ghost use Rattle.arm2_decode.specs.Names.{is_never};
 ghost use Rattle.drafting.specs.Exploring.{Gains};
-ghost use Rattle.drafting.specs.Reach.{CallsTo, GoesOn, HasPlaces, IsBranchAt, HasReturnAddress, LeadsAway};
-ghost use Rattle.drafting.specs.Reach.{StepsTo, before, next_of};
-ghost use Rattle.drafting.specs.declared.words.Way.TheVariants.{Writer};
+ghost use Rattle.drafting.specs.Reach.{CallsTo, ComesBack, GoesOn, HasPlaces, HasReturnAddress, IsBranchAt};
+ghost use Rattle.drafting.specs.Reach.{LeadsAway, StepsTo, before, next_of};
+ghost use Rattle.flow_graph.specs.declared.kinds.Kind.TheVariants.{Writer};
 
-use crate::words::{Reading, Way, reading_at};
+use crate::words::action_at;
 use arm2_effect::branch_target;
 use bus_ticks::{SPACE_END, ahead_of};
+use flow_graph::{Action, Kind};
 use loader::Image;
 use std::alloc::AllocError;
-use word_shapes::{is_table_jump_at, keeps_return_address_at};
+use word_shapes::{is_odd_writer_at, is_table_jump_at, keeps_return_address_at};
 
 // The most destinations of a target.
 const MOST_BRANCHES: u32 = 64;
@@ -26,8 +27,8 @@ fn is_branch(image: &Image, at: u32) -> bool
     ensures yes { result ≡ true → IsBranchAt image.now at }
     ensures no { IsBranchAt image.now at → result ≡ true }
 {
-    match reading_at(image, at) {
-        Some(reading) => reading.cond.is_always() && matches!(reading.way, Way::Branch(_)),
+    match action_at(image, at) {
+        Some(action) => action.cond.is_always() && matches!(action.kind, Kind::Branch(_)),
         None => false,
     }
 }
@@ -64,52 +65,54 @@ fn has_return_address(image: &Image, at: u32) -> bool
     keeps_return_address_at(image, before(at))
 }
 
-// Whether control may go on at the next word.
-fn goes_on(image: &Image, at: u32, reading: Reading) -> bool
-    ensures yes { result ≡ true → GoesOn image.now at reading }
-    ensures no { GoesOn image.now at reading → result ≡ true }
+// Whether control comes back from where a word leads that writes R15: not where it looks like a return.
+fn comes_back(image: &Image, at: u32) -> bool
+    ensures { IsTrue result ↔ ComesBack image.now at }
 {
-    if !reading.cond.is_always() {
+    is_odd_writer_at(image, at) && has_return_address(image, at)
+}
+
+// Whether control may go on at the next word.
+fn goes_on(image: &Image, at: u32, action: Action) -> bool
+    ensures yes { result ≡ true → GoesOn image.now at action }
+    ensures no { GoesOn image.now at action → result ≡ true }
+{
+    if !action.cond.is_always() {
         return true;
     }
-    match reading.way {
-        Way::On | Way::Call(_) => true,
-        Way::Writer => has_return_address(image, at),
-        Way::Branch(_) | Way::Return | Way::Trap | Way::Unallocated => false,
+    match action.kind {
+        Kind::Plain | Kind::Call(_) => true,
+        Kind::Writer => comes_back(image, at),
+        Kind::Branch(_) | Kind::Trap | Kind::Unallocated => false,
     }
 }
 
 // Adds the next word, where control may go on there.
-fn push_next(out: &mut Vec<u32>, image: &Image, at: u32, reading: Reading) -> Result<(), AllocError>
+fn push_next(out: &mut Vec<u32>, image: &Image, at: u32, action: Action) -> Result<(), AllocError>
     ensures { OnOk result
-        (Gains (λ to. GoesOn image.now at reading × (to ≡ next_of at)) out.old.items out.new.items) }
+        (Gains (λ to. GoesOn image.now at action × (to ≡ next_of at)) out.old.items out.new.items) }
 {
-    if goes_on(image, at, reading) {
+    if goes_on(image, at, action) {
         out.push(ahead_of(at, 4))?;
     }
     Ok(())
 }
 
 // Adds the other addresses inside the routine to which a word leads.
-fn push_others(
-    out: &mut Vec<u32>,
-    image: &Image,
-    at: u32,
-    reading: Reading,
-) -> Result<(), AllocError>
+fn push_others(out: &mut Vec<u32>, image: &Image, at: u32, action: Action) -> Result<(), AllocError>
     ensures { OnOk result
-        (Gains (λ to. (is_never reading.cond ≡ false) × LeadsAway image.now at reading.way to)
+        (Gains (λ to. (is_never action.cond ≡ false) × LeadsAway image.now at action.kind to)
         out.old.items out.new.items) }
 {
-    if reading.cond.is_never() {
+    if action.cond.is_never() {
         return Ok(());
     }
-    match reading.way {
-        Way::Branch(offset) => {
+    match action.kind {
+        Kind::Branch(offset) => {
             out.push(branch_target(at, offset))?;
             Ok(())
         }
-        Way::Writer => push_table(out, image, at),
+        Kind::Writer => push_table(out, image, at),
         _ => Ok(()),
     }
 }
@@ -119,11 +122,11 @@ fn push_others(
 pub(crate) fn push_ways(out: &mut Vec<u32>, image: &Image, at: u32) -> Result<(), AllocError>
     ensures { OnOk result (Gains (StepsTo image.now at) out.old.items out.new.items) }
 {
-    let Some(reading) = reading_at(image, at) else {
+    let Some(action) = action_at(image, at) else {
         return Ok(());
     };
-    push_next(out, image, at, reading)?;
-    push_others(out, image, at, reading)
+    push_next(out, image, at, action)?;
+    push_others(out, image, at, action)
 }
 
 /// The routine that the word at an address calls.
@@ -131,12 +134,12 @@ pub(crate) fn called(image: &Image, at: u32) -> Option<u32>
     ensures some { IfSome result (CallsTo image.now at) }
     ensures only { (to : ℕ) → CallsTo image.now at to → result ≡ Some to }
 {
-    let reading = reading_at(image, at)?;
-    if reading.cond.is_never() {
+    let action = action_at(image, at)?;
+    if action.cond.is_never() {
         return None;
     }
-    match reading.way {
-        Way::Call(offset) => Some(branch_target(at, offset)),
+    match action.kind {
+        Kind::Call(offset) => Some(branch_target(at, offset)),
         _ => None,
     }
 }

@@ -1,93 +1,21 @@
 ghost use Rattle.std.specs.Prelude.{◌≡◌, IfNone, IfSome, None, Some};
-ghost use Rattle.drafting.specs.Reach.{HasReading, IsReading, way_of, writer_way};
-ghost use Rattle.drafting.specs.declared.words.Reading.{Reading};
+ghost use Rattle.flow_graph.specs.Edges.{HasAction};
+ghost use Rattle.flow_graph.specs.declared.kinds.Action.{Action};
 ghost use Rattle.loader.specs.Image.{word_of};
 
-use arm2_decode::{Block, Cond, Opcode, Operation, Register, decode, writes_base};
+use arm2_decode::{Block, Opcode, Operation, Register, writes_base};
+use flow_graph::{Action, action_of};
 use loader::Image;
-use word_shapes::{is_odd_writer, is_return};
+use word_shapes::is_odd_writer;
 
-/// What a word shows of where control goes.
-#[derive(Clone, Copy)]
-pub(crate) enum Way {
-    /// On to the next word.
-    On,
-    /// By a number of words that is signed in 24 bits.
-    Branch(u32),
-    /// To a routine, by such a number, and then on.
-    Call(u32),
-    /// It writes R15 and looks like a return.
-    Return,
-    /// It writes R15 in another way.
-    Writer,
-    /// It is a software interrupt or undefined.
-    Trap,
-    /// It is no instruction.
-    Unallocated,
-}
-
-/// When a word is carried out, and where control goes then.
-#[derive(Clone, Copy)]
-pub(crate) struct Reading {
-    pub cond: Cond,
-    pub way: Way,
-}
-
-fn writer_way(operation: &Operation) -> Way
-    ensures { result ≡ writer_way operation.now }
-{
-    if !operation.writes_pc() {
-        Way::On
-    } else if is_return(operation) {
-        Way::Return
-    } else {
-        Way::Writer
-    }
-}
-
-/// Where control goes by an operation that is done.
-pub(crate) fn way_of(operation: &Operation) -> Way
-    ensures { result ≡ way_of operation.now }
-{
-    match operation {
-        Operation::Branch(x) => {
-            if x.link {
-                Way::Call(x.offset)
-            } else {
-                Way::Branch(x.offset)
-            }
-        }
-        Operation::Swi(_)
-        | Operation::UndefinedTransfer(_)
-        | Operation::CoprocessorTransfer(_)
-        | Operation::Coprocessor(_) => Way::Trap,
-        _ => writer_way(operation),
-    }
-}
-
-fn reading_of(word: u32) -> Reading
-    ensures { IsReading word result }
-{
-    match decode(word) {
-        Ok(instr) => Reading {
-            cond: instr.cond,
-            way: way_of(&instr.operation),
-        },
-        Err(unallocated) => Reading {
-            cond: unallocated.cond,
-            way: Way::Unallocated,
-        },
-    }
-}
-
-/// When the word at an address is carried out and where control goes then, if the image has one there.
-pub(crate) fn reading_at(image: &Image, at: u32) -> Option<Reading>
-    ensures some { IfSome result (HasReading image.now at) }
-    ensures only { (reading : Reading) → HasReading image.now at reading → result ≡ Some reading }
+/// When the word at an address is carried out and what it then does, if the image has one there.
+pub(crate) fn action_at(image: &Image, at: u32) -> Option<Action>
+    ensures some { IfSome result (HasAction image.now at) }
+    ensures only { (action : Action) → HasAction image.now at action → result ≡ Some action }
     ensures none { IfNone result (word_of image.now at ≡ None) }
 {
     match image.word_at(at) {
-        Some(word) => Some(reading_of(word)),
+        Some(word) => Some(action_of(word)),
         None => None,
     }
 }

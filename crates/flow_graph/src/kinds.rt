@@ -95,7 +95,7 @@ fn operation_work(operation: &Operation) -> Work
 }
 
 /// When a word is carried out, and what it then does.
-pub(crate) fn action_of(word: u32) -> Action
+pub fn action_of(word: u32) -> Action
     ensures value { IsAction word result }
     ensures fits { IsWork result.work }
 {

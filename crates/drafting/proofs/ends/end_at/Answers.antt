@@ -1,6 +1,6 @@
 use Rattle.std.proofs.Common.{⊎_elim, ap, ◌∙◌}
-use Rattle.drafting.specs.Ends.{reading_end}
-use Rattle.drafting.proofs.WayLaws.{same_reading}
+use Rattle.drafting.specs.Ends.{action_end}
+use Rattle.drafting.proofs.WayLaws.{same_action}
 use Rattle.drafting.proofs.ends.end_at.Goals as goal
 
 pub returns-in-Some-clause-only : goal.returns-in-Some-clause-only
@@ -8,6 +8,6 @@ returns-in-Some-clause-only c = λ end h.
     ⊎_elim
     (λ none. absurd (cc (none.0, c.in-Some.ensures.some.stands)))
     (λ some.
-    let same = same_reading c.in-Some.reading some.0 (c.in-Some.ensures.only some.0 some.1) in
-    c.reading_end.ensures ∙ ap reading_end same ∙ some.2)
+    let same = same_action c.in-Some.action some.0 (c.in-Some.ensures.only some.0 some.1) in
+    c.action_end.ensures ∙ ap action_end same ∙ some.2)
     h

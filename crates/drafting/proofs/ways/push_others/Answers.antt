@@ -2,7 +2,7 @@ use Rattle.std.proofs.Common.{◌≡◌, false, sym, subst, ◌∙◌}
 use Rattle.std.proofs.lemmas.Result.{on_ok_weaker}
 use Rattle.arm2_decode.specs.Names.{is_never}
 use Rattle.drafting.specs.Reach.{LeadsAway}
-use Rattle.drafting.specs.declared.words.Way.TheVariants as way
+use Rattle.flow_graph.specs.declared.kinds.Kind.TheVariants as kind
 use Rattle.drafting.proofs.WayLaws.{gains_as, gains_none, leads_nowhere}
 use Rattle.drafting.proofs.ways.push_others.Goals as goal
 
@@ -12,10 +12,10 @@ returns-then-is_never c =
 
 pub returns-in-Writer : goal.returns-in-Writer
 returns-in-Writer c =
-    let may : is_never c.args.reading.cond ≡ false = sym c.is_never.ensures ∙ c.if-is_never.false in
+    let may : is_never c.args.action.cond ≡ false = sym c.is_never.ensures ∙ c.if-is_never.false in
     on_ok_weaker c.push_table.result
-    (gains_as (LeadsAway c.args.image.now c.args.at way.Writer)
-    (λ to. (is_never c.args.reading.cond ≡ false) × LeadsAway c.args.image.now c.args.at c.args.reading.way to)
+    (gains_as (LeadsAway c.args.image.now c.args.at kind.Writer)
+    (λ to. (is_never c.args.action.cond ≡ false) × LeadsAway c.args.image.now c.args.at c.args.action.kind to)
     c.args.out.now.items c.push_table.new.out.items
     (λ to. (
       (λ leads. (may, subst (λ w. LeadsAway c.args.image.now c.args.at w to) (sym c.in-Writer.is) leads)),
@@ -26,4 +26,4 @@ returns-in-Writer c =
 pub returns-in_default : goal.returns-in_default
 returns-in_default c =
     gains_none _ c.args.out.now.items
-    (λ to h. absurd (leads_nowhere c.args.image.now c.args.at c.args.reading.way to c.in_default.not-Branch c.in_default.not-Writer h.1))
+    (λ to h. absurd (leads_nowhere c.args.image.now c.args.at c.args.action.kind to c.in_default.not-Branch c.in_default.not-Writer h.1))

@@ -1,6 +1,6 @@
 use Rattle.std.proofs.Common.{arith}
 use Rattle.drafting.specs.Reach.{LeadsAway}
-use Rattle.drafting.specs.declared.words.Way.TheVariants as way
+use Rattle.flow_graph.specs.declared.kinds.Kind.TheVariants as kind
 use Rattle.drafting.proofs.WayLaws.{IsPlaceBelow, gains_as, gains_none, places_lead, places_more}
 use Rattle.drafting.proofs.ways.push_table.Goals as goal
 
@@ -14,7 +14,7 @@ loop-n-preserved c =
 
 pub returns : goal.returns
 returns c =
-    gains_as (IsPlaceBelow c.args.at c.loop-n.n) (LeadsAway c.args.image.now c.args.at way.Writer) c.args.out.now.items
+    gains_as (IsPlaceBelow c.args.at c.loop-n.n) (LeadsAway c.args.image.now c.args.at kind.Writer) c.args.out.now.items
     c.loop-n.out.items
     (places_lead c.args.image.now c.args.at _ c.loop-n.n c.table_len-n-end.ensures c.loop-n-test.false c.loop-n.auto.n-end)
     c.loop-n.invariant

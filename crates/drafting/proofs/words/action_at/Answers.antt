@@ -1,0 +1,10 @@
+use Rattle.std.proofs.Common.{Some, ap, sym}
+use Rattle.flow_graph.specs.declared.kinds.Action.{Action}
+use Rattle.flow_graph.proofs.EdgeLemmas.{one_action_at}
+use Rattle.drafting.proofs.words.action_at.Goals as goal
+
+pub returns-in-Some-clause-only : goal.returns-in-Some-clause-only
+returns-in-Some-clause-only c = λ action has.
+    ap (λ (a : Action). Some a)
+    (one_action_at c.args.image.now c.args.at c.action_of.result action
+    (record { word = c.in-Some.word; stands = sym c.in-Some.ensures.value; is = c.action_of.ensures.value }) has)
