@@ -1,5 +1,5 @@
 -- A step against the statement: what it executes, and along which edge.
-use Rattle.std.proofs.Common.{◌≡◌, ℕ, ◌<◌, ◌^◌, inl, inr, Bool, true, false, cond, List, length, Option, Some, None, refl, sym, ap, subst, ◌∙◌}
+use Rattle.std.proofs.Common.{◌≡◌, ℕ, ◌<◌, inl, inr, Bool, true, false, cond, List, length, Option, Some, None, refl, sym, ap, subst, ◌∙◌}
 use Rattle.std.specs.Prelude.{Contains}
 use Rattle.std.proofs.lemmas.List.Elements.{Contains-get_or}
 use Rattle.std.proofs.lemmas.Option.{same_Some}
@@ -31,7 +31,6 @@ use Rattle.flow_graph.specs.declared.places.Place.{Place}
 use Rattle.flow_graph.proofs.EdgeLemmas.{one_action}
 use Rattle.flow_graph.proofs.FlowLemmas.{has_edge_is_edge, is_edge_has_edge}
 use Rattle.flow_graph.proofs.StepLemmas.{IsPlainStep, plain_step, works_plain}
-use Rattle.flow_graph.proofs.StepRegisters.{word_address_of}
 use Rattle.longest_walk.specs.Built.{step_at}
 use Rattle.kept_runs.specs.declared.edges.Going.{Going}
 use Rattle.kept_runs.specs.declared.reading.Reading.{Reading}
@@ -102,9 +101,6 @@ module _ (words : Words) (st : Stated) (flow : Flow) (graph : IsFlowGraph words 
 
     plain_as : {other : Stepped} {last : State} {e : Edge} → (h : IsEdgeOf words st flow.profile s i other last e) → stepped.kind ≡ ended.Plain
     plain_as h = ap (λ (x : Stepped). x.kind) (sym (same h).0) ∙ h.executes.plain
-
-    pub to_small : stepped.kind ≡ ended.Plain → stepped.to < 2 ^ 26
-    to_small plain = subst (λ t. t < 2 ^ 26) (sym (plain_step s step.moved stepped step.stepped_is plain).to) ((word_address_of (r15_in step.moved.regs)).0)
 
     none_unless_plain : (stepped.kind ≡ ended.Plain → ⊥) → TakesNone words st flow place s i
     none_unless_plain not_plain other last e h from = not_plain (plain_as h)

@@ -1,7 +1,6 @@
 //! Which edge of a place a step takes.
 
 ghost use Rattle.std.specs.Prelude.{◌↔◌, ◌<◌, length, IsTrue, MatchOption};
-ghost use Rattle.bus_ticks.specs.declared.space.TheConstants.{SPACE_END};
 ghost use Rattle.flow_graph.specs.Places.{place_at};
 ghost use Rattle.flow_graph.specs.StepLaw.{IsPlaceOf};
 ghost use Rattle.kept_runs.specs.Edges.{HasNoEdge, IsFound, IsMet};
@@ -21,7 +20,6 @@ pub(crate) struct Going {
 }
 
 fn is_place_of(place: &Place, going: Going) -> bool
-    requires { going.to < SPACE_END }
     ensures { IsTrue result ↔ IsPlaceOf going.leave going.to place.now }
 {
     match place {
@@ -31,7 +29,6 @@ fn is_place_of(place: &Place, going: Going) -> bool
 }
 
 fn is_met(edge: &Edge, going: Going) -> bool
-    requires { going.to < SPACE_END }
     ensures { IsTrue result ↔ IsMet going edge.now }
 {
     is_same_label(edge.label, going.label) && is_place_of(&edge.to, going)
@@ -41,7 +38,6 @@ fn is_met(edge: &Edge, going: Going) -> bool
 /// linear in the edges of the place.
 pub(crate) fn edge_taken(graph: &Graph, place: usize, going: Going) -> Option<usize>
     requires known { place < length graph.now.places }
-    requires to { going.to < SPACE_END }
     ensures { MatchOption result (HasNoEdge graph.now (place_at graph.now.places place) going)
         (IsFound graph.now (place_at graph.now.places place) going) }
 {

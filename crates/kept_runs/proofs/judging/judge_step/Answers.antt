@@ -7,7 +7,7 @@ use Rattle.flow_graph.specs.declared.places.Place.TheVariants.{Exit}
 use Rattle.kept_runs.specs.declared.edges.Going.{Going}
 use Rattle.kept_runs.specs.Edges.{HasNoEdge, IsFound}
 use Rattle.kept_runs.specs.Transfers.{HasNoOther, HasOther}
-use Rattle.kept_runs.proofs.StepJudged.{elsewhere, exception, other_class, other_word, stop, takes, to_small}
+use Rattle.kept_runs.proofs.StepJudged.{elsewhere, exception, other_class, other_word, stop, takes}
 use Rattle.kept_runs.proofs.judging.judge_step.Goals as goal
 
 pub returns-in_default : goal.returns-in_default
@@ -40,12 +40,6 @@ returns-in-Some-other c =
 
 pub edge_taken-requires-clause-known : goal.edge_taken-requires-clause-known
 edge_taken-requires-clause-known c = c.requires.known
-
-pub edge_taken-requires-clause-to : goal.edge_taken-requires-clause-to
-edge_taken-requires-clause-to c =
-    let place = place_at c.args.handler.graph.now.places c.args.place in
-    to_small c.args.handler.image.now c.args.handler.statement.now c.args.handler.graph.now c.requires.graph place c.args.machine.now c.args.input c.requires.stands
-    c.step-stepped.result c.step-stepped.new.self c.step-stepped.ensures.step c.in-Plain.is
 
 pub returns-in-Some-edge_taken : goal.returns-in-Some-edge_taken
 returns-in-Some-edge_taken c =
