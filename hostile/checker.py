@@ -204,7 +204,7 @@ def read_cert(text):
 
 
 def rows_of(graph, cert):
-    """Of each edge the least number that it asks for, that which stands there, and the objection."""
+    """Of each edge the least number that it asks for, the one in the certificate, and the objection."""
     for place, _, to, cost in graph.edges:
         left = [it for it in graph.loops if place in it.members and to not in it.members]
         least = cost + cert.places[place][0]

@@ -447,7 +447,7 @@ def documents():
 
 
 class SourceCut:
-    """A cut source is refused at its last line or for a missing label, or gives its whole lines' words."""
+    """A cut source is refused at its last line or for a missing label, or assembles to its whole lines' words."""
 
     def __init__(self, text, words):
         self.text, self.words = text, words

@@ -29,7 +29,7 @@ STATUSES = {"Memory": 3, "Device": 4}
 
 
 def section(text, title):
-    """What stands under a heading of the manual, up to the next of its kind or a higher one."""
+    """The text under a heading of the manual, up to the next of its kind or a higher one."""
     found = re.search(rf"^(#+) {re.escape(title)}\n(.*?)(?=^#{{1,9}} )", text + "\n# ", re.M | re.S)
     marks = "#" * len(found[1])
     start = found.start(2)
@@ -38,7 +38,7 @@ def section(text, title):
 
 
 def refusals(text):
-    """The refusals of each section, by name, each with what may stand after it."""
+    """The refusals of each section, by name, each with what may follow it."""
     tables = {}
     for part in re.split(r"^### ", section(text, "Refusals"), flags=re.M)[1:]:
         title, _, body = part.partition("\n")
@@ -61,7 +61,7 @@ ALL_KEYS = re.search(r"^```toml file=all_keys.toml\n(.*?)^```$", MANUAL, re.M | 
 
 
 def refusal(outcome):
-    """The name of the refusal on standard error, and what stands after it, or None."""
+    """The name of the refusal on standard error, and what follows it, or None."""
     found = re.fullmatch(rb"refused: (\w+)((?: at [\w ]+)?)\n", outcome.err)
     return (found[1].decode(), found[2].decode()) if found else None
 
@@ -135,5 +135,5 @@ class Is:
 
 
 def refused(name, place=""):
-    """The refusal with this name, and what stands after it."""
+    """The refusal with this name, and what follows it."""
     return Is(STATUSES.get(name, 1), err=f"refused: {name}{place}\n".encode())

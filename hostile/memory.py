@@ -1,4 +1,4 @@
-"""Runs in which the system gives no memory: each request for it is refused in turn, once and from then on."""
+"""Runs in which the system has no memory left: each request for it is refused in turn, once and from then on."""
 
 import dataclasses
 import subprocess
@@ -110,7 +110,7 @@ def larger(bench):
 
 
 class Limited:
-    """The right answer or the refusal, whatever the system gives."""
+    """The right answer or the refusal, however much memory there is."""
 
     def __init__(self, right, image):
         self.right, self.image = right, image
@@ -124,7 +124,7 @@ class Limited:
 
 
 def limits(bench):
-    """A long source, and a long answer, where the system gives so many KiB in all, without the library."""
+    """A long source, and a long answer, where there are so many KiB in all, without the library."""
     source = b"".join(b"l%d DCD %d\n" % (n, n) for n in range(65_536))
     made = worked.command(bench, "asm handler.s made.image", {"handler.s": source})
     for limit in range(8_000, 40_000, 1_000):

@@ -124,7 +124,7 @@ def locked_folder(folder):
 
 
 def image_files(command):
-    """Names under which no image can be written, and what stands there then."""
+    """Names under which no image can be written, and what is there then."""
     source, line, image = command.files["handler.s"], command.outcome.out, command.image
     pipe = "mkfifo pipe; cat pipe >copy & {}; status=$?; wait; exit $status"
     rows = [
@@ -155,7 +155,7 @@ def image_files(command):
 
 
 def full_disks(bench):
-    """Limits on a file's length, which stand for a disc that is full.
+    """Limits on a file's length, in place of a disc that is full.
 
     No part of an image may stay. What stood in the file before is lost when it is opened.
     """
@@ -178,7 +178,7 @@ def long_file(name):
 
 
 def file_rows(name):
-    """What stands in the place of a file to read: its name, how it is made, what bash is told, and the
+    """What takes the place of a file to read: its name, how it is made, what bash is told, and the
     refusal with what `explain` says of the file; None: it is read."""
     pipe = f"mkfifo pipe; cat {name} >pipe & exec {{}}"
     cannot, long = (FAILED, "cannot be read"), (TOO_LONG, f"more than {MOST} bytes")

@@ -18,7 +18,7 @@ REGISTERS = {
 
 
 def holds(address):
-    """Whether a word may stand at an address."""
+    """Whether a word may be at an address."""
     return address % 4 == 0 and (address < DEVICES or ROM <= address < END)
 
 
@@ -31,7 +31,7 @@ def image_bytes(segments):
 
 
 def runs(words):
-    """The longest runs of words that stand one after another, ascending."""
+    """The longest runs of words one after another, ascending."""
     found = []
     for address in sorted(words):
         if found and address == found[-1][0] + 4 * len(found[-1][1]):
@@ -42,7 +42,7 @@ def runs(words):
 
 
 def least(standing):
-    """The least number whose bytes begin with those that stand."""
+    """The least number whose bytes begin with these."""
     return int.from_bytes(standing.ljust(4, b"\0"), "little")
 
 
@@ -53,7 +53,7 @@ def least_count(standing):
 
 
 def head_fault(head, words, to_come):
-    """Why a segment that begins with these bytes, all or some of eight, cannot stand after these words."""
+    """Why a segment that begins with these bytes, all or some of eight, cannot follow these words."""
     address = least(head[:4])
     if address % 4:
         return "Misaligned"

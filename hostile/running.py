@@ -48,11 +48,11 @@ class Trial:
     judge: Callable
     # The files of the folder, each as its bytes or as a call that makes them.
     files: dict = dataclasses.field(default_factory=dict)
-    # What is done to the folder once its files stand.
+    # What is done to the folder once its files are there.
     prepare: Callable | None = None
     # Standard input: bytes that come through a pipe, or the name of a file.
     stdin: bytes | str = "/dev/null"
-    # What bash is told, where {} stands for the program and its words; nothing: there is no shell.
+    # What bash is told, where {} is the program and its words; nothing: there is no shell.
     shell: str = ""
     # After so many bytes the reader of standard output goes away.
     taken: int | None = None

@@ -6,7 +6,7 @@
  *   STARVE_COUNTS=F    the file F holds two numbers of 64 bits: the requests so far, and those refused
  *
  * Requests are counted from main on: what the loader takes before is no concern of the program. The counts
- * stand in the file at every moment, so they are right however the program ends. The names that begin with
+ * are in the file at every moment, so they are right however the program ends. The names that begin with
  * __libc are glibc's own. The built program asks by malloc and realloc; the others are here for later ones.
  */
 #define _GNU_SOURCE

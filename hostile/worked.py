@@ -103,7 +103,7 @@ def profile():
 
 
 def answered(bench, words, files, stdin=b""):
-    """The command with the answer that it gives when nothing is in its way."""
+    """The command with its answer when nothing is in its way."""
     outcome, left = bench.ask(words, files, stdin=stdin)
     return Command(words, files, stdin, outcome, left.get("made.image"))
 
