@@ -68,7 +68,7 @@ fn write_back(tokens: &[Token<'_>]) -> Option<bool>
     }
 }
 
-fn closed(tokens: &[Token<'_>]) -> Option<bool>
+fn closed_of(tokens: &[Token<'_>]) -> Option<bool>
     ensures { result ≡ closed_of (map piece_of tokens.now) }
 {
     match tokens {
@@ -93,11 +93,11 @@ fn before(rn: Register, tokens: &[Token<'_>]) -> Option<Address>
     ensures { result ≡ before_of rn (map piece_of tokens.now) }
 {
     let (offset, rest) = first_offset(tokens)?;
-    let write_back = closed(rest)?;
+    let write_back = closed_of(rest)?;
     Some(address_with(rn, true, write_back, offset))
 }
 
-fn plain(rn: Register, tokens: &[Token<'_>]) -> Option<Address>
+fn plain_of(rn: Register, tokens: &[Token<'_>]) -> Option<Address>
     ensures { result ≡ plain_of rn (map piece_of tokens.now) }
 {
     let write_back = write_back(tokens)?;
@@ -112,7 +112,7 @@ fn after(user: bool, rn: Register, tokens: &[Token<'_>]) -> Option<Address>
             let offset = whole(first_offset(rest))?;
             Some(address_with(rn, false, user, offset))
         }
-        _ => { if user { None } else { plain(rn, tokens) } }
+        _ => { if user { None } else { plain_of(rn, tokens) } }
     }
 }
 

@@ -6,7 +6,7 @@ ghost use Rattle.asm_text.specs.Operands.{list_step, run_bits, with_bits};
 ghost use Rattle.asm_text.specs.declared.list.Place.TheVariants.{Start};
 
 use crate::names::Suffix;
-use crate::register::{first_register, named_register};
+use crate::register::{first_register, register_of};
 use crate::syntax::BlockTransfer;
 use crate::token::{Mark, Token};
 use arm2_decode::Register;
@@ -48,7 +48,7 @@ pub enum Step {
 }
 
 // A list with the registers from one to another.
-fn with_run(list: u32, first: Register, last: Register) -> Option<u32>
+fn with_bits(list: u32, first: Register, last: Register) -> Option<u32>
     requires { list < 2 ^ 16 }
     ensures value { result ≡ with_bits list (run_bits first last) }
     ensures fits { IfSome result (λ more. more < 2 ^ 16) }
@@ -77,13 +77,13 @@ fn first_step(list: u32, first: Register, token: Token<'_>) -> Option<Step>
     match token {
         Token::Sign(Mark::Minus) => Some(Step::Goes(list, Place::To(first))),
         _ => {
-            let more = with_run(list, first, first)?;
+            let more = with_bits(list, first, first)?;
             after_step(more, token)
         }
     }
 }
 
-fn next_step(list: u32, place: Place, token: Token<'_>) -> Option<Step>
+fn list_step(list: u32, place: Place, token: Token<'_>) -> Option<Step>
     requires { list < 2 ^ 16 }
     ensures value { result ≡ list_step list place (piece_of token.entry) }
     ensures fits { IfSome result (λ step. list_of step < 2 ^ 16) }
@@ -91,7 +91,7 @@ fn next_step(list: u32, place: Place, token: Token<'_>) -> Option<Step>
     match place {
         Place::Start => match token {
             Token::Run(name) => {
-                let first = named_register(name)?;
+                let first = register_of(name)?;
                 Some(Step::Goes(list, Place::First(first)))
             }
             _ => None,
@@ -99,8 +99,8 @@ fn next_step(list: u32, place: Place, token: Token<'_>) -> Option<Step>
         Place::First(first) => first_step(list, first, token),
         Place::To(first) => match token {
             Token::Run(name) => {
-                let last = named_register(name)?;
-                let more = with_run(list, first, last)?;
+                let last = register_of(name)?;
+                let more = with_bits(list, first, last)?;
                 Some(Step::Goes(more, Place::After))
             }
             _ => None,
@@ -118,7 +118,7 @@ fn first_list<'a, 'b>(tokens: &'a [Token<'b>]) -> Option<(u32, &'a [Token<'b>])>
     let mut list = 0;
     let mut place = Place::Start;
     for (index, token) in tokens.iter().enumerate() {
-        match next_step(list, place, *token)? {
+        match list_step(list, place, *token)? {
             Step::Goes(more, next) => {
                 list = more;
                 place = next;
@@ -130,7 +130,7 @@ fn first_list<'a, 'b>(tokens: &'a [Token<'b>]) -> Option<(u32, &'a [Token<'b>])>
 }
 
 // Nothing, or the mark of User registers.
-fn caret(tokens: &[Token<'_>]) -> Option<bool>
+fn caret_of(tokens: &[Token<'_>]) -> Option<bool>
     ensures { result ≡ caret_of (map piece_of tokens.now) }
 {
     match tokens {
@@ -141,7 +141,7 @@ fn caret(tokens: &[Token<'_>]) -> Option<bool>
 }
 
 // Whether the address moves before each word. Stacks grow the other way for loads.
-fn moves_before(load: bool, suffix: Suffix) -> bool
+fn block_before(load: bool, suffix: Suffix) -> bool
     ensures { result ≡ block_before load suffix }
 {
     match suffix {
@@ -153,7 +153,7 @@ fn moves_before(load: bool, suffix: Suffix) -> bool
 }
 
 // Whether the address moves upwards.
-fn moves_up(load: bool, suffix: Suffix) -> bool
+fn block_up(load: bool, suffix: Suffix) -> bool
     ensures { result ≡ block_up load suffix }
 {
     match suffix {
@@ -176,11 +176,11 @@ fn braced(
     match tokens {
         [Token::Comma, Token::Sign(Mark::OpenBrace), rest @ ..] => {
             let (list, rest) = first_list(rest)?;
-            let user = caret(rest)?;
+            let user = caret_of(rest)?;
             Some(BlockTransfer {
                 load,
-                before: moves_before(load, suffix),
-                up: moves_up(load, suffix),
+                before: block_before(load, suffix),
+                up: block_up(load, suffix),
                 user,
                 write_back,
                 rn,

@@ -160,7 +160,7 @@ pub(crate) fn named_suffix(text: &[u8]) -> Option<Suffix>
     named_in(&SUFFIXES, text)
 }
 
-fn orders_block(suffix: Suffix) -> bool
+fn is_block_suffix(suffix: Suffix) -> bool
     ensures { result ≡ is_block_suffix suffix }
 {
     matches!(
@@ -188,7 +188,7 @@ pub(crate) fn may_have(head: Head, suffix: Suffix) -> bool
         },
         Head::Multiply(_) => matches!(suffix, Suffix::Bare | Suffix::S),
         Head::Single(_) => matches!(suffix, Suffix::Bare | Suffix::B | Suffix::T | Suffix::Bt),
-        Head::Block(_) => orders_block(suffix),
+        Head::Block(_) => is_block_suffix(suffix),
         Head::Swi | Head::Adr => matches!(suffix, Suffix::Bare),
     }
 }

@@ -24,7 +24,7 @@ fn capped_number(radix: u32, text: &[u8]) -> Option<u64>
 }
 
 #[tactic(auto, using(crate::proofs::Capped::capped_fits))]
-fn number(radix: u32, text: &[u8]) -> Option<u32>
+fn number_by(radix: u32, text: &[u8]) -> Option<u32>
     requires { (radix ≡ 10) ⊎ (radix ≡ 16) }
     ensures { result ≡ number_by radix text.now }
 {
@@ -42,7 +42,7 @@ pub fn read_number(text: &[u8]) -> Option<u32>
 {
     match text {
         [b'0', b'x', hex @ ..] => read_hex(hex),
-        _ => number(10, text),
+        _ => number_by(10, text),
     }
 }
 
@@ -50,7 +50,7 @@ pub fn read_number(text: &[u8]) -> Option<u32>
 pub fn read_hex(text: &[u8]) -> Option<u32>
     ensures { result ≡ number_by 16 text.now }
 {
-    number(16, text)
+    number_by(16, text)
 }
 
 /// The hexadecimal number that some tokens begin with, and those after it.

@@ -7,9 +7,7 @@ ghost use Rattle.asm_text.specs.Operands.{sum_of, three_of, all_read};
 
 use crate::names::Suffix;
 use crate::number::first_number;
-use crate::register::{
-    first_register, first_register_comma, named_register, named_shift, names_rrx,
-};
+use crate::register::{first_register, first_register_comma, is_rrx, named_shift, register_of};
 use crate::syntax::{Amount, Data, Operand, Product, Shifting};
 use crate::token::{Mark, Token};
 use arm2_decode::{Opcode, Register, Shift};
@@ -33,7 +31,7 @@ fn first_shift_by<'a, 'b>(
     match tokens {
         [Token::Sign(Mark::Hash), rest @ ..] => first_amount(shift, rest),
         [Token::Run(text), rest @ ..] => {
-            let r = named_register(text)?;
+            let r = register_of(text)?;
             Some((Shifting::Register(shift, r), rest))
         }
         _ => None,
@@ -52,7 +50,7 @@ fn first_shift_words<'a, 'b>(
             first_shift_by(shift, rest)
         }
         _ => {
-            if names_rrx(name) {
+            if is_rrx(name) {
                 Some((Shifting::Amount(Amount::Rrx), tokens))
             } else {
                 None
@@ -96,7 +94,7 @@ fn operand(tokens: &[Token<'_>]) -> Option<Operand>
             whole(first_number(rest)).map(Operand::Immediate)
         }
         [Token::Run(text), rest @ ..] => {
-            let m = named_register(text)?;
+            let m = register_of(text)?;
             let shifting = whole(first_shifting(rest))?;
             Some(Operand::Shifted(m, shifting))
         }
@@ -104,7 +102,7 @@ fn operand(tokens: &[Token<'_>]) -> Option<Operand>
     }
 }
 
-fn moves(opcode: Opcode) -> bool
+fn is_move(opcode: Opcode) -> bool
     ensures { result ≡ is_move opcode }
 {
     matches!(opcode, Opcode::Mov | Opcode::Mvn)
@@ -125,7 +123,7 @@ fn compare_rd(suffix: Suffix) -> Register
     }
 }
 
-fn compare(opcode: Opcode, suffix: Suffix, rn: Register, tokens: &[Token<'_>]) -> Option<Data>
+fn compare_of(opcode: Opcode, suffix: Suffix, rn: Register, tokens: &[Token<'_>]) -> Option<Data>
     ensures { result ≡ compare_of opcode suffix rn (map piece_of tokens.now) }
 {
     let operand = operand(tokens)?;
@@ -138,7 +136,7 @@ fn compare(opcode: Opcode, suffix: Suffix, rn: Register, tokens: &[Token<'_>]) -
     })
 }
 
-fn move_data(opcode: Opcode, suffix: Suffix, rd: Register, tokens: &[Token<'_>]) -> Option<Data>
+fn move_of(opcode: Opcode, suffix: Suffix, rd: Register, tokens: &[Token<'_>]) -> Option<Data>
     ensures { result ≡ move_of opcode suffix rd (map piece_of tokens.now) }
 {
     let operand = operand(tokens)?;
@@ -151,7 +149,7 @@ fn move_data(opcode: Opcode, suffix: Suffix, rd: Register, tokens: &[Token<'_>])
     })
 }
 
-fn three(opcode: Opcode, suffix: Suffix, rd: Register, tokens: &[Token<'_>]) -> Option<Data>
+fn three_of(opcode: Opcode, suffix: Suffix, rd: Register, tokens: &[Token<'_>]) -> Option<Data>
     ensures { result ≡ three_of opcode suffix rd (map piece_of tokens.now) }
 {
     let (rn, rest) = first_register_comma(tokens)?;
@@ -169,11 +167,11 @@ fn data_with(opcode: Opcode, suffix: Suffix, r: Register, tokens: &[Token<'_>]) 
     ensures { result ≡ data_with opcode suffix r (map piece_of tokens.now) }
 {
     if opcode.is_compare() {
-        compare(opcode, suffix, r, tokens)
-    } else if moves(opcode) {
-        move_data(opcode, suffix, r, tokens)
+        compare_of(opcode, suffix, r, tokens)
+    } else if is_move(opcode) {
+        move_of(opcode, suffix, r, tokens)
     } else {
-        three(opcode, suffix, r, tokens)
+        three_of(opcode, suffix, r, tokens)
     }
 }
 
@@ -185,7 +183,7 @@ pub(crate) fn data(opcode: Opcode, suffix: Suffix, tokens: &[Token<'_>]) -> Opti
     data_with(opcode, suffix, r, rest)
 }
 
-fn factors(suffix: Suffix, rd: Register, rm: Register, tokens: &[Token<'_>]) -> Option<Product>
+fn factors_of(suffix: Suffix, rd: Register, rm: Register, tokens: &[Token<'_>]) -> Option<Product>
     ensures { result ≡ factors_of suffix rd rm (map piece_of tokens.now) }
 {
     let rs = whole(first_register(tokens))?;
@@ -199,7 +197,7 @@ fn factors(suffix: Suffix, rd: Register, rm: Register, tokens: &[Token<'_>]) -> 
     })
 }
 
-fn sum(suffix: Suffix, rd: Register, rm: Register, tokens: &[Token<'_>]) -> Option<Product>
+fn sum_of(suffix: Suffix, rd: Register, rm: Register, tokens: &[Token<'_>]) -> Option<Product>
     ensures { result ≡ sum_of suffix rd rm (map piece_of tokens.now) }
 {
     let (rs, rest) = first_register_comma(tokens)?;
@@ -215,14 +213,14 @@ fn sum(suffix: Suffix, rd: Register, rm: Register, tokens: &[Token<'_>]) -> Opti
 }
 
 /// The operands of MUL, or of MLA, which accumulates.
-pub(crate) fn product(accumulate: bool, suffix: Suffix, tokens: &[Token<'_>]) -> Option<Product>
+pub(crate) fn product_of(accumulate: bool, suffix: Suffix, tokens: &[Token<'_>]) -> Option<Product>
     ensures { result ≡ product_of accumulate suffix (map piece_of tokens.now) }
 {
     let (rd, rest) = first_register_comma(tokens)?;
     let (rm, rest) = first_register_comma(rest)?;
     if accumulate {
-        sum(suffix, rd, rm, rest)
+        sum_of(suffix, rd, rm, rest)
     } else {
-        factors(suffix, rd, rm, rest)
+        factors_of(suffix, rd, rm, rest)
     }
 }

@@ -13,7 +13,7 @@ ghost use Rattle.asm_text.specs.declared.printed_lines.Shown.{Shown};
 use crate::statement::{plain, refer};
 use crate::syntax::{Code, Reference, Statement, Use, Value};
 use crate::token::{Token, next};
-use crate::word::{Word, read_word};
+use crate::word::{Word, word_of};
 use arrayvec::ArrayVec;
 
 /// The most bytes of the line of a word that is shown.
@@ -52,13 +52,13 @@ fn is_upper(text: &[u8]) -> bool
     text.iter().all(|b| !b.is_ascii_lowercase())
 }
 
-fn is_shown_line(text: &[u8]) -> bool
+fn is_shown_text(text: &[u8]) -> bool
     ensures { result ≡ is_shown_text text.now }
 {
     are_shown_bytes(text) && is_upper(text) && text.len() <= WORD_LINE_ROOM
 }
 
-fn shown_statement(statement: &Statement<'_>) -> Option<Shown>
+fn shown_in(statement: &Statement<'_>) -> Option<Shown>
     ensures { result ≡ shown_in (said statement.now) }
 {
     match statement {
@@ -75,11 +75,11 @@ fn operands(word: Word, tokens: &[Token<'_>]) -> Option<Shown>
     match word {
         Word::Plain(head, cond, suffix) => {
             let statement = plain(head, cond, suffix, tokens)?;
-            shown_statement(&statement)
+            shown_in(&statement)
         }
         Word::Branch(link, cond) => {
             let statement = refer(cond, Use::Branch(link), tokens)?;
-            shown_statement(&statement)
+            shown_in(&statement)
         }
         Word::Org | Word::Dcd => None,
     }
@@ -100,7 +100,7 @@ fn word_statement(text: &[u8], rest: &[Token<'_>]) -> Option<Shown>
     requires { is_upper text.now ≡ true }
     ensures { result ≡ shown_result (with_word (spelled_word_of text.now) (map piece_of rest.now)) }
 {
-    match read_word(text) {
+    match word_of(text) {
         Some(word) => after_word(word, rest),
         None => None,
     }
@@ -138,7 +138,7 @@ pub fn read_shown(text: &[u8]) -> Option<Shown>
     ensures only { (s : Shown) → is_shown_text text.now ≡ true → line_of (32 ∷ text.now) ≡ Ok (parsed_shown s)
         → result ≡ Some s }
 {
-    if !is_shown_line(text) {
+    if !is_shown_text(text) {
         return None;
     }
     let few = few_tokens(text);

@@ -63,7 +63,7 @@ const SHIFTS: [(&[u8], Shift); 8] = [
 
 /// The register that a text names.
 #[tactic(auto, unfolding(crate::specs::Registers::register_of))]
-pub(crate) fn named_register(text: &[u8]) -> Option<Register>
+pub(crate) fn register_of(text: &[u8]) -> Option<Register>
     ensures { result ≡ register_of text.now }
 {
     named_in(&REGISTERS, text)
@@ -78,7 +78,7 @@ pub(crate) fn named_shift(text: &[u8]) -> Option<Shift>
 }
 
 /// Whether a text names the rotation by one place through the carry.
-pub(crate) fn names_rrx(text: &[u8]) -> bool
+pub(crate) fn is_rrx(text: &[u8]) -> bool
     ensures { result ≡ is_rrx text.now }
 {
     matches!(text, b"RRX" | b"rrx")
@@ -89,7 +89,7 @@ pub(crate) fn first_register<'a, 'b>(tokens: &'a [Token<'b>]) -> Option<(Registe
     ensures { option_map in_pieces result ≡ register_first (map piece_of tokens.now) }
 {
     match tokens {
-        [Token::Run(text), rest @ ..] => Some((named_register(text)?, rest)),
+        [Token::Run(text), rest @ ..] => Some((register_of(text)?, rest)),
         _ => None,
     }
 }
@@ -101,7 +101,7 @@ pub(crate) fn first_register_comma<'a, 'b>(
     ensures { option_map in_pieces result ≡ register_comma_first (map piece_of tokens.now) }
 {
     match tokens {
-        [Token::Run(text), Token::Comma, rest @ ..] => Some((named_register(text)?, rest)),
+        [Token::Run(text), Token::Comma, rest @ ..] => Some((register_of(text)?, rest)),
         _ => None,
     }
 }

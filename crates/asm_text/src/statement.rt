@@ -16,7 +16,7 @@ use crate::address::address;
 use crate::list::block;
 use crate::names::{Head, Suffix};
 use crate::number::{first_hex, first_number, read_hex, read_number};
-use crate::operand::{data, product, whole};
+use crate::operand::{data, product_of, whole};
 use crate::register::first_register_comma;
 use crate::syntax::{Action, Code, Reference, Statement, Transfer, Use, Value};
 use crate::token::{Mark, Token};
@@ -129,13 +129,13 @@ fn only_target<'a>(tokens: &[Token<'a>]) -> Option<Value<'a>>
     alone_target(value, rest)
 }
 
-fn is_byte_suffix(suffix: Suffix) -> bool
+fn is_byte(suffix: Suffix) -> bool
     ensures { result ≡ is_byte suffix }
 {
     matches!(suffix, Suffix::B | Suffix::Bt)
 }
 
-fn is_user_suffix(suffix: Suffix) -> bool
+fn is_user(suffix: Suffix) -> bool
     ensures { result ≡ is_user suffix }
 {
     matches!(suffix, Suffix::T | Suffix::Bt)
@@ -157,8 +157,8 @@ fn single_at<'a>(
 ) -> Option<Statement<'a>>
     ensures { option_map said result ≡ single_with cond load suffix rd (map piece_of tokens.now) }
 {
-    let byte = is_byte_suffix(suffix);
-    let user = is_user_suffix(suffix);
+    let byte = is_byte(suffix);
+    let user = is_user(suffix);
     match tokens {
         [Token::Sign(Mark::OpenBracket), rest @ ..] => {
             let address = address(user, rest)?;
@@ -196,12 +196,12 @@ fn adr<'a>(cond: Cond, tokens: &[Token<'a>]) -> Option<Statement<'a>>
 }
 
 // The action of a word without a target.
-fn action(head: Head, suffix: Suffix, tokens: &[Token<'_>]) -> Option<Action>
+fn action_of(head: Head, suffix: Suffix, tokens: &[Token<'_>]) -> Option<Action>
     ensures { result ≡ action_of head suffix (map piece_of tokens.now) }
 {
     match head {
         Head::Data(opcode) => data(opcode, suffix, tokens).map(Action::Data),
-        Head::Multiply(accumulate) => product(accumulate, suffix, tokens).map(Action::Multiply),
+        Head::Multiply(accumulate) => product_of(accumulate, suffix, tokens).map(Action::Multiply),
         Head::Block(load) => block(load, suffix, tokens).map(Action::Block),
         Head::Swi => only_number(tokens).map(Action::Swi),
         Head::Single(_) | Head::Adr => None,
@@ -211,7 +211,7 @@ fn action(head: Head, suffix: Suffix, tokens: &[Token<'_>]) -> Option<Action>
 fn code<'a>(head: Head, cond: Cond, suffix: Suffix, tokens: &[Token<'a>]) -> Option<Statement<'a>>
     ensures { option_map said result ≡ code_said head cond suffix (map piece_of tokens.now) }
 {
-    let action = action(head, suffix, tokens)?;
+    let action = action_of(head, suffix, tokens)?;
     Some(Statement::Code(Code { cond, action }))
 }
 

@@ -50,7 +50,7 @@ pub enum Token<'a> {
     Gap,
 }
 
-fn read_mark(b: u8) -> Mark
+fn mark_of(b: u8) -> Mark
     ensures { result ≡ mark_of b }
 {
     match b {
@@ -74,7 +74,7 @@ pub fn is_blank(b: u8) -> bool
     b == b' ' || b == b'\t'
 }
 
-fn is_name_byte(b: u8) -> bool
+fn is_name(b: u8) -> bool
     ensures { result ≡ is_name b }
 {
     b.is_ascii_alphanumeric() || b == b'_'
@@ -91,7 +91,7 @@ fn name_len(text: &[u8]) -> usize
     ensures len { result ≡ prefix_len is_name text.now }
     ensures within { result ≤ length text.now }
 {
-    text.iter().take_while(|b| is_name_byte(**b)).count()
+    text.iter().take_while(|b| is_name(**b)).count()
 }
 
 fn tail(text: &[u8]) -> &[u8]
@@ -143,11 +143,11 @@ fn solid(text: &[u8]) -> Option<(Token<'_>, &[u8])>
     let b = text[0];
     if b == b',' {
         Some((Token::Comma, after_blanks(tail(text))))
-    } else if is_name_byte(b) {
+    } else if is_name(b) {
         let (run, after) = text.split_at(name_len(text));
         Some((Token::Run(run), after))
     } else {
-        Some((Token::Sign(read_mark(b)), tail(text)))
+        Some((Token::Sign(mark_of(b)), tail(text)))
     }
 }
 

@@ -23,7 +23,7 @@ pub enum Word {
     Dcd,
 }
 
-fn full_cond(text: &[u8]) -> Option<Cond>
+fn whole_cond(text: &[u8]) -> Option<Cond>
     ensures { result ≡ whole_cond text.now }
 {
     if text.is_empty() {
@@ -33,16 +33,16 @@ fn full_cond(text: &[u8]) -> Option<Cond>
     }
 }
 
-fn branch(text: &[u8]) -> Option<Word>
+fn branch_of(text: &[u8]) -> Option<Word>
     ensures { result ≡ branch_of text.now }
 {
     match text {
         [b'B', rest @ ..] => {
-            if let Some(c) = full_cond(rest) {
+            if let Some(c) = whole_cond(rest) {
                 return Some(Word::Branch(false, c));
             }
             match rest {
-                [b'L', after @ ..] => full_cond(after).map(|c| Word::Branch(true, c)),
+                [b'L', after @ ..] => whole_cond(after).map(|c| Word::Branch(true, c)),
                 _ => None,
             }
         }
@@ -62,7 +62,7 @@ fn with_suffix(head: Head, cond: Cond, text: &[u8]) -> Option<Word>
 }
 
 #[tactic(auto, using(crate::proofs::WordLaws::short_plain))]
-fn plain(text: &[u8]) -> Option<Word>
+fn plain_of(text: &[u8]) -> Option<Word>
     ensures { result ≡ plain_of text.now }
 {
     if text.len() < 3 {
@@ -82,17 +82,17 @@ fn plain(text: &[u8]) -> Option<Word>
 
 /// The word that a text in upper case spells.
 #[tactic(auto, unfolding(crate::specs::Words::word_of))]
-pub(crate) fn read_word(text: &[u8]) -> Option<Word>
+pub(crate) fn word_of(text: &[u8]) -> Option<Word>
     ensures { result ≡ word_of text.now }
 {
     if text == b"ORG".as_slice() {
         Some(Word::Org)
     } else if text == b"DCD".as_slice() {
         Some(Word::Dcd)
-    } else if let Some(w) = branch(text) {
+    } else if let Some(w) = branch_of(text) {
         Some(w)
     } else {
-        plain(text)
+        plain_of(text)
     }
 }
 
@@ -115,13 +115,13 @@ fn read_spelling(alloc: Global, text: &[u8]) -> Result<Option<Word>, AllocError>
 {
     // Most sources are in upper case, whose words need no copy.
     if is_upper(text) {
-        return Ok(read_word(text));
+        return Ok(word_of(text));
     }
     if !is_lower(text) {
         return Ok(None);
     }
     let upper = text.to_ascii_uppercase(alloc)?;
-    Ok(read_word(&upper))
+    Ok(word_of(&upper))
 }
 
 /// The word that a text spells, wholly in upper or in lower case. No text spells two. Fails where an

@@ -8,15 +8,15 @@ returns-then-b-eq44 c =
     let some : 0 < length c.args.text.now = grind (arith, nat_tests) in
     (rw (c.after_blanks.ensures.rest, c.tail.ensures) (comma_text c.args.text.now some c.if-b-eq44.true), omega (arith, c.after_blanks.ensures.within, simp length-drop at (ap length c.tail.ensures)))
 
-pub returns-then-is_name_byte : goal.returns-then-is_name_byte
-returns-then-is_name_byte c =
+pub returns-then-is_name : goal.returns-then-is_name
+returns-then-is_name c =
     let some : 0 < length c.args.text.now = grind (arith, nat_tests) in
-    let name = sym c.is_name_byte.ensures ∙ c.if-is_name_byte.true in (
+    let name = sym c.is_name.ensures ∙ c.if-is_name.true in (
       rw (c.split_at.ensures.front, c.split_at.ensures.back, c.name_len.ensures.len) (name_text c.args.text.now some name),
       omega (arith, simp length-drop at (ap length c.split_at.ensures.back), c.name_len.ensures.len, name_len_text c.args.text.now some name),
     )
 
-pub returns-else-is_name_byte : goal.returns-else-is_name_byte
-returns-else-is_name_byte c =
+pub returns-else-is_name : goal.returns-else-is_name
+returns-else-is_name c =
     let some : 0 < length c.args.text.now = grind (arith, nat_tests) in
-    (rw (c.tail-else-is_name_byte.ensures, c.read_mark.ensures) (sign_text c.args.text.now some c.requires (sym c.is_name_byte.ensures ∙ c.if-is_name_byte.false) c.if-b-eq44.false), omega (arith, simp length-drop at (ap length c.tail-else-is_name_byte.ensures)))
+    (rw (c.tail-else-is_name.ensures, c.mark_of.ensures) (sign_text c.args.text.now some c.requires (sym c.is_name.ensures ∙ c.if-is_name.false) c.if-b-eq44.false), omega (arith, simp length-drop at (ap length c.tail-else-is_name.ensures)))

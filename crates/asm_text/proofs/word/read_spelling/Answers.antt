@@ -4,7 +4,7 @@ use Rattle.asm_text.specs.Words.{word_of}
 use Rattle.asm_text.proofs.word.read_spelling.Goals as goal
 
 pub returns-then-is_upper : goal.returns-then-is_upper
-returns-then-is_upper c = c.read_word.ensures ∙ upper_spells c.args.text.now (sym c.is_upper.ensures ∙ c.if-is_upper.true)
+returns-then-is_upper c = c.word_of.ensures ∙ upper_spells c.args.text.now (sym c.is_upper.ensures ∙ c.if-is_upper.true)
 
 pub returns-then-not-is_lower : goal.returns-then-not-is_lower
 returns-then-not-is_lower c =
@@ -12,5 +12,5 @@ returns-then-not-is_lower c =
 
 pub returns : goal.returns
 returns c =
-    c.read_word-2.ensures ∙ (ap word_of (c.deref.ensures.value ∙ c.in_ok-upper.ensures.ok)
+    c.word_of-2.ensures ∙ (ap word_of (c.deref.ensures.value ∙ c.in_ok-upper.ensures.ok)
     ∙ sym (lower_spells c.args.text.now true (sym c.is_lower.ensures ∙ c.if-not-is_lower.false) (sym c.is_upper.ensures ∙ c.if-is_upper.false)))

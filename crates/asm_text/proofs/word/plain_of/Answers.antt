@@ -1,7 +1,7 @@
 use Rattle.std.proofs.Common.{arith}
 use Rattle.std.proofs.lemmas.Grind.{common_steps}
 use Rattle.asm_text.proofs.WordLaws.{short_cond}
-use Rattle.asm_text.proofs.word.plain.Goals as goal
+use Rattle.asm_text.proofs.word.plain_of.Goals as goal
 
 pub returns-then-rest-lt2 : goal.returns-then-rest-lt2
 returns-then-rest-lt2 c =
