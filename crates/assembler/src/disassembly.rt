@@ -60,7 +60,7 @@ fn gives(text: &[u8], at: u32, word: u32) -> bool
     }
 }
 
-fn dcd_line(word: u32) -> Line
+fn hex_line(word: u32) -> Line
     ensures { result ≡ hex_line word }
 {
     let mut line = Line::new();
@@ -80,5 +80,5 @@ pub fn disassemble(word: u32, at: u32) -> Line
             return line;
         }
     }
-    dcd_line(word)
+    hex_line(word)
 }

@@ -29,7 +29,7 @@ fn word_of(cond: Cond, operation: Operation) -> u32
 
 // The lowest rotation that yields a number: to the left by twice as many places it is a byte.
 #[tactic(auto, using(crate::proofs::CodeLaws::rotation_on, crate::proofs::CodeLaws::rotation_here))]
-fn rotation(n: u32) -> Option<u32>
+fn rotation_of(n: u32) -> Option<u32>
     ensures value { result ≡ rotation_of n }
     ensures fits { IfSome result (λ k. k < 16) }
     ensures byte { IfSome result (λ k. rotate_left w32 n (2 * k) < 256) }
@@ -42,10 +42,10 @@ fn rotation(n: u32) -> Option<u32>
     None
 }
 
-fn immediate(cond: Cond, fields: Data, n: u32) -> Result<u32, LineFault>
+fn immediate_word(cond: Cond, fields: Data, n: u32) -> Result<u32, LineFault>
     ensures { result ≡ immediate_word (cond_number cond) fields n }
 {
-    let Some(rotation) = rotation(n) else {
+    let Some(rotation) = rotation_of(n) else {
         return Err(LineFault::ImmediateNotRotated);
     };
     if data_clash(fields.opcode.number(), fields.sets_flags) != 0 {
@@ -87,7 +87,7 @@ fn places(amount: Amount) -> u32
 }
 
 // The shift as a word has it, in which RRX is ROR.
-fn shift(amount: Amount) -> Shift
+fn amount_shift(amount: Amount) -> Shift
     ensures { result ≡ amount_shift amount }
 {
     match amount {
@@ -96,7 +96,7 @@ fn shift(amount: Amount) -> Shift
     }
 }
 
-fn register(cond: Cond, fields: Data, rm: Register, amount: Amount) -> Result<u32, LineFault>
+fn register_word(cond: Cond, fields: Data, rm: Register, amount: Amount) -> Result<u32, LineFault>
     ensures { result ≡ register_word (cond_number cond) fields rm amount }
 {
     if !amount_fits(amount) {
@@ -111,13 +111,13 @@ fn register(cond: Cond, fields: Data, rm: Register, amount: Amount) -> Result<u3
         rn: fields.rn,
         rd: fields.rd,
         amount: places(amount),
-        shift: shift(amount),
+        shift: amount_shift(amount),
         rm,
     });
     Ok(word_of(cond, operation))
 }
 
-fn register_shift(
+fn register_shift_word(
     cond: Cond,
     fields: Data,
     rm: Register,
@@ -141,25 +141,30 @@ fn register_shift(
     Ok(word_of(cond, operation))
 }
 
-fn shifted(cond: Cond, fields: Data, rm: Register, shifting: Shifting) -> Result<u32, LineFault>
+fn shifted_word(
+    cond: Cond,
+    fields: Data,
+    rm: Register,
+    shifting: Shifting,
+) -> Result<u32, LineFault>
     ensures { result ≡ shifted_word (cond_number cond) fields rm shifting }
 {
     match shifting {
-        Shifting::Amount(amount) => register(cond, fields, rm, amount),
-        Shifting::Register(shift, rs) => register_shift(cond, fields, rm, shift, rs),
+        Shifting::Amount(amount) => register_word(cond, fields, rm, amount),
+        Shifting::Register(shift, rs) => register_shift_word(cond, fields, rm, shift, rs),
     }
 }
 
-fn operand(cond: Cond, fields: Data, operand: Operand) -> Result<u32, LineFault>
+fn operand_word(cond: Cond, fields: Data, operand: Operand) -> Result<u32, LineFault>
     ensures { result ≡ operand_word (cond_number cond) fields operand }
 {
     match operand {
-        Operand::Immediate(n) => immediate(cond, fields, n),
-        Operand::Shifted(rm, shifting) => shifted(cond, fields, rm, shifting),
+        Operand::Immediate(n) => immediate_word(cond, fields, n),
+        Operand::Shifted(rm, shifting) => shifted_word(cond, fields, rm, shifting),
     }
 }
 
-fn product(cond: Cond, product: Product) -> Result<u32, LineFault>
+fn product_word(cond: Cond, product: Product) -> Result<u32, LineFault>
     ensures { result ≡ product_word (cond_number cond) product }
 {
     let (rd, rn) = (product.rd.number(), product.rn.number());
@@ -197,7 +202,7 @@ fn single_fields(transfer: Transfer) -> SingleFields
     }
 }
 
-fn number_offset(cond: Cond, transfer: Transfer, n: u32) -> Result<u32, LineFault>
+fn number_transfer(cond: Cond, transfer: Transfer, n: u32) -> Result<u32, LineFault>
     ensures { result ≡ number_transfer (cond_number cond) transfer n }
 {
     if n >= 4096 {
@@ -219,7 +224,7 @@ fn number_offset(cond: Cond, transfer: Transfer, n: u32) -> Result<u32, LineFaul
     Ok(word_of(cond, operation))
 }
 
-fn register_offset(
+fn register_transfer(
     cond: Cond,
     transfer: Transfer,
     rm: Register,
@@ -242,22 +247,22 @@ fn register_offset(
         rn: transfer.address.rn,
         rd: transfer.rd,
         amount: places(amount),
-        shift: shift(amount),
+        shift: amount_shift(amount),
         rm,
     });
     Ok(word_of(cond, operation))
 }
 
-fn transfer(cond: Cond, transfer: Transfer) -> Result<u32, LineFault>
+fn transfer_word(cond: Cond, transfer: Transfer) -> Result<u32, LineFault>
     ensures { result ≡ transfer_word (cond_number cond) transfer transfer.address.distance }
 {
     match transfer.address.distance {
-        Distance::Number(n) => number_offset(cond, transfer, n),
-        Distance::Register(rm, amount) => register_offset(cond, transfer, rm, amount),
+        Distance::Number(n) => number_transfer(cond, transfer, n),
+        Distance::Register(rm, amount) => register_transfer(cond, transfer, rm, amount),
     }
 }
 
-fn block(cond: Cond, block: BlockTransfer) -> Result<u32, LineFault>
+fn block_word(cond: Cond, block: BlockTransfer) -> Result<u32, LineFault>
     ensures { result ≡ block_word (cond_number cond) block }
 {
     if block.list >= 0x1_0000 {
@@ -296,7 +301,7 @@ fn branch_offset(at: u32, target: u32) -> u32
     (bytes / 4 % 0x100_0000) as u32
 }
 
-fn branch(cond: Cond, at: u32, link: bool, target: u32) -> Result<u32, LineFault>
+fn branch_word(cond: Cond, at: u32, link: bool, target: u32) -> Result<u32, LineFault>
     ensures { result ≡ branch_word (cond_number cond) at link target }
 {
     if is_far(at, target) {
@@ -312,7 +317,7 @@ fn branch(cond: Cond, at: u32, link: bool, target: u32) -> Result<u32, LineFault
     Ok(word_of(cond, operation))
 }
 
-fn swi(cond: Cond, comment: u32) -> Result<u32, LineFault>
+fn swi_word(cond: Cond, comment: u32) -> Result<u32, LineFault>
     ensures { result ≡ swi_word (cond_number cond) comment }
 {
     if comment >= 0x100_0000 {
@@ -327,11 +332,11 @@ pub(crate) fn encoded(code: Code, at: u32) -> Result<u32, LineFault>
     ensures { result ≡ encoded code at }
 {
     match code.action {
-        Action::Data(fields) => operand(code.cond, fields, fields.operand),
-        Action::Multiply(factors) => product(code.cond, factors),
-        Action::Single(single) => transfer(code.cond, single),
-        Action::Block(list) => block(code.cond, list),
-        Action::Branch(link, target) => branch(code.cond, at, link, target),
-        Action::Swi(comment) => swi(code.cond, comment),
+        Action::Data(fields) => operand_word(code.cond, fields, fields.operand),
+        Action::Multiply(factors) => product_word(code.cond, factors),
+        Action::Single(single) => transfer_word(code.cond, single),
+        Action::Block(list) => block_word(code.cond, list),
+        Action::Branch(link, target) => branch_word(code.cond, at, link, target),
+        Action::Swi(comment) => swi_word(code.cond, comment),
     }
 }

@@ -25,7 +25,7 @@ fn apart(at: u32, target: u32) -> u32
     }
 }
 
-fn action(how: Use, at: u32, target: u32) -> Action
+fn use_action(how: Use, at: u32, target: u32) -> Action
     requires { at ≤ SPACE_END }
     ensures { result ≡ use_action how at target }
 {
@@ -65,7 +65,7 @@ pub(crate) fn refer(reference: Reference, at: u32, target: u32) -> Code
 {
     Code {
         cond: reference.cond,
-        action: action(reference.how, at, target),
+        action: use_action(reference.how, at, target),
     }
 }
 

@@ -317,7 +317,7 @@ impl Line {
             ≡ self.old ++ (if is_plain x then [] else offset_text x.before x.up x.offset) }
         ensures room { length self.new ≤ length self.old + 14 }
     {
-        if has_no_offset(x) {
+        if is_plain(x) {
             return;
         }
         self.push_offset(x.before, x.up, x.offset);
@@ -431,7 +431,7 @@ fn full_amount(amount: u32) -> u32
     if amount == 0 { 32 } else { amount }
 }
 
-fn has_no_offset(x: SingleImmediate) -> bool
+fn is_plain(x: SingleImmediate) -> bool
     ensures { result ≡ is_plain x }
 {
     x.offset == 0 && x.up && (x.before && !x.write_back)
@@ -444,7 +444,7 @@ fn follows(list: u32, n: u32) -> bool
     n > 0 && bit_of_word(list, n - 1)
 }
 
-fn multiply(cond: Cond, x: Multiply) -> Line
+fn multiply_text(cond: Cond, x: Multiply) -> Line
     ensures { result ≡ multiply_text cond x }
 {
     let mut line = Line::new();
@@ -460,7 +460,7 @@ fn multiply(cond: Cond, x: Multiply) -> Line
     }
 }
 
-fn data_register(cond: Cond, x: DataRegister) -> Line
+fn data_register_text(cond: Cond, x: DataRegister) -> Line
     ensures { result ≡ data_register_text cond x }
 {
     let mut line = Line::new();
@@ -476,7 +476,7 @@ fn data_register(cond: Cond, x: DataRegister) -> Line
     line
 }
 
-fn data_register_shift(cond: Cond, x: DataRegisterShift) -> Line
+fn data_register_shift_text(cond: Cond, x: DataRegisterShift) -> Line
     ensures { result ≡ data_register_shift_text cond x }
 {
     let mut line = Line::new();
@@ -493,7 +493,7 @@ fn data_register_shift(cond: Cond, x: DataRegisterShift) -> Line
     line
 }
 
-fn data_immediate(cond: Cond, x: DataImmediate) -> Line
+fn data_immediate_text(cond: Cond, x: DataImmediate) -> Line
     ensures { result ≡ data_immediate_text cond x }
 {
     let mut line = Line::new();
@@ -508,7 +508,7 @@ fn data_immediate(cond: Cond, x: DataImmediate) -> Line
     line
 }
 
-fn single_immediate(cond: Cond, x: SingleImmediate) -> Line
+fn single_immediate_text(cond: Cond, x: SingleImmediate) -> Line
     ensures { result ≡ single_immediate_text cond x }
 {
     let front = TransferFront {
@@ -525,7 +525,7 @@ fn single_immediate(cond: Cond, x: SingleImmediate) -> Line
     line
 }
 
-fn single_register(cond: Cond, x: SingleRegister) -> Line
+fn single_register_text(cond: Cond, x: SingleRegister) -> Line
     ensures { result ≡ single_register_text cond x }
 {
     let front = TransferFront {
@@ -545,7 +545,7 @@ fn single_register(cond: Cond, x: SingleRegister) -> Line
     line
 }
 
-fn block(cond: Cond, x: Block) -> Line
+fn block_text(cond: Cond, x: Block) -> Line
     ensures { result ≡ block_text cond x }
 {
     let mut line = Line::new();
@@ -575,7 +575,7 @@ fn shown_target(at: u32, offset: u32) -> u64
 }
 
 #[tactic(auto, using(asm_text::proofs::HexLaws::hex_room))]
-fn branch(cond: Cond, x: Branch, at: u32) -> Line
+fn branch_text(cond: Cond, x: Branch, at: u32) -> Line
     ensures { result ≡ branch_text cond x at }
 {
     let mut line = Line::new();
@@ -585,7 +585,7 @@ fn branch(cond: Cond, x: Branch, at: u32) -> Line
     line
 }
 
-fn swi(cond: Cond, x: Swi) -> Line
+fn swi_text(cond: Cond, x: Swi) -> Line
     ensures { result ≡ swi_text cond x }
 {
     let mut line = Line::new();
@@ -600,15 +600,15 @@ pub(crate) fn spelled(instr: &Instr, at: u32) -> Line
 {
     let cond = instr.cond;
     match instr.operation {
-        Operation::Multiply(x) => multiply(cond, x),
-        Operation::DataRegister(x) => data_register(cond, x),
-        Operation::DataRegisterShift(x) => data_register_shift(cond, x),
-        Operation::DataImmediate(x) => data_immediate(cond, x),
-        Operation::SingleImmediate(x) => single_immediate(cond, x),
-        Operation::SingleRegister(x) => single_register(cond, x),
-        Operation::Block(x) => block(cond, x),
-        Operation::Branch(x) => branch(cond, x, at),
-        Operation::Swi(x) => swi(cond, x),
+        Operation::Multiply(x) => multiply_text(cond, x),
+        Operation::DataRegister(x) => data_register_text(cond, x),
+        Operation::DataRegisterShift(x) => data_register_shift_text(cond, x),
+        Operation::DataImmediate(x) => data_immediate_text(cond, x),
+        Operation::SingleImmediate(x) => single_immediate_text(cond, x),
+        Operation::SingleRegister(x) => single_register_text(cond, x),
+        Operation::Block(x) => block_text(cond, x),
+        Operation::Branch(x) => branch_text(cond, x, at),
+        Operation::Swi(x) => swi_text(cond, x),
         Operation::UndefinedTransfer(_)
         | Operation::CoprocessorTransfer(_)
         | Operation::Coprocessor(_) => Line::new(),

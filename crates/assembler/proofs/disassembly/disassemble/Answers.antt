@@ -18,7 +18,7 @@ returns-then-gives c =
 pub returns : goal.returns
 returns c =
     let below : c.args.word < 2 ^ 32 = search rules in
-    hex_shown c.args.word c.args.at c.dcd_line.result below c.dcd_line.ensures
+    hex_shown c.args.word c.args.at c.hex_line.result below c.hex_line.ensures
     (elim c.match-decode.branch [
       | in-Ok+else-gives w ↦ λ i m b.
           let same = sym (same_spelling w.in-Ok.instr i c.args.at _ w.in-Ok.is (c.decode.ensures.only i m)) ∙ sym (w.items.ensures.bytes ∙ w.spelled-line.ensures) in

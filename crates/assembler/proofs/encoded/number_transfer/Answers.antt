@@ -3,7 +3,7 @@ use Rattle.std.proofs.lemmas.Bool.{lt-ltb}
 use Rattle.arm2_decode.specs.Allowed.{bit_of, single_clash}
 use Rattle.arm2_decode.specs.Names.{register_number}
 use Rattle.assembler.proofs.CodeLaws.{allowed_word, in_range_word}
-use Rattle.assembler.proofs.encoded.number_offset.Goals as goal
+use Rattle.assembler.proofs.encoded.number_transfer.Goals as goal
 
 pub invariant_of-operation-clause-allocated : goal.invariant_of-operation-clause-allocated
 invariant_of-operation-clause-allocated c =

@@ -1,7 +1,7 @@
 use Rattle.std.proofs.Common.{◌≡◌, ◌≤◌, ◌∙◌, ℕ, subst, sym, arith}
 use Rattle.assembler.specs.Codes.{rotation_of}
 use Rattle.assembler.proofs.CodeLaws.{rotation_from, rotation_on}
-use Rattle.assembler.proofs.encoded.rotation.Goals as goal
+use Rattle.assembler.proofs.encoded.rotation_of.Goals as goal
 
 pub returns-clause-value : goal.returns-clause-value
 returns-clause-value c =

@@ -2,7 +2,7 @@ use Rattle.std.proofs.Common.{◌≡◌, arith}
 use Rattle.arm2_decode.specs.Allowed.{bit_of, multiply_clash}
 use Rattle.arm2_decode.specs.Names.{register_number}
 use Rattle.assembler.proofs.CodeLaws.{allowed_word}
-use Rattle.assembler.proofs.encoded.product.Goals as goal
+use Rattle.assembler.proofs.encoded.product_word.Goals as goal
 
 pub invariant_of-operation : goal.invariant_of-operation
 invariant_of-operation c =
