@@ -40,12 +40,12 @@ static ROWS: [(&[u8], &[u8], &[u32]); 3] = [
         &[1, 1, 2, 5, 9],
     ),
     (
-        b" ORG &8000\n DCD &E590F000",
+        b" ORG &8000\n LDR PC,[R0]",
         b"entry = 0x8000\nleave = \"ram\"\n[[access]]\nat = 0x8000\nclass = \"rom\"",
         &[10],
     ),
     (
-        b" ORG &8000\n DCD &E79F0FA1\n MOV PC,R14",
+        b" ORG &8000\n LDR R0,[PC,R1,LSR #31]\n MOV PC,R14",
         b"entry = 0x8000",
         &[0, 9],
     ),

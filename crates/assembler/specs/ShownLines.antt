@@ -282,6 +282,11 @@ pub record IsShown (word at : ℕ) (line : List ℕ) : Type 0 where
   pub spelled : (i : Instr) → Means word i → Gives (shown_line i at) at word → line ≡ shown_line i at
   pub dcd : ((i : Instr) → Means word i → Gives (shown_line i at) at word → ⊥) → line ≡ hex_line word
 
+-- the line of a word at its address; nothing where there is no word
+abbrev pub IsWordLine : Option ℕ → (at : ℕ) → List ℕ → Type 0
+IsWordLine (Some word) at text = IsShown word at text
+IsWordLine None at text = text ≡ []
+
 -- ## What the code tries of a spelling; a spelling that assembles to its word passes
 
 abbrev pub target_word : Use → Result ℕ LineFault → Option ℕ

@@ -2,7 +2,7 @@
 use Rattle.std.specs.Prelude.{◌≡◌, ℕ, List, [], Vec, Option, Some, None}
 use Rattle.std.specs.Global.{Global}
 use Rattle.std.specs.List.{AllZip}
-use Rattle.assembler.specs.ShownLines.{IsShown}
+use Rattle.assembler.specs.ShownLines.{IsWordLine}
 use Rattle.assembler.specs.declared.placed_line.PlacedLine.{PlacedLine}
 use Rattle.flow_graph.specs.Places.{place_address}
 use Rattle.flow_graph.specs.declared.places.Place.{Place}
@@ -18,13 +18,9 @@ text_of (Some line) = line.1
 abbrev pub source_label : (source : List ℕ) → List PlacedLine → ℕ → List ℕ
 source_label source placed a = text_of (line_of source placed a)
 
--- what the word at an address says, nothing where the image has none
-abbrev pub IsSaid : Option ℕ → ℕ → List ℕ → Type 0
-IsSaid None a text = text ≡ []
-IsSaid (Some word) a text = IsShown word a text
-
+-- the line of the image's word at an address
 abbrev pub IsImageLabel : Words → ℕ → List ℕ → Type 0
-IsImageLabel words a text = IsSaid (word_of words a) a text
+IsImageLabel words a text = IsWordLine (word_of words a) a text
 
 -- a label for each place, by its address
 abbrev pub AreLabels : (ℕ → List ℕ → Type 0) → List Place → List (Vec ℕ Global) → Type 0

@@ -19,7 +19,7 @@ use Rattle.arm2_exec.specs.State.{State}
 use Rattle.arm2_exec.specs.Step.{Step, traced_word}
 use Rattle.asm_text.specs.Appended.{Appends}
 use Rattle.asm_text.specs.Hex.{hex, hex8}
-use Rattle.assembler.specs.ShownLines.{IsShown}
+use Rattle.assembler.specs.ShownLines.{IsWordLine}
 use Rattle.arm2_exec.specs.declared.machine.Traced.{Traced}
 
 -- ## Registers
@@ -76,11 +76,6 @@ abbrev pub front_text : Traced → List ℕ
 front_text t =
     hex8 t.stepped.from
     ++ (codes " " ++ (word_text t.word ++ (codes " " ++ (decimal t.stepped.ticks ++ codes " "))))
-
--- the line of a word at its address; nothing where there is no word
-abbrev pub IsWordLine : Option ℕ → (at : ℕ) → List ℕ → Type 0
-IsWordLine (Some word) at text = IsShown word at text
-IsWordLine None at text = text ≡ []
 
 -- a stopped step shows nothing; any other its front, and the exception's name or the word's line
 abbrev pub IsLineOf : Kind → Traced → List ℕ → Type 0

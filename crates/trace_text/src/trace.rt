@@ -1,8 +1,8 @@
 ghost use Rattle.std.specs.Prelude.{◌≡◌, ◌+◌, ◌<◌, ◌≤◌, MatchResult, length, string_bytes};
 ghost use Rattle.trace_text.specs.Lately.{AreRight};
 ghost use Rattle.asm_text.specs.Appended.{Appends};
-ghost use Rattle.trace_text.specs.TraceText.{IsTraceLine, IsWordLine, exception_name, front_text};
-ghost use Rattle.trace_text.specs.TraceText.{word_text};
+ghost use Rattle.assembler.specs.ShownLines.{IsWordLine};
+ghost use Rattle.trace_text.specs.TraceText.{IsTraceLine, exception_name, front_text, word_text};
 
 use crate::figures::hex_word;
 use crate::shown::ShownLately;
