@@ -1,3 +1,4 @@
+-- The page table and its inverse stay in step when a page is taken off the map and put on it.
 use Rattle.std.proofs.Common.{◌≡◌, ℕ, zero, suc, ◌<◌, ◌⊎◌, inl, inr, refl, subst, sym, ◌∙◌, ap, arith, List, [], ◌∷◌, length, map, slice_index_or, slice_set, Option, Some, None}
 use Rattle.std.proofs.lemmas.Bool.{cases_eq, cases_lt}
 use Rattle.std.proofs.lemmas.Bool.Decides.{nat_tests}

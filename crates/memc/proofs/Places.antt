@@ -1,3 +1,4 @@
+-- Places by shifts and masks are those of the definition, and lie in the fitted RAM.
 use Rattle.std.proofs.Common.{◌≡◌, ℕ, ◌+◌, ◌-◌, ◌*◌, ◌/◌, ◌%◌, ◌^◌, ◌<◌, ◌≤◌, inl, inr, sym, ◌∙◌, ap, arith, bit_or, bit_and}
 use Rattle.std.proofs.lemmas.Nat.{shl_whole, one_shl, and_mask, or_shifted, mod_below, pow_pos, mul-add-lt, pow-add, div_below, mul-le, shl-shr}
 use Rattle.std.proofs.lemmas.Bool.{cases_lt}
@@ -5,7 +6,7 @@ use Rattle.std.proofs.Math.Nat.{pow-le-pow_right}
 use Rattle.std.proofs.Common.{List, Option, Some, None, slice_index_or, IfSome}
 use Rattle.memc.specs.declared.pages.Entry.{Entry}
 use Rattle.std.proofs.lemmas.Option.{same_Some}
-use Rattle.memc.specs.Paged.{place_of, IsWhole}
+use Rattle.memc.specs.Paged.{fitted_bytes, place_of, IsWhole}
 use Rattle.memc.specs.Table.{IsPaged}
 
 -- the place of a word lies within its page
@@ -21,13 +22,13 @@ place_is shift physical address s p =
     (or_shifted physical shift (address % 2 ^ shift / 4 * 4) (word_below shift address))
 
 -- it is in the fitted memory
-pub place_fits : (shift physical address : ℕ) → physical < 128 → place_of shift physical address < 128 * 2 ^ shift
+pub place_fits : (shift physical address : ℕ) → physical < 128 → place_of shift physical address < fitted_bytes shift
 place_fits shift physical address p =
     let below : physical * 2 ^ shift + address % 2 ^ shift / 4 * 4 < 2 ^ shift * 128 = mul-add-lt physical (2 ^ shift) (address % 2 ^ shift / 4 * 4) 128 p (word_below shift address) in
     omega arith
 
 -- a word of the fitted memory is in the list of words
-pub word_within : (shift place n : ℕ) → n ≡ 2 ^ (shift + 5) → place < 128 * 2 ^ shift → place / 4 < n
+pub word_within : (shift place n : ℕ) → n ≡ 2 ^ (shift + 5) → place < fitted_bytes shift → place / 4 < n
 word_within shift place n size p =
     let split : 2 ^ (shift + 5) ≡ 2 ^ shift * 32 = pow-add 2 shift 5 in
     div_below place 4 n (omega arith) (omega arith)
@@ -55,7 +56,7 @@ pages_of shift s =
 pub page_within : (shift n l : ℕ) → n * 2 ^ shift ≡ 2 ^ 25 → l < 2 ^ 25 / 2 ^ shift → l < n
 page_within shift n l h p = rw (pages_count shift n h) at p
 
-pub limit_is : (shift : ℕ) → shift ≤ 15 → 128 * 2 ^ shift % 2 ^ 32 ≡ 128 * 2 ^ shift
+pub limit_is : (shift : ℕ) → shift ≤ 15 → 128 * 2 ^ shift % 2 ^ 32 ≡ fitted_bytes shift
 limit_is shift s = shl_whole 128 8 shift 32 (omega arith) (omega arith)
 
 pub fitted_at : (shift : ℕ) (words : List ℕ) (pages : List (Option Entry)) (held : List (Option ℕ)) → IsPaged shift words pages held → (l : ℕ) (o : Option Entry) → slice_index_or pages l None ≡ o → IfSome o (λ e. e.physical < 128)

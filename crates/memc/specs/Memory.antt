@@ -17,7 +17,7 @@ use Rattle.bus_ticks.specs.Prices.{word_address}
 use Rattle.bus_ticks.specs.declared.space.TheConstants.{IO_START, PHYSICAL_START, ROM_START}
 use Rattle.memc.specs.declared.spots.Refused.{Refused}
 use Rattle.memc.specs.declared.spots.Refused.TheVariants.{NoPage, Protected, UnsupportedWrite}
-use Rattle.memc.specs.Paged.{Paged, page_at, place_of, mapped, unmapped, IsFresh}
+use Rattle.memc.specs.Paged.{Paged, fitted_bytes, page_at, place_of, mapped, unmapped, IsFresh}
 
 -- a page is 2 ^ shift bytes; ROM's words come with their addresses, which ascend
 pub record Memory : Type 0 where
@@ -72,7 +72,7 @@ written_at shift address =
 abbrev pub located : Memory → ℕ → Bool → Bool → Result Spot Refused
 located m address user store =
     if nat_lt address PHYSICAL_START then logical_at m address user store
-    else (if nat_lt address IO_START then physical_at (128 * 2 ^ m.shift) (address - PHYSICAL_START) user
+    else (if nat_lt address IO_START then physical_at (fitted_bytes m.shift) (address - PHYSICAL_START) user
     else (if user && (store || nat_lt address ROM_START) then Err Protected
     else (if nat_lt address ROM_START then Ok (Io address)
     else (if store then written_at m.shift address else Ok (Rom address)))))
@@ -85,7 +85,7 @@ IsOnOnePage shift address words = address % 2 ^ shift / 4 * 4 + 4 * words ≤ 2 
 pub record IsRun (m : Memory) (address words : ℕ) (user store : Bool) (place : ℕ) : Type 0 where
   pub logical : address < PHYSICAL_START
   pub on_one_page : IsOnOnePage m.shift address words
-  pub fitted : place + 4 * words ≤ 128 * 2 ^ m.shift
+  pub fitted : place + 4 * words ≤ fitted_bytes m.shift
   pub each : (i : ℕ) → i < words → located m (word_address address i) user store ≡ Ok (Ram (place + 4 * i))
 
 -- why words are no run: the first lies past logical RAM, or they reach past its page, or its access is
@@ -99,17 +99,17 @@ HasNoRun m address words user store =
 -- what is true of every spot that an access reaches: a word of RAM is fitted, and the translator has pages of
 -- 4 KB
 abbrev pub Fits : ℕ → Spot → Type 0
-Fits shift (Ram place) = place < 128 * 2 ^ shift
+Fits shift (Ram place) = place < fitted_bytes shift
 Fits shift (Translator address) = shift ≡ 12
 Fits shift _ = Unit {0}
 
 -- what a store takes, and what a load takes
 abbrev pub IsRamSpot : ℕ → Spot → Type 0
-IsRamSpot shift (Ram place) = place < 128 * 2 ^ shift
+IsRamSpot shift (Ram place) = place < fitted_bytes shift
 IsRamSpot shift _ = ⊥
 
 abbrev pub IsMemorySpot : ℕ → Spot → Type 0
-IsMemorySpot shift (Ram place) = place < 128 * 2 ^ shift
+IsMemorySpot shift (Ram place) = place < fitted_bytes shift
 IsMemorySpot shift (Rom address) = Unit {0}
 IsMemorySpot shift _ = ⊥
 

@@ -8,6 +8,10 @@ use Rattle.memc.specs.declared.pages.Entry.{Entry}
 abbrev pub IsShift : ℕ → Type 0
 IsShift shift = (12 ≤ shift) × (shift ≤ 15)
 
+-- the bytes of the fitted RAM: 128 physical pages of 2 ^ shift bytes
+abbrev pub fitted_bytes : ℕ → ℕ
+fitted_bytes shift = 128 * 2 ^ shift
+
 -- the word at the physical place 4 * i, and the page of each logical page
 pub record Paged : Type 0 where
   pub words : List ℕ

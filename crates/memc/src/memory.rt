@@ -1,7 +1,7 @@
 ghost use Rattle.std.specs.Prelude.{◌≡◌, ℕ, ◌*◌, ◌/◌, ◌^◌, ◌<◌, ◌≤◌, IfOk, ◌↔◌, OnErr, OnOk, IfSome};
 ghost use Rattle.std.specs.Prelude.{MatchOption, false};
 ghost use Rattle.bus_ticks.specs.declared.space.TheConstants.{SPACE_END};
-ghost use Rattle.memc.specs.Paged.{page_at, place_of, IsWhole};
+ghost use Rattle.memc.specs.Paged.{fitted_bytes, page_at, place_of, IsWhole};
 ghost use Rattle.memc.specs.Memory.{located, logical_at, physical_at, written_at, shift_of_size, IsStart};
 ghost use Rattle.memc.specs.Memory.{IsMemorySpot, IsRamSpot, Fits, word_at, stored, with_map};
 ghost use Rattle.memc.specs.Memory.{without_page, translated, with_control, with_rom, rom_word, last_word};
@@ -232,7 +232,7 @@ impl Memc {
 
     #[inline(always)]
     fn logical(&self, address: u32, user: bool, store: bool) -> Result<Spot, Refused>
-        requires { address < 2 ^ 25 }
+        requires { address < PHYSICAL_START }
         ensures located { result ≡ logical_at self.now address user store }
         ensures fitted { IfOk result (Fits self.now.shift) }
     {
@@ -287,7 +287,7 @@ impl Memc {
     }
 
     fn limit(&self) -> u32
-        ensures bytes { result ≡ 128 * 2 ^ self.now.shift }
+        ensures bytes { result ≡ fitted_bytes self.now.shift }
         ensures whole { IsWhole self.now.shift self.now.paged }
     {
         self.pages.limit()
@@ -304,7 +304,7 @@ impl Memc {
 
     #[inline(always)]
     fn page(&self, address: u32) -> Option<Entry>
-        requires { address < 2 ^ 25 }
+        requires { address < PHYSICAL_START }
         ensures page { result ≡ page_at self.now.paged (address / 2 ^ self.now.shift) }
         ensures fitted { IfSome result (λ e. e.physical < 128) }
     {
@@ -315,7 +315,7 @@ impl Memc {
     fn place(&self, physical: u8, address: u32) -> u32
         requires { physical < 128 }
         ensures place { result ≡ place_of self.now.shift physical address }
-        ensures fitted { result < 128 * 2 ^ self.now.shift }
+        ensures fitted { result < fitted_bytes self.now.shift }
     {
         self.pages.place(physical, address)
     }
@@ -338,7 +338,7 @@ impl Memc {
 // An access to physical RAM, of which `limit` bytes are fitted.
 fn physical(place: u32, limit: u32, user: bool) -> Result<Spot, Refused>
     ensures located { result ≡ physical_at limit place user }
-    ensures fitted { (shift : ℕ) → limit ≡ 128 * 2 ^ shift → IfOk result (Fits shift) }
+    ensures fitted { (shift : ℕ) → limit ≡ fitted_bytes shift → IfOk result (Fits shift) }
 {
     if place >= limit {
         return Err(Refused::NoPage);

@@ -1,5 +1,7 @@
-ghost use Rattle.std.specs.Prelude.{◌≡◌, ◌*◌, ◌/◌, ◌^◌, ◌<◌, ◌≤◌, slice_index, slice_set, IfOk, IfSome};
+ghost use Rattle.std.specs.Prelude.{◌≡◌, ◌/◌, ◌^◌, ◌<◌, ◌≤◌, slice_index, slice_set, IfOk, IfSome};
+ghost use Rattle.bus_ticks.specs.declared.space.TheConstants.{PHYSICAL_START};
 ghost use Rattle.memc.specs.Paged.{IsShift, page_at, mapped, unmapped, IsFresh, IsWhole, place_of};
+ghost use Rattle.memc.specs.Paged.{fitted_bytes};
 
 use std::alloc::{AllocError, Global};
 use std::marker::Model;
@@ -71,7 +73,7 @@ impl Pages {
 
     /// The bytes of the fitted RAM.
     pub fn limit(&self) -> u32
-        ensures bytes { result ≡ 128 * 2 ^ self.now.shift }
+        ensures bytes { result ≡ fitted_bytes self.now.shift }
         ensures whole { IsWhole self.now.shift self.now.paged }
     {
         128 << self.shift
@@ -80,7 +82,7 @@ impl Pages {
     /// The word at a physical place.
     #[inline(always)]
     pub fn load(&self, place: u32) -> u32
-        requires { place < 128 * 2 ^ self.now.shift }
+        requires { place < fitted_bytes self.now.shift }
         ensures { result ≡ slice_index self.now.paged.words (place / 4) }
     {
         self.words[(place / 4) as usize]
@@ -89,7 +91,7 @@ impl Pages {
     /// Puts a word at a physical place.
     #[inline(always)]
     pub fn store(&mut self, place: u32, word: u32)
-        requires { place < 128 * 2 ^ self.old.shift }
+        requires { place < fitted_bytes self.old.shift }
         ensures { self.new ≡ record self.old {
           paged
               = record self.old.paged { words = slice_set self.old.paged.words (place / 4) word };
@@ -101,7 +103,7 @@ impl Pages {
     /// The page of a logical address, which is below 2^25.
     #[inline(always)]
     pub fn page(&self, address: u32) -> Option<Entry>
-        requires { address < 2 ^ 25 }
+        requires { address < PHYSICAL_START }
         ensures page { result ≡ page_at self.now.paged (address / 2 ^ self.now.shift) }
         ensures fitted { IfSome result (λ e. e.physical < 128) }
     {
@@ -123,7 +125,7 @@ impl Pages {
     pub fn place(&self, physical: u8, address: u32) -> u32
         requires { physical < 128 }
         ensures place { result ≡ place_of self.now.shift physical address }
-        ensures fitted { result < 128 * 2 ^ self.now.shift }
+        ensures fitted { result < fitted_bytes self.now.shift }
     {
         ((physical as u32) << self.shift) | (address & ((1 << self.shift) - 1)) / 4 * 4
     }
@@ -142,7 +144,7 @@ impl Pages {
     /// Puts a logical page on a physical page. Both lose what they had.
     pub fn map(&mut self, physical: u8, logical: u16, level: u8)
         requires physical { physical < 128 }
-        requires logical { logical < 2 ^ 25 / 2 ^ self.old.shift }
+        requires logical { logical < PHYSICAL_START / 2 ^ self.old.shift }
         requires level { level < 4 }
         ensures { self.new
             ≡ record self.old { paged = mapped physical logical level self.old.paged } }
