@@ -1,3 +1,4 @@
+-- Where there is no flyback, and that one advance is two that take as many ticks together.
 use Rattle.std.proofs.Common.{◌≡◌, ℕ, ◌+◌, ◌*◌, ◌<◌, ◌≤◌, Bool, true, false, cond, refl, ◌∙◌, ap, arith}
 use Rattle.std.proofs.Math.Nat.{mul-le-mul_left}
 use Rattle.vidc.specs.Frame.{arrivals, position_after}
