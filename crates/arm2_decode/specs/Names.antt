@@ -107,5 +107,8 @@ abbrev pub is_link : Register → Bool
 is_link register = register_number register == 14
 
 -- R15 is the program counter
+abbrev pub is_pc_number : ℕ → Bool
+is_pc_number number = number == 15
+
 abbrev pub is_pc : Register → Bool
-is_pc register = register_number register == 15
+is_pc register = is_pc_number (register_number register)

@@ -12,7 +12,8 @@ use Rattle.arm2_decode.specs.declared.instr.Operation.TheVariants.{DataImmediate
 use Rattle.arm2_decode.specs.declared.instr.Operation.TheVariants.{SingleRegister, Block, Branch, Swi}
 use Rattle.arm2_decode.specs.declared.instr.Operation.TheVariants.{UndefinedTransfer, CoprocessorTransfer}
 use Rattle.arm2_decode.specs.declared.instr.Operation.TheVariants.{Coprocessor}
-use Rattle.arm2_decode.specs.Names.{cond_number, opcode_number, register_number, shift_number}
+use Rattle.arm2_decode.specs.Names.{cond_number, is_pc_number, opcode_number, register_number}
+use Rattle.arm2_decode.specs.Names.{shift_number}
 use Rattle.arm2_decode.specs.Allowed.{bit_of, is_bad_compare, is_bad_multiply, is_bad_base, is_bad_load}
 use Rattle.arm2_decode.specs.Allowed.{is_bad_byte}
 use Rattle.arm2_decode.specs.Bits.{bits}
@@ -215,11 +216,11 @@ multiply_bar word =
 
 -- the amount is in R15
 abbrev pub amount_bar : ℕ → Bool
-amount_bar word = bits 11 8 word == 15
+amount_bar word = is_pc_number (bits 11 8 word)
 
 -- the offset is in R15
 abbrev pub offset_bar : ℕ → Bool
-offset_bar word = bits 3 0 word == 15
+offset_bar word = is_pc_number (bits 3 0 word)
 
 -- the base R15 is written back
 abbrev pub base_bar : ℕ → Bool
@@ -227,7 +228,7 @@ base_bar word = is_bad_base (bits 24 24 word) (bits 21 21 word) (bits 19 16 word
 
 -- the base is R15
 abbrev pub block_base_bar : ℕ → Bool
-block_base_bar word = bits 19 16 word == 15
+block_base_bar word = is_pc_number (bits 19 16 word)
 
 -- the list is empty
 abbrev pub list_bar : ℕ → Bool

@@ -7,10 +7,10 @@ ghost use Rattle.arm2_decode.specs.Allowed.{is_bad_compare, multiply_clash, sing
 ghost use Rattle.arm2_decode.specs.Allowed.{single_register_clash};
 
 use crate::instr::Unallocated;
-use crate::names::is_compare_number;
+use crate::names::{is_compare_number, is_pc_number};
 use crate::transfers::writes_base;
 
-fn is_compare_without_flags(opcode: u32, sets_flags: bool) -> bool
+fn is_bad_compare(opcode: u32, sets_flags: bool) -> bool
     ensures { result ≡ is_bad_compare opcode (bit_of sets_flags) }
 {
     is_compare_number(opcode) && !sets_flags
@@ -20,7 +20,7 @@ fn is_compare_without_flags(opcode: u32, sets_flags: bool) -> bool
 pub fn data_clash(opcode: u32, sets_flags: bool) -> u32
     ensures { result ≡ data_clash opcode (bit_of sets_flags) }
 {
-    if is_compare_without_flags(opcode, sets_flags) {
+    if is_bad_compare(opcode, sets_flags) {
         Unallocated::COMPARE_WITHOUT_FLAGS
     } else {
         0
@@ -31,9 +31,9 @@ pub fn data_clash(opcode: u32, sets_flags: bool) -> u32
 pub fn data_shift_clash(opcode: u32, sets_flags: bool, rs: u32) -> u32
     ensures { result ≡ data_shift_clash opcode (bit_of sets_flags) rs }
 {
-    if is_compare_without_flags(opcode, sets_flags) {
+    if is_bad_compare(opcode, sets_flags) {
         Unallocated::COMPARE_WITHOUT_FLAGS
-    } else if rs == 15 {
+    } else if is_pc_number(rs) {
         Unallocated::AMOUNT_IN_R15
     } else {
         0
@@ -44,7 +44,12 @@ pub fn data_shift_clash(opcode: u32, sets_flags: bool, rs: u32) -> u32
 pub fn multiply_clash(accumulate: bool, rd: u32, rn: u32, rs: u32, rm: u32) -> u32
     ensures { result ≡ multiply_clash (bit_of accumulate) rd rn rs rm }
 {
-    if rd == rm || rd == 15 || rm == 15 || rs == 15 || (accumulate && rn == 15) {
+    if rd == rm
+        || is_pc_number(rd)
+        || is_pc_number(rm)
+        || is_pc_number(rs)
+        || (accumulate && is_pc_number(rn))
+    {
         Unallocated::MULTIPLY_REGISTERS
     } else {
         0
@@ -75,11 +80,11 @@ pub fn single_clash(fields: SingleFields) -> u32
         (bit_of fields.load) fields.rn fields.rd }
 {
     let writes_base = writes_base(fields.before, fields.write_back);
-    if fields.rn == 15 && writes_base {
+    if is_pc_number(fields.rn) && writes_base {
         Unallocated::R15_WRITTEN_BACK
     } else if fields.load && writes_base && fields.rd == fields.rn {
         Unallocated::BASE_LOADED
-    } else if fields.byte && fields.rd == 15 {
+    } else if fields.byte && is_pc_number(fields.rd) {
         Unallocated::BYTE_OF_R15
     } else {
         0
@@ -92,7 +97,7 @@ pub fn single_register_clash(fields: SingleFields, rm: u32) -> u32
         ≡ single_register_clash (bit_of fields.before) (bit_of fields.byte) (bit_of fields.write_back)
         (bit_of fields.load) fields.rn fields.rd rm }
 {
-    if rm == 15 {
+    if is_pc_number(rm) {
         Unallocated::OFFSET_IN_R15
     } else {
         single_clash(fields)
@@ -103,7 +108,7 @@ pub fn single_register_clash(fields: SingleFields, rm: u32) -> u32
 pub fn block_clash(rn: u32, list: u32) -> u32
     ensures { result ≡ block_clash rn list }
 {
-    if rn == 15 {
+    if is_pc_number(rn) {
         Unallocated::BLOCK_BASE_R15
     } else if list == 0 {
         Unallocated::EMPTY_LIST

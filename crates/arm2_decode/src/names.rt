@@ -1,7 +1,7 @@
 ghost use Rattle.std.specs.Prelude.{◌≡◌, ◌<◌};
 ghost use Rattle.arm2_decode.specs.Names.{cond_number, is_always, is_compare, is_compare_number, is_link};
-ghost use Rattle.arm2_decode.specs.Names.{is_lsl, is_mov, is_never, is_pc, opcode_number, register_number};
-ghost use Rattle.arm2_decode.specs.Names.{shift_number};
+ghost use Rattle.arm2_decode.specs.Names.{is_lsl, is_mov, is_never, is_pc, is_pc_number, opcode_number};
+ghost use Rattle.arm2_decode.specs.Names.{register_number, shift_number};
 
 // The variant of a number: the last one stands for all numbers that follow.
 macro_rules! variant {
@@ -123,7 +123,7 @@ pub enum Opcode {
     Mvn,
 }
 
-// Whether an opcode's number is that of TST, TEQ, CMP or CMN.
+/// Whether an opcode's number is that of TST, TEQ, CMP or CMN.
 pub(crate) fn is_compare_number(number: u32) -> bool
     ensures { result ≡ is_compare_number number }
 {
@@ -226,6 +226,13 @@ pub enum Register {
     R15,
 }
 
+/// Whether a register's number is that of R15.
+pub(crate) fn is_pc_number(number: u32) -> bool
+    ensures { result ≡ is_pc_number number }
+{
+    number == 15
+}
+
 impl Register {
     /// The number in a word, in the order of the variants from 0.
     pub fn number(self) -> u32
@@ -259,6 +266,6 @@ impl Register {
     pub fn is_pc(self) -> bool
         ensures { result ≡ is_pc self }
     {
-        self.number() == 15
+        is_pc_number(self.number())
     }
 }
