@@ -45,7 +45,7 @@ macro_rules! entry {
 }
 
 // Where an exception leads.
-fn entry_of(vector: Vector) -> Entry
+fn entry_at(vector: Vector) -> Entry
     ensures entry { result ≡ entry_at vector }
     ensures below { result.address < 32 }
     ensures aligned { result.address % 4 ≡ 0 }
@@ -80,7 +80,7 @@ impl Registers {
         ensures bound { result.ticks < 2 ^ 16 }
     {
         let r15 = self.get(Reg::R15);
-        let entry = entry_of(vector);
+        let entry = entry_at(vector);
         self.write(
             entry.mode,
             Register::R14,

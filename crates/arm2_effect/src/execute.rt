@@ -19,7 +19,7 @@ use arm2_decode::{Branch, Cond, Multiply, Operation, Register, holds};
 use shifter::multiply_cycles;
 
 #[tactic(auto, using(crate::proofs::Cycles::cycles_are))]
-fn cycles(multiplier: u32) -> u32
+fn cycles_of(multiplier: u32) -> u32
     ensures cycles { result ≡ cycles_of multiplier }
     ensures few { result ≤ 16 }
 {
@@ -59,7 +59,7 @@ impl Registers {
         let multiplier = self.read(mode_of(self.get(Reg::R15)), multiply.rs);
         let outcome = self.product(multiply);
         let done = self.enter(prices, multiply.sets_flags, multiply.rd, outcome);
-        done.delayed(prices.internal(cycles(multiplier)))
+        done.delayed(prices.internal(cycles_of(multiplier)))
     }
 
     // B and BL.

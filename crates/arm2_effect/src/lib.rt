@@ -20,8 +20,8 @@ pub use exceptions::Vector;
 pub use modes::{Mode, Reg};
 pub use prices::Prices;
 pub use program_counter::{
-    address_of, advanced, branch_target, flags_of, is_fiq_masked, is_irq_masked, jumped, mode_of,
-    r15_of, restored,
+    address_of, advanced, branch_target, is_fiq_masked, is_irq_masked, jumped, mode_of, r15_of,
+    restored,
 };
-pub use registers::Registers;
+pub use registers::{Registers, slot_of};
 pub use step_end::{Done, Kind, Why};

@@ -22,7 +22,7 @@ fn is_negative(word: u32) -> bool
     word >= 0x8000_0000
 }
 
-fn add(x: u32, y: u32, carry: bool) -> Outcome
+fn sum_of(x: u32, y: u32, carry: bool) -> Outcome
     ensures { result ≡ sum_of x y carry }
 {
     let sum = u64::from(x) + u64::from(y) + u64::from(carry);
@@ -36,13 +36,13 @@ fn add(x: u32, y: u32, carry: bool) -> Outcome
 }
 
 // As the processor does it: the sum with the inverted word, and 1 more without a borrow.
-fn subtract(x: u32, y: u32, borrow: bool) -> Outcome
+fn difference_of(x: u32, y: u32, borrow: bool) -> Outcome
     ensures { result ≡ difference_of x y borrow }
 {
-    add(x, !y, !borrow)
+    sum_of(x, !y, !borrow)
 }
 
-fn bits(value: u32, operand: Shifted, flags: Flags) -> Outcome
+fn bits_of(value: u32, operand: Shifted, flags: Flags) -> Outcome
     ensures { result ≡ bits_of value operand flags }
 {
     Outcome {
@@ -59,18 +59,18 @@ pub(crate) fn outcome_of(opcode: Opcode, x: u32, operand: Shifted, flags: Flags)
 {
     let y = operand.value;
     match opcode {
-        Opcode::And | Opcode::Tst => bits(x & y, operand, flags),
-        Opcode::Eor | Opcode::Teq => bits(x ^ y, operand, flags),
-        Opcode::Sub | Opcode::Cmp => subtract(x, y, false),
-        Opcode::Rsb => subtract(y, x, false),
-        Opcode::Add | Opcode::Cmn => add(x, y, false),
-        Opcode::Adc => add(x, y, flags.carry),
-        Opcode::Sbc => subtract(x, y, !flags.carry),
-        Opcode::Rsc => subtract(y, x, !flags.carry),
-        Opcode::Orr => bits(x | y, operand, flags),
-        Opcode::Mov => bits(y, operand, flags),
-        Opcode::Bic => bits(x & !y, operand, flags),
-        Opcode::Mvn => bits(!y, operand, flags),
+        Opcode::And | Opcode::Tst => bits_of(x & y, operand, flags),
+        Opcode::Eor | Opcode::Teq => bits_of(x ^ y, operand, flags),
+        Opcode::Sub | Opcode::Cmp => difference_of(x, y, false),
+        Opcode::Rsb => difference_of(y, x, false),
+        Opcode::Add | Opcode::Cmn => sum_of(x, y, false),
+        Opcode::Adc => sum_of(x, y, flags.carry),
+        Opcode::Sbc => difference_of(x, y, !flags.carry),
+        Opcode::Rsc => difference_of(y, x, !flags.carry),
+        Opcode::Orr => bits_of(x | y, operand, flags),
+        Opcode::Mov => bits_of(y, operand, flags),
+        Opcode::Bic => bits_of(x & !y, operand, flags),
+        Opcode::Mvn => bits_of(!y, operand, flags),
     }
 }
 

@@ -36,7 +36,7 @@ pub fn mode_of(r15: u32) -> Mode
 }
 
 /// The condition flags in R15.
-pub fn flags_of(r15: u32) -> Flags
+pub(crate) fn flags_of(r15: u32) -> Flags
     ensures { result ≡ flags_of r15 }
 {
     Flags {

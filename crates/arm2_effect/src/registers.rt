@@ -1,5 +1,5 @@
-ghost use Rattle.std.specs.Prelude.{◌≡◌, ◌<◌, length, replicate, slice_index, slice_set};
-ghost use Rattle.arm2_decode.specs.Names.{register_number};
+ghost use Rattle.std.specs.Prelude.{◌≡◌, ◌<◌, false, length, replicate, slice_index, slice_set};
+ghost use Rattle.arm2_decode.specs.Names.{is_pc, register_number};
 ghost use Rattle.arm2_effect.specs.Modes.{reg_number, register_in, slot_of, with_register};
 
 use crate::modes::{Mode, Reg};
@@ -51,7 +51,7 @@ impl Registers {
     pub fn read(&self, mode: Mode, register: Register) -> u32
         ensures { result ≡ register_in mode (register_number register) self.now }
     {
-        self.words[slot(mode, register)]
+        self.words[slot_of(mode, register)]
     }
 
     /// Puts a word into a register as an instruction of the mode names it.
@@ -59,15 +59,17 @@ impl Registers {
     pub fn write(&mut self, mode: Mode, register: Register, word: u32)
         ensures { self.new ≡ with_register mode (register_number register) word self.old }
     {
-        self.words[slot(mode, register)] = word;
+        self.words[slot_of(mode, register)] = word;
     }
 }
 
-// The place of a mode's register: FIQ has its own from R8 on, IRQ and SVC from R13 on.
+/// The place of a mode's register among the 27: FIQ has its own from R8 on, IRQ and SVC from R13 on, and R15
+/// comes last.
 #[inline(always)]
-fn slot(mode: Mode, register: Register) -> usize
+pub fn slot_of(mode: Mode, register: Register) -> usize
     ensures slot { result ≡ slot_of mode (register_number register) }
     ensures fits { result < 27 }
+    ensures below_r15 { is_pc register ≡ false → result < 26 }
 {
     let number = register.number() as usize;
     if number < 8 {

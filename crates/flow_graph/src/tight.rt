@@ -7,9 +7,7 @@ ghost use Rattle.bus_ticks.specs.declared.space.TheConstants.{SPACE_END};
 ghost use Rattle.loader.specs.Loading.{lacks_page, put_words};
 ghost use Rattle.flow_graph.specs.Graph.{IsFlowGraph};
 ghost use Rattle.flow_graph.specs.declared.edges.Edge.{Edge};
-ghost use Rattle.arm2_decode.specs.Names.{is_pc, register_number};
-ghost use Rattle.arm2_effect.specs.Modes.{slot_of};
-ghost use Rattle.arm2_effect.specs.declared.modes.Mode.TheVariants.{Svc};
+ghost use Rattle.arm2_decode.specs.Names.{is_pc};
 ghost use Rattle.machine_file.specs.Parts.{IsInRange, StandsOnce, stated_by};
 ghost use Rattle.flow_graph.specs.Edges.{IsEdge};
 ghost use Rattle.flow_graph.specs.Free.{IsFree, IsFreeWord};
@@ -28,8 +26,8 @@ use crate::free::is_free;
 use crate::kinds::action_of;
 use crate::places::Place;
 use crate::setting::{Aim, Held, NOTHING, Setting, setting_for};
-use arm2_decode::{Flags, Register, decode};
-use arm2_effect::Mode;
+use arm2_decode::{Flags, decode};
+use arm2_effect::{Mode, slot_of};
 use arm2_exec::{Input, Machine, MachineFault};
 use bitflags::Flags as _;
 use bus_ticks::{Class, Profile, RomTimes, dearest_leave, dearest_rom_times};
@@ -145,23 +143,13 @@ fn stand_for(
     })
 }
 
-// Where a register of SVC mode is among the 26 of a machine file.
-fn slot(register: Register) -> usize
-    requires { is_pc register ≡ false }
-    ensures slot { result ≡ slot_of Svc (register_number register) }
-    ensures below { result < 26 }
-{
-    let number = register.number() as usize;
-    if number < 13 { number } else { number + 11 }
-}
-
 fn registers_with(held: Option<Held>) -> [u32; 26]
     requires { IfSome held (λ h. is_pc h.register ≡ false) }
     ensures { result ≡ registers_with held }
 {
     let mut registers = [0; 26];
     if let Some(held) = held {
-        registers[slot(held.register)] = held.word;
+        registers[slot_of(Mode::Svc, held.register)] = held.word;
     }
     registers
 }
