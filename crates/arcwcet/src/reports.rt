@@ -164,11 +164,10 @@ impl<'a> TripleReport<'a> {
         match self {
             TripleReport::Check(_) => check_report(alloc, source, statement, third, profile, out),
             TripleReport::ExplainVerdict(_) => {
-                let cert = third;
                 let inputs = CheckInputs {
                     source,
                     statement,
-                    cert,
+                    cert: third,
                 };
                 verdict_report(alloc, inputs, profile, out)
             }
@@ -177,11 +176,10 @@ impl<'a> TripleReport<'a> {
                 answered(visits_report(alloc, source, statement, third, visits, profile, out))
             }
             TripleReport::Follow(_) => {
-                let machine = third;
                 let run = FollowedRun {
                     source,
                     statement,
-                    machine,
+                    machine: third,
                 };
                 follow_report(alloc, run, profile, out)
             }
