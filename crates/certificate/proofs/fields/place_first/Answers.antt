@@ -1,4 +1,4 @@
-use Rattle.std.proofs.Common.{◌∙◌, ◌++◌, ◌∷◌, List, ℕ, ap, sym}
+use Rattle.std.proofs.Common.{◌∙◌, sym}
 use Rattle.certificate.specs.Words.{AreCalls, list_words}
 use Rattle.certificate.proofs.CutLaws.{one_cut}
 use Rattle.certificate.proofs.FieldLaws.{from_none, list-blank, no_word, other_word}
@@ -17,10 +17,3 @@ pub returns-in_err-address : goal.returns-in_err-address
 returns-in_err-address c = from_none _ _ _ c.from_residual-in_err-address.ensures (λ calls a rest fits e.
     let cut = one_cut 32 c.in_ok-word.word.now (list_words calls) c.in_ok-word.rest.now _ c.in_ok-word.ensures.1 (list-blank calls (fits.1, fits.2)) (sym c.in_ok-word.ensures.0 ∙ e) in
     c.in_err-address.ensures a _ fits.0 cut.1)
-
-pub returns : goal.returns
-returns c = (
-  (c.in_ok-address.ensures.0, c.in_ok-list.ensures.0.0, c.in_ok-list.ensures.0.1),
-  c.in_ok-word.ensures.0 ∙ ap (λ (x : List ℕ). x ++ 32 ∷ c.in_ok-word.rest.now) c.in_ok-list.ensures.1
-      ∙ ap (λ (x : List ℕ). list_words c.in_ok-list.list ++ 32 ∷ x) c.in_ok-address.ensures.1,
-)

@@ -25,11 +25,3 @@ returns-in_err-round c = from_none _ _ _ c.from_residual-in_err-round.ensures (�
     let header = place_first c.in_ok-list.list r.list c.in_ok-list.header r.header _ _ c.in_ok-list.ensures.0 fits.header (sym c.in_ok-list.ensures.1 ∙ fields _ _ r c.in_ok-rest.ensures e) in
     let arrival = decimal_first c.in_ok-arrival.arrival r.arrival _ _ c.in_ok-arrival.ensures.0 fits.arrival (sym c.in_ok-arrival.ensures.1 ∙ header.2) in
     c.in_err-round.ensures r.round fits.round arrival.1)
-
-pub returns : goal.returns
-returns c = (
-  record { header = c.in_ok-list.ensures.0; arrival = c.in_ok-arrival.ensures.0; round = c.in_ok-round.ensures.0 },
-  c.in_ok-rest.ensures ∙ ap (λ (x : List ℕ). codes "instance " ++ x) (c.in_ok-list.ensures.1
-      ∙ ap (λ (x : List ℕ). list_words c.in_ok-list.list ++ 32 ∷ (hex c.in_ok-list.header ++ 32 ∷ x)) (c.in_ok-arrival.ensures.1
-      ∙ ap (λ (x : List ℕ). decimal c.in_ok-arrival.arrival ++ 32 ∷ x) c.in_ok-round.ensures.1)),
-)

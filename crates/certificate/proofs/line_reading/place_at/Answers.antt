@@ -19,10 +19,3 @@ pub returns-in_err-distance : goal.returns-in_err-distance
 returns-in_err-distance c = from_none _ _ _ c.from_residual-in_err-distance.ensures (λ r fits e.
     let place = place_first c.in_ok-list.list r.list c.in_ok-list.address r.address _ _ c.in_ok-list.ensures.0 fits.place (sym c.in_ok-list.ensures.1 ∙ fields _ _ r c.in_ok-rest.ensures e) in
     c.in_err-distance.ensures r.distance fits.distance place.2)
-
-pub returns : goal.returns
-returns c = (
-  record { place = c.in_ok-list.ensures.0; distance = c.in_ok-distance.ensures.0 },
-  c.in_ok-rest.ensures ∙ ap (λ (x : List ℕ). codes "place " ++ x) (c.in_ok-list.ensures.1
-      ∙ ap (λ (x : List ℕ). list_words c.in_ok-list.list ++ 32 ∷ (hex c.in_ok-list.address ++ 32 ∷ x)) c.in_ok-distance.ensures.1),
-)
