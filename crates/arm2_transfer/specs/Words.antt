@@ -1,8 +1,8 @@
 -- The words of a block: their registers, their addresses, and what the memory controller says of them all
 -- together (VL86C010 data sheet, block data transfer; it is silent on three rules: all words are located
 -- before the first is moved, an abort comes before an unsupported write, and the addresses wrap at 2^26).
-use Rattle.std.specs.Prelude.{ℕ, ◌+◌, Bool, true, false, if◌then◌else◌, List, [], ◌∷◌}
-use Rattle.std.specs.Prelude.{filter, All, Result, Ok, Err}
+use Rattle.std.specs.Prelude.{ℕ, ◌+◌, ◌*◌, ◌^◌, ◌≤◌, Bool, true, false, if◌then◌else◌, List, [], ◌∷◌}
+use Rattle.std.specs.Prelude.{length, filter, All, Result, Ok, Err}
 use Rattle.std.specs.List.{list_any}
 use Rattle.arm2_decode.specs.declared.names.Register.{Register}
 use Rattle.arm2_decode.specs.declared.names.Register.TheVariants.{R0, R1, R2, R3, R4, R5, R6, R7, R8, R9, R10}
@@ -10,6 +10,7 @@ use Rattle.arm2_decode.specs.declared.names.Register.TheVariants.{R11, R12, R13,
 use Rattle.arm2_decode.specs.Transfers.{is_listed}
 use Rattle.bus_ticks.specs.Prices.{word_address}
 use Rattle.memc.specs.Memory.{Memory, located, Fits}
+use Rattle.memc.specs.Paged.{fitted_bytes}
 use Rattle.memc.specs.declared.spots.Spot.{Spot}
 use Rattle.memc.specs.declared.spots.Spot.TheVariants.{Ram}
 use Rattle.memc.specs.declared.spots.Refused.{Refused}
@@ -73,6 +74,12 @@ or_fault (Ok spot) = Ok spot
 or_fault (Err NoPage) = Err fault.DataAbort
 or_fault (Err Protected) = Err fault.DataAbort
 or_fault (Err UnsupportedWrite) = Err fault.UnsupportedWrite
+
+-- the words of a list's registers, from a place on: all are in the fitted RAM of a memory with pages of
+-- 2 ^ shift bytes, and no RAM has more than 2 ^ 22 bytes
+pub record AreFitted (shift place list : ℕ) : Type 0 where
+  pub fit : place + 4 * length (registers_in list) ≤ fitted_bytes shift
+  pub room : place + 4 * length (registers_in list) ≤ 2 ^ 22
 
 -- each move goes to a spot of a memory with pages of 2 ^ shift bytes
 abbrev pub AllFit : ℕ → List Move → Type 0

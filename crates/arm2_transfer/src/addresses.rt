@@ -8,7 +8,7 @@ use arm2_decode::Block;
 
 /// A base and an offset in bytes, on 32 bits: `up` says that the offset is added, not subtracted.
 #[inline(always)]
-pub fn moved_by(up: bool, base: u32, offset: u32) -> u32
+pub(crate) fn moved_by(up: bool, base: u32, offset: u32) -> u32
     ensures { result ≡ moved_by up base offset }
 {
     if up {

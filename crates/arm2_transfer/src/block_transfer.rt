@@ -1,8 +1,8 @@
-ghost use Rattle.std.specs.Prelude.{◌≡◌, true, false, ◌+◌, ◌*◌, ◌<◌, ◌≤◌, ◌^◌, length};
+ghost use Rattle.std.specs.Prelude.{◌≡◌, true, false, ◌<◌, ◌≤◌, ◌^◌, length};
 ghost use Rattle.arm2_effect.specs.Effects.{is_stopped, ticks_of};
 ghost use Rattle.arm2_effect.specs.Modes.{r15_in, register_in};
 ghost use Rattle.arm2_decode.specs.Transfers.{is_listed};
-ghost use Rattle.arm2_transfer.specs.Words.{AllFit, registers_in, moves_along};
+ghost use Rattle.arm2_transfer.specs.Words.{AllFit, AreFitted, registers_in, moves_along};
 ghost use Rattle.arm2_transfer.specs.Moved.{ChangesNothing, IsMoved, load_accesses};
 ghost use Rattle.arm2_effect.specs.ProgramCounter.{address_of, mode_of};
 ghost use Rattle.arm2_transfer.specs.Registers.{passed, with_base};
@@ -11,10 +11,10 @@ ghost use Rattle.arm2_transfer.specs.Block.{block_moved, block_put, block_stores
 ghost use Rattle.arm2_transfer.specs.Block.{span_of, written_back};
 
 use crate::addresses::{lowest_of, moved_by};
-use crate::bus::{Bus, put, see};
+use crate::bus::{Bus, put, seen};
 use crate::inputs::Inputs;
 use crate::moved::{Accesses, load_ticks, refuse, store_ticks};
-use crate::registers::{Loading, enter, give, is_user, pass, write_base};
+use crate::registers::{Loading, enter, given, is_user, pass, write_base};
 use crate::run::{load_along, put_along};
 use crate::span::Span;
 use crate::words::{Move, count, locate_block, split_lowest};
@@ -50,7 +50,7 @@ fn put_all(registers: &Registers, bus: &mut Bus, mode: Mode, moves: &[Move])
     ensures put { bus.new ≡ all_put mode registers.now moves.now bus.old }
 {
     for one in moves {
-        put(bus, one.spot, give(registers, mode, one.register));
+        put(bus, one.spot, given(registers, mode, one.register));
     }
 }
 
@@ -60,7 +60,7 @@ fn load_all(registers: &mut Registers, bus: &Bus, port: u32, loading: Loading, m
         ≡ all_loaded loading.psr loading.mode loading.r15 bus.now port moves.now registers.old }
 {
     for one in moves {
-        let word = see(bus, port, one.spot);
+        let word = seen(bus, port, one.spot);
         enter(registers, loading, one.register, word);
     }
 }
@@ -102,7 +102,7 @@ fn put_block(registers: &mut Registers, bus: &mut Bus, block: PlacedBlock, moves
     match moves {
         [] => write_base(registers, transfer.write_back, own, transfer.rn, base),
         [first, rest @ ..] => {
-            put(bus, first.spot, give(registers, mode, first.register));
+            put(bus, first.spot, given(registers, mode, first.register));
             write_base(registers, transfer.write_back, own, transfer.rn, base);
             put_all(registers, bus, mode, rest);
         }
@@ -114,8 +114,7 @@ fn put_block(registers: &mut Registers, bus: &mut Bus, block: PlacedBlock, moves
 #[inline(always)]
 fn put_run(registers: &mut Registers, bus: &mut Bus, block: PlacedBlock, place: u32)
     requires some { 1 ≤ length (registers_in block.transfer.list) }
-    requires fit { place + 4 * length (registers_in block.transfer.list) ≤ 128 * 2 ^ bus.old.memc.shift }
-    requires room { place + 4 * length (registers_in block.transfer.list) ≤ 2 ^ 22 }
+    requires fitted { AreFitted bus.old.memc.shift place block.transfer.list }
     ensures bus { bus.new
         ≡ block_put (block_mode block.transfer registers.old) registers.old
         (written_back block.transfer block.span registers.old)
@@ -126,7 +125,7 @@ fn put_run(registers: &mut Registers, bus: &mut Bus, block: PlacedBlock, place: 
     let own = mode_of(registers.get(Reg::R15));
     let mode = mode_for(transfer, own);
     let (register, rest) = split_lowest(transfer.list);
-    put(bus, Spot::Ram(place), give(registers, mode, register));
+    put(bus, Spot::Ram(place), given(registers, mode, register));
     write_base(registers, transfer.write_back, own, transfer.rn, base);
     put_along(registers, bus, mode, rest, place + 4);
 }
@@ -208,8 +207,7 @@ fn load_run(
     block: PlacedBlock,
     place: u32,
 ) -> Done
-    requires fit { place + 4 * length (registers_in block.transfer.list) ≤ 128 * 2 ^ bus.now.memc.shift }
-    requires room { place + 4 * length (registers_in block.transfer.list) ≤ 2 ^ 22 }
+    requires fitted { AreFitted bus.now.memc.shift place block.transfer.list }
     requires below { block.span.lowest < SPACE_END }
     ensures moved { IsMoved inputs.now.prices.profile inputs.now.prices.rom result registers.new bus.now
         (block_loads block.transfer block.span inputs.now.port
@@ -253,8 +251,7 @@ fn store_run(
     place: u32,
 ) -> Done
     requires listed { 1 ≤ length (registers_in block.transfer.list) }
-    requires fit { place + 4 * length (registers_in block.transfer.list) ≤ 128 * 2 ^ bus.old.memc.shift }
-    requires room { place + 4 * length (registers_in block.transfer.list) ≤ 2 ^ 22 }
+    requires fitted { AreFitted bus.old.memc.shift place block.transfer.list }
     requires below { block.span.lowest < SPACE_END }
     ensures moved { IsMoved prices.now.profile prices.now.rom result registers.new bus.new
         (block_stores block.transfer block.span

@@ -34,7 +34,7 @@ pub(crate) fn put(bus: &mut Bus, spot: Spot, word: u32)
 
 /// The word at a spot that MEMC located for a load.
 #[inline(always)]
-pub(crate) fn see(bus: &Bus, port: u32, spot: Spot) -> u32
+pub(crate) fn seen(bus: &Bus, port: u32, spot: Spot) -> u32
     requires { Fits bus.now.memc.shift spot }
     ensures { result ≡ seen bus.now port spot }
 {
@@ -46,7 +46,7 @@ pub(crate) fn see(bus: &Bus, port: u32, spot: Spot) -> u32
     }
 }
 
-fn replace_byte(word: u32, lane: usize, byte: u8) -> u32
+fn with_byte(word: u32, lane: usize, byte: u8) -> u32
     requires { lane < 4 }
     ensures { result ≡ with_byte lane byte word }
 {
@@ -65,7 +65,7 @@ fn put_byte(bus: &mut Bus, spot: Spot, address: u32, byte: u8)
     match spot {
         Spot::Ram(_) => {
             let word = bus.memc.load(spot);
-            put(bus, spot, replace_byte(word, (address % 4) as usize, byte));
+            put(bus, spot, with_byte(word, (address % 4) as usize, byte));
         }
         _ => put(bus, spot, u32::from(byte) * 0x0101_0101),
     }
@@ -86,7 +86,7 @@ pub(crate) fn put_single(bus: &mut Bus, byte: bool, spot: Spot, address: u32, va
 
 /// What a load makes of the word that it sees.
 #[inline(always)]
-pub(crate) fn make(byte: bool, address: u32, word: u32) -> u32
+pub(crate) fn made_of(byte: bool, address: u32, word: u32) -> u32
     ensures { result ≡ made_of byte address word }
 {
     let lane = address % 4;

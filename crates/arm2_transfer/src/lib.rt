@@ -21,8 +21,8 @@ mod single_transfer;
 mod span;
 mod words;
 
-pub use addresses::{address_by, lowest_of, moved_by};
+pub use addresses::{address_by, lowest_of};
 pub use bus::Bus;
 pub use inputs::Inputs;
 pub use law::bases_after_transfers;
-pub use operations::{carry_out, execute};
+pub use operations::carry_out;

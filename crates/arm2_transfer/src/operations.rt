@@ -8,29 +8,11 @@ use crate::bus::Bus;
 use crate::inputs::Inputs;
 use crate::single_transfer::{single_immediate, single_register};
 use arm2_decode::Operation;
-use arm2_effect::{Done, Prices, Registers};
+use arm2_effect::{Done, Registers};
 
 /// Carries out an instruction whose condition holds, at the address in R15.
 ///
-/// `port` is the word that a load sees among the devices where IOC has no register. A store
-/// that asks for what the machine does not do stops it, and changes nothing.
-pub fn execute(
-    registers: &mut Registers,
-    bus: &mut Bus,
-    port: u32,
-    prices: Prices,
-    operation: &Operation,
-) -> Done
-    ensures moved { IsMoved prices.profile prices.rom result registers.new bus.new
-        (operation_moved operation.now port registers.old bus.old) }
-    ensures bound { result.ticks < 2 ^ 16 }
-    ensures stopped { is_stopped result.kind ≡ true
-        → ChangesNothing result registers.old registers.new bus.old bus.new }
-{
-    carry_out(registers, bus, &Inputs { port, prices }, operation)
-}
-
-/// The same, with what it takes in one place.
+/// A store that asks for what the machine does not do stops it, and changes nothing.
 #[inline(always)]
 pub fn carry_out(
     registers: &mut Registers,

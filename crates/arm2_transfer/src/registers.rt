@@ -14,7 +14,7 @@ pub(crate) fn is_user(mode: Mode) -> bool
 
 /// What a store takes from a register.
 #[inline(always)]
-pub(crate) fn give(registers: &Registers, mode: Mode, register: Register) -> u32
+pub(crate) fn given(registers: &Registers, mode: Mode, register: Register) -> u32
     ensures { result ≡ given mode register registers.now }
 {
     if register.is_pc() {
@@ -24,7 +24,7 @@ pub(crate) fn give(registers: &Registers, mode: Mode, register: Register) -> u32
     }
 }
 
-fn load_r15(psr: bool, r15: u32, word: u32) -> u32
+fn loaded_r15(psr: bool, r15: u32, word: u32) -> u32
     ensures { result ≡ loaded_r15 psr r15 word }
 {
     if psr {
@@ -52,7 +52,7 @@ pub(crate) fn enter(registers: &mut Registers, loading: Loading, register: Regis
         ≡ with_loaded loading.psr loading.mode loading.r15 register word registers.old }
 {
     if register.is_pc() {
-        registers.set(Reg::R15, load_r15(loading.psr, loading.r15, word));
+        registers.set(Reg::R15, loaded_r15(loading.psr, loading.r15, word));
     } else {
         registers.write(loading.mode, register, word);
     }

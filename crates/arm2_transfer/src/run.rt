@@ -1,11 +1,11 @@
 //! Blocks whose words lie one after another in RAM, at places that MEMC located at once.
 
-ghost use Rattle.std.specs.Prelude.{◌≡◌, ℕ, ◌+◌, ◌*◌, ◌<◌, ◌≤◌, ◌^◌, length};
-ghost use Rattle.arm2_transfer.specs.Words.{registers_in, moves_along};
+ghost use Rattle.std.specs.Prelude.{◌≡◌, ℕ, ◌<◌, ◌^◌};
+ghost use Rattle.arm2_transfer.specs.Words.{AreFitted, registers_in, moves_along};
 ghost use Rattle.arm2_transfer.specs.Block.{all_loaded, all_put};
 
 use crate::bus::{Bus, put};
-use crate::registers::{Loading, enter, give};
+use crate::registers::{Loading, enter, given};
 use crate::words::split_lowest;
 use arm2_effect::{Mode, Registers};
 use memc::Spot;
@@ -20,8 +20,7 @@ pub(crate) fn load_along(
     place: u32,
 )
     requires list { list < 2 ^ 16 }
-    requires fit { place + 4 * length (registers_in list) ≤ 128 * 2 ^ bus.now.memc.shift }
-    requires room { place + 4 * length (registers_in list) ≤ 2 ^ 22 }
+    requires fitted { AreFitted bus.now.memc.shift place list }
     ensures { (port : ℕ)
         → registers.new
         ≡ all_loaded loading.psr loading.mode loading.r15 bus.now port
@@ -41,14 +40,13 @@ pub(crate) fn load_along(
 #[inline(always)]
 pub(crate) fn put_along(registers: &Registers, bus: &mut Bus, mode: Mode, list: u32, place: u32)
     requires list { list < 2 ^ 16 }
-    requires fit { place + 4 * length (registers_in list) ≤ 128 * 2 ^ bus.old.memc.shift }
-    requires room { place + 4 * length (registers_in list) ≤ 2 ^ 22 }
+    requires fitted { AreFitted bus.old.memc.shift place list }
     ensures { bus.new ≡ all_put mode registers.now (moves_along place (registers_in list)) bus.old }
 {
     let (mut left, mut next) = (list, place);
     while left != 0 {
         let (register, rest) = split_lowest(left);
-        put(bus, Spot::Ram(next), give(registers, mode, register));
+        put(bus, Spot::Ram(next), given(registers, mode, register));
         left = rest;
         next += 4;
     }

@@ -6,10 +6,10 @@ ghost use Rattle.arm2_transfer.specs.Single.{address_for, single_loaded, single_
 ghost use Rattle.arm2_transfer.specs.Single.{single_at, single_moved, of_immediate};
 ghost use Rattle.arm2_transfer.specs.Single.{of_register};
 
-use crate::bus::{Bus, make, put_single, see};
+use crate::bus::{Bus, made_of, put_single, seen};
 use crate::inputs::Inputs;
 use crate::moved::{Accesses, load_ticks, refuse, store_ticks};
-use crate::registers::{Loading, enter, give};
+use crate::registers::{Loading, enter, given};
 use crate::single_fields::Single;
 use crate::words::locate_word;
 use arm2_decode::{SingleImmediate, SingleRegister};
@@ -46,7 +46,7 @@ fn load_word(registers: &mut Registers, bus: &Bus, port: u32, single: PlacedSing
 {
     let (transfer, base) = (single.transfer, single.base);
     let r15 = registers.get(Reg::R15);
-    let word = make(transfer.byte, transfer.address(base), see(bus, port, spot));
+    let word = made_of(transfer.byte, transfer.address(base), seen(bus, port, spot));
     transfer.write_base(registers, base);
     let loading = Loading {
         psr: false,
@@ -97,7 +97,7 @@ fn store(
 {
     let (transfer, base) = (single.transfer, single.base);
     let r15 = registers.get(Reg::R15);
-    let value = give(registers, mode_of(r15), transfer.rd);
+    let value = given(registers, mode_of(r15), transfer.rd);
     put_single(bus, transfer.byte, spot, transfer.address(base), value);
     transfer.write_base(registers, base);
     Done::plain(store_ticks(prices, accesses(single, address_of(r15))))

@@ -1,6 +1,6 @@
 use arm2_decode::decode;
 use arm2_effect::{Prices, Reg, Registers};
-use arm2_transfer::{Bus, execute};
+use arm2_transfer::{Bus, Inputs, carry_out};
 use assembler::assemble;
 use bus_ticks::{Profile, RomTimes};
 use ioc::Ioc;
@@ -30,13 +30,16 @@ fn block_to_vidc(rt: HostRuntime) -> Result<(), Fail> {
     registers.set(Reg::R1, 0x340_0000);
     registers.set(Reg::R2, 0x8000_0000);
     registers.set(Reg::R3, 0xA000_4000);
-    let prices = Prices {
-        profile: Profile::one(),
-        rom: RomTimes { low: 0, high: 0 },
+    let inputs = Inputs {
+        port: 0,
+        prices: Prices {
+            profile: Profile::one(),
+            rom: RomTimes { low: 0, high: 0 },
+        },
     };
     let word = word_of(rt.alloc(), b" STMIA R1,{R2,R3}\n")?;
     let instr = decode(word).expect(&rt, "an instruction");
-    execute(&mut registers, &mut bus, 0, prices, &instr.operation);
+    carry_out(&mut registers, &mut bus, &inputs, &instr.operation);
     assert!(rt; bus.vidc.advance(2) == 1);
     Ok(())
 }

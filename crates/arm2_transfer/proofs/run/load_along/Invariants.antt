@@ -1,13 +1,12 @@
-use Rattle.std.proofs.Common.{◌≡◌, ℕ, ◌+◌, ◌*◌, ◌^◌, ◌<◌, ◌≤◌, length}
-use Rattle.arm2_transfer.specs.Words.{registers_in, moves_along}
+use Rattle.std.proofs.Common.{◌≡◌, ℕ, ◌^◌, ◌<◌}
+use Rattle.arm2_transfer.specs.Words.{AreFitted, registers_in, moves_along}
 use Rattle.arm2_transfer.specs.Block.{all_loaded}
 use Rattle.arm2_transfer.proofs.run.load_along.Given as goal
 
 abbrev pub invariant-loop-left : goal.invariant-loop-left
 invariant-loop-left l = record {
   list : l.left < 2 ^ 16;
-  fit : l.next + 4 * length (registers_in l.left) ≤ 128 * 2 ^ l.bus.memc.shift;
-  room : l.next + 4 * length (registers_in l.left) ≤ 2 ^ 22;
+  fitted : AreFitted l.bus.memc.shift l.next l.left;
   rest : (port : ℕ) → all_loaded l.loading.psr l.loading.mode l.loading.r15 l.bus port (moves_along l.next (registers_in l.left)) l.registers ≡ all_loaded l.loading.psr l.loading.mode l.loading.r15 l.bus port (moves_along l.place (registers_in l.list)) l.fn.registers;
 }
 
