@@ -6,6 +6,7 @@ use Rattle.bus_ticks.specs.declared.profile.Class.{Class}
 use Rattle.bus_ticks.specs.declared.profile.Class.TheVariants.{Any, Ram, Rom, Io}
 use Rattle.bus_ticks.specs.declared.profile.Profile.{Profile}
 use Rattle.bus_ticks.specs.Prices.{word_address}
+use Rattle.arm2_transfer.specs.Registers.{address_by}
 use Rattle.memc.specs.Memory.{located, word_at}
 use Rattle.memc.specs.declared.spots.Spot.{Spot}
 use Rattle.memc.specs.declared.spots.Spot.TheVariants as spot
@@ -321,6 +322,12 @@ value_same x c d = by_amount (2 * x.rotation == 0)
 
 operand_value : (x : DataImmediate) (operand : Shifted) (carry : Bool) → operand.value < 2 ^ 32 → Has operand (by_register Ror (2 * x.rotation) (word_bits x.value) false) → (rotated x carry).value ≡ operand.value
 operand_value x operand carry below has = value_same x carry false ∙ ap (λ (y : Shifted). y.value) (sym (shifted_is operand _ below has))
+
+-- moved the other way and back, an address is itself
+pub moved_back : (before up : Bool) (address offset : ℕ) → address < 2 ^ 32 → offset < 2 ^ 32 → address_by before up (address_by before (not up) address offset) offset ≡ address
+moved_back false up address offset below small = refl
+moved_back true true address offset below small = omega (arith, below, small)
+moved_back true false address offset below small = omega (arith, below, small)
 
 pub added : (x : DataImmediate) (target : ℕ) (operand : Shifted) → target < 2 ^ 32 → operand.value < 2 ^ 32 → Has operand (by_register Ror (2 * x.rotation) (word_bits x.value) false) → x.opcode ≡ opcode.Add
     → (flags : Flags) (carry : Bool) → (outcome_of x.opcode ((target + (2 ^ 32 - operand.value)) % 2 ^ 32) (rotated x carry) flags).value ≡ target

@@ -40,13 +40,13 @@ pub struct Action {
     pub work: Work,
 }
 
-fn kind_if(writes: bool) -> Kind
+fn writer_if(writes: bool) -> Kind
     ensures { result ≡ writer_if writes }
 {
     if writes { Kind::Writer } else { Kind::Plain }
 }
 
-fn operation_kind(operation: &Operation) -> Kind
+fn kind_of(operation: &Operation) -> Kind
     ensures { result ≡ kind_of operation.now }
 {
     match operation {
@@ -61,11 +61,12 @@ fn operation_kind(operation: &Operation) -> Kind
         | Operation::UndefinedTransfer(_)
         | Operation::CoprocessorTransfer(_)
         | Operation::Coprocessor(_) => Kind::Trap,
-        _ => kind_if(operation.writes_pc()),
+        _ => writer_if(operation.writes_pc()),
     }
 }
 
-fn transferred(load: bool, words: u32) -> Work
+/// What a load or a store of so many words does besides its fetches.
+pub fn transfer(load: bool, words: u32) -> Work
     ensures { result ≡ transfer load words }
 {
     if load {
@@ -75,15 +76,15 @@ fn transferred(load: bool, words: u32) -> Work
     }
 }
 
-fn operation_work(operation: &Operation) -> Work
+fn work_of(operation: &Operation) -> Work
     ensures { result ≡ work_of operation.now }
 {
     match operation {
         Operation::Multiply(_) => Work::Internal(16),
         Operation::DataRegisterShift(_) => Work::Internal(1),
-        Operation::SingleImmediate(x) => transferred(x.load, 1),
-        Operation::SingleRegister(x) => transferred(x.load, 1),
-        Operation::Block(x) => transferred(x.load, x.list.count_ones()),
+        Operation::SingleImmediate(x) => transfer(x.load, 1),
+        Operation::SingleRegister(x) => transfer(x.load, 1),
+        Operation::Block(x) => transfer(x.load, x.list.count_ones()),
         Operation::DataRegister(_)
         | Operation::DataImmediate(_)
         | Operation::Branch(_)
@@ -102,8 +103,8 @@ pub fn action_of(word: u32) -> Action
     match decode(word) {
         Ok(instr) => Action {
             cond: instr.cond,
-            kind: operation_kind(&instr.operation),
-            work: operation_work(&instr.operation),
+            kind: kind_of(&instr.operation),
+            work: work_of(&instr.operation),
         },
         Err(unallocated) => Action {
             cond: unallocated.cond,
@@ -114,7 +115,7 @@ pub fn action_of(word: u32) -> Action
 }
 
 /// Whether the word writes R15, other than a branch or a call.
-pub(crate) fn is_r15_writer(kind: Kind) -> bool
+pub(crate) fn is_writer(kind: Kind) -> bool
     ensures { result ≡ is_writer kind }
 {
     matches!(kind, Kind::Writer)

@@ -10,6 +10,7 @@ ghost use Rattle.flow_graph.specs.Free.{adds_an_immediate, is_free_operation};
 ghost use Rattle.flow_graph.specs.Setting.{MayStart, Sets, of_register, rotated, transfer_setting};
 
 use arm2_decode::{Block, DataImmediate, Opcode, Operation, Register, SingleImmediate};
+use arm2_transfer::address_by;
 use bus_ticks::{
     Class, PHYSICAL_START, Profile, ROM_START, dearest_device, dearest_ram_start, word_address,
 };
@@ -90,13 +91,7 @@ fn start(aim: &Aim, load: bool, words: u32) -> u32
 fn base_of_single(x: &SingleImmediate, address: u32) -> u32
     ensures { address_for (of_immediate x.now) result ≡ address }
 {
-    if !x.before {
-        address
-    } else if x.up {
-        address.wrapping_sub(x.offset)
-    } else {
-        address.wrapping_add(x.offset)
-    }
+    address_by(x.before, !x.up, address, x.offset)
 }
 
 // The base by which the block's lowest word is at the address.

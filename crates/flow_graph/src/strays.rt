@@ -1,7 +1,7 @@
 ghost use Rattle.std.specs.Prelude.{◌≡◌, ℕ, true, false, IfSome, IsNone};
 ghost use Rattle.flow_graph.specs.Graph.{IsStray, IsWriterAt};
 
-use crate::kinds::{action_of, is_r15_writer};
+use crate::kinds::{action_of, is_writer};
 use loader::Image;
 use statement::Statement;
 
@@ -11,7 +11,7 @@ fn is_writer_at(image: &Image, address: u32) -> bool
     ensures no { result ≡ false → IsWriterAt image.now address → ⊥ }
 {
     match image.word_at(address) {
-        Some(word) => is_r15_writer(action_of(word).kind),
+        Some(word) => is_writer(action_of(word).kind),
         None => false,
     }
 }

@@ -30,8 +30,8 @@ fn fetch_ticks(profile: &Profile, address: u32, work: Work) -> u32
     }
 }
 
-// What a word costs besides its fetches.
-fn work_ticks(profile: &Profile, class: Class, work: Work) -> u32
+/// What a word costs besides its fetches, in ticks: below 4400.
+pub fn work_ticks(profile: &Profile, class: Class, work: Work) -> u32
     requires { IsWork work }
     ensures ticks { result ≡ work_ticks profile.now class work }
     ensures small { result < 4400 }

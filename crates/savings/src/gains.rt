@@ -1,11 +1,11 @@
-ghost use Rattle.std.specs.Prelude.{◌≡◌, ◌<◌};
-ghost use Rattle.flow_graph.specs.Edges.{work_ticks};
-ghost use Rattle.flow_graph.specs.Kinds.{IsWork, transfer, work_of};
+ghost use Rattle.std.specs.Prelude.{◌≡◌};
+ghost use Rattle.flow_graph.specs.Kinds.{IsWork, work_of};
 ghost use Rattle.savings.specs.Gains.{leave_gain, operation_gain, transfer_gain};
 
 use crate::classes::{ClassChange, ClassPrices, class_gain};
 use arm2_decode::Operation;
-use bus_ticks::{Class, Profile, worst_leave, worst_transfer};
+use bus_ticks::{Class, Profile, worst_leave};
+use flow_graph::{Work, transfer, work_ticks};
 
 /// What a price would take for granted in place of what it does.
 #[derive(Clone, Copy)]
@@ -23,31 +23,18 @@ pub(crate) struct Gain {
     pub(crate) ticks: u32,
 }
 
-// What a transfer of 1 to 16 words costs besides its fetches.
-fn transfer_ticks(profile: &Profile, class: Class, load: bool, words: u32) -> u32
-    requires { IsWork (transfer load words) }
-    ensures ticks { result ≡ work_ticks profile.now class (transfer load words) }
-    ensures small { result < 4400 }
-{
-    if load {
-        worst_transfer(profile, class, words, false) + profile.internal
-    } else {
-        worst_transfer(profile, class, words, true)
-    }
-}
-
 // What the next better class takes off the price of a transfer of 1 to 16 words. A stated class is true, so
 // none is better.
-fn transfer_gain(profile: &Profile, class: Class, load: bool, words: u32) -> Option<Gain>
-    requires { IsWork (transfer load words) }
-    ensures { result ≡ transfer_gain profile.now class (transfer load words) }
+fn transfer_gain(profile: &Profile, class: Class, work: Work) -> Option<Gain>
+    requires { IsWork work }
+    ensures { result ≡ transfer_gain profile.now class work }
 {
     match class {
         Class::Any => class_gain(ClassPrices {
-            present: transfer_ticks(profile, Class::Any, load, words),
-            ram: transfer_ticks(profile, Class::Ram, load, words),
-            rom: transfer_ticks(profile, Class::Rom, load, words),
-            io: transfer_ticks(profile, Class::Io, load, words),
+            present: work_ticks(profile, Class::Any, work),
+            ram: work_ticks(profile, Class::Ram, work),
+            rom: work_ticks(profile, Class::Rom, work),
+            io: work_ticks(profile, Class::Io, work),
         }),
         Class::Ram | Class::Rom | Class::Io => None,
     }
@@ -64,9 +51,9 @@ pub(crate) fn operation_gain(profile: &Profile, class: Class, operation: &Operat
             refinement: Refinement::Multiplier,
             ticks: profile.internal,
         }),
-        Operation::SingleImmediate(x) => transfer_gain(profile, class, x.load, 1),
-        Operation::SingleRegister(x) => transfer_gain(profile, class, x.load, 1),
-        Operation::Block(x) => transfer_gain(profile, class, x.load, x.list.count_ones()),
+        Operation::SingleImmediate(x) => transfer_gain(profile, class, transfer(x.load, 1)),
+        Operation::SingleRegister(x) => transfer_gain(profile, class, transfer(x.load, 1)),
+        Operation::Block(x) => transfer_gain(profile, class, transfer(x.load, x.list.count_ones())),
         _ => None,
     }
 }
