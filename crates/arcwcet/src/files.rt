@@ -113,8 +113,11 @@ fn remove_part<R: Files>(rt: &R, name: &str) {
     }
 }
 
-/// The greatest length of an input.
+/// The greatest length of an input, in bytes.
 pub const LIMIT: usize = 16_777_216;
+
+// How many bytes are asked for at once.
+const CHUNK: usize = 4096;
 
 /// What a reader has left, to its end. A longer one is left at its byte 16,777,217.
 pub fn read_limited<R: Read>(alloc: Global, reader: &mut R) -> Result<Vec<u8>, StoreFault>
@@ -126,9 +129,9 @@ pub fn read_limited<R: Read>(alloc: Global, reader: &mut R) -> Result<Vec<u8>, S
         × Consumes (R.remaining reader.old) (R.remaining reader.new) front }
 {
     let mut bytes = Vec::new(alloc);
-    let mut chunk = [0u8; 4096];
+    let mut chunk = [0u8; CHUNK];
     while bytes.len() <= LIMIT {
-        let want = (LIMIT + 1 - bytes.len()).min(4096);
+        let want = (LIMIT + 1 - bytes.len()).min(CHUNK);
         let part = &mut chunk[..want];
         let n = match reader.read(part) {
             Ok(n) => n,

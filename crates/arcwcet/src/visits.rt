@@ -40,7 +40,7 @@ fn fiq_handler(
         → IfOk result (λ h. HasLoops source statement.now profile.now h.statement h.graph) }
     ensures formed { IfOk result (λ h. IsWellFormed h.graph) }
     ensures tree { IfOk result (λ h. IsTreeOf h.graph h.statement.loops h.tree) }
-    ensures entry { IfOk result (λ h. h.statement.entry ≡ 0x1C) }
+    ensures entry { IfOk result (λ h. h.statement.entry ≡ FIQ_VECTOR) }
     ensures fault { (source : List ℕ) → Says source said.now
         → IfErr result (BeforeOutput (IsFiqRefused source statement.now profile.now)) }
 {

@@ -19,7 +19,7 @@ use crate::follow_text::{kept_text, line_number_at, strayed_text, why_text};
 use assembler::Assembly;
 use bus_ticks::Profile;
 use flow_graph::{Graph, run_law, step_law};
-use kept_runs::{Followed, Passed, Unkept, follow};
+use kept_runs::{AcceptedHandler, Followed, Passed, Unkept, follow};
 use loader::Image;
 use longest_walk::Longest;
 use machine_file::MachineFile;
@@ -155,7 +155,7 @@ fn judged_run(
     ensures fault { IfErr result (IsSourceFault bounded.entry.source.now) }
 {
     let inputs = placed.file.inputs(alloc)?;
-    let handler = kept_runs::Handler {
+    let handler = AcceptedHandler {
         image: bounded.image,
         statement: &bounded.handler.statement,
         graph: &bounded.handler.graph,

@@ -8,7 +8,7 @@ use crate::hex_text::write_hex;
 use itoa::write_digits;
 use std::marker::Model;
 
-// The most bytes of a line.
+/// The most bytes of a line.
 pub(crate) const LINE_ROOM: usize = 160;
 
 /// The end of a line: what is in it from some place on.

@@ -21,7 +21,7 @@ struct Printed {
     step: StepLine,
     bytes: [u8; EDGE_ROOM],
     len: usize,
-    ghost fits: { len ≤ 56 },
+    ghost fits: { len ≤ EDGE_ROOM },
     ghost says: { take len bytes ≡ ended (step_words step) },
 }
 

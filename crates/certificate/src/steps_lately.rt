@@ -34,7 +34,7 @@ pub(crate) struct StepsLately<'a> {
 
 /// Where the line of an address and a label is kept.
 pub(crate) fn row_of(address: u32, label: Label) -> usize
-    ensures { result < 2048 }
+    ensures { result < ROWS }
 {
     let place = address as usize / 4 % (ROWS / 2) * 2;
     match label {

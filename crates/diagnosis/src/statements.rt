@@ -450,8 +450,8 @@ impl Report {
     // Adds the first destination after those that a target may have, if there is one.
     fn put_extra_destination(&mut self, alloc: Global, rest: &[Entry<'_>]) -> Result<(), AllocError>
         ensures { OnOk result
-            (Adds (extra_destination_row (first_after 64 (stated_at (codes "to") (map item_of rest.now))))
-            self.old self.new) }
+            (Adds (extra_destination_row (first_after MOST_DESTINATIONS
+            (stated_at (codes "to") (map item_of rest.now)))) self.old self.new) }
     {
         let Some(pair) = value_after(MOST_DESTINATIONS, b"to", rest) else {
             return Ok(());

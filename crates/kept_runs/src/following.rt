@@ -4,7 +4,7 @@ ghost use Rattle.kept_runs.specs.Following.{AreHeadersOf, CanGo, Goes, IsFresh, 
 ghost use Rattle.kept_runs.specs.Judging.{IsMachineFor};
 ghost use Rattle.kept_runs.specs.Keeping.{IsFollowed, IsHandler};
 
-use crate::handler::Handler;
+use crate::handler::AcceptedHandler;
 use crate::judging::{Stray, judge_step};
 use crate::stays::turn;
 use crate::tally::{Passed, count};
@@ -78,7 +78,7 @@ fn start(alloc: Global, exit: usize) -> Result<Follower, AllocError>
 
 // One step from where the run is, or how it does not keep the statement.
 fn take_step(
-    handler: Handler<'_>,
+    handler: AcceptedHandler<'_>,
     headers: &[Option<Span>],
     follower: &mut Follower,
     machine: &mut Machine,
@@ -131,7 +131,7 @@ fn kept(follower: Follower) -> Followed
 
 // Steps, one for each input, until the handler is left.
 fn follow_from(
-    handler: Handler<'_>,
+    handler: AcceptedHandler<'_>,
     headers: &[Option<Span>],
     mut follower: Follower,
     machine: &mut Machine,
@@ -176,7 +176,7 @@ fn follow_from(
 /// `AllocError` where an allocation failed. The machine is as it was then.
 pub fn follow(
     alloc: Global,
-    handler: Handler<'_>,
+    handler: AcceptedHandler<'_>,
     machine: &mut Machine,
     inputs: &[Input],
 ) -> Result<Followed, AllocError>

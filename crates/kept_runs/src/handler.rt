@@ -4,7 +4,7 @@ use loop_bounds::LoopTree;
 
 /// An accepted handler: its words, its statement, and the flow graph and the loops that they have.
 #[derive(Clone, Copy)]
-pub struct Handler<'a> {
+pub struct AcceptedHandler<'a> {
     pub image: &'a Image,
     pub statement: &'a Statement,
     pub graph: &'a Graph,

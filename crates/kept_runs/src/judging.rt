@@ -4,7 +4,7 @@ ghost use Rattle.flow_graph.specs.Places.{place_at};
 ghost use Rattle.kept_runs.specs.Judging.{StandsAt, Strays, Takes, label_if};
 
 use crate::edges::{Going, edge_taken};
-use crate::handler::Handler;
+use crate::handler::AcceptedHandler;
 use crate::reading::{own_word, read_word};
 use crate::transfers::{Access, other_of};
 use arm2_exec::{Input, Kind, Machine, Stepped, Vector, Why};
@@ -49,7 +49,7 @@ fn label(holds: bool) -> Label
 /// A [`Stray`] where no edge of the place is that of the step. The step is made all the same, but where the
 /// machine does not fetch the image's word.
 pub fn judge_step(
-    handler: Handler<'_>,
+    handler: AcceptedHandler<'_>,
     machine: &mut Machine,
     place: usize,
     input: Input,

@@ -14,7 +14,7 @@ mod tally;
 mod transfers;
 
 pub use following::{Followed, Unkept, follow};
-pub use handler::Handler;
+pub use handler::AcceptedHandler;
 pub use judging::{Stray, Taken, judge_step};
 pub use tally::Passed;
 pub use transfers::Access;

@@ -6,7 +6,7 @@ ghost use Rattle.outputs.specs.Output.{FailsSince, TakesFront};
 use crate::output::{Output, OutputFault, write_whole};
 use std::marker::Model;
 
-/// The most bytes that a page holds back.
+// The most bytes that a page holds back.
 const PAGE_ROOM: usize = 4096;
 
 /// Bytes on their way to an output, up to 4096 of which are held back, so that many short texts are one
@@ -21,12 +21,13 @@ pub struct Page {
 impl Model for Page {
     ghost use Rattle.std.specs.Prelude.{◌≤◌, take};
     ghost use Rattle.outputs.specs.OnTheWay.{Held};
+    ghost use Rattle.outputs.specs.declared.page.TheConstants.{PAGE_ROOM};
 
     ghost Value = { Held };
 
     ghost view = { λ p. record { bytes = take p.held p.room; failed = p.failed } };
 
-    ghost invariant = { λ p. p.held ≤ 4096 };
+    ghost invariant = { λ p. p.held ≤ PAGE_ROOM };
 }
 
 impl Page {

@@ -10,7 +10,7 @@ use arcwcet::ReportFault;
 use arm2_exec::{Input, Machine, Reg};
 use bus_ticks::Profile;
 use flow_graph::{Graph, build};
-use kept_runs::{Followed, Handler, follow};
+use kept_runs::{AcceptedHandler, Followed, follow};
 use loader::{Image, load};
 use loop_bounds::{LoopTree, nest};
 use memc::PageSize;
@@ -66,7 +66,7 @@ fn machine_of(alloc: Global, image: &Image, profile: Profile) -> Result<Machine,
     Ok(machine)
 }
 
-fn answered(alloc: Global, handler: Handler<'_>, machine: &mut Machine) -> Answer
+fn answered(alloc: Global, handler: AcceptedHandler<'_>, machine: &mut Machine) -> Answer
     requires handler { IsHandler handler.image.now handler.statement.now handler.graph.now handler.tree.now }
     requires machine { IsMachineFor handler.graph.now machine.old }
 {
@@ -85,7 +85,7 @@ fn followed(
     requires { IsHandler handler.now.image handler.now.statement graph.now tree.now }
 {
     let mut machine = machine_of(alloc, &handler.image, graph.profile())?;
-    let whole = Handler {
+    let whole = AcceptedHandler {
         image: &handler.image,
         statement: &handler.statement,
         graph,
