@@ -17,9 +17,7 @@ use crate::outline::{Entry, Pair, Section, entries_of};
 use crate::repeats::Taken;
 use crate::rows::{MOST_LINES, around_number};
 use crate::tokens::Word;
-use crate::values::{
-    address_at, fits_key, is_one_of, is_out_of_range, is_unknown_label, is_word_of,
-};
+use crate::values::{address_at, fits_key, is_out_of_range, is_unknown_label, is_word_of};
 use flow_graph::StatementFault;
 use loader::Labels;
 use statement::{
@@ -28,6 +26,7 @@ use statement::{
 };
 use std::alloc::{AllocError, Global};
 use text_rows::{put, put_decimal};
+use toml_reading::is_one_of;
 
 const NO_ENTRY: &[u8] = b"the statement has no entry";
 

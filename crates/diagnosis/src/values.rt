@@ -1,6 +1,5 @@
 ghost use Rattle.std.specs.Prelude.{◌≡◌, map};
 ghost use Rattle.diagnosis.specs.Outline.{stated_of, value_of};
-ghost use Rattle.toml_reading.specs.Documents.{is_one_of};
 ghost use Rattle.diagnosis.specs.Refused.{address_at, class_words, fits_key, is_negative};
 ghost use Rattle.diagnosis.specs.Refused.{is_number, is_number_outside, is_out_of_range, is_outside, is_text};
 ghost use Rattle.diagnosis.specs.Refused.{is_unknown_label, is_word_of, kind_words, starts_digit};
@@ -12,18 +11,7 @@ use asm_text::read_number;
 use bus_ticks::is_word_address;
 use loader::Labels;
 use statement::MOST_ROUNDS;
-
-/// Whether the word is one of those.
-pub(crate) fn is_one_of(words: &[&str], word: &[u8]) -> bool
-    ensures { result ≡ is_one_of (map (λ w. w.now) words.now) word.now }
-{
-    for known in words {
-        if known.as_bytes() == word {
-            return true;
-        }
-    }
-    false
-}
+use toml_reading::is_one_of;
 
 fn starts_digit(text: &[u8]) -> bool
     ensures { result ≡ starts_digit text.now }

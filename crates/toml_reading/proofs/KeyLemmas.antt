@@ -1,8 +1,8 @@
--- The keys of a table's members, and searches in lists.
-use Rattle.std.proofs.Common.{◌≡◌, ◌&&◌, ◌||◌, ℕ, Bool, List, [], ◌∷◌, map, refl, ap, string_bytes}
+-- The keys of a table's members.
+use Rattle.std.proofs.Common.{◌≡◌, ◌&&◌, ℕ, List, [], ◌∷◌, map, refl, ap, string_bytes}
 use Rattle.std.specs.Prelude.{String}
 use Rattle.std.specs.declared.alloc.Global.{Global}
-use Rattle.std.specs.List.{list_all, list_any}
+use Rattle.std.specs.List.{list_all}
 use Rattle.toml.specs.View.{members_view}
 use Rattle.toml.specs.declared.value.Value.{Value}
 use Rattle.toml_reading.specs.Documents.{has_only_keys, is_one_of}
@@ -10,7 +10,3 @@ use Rattle.toml_reading.specs.Documents.{has_only_keys, is_one_of}
 pub has_only_keys-view : (keys : List (List ℕ)) (es : List (String Global × Value)) → list_all (λ k. is_one_of keys (string_bytes k)) (map (λ e. e.0) es) ≡ has_only_keys keys (members_view es)
 has_only_keys-view keys [] = refl
 has_only_keys-view keys (e ∷ es) = ap (λ b. is_one_of keys (string_bytes e.0) && b) (has_only_keys-view keys es)
-
-pub list_any-map : {A B : Type 0} (test : B → Bool) (f : A → B) (xs : List A) → list_any (λ x. test (f x)) xs ≡ list_any test (map f xs)
-list_any-map test f [] = refl
-list_any-map test f (x ∷ xs) = ap (λ b. test (f x) || b) (list_any-map test f xs)

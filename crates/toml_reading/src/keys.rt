@@ -7,17 +7,23 @@ ghost use Rattle.toml_reading.specs.Documents.{has_only_keys, is_one_of};
 
 use toml::{Table, Value};
 
-fn is_one_of(known: &[&str], key: &str) -> bool
-    ensures { result ≡ is_one_of (map (λ k. k.now) known.now) key.now }
+/// Whether the word is one of those.
+pub fn is_one_of(words: &[&str], word: &[u8]) -> bool
+    ensures { result ≡ is_one_of (map (λ w. w.now) words.now) word.now }
 {
-    known.contains(&key)
+    for known in words {
+        if known.as_bytes() == word {
+            return true;
+        }
+    }
+    false
 }
 
 fn are_known(known: &[&str], table: &Table) -> bool
     ensures { result
         ≡ list_all (λ k. is_one_of (map (λ n. n.now) known.now) (string_bytes k)) (keys table.now) }
 {
-    table.keys().all(|key| is_one_of(known, key.as_str()))
+    table.keys().all(|key| is_one_of(known, key.as_bytes()))
 }
 
 /// Whether the table has no other keys than those.

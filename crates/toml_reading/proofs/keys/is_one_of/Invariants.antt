@@ -1,6 +1,6 @@
 use Rattle.std.proofs.Common.{◌≡◌, drop, map}
 use Rattle.toml_reading.specs.Documents.{is_one_of}
-use Rattle.diagnosis.proofs.values.is_one_of.Given as goal
+use Rattle.toml_reading.proofs.keys.is_one_of.Given as goal
 
 abbrev pub invariant-loop-known : goal.invariant-loop-known
 invariant-loop-known l =
