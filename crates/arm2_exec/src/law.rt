@@ -2,10 +2,22 @@ ghost use Rattle.std.specs.Prelude.{◌≡◌};
 ghost use Rattle.bus_ticks.specs.Worst.{fiq_entry_price};
 ghost use Rattle.arm2_exec.specs.Kept.{KeepsTheRest, interrupted_in};
 ghost use Rattle.arm2_exec.specs.State.{State};
-ghost use Rattle.arm2_exec.specs.Step.{Step};
+ghost use Rattle.arm2_exec.specs.Step.{HasOneOutcome, Step};
 
-use crate::machine::{Input, Stepped};
+use crate::machine::{Input, Machine, Stepped};
+use arm2_decode::decode;
 use arm2_effect::{Kind, Vector};
+
+impl Machine {
+    /// Every state and input have exactly one outcome.
+    pub fn one_outcome(&self, input: Input)
+        ensures { HasOneOutcome self.now input }
+    {
+        if let Some(word) = self.fetched() {
+            let _instruction = decode(word);
+        }
+    }
+}
 
 /// States what a step keeps that takes an exception: memory, and every register but R14 and R15 of the
 /// exception's mode.

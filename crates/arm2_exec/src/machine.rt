@@ -3,16 +3,15 @@ ghost use Rattle.std.specs.Borrow.{sem};
 ghost use Rattle.memc.specs.Memory.{shift_of_size};
 ghost use Rattle.arm2_effect.specs.Modes.{r15_in};
 ghost use Rattle.arm2_exec.specs.State.{IsReset, register_of, reset_r15, with_register_of};
-ghost use Rattle.arm2_exec.specs.Step.{HasOneOutcome, Step, address_in, fetched, traced_word};
+ghost use Rattle.arm2_exec.specs.Step.{Step, address_in, fetched, traced_word};
 ghost use Rattle.arm2_exec.specs.Run.{IsWithin, Runs, at_rest, further};
 ghost use Rattle.arm2_exec.specs.Lent.{LendsIoc, LendsMemc, LendsVidc};
 ghost use Rattle.arm2_effect.specs.declared.modes.Reg.TheVariants.{R15};
 ghost use Rattle.arm2_exec.specs.declared.machine.MachineFault.TheVariants.{Memory};
 
 use crate::decoded::Decoded;
-use crate::work::{elapse, fetch, work};
-use arm2_decode::decode;
-use arm2_effect::{Kind, Prices, Reg, Registers, Why, address_of};
+use crate::work::{elapse, fetched, work};
+use arm2_effect::{Kind, Mode, Prices, Reg, Registers, Why, address_of, r15_of};
 use arm2_transfer::{Bus, Inputs};
 use bus_ticks::{Profile, SPACE_END};
 use ioc::{Ioc, Lines};
@@ -168,7 +167,8 @@ impl Machine {
     pub fn reset(&mut self)
         ensures { self.new ≡ with_register_of R15 reset_r15 self.old }
     {
-        self.set(Reg::R15, 0x0C00_0003);
+        // I and F are set.
+        self.set(Reg::R15, r15_of(0b11, 0, Mode::Svc));
     }
 
     /// The word in a register.
@@ -258,7 +258,7 @@ impl Machine {
     pub fn fetched(&self) -> Option<u32>
         ensures { result ≡ fetched self.now.bus.memc (r15_in self.now.regs) }
     {
-        fetch(&self.bus.memc, self.registers.get(Reg::R15))
+        fetched(&self.bus.memc, self.registers.get(Reg::R15))
     }
 
     /// One step: an interrupt is taken, or the instruction at the address in R15 is carried out or passed
@@ -322,14 +322,5 @@ impl Machine {
             ran.count(&self.inputs.prices.profile, *input, stepped);
         }
         ran
-    }
-
-    /// Every state and input have exactly one outcome.
-    pub fn one_outcome(&self, input: Input)
-        ensures { HasOneOutcome self.now input }
-    {
-        if let Some(word) = fetch(&self.bus.memc, self.registers.get(Reg::R15)) {
-            let _instruction = decode(word);
-        }
     }
 }

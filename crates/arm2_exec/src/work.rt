@@ -24,7 +24,7 @@ pub(crate) struct Made {
 
 /// The interrupt that is due: FIQ, or else IRQ, each unless R15 masks it.
 #[inline(always)]
-pub(crate) fn interrupt(ioc: &Ioc, r15: u32) -> Option<Vector>
+pub(crate) fn interrupt_of(ioc: &Ioc, r15: u32) -> Option<Vector>
     ensures { result ≡ interrupt_of ioc.now r15 }
 {
     if ioc.asserts_fiq() && !is_fiq_masked(r15) {
@@ -42,7 +42,7 @@ pub(crate) fn interrupt(ioc: &Ioc, r15: u32) -> Option<Vector>
 
 /// The word at the address in R15, if the mode may fetch one there.
 #[inline(always)]
-pub(crate) fn fetch(memc: &Memc, r15: u32) -> Option<u32>
+pub(crate) fn fetched(memc: &Memc, r15: u32) -> Option<u32>
     ensures { result ≡ fetched memc.now r15 }
 {
     let user = matches!(mode_of(r15), Mode::User);
@@ -130,11 +130,11 @@ pub(crate) fn work(
     ensures bound { result.done.ticks < 2 ^ 16 }
 {
     let r15 = registers.get(Reg::R15);
-    if let Some(vector) = interrupt(&bus.ioc, r15) {
+    if let Some(vector) = interrupt_of(&bus.ioc, r15) {
         let done = registers.take(&inputs.prices, vector);
         return Made { done, word: None };
     }
-    let word = fetch(&bus.memc, r15);
+    let word = fetched(&bus.memc, r15);
     let done = obey(registers, bus, inputs, decoded, word);
     Made { done, word }
 }
