@@ -17,7 +17,7 @@ use Rattle.loader.proofs.FittedLemmas.{before_or_past, not_past}
 use Rattle.loader.proofs.PlaceLemmas.{may_parts}
 use Rattle.loader.proofs.WordLemmas.{held}
 use Rattle.memc.specs.Memory.{Memory, last_word, on_page, physical_at, rom_word, word_at}
-use Rattle.memc.specs.Paged.{IsWhole, page_at, place_of}
+use Rattle.memc.specs.Paged.{IsWhole, fitted_bytes, page_at, place_of}
 use Rattle.memc.specs.declared.pages.Entry.{Entry}
 use Rattle.memc.specs.declared.spots.Refused.{Refused}
 use Rattle.memc.specs.declared.spots.Refused.TheVariants.{NoPage}
@@ -45,7 +45,7 @@ unfitted true place is = refl
 unfitted false place is = absurd (cc)
 
 spot_physical : (m : Memory) (a : ℕ) → m.shift ≡ 15 → 0x2000000 ≤ a → a < 0x3000000 → spot_of m a ≡ physical_at 0x400000 (a - 0x2000000) false
-spot_physical m a size high low = rw (le-ltb a 0x2000000 high, lt-ltb a 0x3000000 low) (ap (λ (s : ℕ). physical_at (128 * 2 ^ s) (a - 0x2000000) false) size)
+spot_physical m a size high low = rw (le-ltb a 0x2000000 high, lt-ltb a 0x3000000 low) (ap (λ (s : ℕ). physical_at (fitted_bytes s) (a - 0x2000000) false) size)
 
 spot_fitted : (m : Memory) (a : ℕ) → m.shift ≡ 15 → 0x2000000 ≤ a → a < 0x2400000 → spot_of m a ≡ Ok (Ram ((a - 0x2000000) / 4 * 4))
 spot_fitted m a size high low =

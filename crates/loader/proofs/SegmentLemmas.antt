@@ -11,6 +11,7 @@ use Rattle.loader.specs.ImageBytes.{numbers, overlaps, segment_fault, with_words
 use Rattle.loader.specs.Inside.{AreWhole, IsPartly}
 use Rattle.loader.specs.declared.image.ImageFault.{ImageFault}
 use Rattle.loader.specs.declared.image.ImageFault.TheVariants as image
+use Rattle.loader.specs.declared.places.TheConstants.{MOST_SEGMENTS}
 use Rattle.loader.specs.declared.reading.ReadFault.{ReadFault}
 use Rattle.loader.specs.declared.reading.ReadFault.TheVariants.{OutOfRange, Misaligned, Overlap}
 use Rattle.loader.proofs.PlaceLemmas.{Lies, lies_in, may_within}
@@ -133,7 +134,7 @@ runs_next old now address count next w bytes can lt whole partly =
           omega (arith, more, few)
     ]
 
-pub can_put : (old now : Words) (address count next w : ℕ) (bytes : List ℕ) → CanStand old address count → runs_of old ≤ 15 → next < count → AreWhole now → IsPartly old address count bytes next now
+pub can_put : (old now : Words) (address count next w : ℕ) (bytes : List ℕ) → CanStand old address count → runs_of old < MOST_SEGMENTS → next < count → AreWhole now → IsPartly old address count bytes next now
     → put_fault now (address + 4 * next) w ≡ None
 can_put old now address count next w bytes can room lt whole partly =
     let a = address + 4 * next in
@@ -174,6 +175,6 @@ never_else o f none other (inl memory) = other memory
 never_else o f none other (inr some) = absurd (cc (none, some))
 
 -- nothing but memory keeps the next word out
-pub not_refused : (old now : Words) (address count next w : ℕ) (bytes : List ℕ) (f : ImageFault) → segment_fault old address count ≡ None → runs_of old ≤ 15 → next < count → AreWhole now
+pub not_refused : (old now : Words) (address count next w : ℕ) (bytes : List ℕ) (f : ImageFault) → segment_fault old address count ≡ None → runs_of old < MOST_SEGMENTS → next < count → AreWhole now
     → IsPartly old address count bytes next now → (f ≡ image.Memory → ⊥) → (f ≡ image.Memory) ⊎ (put_fault now (address + 4 * next) w ≡ Some f) → ⊥
 not_refused old now address count next w bytes f allowed room lt whole partly = never_else _ f (can_put old now address count next w bytes (can_stand old address count allowed) room lt whole partly)

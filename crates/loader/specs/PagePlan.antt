@@ -9,6 +9,7 @@ use Rattle.std.specs.Ordering.{nat_cmp}
 use Rattle.loader.specs.Image.{Words, word_of}
 use Rattle.loader.specs.declared.image.TheConstants.{PAGE_BYTES}
 use Rattle.loader.specs.declared.plan.PlacedPage.{PlacedPage}
+use Rattle.loader.specs.declared.plan.TheConstants.{PHYSICAL_PAGES}
 
 -- the number of the page of an address, and that of a physical page by its own addresses
 abbrev pub page_of : ℕ → ℕ
@@ -44,7 +45,7 @@ placed p = record { logical = p.0; physical = p.1 }
 
 -- a physical page that no word names by its own address
 pub record IsFree (words : Words) (physical : ℕ) : Type 0 where
-  pub below : physical < 128
+  pub below : physical < PHYSICAL_PAGES
   pub unnamed : HasWordOn words (physical_page physical) → ⊥
 
 -- The logical pages are those with words, and ascend. Their physical pages, and then the spare one, are the

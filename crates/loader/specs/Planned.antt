@@ -4,13 +4,14 @@ use Rattle.bus_ticks.specs.declared.space.TheConstants.{ROM_START, SPACE_END}
 use Rattle.loader.specs.Image.{Words, is_past_ram, word_of}
 use Rattle.loader.specs.PagePlan.{page_of, physical_page}
 use Rattle.loader.specs.declared.plan.PlacedPage.{PlacedPage}
-use Rattle.memc.specs.Memory.{Memory}
+use Rattle.memc.specs.Memory.{Memory, shift_of_size}
 use Rattle.memc.specs.Paged.{IsWhole, page_at}
+use Rattle.memc.specs.declared.spots.PageSize.TheVariants.{K32}
 
 -- pages of 32 KB, and each logical page of the plan on its physical page, at level 0
 pub record IsMapped (pages : List PlacedPage) (m : Memory) : Type 0 where
-  pub size : m.shift ≡ 15
-  pub whole : IsWhole 15 m.paged
+  pub size : m.shift ≡ shift_of_size K32
+  pub whole : IsWhole (shift_of_size K32) m.paged
   pub placed : All (λ p. page_at m.paged p.logical ≡ Some (record { physical = p.physical; level = 0 })) pages
 
 -- words of an image, in any order, each as often as one likes

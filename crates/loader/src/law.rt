@@ -12,6 +12,7 @@ ghost use Rattle.memc.specs.Memory.{Memory};
 
 use crate::image::PAGE_BYTES;
 use crate::places::{LARGEST_RAM_END, MOST_SEGMENTS, MOST_WORDS};
+use crate::plan::PHYSICAL_PAGES;
 use crate::reading::ReadFault;
 
 /// States that [`read_image`](crate::read_image) takes the bytes of every list of segments that
@@ -49,9 +50,11 @@ pub fn image_limits()
     ensures segments { MOST_SEGMENTS ≡ 16 }
 {}
 
-/// States that the largest pages have 32 KB, with which RAM ends at 2400000. It does nothing.
+/// States that the largest pages have 32 KB, and that RAM has 128 pages, with which it ends at 2400000. It
+/// does nothing.
 pub fn largest_ram()
     ensures page { PAGE_BYTES ≡ 32768 }
+    ensures pages { PHYSICAL_PAGES ≡ 128 }
     ensures ram { LARGEST_RAM_END ≡ 0x2400000 }
 {}
 
@@ -74,6 +77,6 @@ pub fn planned_words_are_loaded()
         → IsSome (word_of image a) → GivesWord m a w
         → All (λ e. IsBeside spare e.0 × (e.0 ≢ a)) beside → GivesWord (loaded beside m) a w }
     ensures beside { (beside : Words) → (pages : List PlacedPage) → (spare : ℕ) → (m : Memory) → (a w : ℕ)
-        → IsMapped pages m → spare < 128 → All (λ e. IsBeside spare e.0 × (e.0 ≡ a → e.1 ≡ w)) beside
+        → IsMapped pages m → spare < PHYSICAL_PAGES → All (λ e. IsBeside spare e.0 × (e.0 ≡ a → e.1 ≡ w)) beside
         → Contains beside (a, w) → GivesWord (loaded beside m) a w }
 {}

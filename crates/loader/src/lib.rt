@@ -18,9 +18,7 @@ pub use law::{
     planned_words_are_loaded, trailing_bytes_follow_an_image, truncated_begins_an_image,
 };
 pub use loading::{LoadFault, load, put_words};
-pub use places::{
-    LARGEST_RAM_END, MOST_SEGMENTS, MOST_WORDS, is_past_ram, lies_in_memory, may_hold,
-};
-pub use plan::{PagePlan, PlacedPage, page_plan};
+pub use places::{MOST_SEGMENTS, MOST_WORDS, is_past_ram, lies_in_memory, may_hold};
+pub use plan::{PHYSICAL_PAGES, PagePlan, PlacedPage, page_plan};
 pub use reading::{MAGIC, ReadFault, read_image};
 pub use writing::write_image;

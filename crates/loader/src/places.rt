@@ -28,7 +28,7 @@ pub fn may_hold(address: u32) -> bool
 }
 
 /// Where physical RAM ends with the largest pages, 128 of 32 KB.
-pub const LARGEST_RAM_END: u32 = 0x240_0000;
+pub(crate) const LARGEST_RAM_END: u32 = 0x240_0000;
 
 /// Whether the address is from 2400000 to 2FFFFFF, where no RAM is fitted even with the largest pages.
 pub fn is_past_ram(address: u32) -> bool

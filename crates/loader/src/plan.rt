@@ -11,7 +11,8 @@ use std::alloc::{AllocError, Global};
 // Logical pages of 32 KB are numbered below this, and the page of this number plus p is the physical page p.
 const LOGICAL_PAGES: u32 = 1024;
 
-const PHYSICAL_PAGES: u32 = 128;
+/// How many physical pages there are.
+pub const PHYSICAL_PAGES: u32 = 128;
 
 /// A logical page on a physical page, both of 32 KB and by number: below 1,024 and below 128.
 #[derive(Clone, Copy, Debug, PartialEq, Eq, Drop)]
@@ -40,7 +41,7 @@ fn is_held(held: &[u32], page: u32) -> bool
 // The physical pages that no word names by its own address, of pages with words, which ascend.
 fn free_pages(alloc: Global, held: &[u32]) -> Result<Vec<u32>, AllocError>
     requires { Ascend held.now }
-    ensures { IfOk result (λ free. free.items ≡ filter (is_unnamed held.now) (range_with_len 0 128)) }
+    ensures { IfOk result (λ free. free.items ≡ filter (is_unnamed held.now) (range_with_len 0 PHYSICAL_PAGES)) }
 {
     (0..PHYSICAL_PAGES)
         .filter(|page| !is_held(held, LOGICAL_PAGES + *page))

@@ -192,7 +192,7 @@ impl Image {
     fn put_segment(&mut self, alloc: Global, head: Head, bytes: &[u8]) -> Result<(), ReadFault>
         requires allowed { segment_fault self.old head.address head.count ≡ None }
         requires standing { 4 * head.count ≤ length bytes.now }
-        requires room { runs_of self.old ≤ 15 }
+        requires room { runs_of self.old < MOST_SEGMENTS }
         ensures ok { OnOk result
             (self.new ≡ with_words self.old head.address (numbers head.count bytes.now)) }
         ensures few { OnOk result (runs_of self.new ≤ runs_of self.old + 1) }
@@ -220,7 +220,7 @@ fn read_segment<'a>(
     others: u32,
     bytes: &'a [u8],
 ) -> Result<&'a [u8], ReadFault>
-    requires room { runs_of image.old ≤ 15 }
+    requires room { runs_of image.old < MOST_SEGMENTS }
     ensures rest { IfOk result
         (λ rest. segments_read (suc others) image.old bytes.now ≡ segments_read others image.new rest.now) }
     ensures few { OnOk result (runs_of image.new ≤ runs_of image.old + 1) }
