@@ -37,7 +37,7 @@ fn is_met(edge: &Edge, going: Going) -> bool
 /// An edge of the place by the label and to the address, by its index in the graph's edges. It takes time
 /// linear in the edges of the place.
 pub(crate) fn edge_taken(graph: &Graph, place: usize, going: Going) -> Option<usize>
-    requires known { place < length graph.now.places }
+    requires { place < length graph.now.places }
     ensures { MatchOption result (HasNoEdge graph.now (place_at graph.now.places place) going)
         (IsFound graph.now (place_at graph.now.places place) going) }
 {

@@ -38,8 +38,8 @@ returns-in-Some-other c =
     c.in-Some-other.access
     (subst (λ (k : Class). HasOther k c.read_word-reading.result.transfer c.in-Some-other.access) (c.class_at.ensures ∙ ap (class_of c.args.handler.statement.now) c.address-address.ensures.address) c.in-Some-other.ensures)
 
-pub edge_taken-requires-clause-known : goal.edge_taken-requires-clause-known
-edge_taken-requires-clause-known c = c.requires.known
+pub edge_taken-requires : goal.edge_taken-requires
+edge_taken-requires c = c.requires.known
 
 pub returns-in-Some-edge_taken : goal.returns-in-Some-edge_taken
 returns-in-Some-edge_taken c =
