@@ -9,7 +9,8 @@ use Rattle.bus_ticks.specs.declared.profile.Profile.{Profile}
 use Rattle.bus_ticks.specs.declared.profile.RomTimes.{RomTimes}
 use Rattle.bus_ticks.specs.Dearest.{AreDearest, IsDearestBlock}
 use Rattle.bus_ticks.specs.Prices.{word_address}
-use Rattle.memc.specs.Memory.{Memory, located, word_at}
+use Rattle.memc.specs.Memory.{Memory, located, shift_of_size, word_at}
+use Rattle.memc.specs.declared.spots.PageSize.TheVariants.{K32}
 use Rattle.memc.specs.declared.spots.Spot.{Spot}
 use Rattle.memc.specs.declared.spots.Spot.TheVariants as spot
 use Rattle.shifter.specs.declared.shifts.Shifted.{Shifted}
@@ -75,7 +76,7 @@ pub record MayStart (aim : Aim) (load : Bool) (words lowest : ℕ) : Type 0 wher
   pub block : (rom : RomTimes) → AreDearest aim.profile rom
       → IsDearestBlock aim.profile aim.class words (not load) (record { address = lowest; rom = rom })
   pub spots : ℕ → Spot
-  pub located_at : (m : Memory) → m.shift ≡ 15 → (i : ℕ) → i < words
+  pub located_at : (m : Memory) → m.shift ≡ shift_of_size K32 → (i : ℕ) → i < words
       → located m (word_address lowest i) false (not load) ≡ Ok (spots i)
   pub sources : load ≡ true → (i : ℕ) → i < words → IsSource aim.class (spots i)
   pub data_at : load ≡ true → (i : ℕ) → i < words
@@ -104,7 +105,7 @@ transfer_setting aim base loads_pc last =
 -- the machine has what the setting says, in SVC mode, with pages of 32 KB and ROM at its dearest
 pub record HasSetting (profile : Profile) (setting : Setting) (s : State) (i : Input) : Type 0 where
   pub mode : mode_of (r15_in s.regs) ≡ Svc
-  pub shift : s.bus.memc.shift ≡ 15
+  pub shift : s.bus.memc.shift ≡ shift_of_size K32
   pub dearest : AreDearest profile s.bus.memc.control.rom_times
   pub register : IfSome setting.register
       (λ held. register_in Svc (register_number held.register) s.regs ≡ held.word)

@@ -11,7 +11,7 @@ use std::cmp::Ordering;
 use std::marker::Model;
 
 /// How many call addresses a list holds at most.
-pub const DEPTH: usize = 8;
+pub(crate) const DEPTH: usize = 8;
 
 /// The addresses of the calls that a place is inside of, the outermost first: at most eight, each below
 /// 4000000.

@@ -6,6 +6,7 @@ ghost use Rattle.arm2_decode.specs.declared.instr.Operation.{Operation};
 ghost use Rattle.arm2_effect.specs.Outcomes.{outcome_of};
 ghost use Rattle.arm2_transfer.specs.Block.{lowest_of};
 ghost use Rattle.arm2_transfer.specs.Single.{address_for, of_immediate};
+ghost use Rattle.loader.specs.declared.plan.TheConstants.{PHYSICAL_PAGES};
 ghost use Rattle.flow_graph.specs.Free.{adds_an_immediate, is_free_operation};
 ghost use Rattle.flow_graph.specs.Setting.{MayStart, Sets, of_register, rotated, transfer_setting};
 
@@ -74,7 +75,7 @@ fn of_register(register: Register, word: u32) -> Setting
 fn start(aim: &Aim, load: bool, words: u32) -> u32
     requires some { 1 ≤ words }
     requires few { words ≤ 16 }
-    requires spare { aim.now.spare < 128 }
+    requires spare { aim.now.spare < PHYSICAL_PAGES }
     ensures { MayStart aim.now load words result }
 {
     match aim.class {
@@ -131,7 +132,7 @@ fn transfer_setting(aim: &Aim, base: Held, loads_pc: bool, last: u32) -> Setting
 
 fn of_single(aim: &Aim, x: &SingleImmediate) -> Setting
     requires free { IsTrue (is_free_operation (Operation.SingleImmediate x.now)) }
-    requires spare { aim.now.spare < 128 }
+    requires spare { aim.now.spare < PHYSICAL_PAGES }
     ensures { Sets aim.now (Operation.SingleImmediate x.now) result }
 {
     let first = start(aim, x.load, 1);
@@ -143,7 +144,7 @@ fn of_single(aim: &Aim, x: &SingleImmediate) -> Setting
 }
 
 fn of_block(aim: &Aim, x: &Block) -> Setting
-    requires spare { aim.now.spare < 128 }
+    requires spare { aim.now.spare < PHYSICAL_PAGES }
     ensures { Sets aim.now (Operation.Block x.now) result }
 {
     let words = x.list.count_ones();
@@ -174,7 +175,7 @@ fn addend(x: &DataImmediate, target: u32) -> u32
 /// target where it writes R15.
 pub(crate) fn setting_for(aim: &Aim, operation: &Operation) -> Setting
     requires free { IsTrue (is_free_operation operation.now) }
-    requires spare { aim.now.spare < 128 }
+    requires spare { aim.now.spare < PHYSICAL_PAGES }
     ensures { Sets aim.now operation.now result }
 {
     match operation {

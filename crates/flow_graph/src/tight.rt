@@ -5,6 +5,7 @@ ghost use Rattle.std.specs.Prelude.{Some, [], ◌∷◌, ◌↔◌, false, lengt
 ghost use Rattle.std.specs.Option.{option_to_list};
 ghost use Rattle.bus_ticks.specs.declared.space.TheConstants.{SPACE_END};
 ghost use Rattle.loader.specs.Loading.{lacks_page, put_words};
+ghost use Rattle.loader.specs.declared.plan.TheConstants.{PHYSICAL_PAGES};
 ghost use Rattle.flow_graph.specs.Graph.{IsFlowGraph};
 ghost use Rattle.flow_graph.specs.declared.edges.Edge.{Edge};
 ghost use Rattle.arm2_decode.specs.Names.{is_pc};
@@ -96,7 +97,7 @@ fn target(image: &Image, profile: &Profile, leave: Class, to: &Place) -> Option<
 // What the word needs besides its address: nothing where it is passed over.
 fn setting_at(aim: &Aim, word: u32, label: Label) -> Setting
     requires free { (label ≡ Label.Skip) ⊎ IsFreeWord word }
-    requires spare { aim.now.spare < 128 }
+    requires spare { aim.now.spare < PHYSICAL_PAGES }
     ensures { IsSettingOf aim.now word label result }
 {
     match (label, decode(word)) {
@@ -116,7 +117,7 @@ fn stand_for(
 ) -> Option<Stand>
     requires is_edge { IsEdge image.now statement.now profile.now edge.now }
     requires lands { HasWordAt image.now edge.now.to }
-    requires spare { spare < 128 }
+    requires spare { spare < PHYSICAL_PAGES }
     ensures stands { IfSome result (IsStand image.now statement.now profile.now edge.now spare) }
     ensures free { IfSome result (λ _. IsFree image.now edge.now) }
     ensures none { IsNone result → IsFree image.now edge.now → ⊥ }
