@@ -7,7 +7,7 @@ ghost use Rattle.bus_ticks.specs.Dearest.{AreDearest, IsDearestBlock, IsDearestL
 
 use crate::profile::{Class, Profile, RomTimes};
 use crate::space::{IO_START, ROM_START, SPACE_END};
-use crate::worst::{greatest_of, worst_leave_ticks, worst_rom_ticks};
+use crate::worst::{greatest, worst_leave_of, worst_rom};
 
 // Where the last word before a multiple of 16 is, in bytes after the multiple before it: the word that
 // follows costs quad.
@@ -17,7 +17,7 @@ const BEFORE_QUAD: u32 = 12;
 fn dearest_of(a: u32, b: u32, c: u32, d: u32) -> u32
     ensures { IsDearestOf a b c d result }
 {
-    let top = greatest_of(a, b, c, d);
+    let top = greatest(a, b, c, d);
     if a == top {
         0
     } else if b == top {
@@ -97,7 +97,7 @@ fn dearest_leave_to_ram(profile: &Profile) -> u32
 fn dearest_leave_to_rom(profile: &Profile) -> u32
     ensures { IsDearestLeave profile.now Class.Rom result }
 {
-    if worst_rom_ticks(profile) < profile.quad {
+    if worst_rom(profile) < profile.quad {
         SPACE_END - 4
     } else {
         ROM_START
@@ -108,7 +108,7 @@ fn dearest_leave_to_rom(profile: &Profile) -> u32
 fn dearest_leave_to_io(profile: &Profile) -> u32
     ensures { IsDearestLeave profile.now Class.Io result }
 {
-    if worst_rom_ticks(profile) < profile.unfitted {
+    if worst_rom(profile) < profile.unfitted {
         IO_START
     } else {
         ROM_START - 4
@@ -119,11 +119,11 @@ fn dearest_leave_to_io(profile: &Profile) -> u32
 fn dearest_leave_to_any(profile: &Profile) -> u32
     ensures { IsDearestLeave profile.now Class.Any result }
 {
-    let top = worst_leave_ticks(profile, Class::Any);
-    if worst_leave_ticks(profile, Class::Ram) == top {
+    let top = worst_leave_of(profile, Class::Any);
+    if worst_leave_of(profile, Class::Ram) == top {
         return dearest_leave_to_ram(profile);
     }
-    if worst_leave_ticks(profile, Class::Rom) == top {
+    if worst_leave_of(profile, Class::Rom) == top {
         return dearest_leave_to_rom(profile);
     }
     dearest_leave_to_io(profile)

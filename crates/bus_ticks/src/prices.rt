@@ -46,7 +46,7 @@ macro_rules! pick {
 }
 
 #[inline(never)]
-fn rom_access(profile: &Profile, rom: RomTimes, address: u32) -> u32
+fn rom_price(profile: &Profile, rom: RomTimes, address: u32) -> u32
     ensures price { result ≡ rom_price profile.now rom address }
     ensures small { result < 256 }
 {
@@ -71,12 +71,12 @@ pub fn fetch_n(profile: &Profile, address: u32, rom: RomTimes) -> u32
     if address < ROM_START {
         return profile.unfitted;
     }
-    rom_access(profile, rom, address)
+    rom_price(profile, rom, address)
 }
 
 /// The ticks of an access to RAM that follows the one before it.
 #[inline(always)]
-pub(crate) fn ram_following(profile: &Profile, address: u32) -> u32
+pub(crate) fn ram_price(profile: &Profile, address: u32) -> u32
     ensures price { result ≡ ram_price profile.now address }
     ensures small { result < 256 }
 {
@@ -95,16 +95,16 @@ pub fn fetch_s(profile: &Profile, address: u32, rom: RomTimes) -> u32
     ensures small { result < 256 }
 {
     if address < IO_START {
-        return ram_following(profile, address);
+        return ram_price(profile, address);
     }
     if address < ROM_START {
         return profile.unfitted;
     }
-    rom_access(profile, rom, address)
+    rom_price(profile, rom, address)
 }
 
 #[inline(never)]
-fn io_access(profile: &Profile, address: u32) -> u32
+fn io_price(profile: &Profile, address: u32) -> u32
     ensures price { result ≡ io_price profile.now address }
     ensures small { result < 256 }
 {
@@ -113,7 +113,7 @@ fn io_access(profile: &Profile, address: u32) -> u32
 }
 
 #[inline(always)]
-fn word_ticks(profile: &Profile, address: u32, first: bool, store: bool, rom: RomTimes) -> u32
+fn word_price(profile: &Profile, address: u32, first: bool, store: bool, rom: RomTimes) -> u32
     requires { address < SPACE_END }
     ensures price { result ≡ word_price profile.now rom store first address }
     ensures small { result < 256 }
@@ -122,22 +122,22 @@ fn word_ticks(profile: &Profile, address: u32, first: bool, store: bool, rom: Ro
         return if first {
             profile.n
         } else {
-            ram_following(profile, address)
+            ram_price(profile, address)
         };
     }
     if address < ROM_START {
-        return io_access(profile, address);
+        return io_price(profile, address);
     }
     if store {
         return profile.control;
     }
-    rom_access(profile, rom, address)
+    rom_price(profile, rom, address)
 }
 
 // The same, word by word.
 #[tactic(auto, unfolding(crate::specs::Prices::block_price))]
 #[inline(never)]
-fn block_ticks(profile: &Profile, address: u32, words: u32, store: bool, rom: RomTimes) -> u32
+fn block_price(profile: &Profile, address: u32, words: u32, store: bool, rom: RomTimes) -> u32
     requires in_space { address < SPACE_END }
     requires few { words ≤ 16 }
     ensures price { result ≡ block_price profile.now rom store address words }
@@ -145,7 +145,7 @@ fn block_ticks(profile: &Profile, address: u32, words: u32, store: bool, rom: Ro
 {
     let mut ticks = 0;
     for i in 0..words {
-        ticks += word_ticks(profile, word_address(address, i), i == 0, store, rom);
+        ticks += word_price(profile, word_address(address, i), i == 0, store, rom);
     }
     ticks
 }
@@ -164,7 +164,7 @@ pub fn transfer(profile: &Profile, address: u32, words: u32, store: bool, rom: R
     ensures small { result ≤ 255 * words }
 {
     if words == 1 {
-        return word_ticks(profile, word_address(address, 0), true, store, rom);
+        return word_price(profile, word_address(address, 0), true, store, rom);
     }
-    block_ticks(profile, address, words, store, rom)
+    block_price(profile, address, words, store, rom)
 }

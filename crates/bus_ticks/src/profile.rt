@@ -1,7 +1,7 @@
 ghost use Rattle.std.specs.Prelude.{◌≡◌, ◌↔◌, All, IsOk, IfOk, IsTrue, take, ◌*◌, ◌<◌, ◌≤◌, ◌^◌, ℕ};
 ghost use Rattle.bus_ticks.specs.Ranges.{AreInRange, AreOrdered, IsPrice, greatest};
 
-use crate::worst::greatest_of;
+use crate::worst::greatest;
 use thiserror::Error;
 
 /// What answers at an address.
@@ -113,8 +113,8 @@ fn are_ordered(numbers: [u32; 15]) -> bool
     ensures { IsTrue result ↔ AreOrdered numbers }
 {
     let [n, s, quad, ..] = numbers;
-    let rom = greatest_of(numbers[3], numbers[4], numbers[5], numbers[6]);
-    let device = greatest_of(numbers[7], numbers[8], numbers[9], numbers[10]);
+    let rom = greatest(numbers[3], numbers[4], numbers[5], numbers[6]);
+    let device = greatest(numbers[7], numbers[8], numbers[9], numbers[10]);
     let control = numbers[11];
     s <= quad && quad <= n && n <= device && rom <= device && control <= device
 }

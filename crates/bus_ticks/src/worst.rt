@@ -5,22 +5,22 @@ ghost use Rattle.bus_ticks.specs.Worst.{worst_block, worst_leave_of, worst_n_pri
 ghost use Rattle.bus_ticks.specs.Worst.{IsAnyTimes, IsGreatest, IsBlockOf, IsTargetOf, transfer_price};
 ghost use Rattle.bus_ticks.specs.Worst.{fiq_entry, fiq_entry_price, leave_price};
 
-use crate::prices::{class_of, ram_following};
+use crate::prices::{class_of, ram_price};
 use crate::profile::{Class, Profile};
 use crate::space::SPACE_END;
 
 /// The greatest of four numbers.
-pub(crate) fn greatest_of(a: u32, b: u32, c: u32, d: u32) -> u32
+pub(crate) fn greatest(a: u32, b: u32, c: u32, d: u32) -> u32
     ensures { result ≡ greatest a b c d }
 {
     a.max(b).max(c.max(d))
 }
 
 /// The ticks of an access to ROM at its dearest time field.
-pub(crate) fn worst_rom_ticks(profile: &Profile) -> u32
+pub(crate) fn worst_rom(profile: &Profile) -> u32
     ensures { result ≡ worst_rom profile.now }
 {
-    greatest_of(profile.rom_0, profile.rom_1, profile.rom_2, profile.rom_3)
+    greatest(profile.rom_0, profile.rom_1, profile.rom_2, profile.rom_3)
 }
 
 // The greatest price of a fetch, as a number, by the price that it has where the address is one of RAM.
@@ -30,7 +30,7 @@ fn worst_fetch(profile: &Profile, address: u32, ram: u32) -> u32
 {
     match class_of(address) {
         Class::Ram => ram,
-        Class::Rom => worst_rom_ticks(profile),
+        Class::Rom => worst_rom(profile),
         Class::Io | Class::Any => profile.unfitted,
     }
 }
@@ -53,11 +53,11 @@ pub fn worst_fetch_s(profile: &Profile, address: u32) -> u32
     ensures greatest { IsGreatest IsAnyTimes (λ rom. s_price profile.now rom address) result }
     ensures small { result < 256 }
 {
-    worst_fetch(profile, address, ram_following(profile, address))
+    worst_fetch(profile, address, ram_price(profile, address))
 }
 
 // The greatest price as a number.
-fn worst_block_ticks(profile: &Profile, class: Class, words: u32, store: bool) -> u32
+fn worst_block(profile: &Profile, class: Class, words: u32, store: bool) -> u32
     requires some { 1 ≤ words }
     requires few { words ≤ 16 }
     ensures { result ≡ worst_block profile.now class words store }
@@ -72,12 +72,12 @@ fn worst_block_ticks(profile: &Profile, class: Class, words: u32, store: bool) -
             if store {
                 words * profile.control
             } else {
-                words * worst_rom_ticks(profile)
+                words * worst_rom(profile)
             }
         }
         Class::Io | Class::Any => {
             words
-                * greatest_of(
+                * greatest(
                     profile.slow,
                     profile.medium,
                     profile.fast,
@@ -96,14 +96,14 @@ pub fn worst_transfer(profile: &Profile, class: Class, words: u32, store: bool) 
     ensures greatest { IsGreatest (IsBlockOf class words) (transfer_price profile.now words store) result }
     ensures small { result ≤ 255 * words }
 {
-    worst_block_ticks(profile, class, words, store)
+    worst_block(profile, class, words, store)
 }
 
 /// The greatest price of leaving to an address of the class, as a number.
-pub(crate) fn worst_leave_ticks(profile: &Profile, class: Class) -> u32
+pub(crate) fn worst_leave_of(profile: &Profile, class: Class) -> u32
     ensures { result ≡ worst_leave_of profile.now class }
 {
-    let worst_rom = worst_rom_ticks(profile);
+    let worst_rom = worst_rom(profile);
     let ram = profile.n + profile.quad.max(profile.unfitted);
     let rom = worst_rom + worst_rom.max(profile.quad);
     let io = profile.unfitted + profile.unfitted.max(worst_rom);
@@ -122,16 +122,14 @@ pub fn worst_leave(profile: &Profile, class: Class) -> u32
     ensures greatest { IsGreatest (IsTargetOf class) (leave_price profile.now) result }
     ensures small { result < 512 }
 {
-    worst_leave_ticks(profile, class)
+    worst_leave_of(profile, class)
 }
 
 // The greatest price as a number.
 fn fiq_entry_ticks(profile: &Profile) -> u32
     ensures { result ≡ fiq_entry profile.now }
 {
-    let first = profile
-        .quad
-        .max(worst_rom_ticks(profile).max(profile.unfitted));
+    let first = profile.quad.max(worst_rom(profile).max(profile.unfitted));
     first + (profile.n + profile.quad)
 }
 

@@ -160,7 +160,7 @@ impl Ioc {
     pub fn asserts_fiq(&self) -> bool
         ensures { result ≡ fiq_of self.now }
     {
-        share_a_bit(self.status_f(), self.mask_f)
+        shares(self.status_f(), self.mask_f)
     }
 
     /// Whether IRQ is asserted, by one of its two banks.
@@ -168,8 +168,8 @@ impl Ioc {
     pub fn asserts_irq(&self) -> bool
         ensures { result ≡ irq_of self.now }
     {
-        let a = share_a_bit(self.status_a(), self.mask_a);
-        let b = share_a_bit(self.status_b(), self.mask_b);
+        let a = shares(self.status_a(), self.mask_a);
+        let b = shares(self.status_b(), self.mask_b);
         a || b
     }
 
@@ -295,7 +295,7 @@ fn bit_where(on: bool, bit: u8) -> u8
 }
 
 // Whether a status and its mask share a bit.
-fn share_a_bit(status: u8, mask: u8) -> bool
+fn shares(status: u8, mask: u8) -> bool
     ensures { result ≡ shares status mask }
 {
     status & mask != 0

@@ -57,7 +57,7 @@ impl Memc {
     {
         Ok(Memc {
             pages: Pages::new(alloc, size.shift())?,
-            control: control_at(0),
+            control: control_of(0),
             rom: BTreeMap::new(alloc),
         })
     }
@@ -112,7 +112,7 @@ impl Memc {
     {
         let limit = self.limit();
         if address < IO_START {
-            return physical(address - PHYSICAL_START, limit, user);
+            return physical_at(address - PHYSICAL_START, limit, user);
         }
         if user && (store || address < ROM_START) {
             return Err(Refused::Protected);
@@ -155,7 +155,7 @@ impl Memc {
     pub fn control(&mut self, address: u32)
         ensures { self.new ≡ with_control address self.old }
     {
-        self.control = control_at(address);
+        self.control = control_of(address);
     }
 
     /// Maps a page of 4 KB by the address of a translator write, which names both pages and the level.
@@ -336,7 +336,7 @@ impl Memc {
 }
 
 // An access to physical RAM, of which `limit` bytes are fitted.
-fn physical(place: u32, limit: u32, user: bool) -> Result<Spot, Refused>
+fn physical_at(place: u32, limit: u32, user: bool) -> Result<Spot, Refused>
     ensures located { result ≡ physical_at limit place user }
     ensures fitted { (shift : ℕ) → limit ≡ fitted_bytes shift → IfOk result (Fits shift) }
 {
@@ -350,7 +350,7 @@ fn physical(place: u32, limit: u32, user: bool) -> Result<Spot, Refused>
 }
 
 // The control fields in the address of a control write.
-fn control_at(address: u32) -> ControlFields
+fn control_of(address: u32) -> ControlFields
     ensures { result ≡ control_of address }
 {
     ControlFields {

@@ -33,7 +33,7 @@ fn shift_left(amount: u32, value: u32) -> Shifted
 }
 
 // A word of copies of one bit.
-fn copies(fill: bool) -> u32
+fn fill_word(fill: bool) -> u32
     ensures { result ≡ fill_word fill }
 {
     if fill { u32::MAX } else { 0 }
@@ -43,7 +43,7 @@ fn shift_right(amount: u32, fill: bool, value: u32) -> Shifted
     requires { 1 ≤ amount }
     ensures { Has result (right amount fill (word_bits value)) }
 {
-    let ones = copies(fill);
+    let ones = fill_word(fill);
     if amount < 32 {
         Shifted {
             value: (value >> amount) + (ones << (32 - amount)),

@@ -7,7 +7,7 @@ ghost use Rattle.vidc.specs.Video.{raster_of};
 use crate::PixelRate;
 
 /// What a raster takes.
-pub(crate) fn raster(horizontal_cycle: u32, rate: PixelRate) -> u32
+pub(crate) fn raster_of(horizontal_cycle: u32, rate: PixelRate) -> u32
     requires { horizontal_cycle < 0x400 }
     ensures raster { result ≡ raster_of horizontal_cycle rate }
     ensures least { 4 ≤ result }

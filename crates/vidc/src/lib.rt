@@ -80,21 +80,21 @@ impl Vidc {
         let old = self.timing;
         match word / 0x100_0000 {
             0x80 => {
-                let value = value(word);
+                let value = value_of(word);
                 self.begin(Timing::new(value, old.vertical_cycle, old.display_end, old.rate));
                 self.horizontal_written = true;
             }
             0xA0 => {
-                let value = value(word);
+                let value = value_of(word);
                 self.begin(Timing::new(old.horizontal_cycle, value, old.display_end, old.rate));
                 self.vertical_written = true;
             }
             0xB0 => {
-                let value = value(word);
+                let value = value_of(word);
                 self.begin(Timing::new(old.horizontal_cycle, old.vertical_cycle, value, old.rate));
             }
             0xE0 => {
-                let rate = pixel_rate(word % 4);
+                let rate = rate_of(word % 4);
                 let (horizontal, vertical) = (old.horizontal_cycle, old.vertical_cycle);
                 self.begin(Timing::new(horizontal, vertical, old.display_end, rate));
             }
@@ -172,14 +172,14 @@ impl Vidc {
 }
 
 // The value of a word: its bits 23:14.
-fn value(word: u32) -> u32
+fn value_of(word: u32) -> u32
     ensures { result ≡ value_of word }
 {
     word / 0x4000 % 0x400
 }
 
 // The pixel rate by control bits 1:0.
-fn pixel_rate(bits: u32) -> PixelRate
+fn rate_of(bits: u32) -> PixelRate
     ensures { result ≡ rate_of bits }
 {
     match bits {

@@ -2,7 +2,7 @@ ghost use Rattle.std.specs.Prelude.{◌≡◌, ◌≤◌, ◌<◌, ◌+◌, ◌*
 ghost use Rattle.vidc.specs.Video.{raster_of};
 
 use crate::PixelRate;
-use crate::frame::{raster, rasters};
+use crate::frame::{raster_of, rasters};
 
 /// The registers that make the frame, and the times that follow from them, which each step asks for: in
 /// sixths of a tick.
@@ -44,7 +44,7 @@ impl Timing {
         ensures display { result.display_end ≡ display_end }
         ensures rate { result.rate ≡ rate }
     {
-        let raster = raster(horizontal_cycle, rate);
+        let raster = raster_of(horizontal_cycle, rate);
         Timing {
             horizontal_cycle,
             vertical_cycle,

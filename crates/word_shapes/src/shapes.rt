@@ -77,7 +77,7 @@ pub fn is_transfer(operation: &Operation) -> bool
 }
 
 /// Whether an operation jumps into a table of branches that follows it: ADD PC,PC,Rx,LSL #2.
-pub fn is_table_jump(operation: &Operation) -> bool
+pub(crate) fn is_table_jump(operation: &Operation) -> bool
     ensures { result ≡ is_table_jump operation.now }
 {
     match operation {
@@ -89,7 +89,7 @@ pub fn is_table_jump(operation: &Operation) -> bool
 }
 
 /// Whether an operation keeps the address of the second word after it as the return address: MOV R14,PC.
-pub fn keeps_return_address(operation: &Operation) -> bool
+pub(crate) fn keeps_return_address(operation: &Operation) -> bool
     ensures { result ≡ keeps_return_address operation.now }
 {
     match operation {
