@@ -13,7 +13,7 @@ const USUAL: usize = 16;
 
 /// A byte that is no letter, digit, `_`, blank or comma.
 #[derive(Clone, Copy)]
-pub enum Mark {
+pub(crate) enum Mark {
     /// `#`
     Hash,
     /// `-`
@@ -38,7 +38,7 @@ pub enum Mark {
 
 /// A piece of a line.
 #[derive(Clone, Copy, Default)]
-pub enum Token<'a> {
+pub(crate) enum Token<'a> {
     /// Letters, digits and `_`, as many as are side by side.
     Run(&'a [u8]),
     /// A comma, with the blanks round it.
@@ -168,7 +168,7 @@ pub(crate) fn next(text: &[u8]) -> Option<(Token<'_>, &[u8])>
 
 /// The pieces of a line without its comment: the one list that is written in this way. Fails where an
 /// allocation fails.
-pub fn tokens(alloc: Global, line: &[u8]) -> Result<Vec<Token<'_>>, AllocError>
+pub(crate) fn tokens(alloc: Global, line: &[u8]) -> Result<Vec<Token<'_>>, AllocError>
     ensures written { IfOk result (λ v. Written (map piece_of v.items) line.now) }
     ensures spaced { IfOk result (λ v. WellSpaced (map piece_of v.items)) }
     ensures only { IfOk result

@@ -1,17 +1,4 @@
-use asm_text::{Shown, Token, first_line, read_shown, tokens};
-use std::alloc::Global;
-use std::test::Fail;
-
-// How many pieces the line has, and whether it begins with a gap and its fifth piece is a comma.
-fn pieces(alloc: Global, line: &[u8]) -> Result<(usize, bool, bool), Fail> {
-    let found = tokens(alloc, line)?;
-    let is_gap = matches!(found.get(0), Some(Token::Gap));
-    Ok((
-        found.len(),
-        is_gap,
-        matches!(found.get(4), Some(Token::Comma)),
-    ))
-}
+use asm_text::{Shown, first_line, read_shown};
 
 // Whether the text is shown for an instruction, and the address that it refers to.
 fn shown(text: &[u8]) -> Option<Option<u32>> {
@@ -50,10 +37,4 @@ fn shown_lines(rt: HostRuntime) {
     for (text, wanted) in &SHOWN {
         assert!(rt; shown(text) == *wanted);
     }
-}
-
-#[test]
-fn pieces_of_a_line(rt: HostRuntime) -> Result<(), Fail> {
-    assert!(rt; pieces(rt.alloc(), b" B R1 , [ ")? == (6, true, true));
-    Ok(())
 }
