@@ -5,6 +5,7 @@ use Rattle.std.specs.Global.{Global}
 use Rattle.std.specs.List.{filter}
 use Rattle.numbered_walks.specs.declared.span.NumberedEdge.{NumberedEdge}
 use Rattle.numbered_walks.specs.declared.span.Span.{Span}
+use Rattle.numbered_walks.specs.declared.graph.NumberedGraph.{NumberedGraph}
 use Rattle.numbered_walks.specs.declared.index.Index.{Index}
 use Rattle.numbered_walks.specs.Ordered.{IsOrdered, is_in}
 
@@ -56,7 +57,6 @@ pub record IsIndex (exit : ℕ) (edges : List NumberedEdge) (spans : List Span) 
   pub all_headers : length index.headers.items ≡ exit + 1
 
 -- edges and spans in order, with their index: what each search for a greatest walk is handed
-pub record IsNumberedGraph (exit : ℕ) (edges : List NumberedEdge) (spans : List Span)
-    (index : Index) : Type 0 where
-  pub ordered : IsOrdered exit edges spans
-  pub indexed : IsIndex exit edges spans index
+pub record IsNumberedGraph (graph : NumberedGraph) : Type 0 where
+  pub ordered : IsOrdered graph.exit graph.edges.now graph.spans.now
+  pub indexed : IsIndex graph.exit graph.edges.now graph.spans.now graph.index.now

@@ -11,7 +11,7 @@ use crate::tables::{Tables, write_place, write_round};
 // Finds the distance or arrival of the next number, unless some walk costs 2^63 or more, once the rounds of
 // the first instances, however many, are found.
 fn pass_place(graph: NumberedGraph<'_>, tables: &mut Tables, place: usize) -> bool
-    requires graph { IsNumberedGraph graph.exit graph.edges.now graph.spans.now graph.index.now }
+    requires graph { IsNumberedGraph graph }
     requires entered { AllEntered graph.edges.now (graph.exit + 1) }
     requires known { place < graph.exit + 1 }
     requires room { HasRoom (graph.exit + 1) tables.old }
@@ -36,7 +36,7 @@ fn pass_place(graph: NumberedGraph<'_>, tables: &mut Tables, place: usize) -> bo
 // Finds the round of the next instance, unless some walk costs 2^63 or more, once the numbers up to its last
 // are passed.
 fn pass_round(graph: NumberedGraph<'_>, closed: usize, tables: &mut Tables) -> bool
-    requires graph { IsNumberedGraph graph.exit graph.edges.now graph.spans.now graph.index.now }
+    requires graph { IsNumberedGraph graph }
     requires known { closed < length graph.spans.now }
     requires room { HasRoom (graph.exit + 1) tables.old }
     requires passed { IsPassed graph.edges.now graph.spans.now closed
@@ -64,7 +64,7 @@ fn pass_round(graph: NumberedGraph<'_>, closed: usize, tables: &mut Tables) -> b
 
 // Passes over the numbers from `start` to before `end`.
 fn pass_places(graph: NumberedGraph<'_>, tables: &mut Tables, start: usize, end: usize) -> bool
-    requires graph { IsNumberedGraph graph.exit graph.edges.now graph.spans.now graph.index.now }
+    requires graph { IsNumberedGraph graph }
     requires entered { AllEntered graph.edges.now (graph.exit + 1) }
     requires known { (start ≤ end) × (end ≤ graph.exit + 1) }
     requires room { HasRoom (graph.exit + 1) tables.old }
@@ -85,7 +85,7 @@ fn pass_places(graph: NumberedGraph<'_>, tables: &mut Tables, start: usize, end:
 
 /// Finds all distances, arrivals and rounds, unless some walk costs 2^63 or more.
 pub(crate) fn pass(graph: NumberedGraph<'_>, tables: &mut Tables) -> bool
-    requires graph { IsNumberedGraph graph.exit graph.edges.now graph.spans.now graph.index.now }
+    requires graph { IsNumberedGraph graph }
     requires entered { AllEntered graph.edges.now (graph.exit + 1) }
     requires small { graph.exit < 2 ^ 32 }
     requires room { HasRoom (graph.exit + 1) tables.old }

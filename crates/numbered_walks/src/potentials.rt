@@ -22,7 +22,7 @@ fn is_exit_reached(edges: &[NumberedEdge], exit: usize) -> bool
 
 // What the greatest walk to the number costs; None from 2^64 on.
 fn total(graph: NumberedGraph<'_>, tables: &Tables, place: usize) -> Option<u64>
-    requires graph { IsNumberedGraph graph.exit graph.edges.now graph.spans.now graph.index.now }
+    requires graph { IsNumberedGraph graph }
     requires known { place ≤ graph.exit }
     ensures { MatchOption result (2 ^ 64 ≤ total_of graph.entry.spans.now tables.now place)
         (λ n. n ≡ total_of graph.entry.spans.now tables.now place) }
@@ -38,7 +38,7 @@ fn total(graph: NumberedGraph<'_>, tables: &Tables, place: usize) -> Option<u64>
 
 // Whether the greatest walk to the number costs less than 2^63.
 fn total_fits(graph: NumberedGraph<'_>, tables: &Tables, place: usize) -> bool
-    requires graph { IsNumberedGraph graph.exit graph.edges.now graph.spans.now graph.index.now }
+    requires graph { IsNumberedGraph graph }
     requires known { place ≤ graph.exit }
     ensures { IsTrue result ↔ total_of graph.entry.spans.now tables.now place < 2 ^ 63 }
 {
@@ -49,7 +49,7 @@ fn total_fits(graph: NumberedGraph<'_>, tables: &Tables, place: usize) -> bool
 }
 
 fn totals_fit(graph: NumberedGraph<'_>, tables: &Tables) -> bool
-    requires graph { IsNumberedGraph graph.exit graph.edges.now graph.spans.now graph.index.now }
+    requires graph { IsNumberedGraph graph }
     ensures yes { IsTrue result → (p : ℕ) → p < graph.entry.exit + 1
         → total_of graph.entry.spans.now tables.now p < 2 ^ 63 }
     ensures no { result ≡ false
@@ -71,7 +71,7 @@ fn totals_fit(graph: NumberedGraph<'_>, tables: &Tables) -> bool
 /// `NoCompleteWalk` where no walk leads to Exit, else `BoundTooLarge` where a walk that keeps the bounds
 /// costs 2^63 ticks or more, wherever it ends. `Memory`: an allocation failed.
 pub fn find_tables(alloc: Global, graph: NumberedGraph<'_>) -> Result<Tables, WalkFault>
-    requires graph { IsNumberedGraph graph.exit graph.edges.now graph.spans.now graph.index.now }
+    requires graph { IsNumberedGraph graph }
     requires small { graph.exit < 2 ^ 32 }
     ensures { MatchResult result
         (AreFound graph.entry.exit graph.entry.edges.now graph.entry.spans.now)
@@ -98,7 +98,7 @@ pub fn find_tables(alloc: Global, graph: NumberedGraph<'_>) -> Result<Tables, Wa
 ///
 /// The tables are those that [`find_tables`] found for the graph.
 pub fn greatest_cost_to(graph: NumberedGraph<'_>, tables: &Tables, place: usize) -> u64
-    requires graph { IsNumberedGraph graph.exit graph.edges.now graph.spans.now graph.index.now }
+    requires graph { IsNumberedGraph graph }
     requires found { AreFound graph.exit graph.edges.now graph.spans.now tables.now }
     requires known { place ≤ graph.exit }
     ensures { IsGreatest place graph.entry.edges.now graph.entry.spans.now result }

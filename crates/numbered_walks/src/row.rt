@@ -46,7 +46,7 @@ pub(crate) fn needed_in(
     tables: &Tables,
     edge: &NumberedEdge,
 ) -> Option<u64>
-    requires graph { IsNumberedGraph graph.exit graph.edges.now graph.spans.now graph.index.now }
+    requires graph { IsNumberedGraph graph }
     requires known { edge.now.from ≤ graph.exit }
     ensures { MatchOption result (2 ^ 64 ≤ needed graph.entry.spans.now tables.now edge.now)
         (λ n. n ≡ needed graph.entry.spans.now tables.now edge.now) }
@@ -56,7 +56,7 @@ pub(crate) fn needed_in(
 
 /// The most that one of the group's edges needs, in ticks, if each needs less than 2^63.
 pub(crate) fn heaviest(graph: NumberedGraph<'_>, tables: &Tables, group: &[usize]) -> Option<u64>
-    requires graph { IsNumberedGraph graph.exit graph.edges.now graph.spans.now graph.index.now }
+    requires graph { IsNumberedGraph graph }
     requires known { All (λ k. k < length graph.edges.now) group.now }
     ensures { MatchOption result
         (IsNotFit graph.entry.spans.now tables.now (edges_of graph.entry.edges.now group.now))

@@ -11,7 +11,7 @@ use crate::tables::{Tables, distance, round};
 
 // Whether the edge needs as much as that.
 fn needs(graph: NumberedGraph<'_>, tables: &Tables, edge: &NumberedEdge, number: u64) -> bool
-    requires graph { IsNumberedGraph graph.exit graph.edges.now graph.spans.now graph.index.now }
+    requires graph { IsNumberedGraph graph }
     requires known { edge.now.from ≤ graph.exit }
     ensures { IsTrue result ↔ (needed graph.entry.spans.now tables.now edge.now ≡ number) }
 {
@@ -28,7 +28,7 @@ fn attaining(
     group: &[usize],
     number: u64,
 ) -> Option<usize>
-    requires graph { IsNumberedGraph graph.exit graph.edges.now graph.spans.now graph.index.now }
+    requires graph { IsNumberedGraph graph }
     requires known { All (λ k. k < length graph.edges.now) group.now }
     ensures { MatchOption result
         (All (λ k. needed graph.entry.spans.now tables.now (edge_at graph.entry.edges.now k) ≢ number)
@@ -61,7 +61,7 @@ fn number_at(spans: &[Span], headers: &[Option<Span>], tables: &Tables, place: u
 /// The last edge of a greatest walk to a number, as its place in the list: what the number's distance or
 /// arrival is by.
 pub fn entering_edge(graph: NumberedGraph<'_>, tables: &Tables, place: usize) -> usize
-    requires graph { IsNumberedGraph graph.exit graph.edges.now graph.spans.now graph.index.now }
+    requires graph { IsNumberedGraph graph }
     requires found { AreFound graph.exit graph.edges.now graph.spans.now tables.now }
     requires later { 0 < place }
     requires known { place ≤ graph.exit }
@@ -82,7 +82,7 @@ pub fn entering_edge(graph: NumberedGraph<'_>, tables: &Tables, place: usize) ->
 /// The last edge of a heaviest round of an instance, as its place in the list; `None` where a stay takes no
 /// round.
 pub fn turning_edge(graph: NumberedGraph<'_>, tables: &Tables, span: &Span) -> Option<usize>
-    requires graph { IsNumberedGraph graph.exit graph.edges.now graph.spans.now graph.index.now }
+    requires graph { IsNumberedGraph graph }
     requires found { AreFound graph.exit graph.edges.now graph.spans.now tables.now }
     requires stated { Contains graph.spans.now span.now }
     ensures { MatchOption result (round_of tables.now span.now ≡ 0)
