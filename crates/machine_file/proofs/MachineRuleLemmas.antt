@@ -17,7 +17,8 @@ use Rattle.toml_reading.proofs.LowestParts.{entries_state, keys_judged, named_ju
 use Rattle.machine_file.specs.MachineFaults.{machine_faults, number_of}
 use Rattle.machine_file.specs.MachineFile.{Read, are_single, controller_in, controller_of, event_at, events_in, flags_at, flags_in, is_mappable, machine_in, mapped, mode_at, mode_in, page_at, pages_in, pc_at, pc_in, processor_in, processor_of, registers_at, registers_in, schedule_in, schedule_of, set_flags, size_at, size_in, stated_of, put_words_in}
 use Rattle.machine_file.specs.MachineFaultRules.{IsPageTwice, IsStepTwice, IsUnmappable, are_below, page_numbers}
-use Rattle.machine_file.specs.MachineRules.{AreFlags, AreRegisters, IsAddress, IsEvent, IsPage, IsSize, IsWord, StatesController, StatesMachine, StatesProcessor, StatesSchedule}
+use Rattle.machine_file.specs.MachineRules.{AreFlags, AreRegisters, IsAddress, IsEvent, IsPage, IsSize, StatesController, StatesMachine, StatesProcessor, StatesSchedule}
+use Rattle.machine_file.specs.Words.{IsWord}
 use Rattle.machine_file.specs.Names.{file_keys, map_keys, named_mode}
 use Rattle.machine_file.specs.Stated.{Controller, Processor, Schedule, Stated}
 use Rattle.machine_file.specs.declared.events.Event.{Event}

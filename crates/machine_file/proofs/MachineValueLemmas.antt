@@ -14,9 +14,10 @@ use Rattle.toml_reading.proofs.AddressLemmas.{integer_judged}
 use Rattle.toml_reading.proofs.LowestLemmas.{AnswersBy, Judges, joint, judged_as, one_by_rank, optional_judged, required_judged, seen_judged, two_tests}
 use Rattle.toml_reading.proofs.LowestParts.{all_judged, list_judged, named_judged, not_whole, number_in_judged, number_judged, number_or_judged, table_judged, whole_same}
 use Rattle.machine_file.specs.MachineFaults.{machine_faults, number_of}
-use Rattle.machine_file.specs.MachineFile.{Read, event_at, event_of, flags_at, is_letter, is_single, lettered, line_at, lines_at, lines_in, page_at, page_of, pc_at, port_at, port_in, register_in, registers_at, set_flags, size_at, size_of, union, word_in}
+use Rattle.machine_file.specs.MachineFile.{Read, event_at, event_of, flags_at, is_letter, is_single, lettered, line_at, lines_at, lines_in, page_at, page_of, pc_at, port_at, port_in, register_in, registers_at, set_flags, size_at, size_of, union}
 use Rattle.ioc.specs.LineNames.{line_named}
-use Rattle.machine_file.specs.MachineRules.{AreFlags, AreLines, AreRegisters, IsAddress, IsEvent, IsPage, IsSize, IsWord, kilobytes}
+use Rattle.machine_file.specs.MachineRules.{AreFlags, AreLines, AreRegisters, IsAddress, IsEvent, IsPage, IsSize, kilobytes}
+use Rattle.machine_file.specs.Words.{IsWord, word_in}
 use Rattle.machine_file.specs.Names.{event_keys, map_keys, name_of, named_registers, register_keys}
 use Rattle.machine_file.specs.declared.events.Event.{Event}
 use Rattle.machine_file.specs.declared.machine_faults.MachineFileFault.{MachineFileFault}
@@ -206,7 +207,7 @@ module _ (ms : Members) where
   abbrev pub Word : List ℕ → ℕ → Type 0
   Word key n = AtKey key ms (λ e. IsWord e n)
 
-  pub word : (key : List ℕ) → Judges machine_faults (Word key) (NeedsWord ms key) (word_in key ms)
+  pub word : (key : List ℕ) → Judges machine_faults (Word key) (NeedsWord ms key) (word_in machine_faults key ms)
   word key = number_in_judged machine_faults (2 ^ 32 - 1) key ms
 
 abbrev PageStates : Members → MappedPage → Type 0
@@ -227,8 +228,8 @@ abbrev numbers_of_page : Members → Read ((ℕ × ℕ) × ℕ)
 numbers_of_page ms =
     both
     machine_faults
-    (both machine_faults (word_in (codes "logical") ms) (word_in (codes "physical") ms))
-    (word_in (codes "level") ms)
+    (both machine_faults (word_in machine_faults (codes "logical") ms) (word_in machine_faults (codes "physical") ms))
+    (word_in machine_faults (codes "level") ms)
 
 page_numbers_judged : (ms : Members)
     → Judges machine_faults (λ (p : (ℕ × ℕ) × ℕ). PageStates ms (page_of p)) (PageFaults ms) (numbers_of_page ms)

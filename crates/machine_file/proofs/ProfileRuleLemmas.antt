@@ -12,8 +12,9 @@ use Rattle.toml_reading.specs.Readings.{both}
 use Rattle.toml_reading.proofs.LowestLemmas.{AnswersBy, Judges, both_judged, judged_as, one_by_rank, required_judged, seen_judged}
 use Rattle.toml_reading.proofs.LowestParts.{OneOf, any_one_of, keys_judged, number_in_judged, number_judged}
 use Rattle.machine_file.specs.ProfileFaults.{number_of, profile_faults}
-use Rattle.machine_file.specs.ProfileFile.{Four, IsPriced, Parts, Read, four_at, four_in, four_of, joined, numbers_in, parts_in, profile_keys, word_at, word_in}
-use Rattle.machine_file.specs.ProfileRules.{IsTicks, StatesNumbers, StatesProfile, list_keys, number_keys}
+use Rattle.machine_file.specs.ProfileFile.{Four, IsPriced, Parts, Read, four_at, four_in, four_of, joined, numbers_in, parts_in, profile_keys}
+use Rattle.machine_file.specs.Words.{IsWord, word_at, word_in}
+use Rattle.machine_file.specs.ProfileRules.{StatesNumbers, StatesProfile, list_keys, number_keys}
 use Rattle.machine_file.specs.declared.profile_faults.ProfileFileFault.{ProfileFileFault}
 use Rattle.machine_file.specs.declared.profile_faults.ProfileFileFault.TheVariants.{Memory, NotToml, UnknownKey, WrongKind, OutOfRange, Disordered}
 use Rattle.machine_file.proofs.ProfileLemmas.{not_four}
@@ -81,19 +82,19 @@ abbrev four_list : Four → List ℕ
 four_list p = p.0.0 ∷ p.0.1 ∷ p.1.0 ∷ p.1.1 ∷ []
 
 abbrev ListsFour : List Data → Four → Type 0
-ListsFour ds p = AllZip IsTicks ds (four_list p)
+ListsFour ds p = AllZip IsWord ds (four_list p)
 
 abbrev ItemsFault : List Data → ProfileFileFault → Type 0
 ItemsFault ds f = ((length ds ≢ 4) × (f ≡ WrongKind)) ⊎ Any (λ e. TicksFault e f) ds
 
-ticks_judged : (d : Data) → Judges profile_faults (IsTicks d) (TicksFault d) (word_at d)
+ticks_judged : (d : Data) → Judges profile_faults (IsWord d) (TicksFault d) (word_at profile_faults d)
 ticks_judged d = number_judged profile_faults (2 ^ 32 - 1) d
 
 wrong_answers : (ds : List Data) → length ds ≢ 4
     → AnswersBy profile_faults (ListsFour ds) (ItemsFault ds) (four_of ds)
 wrong_answers ds other =
     rw (not_four ds other) (
-      λ p z. other (sym (AllZip-long IsTicks ds (four_list p) z)),
+      λ p z. other (sym (AllZip-long IsWord ds (four_list p) z)),
       record {
         has = inl (other, refl);
         least = λ f h. elim h [
@@ -145,7 +146,7 @@ four_answers (a ∷ b ∷ c ∷ d ∷ []) = (four_exact a b c d).answers
 four_answers (a ∷ b ∷ c ∷ d ∷ e ∷ ds) = wrong_answers (a ∷ b ∷ c ∷ d ∷ e ∷ ds) (λ h. absurd (omega (arith, h)))
 
 four_at_judged : (d : Data)
-    → Judges profile_faults (λ p. IsListOf IsTicks d (four_list p)) (FourFault d) (four_at d)
+    → Judges profile_faults (λ p. IsListOf IsWord d (four_list p)) (FourFault d) (four_at d)
 four_at_judged d =
     required_judged
     profile_faults
@@ -159,25 +160,25 @@ four_at_judged d =
 
 module _ (ms : Members) where
   abbrev Word : List ℕ → ℕ → Type 0
-  Word key n = AtKey key ms (λ d. IsTicks d n)
+  Word key n = AtKey key ms (λ d. IsWord d n)
 
   abbrev WordFault : List ℕ → ProfileFileFault → Type 0
   WordFault key f = AtKeyOr key ms (f ≡ WrongKind) (λ d. TicksFault d f)
 
   abbrev Fours : List ℕ → Four → Type 0
-  Fours key p = AtKey key ms (λ d. IsListOf IsTicks d (four_list p))
+  Fours key p = AtKey key ms (λ d. IsListOf IsWord d (four_list p))
 
   abbrev FoursFault : List ℕ → ProfileFileFault → Type 0
   FoursFault key f = AtKeyOr key ms (f ≡ WrongKind) (λ d. FourFault d f)
 
-  word : (key : List ℕ) → Judges profile_faults (Word key) (WordFault key) (word_in key ms)
+  word : (key : List ℕ) → Judges profile_faults (Word key) (WordFault key) (word_in profile_faults key ms)
   word key = number_in_judged profile_faults (2 ^ 32 - 1) key ms
 
   fours : (key : List ℕ) → Judges profile_faults (Fours key) (FoursFault key) (four_in key ms)
   fours key =
       required_judged
       profile_faults
-      (λ d p. IsListOf IsTicks d (four_list p))
+      (λ d p. IsListOf IsWord d (four_list p))
       FourFault
       four_at
       four_at_judged

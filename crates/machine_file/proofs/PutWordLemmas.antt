@@ -13,7 +13,8 @@ use Rattle.toml_reading.proofs.AddressLemmas.{tested_judged}
 use Rattle.toml_reading.proofs.LowestLemmas.{Judges, joint, judged_value, required_judged}
 use Rattle.toml_reading.proofs.LowestParts.{entries_state, number_read, some_weaker, table_judged, tables_judged}
 use Rattle.machine_file.specs.MachineFaults.{machine_faults}
-use Rattle.machine_file.specs.MachineFile.{put_address_at, put_address_in, put_address_of, put_word_at, word_in, put_words_in}
+use Rattle.machine_file.specs.MachineFile.{put_address_at, put_address_in, put_address_of, put_word_at, put_words_in}
+use Rattle.machine_file.specs.Words.{word_in}
 use Rattle.machine_file.specs.MachineFaultRules.{IsNoPutAddress, IsWordTwice}
 use Rattle.machine_file.specs.MachineRules.{IsPutAddress, IsPutWord}
 use Rattle.machine_file.specs.Names.{word_keys}
@@ -66,7 +67,7 @@ put_word_judged d =
     word_keys
     PutWordStates
     PutWordFaults
-    (λ ms. both machine_faults (put_address_in ms) (word_in (codes "value") ms))
+    (λ ms. both machine_faults (put_address_in ms) (word_in machine_faults (codes "value") ms))
     (λ ms. joint (put_address_in_judged ms) (word ms (codes "value")))
     d
 

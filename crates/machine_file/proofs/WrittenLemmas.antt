@@ -18,7 +18,8 @@ use Rattle.toml_reading.specs.Documents.{is_one_of}
 use Rattle.toml_reading.specs.Lowest.{AtKey, AtKeyOr, IsListOf, IsNamed, IsNumber}
 use Rattle.toml_reading.proofs.ReadingLemmas.{list_of-items_of}
 use Rattle.machine_file.specs.MachineFile.{IsMachineFile, has, is_letter, is_mappable, is_single, machine_in, set_flags}
-use Rattle.machine_file.specs.MachineRules.{AreFlags, AreRegisters, IsAddress, IsEvent, IsPage, IsPutWord, IsSize, IsWord, IsPutAddress, StatesMachine}
+use Rattle.machine_file.specs.MachineRules.{AreFlags, AreRegisters, IsAddress, IsEvent, IsPage, IsPutWord, IsSize, IsPutAddress, StatesMachine}
+use Rattle.machine_file.specs.Words.{IsWord}
 use Rattle.machine_file.specs.Names.{file_keys, map_keys, name_of, named_mode, named_registers, register_keys, word_keys}
 use Rattle.machine_file.specs.Parts.{AreWords, IsInRange, StandsOnce}
 use Rattle.machine_file.specs.Stated.{Stated}

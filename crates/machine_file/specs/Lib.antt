@@ -1,3 +1,4 @@
+pub mod Words
 pub mod ProfileFaults
 pub mod ProfileFile
 pub mod ProfileRules

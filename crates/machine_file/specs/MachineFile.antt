@@ -1,6 +1,6 @@
 -- Which machine a text states, and its faults, of which the lowest over the whole text is answered (over the
 -- documents of TOML).
-use Rattle.std.specs.Prelude.{◌==◌, ◌&&◌, not, ◌-◌, ◌^◌, ℕ, ℤ, pos, negsuc, Bool, List, map, fold}
+use Rattle.std.specs.Prelude.{◌==◌, ◌&&◌, not, ℕ, ℤ, pos, negsuc, Bool, List, map, fold}
 use Rattle.std.specs.Prelude.{replicate, codes, count_by, nat_le, if◌then◌else◌, Option, Some, None}
 use Rattle.std.specs.Prelude.{Ok, Err}
 use Rattle.std.specs.Int.RustNames.{bit_or}
@@ -15,7 +15,7 @@ use Rattle.loader.specs.Image.{may_hold}
 use Rattle.memc.specs.Memory.{can_map, shift_of_size}
 use Rattle.memc.specs.declared.spots.PageSize.{PageSize}
 use Rattle.memc.specs.declared.spots.PageSize.TheVariants.{K4, K8, K16, K32}
-use Rattle.toml_reading.specs.Documents.{IsAnswer, are_distinct, in_space, list_at, name_at, number_at}
+use Rattle.toml_reading.specs.Documents.{IsAnswer, are_distinct, in_space, list_at, name_at}
 use Rattle.toml_reading.specs.Documents.{number_in, number_or, of_keys, once, tables_at}
 use Rattle.toml_reading.specs.Readings.{Reading, all, and_then, both, optional, required, seen}
 use Rattle.ioc.specs.LineNames.{line_named}
@@ -23,6 +23,7 @@ use Rattle.machine_file.specs.MachineFaults.{machine_faults}
 use Rattle.machine_file.specs.Names.{event_keys, file_keys, map_keys, name_of, named_mode}
 use Rattle.machine_file.specs.Names.{named_registers, register_keys, word_keys}
 use Rattle.machine_file.specs.Stated.{Controller, Processor, Schedule, Stated}
+use Rattle.machine_file.specs.Words.{word_at, word_in, word_or}
 use Rattle.machine_file.specs.declared.events.Event.{Event}
 use Rattle.machine_file.specs.declared.flags.PsrFlags.{PsrFlags}
 use Rattle.machine_file.specs.declared.machine_faults.MachineFileFault.{MachineFileFault}
@@ -32,13 +33,6 @@ use Rattle.machine_file.specs.declared.pages.MappedPage.{MappedPage}
 
 abbrev pub Read : Type 0 → Type 0
 Read A = Reading MachineFileFault A
-
--- a number of 32 bits
-abbrev pub word_in : List ℕ → Members → Read ℕ
-word_in key ms = number_in machine_faults key (2 ^ 32 - 1) ms
-
-abbrev pub word_or : List ℕ → ℕ → Members → Read ℕ
-word_or key missing ms = number_or machine_faults key (2 ^ 32 - 1) missing ms
 
 -- ## Flags
 
@@ -96,7 +90,7 @@ mode_in ms = optional Svc (get_member (codes "mode") ms) mode_at
 
 -- the words of the 26 registers in their order, 0 where one is not named
 abbrev pub register_in : Members → Reg → Read ℕ
-register_in ms r = word_or (name_of r) 0 ms
+register_in ms r = word_or machine_faults (name_of r) 0 ms
 
 abbrev pub registers_of : Members → Read (List ℕ)
 registers_of ms =
@@ -144,8 +138,8 @@ page_in ms =
     ms
     (seen page_of
     (both machine_faults
-    (both machine_faults (word_in (codes "logical") ms) (word_in (codes "physical") ms))
-    (word_in (codes "level") ms)))
+    (both machine_faults (word_in machine_faults (codes "logical") ms) (word_in machine_faults (codes "physical") ms))
+    (word_in machine_faults (codes "level") ms)))
 
 abbrev pub page_at : Data → Read MappedPage
 page_at d = required machine_faults (as_table d) page_in
@@ -197,7 +191,7 @@ abbrev pub lines_in : Members → Read (Option Lines)
 lines_in ms = optional None (get_member (codes "lines") ms) lines_at
 
 abbrev pub port_at : Data → Read (Option ℕ)
-port_at d = seen (λ word. Some word) (number_at machine_faults (2 ^ 32 - 1) d)
+port_at d = seen (λ word. Some word) (word_at machine_faults d)
 
 abbrev pub port_in : Members → Read (Option ℕ)
 port_in ms = optional None (get_member (codes "port") ms) port_at
@@ -228,7 +222,7 @@ events_in ms =
 abbrev pub counts_in : Members → Read (ℕ × ℕ)
 counts_in ms =
     both machine_faults (number_or machine_faults (codes "steps") 65536 65536 ms)
-    (word_or (codes "port") 0 ms)
+    (word_or machine_faults (codes "port") 0 ms)
 
 abbrev pub schedule_of : (ℕ × ℕ) × List (ℕ × Event) → Schedule
 schedule_of p = record { steps = p.0.0; port = p.0.1; events = p.1 }
@@ -256,7 +250,7 @@ put_word_in ms =
     machine_faults
     word_keys
     ms
-    (both machine_faults (put_address_in ms) (word_in (codes "value") ms))
+    (both machine_faults (put_address_in ms) (word_in machine_faults (codes "value") ms))
 
 abbrev pub put_word_at : Data → Read (ℕ × ℕ)
 put_word_at d = required machine_faults (as_table d) put_word_in

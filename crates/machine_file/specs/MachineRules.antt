@@ -1,5 +1,5 @@
 -- What a machine file states, key by key (over the documents of TOML).
-use Rattle.std.specs.Prelude.{◌≡◌, ◌-◌, ◌^◌, ℕ, pos, true, List, [], codes, replicate, None}
+use Rattle.std.specs.Prelude.{◌≡◌, ℕ, pos, true, List, [], codes, replicate, None}
 use Rattle.std.specs.Prelude.{IsSomeAnd, IsTrue}
 use Rattle.std.specs.List.{AllZip, list_all}
 use Rattle.std.specs.Map.{keys_of}
@@ -19,15 +19,12 @@ use Rattle.machine_file.specs.MachineFile.{set_flags, union}
 use Rattle.machine_file.specs.Names.{event_keys, file_keys, map_keys, name_of, named_mode, named_registers}
 use Rattle.machine_file.specs.Names.{register_keys, word_keys}
 use Rattle.machine_file.specs.Stated.{Controller, Processor, Schedule, Stated}
+use Rattle.machine_file.specs.Words.{IsWord}
 use Rattle.machine_file.specs.declared.events.Event.{Event}
 use Rattle.machine_file.specs.declared.flags.PsrFlags.{PsrFlags}
 use Rattle.machine_file.specs.declared.pages.MappedPage.{MappedPage}
 
 -- ## Values
-
--- a number of 32 bits
-abbrev pub IsWord : Data → ℕ → Type 0
-IsWord d n = IsNumber (2 ^ 32 - 1) d n
 
 -- an address of the program
 abbrev pub IsAddress : Data → ℕ → Type 0

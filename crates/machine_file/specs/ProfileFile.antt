@@ -1,11 +1,12 @@
 -- Which cycle profile a text states, and its faults, of which the lowest over the whole text is answered
 -- (over the documents of TOML).
-use Rattle.std.specs.Prelude.{◌≡◌, ◌⊎◌, ◌-◌, ◌^◌, ℕ, List, [], ◌∷◌, codes, Ok, Err}
+use Rattle.std.specs.Prelude.{◌≡◌, ◌⊎◌, ℕ, List, [], ◌∷◌, codes, Ok, Err}
 use Rattle.toml.specs.Data.{Data, Members, get_member}
 use Rattle.bus_ticks.specs.Ranges.{AreInRange, AreOrdered}
-use Rattle.toml_reading.specs.Documents.{IsDocument, IsNoDocument, items_at, number_at, number_in, of_keys}
+use Rattle.toml_reading.specs.Documents.{IsDocument, IsNoDocument, items_at, of_keys}
 use Rattle.toml_reading.specs.Readings.{Reading, both, required, seen}
 use Rattle.machine_file.specs.ProfileFaults.{profile_faults}
+use Rattle.machine_file.specs.Words.{word_at, word_in}
 use Rattle.machine_file.specs.declared.profile_faults.ProfileFileFault.{ProfileFileFault}
 use Rattle.machine_file.specs.declared.profile_faults.ProfileFileFault.TheVariants.{NotToml, WrongKind}
 use Rattle.machine_file.specs.declared.profile_faults.ProfileFileFault.TheVariants.{OutOfRange, Disordered}
@@ -23,17 +24,10 @@ profile_keys =
 abbrev pub Four : Type 0
 Four = (ℕ × ℕ) × (ℕ × ℕ)
 
--- a number of 32 bits
-abbrev pub word_at : Data → Read ℕ
-word_at d = number_at profile_faults (2 ^ 32 - 1) d
-
-abbrev pub word_in : List ℕ → Members → Read ℕ
-word_in key ms = number_in profile_faults key (2 ^ 32 - 1) ms
-
 abbrev pub four_of : List Data → Read Four
 four_of (a ∷ b ∷ c ∷ d ∷ []) =
-    both profile_faults (both profile_faults (word_at a) (word_at b))
-    (both profile_faults (word_at c) (word_at d))
+    both profile_faults (both profile_faults (word_at profile_faults a) (word_at profile_faults b))
+    (both profile_faults (word_at profile_faults c) (word_at profile_faults d))
 four_of _ = Err WrongKind
 
 abbrev pub four_at : Data → Read Four
@@ -45,15 +39,15 @@ four_in key ms = required profile_faults (get_member key ms) four_at
 
 abbrev pub ram_prices_in : Members → Read (ℕ × (ℕ × ℕ))
 ram_prices_in ms =
-    both profile_faults (word_in (codes "n") ms)
-    (both profile_faults (word_in (codes "s") ms) (word_in (codes "quad") ms))
+    both profile_faults (word_in profile_faults (codes "n") ms)
+    (both profile_faults (word_in profile_faults (codes "s") ms) (word_in profile_faults (codes "quad") ms))
 
 abbrev pub other_prices_in : Members → Read Four
 other_prices_in ms =
     both
     profile_faults
-    (both profile_faults (word_in (codes "control") ms) (word_in (codes "unfitted") ms))
-    (both profile_faults (word_in (codes "internal") ms) (word_in (codes "burst") ms))
+    (both profile_faults (word_in profile_faults (codes "control") ms) (word_in profile_faults (codes "unfitted") ms))
+    (both profile_faults (word_in profile_faults (codes "internal") ms) (word_in profile_faults (codes "burst") ms))
 
 -- ## The fifteen numbers
 

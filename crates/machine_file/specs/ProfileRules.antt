@@ -4,32 +4,29 @@ use Rattle.std.specs.Prelude.{None, IsSomeAnd, MatchOption}
 use Rattle.toml.specs.Data.{Data, Members, as_integer, get_member}
 use Rattle.bus_ticks.specs.Ranges.{AreInRange, AreOrdered}
 use Rattle.toml_reading.specs.Documents.{has_only_keys, items_at}
-use Rattle.toml_reading.specs.Lowest.{AtKey, IsListOf, IsNumber, IsOutside}
+use Rattle.toml_reading.specs.Lowest.{AtKey, IsListOf, IsOutside}
 use Rattle.machine_file.specs.ProfileFile.{profile_keys}
+use Rattle.machine_file.specs.Words.{IsWord}
 use Rattle.machine_file.specs.declared.profile_faults.ProfileFileFault.{ProfileFileFault}
 use Rattle.machine_file.specs.declared.profile_faults.ProfileFileFault.TheVariants.{UnknownKey, WrongKind}
 use Rattle.machine_file.specs.declared.profile_faults.ProfileFileFault.TheVariants.{OutOfRange, Disordered}
 
 -- ## What the file states
 
--- a number of 32 bits
-abbrev pub IsTicks : Data → ℕ → Type 0
-IsTicks d n = IsNumber (2 ^ 32 - 1) d n
-
 -- the fifteen numbers at the nine keys, all of which are required
 abbrev pub StatesNumbers : Members → List ℕ → Type 0
 StatesNumbers ms
     (n ∷ s ∷ quad ∷ rom_0 ∷ rom_1 ∷ rom_2 ∷ rom_3 ∷ slow ∷ medium ∷ fast ∷ synchronous ∷ control ∷ unfitted
     ∷ internal ∷ burst ∷ []) =
-    AtKey (codes "n") ms (λ d. IsTicks d n)
-    × AtKey (codes "s") ms (λ d. IsTicks d s)
-    × AtKey (codes "quad") ms (λ d. IsTicks d quad)
-    × AtKey (codes "rom") ms (λ d. IsListOf IsTicks d (rom_0 ∷ rom_1 ∷ rom_2 ∷ rom_3 ∷ []))
-    × AtKey (codes "io") ms (λ d. IsListOf IsTicks d (slow ∷ medium ∷ fast ∷ synchronous ∷ []))
-    × AtKey (codes "control") ms (λ d. IsTicks d control)
-    × AtKey (codes "unfitted") ms (λ d. IsTicks d unfitted)
-    × AtKey (codes "internal") ms (λ d. IsTicks d internal)
-    × AtKey (codes "burst") ms (λ d. IsTicks d burst)
+    AtKey (codes "n") ms (λ d. IsWord d n)
+    × AtKey (codes "s") ms (λ d. IsWord d s)
+    × AtKey (codes "quad") ms (λ d. IsWord d quad)
+    × AtKey (codes "rom") ms (λ d. IsListOf IsWord d (rom_0 ∷ rom_1 ∷ rom_2 ∷ rom_3 ∷ []))
+    × AtKey (codes "io") ms (λ d. IsListOf IsWord d (slow ∷ medium ∷ fast ∷ synchronous ∷ []))
+    × AtKey (codes "control") ms (λ d. IsWord d control)
+    × AtKey (codes "unfitted") ms (λ d. IsWord d unfitted)
+    × AtKey (codes "internal") ms (λ d. IsWord d internal)
+    × AtKey (codes "burst") ms (λ d. IsWord d burst)
 StatesNumbers ms _ = ⊥
 
 -- a profile: no other keys, and numbers that are in range and in order

@@ -5,7 +5,7 @@ ghost use Rattle.toml_reading.specs.Readings.{required, seen};
 ghost use Rattle.machine_file.specs.ProfileFaults.{profile_faults};
 ghost use Rattle.machine_file.specs.ProfileFile.{IsPriced, IsProfileFile, four_at, four_in, four_of, joined};
 ghost use Rattle.machine_file.specs.ProfileFile.{numbers_in, other_prices_in, parts_in, ram_prices_in};
-ghost use Rattle.machine_file.specs.ProfileFile.{word_in};
+ghost use Rattle.machine_file.specs.Words.{word_in};
 
 use crate::profile_faults::ProfileFileFault;
 use bus_ticks::{NumbersFault, Profile};
@@ -28,7 +28,7 @@ const KEYS: &[&str] = &[
 ];
 
 fn price(table: &Table, key: &str) -> Read<u32>
-    ensures { result ≡ word_in key.now (table_view table.now) }
+    ensures { result ≡ word_in profile_faults key.now (table_view table.now) }
 {
     required_number(table, key, u32::MAX)
 }

@@ -1,6 +1,7 @@
 ghost use Rattle.std.specs.Prelude.{◌≡◌, IfOk, length, map};
 ghost use Rattle.toml.specs.View.{table_view, view};
-ghost use Rattle.machine_file.specs.MachineFile.{registers_at, registers_in, registers_of, word_or};
+ghost use Rattle.machine_file.specs.MachineFile.{registers_at, registers_in, registers_of};
+ghost use Rattle.machine_file.specs.Words.{word_or};
 ghost use Rattle.machine_file.specs.MachineFaults.{machine_faults};
 ghost use Rattle.toml_reading.specs.Readings.{all, items_in};
 
@@ -68,7 +69,7 @@ impl Model for Bank {
 fn words(alloc: Global, table: &Table, names: &[&str]) -> Result<Read<Vec<u32>>, AllocError>
     ensures { IfOk result
         (λ list. items_in list
-        ≡ all machine_faults (map (λ name. word_or name.now 0 (table_view table.now)) names.now)) }
+        ≡ all machine_faults (map (λ name. word_or machine_faults name.now 0 (table_view table.now)) names.now)) }
 {
     let mut list = Ok(Vec::new(alloc));
     for name in names {
