@@ -20,7 +20,7 @@ use Rattle.std.proofs.lemmas.Map.Made.{length-le_from_is_member}
 use Rattle.std.proofs.lemmas.Map.Steps.{length-le_from_distinct_below}
 use Rattle.std.proofs.lemmas.Map.Views.{Contains-from_any, exact_unsigned_eq, list_any-from_Contains}
 use Rattle.loader.specs.Image.{Words}
-use Rattle.loader.specs.PagePlan.{AreHeld, Ascend, HasWordOn, IsFree, IsPagePlan, is_logical, is_unnamed, placed}
+use Rattle.loader.specs.PagePlan.{AreHeld, Ascend, HasWordOn, IsFree, IsPagePlan, free_pages, is_logical, is_unnamed, placed}
 use Rattle.loader.specs.declared.plan.PlacedPage.{PlacedPage}
 
 -- ## Search
@@ -108,7 +108,7 @@ named_few held =
     subst (λ (n : ℕ). n ≤ length held) (sym (moved held 0 1024 128 refl))
     (length-le_from_is_member nat_eq_equiv (filter test (range_with_len 1024 128)) held (distinct _ (IsStrictlySortedBy-filter nat_cmp test (range_with_len 1024 128) (range_ascends 1024 128))) (λ q h. any_held test (range_with_len 1024 128) q h))
 
-many_free : (held : List ℕ) → length held ≤ 40 → 88 ≤ length (filter (is_unnamed held) (range_with_len 0 128))
+many_free : (held : List ℕ) → length held ≤ 40 → 88 ≤ length (free_pages held)
 many_free held few =
     let both = length-filter_both (λ p. list_any (nat_eq (1024 + p)) held) (is_unnamed held) (λ p. refl) (range_with_len 0 128) in
     let named = named_few held in
@@ -191,13 +191,13 @@ unnamed_free words held p are below unnamed = record {
   unnamed = λ on. (let any = list_any-from_Contains nat_eq_equiv (1024 + p) held ((are.held (1024 + p)).1 on) in absurd (cc (ap not any)));
 }
 
-all_free : (words : Words) (held : List ℕ) → AreHeld words held → All (IsFree words) (filter (is_unnamed held) (range_with_len 0 128))
+all_free : (words : Words) (held : List ℕ) → AreHeld words held → All (IsFree words) (free_pages held)
 all_free words held are = λ k d lt.
-    unnamed_free words held (get_or (filter (is_unnamed held) (range_with_len 0 128)) k d) are
+    unnamed_free words held (get_or (free_pages held) k d) are
     (All-filter (is_unnamed held) (λ (p : ℕ). p < 128) (range_with_len 0 128) (All-from_recursion (λ (p : ℕ). p < 128) (range_with_len 0 128) (range_below 0 128 128 (omega arith))) k d lt)
     (filter_passes (is_unnamed held) (range_with_len 0 128) k d lt)
 
-free_listed : (words : Words) (held : List ℕ) (p : ℕ) → AreHeld words held → IsFree words p → Contains (filter (is_unnamed held) (range_with_len 0 128)) p
+free_listed : (words : Words) (held : List ℕ) (p : ℕ) → AreHeld words held → IsFree words p → Contains (free_pages held) p
 free_listed words held p are open_page =
     let none = false_from_ne_true (list_any (nat_eq (1024 + p)) held) (λ h. open_page.unnamed ((are.held (1024 + p)).0 (Contains-from_any exact_unsigned_eq (1024 + p) held h))) in
     let long = length-range_with_len 0 128 in
@@ -208,24 +208,24 @@ free_listed words held p are open_page =
 abbrev pub pages_on : List ℕ → List ℕ → List PlacedPage
 pages_on held free = map placed (zip (filter is_logical held) free)
 
-lows_below : (held free : List ℕ) → length held ≤ 40 → free ≡ filter (is_unnamed held) (range_with_len 0 128) → length (filter is_logical held) < length free
+lows_below : (held free : List ℕ) → length held ≤ 40 → free ≡ free_pages held → length (filter is_logical held) < length free
 lows_below held free few frees =
     let low = kept_few is_logical held in
     let many = many_free held few in
-    let long : length free ≡ length (filter (is_unnamed held) (range_with_len 0 128)) = ap length frees in
+    let long : length free ≡ length (free_pages held) = ap length frees in
     omega (arith, few, low, many, long)
 
-lows_fit : (held free : List ℕ) → length held ≤ 40 → free ≡ filter (is_unnamed held) (range_with_len 0 128) → length (filter is_logical held) ≤ length free
+lows_fit : (held free : List ℕ) → length held ≤ 40 → free ≡ free_pages held → length (filter is_logical held) ≤ length free
 lows_fit held free few frees = let lt = lows_below held free few frees in omega (arith, lt)
 
-pub spare_within : (held free : List ℕ) (pages : List PlacedPage) → length held ≤ 40 → free ≡ filter (is_unnamed held) (range_with_len 0 128) → pages ≡ pages_on held free → length pages < length free
+pub spare_within : (held free : List ℕ) (pages : List PlacedPage) → length held ≤ 40 → free ≡ free_pages held → pages ≡ pages_on held free → length pages < length free
 spare_within held free pages few frees on =
     let lt = lows_below held free few frees in
     let long = placed_long (filter is_logical held) free (lows_fit held free few frees) in
     let same : length pages ≡ length (pages_on held free) = ap length on in
     omega (arith, lt, long, same)
 
-plan_at : (words : Words) (held free : List ℕ) → AreHeld words held → free ≡ filter (is_unnamed held) (range_with_len 0 128) → IsPagePlan words (pages_on held free) (get_or free (length (filter is_logical held)) 0)
+plan_at : (words : Words) (held free : List ℕ) → AreHeld words held → free ≡ free_pages held → IsPagePlan words (pages_on held free) (get_or free (length (filter is_logical held)) 0)
 plan_at words held free are frees =
     let lows = filter is_logical held in
     let lt = lows_below held free are.few frees in
@@ -242,7 +242,7 @@ plan_at words held free are frees =
       lowest = λ p open_page below. subst (λ (ps : List ℕ). Contains ps p) (sym (physicals lows free)) (in_front free (length lows) p up lt (subst (λ (fs : List ℕ). Contains fs p) (sym frees) (free_listed words held p are open_page)) below);
     }
 
-pub plan_is : (words : Words) (held free : List ℕ) (pages : List PlacedPage) (n spare : ℕ) → AreHeld words held → free ≡ filter (is_unnamed held) (range_with_len 0 128) → pages ≡ pages_on held free
+pub plan_is : (words : Words) (held free : List ℕ) (pages : List PlacedPage) (n spare : ℕ) → AreHeld words held → free ≡ free_pages held → pages ≡ pages_on held free
     → n ≡ length pages → spare ≡ get_or free n spare → IsPagePlan words pages spare
 plan_is words held free pages n spare are frees on is last =
     let within = spare_within held free pages are.few frees on in

@@ -12,6 +12,7 @@ use Rattle.loader.specs.Loading.{GivesWord, lacks_page, loaded, spot_of}
 use Rattle.loader.specs.PagePlan.{IsFree, IsPagePlan, page_of, physical_page}
 use Rattle.loader.specs.Planned.{AreOf, IsBeside, IsFitted, IsMapped}
 use Rattle.loader.specs.declared.plan.PlacedPage.{PlacedPage}
+use Rattle.loader.specs.declared.plan.TheConstants.{PHYSICAL_PAGES}
 use Rattle.loader.proofs.MemoryLemmas.{AreSame, last_kept, last_there, ram_entries, ram_gives, ram_number, rom_entries, rom_gives, rom_number, same_whole}
 use Rattle.loader.proofs.FittedLemmas.{before_or_past, not_past}
 use Rattle.loader.proofs.PlaceLemmas.{may_parts}
@@ -369,7 +370,7 @@ alone_ram beside spare m a w size four high all = recursion_from_All (λ (e : �
 alone_rom : (beside : Words) (spare : ℕ) (m : Memory) (a w : ℕ) → m.shift ≡ 15 → All (λ e. IsBeside spare e.0 × (e.0 ≡ a → e.1 ≡ w)) beside → AreSame (rom_of m) a w beside
 alone_rom beside spare m a w size all = recursion_from_All (λ (e : ℕ × ℕ). rom_of m e.0 ≡ Some a → e.1 ≡ w) beside (λ i d lt at. (all i d lt).1 (rom_where m (get_or beside i d).0 a size at))
 
-pub beside_given : (beside : Words) (pages : List PlacedPage) (spare : ℕ) (m : Memory) (a w : ℕ) → IsMapped pages m → spare < 128 → All (λ e. IsBeside spare e.0 × (e.0 ≡ a → e.1 ≡ w)) beside → Contains beside (a, w)
+pub beside_given : (beside : Words) (pages : List PlacedPage) (spare : ℕ) (m : Memory) (a w : ℕ) → IsMapped pages m → spare < PHYSICAL_PAGES → All (λ e. IsBeside spare e.0 × (e.0 ≡ a → e.1 ≡ w)) beside → Contains beside (a, w)
     → GivesWord (loaded beside m) a w
 beside_given beside pages spare m a w mapped fits all c = given_beside here.1
   where

@@ -3,7 +3,7 @@
 -- 1024 + p, which begins at 2000000 + 32768 * p, is the physical page p.
 use Rattle.std.specs.Prelude.{◌≡◌, ◌<◌, ◌≤◌, ◌↔◌, ◌+◌, ◌/◌, ℕ, Bool, IsSome, List, length, map}
 use Rattle.std.specs.Prelude.{All, nat_eq, nat_lt, not}
-use Rattle.std.specs.List.{Contains, list_any}
+use Rattle.std.specs.List.{Contains, filter, list_any, range_with_len}
 use Rattle.std.specs.List.Sorted.{IsStrictlySortedBy}
 use Rattle.std.specs.Ordering.{nat_cmp}
 use Rattle.loader.specs.Image.{Words, word_of}
@@ -39,6 +39,10 @@ is_logical page = nat_lt page 1024
 
 abbrev pub is_unnamed : List ℕ → ℕ → Bool
 is_unnamed pages physical = not (list_any (nat_eq (physical_page physical)) pages)
+
+-- the physical pages that no word names, of pages with words
+abbrev pub free_pages : List ℕ → List ℕ
+free_pages held = filter (is_unnamed held) (range_with_len 0 PHYSICAL_PAGES)
 
 abbrev pub placed : ℕ × ℕ → PlacedPage
 placed p = record { logical = p.0; physical = p.1 }

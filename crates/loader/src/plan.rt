@@ -1,9 +1,9 @@
 //! On which physical pages the words of an image lie.
 
 ghost use Rattle.std.specs.Prelude.{◌≡◌, IfOk, map, nat_eq};
-ghost use Rattle.std.specs.List.{filter, list_any, range_with_len, zip};
+ghost use Rattle.std.specs.List.{filter, list_any, zip};
 ghost use Rattle.loader.specs.Inside.{AreWhole};
-ghost use Rattle.loader.specs.PagePlan.{Ascend, IsPagePlan, is_logical, is_unnamed, placed};
+ghost use Rattle.loader.specs.PagePlan.{Ascend, IsPagePlan, free_pages, is_logical, placed};
 
 use crate::image::Image;
 use std::alloc::{AllocError, Global};
@@ -41,7 +41,7 @@ fn is_held(held: &[u32], page: u32) -> bool
 // The physical pages that no word names by its own address, of pages with words, which ascend.
 fn free_pages(alloc: Global, held: &[u32]) -> Result<Vec<u32>, AllocError>
     requires { Ascend held.now }
-    ensures { IfOk result (λ free. free.items ≡ filter (is_unnamed held.now) (range_with_len 0 PHYSICAL_PAGES)) }
+    ensures { IfOk result (λ free. free.items ≡ free_pages held.now) }
 {
     (0..PHYSICAL_PAGES)
         .filter(|page| !is_held(held, LOGICAL_PAGES + *page))

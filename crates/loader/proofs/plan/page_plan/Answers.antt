@@ -1,6 +1,5 @@
-use Rattle.std.proofs.Common.{◌≡◌, ◌∙◌, ℕ, List, arith, ap, filter}
-use Rattle.std.specs.List.{range_with_len}
-use Rattle.loader.specs.PagePlan.{is_unnamed}
+use Rattle.std.proofs.Common.{◌≡◌, ◌∙◌, ℕ, List, arith, ap}
+use Rattle.loader.specs.PagePlan.{free_pages}
 use Rattle.loader.proofs.PlanLemmas.{pages_on, plan_is, spare_within}
 use Rattle.loader.proofs.plan.page_plan.Goals as goal
 
@@ -8,8 +7,8 @@ use Rattle.loader.proofs.plan.page_plan.Goals as goal
 are_placed : (pages : List _) (held held2 free free2 : List ℕ) → pages ≡ pages_on held2 free2 → held2 ≡ held → free2 ≡ free → pages ≡ pages_on held free
 are_placed pages held held2 free free2 is h f = is ∙ ap (λ (hs : List ℕ). pages_on hs free2) h ∙ ap (pages_on held) f
 
-are_free : (held held1 free : List ℕ) → free ≡ filter (is_unnamed held1) (range_with_len 0 128) → held1 ≡ held → free ≡ filter (is_unnamed held) (range_with_len 0 128)
-are_free held held1 free is h = is ∙ ap (λ (hs : List ℕ). filter (is_unnamed hs) (range_with_len 0 128)) h
+are_free : (held held1 free : List ℕ) → free ≡ free_pages held1 → held1 ≡ held → free ≡ free_pages held
+are_free held held1 free is h = is ∙ ap free_pages h
 
 pub index-spare-requires : goal.index-spare-requires
 index-spare-requires c =
