@@ -1,4 +1,4 @@
-use Rattle.std.proofs.Common.{◌≡◌, ◌<◌, ◌+◌, ◌*◌, ◌/◌, sym, ap, ◌∙◌, ℕ, arith}
+use Rattle.std.proofs.Common.{◌<◌, ◌+◌, ◌*◌, ◌/◌, sym, ap, ◌∙◌, ℕ, arith}
 use Rattle.std.proofs.lemmas.Nat.{div_below}
 use Rattle.vidc.proofs.FrameLemmas.{arrivals_are, since}
 use Rattle.vidc.proofs.frame.arrivals.Goals as goal

@@ -1,4 +1,4 @@
-use Rattle.std.proofs.Common.{◌*◌, ◌∙◌, sym, arith}
+use Rattle.std.proofs.Common.{◌*◌, ◌∙◌, sym}
 use Rattle.std.proofs.Math.Nat.{mod-eq_of_lt}
 use Rattle.vidc.proofs.FrameLemmas.{position_is}
 use Rattle.vidc.proofs.frame.position_after.Goals as goal
