@@ -45,7 +45,7 @@ fn line_named(name: &str) -> Option<Lines>
     Lines::from_name(name)
 }
 
-fn line(value: &Value) -> Read<Lines>
+fn line_at(value: &Value) -> Read<Lines>
     ensures { result ≡ line_at (view value.now) }
 {
     required(value.as_str().and_then(line_named), Ok)
@@ -55,7 +55,7 @@ impl Entry<(), MachineFileFault> for Lines {
     ghost reads = { λ _. line_at };
 
     fn read(_alloc: Global, _context: &(), value: &Value) -> Result<Read<Lines>, AllocError> {
-        Ok(line(value))
+        Ok(line_at(value))
     }
 }
 
@@ -69,7 +69,7 @@ fn union(lines: &[Lines]) -> Lines
     all
 }
 
-fn lines_of(alloc: Global, value: &Value) -> Result<Read<Option<Lines>>, AllocError>
+fn lines_at(alloc: Global, value: &Value) -> Result<Read<Option<Lines>>, AllocError>
     ensures { IfOk result (λ lines. lines ≡ lines_at (view value.now)) }
 {
     match list(alloc, &(), value)? {
@@ -78,25 +78,25 @@ fn lines_of(alloc: Global, value: &Value) -> Result<Read<Option<Lines>>, AllocEr
     }
 }
 
-fn lines(alloc: Global, table: &Table) -> Result<Read<Option<Lines>>, AllocError>
+fn lines_in(alloc: Global, table: &Table) -> Result<Read<Option<Lines>>, AllocError>
     ensures { IfOk result (λ lines. lines ≡ lines_in (table_view table.now)) }
 {
     match value_at(table, "lines") {
-        Some(value) => lines_of(alloc, value),
+        Some(value) => lines_at(alloc, value),
         None => Ok(Ok(None)),
     }
 }
 
-fn port_of(value: &Value) -> Read<Option<u32>>
+fn port_at(value: &Value) -> Read<Option<u32>>
     ensures { result ≡ port_at (view value.now) }
 {
     number(value, u32::MAX).map(Some)
 }
 
-fn port(table: &Table) -> Read<Option<u32>>
+fn port_in(table: &Table) -> Read<Option<u32>>
     ensures { result ≡ port_in (table_view table.now) }
 {
-    value_at(table, "port").map_or(Ok(None), port_of)
+    value_at(table, "port").map_or(Ok(None), port_at)
 }
 
 fn bursts_of(value: &Value) -> Read<u16>
@@ -129,10 +129,10 @@ fn event_of(parts: (u32, (u16, (Option<Lines>, Option<u32>)))) -> (u32, Event)
     (step, event)
 }
 
-fn read_event(alloc: Global, table: &Table) -> Result<Read<(u32, Event)>, AllocError>
+fn event_in(alloc: Global, table: &Table) -> Result<Read<(u32, Event)>, AllocError>
     ensures { IfOk result (λ event. event ≡ event_in (table_view table.now)) }
 {
-    let held = pair(lines(alloc, table)?, port(table));
+    let held = pair(lines_in(alloc, table)?, port_in(table));
     let rest = pair(bursts(table), held);
     let event = pair(required_number(table, "step", 65535), rest).map(event_of);
     Ok(check(
@@ -147,7 +147,7 @@ impl Entry<(), MachineFileFault> for (u32, Event) {
 
     fn read(alloc: Global, _context: &(), value: &Value) -> Result<Read<(u32, Event)>, AllocError> {
         match value.as_table() {
-            Some(table) => read_event(alloc, table),
+            Some(table) => event_in(alloc, table),
             None => Ok(Err(MachineFileFault::WrongKind)),
         }
     }
@@ -173,7 +173,7 @@ impl Model for Schedule {
     ghost invariant = { λ s. s.steps ≤ MOST_STEPS };
 }
 
-fn counts(table: &Table) -> Read<(u32, u32)>
+fn counts_in(table: &Table) -> Read<(u32, u32)>
     ensures { result ≡ counts_in (table_view table.now) }
 {
     pair(
@@ -195,7 +195,7 @@ fn each_once(
     }
 }
 
-fn events(alloc: Global, table: &Table) -> Result<Read<IndexMap<u32, Event>>, AllocError>
+fn events_in(alloc: Global, table: &Table) -> Result<Read<IndexMap<u32, Event>>, AllocError>
     ensures { IfOk result (λ reading. seen (λ m. m.entries) reading ≡ events_in (table_view table.now)) }
 {
     match tables(alloc, &(), value_at(table, "event"))? {
@@ -205,10 +205,10 @@ fn events(alloc: Global, table: &Table) -> Result<Read<IndexMap<u32, Event>>, Al
 }
 
 /// What the file's table states to come from outside.
-pub(crate) fn read_schedule(alloc: Global, table: &Table) -> Result<Read<Schedule>, AllocError>
+pub(crate) fn schedule_in(alloc: Global, table: &Table) -> Result<Read<Schedule>, AllocError>
     ensures { IfOk result (λ reading. reading ≡ schedule_in (table_view table.now)) }
 {
-    match pair(counts(table), events(alloc, table)?) {
+    match pair(counts_in(table), events_in(alloc, table)?) {
         Ok(((steps, port), events)) => Ok(Ok(Schedule {
             steps,
             port,

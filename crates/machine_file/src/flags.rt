@@ -77,18 +77,18 @@ fn lettered(text: &[u8]) -> Read<PsrFlags>
     Ok(set_flags(text))
 }
 
-fn flags_of(value: &Value) -> Read<PsrFlags>
+fn flags_at(value: &Value) -> Read<PsrFlags>
     ensures { result ≡ flags_at (view value.now) }
 {
     required(value.as_str(), |text| lettered(text.as_bytes()))
 }
 
 /// The flags that the file's table states: both interrupts masked where it states none.
-pub(crate) fn stated_flags(table: &Table) -> Read<PsrFlags>
+pub(crate) fn flags_in(table: &Table) -> Read<PsrFlags>
     ensures { result ≡ flags_in (table_view table.now) }
 {
     match value_at(table, "flags") {
-        Some(value) => flags_of(value),
+        Some(value) => flags_at(value),
         None => Ok(set_flags(b"IF")),
     }
 }

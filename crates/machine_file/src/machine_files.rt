@@ -9,12 +9,12 @@ ghost use Rattle.machine_file.specs.MachineFaults.{machine_faults};
 ghost use Rattle.machine_file.specs.MachineFile.{IsMachineFile, controller_in, machine_in, processor_in};
 ghost use Rattle.machine_file.specs.MachineFile.{schedule_in, stated_of, put_words_in};
 
-use crate::events::{Event, Schedule, read_schedule};
+use crate::events::{Event, Schedule, schedule_in};
 use crate::flags::PsrFlags;
 use crate::machine_faults::{MachineFileFault, Read};
-use crate::pages::{Controller, MappedPage, read_controller};
-use crate::processor::{Processor, read_processor};
-use crate::words::{PutWords, read_words};
+use crate::pages::{Controller, MappedPage, controller_in};
+use crate::processor::{Processor, processor_in};
+use crate::words::{PutWords, put_words_in};
 use arm2_effect::Mode;
 use indexmap::IndexMap;
 use memc::PageSize;
@@ -161,8 +161,8 @@ fn given(alloc: Global, table: &Table) -> Result<Read<Given>, AllocError>
         (λ parts. parts
         ≡ both machine_faults (schedule_in (table_view table.now)) (put_words_in (table_view table.now))) }
 {
-    let schedule = read_schedule(alloc, table)?;
-    Ok(pair(schedule, read_words(alloc, table)?))
+    let schedule = schedule_in(alloc, table)?;
+    Ok(pair(schedule, put_words_in(alloc, table)?))
 }
 
 // The memory controller, the schedule of the inputs, and the words.
@@ -172,7 +172,7 @@ fn surroundings(alloc: Global, table: &Table) -> Result<Read<(Controller, Given)
         ≡ both machine_faults (controller_in (table_view table.now))
         (both machine_faults (schedule_in (table_view table.now)) (put_words_in (table_view table.now)))) }
 {
-    let controller = read_controller(alloc, table)?;
+    let controller = controller_in(alloc, table)?;
     Ok(pair(controller, given(alloc, table)?))
 }
 
@@ -183,7 +183,7 @@ fn parts(alloc: Global, table: &Table) -> Result<Read<Parts>, AllocError>
         (both machine_faults (controller_in (table_view table.now))
         (both machine_faults (schedule_in (table_view table.now)) (put_words_in (table_view table.now))))) }
 {
-    let processor = read_processor(alloc, table)?;
+    let processor = processor_in(alloc, table)?;
     Ok(pair(processor, surroundings(alloc, table)?))
 }
 
@@ -199,7 +199,7 @@ fn stated(parts: Read<Parts>) -> Read<MachineFile>
 }
 
 // What the table states.
-fn of_table(alloc: Global, table: &Table) -> Result<Read<MachineFile>, AllocError>
+fn machine_in(alloc: Global, table: &Table) -> Result<Read<MachineFile>, AllocError>
     ensures { IfOk result (λ reading. reading ≡ machine_in (table_view table.now)) }
 {
     let file = stated(parts(alloc, table)?);
@@ -220,7 +220,7 @@ pub fn read_machine(alloc: Global, text: &[u8]) -> Result<MachineFile, MachineFi
     ensures { result ≢ Err MachineFileFault.Memory → IsMachineFile text.now result }
 {
     match document(alloc, text)? {
-        Some(table) => of_table(alloc, &table)?,
+        Some(table) => machine_in(alloc, &table)?,
         None => Err(MachineFileFault::NotToml),
     }
 }

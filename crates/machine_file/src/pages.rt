@@ -32,7 +32,7 @@ pub struct MappedPage {
     pub level: u32,
 }
 
-fn size_numbered(number: i64) -> Read<PageSize>
+fn size_of(number: i64) -> Read<PageSize>
     ensures { result ≡ size_of number }
 {
     match u32::try_from(number) {
@@ -44,16 +44,16 @@ fn size_numbered(number: i64) -> Read<PageSize>
     }
 }
 
-fn size_value(value: &Value) -> Read<PageSize>
+fn size_at(value: &Value) -> Read<PageSize>
     ensures { result ≡ size_at (view value.now) }
 {
-    required(value.as_integer(), size_numbered)
+    required(value.as_integer(), size_of)
 }
 
-fn size(table: &Table) -> Read<PageSize>
+fn size_in(table: &Table) -> Read<PageSize>
     ensures { result ≡ size_in (table_view table.now) }
 {
-    value_at(table, "pages").map_or(Ok(PageSize::K4), size_value)
+    value_at(table, "pages").map_or(Ok(PageSize::K4), size_at)
 }
 
 fn page_of(numbers: ((u32, u32), u32)) -> MappedPage
@@ -67,7 +67,7 @@ fn page_of(numbers: ((u32, u32), u32)) -> MappedPage
     }
 }
 
-fn page(table: &Table) -> Read<MappedPage>
+fn page_in(table: &Table) -> Read<MappedPage>
     ensures { result ≡ page_in (table_view table.now) }
 {
     let ends = pair(
@@ -86,7 +86,7 @@ impl Entry<(), MachineFileFault> for MappedPage {
     ghost reads = { λ _. page_at };
 
     fn read(_alloc: Global, _context: &(), value: &Value) -> Result<Read<MappedPage>, AllocError> {
-        Ok(required(value.as_table(), page))
+        Ok(required(value.as_table(), page_in))
     }
 }
 
@@ -159,11 +159,11 @@ fn mappable(
     Ok(Ok(Pages { size, pages }))
 }
 
-fn read_pages(alloc: Global, table: &Table) -> Result<Read<Pages>, AllocError>
+fn pages_in(alloc: Global, table: &Table) -> Result<Read<Pages>, AllocError>
     ensures { IfOk result (λ reading. reading ≡ pages_in (table_view table.now)) }
 {
     let listed = tables(alloc, &(), value_at(table, "map"))?;
-    match pair(size(table), listed) {
+    match pair(size_in(table), listed) {
         Ok((size, listed)) => mappable(alloc, size, listed),
         Err(fault) => Ok(Err(fault)),
     }
@@ -188,7 +188,7 @@ impl Model for RomFields {
     ghost inverse = { λ p. record { low = p.0; high = p.1 } };
 }
 
-fn rom_fields(table: &Table) -> Read<RomFields>
+fn rom_in(table: &Table) -> Read<RomFields>
     ensures { result ≡ rom_in (table_view table.now) }
 {
     let fields = pair(
@@ -218,9 +218,9 @@ impl Model for Controller {
 }
 
 /// The memory controller that the file's table states.
-pub(crate) fn read_controller(alloc: Global, table: &Table) -> Result<Read<Controller>, AllocError>
+pub(crate) fn controller_in(alloc: Global, table: &Table) -> Result<Read<Controller>, AllocError>
     ensures { IfOk result (λ reading. reading ≡ controller_in (table_view table.now)) }
 {
-    let parts = pair(rom_fields(table), read_pages(alloc, table)?);
+    let parts = pair(rom_in(table), pages_in(alloc, table)?);
     Ok(parts.map(|(rom, pages)| Controller { rom, pages }))
 }

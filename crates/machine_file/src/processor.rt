@@ -5,9 +5,9 @@ ghost use Rattle.machine_file.specs.MachineFaults.{machine_faults};
 ghost use Rattle.machine_file.specs.MachineFile.{mode_at, mode_in, pc_at, pc_in, processor_in};
 ghost use Rattle.machine_file.specs.Names.{named_mode};
 
-use crate::flags::{PsrFlags, stated_flags};
+use crate::flags::{PsrFlags, flags_in};
 use crate::machine_faults::{MachineFileFault, Read};
-use crate::registers::{Bank, stated_registers};
+use crate::registers::{Bank, registers_in};
 use arm2_effect::Mode;
 use std::alloc::{AllocError, Global};
 use std::marker::Model;
@@ -59,19 +59,19 @@ fn start_address(number: i64) -> Read<StartAddress>
     }
 }
 
-fn pc_of(value: &Value) -> Read<StartAddress>
+fn pc_at(value: &Value) -> Read<StartAddress>
     ensures { result ≡ pc_at (view value.now) }
 {
     required(value.as_integer(), start_address)
 }
 
-fn pc(table: &Table) -> Read<StartAddress>
+fn pc_in(table: &Table) -> Read<StartAddress>
     ensures { result ≡ pc_in (table_view table.now) }
 {
-    required(value_at(table, "pc"), pc_of)
+    required(value_at(table, "pc"), pc_at)
 }
 
-fn mode_named(word: &str) -> Option<Mode>
+fn named_mode(word: &str) -> Option<Mode>
     ensures { result ≡ named_mode word.now }
 {
     match word {
@@ -83,25 +83,25 @@ fn mode_named(word: &str) -> Option<Mode>
     }
 }
 
-fn mode_of(value: &Value) -> Read<Mode>
+fn mode_at(value: &Value) -> Read<Mode>
     ensures { result ≡ mode_at (view value.now) }
 {
-    required(value.as_str().and_then(mode_named), Ok)
+    required(value.as_str().and_then(named_mode), Ok)
 }
 
-fn mode(table: &Table) -> Read<Mode>
+fn mode_in(table: &Table) -> Read<Mode>
     ensures { result ≡ mode_in (table_view table.now) }
 {
-    value_at(table, "mode").map_or(Ok(Mode::Svc), mode_of)
+    value_at(table, "mode").map_or(Ok(Mode::Svc), mode_at)
 }
 
 /// The registers that the file's table states.
-pub(crate) fn read_processor(alloc: Global, table: &Table) -> Result<Read<Processor>, AllocError>
+pub(crate) fn processor_in(alloc: Global, table: &Table) -> Result<Read<Processor>, AllocError>
     ensures { IfOk result (λ reading. reading ≡ processor_in (table_view table.now)) }
 {
-    let psr = pair(mode(table), stated_flags(table));
-    let start = pair(pc(table), psr);
-    let registers = stated_registers(alloc, table)?;
+    let psr = pair(mode_in(table), flags_in(table));
+    let start = pair(pc_in(table), psr);
+    let registers = registers_in(alloc, table)?;
     let parts = pair(start, registers);
     Ok(parts.map(|((pc, (mode, flags)), registers)| Processor {
         pc,

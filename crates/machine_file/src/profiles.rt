@@ -27,13 +27,13 @@ const KEYS: &[&str] = &[
     "n", "s", "quad", "rom", "io", "control", "unfitted", "internal", "burst",
 ];
 
-fn price(table: &Table, key: &str) -> Read<u32>
+fn word_in(table: &Table, key: &str) -> Read<u32>
     ensures { result ≡ word_in profile_faults key.now (table_view table.now) }
 {
     required_number(table, key, u32::MAX)
 }
 
-fn four_numbers(values: &[Value]) -> Read<Four>
+fn four_of(values: &[Value]) -> Read<Four>
     ensures { result ≡ four_of (map view values.now) }
 {
     match values {
@@ -45,46 +45,46 @@ fn four_numbers(values: &[Value]) -> Read<Four>
     }
 }
 
-fn four(value: &Value) -> Read<Four>
+fn four_at(value: &Value) -> Read<Four>
     ensures { result ≡ four_at (view value.now) }
 {
-    required(values_of(value), four_numbers)
+    required(values_of(value), four_of)
 }
 
-fn four_prices(table: &Table, key: &str) -> Read<Four>
+fn four_in(table: &Table, key: &str) -> Read<Four>
     ensures { result ≡ four_in key.now (table_view table.now) }
 {
-    required(value_at(table, key), four)
+    required(value_at(table, key), four_at)
 }
 
-fn ram_prices(table: &Table) -> Read<(u32, (u32, u32))>
+fn ram_prices_in(table: &Table) -> Read<(u32, (u32, u32))>
     ensures { result ≡ ram_prices_in (table_view table.now) }
 {
     pair(
-        price(table, "n"),
-        pair(price(table, "s"), price(table, "quad")),
+        word_in(table, "n"),
+        pair(word_in(table, "s"), word_in(table, "quad")),
     )
 }
 
 // Those of control writes, of fetches among the devices, of internal cycles and of bursts.
-fn other_prices(table: &Table) -> Read<Four>
+fn other_prices_in(table: &Table) -> Read<Four>
     ensures { result ≡ other_prices_in (table_view table.now) }
 {
     pair(
-        pair(price(table, "control"), price(table, "unfitted")),
-        pair(price(table, "internal"), price(table, "burst")),
+        pair(word_in(table, "control"), word_in(table, "unfitted")),
+        pair(word_in(table, "internal"), word_in(table, "burst")),
     )
 }
 
-fn parts(table: &Table) -> Read<Parts>
+fn parts_in(table: &Table) -> Read<Parts>
     ensures { result ≡ parts_in (table_view table.now) }
 {
-    let lists = pair(four_prices(table, "rom"), four_prices(table, "io"));
-    pair(pair(ram_prices(table), lists), other_prices(table))
+    let lists = pair(four_in(table, "rom"), four_in(table, "io"));
+    pair(pair(ram_prices_in(table), lists), other_prices_in(table))
 }
 
 // The parts as the fifteen numbers, in the order of a profile's fields.
-fn in_order(parts: Parts) -> [u32; 15]
+fn joined(parts: Parts) -> [u32; 15]
     ensures { result ≡ joined parts }
 {
     let (((n, (s, quad)), (rom, io)), ((control, unfitted), (internal, burst))) = parts;
@@ -109,15 +109,15 @@ fn in_order(parts: Parts) -> [u32; 15]
     ]
 }
 
-fn numbers(table: &Table) -> Read<[u32; 15]>
+fn numbers_in(table: &Table) -> Read<[u32; 15]>
     ensures { result ≡ numbers_in (table_view table.now) }
 {
     check(
         only_keys(KEYS, table),
         ProfileFileFault::UnknownKey,
-        parts(table),
+        parts_in(table),
     )
-    .map(in_order)
+    .map(joined)
 }
 
 // The profile of the numbers that were read.
@@ -147,7 +147,7 @@ pub fn read_profile(alloc: Global, text: &[u8]) -> Result<Profile, ProfileFileFa
     ensures { result ≢ Err ProfileFileFault.Memory → IsProfileFile text.now (seen numbers_of result) }
 {
     match document(alloc, text)? {
-        Some(table) => priced(numbers(&table)),
+        Some(table) => priced(numbers_in(&table)),
         None => Err(ProfileFileFault::NotToml),
     }
 }

@@ -89,7 +89,7 @@ fn as_bank(words: Read<Vec<u32>>) -> Read<Bank>
     }
 }
 
-fn of_table(alloc: Global, table: &Table) -> Result<Read<Bank>, AllocError>
+fn registers_of(alloc: Global, table: &Table) -> Result<Read<Bank>, AllocError>
     ensures { IfOk result (λ bank. bank ≡ registers_of (table_view table.now)) }
 {
     let reading = as_bank(words(alloc, table, &NAMES)?);
@@ -100,21 +100,21 @@ fn of_table(alloc: Global, table: &Table) -> Result<Read<Bank>, AllocError>
     ))
 }
 
-fn of_value(alloc: Global, value: &Value) -> Result<Read<Bank>, AllocError>
+fn registers_at(alloc: Global, value: &Value) -> Result<Read<Bank>, AllocError>
     ensures { IfOk result (λ bank. bank ≡ registers_at (view value.now)) }
 {
     match value.as_table() {
-        Some(table) => of_table(alloc, table),
+        Some(table) => registers_of(alloc, table),
         None => Ok(Err(MachineFileFault::WrongKind)),
     }
 }
 
 /// The words that the file's table states: 0 where it names no register.
-pub(crate) fn stated_registers(alloc: Global, table: &Table) -> Result<Read<Bank>, AllocError>
+pub(crate) fn registers_in(alloc: Global, table: &Table) -> Result<Read<Bank>, AllocError>
     ensures { IfOk result (λ bank. bank ≡ registers_in (table_view table.now)) }
 {
     match value_at(table, "registers") {
-        Some(value) => of_value(alloc, value),
+        Some(value) => registers_at(alloc, value),
         None => Ok(Ok(Bank {
             words: vec![in alloc; 0; 26]?,
         })),

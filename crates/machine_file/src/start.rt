@@ -17,7 +17,7 @@ use bus_ticks::Profile;
 use memc::Memc;
 use std::alloc::Global;
 
-fn bit(set: bool) -> u32
+fn bit_of(set: bool) -> u32
     ensures number { result ≡ bit_of set }
     ensures bound { result ≤ 1 }
 {
@@ -28,15 +28,15 @@ fn psr_number(flags: PsrFlags) -> u32
     ensures number { result ≡ psr_number flags }
     ensures bound { result < 64 }
 {
-    bit(flags.negative) * 32
-        + bit(flags.zero) * 16
-        + bit(flags.carry) * 8
-        + bit(flags.overflow) * 4
-        + bit(flags.irq_masked) * 2
-        + bit(flags.fiq_masked)
+    bit_of(flags.negative) * 32
+        + bit_of(flags.zero) * 16
+        + bit_of(flags.carry) * 8
+        + bit_of(flags.overflow) * 4
+        + bit_of(flags.irq_masked) * 2
+        + bit_of(flags.fiq_masked)
 }
 
-fn r15(processor: &Processor) -> u32
+fn r15_in(processor: &Processor) -> u32
     ensures { result ≡ r15_in processor.now }
 {
     let psr = psr_number(processor.flags);
@@ -102,7 +102,7 @@ impl MachineFile {
     {
         let mut machine = Machine::new(alloc, self.page_size(), profile)?;
         set_words(&mut machine, &REGISTERS, self.registers());
-        machine.set(Reg::R15, r15(&self.processor));
+        machine.set(Reg::R15, r15_in(&self.processor));
         set_controller(machine.memc_mut(), &self.controller);
         Ok(machine)
     }

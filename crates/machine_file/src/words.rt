@@ -39,7 +39,7 @@ fn put_address_in(table: &Table) -> Read<u32>
     required(value_at(table, "at"), put_address_at)
 }
 
-fn put_word(table: &Table) -> Read<(u32, u32)>
+fn put_word_in(table: &Table) -> Read<(u32, u32)>
     ensures { result ≡ put_word_in (table_view table.now) }
 {
     let word = pair(
@@ -57,7 +57,7 @@ impl Entry<(), MachineFileFault> for (u32, u32) {
     ghost reads = { λ _. put_word_at };
 
     fn read(_alloc: Global, _context: &(), value: &Value) -> Result<Read<(u32, u32)>, AllocError> {
-        Ok(required(value.as_table(), put_word))
+        Ok(required(value.as_table(), put_word_in))
     }
 }
 
@@ -100,7 +100,7 @@ fn each_once(alloc: Global, words: Vec<(u32, u32)>) -> Result<Read<PutWords>, Al
 }
 
 /// The words that the file's table states.
-pub(crate) fn read_words(alloc: Global, table: &Table) -> Result<Read<PutWords>, AllocError>
+pub(crate) fn put_words_in(alloc: Global, table: &Table) -> Result<Read<PutWords>, AllocError>
     ensures { IfOk result (λ reading. reading ≡ put_words_in (table_view table.now)) }
 {
     match tables(alloc, &(), value_at(table, "word"))? {

@@ -12,4 +12,4 @@ returns c =
     subst
     (λ f. IsStarted f c.args.profile (record { regs = c.set.new.self.regs; bus = record { memc = c.set_controller.new.memc; ioc = c.set.new.self.bus.ioc; vidc = c.set.new.self.bus.vidc }; profile = c.set.new.self.profile }))
     same
-    (started file c.args.profile (shift_of_size c.page_size.result) c.r15.result c.registers.result.now c.in_ok-machine.machine c.set_words.new.machine c.set.new.self c.set_controller.new.memc c.in_ok-machine.ensures c.set_words.ensures c.set.ensures (c.registers.ensures.words ∙ sym (ap (λ f. f.processor.registers) same)) c.registers.ensures.all c.r15.ensures c.set_controller.ensures)
+    (started file c.args.profile (shift_of_size c.page_size.result) c.r15_in.result c.registers.result.now c.in_ok-machine.machine c.set_words.new.machine c.set.new.self c.set_controller.new.memc c.in_ok-machine.ensures c.set_words.ensures c.set.ensures (c.registers.ensures.words ∙ sym (ap (λ f. f.processor.registers) same)) c.registers.ensures.all c.r15_in.ensures c.set_controller.ensures)

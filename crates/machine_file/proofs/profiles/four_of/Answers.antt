@@ -5,7 +5,7 @@ use Rattle.toml_reading.specs.Readings.{both}
 use Rattle.machine_file.specs.ProfileFaults.{profile_faults}
 use Rattle.machine_file.specs.ProfileFile.{four_of}
 use Rattle.machine_file.proofs.ProfileLemmas.{has_four, not_four}
-use Rattle.machine_file.proofs.profiles.four_numbers.Goals as goal
+use Rattle.machine_file.proofs.profiles.four_of.Goals as goal
 
 pub returns-in-len4 : goal.returns-in-len4
 returns-in-len4 c =

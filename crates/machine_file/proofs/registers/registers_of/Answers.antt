@@ -5,7 +5,7 @@ use Rattle.toml_reading.proofs.ReadingLemmas.{all_length}
 use Rattle.machine_file.specs.MachineFaults.{machine_faults}
 use Rattle.machine_file.specs.MachineFile.{register_in}
 use Rattle.machine_file.specs.Names.{named_registers}
-use Rattle.machine_file.proofs.registers.of_table.Goals as goal
+use Rattle.machine_file.proofs.registers.registers_of.Goals as goal
 
 pub as_bank-reading-requires : goal.as_bank-reading-requires
 as_bank-reading-requires c =

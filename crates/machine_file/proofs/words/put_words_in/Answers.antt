@@ -5,7 +5,7 @@ use Rattle.toml_reading.specs.Readings.{items_in}
 use Rattle.machine_file.specs.MachineFaults.{machine_faults}
 use Rattle.machine_file.specs.MachineFile.{put_word_at}
 use Rattle.machine_file.proofs.PutWordLemmas.{words_held}
-use Rattle.machine_file.proofs.words.read_words.Goals as goal
+use Rattle.machine_file.proofs.words.put_words_in.Goals as goal
 
 pub each_once-requires : goal.each_once-requires
 each_once-requires c =
