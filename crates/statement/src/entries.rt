@@ -32,7 +32,7 @@ pub const ACCESS_KEYS: &[&str] = &["at", "class"];
 /// The most destinations of a target.
 pub const MOST_DESTINATIONS: usize = 64;
 
-fn label_address(address: Option<u32>) -> Read<u32>
+fn labelled(address: Option<u32>) -> Read<u32>
     ensures { result ≡ labelled address }
 {
     match address {
@@ -42,27 +42,24 @@ fn label_address(address: Option<u32>) -> Read<u32>
 }
 
 // An address, as an integer or as a label's name.
-fn address(labels: &Labels, value: &Value) -> Read<u32>
+fn address_at(labels: &Labels, value: &Value) -> Read<u32>
     ensures { result ≡ address_at (address_of labels.now) (view value.now) }
 {
     if let Some(number) = value.as_integer() {
         return in_space(number);
     }
-    required(
-        value.as_str(),
-        |name| label_address(labels.get(name.as_bytes())),
-    )
+    required(value.as_str(), |name| labelled(labels.get(name.as_bytes())))
 }
 
 /// The address at a key that must be there.
-pub(crate) fn required_address(labels: &Labels, table: &Table, key: &str) -> Read<u32>
+pub(crate) fn address_in(labels: &Labels, table: &Table, key: &str) -> Read<u32>
     ensures { result ≡ address_in (address_of labels.now) key.now (table_view table.now) }
 {
-    required(value_at(table, key), |value| address(labels, value))
+    required(value_at(table, key), |value| address_at(labels, value))
 }
 
 // The loop of its first and last word, its header and its bound.
-fn placed(parts: ((u32, u32), (u32, u32))) -> Read<Loop>
+fn placed_loop(parts: ((u32, u32), (u32, u32))) -> Read<Loop>
     ensures { result ≡ placed_loop parts }
 {
     let ((first, last), (header, bound)) = parts;
@@ -82,20 +79,20 @@ fn loop_parts(labels: &Labels, table: &Table) -> Read<((u32, u32), (u32, u32))>
     ensures { result ≡ loop_parts (address_of labels.now) (table_view table.now) }
 {
     let ends = pair(
-        required_address(labels, table, "first"),
-        required_address(labels, table, "last"),
+        address_in(labels, table, "first"),
+        address_in(labels, table, "last"),
     );
     let rest = pair(
-        required_address(labels, table, "header"),
+        address_in(labels, table, "header"),
         required_number(table, "bound", MOST_ROUNDS),
     );
     pair(ends, rest)
 }
 
-fn read_loop(labels: &Labels, table: &Table) -> Read<Loop>
+fn loop_in(labels: &Labels, table: &Table) -> Read<Loop>
     ensures { result ≡ loop_in (address_of labels.now) (table_view table.now) }
 {
-    let reading = loop_parts(labels, table).and_then(placed);
+    let reading = loop_parts(labels, table).and_then(placed_loop);
     check(
         only_keys(LOOP_KEYS, table),
         StatementFault::UnknownKey,
@@ -107,7 +104,7 @@ impl Entry<Labels, StatementFault> for Loop {
     ghost reads = { λ labels. loop_at (address_of labels) };
 
     fn read(_alloc: Global, labels: &Labels, value: &Value) -> Result<Read<Loop>, AllocError> {
-        Ok(required(value.as_table(), |table| read_loop(labels, table)))
+        Ok(required(value.as_table(), |table| loop_in(labels, table)))
     }
 }
 
@@ -116,11 +113,11 @@ impl Entry<Labels, StatementFault> for u32 {
     ghost reads = { λ labels. address_at (address_of labels) };
 
     fn read(_alloc: Global, labels: &Labels, value: &Value) -> Result<Read<u32>, AllocError> {
-        Ok(address(labels, value))
+        Ok(address_at(labels, value))
     }
 }
 
-fn class_named(word: &str) -> Option<Class>
+fn named_class(word: &str) -> Option<Class>
     ensures { result ≡ named_class word.now }
 {
     match word {
@@ -133,22 +130,22 @@ fn class_named(word: &str) -> Option<Class>
 }
 
 /// A class's word.
-pub(crate) fn class(value: &Value) -> Read<Class>
+pub(crate) fn class_at(value: &Value) -> Read<Class>
     ensures { result ≡ class_at (view value.now) }
 {
-    required(value.as_str().and_then(class_named), Ok)
+    required(value.as_str().and_then(named_class), Ok)
 }
 
-fn required_class(table: &Table) -> Read<Class>
+fn class_in(table: &Table) -> Read<Class>
     ensures { result ≡ class_in (table_view table.now) }
 {
-    required(value_at(table, "class"), class)
+    required(value_at(table, "class"), class_at)
 }
 
-fn read_access(labels: &Labels, table: &Table) -> Read<(u32, Class)>
+fn access_in(labels: &Labels, table: &Table) -> Read<(u32, Class)>
     ensures { result ≡ access_in (address_of labels.now) (table_view table.now) }
 {
-    let reading = pair(required_address(labels, table, "at"), required_class(table));
+    let reading = pair(address_in(labels, table, "at"), class_in(table));
     check(
         only_keys(ACCESS_KEYS, table),
         StatementFault::UnknownKey,
@@ -164,11 +161,11 @@ impl Entry<Labels, StatementFault> for (u32, Class) {
         labels: &Labels,
         value: &Value,
     ) -> Result<Read<(u32, Class)>, AllocError> {
-        Ok(required(value.as_table(), |table| read_access(labels, table)))
+        Ok(required(value.as_table(), |table| access_in(labels, table)))
     }
 }
 
-fn kind_named(word: &str) -> Option<TargetKind>
+fn named_kind(word: &str) -> Option<TargetKind>
     ensures { result ≡ named_kind word.now }
 {
     match word {
@@ -180,16 +177,16 @@ fn kind_named(word: &str) -> Option<TargetKind>
     }
 }
 
-fn kind(value: &Value) -> Read<TargetKind>
+fn kind_at(value: &Value) -> Read<TargetKind>
     ensures { result ≡ kind_at (view value.now) }
 {
-    required(value.as_str().and_then(kind_named), Ok)
+    required(value.as_str().and_then(named_kind), Ok)
 }
 
-fn required_kind(table: &Table) -> Read<TargetKind>
+fn kind_in(table: &Table) -> Read<TargetKind>
     ensures { result ≡ kind_in (table_view table.now) }
 {
-    required(value_at(table, "kind"), kind)
+    required(value_at(table, "kind"), kind_at)
 }
 
 // The list, where no address is in it twice.
@@ -204,7 +201,7 @@ fn each_once(alloc: Global, to: Vec<u32>) -> Result<Read<Vec<u32>>, AllocError>
 }
 
 // The destinations of a jump or a call.
-fn read_destinations(
+fn some_destinations(
     alloc: Global,
     labels: &Labels,
     values: &[Value],
@@ -221,7 +218,7 @@ fn read_destinations(
     }
 }
 
-fn called_or_jumped(
+fn destinations_at(
     alloc: Global,
     labels: &Labels,
     value: &Value,
@@ -229,12 +226,12 @@ fn called_or_jumped(
     ensures { IfOk result (λ list. items_in list ≡ destinations_at (address_of labels.now) (view value.now)) }
 {
     match values_of(value) {
-        Some(values) => read_destinations(alloc, labels, values),
+        Some(values) => some_destinations(alloc, labels, values),
         None => Ok(Err(StatementFault::WrongKind)),
     }
 }
 
-fn destinations_of(
+fn destinations(
     alloc: Global,
     labels: &Labels,
     value: Option<&Value>,
@@ -246,7 +243,7 @@ fn destinations_of(
 {
     match kind {
         TargetKind::Jump | TargetKind::Call => match value {
-            Some(value) => called_or_jumped(alloc, labels, value),
+            Some(value) => destinations_at(alloc, labels, value),
             None => Ok(Err(StatementFault::WrongKind)),
         },
         TargetKind::Return | TargetKind::Leave => match value {
@@ -270,22 +267,22 @@ fn direct(
         Ok(kind) => kind,
         Err(fault) => return Ok(Err(fault)),
     };
-    match destinations_of(alloc, labels, value, kind)? {
+    match destinations(alloc, labels, value, kind)? {
         Ok(to) => Ok(Ok(Target { kind, to })),
         Err(fault) => Ok(Err(fault)),
     }
 }
 
-fn read_target(
+fn target_in(
     alloc: Global,
     labels: &Labels,
     table: &Table,
 ) -> Result<Read<(u32, Target)>, AllocError>
     ensures { IfOk result (λ reading. reading ≡ target_in (address_of labels.now) (table_view table.now)) }
 {
-    let kind = required_kind(table);
+    let kind = kind_in(table);
     let target = direct(alloc, labels, value_at(table, "to"), kind)?;
-    let reading = pair(required_address(labels, table, "at"), target);
+    let reading = pair(address_in(labels, table, "at"), target);
     Ok(check(
         only_keys(TARGET_KEYS, table),
         StatementFault::UnknownKey,
@@ -302,7 +299,7 @@ impl Entry<Labels, StatementFault> for (u32, Target) {
         value: &Value,
     ) -> Result<Read<(u32, Target)>, AllocError> {
         match value.as_table() {
-            Some(table) => read_target(alloc, labels, table),
+            Some(table) => target_in(alloc, labels, table),
             None => Ok(Err(StatementFault::WrongKind)),
         }
     }

@@ -6,7 +6,7 @@ ghost use Rattle.statement.specs.ReadingParts.{AreParts, parts_in};
 ghost use Rattle.statement.specs.Statement.{IsStatement, ends_in, leave_in, parts_of, stated_by_parts};
 ghost use Rattle.statement.specs.Statement.{statement_of};
 
-use crate::entries::{class, required_address};
+use crate::entries::{address_in, class_at};
 use crate::faults::{Read, StatementFault};
 use crate::stated::{Loop, Statement, Target};
 use bus_ticks::Class;
@@ -28,17 +28,17 @@ pub const MOST_TARGETS: usize = 1024;
 pub const MOST_ACCESSES: usize = 4096;
 
 // The class to leave to.
-fn leave(table: &Table) -> Read<Class>
+fn leave_in(table: &Table) -> Read<Class>
     ensures { result ≡ leave_in (table_view table.now) }
 {
-    value_at(table, "leave").map_or(Ok(Class::Any), class)
+    value_at(table, "leave").map_or(Ok(Class::Any), class_at)
 }
 
 // The entry, and the class to leave to.
-fn ends(labels: &Labels, table: &Table) -> Read<(u32, Class)>
+fn ends_in(labels: &Labels, table: &Table) -> Read<(u32, Class)>
     ensures { result ≡ ends_in (address_of labels.now) (table_view table.now) }
 {
-    pair(required_address(labels, table, "entry"), leave(table))
+    pair(address_in(labels, table, "entry"), leave_in(table))
 }
 
 type Parts = (
@@ -71,21 +71,25 @@ fn stated(alloc: Global, parts: Read<Parts>) -> Result<Read<Statement>, AllocErr
 }
 
 // The parts that the table states.
-fn read_parts(alloc: Global, labels: &Labels, table: &Table) -> Result<Read<Parts>, AllocError>
+fn parts_of(alloc: Global, labels: &Labels, table: &Table) -> Result<Read<Parts>, AllocError>
     ensures { IfOk result
         (λ parts. seen parts_in parts ≡ parts_of (address_of labels.now) (table_view table.now)) }
 {
     let loops = tables_up_to(alloc, labels, value_at(table, "loop"), MOST_LOOPS)?;
     let targets = tables_up_to(alloc, labels, value_at(table, "target"), MOST_TARGETS)?;
     let accesses = tables_up_to(alloc, labels, value_at(table, "access"), MOST_ACCESSES)?;
-    Ok(pair(pair(ends(labels, table), loops), pair(targets, accesses)))
+    Ok(pair(pair(ends_in(labels, table), loops), pair(targets, accesses)))
 }
 
 // What the table states.
-fn of_table(alloc: Global, labels: &Labels, table: &Table) -> Result<Read<Statement>, AllocError>
+fn statement_of(
+    alloc: Global,
+    labels: &Labels,
+    table: &Table,
+) -> Result<Read<Statement>, AllocError>
     ensures { IfOk result (λ reading. reading ≡ statement_of (address_of labels.now) (table_view table.now)) }
 {
-    let reading = stated(alloc, read_parts(alloc, labels, table)?)?;
+    let reading = stated(alloc, parts_of(alloc, labels, table)?)?;
     Ok(check(
         only_keys(STATEMENT_KEYS, table),
         StatementFault::UnknownKey,
@@ -104,7 +108,7 @@ pub fn read_statement(
     ensures { result ≢ Err StatementFault.Memory → IsStatement text.now (address_of labels.now) result }
 {
     match document(alloc, text)? {
-        Some(table) => of_table(alloc, labels, &table)?,
+        Some(table) => statement_of(alloc, labels, &table)?,
         None => Err(StatementFault::NotToml),
     }
 }

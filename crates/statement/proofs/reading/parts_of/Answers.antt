@@ -6,7 +6,7 @@ use Rattle.statement.specs.ReadingParts.{parts_in}
 use Rattle.statement.specs.Statement.{access_at, loop_at, target_at}
 use Rattle.statement.specs.StatementFaults.{statement_faults}
 use Rattle.statement.proofs.StatementLemmas.{stored}
-use Rattle.statement.proofs.reading.read_parts.Goals as goal
+use Rattle.statement.proofs.reading.parts_of.Goals as goal
 
 pub returns : goal.returns
 returns c =
@@ -15,5 +15,5 @@ returns c =
     let targets = c.in_ok-targets.ensures ∙ ap (tables_up_to statement_faults 1024 (target_at names)) c.value_at-2.ensures in
     let accesses = c.in_ok-accesses.ensures ∙ ap (tables_up_to statement_faults 4096 (access_at names)) c.value_at-3.ensures in
     ap (seen parts_in) (c.pair-3.ensures ∙ (λ i. both statement_faults (c.pair.ensures i) (c.pair-2.ensures i)))
-    ∙ stored c.ends.result c.in_ok-loops.loops c.in_ok-targets.targets c.in_ok-accesses.accesses
-    ∙ (λ i. both statement_faults (both statement_faults (c.ends.ensures i) (loops i)) (both statement_faults (targets i) (accesses i)))
+    ∙ stored c.ends_in.result c.in_ok-loops.loops c.in_ok-targets.targets c.in_ok-accesses.accesses
+    ∙ (λ i. both statement_faults (both statement_faults (c.ends_in.ensures i) (loops i)) (both statement_faults (targets i) (accesses i)))
