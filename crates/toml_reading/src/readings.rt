@@ -29,7 +29,7 @@ pub trait Fault: Copy + Drop {
         ensures { result ≡ out_of_range_of faults };
 }
 
-fn lowest<F: Fault>(fault: F, other: F) -> F
+fn lower<F: Fault>(fault: F, other: F) -> F
     ensures { result ≡ lower F.faults fault other }
 {
     if fault.rank() <= other.rank() {
@@ -40,13 +40,13 @@ fn lowest<F: Fault>(fault: F, other: F) -> F
 }
 
 // The lower of a fault and another, if there is one.
-fn lowest_with<F: Fault>(fault: F, other: Option<F>) -> F
+fn lower_with<F: Fault>(fault: F, other: Option<F>) -> F
     ensures { result ≡ lower_with F.faults fault other }
 {
     let Some(other) = other else {
         return fault;
     };
-    lowest(fault, other)
+    lower(fault, other)
 }
 
 /// What is read of a value that must be there.
@@ -70,7 +70,7 @@ pub fn check<T: Drop, F: Fault>(holds: bool, fault: F, reading: Reading<T, F>) -
     if holds {
         return reading;
     }
-    Err(lowest_with(fault, reading.err()))
+    Err(lower_with(fault, reading.err()))
 }
 
 /// Two parts.
@@ -82,7 +82,7 @@ pub fn pair<T: Drop, U: Drop, F: Fault>(
 {
     let a = match first {
         Ok(a) => a,
-        Err(fault) => return Err(lowest_with(fault, second.err())),
+        Err(fault) => return Err(lower_with(fault, second.err())),
     };
     match second {
         Ok(b) => Ok((a, b)),
@@ -99,7 +99,7 @@ pub fn append<T: Drop, F: Fault>(
 {
     let mut items = match list {
         Ok(items) => items,
-        Err(fault) => return Ok(Err(lowest_with(fault, next.err()))),
+        Err(fault) => return Ok(Err(lower_with(fault, next.err()))),
     };
     let item = match next {
         Ok(item) => item,
