@@ -34,7 +34,7 @@ fn headers(alloc: Global, spans: &[Span], size: usize) -> Result<Vec<Option<Span
 }
 
 /// Whether a span begins at the number.
-pub(crate) fn is_header(spans: &[Span], headers: &[Option<Span>], number: usize) -> bool
+pub(crate) fn is_header_in(spans: &[Span], headers: &[Option<Span>], number: usize) -> bool
     requires headers { AreHeaders spans.now headers.now }
     requires known { number < length headers.now }
     ensures { result ≡ is_header_in spans.now number }

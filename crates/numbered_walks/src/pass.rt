@@ -4,7 +4,7 @@ ghost use Rattle.numbered_walks.specs.Index.{IsNumberedGraph, span_at};
 ghost use Rattle.numbered_walks.specs.Tables.{AllEntered, HasRoom, IsPassed};
 
 use crate::graph::NumberedGraph;
-use crate::index::is_header;
+use crate::index::is_header_in;
 use crate::row::heaviest;
 use crate::tables::{Tables, write_place, write_round};
 
@@ -26,7 +26,7 @@ fn pass_place(graph: NumberedGraph<'_>, tables: &mut Tables, place: usize) -> bo
     match heaviest(graph, tables, &graph.index.entering[place]) {
         None => false,
         Some(value) => {
-            let header = is_header(graph.spans, &graph.index.headers, place);
+            let header = is_header_in(graph.spans, &graph.index.headers, place);
             write_place(tables, graph.spans, header, place, value);
             true
         }

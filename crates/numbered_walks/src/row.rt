@@ -5,7 +5,7 @@ ghost use Rattle.numbered_walks.specs.Tables.{IsHeaviest, IsNotFit, needed, stay
 
 use crate::graph::NumberedGraph;
 use crate::span::{NumberedEdge, Span};
-use crate::tables::{Tables, arrival, distance, round};
+use crate::tables::{Tables, arrival_of, distance_of, round_of};
 
 // Whether the number is that of a member.
 fn holds(span: &Span, number: usize) -> bool
@@ -20,8 +20,8 @@ fn stay(tables: &Tables, span: &Span) -> Option<u64>
         (λ n. n ≡ stay_of tables.now span.now) }
 {
     u64::from(span.bound)
-        .checked_mul(round(tables, span))?
-        .checked_add(arrival(tables, span))
+        .checked_mul(round_of(tables, span))?
+        .checked_add(arrival_of(tables, span))
 }
 
 // What the edge's row asks for with these spans, if it is below 2^64.
@@ -35,7 +35,7 @@ fn needed_with(spans: &[Span], tables: &Tables, edge: &NumberedEdge) -> Option<u
             sum = sum.checked_add(stay(tables, span)?)?;
         }
     }
-    distance(tables, edge.from)
+    distance_of(tables, edge.from)
         .checked_add(sum)?
         .checked_add(u64::from(edge.cost))
 }

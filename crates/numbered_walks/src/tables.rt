@@ -19,21 +19,21 @@ pub struct Tables {
 }
 
 /// The distance of a number.
-pub(crate) fn distance(tables: &Tables, number: usize) -> u64
+pub(crate) fn distance_of(tables: &Tables, number: usize) -> u64
     ensures { result ≡ distance_of tables.now number }
 {
     tables.distances.get(number).copied().unwrap_or(0)
 }
 
 /// The arrival of an instance.
-pub(crate) fn arrival(tables: &Tables, span: &Span) -> u64
+pub(crate) fn arrival_of(tables: &Tables, span: &Span) -> u64
     ensures { result ≡ arrival_of tables.now span.now }
 {
     tables.arrivals.get(span.header).copied().unwrap_or(0)
 }
 
 /// The round of an instance.
-pub(crate) fn round(tables: &Tables, span: &Span) -> u64
+pub(crate) fn round_of(tables: &Tables, span: &Span) -> u64
     ensures { result ≡ round_of tables.now span.now }
 {
     tables.rounds.get(span.header).copied().unwrap_or(0)

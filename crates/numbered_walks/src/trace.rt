@@ -4,10 +4,10 @@ ghost use Rattle.numbered_walks.specs.Tables.{needed, number_of, round_of};
 ghost use Rattle.numbered_walks.specs.Found.{AreFound, IsEntering, IsTurning};
 
 use crate::graph::NumberedGraph;
-use crate::index::is_header;
+use crate::index::is_header_in;
 use crate::row::needed_in;
 use crate::span::{NumberedEdge, Span};
-use crate::tables::{Tables, distance, round};
+use crate::tables::{Tables, distance_of, round_of};
 
 // Whether the edge needs as much as that.
 fn needs(graph: NumberedGraph<'_>, tables: &Tables, edge: &NumberedEdge, number: u64) -> bool
@@ -46,15 +46,15 @@ fn attaining(
 }
 
 // The arrival of the instance that begins at the number, or the number's distance.
-fn number_at(spans: &[Span], headers: &[Option<Span>], tables: &Tables, place: usize) -> u64
+fn number_of(spans: &[Span], headers: &[Option<Span>], tables: &Tables, place: usize) -> u64
     requires headers { AreHeaders spans.now headers.now }
     requires known { place < length headers.now }
     ensures { result ≡ number_of spans.now tables.now place }
 {
-    if is_header(spans, headers, place) {
+    if is_header_in(spans, headers, place) {
         tables.arrivals.get(place).copied().unwrap_or(0)
     } else {
-        distance(tables, place)
+        distance_of(tables, place)
     }
 }
 
@@ -72,7 +72,7 @@ pub fn entering_edge(graph: NumberedGraph<'_>, tables: &Tables, place: usize) ->
     if group.len() == 1 {
         return group[0];
     }
-    let number = number_at(graph.spans, &graph.index.headers, tables, place);
+    let number = number_of(graph.spans, &graph.index.headers, tables, place);
     match attaining(graph, tables, group, number) {
         Some(k) => k,
         None => 0,
@@ -88,7 +88,7 @@ pub fn turning_edge(graph: NumberedGraph<'_>, tables: &Tables, span: &Span) -> O
     ensures { MatchOption result (round_of tables.now span.now ≡ 0)
         (IsTurning graph.entry.edges.now graph.entry.spans.now tables.now span.now) }
 {
-    let number = round(tables, span);
+    let number = round_of(tables, span);
     if number == 0 {
         return None;
     }

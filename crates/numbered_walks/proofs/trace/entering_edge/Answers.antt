@@ -27,15 +27,15 @@ returns-in-Some c =
     let group = c.deref-2.result.now in
     let is_list : group ≡ (get_or c.args.graph.index.now.entering.items p c.index-group.result.now).items = c.deref-2.ensures.value ∙ ap (λ v. v.items) c.index-group.ensures in
     entering_is c.args.graph.exit c.args.graph.edges.now c.args.graph.spans.now c.args.tables.now c.requires.graph.ordered c.requires.found c.args.graph.index.now.entering.items p c.index-group.result.now
-    (omega (arith, c.requires.graph.indexed.all_entering, c.requires.known)) c.requires.graph.indexed.entering c.in-Some.k (subst (λ (l : List ℕ). Contains l c.in-Some.k) is_list c.in-Some.ensures.0) (c.in-Some.ensures.1 ∙ c.number_at-number.ensures)
+    (omega (arith, c.requires.graph.indexed.all_entering, c.requires.known)) c.requires.graph.indexed.entering c.in-Some.k (subst (λ (l : List ℕ). Contains l c.in-Some.k) is_list c.in-Some.ensures.0) (c.in-Some.ensures.1 ∙ c.number_of-number.ensures)
 
 pub returns-in-None : goal.returns-in-None
 returns-in-None c =
     let p = c.args.place in
     let group = c.deref-2.result.now in
     let is_list : group ≡ (get_or c.args.graph.index.now.entering.items p c.index-group.result.now).items = c.deref-2.ensures.value ∙ ap (λ v. v.items) c.index-group.ensures in
-    let none : All (λ k. needed c.args.graph.spans.now c.args.tables.now (edge_at c.args.graph.edges.now k) ≢ c.number_at-number.result) group = c.in-None.ensures in
+    let none : All (λ k. needed c.args.graph.spans.now c.args.tables.now (edge_at c.args.graph.edges.now k) ≢ c.number_of-number.result) group = c.in-None.ensures in
     absurd (some_enters c.args.graph.exit c.args.graph.edges.now c.args.graph.spans.now c.args.tables.now c.requires.graph.ordered c.requires.found c.args.graph.index.now.entering.items p c.index-group.result.now
     (omega (arith, c.requires.graph.indexed.all_entering, c.requires.known)) c.requires.graph.indexed.entering c.requires.later c.requires.known
     (subst (λ (l : List ℕ). All (λ k. needed c.args.graph.spans.now c.args.tables.now (edge_at c.args.graph.edges.now k) ≢ number_of c.args.graph.spans.now c.args.tables.now p) l) is_list
-    (subst (λ (n : ℕ). All (λ k. needed c.args.graph.spans.now c.args.tables.now (edge_at c.args.graph.edges.now k) ≢ n) group) c.number_at-number.ensures none)))
+    (subst (λ (n : ℕ). All (λ k. needed c.args.graph.spans.now c.args.tables.now (edge_at c.args.graph.edges.now k) ≢ n) group) c.number_of-number.ensures none)))
