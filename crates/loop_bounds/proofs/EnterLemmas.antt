@@ -1,3 +1,4 @@
+-- Which edges enter extents elsewhere than at their headers, and the innermost extent that holds a position.
 use Rattle.std.proofs.Common.{◌≡◌, ℕ, ◌-◌, ◌<◌, ◌≤◌, ◌⊎◌, true, false, List, Option, Some, None, IfSome, length, get_or, leb, sym, refl, ap, ◌∙◌, inl, inr, ⊎_elim, arith}
 use Rattle.std.proofs.lemmas.Bool.{cases_order, cases_lt, leb-true, leb-false}
 use Rattle.loop_bounds.specs.declared.extents.Extent.{Extent}

@@ -41,7 +41,7 @@ fn chain_of(chains: &[Vec<usize>], inner: Option<usize>) -> &[usize]
 }
 
 // How the keys of two positions compare.
-fn compare_keyed(chains: &[Vec<usize>], left: &Keyed, right: &Keyed) -> Ordering
+fn by_keys(chains: &[Vec<usize>], left: &Keyed, right: &Keyed) -> Ordering
     ensures { result ≡ by_keys (items_of chains.now) left.now right.now }
 {
     // Most that are compared lie in the same extents.
@@ -88,7 +88,7 @@ pub(crate) fn order(
 {
     let mut keyed = keyed_positions(alloc, extents, nesting, exit)?;
     let chains: &[Vec<usize>] = &nesting.chains;
-    keyed.sort_unstable_by(|left, right| compare_keyed(chains, left, right));
+    keyed.sort_unstable_by(|left, right| by_keys(chains, left, right));
     let mut order = Vec::with_capacity(alloc, exit + 1)?;
     for Keyed { position, .. } in &keyed {
         order.push(*position)?;

@@ -27,7 +27,7 @@ fn compare_keys(calls: &[u32], address: u32, others: &[u32], other: u32) -> Orde
 }
 
 /// How the keys of two places compare.
-pub(crate) fn compare(left: &Place, right: &Place) -> Ordering
+pub(crate) fn by_key(left: &Place, right: &Place) -> Ordering
     ensures { result ≡ by_key left.now right.now }
 {
     match left {
@@ -49,7 +49,7 @@ pub(crate) fn listed(alloc: Global, places: &[Place]) -> Result<Vec<Place>, Allo
     ensures { IfOk result (λ listed. IsListed places.now listed.items) }
 {
     let mut listed = Vec::from_slice(alloc, places)?;
-    listed.sort_unstable_by(|left, right| compare(left, right));
+    listed.sort_unstable_by(|left, right| by_key(left, right));
     Ok(listed)
 }
 
@@ -59,7 +59,7 @@ pub(crate) fn point(listed: &[Place], calls: Calls, address: u32) -> usize
     ensures { IsPoint listed.now (calls ++ address ∷ []) result }
 {
     let bound = Place::At(calls, address);
-    listed.partition_point(|place| compare(place, &bound).is_lt())
+    listed.partition_point(|place| by_key(place, &bound).is_lt())
 }
 
 // The position of a place among the graph's places.
@@ -95,7 +95,7 @@ pub(crate) fn position_of(listed: &[Place], place: &Place) -> usize
     ensures most { result ≤ length listed.now }
 {
     listed
-        .binary_search_by(|other| compare(other, place))
+        .binary_search_by(|other| by_key(other, place))
         .unwrap_or(listed.len())
 }
 
@@ -105,7 +105,7 @@ fn is_at(listed: &[Place], at: usize, place: &Place) -> bool
     ensures here { result ≡ true → place_at listed.now at ≡ place.now }
     ensures inside { result ≡ true → at < length listed.now }
 {
-    at < listed.len() && compare(&listed[at], place).is_eq()
+    at < listed.len() && by_key(&listed[at], place).is_eq()
 }
 
 // The position of a place by key. It is looked for near another one first, since most edges lead to the next

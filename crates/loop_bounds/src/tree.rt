@@ -4,7 +4,7 @@ ghost use Rattle.loop_bounds.specs.Extents.{found_instance};
 ghost use Rattle.loop_bounds.specs.InPositions.{AreHandlerPositions, IsNesting};
 ghost use Rattle.loop_bounds.specs.Keys.{IsListed};
 ghost use Rattle.loop_bounds.specs.Layout.{AreParted};
-ghost use Rattle.loop_bounds.specs.Tree.{IsTree};
+ghost use Rattle.loop_bounds.specs.Tree.{IsTree, place_in};
 ghost use Rattle.loop_bounds.specs.Instance.{Instance, IsInstance};
 ghost use Rattle.loop_bounds.specs.Nest.{Applies, HasSharedHeader, IsNestFault};
 
@@ -68,6 +68,15 @@ impl LoopTree {
     {
         &self.spans
     }
+}
+
+/// The place of a number in the order of the graph's tree; Exit past the end.
+pub fn place_in(graph: &Graph, tree: &LoopTree, number: usize) -> Place
+    ensures { result ≡ place_in graph.now tree.now number }
+{
+    let places = graph.places();
+    let at = tree.order().get(number).copied().unwrap_or(places.len());
+    places.get(at).copied().unwrap_or(Place::Exit)
 }
 
 // The instances in the order of their spans, with these.

@@ -3,7 +3,7 @@ use Rattle.std.specs.Ordering.{nat_cmp}
 use Rattle.std.specs.Cmp.Lexicographic.{slice_cmp}
 use Rattle.loop_bounds.specs.Layout.{chain_above, items_of, kept_key}
 use Rattle.loop_bounds.proofs.KeyLemmas.{compared_after, same_option}
-use Rattle.loop_bounds.proofs.layout.compare_keyed.Goals as goal
+use Rattle.loop_bounds.proofs.layout.by_keys.Goals as goal
 
 pub returns-then-eq : goal.returns-then-eq
 returns-then-eq c =
