@@ -56,7 +56,7 @@ pub(crate) fn last_turn(search: Search<'_>, span: &Span) -> Option<usize>
 }
 
 // Where the walks of a context begin: at the header of an instance, or at the entry.
-fn start(context: Option<Span>) -> usize
+fn start_of(context: Option<Span>) -> usize
     ensures { result ≡ start_of context }
 {
     match context {
@@ -80,7 +80,7 @@ pub(crate) fn trace(
         (λ way. IsWay search.entry.tree.now.edges search.entry.tree.now.spans search.entry.tables.now context
         (start_of context) way.items number) }
 {
-    let first = start(context);
+    let first = start_of(context);
     let mut way = Vec::new(alloc);
     let mut here = number;
     while here != first {
