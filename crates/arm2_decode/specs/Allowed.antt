@@ -16,7 +16,8 @@ is_bad_compare opcode sets_flags = is_compare_number opcode && (sets_flags == 0)
 -- Rd is Rm; R15 is Rd, Rm or Rs; or R15 is Rn, and the multiply accumulates
 abbrev pub is_bad_multiply : ℕ → ℕ → ℕ → ℕ → ℕ → Bool
 is_bad_multiply accumulate rd rn rs rm =
-    (rd == rm) || is_pc_number rd || is_pc_number rm || is_pc_number rs || ((accumulate == 1) && is_pc_number rn)
+    (rd == rm) || is_pc_number rd || is_pc_number rm || is_pc_number rs
+    || ((accumulate == 1) && is_pc_number rn)
 
 -- the base R15, written back
 abbrev pub is_bad_base : ℕ → ℕ → ℕ → Bool

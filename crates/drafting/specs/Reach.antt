@@ -56,7 +56,8 @@ module _ (words : Words) where
   abbrev pub HasPlaces : ℕ → ℕ → Type 0
   HasPlaces at count = (n : ℕ) → (n < count) ↔ IsTablePlace at n
 
-  -- control comes back from where a word leads that writes R15: it does not look like a return
+  -- control comes back from where a word leads that writes R15: it does not look like a return, and the word
+  -- before it puts the return address into R14
   abbrev pub ComesBack : ℕ → Type 0
   ComesBack at = HasShape is_odd_writer words at × HasReturnAddress at
 

@@ -65,7 +65,8 @@ fn has_return_address(image: &Image, at: u32) -> bool
     keeps_return_address_at(image, before(at))
 }
 
-// Whether control comes back from where a word leads that writes R15: not where it looks like a return.
+// Whether control comes back from where a word leads that writes R15: not where it looks like a return, or
+// where the word before it does not put the return address into R14.
 fn comes_back(image: &Image, at: u32) -> bool
     ensures { IsTrue result ↔ ComesBack image.now at }
 {

@@ -77,6 +77,7 @@ pub fn planned_words_are_loaded()
         → IsSome (word_of image a) → GivesWord m a w
         → All (λ e. IsBeside spare e.0 × (e.0 ≢ a)) beside → GivesWord (loaded beside m) a w }
     ensures beside { (beside : Words) → (pages : List PlacedPage) → (spare : ℕ) → (m : Memory) → (a w : ℕ)
-        → IsMapped pages m → spare < PHYSICAL_PAGES → All (λ e. IsBeside spare e.0 × (e.0 ≡ a → e.1 ≡ w)) beside
+        → IsMapped pages m → spare < PHYSICAL_PAGES
+        → All (λ e. IsBeside spare e.0 × (e.0 ≡ a → e.1 ≡ w)) beside
         → Contains beside (a, w) → GivesWord (loaded beside m) a w }
 {}
