@@ -13,7 +13,7 @@ const USUAL: usize = 16;
 
 /// A byte that is no letter, digit, `_`, blank or comma.
 #[derive(Clone, Copy)]
-pub(crate) enum Mark {
+pub enum Mark {
     /// `#`
     Hash,
     /// `-`
