@@ -138,7 +138,8 @@ page_in ms =
     ms
     (seen page_of
     (both machine_faults
-    (both machine_faults (word_in machine_faults (codes "logical") ms) (word_in machine_faults (codes "physical") ms))
+    (both machine_faults (word_in machine_faults (codes "logical") ms)
+    (word_in machine_faults (codes "physical") ms))
     (word_in machine_faults (codes "level") ms)))
 
 abbrev pub page_at : Data → Read MappedPage

@@ -46,8 +46,10 @@ abbrev pub other_prices_in : Members → Read Four
 other_prices_in ms =
     both
     profile_faults
-    (both profile_faults (word_in profile_faults (codes "control") ms) (word_in profile_faults (codes "unfitted") ms))
-    (both profile_faults (word_in profile_faults (codes "internal") ms) (word_in profile_faults (codes "burst") ms))
+    (both profile_faults (word_in profile_faults (codes "control") ms)
+    (word_in profile_faults (codes "unfitted") ms))
+    (both profile_faults (word_in profile_faults (codes "internal") ms)
+    (word_in profile_faults (codes "burst") ms))
 
 -- ## The fifteen numbers
 

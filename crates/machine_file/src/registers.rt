@@ -69,7 +69,8 @@ impl Model for Bank {
 fn words(alloc: Global, table: &Table, names: &[&str]) -> Result<Read<Vec<u32>>, AllocError>
     ensures { IfOk result
         (λ list. items_in list
-        ≡ all machine_faults (map (λ name. word_or machine_faults name.now 0 (table_view table.now)) names.now)) }
+        ≡ all machine_faults
+        (map (λ name. word_or machine_faults name.now 0 (table_view table.now)) names.now)) }
 {
     let mut list = Ok(Vec::new(alloc));
     for name in names {
