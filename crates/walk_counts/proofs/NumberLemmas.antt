@@ -20,7 +20,7 @@ use Rattle.flow_graph.proofs.PlaceLemmas.{by_order_exact, place_exact, place_tot
 use Rattle.loop_bounds.proofs.Positions.{known}
 use Rattle.longest_walk.specs.Built.{step_at}
 use Rattle.flow_graph.proofs.Firsts.{no_edge, whole_range}
-use Rattle.walk_counts.specs.Counts.{is_same, is_same_label, is_same_place, number_of}
+use Rattle.walk_counts.specs.Counts.{is_same_edge, is_same_label, is_same_place, number_of}
 
 -- ## The same edge
 
@@ -44,14 +44,14 @@ made : (e f : Edge) → e.from ≡ f.from → e.label ≡ f.label → e.to ≡ f
 made e f from label to cost = λ i. record { from = from i; label = label i; to = to i; cost = cost i }
 
 -- edges that pass the test are one
-pub one_edge : (e f : Edge) → is_same e f ≡ true → e ≡ f
+pub one_edge : (e f : Edge) → is_same_edge e f ≡ true → e ≡ f
 one_edge e f is =
     let from = and_parts (is_same_place e.from f.from) (is_same_label e.label f.label && (is_same_place e.to f.to && nat_eq e.cost f.cost)) is in
     let label = and_parts (is_same_label e.label f.label) (is_same_place e.to f.to && nat_eq e.cost f.cost) from.1 in
     let to = and_parts (is_same_place e.to f.to) (nat_eq e.cost f.cost) label.1 in
     made e f (one_place e.from f.from from.0) (one_label e.label f.label label.0) (one_place e.to f.to to.0) (eqb-true e.cost f.cost to.1)
 
-own_edge : (e : Edge) → is_same e e ≡ true
+own_edge : (e : Edge) → is_same_edge e e ≡ true
 own_edge e =
     and_from (is_same_place e.from e.from) (is_same_label e.label e.label && (is_same_place e.to e.to && nat_eq e.cost e.cost)) (own_place e.from)
     (and_from (is_same_label e.label e.label) (is_same_place e.to e.to && nat_eq e.cost e.cost) (own_label e.label)
@@ -60,40 +60,40 @@ own_edge e =
 -- an edge of the list has a number in it, and is the edge with the number
 pub known_edge : (edges : List Edge) (e : Edge) → Contains edges e → (number_of edges e < length edges) × (step_at edges (number_of edges e) ≡ e)
 known_edge edges e has =
-    let pass : is_same e (get_or edges has.0 e) ≡ true = subst (λ f. is_same e f ≡ true) (sym has.2) (own_edge e) in
+    let pass : is_same_edge e (get_or edges has.0 e) ≡ true = subst (λ f. is_same_edge e f ≡ true) (sym has.2) (own_edge e) in
     let inside : number_of edges e < length edges = ⊎_elim
-    (λ (before : has.0 < number_of edges e). absurd (both_ways (is_same e (get_or edges has.0 e)) (fails_before_first (is_same e) edges has.0 e before) pass))
+    (λ (before : has.0 < number_of edges e). absurd (both_ways (is_same_edge e (get_or edges has.0 e)) (fails_before_first (is_same_edge e) edges has.0 e before) pass))
     (λ (le : number_of edges e ≤ has.0). let lt : has.0 < length edges = has.1 in let goal : number_of edges e < length edges = omega arith in goal)
     (cases_lt has.0 (number_of edges e)) in
-    (inside, sym (one_edge e (step_at edges (number_of edges e)) (passes_at_first (is_same e) edges no_edge inside)))
+    (inside, sym (one_edge e (step_at edges (number_of edges e)) (passes_at_first (is_same_edge e) edges no_edge inside)))
 
 module _ (flow : Flow) (place : Place) (first end : ℕ) (range : IsEdgeRange flow place first end) (e : Edge) (leaves : place ≡ e.from) where
-  outside : (k : ℕ) → k < length flow.edges → (first ≤ k → k < end → ⊥) → is_same e (step_at flow.edges k) ≡ false
+  outside : (k : ℕ) → k < length flow.edges → (first ≤ k → k < end → ⊥) → is_same_edge e (step_at flow.edges k) ≡ false
   outside k k_in out = ⊎_elim
       (λ is.
       let from = sym (ap (λ (f : Edge). f.from) (one_edge e (step_at flow.edges k) is)) ∙ sym leaves in
       let at = whole_range flow place first end range k no_edge k_in from in
       absurd (out at.0 at.1))
       (λ fails. fails)
-      (cases_Bool (is_same e (step_at flow.edges k)))
+      (cases_Bool (is_same_edge e (step_at flow.edges k)))
 
-  pub fail_before : (k : ℕ) → k < first → is_same e (step_at flow.edges k) ≡ false
+  pub fail_before : (k : ℕ) → k < first → is_same_edge e (step_at flow.edges k) ≡ false
   fail_before k less = outside k (omega (arith, range.ordered, range.fits)) (λ low high. omega arith)
 
   -- what is tested of an edge of the range
-  pub tested : (k : ℕ) → k < end → (es : List Edge) (f : Edge) (r b : Bool) → es ≡ flow.edges → f ≡ get_or es k f → r ≡ is_same e f → r ≡ b → is_same e (step_at flow.edges k) ≡ b
+  pub tested : (k : ℕ) → k < end → (es : List Edge) (f : Edge) (r b : Bool) → es ≡ flow.edges → f ≡ get_or es k f → r ≡ is_same_edge e f → r ≡ b → is_same_edge e (step_at flow.edges k) ≡ b
   tested k high es f r b are at is answer =
       let same : f ≡ step_at flow.edges k = at ∙ ap (λ (xs : List Edge). get_or xs k f) are ∙ get_or_default flow.edges k f no_edge (omega (arith, high, range.fits)) in
-      ap (is_same e) (sym same) ∙ sym is ∙ answer
+      ap (is_same_edge e) (sym same) ∙ sym is ∙ answer
 
-  pub found_here : (k : ℕ) → k < end → ((j : ℕ) → j < k → is_same e (step_at flow.edges j) ≡ false) → is_same e (step_at flow.edges k) ≡ true → (k ≡ number_of flow.edges e) × (k < length flow.edges)
+  pub found_here : (k : ℕ) → k < end → ((j : ℕ) → j < k → is_same_edge e (step_at flow.edges j) ≡ false) → is_same_edge e (step_at flow.edges k) ≡ true → (k ≡ number_of flow.edges e) × (k < length flow.edges)
   found_here k high before at =
       let k_in : k < length flow.edges = omega (arith, range.fits) in
-      (sym (position_or_len_is (is_same e) flow.edges k no_edge (omega arith) before (λ _. at)), k_in)
+      (sym (position_or_len_is (is_same_edge e) flow.edges k no_edge (omega arith) before (λ _. at)), k_in)
 
-  pub found_nowhere : (k : ℕ) → end ≤ k → ((j : ℕ) → j < k → is_same e (step_at flow.edges j) ≡ false) → length flow.edges ≤ number_of flow.edges e
+  pub found_nowhere : (k : ℕ) → end ≤ k → ((j : ℕ) → j < k → is_same_edge e (step_at flow.edges j) ≡ false) → length flow.edges ≤ number_of flow.edges e
   found_nowhere k past before =
-      let none : number_of flow.edges e ≡ length flow.edges = position_or_len_is (is_same e) flow.edges (length flow.edges) no_edge (omega arith)
+      let none : number_of flow.edges e ≡ length flow.edges = position_or_len_is (is_same_edge e) flow.edges (length flow.edges) no_edge (omega arith)
       (λ j j_in. ⊎_elim
       (λ (less : j < k). before j less)
       (λ (more : k ≤ j). outside j j_in (λ low high. omega arith))
@@ -111,12 +111,12 @@ module _ (flow : Flow) (well : IsWellFormed flow) where
   pub place_missed : (v : ℕ) (e : Edge) → IsSearchInRange (Err v) (length flow.places) → IsBinarySearchResult (λ q. by_order q e.from) flow.places (Err v) → length flow.edges ≤ number_of flow.edges e
   place_missed v e range missed =
       let no_place : Contains flow.places e.from → ⊥ = (known flow.places e.from (Err v) well.ordered range missed).1 refl in
-      let none : number_of flow.edges e ≡ length flow.edges = position_or_len_is (is_same e) flow.edges (length flow.edges) no_edge (omega arith)
+      let none : number_of flow.edges e ≡ length flow.edges = position_or_len_is (is_same_edge e) flow.edges (length flow.edges) no_edge (omega arith)
       (λ j j_in. ⊎_elim
       (λ is.
       let same = one_edge e (step_at flow.edges j) is in
       absurd (no_place (subst (Contains flow.places) (sym (ap (λ (f : Edge). f.from) same)) (well.starts (step_at flow.edges j) (j, j_in, get_or_default flow.edges j (step_at flow.edges j) no_edge j_in)))))
       (λ fails. fails)
-      (cases_Bool (is_same e (step_at flow.edges j))))
+      (cases_Bool (is_same_edge e (step_at flow.edges j))))
       (λ lt. absurd (omega arith)) in
       omega arith

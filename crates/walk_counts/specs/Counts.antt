@@ -23,14 +23,14 @@ is_same_label Skip Do = false
 is_same_label Do Skip = false
 
 -- the same in all parts
-abbrev pub is_same : Edge → Edge → Bool
-is_same e f =
+abbrev pub is_same_edge : Edge → Edge → Bool
+is_same_edge e f =
     is_same_place e.from f.from
     && (is_same_label e.label f.label && (is_same_place e.to f.to && (e.cost == f.cost)))
 
 -- that of the first in the list that is the same; the list's length without one
 abbrev pub number_of : List Edge → Edge → ℕ
-number_of edges e = position_or_len (is_same e) edges
+number_of edges e = position_or_len (is_same_edge e) edges
 
 -- ## Counts
 

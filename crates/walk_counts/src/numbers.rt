@@ -1,11 +1,11 @@
 ghost use Rattle.std.specs.Prelude.{◌≡◌, ◌<◌, ◌≤◌, MatchOption, length};
 ghost use Rattle.flow_graph.specs.Places.{place_at, place_cmp};
-ghost use Rattle.walk_counts.specs.Counts.{is_same, is_same_label, is_same_place, number_of};
+ghost use Rattle.walk_counts.specs.Counts.{is_same_edge, is_same_label, is_same_place, number_of};
 
 use flow_graph::{Edge, Graph, Label, Place, order_of_places};
 use std::cmp::Ordering;
 
-fn same_place(place: &Place, other: &Place) -> bool
+fn is_same_place(place: &Place, other: &Place) -> bool
     ensures { result ≡ is_same_place place.now other.now }
 {
     order_of_places();
@@ -22,12 +22,12 @@ pub fn is_same_label(label: Label, other: Label) -> bool
     }
 }
 
-fn same_edge(edge: &Edge, other: &Edge) -> bool
-    ensures { result ≡ is_same edge.now other.now }
+fn is_same_edge(edge: &Edge, other: &Edge) -> bool
+    ensures { result ≡ is_same_edge edge.now other.now }
 {
-    same_place(&edge.from, &other.from)
+    is_same_place(&edge.from, &other.from)
         && is_same_label(edge.label, other.label)
-        && same_place(&edge.to, &other.to)
+        && is_same_place(&edge.to, &other.to)
         && edge.cost == other.cost
 }
 
@@ -40,7 +40,7 @@ fn number_at(graph: &Graph, place: usize, edge: &Edge) -> Option<usize>
 {
     let (first, end) = graph.edge_range(place);
     for number in first..end {
-        if same_edge(edge, &graph.edges()[number]) {
+        if is_same_edge(edge, &graph.edges()[number]) {
             return Some(number);
         }
     }

@@ -1,7 +1,7 @@
 use Rattle.std.proofs.Common.{◌≡◌, below_more, false, true}
 use Rattle.flow_graph.specs.Places.{place_at}
 use Rattle.longest_walk.specs.Built.{step_at}
-use Rattle.walk_counts.specs.Counts.{is_same}
+use Rattle.walk_counts.specs.Counts.{is_same_edge}
 use Rattle.walk_counts.proofs.NumberLemmas.{fail_before, found_here, found_nowhere, tested}
 use Rattle.walk_counts.proofs.numbers.number_at.Goals as goal
 
@@ -12,18 +12,18 @@ loop-number-init c =
 pub loop-number-preserved : goal.loop-number-preserved
 loop-number-preserved c =
     let flow = c.args.graph.now in
-    below_more (λ k. is_same c.args.edge.now (step_at flow.edges k) ≡ false) _ c.loop-number.invariant
+    below_more (λ k. is_same_edge c.args.edge.now (step_at flow.edges k) ≡ false) _ c.loop-number.invariant
     (tested flow (place_at flow.places c.args.place) c.edge_range-first.result.0 c.edge_range-first.result.1 c.edge_range-first.ensures.range c.args.edge.now c.requires.leaves
-    c.loop-number.number c.loop-number-test.true c.edges.result.now c.index-edges-number.result c.same_edge.result false c.edges.ensures.value c.index-edges-number.is c.same_edge.ensures c.if-same_edge.false)
+    c.loop-number.number c.loop-number-test.true c.edges.result.now c.index-edges-number.result c.is_same_edge.result false c.edges.ensures.value c.index-edges-number.is c.is_same_edge.ensures c.if-is_same_edge.false)
 
-pub returns-then-same_edge : goal.returns-then-same_edge
-returns-then-same_edge c =
+pub returns-then-is_same_edge : goal.returns-then-is_same_edge
+returns-then-is_same_edge c =
     let flow = c.args.graph.now in
     let place = place_at flow.places c.args.place in
     let range = c.edge_range-first.ensures.range in
     found_here flow place c.edge_range-first.result.0 c.edge_range-first.result.1 range c.args.edge.now c.requires.leaves c.loop-number.number c.loop-number-test.true c.loop-number.invariant
     (tested flow place c.edge_range-first.result.0 c.edge_range-first.result.1 range c.args.edge.now c.requires.leaves
-    c.loop-number.number c.loop-number-test.true c.edges.result.now c.index-edges-number.result c.same_edge.result true c.edges.ensures.value c.index-edges-number.is c.same_edge.ensures c.if-same_edge.true)
+    c.loop-number.number c.loop-number-test.true c.edges.result.now c.index-edges-number.result c.is_same_edge.result true c.edges.ensures.value c.index-edges-number.is c.is_same_edge.ensures c.if-is_same_edge.true)
 
 pub returns : goal.returns
 returns c =
