@@ -81,12 +81,6 @@ module _ (flow : Flow) (tree : Tree) (index : Index) (well : IsWellFormed flow) 
       is_walk : IsFollowed flow tree cert.walk a.walk
       is_walk = finished flow tree index well t indexed x fresh cert y a done
 
-      pub over_inside : (s : Span) → y.over ≡ Some s → s.header < length flow.places
-      over_inside s over =
-          let more = (after_walk flow tree index well t indexed x fresh cert y a done).broken s over in
-          let shape = t.ordered.shape s more.0 in
-          omega (arith, shape.0, shape.1)
-
       breaks_bound : (s : Span) → y.over ≡ Some s → BreaksBound flow tree cert (place_in flow tree s.header) s.bound
       breaks_bound s over =
           let more = (after_walk flow tree index well t indexed x fresh cert y a done).broken s over in

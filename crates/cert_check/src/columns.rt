@@ -1,19 +1,19 @@
-ghost use Rattle.std.specs.Prelude.{◌≡◌, ◌<◌, IfOk, length, map};
+ghost use Rattle.std.specs.Prelude.{◌≡◌, IfOk, map};
 ghost use Rattle.std.specs.List.Sorted.{IsStrictlySortedBy};
 ghost use Rattle.flow_graph.specs.Places.{place_cmp};
-ghost use Rattle.loop_bounds.specs.Tree.{IsTree, place_in};
+ghost use Rattle.loop_bounds.specs.Tree.{IsTree};
 ghost use Rattle.longest_walk.specs.Rows.{distance_in, header_of_row, place_of_row};
 ghost use Rattle.cert_check.specs.Columns.{AreTablesOf, Ascends, IsColumn, arrival_in, by_number, round_in};
 
 use crate::finding::row_about;
 use certificate::{Cert, InstanceRow, PlaceRow};
 use flow_graph::{Graph, Place};
-use loop_bounds::LoopTree;
+use loop_bounds::{LoopTree, place_in};
 use numbered_walks::Tables;
 use std::alloc::{AllocError, Global};
 
 // The distance that is stated for a place, and 0 without a row.
-fn distance_at(rows: &[PlaceRow], place: &Place) -> u64
+fn distance_in(rows: &[PlaceRow], place: &Place) -> u64
     requires ascending { IsStrictlySortedBy place_cmp (map place_of_row rows.now) }
     ensures { result ≡ distance_in rows.now place.now }
 {
@@ -35,15 +35,6 @@ fn arrival_and_round(rows: &[InstanceRow], header: &Place) -> (u64, u64)
     }
 }
 
-/// The place of a number.
-pub(crate) fn place_of(graph: &Graph, tree: &LoopTree, number: usize) -> Place
-    requires tree { IsTree graph.now tree.now }
-    requires inside { number < length graph.now.places }
-    ensures { result ≡ place_in graph.now tree.now number }
-{
-    graph.places()[tree.order()[number]]
-}
-
 /// The numbers that the certificate states, by the numbers of the tree's order.
 pub(crate) fn tables_of(
     alloc: Global,
@@ -60,8 +51,8 @@ pub(crate) fn tables_of(
     let mut arrivals = Vec::with_capacity(alloc, size)?;
     let mut rounds = Vec::with_capacity(alloc, size)?;
     for number in 0..size {
-        let place = place_of(graph, tree, number);
-        distances.push(distance_at(cert.places.items(), &place))?;
+        let place = place_in(graph, tree, number);
+        distances.push(distance_in(cert.places.items(), &place))?;
         let (arrival, round) = arrival_and_round(cert.instances.items(), &place);
         arrivals.push(arrival)?;
         rounds.push(round)?;

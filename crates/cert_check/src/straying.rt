@@ -8,7 +8,6 @@ ghost use Rattle.cert_check.specs.Straying.{StraysAt};
 ghost use Rattle.cert_check.specs.Verdict.{walk_objections};
 ghost use Rattle.cert_check.specs.Walking.{CanFollow, IsFresh, IsTaken, graph_span};
 
-use crate::columns::place_of;
 use crate::failing::FailingRow;
 use crate::handler::Handler;
 use crate::index::Index;
@@ -16,7 +15,7 @@ use crate::walk_trace::follow_one;
 use crate::walker::Walker;
 use certificate::{Cert, CertItem};
 use flow_graph::Graph;
-use loop_bounds::{LoopTree, MOST_INSTANCES};
+use loop_bounds::{LoopTree, MOST_INSTANCES, place_in};
 use numbered_walks::Span;
 use std::alloc::{AllocError, Global};
 
@@ -92,11 +91,11 @@ fn failing_line(handler: Handler<'_>, cert: &Cert, walker: &mut Walker) -> Optio
         return Some(FailingRow::BrokenWalk(item));
     }
     if walker.number != exit {
-        let place = place_of(graph, tree, walker.number);
+        let place = place_in(graph, tree, walker.number);
         return Some(FailingRow::OpenWalk(place));
     }
     if let Some(span) = walker.over {
-        let header = place_of(graph, tree, span.header);
+        let header = place_in(graph, tree, span.header);
         return Some(FailingRow::WalkOverBound(header, span.bound));
     }
     if walker.cost != u128::from(bound) {

@@ -15,7 +15,7 @@ use loop_bounds::LoopTree;
 use numbered_walks::Span;
 use walk_counts::{holds, is_same_label};
 
-fn ends_at(place: &Place, named: To) -> bool
+fn leads_to(place: &Place, named: To) -> bool
     ensures { result ≡ leads_to place.now named }
 {
     match (place, named) {
@@ -26,14 +26,14 @@ fn ends_at(place: &Place, named: To) -> bool
 }
 
 // Whether the line names the edge, at the place that it leaves.
-fn is_meant(edge: &Edge, line: &StepLine) -> bool
+fn is_named(edge: &Edge, line: &StepLine) -> bool
     ensures { result ≡ is_named edge.now.from line.now edge.now }
 {
     match edge.from {
         Place::At(_, address) => {
             address == line.address
                 && is_same_label(edge.label, line.label)
-                && ends_at(&edge.to, line.to)
+                && leads_to(&edge.to, line.to)
                 && u64::from(edge.cost) == line.cost
         }
         Place::Exit => false,
@@ -62,7 +62,7 @@ fn named_edge(graph: &Graph, tree: &LoopTree, number: usize, line: &StepLine) ->
     }
     let (first, end) = edge_range(graph, tree, number);
     for edge in first..end {
-        if is_meant(&graph.edges()[edge], line) {
+        if is_named(&graph.edges()[edge], line) {
             return Some(edge);
         }
     }

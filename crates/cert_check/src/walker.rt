@@ -44,7 +44,7 @@ fn capped_sum(sum: u128, more: u32) -> u128
 }
 
 // What was gained once, so many times.
-fn gain(before: u128, after: u128, count: u32) -> u128
+fn gained(before: u128, after: u128, count: u32) -> u128
     ensures { result ≡ gained before after count }
 {
     let start = before.min(LIMIT);
@@ -53,7 +53,7 @@ fn gain(before: u128, after: u128, count: u32) -> u128
 }
 
 // The instance that begins at the number, if these are more back edges than its bound.
-fn broken_at(headers: &[Option<Span>], number: usize, turns: u128) -> Option<Span>
+fn broken_by(headers: &[Option<Span>], number: usize, turns: u128) -> Option<Span>
     requires { number < length headers.now }
     ensures { result ≡ broken_by (header_at headers.now number) turns }
 {
@@ -100,7 +100,7 @@ impl Walker {
         self.cost = cost;
         self.turns[number] = turns;
         if self.over.is_none() {
-            self.over = broken_at(headers, number, turns);
+            self.over = broken_by(headers, number, turns);
         }
     }
 
@@ -126,8 +126,8 @@ impl Walker {
             (slice_index self.old.turns.items self.old.number) count) self.old self.new }
     {
         let number = self.number;
-        let cost = gain(round.cost, self.cost, count);
-        let turns = gain(round.turns, self.turns[number], count);
+        let cost = gained(round.cost, self.cost, count);
+        let turns = gained(round.turns, self.turns[number], count);
         self.arrive(headers, number, cost, turns);
     }
 }

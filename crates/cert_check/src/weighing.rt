@@ -34,19 +34,19 @@ pub(crate) struct Weighing<'a> {
     pub(crate) exit: usize,
 }
 
-fn distance(tables: &Tables, number: usize) -> u64
+fn distance_of(tables: &Tables, number: usize) -> u64
     ensures { result ≡ distance_of tables.now number }
 {
     tables.distances.get(number).copied().unwrap_or(0)
 }
 
-fn arrival(tables: &Tables, span: &Span) -> u64
+fn arrival_of(tables: &Tables, span: &Span) -> u64
     ensures { result ≡ arrival_of tables.now span.now }
 {
     tables.arrivals.get(span.header).copied().unwrap_or(0)
 }
 
-fn round(tables: &Tables, span: &Span) -> u64
+fn round_of(tables: &Tables, span: &Span) -> u64
     ensures { result ≡ round_of tables.now span.now }
 {
     tables.rounds.get(span.header).copied().unwrap_or(0)
@@ -58,8 +58,8 @@ fn stay(tables: &Tables, span: &Span) -> Option<u64>
         (λ n. n ≡ stay_of tables.now span.now) }
 {
     u64::from(span.bound)
-        .checked_mul(round(tables, span))?
-        .checked_add(arrival(tables, span))
+        .checked_mul(round_of(tables, span))?
+        .checked_add(arrival_of(tables, span))
 }
 
 // What the edge's row asks for with these spans, in ticks, if it is below 2^64.
@@ -67,7 +67,7 @@ fn needed_with(spans: &[Span], tables: &Tables, edge: &NumberedEdge) -> Option<u
     ensures { MatchOption result (2 ^ 64 ≤ needed spans.now tables.now edge.now)
         (λ n. n ≡ needed spans.now tables.now edge.now) }
 {
-    let mut sum = distance(tables, edge.from).checked_add(u64::from(edge.cost))?;
+    let mut sum = distance_of(tables, edge.from).checked_add(u64::from(edge.cost))?;
     for span in spans {
         if holds(span, edge.from) && !holds(span, edge.to) {
             sum = sum.checked_add(stay(tables, span)?)?;
@@ -96,7 +96,7 @@ fn span_at(spans: &[Span], headers: &[Option<Span>], number: usize) -> Option<Sp
 }
 
 // The number that the edge's row is about: none for a back edge of bound 0.
-fn limit(weighing: Weighing<'_>, edge: &NumberedEdge) -> Option<u64>
+fn limit_of(weighing: Weighing<'_>, edge: &NumberedEdge) -> Option<u64>
     requires { CanWeigh weighing.spans.now weighing.index.now edge.now }
     ensures { result
         ≡ limit_of number_shape span_loops weighing.entry.spans.now
@@ -109,17 +109,17 @@ fn limit(weighing: Weighing<'_>, edge: &NumberedEdge) -> Option<u64>
                 if span.bound == 0 {
                     None
                 } else {
-                    Some(round(tables, &span))
+                    Some(round_of(tables, &span))
                 }
             } else {
-                Some(arrival(tables, &span))
+                Some(arrival_of(tables, &span))
             }
         }
         None => {
             if edge.to == weighing.exit {
                 Some(tables.bound)
             } else {
-                Some(distance(tables, edge.to))
+                Some(distance_of(tables, edge.to))
             }
         }
     }
@@ -130,7 +130,7 @@ fn row_fits(weighing: Weighing<'_>, edge: &NumberedEdge) -> bool
     ensures { IsTrue result
         ↔ NumberFits weighing.entry.exit weighing.entry.spans.now weighing.entry.tables.now edge.now }
 {
-    match limit(weighing, edge) {
+    match limit_of(weighing, edge) {
         None => true,
         Some(_) => match needed_at(weighing.spans, weighing.index, weighing.tables, edge) {
             None => false,
@@ -144,7 +144,7 @@ fn row_holds(weighing: Weighing<'_>, edge: &NumberedEdge) -> bool
     ensures { IsTrue result
         ↔ NumberHolds weighing.entry.exit weighing.entry.spans.now weighing.entry.tables.now edge.now }
 {
-    match limit(weighing, edge) {
+    match limit_of(weighing, edge) {
         None => true,
         Some(limit) => match needed_at(weighing.spans, weighing.index, weighing.tables, edge) {
             None => false,
@@ -163,7 +163,7 @@ pub(crate) fn weight(weighing: Weighing<'_>, edge: &NumberedEdge) -> (u64, u64)
         (potentials_of weighing.entry.tables.now) (is_exit weighing.entry.exit) edge.now ≡ Some result.1 }
     ensures less { result.1 < result.0 }
 {
-    let stated = limit(weighing, edge).unwrap_or(0);
+    let stated = limit_of(weighing, edge).unwrap_or(0);
     let needed = needed_at(weighing.spans, weighing.index, weighing.tables, edge).unwrap_or(0);
     (needed, stated)
 }
@@ -176,7 +176,7 @@ fn is_outside(spans: &[Span], number: usize) -> bool
 }
 
 // Whether the edge leaves an instance.
-fn goes_out(spans: &[Span], index: &Index, edge: &NumberedEdge) -> bool
+fn leaves(spans: &[Span], index: &Index, edge: &NumberedEdge) -> bool
     requires { CanWeigh spans.now index.now edge.now }
     ensures { result ≡ leaves spans.now edge.now }
 {
@@ -193,8 +193,8 @@ pub(crate) fn passes(weighing: Weighing<'_>, test: RowTest, edge: &NumberedEdge)
     let back = edge.to <= edge.from;
     match test {
         RowTest::Fits => row_fits(weighing, edge),
-        RowTest::Plain => back || goes_out(spans, index, edge) || row_holds(weighing, edge),
+        RowTest::Plain => back || leaves(spans, index, edge) || row_holds(weighing, edge),
         RowTest::Round => !back || row_holds(weighing, edge),
-        RowTest::Leave => { back || !goes_out(spans, index, edge) || row_holds(weighing, edge) }
+        RowTest::Leave => { back || !leaves(spans, index, edge) || row_holds(weighing, edge) }
     }
 }

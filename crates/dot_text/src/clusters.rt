@@ -6,6 +6,7 @@ ghost use Rattle.dot_text.specs.Stretches.{AreTables};
 use crate::pieces::put_address;
 use crate::stretches::{calls_in, loops_of};
 use crate::tables::Drawn;
+use loop_bounds::place_in;
 use numbered_walks::Span;
 use std::alloc::AllocError;
 use text_rows::{put, put_decimal};
@@ -61,7 +62,10 @@ fn put_loop(out: &mut Vec<u8>, drawn: Drawn<'_>, span: &Span) -> Result<(), Allo
     put(out, b"subgraph cluster_loop_")?;
     put_decimal(out, span.header as u64)?;
     put(out, b" { label=\"loop at ")?;
-    put_address(out, drawn.place(span.header).address())?;
+    put_address(
+        out,
+        place_in(drawn.graph, drawn.tree, span.header).address(),
+    )?;
     put(out, b", at most ")?;
     put_decimal(out, u64::from(span.bound))?;
     put(out, b" back edges\"; ")

@@ -9,6 +9,7 @@ use crate::edges::put_edges;
 use crate::pieces::{put_address, put_escaped, put_name, put_style};
 use crate::stretches::{Stretch, passes, stretch_ticks};
 use crate::tables::Drawn;
+use loop_bounds::place_in;
 use std::alloc::AllocError;
 use text_rows::{put, put_decimal};
 
@@ -32,7 +33,7 @@ fn put_row(out: &mut Vec<u8>, drawn: Drawn<'_>, number: usize) -> Result<(), All
         ++ row drawn.entry.graph.now drawn.entry.tree.now drawn.entry.counts.now drawn.entry.labels.now
         number) }
 {
-    put_address(out, drawn.place(number).address())?;
+    put_address(out, place_in(drawn.graph, drawn.tree, number).address())?;
     put(out, b"  ")?;
     put_label(out, drawn.labels, drawn.tree.order()[number])?;
     put(out, b"\\l")

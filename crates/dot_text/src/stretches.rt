@@ -8,6 +8,7 @@ ghost use Rattle.dot_text.specs.Stretches.{leads_on, loops_of, passes, stays_ins
 
 use crate::tables::Drawn;
 use flow_graph::{Calls, Place};
+use loop_bounds::place_in;
 use numbered_walks::Span;
 use walk_counts::{capped_product, capped_sum, holds};
 
@@ -34,7 +35,7 @@ pub(crate) fn part(drawn: Drawn<'_>, number: usize) -> (usize, usize)
 pub(crate) fn calls_in(drawn: Drawn<'_>, number: usize) -> Calls
     ensures { result ≡ calls_in drawn.entry.graph.now drawn.entry.tree.now number }
 {
-    match drawn.place(number) {
+    match place_in(drawn.graph, drawn.tree, number) {
         Place::At(calls, _) => calls,
         Place::Exit => Calls::new(),
     }

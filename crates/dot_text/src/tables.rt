@@ -1,9 +1,9 @@
 ghost use Rattle.std.specs.Prelude.{◌≡◌, ◌<◌, ◌≤◌, ◌+◌, ℕ, IfOk, length, slice_index};
-ghost use Rattle.loop_bounds.specs.Tree.{IsTree, place_in};
+ghost use Rattle.loop_bounds.specs.Tree.{IsTree};
 ghost use Rattle.dot_text.specs.Stretches.{AreTables, arrivals, end_edge, first_edge, loops_of};
 ghost use Rattle.flow_graph.specs.Flow.{IsWellFormed};
 
-use flow_graph::{Graph, Place};
+use flow_graph::Graph;
 use loop_bounds::LoopTree;
 use numbered_walks::{Index, Span};
 use std::alloc::{AllocError, Global};
@@ -37,20 +37,4 @@ pub(crate) fn arrivals(
         counted[edge.to] += 1;
     }
     Ok(counted)
-}
-
-impl<'a> Drawn<'a> {
-    /// The place of a number; Exit past the end.
-    pub(crate) fn place(self, number: usize) -> Place
-        ensures { result ≡ place_in self.entry.graph.now self.entry.tree.now number }
-    {
-        let places = self.graph.places();
-        let at = self
-            .tree
-            .order()
-            .get(number)
-            .copied()
-            .unwrap_or(places.len());
-        places.get(at).copied().unwrap_or(Place::Exit)
-    }
 }

@@ -3,7 +3,7 @@ use Rattle.flow_graph.specs.declared.places.Place.{Place}
 use Rattle.cert_check.specs.declared.failing.FailingRow.TheVariants as f
 use Rattle.cert_check.specs.Failing.{IsFirstFailing}
 use Rattle.cert_check.specs.Verdict.{walk_objections}
-use Rattle.cert_check.proofs.StrayLemmas.{broken_walk, cost_walk, open_walk, over_inside, over_walk, walk_passes}
+use Rattle.cert_check.proofs.StrayLemmas.{broken_walk, cost_walk, open_walk, over_walk, walk_passes}
 use Rattle.cert_check.proofs.straying.failing_line.Goals as goal
 
 pub returns-in-Some : goal.returns-in-Some
@@ -11,18 +11,13 @@ returns-in-Some c = broken_walk c.args.handler.graph.now c.args.handler.tree.now
 
 pub returns-then-walker-exit : goal.returns-then-walker-exit
 returns-then-walker-exit c =
-    subst (λ (p : Place). IsFirstFailing c.args.handler.graph.now c.args.handler.tree.now c.args.cert.now walk_objections (Some (f.OpenWalk p))) (sym c.place_of-place.ensures)
+    subst (λ (p : Place). IsFirstFailing c.args.handler.graph.now c.args.handler.tree.now c.args.cert.now walk_objections (Some (f.OpenWalk p))) (sym c.place_in-place.ensures)
     (open_walk c.args.handler.graph.now c.args.handler.tree.now c.args.handler.index.now c.places-exit.ensures.well_formed c.requires.tree c.requires.indexed c.args.walker.now c.requires.fresh c.args.cert.now c.first_broken.new.walker c.in_default.ensures (λ is. c.if-walker-exit.true (is ∙ sym (ap length c.places-exit.ensures.value))))
-
-pub place_of-header-requires-clause-inside : goal.place_of-header-requires-clause-inside
-place_of-header-requires-clause-inside c =
-    let done = c.if-walker-exit.false ∙ ap length c.places-exit.ensures.value in
-    over_inside c.args.handler.graph.now c.args.handler.tree.now c.args.handler.index.now c.places-exit.ensures.well_formed c.requires.tree c.requires.indexed c.args.walker.now c.requires.fresh c.args.cert.now c.first_broken.new.walker c.in_default.ensures done c.in-Some-over.span c.in-Some-over.is
 
 pub returns-in-Some-over : goal.returns-in-Some-over
 returns-in-Some-over c =
     let done = c.if-walker-exit.false ∙ ap length c.places-exit.ensures.value in
-    subst (λ (p : Place). IsFirstFailing c.args.handler.graph.now c.args.handler.tree.now c.args.cert.now walk_objections (Some (f.WalkOverBound p c.in-Some-over.span.bound))) (sym c.place_of-header.ensures)
+    subst (λ (p : Place). IsFirstFailing c.args.handler.graph.now c.args.handler.tree.now c.args.cert.now walk_objections (Some (f.WalkOverBound p c.in-Some-over.span.bound))) (sym c.place_in-header.ensures)
     (over_walk c.args.handler.graph.now c.args.handler.tree.now c.args.handler.index.now c.places-exit.ensures.well_formed c.requires.tree c.requires.indexed c.args.walker.now c.requires.fresh c.args.cert.now c.first_broken.new.walker c.in_default.ensures done c.in-Some-over.span c.in-Some-over.is)
 
 pub returns-then-walker-from : goal.returns-then-walker-from

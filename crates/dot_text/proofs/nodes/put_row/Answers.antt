@@ -15,7 +15,7 @@ returns c =
     on_ok_weaker c.put-2.result
     (four_parts c.args.out.now.items (hex8 (place_address (place_in d.graph.now d.tree.now n))) (codes "  ") (escaped (label_of (slice_get d.labels.now (get_or d.tree.now.order n 0)))) (codes "\\l")
     _ _ _ _
-    (c.in_ok-put_address.ensures ∙ ap (λ a. c.args.out.now.items ++ hex8 a) (c.address.ensures ∙ ap place_address c.place.ensures))
+    (c.in_ok-put_address.ensures ∙ ap (λ a. c.args.out.now.items ++ hex8 a) (c.address.ensures ∙ ap place_address c.place_in.ensures))
     c.in_ok-put.ensures
     (c.in_ok-put_label.ensures ∙ ap (λ (ns : List ℕ). c.put.new.out.items ++ escaped (label_of (slice_get d.labels.now (get_or ns n 0)))) c.order.ensures))
     c.put-2.ensures

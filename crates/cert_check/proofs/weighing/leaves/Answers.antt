@@ -3,7 +3,7 @@ use Rattle.std.specs.List.{list_any}
 use Rattle.numbered_walks.specs.declared.span.Span.{Span}
 use Rattle.numbered_walks.specs.Ordered.{is_in}
 use Rattle.cert_check.proofs.AnyLemmas.{any_filter}
-use Rattle.cert_check.proofs.weighing.goes_out.Goals as goal
+use Rattle.cert_check.proofs.weighing.leaves.Goals as goal
 
 pub returns : goal.returns
 returns c =
