@@ -10,7 +10,7 @@ use std::collections::BTreeMap;
 use walk_counts::{capped_sum, edge_counts};
 
 /// How often the word at an address is carried out, capped at 2^64 - 1.
-pub(crate) fn times_at(times: &BTreeMap<u32, u64>, at: u32) -> u64
+pub(crate) fn times_in(times: &BTreeMap<u32, u64>, at: u32) -> u64
     ensures { result ≡ times_in times.now at }
 {
     times.get(&at).copied().unwrap_or(0)
@@ -26,7 +26,7 @@ fn add(times: &mut BTreeMap<u32, u64>, edge: &Edge, count: u64) -> Result<(), Al
     let Place::At(_, address) = edge.from else {
         return Ok(());
     };
-    let before = times_at(times, address);
+    let before = times_in(times, address);
     times.insert(address, capped_sum(before, count))?;
     Ok(())
 }

@@ -5,7 +5,7 @@ ghost use Rattle.asm_text.specs.Appended.{Appends};
 ghost use Rattle.text_rows.specs.Rows.{AreRows};
 ghost use Rattle.savings.specs.Savings.{AreFound, AreSavings, IsWordGain, IsWordSaved, saved};
 
-use crate::carried::{times_at, times_carried_out};
+use crate::carried::{times_carried_out, times_in};
 use crate::gains::{Gain, Refinement, leave_gain, operation_gain};
 use arm2_decode::decode;
 use bus_ticks::Profile;
@@ -88,7 +88,7 @@ fn push_word(
         (times_in carried.entry.times.now) (at, word)) found.old.items found.new.items) }
 {
     let gain = word_gain(carried.statement, carried.profile, at, word);
-    let times = times_at(carried.times, at);
+    let times = times_in(carried.times, at);
     push_saved(found, Subject::Word(at, word), times, gain)
 }
 
