@@ -23,7 +23,7 @@ use toml_reading::{
 };
 
 /// How many steps a machine file asks for at most, and how many where it says nothing.
-pub const MOST_STEPS: u32 = 65_536;
+pub(crate) const MOST_STEPS: u32 = 65_536;
 
 // The keys of an event's table.
 const EVENT_KEYS: &[&str] = &["step", "bursts", "lines", "port"];

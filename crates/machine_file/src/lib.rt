@@ -20,7 +20,7 @@ mod start;
 mod words;
 mod writing;
 
-pub use events::{Event, MOST_STEPS};
+pub use events::Event;
 pub use flags::PsrFlags;
 pub use law::{machine_files_are_read, profiles_are_read};
 pub use machine_faults::MachineFileFault;
