@@ -33,7 +33,7 @@ pub struct Taken {
     pub stepped: Stepped,
 }
 
-fn label(holds: bool) -> Label
+fn label_if(holds: bool) -> Label
     ensures { result ≡ label_if holds }
 {
     if holds { Label::Do } else { Label::Skip }
@@ -80,7 +80,7 @@ pub fn judge_step(
         return Err(Stray::OtherClass(access));
     }
     let going = Going {
-        label: label(reading.holds),
+        label: label_if(reading.holds),
         to: stepped.to,
         leave: handler.statement.leave(),
     };

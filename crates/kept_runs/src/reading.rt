@@ -36,7 +36,7 @@ pub(crate) fn own_word(image: &Image, machine: &Machine) -> Option<u32>
     Some(word)
 }
 
-fn transfer(registers: &Registers, instr: &Instr, holds: bool) -> Option<Transfer>
+fn transfer_if(registers: &Registers, instr: &Instr, holds: bool) -> Option<Transfer>
     ensures words { result ≡ transfer_if holds instr.now.operation registers.now }
     ensures few { IfSome result (λ t. t.words ≤ 16) }
 {
@@ -58,7 +58,7 @@ pub(crate) fn read_word(machine: &Machine, word: u32) -> Reading
             let holds = registers.passes(instr.cond);
             Reading {
                 holds,
-                transfer: transfer(registers, &instr, holds),
+                transfer: transfer_if(registers, &instr, holds),
             }
         }
         Err(unallocated) => Reading {

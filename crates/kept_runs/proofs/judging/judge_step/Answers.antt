@@ -48,7 +48,7 @@ returns-in-Some-edge_taken c =
     c.step-stepped.result c.step-stepped.new.self c.step-stepped.ensures.step c.in-Plain.is c.in-Some.word c.in-Some.ensures c.read_word-reading.result c.read_word-reading.ensures.reading
     (subst (λ (k : Class). HasNoOther k c.read_word-reading.result.transfer) (c.class_at.ensures ∙ ap (class_of c.args.handler.statement.now) c.address-address.ensures.address) c.in_default-other.ensures)
     c.step-stepped.ensures.bound c.in-Some-edge_taken.edge
-    (subst (λ (g : Going). IsFound c.args.handler.graph.now place g c.in-Some-edge_taken.edge) (λ j. record { label = c.label.ensures j; to = c.step-stepped.result.to; leave = c.leave.ensures j }) c.in-Some-edge_taken.ensures)
+    (subst (λ (g : Going). IsFound c.args.handler.graph.now place g c.in-Some-edge_taken.edge) (λ j. record { label = c.label_if.ensures j; to = c.step-stepped.result.to; leave = c.leave.ensures j }) c.in-Some-edge_taken.ensures)
 
 pub returns-in-None : goal.returns-in-None
 returns-in-None c =
@@ -57,4 +57,4 @@ returns-in-None c =
     c.step-stepped.result c.step-stepped.new.self c.step-stepped.ensures.step c.in-Plain.is c.in-Some.word c.in-Some.ensures c.read_word-reading.result c.read_word-reading.ensures.reading
     (subst (λ (k : Class). HasNoOther k c.read_word-reading.result.transfer) (c.class_at.ensures ∙ ap (class_of c.args.handler.statement.now) c.address-address.ensures.address) c.in_default-other.ensures)
     (Contains-get_or c.args.handler.graph.now.places c.args.place Exit c.requires.known)
-    (subst (λ (g : Going). HasNoEdge c.args.handler.graph.now place g) (λ j. record { label = c.label.ensures j; to = c.step-stepped.result.to; leave = c.leave.ensures j }) c.in-None.ensures)
+    (subst (λ (g : Going). HasNoEdge c.args.handler.graph.now place g) (λ j. record { label = c.label_if.ensures j; to = c.step-stepped.result.to; leave = c.leave.ensures j }) c.in-None.ensures)
