@@ -4,7 +4,6 @@ use Rattle.std.specs.List.{AllByRecursion, join_with_byte}
 use Rattle.std.specs.Fmt.{decimal}
 use Rattle.std.proofs.lemmas.List.Elements.{recursion_from_All}
 use Rattle.std.specs.Str.Iter.{LacksByte}
-use Rattle.flow_graph.specs.Places.{IsInRange}
 use Rattle.flow_graph.specs.declared.edges.Label.{Label}
 use Rattle.flow_graph.specs.declared.edges.Label.TheVariants.{Skip, Do}
 use Rattle.certificate.specs.declared.walk.To.{To}
@@ -116,17 +115,10 @@ to_first a b r s f g e =
     let cut = one_cut 32 (to_words a) (to_words b) r s (to-blank a f) (to-blank b g) e in
     (one_to a b f g cut.0, cut.1)
 
-list_first : (a b : List ℕ) (r s : List ℕ) → AreCalls a → AreCalls b → list_words a ++ 32 ∷ r ≡ list_words b ++ 32 ∷ s → (a ≡ b) × (r ≡ s)
+pub list_first : (a b : List ℕ) (r s : List ℕ) → AreCalls a → AreCalls b → list_words a ++ 32 ∷ r ≡ list_words b ++ 32 ∷ s → (a ≡ b) × (r ≡ s)
 list_first a b r s f g e =
     let cut = one_cut 32 (list_words a) (list_words b) r s (list-blank a f) (list-blank b g) e in
     (one_list a b (recursion_from_All _ a f.1) (recursion_from_All _ b g.1) cut.0, cut.1)
-
-pub place_first : (xs ys : List ℕ) (a b : ℕ) (r s : List ℕ) → IsInRange xs a → IsInRange ys b → list_words xs ++ 32 ∷ (hex a ++ 32 ∷ r) ≡ list_words ys ++ 32 ∷ (hex b ++ 32 ∷ s)
-    → (xs ≡ ys) × (a ≡ b) × (r ≡ s)
-place_first xs ys a b r s f g e =
-    let list = list_first xs ys _ _ (f.1, f.2) (g.1, g.2) e in
-    let address = hex_first a b r s f.0 g.0 list.1 in
-    (list.0, address.0, address.1)
 
 -- ## What is not found
 

@@ -18,7 +18,7 @@ use Rattle.certificate.specs.declared.line.Line.TheVariants as l
 use Rattle.asm_text.specs.Hex.{hex}
 use Rattle.certificate.specs.Words.{InstanceFits, LineFits, PlaceFits, StepFits, WalkFits, ended, instance_words, label_words, line_words, list_words, place_words, step_words, text_of, title_words, to_words, walk_words}
 use Rattle.certificate.proofs.CutLaws.{Lacks-append, Lacks-middle, Lacks-tested, one_cut}
-use Rattle.certificate.proofs.FieldLaws.{decimal-end, decimal_first, hex-end, hex_first, joined_lacks, label_first, list-end, place_first, to-end, to_first}
+use Rattle.certificate.proofs.FieldLaws.{decimal-end, decimal_first, hex-end, hex_first, joined_lacks, label_first, list-end, list_first, to-end, to_first}
 use Rattle.certificate.proofs.NumberLaws.{decimal_is_one}
 use Rattle.certificate.proofs.PriceLaws.{one_prices, profile_small}
 
@@ -82,16 +82,18 @@ one_step s t f g e =
 
 one_place : (r t : PlaceRow) → PlaceFits r → PlaceFits t → place_words r ≡ place_words t → r ≡ t
 one_place r t f g e =
-    let place = place_first r.list t.list r.address t.address _ _ f.place g.place (ap (drop 6) e) in
-    let distance = decimal_is_one r.distance t.distance f.distance g.distance place.2 in
-    λ i. record { list = place.0 i; address = place.1 i; distance = distance i }
+    let list = list_first r.list t.list _ _ (f.place.1, f.place.2) (g.place.1, g.place.2) (ap (drop 6) e) in
+    let address = hex_first r.address t.address _ _ f.place.0 g.place.0 list.1 in
+    let distance = decimal_is_one r.distance t.distance f.distance g.distance address.1 in
+    λ i. record { list = list.0 i; address = address.0 i; distance = distance i }
 
 one_instance : (r t : InstanceRow) → InstanceFits r → InstanceFits t → instance_words r ≡ instance_words t → r ≡ t
 one_instance r t f g e =
-    let header = place_first r.list t.list r.header t.header _ _ f.header g.header (ap (drop 9) e) in
-    let arrival = decimal_first r.arrival t.arrival _ _ f.arrival g.arrival header.2 in
+    let list = list_first r.list t.list _ _ (f.header.1, f.header.2) (g.header.1, g.header.2) (ap (drop 9) e) in
+    let header = hex_first r.header t.header _ _ f.header.0 g.header.0 list.1 in
+    let arrival = decimal_first r.arrival t.arrival _ _ f.arrival g.arrival header.1 in
     let round = decimal_is_one r.round t.round f.round g.round arrival.1 in
-    λ i. record { list = header.0 i; header = header.1 i; arrival = arrival.0 i; round = round i }
+    λ i. record { list = list.0 i; header = header.0 i; arrival = arrival.0 i; round = round i }
 
 pub one_line : (x y : Line) → LineFits x → LineFits y → line_words x ≡ line_words y → x ≡ y
 one_line (l.Title One) (l.Title One) f g e = refl

@@ -4,7 +4,6 @@ ghost use Rattle.bus_ticks.specs.declared.space.TheConstants.{SPACE_END};
 ghost use Rattle.asm_text.specs.Hex.{hex};
 ghost use Rattle.certificate.specs.Words.{AreCalls, ToFits, label_words, list_words, to_words};
 ghost use Rattle.certificate.specs.declared.walk.To.{To};
-ghost use Rattle.flow_graph.specs.Places.{IsInRange};
 ghost use Rattle.flow_graph.specs.declared.edges.Label.{Label};
 
 use crate::numbers::{decimal_at, hex_at};
@@ -60,8 +59,8 @@ pub(crate) fn to_first(words: &[u8]) -> Option<(To, &[u8])>
     Some((To::At(address), rest))
 }
 
-// The calls that the word spells.
-fn calls_at(word: &[u8]) -> Option<Calls>
+/// The calls that the word spells.
+pub(crate) fn calls_at(word: &[u8]) -> Option<Calls>
     ensures { MatchOption result ((calls : List ℕ) → AreCalls calls → word.now ≡ list_words calls → ⊥)
         (λ calls. AreCalls calls × (word.now ≡ list_words calls)) }
 {
@@ -75,17 +74,4 @@ fn calls_at(word: &[u8]) -> Option<Calls>
         rest = after;
     }
     calls.with(hex_at(rest)?)
-}
-
-/// The calls and the address that the words begin with, and the words after the address's blank.
-pub(crate) fn place_first(words: &[u8]) -> Option<(Calls, u32, &[u8])>
-    ensures { MatchOption result
-        ((calls : List ℕ) (a : ℕ) (rest : List ℕ) → IsInRange calls a
-        → words.now ≡ list_words calls ++ 32 ∷ (hex a ++ 32 ∷ rest) → ⊥)
-        (λ p. IsInRange p.0 p.1 × (words.now ≡ list_words p.0 ++ 32 ∷ (hex p.1 ++ 32 ∷ p.2.now))) }
-{
-    let (word, rest) = cut_at(b' ', words)?;
-    let list = calls_at(word)?;
-    let (address, rest) = address_first(rest)?;
-    Some((list, address, rest))
 }

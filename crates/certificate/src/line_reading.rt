@@ -13,7 +13,7 @@ ghost use Rattle.certificate.specs.declared.walk.StepLine.{StepLine};
 ghost use Rattle.longest_walk.specs.declared.rows.PlaceRow.{PlaceRow};
 ghost use Rattle.longest_walk.specs.declared.rows.InstanceRow.{InstanceRow};
 
-use crate::fields::{address_first, label_first, number_first, place_first, to_first};
+use crate::fields::{address_first, calls_at, label_first, number_first, to_first};
 use crate::line::{Line, Version, WalkLine};
 use crate::numbers::decimal_at;
 use crate::splitting::{after_front, cut_at};
@@ -83,7 +83,9 @@ fn place_at(words: &[u8]) -> Option<PlaceRow>
         (λ r. PlaceFits r × (words.now ≡ place_words r)) }
 {
     let rest = after_front(words, b"place ")?;
-    let (list, address, rest) = place_first(rest)?;
+    let (word, rest) = cut_at(b' ', rest)?;
+    let list = calls_at(word)?;
+    let (address, rest) = address_first(rest)?;
     let distance = decimal_at(rest)?;
     Some(PlaceRow {
         list,
@@ -97,7 +99,9 @@ fn instance_at(words: &[u8]) -> Option<InstanceRow>
         (λ r. InstanceFits r × (words.now ≡ instance_words r)) }
 {
     let rest = after_front(words, b"instance ")?;
-    let (list, header, rest) = place_first(rest)?;
+    let (word, rest) = cut_at(b' ', rest)?;
+    let list = calls_at(word)?;
+    let (header, rest) = address_first(rest)?;
     let (arrival, rest) = number_first(rest)?;
     let round = decimal_at(rest)?;
     Some(InstanceRow {

@@ -5,6 +5,7 @@ ghost use Rattle.std.specs.Prelude.{◌≡◌, ◌≤◌, IsTrue, take};
 ghost use Rattle.outputs.specs.OnTheWay.{Adds};
 ghost use Rattle.certificate.specs.Walk.{step_of, to_of};
 ghost use Rattle.certificate.specs.Words.{ended, step_words};
+ghost use Rattle.certificate.specs.declared.lines_lately.TheConstants.{EDGE_ROOM};
 
 use crate::line_end::LineEnd;
 use crate::steps_lately::{ROWS, row_of};
