@@ -18,8 +18,8 @@ use std::alloc::{AllocError, Global};
 use std::marker::Model;
 use toml::{Table, Value};
 use toml_reading::{
-    Entry, by_number, check, list, number, only_keys, optional_number, pair, required,
-    required_number, tables, value_at,
+    Entry, by_number, list, number, of_keys, optional_number, pair, required, required_number,
+    tables, value_at,
 };
 
 /// How many steps a machine file asks for at most, and how many where it says nothing.
@@ -135,11 +135,7 @@ fn event_in(alloc: Global, table: &Table) -> Result<Read<(u32, Event)>, AllocErr
     let held = pair(lines_in(alloc, table)?, port_in(table));
     let rest = pair(bursts(table), held);
     let event = pair(required_number(table, "step", 65535), rest).map(event_of);
-    Ok(check(
-        only_keys(EVENT_KEYS, table),
-        MachineFileFault::UnknownKey,
-        event,
-    ))
+    Ok(of_keys(EVENT_KEYS, table, event))
 }
 
 impl Entry<(), MachineFileFault> for (u32, Event) {

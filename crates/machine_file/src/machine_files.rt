@@ -21,7 +21,7 @@ use memc::PageSize;
 use std::alloc::{AllocError, Global};
 use std::marker::Model;
 use toml::Table;
-use toml_reading::{check, document, only_keys, pair};
+use toml_reading::{document, of_keys, pair};
 
 // The keys of the file.
 const FILE_KEYS: &[&str] = &[
@@ -203,11 +203,7 @@ fn machine_in(alloc: Global, table: &Table) -> Result<Read<MachineFile>, AllocEr
     ensures { IfOk result (λ reading. reading ≡ machine_in (table_view table.now)) }
 {
     let file = stated(parts(alloc, table)?);
-    Ok(check(
-        only_keys(FILE_KEYS, table),
-        MachineFileFault::UnknownKey,
-        file,
-    ))
+    Ok(of_keys(FILE_KEYS, table, file))
 }
 
 /// The machine that a file states.

@@ -14,8 +14,8 @@ use std::alloc::{AllocError, Global};
 use std::marker::Model;
 use toml::{Table, Value};
 use toml_reading::{
-    Entry, are_all_distinct, check, only_keys, optional_number, pair, required, required_number,
-    tables, value_at,
+    Entry, are_all_distinct, of_keys, optional_number, pair, required, required_number, tables,
+    value_at,
 };
 
 // The keys of a mapped page's table.
@@ -75,11 +75,7 @@ fn page_in(table: &Table) -> Read<MappedPage>
         required_number(table, "physical", u32::MAX),
     );
     let numbers = pair(ends, required_number(table, "level", u32::MAX));
-    check(
-        only_keys(MAP_KEYS, table),
-        MachineFileFault::UnknownKey,
-        numbers.map(page_of),
-    )
+    of_keys(MAP_KEYS, table, numbers.map(page_of))
 }
 
 impl Entry<(), MachineFileFault> for MappedPage {

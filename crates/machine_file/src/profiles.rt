@@ -12,8 +12,7 @@ use bus_ticks::{NumbersFault, Profile};
 use std::alloc::Global;
 use toml::{Table, Value};
 use toml_reading::{
-    Reading, check, document, number, only_keys, pair, required, required_number, value_at,
-    values_of,
+    Reading, document, number, of_keys, pair, required, required_number, value_at, values_of,
 };
 
 type Read<T> = Reading<T, ProfileFileFault>;
@@ -112,12 +111,7 @@ fn joined(parts: Parts) -> [u32; 15]
 fn numbers_in(table: &Table) -> Read<[u32; 15]>
     ensures { result ≡ numbers_in (table_view table.now) }
 {
-    check(
-        only_keys(KEYS, table),
-        ProfileFileFault::UnknownKey,
-        parts_in(table),
-    )
-    .map(joined)
+    of_keys(KEYS, table, parts_in(table)).map(joined)
 }
 
 // The profile of the numbers that were read.

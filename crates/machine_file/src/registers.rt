@@ -10,7 +10,7 @@ use arm2_effect::Reg;
 use std::alloc::{AllocError, Global};
 use std::marker::Model;
 use toml::{Table, Value};
-use toml_reading::{append, check, only_keys, optional_number, value_at};
+use toml_reading::{append, of_keys, optional_number, value_at};
 
 /// The registers that a file may name, in their order: all but R15.
 pub(crate) const REGISTERS: [Reg; 26] = [
@@ -94,11 +94,7 @@ fn registers_of(alloc: Global, table: &Table) -> Result<Read<Bank>, AllocError>
     ensures { IfOk result (λ bank. bank ≡ registers_of (table_view table.now)) }
 {
     let reading = as_bank(words(alloc, table, &NAMES)?);
-    Ok(check(
-        only_keys(&NAMES, table),
-        MachineFileFault::UnknownKey,
-        reading,
-    ))
+    Ok(of_keys(&NAMES, table, reading))
 }
 
 fn registers_at(alloc: Global, value: &Value) -> Result<Read<Bank>, AllocError>

@@ -12,7 +12,7 @@ use std::alloc::{AllocError, Global};
 use std::marker::Model;
 use toml::{Table, Value};
 use toml_reading::{
-    Entry, are_all_distinct, check, only_keys, pair, required, required_number, tables, value_at,
+    Entry, are_all_distinct, of_keys, pair, required, required_number, tables, value_at,
 };
 
 // The keys of the table of a word that is put into memory.
@@ -46,11 +46,7 @@ fn put_word_in(table: &Table) -> Read<(u32, u32)>
         put_address_in(table),
         required_number(table, "value", u32::MAX),
     );
-    check(
-        only_keys(WORD_KEYS, table),
-        MachineFileFault::UnknownKey,
-        word,
-    )
+    of_keys(WORD_KEYS, table, word)
 }
 
 impl Entry<(), MachineFileFault> for (u32, u32) {

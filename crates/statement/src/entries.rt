@@ -15,8 +15,8 @@ use loader::Labels;
 use std::alloc::{AllocError, Global};
 use toml::{Table, Value};
 use toml_reading::{
-    Entry, are_all_distinct, check, in_space, only_keys, pair, read_list_up_to, required,
-    required_number, value_at, values_of,
+    Entry, are_all_distinct, in_space, of_keys, pair, read_list_up_to, required, required_number,
+    value_at, values_of,
 };
 use walks::MOST_ROUNDS;
 
@@ -93,11 +93,7 @@ fn loop_in(labels: &Labels, table: &Table) -> Read<Loop>
     ensures { result ≡ loop_in (address_of labels.now) (table_view table.now) }
 {
     let reading = loop_parts(labels, table).and_then(placed_loop);
-    check(
-        only_keys(LOOP_KEYS, table),
-        StatementFault::UnknownKey,
-        reading,
-    )
+    of_keys(LOOP_KEYS, table, reading)
 }
 
 impl Entry<Labels, StatementFault> for Loop {
@@ -146,11 +142,7 @@ fn access_in(labels: &Labels, table: &Table) -> Read<(u32, Class)>
     ensures { result ≡ access_in (address_of labels.now) (table_view table.now) }
 {
     let reading = pair(address_in(labels, table, "at"), class_in(table));
-    check(
-        only_keys(ACCESS_KEYS, table),
-        StatementFault::UnknownKey,
-        reading,
-    )
+    of_keys(ACCESS_KEYS, table, reading)
 }
 
 impl Entry<Labels, StatementFault> for (u32, Class) {
@@ -283,11 +275,7 @@ fn target_in(
     let kind = kind_in(table);
     let target = direct(alloc, labels, value_at(table, "to"), kind)?;
     let reading = pair(address_in(labels, table, "at"), target);
-    Ok(check(
-        only_keys(TARGET_KEYS, table),
-        StatementFault::UnknownKey,
-        reading,
-    ))
+    Ok(of_keys(TARGET_KEYS, table, reading))
 }
 
 impl Entry<Labels, StatementFault> for (u32, Target) {

@@ -13,7 +13,7 @@ use bus_ticks::Class;
 use loader::Labels;
 use std::alloc::{AllocError, Global};
 use toml::Table;
-use toml_reading::{by_number, check, document, only_keys, pair, tables_up_to, value_at};
+use toml_reading::{by_number, document, of_keys, pair, tables_up_to, value_at};
 
 /// The keys of a statement.
 pub const STATEMENT_KEYS: &[&str] = &["entry", "leave", "loop", "target", "access"];
@@ -90,11 +90,7 @@ fn statement_of(
     ensures { IfOk result (λ reading. reading ≡ statement_of (address_of labels.now) (table_view table.now)) }
 {
     let reading = stated(alloc, parts_of(alloc, labels, table)?)?;
-    Ok(check(
-        only_keys(STATEMENT_KEYS, table),
-        StatementFault::UnknownKey,
-        reading,
-    ))
+    Ok(of_keys(STATEMENT_KEYS, table, reading))
 }
 
 /// The statement that a text states, with the addresses of the labels that it names. Of several faults over

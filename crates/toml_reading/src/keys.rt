@@ -3,8 +3,9 @@ ghost use Rattle.std.specs.List.{list_all};
 ghost use Rattle.std.specs.BTreeMap.{keys};
 ghost use Rattle.toml.specs.Data.{get_member};
 ghost use Rattle.toml.specs.View.{table_view, view};
-ghost use Rattle.toml_reading.specs.Documents.{has_only_keys, is_one_of};
+ghost use Rattle.toml_reading.specs.Documents.{has_only_keys, is_one_of, of_keys};
 
+use crate::readings::{Fault, Reading, check};
 use toml::{Table, Value};
 
 /// Whether the word is one of those.
@@ -26,11 +27,22 @@ fn are_known(known: &[&str], table: &Table) -> bool
     table.keys().all(|key| is_one_of(known, key.as_bytes()))
 }
 
-/// Whether the table has no other keys than those.
-pub fn only_keys(known: &[&str], table: &Table) -> bool
+fn has_only_keys(known: &[&str], table: &Table) -> bool
     ensures { result ≡ has_only_keys (map (λ k. k.now) known.now) (table_view table.now) }
 {
     are_known(known, table)
+}
+
+/// A table's reading, where it has no other keys than those.
+pub fn of_keys<T: Drop, F: Fault>(
+    known: &[&str],
+    table: &Table,
+    reading: Reading<T, F>,
+) -> Reading<T, F>
+    ensures { result
+        ≡ of_keys F.faults (map (λ k. k.now) known.now) (table_view table.now) reading }
+{
+    check(has_only_keys(known, table), F::unknown_key(), reading)
 }
 
 /// The value at a key.

@@ -15,7 +15,7 @@ mod readings;
 
 pub use distinct::{are_all_distinct, by_number};
 pub use documents::document;
-pub use keys::{is_one_of, only_keys, value_at};
+pub use keys::{is_one_of, of_keys, value_at};
 pub use limits::{read_list_up_to, tables_up_to};
 pub use lists::{Entry, list, tables, values_of};
 pub use numbers::{in_space, number, optional_number, required_number};
