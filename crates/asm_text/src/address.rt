@@ -7,7 +7,7 @@ ghost use Rattle.asm_text.specs.Operands.{number_offset, offset_first};
 ghost use Rattle.asm_text.specs.Operands.{register_offset};
 
 use crate::number::first_number;
-use crate::operand::{first_shifting, whole};
+use crate::operand::{all_read, first_shifting};
 use crate::register::first_register;
 use crate::syntax::{Address, Distance, Shifting};
 use crate::token::{Mark, Token};
@@ -58,7 +58,7 @@ fn first_offset<'a, 'b>(tokens: &'a [Token<'b>]) -> Option<(Offset, &'a [Token<'
 }
 
 // Nothing, or the mark of a base that is written back.
-fn write_back(tokens: &[Token<'_>]) -> Option<bool>
+fn bang_of(tokens: &[Token<'_>]) -> Option<bool>
     ensures { result ≡ bang_of (map piece_of tokens.now) }
 {
     match tokens {
@@ -72,12 +72,12 @@ fn closed_of(tokens: &[Token<'_>]) -> Option<bool>
     ensures { result ≡ closed_of (map piece_of tokens.now) }
 {
     match tokens {
-        [Token::Sign(Mark::CloseBracket), rest @ ..] => write_back(rest),
+        [Token::Sign(Mark::CloseBracket), rest @ ..] => bang_of(rest),
         _ => None,
     }
 }
 
-fn address_with(rn: Register, before: bool, write_back: bool, offset: Offset) -> Address
+fn address(rn: Register, before: bool, write_back: bool, offset: Offset) -> Address
     ensures { result ≡ address rn before write_back offset }
 {
     Address {
@@ -89,28 +89,28 @@ fn address_with(rn: Register, before: bool, write_back: bool, offset: Offset) ->
     }
 }
 
-fn before(rn: Register, tokens: &[Token<'_>]) -> Option<Address>
+fn before_of(rn: Register, tokens: &[Token<'_>]) -> Option<Address>
     ensures { result ≡ before_of rn (map piece_of tokens.now) }
 {
     let (offset, rest) = first_offset(tokens)?;
     let write_back = closed_of(rest)?;
-    Some(address_with(rn, true, write_back, offset))
+    Some(address(rn, true, write_back, offset))
 }
 
 fn plain_of(rn: Register, tokens: &[Token<'_>]) -> Option<Address>
     ensures { result ≡ plain_of rn (map piece_of tokens.now) }
 {
-    let write_back = write_back(tokens)?;
-    Some(address_with(rn, true, write_back, (true, Distance::Number(0))))
+    let write_back = bang_of(tokens)?;
+    Some(address(rn, true, write_back, (true, Distance::Number(0))))
 }
 
-fn after(user: bool, rn: Register, tokens: &[Token<'_>]) -> Option<Address>
+fn after_of(user: bool, rn: Register, tokens: &[Token<'_>]) -> Option<Address>
     ensures { result ≡ after_of user rn (map piece_of tokens.now) }
 {
     match tokens {
         [Token::Comma, rest @ ..] => {
-            let offset = whole(first_offset(rest))?;
-            Some(address_with(rn, false, user, offset))
+            let offset = all_read(first_offset(rest))?;
+            Some(address(rn, false, user, offset))
         }
         _ => { if user { None } else { plain_of(rn, tokens) } }
     }
@@ -120,14 +120,14 @@ fn based(user: bool, rn: Register, tokens: &[Token<'_>]) -> Option<Address>
     ensures { result ≡ based user rn (map piece_of tokens.now) }
 {
     match tokens {
-        [Token::Sign(Mark::CloseBracket), rest @ ..] => after(user, rn, rest),
-        [Token::Comma, rest @ ..] => { if user { None } else { before(rn, rest) } }
+        [Token::Sign(Mark::CloseBracket), rest @ ..] => after_of(user, rn, rest),
+        [Token::Comma, rest @ ..] => { if user { None } else { before_of(rn, rest) } }
         _ => None,
     }
 }
 
 /// An address after its bracket; that of a User access is post-indexed.
-pub(crate) fn address(user: bool, tokens: &[Token<'_>]) -> Option<Address>
+pub(crate) fn address_of(user: bool, tokens: &[Token<'_>]) -> Option<Address>
     ensures { result ≡ address_of user (map piece_of tokens.now) }
 {
     let (rn, rest) = first_register(tokens)?;

@@ -21,16 +21,16 @@ pub struct Line<'a> {
     pub statement: Option<Statement<'a>>,
 }
 
-fn is_text_byte(b: u8) -> bool
+fn is_text(b: u8) -> bool
     ensures { result ≡ is_text b }
 {
     (b >= b' ' && b <= b'~') || b == b'\t'
 }
 
-fn is_comment_byte(b: u8) -> bool
+fn is_comment_text(b: u8) -> bool
     ensures { result ≡ is_comment_text b }
 {
-    is_text_byte(b) || b >= 0x80
+    is_text(b) || b >= 0x80
 }
 
 // The bytes in front of the first that begins a comment or is no text.
@@ -39,14 +39,14 @@ fn plain_len(text: &[u8]) -> usize
     ensures within { result ≤ length text.now }
 {
     text.iter()
-        .take_while(|b| is_text_byte(**b) && **b != b';')
+        .take_while(|b| is_text(**b) && **b != b';')
         .count()
 }
 
 fn are_comment_bytes(text: &[u8]) -> bool
     ensures { result ≡ list_all is_comment_text text.now }
 {
-    text.iter().all(|b| is_comment_byte(*b))
+    text.iter().all(|b| is_comment_text(*b))
 }
 
 // The line without its comment, where both are text.
@@ -152,7 +152,7 @@ pub fn read_line<'a>(alloc: Global, text: &'a [u8]) -> Result<Line<'a>, TextFaul
 }
 
 // The bytes before the first line feed.
-fn line_len(text: &[u8]) -> usize
+fn feed_len(text: &[u8]) -> usize
     ensures len { result ≡ feed_len text.now }
     ensures within { result ≤ length text.now }
 {
@@ -193,7 +193,7 @@ pub fn first_line(source: &[u8]) -> Option<(&[u8], &[u8])>
     if source.is_empty() {
         return None;
     }
-    let len = line_len(source);
+    let len = feed_len(source);
     if len == source.len() {
         return Some((source, after(source, len)));
     }

@@ -191,7 +191,12 @@ fn braced(
     }
 }
 
-fn based(load: bool, suffix: Suffix, rn: Register, tokens: &[Token<'_>]) -> Option<BlockTransfer>
+fn block_based(
+    load: bool,
+    suffix: Suffix,
+    rn: Register,
+    tokens: &[Token<'_>],
+) -> Option<BlockTransfer>
     ensures { result ≡ block_based load suffix rn (map piece_of tokens.now) }
 {
     match tokens {
@@ -201,9 +206,9 @@ fn based(load: bool, suffix: Suffix, rn: Register, tokens: &[Token<'_>]) -> Opti
 }
 
 /// The operands of LDM, which loads, or of STM.
-pub(crate) fn block(load: bool, suffix: Suffix, tokens: &[Token<'_>]) -> Option<BlockTransfer>
+pub(crate) fn block_of(load: bool, suffix: Suffix, tokens: &[Token<'_>]) -> Option<BlockTransfer>
     ensures { result ≡ block_of load suffix (map piece_of tokens.now) }
 {
     let (rn, rest) = first_register(tokens)?;
-    based(load, suffix, rn, rest)
+    block_based(load, suffix, rn, rest)
 }

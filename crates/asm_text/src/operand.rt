@@ -79,23 +79,23 @@ pub(crate) fn first_shifting<'a, 'b>(tokens: &'a [Token<'b>]) -> Option<(Shiftin
 }
 
 /// What was read from the front of some tokens, where nothing follows it.
-pub(crate) fn whole<'a, 'b, T: Copy>(front: Option<(T, &'a [Token<'b>])>) -> Option<T>
+pub(crate) fn all_read<'a, 'b, T: Copy>(front: Option<(T, &'a [Token<'b>])>) -> Option<T>
     ensures { result ≡ all_read (option_map in_pieces front.entry) }
 {
     let (value, rest) = front?;
     if rest.is_empty() { Some(value) } else { None }
 }
 
-fn operand(tokens: &[Token<'_>]) -> Option<Operand>
+fn operand_of(tokens: &[Token<'_>]) -> Option<Operand>
     ensures { result ≡ operand_of (map piece_of tokens.now) }
 {
     match tokens {
         [Token::Sign(Mark::Hash), rest @ ..] => {
-            whole(first_number(rest)).map(Operand::Immediate)
+            all_read(first_number(rest)).map(Operand::Immediate)
         }
         [Token::Run(text), rest @ ..] => {
             let m = register_of(text)?;
-            let shifting = whole(first_shifting(rest))?;
+            let shifting = all_read(first_shifting(rest))?;
             Some(Operand::Shifted(m, shifting))
         }
         _ => None,
@@ -126,7 +126,7 @@ fn compare_rd(suffix: Suffix) -> Register
 fn compare_of(opcode: Opcode, suffix: Suffix, rn: Register, tokens: &[Token<'_>]) -> Option<Data>
     ensures { result ≡ compare_of opcode suffix rn (map piece_of tokens.now) }
 {
-    let operand = operand(tokens)?;
+    let operand = operand_of(tokens)?;
     Some(Data {
         opcode,
         sets_flags: true,
@@ -139,7 +139,7 @@ fn compare_of(opcode: Opcode, suffix: Suffix, rn: Register, tokens: &[Token<'_>]
 fn move_of(opcode: Opcode, suffix: Suffix, rd: Register, tokens: &[Token<'_>]) -> Option<Data>
     ensures { result ≡ move_of opcode suffix rd (map piece_of tokens.now) }
 {
-    let operand = operand(tokens)?;
+    let operand = operand_of(tokens)?;
     Some(Data {
         opcode,
         sets_flags: sets_flags(suffix),
@@ -153,7 +153,7 @@ fn three_of(opcode: Opcode, suffix: Suffix, rd: Register, tokens: &[Token<'_>]) 
     ensures { result ≡ three_of opcode suffix rd (map piece_of tokens.now) }
 {
     let (rn, rest) = first_register_comma(tokens)?;
-    let operand = operand(rest)?;
+    let operand = operand_of(rest)?;
     Some(Data {
         opcode,
         sets_flags: sets_flags(suffix),
@@ -176,7 +176,7 @@ fn data_with(opcode: Opcode, suffix: Suffix, r: Register, tokens: &[Token<'_>]) 
 }
 
 /// The operands of a data processing word.
-pub(crate) fn data(opcode: Opcode, suffix: Suffix, tokens: &[Token<'_>]) -> Option<Data>
+pub(crate) fn data_of(opcode: Opcode, suffix: Suffix, tokens: &[Token<'_>]) -> Option<Data>
     ensures { result ≡ data_of opcode suffix (map piece_of tokens.now) }
 {
     let (r, rest) = first_register_comma(tokens)?;
@@ -186,7 +186,7 @@ pub(crate) fn data(opcode: Opcode, suffix: Suffix, tokens: &[Token<'_>]) -> Opti
 fn factors_of(suffix: Suffix, rd: Register, rm: Register, tokens: &[Token<'_>]) -> Option<Product>
     ensures { result ≡ factors_of suffix rd rm (map piece_of tokens.now) }
 {
-    let rs = whole(first_register(tokens))?;
+    let rs = all_read(first_register(tokens))?;
     Some(Product {
         accumulate: false,
         sets_flags: sets_flags(suffix),
@@ -201,7 +201,7 @@ fn sum_of(suffix: Suffix, rd: Register, rm: Register, tokens: &[Token<'_>]) -> O
     ensures { result ≡ sum_of suffix rd rm (map piece_of tokens.now) }
 {
     let (rs, rest) = first_register_comma(tokens)?;
-    let rn = whole(first_register(rest))?;
+    let rn = all_read(first_register(rest))?;
     Some(Product {
         accumulate: true,
         sets_flags: sets_flags(suffix),

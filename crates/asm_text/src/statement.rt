@@ -12,11 +12,11 @@ ghost use Rattle.asm_text.specs.Statements.{value_step, values_in};
 ghost use Rattle.asm_text.specs.declared.statement.Expects.TheVariants.{Start};
 ghost use Rattle.asm_text.specs.declared.statement.TextFault.TheVariants.{Memory};
 
-use crate::address::address;
-use crate::list::block;
+use crate::address::address_of;
+use crate::list::block_of;
 use crate::names::{Head, Suffix};
 use crate::number::{first_hex, first_number, read_hex, read_number};
-use crate::operand::{data, product_of, whole};
+use crate::operand::{all_read, data_of, product_of};
 use crate::register::first_register_comma;
 use crate::syntax::{Action, Code, Reference, Statement, Transfer, Use, Value};
 use crate::token::{Mark, Token};
@@ -90,7 +90,7 @@ fn run_target<'a>(text: &'a [u8]) -> Option<Value<'a>>
 fn only_number(tokens: &[Token<'_>]) -> Option<u32>
     ensures { result ≡ only_number (map piece_of tokens.now) }
 {
-    whole(first_number(tokens))
+    all_read(first_number(tokens))
 }
 
 // The number or label that some tokens begin with, and those after it.
@@ -161,7 +161,7 @@ fn single_at<'a>(
     let user = is_user(suffix);
     match tokens {
         [Token::Sign(Mark::OpenBracket), rest @ ..] => {
-            let address = address(user, rest)?;
+            let address = address_of(user, rest)?;
             let transfer = Transfer {
                 load,
                 byte,
@@ -200,9 +200,9 @@ fn action_of(head: Head, suffix: Suffix, tokens: &[Token<'_>]) -> Option<Action>
     ensures { result ≡ action_of head suffix (map piece_of tokens.now) }
 {
     match head {
-        Head::Data(opcode) => data(opcode, suffix, tokens).map(Action::Data),
+        Head::Data(opcode) => data_of(opcode, suffix, tokens).map(Action::Data),
         Head::Multiply(accumulate) => product_of(accumulate, suffix, tokens).map(Action::Multiply),
-        Head::Block(load) => block(load, suffix, tokens).map(Action::Block),
+        Head::Block(load) => block_of(load, suffix, tokens).map(Action::Block),
         Head::Swi => only_number(tokens).map(Action::Swi),
         Head::Single(_) | Head::Adr => None,
     }

@@ -6,7 +6,7 @@ ghost use Rattle.assembler.specs.Shown.{hex_line};
 ghost use Rattle.assembler.specs.ShownLines.{GivesBack, IsShown, shown_word};
 
 use crate::encoded::encoded;
-use crate::spelling::spelled;
+use crate::spelling::shown_line;
 use crate::text::Line;
 use arm2_decode::decode;
 use asm_text::{Action, Code, Shown, Use, hex8, read_shown};
@@ -75,7 +75,7 @@ pub fn disassemble(word: u32, at: u32) -> Line
     ensures { IsShown word at result }
 {
     if let Ok(instr) = decode(word) {
-        let line = spelled(&instr, at);
+        let line = shown_line(&instr, at);
         if gives(line.items(), at, word) {
             return line;
         }

@@ -76,7 +76,7 @@ fn amount_fits(amount: Amount) -> bool
 }
 
 // The amount as a word has it, in which 32 is 0.
-fn places(amount: Amount) -> u32
+fn amount_field(amount: Amount) -> u32
     ensures value { result ≡ amount_field amount }
     ensures fits { result < 32 }
 {
@@ -110,7 +110,7 @@ fn register_word(cond: Cond, fields: Data, rm: Register, amount: Amount) -> Resu
         sets_flags: fields.sets_flags,
         rn: fields.rn,
         rd: fields.rd,
-        amount: places(amount),
+        amount: amount_field(amount),
         shift: amount_shift(amount),
         rm,
     });
@@ -246,7 +246,7 @@ fn register_transfer(
         load: transfer.load,
         rn: transfer.address.rn,
         rd: transfer.rd,
-        amount: places(amount),
+        amount: amount_field(amount),
         shift: amount_shift(amount),
         rm,
     });

@@ -595,7 +595,7 @@ fn swi_text(cond: Cond, x: Swi) -> Line
 }
 
 /// The stated spelling of an instruction at an address; empty for a word that has none.
-pub(crate) fn spelled(instr: &Instr, at: u32) -> Line
+pub(crate) fn shown_line(instr: &Instr, at: u32) -> Line
     ensures { result ≡ shown_line instr.now at }
 {
     let cond = instr.cond;

@@ -21,7 +21,7 @@ use std::cmp::Reverse;
 use std::collections::BTreeSet;
 
 /// Where a walk starts.
-pub(crate) fn start(statement: &Statement) -> Place
+pub(crate) fn start_of(statement: &Statement) -> Place
     ensures value { result ≡ start_of statement.now }
     ensures is_stated { IsStated statement.now }
 {
@@ -62,7 +62,7 @@ fn explore(
     let mut seen = BTreeSet::new(alloc);
     let mut order = Vec::new(alloc);
     let mut edges = Vec::new(alloc);
-    add(&mut seen, &mut order, &start(statement))?;
+    add(&mut seen, &mut order, &start_of(statement))?;
     let mut next = 0;
     while next < order.len() {
         let place = order[next];
@@ -118,7 +118,7 @@ pub fn build(
     let places = sorted(alloc, &seen)?;
     let (edges, firsts) = edges_in_turn(alloc, image, statement, profile, &places)?;
     Ok(Graph {
-        entry: start(statement),
+        entry: start_of(statement),
         places,
         edges,
         firsts,

@@ -3,7 +3,7 @@ ghost use Rattle.flow_graph.specs.Faulty.{AreSound, IsFaultyPlace};
 ghost use Rattle.flow_graph.specs.Graph.{IsCrowd};
 ghost use Rattle.flow_graph.specs.Search.{EndsOne};
 
-use crate::building::{edges_at, start};
+use crate::building::{edges_at, start_of};
 use crate::edges::Edge;
 use crate::faults::BuildFault;
 use crate::law::order_of_places;
@@ -81,7 +81,7 @@ pub fn faulty_place(
     let mut order = Vec::new(alloc);
     // the edges of the places that were visited
     let mut walked = Vec::new(alloc);
-    add(&mut seen, &mut order, &start(statement))?;
+    add(&mut seen, &mut order, &start_of(statement))?;
     let mut next = 0;
     while next < order.len() {
         let place = order[next];

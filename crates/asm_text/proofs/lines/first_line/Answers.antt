@@ -9,17 +9,17 @@ returns-then-is_empty c = line_empty c.args.source.now (grind (arith, nat_tests)
 pub returns-then-len-source : goal.returns-then-len-source
 returns-then-len-source c =
     let source = c.args.source.now in
-    let n = c.line_len-len.result in
+    let n = c.feed_len-len.result in
     let some : 0 < length source = grind (arith, nat_tests) in (
-      rw c.after.ensures (line_last source n c.line_len-len.ensures.len c.if-len-source.true some),
+      rw c.after.ensures (line_last source n c.feed_len-len.ensures.len c.if-len-source.true some),
       rw c.after.ensures (omega (arith, length-drop n source, c.if-len-source.true, some)),
     )
 
 pub returns : goal.returns
 returns c =
     let source = c.args.source.now in
-    let n = c.line_len-len.result in
-    let less : n < length source = omega (arith, c.line_len-len.ensures.within, c.if-len-source.false) in (
-      rw (c.without_return.ensures, c.after-2.ensures) (line_more source n c.line_len-len.ensures.len less),
+    let n = c.feed_len-len.result in
+    let less : n < length source = omega (arith, c.feed_len-len.ensures.within, c.if-len-source.false) in (
+      rw (c.without_return.ensures, c.after-2.ensures) (line_more source n c.feed_len-len.ensures.len less),
       rw c.after-2.ensures (omega (arith, length-drop (n + 1) source, less)),
     )

@@ -9,10 +9,10 @@ use Rattle.assembler.proofs.disassembly.disassemble.Goals.{in-Ok+else-gives, in_
 
 pub returns-then-gives : goal.returns-then-gives
 returns-then-gives c =
-    spelled_shown c.args.word c.args.at c.spelled-line.result c.in-Ok.instr
+    spelled_shown c.args.word c.args.at c.shown_line-line.result c.in-Ok.instr
     (λ i m. same_spelling c.in-Ok.instr i c.args.at _ c.in-Ok.is (c.decode.ensures.only i m))
     c.in-Ok.ensures.found
-    c.spelled-line.ensures
+    c.shown_line-line.ensures
     (subst (λ (t : List ℕ). GivesBack t c.args.at c.args.word) c.items.ensures.bytes (c.gives.ensures.yes c.if-gives.true))
 
 pub returns : goal.returns
@@ -21,8 +21,8 @@ returns c =
     hex_shown c.args.word c.args.at c.hex_line.result below c.hex_line.ensures
     (elim c.match-decode.branch [
       | in-Ok+else-gives w ↦ λ i m b.
-          let same = sym (same_spelling w.in-Ok.instr i c.args.at _ w.in-Ok.is (c.decode.ensures.only i m)) ∙ sym (w.items.ensures.bytes ∙ w.spelled-line.ensures) in
-          let may = spelling_shown w.items.result.now w.in-Ok.instr c.args.at (w.items.ensures.bytes ∙ w.spelled-line.ensures) w.items.ensures.short in
+          let same = sym (same_spelling w.in-Ok.instr i c.args.at _ w.in-Ok.is (c.decode.ensures.only i m)) ∙ sym (w.items.ensures.bytes ∙ w.shown_line-line.ensures) in
+          let may = spelling_shown w.items.result.now w.in-Ok.instr c.args.at (w.items.ensures.bytes ∙ w.shown_line-line.ensures) w.items.ensures.short in
           let may-spelled = subst (λ (t : List ℕ). is_shown_text t ≡ true) (sym same) may in
           let back = spelling_back i c.args.at c.args.word may-spelled b in
           let yes = w.gives.ensures.no may (subst (λ (t : List ℕ). GivesBack t c.args.at c.args.word) same back) in

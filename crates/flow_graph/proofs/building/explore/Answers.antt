@@ -6,7 +6,7 @@ use Rattle.flow_graph.proofs.building.explore.Goals as goal
 pub returns-in_err-add-clause-fault : goal.returns-in_err-add-clause-fault
 returns-in_err-add-clause-fault c =
     let p = err_from_is_err_and c.from_residual.result c.from_residual.ensures.1 in
-    rw (p.1, p.2) (add_fault c.args.image.now c.args.statement.now c.args.profile.now c.new-order.result.items c.start.result _ c.new-order.ensures.items c.start.ensures.value c.in_err-add.ensures.err)
+    rw (p.1, p.2) (add_fault c.args.image.now c.args.statement.now c.args.profile.now c.new-order.result.items c.start_of.result _ c.new-order.ensures.items c.start_of.ensures.value c.in_err-add.ensures.err)
 
 pub returns-in_err-push_edges-clause-fault : goal.returns-in_err-push_edges-clause-fault
 returns-in_err-push_edges-clause-fault c =

@@ -15,7 +15,7 @@ returns-in_err-add-clause-err c =
     rw (p.1, p.2)
     (⊎_elim
     (λ e. inl e)
-    (λ e. inr (e.0, add_fault c.args.image.now c.args.statement.now c.args.profile.now c.new-order.result.items c.start.result TooManyPlaces c.new-order.ensures.items c.start.ensures.value (inr (refl, e.1))))
+    (λ e. inr (e.0, add_fault c.args.image.now c.args.statement.now c.args.profile.now c.new-order.result.items c.start_of.result TooManyPlaces c.new-order.ensures.items c.start_of.ensures.value (inr (refl, e.1))))
     c.in_err-add.ensures.err)
 
 pub returns-in_err-add_ends-clause-err : goal.returns-in_err-add_ends-clause-err

@@ -1,5 +1,5 @@
 use Rattle.asm_text.proofs.FeedLaws.{first_feed, no_feed}
-use Rattle.asm_text.proofs.lines.line_len.Goals as goal
+use Rattle.asm_text.proofs.lines.feed_len.Goals as goal
 
 pub returns-in-Some-clause-len : goal.returns-in-Some-clause-len
 returns-in-Some-clause-len c = first_feed c.args.text.now c.memchr.result _ c.memchr.ensures c.in-Some.is
