@@ -6,6 +6,7 @@ use crate::profile::{Class, Profile, RomTimes};
 use crate::space::{IO_START, ROM_START, SPACE_END, word_address};
 
 /// The class of an address: Ram below 3000000, Io from there and Rom from 3400000 on, never `Any`.
+#[inline(always)]
 pub fn class_of(address: u32) -> Class
     ensures { result ≡ class_at address }
 {
@@ -65,13 +66,11 @@ pub fn fetch_n(profile: &Profile, address: u32, rom: RomTimes) -> u32
     ensures price { result ≡ n_price profile.now rom address }
     ensures small { result < 256 }
 {
-    if address < IO_START {
-        return profile.n;
+    match class_of(address) {
+        Class::Ram => profile.n,
+        Class::Rom => rom_price(profile, rom, address),
+        Class::Io | Class::Any => profile.unfitted,
     }
-    if address < ROM_START {
-        return profile.unfitted;
-    }
-    rom_price(profile, rom, address)
 }
 
 /// The ticks of an access to RAM that follows the one before it.
@@ -94,13 +93,11 @@ pub fn fetch_s(profile: &Profile, address: u32, rom: RomTimes) -> u32
     ensures price { result ≡ s_price profile.now rom address }
     ensures small { result < 256 }
 {
-    if address < IO_START {
-        return ram_price(profile, address);
+    match class_of(address) {
+        Class::Ram => ram_price(profile, address),
+        Class::Rom => rom_price(profile, rom, address),
+        Class::Io | Class::Any => profile.unfitted,
     }
-    if address < ROM_START {
-        return profile.unfitted;
-    }
-    rom_price(profile, rom, address)
 }
 
 #[inline(never)]
@@ -118,20 +115,13 @@ fn word_price(profile: &Profile, address: u32, first: bool, store: bool, rom: Ro
     ensures price { result ≡ word_price profile.now rom store first address }
     ensures small { result < 256 }
 {
-    if address < IO_START {
-        return if first {
-            profile.n
-        } else {
-            ram_price(profile, address)
-        };
+    match class_of(address) {
+        Class::Ram if first => profile.n,
+        Class::Ram => ram_price(profile, address),
+        Class::Rom if store => profile.control,
+        Class::Rom => rom_price(profile, rom, address),
+        Class::Io | Class::Any => io_price(profile, address),
     }
-    if address < ROM_START {
-        return io_price(profile, address);
-    }
-    if store {
-        return profile.control;
-    }
-    rom_price(profile, rom, address)
 }
 
 // The same, word by word.
