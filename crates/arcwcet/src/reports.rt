@@ -12,7 +12,7 @@ use crate::visits::visits_report;
 use author_reports::{FollowedRun, draft_report, follow_report, graph_report};
 use bound_reports::{CheckInputs, bound_report, check_report, verdict_report};
 use command_line::{CheckNames, DraftNames, FollowNames, Names, TightNames, VisitsNames};
-use machine_reports::{Registers, Steps, list_report, machine_report, tight_report};
+use machine_reports::{ShownRegisters, ShownSteps, list_report, machine_report, tight_report};
 use report_output::{Output, ReportFault};
 use std::alloc::Global;
 
@@ -103,9 +103,9 @@ impl<'a> PairReport<'a> {
         } = texts;
         match self {
             PairReport::Run(_) => {
-                machine_report::<Registers, O>(alloc, first, second, profile, out)
+                machine_report::<ShownRegisters, O>(alloc, first, second, profile, out)
             }
-            PairReport::Trace(_) => machine_report::<Steps, O>(alloc, first, second, profile, out),
+            PairReport::Trace(_) => machine_report::<ShownSteps, O>(alloc, first, second, profile, out),
             PairReport::Bound(_) => answered(bound_report(alloc, first, second, profile, out)),
             PairReport::Graph(_) => answered(graph_report(alloc, first, second, profile, out)),
             PairReport::Tight(names) => {

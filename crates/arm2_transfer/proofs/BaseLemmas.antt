@@ -27,7 +27,7 @@ use Rattle.arm2_transfer.specs.declared.span.Span.{Span}
 use Rattle.arm2_transfer.specs.declared.words.Move.{Move}
 use Rattle.arm2_transfer.specs.declared.words.TransferFault.{TransferFault}
 use Rattle.arm2_transfer.specs.declared.words.TransferFault.TheVariants as fault
-use Rattle.arm2_transfer.specs.Bases.{address_at, base_at, base_moved, BlockBase, Gives, is_base, is_own_base, IsSpot, IsWordSpot, loads_base, lowest_at, mode_at, PutsWords, SingleBase, words_in}
+use Rattle.arm2_transfer.specs.Bases.{address_at, base_at, base_moved, BlockBase, Stores, is_base, is_own_base, IsSpot, IsWordSpot, loads_base, lowest_at, mode_at, PutsWords, SingleBase, words_in}
 use Rattle.arm2_transfer.specs.Block.{all_loaded, all_put, block_at, block_by, block_carried_out, block_loads, block_moved, block_put, block_stores, mode_for, span_of}
 use Rattle.arm2_transfer.specs.Bus.{made_of, put, put_single, seen}
 use Rattle.arm2_transfer.specs.Moved.{on_bus, out_of_space, faulted}
@@ -159,11 +159,11 @@ module _ (x : Block) (regs : List ℕ) (bus : Bus) (low : place (mode_at regs) x
   abbrev after : List ℕ
   after = with_base x.write_back (mode_at regs) x.rn (base_moved x regs) regs
 
-  abbrev now_gives : Register → List ℕ → ℕ
-  now_gives register now = given (mode_for x (mode_at regs)) register now
+  abbrev value_in : Register → List ℕ → ℕ
+  value_in register now = given (mode_for x (mode_at regs)) register now
 
-  gives_first : (register : Register) → Gives x regs true register (now_gives register regs)
-  gives_first register =
+  stores_first : (register : Register) → Stores x regs true register (value_in register regs)
+  stores_first register =
       let here = given_here (mode_for x (mode_at regs)) (place (mode_at regs) x.rn) register regs low in
       record {
         lowest_base = λ is first. here is;
@@ -173,15 +173,15 @@ module _ (x : Block) (regs : List ℕ) (bus : Bus) (low : place (mode_at regs) x
       }
 
   stays : (register : Register) → is_base x regs register ≡ false
-      → (x.write_back ≡ true) ⊎ (x.write_back ≡ false) → now_gives register after ≡ now_gives register regs
+      → (x.write_back ≡ true) ⊎ (x.write_back ≡ false) → value_in register after ≡ value_in register regs
   stays register apart (inl writes) =
-      ap (now_gives register) (cond-true x.write_back _ _ writes)
+      ap (value_in register) (cond-true x.write_back _ _ writes)
       ∙ given_apart (mode_for x (mode_at regs)) (place (mode_at regs) x.rn) register regs low
       (base_moved x regs) apart
-  stays register apart (inr keeps) = ap (now_gives register) (cond-false x.write_back _ _ keeps)
+  stays register apart (inr keeps) = ap (value_in register) (cond-false x.write_back _ _ keeps)
 
-  gives_later : (register : Register) → Gives x regs false register (now_gives register after)
-  gives_later register =
+  stores_later : (register : Register) → Stores x regs false register (value_in register after)
+  stores_later register =
       let here = given_here (mode_for x (mode_at regs)) (place (mode_at regs) x.rn) register after low in
       record {
         lowest_base = λ is first. absurd (false≢true first);
@@ -200,17 +200,17 @@ module _ (x : Block) (regs : List ℕ) (bus : Bus) (low : place (mode_at regs) x
   later_put i (a ∷ rest) [] old placed later = absurd placed
   later_put i (a ∷ rest) (move ∷ moves) old placed later =
       let mode = mode_for x (mode_at regs) in
-      let word = now_gives a after in
+      let word = value_in a after in
       let next_later = ne_eqb (i + 1) 0 (λ e. omega (arith, e)) in
       let more = later_put (i + 1) rest moves (put move.spot word old) placed.2 next_later in (
         move.spot,
         word,
         placed.1,
-        subst (λ (b : Bool). Gives x regs b a word) (sym later) (gives_later a),
+        subst (λ (b : Bool). Stores x regs b a word) (sym later) (stores_later a),
         subst
             (λ (q : Register).
             PutsWords x regs bus (i + 1) rest (put move.spot word old)
-            (all_put mode after moves (put move.spot (now_gives q after) old)))
+            (all_put mode after moves (put move.spot (value_in q after) old)))
             (sym placed.0) more,
       )
 
@@ -222,16 +222,16 @@ module _ (x : Block) (regs : List ℕ) (bus : Bus) (low : place (mode_at regs) x
   words_put (a ∷ rest) [] placed = absurd placed
   words_put (a ∷ rest) (move ∷ moves) placed =
       let mode = mode_for x (mode_at regs) in
-      let word = now_gives a regs in
+      let word = value_in a regs in
       let more = later_put 1 rest moves (put move.spot word bus) placed.2 refl in (
         move.spot,
         word,
         placed.1,
-        gives_first a,
+        stores_first a,
         subst
             (λ (q : Register).
             PutsWords x regs bus 1 rest (put move.spot word bus)
-            (all_put mode after moves (put move.spot (now_gives q regs) bus)))
+            (all_put mode after moves (put move.spot (value_in q regs) bus)))
             (sym placed.0) more,
       )
 
@@ -291,7 +291,7 @@ module _ (x : Block) (port : ℕ) (regs : List ℕ) (bus : Bus) where
             kept = λ is keeps.
                 none (same false is) ∙ unbased keeps ∙ passed_base (mode_at regs) x.rn moved regs low long;
           };
-          gives = λ store. absurd (false≢true (sym store ∙ loads));
+          stores = λ store. absurd (false≢true (sym store ∙ loads));
         }
 
     block_stores_base : x.load ≡ false → BlockBase x port regs bus (block_stores x span moves regs bus)
@@ -309,7 +309,7 @@ module _ (x : Block) (port : ℕ) (regs : List ℕ) (bus : Bus) where
             written_back = λ is writes. passes ∙ based writes;
             kept = λ is keeps. passes ∙ unbased keeps;
           };
-          gives = λ is. words_put x regs bus low long (registers_in x.list) moves placed;
+          stores = λ is. words_put x regs bus low long (registers_in x.list) moves placed;
         }
 
     block_carried_base : BlockBase x port regs bus (block_carried_out x span port moves regs bus)
@@ -389,7 +389,7 @@ module _ (x : Single) (port : ℕ) (regs : List ℕ) (bus : Bus) (not_15 : regis
             written_back = λ is writes. apart (same false is) ∙ written writes;
             kept = λ is keeps. apart (same false is) ∙ kept keeps;
           };
-          gives_old = λ store. absurd (false≢true (sym store ∙ loads));
+          stores_old = λ store. absurd (false≢true (sym store ∙ loads));
         }
 
     single_stores_base : x.load ≡ false → SingleBase x port regs bus (single_stores x base spot regs bus)
@@ -402,7 +402,7 @@ module _ (x : Single) (port : ℕ) (regs : List ℕ) (bus : Bus) (not_15 : regis
             written_back = λ is writes. written writes;
             kept = λ is keeps. kept keeps;
           };
-          gives_old = λ store own. (
+          stores_old = λ store own. (
             spot,
             here,
             ap (λ (value : ℕ). put_single x.byte spot (address_at x regs) value bus)

@@ -71,7 +71,7 @@ pub record SingleBase (x : Single) (port : ℕ) (regs : List ℕ) (bus : Bus) (m
   pub leaves : LeavesBase (x.load && is_own_base x) (writes_base x.before x.write_back)
       (IsLoadedWord x port regs bus) (base_at x.rn regs) (moved_by x.up (base_at x.rn regs) x.offset)
       (base_left x.rn regs m.regs)
-  pub gives_old : x.load ≡ false → is_own_base x ≡ true → PutsWord x regs bus (base_at x.rn regs) m.bus
+  pub stores_old : x.load ≡ false → is_own_base x ≡ true → PutsWord x regs bus (base_at x.rn regs) m.bus
 
 -- ## Blocks
 
@@ -108,7 +108,7 @@ IsBaseWord x port regs bus value =
 
 -- What a store writes for a register of its list: the base as it was, where it is the lowest of the list or
 -- is not written back; the moved base, where it comes later and is; and any other register as it is.
-pub record Gives (x : Block) (regs : List ℕ) (first : Bool) (register : Register) (word : ℕ) : Type 0 where
+pub record Stores (x : Block) (regs : List ℕ) (first : Bool) (register : Register) (word : ℕ) : Type 0 where
   pub lowest_base : is_base x regs register ≡ true → first ≡ true → word ≡ base_at x.rn regs
   pub later_base : is_base x regs register ≡ true → first ≡ false → x.write_back ≡ true
       → word ≡ base_moved x regs
@@ -119,11 +119,11 @@ pub record Gives (x : Block) (regs : List ℕ) (first : Bool) (register : Regist
 abbrev pub PutsWords : Block → List ℕ → (start : Bus) → (i : ℕ) → List Register → (old new : Bus) → Type 0
 PutsWords x regs start i [] old new = new ≡ old
 PutsWords x regs start i (register ∷ rest) old new =
-    (spot : Spot) × (word : ℕ) × IsWordSpot x regs start i spot × Gives x regs (i == 0) register word
+    (spot : Spot) × (word : ℕ) × IsWordSpot x regs start i spot × Stores x regs (i == 0) register word
     × PutsWords x regs start (i + 1) rest (put spot word old) new
 
 -- a block transfer and its base, which is never R15: a word with that base is unallocated
 pub record BlockBase (x : Block) (port : ℕ) (regs : List ℕ) (bus : Bus) (m : Moved) : Type 0 where
   pub leaves : LeavesBase (loads_base x regs) x.write_back (IsBaseWord x port regs bus)
       (base_at x.rn regs) (base_moved x regs) (base_left x.rn regs m.regs)
-  pub gives : x.load ≡ false → PutsWords x regs bus 0 (registers_in x.list) bus m.bus
+  pub stores : x.load ≡ false → PutsWords x regs bus 0 (registers_in x.list) bus m.bus

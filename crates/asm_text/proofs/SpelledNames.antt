@@ -14,7 +14,7 @@ use Rattle.arm2_decode.specs.declared.names.Shift.{Shift}
 use Rattle.asm_text.specs.Pieces.{Piece, Run, Comma, Sign}
 use Rattle.asm_text.specs.Numbers.{after_zero, digits_of, fits, number_by, number_first, run_number, with_rest}
 use Rattle.asm_text.specs.Operands.{alone, all_read}
-use Rattle.asm_text.specs.Registers.{found, in_both_cases, is_rrx, register_comma_first, register_first, register_names, register_of, shift_names, shift_of}
+use Rattle.asm_text.specs.Registers.{in_both_cases, named_in, is_rrx, register_comma_first, register_first, register_names, register_of, shift_names, shift_of}
 use Rattle.asm_text.specs.SpelledOperands.{IsDigits, IsNumber, IsRegister, IsRrx, IsShift, SpellsNumber}
 use Rattle.asm_text.specs.declared.token.Mark.TheVariants.{Ampersand}
 use Rattle.asm_text.proofs.WordLaws.{chosen, equal_bytes, false_true, same_bytes}
@@ -135,7 +135,7 @@ whole_number n ps h = ap (λ (qs : List Piece). all_read (number_first qs)) (sym
 -- no name occurs twice
 abbrev once : {A : Type 0} → List (List ℕ × A) → Bool
 once [] = true
-once (e ∷ es) = is_none (found es e.0) && once es
+once (e ∷ es) = is_none (named_in es e.0) && once es
 
 in_more : {A : Type 0} (e : List ℕ × A) (es : List (List ℕ × A)) (x : List ℕ × A) → Contains es x → Contains (e ∷ es) x
 in_more e es x h = (suc h.0, omega (arith, h.1), h.2)
@@ -144,24 +144,24 @@ in_cases : {A : Type 0} (e : List ℕ × A) (es : List (List ℕ × A)) (x : Lis
 in_cases e es x zero lt is = inl is
 in_cases e es x (suc k) lt is = inr (k, omega arith, is)
 
-found_is : {A : Type 0} (names : List (List ℕ × A)) (text : List ℕ) (a : A) → found names text ≡ Some a → Contains names (text, a)
+found_is : {A : Type 0} (names : List (List ℕ × A)) (text : List ℕ) (a : A) → named_in names text ≡ Some a → Contains names (text, a)
 found_is [] text a e = absurd (none-some a e)
 found_is (x ∷ xs) text a e =
-    elim (chosen (bytes_eq text x.0) (Some x.1) (found xs text) (Some a) e) [
+    elim (chosen (bytes_eq text x.0) (Some x.1) (named_in xs text) (Some a) e) [
       | inl h ↦ (0, omega arith, rw (← (equal_bytes text x.0 h.0), ← (same_Some x.1 a h.1)) refl)
       | inr h ↦ in_more x xs (text, a) (found_is xs text a h.1)
     ]
 
-found_first : {A : Type 0} (names : List (List ℕ × A)) (text : List ℕ) (a : A) → once names ≡ true → Contains names (text, a) → found names text ≡ Some a
+found_first : {A : Type 0} (names : List (List ℕ × A)) (text : List ℕ) (a : A) → once names ≡ true → Contains names (text, a) → named_in names text ≡ Some a
 found_first [] text a u h = absurd (omega (arith, h.1))
 found_first (x ∷ xs) text a u h =
-    let k = and_parts (is_none (found xs x.0)) (once xs) u in
+    let k = and_parts (is_none (named_in xs x.0)) (once xs) u in
     elim (in_cases x xs (text, a) h.0 h.1 h.2) [
       | inl is ↦ rw is (rw (same_bytes text) refl)
       | inr later ↦
           let there = found_first xs text a k.1 later in
           elim (cases_Bool (bytes_eq text x.0)) [
-            | inl same ↦ false_true (ap is_none (sym there ∙ ap (found xs) (equal_bytes text x.0 same)) ∙ k.0)
+            | inl same ↦ false_true (ap is_none (sym there ∙ ap (named_in xs) (equal_bytes text x.0 same)) ∙ k.0)
             | inr other ↦ rw other there
           ]
     ]

@@ -27,19 +27,19 @@ abbrev pub in_both_cases : {A : Type 0} → List (List ℕ × A) → List (List 
 in_both_cases names = names ++ map (λ e. (str_to_ascii_lowercase e.0, e.1)) names
 
 -- what the text names
-abbrev pub found : {A : Type 0} → List (List ℕ × A) → List ℕ → Option A
-found [] text = None
-found (e ∷ es) text = if bytes_eq text e.0 then Some e.1 else found es text
+abbrev pub named_in : {A : Type 0} → List (List ℕ × A) → List ℕ → Option A
+named_in [] text = None
+named_in (e ∷ es) text = if bytes_eq text e.0 then Some e.1 else named_in es text
 
 -- a row of the code's table, its name by its bytes
 abbrev pub name_of : {A : Type 0} → Bor (List ℕ) × A → List ℕ × A
 name_of row = (row.0.now, row.1)
 
 unfoldable pub register_of : List ℕ → Option Register
-register_of text = found (in_both_cases register_names) text
+register_of text = named_in (in_both_cases register_names) text
 
 unfoldable pub shift_of : List ℕ → Option Shift
-shift_of text = found (in_both_cases shift_names) text
+shift_of text = named_in (in_both_cases shift_names) text
 
 abbrev pub is_rrx : List ℕ → Bool
 is_rrx text = bytes_eq text (codes "RRX") || bytes_eq text (codes "rrx")

@@ -108,7 +108,7 @@ fn is_move(opcode: Opcode) -> bool
     matches!(opcode, Opcode::Mov | Opcode::Mvn)
 }
 
-fn sets_flags(suffix: Suffix) -> bool
+fn is_s(suffix: Suffix) -> bool
     ensures { result ≡ is_s suffix }
 {
     matches!(suffix, Suffix::S)
@@ -142,7 +142,7 @@ fn move_of(opcode: Opcode, suffix: Suffix, rd: Register, tokens: &[Token<'_>]) -
     let operand = operand_of(tokens)?;
     Some(Data {
         opcode,
-        sets_flags: sets_flags(suffix),
+        sets_flags: is_s(suffix),
         rn: Register::R0,
         rd,
         operand,
@@ -156,7 +156,7 @@ fn three_of(opcode: Opcode, suffix: Suffix, rd: Register, tokens: &[Token<'_>]) 
     let operand = operand_of(rest)?;
     Some(Data {
         opcode,
-        sets_flags: sets_flags(suffix),
+        sets_flags: is_s(suffix),
         rn,
         rd,
         operand,
@@ -189,7 +189,7 @@ fn factors_of(suffix: Suffix, rd: Register, rm: Register, tokens: &[Token<'_>]) 
     let rs = all_read(first_register(tokens))?;
     Some(Product {
         accumulate: false,
-        sets_flags: sets_flags(suffix),
+        sets_flags: is_s(suffix),
         rd,
         rn: Register::R0,
         rs,
@@ -204,7 +204,7 @@ fn sum_of(suffix: Suffix, rd: Register, rm: Register, tokens: &[Token<'_>]) -> O
     let rn = all_read(first_register(rest))?;
     Some(Product {
         accumulate: true,
-        sets_flags: sets_flags(suffix),
+        sets_flags: is_s(suffix),
         rd,
         rn,
         rs,

@@ -1,7 +1,7 @@
 ghost use Rattle.std.specs.Prelude.{◌≡◌, ◌<◌, [], length, map, option_map, slice_index_or};
 ghost use Rattle.std.specs.List.{find};
 ghost use Rattle.std.specs.Str.{bytes_eq};
-ghost use Rattle.asm_text.specs.Registers.{found, name_of};
+ghost use Rattle.asm_text.specs.Registers.{name_of, named_in};
 
 // Whether a text is a name. Most names differ in their last byte.
 fn is_name(text: &[u8], name: &[u8]) -> bool
@@ -21,7 +21,7 @@ fn first_row<'a, 'b, T>(table: &'a [(&'b [u8], T)], text: &[u8]) -> Option<&'a (
 
 /// What a text names in a table of names.
 pub(crate) fn named_in<T: Copy>(table: &[(&[u8], T)], text: &[u8]) -> Option<T>
-    ensures { result ≡ found (map name_of table.now) text.now }
+    ensures { result ≡ named_in (map name_of table.now) text.now }
 {
     match first_row(table, text) {
         Some(row) => Some(row.1),

@@ -43,14 +43,14 @@ use Rattle.asm_text.specs.Shown.{is_shown_text}
 use Rattle.asm_text.specs.Statements.{Parsed, action_of, after_word, line_of, only_target, operands_of, or_bad, parsed, single_said, single_with, with_label, with_word}
 use Rattle.assembler.specs.declared.fault.LineFault.{LineFault}
 use Rattle.assembler.specs.Codes.{encoded, refer}
-use Rattle.assembler.specs.Shown.{Gives, Says}
+use Rattle.assembler.specs.Shown.{AssemblesTo, Says}
 use Rattle.asm_text.specs.Words.{IsCond, branch_name, word_of}
 use Rattle.asm_text.proofs.PieceLaws.{comma_step, first_no_run, pieces-run, sign_step}
 use Rattle.asm_text.proofs.ShownLaws.{blank_line, upper_spelled, blank_pieces}
 use Rattle.asm_text.proofs.WordLaws.{word_again}
 use Rattle.assembler.proofs.PutLaws.{all_append}
 use Rattle.arm2_decode.specs.Transfers.{asks_for_user}
-use Rattle.assembler.specs.ShownLines.{GivesBack, shown_line as spelling, target_word, block_name, block_suffix, comma_register, compare_front, compare_text, cond_text, data_front, factors_text, flags_text, load_name, move_front, operation_text, register_text, three_front, transfer_front, transfer_suffix, word_text}
+use Rattle.assembler.specs.ShownLines.{AssemblesBack, shown_line as spelling, target_word, block_name, block_suffix, comma_register, compare_front, compare_text, cond_text, data_front, factors_text, flags_text, load_name, move_front, operation_text, register_text, three_front, transfer_front, transfer_suffix, word_text}
 
 -- ## What is said
 
@@ -324,14 +324,14 @@ branch_back (use_of.Branch link) r w h e = ap (target_word (use_of.Branch link))
 branch_back (use_of.Adr d) r w h e = absurd cc
 branch_back (use_of.Transfer load byte d) r w h e = absurd cc
 
-says_back : (text : List ℕ) (at w : ℕ) (s : Said) → plainly s ≡ true → line_of (32 ∷ text) ≡ Ok (record { label = None; said = Some s }) → Says s at w → GivesBack text at w
+says_back : (text : List ℕ) (at w : ℕ) (s : Said) → plainly s ≡ true → line_of (32 ∷ text) ≡ Ok (record { label = None; said = Some s }) → Says s at w → AssemblesBack text at w
 says_back text at w (Codes c) h line says = (shown.Code c, line, ap result_ok says)
 says_back text at w (Refers r (Number n)) h line says = (shown.Refer r n, line, branch_back r.how (encoded (refer r at n) at) w h says)
 says_back text at w (Refers r (Label d)) h line says = absurd says
 says_back text at w (Orgs n) h line says = absurd says
 says_back text at w (Lists vs) h line says = absurd cc
 
-pub spelling_back : (i : Instr) (at w : ℕ) → is_shown_text (spelling i at) ≡ true → Gives (spelling i at) at w → GivesBack (spelling i at) at w
+pub spelling_back : (i : Instr) (at w : ℕ) → is_shown_text (spelling i at) ≡ true → AssemblesTo (spelling i at) at w → AssemblesBack (spelling i at) at w
 spelling_back i at w may (s, line, says) =
     let plain : plainly s ≡ true = ap plain_of (sym (blank_line (spelling i at) (record { label = None; said = Some s }) may line)) ∙ operation_line i.cond i.operation at in
     says_back (spelling i at) at w s plain line says

@@ -32,8 +32,8 @@ use Rattle.arm2_decode.specs.declared.instr.Unallocated.{Unallocated}
 use Rattle.arm2_decode.specs.Table.{Means}
 use Rattle.asm_text.specs.declared.syntax.Use.{Use}
 use Rattle.asm_text.specs.declared.syntax.Use.TheVariants as use_of
-use Rattle.assembler.specs.ShownLines.{GivesBack, IsShown, numbered, shown_line as spelling, target_word}
-use Rattle.assembler.specs.Shown.{Gives, hex_line}
+use Rattle.assembler.specs.ShownLines.{AssemblesBack, IsShown, numbered, shown_line as spelling, target_word}
+use Rattle.assembler.specs.Shown.{AssemblesTo, hex_line}
 
 -- ## What assembles back to a word is a line of it
 
@@ -49,7 +49,7 @@ target_ok : (u : Use) (r : Result ℕ LineFault) (w : ℕ) → target_word u r �
 target_ok (use_of.Branch link) (Ok v) w h = ap ok_by h
 target_ok u r w h = absurd cc
 
-pub back_gives : (text : List ℕ) (at w : ℕ) → GivesBack text at w → Gives text at w
+pub back_gives : (text : List ℕ) (at w : ℕ) → AssemblesBack text at w → AssemblesTo text at w
 back_gives text at w (shown.Code c, line, word) = (Codes c, line, given_ok (encoded c at) w word)
 back_gives text at w (shown.Refer r n, line, word) = (Refers r (Number n), line, target_ok r.how (encoded (refer r at n) at) w word)
 
@@ -110,7 +110,7 @@ dcd_pieces w =
 dcd_values : (o : Option ℕ) (w : ℕ) → o ≡ Some w → number_by 16 (hex8 w) ≡ o → statement_of (Run (codes "DCD") ∷ Gap ∷ Sign Ampersand ∷ Run (hex8 w) ∷ []) ≡ Ok (Lists (Number w ∷ []))
 dcd_values o w e is = rw (dcd_word, is, e) refl
 
-pub dcd_gives : (w at : ℕ) → w < 2 ^ 32 → Gives (hex_line w) at w
+pub dcd_gives : (w at : ℕ) → w < 2 ^ 32 → AssemblesTo (hex_line w) at w
 dcd_gives w at lt =
     let shown-all : list_all is_shown (hex_line w) ≡ true = rw (all_digits is_shown 8 w char_shown) refl in
     let statement = ap statement_of (dcd_pieces w) ∙ dcd_values (Some w) w refl (eight w lt) in
@@ -127,17 +127,17 @@ same_spelling a i at r p q = ap (spelling_by at) (sym p ∙ q)
 
 -- a spelling that assembles back to its word is the line
 pub spelled_shown : (word at : ℕ) (line : List ℕ) (instr : Instr) → ((i : Instr) → Means word i → spelling instr at ≡ spelling i at) → Means word instr
-    → line ≡ spelling instr at → GivesBack line at word → IsShown word at line
+    → line ≡ spelling instr at → AssemblesBack line at word → IsShown word at line
 spelled_shown word at line instr only means is back = record {
-  gives = back_gives line at word back;
+  assembles = back_gives line at word back;
   spelled = λ i m b. is ∙ only i m;
-  dcd = λ none. absurd (none instr means (subst (λ (t : List ℕ). Gives t at word) is (back_gives line at word back)));
+  dcd = λ none. absurd (none instr means (subst (λ (t : List ℕ). AssemblesTo t at word) is (back_gives line at word back)));
 }
 
 -- where none does, it is a DCD line
-pub hex_shown : (word at : ℕ) (line : List ℕ) → word < 2 ^ 32 → line ≡ hex_line word → ((i : Instr) → Means word i → Gives (spelling i at) at word → ⊥) → IsShown word at line
+pub hex_shown : (word at : ℕ) (line : List ℕ) → word < 2 ^ 32 → line ≡ hex_line word → ((i : Instr) → Means word i → AssemblesTo (spelling i at) at word → ⊥) → IsShown word at line
 hex_shown word at line below is none = record {
-  gives = subst (λ (t : List ℕ). Gives t at word) (sym is) (dcd_gives word at below);
+  assembles = subst (λ (t : List ℕ). AssemblesTo t at word) (sym is) (dcd_gives word at below);
   spelled = λ i m b. absurd (none i m b);
   dcd = λ k. is;
 }

@@ -13,8 +13,8 @@ Says (Lists (Number n ∷ [])) at word = n ≡ word
 Says _ at word = ⊥
 
 -- after a blank the text is a line of a statement alone, which has the word at the address
-abbrev pub Gives : List ℕ → ℕ → ℕ → Type 0
-Gives text at word =
+abbrev pub AssemblesTo : List ℕ → ℕ → ℕ → Type 0
+AssemblesTo text at word =
     (s : Said) × (line_of (32 ∷ text) ≡ Ok (record { label = None; said = Some s })) × Says s at word
 
 -- DCD and eight digits

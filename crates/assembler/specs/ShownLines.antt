@@ -40,7 +40,7 @@ use Rattle.asm_text.specs.declared.printed_lines.Shown.{Shown}
 use Rattle.asm_text.specs.declared.printed_lines.Shown.TheVariants as shown
 use Rattle.assembler.specs.declared.fault.LineFault.{LineFault}
 use Rattle.assembler.specs.Codes.{encoded, refer}
-use Rattle.assembler.specs.Shown.{Gives, hex_line}
+use Rattle.assembler.specs.Shown.{AssemblesTo, hex_line}
 
 -- ## Words
 
@@ -278,9 +278,9 @@ shown_line i at = operation_text i.cond i.operation at
 -- the line assembles to its word; it is the stated spelling where the word is an instruction and the
 -- spelling assembles to the word, and a DCD line where there is no such spelling
 pub record IsShown (word at : ℕ) (line : List ℕ) : Type 0 where
-  pub gives : Gives line at word
-  pub spelled : (i : Instr) → Means word i → Gives (shown_line i at) at word → line ≡ shown_line i at
-  pub dcd : ((i : Instr) → Means word i → Gives (shown_line i at) at word → ⊥) → line ≡ hex_line word
+  pub assembles : AssemblesTo line at word
+  pub spelled : (i : Instr) → Means word i → AssemblesTo (shown_line i at) at word → line ≡ shown_line i at
+  pub dcd : ((i : Instr) → Means word i → AssemblesTo (shown_line i at) at word → ⊥) → line ≡ hex_line word
 
 -- the line of a word at its address; nothing where there is no word
 abbrev pub IsWordLine : Option ℕ → (at : ℕ) → List ℕ → Type 0
@@ -299,6 +299,6 @@ shown_word (shown.Code c) at = result_ok (encoded c at)
 shown_word (shown.Refer r n) at = target_word r.how (encoded (refer r at n) at)
 
 -- after a blank the text is a line of an instruction alone, which has the word at the address
-abbrev pub GivesBack : List ℕ → ℕ → ℕ → Type 0
-GivesBack text at word =
+abbrev pub AssemblesBack : List ℕ → ℕ → ℕ → Type 0
+AssemblesBack text at word =
     (s : Shown) × (line_of (32 ∷ text) ≡ Ok (parsed_shown s)) × (shown_word s at ≡ Some word)

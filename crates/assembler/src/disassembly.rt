@@ -3,7 +3,7 @@ ghost use Rattle.std.specs.Result.{result_ok};
 ghost use Rattle.asm_text.specs.Shown.{is_shown_text};
 ghost use Rattle.assembler.specs.Codes.{encoded};
 ghost use Rattle.assembler.specs.Shown.{hex_line};
-ghost use Rattle.assembler.specs.ShownLines.{GivesBack, IsShown, shown_word};
+ghost use Rattle.assembler.specs.ShownLines.{AssemblesBack, IsShown, shown_word};
 
 use crate::encoded::encoded;
 use crate::spelling::shown_line;
@@ -39,8 +39,8 @@ fn shown_word(shown: Shown, at: u32) -> Option<u32>
 
 // The word that a text that may be shown assembles to at an address.
 fn given_word(text: &[u8], at: u32) -> Option<u32>
-    ensures found { IfSome result (λ word. GivesBack text.now at word) }
-    ensures only { (word : ℕ) → is_shown_text text.now ≡ true → GivesBack text.now at word
+    ensures found { IfSome result (λ word. AssemblesBack text.now at word) }
+    ensures only { (word : ℕ) → is_shown_text text.now ≡ true → AssemblesBack text.now at word
         → result ≡ Some word }
 {
     match read_shown(text) {
@@ -50,9 +50,9 @@ fn given_word(text: &[u8], at: u32) -> Option<u32>
 }
 
 // Whether a text that may be shown assembles to a word at an address.
-fn gives(text: &[u8], at: u32, word: u32) -> bool
-    ensures yes { result ≡ true → GivesBack text.now at word }
-    ensures no { is_shown_text text.now ≡ true → GivesBack text.now at word → result ≡ true }
+fn assembles_back(text: &[u8], at: u32, word: u32) -> bool
+    ensures yes { result ≡ true → AssemblesBack text.now at word }
+    ensures no { is_shown_text text.now ≡ true → AssemblesBack text.now at word → result ≡ true }
 {
     match given_word(text, at) {
         Some(given) => given == word,
@@ -76,7 +76,7 @@ pub fn disassemble(word: u32, at: u32) -> Line
 {
     if let Ok(instr) = decode(word) {
         let line = shown_line(&instr, at);
-        if gives(line.items(), at, word) {
+        if assembles_back(line.items(), at, word) {
             return line;
         }
     }

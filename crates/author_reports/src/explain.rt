@@ -16,7 +16,7 @@ use assembler::{PlacedLine, placed_lines};
 use bus_ticks::Profile;
 use explained::{
     Bursts, StatedGraph, TimedWalk, burst_lines, idle_entries, image_assumptions, image_table,
-    latest_starts_are_of_walks, places_stand_once, source_assumptions, source_table,
+    latest_starts_are_of_walks, places_are_listed_once, source_assumptions, source_table,
     totals_are_the_bound,
 };
 use loader::{Image, MAGIC};
@@ -163,7 +163,7 @@ fn explanation_of(
 {
     let found = longest_of(alloc, handler)?;
     let starts = worst_starts(alloc, &handler.graph, &handler.tree)?;
-    places_stand_once();
+    places_are_listed_once();
     totals_are_the_bound();
     latest_starts_are_of_walks();
     let stated = StatedGraph {

@@ -115,12 +115,12 @@ fn word_price(profile: &Profile, address: u32, first: bool, store: bool, rom: Ro
     ensures price { result ≡ word_price profile.now rom store first address }
     ensures small { result < 256 }
 {
-    match class_of(address) {
-        Class::Ram if first => profile.n,
-        Class::Ram => ram_price(profile, address),
-        Class::Rom if store => profile.control,
-        Class::Rom => rom_price(profile, rom, address),
-        Class::Io | Class::Any => io_price(profile, address),
+    match (class_of(address), first) {
+        (Class::Ram, true) => profile.n,
+        (Class::Ram, false) => ram_price(profile, address),
+        (Class::Rom, _) if store => profile.control,
+        (Class::Rom, _) => rom_price(profile, rom, address),
+        (Class::Io | Class::Any, _) => io_price(profile, address),
     }
 }
 

@@ -7,7 +7,7 @@ use Rattle.std.specs.Ordering.{nat_cmp}
 use Rattle.loader.specs.Labels.{NamedAddresses}
 use Rattle.text_rows.specs.LineLabels.{is_at}
 use Rattle.diagnosis.specs.Outline.{Item, Stated, Table, Begins, Ends, States, item_of, table_of}
-use Rattle.diagnosis.specs.Refused.{AreTaken, address_as, of_table, stands_among}
+use Rattle.diagnosis.specs.Refused.{AreTaken, address_as, of_table, is_among}
 use Rattle.diagnosis.specs.declared.outline.Entry.{Entry}
 use Rattle.diagnosis.specs.declared.outline.Entry.TheVariants as entry
 use Rattle.diagnosis.specs.declared.outline.Section.{Section}
@@ -18,8 +18,8 @@ none_come_to set a empty = ap (list_any (is_key (nat_cmp a))) empty
 
 pub one_more : (names : NamedAddresses) (list key : List ℕ) (before : List Item) (i : Item) (old new : BTreeSet ℕ) (r : Option ℕ) → r ≡ address_as names list key i
     → ((a : ℕ) → contains nat_cmp new a ≡ (is_at r a || contains nat_cmp old a))
-    → ((a : ℕ) → contains nat_cmp old a ≡ stands_among names list key before a) → (a : ℕ) → contains nat_cmp new a ≡ stands_among names list key (i ∷ before) a
-one_more names list key before i old new r is added have a = added a ∙ (ap (λ b. is_at r a || b) (have a) ∙ ap (λ s. is_at s a || stands_among names list key before a) is)
+    → ((a : ℕ) → contains nat_cmp old a ≡ is_among names list key before a) → (a : ℕ) → contains nat_cmp new a ≡ is_among names list key (i ∷ before) a
+one_more names list key before i old new r is added have a = added a ∙ (ap (λ b. is_at r a || b) (have a) ∙ ap (λ s. is_at s a || is_among names list key before a) is)
 
 pub of_no_table : of_table [] ≡ []
 unfolding of_table
@@ -44,11 +44,11 @@ next_table names before e old new (inl (t, is)) have targets accesses empty =
     rw is (record {
       targets = λ a. ap (λ (s : BTreeSet ℕ). contains nat_cmp s a) targets ∙ have.targets a;
       accesses = λ a. ap (λ (s : BTreeSet ℕ). contains nat_cmp s a) accesses ∙ have.accesses a;
-      destinations = λ a. none_come_to new.destinations a empty ∙ ap (λ items. stands_among names (codes "target") (codes "to") items a) (sym (of_next_table (table_of t) before));
+      destinations = λ a. none_come_to new.destinations a empty ∙ ap (λ items. is_among names (codes "target") (codes "to") items a) (sym (of_next_table (table_of t) before));
     })
 next_table names before e old new (inr is) have targets accesses empty =
     rw is (record {
       targets = λ a. ap (λ (s : BTreeSet ℕ). contains nat_cmp s a) targets ∙ have.targets a;
       accesses = λ a. ap (λ (s : BTreeSet ℕ). contains nat_cmp s a) accesses ∙ have.accesses a;
-      destinations = λ a. none_come_to new.destinations a empty ∙ ap (λ items. stands_among names (codes "target") (codes "to") items a) (sym (of_ended_table before));
+      destinations = λ a. none_come_to new.destinations a empty ∙ ap (λ items. is_among names (codes "target") (codes "to") items a) (sym (of_ended_table before));
     })

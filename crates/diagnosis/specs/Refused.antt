@@ -191,23 +191,19 @@ abbrev pub missing_rows : Table → List Item → List (List ℕ) → List Row
 missing_rows t items [] = []
 missing_rows t items (key ∷ keys) = missing_row t items key ++ missing_rows t items keys
 
--- a jump or a call has destinations
-abbrev pub wants_to : Option Value → Bool
-wants_to None = false
-wants_to (Some kind) = is_word_of (codes "jump" ∷ codes "call" ∷ []) kind
+abbrev pub is_kind_of : List (List ℕ) → Option Value → Bool
+is_kind_of kinds None = false
+is_kind_of kinds (Some kind) = is_word_of kinds kind
 
--- a return or a leave has none
-abbrev pub wants_no_to : Option Value → Bool
-wants_no_to None = false
-wants_no_to (Some kind) = is_word_of (codes "return" ∷ codes "leave" ∷ []) kind
-
+-- a jump or a call has destinations, a return or a leave has none
 abbrev pub target_rows : Table → List Item → List Row
 target_rows t items =
+    let kind = value_at (codes "kind") items in
     if is_none (value_at (codes "to") items)
-    then row_if (wants_to (value_at (codes "kind") items)) (table_row t (codes " has no to") [])
-    else row_if (wants_no_to (value_at (codes "kind") items)) (table_row t (codes " may have no to") [])
+    then row_if (is_kind_of (codes "jump" ∷ codes "call" ∷ []) kind) (table_row t (codes " has no to") [])
+    else row_if (is_kind_of (codes "return" ∷ codes "leave" ∷ []) kind) (table_row t (codes " may have no to") [])
 
--- what the table wants, or that it is in single brackets
+-- what the table lacks, or that it is in single brackets
 abbrev pub kind_rows : Table → List Item → List Row
 kind_rows t items =
     if t.is_listed then missing_rows t items (needed_keys t.name) ++ target_rows t items
@@ -342,8 +338,8 @@ address_as names list key (States p) =
 address_as names list key _ = None
 
 -- one of the items has the address there
-abbrev pub stands_among : NamedAddresses → (list key : List ℕ) → List Item → ℕ → Bool
-stands_among names list key items a = list_any (λ i. is_at (address_as names list key i) a) items
+abbrev pub is_among : NamedAddresses → (list key : List ℕ) → List Item → ℕ → Bool
+is_among names list key items a = list_any (λ i. is_at (address_as names list key i) a) items
 
 abbrev pub passes : (ℕ → Bool) → Option ℕ → Bool
 passes test None = false
@@ -351,7 +347,7 @@ passes test (Some a) = test a
 
 -- the item's address there is that of one of the items before
 abbrev pub repeats : NamedAddresses → (list key : List ℕ) → (before : List Item) → Item → Bool
-repeats names list key before i = passes (stands_among names list key before) (address_as names list key i)
+repeats names list key before i = passes (is_among names list key before) (address_as names list key i)
 
 -- the items since a table began or ended
 unfoldable pub of_table : (before : List Item) → List Item
@@ -423,8 +419,8 @@ pub record Adds (rows : List Row) (old new : Report) : Type 0 where
 -- of the items before: the addresses of targets and of accesses, and the destinations of the table at hand
 pub record AreTaken (names : NamedAddresses) (before : List Item) (taken : Taken) : Type 0 where
   pub targets : (a : ℕ) → contains nat_cmp taken.targets a
-      ≡ stands_among names (codes "target") (codes "at") before a
+      ≡ is_among names (codes "target") (codes "at") before a
   pub accesses : (a : ℕ) → contains nat_cmp taken.accesses a
-      ≡ stands_among names (codes "access") (codes "at") before a
+      ≡ is_among names (codes "access") (codes "at") before a
   pub destinations : (a : ℕ) → contains nat_cmp taken.destinations a
-      ≡ stands_among names (codes "target") (codes "to") (of_table before) a
+      ≡ is_among names (codes "target") (codes "to") (of_table before) a

@@ -11,7 +11,7 @@ ghost use Rattle.diagnosis.specs.Refused.{item_rows, keys_of, kind_rows, lies_ou
 ghost use Rattle.diagnosis.specs.Refused.{missing_rows, name_text, needed_keys, no_entry_rows};
 ghost use Rattle.diagnosis.specs.Refused.{row_text, table_row};
 ghost use Rattle.diagnosis.specs.Refused.{table_rows, target_rows, toml_row, value_at, value_row, value_text};
-ghost use Rattle.diagnosis.specs.Refused.{wants_no_to, wants_to};
+ghost use Rattle.diagnosis.specs.Refused.{is_kind_of};
 
 use crate::outline::{Entry, Pair, Section, entries_of};
 use crate::repeats::Taken;
@@ -234,22 +234,12 @@ pub(crate) struct Asked<'a> {
     fault: StatementFault,
 }
 
-fn wants_to(kind: Option<Word<'_>>) -> bool
-    ensures { result ≡ wants_to (option_map value_of kind.entry) }
+// Whether a kind is stated, and one of these.
+fn is_kind_of(kinds: &[&str], kind: Option<Word<'_>>) -> bool
+    ensures { result ≡ is_kind_of (map (λ k. k.now) kinds.now) (option_map value_of kind.entry) }
 {
-    const KINDS: &[&str] = &["jump", "call"];
     match kind {
-        Some(kind) => is_word_of(KINDS, kind),
-        None => false,
-    }
-}
-
-fn wants_no_to(kind: Option<Word<'_>>) -> bool
-    ensures { result ≡ wants_no_to (option_map value_of kind.entry) }
-{
-    const KINDS: &[&str] = &["return", "leave"];
-    match kind {
-        Some(kind) => is_word_of(KINDS, kind),
+        Some(kind) => is_word_of(kinds, kind),
         None => false,
     }
 }
@@ -418,20 +408,22 @@ impl Report {
         Ok(())
     }
 
-    // Adds what the kind of a target wants of its destinations.
+    // Adds what is wrong with a target's destinations by its kind.
     fn put_target(&mut self, alloc: Global, table: &OpenTable<'_>) -> Result<(), AllocError>
         ensures { OnOk result
             (Adds (target_rows (table_of table.now.section.now) (map item_of table.now.rest.now))
             self.old self.new) }
     {
+        const WITH_TO: &[&str] = &["jump", "call"];
+        const WITHOUT_TO: &[&str] = &["return", "leave"];
         let kind = value_at(table.rest, b"kind");
         match value_at(table.rest, b"to") {
-            None => self.put_if(alloc, wants_to(kind), table.section, b" has no to"),
-            Some(_) => self.put_if(alloc, wants_no_to(kind), table.section, b" may have no to"),
+            None => self.put_if(alloc, is_kind_of(WITH_TO, kind), table.section, b" has no to"),
+            Some(_) => self.put_if(alloc, is_kind_of(WITHOUT_TO, kind), table.section, b" may have no to"),
         }
     }
 
-    // Adds what a table wants, or that it is in single brackets.
+    // Adds what a table lacks, or that it is in single brackets.
     #[tactic(auto, using(crate::proofs::RefusedLemmas::adds_both))]
     fn put_kinds(&mut self, alloc: Global, table: &OpenTable<'_>) -> Result<(), AllocError>
         ensures { OnOk result

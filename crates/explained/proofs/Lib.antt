@@ -8,7 +8,7 @@ mod LinkLaws
 mod PricingLaws
 pub mod RangeLaws
 pub mod RowLaws
-mod StandLaws
+mod ListedOnceLaws
 mod StartLaws
 mod SumLaws
 mod TableLaws

@@ -15,7 +15,7 @@ use Rattle.flow_graph.specs.declared.places.Place.TheVariants.{Exit}
 use Rattle.flow_graph.proofs.SortedLemmas.{cons_cases, here, no_member, there}
 use Rattle.loop_bounds.specs.Tree.{Tree}
 use Rattle.longest_walk.specs.Starts.{AreWorstStarts, IsWorstStart}
-use Rattle.explained.specs.Starts.{Begins, ComesAt, IsLatestStart, greatest_of, later, latest_at, starts_at}
+use Rattle.explained.specs.Starts.{Begins, ReachesAt, IsLatestStart, greatest_of, later, latest_at, starts_at}
 use Rattle.explained.specs.Taken.{is_at}
 
 -- ## A place more
@@ -148,13 +148,13 @@ module _ (flow : Flow) (well : IsWellFormed flow) where
   end_known (e ∷ rest) p q from leads = end_known rest e.to q (well.ends e leads.0) leads.2
 
   module _ (tree : Tree) (starts : List ℕ) (a : ℕ) (are : AreWorstStarts flow tree starts) where
-    place_in : (n : ℕ) (comes : ComesAt flow tree a n) → Contains flow.places comes.place
+    place_in : (n : ℕ) (comes : ReachesAt flow tree a n) → Contains flow.places comes.place
     place_in n comes = ⊎_elim
         (λ (out : comes.place ≡ Exit). absurd (false≢true (sym (ap (is_at a) out) ∙ comes.there)))
         (λ known. known)
         (end_known comes.walk flow.entry comes.place (inr well.entry_in) comes.leads)
 
-    its_start : (n : ℕ) (comes : ComesAt flow tree a n) → (m : ℕ) × IsWorstStart flow tree comes.place m × Contains (starts_at flow.places starts a) m
+    its_start : (n : ℕ) (comes : ReachesAt flow tree a n) → (m : ℕ) × IsWorstStart flow tree comes.place m × Contains (starts_at flow.places starts a) m
     its_start n comes = has_start (IsWorstStart flow tree) a flow.places starts are comes.place (place_in n comes) comes.there
 
     by_most : (r : Option ℕ) → IsMost (Contains (starts_at flow.places starts a)) r → IsLatestStart flow tree a r

@@ -21,7 +21,7 @@ use Rattle.walk_counts.proofs.CountLemmas.{along}
 use Rattle.walk_counts.proofs.NumberLemmas.{known_edge}
 use Rattle.walk_counts.proofs.SumLemmas.{sum_none, sums_by_number}
 use Rattle.explained.specs.Table.{each_of, image_ticks, is_any_reached, line_taken, passes_of, source_ticks, ticks_in, ticks_of, words_of}
-use Rattle.explained.specs.Taken.{AreCostsAt, IsCostAt, StandOnce, cost_at, costs_from, in_all, is_at, is_reached, is_taken_from, pass_at, range_of, taken_at, taken_of}
+use Rattle.explained.specs.Taken.{AreCostsAt, IsCostAt, AreListedOnce, cost_at, costs_from, in_all, is_at, is_reached, is_taken_from, pass_at, range_of, taken_at, taken_of}
 use Rattle.explained.specs.declared.tally.Costs.{Costs}
 use Rattle.explained.specs.declared.tally.Taken.{Taken}
 use Rattle.explained.proofs.RangeLaws.{HasCost, IsRange, is_counted, range_is, some_counted}
@@ -133,21 +133,21 @@ module _ (flow : Flow) (walk : List Edge) (well : IsWellFormed flow) (on : All (
       (cases_Bool (is_reached flow.places a))
 
   -- the ticks at addresses at which each place is once
-  all_ticks : (all : List ℕ) → StandOnce flow.places all → sum_by (λ a. ticks_of (taken_at flow walk a)) all ≡ cost_of edge_shape walk
+  all_ticks : (all : List ℕ) → AreListedOnce flow.places all → sum_by (λ a. ticks_of (taken_at flow walk a)) all ≡ cost_of edge_shape walk
   all_ticks all once =
       (λ i. sum_by (λ a. ticks_of_walk a i) all) ∙ exchanged cost_at all walk
       ∙ same_terms (λ e. sum_by (λ a. cost_at a e) all) (λ e. e.cost) walk
       (All-weaker (HasEdge flow) (λ e. sum_by (λ a. cost_at a e) all ≡ e.cost)
       (λ e has. counted_sum (λ a. is_at a e.from) e.cost all ∙ ap (λ n. n * e.cost) (once e.from (well.starts e has)) ∙ omega arith) walk on)
 
-  pub source_total : (placed : List PlacedLine) → StandOnce flow.places (flat_map words_of placed) → source_ticks (taken_at flow walk) placed ≡ cost_of edge_shape walk
+  pub source_total : (placed : List PlacedLine) → AreListedOnce flow.places (flat_map words_of placed) → source_ticks (taken_at flow walk) placed ≡ cost_of edge_shape walk
   source_total placed once =
       let f = λ (a : ℕ). ticks_of (taken_at flow walk a) in
       let all : sum_by (λ (p : PlacedLine). sum_by f (words_of p)) placed ≡ cost_of edge_shape walk = sym (sum-flat_map words_of f placed) ∙ all_ticks (flat_map words_of placed) once in
       let small : capped (cost_of edge_shape walk) ≡ cost_of edge_shape walk = omega arith in
       capped_sums (2 ^ 64 - 1) (λ (p : PlacedLine). sum_by f (words_of p)) placed ∙ ap capped all ∙ small
 
-  pub image_total : (words : Words) → StandOnce flow.places (map (λ e. e.0) words) → image_ticks (taken_at flow walk) words ≡ cost_of edge_shape walk
+  pub image_total : (words : Words) → AreListedOnce flow.places (map (λ e. e.0) words) → image_ticks (taken_at flow walk) words ≡ cost_of edge_shape walk
   image_total words once =
       let f = λ (a : ℕ). ticks_of (taken_at flow walk a) in
       let all : sum_by (λ (e : ℕ × ℕ). f e.0) words ≡ cost_of edge_shape walk = sym (sum-map_terms (λ (e : ℕ × ℕ). e.0) f words) ∙ all_ticks (map (λ e. e.0) words) once in
@@ -169,12 +169,12 @@ numbers_of_walk flow tree cost items a well walk fits known =
     numbers_are flow (unfolded items) well (on_graph flow tree cost items walk) (fitting flow tree cost items walk fits) a known
 
 pub source_sum : (flow : Flow) (tree : Tree) (cost : ℕ) (items : List Item) (placed : List PlacedLine) → IsWellFormed flow → IsWalkOf flow tree cost items → cost < 2 ^ 64
-    → StandOnce flow.places (flat_map words_of placed) → source_ticks (taken_at flow (unfolded items)) placed ≡ cost
+    → AreListedOnce flow.places (flat_map words_of placed) → source_ticks (taken_at flow (unfolded items)) placed ≡ cost
 source_sum flow tree cost items placed well walk fits once =
     source_total flow (unfolded items) well (on_graph flow tree cost items walk) (fitting flow tree cost items walk fits) placed once ∙ walk.costs
 
 pub image_sum : (flow : Flow) (tree : Tree) (cost : ℕ) (items : List Item) (words : Words) → IsWellFormed flow → IsWalkOf flow tree cost items → cost < 2 ^ 64
-    → StandOnce flow.places (map (λ e. e.0) words) → image_ticks (taken_at flow (unfolded items)) words ≡ cost
+    → AreListedOnce flow.places (map (λ e. e.0) words) → image_ticks (taken_at flow (unfolded items)) words ≡ cost
 image_sum flow tree cost items words well walk fits once =
     image_total flow (unfolded items) well (on_graph flow tree cost items walk) (fitting flow tree cost items walk fits) words once ∙ walk.costs
 

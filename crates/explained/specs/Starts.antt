@@ -36,7 +36,7 @@ Begins place start old new = (a : ℕ) → new a ≡ (if is_at a place then late
 -- ## Walks
 
 -- a walk from the entry that keeps the bounds of the loops reaches the address after so many ticks
-pub record ComesAt (flow : Flow) (tree : Tree) (a n : ℕ) : Type 0 where
+pub record ReachesAt (flow : Flow) (tree : Tree) (a n : ℕ) : Type 0 where
   pub place : Place
   pub there : is_at a place ≡ true
   pub walk : List Edge
@@ -46,6 +46,6 @@ pub record ComesAt (flow : Flow) (tree : Tree) (a n : ℕ) : Type 0 where
 
 -- one comes after so many ticks and none later; None where none comes there
 abbrev pub IsLatestStart : Flow → Tree → ℕ → Option ℕ → Type 0
-IsLatestStart flow tree a None = (n : ℕ) → ComesAt flow tree a n → ⊥
+IsLatestStart flow tree a None = (n : ℕ) → ReachesAt flow tree a n → ⊥
 IsLatestStart flow tree a (Some ticks) =
-    ComesAt flow tree a ticks × ((n : ℕ) → ComesAt flow tree a n → n ≤ ticks)
+    ReachesAt flow tree a ticks × ((n : ℕ) → ReachesAt flow tree a n → n ≤ ticks)

@@ -134,8 +134,8 @@ abbrev pub IsTally : Flow → List Edge → Tally → Type 0
 IsTally flow walk t = (a : ℕ) → get nat_cmp t.by_address a ≡ taken_at flow walk a
 
 -- each of the places is at exactly one of the addresses
-abbrev pub StandOnce : List Place → List ℕ → Type 0
-StandOnce places all = (p : Place) → Contains places p → count_by (λ a. is_at a p) all ≡ 1
+abbrev pub AreListedOnce : List Place → List ℕ → Type 0
+AreListedOnce places all = (p : Place) → Contains places p → count_by (λ a. is_at a p) all ≡ 1
 
 -- each of the places is at a word of the image
 abbrev pub AreOnWords : Words → List Place → Type 0

@@ -20,7 +20,7 @@ ghost use Rattle.explained.specs.Bursts.{AreFewest, IsBurstTime, with_bursts};
 ghost use Rattle.longest_walk.specs.Starts.{AreWorstStarts};
 ghost use Rattle.explained.specs.Starts.{IsLatestStart, latest_at};
 ghost use Rattle.explained.specs.Table.{image_ticks, line_taken, source_ticks, words_of};
-ghost use Rattle.explained.specs.Taken.{AreCostsAt, AreOnWords, StandOnce, cost_at, is_reached, pass_at};
+ghost use Rattle.explained.specs.Taken.{AreCostsAt, AreOnWords, AreListedOnce, cost_at, is_reached, pass_at};
 ghost use Rattle.explained.specs.Taken.{taken_at};
 ghost use Rattle.explained.specs.declared.tally.Costs.{Costs};
 ghost use Rattle.statement.specs.Stated.{Stated};
@@ -49,27 +49,27 @@ pub fn numbers_are_of_the_walk()
 pub fn totals_are_the_bound()
     ensures source { (flow : Flow) (tree : Tree) (cost : ℕ) (items : List Item) (placed : List PlacedLine)
         → IsWellFormed flow → IsWalkOf flow tree cost items → cost < 2 ^ 64
-        → StandOnce flow.places (flat_map words_of placed)
+        → AreListedOnce flow.places (flat_map words_of placed)
         → source_ticks (taken_at flow (unfolded items)) placed ≡ cost }
     ensures image { (flow : Flow) (tree : Tree) (cost : ℕ) (items : List Item) (words : Words)
         → IsWellFormed flow → IsWalkOf flow tree cost items → cost < 2 ^ 64
-        → StandOnce flow.places (map (λ e. e.0) words)
+        → AreListedOnce flow.places (map (λ e. e.0) words)
         → image_ticks (taken_at flow (unfolded items)) words ≡ cost }
 {}
 
 /// States that each place of a graph that is not refused is at one word: of the lines of a source that is
 /// assembled, each where it is placed, and of an image that is read. It does nothing.
-pub fn places_stand_once()
+pub fn places_are_listed_once()
     ensures words { (words : Words) (stated : Stated) (profile : Profile) (flow : Flow)
         → IsFlowGraph words stated profile flow
         → ((f : BuildFault) → f ≢ BuildFault.Memory → IsBuildFault words stated profile f → ⊥)
         → AreOnWords words flow.places }
     ensures source { (source : List ℕ) (words : Words) (names : Names) (placed : List PlacedLine)
         (flow : Flow) → IsWellFormed flow → assembled source ≡ Ok (words, names) → ArePlaced source placed
-        → AreOnWords words flow.places → StandOnce flow.places (flat_map words_of placed) }
+        → AreOnWords words flow.places → AreListedOnce flow.places (flat_map words_of placed) }
     ensures image { (bytes : List ℕ) (words : Words) (flow : Flow) → IsWellFormed flow
         → image_read bytes ≡ Ok words → AreOnWords words flow.places
-        → StandOnce flow.places (map (λ e. e.0) words) }
+        → AreListedOnce flow.places (map (λ e. e.0) words) }
 {
     lines_are_spelled();
     sources_are_assembled();

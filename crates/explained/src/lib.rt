@@ -24,7 +24,7 @@ pub use idle::idle_entries;
 pub use image::image_table;
 pub use law::{
     burst_time_is_the_least, latest_starts_are_of_walks, numbers_are_of_the_walk,
-    places_stand_once, totals_are_the_bound, unreached_lines_have_no_place,
+    places_are_listed_once, totals_are_the_bound, unreached_lines_have_no_place,
 };
 pub use links::lost_links;
 pub use named::named_lines;

@@ -30,6 +30,6 @@ pub mod TightArrivals
 pub mod TightStep
 mod SettingLemmas
 mod SettingSets
-mod TightStand
+mod TightSetUp
 mod TightPages
 mod TightMade

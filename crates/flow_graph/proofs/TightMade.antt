@@ -12,7 +12,7 @@ use Rattle.bus_ticks.specs.Dearest.{AreDearest}
 use Rattle.bus_ticks.specs.Prices.{rom_price}
 use Rattle.loader.specs.Image.{Words, is_past_ram, may_hold, word_of}
 use Rattle.loader.specs.Inside.{AreWhole}
-use Rattle.loader.specs.Loading.{GivesWord, lacks_page, loaded, put_words, spot_of}
+use Rattle.loader.specs.Loading.{HasWord, lacks_page, loaded, put_words, spot_of}
 use Rattle.loader.specs.PagePlan.{IsPagePlan, page_of, physical_page}
 use Rattle.loader.specs.Planned.{AreOf, IsBeside, IsFitted, IsMapped}
 use Rattle.loader.specs.declared.plan.PlacedPage.{PlacedPage}
@@ -34,7 +34,7 @@ use Rattle.arm2_exec.specs.Step.{fetched, fetched_at}
 use Rattle.arm2_exec.specs.declared.machine.Input.{Input}
 use Rattle.std.specs.Map.{keys_of}
 use Rattle.toml_reading.specs.Documents.{are_distinct}
-use Rattle.machine_file.specs.Parts.{IsInRange, StandsOnce}
+use Rattle.machine_file.specs.Parts.{IsInRange, HasNoneTwice}
 use Rattle.machine_file.specs.Started.{IsStarted, psr_number}
 use Rattle.machine_file.specs.Started as started
 use Rattle.flow_graph.specs.Edges.{AreEdgesOf, IsEdge}
@@ -44,13 +44,13 @@ use Rattle.flow_graph.specs.Places.{place_address, place_at}
 use Rattle.flow_graph.specs.Free.{IsFree}
 use Rattle.flow_graph.specs.Setting.{HasSetting, IsData}
 use Rattle.flow_graph.specs.Tight.{IsTight}
-use Rattle.flow_graph.specs.TightFile.{CanPlace, HasPlaceWord, HasWordAt, IsEntryOf, IsPlaceWord, IsPlaced, IsStand, IsTightFile, file_of, masked_flags, registers_with}
-use Rattle.flow_graph.specs.TightWork.{StandsAt, masked}
+use Rattle.flow_graph.specs.TightFile.{CanPlace, HasPlaceWord, HasWordAt, IsEntryOf, IsPlaceWord, IsPlaced, IsSetUp, IsTightFile, file_of, masked_flags, registers_with}
+use Rattle.flow_graph.specs.TightWork.{FetchesAt, masked}
 use Rattle.flow_graph.specs.declared.edges.Edge.{Edge}
 use Rattle.flow_graph.specs.declared.places.Place.{Place}
 use Rattle.flow_graph.specs.declared.places.Place.TheVariants.{At, Exit}
 use Rattle.flow_graph.specs.declared.setting.Held.{Held}
-use Rattle.flow_graph.specs.declared.tight.Stand.{Stand}
+use Rattle.flow_graph.specs.declared.tight.SetUp.{SetUp}
 use Rattle.flow_graph.specs.declared.tight.TightFault.{TightFault}
 use Rattle.flow_graph.specs.declared.tight.TightFault.TheVariants.{Memory, NotFree}
 use Rattle.statement.specs.Stated.{Stated}
@@ -103,37 +103,37 @@ apart_of words pages spare a at plan some has = by_place has.1
     by_place (inr rom) = ((has.0, inr (rom.0, omega (arith, rom.1))), rom.2)
 
 -- a fetch takes the word that a load takes, in RAM or in ROM
-fetched_word : (m : Memc) (a w : ℕ) (r : Result Spot _) → GivesWord m a w → spot_of m a ≡ r → InRam m a ⊎ InRom m a → fetched_at m r ≡ Some w
+fetched_word : (m : Memc) (a w : ℕ) (r : Result Spot _) → HasWord m a w → spot_of m a ≡ r → InRam m a ⊎ InRom m a → fetched_at m r ≡ Some w
 fetched_word m a w r gives is (inl ram) = subst (λ x. fetched_at m x ≡ Some w) (sym ram.at ∙ is) (ap Some (gives_at m a w (Ram ram.place) gives ram.at))
 fetched_word m a w r gives is (inr rom) = subst (λ x. fetched_at m x ≡ Some w) (sym rom.at ∙ is) (ap Some (gives_at m a w (Rom a) gives rom.at))
 
 -- ## The machine
 
-module _ (words : Words) (st : Stated) (profile : Profile) (e : Edge) (spare : ℕ) (pages : List PlacedPage) (stand : Stand) (rom : RomTimes)
-    (h : IsStand words st profile e spare stand) (whole : AreWhole words) (plan : IsPagePlan words pages spare) (dear : AreDearest profile rom) (free : IsFree words e) where
-  some_word : IsSome (word_of words stand.address)
+module _ (words : Words) (st : Stated) (profile : Profile) (e : Edge) (spare : ℕ) (pages : List PlacedPage) (set_up : SetUp) (rom : RomTimes)
+    (h : IsSetUp words st profile e spare set_up) (whole : AreWhole words) (plan : IsPagePlan words pages spare) (dear : AreDearest profile rom) (free : IsFree words e) where
+  some_word : IsSome (word_of words set_up.address)
   some_word = ap is_some h.has
 
-  place : (stand.address % 4 ≡ 0) × (stand.address < 0x4000000) × ((stand.address < 0x3000000) ⊎ (0x3400000 ≤ stand.address))
-  place = parts words stand.address whole some_word
+  place : (set_up.address % 4 ≡ 0) × (set_up.address < 0x4000000) × ((set_up.address < 0x3000000) ⊎ (0x3400000 ≤ set_up.address))
+  place = parts words set_up.address whole some_word
 
-  fits : IsFitted stand.address
+  fits : IsFitted set_up.address
   fits = subst (λ n. is_past_ram n ≡ false) (ap place_address (sym free.from ∙ h.from)) free.not_past_ram
 
-  besides : All (λ x. IsBeside spare x.0 × (x.0 ≡ stand.address → ⊥)) (option_to_list stand.setting.word)
-  besides = by_word stand.setting.word h.setting.word_apart
+  besides : All (λ x. IsBeside spare x.0 × (x.0 ≡ set_up.address → ⊥)) (option_to_list set_up.setting.word)
+  besides = by_word set_up.setting.word h.setting.word_apart
     where
-      by_word : (o : Option (ℕ × ℕ)) → IfSome o (λ x. IsData spare stand.address x.0) → All (λ x. IsBeside spare x.0 × (x.0 ≡ stand.address → ⊥)) (option_to_list o)
-      by_word None has = All-from_recursion (λ x. IsBeside spare x.0 × (x.0 ≡ stand.address → ⊥)) [] tt
-      by_word (Some x) has = All-from_recursion (λ y. IsBeside spare y.0 × (y.0 ≡ stand.address → ⊥)) (x ∷ []) (apart_of words pages spare stand.address x.0 plan some_word has, tt)
+      by_word : (o : Option (ℕ × ℕ)) → IfSome o (λ x. IsData spare set_up.address x.0) → All (λ x. IsBeside spare x.0 × (x.0 ≡ set_up.address → ⊥)) (option_to_list o)
+      by_word None has = All-from_recursion (λ x. IsBeside spare x.0 × (x.0 ≡ set_up.address → ⊥)) [] tt
+      by_word (Some x) has = All-from_recursion (λ y. IsBeside spare y.0 × (y.0 ≡ set_up.address → ⊥)) (x ∷ []) (apart_of words pages spare set_up.address x.0 plan some_word has, tt)
 
   module _ (some : Words) (start : State) (i : Input) (of : AreOf words some) (has_place : HasPlaceWord words e.from some)
-      (begun : IsStarted (file_of stand pages rom) profile start) (port : i.port ≡ stand.setting.port) where
+      (begun : IsStarted (file_of set_up pages rom) profile start) (port : i.port ≡ set_up.setting.port) where
     abbrev s : State
-    s = put_words (option_to_list stand.setting.word) (put_words some start)
+    s = put_words (option_to_list set_up.setting.word) (put_words some start)
 
     abbrev m : Memc
-    m = loaded (option_to_list stand.setting.word) (loaded some start.bus.memc)
+    m = loaded (option_to_list set_up.setting.word) (loaded some start.bus.memc)
 
     mapped : IsMapped pages start.bus.memc
     mapped = is_mapped words pages spare rom.low rom.high plan start.bus.memc begun.memory
@@ -142,27 +142,27 @@ module _ (words : Words) (st : Stated) (profile : Profile) (e : Edge) (spare : �
     mapped_then = mapped_stays pages start.bus.memc some mapped
 
     mapped_last : IsMapped pages m
-    mapped_last = mapped_stays pages (loaded some start.bus.memc) (option_to_list stand.setting.word) mapped_then
+    mapped_last = mapped_stays pages (loaded some start.bus.memc) (option_to_list set_up.setting.word) mapped_then
 
-    gives : GivesWord m stand.address h.word
+    gives : HasWord m set_up.address h.word
     gives =
-        image_stays words (option_to_list stand.setting.word) pages spare (loaded some start.bus.memc) stand.address h.word whole plan mapped_then some_word
-        (image_given words some pages spare start.bus.memc stand.address h.word whole plan mapped of (has_place h.calls stand.address h.word h.from h.has) fits) besides
+        image_stays words (option_to_list set_up.setting.word) pages spare (loaded some start.bus.memc) set_up.address h.word whole plan mapped_then some_word
+        (image_given words some pages spare start.bus.memc set_up.address h.word whole plan mapped of (has_place h.calls set_up.address h.word h.from h.has) fits) besides
 
-    r15_is : r15_in s.regs ≡ r15_of (psr_with stand.flags masked) stand.address Svc
-    r15_is = ap r15_in begun.registers ∙ last_is stand.setting.register _ ∙ ap (λ n. r15_of n stand.address Svc) (psr_is stand.flags)
+    r15_is : r15_in s.regs ≡ r15_of (psr_with set_up.flags masked) set_up.address Svc
+    r15_is = ap r15_in begun.registers ∙ last_is set_up.setting.register _ ∙ ap (λ n. r15_of n set_up.address Svc) (psr_is set_up.flags)
 
     svc : mode_of (r15_in s.regs) ≡ Svc
-    svc = ap mode_of r15_is ∙ svc_of (psr_with stand.flags masked) stand.address place.0
+    svc = ap mode_of r15_is ∙ svc_of (psr_with set_up.flags masked) set_up.address place.0
 
-    at : address_of (r15_in s.regs) ≡ stand.address
-    at = ap address_of r15_is ∙ address_put (psr_with stand.flags masked) stand.address Svc (place.1, place.0)
+    at : address_of (r15_in s.regs) ≡ set_up.address
+    at = ap address_of r15_is ∙ address_put (psr_with set_up.flags masked) set_up.address Svc (place.1, place.0)
 
     fetches : fetched m (r15_in s.regs) ≡ Some h.word
     fetches =
-        fetched_word m stand.address h.word _ gives
+        fetched_word m set_up.address h.word _ gives
         (ap (λ n. located m n false false) (sym at) ∙ ap (λ b. located m (address_of (r15_in s.regs)) b false) (sym (ap is_user svc)))
-        (found words pages spare m stand.address (record { whole = whole; plan = plan; mapped = mapped_last }) some_word fits)
+        (found words pages spare m set_up.address (record { whole = whole; plan = plan; mapped = mapped_last }) some_word fits)
 
     dearest : AreDearest profile m.control.rom_times
     dearest = by_fields (start.bus.memc.control.rom_times) (ap (λ c. c.rom_times.low) begun.memory.control ∙ low_is) (ap (λ c. c.rom_times.high) begun.memory.control ∙ high_is)
@@ -179,9 +179,9 @@ module _ (words : Words) (st : Stated) (profile : Profile) (e : Edge) (spare : �
         by_fields : (r : RomTimes) → r.low ≡ rom.low → r.high ≡ rom.high → AreDearest profile r
         by_fields r low high x = rom_same r low high x ∙ dear x
 
-    stands : StandsAt profile h.word stand.address stand.flags s
+    stands : FetchesAt profile h.word set_up.address set_up.flags s
     stands = record {
-      registers = ap length begun.registers ∙ with_last stand.setting.register _;
+      registers = ap length begun.registers ∙ with_last set_up.setting.register _;
       whole = place.0;
       below = place.1;
       r15 = r15_is;
@@ -190,37 +190,37 @@ module _ (words : Words) (st : Stated) (profile : Profile) (e : Edge) (spare : �
       fetches = fetches;
     }
 
-    setting : HasSetting profile stand.setting s i
+    setting : HasSetting profile set_up.setting s i
     setting = record {
       mode = svc;
       shift = mapped_last.size;
       dearest = dearest;
-      register = by_register stand.setting.register h.setting.register_other begun.registers;
+      register = by_register set_up.setting.register h.setting.register_other begun.registers;
       port = port;
-      word = by_word stand.setting.word besides;
+      word = by_word set_up.setting.word besides;
     }
       where
-        by_register : (o : Option Held) → IfSome o (λ held. is_pc held.register ≡ false) → s.regs ≡ registers_with o ++ started.r15_in (file_of stand pages rom).processor ∷ [] → IfSome o (λ held. register_in Svc (register_number held.register) s.regs ≡ held.word)
+        by_register : (o : Option Held) → IfSome o (λ held. is_pc held.register ≡ false) → s.regs ≡ registers_with o ++ started.r15_in (file_of set_up pages rom).processor ∷ [] → IfSome o (λ held. register_in Svc (register_number held.register) s.regs ≡ held.word)
         by_register None other is = tt
-        by_register (Some held) other is = ap (register_in Svc (register_number held.register)) is ∙ held_is held (started.r15_in (file_of stand pages rom).processor) other
+        by_register (Some held) other is = ap (register_in Svc (register_number held.register)) is ∙ held_is held (started.r15_in (file_of set_up pages rom).processor) other
 
-        by_word : (o : Option (ℕ × ℕ)) → All (λ x. IsBeside spare x.0 × (x.0 ≡ stand.address → ⊥)) (option_to_list o)
+        by_word : (o : Option (ℕ × ℕ)) → All (λ x. IsBeside spare x.0 × (x.0 ≡ set_up.address → ⊥)) (option_to_list o)
             → IfSome o (λ x. (spot : Spot) → located (loaded (option_to_list o) (loaded some start.bus.memc)) x.0 false false ≡ Ok spot → word_at (loaded (option_to_list o) (loaded some start.bus.memc)) spot ≡ x.1)
         by_word None all = tt
         by_word (Some x) all = λ spot at_spot.
             gives_at (loaded (x ∷ []) (loaded some start.bus.memc)) x.0 x.1 spot
             (beside_given (x ∷ []) pages spare (loaded some start.bus.memc) x.0 x.1 mapped_then plan.spare_free.below
-            (All-from_recursion (λ y. IsBeside spare y.0 × (y.0 ≡ x.0 → y.1 ≡ x.1)) (x ∷ []) (((recursion_from_All (λ y. IsBeside spare y.0 × (y.0 ≡ stand.address → ⊥)) (x ∷ []) all).0.0, λ same. refl), tt))
+            (All-from_recursion (λ y. IsBeside spare y.0 × (y.0 ≡ x.0 → y.1 ≡ x.1)) (x ∷ []) (((recursion_from_All (λ y. IsBeside spare y.0 × (y.0 ≡ set_up.address → ⊥)) (x ∷ []) all).0.0, λ same. refl), tt))
             (here x [])) at_spot
 
     -- the machine is set for the edge
     is_tight : IsTight words st profile e s i
     is_tight = step.law words st profile e s i (record {
       calls = h.calls;
-      address = stand.address;
+      address = set_up.address;
       word = h.word;
       action = h.action;
-      flags = stand.flags;
+      flags = set_up.flags;
       is_edge = h.is_edge;
       from = h.from;
       has = h.has;
@@ -233,12 +233,12 @@ module _ (words : Words) (st : Stated) (profile : Profile) (e : Edge) (spare : �
       ];
     })
 
-  image_has_places : (some : Words) (start : State) → AreOf words some → IsStarted (file_of stand pages rom) profile start → All (λ x. IsFitted x.0) some → lacks_page start.bus.memc some ≡ false
+  image_has_places : (some : Words) (start : State) → AreOf words some → IsStarted (file_of set_up pages rom) profile start → All (λ x. IsFitted x.0) some → lacks_page start.bus.memc some ≡ false
   image_has_places some start of begun fit =
       (image_fits words some pages spare start.bus.memc whole plan (is_mapped words pages spare rom.low rom.high plan start.bus.memc begun.memory) of).1 fit
 
-  words_have_places : (some : Words) (start : State) → IsStarted (file_of stand pages rom) profile start → lacks_page (put_words some start).bus.memc (option_to_list stand.setting.word) ≡ false
-  words_have_places some start begun = by_word stand.setting.word besides
+  words_have_places : (some : Words) (start : State) → IsStarted (file_of set_up pages rom) profile start → lacks_page (put_words some start).bus.memc (option_to_list set_up.setting.word) ≡ false
+  words_have_places some start begun = by_word set_up.setting.word besides
     where
       m : Memc
       m = loaded some start.bus.memc
@@ -248,18 +248,18 @@ module _ (words : Words) (st : Stated) (profile : Profile) (e : Edge) (spare : �
 
       led : (x : ℕ × ℕ) → IsBeside spare x.0 → (s : Spot) × (spot_of m x.0 ≡ Ok s)
       led x beside =
-          let g : GivesWord (loaded (x ∷ []) m) x.0 x.1 =
+          let g : HasWord (loaded (x ∷ []) m) x.0 x.1 =
           beside_given (x ∷ []) pages spare m x.0 x.1 mapped_m plan.spare_free.below
           (All-from_recursion (λ y. IsBeside spare y.0 × (y.0 ≡ x.0 → y.1 ≡ x.1)) (x ∷ []) ((beside, λ same. refl), tt)) (here x []) in
           (g.spot, sym (same_spot (x ∷ []) m x.0) ∙ g.leads)
 
-      by_word : (o : Option (ℕ × ℕ)) → All (λ x. IsBeside spare x.0 × (x.0 ≡ stand.address → ⊥)) (option_to_list o) → lacks_page m (option_to_list o) ≡ false
+      by_word : (o : Option (ℕ × ℕ)) → All (λ x. IsBeside spare x.0 × (x.0 ≡ set_up.address → ⊥)) (option_to_list o) → lacks_page m (option_to_list o) ≡ false
       by_word None all = refl
       by_word (Some x) all =
-          let l = led x ((recursion_from_All (λ y. IsBeside spare y.0 × (y.0 ≡ stand.address → ⊥)) (x ∷ []) all).0.0) in
+          let l = led x ((recursion_from_All (λ y. IsBeside spare y.0 × (y.0 ≡ set_up.address → ⊥)) (x ∷ []) all).0.0) in
           rw (l.1) refl
 
-  pub is_tight_file : IsTightFile words st profile e (file_of stand pages rom)
+  pub is_tight_file : IsTightFile words st profile e (file_of set_up pages rom)
   is_tight_file = record {
     pages = pages;
     spare = spare;
@@ -275,31 +275,31 @@ module _ (words : Words) (st : Stated) (profile : Profile) (e : Edge) (spare : �
 
 -- ## What the file meets
 
-pub in_range : (words : Words) (st : Stated) (profile : Profile) (e : Edge) (spare : ℕ) (pages : List PlacedPage) (stand : Stand) (rom : RomTimes) → IsStand words st profile e spare stand → AreWhole words → IsPagePlan words pages spare
-    → IsInRange (file_of stand pages rom)
-in_range words st profile e spare pages stand rom h whole plan =
-    let at = parts words stand.address whole (ap is_some h.has) in
+pub in_range : (words : Words) (st : Stated) (profile : Profile) (e : Edge) (spare : ℕ) (pages : List PlacedPage) (set_up : SetUp) (rom : RomTimes) → IsSetUp words st profile e spare set_up → AreWhole words → IsPagePlan words pages spare
+    → IsInRange (file_of set_up pages rom)
+in_range words st profile e spare pages set_up rom h whole plan =
+    let at = parts words set_up.address whole (ap is_some h.has) in
     record {
-      pc = both_true (eq-eqb (stand.address % 4) 0 at.0) (lt-ltb stand.address 0x4000000 at.1);
+      pc = both_true (eq-eqb (set_up.address % 4) 0 at.0) (lt-ltb set_up.address 0x4000000 at.1);
       low_rom = let small = rom.low_in_range in omega (arith, small);
       high_rom = let small = rom.high_in_range in omega (arith, small);
       mappable = all_mappable words pages spare plan;
       steps = omega arith;
-      held = by_word stand.setting.word h.setting.word_apart;
+      held = by_word set_up.setting.word h.setting.word_apart;
     }
   where
-    may_be : (a : ℕ) → IsData spare stand.address a → spare < 128 → IsTrue (may_hold a)
+    may_be : (a : ℕ) → IsData spare set_up.address a → spare < 128 → IsTrue (may_hold a)
     may_be a has below = elim has.1 [
       | inl ram ↦ may_within 0 0x3000000 a refl has.0 (omega arith) (omega (arith, ram, below))
       | inr rom_at ↦ may_within 0x3400000 0x4000000 a refl has.0 rom_at.0 (omega (arith, rom_at.1, has.0))
     ]
 
-    by_word : (o : Option (ℕ × ℕ)) → IfSome o (λ x. IsData spare stand.address x.0) → All (λ x. IsTrue (may_hold x.0)) (option_to_list o)
+    by_word : (o : Option (ℕ × ℕ)) → IfSome o (λ x. IsData spare set_up.address x.0) → All (λ x. IsTrue (may_hold x.0)) (option_to_list o)
     by_word None has = All-from_recursion (λ y. IsTrue (may_hold y.0)) [] tt
     by_word (Some x) has = All-from_recursion (λ y. IsTrue (may_hold y.0)) (x ∷ []) (may_be x.0 has plan.spare_free.below, tt)
 
-pub stands_once : (words : Words) (pages : List PlacedPage) (spare : ℕ) (stand : Stand) (rom : RomTimes) → IsPagePlan words pages spare → StandsOnce (file_of stand pages rom)
-stands_once words pages spare stand rom plan = record { pages_once = all_single words pages spare plan; words_once = by_word stand.setting.word }
+pub none_twice : (words : Words) (pages : List PlacedPage) (spare : ℕ) (set_up : SetUp) (rom : RomTimes) → IsPagePlan words pages spare → HasNoneTwice (file_of set_up pages rom)
+none_twice words pages spare set_up rom plan = record { pages_once = all_single words pages spare plan; words_once = by_word set_up.setting.word }
   where
     by_word : (o : Option (ℕ × ℕ)) → are_distinct (keys_of (option_to_list o)) ≡ true
     by_word None = refl

@@ -12,7 +12,7 @@ use Rattle.arm2_effect.specs.ProgramCounter.{address_of, flags_of, is_fiq_masked
 use Rattle.arm2_effect.specs.ProgramCounter.{psr_with, r15_of}
 use Rattle.arm2_exec.specs.State.{State}
 use Rattle.arm2_exec.specs.Step.{address_in, interrupt_due, with_lines}
-use Rattle.flow_graph.specs.TightWork.{StandsAt, masked}
+use Rattle.flow_graph.specs.TightWork.{FetchesAt, masked}
 use Rattle.flow_graph.proofs.StepRegisters.{IsWordAddress, address_put}
 
 -- ## R15 of SVC mode with both interrupts masked
@@ -73,7 +73,7 @@ none_due fiq irq true false f i = absurd (cc)
 -- ## The machine
 
 module _ (profile : Profile) (word address : ℕ) (flags : Flags) (s : State)
-    (stands : StandsAt profile word address flags s) where
+    (stands : FetchesAt profile word address flags s) where
   is_word : IsWordAddress address
   is_word = (stands.below, stands.whole)
 

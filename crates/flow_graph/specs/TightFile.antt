@@ -41,7 +41,7 @@ use Rattle.flow_graph.specs.declared.places.Place.TheVariants.{At, Exit}
 use Rattle.flow_graph.specs.declared.setting.Aim.{Aim}
 use Rattle.flow_graph.specs.declared.setting.Held.{Held}
 use Rattle.flow_graph.specs.declared.setting.Setting.{Setting}
-use Rattle.flow_graph.specs.declared.tight.Stand.{Stand}
+use Rattle.flow_graph.specs.declared.tight.SetUp.{SetUp}
 use Rattle.flow_graph.specs.declared.tight.Tight.{Tight}
 use Rattle.statement.specs.Stated.{Stated, class_of}
 
@@ -60,25 +60,25 @@ HasWordAt words Exit = Unit {0}
 
 module _ (words : Words) (st : Stated) (profile : Profile) (e : Edge) where
   -- at the edge's place, with flags by its label, and with a setting to lead to its target
-  pub record IsStand (spare : ℕ) (stand : Stand) : Type 0 where
+  pub record IsSetUp (spare : ℕ) (set_up : SetUp) : Type 0 where
     pub calls : List ℕ
     pub word : ℕ
     pub action : Action
     pub target : ℕ
     pub is_edge : IsEdge words st profile e
-    pub from : e.from ≡ At calls stand.address
-    pub has : word_of words stand.address ≡ Some word
+    pub from : e.from ≡ At calls set_up.address
+    pub has : word_of words set_up.address ≡ Some word
     pub is : IsAction word action
-    pub label : label_by stand.flags action.cond ≡ e.label
+    pub label : label_by set_up.flags action.cond ≡ e.label
     pub leads : IsDearestTarget st profile e.to target
     pub setting : IsSettingOf
         (record {
           profile = profile;
-          class = class_of st stand.address;
-          address = stand.address;
+          class = class_of st set_up.address;
+          address = set_up.address;
           target = target;
           spare = spare;
-        }) word e.label stand.setting
+        }) word e.label set_up.setting
 
 -- ## The file
 
@@ -103,19 +103,19 @@ abbrev pub open_page : PlacedPage → MappedPage
 open_page p = record { logical = p.logical; physical = p.physical; level = 0 }
 
 -- one step from there
-abbrev pub file_of : Stand → List PlacedPage → RomTimes → file.Stated
-file_of stand pages rom =
+abbrev pub file_of : SetUp → List PlacedPage → RomTimes → file.Stated
+file_of set_up pages rom =
     record {
       processor =
           record {
-            pc = stand.address;
+            pc = set_up.address;
             mode = Svc;
-            flags = masked_flags stand.flags;
-            registers = registers_with stand.setting.register;
+            flags = masked_flags set_up.flags;
+            registers = registers_with set_up.setting.register;
           };
       controller = record { size = K32; low_rom = rom.low; high_rom = rom.high; pages = map open_page pages };
-      schedule = record { steps = 1; port = stand.setting.port; events = [] };
-      words = option_to_list stand.setting.word;
+      schedule = record { steps = 1; port = set_up.setting.port; events = [] };
+      words = option_to_list set_up.setting.word;
     }
 
 -- ## What such a file is for

@@ -50,7 +50,7 @@ masked = 3
 
 -- the machine is at the word's address in SVC mode, with these flags and both interrupts masked; it
 -- fetches the word, and ROM's time fields are at their dearest
-pub record StandsAt (profile : Profile) (word address : ℕ) (flags : Flags) (s : State) : Type 0 where
+pub record FetchesAt (profile : Profile) (word address : ℕ) (flags : Flags) (s : State) : Type 0 where
   pub registers : length s.regs ≡ 27
   pub whole : address % 4 ≡ 0
   pub below : address < SPACE_END
@@ -126,7 +126,7 @@ module _ (words : Words) (st : Stated) (profile : Profile) where
     pub has : word_of words address ≡ Some word
     pub is : IsAction word action
     pub label : label_by flags action.cond ≡ e.label
-    pub stands : StandsAt profile word address flags s
+    pub stands : FetchesAt profile word address flags s
     pub skipped_or_set : (e.label ≡ Skip)
         ⊎ ((x : Instr) × Means word x × IsSetFor st profile address e.to s i x.operation)
 

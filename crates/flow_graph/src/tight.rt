@@ -9,11 +9,11 @@ ghost use Rattle.loader.specs.declared.plan.TheConstants.{PHYSICAL_PAGES};
 ghost use Rattle.flow_graph.specs.Graph.{IsFlowGraph};
 ghost use Rattle.flow_graph.specs.declared.edges.Edge.{Edge};
 ghost use Rattle.arm2_decode.specs.Names.{is_pc};
-ghost use Rattle.machine_file.specs.Parts.{IsInRange, StandsOnce, stated_by};
+ghost use Rattle.machine_file.specs.Parts.{IsInRange, HasNoneTwice, stated_by};
 ghost use Rattle.flow_graph.specs.Edges.{IsEdge};
 ghost use Rattle.flow_graph.specs.Free.{IsFree, IsFreeWord};
 ghost use Rattle.flow_graph.specs.TightFile.{CanPlace, HasWordAt, IsEntryOf, IsPlaceWord, IsPlaced};
-ghost use Rattle.flow_graph.specs.TightFile.{IsSettingOf, IsStand, IsTightAt, IsTightFile};
+ghost use Rattle.flow_graph.specs.TightFile.{IsSettingOf, IsSetUp, IsTightAt, IsTightFile};
 ghost use Rattle.flow_graph.specs.TightFile.{file_of, masked_flags};
 ghost use Rattle.flow_graph.specs.TightFile.{open_page, registers_with};
 ghost use Rattle.flow_graph.specs.TightWork.{IsDearestTarget};
@@ -72,7 +72,7 @@ impl From<AllocError> for TightFault {
 
 /// How a machine is set before its step.
 #[derive(Clone, Copy)]
-pub(crate) struct Stand {
+pub(crate) struct SetUp {
     /// The word's address, in bytes.
     pub(crate) address: u32,
     pub(crate) flags: Flags,
@@ -108,17 +108,17 @@ fn setting_at(aim: &Aim, word: u32, label: Label) -> Setting
 }
 
 // How a machine is set that takes the edge at its price; none where the edge is not free.
-fn stand_for(
+fn set_up_for(
     image: &Image,
     statement: &Statement,
     profile: &Profile,
     edge: &Edge,
     spare: u32,
-) -> Option<Stand>
+) -> Option<SetUp>
     requires is_edge { IsEdge image.now statement.now profile.now edge.now }
     requires lands { HasWordAt image.now edge.now.to }
     requires spare { spare < PHYSICAL_PAGES }
-    ensures stands { IfSome result (IsStand image.now statement.now profile.now edge.now spare) }
+    ensures stands { IfSome result (IsSetUp image.now statement.now profile.now edge.now spare) }
     ensures free { IfSome result (λ _. IsFree image.now edge.now) }
     ensures none { IsNone result → IsFree image.now edge.now → ⊥ }
 {
@@ -137,7 +137,7 @@ fn stand_for(
         target: target(image, profile, statement.leave(), &edge.to)?,
         spare,
     };
-    Some(Stand {
+    Some(SetUp {
         address,
         flags,
         setting: setting_at(&aim, word, edge.label),
@@ -194,21 +194,21 @@ fn option_to_list(alloc: Global, word: Option<(u32, u32)>) -> Result<Vec<(u32, u
 // One step of the machine that is set in this way.
 fn parts(
     alloc: Global,
-    stand: &Stand,
+    set_up: &SetUp,
     plan: &PagePlan,
     rom: RomTimes,
 ) -> Result<MachineParts, AllocError>
-    requires { IfSome stand.now.setting.register (λ h. is_pc h.register ≡ false) }
-    ensures { IfOk result (λ parts. stated_by parts ≡ file_of stand.now plan.now.pages.items rom) }
+    requires { IfSome set_up.now.setting.register (λ h. is_pc h.register ≡ false) }
+    ensures { IfOk result (λ parts. stated_by parts ≡ file_of set_up.now plan.now.pages.items rom) }
 {
     let pages = open_pages(alloc, plan)?;
-    let words = option_to_list(alloc, stand.setting.word)?;
+    let words = option_to_list(alloc, set_up.setting.word)?;
     Ok(MachineParts {
         processor: ProcessorParts {
-            pc: stand.address,
+            pc: set_up.address,
             mode: Mode::Svc,
-            flags: masked_flags(stand.flags),
-            registers: registers_with(stand.setting.register),
+            flags: masked_flags(set_up.flags),
+            registers: registers_with(set_up.setting.register),
         },
         controller: ControllerParts {
             size: PageSize::K32,
@@ -218,7 +218,7 @@ fn parts(
         },
         schedule: ScheduleParts {
             steps: 1,
-            port: stand.setting.port,
+            port: set_up.setting.port,
         },
         words,
     })
@@ -227,17 +227,17 @@ fn parts(
 // The machine file with one step from there.
 fn file(
     alloc: Global,
-    stand: &Stand,
+    set_up: &SetUp,
     plan: &PagePlan,
     rom: RomTimes,
 ) -> Result<MachineFile, TightFault>
-    requires register { IfSome stand.now.setting.register (λ h. is_pc h.register ≡ false) }
-    requires in_range { IsInRange (file_of stand.now plan.now.pages.items rom) }
-    requires once { StandsOnce (file_of stand.now plan.now.pages.items rom) }
-    ensures file { IfOk result (λ f. f ≡ file_of stand.now plan.now.pages.items rom) }
+    requires register { IfSome set_up.now.setting.register (λ h. is_pc h.register ≡ false) }
+    requires in_range { IsInRange (file_of set_up.now plan.now.pages.items rom) }
+    requires once { HasNoneTwice (file_of set_up.now plan.now.pages.items rom) }
+    ensures file { IfOk result (λ f. f ≡ file_of set_up.now plan.now.pages.items rom) }
     ensures fault { IfErr result (λ fault. fault ≡ TightFault.Memory) }
 {
-    let parts = parts(alloc, stand, plan, rom)?;
+    let parts = parts(alloc, set_up, plan, rom)?;
     match MachineFile::of_parts(alloc, parts) {
         Ok(file) => Ok(file),
         Err(MachineFileFault::Memory) => Err(TightFault::Memory),
@@ -260,8 +260,8 @@ fn edge_file(
     ensures fault { IfErr result (λ fault. fault ≡ TightFault.Memory) }
 {
     let plan = page_plan(alloc, image)?;
-    match stand_for(image, statement, profile, edge, plan.spare) {
-        Some(stand) => file(alloc, &stand, &plan, dearest_rom_times(profile)),
+    match set_up_for(image, statement, profile, edge, plan.spare) {
+        Some(set_up) => file(alloc, &set_up, &plan, dearest_rom_times(profile)),
         None => unreachable!(),
     }
 }

@@ -46,7 +46,7 @@ use Rattle.kept_runs.specs.declared.following.Unkept.TheVariants as unkept
 use Rattle.kept_runs.specs.declared.following.Unkept.TheVariants.{NotAtEntry, TurnedBack, Unfinished}
 use Rattle.kept_runs.specs.Following.{CanGo, CannotGo, Goes, IsFresh, IsNext, IsWhy, Halts}
 use Rattle.kept_runs.specs.Judging.{IsMachineFor, IsPlaceFor}
-use Rattle.kept_runs.specs.Keeping.{ComesTo, IsBefore, IsHandler, IsKeptRun, IsStrayedRun, IsUnkept, KeepsNone, StandsAfter}
+use Rattle.kept_runs.specs.Keeping.{RunsTo, IsBefore, IsHandler, IsKeptRun, IsStrayedRun, IsUnkept, KeepsNone, IsAtAfter}
 use Rattle.kept_runs.specs.Stays.{AreTurnsAfter}
 use Rattle.kept_runs.proofs.OneStep.{lands, one_edge_of}
 use Rattle.kept_runs.specs.Passing.{ArePasses, IsPass, IsTally, Pass}
@@ -202,7 +202,7 @@ module _ (words : Words) (st : Stated) (flow : Flow) (tree : Tree) (well : IsWel
     come_few : n ≤ length inputs → x.steps ≤ length inputs
     come_few few = let count = so_far.steps_count in omega (arith, few, count)
 
-    abbrev comes_to : CanGo flow tree x now → n ≤ length inputs → ComesTo words st flow tree start inputs x.steps (place_in flow tree x.number) now
+    abbrev comes_to : CanGo flow tree x now → n ≤ length inputs → RunsTo words st flow tree start inputs x.steps (place_in flow tree x.number) now
     comes_to can few = record {
       few = come_few few;
       walk = steps_of flow.edges so_far.numbers;
@@ -215,7 +215,7 @@ module _ (words : Words) (st : Stated) (flow : Flow) (tree : Tree) (well : IsWel
       at = can.at;
     }
 
-    stands_at : (a : ℕ) → a ≡ address_in now.regs → StandsAfter start inputs x.steps a
+    stands_at : (a : ℕ) → a ≡ address_in now.regs → IsAtAfter start inputs x.steps a
     stands_at a here = record { ran = so_far.ran; now = now; runs = come_runs; at_is = here }
 
   -- ## One step more
@@ -303,7 +303,7 @@ module _ (words : Words) (st : Stated) (flow : Flow) (tree : Tree) (well : IsWel
         cannot h.stepped h.after h.edge h.next (edges_of tree.edges so_far.numbers) so_far.stepped (keeps_on h.edge h.next.known kept)
 
     -- how far the run has come
-    comes : ComesTo words st flow tree start inputs x.steps (place_in flow tree x.number) now
+    comes : RunsTo words st flow tree start inputs x.steps (place_in flow tree x.number) now
     comes = comes_to n x now so_far can (omega (arith, n_in))
 
     before : IsBefore words st flow tree start inputs x.steps

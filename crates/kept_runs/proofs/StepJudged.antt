@@ -41,8 +41,8 @@ use Rattle.walk_counts.specs.Counts.{is_same_label}
 use Rattle.walk_counts.proofs.NumberLemmas.{one_label, own_label}
 use Rattle.kept_runs.specs.Edges.{HasNoEdge, IsFound, IsMet}
 use Rattle.kept_runs.specs.declared.judging.Stray.TheVariants as stray
-use Rattle.kept_runs.specs.Judging.{StandsAt, Strays, Takes, TakesNone, label_if}
-use Rattle.kept_runs.specs.Reading.{HasNoWord, IsReading, StandsThere}
+use Rattle.kept_runs.specs.Judging.{IsAtPlace, Strays, Takes, TakesNone, label_if}
+use Rattle.kept_runs.specs.Reading.{HasNoWord, IsReading, FetchesWord}
 use Rattle.kept_runs.specs.Transfers.{HasNoOther, HasOther}
 use Rattle.kept_runs.proofs.MovedLemmas.{Moves, word_moves}
 
@@ -72,7 +72,7 @@ after_regs : (stops : Bool) (s a b : State) → length a.regs ≡ length s.regs 
 after_regs true s a b h k = h
 after_regs false s a b h k = k
 
-module _ (words : Words) (st : Stated) (flow : Flow) (graph : IsFlowGraph words st flow.profile flow) (place : Place) (s : State) (i : Input) (stands : StandsAt flow place s) where
+module _ (words : Words) (st : Stated) (flow : Flow) (graph : IsFlowGraph words st flow.profile flow) (place : Place) (s : State) (i : Input) (stands : IsAtPlace flow place s) where
   abbrev class : Class
   class = class_of st (address_in s.regs)
 
@@ -85,7 +85,7 @@ module _ (words : Words) (st : Stated) (flow : Flow) (graph : IsFlowGraph words 
   abbrev IsStepOf : Stepped → State → Edge → Type 0
   IsStepOf stepped after e = IsEdgeOf words st flow.profile s i stepped after e
 
-  there : {stepped : Stepped} {after : State} {e : Edge} → (h : IsEdgeOf words st flow.profile s i stepped after e) → StandsThere words s h.executes.has.word
+  there : {stepped : Stepped} {after : State} {e : Edge} → (h : IsEdgeOf words st flow.profile s i stepped after e) → FetchesWord words s h.executes.has.word
   there h = record { stands = h.executes.has.stands; fetches = h.executes.fetches ∙ h.executes.has.stands }
 
   none_without_word : HasNoWord words s → TakesNone words st flow place s i
@@ -108,19 +108,19 @@ module _ (words : Words) (st : Stated) (flow : Flow) (graph : IsFlowGraph words 
     not_both : (k other : Kind) → stepped.kind ≡ k → stepped.kind ≡ other → k ≡ other
     not_both k other is also = sym is ∙ also
 
-    pub exception : (word : ℕ) → StandsThere words s word → (vector : Vector) → stepped.kind ≡ ended.Taken vector → Strays words st flow place s i after (stray.Exception vector)
+    pub exception : (word : ℕ) → FetchesWord words s word → (vector : Vector) → stepped.kind ≡ ended.Taken vector → Strays words st flow place s i after (stray.Exception vector)
     exception word at_word vector is = record {
       none = none_unless_plain (λ plain. let both : ended.Taken vector ≡ ended.Plain = not_both (ended.Taken vector) ended.Plain is plain in cc);
       is = record { word = word; fetches = at_word; stepped = stepped; step = step; kind_is = is };
     }
 
-    pub stop : (word : ℕ) → StandsThere words s word → (why : Why) → stepped.kind ≡ ended.Stopped why → Strays words st flow place s i after (stray.Stopped why)
+    pub stop : (word : ℕ) → FetchesWord words s word → (why : Why) → stepped.kind ≡ ended.Stopped why → Strays words st flow place s i after (stray.Stopped why)
     stop word at_word why is = record {
       none = none_unless_plain (λ plain. let both : ended.Stopped why ≡ ended.Plain = not_both (ended.Stopped why) ended.Plain is plain in cc);
       is = record { word = word; fetches = at_word; stepped = stepped; step = step; kind_is = is };
     }
 
-    module _ (plain : stepped.kind ≡ ended.Plain) (word : ℕ) (at_word : StandsThere words s word) (r : Reading) (reads : IsReading word s.regs r) where
+    module _ (plain : stepped.kind ≡ ended.Plain) (word : ℕ) (at_word : FetchesWord words s word) (r : Reading) (reads : IsReading word s.regs r) where
       plain_is : IsPlainStep s step.moved stepped
       plain_is = plain_step s step.moved stepped step.stepped_is plain
 

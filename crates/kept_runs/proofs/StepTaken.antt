@@ -21,12 +21,12 @@ use Rattle.loop_bounds.specs.Tree.{IsTree, Tree, place_in}
 use Rattle.longest_walk.specs.Built.{step_at}
 use Rattle.longest_walk.proofs.CarryWalks.{edge_same, number_is}
 use Rattle.kept_runs.specs.declared.following.Follower.{Follower}
-use Rattle.kept_runs.specs.declared.judging.Taken.{Taken}
+use Rattle.kept_runs.specs.declared.judging.EdgeTaken.{EdgeTaken}
 use Rattle.kept_runs.specs.declared.following.Unkept.TheVariants as unkept
 use Rattle.kept_runs.specs.declared.following.Unkept.TheVariants.{TurnedBack}
 use Rattle.kept_runs.specs.declared.judging.Stray.{Stray}
 use Rattle.kept_runs.specs.Following.{AreHeadersOf, CanGo, CannotGo, Goes, IsNext, Keeps, Halts}
-use Rattle.kept_runs.specs.Judging.{StandsAt, Strays, Takes, TakesNone}
+use Rattle.kept_runs.specs.Judging.{IsAtPlace, Strays, Takes, TakesNone}
 use Rattle.kept_runs.specs.Passing.{counted}
 use Rattle.walk_counts.specs.Spans.{header_at}
 use Rattle.kept_runs.specs.Stays.{IsOver, AreTurnsAfter, Turns, turned}
@@ -53,7 +53,7 @@ module _ (words : Words) (st : Stated) (flow : Flow) (tree : Tree) (well : IsWel
       let low : x.number < length flow.places = can.known in
       ap (λ (v : ℕ). place_at flow.places v) (get_or_default tree.order x.number (length flow.places) 0 (omega (arith, t.whole, low)))
 
-  pub stands : StandsAt flow (place_at flow.places (get_or tree.order x.number 0)) s
+  pub stands : IsAtPlace flow (place_at flow.places (get_or tree.order x.number 0)) s
   stands = record { machine = can.machine; at = (can.at.0, sym place_is ∙ can.at.1) }
 
   -- an edge of the graph, by its number
@@ -83,7 +83,7 @@ module _ (words : Words) (st : Stated) (flow : Flow) (tree : Tree) (well : IsWel
       is = subst (λ (p : Place). Strays words st flow p s i after stray) (sym place_is) h;
     }
 
-    module _ (headers : List (Option Span)) (are : AreHeadersOf flow tree headers) (after : State) (taken : Taken) (takes : Takes words st flow (place_at flow.places (get_or tree.order x.number 0)) s i after taken) where
+    module _ (headers : List (Option Span)) (are : AreHeadersOf flow tree headers) (after : State) (taken : EdgeTaken) (takes : Takes words st flow (place_at flow.places (get_or tree.order x.number 0)) s i after taken) where
       abbrev e : NumberedEdge
       e = edge_at tree.edges taken.edge
 

@@ -23,9 +23,9 @@ use Rattle.flow_graph.specs.StepLaw.{Executes, IsEdgeOf, IsTaken, TransfersIn}
 use Rattle.longest_walk.specs.Built.{step_at}
 use Rattle.kept_runs.specs.declared.judging.Stray.{Stray}
 use Rattle.kept_runs.specs.declared.judging.Stray.TheVariants as stray
-use Rattle.kept_runs.specs.declared.judging.Taken.{Taken}
+use Rattle.kept_runs.specs.declared.judging.EdgeTaken.{EdgeTaken}
 use Rattle.kept_runs.specs.declared.transfers.Access.{Access}
-use Rattle.kept_runs.specs.Reading.{HasNoWord, StandsThere}
+use Rattle.kept_runs.specs.Reading.{HasNoWord, FetchesWord}
 
 abbrev pub label_if : Bool → Label
 label_if holds = if holds then Do else Skip
@@ -40,7 +40,7 @@ abbrev pub IsPlaceFor : Place → State → Type 0
 IsPlaceFor place s = (calls : List ℕ) × (place ≡ At calls (address_in s.regs))
 
 -- what `judge_step` asks of the machine
-pub record StandsAt (flow : Flow) (place : Place) (s : State) : Type 0 where
+pub record IsAtPlace (flow : Flow) (place : Place) (s : State) : Type 0 where
   pub machine : IsMachineFor flow s
   pub at : IsPlaceFor place s
 
@@ -55,7 +55,7 @@ pub record IsFirstOther (class : Class) (accesses : List effect.Access) (access 
 
 module _ (words : Words) (st : Stated) (flow : Flow) (place : Place) (s : State) (i : Input) where
   -- the step is along the edge of this number, which leaves the place
-  pub record Takes (after : State) (taken : Taken) : Type 0 where
+  pub record Takes (after : State) (taken : EdgeTaken) : Type 0 where
     pub known : taken.edge < length flow.edges
     pub is_edge_of : IsEdgeOf words st flow.profile s i taken.stepped after (step_at flow.edges taken.edge)
     pub from : (step_at flow.edges taken.edge).from ≡ place
@@ -73,7 +73,7 @@ module _ (words : Words) (st : Stated) (flow : Flow) (place : Place) (s : State)
   -- the machine fetches the image's word, and the step ends in this way
   pub record Ends (after : State) (kind : Kind) : Type 0 where
     pub word : ℕ
-    pub fetches : StandsThere words s word
+    pub fetches : FetchesWord words s word
     pub stepped : Stepped
     pub step : Step s i stepped after
     pub kind_is : stepped.kind ≡ kind

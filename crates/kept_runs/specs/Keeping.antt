@@ -34,7 +34,7 @@ pub record IsHandler (words : Words) (st : Stated) (flow : Flow) (tree : Tree) :
   pub tree_is : IsTree flow tree
 
 -- after so many steps the machine is at the address
-pub record StandsAfter (s : State) (inputs : List Input) (steps at : ℕ) : Type 0 where
+pub record IsAtAfter (s : State) (inputs : List Input) (steps at : ℕ) : Type 0 where
   pub ran : Ran
   pub now : State
   pub runs : Runs s (take steps inputs) ran now
@@ -69,7 +69,7 @@ module _ (words : Words) (st : Stated) (flow : Flow) (tree : Tree) where
 
   -- so many steps go along a walk from the entry to the place where the machine is, which keeps the loop
   -- bounds
-  pub record ComesTo (s : State) (inputs : List Input) (steps : ℕ) (place : Place)
+  pub record RunsTo (s : State) (inputs : List Input) (steps : ℕ) (place : Place)
       (now : State) : Type 0 where
     pub few : steps ≤ length inputs
     pub walk : List Edge
@@ -86,7 +86,7 @@ module _ (words : Words) (st : Stated) (flow : Flow) (tree : Tree) where
     pub place : Place
     pub now : State
     pub input : Input
-    pub comes : ComesTo s inputs steps place now
+    pub comes : RunsTo s inputs steps place now
     pub at : steps < length inputs
     pub input_is : slice_index_or inputs steps input ≡ input
 
@@ -115,12 +115,12 @@ module _ (words : Words) (st : Stated) (flow : Flow) (tree : Tree) where
   IsUnkept s inputs steps after (unkept.Stray stray) = StraysAfter s inputs steps after stray
   IsUnkept s inputs steps after (TurnedBack span) = TurnsBack s inputs steps after span
   IsUnkept s inputs steps after Unfinished =
-      (steps ≡ length inputs) × ((place : Place) × ComesTo s inputs steps place after)
+      (steps ≡ length inputs) × ((place : Place) × RunsTo s inputs steps place after)
 
   pub record IsStrayedRun (s : State) (inputs : List Input) (steps at : ℕ) (why : Unkept)
       (after : State) : Type 0 where
     pub none : KeepsNone s inputs
-    pub stands : StandsAfter s inputs steps at
+    pub stands : IsAtAfter s inputs steps at
     pub is : IsUnkept s inputs steps after why
 
   abbrev pub IsFollowed : State → List Input → State → Followed → Type 0

@@ -14,12 +14,12 @@ use Rattle.kept_runs.specs.declared.transfers.Transfer.{Transfer}
 use Rattle.kept_runs.specs.Transfers.{words_of}
 
 -- the machine fetches the image's word at its address
-pub record StandsThere (words : Words) (s : State) (word : ℕ) : Type 0 where
+pub record FetchesWord (words : Words) (s : State) (word : ℕ) : Type 0 where
   pub stands : word_of words (address_in s.regs) ≡ Some word
   pub fetches : fetched s.bus.memc (r15_in s.regs) ≡ Some word
 
 abbrev pub HasNoWord : Words → State → Type 0
-HasNoWord words s = (word : ℕ) → StandsThere words s word → ⊥
+HasNoWord words s = (word : ℕ) → FetchesWord words s word → ⊥
 
 -- an instruction transfers words where its condition holds
 abbrev pub transfer_if : Bool → Operation → List ℕ → Option Transfer

@@ -1,7 +1,7 @@
 ghost use Rattle.std.specs.Prelude.{◌≡◌, ◌<◌, length, MatchResult};
 ghost use Rattle.flow_graph.specs.Graph.{IsFlowGraph};
 ghost use Rattle.flow_graph.specs.Places.{place_at};
-ghost use Rattle.kept_runs.specs.Judging.{StandsAt, Strays, Takes, label_if};
+ghost use Rattle.kept_runs.specs.Judging.{IsAtPlace, Strays, Takes, label_if};
 
 use crate::edges::{Going, edge_taken};
 use crate::handler::AcceptedHandler;
@@ -27,7 +27,7 @@ pub enum Stray {
 
 /// A step along an edge.
 #[derive(Clone, Copy)]
-pub struct Taken {
+pub struct EdgeTaken {
     /// The edge's index in the graph's edges.
     pub edge: usize,
     pub stepped: Stepped,
@@ -53,11 +53,11 @@ pub fn judge_step(
     machine: &mut Machine,
     place: usize,
     input: Input,
-) -> Result<Taken, Stray>
+) -> Result<EdgeTaken, Stray>
     requires graph { IsFlowGraph handler.image.now handler.statement.now handler.graph.now.profile
         handler.graph.now }
     requires known { place < length handler.graph.now.places }
-    requires stands { StandsAt handler.graph.now (place_at handler.graph.now.places place) machine.old }
+    requires stands { IsAtPlace handler.graph.now (place_at handler.graph.now.places place) machine.old }
     ensures { MatchResult result
         (Takes handler.entry.image.now handler.entry.statement.now handler.entry.graph.now
         (place_at handler.entry.graph.now.places place) machine.old input machine.new)
@@ -85,7 +85,7 @@ pub fn judge_step(
         leave: handler.statement.leave(),
     };
     match edge_taken(handler.graph, place, going) {
-        Some(edge) => Ok(Taken { edge, stepped }),
+        Some(edge) => Ok(EdgeTaken { edge, stepped }),
         None => Err(Stray::Elsewhere(stepped.to)),
     }
 }

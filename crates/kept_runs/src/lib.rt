@@ -15,6 +15,6 @@ mod transfers;
 
 pub use following::{Followed, Unkept, follow};
 pub use handler::AcceptedHandler;
-pub use judging::{Stray, Taken, judge_step};
+pub use judging::{EdgeTaken, Stray, judge_step};
 pub use tally::Passed;
 pub use transfers::Access;

@@ -3,7 +3,7 @@
 ghost use Rattle.std.specs.Prelude.{◌≡◌, ◌≤◌, IfSome, MatchOption};
 ghost use Rattle.arm2_effect.specs.Modes.{r15_in};
 ghost use Rattle.arm2_exec.specs.Step.{fetched};
-ghost use Rattle.kept_runs.specs.Reading.{HasNoWord, IsReading, StandsThere, transfer_if};
+ghost use Rattle.kept_runs.specs.Reading.{HasNoWord, IsReading, FetchesWord, transfer_if};
 
 use crate::transfers::{Transfer, words_of};
 use arm2_decode::{Instr, decode};
@@ -22,7 +22,7 @@ pub(crate) struct Reading {
 
 /// The image's word at the machine's address, where the machine fetches that.
 pub(crate) fn own_word(image: &Image, machine: &Machine) -> Option<u32>
-    ensures { MatchOption result (HasNoWord image.now machine.now) (StandsThere image.now machine.now) }
+    ensures { MatchOption result (HasNoWord image.now machine.now) (FetchesWord image.now machine.now) }
 {
     let Some(word) = image.word_at(machine.address()) else {
         return None;

@@ -34,7 +34,7 @@ goes_with : (left : ℕ) (before : Words) (bytes tail : List ℕ) (s : Segment) 
     → HasRoom (suc left) before → length before + length s.words + left ≤ 65536 → Goes (suc left) before bytes
 goes_with left before bytes tail s is some can all room short =
     let new = with_words before s.address s.words in
-    let more = grown before s.address s.words can room.ascends room.may_stand in
+    let more = grown before s.address s.words can room.ascends room.allowed in
     let long = more.long in
     let others = fill left new (room_after left before new (length s.words) room more) (omega (arith, long, short)) in
     let after = flat_map segment_bytes others.segments in
@@ -60,7 +60,7 @@ cut_at left before bytes a cut begins may none room short =
     let front : take n (segment_bytes s) ≡ bytes = take-append-le n (little_bytes 4 a) (little_bytes 4 1 ++ little_bytes 4 0) (omega (arith, cut)) ∙ begins in
     let is : bytes ++ drop n (segment_bytes s) ≡ segment_bytes s = ap (λ (bs : List ℕ). bs ++ drop n (segment_bytes s)) (sym front) ∙ take-append-drop n (segment_bytes s) in
     let len = length-drop n (segment_bytes s) in
-    goes_with left before bytes (drop n (segment_bytes s)) s is (omega (arith, len, cut)) (one_stands before a room.may_stand (omega (arith, short)) may none) (omega arith, tt) room (omega (arith, short))
+    goes_with left before bytes (drop n (segment_bytes s)) s is (omega (arith, len, cut)) (one_stands before a room.allowed (omega (arith, short)) may none) (omega arith, tt) room (omega (arith, short))
 
 -- fewer than three bytes: some address is free
 cut_low : (left : ℕ) (before : Words) (bytes : List ℕ) → length bytes < 4 → (low : ℕ) → low % 4 ≡ 0 → low < 65536 → ((m : ℕ) → m < 256 → take (length bytes) (little_bytes 4 (low + 65536 * m)) ≡ bytes)
@@ -267,7 +267,7 @@ goes_on (suc left) before bytes all e room = elim (cases_lt (length bytes) 4) [
               let long : 8 + 4 * count ≤ length bytes = ltb-false (length bytes) (8 + 4 * count) later.0 in
               let words = length_numbers count (drop 8 bytes) in
               let can = can_stand before a (length (numbers count (drop 8 bytes))) (ap (λ (n : ℕ). segment_fault before a n) words ∙ goes.0) in
-              let more = grown before a (numbers count (drop 8 bytes)) can room.ascends room.may_stand in
+              let more = grown before a (numbers count (drop 8 bytes)) can room.ascends room.allowed in
               goes_later left before bytes all long goes.0 (goes_on left new (drop (8 + 4 * count) bytes) (bytes_after (8 + 4 * count) bytes all) later.1 (room_after left before new _ room more))
         ]
       ]
@@ -276,7 +276,7 @@ goes_on (suc left) before bytes all e room = elim (cases_lt (length bytes) 4) [
 -- ## The magic and the number of segments
 
 empty_room : (left : ℕ) → left ≤ 16 → HasRoom left []
-empty_room left few = record { ascends = tt; may_stand = tt; runs = omega (arith, few) }
+empty_room left few = record { ascends = tt; allowed = tt; runs = omega (arith, few) }
 
 -- bytes that are, with more after them, those of so many segments
 begins_with : (bytes more : List ℕ) (segments : List Segment) → 0 < length more → bytes ++ more ≡ image_bytes segments → length segments ≤ 16 → AllByRecursion (λ s. AreNumbers s.words) segments → CanFollow [] segments → BeginImage bytes

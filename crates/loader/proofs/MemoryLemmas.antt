@@ -4,7 +4,7 @@ use Rattle.std.specs.List.{AllByRecursion}
 use Rattle.std.proofs.lemmas.Bool.{cases_eq, cases_lt, eq-eqb, le-ltb, lt-ltb, ne_eqb}
 use Rattle.std.proofs.lemmas.Option.{same_Some}
 use Rattle.loader.specs.Image.{Words}
-use Rattle.loader.specs.Loading.{GivesWord, loaded, ram_before, ram_words, rom_before, rom_words, spot_of, with_places}
+use Rattle.loader.specs.Loading.{HasWord, loaded, ram_before, ram_words, rom_before, rom_words, spot_of, with_places}
 use Rattle.memc.proofs.Rom.{rom_word-with_words}
 use Rattle.memc.specs.Memory.{Memory, last_word, on_page, rom_word, word_at}
 use Rattle.memc.specs.Paged.{IsWhole, page_at, place_of}
@@ -115,20 +115,20 @@ same_whole s words m w = record {
 
 -- ## One word
 
-pub ram_gives : (words : Words) (m : Memory) (a w place : ℕ) → length m.paged.words ≡ 2 ^ 20 → place < 2 ^ 22 → spot_of m a ≡ Ok (Ram place) → last_word (ram_words m words) (place / 4) (word_at m (Ram place)) ≡ w → GivesWord (loaded words m) a w
+pub ram_gives : (words : Words) (m : Memory) (a w place : ℕ) → length m.paged.words ≡ 2 ^ 20 → place < 2 ^ 22 → spot_of m a ≡ Ok (Ram place) → last_word (ram_words m words) (place / 4) (word_at m (Ram place)) ≡ w → HasWord (loaded words m) a w
 ram_gives words m a w place long lt at is = record {
   spot = Ram place;
   leads = same_spot words m a ∙ at;
-  gives = placed_at (ram_words m words) 0 m.paged.words (place / 4) (omega (arith, long, lt))
+  has = placed_at (ram_words m words) 0 m.paged.words (place / 4) (omega (arith, long, lt))
       ∙ ap (λ (k : ℕ). last_word (ram_words m words) k (word_at m (Ram place))) (let here : 0 + place / 4 ≡ place / 4 = omega arith in here)
       ∙ is;
 }
 
-pub rom_gives : (words : Words) (m : Memory) (a w : ℕ) → a % 4 ≡ 0 → spot_of m a ≡ Ok (Rom a) → last_word (rom_words m words) a (rom_word m.rom a) ≡ w → GivesWord (loaded words m) a w
+pub rom_gives : (words : Words) (m : Memory) (a w : ℕ) → a % 4 ≡ 0 → spot_of m a ≡ Ok (Rom a) → last_word (rom_words m words) a (rom_word m.rom a) ≡ w → HasWord (loaded words m) a w
 rom_gives words m a w four at is =
     let here : a / 4 * 4 ≡ a = omega (arith, four) in
     record {
       spot = Rom a;
       leads = same_spot words m a ∙ at;
-      gives = ap (λ (b : ℕ). rom_word (loaded words m).rom b) here ∙ rom_word-with_words (rom_words m words) m.rom a ∙ is;
+      has = ap (λ (b : ℕ). rom_word (loaded words m).rom b) here ∙ rom_word-with_words (rom_words m words) m.rom a ∙ is;
     }

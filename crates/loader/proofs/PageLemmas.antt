@@ -127,5 +127,5 @@ pages_held words numbers kept whole are filtered =
         (λ c. let d = Contains-from_dedup eqb (pages words) page c in has_word words d.0 page d.1 d.2),
         (λ h. Contains-dedup_nat (pages words) page (has_page words h.0 page h.1 h.2)),
       );
-      few = pages_few words (quads words whole.may_stand) whole.few_runs whole.few_words;
+      few = pages_few words (quads words whole.allowed) whole.few_runs whole.few_words;
     })

@@ -8,7 +8,7 @@ use Rattle.std.proofs.lemmas.List.Elements.{All-contains, All-from_recursion, Al
 use Rattle.std.proofs.lemmas.Option.{same_Some}
 use Rattle.loader.specs.Image.{Words, word_of}
 use Rattle.loader.specs.Inside.{AreWhole}
-use Rattle.loader.specs.Loading.{GivesWord, lacks_page, loaded, spot_of}
+use Rattle.loader.specs.Loading.{HasWord, lacks_page, loaded, spot_of}
 use Rattle.loader.specs.PagePlan.{IsFree, IsPagePlan, page_of, physical_page}
 use Rattle.loader.specs.Planned.{AreOf, IsBeside, IsFitted, IsMapped}
 use Rattle.loader.specs.declared.plan.PlacedPage.{PlacedPage}
@@ -151,7 +151,7 @@ on_plan image pages spare m h a some low =
     ((h.plan.logical (a / 2 ^ 15)).1 (omega (arith, low), (a, some, refl)))
 
 pub parts : (image : Words) (a : ℕ) → AreWhole image → IsSome (word_of image a) → (a % 4 ≡ 0) × (a < 0x4000000) × ((a < 0x3000000) ⊎ (0x3400000 ≤ a))
-parts image a whole some = may_parts a (held image a whole.may_stand some)
+parts image a whole some = may_parts a (held image a whole.allowed some)
 
 planned_physical : (image : Words) (pages : List PlacedPage) (spare : ℕ) (m : Memory) (h : IsPlanned image pages spare m) (a k : ℕ) (some : IsSome (word_of image a)) (x : IsLow m a k)
     → x.entry.physical ≡ (on_plan image pages spare m h a some x.low).physical
@@ -212,23 +212,23 @@ ram_of m a = ram_number (spot_of m a)
 abbrev rom_of : Memory → ℕ → Option ℕ
 rom_of m a = rom_number (spot_of m a)
 
-give_ram : (words : Words) (m : Memory) (a w place : ℕ) → IsWhole 15 m.paged → place < 2 ^ 22 → spot_of m a ≡ Ok (Ram place) → AreSame (ram_of m) (place / 4) w words → Contains words (a, w) → GivesWord (loaded words m) a w
+give_ram : (words : Words) (m : Memory) (a w place : ℕ) → IsWhole 15 m.paged → place < 2 ^ 22 → spot_of m a ≡ Ok (Ram place) → AreSame (ram_of m) (place / 4) w words → Contains words (a, w) → HasWord (loaded words m) a w
 give_ram words m a w place whole lt at same c =
     let before = word_at m (Ram place) in
     ram_gives words m a w place whole.words lt at
     (ap (λ (es : List (ℕ × ℕ)). last_word es (place / 4) before) (ram_entries m words) ∙ last_there (ram_of m) words c.0 (place / 4) a w before same c.1 c.2 (ap ram_number at))
 
-keep_ram : (words : Words) (m : Memory) (a w place : ℕ) → IsWhole 15 m.paged → place < 2 ^ 22 → spot_of m a ≡ Ok (Ram place) → AreSame (ram_of m) (place / 4) w words → word_at m (Ram place) ≡ w → GivesWord (loaded words m) a w
+keep_ram : (words : Words) (m : Memory) (a w place : ℕ) → IsWhole 15 m.paged → place < 2 ^ 22 → spot_of m a ≡ Ok (Ram place) → AreSame (ram_of m) (place / 4) w words → word_at m (Ram place) ≡ w → HasWord (loaded words m) a w
 keep_ram words m a w place whole lt at same is =
     let before = word_at m (Ram place) in
     ram_gives words m a w place whole.words lt at (ap (λ (es : List (ℕ × ℕ)). last_word es (place / 4) before) (ram_entries m words) ∙ last_kept (ram_of m) words (place / 4) w before same is)
 
-give_rom : (words : Words) (m : Memory) (a w : ℕ) → a % 4 ≡ 0 → spot_of m a ≡ Ok (Rom a) → AreSame (rom_of m) a w words → Contains words (a, w) → GivesWord (loaded words m) a w
+give_rom : (words : Words) (m : Memory) (a w : ℕ) → a % 4 ≡ 0 → spot_of m a ≡ Ok (Rom a) → AreSame (rom_of m) a w words → Contains words (a, w) → HasWord (loaded words m) a w
 give_rom words m a w four at same c =
     let before = rom_word m.rom a in
     rom_gives words m a w four at (ap (λ (es : List (ℕ × ℕ)). last_word es a before) (rom_entries m words) ∙ last_there (rom_of m) words c.0 a a w before same c.1 c.2 (ap rom_number at))
 
-keep_rom : (words : Words) (m : Memory) (a w : ℕ) → a % 4 ≡ 0 → spot_of m a ≡ Ok (Rom a) → AreSame (rom_of m) a w words → rom_word m.rom a ≡ w → GivesWord (loaded words m) a w
+keep_rom : (words : Words) (m : Memory) (a w : ℕ) → a % 4 ≡ 0 → spot_of m a ≡ Ok (Rom a) → AreSame (rom_of m) a w words → rom_word m.rom a ≡ w → HasWord (loaded words m) a w
 keep_rom words m a w four at same is =
     let before = rom_word m.rom a in
     rom_gives words m a w four at (ap (λ (es : List (ℕ × ℕ)). last_word es a before) (rom_entries m words) ∙ last_kept (rom_of m) words a w before same is)
@@ -292,12 +292,12 @@ found image pages spare m a h some fits = elim (cases_lt a 0x2000000) [
 ]
 
 given_by : (image words : Words) (pages : List PlacedPage) (spare : ℕ) (m : Memory) (a w : ℕ) → IsPlanned image pages spare m → AreOf image words → word_of image a ≡ Some w → Contains words (a, w) → InRam m a ⊎ InRom m a
-    → GivesWord (loaded words m) a w
+    → HasWord (loaded words m) a w
 given_by image words pages spare m a w h of is c (inl r) = give_ram words m a w r.place h.mapped.whole r.below r.at (same_ram image words pages spare m a w (r.place / 4) h of is r.here) c
 given_by image words pages spare m a w h of is c (inr r) = give_rom words m a w r.four r.at (same_rom image words m a w h.mapped.size of is) c
 
 pub image_given : (image words : Words) (pages : List PlacedPage) (spare : ℕ) (m : Memory) (a w : ℕ) → AreWhole image → IsPagePlan image pages spare → IsMapped pages m → AreOf image words → Contains words (a, w) → IsFitted a
-    → GivesWord (loaded words m) a w
+    → HasWord (loaded words m) a w
 image_given image words pages spare m a w whole plan mapped of c fits =
     let h : IsPlanned image pages spare m = record { whole = whole; plan = plan; mapped = mapped } in
     let is : word_of image a ≡ Some w = All-contains (λ (e : ℕ × ℕ). word_of image e.0 ≡ Some e.1) words (a, w) of c in
@@ -311,11 +311,11 @@ same_ok s t e = cc
 no_ok : (s : Spot) (r : Refused) → (let o : Result Spot Refused = Err r in o) ≡ Ok s → ⊥
 no_ok s r e = cc
 
-pub gives_at : (m : Memory) (a w : ℕ) (spot : Spot) → GivesWord m a w → spot_of m a ≡ Ok spot → word_at m spot ≡ w
-gives_at m a w spot g at = subst (λ (s : Spot). word_at m s ≡ w) (same_ok g.spot spot (sym g.leads ∙ at)) g.gives
+pub gives_at : (m : Memory) (a w : ℕ) (spot : Spot) → HasWord m a w → spot_of m a ≡ Ok spot → word_at m spot ≡ w
+gives_at m a w spot g at = subst (λ (s : Spot). word_at m s ≡ w) (same_ok g.spot spot (sym g.leads ∙ at)) g.has
 
 -- an address that yields a word leads somewhere
-given_fits : (m : Memory) (a w : ℕ) → m.shift ≡ 15 → GivesWord m a w → IsFitted a
+given_fits : (m : Memory) (a w : ℕ) → m.shift ≡ 15 → HasWord m a w → IsFitted a
 given_fits m a w size g = not_past a (elim (cases_lt a 0x2400000) [
   | inl below ↦ inl below
   | inr past ↦ elim (cases_lt a 0x3000000) [ inl io ↦ absurd (no_ok g.spot NoPage (sym (spot_unfitted m a size past io) ∙ g.leads)) | inr high ↦ inr high ]
@@ -342,16 +342,16 @@ apart_ram image beside pages spare m a w k h some here all = recursion_from_All 
 apart_rom : (beside : Words) (spare : ℕ) (m : Memory) (a w : ℕ) → m.shift ≡ 15 → All (λ e. IsBeside spare e.0 × (e.0 ≢ a)) beside → AreSame (rom_of m) a w beside
 apart_rom beside spare m a w size all = recursion_from_All (λ (e : ℕ × ℕ). rom_of m e.0 ≡ Some a → e.1 ≡ w) beside (λ i d lt at. absurd ((all i d lt).1 (rom_where m (get_or beside i d).0 a size at)))
 
-stays_by : (image beside : Words) (pages : List PlacedPage) (spare : ℕ) (m : Memory) (a w : ℕ) → IsPlanned image pages spare m → IsSome (word_of image a) → GivesWord m a w → All (λ e. IsBeside spare e.0 × (e.0 ≢ a)) beside
-    → InRam m a ⊎ InRom m a → GivesWord (loaded beside m) a w
+stays_by : (image beside : Words) (pages : List PlacedPage) (spare : ℕ) (m : Memory) (a w : ℕ) → IsPlanned image pages spare m → IsSome (word_of image a) → HasWord m a w → All (λ e. IsBeside spare e.0 × (e.0 ≢ a)) beside
+    → InRam m a ⊎ InRom m a → HasWord (loaded beside m) a w
 stays_by image beside pages spare m a w h some g all (inl r) =
     keep_ram beside m a w r.place h.mapped.whole r.below r.at (apart_ram image beside pages spare m a w (r.place / 4) h some r.here all) (gives_at m a w (Ram r.place) g r.at)
 stays_by image beside pages spare m a w h some g all (inr r) =
     let here : a / 4 * 4 ≡ a = (let four = r.four in omega (arith, four)) in
     keep_rom beside m a w r.four r.at (apart_rom beside spare m a w h.mapped.size all) (ap (λ (b : ℕ). rom_word m.rom b) (sym here) ∙ gives_at m a w (Rom a) g r.at)
 
-pub image_stays : (image beside : Words) (pages : List PlacedPage) (spare : ℕ) (m : Memory) (a w : ℕ) → AreWhole image → IsPagePlan image pages spare → IsMapped pages m → IsSome (word_of image a) → GivesWord m a w
-    → All (λ e. IsBeside spare e.0 × (e.0 ≢ a)) beside → GivesWord (loaded beside m) a w
+pub image_stays : (image beside : Words) (pages : List PlacedPage) (spare : ℕ) (m : Memory) (a w : ℕ) → AreWhole image → IsPagePlan image pages spare → IsMapped pages m → IsSome (word_of image a) → HasWord m a w
+    → All (λ e. IsBeside spare e.0 × (e.0 ≢ a)) beside → HasWord (loaded beside m) a w
 image_stays image beside pages spare m a w whole plan mapped some g all =
     let h : IsPlanned image pages spare m = record { whole = whole; plan = plan; mapped = mapped } in
     stays_by image beside pages spare m a w h some g all (found image pages spare m a h some (given_fits m a w mapped.size g))
@@ -371,13 +371,13 @@ alone_rom : (beside : Words) (spare : ℕ) (m : Memory) (a w : ℕ) → m.shift 
 alone_rom beside spare m a w size all = recursion_from_All (λ (e : ℕ × ℕ). rom_of m e.0 ≡ Some a → e.1 ≡ w) beside (λ i d lt at. (all i d lt).1 (rom_where m (get_or beside i d).0 a size at))
 
 pub beside_given : (beside : Words) (pages : List PlacedPage) (spare : ℕ) (m : Memory) (a w : ℕ) → IsMapped pages m → spare < PHYSICAL_PAGES → All (λ e. IsBeside spare e.0 × (e.0 ≡ a → e.1 ≡ w)) beside → Contains beside (a, w)
-    → GivesWord (loaded beside m) a w
+    → HasWord (loaded beside m) a w
 beside_given beside pages spare m a w mapped fits all c = given_beside here.1
   where
     here : IsBeside spare a
     here = (All-contains (λ (e : ℕ × ℕ). IsBeside spare e.0 × (e.0 ≡ a → e.1 ≡ w)) beside (a, w) all c).0
 
-    given_beside : (page_of a ≡ physical_page spare) ⊎ ((0x3400000 ≤ a) × (a < 0x4000000)) → GivesWord (loaded beside m) a w
+    given_beside : (page_of a ≡ physical_page spare) ⊎ ((0x3400000 ≤ a) × (a < 0x4000000)) → HasWord (loaded beside m) a w
     given_beside (inl s) =
         let high : 0x2000000 ≤ a = omega (arith, s) in
         let below : a < 0x2400000 = omega (arith, s, fits) in

@@ -6,11 +6,11 @@ use Rattle.std.proofs.lemmas.Bool.{cases_lt, cases_eq, ne_eqb, or_from}
 use Rattle.std.proofs.lemmas.Bool.Decides.{nat_tests}
 use Rattle.loader.specs.Image.{Words, begins, may_hold, runs_after, runs_of, with_word, word_of}
 use Rattle.loader.specs.ImageBytes.{Segment, overlaps, with_words}
-use Rattle.loader.specs.Inside.{Ascends, MayStand}
+use Rattle.loader.specs.Inside.{Ascends, AreAllowed}
 use Rattle.loader.specs.Spelling.{AreNumbers, CanFollow}
 use Rattle.loader.proofs.GapLemmas.{none_above}
 use Rattle.loader.proofs.SegmentLemmas.{CanStand, free_from, word_of_apart, word_of_here}
-use Rattle.loader.proofs.WordLemmas.{Ascends-with_word, MayStand-with_word, Quads, absent_first, absent_rest, above, begins_new, has, length_with_word, quads, runs_of-with_word}
+use Rattle.loader.proofs.WordLemmas.{Ascends-with_word, AreAllowed-with_word, Quads, absent_first, absent_rest, above, begins_new, has, length_with_word, quads, runs_of-with_word}
 use Rattle.loader.proofs.PlaceLemmas.{lies_in, lies_one, may_parts, may_within}
 use Rattle.loader.proofs.WrittenLemmas.{no_fault}
 
@@ -19,7 +19,7 @@ use Rattle.loader.proofs.WrittenLemmas.{no_fault}
 -- words that more of them are put after
 pub record IsGrown (old new : Words) (more runs : ℕ) : Type 0 where
   pub ascends : Ascends new
-  pub may_stand : MayStand new
+  pub allowed : AreAllowed new
   pub long : length new ≡ length old + more
   pub few : runs_of new ≤ runs_of old + runs
 
@@ -38,9 +38,9 @@ has_put words a w none =
     subst (λ (b : ℕ). has (with_word words a w) b ≡ 1) back (ap (λ o. cond {A = ℕ} (is_some o) 1 0) (word_of_here words a w none))
 
 -- of the words of a segment, only the first may begin a run: not where a word is before it
-grown_from : (words : Words) (a runs : ℕ) (ws : List ℕ) → a % 4 ≡ 0 → Ascends words → MayStand words → 1 ≤ has words (a - 4) + runs
+grown_from : (words : Words) (a runs : ℕ) (ws : List ℕ) → a % 4 ≡ 0 → Ascends words → AreAllowed words → 1 ≤ has words (a - 4) + runs
     → IsFree words a (a + 4 * length ws) → MayHold a (a + 4 * length ws) → IsGrown words (with_words words a ws) (length ws) runs
-grown_from words a runs [] a4 up stand before free may = record { ascends = up; may_stand = stand; long = omega arith; few = omega arith }
+grown_from words a runs [] a4 up stand before free may = record { ascends = up; allowed = stand; long = omega arith; few = omega arith }
 grown_from words a runs (w ∷ ws) a4 up stand before free may =
     let none : word_of words a ≡ None = free a (omega arith) (omega arith) in
     let here : IsTrue (may_hold a) = may a (omega arith) (omega arith) a4 in
@@ -49,11 +49,11 @@ grown_from words a runs (w ∷ ws) a4 up stand before free may =
     let counted = runs_of-with_word words a w a4 (quads words stand) up none in
     let longer = length_with_word words a w in
     let put : has new (a + 4 - 4) ≡ 1 = has_put words a w none in
-    let more = grown_from new (a + 4) 0 ws (omega (arith, a4)) (Ascends-with_word words a w up none) (MayStand-with_word words a w stand here) (omega (arith, put))
+    let more = grown_from new (a + 4) 0 ws (omega (arith, a4)) (Ascends-with_word words a w up none) (AreAllowed-with_word words a w stand here) (omega (arith, put))
     (subst (λ (to : ℕ). IsFree new (a + 4) to) same (still_free words a w (a + 4 * suc (length ws)) free)) (λ b low high b4. may b (omega (arith, low)) (omega (arith, high)) b4) in
     let long = more.long in
     let few = more.few in
-    record { ascends = more.ascends; may_stand = more.may_stand; long = omega (arith, long, longer); few = omega (arith, few, counted, before) }
+    record { ascends = more.ascends; allowed = more.allowed; long = omega (arith, long, longer); few = omega (arith, few, counted, before) }
 
 may_hold_all : (words : Words) (a n : ℕ) → CanStand words a n → MayHold a (a + 4 * n)
 may_hold_all words a n can = λ b low high b4.
@@ -61,7 +61,7 @@ may_hold_all words a n can = λ b low high b4.
     may_within a (a + 4 * n) b (lies_in a (a + 4 * n) can.lies) b4 low (omega (arith, a4, b4, high))
 
 -- a segment that fits begins at most one run
-pub grown : (words : Words) (a : ℕ) (ws : List ℕ) → CanStand words a (length ws) → Ascends words → MayStand words → IsGrown words (with_words words a ws) (length ws) 1
+pub grown : (words : Words) (a : ℕ) (ws : List ℕ) → CanStand words a (length ws) → Ascends words → AreAllowed words → IsGrown words (with_words words a ws) (length ws) 1
 grown words a ws can up stand =
     grown_from words a 1 ws can.aligned up stand (omega arith)
     (λ b low high. free_from words a (length ws) b can.apart low high) (may_hold_all words a (length ws) can)
@@ -145,7 +145,7 @@ apart_one (e ∷ rest) a q a4 none =
     outside : (b c : ℕ) → b % 4 ≡ 0 → c % 4 ≡ 0 → b ≢ c → (nat_le c b && nat_lt b (c + 4 * 1)) ≡ false
     outside b c b4 c4 other = grind (arith, nat_tests, b4, c4, other)
 
-pub one_stands : (words : Words) (a : ℕ) → MayStand words → length words + 1 ≤ 65536 → IsTrue (may_hold a) → word_of words a ≡ None → CanStand words a 1
+pub one_stands : (words : Words) (a : ℕ) → AreAllowed words → length words + 1 ≤ 65536 → IsTrue (may_hold a) → word_of words a ≡ None → CanStand words a 1
 one_stands words a stand short may none =
     let a4 = (may_parts a may).0 in
     record {
@@ -162,14 +162,14 @@ low_holds a a4 low = grind (arith, nat_tests, a4, low)
 -- words after which so many segments fit
 pub record HasRoom (left : ℕ) (words : Words) : Type 0 where
   pub ascends : Ascends words
-  pub may_stand : MayStand words
+  pub allowed : AreAllowed words
   pub runs : runs_of words + left ≤ 16
 
 pub room_after : (left : ℕ) (words new : Words) (n : ℕ) → HasRoom (suc left) words → IsGrown words new n 1 → HasRoom left new
 room_after left words new n room more =
     let runs = room.runs in
     let few = more.few in
-    record { ascends = more.ascends; may_stand = more.may_stand; runs = omega (arith, runs, few) }
+    record { ascends = more.ascends; allowed = more.allowed; runs = omega (arith, runs, few) }
 
 -- segments that fit after words
 pub record Fill (left : ℕ) (before : Words) : Type 0 where
@@ -195,7 +195,7 @@ fill (suc left) before room short =
     let a = 0 + 65536 * m in
     let bound = free.2 in
     let a4 : a % 4 ≡ 0 = omega arith in
-    let can = one_stands before a room.may_stand (omega (arith, short)) (low_holds a a4 (omega (arith, bound))) free.1 in
-    let more = grown before a (0 ∷ []) can room.ascends room.may_stand in
+    let can = one_stands before a room.allowed (omega (arith, short)) (low_holds a a4 (omega (arith, bound))) free.1 in
+    let more = grown before a (0 ∷ []) can room.ascends room.allowed in
     let long = more.long in
     filled left before a can (fill left (with_words before a (0 ∷ [])) (room_after left before _ 1 room more) (omega (arith, long, short)))

@@ -122,7 +122,7 @@ runs_next old now address count next w bytes can lt whole partly =
     let aligned = can.aligned in
     let even : a % 4 ≡ 0 = omega (arith, aligned) in
     let free = partly.free a (omega arith) (omega (arith, lt)) in
-    let more = runs_of-with_word now a w even (quads now whole.may_stand) whole.ascends free in
+    let more = runs_of-with_word now a w even (quads now whole.allowed) whole.ascends free in
     elim (cases_lt 0 next) [
       | inl some ↦
           let before : has now (a - 4) ≡ 1 = ap (λ (b : Bool). cond {A = ℕ} b 1 0) (partly.last some) in

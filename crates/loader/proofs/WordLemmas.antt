@@ -6,7 +6,7 @@ use Rattle.std.proofs.lemmas.Bool.{cases_lt, cases_eq, le-ltb, lt-ltb, ltb-false
 use Rattle.std.proofs.lemmas.Bool.Decides.{nat_tests}
 use mir.Val.{bool_byte}
 use Rattle.loader.specs.Image.{Words, begins, may_hold, put_fault, runs_after, runs_of, with_word, word_of}
-use Rattle.loader.specs.Inside.{Ascends, MayStand}
+use Rattle.loader.specs.Inside.{Ascends, AreAllowed}
 use Rattle.loader.specs.declared.image.ImageFault.{ImageFault}
 use Rattle.loader.specs.declared.image.ImageFault.TheVariants.{OutOfRange, TooLong}
 
@@ -56,11 +56,11 @@ Ascends-with_word (e ∷ rest) a w up none = elim (cases_lt a e.0) [
       rw (le-ltb a e.0 le) (all_with_word (λ f. e.0 < f.0) rest a w up.0 lt, Ascends-with_word rest a w up.1 (absent_rest e rest a none))
 ]
 
-pub MayStand-with_word : (words : Words) (a w : ℕ) → MayStand words → IsTrue (may_hold a) → MayStand (with_word words a w)
-MayStand-with_word words a w all here = all_with_word (λ e. IsTrue (may_hold e.0)) words a w all here
+pub AreAllowed-with_word : (words : Words) (a w : ℕ) → AreAllowed words → IsTrue (may_hold a) → AreAllowed (with_word words a w)
+AreAllowed-with_word words a w all here = all_with_word (λ e. IsTrue (may_hold e.0)) words a w all here
 
 -- a word is where one may be
-pub held : (words : Words) (a : ℕ) → MayStand words → IsSome (word_of words a) → IsTrue (may_hold a)
+pub held : (words : Words) (a : ℕ) → AreAllowed words → IsSome (word_of words a) → IsTrue (may_hold a)
 held [] a all some = absurd (cc)
 held (e ∷ rest) a all some = elim (cases_eq e.0 a) [
   | inl same ↦ subst (λ x. IsTrue (may_hold x)) same all.0
@@ -187,7 +187,7 @@ runs_of-with_word (e ∷ rest) a w a4 q up none = elim (cases_lt a e.0) [
 pub quad : (a : ℕ) → IsTrue (may_hold a) → a % 4 ≡ 0
 quad a may = grind (arith, nat_tests)
 
-pub quads : (words : Words) → MayStand words → Quads words
+pub quads : (words : Words) → AreAllowed words → Quads words
 quads [] all = tt
 quads (e ∷ rest) all = (quad e.0 all.0, quads rest all.1)
 

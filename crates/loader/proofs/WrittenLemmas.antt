@@ -7,7 +7,7 @@ use Rattle.std.proofs.lemmas.Bool.Decides.{nat_tests}
 use Rattle.std.proofs.lemmas.List.{append-nil}
 use Rattle.loader.specs.Image.{Words, may_hold, with_word}
 use Rattle.loader.specs.ImageBytes.{Segment, joined, overlaps, segment_fault, segments_of, with_words}
-use Rattle.loader.specs.Inside.{AreWhole, Ascends, MayStand}
+use Rattle.loader.specs.Inside.{AreWhole, Ascends, AreAllowed}
 use Rattle.loader.specs.Spelling.{AreNumbers, CanFollow, Spell, with_segments}
 use Rattle.loader.proofs.RunLemmas as runs
 use Rattle.loader.proofs.PlaceLemmas.{Lies, lies_in, lies_more, lies_one, may_parts}
@@ -80,7 +80,7 @@ words_last before a (w ∷ ws) all =
 
 -- ## Where a run lies
 
-run_lies : (a w : ℕ) (ws : List ℕ) → MayStand (entries_from a (w ∷ ws)) → Lies a (a + 4 * suc (length ws))
+run_lies : (a w : ℕ) (ws : List ℕ) → AreAllowed (entries_from a (w ∷ ws)) → Lies a (a + 4 * suc (length ws))
 run_lies a w [] all = lies_one a all.0
 run_lies a w (v ∷ ws) all =
     let to : a + 4 + 4 * suc (length ws) ≡ a + 4 * suc (suc (length ws)) = omega arith in
@@ -100,7 +100,7 @@ no_fault words a n can =
 
 -- ## One segment, and all
 
-one_follows : (before more : Words) (a : ℕ) (ws : List ℕ) → 0 < length ws → Ascends (before ++ (entries_from a ws ++ more)) → MayStand (before ++ (entries_from a ws ++ more))
+one_follows : (before more : Words) (a : ℕ) (ws : List ℕ) → 0 < length ws → Ascends (before ++ (entries_from a ws ++ more)) → AreAllowed (before ++ (entries_from a ws ++ more))
     → length (before ++ (entries_from a ws ++ more)) ≤ 65536 → (segment_fault before a (length ws) ≡ None) × (with_words before a ws ≡ before ++ entries_from a ws)
 one_follows before more a [] some up may few = absurd (omega (arith, some))
 one_follows before more a (w ∷ ws) some up may few =
@@ -123,14 +123,14 @@ one_follows before more a (w ∷ ws) some up may few =
     length_entries b [] = refl
     length_entries b (v ∷ vs) = ap suc (length_entries (b + 4) vs)
 
-follow_on : (segments : List Segment) (before : Words) → AllByRecursion IsFull segments → Ascends (before ++ entries segments) → MayStand (before ++ entries segments)
+follow_on : (segments : List Segment) (before : Words) → AllByRecursion IsFull segments → Ascends (before ++ entries segments) → AreAllowed (before ++ entries segments)
     → length (before ++ entries segments) ≤ 65536 → CanFollow before segments × (with_segments before segments ≡ before ++ entries segments)
 follow_on [] before full up may few = (tt, sym (append-nil before))
 follow_on (s ∷ rest) before full up may few =
     let run = entries_from s.address s.words in
     let one = one_follows before (entries rest) s.address s.words full.0.0 up may few in
     let same : before ++ (run ++ entries rest) ≡ (before ++ run) ++ entries rest = sym (append_assoc before run (entries rest)) in
-    let others = follow_on rest (before ++ run) full.1 (subst Ascends same up) (subst MayStand same may) (subst (λ (ws : Words). length ws ≤ 65536) same few) in
+    let others = follow_on rest (before ++ run) full.1 (subst Ascends same up) (subst AreAllowed same may) (subst (λ (ws : Words). length ws ≤ 65536) same few) in
     ((one.0, subst (λ (b : Words). CanFollow b rest) (sym one.1) others.0), ap (λ (b : Words). with_segments b rest) one.1 ∙ others.1 ∙ append_assoc before run (entries rest))
 
 -- the maximal runs of an image's words spell it
@@ -140,5 +140,5 @@ segments_spell words whole =
     let full = full_segments words whole.numbers in
     let count = runs.counted words in
     let few = whole.few_runs in
-    let all = follow_on (segments_of words) [] full (subst Ascends (sym same) whole.ascends) (subst MayStand (sym same) whole.may_stand) (subst (λ (ws : Words). length ws ≤ 65536) (sym same) whole.few_words) in
+    let all = follow_on (segments_of words) [] full (subst Ascends (sym same) whole.ascends) (subst AreAllowed (sym same) whole.allowed) (subst (λ (ws : Words). length ws ≤ 65536) (sym same) whole.few_words) in
     record { few = omega (arith, count, few); numbers = numbers_of (segments_of words) full; follow = all.0; words_are = sym (all.1 ∙ same) }

@@ -17,8 +17,8 @@ Ascends [] = Unit {0}
 Ascends (e ∷ rest) = AllByRecursion (λ f. e.0 < f.0) rest × Ascends rest
 
 -- each word is where one may be
-abbrev pub MayStand : Words → Type 0
-MayStand words = AllByRecursion (λ e. IsTrue (may_hold e.0)) words
+abbrev pub AreAllowed : Words → Type 0
+AreAllowed words = AllByRecursion (λ e. IsTrue (may_hold e.0)) words
 
 -- words of 32 bits
 abbrev pub HasNumbers : Words → Type 0
@@ -26,7 +26,7 @@ HasNumbers words = AllByRecursion (λ e. e.1 < 2 ^ 32) words
 
 pub record IsImage (image : Inside) : Type 0 where
   pub ascends : Ascends (words_in image)
-  pub may_stand : MayStand (words_in image)
+  pub allowed : AreAllowed (words_in image)
   pub numbers : HasNumbers (words_in image)
   pub counted : image.runs ≡ runs_of (words_in image)
   pub few_runs : image.runs ≤ MOST_SEGMENTS
@@ -35,7 +35,7 @@ pub record IsImage (image : Inside) : Type 0 where
 -- what every image keeps, by its words alone
 pub record AreWhole (words : Words) : Type 0 where
   pub ascends : Ascends words
-  pub may_stand : MayStand words
+  pub allowed : AreAllowed words
   pub numbers : HasNumbers words
   pub few_runs : runs_of words ≤ MOST_SEGMENTS
   pub few_words : length words ≤ MOST_WORDS

@@ -66,7 +66,7 @@ put_at (Ok (Ram place)) word m = stored (Ram place) word m
 put_at _ word m = m
 
 -- a privileged load of the address returns the word
-pub record GivesWord (m : Memory) (address word : ℕ) : Type 0 where
+pub record HasWord (m : Memory) (address word : ℕ) : Type 0 where
   pub spot : Spot
   pub leads : spot_of m address ≡ Ok spot
-  pub gives : word_at m spot ≡ word
+  pub has : word_at m spot ≡ word

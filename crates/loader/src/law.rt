@@ -3,7 +3,7 @@ ghost use Rattle.std.specs.List.{Contains};
 ghost use Rattle.loader.specs.Image.{Words, word_of};
 ghost use Rattle.loader.specs.ImageBytes.{Segment, image_bytes, image_read};
 ghost use Rattle.loader.specs.Inside.{AreWhole};
-ghost use Rattle.loader.specs.Loading.{GivesWord, lacks_page, loaded};
+ghost use Rattle.loader.specs.Loading.{HasWord, lacks_page, loaded};
 ghost use Rattle.loader.specs.PagePlan.{IsPagePlan};
 ghost use Rattle.loader.specs.Planned.{AreOf, IsBeside, IsFitted, IsMapped};
 ghost use Rattle.loader.specs.Spelling.{AreImage, BeginImage, PassImage, Spell};
@@ -68,16 +68,16 @@ pub fn planned_words_are_loaded()
         → IsMapped pages (loaded words m) }
     ensures image { (image words : Words) → (pages : List PlacedPage) → (spare : ℕ) → (m : Memory)
         → (a w : ℕ) → AreWhole image → IsPagePlan image pages spare → IsMapped pages m
-        → AreOf image words → Contains words (a, w) → IsFitted a → GivesWord (loaded words m) a w }
+        → AreOf image words → Contains words (a, w) → IsFitted a → HasWord (loaded words m) a w }
     ensures fits { (image words : Words) → (pages : List PlacedPage) → (spare : ℕ) → (m : Memory)
         → AreWhole image → IsPagePlan image pages spare → IsMapped pages m → AreOf image words
         → (lacks_page m words ≡ false) ↔ All (λ e. IsFitted e.0) words }
     ensures stays { (image beside : Words) → (pages : List PlacedPage) → (spare : ℕ) → (m : Memory)
         → (a w : ℕ) → AreWhole image → IsPagePlan image pages spare → IsMapped pages m
-        → IsSome (word_of image a) → GivesWord m a w
-        → All (λ e. IsBeside spare e.0 × (e.0 ≢ a)) beside → GivesWord (loaded beside m) a w }
+        → IsSome (word_of image a) → HasWord m a w
+        → All (λ e. IsBeside spare e.0 × (e.0 ≢ a)) beside → HasWord (loaded beside m) a w }
     ensures beside { (beside : Words) → (pages : List PlacedPage) → (spare : ℕ) → (m : Memory) → (a w : ℕ)
         → IsMapped pages m → spare < PHYSICAL_PAGES
         → All (λ e. IsBeside spare e.0 × (e.0 ≡ a → e.1 ≡ w)) beside
-        → Contains beside (a, w) → GivesWord (loaded beside m) a w }
+        → Contains beside (a, w) → HasWord (loaded beside m) a w }
 {}

@@ -104,17 +104,17 @@ impl Head {
 }
 
 // Whether there is a word from an address up to another.
-fn stand_in(words: &[Entry], from: u32, to: u32) -> bool
+fn lie_in(words: &[Entry], from: u32, to: u32) -> bool
     ensures { result ≡ list_any (λ e. nat_le from e.0 && nat_lt e.0 to) words.now }
 {
     words.iter().any(|entry| from <= entry.0 && entry.0 < to)
 }
 
-fn above_stand_in(words: &VecDeque<Entry>, from: u32, to: u32) -> bool
+fn above_lie_in(words: &VecDeque<Entry>, from: u32, to: u32) -> bool
     ensures { result ≡ list_any (λ e. nat_le from e.0 && nat_lt e.0 to) words.now.items }
 {
     let (front, back) = words.as_slices();
-    stand_in(front, from, to) || stand_in(back, from, to)
+    lie_in(front, from, to) || lie_in(back, from, to)
 }
 
 impl Image {
@@ -125,7 +125,7 @@ impl Image {
     {
         let end = address + 4 * count;
         // An image has few segments, so each may look at all words.
-        stand_in(&self.below, address, end) || above_stand_in(&self.above, address, end)
+        lie_in(&self.below, address, end) || above_lie_in(&self.above, address, end)
     }
 
     // Why a segment cannot come after the words of the earlier ones.

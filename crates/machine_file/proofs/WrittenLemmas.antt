@@ -21,7 +21,7 @@ use Rattle.machine_file.specs.MachineFile.{IsMachineFile, has, is_letter, is_map
 use Rattle.machine_file.specs.MachineRules.{AreFlags, AreRegisters, IsAddress, IsEvent, IsPage, IsPutWord, IsSize, IsPutAddress, StatesMachine}
 use Rattle.machine_file.specs.Words.{IsWord}
 use Rattle.machine_file.specs.Names.{file_keys, map_keys, name_of, named_mode, named_registers, register_keys, word_keys}
-use Rattle.machine_file.specs.Parts.{AreWords, IsInRange, StandsOnce}
+use Rattle.machine_file.specs.Parts.{AreWords, IsInRange, HasNoneTwice}
 use Rattle.machine_file.specs.Stated.{Stated}
 use Rattle.machine_file.specs.Written.{Row, controller_rows, document_of, file_rows, letters_of, listed, mode_name, number, page_data, page_rows, register_row, register_table, schedule_rows, table_of, tabled, unless_zero, word_data, word_list_rows, word_rows}
 use Rattle.machine_file.specs.declared.flags.PsrFlags.{PsrFlags}
@@ -240,7 +240,7 @@ module _ {A : Type 0} (States : Data → A → Type 0) (data_of : A → Data) (k
 
 -- ## The file
 
-module _ (s : Stated) (none : s.schedule.events ≡ []) (range : IsInRange s) (once : StandsOnce s) (words : AreWords s) (small : All (λ w. w.1 < 2 ^ 32) s.words) where
+module _ (s : Stated) (none : s.schedule.events ≡ []) (range : IsInRange s) (once : HasNoneTwice s) (words : AreWords s) (small : All (λ w. w.1 < 2 ^ 32) s.words) where
   abbrev ms : Members
   ms = document_of s
 
@@ -332,7 +332,7 @@ document_depth s =
 
 pub text_reads : (text : List ℕ) (s : Stated) → IsUtf8 text
     → (members_depth (document_of s) ≤ 80 → parse_document text ≡ Some (document_of s))
-    → s.schedule.events ≡ [] → IsInRange s → StandsOnce s → AreWords s → All (λ w. w.1 < 2 ^ 32) s.words → IsMachineFile text (Ok s)
+    → s.schedule.events ≡ [] → IsInRange s → HasNoneTwice s → AreWords s → All (λ w. w.1 < 2 ^ 32) s.words → IsMachineFile text (Ok s)
 text_reads text s utf8 parsed none range once words small =
     inl (
       document_of s,

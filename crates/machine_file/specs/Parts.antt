@@ -43,15 +43,15 @@ pub record IsInRange (s : Stated) : Type 0 where
   pub held : All (λ w. IsTrue (may_hold w.0)) s.words
 
 -- no page and no word appears twice
-pub record StandsOnce (s : Stated) : Type 0 where
+pub record HasNoneTwice (s : Stated) : Type 0 where
   pub pages_once : are_single s.controller.pages ≡ true
   pub words_once : are_distinct (keys_of s.words) ≡ true
 
 -- the answer to what parts state, but for lack of memory
 pub record IsBuilt (s : Stated) (answer : Read Stated) : Type 0 where
-  pub file : IsInRange s → StandsOnce s → answer ≡ Ok s
+  pub file : IsInRange s → HasNoneTwice s → answer ≡ Ok s
   pub out_of_range : ¬ IsInRange s → answer ≡ Err OutOfRange
-  pub twice : IsInRange s → ¬ StandsOnce s → answer ≡ Err Twice
+  pub twice : IsInRange s → ¬ HasNoneTwice s → answer ≡ Err Twice
 
 -- what every machine file has: 26 registers, and registers and port of 32 bits
 pub record AreWords (s : Stated) : Type 0 where

@@ -1,7 +1,7 @@
 ghost use Rattle.std.specs.Prelude.{◌≡◌, ◌≢◌, ◌≤◌, ◌↔◌, All, Err, IfOk, IsTrue};
 ghost use Rattle.loader.specs.Image.{may_hold};
 ghost use Rattle.bus_ticks.specs.Prices.{is_word_address};
-ghost use Rattle.machine_file.specs.Parts.{IsBuilt, IsInRange, StandsOnce, stated_by};
+ghost use Rattle.machine_file.specs.Parts.{IsBuilt, IsInRange, HasNoneTwice, stated_by};
 
 use crate::events::{MOST_STEPS, Schedule};
 use crate::flags::PsrFlags;
@@ -89,8 +89,8 @@ fn are_in_range(parts: &MachineParts) -> bool
     are_held(&parts.words)
 }
 
-fn stand_once(alloc: Global, parts: &MachineParts) -> Result<bool, AllocError>
-    ensures { IfOk result (λ test. IsTrue test ↔ StandsOnce (stated_by parts.now)) }
+fn has_none_twice(alloc: Global, parts: &MachineParts) -> Result<bool, AllocError>
+    ensures { IfOk result (λ test. IsTrue test ↔ HasNoneTwice (stated_by parts.now)) }
 {
     let pages = are_single(alloc, &parts.controller.pages)?;
     let words = have_own_addresses(alloc, &parts.words)?;
@@ -114,7 +114,7 @@ fn processor(alloc: Global, parts: ProcessorParts) -> Result<Processor, AllocErr
 
 fn built(alloc: Global, parts: MachineParts) -> Result<MachineFile, AllocError>
     requires in_range { IsInRange (stated_by parts) }
-    requires once { StandsOnce (stated_by parts) }
+    requires once { HasNoneTwice (stated_by parts) }
     ensures { IfOk result (λ file. file ≡ stated_by parts) }
 {
     let MachineParts {
@@ -158,7 +158,7 @@ impl MachineFile {
         if !are_in_range(&parts) {
             return Err(MachineFileFault::OutOfRange);
         }
-        if !stand_once(alloc, &parts)? {
+        if !has_none_twice(alloc, &parts)? {
             return Err(MachineFileFault::Twice);
         }
         Ok(built(alloc, parts)?)

@@ -6,7 +6,7 @@ ghost use Rattle.memc.specs.Memory.{shift_of_size};
 ghost use Rattle.toml_reading.specs.Documents.{are_distinct};
 ghost use Rattle.bus_ticks.specs.Prices.{is_word_address};
 ghost use Rattle.machine_file.specs.MachineFile.{are_single, is_mappable};
-ghost use Rattle.machine_file.specs.Parts.{AreWords, IsInRange, StandsOnce};
+ghost use Rattle.machine_file.specs.Parts.{AreWords, IsInRange, HasNoneTwice};
 
 use crate::events::{MOST_STEPS, Schedule};
 use crate::machine_files::MachineFile;
@@ -64,7 +64,7 @@ fn is_bank(bank: &Bank)
 /// Every machine file keeps the rules of its parts. It does nothing.
 pub(crate) fn keeps_rules(file: &MachineFile)
     ensures in_range { IsInRange file.now }
-    ensures once { StandsOnce file.now }
+    ensures once { HasNoneTwice file.now }
     ensures words { AreWords file.now }
 {
     starts_at_word(&file.processor.pc);

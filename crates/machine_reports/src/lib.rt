@@ -13,5 +13,5 @@ pub use assembly::{Written, asm_report, image_written};
 pub use debug::debug_report;
 pub use handler_graph::{HandlerGraph, read_graph};
 pub use list::list_report;
-pub use machine::{Front, Registers, Steps, machine_report, run_report, trace_report};
+pub use machine::{Front, ShownRegisters, ShownSteps, machine_report, run_report, trace_report};
 pub use tight::tight_report;

@@ -51,9 +51,9 @@ pub trait Front {
 }
 
 /// The registers in which the run ends.
-pub struct Registers;
+pub struct ShownRegisters;
 
-impl Front for Registers {
+impl Front for ShownRegisters {
     ghost shows = { ShowsRegisters };
 
     fn write_front(
@@ -68,9 +68,9 @@ impl Front for Registers {
 }
 
 /// A line for each step.
-pub struct Steps;
+pub struct ShownSteps;
 
-impl Front for Steps {
+impl Front for ShownSteps {
     ghost shows = { ShowsSteps };
 
     fn write_front(
@@ -165,7 +165,7 @@ pub fn run_report<O: Output>(
         (λ p. ReportsRun ShowsRegisters O.taken O.failures source.now machine.now p out.old out.new result)
         out.old out.new result }
 {
-    machine_report::<Registers, O>(alloc, source, machine, profile, out)
+    machine_report::<ShownRegisters, O>(alloc, source, machine, profile, out)
 }
 
 /// Runs the machine as [`run_report`] does, and writes the line of each step (the instruction's address,
@@ -185,5 +185,5 @@ pub fn trace_report<O: Output>(
         (λ p. ReportsRun ShowsSteps O.taken O.failures source.now machine.now p out.old out.new result)
         out.old out.new result }
 {
-    machine_report::<Steps, O>(alloc, source, machine, profile, out)
+    machine_report::<ShownSteps, O>(alloc, source, machine, profile, out)
 }

@@ -10,7 +10,7 @@ use Rattle.toml.specs.Data.{Data, Members, as_integer, get_member}
 use Rattle.bus_ticks.specs.declared.profile.Class.{Class}
 use Rattle.walks.specs.declared.limits.TheConstants.{MOST_ROUNDS}
 use Rattle.toml_reading.specs.Documents.{are_distinct, items_at, listed_up_to, number_in, once}
-use Rattle.toml_reading.specs.Lists.{StandsTwice}
+use Rattle.toml_reading.specs.Lists.{HasRepeat}
 use Rattle.toml_reading.specs.Lowest.{AtKey, IsNamed, IsNumber, IsOutside, NameFault, NumberFault}
 use Rattle.toml_reading.specs.Readings.{Reading, and_then, both, required}
 use Rattle.toml_reading.proofs.Following.{few_judged, stated_or_faulty, test_judged, then_judged, widened_judged}
@@ -271,7 +271,7 @@ module _ (names : Names) where
   SomeFault o f =
       (IsSomeAnd o (λ ds. ds ≡ []) × (f ≡ WrongKind))
       ⊎ MatchOption o (f ≡ WrongKind) (λ ds. ReadFault ds f)
-      ⊎ (IsSomeAnd o (StandsTwice (IsAddress names)) × (f ≡ Twice))
+      ⊎ (IsSomeAnd o (HasRepeat (IsAddress names)) × (f ≡ Twice))
 
   none_judged :
       (ds : List Data)
@@ -318,7 +318,7 @@ module _ (names : Names) where
   -- addresses of which one occurs twice are reported, or a fault of theirs, which is no higher
   twice_under :
       (ds : List Data) (f : StatementFault)
-      → StandsTwice (IsAddress names) ds × (f ≡ Twice)
+      → HasRepeat (IsAddress names) ds × (f ≡ Twice)
       → (g : StatementFault)
       × (ReadFault ds g ⊎ ((c : List ℕ) × AreRead ds c × ((are_distinct c ≢ true) × (g ≡ Twice))))
       × (number_of g ≤ number_of f)
@@ -342,7 +342,7 @@ module _ (names : Names) where
       statement_faults
       (λ to. (c : List ℕ) × AreRead ds c × ((are_distinct c ≡ true) × (to ≡ c)))
       (AreSome (Some ds))
-      (λ f. ReadFault ds f ⊎ (StandsTwice (IsAddress names) ds × (f ≡ Twice)))
+      (λ f. ReadFault ds f ⊎ (HasRepeat (IsAddress names) ds × (f ≡ Twice)))
       (SomeFault (Some ds))
       (λ to. (
         λ u. (subst (AreRead ds) (sym u.2.1) u.1, λ e. ne (zip_empty ds u.0 (sym u.2.1 ∙ e) u.1.1), ap are_distinct u.2.1 ∙ u.2.0),
@@ -350,7 +350,7 @@ module _ (names : Names) where
       ))
       (λ f. (λ y. inr y, λ y. elim y [ inl z ↦ absurd (ne z.0) | inr y' ↦ y' ]))
       (and_then (listed_up_to statement_faults 64 (address_at names) ds) (once Twice (λ ns. ns)))
-      (widened_judged statement_faults _ (ReadFault ds) (λ f. (c : List ℕ) × AreRead ds c × ((are_distinct c ≢ true) × (f ≡ Twice))) (λ f. StandsTwice (IsAddress names) ds × (f ≡ Twice)) (λ f u. ((not_distinct (IsAddress names) (one_address names) ds u.0 u.1.1).0 (false_from_ne_true (are_distinct u.0) u.2.0), u.2.1)) (twice_under ds) (and_then (listed_up_to statement_faults 64 (address_at names) ds) (once Twice (λ ns. ns))) (once_judged ds))
+      (widened_judged statement_faults _ (ReadFault ds) (λ f. (c : List ℕ) × AreRead ds c × ((are_distinct c ≢ true) × (f ≡ Twice))) (λ f. HasRepeat (IsAddress names) ds × (f ≡ Twice)) (λ f u. ((not_distinct (IsAddress names) (one_address names) ds u.0 u.1.1).0 (false_from_ne_true (are_distinct u.0) u.2.0), u.2.1)) (twice_under ds) (and_then (listed_up_to statement_faults 64 (address_at names) ds) (once Twice (λ ns. ns))) (once_judged ds))
 
   by_length :
       (ds : List Data) (b : Bool)

@@ -7,7 +7,7 @@ use Rattle.bus_ticks.specs.declared.profile.Class.{Class}
 use Rattle.bus_ticks.specs.declared.profile.Class.TheVariants.{Any}
 use Rattle.walks.specs.declared.limits.TheConstants.{MOST_ROUNDS}
 use Rattle.toml_reading.specs.Documents.{are_distinct, has_only_keys, items_at}
-use Rattle.toml_reading.specs.Lists.{IsListUpTo, ListUpToFault, StandsTwice}
+use Rattle.toml_reading.specs.Lists.{IsListUpTo, ListUpToFault, HasRepeat}
 use Rattle.bus_ticks.specs.Prices.{is_word_address}
 use Rattle.toml_reading.specs.Lowest.{AtKey, AtKeyOr, IsNamed, IsNoAddress, IsNumber, IsTable}
 use Rattle.toml_reading.specs.Lowest.{KeysFault, NameFault, NumberFault, TableFault}
@@ -94,7 +94,7 @@ module _ (names : Names) where
   DestinationsFault d fault =
       (IsSomeAnd (items_at d) (λ ds. ds ≡ []) × (fault ≡ WrongKind))
       ⊎ ListUpToFault statement_faults 64 (AddressFault names) d fault
-      ⊎ (IsSomeAnd (items_at d) (StandsTwice (IsAddress names)) × (fault ≡ Twice))
+      ⊎ (IsSomeAnd (items_at d) (HasRepeat (IsAddress names)) × (fault ≡ Twice))
 
   -- a jump and a call have destinations, and a return and a leave have none
   abbrev pub GoesTo : TargetKind → Option Data → List ℕ → Type 0
@@ -178,7 +178,7 @@ module _ (names : Names) where
 
   -- two entries of the list at that key are of one address
   abbrev pub HasTwo : List ℕ → Members → Type 0
-  HasTwo key ms = AtKey key ms (λ d. IsSomeAnd (items_at d) (StandsTwice IsAt))
+  HasTwo key ms = AtKey key ms (λ d. IsSomeAnd (items_at d) (HasRepeat IsAt))
 
   -- the faults of its keys, and two targets or two accesses of one address
   abbrev pub PartsFault : Members → StatementFault → Type 0

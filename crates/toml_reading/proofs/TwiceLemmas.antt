@@ -6,7 +6,7 @@ use Rattle.std.proofs.Math.Bool.{and-false, or-true}
 use Rattle.std.proofs.lemmas.Bool.{cases_Bool, eq-eqb, eqb-true, false≢true, true≢false}
 use Rattle.toml.specs.Data.{Data}
 use Rattle.toml_reading.specs.Documents.{are_distinct, items_at}
-use Rattle.toml_reading.specs.Lists.{IsListUpTo, StandsTwice}
+use Rattle.toml_reading.specs.Lists.{IsListUpTo, HasRepeat}
 use Rattle.toml_reading.proofs.LowestParts.{any_cases, any_first, any_later, any_none}
 
 module _ (Is : Data → ℕ → Type 0) (one : (d : Data) (n m : ℕ) → Is d n → Is d m → n ≡ m) where
@@ -36,7 +36,7 @@ module _ (Is : Data → ℕ → Type 0) (one : (d : Data) (n m : ℕ) → Is d n
     | inr later ↦ rw (listed ds ns k z.1 later) (or-true (eqb k n))
   ]
 
-  repeated : (ds : List Data) (ns : List ℕ) → AllZip Is ds ns → StandsTwice Is ds → are_distinct ns ≡ false
+  repeated : (ds : List Data) (ns : List ℕ) → AllZip Is ds ns → HasRepeat Is ds → are_distinct ns ≡ false
   repeated [] [] z h = absurd h
   repeated [] (n ∷ ns) z h = absurd z
   repeated (d ∷ ds) [] z h = absurd z
@@ -45,7 +45,7 @@ module _ (Is : Data → ℕ → Type 0) (one : (d : Data) (n m : ℕ) → Is d n
   repeated (d ∷ ds) (n ∷ ns) z (inr h) =
       rw (repeated ds ns z.1 h) (and-false (not (list_any (nat_eq n) ns)))
 
-  twice : (ds : List Data) (ns : List ℕ) → AllZip Is ds ns → are_distinct ns ≡ false → StandsTwice Is ds
+  twice : (ds : List Data) (ns : List ℕ) → AllZip Is ds ns → are_distinct ns ≡ false → HasRepeat Is ds
   twice [] [] z h = absurd (true≢false h)
   twice [] (n ∷ ns) z h = absurd z
   twice (d ∷ ds) [] z h = absurd z
@@ -58,7 +58,7 @@ module _ (Is : Data → ℕ → Type 0) (one : (d : Data) (n m : ℕ) → Is d n
   pub not_distinct :
       (ds : List Data) (ns : List ℕ)
       → AllZip Is ds ns
-      → are_distinct ns ≡ false ↔ StandsTwice Is ds
+      → are_distinct ns ≡ false ↔ HasRepeat Is ds
   not_distinct ds ns z = (twice ds ns z, repeated ds ns z)
 
   module _ {A : Type 0} (S : Data → ℕ × A → Type 0) (key : (d : Data) (x : ℕ × A) → S d x → Is d x.0) where
@@ -71,7 +71,7 @@ module _ (Is : Data → ℕ → Type 0) (one : (d : Data) (n m : ℕ) → Is d n
     in_items :
         (limit : ℕ) (o : Option (List Data)) (xs : List (ℕ × A))
         → IsSomeAnd o (λ ds. (length ds ≤ limit) × AllZip S ds xs)
-        → are_distinct (keys_of xs) ≡ false ↔ IsSomeAnd o (StandsTwice Is)
+        → are_distinct (keys_of xs) ≡ false ↔ IsSomeAnd o (HasRepeat Is)
     in_items limit None xs h = absurd h
     in_items limit (Some ds) xs h = not_distinct ds (keys_of xs) (keys_zip ds xs h.1)
 
@@ -79,7 +79,7 @@ module _ (Is : Data → ℕ → Type 0) (one : (d : Data) (n m : ℕ) → Is d n
     pub keys_not_distinct :
         (limit : ℕ) (o : Option Data) (xs : List (ℕ × A))
         → MatchOption o (xs ≡ []) (λ d. IsListUpTo limit S d xs)
-        → are_distinct (keys_of xs) ≡ false ↔ IsSomeAnd o (λ d. IsSomeAnd (items_at d) (StandsTwice Is))
+        → are_distinct (keys_of xs) ≡ false ↔ IsSomeAnd o (λ d. IsSomeAnd (items_at d) (HasRepeat Is))
     keys_not_distinct limit None xs h =
         (λ e. true≢false (sym (ap (λ (ys : List (ℕ × A)). are_distinct (keys_of ys)) h) ∙ e), λ t. absurd t)
     keys_not_distinct limit (Some d) xs h = in_items limit (items_at d) xs h

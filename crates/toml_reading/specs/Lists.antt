@@ -18,6 +18,6 @@ ListUpToFault faults limit Has d fault =
     (λ ds. ((limit < length ds) × (fault ≡ faults.out_of_range)) ⊎ Any (λ e. Has e fault) ds)
 
 -- a value and a later one are of the same number
-abbrev pub StandsTwice : (Data → ℕ → Type 0) → List Data → Type 0
-StandsTwice Is [] = ⊥
-StandsTwice Is (d ∷ ds) = ((n : ℕ) × Is d n × Any (λ e. Is e n) ds) ⊎ StandsTwice Is ds
+abbrev pub HasRepeat : (Data → ℕ → Type 0) → List Data → Type 0
+HasRepeat Is [] = ⊥
+HasRepeat Is (d ∷ ds) = ((n : ℕ) × Is d n × Any (λ e. Is e n) ds) ⊎ HasRepeat Is ds

@@ -46,14 +46,14 @@ returns-clause-explains c = λ names said loops.
     let walk = c.in_ok-found.ensures.longest.walk_is in
     let formed = c.requires.formed in
     let fits = bound_fits h.graph h.tree found c.in_ok-found.ensures.longest in
-    let on = c.places_stand_once.ensures.words words h.statement profile h.graph loops.graph.graph_is loops.graph.no_fault in
+    let on = c.places_are_listed_once.ensures.words words h.statement profile h.graph loops.graph.graph_is loops.graph.no_fault in
     let total : IsTotal source words h.graph found = record {
       of_image = λ is.
           c.totals_are_the_bound.ensures.image h.graph h.tree found.bound found.walk words formed walk fits
-          (c.places_stand_once.ensures.image source words h.graph formed (image_was_read source words loops.graph.names is loops.graph.source_is) on);
+          (c.places_are_listed_once.ensures.image source words h.graph formed (image_was_read source words loops.graph.names is loops.graph.source_is) on);
       of_source = λ is placed stand.
           c.totals_are_the_bound.ensures.source h.graph h.tree found.bound found.walk placed formed walk fits
-          (c.places_stand_once.ensures.source source words loops.graph.names placed h.graph formed
+          (c.places_are_listed_once.ensures.source source words loops.graph.names placed h.graph formed
           (text_was_assembled source words loops.graph.names is loops.graph.source_is) stand on);
     } in
     let starts = subst (AreWorstStarts h.graph h.tree) (sym c.deref.ensures.value) c.in_ok-starts.ensures.starts in

@@ -1,4 +1,4 @@
-use Rattle.flow_graph.proofs.TightStand.{set_by}
+use Rattle.flow_graph.proofs.TightSetUp.{set_by}
 use Rattle.flow_graph.proofs.tight.setting_at.Goals as goal
 
 pub returns-in-Do-Ok : goal.returns-in-Do-Ok

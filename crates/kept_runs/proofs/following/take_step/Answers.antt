@@ -2,7 +2,7 @@ use Rattle.std.proofs.Common.{◌+◌, ◌^◌, ◌∙◌, ◌<◌, ℕ, List, a
 use Rattle.flow_graph.specs.Places.{place_at}
 use Rattle.numbered_walks.specs.Index.{edge_at}
 use Rattle.numbered_walks.specs.declared.span.NumberedEdge.{NumberedEdge}
-use Rattle.kept_runs.specs.Judging.{StandsAt, Strays, Takes}
+use Rattle.kept_runs.specs.Judging.{IsAtPlace, Strays, Takes}
 use Rattle.kept_runs.specs.Passing.{counted, nothing}
 use Rattle.kept_runs.specs.Stays.{IsOver, Turns}
 use Rattle.kept_runs.proofs.StepTaken.{goes, index_in, room, stands, strays, to_in, turns_back}
@@ -24,7 +24,7 @@ judge_step-requires-clause-known c =
 
 pub judge_step-requires-clause-stands : goal.judge_step-requires-clause-stands
 judge_step-requires-clause-stands c =
-    subst (λ (xs : List ℕ). StandsAt c.args.handler.graph.now (place_at c.args.handler.graph.now.places (get_or xs c.args.follower.now.number 0)) c.args.machine.now) (sym c.order.ensures)
+    subst (λ (xs : List ℕ). IsAtPlace c.args.handler.graph.now (place_at c.args.handler.graph.now.places (get_or xs c.args.follower.now.number 0)) c.args.machine.now) (sym c.order.ensures)
     (stands c.args.handler.image.now c.args.handler.statement.now c.args.handler.graph.now c.args.handler.tree.now c.requires.well_formed c.requires.handler.tree_is c.args.follower.now c.args.machine.now c.requires.can)
 
 pub returns-in-Err : goal.returns-in-Err

@@ -1,5 +1,5 @@
 use Rattle.std.proofs.Common.{codes, ap, sym, ◌∙◌}
-use Rattle.diagnosis.specs.Refused.{stands_among}
+use Rattle.diagnosis.specs.Refused.{is_among}
 use Rattle.diagnosis.proofs.RepeatLemmas.{none_come_to, of_no_table}
 use Rattle.diagnosis.proofs.repeats.Taken.new.Goals as goal
 
@@ -7,5 +7,5 @@ pub returns : goal.returns
 returns c = λ labels. record {
   targets = λ a. none_come_to c.new.result a c.new.ensures.empty;
   accesses = λ a. none_come_to c.new-2.result a c.new-2.ensures.empty;
-  destinations = λ a. none_come_to c.new-3.result a c.new-3.ensures.empty ∙ ap (λ items. stands_among labels (codes "target") (codes "to") items a) (sym of_no_table);
+  destinations = λ a. none_come_to c.new-3.result a c.new-3.ensures.empty ∙ ap (λ items. is_among labels (codes "target") (codes "to") items a) (sym of_no_table);
 }

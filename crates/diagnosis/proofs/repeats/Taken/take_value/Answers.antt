@@ -1,6 +1,6 @@
 use Rattle.std.proofs.Common.{codes, ap, sym, ◌∙◌}
 use Rattle.diagnosis.specs.Outline.{States, stated_of}
-use Rattle.diagnosis.specs.Refused.{of_table, stands_among}
+use Rattle.diagnosis.specs.Refused.{of_table, is_among}
 use Rattle.diagnosis.proofs.RepeatLemmas.{of_same_table, one_more}
 use Rattle.diagnosis.proofs.repeats.Taken.take_value.Goals as goal
 
@@ -13,5 +13,5 @@ returns-clause-taken c = λ before have.
       accesses = one_more names (codes "access") (codes "at") before i _ _ _ c.address_as-access.ensures c.in_ok-by_access.ensures.added have.accesses;
       destinations = λ a.
           one_more names (codes "target") (codes "to") (of_table before) i _ _ _ c.address_as-destination.ensures c.in_ok-by_destination.ensures.added have.destinations a
-          ∙ ap (λ items. stands_among names (codes "target") (codes "to") items a) (sym (of_same_table (stated_of c.args.pair.now) before));
+          ∙ ap (λ items. is_among names (codes "target") (codes "to") items a) (sym (of_same_table (stated_of c.args.pair.now) before));
     }

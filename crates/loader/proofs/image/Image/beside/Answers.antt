@@ -21,7 +21,7 @@ returns-then-is_above-clause-at c = rw (← c.self.view_is) (none_between c.self
 
 pub returns-then-is_above-clause-before : goal.returns-then-is_above-clause-before
 returns-then-is_above-clause-before c =
-    let words = quads _ c.self.invariant.may_stand in
+    let words = quads _ c.self.invariant.allowed in
     rw (← c.self.view_is)
     (c.is_some.ensures ∙ ap is_some c.word_if.ensures
     ∙ before_low c.self.inside.below.items c.self.inside.above.items c.args.address _ c.last-low.result c.saturating_sub-before.ensures (low_is c)
@@ -29,7 +29,7 @@ returns-then-is_above-clause-before c =
 
 pub returns-then-is_above-clause-after : goal.returns-then-is_above-clause-after
 returns-then-is_above-clause-after c =
-    let words = quads _ c.self.invariant.may_stand in
+    let words = quads _ c.self.invariant.allowed in
     rw (← c.self.view_is)
     (c.is_some-then-is_above.ensures ∙ ap is_some c.word_if-then-is_above.ensures
     ∙ after_high c.self.inside.below.items c.self.inside.above.items c.args.address _ c.first-high.result (omega arith) c.first-high.ensures

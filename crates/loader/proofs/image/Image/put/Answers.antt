@@ -1,8 +1,8 @@
 use Rattle.std.proofs.Common.{◌≡◌, ◌≤◌, ◌<◌, ◌^◌, ◌++◌, ◌∙◌, None, length, sym, subst, arith, ap}
 use Rattle.loader.specs.Image.{Words, put_fault, runs_of, with_word}
-use Rattle.loader.specs.Inside.{Ascends, HasNumbers, MayStand}
+use Rattle.loader.specs.Inside.{Ascends, HasNumbers, AreAllowed}
 use Rattle.loader.proofs.GapLemmas.{put_between}
-use Rattle.loader.proofs.WordLemmas.{Ascends-with_word, MayStand-with_word, all_with_word, may_put}
+use Rattle.loader.proofs.WordLemmas.{Ascends-with_word, AreAllowed-with_word, all_with_word, may_put}
 use Rattle.loader.proofs.image.Image.put.Goals as goal
 
 pub invariant_of-self-2 : goal.invariant_of-self-2
@@ -18,7 +18,7 @@ invariant_of-self-2 c =
     let counted : c.in_ok-runs.runs ≡ runs_of (with_word words a w) = rw c.self.view_is c.in_ok-runs.ensures.runs in
     record {
       ascends = subst Ascends (sym new) (Ascends-with_word words _ _ c.self.invariant.ascends may.free);
-      may_stand = subst MayStand (sym new) (MayStand-with_word words _ _ c.self.invariant.may_stand may.may);
+      allowed = subst AreAllowed (sym new) (AreAllowed-with_word words _ _ c.self.invariant.allowed may.may);
       numbers = subst HasNumbers (sym new) (all_with_word (λ e. e.1 < 2 ^ 32) words a w c.self.invariant.numbers c.ranges.word.fits);
       counted = counted ∙ ap runs_of (sym new);
       few_runs = omega (arith, counted, may.few);

@@ -15,7 +15,7 @@ whole c =
     let free : word_of words a ≡ None = none_held _ (rw c.self.view_is (sym c.beside-beside.ensures.at ∙ c.if-beside.false)) in
     let before : c.from.result ≡ has words (a - 4) = has_counted words (a - 4) c.beside-beside.result.before _ (rw c.self.view_is c.beside-beside.ensures.before) c.from.ensures in
     let after : c.from-2.result ≡ has words (a + 4) = has_counted words (a + 4) c.beside-beside.result.after _ (rw c.self.view_is c.beside-beside.ensures.after) c.from-2.ensures in
-    let counted = runs_of-with_word words a c.args.word (quad a place) (quads words c.self.invariant.may_stand) c.self.invariant.ascends free in
+    let counted = runs_of-with_word words a c.args.word (quad a place) (quads words c.self.invariant.allowed) c.self.invariant.ascends free in
     omega (arith, before, after, counted, c.self.invariant.counted)
 
 pub overflow_sub-runs-2 : goal.overflow_sub-runs-2

@@ -18,7 +18,7 @@ pub returns-in-Some-clause-value : goal.returns-in-Some-clause-value
 returns-in-Some-clause-value c = rw (← c.self.view_is) (sym (found c))
 
 pub returns-in-Some-clause-held : goal.returns-in-Some-clause-held
-returns-in-Some-clause-held c = λ some. held _ c.args.address c.self.invariant.may_stand (subst IsSome (sym (found c)) some)
+returns-in-Some-clause-held c = λ some. held _ c.args.address c.self.invariant.allowed (subst IsSome (sym (found c)) some)
 
 beyond : (c : goal.After-word_above) → c.word_above.result ≡ word_of (c.self.inside.below.items ++ c.self.inside.above.items) c.args.address
 beyond c =
@@ -29,4 +29,4 @@ pub returns-in-None-clause-value : goal.returns-in-None-clause-value
 returns-in-None-clause-value c = rw (← c.self.view_is) (beyond c)
 
 pub returns-in-None-clause-held : goal.returns-in-None-clause-held
-returns-in-None-clause-held c = λ some. held _ c.args.address c.self.invariant.may_stand (subst IsSome (beyond c) some)
+returns-in-None-clause-held c = λ some. held _ c.args.address c.self.invariant.allowed (subst IsSome (beyond c) some)

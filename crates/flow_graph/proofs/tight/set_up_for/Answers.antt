@@ -1,6 +1,6 @@
 use Rattle.std.proofs.Common.{rules, sym}
-use Rattle.flow_graph.proofs.TightStand.{some_flags, word_free}
-use Rattle.flow_graph.proofs.tight.stand_for.Goals as goal
+use Rattle.flow_graph.proofs.TightSetUp.{some_flags, word_free}
+use Rattle.flow_graph.proofs.tight.set_up_for.Goals as goal
 
 pub returns-in_err-flags-clause-none : goal.returns-in_err-flags-clause-none
 returns-in_err-flags-clause-none c none free =

@@ -1,5 +1,5 @@
-use Rattle.explained.proofs.StandLaws.{image_stands, on_words, source_stands}
-use Rattle.explained.proofs.law.places_stand_once.Goals as goal
+use Rattle.explained.proofs.ListedOnceLaws.{image_stands, on_words, source_stands}
+use Rattle.explained.proofs.law.places_are_listed_once.Goals as goal
 
 pub returns : goal.returns
 returns c =

@@ -33,7 +33,7 @@ use Rattle.flow_graph.specs.declared.places.Place.{Place}
 use Rattle.flow_graph.specs.declared.places.Place.TheVariants.{At, Exit}
 use Rattle.statement.specs.Stated.{Stated}
 use Rattle.explained.specs.Table.{words_of}
-use Rattle.explained.specs.Taken.{AreOnWords, StandOnce, is_at}
+use Rattle.explained.specs.Taken.{AreOnWords, AreListedOnce, is_at}
 
 -- how often an address is in a list
 abbrev times : ℕ → List ℕ → ℕ
@@ -144,7 +144,7 @@ stand words flow_places all on same few Exit not_exit has = absurd (not_exit ref
 stand words flow_places all on same few (At calls b) not_exit has = exactly (times b (ats words)) (times b all) (held b words (on calls b has)) (same b) (few b)
 
 pub source_stands : Reads → (source : List ℕ) (image : Words) (names : Names) (flow_places : List Place) (placed : List PlacedLine) → IsAssembly source image names → ArePlaced source placed
-    → (Contains flow_places Exit → ⊥) → AreOnWords image flow_places → StandOnce flow_places (flat_map words_of placed)
+    → (Contains flow_places Exit → ⊥) → AreOnWords image flow_places → AreListedOnce flow_places (flat_map words_of placed)
 source_stands reads source image names flow_places placed a stand_there no_exit on =
     let said : stand_there.lines ≡ a.lines = one_passed reads (lines_of source) stand_there.lines a.lines stand_there.passed
     (AllZip-weaker (λ line p. Spells p line) (λ line p. line_of line ≡ Ok p) reads (lines_of source) a.lines a.read) in
@@ -247,7 +247,7 @@ image_once : (bytes : List ℕ) (words : Words) → image_read bytes ≡ Ok word
 image_once bytes words e b =
     count_once (drop 8 bytes) words (magic_parts (bytes_eq (take 8 bytes) (take (length bytes) magic)) (nat_lt (length bytes) 8) _ words e).2 b
 
-pub image_stands : (bytes : List ℕ) (words : Words) (flow_places : List Place) → image_read bytes ≡ Ok words → (Contains flow_places Exit → ⊥) → AreOnWords words flow_places → StandOnce flow_places (ats words)
+pub image_stands : (bytes : List ℕ) (words : Words) (flow_places : List Place) → image_read bytes ≡ Ok words → (Contains flow_places Exit → ⊥) → AreOnWords words flow_places → AreListedOnce flow_places (ats words)
 image_stands bytes words flow_places read no_exit on = λ p has.
     stand words flow_places (ats words) on (λ b. refl) (image_once bytes words read) p (λ exit. no_exit (subst (Contains flow_places) exit has)) has
 
