@@ -23,6 +23,11 @@ pub trait Store {
     ghost read_gives: { Reading Self } = { λ _ _ _ _. Unit {0} };
 
     /// The file's bytes, of which there are at most [`LIMIT`].
+    ///
+    /// # Errors
+    ///
+    /// `InputTooLong`: the file has more than that. `Device`: it could not be opened or read. `Memory`: an
+    /// allocation failed.
     fn read(&mut self, alloc: Global, name: &str) -> Result<Vec<u8>, StoreFault>
         ensures gives { read_gives self.old name.now (bytes_read result) self.new }
         ensures limit { IfOk result (λ v. vec_len v ≤ LIMIT) };
@@ -30,7 +35,11 @@ pub trait Store {
     /// What a write of bytes to a name may return, and the store after it; the default says nothing.
     ghost write_gives: { Writing Self } = { λ _ _ _ _ _. Unit {0} };
 
-    /// Makes the bytes the file's. The only refusal is `Device`.
+    /// Makes the bytes the file's.
+    ///
+    /// # Errors
+    ///
+    /// The only refusal is `Device`: the file could not be opened or written.
     fn write(&mut self, name: &str, bytes: &[u8]) -> Result<(), StoreFault>
         ensures gives { write_gives self.old name.now bytes.now result self.new }
         ensures device { IfErr result (λ e. e ≡ StoreFault.Device) };
@@ -119,7 +128,12 @@ pub const LIMIT: usize = 16_777_216;
 // How many bytes are asked for at once.
 const CHUNK: usize = 4096;
 
-/// What a reader has left, to its end. A longer one is left at its byte 16,777,217.
+/// What a reader has left, to its end.
+///
+/// # Errors
+///
+/// `InputTooLong`: more than 16,777,216 bytes are left, of which 16,777,217 were then read. `Device`: a read
+/// failed. `Memory`: an allocation failed.
 pub fn read_limited<R: Read>(alloc: Global, reader: &mut R) -> Result<Vec<u8>, StoreFault>
     ensures limit { IfOk result (λ v. vec_len v ≤ LIMIT) }
     ensures consumed { IfOk result (λ v. Consumes (R.remaining reader.old) (R.remaining reader.new) v.items) }

@@ -156,10 +156,14 @@ fn read_visits(
 /// [`bound_report`](crate::bound_report) writes it. No run of the machine that keeps both statements with at
 /// most so many visits takes more than the total, but for the profile's burst price for each DMA burst.
 ///
-/// Nothing is written until the report is finished. Of several faults the first in the order of the work is
-/// answered: profile, source, the handler's statement, graph, loops and walk, those of FIQ's handler with
-/// `NotFiqEntry` after its statement, and last `Walk` with `BoundTooLarge` for the total. After any but
-/// `Device` nothing was written.
+/// Nothing is written until the report is finished.
+///
+/// # Errors
+///
+/// Of several faults the first in the order of the work is answered: profile, source, the handler's
+/// statement, graph, loops and walk, those of FIQ's handler with `NotFiqEntry` after its statement, and last
+/// `Walk` with `BoundTooLarge` for the total. `Device`: the output failed, and took a front of the report.
+/// `Memory`: an allocation failed. After any but `Device` nothing was written.
 pub fn visits_report<O: Output>(
     alloc: Global,
     source: &[u8],

@@ -323,7 +323,11 @@ fn instr_of(word: u32) -> Result<Instr, Unallocated>
     }
 }
 
-/// The one instruction of a word, or the lowest number of why there is none.
+/// The one instruction of a word.
+///
+/// # Errors
+///
+/// The word has none: its condition, and the lowest number of why there is none.
 pub fn decode(word: u32) -> Result<Instr, Unallocated>
     ensures found { IfOk result (λ instr. Means word instr) }
     ensures only { (instr : Instr) → Means word instr → result ≡ Ok instr }

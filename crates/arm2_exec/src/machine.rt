@@ -140,6 +140,8 @@ impl Machine {
     /// register and all RAM 0, logical page i on physical page i for i from 0 to 127, and IOC and VIDC at
     /// their start.
     ///
+    /// # Errors
+    ///
     /// `Memory`: an allocation failed.
     pub fn new(alloc: Global, size: PageSize, profile: Profile) -> Result<Machine, MachineFault>
         ensures { IfOk result (λ m. IsReset (shift_of_size size) profile m) }

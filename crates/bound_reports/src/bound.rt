@@ -58,6 +58,10 @@ pub struct BoundReport {
 }
 
 /// The report of a handler that was read.
+///
+/// # Errors
+///
+/// Those of [`longest_of`].
 pub fn longest_report(alloc: Global, handler: &Handler) -> Result<BoundReport, ReportFault>
     requires formed { IsWellFormed handler.now.graph }
     requires tree { IsTreeOf handler.now.graph handler.now.statement.loops handler.now.tree }
@@ -84,8 +88,13 @@ pub fn longest_report(alloc: Global, handler: &Handler) -> Result<BoundReport, R
 /// statement takes more ticks, but for the profile's burst price for each DMA burst.
 ///
 /// The text goes to the output piece by piece, and takes no memory: nothing is written before all that can be
-/// refused but the output itself is done. Of several faults the first in the order of the work is
-/// answered: profile, source, statement, graph, loops, walk. After any but `Device` nothing was written.
+/// refused but the output itself is done.
+///
+/// # Errors
+///
+/// Of several faults the first in the order of the work is answered: profile, source, statement, graph,
+/// loops, walk. `Device`: the output failed, and took a front of the report. `Memory`: an allocation failed.
+/// After any but `Device` nothing was written.
 pub fn bound_report<O: Output>(
     alloc: Global,
     source: &[u8],

@@ -57,9 +57,13 @@ pub struct CheckInputs<'a> {
 /// that the certificate's bound is the greatest cost of a complete walk that keeps the bounds, or `no: ` and
 /// the name of the first [`Objection`].
 ///
-/// Nothing is written until the verdict is found. Of several faults the first in the order of the work is
-/// answered: profile, source, statement, graph, loops, certificate. After any but `Device` nothing was
-/// written.
+/// Nothing is written until the verdict is found.
+///
+/// # Errors
+///
+/// Of several faults the first in the order of the work is answered: profile, source, statement, graph,
+/// loops, certificate. `Device`: the output failed, and took a front of the line. `Memory`: an allocation
+/// failed. After any but `Device` nothing was written.
 pub fn check_report<O: Output>(
     alloc: Global,
     source: &[u8],

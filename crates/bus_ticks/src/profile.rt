@@ -124,7 +124,10 @@ impl Profile {
 
     /// The profile of fifteen numbers, in the order of its fields.
     ///
-    /// Refuses numbers out of range first, and then those that are not in order.
+    /// # Errors
+    ///
+    /// `OutOfRange`: a price is not from 1 to 255, or a burst's is above 255. `Disordered`: all are in range,
+    /// but not in the order that [`Profile`] states.
     pub fn new(numbers: [u32; 15]) -> Result<Self, NumbersFault>
         ensures made { IfOk result (λ profile. numbers_of profile ≡ numbers) }
         ensures ok { IsOk result → AreInRange numbers × AreOrdered numbers }

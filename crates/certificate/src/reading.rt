@@ -52,6 +52,8 @@ fn read_lines(alloc: Global, text: &[u8]) -> Result<Cert, CertFault>
 
 /// The certificate that the text spells.
 ///
+/// # Errors
+///
 /// The first whole line that does not fit is `BadLine` with its number, counted from 1: no certificate's text
 /// begins with the lines up to it. Else a text that ends before `stop`'s line does is `Truncated`, and bytes
 /// after it are `TrailingBytes`. `Memory`: an allocation failed.

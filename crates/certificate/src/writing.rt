@@ -53,7 +53,9 @@ fn put_head<O: Output>(out: &mut O, page: &mut Page, profile: &Profile)
 /// Adds an edge as the lines of a walk show it, `ADDRESS skip|do TO COST`, and ends the line. The cost is in
 /// ticks.
 ///
-/// An error says that an allocation failed; the text is then as it was.
+/// # Errors
+///
+/// An allocation failed; the text is then as it was.
 pub fn write_edge(out: &mut String, edge: &Edge) -> Result<(), AllocError>
     ensures { MatchResult result
         (λ _. string_bytes out.new ≡ string_bytes out.old ++ ended (edge_words (step_of edge.now)))
@@ -168,6 +170,8 @@ pub fn print_cert<O: Output>(longest: &Longest, out: &mut O) -> Result<(), Outpu
 }
 
 /// The text of a greatest walk's certificate, in time linear in its length, as [`print_cert`] writes it.
+///
+/// # Errors
 ///
 /// `Memory`: an allocation failed.
 pub fn write_cert(alloc: Global, longest: &Longest) -> Result<Vec<u8>, CertFault>

@@ -216,6 +216,11 @@ fn line_fault(error: Error) -> CommandLineFault
 }
 
 /// What the words ask for, the program's name first.
+///
+/// # Errors
+///
+/// Where the words ask for nothing: `Usage` with the command-line crate's own refusal, or its help;
+/// `SourceReplaced` where `asm` would write the image over its source. `Memory`: an allocation failed.
 pub fn request<'a>(alloc: Global, words: &'a [String]) -> Result<Request<'a>, CommandLineFault>
     ensures read { IfOk result (λ q. asked_in words.entry.now ≡ Some (asked_of q)) }
     ensures refused { IfErr result

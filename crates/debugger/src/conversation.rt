@@ -89,8 +89,11 @@ fn hold(out: &mut Vec<u8>, alloc: Global, session: Session, lines: &[u8]) -> Res
 /// A whole session: what it answers to command lines, in their order, up to a line whose one word is `quit`.
 ///
 /// The port holds the word `port` until `port N`. Lines are those of a source's text. A refused command
-/// answers `refused: ` and the fault's name, and the session goes on. `Memory`, the one error: an allocation
-/// failed.
+/// answers `refused: ` and the fault's name, and the session goes on.
+///
+/// # Errors
+///
+/// `Memory`, the one error: an allocation failed.
 pub fn converse(
     alloc: Global,
     machine: Machine,

@@ -122,6 +122,10 @@ impl<'a> Sheet<'_, 'a> {
     }
 
     /// Adds the loads and stores with their classes.
+    ///
+    /// # Errors
+    ///
+    /// An allocation failed.
     pub fn put_accesses(&self, out: &mut Vec<u8>, accesses: Accesses<'_>) -> Result<(), AllocError>
         ensures { OnOk result
             (out.new.items ≡ out.old.items ++ accesses_text self.now.lines.now accesses.now) }
@@ -146,6 +150,10 @@ impl<'a> Sheet<'_, 'a> {
     }
 
     /// Adds the loops, each inside those around it.
+    ///
+    /// # Errors
+    ///
+    /// An allocation failed.
     pub fn put_loops(&self, out: &mut Vec<u8>, loops: &[FoundLoop]) -> Result<(), AllocError>
         ensures { OnOk result
             (out.new.items ≡ out.old.items ++ flat_map (loop_text self.now.lines.now) loops.now) }
@@ -208,6 +216,10 @@ impl<'a> Sheet<'_, 'a> {
     }
 
     /// Adds the words that write R15, with the branches to which they jump.
+    ///
+    /// # Errors
+    ///
+    /// An allocation failed.
     pub fn put_targets(&self, out: &mut Vec<u8>, targets: &[FoundTarget]) -> Result<(), AllocError>
         ensures { OnOk result
             (out.new.items ≡ out.old.items ++ flat_map (target_text self.now.lines.now) targets.now) }
@@ -219,6 +231,10 @@ impl<'a> Sheet<'_, 'a> {
     }
 
     /// Adds a comment for each address at which the handler cannot go on.
+    ///
+    /// # Errors
+    ///
+    /// An allocation failed.
     pub fn put_ends(&self, out: &mut Vec<u8>, ends: &[(u32, End)]) -> Result<(), AllocError>
         ensures { OnOk result
             (out.new.items ≡ out.old.items ++ flat_map (end_text self.now.lines.now) ends.now) }
@@ -230,6 +246,10 @@ impl<'a> Sheet<'_, 'a> {
     }
 
     /// Adds a comment for each cycle that no loop bounds.
+    ///
+    /// # Errors
+    ///
+    /// An allocation failed.
     pub fn put_cycles(&self, out: &mut Vec<u8>, cycles: &[u32]) -> Result<(), AllocError>
         ensures { OnOk result
             (out.new.items ≡ out.old.items ++ flat_map (cycle_text self.now.lines.now) cycles.now) }
@@ -241,6 +261,10 @@ impl<'a> Sheet<'_, 'a> {
     }
 
     /// Adds the head, with the entry.
+    ///
+    /// # Errors
+    ///
+    /// An allocation failed.
     pub fn put_head(&self, out: &mut Vec<u8>, entry: u32) -> Result<(), AllocError>
         ensures { OnOk result (out.new.items ≡ out.old.items ++ head_text self.now.lines.now entry) }
     {

@@ -108,7 +108,10 @@ impl Tally {
     }
 
     /// What the walk takes at the graph's places, in time linear in the walk as it is folded.
-    /// `AllocError`: an allocation failed.
+    ///
+    /// # Errors
+    ///
+    /// An allocation failed.
     pub fn of_walk(alloc: Global, graph: &Graph, walk: &FoldedWalk) -> Result<Tally, AllocError>
         ensures { IfOk result (IsTally graph.now (unfolded walk.now)) }
     {

@@ -98,7 +98,10 @@ fn edges_in_turn(
 
 /// The flow graph of a handler: the places that are reached from its entry, and their edges.
 ///
-/// Any refusal whose condition holds may be answered; `Memory` only where an allocation failed.
+/// # Errors
+///
+/// Any refusal of [`BuildFault`] whose condition holds may be answered; `Memory` only where an allocation
+/// failed.
 pub fn build(
     alloc: Global,
     image: &Image,

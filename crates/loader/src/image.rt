@@ -183,7 +183,11 @@ impl Image {
         let _runs = self.runs;
     }
 
-    /// The words with their addresses, which ascend. An error says that an allocation failed.
+    /// The words with their addresses, which ascend.
+    ///
+    /// # Errors
+    ///
+    /// An allocation failed.
     pub fn listed(&self, alloc: Global) -> Result<Vec<(u32, u32)>, AllocError>
         ensures words { IfOk result (λ words. words.items ≡ self.now) }
         ensures few { length self.now ≤ MOST_WORDS }
@@ -270,11 +274,14 @@ impl Image {
         Ok(runs)
     }
 
-    /// Puts a word where there is none.
+    /// Puts a word where there is none. Its time is linear in the words between this one and the last that
+    /// was put.
+    ///
+    /// # Errors
     ///
     /// `OutOfRange`: the address is no multiple of 4, in I/O (3000000 to 33FFFFF) or past 3FFFFFC, or it
-    /// holds a word already. `TooLong`: a 65,537th word, or a 17th run of words side by side. Its time is
-    /// linear in the words between this one and the last that was put.
+    /// holds a word already. Else `TooLong`: a 65,537th word, or a 17th run of words side by side. `Memory`:
+    /// an allocation failed. After any the image is as it was.
     pub fn put(&mut self, _alloc: Global, address: u32, word: u32) -> Result<(), ImageFault>
         ensures ok { OnOk result
             ((self.new ≡ with_word self.old address word) × (put_fault self.old address word ≡ None)) }

@@ -67,8 +67,12 @@ impl Labels {
         self.addresses.get(name).copied()
     }
 
-    /// Puts a name that stands for no address yet. `Twice`: it stands for one; `Memory`: an allocation
-    /// failed. After either the labels are as they were.
+    /// Puts a name that stands for no address yet.
+    ///
+    /// # Errors
+    ///
+    /// `Twice`: the name stands for one. `Memory`: an allocation failed. After either the labels are as they
+    /// were.
     pub fn put(&mut self, alloc: Global, name: &[u8], address: u32) -> Result<(), LabelFault>
         ensures ok { OnOk result
             ((other : List ℕ)

@@ -65,6 +65,10 @@ fn placed_pages(alloc: Global, held: &[u32], free: &[u32]) -> Result<Vec<PlacedP
 /// Each logical page with a word of the image below 2000000 is placed, and the physical pages are the lowest
 /// that no word of the image from 2000000 to 23FFFFF lies on. An image has words on at most 40 pages, so that
 /// there are enough. It takes time linear in the image's words.
+///
+/// # Errors
+///
+/// An allocation failed.
 pub fn page_plan(alloc: Global, image: &Image) -> Result<PagePlan, AllocError>
     ensures plan { IfOk result (λ plan. IsPagePlan image.now plan.pages.items plan.spare) }
     ensures whole { AreWhole image.now }

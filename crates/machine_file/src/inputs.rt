@@ -57,8 +57,11 @@ impl Schedule {
 }
 
 impl MachineFile {
-    /// The inputs of the file's steps, in their order, in time linear in the steps. An error says that an
-    /// allocation failed.
+    /// The inputs of the file's steps, in their order, in time linear in the steps.
+    ///
+    /// # Errors
+    ///
+    /// An allocation failed.
     pub fn inputs(&self, alloc: Global) -> Result<Vec<Input>, AllocError>
         ensures { IfOk result (λ inputs. AreInputs self.now.schedule inputs.items) }
     {

@@ -96,6 +96,8 @@ impl MachineFile {
     /// registers, the page size, the ROM time fields and, where pages are mapped, the page map. The file's
     /// words are not put into its memory.
     ///
+    /// # Errors
+    ///
     /// `Memory`: an allocation failed.
     pub fn machine(&self, alloc: Global, profile: Profile) -> Result<Machine, MachineFault>
         ensures { IfOk result (λ machine. IsStarted self.now profile machine) }

@@ -214,7 +214,11 @@ fn document(alloc: Global, file: &MachineFile) -> Result<Table, AllocError>
 
 /// The text of a machine file without events, which [`read_machine`](crate::machine_files::read_machine)
 /// reads back as the same file. It has all keys but those of registers that are 0, and of empty lists and
-/// tables. An error says that an allocation failed.
+/// tables.
+///
+/// # Errors
+///
+/// An allocation failed.
 pub fn write_machine(alloc: Global, file: &MachineFile) -> Result<String, AllocError>
     requires { file.now.schedule.events ≡ [] }
     ensures text { IfOk result

@@ -26,6 +26,10 @@ pub(crate) fn size_line(alloc: Global, image: &Image) -> Result<String, AllocErr
 }
 
 /// The file and the report of a source's image.
+///
+/// # Errors
+///
+/// `Source` with the line of a text, `Image` of an image. `Memory`: an allocation failed.
 pub fn image_written(alloc: Global, source: &[u8]) -> Result<Written, ReportFault>
     ensures is { IfOk result (λ w. IsWritten source.now w.bytes.items (string_bytes w.line)) }
     ensures fault { IfErr result (BeforeOutput (IsSourceRefused source.now)) }

@@ -44,8 +44,13 @@ fn session_text(
 /// refusal is printed in its place as `refused: NAME`, and the session goes on. The port begins with the
 /// file's word; its `steps` and events are not used.
 ///
-/// Nothing is written until the session has ended. Of several faults the first in the order of the work is
-/// answered: profile, source, machine file, load. After any but `Device` nothing was written.
+/// Nothing is written until the session has ended.
+///
+/// # Errors
+///
+/// Of several faults the first in the order of the work is answered: profile, source, machine file, load.
+/// `Device`: the output failed, and took a front of the answers. `Memory`: an allocation failed. After any
+/// but `Device` nothing was written.
 pub fn debug_report<O: Output>(
     alloc: Global,
     source: &[u8],

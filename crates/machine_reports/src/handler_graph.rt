@@ -21,6 +21,10 @@ pub struct HandlerGraph {
 }
 
 /// The flow graph of a statement, of a source that was read.
+///
+/// # Errors
+///
+/// The first in the order of the work: statement, graph. `Memory`: an allocation failed.
 pub fn read_graph(
     alloc: Global,
     said: &Assembly,

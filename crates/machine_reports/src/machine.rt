@@ -39,6 +39,10 @@ pub trait Front {
     ghost shows: { Front };
 
     /// Runs the machine and adds the text.
+    ///
+    /// # Errors
+    ///
+    /// An allocation failed.
     fn write_front(
         out: &mut String,
         machine: &mut Machine,
@@ -129,6 +133,10 @@ fn priced<F: Front, O: Output>(
 
 /// Runs the machine of a source and a machine file by a cycle profile's file or the first profile, prints the
 /// report, and answers whether the run did all its steps.
+///
+/// # Errors
+///
+/// Those of [`run_report`], in the same order. After any but `Device` nothing was written.
 pub fn machine_report<F: Front, O: Output>(
     alloc: Global,
     source: &[u8],

@@ -50,8 +50,11 @@ impl Model for Memc {
 impl Memc {
     /// All words of RAM 0, no ROM words, and all control fields 0.
     ///
-    /// Each of the 128 logical pages lies on the physical page of its number, at level 0. `Memory`: an
-    /// allocation failed.
+    /// Each of the 128 logical pages lies on the physical page of its number, at level 0.
+    ///
+    /// # Errors
+    ///
+    /// `Memory`: an allocation failed.
     pub fn new(alloc: Global, size: PageSize) -> Result<Memc, MemcFault>
         ensures { IfOk result (λ m. IsStart (shift_of_size size) m) }
     {
@@ -62,7 +65,11 @@ impl Memc {
         })
     }
 
-    /// Where an access at an address below 2^26 goes, or the first reason why it is refused.
+    /// Where an access at an address below 2^26 goes.
+    ///
+    /// # Errors
+    ///
+    /// The first of the reasons why the access is refused, in the order of [`Refused`].
     #[inline(always)]
     pub fn locate(&self, address: u32, user: bool, store: bool) -> Result<Spot, Refused>
         requires { address < SPACE_END }
@@ -173,7 +180,10 @@ impl Memc {
 
     /// Puts a logical page on a physical page. Both lose what they had. No words move.
     ///
-    /// `OutOfRange`: there are 128 physical pages, logical ones up to 2^25 bytes, and the levels 0 to 3.
+    /// # Errors
+    ///
+    /// `OutOfRange`: there are 128 physical pages, logical ones up to 2^25 bytes, and the levels 0 to 3. The
+    /// memory is then as it was.
     pub fn map(&mut self, physical: u32, logical: u32, level: u32) -> Result<(), MapFault>
         ensures ok { OnOk result (self.new ≡ with_map physical logical level self.old) }
         ensures err { OnErr result (self.new ≡ self.old) }
@@ -189,7 +199,9 @@ impl Memc {
 
     /// Takes a physical page off the map. No words move.
     ///
-    /// `OutOfRange`: a physical page above 127.
+    /// # Errors
+    ///
+    /// `OutOfRange`: a physical page above 127. The memory is then as it was.
     pub fn unmap(&mut self, physical: u32) -> Result<(), MapFault>
         ensures ok { OnOk result (self.new ≡ without_page physical self.old) }
         ensures err { OnErr result (self.new ≡ self.old) }
@@ -206,7 +218,10 @@ impl Memc {
     ///
     /// Of two words for one address, and over one that is there, the last stays. No load finds a word at
     /// another address. It copies the words that are there, so a caller passes all words in one call.
-    /// `Memory`: an allocation failed.
+    ///
+    /// # Errors
+    ///
+    /// `Memory`: an allocation failed; the memory is then as it was.
     pub fn add_rom(&mut self, _alloc: Global, words: &[(u32, u32)]) -> Result<(), MemcFault>
         ensures ok { OnOk result (self.new ≡ with_rom words.now self.old) }
         ensures words { OnOk result

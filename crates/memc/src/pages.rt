@@ -40,6 +40,10 @@ impl Model for Pages {
 
 impl Pages {
     /// All words 0, and each logical page on the physical page of its number, at level 0.
+    ///
+    /// # Errors
+    ///
+    /// An allocation failed.
     pub fn new(alloc: Global, shift: u32) -> Result<Self, AllocError>
         requires { IsShift shift }
         ensures shift { IfOk result (λ p. p.shift ≡ shift) }

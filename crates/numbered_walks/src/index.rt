@@ -43,7 +43,11 @@ pub(crate) fn is_header_in(spans: &[Span], headers: &[Option<Span>], number: usi
 }
 
 impl Index {
-    /// The index of the numbers up to that of Exit. `AllocError`: an allocation failed.
+    /// The index of the numbers up to that of Exit.
+    ///
+    /// # Errors
+    ///
+    /// An allocation failed.
     pub fn of(
         alloc: Global,
         edges: &[NumberedEdge],

@@ -39,7 +39,11 @@ impl<T: Drop> ItemList<T> {
         ItemList { list }
     }
 
-    /// Adds an item at the end. `Memory`: an allocation failed, and the list is as it was.
+    /// Adds an item at the end.
+    ///
+    /// # Errors
+    ///
+    /// `Memory`: an allocation failed, and the list is as it was.
     pub fn push(&mut self, _alloc: Global, item: T) -> Result<(), WalkFault>
         ensures ok { OnOk result (self.new ≡ self.old ++ item ∷ []) }
         ensures memory { IfErr result (λ fault. fault ≡ WalkFault.Memory) }

@@ -22,6 +22,10 @@ pub trait Output {
 
     /// Takes a front of the bytes and answers how many. A write that takes nothing of a slice that
     /// is not empty is a failure.
+    ///
+    /// # Errors
+    ///
+    /// `Failed`: the write failed, and took nothing.
     fn write(&mut self, bytes: &[u8]) -> Result<usize, OutputFault>
         ensures bound { IfOk result (λ n. n ≤ length bytes.now) }
         ensures bytes { WriteAppends (taken self.old) (taken self.new) result bytes.now }
@@ -29,6 +33,10 @@ pub trait Output {
 }
 
 /// Writes the text to its end, over writes that take a part.
+///
+/// # Errors
+///
+/// `Failed`: a write failed. The output took a front of the text then.
 pub fn write_whole<O: Output>(out: &mut O, text: &[u8]) -> Result<(), OutputFault>
     ensures ok { OnOk result (Appends (O.taken out.old) (O.taken out.new) text.now) }
     ensures quiet { OnOk result (O.failures out.new ≡ O.failures out.old) }

@@ -27,6 +27,10 @@ impl Model for VecOutput {
 
 impl VecOutput {
     /// An empty output that has taken memory for `room` bytes.
+    ///
+    /// # Errors
+    ///
+    /// An allocation failed.
     pub fn with_room(alloc: Global, room: usize) -> Result<Self, AllocError>
         ensures empty { IfOk result (λ o. o.bytes ≡ []) }
         ensures room { IfOk result (λ o. o.room ≡ room) }

@@ -21,6 +21,10 @@ use report_output::ReportFault;
 use std::alloc::Global;
 
 /// The cycle profile of a file, or the first one where there is no file.
+///
+/// # Errors
+///
+/// `Profile` with the file's fault. `Memory`: an allocation failed.
 pub fn profile_of(alloc: Global, file: Option<&[u8]>) -> Result<Profile, ReportFault>
     ensures is { IfOk result (IsProfile (option_map (λ f. f.now) file.entry)) }
     ensures none { IfErr result (HasNoProfile (option_map (λ f. f.now) file.entry)) }
@@ -36,6 +40,10 @@ pub fn profile_of(alloc: Global, file: Option<&[u8]>) -> Result<Profile, ReportF
 
 /// The words and the labels of a source: of an image where it begins as one, which has no labels, else of a
 /// text.
+///
+/// # Errors
+///
+/// `Source` with the line of a text, `Image` of an image. `Memory`: an allocation failed.
 pub fn read_source(alloc: Global, source: &[u8]) -> Result<Assembly, ReportFault>
     ensures said { IfOk result (Says source.now) }
     ensures fault { IfErr result (IsSourceFault source.now) }
@@ -64,7 +72,11 @@ pub struct SaidHandler {
     pub handler: Handler,
 }
 
-/// What a source says with its handler, or the first fault in the order of the work.
+/// What a source says with its handler.
+///
+/// # Errors
+///
+/// The first in the order of the work: source, statement, graph, loops. `Memory`: an allocation failed.
 pub fn said_handler(
     alloc: Global,
     source: &[u8],
@@ -84,7 +96,11 @@ pub fn said_handler(
     Ok(SaidHandler { said, handler })
 }
 
-/// The handler of a source and a statement, or the first fault in the order of the work.
+/// The handler of a source and a statement.
+///
+/// # Errors
+///
+/// The first in the order of the work: source, statement, graph, loops. `Memory`: an allocation failed.
 pub fn read_handler(
     alloc: Global,
     source: &[u8],
@@ -101,6 +117,10 @@ pub fn read_handler(
 }
 
 /// The same, of a source that was read.
+///
+/// # Errors
+///
+/// The first in the order of the work: statement, graph, loops. `Memory`: an allocation failed.
 pub fn handler_of(
     alloc: Global,
     said: &Assembly,
@@ -119,6 +139,10 @@ pub fn handler_of(
 }
 
 /// The same, of a source and a statement that were read.
+///
+/// # Errors
+///
+/// The first in the order of the work: graph, loops. `Memory`: an allocation failed.
 pub fn stated_handler(
     alloc: Global,
     said: &Assembly,
@@ -145,6 +169,11 @@ pub fn stated_handler(
 }
 
 /// The greatest of a handler's walks.
+///
+/// # Errors
+///
+/// `Walk` with `NoCompleteWalk` where no walk leads to Exit, else with `BoundTooLarge` where a walk that
+/// keeps the bounds costs 2^63 ticks or more, wherever it ends. `Memory`: an allocation failed.
 pub fn longest_of(alloc: Global, handler: &Handler) -> Result<Longest, ReportFault>
     requires { IsTreeOf handler.now.graph handler.now.statement.loops handler.now.tree }
     ensures longest { IfOk result (IsLongest handler.now.graph handler.now.tree) }

@@ -21,7 +21,11 @@ pub struct Placed {
     pub machine: Machine,
 }
 
-/// The machine of a source and a machine file, or the first fault in the order of the work.
+/// The machine of a source and a machine file.
+///
+/// # Errors
+///
+/// The first in the order of the work: source, machine file, load. `Memory`: an allocation failed.
 pub fn place(
     alloc: Global,
     source: &[u8],
@@ -37,6 +41,10 @@ pub fn place(
 }
 
 /// The same, of a source that was read.
+///
+/// # Errors
+///
+/// The first in the order of the work: machine file, load. `Memory`: an allocation failed.
 pub fn place_image(
     alloc: Global,
     said: &Assembly,

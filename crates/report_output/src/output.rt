@@ -23,7 +23,11 @@ impl Model for MemoryOutput {
 }
 
 impl MemoryOutput {
-    /// An empty output that has taken memory for `room` bytes. The only refusal is `Memory`.
+    /// An empty output that has taken memory for `room` bytes.
+    ///
+    /// # Errors
+    ///
+    /// The only refusal is `Memory`: an allocation failed.
     pub fn with_room(alloc: Global, room: usize) -> Result<MemoryOutput, ReportFault>
         ensures empty { IfOk result (λ m. m.bytes ≡ []) }
         ensures room { IfOk result (λ m. m.room ≡ room) }
@@ -108,7 +112,11 @@ impl<W: Write> Output for StreamOutput<W> {
     }
 }
 
-/// Writes a report's whole text, and returns its answer. The only refusal is `Device`.
+/// Writes a report's whole text, and returns its answer.
+///
+/// # Errors
+///
+/// The only refusal is `Device`: the output failed. It took a front of the text then.
 pub fn print_answer<T: Drop, O: Output>(
     answer: T,
     text: &[u8],

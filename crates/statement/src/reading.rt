@@ -93,9 +93,12 @@ fn statement_of(
     Ok(of_keys(STATEMENT_KEYS, table, reading))
 }
 
-/// The statement that a text states, with the addresses of the labels that it names. Of several faults over
-/// the whole text the first is answered, in the order of [`StatementFault`]; `Memory` only where an
-/// allocation failed.
+/// The statement that a text states, with the addresses of the labels that it names.
+///
+/// # Errors
+///
+/// Of several faults over the whole text the first is answered, in the order of [`StatementFault`]; `Memory`
+/// only where an allocation failed.
 pub fn read_statement(
     alloc: Global,
     text: &[u8],

@@ -24,7 +24,10 @@ fn put_hex(out: &mut Vec<u8>, at: u32) -> Result<(), AllocError>
 }
 
 /// Adds an address as a statement has it: its label in double quotes, or the number where the label is empty.
-/// An error says that an allocation failed.
+///
+/// # Errors
+///
+/// An allocation failed.
 pub fn put_labelled(out: &mut Vec<u8>, label: &[u8], at: u32) -> Result<(), AllocError>
     ensures { OnOk result (out.new.items ≡ out.old.items ++ labelled label.now at) }
 {

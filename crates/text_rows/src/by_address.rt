@@ -24,7 +24,11 @@ fn put_line<'a>(
 }
 
 /// The lines of a source by the addresses of their words. `placed` says where the lines are, in their
-/// order. An error says that an allocation failed.
+/// order.
+///
+/// # Errors
+///
+/// An allocation failed.
 pub fn lines_by_address<'a>(
     alloc: Global,
     source: &'a [u8],

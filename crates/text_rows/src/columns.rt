@@ -10,14 +10,22 @@ const BLANKS: &[u8] = b"                                    ";
 /// The columns of a row.
 pub const ROW_COLUMNS: usize = 80;
 
-/// Adds a text. An error says that an allocation failed.
+/// Adds a text.
+///
+/// # Errors
+///
+/// An allocation failed.
 pub fn put(out: &mut Vec<u8>, text: &[u8]) -> Result<(), AllocError>
     ensures { OnOk result (out.new.items ≡ out.old.items ++ text.now) }
 {
     out.extend_from_slice(text)
 }
 
-/// Adds a number in decimal. An error says that an allocation failed.
+/// Adds a number in decimal.
+///
+/// # Errors
+///
+/// An allocation failed.
 pub fn put_decimal(out: &mut Vec<u8>, number: u64) -> Result<(), AllocError>
     ensures { OnOk result (out.new.items ≡ out.old.items ++ decimal number) }
 {
@@ -25,8 +33,11 @@ pub fn put_decimal(out: &mut Vec<u8>, number: u64) -> Result<(), AllocError>
     put(out, buffer.format(number).as_bytes())
 }
 
-/// Adds a text that ends so many columns on, up to 36; a longer text has no blank in front. An error says
-/// that an allocation failed.
+/// Adds a text that ends so many columns on, up to 36; a longer text has no blank in front.
+///
+/// # Errors
+///
+/// An allocation failed.
 pub fn put_right(out: &mut Vec<u8>, text: &[u8], width: usize) -> Result<(), AllocError>
     requires { width ≤ 36 }
     ensures { OnOk result (out.new.items ≡ out.old.items ++ in_columns width text.now) }
@@ -35,7 +46,11 @@ pub fn put_right(out: &mut Vec<u8>, text: &[u8], width: usize) -> Result<(), All
     put(out, text)
 }
 
-/// Adds a number in decimal that ends so many columns on, up to 36. An error says that an allocation failed.
+/// Adds a number in decimal that ends so many columns on, up to 36.
+///
+/// # Errors
+///
+/// An allocation failed.
 pub fn put_number(out: &mut Vec<u8>, number: u64, width: usize) -> Result<(), AllocError>
     requires { width ≤ 36 }
     ensures { OnOk result (out.new.items ≡ out.old.items ++ in_columns width (decimal number)) }
@@ -72,7 +87,11 @@ fn cut_at(text: &[u8], most: usize) -> usize
 }
 
 /// Ends a row that has so many columns with a text, of which it adds as much as there is room for up to
-/// column 80. No character of UTF-8 is parted. An error says that an allocation failed.
+/// column 80. No character of UTF-8 is parted.
+///
+/// # Errors
+///
+/// An allocation failed.
 pub fn put_cut_row(out: &mut Vec<u8>, used: usize, text: &[u8]) -> Result<(), AllocError>
     ensures { OnOk result (out.new.items ≡ out.old.items ++ cut_row used text.now) }
 {

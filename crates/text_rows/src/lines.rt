@@ -13,7 +13,11 @@ pub trait LineRows {
     /// Those of a line, by its number, its text and where it is placed.
     ghost rows: { Self → ℕ → List ℕ → PlacedLine → List ℕ };
 
-    /// Adds the rows of a line. An error says that an allocation failed.
+    /// Adds the rows of a line.
+    ///
+    /// # Errors
+    ///
+    /// An allocation failed.
     fn put(
         &self,
         out: &mut Vec<u8>,
@@ -26,7 +30,11 @@ pub trait LineRows {
 }
 
 /// Adds the rows of a source's lines, numbered from 1. `placed` says where the lines are, in their order;
-/// the rows end with the lines, or with the places. An error says that an allocation failed.
+/// the rows end with the lines, or with the places.
+///
+/// # Errors
+///
+/// An allocation failed.
 pub fn put_line_rows<R: LineRows>(
     out: &mut Vec<u8>,
     source: &[u8],
@@ -55,7 +63,11 @@ pub trait WordRows {
     /// That of a word, by the number and the text of its line and by its address; empty where it has none.
     ghost word_row: { Self → ℕ → List ℕ → ℕ → List ℕ };
 
-    /// Adds the row of a word. An error says that an allocation failed.
+    /// Adds the row of a word.
+    ///
+    /// # Errors
+    ///
+    /// An allocation failed.
     fn put(&self, out: &mut Vec<u8>, line: NumberedLine<'_>, at: u32) -> Result<(), AllocError>
         ensures { OnOk result
             (out.new.items
@@ -87,6 +99,10 @@ impl<R: WordRows> LineRows for ByWord<'_, R> {
 }
 
 /// Adds the rows of the words of a source's lines, as [`put_line_rows`] does.
+///
+/// # Errors
+///
+/// An allocation failed.
 pub fn put_word_rows<R: WordRows>(
     out: &mut Vec<u8>,
     source: &[u8],

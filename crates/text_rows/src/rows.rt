@@ -14,7 +14,11 @@ pub struct NumberedLine<'a> {
     pub text: &'a [u8],
 }
 
-/// The rows under their heading, or nothing where there are none. An error says that an allocation failed.
+/// The rows under their heading, or nothing where there are none.
+///
+/// # Errors
+///
+/// An allocation failed.
 pub fn section(alloc: Global, heading: &[u8], rows: &[u8]) -> Result<Vec<u8>, AllocError>
     ensures { IfOk result (λ text. text.items ≡ section heading.now rows.now) }
 {
@@ -27,8 +31,11 @@ pub fn section(alloc: Global, heading: &[u8], rows: &[u8]) -> Result<Vec<u8>, Al
     Ok(out)
 }
 
-/// Adds an address in eight upper-case hexadecimal digits, after two blanks. An error says that an allocation
-/// failed.
+/// Adds an address in eight upper-case hexadecimal digits, after two blanks.
+///
+/// # Errors
+///
+/// An allocation failed.
 pub fn put_address(out: &mut Vec<u8>, at: u32) -> Result<(), AllocError>
     ensures { OnOk result (out.new.items ≡ out.old.items ++ address_column at) }
 {
@@ -36,7 +43,11 @@ pub fn put_address(out: &mut Vec<u8>, at: u32) -> Result<(), AllocError>
     put(out, &hex8(at))
 }
 
-/// Adds the row of an address where no word is. An error says that an allocation failed.
+/// Adds the row of an address where no word is.
+///
+/// # Errors
+///
+/// An allocation failed.
 pub fn put_address_row(out: &mut Vec<u8>, at: u32) -> Result<(), AllocError>
     ensures { OnOk result (out.new.items ≡ out.old.items ++ address_row at) }
 {
@@ -45,7 +56,11 @@ pub fn put_address_row(out: &mut Vec<u8>, at: u32) -> Result<(), AllocError>
 }
 
 /// Adds the row of a line's word to a row that has `used` columns: its address, the number of the line, and
-/// as much of the line's text as there is room for up to column 80. An error says that an allocation failed.
+/// as much of the line's text as there is room for up to column 80.
+///
+/// # Errors
+///
+/// An allocation failed.
 pub fn put_named_row(
     out: &mut Vec<u8>,
     used: usize,
@@ -64,8 +79,11 @@ pub fn put_named_row(
 }
 
 /// Adds the row of an image's word to a row that has `used` columns: its address, the word, and as much of
-/// the line that [`disassemble`] shows as there is room for up to column 80. An error says that an allocation
-/// failed.
+/// the line that [`disassemble`] shows as there is room for up to column 80.
+///
+/// # Errors
+///
+/// An allocation failed.
 pub fn put_shown_row(out: &mut Vec<u8>, used: usize, at: u32, word: u32) -> Result<(), AllocError>
     ensures { OnOk result (Appends (IsShownRow used (at, word)) out.old.items out.new.items) }
 {

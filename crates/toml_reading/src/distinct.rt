@@ -6,6 +6,10 @@ use indexmap::{IndexMap, IndexSet};
 use std::alloc::{AllocError, Global};
 
 /// Whether no number is in the list twice.
+///
+/// # Errors
+///
+/// An allocation failed.
 pub fn are_all_distinct(alloc: Global, numbers: &[u32]) -> Result<bool, AllocError>
     ensures { IfOk result (λ test. test ≡ are_distinct numbers.now) }
 {
@@ -20,6 +24,10 @@ pub fn are_all_distinct(alloc: Global, numbers: &[u32]) -> Result<bool, AllocErr
 }
 
 /// The entries by their numbers, in their order, or None where a number comes twice.
+///
+/// # Errors
+///
+/// An allocation failed.
 pub fn by_number<T: Drop>(
     alloc: Global,
     entries: Vec<(u32, T)>,

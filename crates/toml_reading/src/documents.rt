@@ -6,6 +6,10 @@ use std::alloc::{AllocError, Global};
 use toml::Table;
 
 /// The document of a text, or None where the text is not UTF-8 or no TOML document.
+///
+/// # Errors
+///
+/// An allocation failed.
 pub fn document(alloc: Global, text: &[u8]) -> Result<Option<Table>, AllocError>
     ensures { IfOk result
         (λ made. MatchOption made (IsNoDocument text.now)

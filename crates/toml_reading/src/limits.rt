@@ -8,7 +8,11 @@ use crate::readings::{Fault, Reading, check};
 use std::alloc::{AllocError, Global};
 use toml::Value;
 
-/// What is read of each value of a list of at most so many. An error says that an allocation failed.
+/// What is read of each value of a list of at most so many.
+///
+/// # Errors
+///
+/// An allocation failed.
 pub fn read_list_up_to<T: Entry<C, F>, C, F: Fault>(
     alloc: Global,
     context: &C,
@@ -38,8 +42,11 @@ fn list_up_to<T: Entry<C, F>, C, F: Fault>(
     }
 }
 
-/// What is read of each table of a list of at most so many, which is empty where the key is missing. An error
-/// says that an allocation failed.
+/// What is read of each table of a list of at most so many, which is empty where the key is missing.
+///
+/// # Errors
+///
+/// An allocation failed.
 pub fn tables_up_to<T: Entry<C, F>, C, F: Fault>(
     alloc: Global,
     context: &C,

@@ -12,7 +12,11 @@ use toml::Value;
 pub trait Entry<C, F: Fault>: Drop {
     ghost reads: { C → Data → Reading F Self };
 
-    /// Reads the value. An error says that an allocation failed.
+    /// Reads the value.
+    ///
+    /// # Errors
+    ///
+    /// An allocation failed.
     fn read(alloc: Global, context: &C, value: &Value) -> Result<Reading<Self, F>, AllocError>
     where
         Self: Sized,
@@ -45,7 +49,11 @@ pub(crate) fn read_list<T: Entry<C, F>, C, F: Fault>(
     Ok(list)
 }
 
-/// What is read of a value that must be a list. An error says that an allocation failed.
+/// What is read of a value that must be a list.
+///
+/// # Errors
+///
+/// An allocation failed.
 pub fn list<T: Entry<C, F>, C, F: Fault>(
     alloc: Global,
     context: &C,
@@ -59,8 +67,11 @@ pub fn list<T: Entry<C, F>, C, F: Fault>(
     }
 }
 
-/// What is read of each table of a list, which is empty where the key is missing. An error says that an
-/// allocation failed.
+/// What is read of each table of a list, which is empty where the key is missing.
+///
+/// # Errors
+///
+/// An allocation failed.
 pub fn tables<T: Entry<C, F>, C, F: Fault>(
     alloc: Global,
     context: &C,

@@ -90,7 +90,11 @@ pub fn pair<T: Drop, U: Drop, F: Fault>(
     }
 }
 
-/// The parts of a list, with one more. An error says that an allocation failed.
+/// The parts of a list, with one more.
+///
+/// # Errors
+///
+/// An allocation failed.
 pub fn append<T: Drop, F: Fault>(
     list: Reading<Vec<T>, F>,
     next: Reading<T, F>,

@@ -9,7 +9,9 @@ use std::alloc::AllocError;
 
 /// Adds a line of processor ticks, and of the ticks that passed with those of bursts, in decimal.
 ///
-/// An error says that an allocation failed; the text is then as it was.
+/// # Errors
+///
+/// An allocation failed; the text is then as it was.
 pub fn write_ticks(out: &mut String, ticks: u128, elapsed: u128) -> Result<(), AllocError>
     ensures { MatchResult result
         (λ _. string_bytes out.new ≡ string_bytes out.old ++ ticks_text ticks elapsed)
@@ -31,7 +33,9 @@ pub fn why_name(why: Why) -> &'static str
 
 /// Adds a line that says why a machine stopped and at which address, in hexadecimal.
 ///
-/// An error says that an allocation failed; the text is then as it was.
+/// # Errors
+///
+/// An allocation failed; the text is then as it was.
 pub fn write_stop(out: &mut String, why: Why, address: u32) -> Result<(), AllocError>
     ensures { MatchResult result (λ _. string_bytes out.new ≡ string_bytes out.old ++ stop_text why address)
         (λ _. string_bytes out.new ≡ string_bytes out.old) }

@@ -50,7 +50,9 @@ fn put_registers(out: &mut String, machine: &Machine) -> Result<(), AllocError>
 /// Adds the sixteen registers of the mode in R15, four in a line, each with its word in eight hexadecimal
 /// digits. R15 comes with its flags and mode.
 ///
-/// An error says that an allocation failed; the text is then as it was.
+/// # Errors
+///
+/// An allocation failed; the text is then as it was.
 pub fn write_registers(out: &mut String, machine: &Machine) -> Result<(), AllocError>
     ensures { MatchResult result
         (λ _. string_bytes out.new ≡ string_bytes out.old ++ registers_text machine.now.regs)

@@ -11,8 +11,10 @@ use std::alloc::AllocError;
 /// Steps a machine, once for each input up to the first step that is stopped, and adds the lines of the steps
 /// before it.
 ///
-/// An error says that an allocation failed. The machine has then made the steps up to the one whose line was
-/// refused, and the text has the lines of the steps before that one.
+/// # Errors
+///
+/// An allocation failed. The machine has then made the steps up to the one whose line was refused, and the
+/// text has the lines of the steps before that one.
 pub fn write_run(
     out: &mut String,
     machine: &mut Machine,
