@@ -4,9 +4,9 @@ use Rattle.std.specs.Prelude.{option_map, option_and_then}
 use Rattle.arm2_decode.specs.declared.names.Register.{Register}
 use Rattle.asm_text.proofs.WordLaws.{map_is}
 use Rattle.asm_text.specs.Pieces.{Piece, Run, Comma, Sign}
-use Rattle.asm_text.specs.Numbers.{number_first}
-use Rattle.asm_text.specs.Registers.{register_first}
-use Rattle.asm_text.specs.Operands.{Offset, address, address_of, after_of, bang_of, based, before_of, by_amount, closed_of, number_offset, offset_first, plain_of, register_offset, shifting_first, signed_offset, all_read}
+use Rattle.asm_text.specs.Numbers.{first_number}
+use Rattle.asm_text.specs.Registers.{first_register}
+use Rattle.asm_text.specs.Operands.{Offset, address, address_of, after_of, bang_of, based, before_of, by_amount, closed_of, number_offset, first_offset, unoffset_of, register_offset, first_shifting, signed_offset, all_read}
 use Rattle.asm_text.specs.SpelledOperands.{IsRegister, SpellsAddress, SpellsAfter, SpellsBase, SpellsBefore, SpellsNumber, SpellsOffset, SpellsShifting, marked}
 use Rattle.asm_text.specs.declared.token.Mark.TheVariants.{Hash, Minus, Bang, CloseBracket}
 use Rattle.asm_text.specs.declared.syntax.Amount.{Amount}
@@ -28,7 +28,7 @@ FrontOffset ps f = (a : List Piece) × (ps ≡ a ++ f.1) × SpellsOffset f.0.0 f
 -- a number, with its sign in front
 signed_is : (up : Bool) (ps : List Piece) (f : Offset × List Piece) → signed_offset up ps ≡ Some f → FrontOffset (Sign Hash ∷ (marked (not up) Minus ++ ps)) f
 signed_is up ps f e =
-    let k = map_is (λ g. ((up, distance.Number g.0), g.1)) (number_first ps) f e in
+    let k = map_is (λ g. ((up, distance.Number g.0), g.1)) (first_number ps) f e in
     let n = number_front ps k.0 k.1 in
     let signed = marked (not up) Minus in
     subst (FrontOffset (Sign Hash ∷ (signed ++ ps))) k.2
@@ -45,8 +45,8 @@ amount_is up m (shifting.Register s r) qs f e = absurd (none-some f e)
 -- a register, with its sign in front
 register_offset_is : (up : Bool) (ps : List Piece) (f : Offset × List Piece) → register_offset up ps ≡ Some f → FrontOffset (marked (not up) Minus ++ ps) f
 register_offset_is up ps f e =
-    let r = and_then_is (λ g. option_and_then (by_amount up g.0) (shifting_first g.1)) (register_first ps) f e in
-    let s = and_then_is (by_amount up r.0.0) (shifting_first r.0.1) f r.2 in
+    let r = and_then_is (λ g. option_and_then (by_amount up g.0) (first_shifting g.1)) (first_register ps) f e in
+    let s = and_then_is (by_amount up r.0.0) (first_shifting r.0.1) f r.2 in
     let a = amount_is up r.0.0 s.0.0 s.0.1 f s.2 in
     let t = register_front ps r.0 r.1 in
     let g = shifting_front r.0.1 s.0 s.1 in
@@ -55,7 +55,7 @@ register_offset_is up ps f e =
     let all : signed ++ ps ≡ (signed ++ (Run t.0 ∷ g.0)) ++ s.0.1 = ap (λ (qs : List Piece). signed ++ qs) (t.1 ∙ whole-is) ∙ sym (append_assoc signed (Run t.0 ∷ g.0) s.0.1) in
     subst (FrontOffset (signed ++ ps)) a.2 (signed ++ (Run t.0 ∷ g.0), all, (t.0, g.0, refl, t.2, subst (λ x. SpellsShifting x g.0) a.1 g.2))
 
-offset_front : (ps : List Piece) (f : Offset × List Piece) → offset_first ps ≡ Some f → FrontOffset ps f
+offset_front : (ps : List Piece) (f : Offset × List Piece) → first_offset ps ≡ Some f → FrontOffset ps f
 offset_front (Sign Hash ∷ ps) f e = number_offset_is ps f e
 offset_front (Sign Minus ∷ ps) f e = register_offset_is false ps f e
 offset_front ps f e = register_offset_is true ps f e
@@ -66,19 +66,19 @@ no_sign n a rest h = elim h [ inl k ↦ rw k.1 refl | inr k ↦ rw k.1 refl ]
 signed_again : (up : Bool) (n : ℕ) (a rest : List Piece) → SpellsNumber n a → signed_offset up (a ++ rest) ≡ Some ((up, distance.Number n), rest)
 signed_again up n a rest h = rw (front_number n a rest h) refl
 
-front_offset : (up : Bool) (d : Distance) (a rest : List Piece) → SpellsOffset up d a → ends_shift rest ≡ true → offset_first (a ++ rest) ≡ Some ((up, d), rest)
+front_offset : (up : Bool) (d : Distance) (a rest : List Piece) → SpellsOffset up d a → ends_shift rest ≡ true → first_offset (a ++ rest) ≡ Some ((up, d), rest)
 front_offset true (distance.Number n) a rest h ends = rw h.1 (no_sign n h.0 rest h.2 ∙ signed_again true n h.0 rest h.2)
 front_offset false (distance.Number n) a rest h ends = rw h.1 (signed_again false n h.0 rest h.2)
 front_offset true (distance.Register m b) a rest h ends = rw (h.2, register_again h.0 m h.3, front_shifting (shifting.Amount b) h.1 rest h.4 ends) refl
 front_offset false (distance.Register m b) a rest h ends = rw (h.2, register_again h.0 m h.3, front_shifting (shifting.Amount b) h.1 rest h.4 ends) refl
 
-offset_whole : (ps : List Piece) (o : Offset) → all_read (offset_first ps) ≡ Some o → SpellsOffset o.0 o.1 ps
+offset_whole : (ps : List Piece) (o : Offset) → all_read (first_offset ps) ≡ Some o → SpellsOffset o.0 o.1 ps
 offset_whole ps o e =
-    let k = offset_front ps (o, []) (whole_is (offset_first ps) o e) in
+    let k = offset_front ps (o, []) (whole_is (first_offset ps) o e) in
     subst (SpellsOffset o.0 o.1) (sym (append-nil k.0) ∙ sym k.1) k.2
 
-whole_offset : (up : Bool) (d : Distance) (ps : List Piece) → SpellsOffset up d ps → all_read (offset_first ps) ≡ Some (up, d)
-whole_offset up d ps h = ap (λ (qs : List Piece). all_read (offset_first qs)) (sym (append-nil ps)) ∙ ap all_read (front_offset up d ps [] h refl)
+whole_offset : (up : Bool) (d : Distance) (ps : List Piece) → SpellsOffset up d ps → all_read (first_offset ps) ≡ Some (up, d)
+whole_offset up d ps h = ap (λ (qs : List Piece). all_read (first_offset qs)) (sym (append-nil ps)) ∙ ap all_read (front_offset up d ps [] h refl)
 
 -- ## The end
 
@@ -100,25 +100,25 @@ closed_is _ w e = absurd (none-some w e)
 
 before_is : (t : List ℕ) (n : Register) (ps : List Piece) (x : Address) → IsRegister t n → before_of n ps ≡ Some x → SpellsBefore x (Run t ∷ Comma ∷ ps)
 before_is t n ps x r e =
-    let f = and_then_is (λ f. option_map (λ w. address n true w f.0) (closed_of f.1)) (offset_first ps) x e in
+    let f = and_then_is (λ f. option_map (λ w. address n true w f.0) (closed_of f.1)) (first_offset ps) x e in
     let w = map_is (λ w. address n true w f.0.0) (closed_of f.0.1) x f.2 in
     let o = offset_front ps f.0 f.1 in
     let c = closed_is f.0.1 w.0 w.1 in
     subst (λ y. SpellsBefore y (Run t ∷ Comma ∷ ps)) w.2
     (record { before = refl; n = t; offset = o.0; spelled = ap (λ (qs : List Piece). Run t ∷ Comma ∷ qs) (o.1 ∙ ap (λ (qs : List Piece). o.0 ++ qs) c); n-is = r; offset-is = o.2 })
 
-base_is : (t : List ℕ) (n : Register) (ps : List Piece) (x : Address) → IsRegister t n → plain_of n ps ≡ Some x → SpellsBase x (Run t ∷ Sign CloseBracket ∷ ps)
+base_is : (t : List ℕ) (n : Register) (ps : List Piece) (x : Address) → IsRegister t n → unoffset_of n ps ≡ Some x → SpellsBase x (Run t ∷ Sign CloseBracket ∷ ps)
 base_is t n ps x r e =
     let w = map_is (λ w. address n true w (true, distance.Number 0)) (bang_of ps) x e in
     record { rn = n; write_back = w.0; means = sym w.2; n = t; spelled = ap (λ (qs : List Piece). Run t ∷ Sign CloseBracket ∷ qs) (bang_is ps w.0 w.1); n-is = r }
 
-after_is : (user : Bool) (t : List ℕ) (n : Register) (ps : List Piece) (x : Address) → IsRegister t n → option_map (address n false user) (all_read (offset_first ps)) ≡ Some x → SpellsAfter user x (Run t ∷ Sign CloseBracket ∷ Comma ∷ ps)
+after_is : (user : Bool) (t : List ℕ) (n : Register) (ps : List Piece) (x : Address) → IsRegister t n → option_map (address n false user) (all_read (first_offset ps)) ≡ Some x → SpellsAfter user x (Run t ∷ Sign CloseBracket ∷ Comma ∷ ps)
 after_is user t n ps x r e =
-    let o = map_is (address n false user) (all_read (offset_first ps)) x e in
+    let o = map_is (address n false user) (all_read (first_offset ps)) x e in
     subst (λ y. SpellsAfter user y (Run t ∷ Sign CloseBracket ∷ Comma ∷ ps)) o.2
     (record { after = refl; rights = refl; n = t; offset = ps; spelled = refl; n-is = r; offset-is = offset_whole ps o.0 o.1 })
 
-plain_is : (user : Bool) (t : List ℕ) (n : Register) (ps : List Piece) (x : Address) → IsRegister t n → cond user None (plain_of n ps) ≡ Some x → SpellsAddress user x (Run t ∷ Sign CloseBracket ∷ ps)
+plain_is : (user : Bool) (t : List ℕ) (n : Register) (ps : List Piece) (x : Address) → IsRegister t n → cond user None (unoffset_of n ps) ≡ Some x → SpellsAddress user x (Run t ∷ Sign CloseBracket ∷ ps)
 plain_is true t n ps x r e = absurd (none-some x e)
 plain_is false t n ps x r e = inl (refl, base_is t n ps x r e)
 
@@ -137,7 +137,7 @@ based_is user t n _ x r e = absurd (none-some x e)
 
 pub address_is : (user : Bool) (ps : List Piece) (x : Address) → address_of user ps ≡ Some x → SpellsAddress user x ps
 address_is user ps x e =
-    let f = and_then_is (λ f. based user f.0 f.1) (register_first ps) x e in
+    let f = and_then_is (λ f. based user f.0 f.1) (first_register ps) x e in
     let t = register_front ps f.0 f.1 in
     subst (SpellsAddress user x) (sym t.1) (based_is user t.0 f.0.0 f.0.1 x t.2 f.2)
 

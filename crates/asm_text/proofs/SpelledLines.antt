@@ -9,7 +9,7 @@ use Rattle.std.proofs.lemmas.Option.{none-some}
 use Rattle.arm2_decode.specs.declared.names.Cond.{Cond}
 use Rattle.arm2_decode.specs.declared.names.Register.{Register}
 use Rattle.asm_text.specs.Pieces.{Piece, Run, Comma, Sign, Gap, pieces}
-use Rattle.asm_text.specs.Registers.{register_comma_first}
+use Rattle.asm_text.specs.Registers.{first_register_comma}
 use Rattle.asm_text.specs.Words.{IsSpelling, spelled_word_of}
 use Rattle.asm_text.specs.Said.{Target, Number, Label, Said, Codes, Refers, Orgs, Lists}
 use Rattle.asm_text.specs.Operands.{address_of, block_of, data_of, is_byte, is_user, product_of}
@@ -90,13 +90,13 @@ single_is c load s d t ps x r e = at_target c load s d t ps x r e
 
 single_said_is : (load : Bool) (c : Cond) (s : Suffix) (ps : List Piece) (x : Said) → single_said c load s ps ≡ Some x → SpellsOperands x (Plain (head.Single load) c s) ps
 single_said_is load c s ps x e =
-    let f = and_then_is (λ f. single_with c load s f.0 f.1) (register_comma_first ps) x e in
+    let f = and_then_is (λ f. single_with c load s f.0 f.1) (first_register_comma ps) x e in
     let t = register_comma_front ps f.0 f.1 in
     subst (SpellsOperands x (Plain (head.Single load) c s)) (sym t.1) (single_is c load s f.0.0 t.0 f.0.1 x t.2 f.2)
 
-adr_is : (c : Cond) (s : Suffix) (ps : List Piece) (x : Said) → option_and_then (λ f. refers c (use_of.Adr f.0) f.1) (register_comma_first ps) ≡ Some x → SpellsOperands x (Plain head.Adr c s) ps
+adr_is : (c : Cond) (s : Suffix) (ps : List Piece) (x : Said) → option_and_then (λ f. refers c (use_of.Adr f.0) f.1) (first_register_comma ps) ≡ Some x → SpellsOperands x (Plain head.Adr c s) ps
 adr_is c s ps x e =
-    let f = and_then_is (λ f. refers c (use_of.Adr f.0) f.1) (register_comma_first ps) x e in
+    let f = and_then_is (λ f. refers c (use_of.Adr f.0) f.1) (first_register_comma ps) x e in
     let t = register_comma_front ps f.0 f.1 in
     let k = refers_is c (use_of.Adr f.0.0) f.0.1 x f.2 in
     subst (λ y. SpellsOperands y (Plain head.Adr c s) ps) k.2 (refl, record { d = t.0; rest = f.0.1; spelled = t.1; d-is = t.2; target = k.1 })

@@ -9,8 +9,8 @@ use Rattle.std.proofs.lemmas.Bool.Decides.{nat_tests}
 use Rattle.arm2_decode.specs.declared.names.Register.{Register}
 use Rattle.arm2_decode.specs.Names.{register_number}
 use Rattle.asm_text.specs.Pieces.{Piece, Run, Comma, Sign}
-use Rattle.asm_text.specs.Numbers.{hex_first, number_by, run_number, with_rest}
-use Rattle.asm_text.specs.Registers.{register_first, register_of}
+use Rattle.asm_text.specs.Numbers.{first_hex, number_by, run_number, with_rest}
+use Rattle.asm_text.specs.Registers.{first_register, register_of}
 use Rattle.asm_text.specs.Operands.{after_step, block, block_based, block_of, braced, caret_of, list_from, list_by, run_bits, with_bits}
 use Rattle.asm_text.specs.Statements.{is_label, only_target, run_target, target_by, values_in}
 use Rattle.asm_text.specs.Said.{Target, Number, Label}
@@ -208,7 +208,7 @@ block_based_is load s t n ps x r e = braced_is load s t n false ps x r e
 
 pub block_is : (load : Bool) (s : Suffix) (ps : List Piece) (x : BlockTransfer) → block_of load s ps ≡ Some x → SpellsBlock load s x ps
 block_is load s ps x e =
-    let f = and_then_is (λ f. block_based load s f.0 f.1) (register_first ps) x e in
+    let f = and_then_is (λ f. block_based load s f.0 f.1) (first_register ps) x e in
     let t = register_front ps f.0 f.1 in
     subst (SpellsBlock load s x) (sym t.1) (block_based_is load s t.0 f.0.0 f.0.1 x t.2 f.2)
 
@@ -258,7 +258,7 @@ target_is (Run d ∷ ps) t e =
     let k = with_rest_is ps (run_target d) (t, []) (whole_is (with_rest ps (run_target d)) t e) in
     subst (λ (qs : List Piece). SpellsTarget t (Run d ∷ qs)) (sym k.1) (run_target_is d t k.0)
 target_is (Sign Ampersand ∷ ps) t e =
-    let m = map_is (λ f. (Number f.0, f.1)) (hex_first ps) (t, []) (whole_is (option_map (λ f. (Number f.0, f.1)) (hex_first ps)) t e) in
+    let m = map_is (λ f. (Number f.0, f.1)) (first_hex ps) (t, []) (whole_is (option_map (λ f. (Number f.0, f.1)) (first_hex ps)) t e) in
     let n = number_front (Sign Ampersand ∷ ps) m.0 m.1 in
     let rest : m.0.1 ≡ [] = ap (λ (x : Target × List Piece). x.1) m.2 in
     let all : n.0 ≡ Sign Ampersand ∷ ps = sym (append-nil n.0) ∙ ap (λ (qs : List Piece). n.0 ++ qs) (sym rest) ∙ sym n.1 in

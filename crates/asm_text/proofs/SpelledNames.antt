@@ -12,9 +12,9 @@ use Rattle.std.proofs.lemmas.Option.{none-some, same_Some}
 use Rattle.arm2_decode.specs.declared.names.Register.{Register}
 use Rattle.arm2_decode.specs.declared.names.Shift.{Shift}
 use Rattle.asm_text.specs.Pieces.{Piece, Run, Comma, Sign}
-use Rattle.asm_text.specs.Numbers.{after_zero, digits_of, fits, number_by, number_first, run_number, with_rest}
+use Rattle.asm_text.specs.Numbers.{after_zero, digits_of, fits, number_by, first_number, run_number, with_rest}
 use Rattle.asm_text.specs.Operands.{alone, all_read}
-use Rattle.asm_text.specs.Registers.{in_both_cases, named_in, is_rrx, register_comma_first, register_first, register_names, register_of, shift_names, shift_of}
+use Rattle.asm_text.specs.Registers.{in_both_cases, named_in, is_rrx, first_register_comma, first_register, register_names, register_of, shift_names, shift_of}
 use Rattle.asm_text.specs.SpelledOperands.{IsDigits, IsNumber, IsRegister, IsRrx, IsShift, SpellsNumber}
 use Rattle.asm_text.specs.declared.token.Mark.TheVariants.{Ampersand}
 use Rattle.asm_text.proofs.WordLaws.{chosen, equal_bytes, false_true, same_bytes}
@@ -106,7 +106,7 @@ number_again text n h = elim h [ inl d ↦ decimal_again text n d | inr d ↦ ap
 
 -- ## A number at the front
 
-pub number_front : (ps : List Piece) (f : ℕ × List Piece) → number_first ps ≡ Some f → (a : List Piece) × (ps ≡ a ++ f.1) × SpellsNumber f.0 a
+pub number_front : (ps : List Piece) (f : ℕ × List Piece) → first_number ps ≡ Some f → (a : List Piece) × (ps ≡ a ++ f.1) × SpellsNumber f.0 a
 number_front (Run d ∷ ps) f e =
     let k = with_rest_is ps (run_number d) f e in
     (Run d ∷ [], ap (λ (qs : List Piece). Run d ∷ qs) k.1, inl (d, refl, number_is d f.0 k.0))
@@ -115,20 +115,20 @@ number_front (Sign Ampersand ∷ Run d ∷ ps) f e =
     (Sign Ampersand ∷ Run d ∷ [], ap (λ (qs : List Piece). Sign Ampersand ∷ Run d ∷ qs) k.1, inr (d, refl, digits_is 16 d f.0 k.0))
 number_front _ f e = absurd (none-some f e)
 
-pub front_number : (n : ℕ) (a rest : List Piece) → SpellsNumber n a → number_first (a ++ rest) ≡ Some (n, rest)
+pub front_number : (n : ℕ) (a rest : List Piece) → SpellsNumber n a → first_number (a ++ rest) ≡ Some (n, rest)
 front_number n a rest h =
     elim h [
       | inl k ↦ rw (k.1, number_again k.0 n k.2) refl
       | inr k ↦ rw (k.1, digits_again 16 k.0 n k.2) refl
     ]
 
-pub number_whole : (ps : List Piece) (n : ℕ) → all_read (number_first ps) ≡ Some n → SpellsNumber n ps
+pub number_whole : (ps : List Piece) (n : ℕ) → all_read (first_number ps) ≡ Some n → SpellsNumber n ps
 number_whole ps n e =
-    let k = number_front ps (n, []) (whole_is (number_first ps) n e) in
+    let k = number_front ps (n, []) (whole_is (first_number ps) n e) in
     subst (SpellsNumber n) (sym (append-nil k.0) ∙ sym k.1) k.2
 
-pub whole_number : (n : ℕ) (ps : List Piece) → SpellsNumber n ps → all_read (number_first ps) ≡ Some n
-whole_number n ps h = ap (λ (qs : List Piece). all_read (number_first qs)) (sym (append-nil ps)) ∙ ap all_read (front_number n ps [] h)
+pub whole_number : (n : ℕ) (ps : List Piece) → SpellsNumber n ps → all_read (first_number ps) ≡ Some n
+whole_number n ps h = ap (λ (qs : List Piece). all_read (first_number qs)) (sym (append-nil ps)) ∙ ap all_read (front_number n ps [] h)
 
 -- ## Names
 
@@ -194,20 +194,20 @@ rrx_again text h = elim h [ inl e ↦ rw e refl | inr e ↦ rw e refl ]
 
 -- ## A register at the front
 
-pub register_front : (ps : List Piece) (f : Register × List Piece) → register_first ps ≡ Some f → (t : List ℕ) × (ps ≡ Run t ∷ f.1) × IsRegister t f.0
+pub register_front : (ps : List Piece) (f : Register × List Piece) → first_register ps ≡ Some f → (t : List ℕ) × (ps ≡ Run t ∷ f.1) × IsRegister t f.0
 register_front (Run t ∷ ps) f e =
     let k = with_rest_is ps (register_of t) f e in
     (t, ap (λ (qs : List Piece). Run t ∷ qs) k.1, register_is t f.0 k.0)
 register_front _ f e = absurd (none-some f e)
 
-pub front_register : (t : List ℕ) (r : Register) (ps : List Piece) → IsRegister t r → register_first (Run t ∷ ps) ≡ Some (r, ps)
+pub front_register : (t : List ℕ) (r : Register) (ps : List Piece) → IsRegister t r → first_register (Run t ∷ ps) ≡ Some (r, ps)
 front_register t r ps h = rw (register_again t r h) refl
 
-pub register_comma_front : (ps : List Piece) (f : Register × List Piece) → register_comma_first ps ≡ Some f → (t : List ℕ) × (ps ≡ Run t ∷ Comma ∷ f.1) × IsRegister t f.0
+pub register_comma_front : (ps : List Piece) (f : Register × List Piece) → first_register_comma ps ≡ Some f → (t : List ℕ) × (ps ≡ Run t ∷ Comma ∷ f.1) × IsRegister t f.0
 register_comma_front (Run t ∷ Comma ∷ ps) f e =
     let k = with_rest_is ps (register_of t) f e in
     (t, ap (λ (qs : List Piece). Run t ∷ Comma ∷ qs) k.1, register_is t f.0 k.0)
 register_comma_front _ f e = absurd (none-some f e)
 
-pub front_register_comma : (t : List ℕ) (r : Register) (ps : List Piece) → IsRegister t r → register_comma_first (Run t ∷ Comma ∷ ps) ≡ Some (r, ps)
+pub front_register_comma : (t : List ℕ) (r : Register) (ps : List Piece) → IsRegister t r → first_register_comma (Run t ∷ Comma ∷ ps) ≡ Some (r, ps)
 front_register_comma t r ps h = rw (register_again t r h) refl

@@ -39,12 +39,12 @@ abbrev pub with_rest : {A : Type 0} → List Piece → Option A → Option (A ×
 with_rest ps None = None
 with_rest ps (Some a) = Some (a, ps)
 
-abbrev pub hex_first : List Piece → Option (ℕ × List Piece)
-hex_first (Run d ∷ ps) = with_rest ps (number_by 16 d)
-hex_first _ = None
+abbrev pub first_hex : List Piece → Option (ℕ × List Piece)
+first_hex (Run d ∷ ps) = with_rest ps (number_by 16 d)
+first_hex _ = None
 
 -- a number at the front
-abbrev pub number_first : List Piece → Option (ℕ × List Piece)
-number_first (Run d ∷ ps) = with_rest ps (run_number d)
-number_first (Sign Ampersand ∷ ps) = hex_first ps
-number_first _ = None
+abbrev pub first_number : List Piece → Option (ℕ × List Piece)
+first_number (Run d ∷ ps) = with_rest ps (run_number d)
+first_number (Sign Ampersand ∷ ps) = first_hex ps
+first_number _ = None

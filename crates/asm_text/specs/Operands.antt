@@ -9,8 +9,8 @@ use Rattle.arm2_decode.specs.declared.names.Shift.{Shift}
 use Rattle.arm2_decode.specs.declared.names.Shift.TheVariants.{Lsl}
 use Rattle.arm2_decode.specs.Names.{register_number}
 use Rattle.asm_text.specs.Pieces.{Piece, Run, Comma, Sign, Gap}
-use Rattle.asm_text.specs.Numbers.{number_first}
-use Rattle.asm_text.specs.Registers.{is_rrx, register_comma_first, register_first, register_of, shift_of}
+use Rattle.asm_text.specs.Numbers.{first_number}
+use Rattle.asm_text.specs.Registers.{is_rrx, first_register_comma, first_register, register_of, shift_of}
 use Rattle.arm2_decode.specs.Names.{is_compare}
 use Rattle.asm_text.specs.declared.token.Mark.TheVariants.{Hash, Minus, Bang, Caret, CloseBracket, OpenBrace}
 use Rattle.asm_text.specs.declared.token.Mark.TheVariants.{CloseBrace}
@@ -43,40 +43,40 @@ all_read (Some f) = alone f.0 f.1
 
 -- ## Shifts: LSL #3, LSL R2, RRX
 
-abbrev pub amount_first : Shift → List Piece → Option (Shifting × List Piece)
-amount_first s ps = option_map (λ f. (shifting.Amount (amount.By s f.0), f.1)) (number_first ps)
+abbrev pub first_amount : Shift → List Piece → Option (Shifting × List Piece)
+first_amount s ps = option_map (λ f. (shifting.Amount (amount.By s f.0), f.1)) (first_number ps)
 
-abbrev pub shift_by : Shift → List Piece → Option (Shifting × List Piece)
-shift_by s (Sign Hash ∷ ps) = amount_first s ps
-shift_by s (Run r ∷ ps) = option_map (λ m. (shifting.Register s m, ps)) (register_of r)
-shift_by s _ = None
+abbrev pub first_shift_by : Shift → List Piece → Option (Shifting × List Piece)
+first_shift_by s (Sign Hash ∷ ps) = first_amount s ps
+first_shift_by s (Run r ∷ ps) = option_map (λ m. (shifting.Register s m, ps)) (register_of r)
+first_shift_by s _ = None
 
-abbrev pub shift_words : List ℕ → List Piece → Option (Shifting × List Piece)
-shift_words w (Gap ∷ ps) = option_and_then (λ s. shift_by s ps) (shift_of w)
-shift_words w ps = if is_rrx w then Some (shifting.Amount amount.Rrx, ps) else None
+abbrev pub first_shift_words : List ℕ → List Piece → Option (Shifting × List Piece)
+first_shift_words w (Gap ∷ ps) = option_and_then (λ s. first_shift_by s ps) (shift_of w)
+first_shift_words w ps = if is_rrx w then Some (shifting.Amount amount.Rrx, ps) else None
 
-abbrev pub shift_first : List Piece → Option (Shifting × List Piece)
-shift_first (Run w ∷ ps) = shift_words w ps
-shift_first _ = None
+abbrev pub first_shift : List Piece → Option (Shifting × List Piece)
+first_shift (Run w ∷ ps) = first_shift_words w ps
+first_shift _ = None
 
 -- after a register: a comma and a shift, or none, which is LSL #0
-abbrev pub shifting_first : List Piece → Option (Shifting × List Piece)
-shifting_first (Comma ∷ ps) = shift_first ps
-shifting_first ps = Some (shifting.Amount (amount.By Lsl 0), ps)
+abbrev pub first_shifting : List Piece → Option (Shifting × List Piece)
+first_shifting (Comma ∷ ps) = first_shift ps
+first_shifting ps = Some (shifting.Amount (amount.By Lsl 0), ps)
 
 -- ## Data processing
 
 -- #n; Rm; Rm,shift
 abbrev pub operand_of : List Piece → Option Operand
-operand_of (Sign Hash ∷ ps) = option_map operand.Immediate (all_read (number_first ps))
+operand_of (Sign Hash ∷ ps) = option_map operand.Immediate (all_read (first_number ps))
 operand_of (Run r ∷ ps) =
-    option_and_then (λ m. option_map (operand.Shifted m) (all_read (shifting_first ps))) (register_of r)
+    option_and_then (λ m. option_map (operand.Shifted m) (all_read (first_shifting ps))) (register_of r)
 operand_of _ = None
 
-abbrev pub is_move : Opcode → Bool
-is_move Mov = true
-is_move Mvn = true
-is_move _ = false
+abbrev pub lacks_rn : Opcode → Bool
+lacks_rn Mov = true
+lacks_rn Mvn = true
+lacks_rn _ = false
 
 abbrev pub is_s : Suffix → Bool
 is_s S = true
@@ -105,15 +105,15 @@ three_of op s d ps =
     option_and_then
     (λ f. option_map (λ o. record { opcode = op; sets_flags = is_s s; rn = f.0; rd = d; operand = o })
     (operand_of f.1))
-    (register_comma_first ps)
+    (first_register_comma ps)
 
 abbrev pub data_with : Opcode → Suffix → Register → List Piece → Option Data
 data_with op s r ps =
     if is_compare op then compare_of op s r ps
-    else (if is_move op then move_of op s r ps else three_of op s r ps)
+    else (if lacks_rn op then move_of op s r ps else three_of op s r ps)
 
 abbrev pub data_of : Opcode → Suffix → List Piece → Option Data
-data_of op s ps = option_and_then (λ f. data_with op s f.0 f.1) (register_comma_first ps)
+data_of op s ps = option_and_then (λ f. data_with op s f.0 f.1) (first_register_comma ps)
 
 -- ## Multiplies
 
@@ -121,22 +121,22 @@ data_of op s ps = option_and_then (λ f. data_with op s f.0 f.1) (register_comma
 abbrev pub factors_of : Suffix → Register → Register → List Piece → Option Product
 factors_of s d m ps =
     option_map (λ t. record { accumulate = false; sets_flags = is_s s; rd = d; rn = R0; rs = t; rm = m })
-    (all_read (register_first ps))
+    (all_read (first_register ps))
 
 abbrev pub sum_of : Suffix → Register → Register → List Piece → Option Product
 sum_of s d m ps =
     option_and_then
     (λ f. option_map
     (λ n. record { accumulate = true; sets_flags = is_s s; rd = d; rn = n; rs = f.0; rm = m })
-    (all_read (register_first f.1)))
-    (register_comma_first ps)
+    (all_read (first_register f.1)))
+    (first_register_comma ps)
 
 abbrev pub product_of : Bool → Suffix → List Piece → Option Product
 product_of accumulate s ps =
     option_and_then
     (λ f. option_and_then (λ g. if accumulate then sum_of s f.0 g.0 g.1 else factors_of s f.0 g.0 g.1)
-    (register_comma_first f.1))
-    (register_comma_first ps)
+    (first_register_comma f.1))
+    (first_register_comma ps)
 
 -- ## Addresses
 
@@ -151,20 +151,20 @@ by_amount up m (shifting.Register s r, ps) = None
 
 abbrev pub register_offset : Bool → List Piece → Option (Offset × List Piece)
 register_offset up ps =
-    option_and_then (λ f. option_and_then (by_amount up f.0) (shifting_first f.1)) (register_first ps)
+    option_and_then (λ f. option_and_then (by_amount up f.0) (first_shifting f.1)) (first_register ps)
 
 abbrev pub signed_offset : Bool → List Piece → Option (Offset × List Piece)
-signed_offset up ps = option_map (λ f. ((up, distance.Number f.0), f.1)) (number_first ps)
+signed_offset up ps = option_map (λ f. ((up, distance.Number f.0), f.1)) (first_number ps)
 
 abbrev pub number_offset : List Piece → Option (Offset × List Piece)
 number_offset (Sign Minus ∷ ps) = signed_offset false ps
 number_offset ps = signed_offset true ps
 
 -- #n; #-n; Rm; -Rm; with a shift by a number
-abbrev pub offset_first : List Piece → Option (Offset × List Piece)
-offset_first (Sign Hash ∷ ps) = number_offset ps
-offset_first (Sign Minus ∷ ps) = register_offset false ps
-offset_first ps = register_offset true ps
+abbrev pub first_offset : List Piece → Option (Offset × List Piece)
+first_offset (Sign Hash ∷ ps) = number_offset ps
+first_offset (Sign Minus ∷ ps) = register_offset false ps
+first_offset ps = register_offset true ps
 
 -- nothing, or the mark, and no more
 abbrev pub bang_of : List Piece → Option Bool
@@ -184,16 +184,16 @@ address n before write_back o =
 -- after [Rn, the offset and its end
 abbrev pub before_of : Register → List Piece → Option Address
 before_of n ps =
-    option_and_then (λ f. option_map (λ w. address n true w f.0) (closed_of f.1)) (offset_first ps)
+    option_and_then (λ f. option_map (λ w. address n true w f.0) (closed_of f.1)) (first_offset ps)
 
 -- [Rn] or [Rn]!
-abbrev pub plain_of : Register → List Piece → Option Address
-plain_of n ps = option_map (λ w. address n true w (true, distance.Number 0)) (bang_of ps)
+abbrev pub unoffset_of : Register → List Piece → Option Address
+unoffset_of n ps = option_map (λ w. address n true w (true, distance.Number 0)) (bang_of ps)
 
 -- after [Rn] nothing, a mark, or a comma and an offset; T asks the last and sets W
 abbrev pub after_of : Bool → Register → List Piece → Option Address
-after_of user n (Comma ∷ ps) = option_map (address n false user) (all_read (offset_first ps))
-after_of user n ps = if user then None else plain_of n ps
+after_of user n (Comma ∷ ps) = option_map (address n false user) (all_read (first_offset ps))
+after_of user n ps = if user then None else unoffset_of n ps
 
 abbrev pub based : Bool → Register → List Piece → Option Address
 based user n (Sign CloseBracket ∷ ps) = after_of user n ps
@@ -202,7 +202,7 @@ based user n _ = None
 
 -- after [
 abbrev pub address_of : Bool → List Piece → Option Address
-address_of user ps = option_and_then (λ f. based user f.0 f.1) (register_first ps)
+address_of user ps = option_and_then (λ f. based user f.0 f.1) (first_register ps)
 
 abbrev pub is_byte : Suffix → Bool
 is_byte B = true
@@ -318,4 +318,4 @@ block_based load s n ps = braced load s n false ps
 
 -- Rn!,{R0-R3,R5}^
 abbrev pub block_of : Bool → Suffix → List Piece → Option BlockTransfer
-block_of load s ps = option_and_then (λ f. block_based load s f.0 f.1) (register_first ps)
+block_of load s ps = option_and_then (λ f. block_based load s f.0 f.1) (first_register ps)

@@ -45,11 +45,11 @@ abbrev pub is_rrx : List ℕ → Bool
 is_rrx text = bytes_eq text (codes "RRX") || bytes_eq text (codes "rrx")
 
 -- a register at the front
-abbrev pub register_first : List Piece → Option (Register × List Piece)
-register_first (Run r ∷ ps) = with_rest ps (register_of r)
-register_first _ = None
+abbrev pub first_register : List Piece → Option (Register × List Piece)
+first_register (Run r ∷ ps) = with_rest ps (register_of r)
+first_register _ = None
 
 -- a register and a comma
-abbrev pub register_comma_first : List Piece → Option (Register × List Piece)
-register_comma_first (Run r ∷ Comma ∷ ps) = with_rest ps (register_of r)
-register_comma_first _ = None
+abbrev pub first_register_comma : List Piece → Option (Register × List Piece)
+first_register_comma (Run r ∷ Comma ∷ ps) = with_rest ps (register_of r)
+first_register_comma _ = None

@@ -14,7 +14,7 @@ use Rattle.arm2_decode.specs.Names.{register_number}
 use Rattle.asm_text.specs.Pieces.{Piece, Run, Comma, Sign, Gap}
 use Rattle.asm_text.specs.Registers.{in_both_cases, register_names, shift_names}
 use Rattle.arm2_decode.specs.Names.{is_compare}
-use Rattle.asm_text.specs.Operands.{block_before, block_up, compare_rd, is_move, is_s}
+use Rattle.asm_text.specs.Operands.{block_before, block_up, compare_rd, lacks_rn, is_s}
 use Rattle.asm_text.specs.declared.token.Mark.{Mark}
 use Rattle.asm_text.specs.declared.token.Mark.TheVariants.{Hash, Minus, Bang, Caret, Ampersand, CloseBracket}
 use Rattle.asm_text.specs.declared.token.Mark.TheVariants.{OpenBrace, CloseBrace}
@@ -133,8 +133,8 @@ pub record SpellsThree (op : Opcode) (s : Suffix) (x : Data) (ps : List Piece) :
 abbrev pub SpellsData : Opcode → Suffix → Data → List Piece → Type 0
 SpellsData op s x ps =
     ((is_compare op ≡ true) × SpellsCompare op s x ps)
-    ⊎ ((is_compare op ≡ false) × (is_move op ≡ true) × SpellsMove op s x ps)
-    ⊎ ((is_compare op ≡ false) × (is_move op ≡ false) × SpellsThree op s x ps)
+    ⊎ ((is_compare op ≡ false) × (lacks_rn op ≡ true) × SpellsMove op s x ps)
+    ⊎ ((is_compare op ≡ false) × (lacks_rn op ≡ false) × SpellsThree op s x ps)
 
 -- ## Multiplies
 

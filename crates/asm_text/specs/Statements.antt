@@ -7,8 +7,8 @@ use Rattle.std.specs.List.{cons_option, list_all, prefix_len}
 use Rattle.arm2_decode.specs.declared.names.Cond.{Cond}
 use Rattle.arm2_decode.specs.declared.names.Register.{Register}
 use Rattle.asm_text.specs.Pieces.{Piece, Run, Comma, Sign, Gap, is_blank, is_name, pieces}
-use Rattle.asm_text.specs.Numbers.{hex_first, number_by, number_first, run_number, with_rest}
-use Rattle.asm_text.specs.Registers.{register_comma_first}
+use Rattle.asm_text.specs.Numbers.{first_hex, number_by, first_number, run_number, with_rest}
+use Rattle.asm_text.specs.Registers.{first_register_comma}
 use Rattle.asm_text.specs.Words.{spelled_word_of}
 use Rattle.asm_text.specs.Said.{Target, Number, Label, Said, Codes, Refers, Orgs, Lists}
 use Rattle.asm_text.specs.Operands.{address_of, block_of, data_of, is_byte, is_user, product_of, all_read}
@@ -44,14 +44,14 @@ run_target d = target_by (run_number d) d
 
 abbrev pub target_first : List Piece → Option (Target × List Piece)
 target_first (Run d ∷ ps) = with_rest ps (run_target d)
-target_first (Sign Ampersand ∷ ps) = option_map (λ f. (Number f.0, f.1)) (hex_first ps)
+target_first (Sign Ampersand ∷ ps) = option_map (λ f. (Number f.0, f.1)) (first_hex ps)
 target_first _ = None
 
 abbrev pub only_target : List Piece → Option Target
 only_target ps = all_read (target_first ps)
 
 abbrev pub only_number : List Piece → Option ℕ
-only_number ps = all_read (number_first ps)
+only_number ps = all_read (first_number ps)
 
 -- ## The operands of each word
 
@@ -69,11 +69,11 @@ single_with c load s d ps = if is_user s then None else refers c (use_of.Transfe
 
 -- Rd and an address in brackets or a target
 abbrev pub single_said : Cond → Bool → Suffix → List Piece → Option Said
-single_said c load s ps = option_and_then (λ f. single_with c load s f.0 f.1) (register_comma_first ps)
+single_said c load s ps = option_and_then (λ f. single_with c load s f.0 f.1) (first_register_comma ps)
 
 -- Rd and a target
 abbrev pub adr_said : Cond → List Piece → Option Said
-adr_said c ps = option_and_then (λ f. refers c (use_of.Adr f.0) f.1) (register_comma_first ps)
+adr_said c ps = option_and_then (λ f. refers c (use_of.Adr f.0) f.1) (first_register_comma ps)
 
 abbrev pub action_of : Head → Suffix → List Piece → Option Action
 action_of (head.Data op) s ps = option_map action.Data (data_of op s ps)

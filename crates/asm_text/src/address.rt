@@ -1,9 +1,9 @@
 ghost use Rattle.std.specs.Prelude.{◌≡◌, map, option_map};
 ghost use Rattle.asm_text.specs.Pieces.{in_pieces, piece_of};
 ghost use Rattle.asm_text.specs.Operands.{address_of, after_of, bang_of, based, before_of};
-ghost use Rattle.asm_text.specs.Operands.{address, closed_of, plain_of};
+ghost use Rattle.asm_text.specs.Operands.{address, closed_of, unoffset_of};
 ghost use Rattle.asm_text.specs.Operands.{signed_offset};
-ghost use Rattle.asm_text.specs.Operands.{number_offset, offset_first};
+ghost use Rattle.asm_text.specs.Operands.{number_offset, first_offset};
 ghost use Rattle.asm_text.specs.Operands.{register_offset};
 
 use crate::number::first_number;
@@ -48,7 +48,7 @@ fn number_offset<'a, 'b>(tokens: &'a [Token<'b>]) -> Option<(Offset, &'a [Token<
 }
 
 fn first_offset<'a, 'b>(tokens: &'a [Token<'b>]) -> Option<(Offset, &'a [Token<'b>])>
-    ensures { option_map in_pieces result ≡ offset_first (map piece_of tokens.now) }
+    ensures { option_map in_pieces result ≡ first_offset (map piece_of tokens.now) }
 {
     match tokens {
         [Token::Sign(Mark::Hash), rest @ ..] => number_offset(rest),
@@ -97,8 +97,8 @@ fn before_of(rn: Register, tokens: &[Token<'_>]) -> Option<Address>
     Some(address(rn, true, write_back, offset))
 }
 
-fn plain_of(rn: Register, tokens: &[Token<'_>]) -> Option<Address>
-    ensures { result ≡ plain_of rn (map piece_of tokens.now) }
+fn unoffset_of(rn: Register, tokens: &[Token<'_>]) -> Option<Address>
+    ensures { result ≡ unoffset_of rn (map piece_of tokens.now) }
 {
     let write_back = bang_of(tokens)?;
     Some(address(rn, true, write_back, (true, Distance::Number(0))))
@@ -112,7 +112,7 @@ fn after_of(user: bool, rn: Register, tokens: &[Token<'_>]) -> Option<Address>
             let offset = all_read(first_offset(rest))?;
             Some(address(rn, false, user, offset))
         }
-        _ => { if user { None } else { plain_of(rn, tokens) } }
+        _ => { if user { None } else { unoffset_of(rn, tokens) } }
     }
 }
 

@@ -44,5 +44,5 @@ pub use syntax::{
     Action, Address, Amount, BlockTransfer, Code, Data, Distance, Operand, Product, Reference,
     Shifting, Statement, Transfer, Use, Value,
 };
-pub use token::{Mark, after_blanks, is_blank};
+pub use token::{after_blanks, is_blank};
 pub use word::Word;

@@ -138,7 +138,7 @@ pub fn opcode_letters(opcode: Opcode) -> &'static [u8]
 
 /// The condition that a text in upper case names.
 #[tactic(auto, unfolding(crate::specs::Names::cond_of))]
-pub(crate) fn named_cond(text: &[u8]) -> Option<Cond>
+pub(crate) fn cond_of(text: &[u8]) -> Option<Cond>
     ensures { result ≡ cond_of text.now }
 {
     named_in(&CONDS, text)
@@ -146,7 +146,7 @@ pub(crate) fn named_cond(text: &[u8]) -> Option<Cond>
 
 /// The head that a text in upper case names.
 #[tactic(auto, unfolding(crate::specs::Names::head_of))]
-pub(crate) fn named_head(text: &[u8]) -> Option<Head>
+pub(crate) fn head_of(text: &[u8]) -> Option<Head>
     ensures { result ≡ head_of text.now }
 {
     named_in(&HEADS, text)
@@ -154,7 +154,7 @@ pub(crate) fn named_head(text: &[u8]) -> Option<Head>
 
 /// The suffix that a text in upper case names.
 #[tactic(auto, unfolding(crate::specs::Names::suffix_of))]
-pub(crate) fn named_suffix(text: &[u8]) -> Option<Suffix>
+pub(crate) fn suffix_of(text: &[u8]) -> Option<Suffix>
     ensures { result ≡ suffix_of text.now }
 {
     named_in(&SUFFIXES, text)

@@ -1,6 +1,6 @@
 ghost use Rattle.std.specs.Prelude.{◌≡◌, ◌≤◌, ◌⊎◌, map, option_map};
 ghost use Rattle.asm_text.specs.Pieces.{in_pieces, piece_of};
-ghost use Rattle.asm_text.specs.Numbers.{capped, digits_of, hex_first, number_by, number_first, run_number};
+ghost use Rattle.asm_text.specs.Numbers.{capped, digits_of, first_hex, number_by, first_number, run_number};
 
 use crate::token::{Mark, Token};
 
@@ -8,7 +8,7 @@ use crate::token::{Mark, Token};
 const LIMIT: u64 = 0x1_0000_0000;
 
 // The number of the digits, or 2^32 where it is larger.
-fn capped_number(radix: u32, text: &[u8]) -> Option<u64>
+fn capped(radix: u32, text: &[u8]) -> Option<u64>
     requires { (radix ≡ 10) ⊎ (radix ≡ 16) }
     ensures { result ≡ capped (digits_of radix text.now) }
 {
@@ -28,7 +28,7 @@ fn number_by(radix: u32, text: &[u8]) -> Option<u32>
     requires { (radix ≡ 10) ⊎ (radix ≡ 16) }
     ensures { result ≡ number_by radix text.now }
 {
-    let value = capped_number(radix, text)?;
+    let value = capped(radix, text)?;
     if value < LIMIT {
         Some(value as u32)
     } else {
@@ -55,7 +55,7 @@ pub fn read_hex(text: &[u8]) -> Option<u32>
 
 /// The hexadecimal number that some tokens begin with, and those after it.
 pub(crate) fn first_hex<'a, 'b>(tokens: &'a [Token<'b>]) -> Option<(u32, &'a [Token<'b>])>
-    ensures { option_map in_pieces result ≡ hex_first (map piece_of tokens.now) }
+    ensures { option_map in_pieces result ≡ first_hex (map piece_of tokens.now) }
 {
     match tokens {
         [Token::Run(text), rest @ ..] => Some((read_hex(text)?, rest)),
@@ -65,7 +65,7 @@ pub(crate) fn first_hex<'a, 'b>(tokens: &'a [Token<'b>]) -> Option<(u32, &'a [To
 
 /// The number that some tokens begin with, and those after it.
 pub(crate) fn first_number<'a, 'b>(tokens: &'a [Token<'b>]) -> Option<(u32, &'a [Token<'b>])>
-    ensures { option_map in_pieces result ≡ number_first (map piece_of tokens.now) }
+    ensures { option_map in_pieces result ≡ first_number (map piece_of tokens.now) }
 {
     match tokens {
         [Token::Run(text), rest @ ..] => Some((read_number(text)?, rest)),

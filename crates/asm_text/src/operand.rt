@@ -1,13 +1,13 @@
 ghost use Rattle.std.specs.Prelude.{◌≡◌, map, option_map};
 ghost use Rattle.asm_text.specs.Pieces.{in_pieces, piece_of};
-ghost use Rattle.asm_text.specs.Operands.{amount_first, compare_of, data_of, data_with, factors_of};
-ghost use Rattle.asm_text.specs.Operands.{is_move, is_s, compare_rd, move_of, operand_of};
-ghost use Rattle.asm_text.specs.Operands.{product_of, shift_by, shift_first, shift_words, shifting_first};
+ghost use Rattle.asm_text.specs.Operands.{first_amount, compare_of, data_of, data_with, factors_of};
+ghost use Rattle.asm_text.specs.Operands.{lacks_rn, is_s, compare_rd, move_of, operand_of};
+ghost use Rattle.asm_text.specs.Operands.{product_of, first_shift, first_shift_by, first_shift_words, first_shifting};
 ghost use Rattle.asm_text.specs.Operands.{sum_of, three_of, all_read};
 
 use crate::names::Suffix;
 use crate::number::first_number;
-use crate::register::{first_register, first_register_comma, is_rrx, named_shift, register_of};
+use crate::register::{first_register, first_register_comma, is_rrx, register_of, shift_of};
 use crate::syntax::{Amount, Data, Operand, Product, Shifting};
 use crate::token::{Mark, Token};
 use arm2_decode::{Opcode, Register, Shift};
@@ -16,7 +16,7 @@ fn first_amount<'a, 'b>(
     shift: Shift,
     tokens: &'a [Token<'b>],
 ) -> Option<(Shifting, &'a [Token<'b>])>
-    ensures { option_map in_pieces result ≡ amount_first shift (map piece_of tokens.now) }
+    ensures { option_map in_pieces result ≡ first_amount shift (map piece_of tokens.now) }
 {
     let (n, rest) = first_number(tokens)?;
     Some((Shifting::Amount(Amount::By(shift, n)), rest))
@@ -26,7 +26,7 @@ fn first_shift_by<'a, 'b>(
     shift: Shift,
     tokens: &'a [Token<'b>],
 ) -> Option<(Shifting, &'a [Token<'b>])>
-    ensures { option_map in_pieces result ≡ shift_by shift (map piece_of tokens.now) }
+    ensures { option_map in_pieces result ≡ first_shift_by shift (map piece_of tokens.now) }
 {
     match tokens {
         [Token::Sign(Mark::Hash), rest @ ..] => first_amount(shift, rest),
@@ -42,11 +42,11 @@ fn first_shift_words<'a, 'b>(
     name: &[u8],
     tokens: &'a [Token<'b>],
 ) -> Option<(Shifting, &'a [Token<'b>])>
-    ensures { option_map in_pieces result ≡ shift_words name.now (map piece_of tokens.now) }
+    ensures { option_map in_pieces result ≡ first_shift_words name.now (map piece_of tokens.now) }
 {
     match tokens {
         [Token::Gap, rest @ ..] => {
-            let shift = named_shift(name)?;
+            let shift = shift_of(name)?;
             first_shift_by(shift, rest)
         }
         _ => {
@@ -60,7 +60,7 @@ fn first_shift_words<'a, 'b>(
 }
 
 fn first_shift<'a, 'b>(tokens: &'a [Token<'b>]) -> Option<(Shifting, &'a [Token<'b>])>
-    ensures { option_map in_pieces result ≡ shift_first (map piece_of tokens.now) }
+    ensures { option_map in_pieces result ≡ first_shift (map piece_of tokens.now) }
 {
     match tokens {
         [Token::Run(name), rest @ ..] => first_shift_words(name, rest),
@@ -70,7 +70,7 @@ fn first_shift<'a, 'b>(tokens: &'a [Token<'b>]) -> Option<(Shifting, &'a [Token<
 
 /// How the register in front of some tokens is shifted, and the tokens after the shift.
 pub(crate) fn first_shifting<'a, 'b>(tokens: &'a [Token<'b>]) -> Option<(Shifting, &'a [Token<'b>])>
-    ensures { option_map in_pieces result ≡ shifting_first (map piece_of tokens.now) }
+    ensures { option_map in_pieces result ≡ first_shifting (map piece_of tokens.now) }
 {
     match tokens {
         [Token::Comma, rest @ ..] => first_shift(rest),
@@ -102,8 +102,8 @@ fn operand_of(tokens: &[Token<'_>]) -> Option<Operand>
     }
 }
 
-fn is_move(opcode: Opcode) -> bool
-    ensures { result ≡ is_move opcode }
+fn lacks_rn(opcode: Opcode) -> bool
+    ensures { result ≡ lacks_rn opcode }
 {
     matches!(opcode, Opcode::Mov | Opcode::Mvn)
 }
@@ -168,7 +168,7 @@ fn data_with(opcode: Opcode, suffix: Suffix, r: Register, tokens: &[Token<'_>]) 
 {
     if opcode.is_compare() {
         compare_of(opcode, suffix, r, tokens)
-    } else if is_move(opcode) {
+    } else if lacks_rn(opcode) {
         move_of(opcode, suffix, r, tokens)
     } else {
         three_of(opcode, suffix, r, tokens)

@@ -10,7 +10,7 @@ ghost use Rattle.asm_text.specs.Words.{spelled_word_of};
 ghost use Rattle.asm_text.specs.Said.{said};
 ghost use Rattle.asm_text.specs.declared.printed_lines.Shown.{Shown};
 
-use crate::statement::{plain, refer};
+use crate::statement::{plain_said, refers};
 use crate::syntax::{Code, Reference, Statement, Use, Value};
 use crate::token::{Token, next};
 use crate::word::{Word, word_of};
@@ -69,16 +69,16 @@ fn shown_in(statement: &Statement<'_>) -> Option<Shown>
 }
 
 #[tactic(auto, using(crate::proofs::ShownLaws::lists_hidden, crate::proofs::ShownLaws::orgs_hidden))]
-fn operands(word: Word, tokens: &[Token<'_>]) -> Option<Shown>
+fn operands_of(word: Word, tokens: &[Token<'_>]) -> Option<Shown>
     ensures { result ≡ shown_result (or_bad (operands_of word (map piece_of tokens.now))) }
 {
     match word {
         Word::Plain(head, cond, suffix) => {
-            let statement = plain(head, cond, suffix, tokens)?;
+            let statement = plain_said(head, cond, suffix, tokens)?;
             shown_in(&statement)
         }
         Word::Branch(link, cond) => {
-            let statement = refer(cond, Use::Branch(link), tokens)?;
+            let statement = refers(cond, Use::Branch(link), tokens)?;
             shown_in(&statement)
         }
         Word::Org | Word::Dcd => None,
@@ -89,7 +89,7 @@ fn after_word(word: Word, tokens: &[Token<'_>]) -> Option<Shown>
     ensures { result ≡ shown_result (after_word word (map piece_of tokens.now)) }
 {
     match tokens {
-        [Token::Gap, rest @ ..] => operands(word, rest),
+        [Token::Gap, rest @ ..] => operands_of(word, rest),
         _ => None,
     }
 }

@@ -1,6 +1,6 @@
 ghost use Rattle.std.specs.Prelude.{◌≡◌, map, option_map};
 ghost use Rattle.asm_text.specs.Pieces.{in_pieces, piece_of};
-ghost use Rattle.asm_text.specs.Registers.{is_rrx, register_comma_first, register_first, register_of};
+ghost use Rattle.asm_text.specs.Registers.{is_rrx, first_register_comma, first_register, register_of};
 ghost use Rattle.asm_text.specs.Registers.{shift_of};
 
 use crate::table::named_in;
@@ -71,7 +71,7 @@ pub(crate) fn register_of(text: &[u8]) -> Option<Register>
 
 /// The shift that a text names.
 #[tactic(auto, unfolding(crate::specs::Registers::shift_of))]
-pub(crate) fn named_shift(text: &[u8]) -> Option<Shift>
+pub(crate) fn shift_of(text: &[u8]) -> Option<Shift>
     ensures { result ≡ shift_of text.now }
 {
     named_in(&SHIFTS, text)
@@ -86,7 +86,7 @@ pub(crate) fn is_rrx(text: &[u8]) -> bool
 
 /// The register that some tokens begin with, and those after it.
 pub(crate) fn first_register<'a, 'b>(tokens: &'a [Token<'b>]) -> Option<(Register, &'a [Token<'b>])>
-    ensures { option_map in_pieces result ≡ register_first (map piece_of tokens.now) }
+    ensures { option_map in_pieces result ≡ first_register (map piece_of tokens.now) }
 {
     match tokens {
         [Token::Run(text), rest @ ..] => Some((register_of(text)?, rest)),
@@ -98,7 +98,7 @@ pub(crate) fn first_register<'a, 'b>(tokens: &'a [Token<'b>]) -> Option<(Registe
 pub(crate) fn first_register_comma<'a, 'b>(
     tokens: &'a [Token<'b>],
 ) -> Option<(Register, &'a [Token<'b>])>
-    ensures { option_map in_pieces result ≡ register_comma_first (map piece_of tokens.now) }
+    ensures { option_map in_pieces result ≡ first_register_comma (map piece_of tokens.now) }
 {
     match tokens {
         [Token::Run(text), Token::Comma, rest @ ..] => Some((register_of(text)?, rest)),

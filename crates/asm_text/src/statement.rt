@@ -19,7 +19,7 @@ use crate::number::{first_hex, first_number, read_hex, read_number};
 use crate::operand::{all_read, data_of, product_of};
 use crate::register::first_register_comma;
 use crate::syntax::{Action, Code, Reference, Statement, Transfer, Use, Value};
-use crate::token::{Mark, Token};
+use crate::token::{Mark, Token, is_name};
 use crate::word::{Word, spelled_word};
 use arm2_decode::{Cond, Register};
 use std::alloc::{AllocError, Global};
@@ -59,7 +59,7 @@ pub enum Expects {
 fn letters(text: &[u8]) -> bool
     ensures { result ≡ list_all is_name text.now }
 {
-    text.iter().all(|b| b.is_ascii_alphanumeric() || *b == b'_')
+    text.iter().all(|b| is_name(*b))
 }
 
 /// Whether a text is a label: a letter or `_`, then letters, digits and `_`, at most 32 in all.
@@ -141,14 +141,14 @@ fn is_user(suffix: Suffix) -> bool
     matches!(suffix, Suffix::T | Suffix::Bt)
 }
 
-pub(crate) fn refer<'a>(cond: Cond, how: Use, tokens: &[Token<'a>]) -> Option<Statement<'a>>
+pub(crate) fn refers<'a>(cond: Cond, how: Use, tokens: &[Token<'a>]) -> Option<Statement<'a>>
     ensures { option_map said result ≡ refers cond how (map piece_of tokens.now) }
 {
     let value = only_target(tokens)?;
     Some(Statement::Refer(Reference { cond, how }, value))
 }
 
-fn single_at<'a>(
+fn single_with<'a>(
     cond: Cond,
     load: bool,
     suffix: Suffix,
@@ -175,24 +175,29 @@ fn single_at<'a>(
             if user {
                 None
             } else {
-                refer(cond, Use::Transfer(load, byte, rd), tokens)
+                refers(cond, Use::Transfer(load, byte, rd), tokens)
             }
         }
     }
 }
 
-fn single<'a>(cond: Cond, load: bool, suffix: Suffix, tokens: &[Token<'a>]) -> Option<Statement<'a>>
+fn single_said<'a>(
+    cond: Cond,
+    load: bool,
+    suffix: Suffix,
+    tokens: &[Token<'a>],
+) -> Option<Statement<'a>>
     ensures { option_map said result ≡ single_said cond load suffix (map piece_of tokens.now) }
 {
     let (rd, rest) = first_register_comma(tokens)?;
-    single_at(cond, load, suffix, rd, rest)
+    single_with(cond, load, suffix, rd, rest)
 }
 
-fn adr<'a>(cond: Cond, tokens: &[Token<'a>]) -> Option<Statement<'a>>
+fn adr_said<'a>(cond: Cond, tokens: &[Token<'a>]) -> Option<Statement<'a>>
     ensures { option_map said result ≡ adr_said cond (map piece_of tokens.now) }
 {
     let (rd, rest) = first_register_comma(tokens)?;
-    refer(cond, Use::Adr(rd), rest)
+    refers(cond, Use::Adr(rd), rest)
 }
 
 // The action of a word without a target.
@@ -208,14 +213,19 @@ fn action_of(head: Head, suffix: Suffix, tokens: &[Token<'_>]) -> Option<Action>
     }
 }
 
-fn code<'a>(head: Head, cond: Cond, suffix: Suffix, tokens: &[Token<'a>]) -> Option<Statement<'a>>
+fn code_said<'a>(
+    head: Head,
+    cond: Cond,
+    suffix: Suffix,
+    tokens: &[Token<'a>],
+) -> Option<Statement<'a>>
     ensures { option_map said result ≡ code_said head cond suffix (map piece_of tokens.now) }
 {
     let action = action_of(head, suffix, tokens)?;
     Some(Statement::Code(Code { cond, action }))
 }
 
-pub(crate) fn plain<'a>(
+pub(crate) fn plain_said<'a>(
     head: Head,
     cond: Cond,
     suffix: Suffix,
@@ -224,13 +234,13 @@ pub(crate) fn plain<'a>(
     ensures { option_map said result ≡ plain_said head cond suffix (map piece_of tokens.now) }
 {
     match head {
-        Head::Single(load) => single(cond, load, suffix, tokens),
-        Head::Adr => adr(cond, tokens),
-        _ => code(head, cond, suffix, tokens),
+        Head::Single(load) => single_said(cond, load, suffix, tokens),
+        Head::Adr => adr_said(cond, tokens),
+        _ => code_said(head, cond, suffix, tokens),
     }
 }
 
-fn org<'a>(tokens: &[Token<'a>]) -> Option<Statement<'a>>
+fn org_said<'a>(tokens: &[Token<'a>]) -> Option<Statement<'a>>
     ensures { option_map said result ≡ org_said (map piece_of tokens.now) }
 {
     let n = only_number(tokens)?;
@@ -238,7 +248,7 @@ fn org<'a>(tokens: &[Token<'a>]) -> Option<Statement<'a>>
 }
 
 // What a piece adds to a list of values, and what comes next.
-fn next_value<'a>(expects: Expects, token: Token<'a>) -> Option<(Option<Value<'a>>, Expects)>
+fn value_step<'a>(expects: Expects, token: Token<'a>) -> Option<(Option<Value<'a>>, Expects)>
     ensures { option_map (λ f. (option_map target_of f.0, f.1)) result
         ≡ value_step expects (piece_of token.entry) }
 {
@@ -276,14 +286,14 @@ fn push_some<'a>(values: &mut Vec<Value<'a>>, value: Option<Value<'a>>) -> Resul
     Ok(())
 }
 
-fn values<'a>(alloc: Global, tokens: &[Token<'a>]) -> Result<Option<Vec<Value<'a>>>, AllocError>
+fn values_in<'a>(alloc: Global, tokens: &[Token<'a>]) -> Result<Option<Vec<Value<'a>>>, AllocError>
     ensures { IfOk result
         (λ found. option_map (λ v. map target_of v.items) found ≡ values_in Start (map piece_of tokens.now)) }
 {
     let mut values = Vec::new(alloc);
     let mut expects = Expects::Start;
     for token in tokens {
-        let Some((value, next)) = next_value(expects, *token) else {
+        let Some((value, next)) = value_step(expects, *token) else {
             return Ok(None);
         };
         push_some(&mut values, value)?;
@@ -295,16 +305,16 @@ fn values<'a>(alloc: Global, tokens: &[Token<'a>]) -> Result<Option<Vec<Value<'a
     }
 }
 
-fn dcd<'a>(alloc: Global, tokens: &[Token<'a>]) -> Result<Option<Statement<'a>>, AllocError>
+fn dcd_said<'a>(alloc: Global, tokens: &[Token<'a>]) -> Result<Option<Statement<'a>>, AllocError>
     ensures { IfOk result (λ found. option_map said found ≡ dcd_said (map piece_of tokens.now)) }
 {
-    match values(alloc, tokens)? {
+    match values_in(alloc, tokens)? {
         Some(values) => Ok(Some(Statement::Dcd(values))),
         None => Ok(None),
     }
 }
 
-fn operands<'a>(
+fn operands_of<'a>(
     alloc: Global,
     word: Word,
     tokens: &[Token<'a>],
@@ -312,10 +322,10 @@ fn operands<'a>(
     ensures { IfOk result (λ found. option_map said found ≡ operands_of word (map piece_of tokens.now)) }
 {
     match word {
-        Word::Plain(head, cond, suffix) => Ok(plain(head, cond, suffix, tokens)),
-        Word::Branch(link, cond) => Ok(refer(cond, Use::Branch(link), tokens)),
-        Word::Org => Ok(org(tokens)),
-        Word::Dcd => dcd(alloc, tokens),
+        Word::Plain(head, cond, suffix) => Ok(plain_said(head, cond, suffix, tokens)),
+        Word::Branch(link, cond) => Ok(refers(cond, Use::Branch(link), tokens)),
+        Word::Org => Ok(org_said(tokens)),
+        Word::Dcd => dcd_said(alloc, tokens),
     }
 }
 
@@ -329,7 +339,7 @@ fn after_word<'a>(
         (λ fault. (fault ≡ TextFault.Memory) ⊎ (after_word word (map piece_of tokens.now) ≡ Err fault)) }
 {
     match tokens {
-        [Token::Gap, rest @ ..] => match operands(alloc, word, rest)? {
+        [Token::Gap, rest @ ..] => match operands_of(alloc, word, rest)? {
             Some(statement) => Ok(statement),
             None => Err(TextFault::BadOperand),
         },

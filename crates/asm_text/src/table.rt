@@ -3,8 +3,8 @@ ghost use Rattle.std.specs.List.{find};
 ghost use Rattle.std.specs.Str.{bytes_eq};
 ghost use Rattle.asm_text.specs.Registers.{name_of, named_in};
 
-// Whether a text is a name. Most names differ in their last byte.
-fn is_name(text: &[u8], name: &[u8]) -> bool
+// Whether a text is this name. Most names differ in their last byte.
+fn is_text(text: &[u8], name: &[u8]) -> bool
     ensures { result ≡ bytes_eq text.now name.now }
 {
     if text.last() != name.last() {
@@ -16,7 +16,7 @@ fn is_name(text: &[u8], name: &[u8]) -> bool
 fn first_row<'a, 'b, T>(table: &'a [(&'b [u8], T)], text: &[u8]) -> Option<&'a (&'b [u8], T)>
     ensures { option_map (λ row. row.now) result ≡ find (λ row. bytes_eq text.now row.0.now) table.now }
 {
-    table.iter().find(|row| is_name(text, row.0))
+    table.iter().find(|row| is_text(text, row.0))
 }
 
 /// What a text names in a table of names.

@@ -74,7 +74,8 @@ pub fn is_blank(b: u8) -> bool
     b == b' ' || b == b'\t'
 }
 
-fn is_name(b: u8) -> bool
+/// Whether a byte is a letter, a digit or `_`.
+pub(crate) fn is_name(b: u8) -> bool
     ensures { result ≡ is_name b }
 {
     b.is_ascii_alphanumeric() || b == b'_'

@@ -6,7 +6,7 @@ ghost use Rattle.std.specs.Char.{to_ascii_lowercase, to_ascii_uppercase};
 ghost use Rattle.std.specs.List.{list_all};
 ghost use Rattle.asm_text.specs.declared.word.Word.{Word};
 
-use crate::names::{Head, Suffix, may_have, named_cond, named_head, named_suffix};
+use crate::names::{Head, Suffix, cond_of, head_of, may_have, suffix_of};
 use arm2_decode::Cond;
 use std::alloc::{AllocError, Global};
 
@@ -29,7 +29,7 @@ fn whole_cond(text: &[u8]) -> Option<Cond>
     if text.is_empty() {
         Some(Cond::Al)
     } else {
-        named_cond(text)
+        cond_of(text)
     }
 }
 
@@ -53,7 +53,7 @@ fn branch_of(text: &[u8]) -> Option<Word>
 fn with_suffix(head: Head, cond: Cond, text: &[u8]) -> Option<Word>
     ensures { result ≡ with_suffix head cond (suffix_of text.now) }
 {
-    let suffix = named_suffix(text)?;
+    let suffix = suffix_of(text)?;
     if may_have(head, suffix) {
         Some(Word::Plain(head, cond, suffix))
     } else {
@@ -69,12 +69,12 @@ fn plain_of(text: &[u8]) -> Option<Word>
         return None;
     }
     let (name, rest) = text.split_at(3);
-    let head = named_head(name)?;
+    let head = head_of(name)?;
     if rest.len() < 2 {
         return with_suffix(head, Cond::Al, rest);
     }
     let (front, after) = rest.split_at(2);
-    match named_cond(front) {
+    match cond_of(front) {
         Some(c) => with_suffix(head, c, after),
         None => with_suffix(head, Cond::Al, rest),
     }
@@ -97,14 +97,14 @@ pub(crate) fn word_of(text: &[u8]) -> Option<Word>
 }
 
 // Whether the text is the same in upper case.
-fn is_upper(text: &[u8]) -> bool
+fn is_wholly_upper(text: &[u8]) -> bool
     ensures { result ≡ list_all (λ b. b == to_ascii_uppercase b) text.now }
 {
     text.iter().all(|b| *b == b.to_ascii_uppercase())
 }
 
 // Whether the text is the same in lower case.
-fn is_lower(text: &[u8]) -> bool
+fn is_wholly_lower(text: &[u8]) -> bool
     ensures { result ≡ list_all (λ b. b == to_ascii_lowercase b) text.now }
 {
     text.iter().all(|b| *b == b.to_ascii_lowercase())
@@ -114,10 +114,10 @@ fn read_spelling(alloc: Global, text: &[u8]) -> Result<Option<Word>, AllocError>
     ensures { IfOk result (λ word. word ≡ spelled_word_of text.now) }
 {
     // Most sources are in upper case, whose words need no copy.
-    if is_upper(text) {
+    if is_wholly_upper(text) {
         return Ok(word_of(text));
     }
-    if !is_lower(text) {
+    if !is_wholly_lower(text) {
         return Ok(None);
     }
     let upper = text.to_ascii_uppercase(alloc)?;

@@ -2,7 +2,7 @@ use Rattle.std.proofs.Common.{◌∙◌, sym, map}
 use Rattle.std.specs.Prelude.{option_map}
 use Rattle.asm_text.specs.Said.{target_of}
 use Rattle.asm_text.proofs.ValueLaws.{values_turn}
-use Rattle.asm_text.proofs.statement.values.Goals as goal
+use Rattle.asm_text.proofs.statement.values_in.Goals as goal
 
 pub loop-token-preserved : goal.loop-token-preserved
 loop-token-preserved c =

@@ -5,7 +5,7 @@ use Rattle.std.specs.Str.Parse.{digits_value_after}
 use Rattle.std.proofs.lemmas.List.{at_drop_more}
 use Rattle.std.proofs.lemmas.Grind.{common_steps}
 use Rattle.asm_text.proofs.Capped.{cap_fold}
-use Rattle.asm_text.proofs.number.capped_number.Goals as goal
+use Rattle.asm_text.proofs.number.capped.Goals as goal
 
 pub loop-byte-preserved : goal.loop-byte-preserved
 loop-byte-preserved c =
