@@ -6,7 +6,7 @@ ghost use Rattle.arm2_decode.specs.declared.instr.Operation.{Operation};
 ghost use Rattle.arm2_effect.specs.Outcomes.{outcome_of};
 ghost use Rattle.arm2_transfer.specs.Block.{lowest_of};
 ghost use Rattle.arm2_transfer.specs.Single.{address_for, of_immediate};
-ghost use Rattle.loader.specs.declared.plan.TheConstants.{PHYSICAL_PAGES};
+ghost use Rattle.memc.specs.declared.pages.TheConstants.{PHYSICAL_PAGES};
 ghost use Rattle.flow_graph.specs.Free.{adds_an_immediate, is_free_operation};
 ghost use Rattle.flow_graph.specs.Setting.{MayStart, Sets, of_register, rotated, transfer_setting};
 

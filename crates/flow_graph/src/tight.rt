@@ -5,7 +5,7 @@ ghost use Rattle.std.specs.Prelude.{Some, [], ◌∷◌, ◌↔◌, false, lengt
 ghost use Rattle.std.specs.Option.{option_to_list};
 ghost use Rattle.bus_ticks.specs.declared.space.TheConstants.{SPACE_END};
 ghost use Rattle.loader.specs.Loading.{lacks_page, put_words};
-ghost use Rattle.loader.specs.declared.plan.TheConstants.{PHYSICAL_PAGES};
+ghost use Rattle.memc.specs.declared.pages.TheConstants.{PHYSICAL_PAGES};
 ghost use Rattle.flow_graph.specs.Graph.{IsFlowGraph};
 ghost use Rattle.flow_graph.specs.declared.edges.Edge.{Edge};
 ghost use Rattle.arm2_decode.specs.Names.{is_pc};

@@ -12,7 +12,7 @@ use Rattle.loader.specs.Loading.{HasWord, lacks_page, loaded, spot_of}
 use Rattle.loader.specs.PagePlan.{IsFree, IsPagePlan, page_of, physical_page}
 use Rattle.loader.specs.Planned.{AreOf, IsBeside, IsFitted, IsMapped}
 use Rattle.loader.specs.declared.plan.PlacedPage.{PlacedPage}
-use Rattle.loader.specs.declared.plan.TheConstants.{PHYSICAL_PAGES}
+use Rattle.memc.specs.declared.pages.TheConstants.{PHYSICAL_PAGES}
 use Rattle.loader.proofs.MemoryLemmas.{AreSame, last_kept, last_there, ram_entries, ram_gives, ram_number, rom_entries, rom_gives, rom_number, same_whole}
 use Rattle.loader.proofs.FittedLemmas.{before_or_past, not_past}
 use Rattle.loader.proofs.PlaceLemmas.{may_parts}

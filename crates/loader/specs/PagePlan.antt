@@ -9,7 +9,7 @@ use Rattle.std.specs.Ordering.{nat_cmp}
 use Rattle.loader.specs.Image.{Words, word_of}
 use Rattle.loader.specs.declared.image.TheConstants.{PAGE_BYTES}
 use Rattle.loader.specs.declared.plan.PlacedPage.{PlacedPage}
-use Rattle.loader.specs.declared.plan.TheConstants.{PHYSICAL_PAGES}
+use Rattle.memc.specs.declared.pages.TheConstants.{PHYSICAL_PAGES}
 
 -- the number of the page of an address, and that of a physical page by its own addresses
 abbrev pub page_of : ℕ → ℕ

@@ -9,10 +9,10 @@ ghost use Rattle.loader.specs.Planned.{AreOf, IsBeside, IsFitted, IsMapped};
 ghost use Rattle.loader.specs.Spelling.{AreImage, BeginImage, PassImage, Spell};
 ghost use Rattle.loader.specs.declared.plan.PlacedPage.{PlacedPage};
 ghost use Rattle.memc.specs.Memory.{Memory};
+ghost use Rattle.memc.specs.declared.pages.TheConstants.{PHYSICAL_PAGES};
 
 use crate::image::PAGE_BYTES;
 use crate::places::{LARGEST_RAM_END, MOST_SEGMENTS, MOST_WORDS};
-use crate::plan::PHYSICAL_PAGES;
 use crate::reading::ReadFault;
 
 /// States that [`read_image`](crate::read_image) takes the bytes of every list of segments that
@@ -50,11 +50,9 @@ pub fn image_limits()
     ensures segments { MOST_SEGMENTS ≡ 16 }
 {}
 
-/// States that the largest pages have 32 KB, and that RAM has 128 pages, with which it ends at 2400000. It
-/// does nothing.
+/// States that the largest pages have 32 KB, and that with them RAM ends at 2400000. It does nothing.
 pub fn largest_ram()
     ensures page { PAGE_BYTES ≡ 32768 }
-    ensures pages { PHYSICAL_PAGES ≡ 128 }
     ensures ram { LARGEST_RAM_END ≡ 0x2400000 }
 {}
 

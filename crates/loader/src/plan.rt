@@ -6,13 +6,11 @@ ghost use Rattle.loader.specs.Inside.{AreWhole};
 ghost use Rattle.loader.specs.PagePlan.{Ascend, IsPagePlan, free_pages, is_logical, placed};
 
 use crate::image::Image;
+use memc::PHYSICAL_PAGES;
 use std::alloc::{AllocError, Global};
 
 // Logical pages of 32 KB are numbered below this, and the page of this number plus p is the physical page p.
 const LOGICAL_PAGES: u32 = 1024;
-
-/// How many physical pages there are.
-pub const PHYSICAL_PAGES: u32 = 128;
 
 /// A logical page on a physical page, both of 32 KB and by number: below 1,024 and below 128.
 #[derive(Clone, Copy, Debug, PartialEq, Eq, Drop)]

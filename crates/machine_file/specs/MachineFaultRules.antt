@@ -5,6 +5,7 @@ use Rattle.std.specs.List.{list_all}
 use Rattle.toml.specs.Data.{Data, Members, as_integer, as_str, as_table, get_member}
 use Rattle.loader.specs.Image.{may_hold}
 use Rattle.memc.specs.Memory.{shift_of_size}
+use Rattle.memc.specs.declared.pages.TheConstants.{PHYSICAL_PAGES}
 use Rattle.memc.specs.declared.spots.PageSize.{PageSize}
 use Rattle.memc.specs.declared.spots.PageSize.TheVariants.{K4}
 use Rattle.toml_reading.specs.Documents.{are_distinct, has_only_keys, items_at}
@@ -164,13 +165,13 @@ are_below limit numbers = list_all (λ n. nat_lt n limit) numbers
 abbrev pub page_numbers : List ℕ → Members → List ℕ
 page_numbers key ms = numbers_at key (entries_at (codes "map") ms)
 
--- MEMC maps 2 ^ 25 bytes of logical pages and 128 physical pages, at levels 0 to 3
+-- MEMC maps 2 ^ 25 bytes of logical pages, and its physical pages, at levels 0 to 3
 abbrev pub IsUnmappable : Members → Type 0
 IsUnmappable ms =
     ((size : PageSize)
     × AtKeyOr (codes "pages") ms (size ≡ K4) (λ d. IsSize d size)
     × (are_below (2 ^ (25 - shift_of_size size)) (page_numbers (codes "logical") ms) ≡ false))
-    ⊎ (are_below 128 (page_numbers (codes "physical") ms) ≡ false)
+    ⊎ (are_below PHYSICAL_PAGES (page_numbers (codes "physical") ms) ≡ false)
     ⊎ (are_below 4 (page_numbers (codes "level") ms) ≡ false)
 
 -- ## Something twice

@@ -9,7 +9,9 @@ use Rattle.bus_ticks.specs.declared.profile.Profile.{Profile}
 use Rattle.ioc.specs.Interrupts as ioc
 use Rattle.memc.specs.Memory.{Memory, control_of, shift_of_size}
 use Rattle.memc.specs.Paged.{Paged, page_at}
+use Rattle.bus_ticks.specs.declared.space.TheConstants.{PHYSICAL_START}
 use Rattle.memc.specs.declared.pages.Entry.{Entry}
+use Rattle.memc.specs.declared.pages.TheConstants.{PHYSICAL_PAGES}
 use Rattle.vidc.specs.Video as vidc
 use Rattle.machine_file.specs.Stated.{Controller, Processor, Stated}
 use Rattle.machine_file.specs.declared.flags.PsrFlags.{PsrFlags}
@@ -33,8 +35,8 @@ stated_at (p ∷ ps) logical =
 
 -- the map after a reset
 pub record IsResetMap (paged : Paged) : Type 0 where
-  pub low : (i : ℕ) → i < 128 → page_at paged i ≡ Some (record { physical = i; level = 0 })
-  pub high : (i : ℕ) → 128 ≤ i → page_at paged i ≡ None
+  pub low : (i : ℕ) → i < PHYSICAL_PAGES → page_at paged i ≡ Some (record { physical = i; level = 0 })
+  pub high : (i : ℕ) → PHYSICAL_PAGES ≤ i → page_at paged i ≡ None
 
 -- the stated pages alone are mapped; without any the map after a reset stays
 abbrev pub IsMap : List MappedPage → Paged → Type 0
@@ -46,7 +48,7 @@ pub record IsController (c : Controller) (m : Memory) : Type 0 where
   pub size : m.shift ≡ shift_of_size c.size
   pub words : length m.paged.words ≡ 2 ^ (shift_of_size c.size + 5)
   pub zero_words : All (λ w. w ≡ 0) m.paged.words
-  pub count : length m.paged.pages * 2 ^ shift_of_size c.size ≡ 2 ^ 25
+  pub count : length m.paged.pages * 2 ^ shift_of_size c.size ≡ PHYSICAL_START
   pub map : IsMap c.pages m.paged
   pub control : m.control ≡ control_of (c.low_rom * 2 ^ 4 + c.high_rom * 2 ^ 6)
   pub no_rom : m.rom ≡ []

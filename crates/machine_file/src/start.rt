@@ -14,7 +14,7 @@ use crate::registers::REGISTERS;
 use arm2_effect::{Reg, r15_of};
 use arm2_exec::{Machine, MachineFault};
 use bus_ticks::Profile;
-use memc::Memc;
+use memc::{Memc, PHYSICAL_PAGES};
 use std::alloc::Global;
 
 fn bit_of(set: bool) -> u32
@@ -61,7 +61,7 @@ fn clear(memc: &mut Memc)
     ensures gone { IsUnmapped memc.new.paged }
     ensures rest { IsSameRest memc.old memc.new }
 {
-    for physical in 0..128 {
+    for physical in 0..PHYSICAL_PAGES {
         let _ = memc.unmap(physical);
     }
 }

@@ -9,6 +9,8 @@ use Rattle.std.proofs.Common.{lit<}
 use Rattle.std.proofs.lemmas.Nat.{mod_below}
 use Rattle.memc.specs.declared.pages.Entry.{Entry}
 use Rattle.memc.specs.declared.memory.ControlFields.{ControlFields}
+use Rattle.memc.specs.declared.memory.TheConstants.{DMA_AND_CONTROL, TRANSLATOR}
+use Rattle.memc.specs.declared.pages.TheConstants.{PHYSICAL_PAGES}
 use Rattle.memc.specs.declared.spots.PageSize.{PageSize}
 use Rattle.memc.specs.declared.spots.PageSize.TheVariants.{K4, K8, K16, K32}
 use Rattle.memc.specs.declared.spots.Spot.{Spot}
@@ -60,8 +62,8 @@ physical_at limit place user =
 -- size
 abbrev pub written_at : ℕ → ℕ → Result Spot Refused
 written_at shift address =
-    if nat_lt address 0x3600000 then Ok (Vidc address)
-    else (if nat_lt address 0x3800000 then
+    if nat_lt address DMA_AND_CONTROL then Ok (Vidc address)
+    else (if nat_lt address TRANSLATOR then
     (if address / 2 ^ 17 % 2 ^ 3 == 7
     then (if address / 2 ^ 2 % 2 ^ 2 + 12 == shift then Ok (Control address) else Err UnsupportedWrite)
     else Ok (Ignored address))
@@ -161,10 +163,10 @@ without_page physical m = record m { paged = unmapped physical m.paged }
 abbrev pub with_map : ℕ → ℕ → ℕ → Memory → Memory
 with_map physical logical level m = record m { paged = mapped physical logical level m.paged }
 
--- what can be mapped: 2 ^ 25 bytes of logical pages, 128 physical pages, levels 0 to 3
+-- what can be mapped: logical pages of 2 ^ 25 bytes in all, the physical pages, levels 0 to 3
 abbrev pub can_map : (shift physical logical level : ℕ) → Bool
 can_map shift physical logical level =
-    nat_lt logical (2 ^ (25 - shift)) && nat_lt physical 128 && nat_lt level 4
+    nat_lt logical (2 ^ (25 - shift)) && nat_lt physical PHYSICAL_PAGES && nat_lt level 4
 
 -- a translator write with pages of 4 KB: the physical page in bits 6 to 0, the level in 9 and 8, and of the
 -- logical page bits 12 and 11 in 11 and 10, and bits 10 to 0 in 22 to 12

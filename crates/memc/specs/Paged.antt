@@ -2,15 +2,17 @@
 -- and level (shaped on the data sheet of the VL86C110, MEMC).
 use Rattle.std.specs.Prelude.{◌≡◌, ℕ, ◌+◌, ◌*◌, ◌/◌, ◌%◌, ◌^◌, ◌<◌, ◌≤◌, ◌==◌, if◌then◌else◌, Option, Some}
 use Rattle.std.specs.Prelude.{None, List, length, map, slice_index_or, slice_set, All}
+use Rattle.bus_ticks.specs.declared.space.TheConstants.{PHYSICAL_START}
 use Rattle.memc.specs.declared.pages.Entry.{Entry}
+use Rattle.memc.specs.declared.pages.TheConstants.{PHYSICAL_PAGES}
 
 -- the sizes of a page: 4, 8, 16 and 32 KB
 abbrev pub IsShift : ℕ → Type 0
 IsShift shift = (12 ≤ shift) × (shift ≤ 15)
 
--- the bytes of the fitted RAM: 128 physical pages of 2 ^ shift bytes
+-- the bytes of the fitted RAM: the physical pages, of 2 ^ shift bytes
 abbrev pub fitted_bytes : ℕ → ℕ
-fitted_bytes shift = 128 * 2 ^ shift
+fitted_bytes shift = PHYSICAL_PAGES * 2 ^ shift
 
 -- the word at the physical place 4 * i, and the page of each logical page
 pub record Paged : Type 0 where
@@ -48,17 +50,17 @@ mapped physical logical level p =
 pub record IsFresh (shift : ℕ) (p : Paged) : Type 0 where
   pub size : length p.words ≡ 2 ^ (shift + 5)
   pub zero_words : All (λ w. w ≡ 0) p.words
-  pub count : length p.pages * 2 ^ shift ≡ 2 ^ 25
-  pub low : (i : ℕ) → i < 128 → page_at p i ≡ Some (record { physical = i; level = 0 })
-  pub high : (i : ℕ) → 128 ≤ i → page_at p i ≡ None
+  pub count : length p.pages * 2 ^ shift ≡ PHYSICAL_START
+  pub low : (i : ℕ) → i < PHYSICAL_PAGES → page_at p i ≡ Some (record { physical = i; level = 0 })
+  pub high : (i : ℕ) → PHYSICAL_PAGES ≤ i → page_at p i ≡ None
 
--- what every memory is: 128 physical pages of 2 ^ shift bytes, 2 ^ 25 bytes of logical pages, levels 0 to 3,
+-- what every memory is: physical pages of 2 ^ shift bytes, logical pages up to physical RAM, levels 0 to 3,
 -- and at most one logical page on each physical page
 pub record IsWhole (shift : ℕ) (p : Paged) : Type 0 where
   pub size : IsShift shift
   pub words : length p.words ≡ 2 ^ (shift + 5)
-  pub count : length p.pages * 2 ^ shift ≡ 2 ^ 25
-  pub physical_below : (l : ℕ) (e : Entry) → page_at p l ≡ Some e → e.physical < 128
+  pub count : length p.pages * 2 ^ shift ≡ PHYSICAL_START
+  pub physical_below : (l : ℕ) (e : Entry) → page_at p l ≡ Some e → e.physical < PHYSICAL_PAGES
   pub level_below : (l : ℕ) (e : Entry) → page_at p l ≡ Some e → e.level < 4
   pub alone : (k l : ℕ) (e f : Entry) → page_at p k ≡ Some e → page_at p l ≡ Some f → e.physical ≡ f.physical
       → k ≡ l

@@ -1,13 +1,14 @@
 ghost use Rattle.std.specs.Prelude.{◌≡◌, ℕ, ◌*◌, ◌/◌, ◌^◌, ◌<◌, ◌≤◌, IfOk, ◌↔◌, OnErr, OnOk, IfSome};
 ghost use Rattle.std.specs.Prelude.{MatchOption, false};
 ghost use Rattle.bus_ticks.specs.declared.space.TheConstants.{SPACE_END};
+ghost use Rattle.memc.specs.declared.pages.TheConstants.{PHYSICAL_PAGES};
 ghost use Rattle.memc.specs.Paged.{fitted_bytes, page_at, place_of, IsWhole};
 ghost use Rattle.memc.specs.Memory.{located, logical_at, physical_at, written_at, shift_of_size, IsStart};
 ghost use Rattle.memc.specs.Memory.{IsMemorySpot, IsRamSpot, Fits, word_at, stored, with_map};
 ghost use Rattle.memc.specs.Memory.{without_page, translated, with_control, with_rom, rom_word, last_word};
 ghost use Rattle.memc.specs.Memory.{can_map, control_of, allowed, HasNoRun, IsOnOnePage, IsRun};
 
-use crate::pages::{Entry, Pages};
+use crate::pages::{Entry, PHYSICAL_PAGES, Pages};
 use crate::spots::{MapFault, MemcFault, PageSize, Refused, Spot, can_map};
 use bus_ticks::{IO_START, PHYSICAL_START, ROM_START, RomTimes};
 use std::alloc::Global;
@@ -15,9 +16,9 @@ use std::collections::BTreeMap;
 use std::marker::Model;
 
 // Where, for stores, the DMA and control range and the translator begin.
-const DMA_AND_CONTROL: u32 = 0x360_0000;
+pub(crate) const DMA_AND_CONTROL: u32 = 0x360_0000;
 
-const TRANSLATOR: u32 = 0x380_0000;
+pub(crate) const TRANSLATOR: u32 = 0x380_0000;
 
 // What a store to the control range sets, but the page size. The fields of the video and sound DMA have no
 // effect.
@@ -205,9 +206,9 @@ impl Memc {
     pub fn unmap(&mut self, physical: u32) -> Result<(), MapFault>
         ensures ok { OnOk result (self.new ≡ without_page physical self.old) }
         ensures err { OnErr result (self.new ≡ self.old) }
-        ensures refused { (result ≡ Err MapFault.OutOfRange) ↔ (128 ≤ physical) }
+        ensures refused { (result ≡ Err MapFault.OutOfRange) ↔ (PHYSICAL_PAGES ≤ physical) }
     {
-        if physical >= 128 {
+        if physical >= PHYSICAL_PAGES {
             return Err(MapFault::OutOfRange);
         }
         self.pages.unmap(physical as u8);
@@ -321,14 +322,14 @@ impl Memc {
     fn page(&self, address: u32) -> Option<Entry>
         requires { address < PHYSICAL_START }
         ensures page { result ≡ page_at self.now.paged (address / 2 ^ self.now.shift) }
-        ensures fitted { IfSome result (λ e. e.physical < 128) }
+        ensures fitted { IfSome result (λ e. e.physical < PHYSICAL_PAGES) }
     {
         self.pages.page(address)
     }
 
     #[inline(always)]
     fn place(&self, physical: u8, address: u32) -> u32
-        requires { physical < 128 }
+        requires { physical < PHYSICAL_PAGES }
         ensures place { result ≡ place_of self.now.shift physical address }
         ensures fitted { result < fitted_bytes self.now.shift }
     {

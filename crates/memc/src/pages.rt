@@ -1,10 +1,14 @@
 ghost use Rattle.std.specs.Prelude.{◌≡◌, ◌/◌, ◌^◌, ◌<◌, ◌≤◌, slice_index, slice_set, IfOk, IfSome};
 ghost use Rattle.bus_ticks.specs.declared.space.TheConstants.{PHYSICAL_START};
+ghost use Rattle.memc.specs.declared.pages.TheConstants.{PHYSICAL_PAGES};
 ghost use Rattle.memc.specs.Paged.{IsShift, page_at, mapped, unmapped, IsFresh, IsWhole, place_of};
 ghost use Rattle.memc.specs.Paged.{fitted_bytes};
 
 use std::alloc::{AllocError, Global};
 use std::marker::Model;
+
+/// How many physical pages of RAM there are, of whatever size.
+pub const PHYSICAL_PAGES: u32 = 128;
 
 /// Where a logical page lies, and its level of protection.
 #[derive(Clone, Copy, Debug, PartialEq, Eq)]
@@ -15,7 +19,7 @@ pub struct Entry {
     pub level: u8,
 }
 
-/// 128 physical pages of `2^shift` bytes under a table of logical pages and its inverse. The shift is from 12
+/// The physical pages, of `2^shift` bytes, under a table of logical pages and its inverse. The shift is from 12
 /// to 15, and stays.
 #[derive(Drop)]
 pub struct Pages {
@@ -50,8 +54,8 @@ impl Pages {
         ensures fresh { IfOk result (λ p. IsFresh shift p.paged) }
     {
         let mut table = vec![in alloc; None; 1usize << (25 - shift)]?;
-        let mut held = vec![in alloc; None; 128]?;
-        for i in 0..128usize {
+        let mut held = vec![in alloc; None; PHYSICAL_PAGES as usize]?;
+        for i in 0..PHYSICAL_PAGES as usize {
             table[i] = Some(Entry {
                 physical: i as u8,
                 level: 0,
@@ -80,7 +84,7 @@ impl Pages {
         ensures bytes { result ≡ fitted_bytes self.now.shift }
         ensures whole { IsWhole self.now.shift self.now.paged }
     {
-        128 << self.shift
+        PHYSICAL_PAGES << self.shift
     }
 
     /// The word at a physical place.
@@ -109,7 +113,7 @@ impl Pages {
     pub fn page(&self, address: u32) -> Option<Entry>
         requires { address < PHYSICAL_START }
         ensures page { result ≡ page_at self.now.paged (address / 2 ^ self.now.shift) }
-        ensures fitted { IfSome result (λ e. e.physical < 128) }
+        ensures fitted { IfSome result (λ e. e.physical < PHYSICAL_PAGES) }
     {
         self.table[(address >> self.shift) as usize]
     }
@@ -127,7 +131,7 @@ impl Pages {
     /// The place of the word that a logical address names, on a physical page.
     #[inline(always)]
     pub fn place(&self, physical: u8, address: u32) -> u32
-        requires { physical < 128 }
+        requires { physical < PHYSICAL_PAGES }
         ensures place { result ≡ place_of self.now.shift physical address }
         ensures fitted { result < fitted_bytes self.now.shift }
     {
@@ -136,7 +140,7 @@ impl Pages {
 
     /// Takes a physical page off the map.
     pub fn unmap(&mut self, physical: u8)
-        requires { physical < 128 }
+        requires { physical < PHYSICAL_PAGES }
         ensures { self.new ≡ record self.old { paged = unmapped physical self.old.paged } }
     {
         if let Some(logical) = self.held[physical as usize] {
@@ -147,7 +151,7 @@ impl Pages {
 
     /// Puts a logical page on a physical page. Both lose what they had.
     pub fn map(&mut self, physical: u8, logical: u16, level: u8)
-        requires physical { physical < 128 }
+        requires physical { physical < PHYSICAL_PAGES }
         requires logical { logical < PHYSICAL_START / 2 ^ self.old.shift }
         requires level { level < 4 }
         ensures { self.new

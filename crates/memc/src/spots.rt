@@ -2,6 +2,7 @@ ghost use Rattle.std.specs.Prelude.{◌≡◌, ◌≤◌};
 ghost use Rattle.memc.specs.Memory.{can_map, shift_of_size};
 ghost use Rattle.memc.specs.declared.spots.MemcFault.TheVariants.{Memory};
 
+use crate::pages::PHYSICAL_PAGES;
 use std::alloc::{AllocError, AllocFailed};
 use thiserror::Error;
 
@@ -46,7 +47,7 @@ pub(crate) fn can_map(shift: u32, physical: u32, logical: u32, level: u32) -> bo
     requires { shift ≤ 15 }
     ensures { result ≡ can_map shift physical logical level }
 {
-    logical < 1 << (25 - shift) && physical < 128 && level < 4
+    logical < 1 << (25 - shift) && physical < PHYSICAL_PAGES && level < 4
 }
 
 /// What answers an access.
