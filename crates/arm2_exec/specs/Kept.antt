@@ -1,7 +1,7 @@
 -- What a step keeps that takes an exception, and where it is taken (VL86C010 data sheet, exceptions, but for
 -- an aborted transfer, which moves no word and writes back no base).
 use Rattle.std.specs.Prelude.{◌≡◌, ◌≢◌, ◌+◌, ◌*◌}
-use Rattle.bus_ticks.specs.Worst.{Access}
+use Rattle.bus_ticks.specs.Worst.{AtTimes}
 use Rattle.arm2_effect.specs.declared.exceptions.Vector.{Vector}
 use Rattle.arm2_effect.specs.declared.modes.Reg.{Reg}
 use Rattle.arm2_effect.specs.Exceptions.{entry_at}
@@ -22,5 +22,5 @@ pub record KeepsTheRest (vector : Vector) (s : State) (i : Input) (stepped : Ste
   pub devices : after.bus ≡ elapsed (stepped.ticks + s.profile.burst * i.bursts) (with_lines i.lines.0 s.bus)
 
 -- where a step interrupts the handler: at this address, by these time fields of ROM
-abbrev pub interrupted_in : State → Access
+abbrev pub interrupted_in : State → AtTimes
 interrupted_in s = record { address = address_in s.regs; rom = s.bus.memc.control.rom_times }

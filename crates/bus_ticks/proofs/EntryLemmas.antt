@@ -5,7 +5,7 @@ use Rattle.bus_ticks.specs.declared.profile.Profile.{Profile}
 use Rattle.bus_ticks.specs.declared.profile.RomTimes.{RomTimes}
 use Rattle.bus_ticks.specs.declared.profile.Class.TheVariants.{Ram, Rom, Io, Any}
 use Rattle.bus_ticks.specs.Prices.{s_price}
-use Rattle.bus_ticks.specs.Worst.{Access, IsGreatest, IsTargetOf, fiq_entry, fiq_entry_price, worst_rom}
+use Rattle.bus_ticks.specs.Worst.{AtTimes, IsGreatest, IsTargetOf, fiq_entry, fiq_entry_price, worst_rom}
 use Rattle.bus_ticks.proofs.LeaveLemmas.{class_cases, s_at, s_ram_le}
 use Rattle.bus_ticks.proofs.WorstLemmas.{dearest_times, rom_le}
 
@@ -23,9 +23,9 @@ following_le p rom x =
 
 -- some interrupted address has this price
 abbrev Reaches : Profile → ℕ → Type 0
-Reaches p top = (t : Access) × IsTargetOf Any t × (fiq_entry_price p t ≡ top)
+Reaches p top = (t : AtTimes) × IsTargetOf Any t × (fiq_entry_price p t ≡ top)
 
-at : (p : Profile) (t : Access) (top : ℕ) → t.address < 0x4000000 → fiq_entry_price p t ≡ top → Reaches p top
+at : (p : Profile) (t : AtTimes) (top : ℕ) → t.address < 0x4000000 → fiq_entry_price p t ≡ top → Reaches p top
 at p t top below e = (t, record { below = below; is_of = tt }, e)
 
 reached : (p : Profile) → Reaches p (fiq_entry p)

@@ -11,7 +11,7 @@ use Rattle.bus_ticks.specs.declared.profile.Class.TheVariants.{Ram, Rom, Io, Any
 use Rattle.bus_ticks.specs.Ranges.{greatest}
 use Rattle.bus_ticks.specs.Prices.{class_at, by_class, choice, rom_price, io_price, word_price, word_address}
 use Rattle.bus_ticks.specs.Prices.{block_price}
-use Rattle.bus_ticks.specs.Worst.{Access, IsBlockOf, IsGreatest, transfer_price, worst_rom, worst_io}
+use Rattle.bus_ticks.specs.Worst.{AtTimes, IsBlockOf, IsGreatest, transfer_price, worst_rom, worst_io}
 use Rattle.bus_ticks.specs.Worst.{worst_block}
 use Rattle.bus_ticks.specs.Dearest.{AreDearest, IsDearestBlock}
 
@@ -159,7 +159,7 @@ above_sum n s d k k' m m' x e f g =
 split_quad : (p : Profile) → p.quad ≡ p.s + (p.quad - p.s)
 split_quad p = omega (arith, p.s_first)
 
-ram_above : (p : Profile) (store : Bool) (k : ℕ) (b : Access) → IsBlockOf Ram (suc k) b
+ram_above : (p : Profile) (store : Bool) (k : ℕ) (b : AtTimes) → IsBlockOf Ram (suc k) b
     → transfer_price p (suc k) store b ≤ worst_block p Ram (suc k) store
 ram_above p store k b h =
     let first = b.address / 4 in
@@ -191,7 +191,7 @@ rom_fold : (p : Profile) (store : Bool) (k : ℕ)
 rom_fold p true k = refl
 rom_fold p false k = refl
 
-rom_above : (p : Profile) (store : Bool) (k : ℕ) (b : Access) → IsBlockOf Rom k b
+rom_above : (p : Profile) (store : Bool) (k : ℕ) (b : AtTimes) → IsBlockOf Rom k b
     → transfer_price p k store b ≤ worst_block p Rom k store
 rom_above p store k b h =
     let top : ℕ = cond store p.control (worst_rom p) in
@@ -214,7 +214,7 @@ dearest_times p =
     let best = choice_reached p.rom_0 p.rom_1 p.rom_2 p.rom_3 in
     (times best.0 best.1, times_dearest p best.0 best.1 best.2)
 
-pub rom_load : (p : Profile) (k : ℕ) (b : Access) → AreDearest p b.rom → IsBlockOf Rom k b
+pub rom_load : (p : Profile) (k : ℕ) (b : AtTimes) → AreDearest p b.rom → IsBlockOf Rom k b
     → IsDearestBlock p Rom k false b
 rom_load p k b best h =
     let x = λ (i : ℕ). word_address b.address i in
@@ -225,7 +225,7 @@ rom_load p k b best h =
           (λ i l first. word_at p b.rom false first (x i) Rom (h.each i l) ∙ best (x i));
     }
 
-pub rom_store : (p : Profile) (k : ℕ) (b : Access) → IsBlockOf Rom k b → IsDearestBlock p Rom k true b
+pub rom_store : (p : Profile) (k : ℕ) (b : AtTimes) → IsBlockOf Rom k b → IsDearestBlock p Rom k true b
 rom_store p k b h = record {
   of_class = h;
   price =
@@ -233,12 +233,12 @@ rom_store p k b h = record {
       (λ i l first. word_at p b.rom true first (word_address b.address i) Rom (h.each i l));
 }
 
-rom_block : (p : Profile) (store : Bool) (k : ℕ) (b : Access) → AreDearest p b.rom → IsBlockOf Rom k b
+rom_block : (p : Profile) (store : Bool) (k : ℕ) (b : AtTimes) → AreDearest p b.rom → IsBlockOf Rom k b
     → IsDearestBlock p Rom k store b
 rom_block p true k b best h = rom_store p k b h
 rom_block p false k b best h = rom_load p k b best h
 
-io_above : (p : Profile) (store : Bool) (k : ℕ) (b : Access) → transfer_price p k store b ≤ k * worst_io p
+io_above : (p : Profile) (store : Bool) (k : ℕ) (b : AtTimes) → transfer_price p k store b ≤ k * worst_io p
 io_above p store k b =
     block_le p b.rom store b.address (worst_io p) k
     (λ i l first. word_le p b.rom store first (word_address b.address i))
@@ -270,7 +270,7 @@ io_block p f g best k few store rom =
           (λ i l first. io_word_is p rom store first (word_address (page f) i) f (at i l).0 (at i l).1 best);
     }
 
-pub any_block : (p : Profile) (k : ℕ) (store : Bool) (b : Access) → IsDearestBlock p Io k store b
+pub any_block : (p : Profile) (k : ℕ) (store : Bool) (b : AtTimes) → IsDearestBlock p Io k store b
     → IsDearestBlock p Any k store b
 any_block p k store b io = record {
   of_class = record { below = io.of_class.below; each = λ i l. tt };
@@ -282,19 +282,19 @@ abbrev some_times : RomTimes
 some_times = times 0 (omega arith)
 
 -- some block of each class costs the most
-dearest_io : (p : Profile) (k : ℕ) (store : Bool) → k ≤ 16 → (b : Access) × IsDearestBlock p Io k store b
+dearest_io : (p : Profile) (k : ℕ) (store : Bool) → k ≤ 16 → (b : AtTimes) × IsDearestBlock p Io k store b
 dearest_io p k store few =
     let best = choice_reached p.slow p.medium p.fast p.synchronous in
-    let block : Access = record { address = page best.0; rom = some_times } in
+    let block : AtTimes = record { address = page best.0; rom = some_times } in
     (block, io_block p best.0 best.1 best.2 k few store some_times)
 
 dearest_block : (p : Profile) (class : Class) (k : ℕ) (store : Bool) → suc k ≤ 16
-    → (b : Access) × IsDearestBlock p class (suc k) store b
+    → (b : AtTimes) × IsDearestBlock p class (suc k) store b
 dearest_block p Ram k store few =
     (record { address = 12; rom = some_times }, ram_block_at p 0 k store some_times refl (omega arith))
 dearest_block p Rom k store few =
     let best = dearest_times p in
-    let start : Access = record { address = 0x3400000; rom = best.0 } in
+    let start : AtTimes = record { address = 0x3400000; rom = best.0 } in
     let of_class : IsBlockOf Rom (suc k) start =
     record { below = omega arith; each = λ i l. class_rom (word_address 0x3400000 i) (omega arith) } in
     (start, rom_block p store (suc k) start best.1 of_class)
@@ -303,7 +303,7 @@ dearest_block p Any k store few =
     let best = dearest_io p (suc k) store few in
     (best.0, any_block p (suc k) store best.0 best.1)
 
-above : (p : Profile) (class : Class) (k : ℕ) (store : Bool) (b : Access) → IsBlockOf class (suc k) b
+above : (p : Profile) (class : Class) (k : ℕ) (store : Bool) (b : AtTimes) → IsBlockOf class (suc k) b
     → transfer_price p (suc k) store b ≤ worst_block p class (suc k) store
 above p Ram k store b h = ram_above p store k b h
 above p Rom k store b h = rom_above p store (suc k) b h

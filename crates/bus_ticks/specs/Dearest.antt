@@ -6,7 +6,7 @@ use Rattle.bus_ticks.specs.declared.profile.RomTimes.{RomTimes}
 use Rattle.bus_ticks.specs.declared.profile.Class.{Class}
 use Rattle.bus_ticks.specs.Prices.{choice, rom_price}
 use Rattle.bus_ticks.specs.Ranges.{greatest}
-use Rattle.bus_ticks.specs.Worst.{Access, IsOf, IsBlockOf, transfer_price, leave_price}
+use Rattle.bus_ticks.specs.Worst.{AtTimes, IsOf, IsBlockOf, transfer_price, leave_price}
 use Rattle.bus_ticks.specs.Worst.{worst_rom, worst_block, worst_leave_of}
 
 -- i is the place, counted from 0, of the first of four numbers that is the greatest
@@ -21,7 +21,7 @@ AreDearest p rom = (x : ℕ) → rom_price p rom x ≡ worst_rom p
 
 -- all words are of the class, and no transfer of as many of the class costs more
 pub record IsDearestBlock (p : Profile) (class : Class) (words : ℕ) (store : Bool)
-    (b : Access) : Type 0 where
+    (b : AtTimes) : Type 0 where
   pub of_class : IsBlockOf class words b
   pub price : transfer_price p words store b ≡ worst_block p class words store
 

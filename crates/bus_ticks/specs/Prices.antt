@@ -1,7 +1,7 @@
 -- The prices of accesses, in ticks of the 8 MHz processor (a cycle profile shaped on the N and S cycles of
 -- the VL86C010 data sheet).
 use Rattle.std.specs.Prelude.{ℕ, zero, suc, ◌+◌, ◌*◌, ◌/◌, ◌%◌, Bool, nat_lt, ◌==◌, ◌&&◌, if◌then◌else◌}
-use Rattle.bus_ticks.specs.declared.space.TheConstants.{IO_START, ROM_START, SPACE_END}
+use Rattle.bus_ticks.specs.declared.space.TheConstants.{HIGH_ROM_START, IO_START, ROM_START, SPACE_END}
 use Rattle.bus_ticks.specs.declared.profile.Profile.{Profile}
 use Rattle.bus_ticks.specs.declared.profile.RomTimes.{RomTimes}
 use Rattle.bus_ticks.specs.declared.profile.Class.{Class}
@@ -22,9 +22,9 @@ by_class Any ram rom io = io
 abbrev pub choice : ℕ → ℕ → ℕ → ℕ → ℕ → ℕ
 choice i a b c d = if i == 0 then a else (if i == 1 then b else (if i == 2 then c else d))
 
--- an access to ROM, by the time field of its half: 3400000 to 37FFFFF is low
+-- an access to ROM, by the time field of its half
 abbrev pub rom_price : Profile → RomTimes → ℕ → ℕ
-rom_price p rom x = choice (if nat_lt x 0x3800000 then rom.low else rom.high) p.rom_0 p.rom_1 p.rom_2 p.rom_3
+rom_price p rom x = choice (if nat_lt x HIGH_ROM_START then rom.low else rom.high) p.rom_0 p.rom_1 p.rom_2 p.rom_3
 
 -- an access to a device, by address bits 20 and 19
 abbrev pub io_price : Profile → ℕ → ℕ

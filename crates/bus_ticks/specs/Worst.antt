@@ -17,17 +17,17 @@ IsOf Rom x = class_at x ≡ Rom
 IsOf Io x = class_at x ≡ Io
 
 -- where an access begins, and the time fields while it lasts
-pub record Access : Type 0 where
+pub record AtTimes : Type 0 where
   pub address : ℕ
   pub rom : RomTimes
 
 -- all words of the block are of the class
-pub record IsBlockOf (class : Class) (words : ℕ) (b : Access) : Type 0 where
+pub record IsBlockOf (class : Class) (words : ℕ) (b : AtTimes) : Type 0 where
   pub below : b.address < SPACE_END
   pub each : (i : ℕ) → i < words → IsOf class (word_address b.address i)
 
 -- a target of the class
-pub record IsTargetOf (class : Class) (t : Access) : Type 0 where
+pub record IsTargetOf (class : Class) (t : AtTimes) : Type 0 where
   pub below : t.address < SPACE_END
   pub is_of : IsOf class t.address
 
@@ -40,11 +40,11 @@ pub record IsGreatest {A : Type 0} (P : A → Type 0) (price : A → ℕ) (top :
 abbrev pub IsAnyTimes : RomTimes → Type 0
 IsAnyTimes rom = Unit {0}
 
-abbrev pub transfer_price : Profile → ℕ → Bool → Access → ℕ
+abbrev pub transfer_price : Profile → ℕ → Bool → AtTimes → ℕ
 transfer_price p words store b = block_price p b.rom store b.address words
 
 -- the fetch at a target, and the one that follows
-abbrev pub leave_price : Profile → Access → ℕ
+abbrev pub leave_price : Profile → AtTimes → ℕ
 leave_price p t = n_price p t.rom t.address + s_price p t.rom (ahead_of t.address 4)
 
 -- ROM at its dearest time field, and the dearest device
@@ -79,7 +79,7 @@ worst_leave_of p Any =
     (p.unfitted + max p.unfitted (worst_rom p))
 
 -- taking FIQ before the instruction at an address: the fetch 8 bytes on, and the two at FIQ's vector
-abbrev pub fiq_entry_price : Profile → Access → ℕ
+abbrev pub fiq_entry_price : Profile → AtTimes → ℕ
 fiq_entry_price p t =
     s_price p t.rom (ahead_of t.address 8) + (n_price p t.rom 0x1C + s_price p t.rom 0x20)
 

@@ -1,17 +1,18 @@
 ghost use Rattle.std.specs.Prelude.{◌≡◌, ℕ, false, true};
 ghost use Rattle.bus_ticks.specs.Prices.{n_price, s_price};
-ghost use Rattle.bus_ticks.specs.Worst.{Access, IsBlockOf, worst_n_price, worst_s_price};
+ghost use Rattle.bus_ticks.specs.Worst.{AtTimes, IsBlockOf, worst_n_price, worst_s_price};
 ghost use Rattle.bus_ticks.specs.Dearest.{AreDearest, IsDearestBlock};
 
 use crate::profile::{Class, Profile, RomTimes};
-use crate::space::{IO_START, PHYSICAL_START, ROM_START, SPACE_END};
+use crate::space::{HIGH_ROM_START, IO_START, PHYSICAL_START, ROM_START, SPACE_END};
 
 /// States where the kinds of memory are: logical RAM up to 1FFFFFF, physical RAM up to 2FFFFFF, I/O from
-/// 3000000 to 33FFFFF, ROM from there to 3FFFFFF. It does nothing.
+/// 3000000 to 33FFFFF, ROM from there to 3FFFFFF, its high half from 3800000. It does nothing.
 pub fn memory_map()
     ensures physical { PHYSICAL_START ≡ 0x2000000 }
     ensures io { IO_START ≡ 0x3000000 }
     ensures rom { ROM_START ≡ 0x3400000 }
+    ensures high_rom { HIGH_ROM_START ≡ 0x3800000 }
     ensures end { SPACE_END ≡ 0x4000000 }
 {}
 
@@ -28,8 +29,8 @@ pub fn fetches_cost_the_worst()
 /// the dearest time fields each load costs the most, and each store, which goes to a control register, by any
 /// time fields. It does nothing.
 pub fn rom_blocks_cost_the_worst()
-    ensures load { (profile : Profile) → (words : ℕ) → (block : Access) → AreDearest profile block.rom
+    ensures load { (profile : Profile) → (words : ℕ) → (block : AtTimes) → AreDearest profile block.rom
         → IsBlockOf Class.Rom words block → IsDearestBlock profile Class.Rom words false block }
-    ensures store { (profile : Profile) → (words : ℕ) → (block : Access)
+    ensures store { (profile : Profile) → (words : ℕ) → (block : AtTimes)
         → IsBlockOf Class.Rom words block → IsDearestBlock profile Class.Rom words true block }
 {}

@@ -3,7 +3,7 @@ ghost use Rattle.bus_ticks.specs.Prices.{class_at, rom_price, io_price, n_price,
 ghost use Rattle.bus_ticks.specs.Prices.{word_price, block_price};
 
 use crate::profile::{Class, Profile, RomTimes};
-use crate::space::{IO_START, ROM_START, SPACE_END, word_address};
+use crate::space::{HIGH_ROM_START, IO_START, ROM_START, SPACE_END, word_address};
 
 /// The class of an address: Ram below 3000000, Io from there and Rom from 3400000 on, never `Any`.
 #[inline(always)]
@@ -51,7 +51,7 @@ fn rom_price(profile: &Profile, rom: RomTimes, address: u32) -> u32
     ensures price { result ≡ rom_price profile.now rom address }
     ensures small { result < 256 }
 {
-    let field = if address < 0x3800000 {
+    let field = if address < HIGH_ROM_START {
         rom.low
     } else {
         rom.high

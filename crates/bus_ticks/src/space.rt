@@ -12,6 +12,9 @@ pub const IO_START: u32 = 0x300_0000;
 /// Where ROM begins, and I/O ends.
 pub const ROM_START: u32 = 0x340_0000;
 
+/// Where the high half of ROM begins, which has a time field of its own.
+pub const HIGH_ROM_START: u32 = 0x380_0000;
+
 /// Where ROM and all addresses end: 2^26.
 pub const SPACE_END: u32 = 0x400_0000;
 

@@ -1,7 +1,7 @@
 ghost use Rattle.std.specs.Prelude.{◌≡◌, ◌<◌, ◌≤◌, ◌*◌};
 ghost use Rattle.bus_ticks.specs.Prices.{by_class, class_at, n_price, s_price};
 ghost use Rattle.bus_ticks.specs.Ranges.{greatest};
-ghost use Rattle.bus_ticks.specs.Worst.{worst_block, worst_leave_of, worst_n_price, worst_rom, worst_s_price};
+ghost use Rattle.bus_ticks.specs.Worst.{worst_block, worst_io, worst_leave_of, worst_n_price, worst_rom, worst_s_price};
 ghost use Rattle.bus_ticks.specs.Worst.{IsAnyTimes, IsGreatest, IsBlockOf, IsTargetOf, transfer_price};
 ghost use Rattle.bus_ticks.specs.Worst.{fiq_entry, fiq_entry_price, leave_price};
 
@@ -21,6 +21,18 @@ pub(crate) fn worst_rom(profile: &Profile) -> u32
     ensures { result ≡ worst_rom profile.now }
 {
     greatest(profile.rom_0, profile.rom_1, profile.rom_2, profile.rom_3)
+}
+
+// The ticks of an access to the dearest kind of device.
+fn worst_io(profile: &Profile) -> u32
+    ensures { result ≡ worst_io profile.now }
+{
+    greatest(
+        profile.slow,
+        profile.medium,
+        profile.fast,
+        profile.synchronous,
+    )
 }
 
 // The greatest price of a fetch, as a number, by the price that it has where the address is one of RAM.
@@ -75,15 +87,7 @@ fn worst_block(profile: &Profile, class: Class, words: u32, store: bool) -> u32
                 words * worst_rom(profile)
             }
         }
-        Class::Io | Class::Any => {
-            words
-                * greatest(
-                    profile.slow,
-                    profile.medium,
-                    profile.fast,
-                    profile.synchronous,
-                )
-        }
+        Class::Io | Class::Any => { words * worst_io(profile) }
     }
 }
 
