@@ -13,7 +13,7 @@ ghost use Rattle.std.specs.Prelude.{◌≡◌, ◌≤◌, ◌<◌};
 ghost use Rattle.ioc.specs.Interrupts.{Controller, fresh, bit_where, status_a};
 ghost use Rattle.ioc.specs.Interrupts.{status_b, status_f, fiq_of, irq_of};
 ghost use Rattle.ioc.specs.Interrupts.{shares, with_lines, with_flyback, advanced};
-ghost use Rattle.ioc.specs.Registers.{read_at, read_of, write_at, write_of, is_register};
+ghost use Rattle.ioc.specs.Registers.{byte_of, is_register, offset_of, read_at, read_of, write_at, write_of};
 
 use bitflags::Flags;
 use countdown::Countdown;
@@ -190,7 +190,7 @@ impl Ioc {
         if !Ioc::is_register(address) {
             return 0;
         }
-        match address / 4 % 0x20 * 4 {
+        match offset_of(address) {
             0x10 => u32::from(self.status_a()),
             0x14 => u32::from(self.status_a() & self.mask_a),
             0x18 => u32::from(self.mask_a),
@@ -218,10 +218,10 @@ impl Ioc {
         if !Ioc::is_register(address) {
             return;
         }
-        let byte = (word / 0x1_0000 % 0x100) as u8;
+        let byte = byte_of(word);
         let timers = self.timers.current();
         let (timer_0, timer_1) = (timers.timer_0, timers.timer_1);
-        match address / 4 % 0x20 * 4 {
+        match offset_of(address) {
             0x14 => {
                 self.a2_rose = false;
                 self.flyback_rose = false;
@@ -292,6 +292,20 @@ fn bit_where(on: bool, bit: u8) -> u8
     ensures most { result ≤ bit }
 {
     if on { bit } else { 0 }
+}
+
+// The offset of the register at an address, in bytes.
+fn offset_of(address: u32) -> u32
+    ensures { result ≡ offset_of address }
+{
+    address / 4 % 0x20 * 4
+}
+
+// What a word writes to a register: its bits 23 to 16.
+fn byte_of(word: u32) -> u8
+    ensures { result ≡ byte_of word }
+{
+    (word / 0x1_0000 % 0x100) as u8
 }
 
 // Whether a status and its mask share a bit.
