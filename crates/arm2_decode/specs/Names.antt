@@ -58,6 +58,14 @@ abbrev pub is_never : Cond → Bool
 is_never Nv = true
 is_never _ = false
 
+abbrev pub is_add : Opcode → Bool
+is_add Add = true
+is_add _ = false
+
+abbrev pub is_sub : Opcode → Bool
+is_sub Sub = true
+is_sub _ = false
+
 abbrev pub is_mov : Opcode → Bool
 is_mov Mov = true
 is_mov _ = false
@@ -101,6 +109,10 @@ register_number R12 = 12
 register_number R13 = 13
 register_number R14 = 14
 register_number R15 = 15
+
+-- R13 points to the stack
+abbrev pub is_stack : Register → Bool
+is_stack register = register_number register == 13
 
 -- R14 is the link register, which holds the return address
 abbrev pub is_link : Register → Bool

@@ -1,4 +1,5 @@
 ghost use Rattle.std.specs.Prelude.{◌≡◌, ◌<◌};
+ghost use Rattle.arm2_decode.specs.Names.{is_add, is_stack, is_sub};
 ghost use Rattle.arm2_decode.specs.Names.{cond_number, is_always, is_compare, is_compare_number, is_link};
 ghost use Rattle.arm2_decode.specs.Names.{is_lsl, is_mov, is_never, is_pc, is_pc_number, opcode_number};
 ghost use Rattle.arm2_decode.specs.Names.{register_number, shift_number};
@@ -152,6 +153,20 @@ impl Opcode {
         )
     }
 
+    /// Whether it is ADD.
+    pub fn is_add(self) -> bool
+        ensures { result ≡ is_add self }
+    {
+        matches!(self, Opcode::Add)
+    }
+
+    /// Whether it is SUB.
+    pub fn is_sub(self) -> bool
+        ensures { result ≡ is_sub self }
+    {
+        matches!(self, Opcode::Sub)
+    }
+
     /// Whether it is MOV.
     pub fn is_mov(self) -> bool
         ensures { result ≡ is_mov self }
@@ -253,6 +268,13 @@ impl Register {
                 8 R8 9 R9 10 R10 11 R11 12 R12 13 R13 14 R14,
             R15
         )
+    }
+
+    /// Whether it is R13, which points to the stack.
+    pub fn is_stack(self) -> bool
+        ensures { result ≡ is_stack self }
+    {
+        self.number() == 13
     }
 
     /// Whether it is R14, the link register, which holds the return address.

@@ -1,9 +1,10 @@
 ghost use Rattle.std.specs.Prelude.{◌≡◌, ◌<◌, ◌≤◌, ◌^◌, false};
 ghost use Rattle.arm2_decode.specs.Conditions.{condition_holds};
+ghost use Rattle.arm2_decode.specs.Transfers.{is_transfer};
 ghost use Rattle.arm2_effect.specs.Modes.{r15_in};
 ghost use Rattle.arm2_effect.specs.ProgramCounter.{flags_of};
 ghost use Rattle.arm2_effect.specs.Effects.{IsEffect, is_stopped};
-ghost use Rattle.arm2_effect.specs.Operations.{branch_effect, cycles_of, is_transfer};
+ghost use Rattle.arm2_effect.specs.Operations.{branch_effect, cycles_of};
 ghost use Rattle.arm2_effect.specs.Operations.{multiply_effect, operation_effect, product_of};
 
 use crate::exceptions::Vector;

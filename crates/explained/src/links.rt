@@ -20,7 +20,7 @@ use flow_graph::{Calls, Edge, Graph, Place};
 use loader::Image;
 use std::alloc::{AllocError, Global};
 use std::collections::BTreeSet;
-use word_shapes::{instr_at, is_return, is_transfer};
+use word_shapes::{instr_at, is_return};
 
 // Whether data processing writes R14.
 fn data_writes_link(opcode: Opcode, rd: Register) -> bool
@@ -74,7 +74,7 @@ fn writes_link_at(image: &Image, at: u32) -> bool
 fn returns_by_link(operation: &Operation) -> bool
     ensures { result ≡ returns_by_link operation.now }
 {
-    operation.writes_pc() && is_return(operation) && !is_transfer(operation)
+    operation.writes_pc() && is_return(operation) && !operation.is_transfer()
 }
 
 fn may_return_by_link(instr: &Instr) -> bool

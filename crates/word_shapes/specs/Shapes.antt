@@ -1,28 +1,15 @@
 -- Shapes of words (VL86C010 data sheet, by the table of instruction words, but for which shapes are returns,
 -- jumps into tables of branches and kept return addresses).
 use Rattle.std.specs.Prelude.{ℕ, Bool, true, false, not, ◌&&◌, ◌||◌, ◌==◌}
-use Rattle.arm2_decode.specs.Names.{is_link, is_lsl, is_mov, is_pc, register_number}
+use Rattle.arm2_decode.specs.Names.{is_add, is_link, is_lsl, is_mov, is_pc, is_stack, is_sub}
 use Rattle.arm2_decode.specs.Writers.{writes_pc}
 use Rattle.arm2_decode.specs.declared.instr.DataRegister.{DataRegister}
 use Rattle.arm2_decode.specs.declared.instr.Operation.{Operation}
 use Rattle.arm2_decode.specs.declared.instr.Operation.TheVariants as operation
 use Rattle.arm2_decode.specs.declared.names.Opcode.{Opcode}
-use Rattle.arm2_decode.specs.declared.names.Opcode.TheVariants as opcode
 use Rattle.arm2_decode.specs.declared.names.Register.{Register}
 
 -- ## Parts of a word
-
--- R13 points to the stack
-abbrev pub is_stack : Register → Bool
-is_stack r = register_number r == 13
-
-abbrev pub is_add : Opcode → Bool
-is_add opcode.Add = true
-is_add _ = false
-
-abbrev pub is_subtraction : Opcode → Bool
-is_subtraction opcode.Sub = true
-is_subtraction _ = false
 
 -- the operand is shifted to the left by so many bits; by none, it is the register as it is
 abbrev pub is_lsl_by : ℕ → DataRegister → Bool
@@ -36,7 +23,7 @@ copies_link x = is_mov x.opcode && is_link x.rm && is_lsl_by 0 x
 
 -- SUB from R14
 abbrev pub subtracts_from_link : Opcode → Register → Bool
-subtracts_from_link o rn = is_subtraction o && is_link rn
+subtracts_from_link o rn = is_sub o && is_link rn
 
 -- what a word that writes R15 to return looks like: MOV or SUB from R14, or a load from R13
 abbrev pub is_return : Operation → Bool

@@ -5,7 +5,7 @@
 mod shapes;
 mod words;
 
-pub use shapes::{is_odd_writer, is_return, is_transfer};
+pub use shapes::{is_odd_writer, is_return};
 pub use words::{
     instr_at, is_odd_writer_at, is_table_jump_at, is_transfer_at, keeps_return_address_at,
 };

@@ -1,28 +1,9 @@
 ghost use Rattle.std.specs.Prelude.{◌≡◌};
-ghost use Rattle.arm2_effect.specs.Operations.{is_transfer};
-ghost use Rattle.word_shapes.specs.Shapes.{copies_link, is_add, is_lsl_by, is_odd_writer, is_return};
-ghost use Rattle.word_shapes.specs.Shapes.{is_stack, is_subtraction, is_table_jump};
+ghost use Rattle.word_shapes.specs.Shapes.{copies_link, is_lsl_by, is_odd_writer, is_return};
+ghost use Rattle.word_shapes.specs.Shapes.{is_table_jump};
 ghost use Rattle.word_shapes.specs.Shapes.{keeps_return_address, subtracts_from_link};
 
 use arm2_decode::{DataRegister, Opcode, Operation, Register};
-
-fn is_stack(register: Register) -> bool
-    ensures { result ≡ is_stack register }
-{
-    register.number() == 13
-}
-
-fn is_add(opcode: Opcode) -> bool
-    ensures { result ≡ is_add opcode }
-{
-    matches!(opcode, Opcode::Add)
-}
-
-fn is_subtraction(opcode: Opcode) -> bool
-    ensures { result ≡ is_subtraction opcode }
-{
-    matches!(opcode, Opcode::Sub)
-}
 
 // Whether the operand is shifted by LSL, and by this amount.
 fn is_lsl_by(amount: u32, x: &DataRegister) -> bool
@@ -41,7 +22,7 @@ fn copies_link(x: &DataRegister) -> bool
 fn subtracts_from_link(opcode: Opcode, rn: Register) -> bool
     ensures { result ≡ subtracts_from_link opcode rn }
 {
-    is_subtraction(opcode) && rn.is_link()
+    opcode.is_sub() && rn.is_link()
 }
 
 /// Whether an operation that writes R15 does so as returns do: by MOV or SUB from R14, or by a load from R13.
@@ -52,9 +33,9 @@ pub fn is_return(operation: &Operation) -> bool
         Operation::DataRegister(x) => copies_link(x) || subtracts_from_link(x.opcode, x.rn),
         Operation::DataRegisterShift(x) => subtracts_from_link(x.opcode, x.rn),
         Operation::DataImmediate(x) => subtracts_from_link(x.opcode, x.rn),
-        Operation::SingleImmediate(x) => is_stack(x.rn),
-        Operation::SingleRegister(x) => is_stack(x.rn),
-        Operation::Block(x) => is_stack(x.rn),
+        Operation::SingleImmediate(x) => x.rn.is_stack(),
+        Operation::SingleRegister(x) => x.rn.is_stack(),
+        Operation::Block(x) => x.rn.is_stack(),
         _ => false,
     }
 }
@@ -66,23 +47,13 @@ pub fn is_odd_writer(operation: &Operation) -> bool
     operation.writes_pc() && !is_return(operation)
 }
 
-/// Whether an operation loads or stores.
-pub fn is_transfer(operation: &Operation) -> bool
-    ensures { result ≡ is_transfer operation.now }
-{
-    matches!(
-        operation,
-        Operation::SingleImmediate(_) | Operation::SingleRegister(_) | Operation::Block(_)
-    )
-}
-
 /// Whether an operation jumps into a table of branches that follows it: ADD PC,PC,Rx,LSL #2.
 pub(crate) fn is_table_jump(operation: &Operation) -> bool
     ensures { result ≡ is_table_jump operation.now }
 {
     match operation {
         Operation::DataRegister(x) => {
-            is_add(x.opcode) && x.rn.is_pc() && x.rd.is_pc() && is_lsl_by(2, x)
+            x.opcode.is_add() && x.rn.is_pc() && x.rd.is_pc() && is_lsl_by(2, x)
         }
         _ => false,
     }

@@ -1,11 +1,11 @@
 ghost use Rattle.std.specs.Prelude.{◌≡◌, ◌↔◌, IfSome, IsTrue, Some};
 ghost use Rattle.arm2_decode.specs.Table.{Means};
 ghost use Rattle.arm2_decode.specs.declared.instr.Instr.{Instr};
-ghost use Rattle.arm2_effect.specs.Operations.{is_transfer};
+ghost use Rattle.arm2_decode.specs.Transfers.{is_transfer};
 ghost use Rattle.word_shapes.specs.Shapes.{is_odd_writer, is_table_jump, keeps_return_address};
 ghost use Rattle.word_shapes.specs.Words.{HasInstr, HasShape};
 
-use crate::shapes::{is_odd_writer, is_table_jump, is_transfer, keeps_return_address};
+use crate::shapes::{is_odd_writer, is_table_jump, keeps_return_address};
 use arm2_decode::{Instr, decode};
 use loader::Image;
 
@@ -35,7 +35,7 @@ pub fn instr_at(image: &Image, at: u32) -> Option<Instr>
 pub fn is_transfer_at(image: &Image, at: u32) -> bool
     ensures { IsTrue result ↔ HasShape is_transfer image.now at }
 {
-    instr_at(image, at).is_some_and(|instr| is_transfer(&instr.operation))
+    instr_at(image, at).is_some_and(|instr| instr.operation.is_transfer())
 }
 
 /// Whether the image has a word at an address that writes R15, other than a branch or a call, and does not
