@@ -1,5 +1,6 @@
 -- The modes, and the 27 registers in their banks (VL86C010 data sheet, processor modes and registers).
-use Rattle.std.specs.Prelude.{ℕ, ◌+◌, ◌==◌, nat_le, if◌then◌else◌, List, slice_index, slice_set}
+use Rattle.std.specs.Prelude.{ℕ, ◌+◌, ◌==◌, nat_le, Bool, true, false, if◌then◌else◌, List, slice_index}
+use Rattle.std.specs.Prelude.{slice_set}
 use Rattle.arm2_effect.specs.declared.modes.Mode.{Mode}
 use Rattle.arm2_effect.specs.declared.modes.Mode.TheVariants.{User, Fiq, Irq, Svc}
 use Rattle.arm2_effect.specs.declared.modes.Reg.{Reg}
@@ -18,6 +19,12 @@ mode_number Svc = 3
 -- the mode of a number; every number from 3 on names Svc
 abbrev pub mode_named : ℕ → Mode
 mode_named n = if n == 0 then User else (if n == 1 then Fiq else (if n == 2 then Irq else Svc))
+
+abbrev pub is_user : Mode → Bool
+is_user User = true
+is_user Fiq = false
+is_user Irq = false
+is_user Svc = false
 
 -- the place of each register in the list of all: those of User, then the banks of FIQ, IRQ and SVC, and R15
 -- last

@@ -9,6 +9,7 @@ use Rattle.arm2_decode.specs.declared.names.Shift.TheVariants.{Ror}
 use Rattle.shifter.specs.declared.shifts.Shifted.{Shifted}
 use Rattle.shifter.specs.Shifts.{BitsAndCarry, by_immediate, by_register}
 use Rattle.shifter.specs.Word.{word_bits}
+use Rattle.arm2_effect.specs.declared.modes.Mode.{Mode}
 use Rattle.arm2_effect.specs.Modes.{r15_in, register_in}
 use Rattle.arm2_effect.specs.ProgramCounter.{address_of, flags_of, mode_of, r15_ahead}
 
@@ -20,9 +21,13 @@ word_of (bit ∷ bits) = bit_of bit + 2 * word_of bits
 abbrev pub shifted_of : BitsAndCarry → Shifted
 shifted_of s = record { value = word_of s.bits; carry = s.carry }
 
+-- the current mode: that in R15
+abbrev pub mode_in : List ℕ → Mode
+mode_in regs = mode_of (r15_in regs)
+
 -- a register of the current mode
 abbrev pub current_in : Register → List ℕ → ℕ
-current_in register regs = register_in (mode_of (r15_in regs)) (register_number register) regs
+current_in register regs = register_in (mode_in regs) (register_number register) regs
 
 -- A register as the first operand, or as a base: of R15 the address bits alone, so many bytes ahead.
 abbrev pub first_of : ℕ → Register → List ℕ → ℕ

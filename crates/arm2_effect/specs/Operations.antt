@@ -22,7 +22,7 @@ use Rattle.arm2_effect.specs.ProgramCounter.{address_of, branch_target, flags_of
 use Rattle.arm2_effect.specs.ProgramCounter.{mode_of, psr_of, psr_with, r15_ahead, r15_of, restored_of}
 use Rattle.arm2_effect.specs.Effects.{Effect, Internal, onward, straight}
 use Rattle.arm2_effect.specs.Exceptions.{taken}
-use Rattle.arm2_effect.specs.Operands.{current_in, first_of, rotated_byte}
+use Rattle.arm2_effect.specs.Operands.{current_in, first_of, mode_in, rotated_byte}
 use Rattle.arm2_effect.specs.Operands.{shifted_by_amount, shifted_by_register}
 use Rattle.arm2_effect.specs.Outcomes.{flags_after, outcome_of}
 
@@ -40,7 +40,7 @@ entered sets_flags rd out regs =
       accesses = straight (address_of (r15_in regs));
       regs =
           with_r15 (next_r15 sets_flags out (r15_in regs))
-          (with_register (mode_of (r15_in regs)) (register_number rd) out.value regs);
+          (with_register (mode_in regs) (register_number rd) out.value regs);
     }
 
 -- a value enters R15: its address bits, and where flags are set the PSR and the mode too
@@ -140,13 +140,6 @@ branch_effect x regs =
 -- nothing happens here
 unfoldable pub untouched : List ℕ → Effect
 untouched regs = record { kind = Plain; accesses = []; regs = regs }
-
--- loads and stores, which reach past the registers
-abbrev pub is_transfer : Operation → Bool
-is_transfer (row.SingleImmediate x) = true
-is_transfer (row.SingleRegister x) = true
-is_transfer (row.Block x) = true
-is_transfer other = false
 
 -- an instruction whose condition holds; loads and stores have no effect by the registers alone
 unfoldable pub operation_effect : Operation → List ℕ → Effect

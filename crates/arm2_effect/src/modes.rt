@@ -1,5 +1,5 @@
 ghost use Rattle.std.specs.Prelude.{◌≡◌, ◌<◌};
-ghost use Rattle.arm2_effect.specs.Modes.{mode_named, mode_number, reg_number};
+ghost use Rattle.arm2_effect.specs.Modes.{is_user, mode_named, mode_number, reg_number};
 
 /// A processor mode; bits 1 and 0 of R15, from 0.
 #[derive(Clone, Copy)]
@@ -11,6 +11,14 @@ pub enum Mode {
 }
 
 impl Mode {
+    /// Whether it is User, the one mode without privileges.
+    #[inline(always)]
+    pub fn is_user(self) -> bool
+        ensures { result ≡ is_user self }
+    {
+        matches!(self, Mode::User)
+    }
+
     /// The number in R15, in the order of the variants from 0.
     pub(crate) fn number(self) -> u32
         ensures number { result ≡ mode_number self }

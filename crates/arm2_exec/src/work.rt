@@ -8,8 +8,7 @@ ghost use Rattle.arm2_exec.specs.Work.{Obeyed, Worked};
 use crate::decoded::Decoded;
 use arm2_decode::{Instr, Unallocated};
 use arm2_effect::{
-    Done, Mode, Prices, Reg, Registers, Vector, Why, address_of, is_fiq_masked, is_irq_masked,
-    mode_of,
+    Done, Prices, Reg, Registers, Vector, Why, address_of, is_fiq_masked, is_irq_masked, mode_of,
 };
 use arm2_transfer::{Bus, Inputs, carry_out};
 use ioc::Ioc;
@@ -45,7 +44,7 @@ pub(crate) fn interrupt_of(ioc: &Ioc, r15: u32) -> Option<Vector>
 pub(crate) fn fetched(memc: &Memc, r15: u32) -> Option<u32>
     ensures { result ≡ fetched memc.now r15 }
 {
-    let user = matches!(mode_of(r15), Mode::User);
+    let user = mode_of(r15).is_user();
     match memc.locate(address_of(r15), user, false) {
         Ok(spot @ (Spot::Ram(_) | Spot::Rom(_))) => Some(memc.load(spot)),
         _ => None,

@@ -10,9 +10,7 @@ use Rattle.arm2_decode.specs.declared.instr.Block.{Block}
 use Rattle.arm2_decode.specs.declared.names.Register.{Register}
 use Rattle.arm2_decode.specs.Names.{register_number}
 use Rattle.arm2_decode.specs.Transfers.{writes_base}
-use Rattle.arm2_effect.specs.declared.modes.Mode.{Mode}
-use Rattle.arm2_effect.specs.Modes.{r15_in, register_in, slot_of}
-use Rattle.arm2_effect.specs.ProgramCounter.{mode_of}
+use Rattle.arm2_effect.specs.Modes.{register_in, slot_of}
 use Rattle.arm2_transfer.specs.declared.bus.Bus.{Bus}
 use Rattle.arm2_transfer.specs.declared.single_fields.Single.{Single}
 use Rattle.arm2_transfer.specs.Bus.{made_of, put, put_single, seen}
@@ -21,18 +19,11 @@ use Rattle.arm2_transfer.specs.Registers.{given, is_user, moved_by}
 use Rattle.arm2_transfer.specs.Moved.{Moved}
 use Rattle.arm2_transfer.specs.Single.{address_for, has_user_rights}
 use Rattle.arm2_transfer.specs.Block.{lowest_of, mode_for}
+use Rattle.arm2_effect.specs.Operands.{current_in, mode_in}
 
--- the mode of an instruction: that in R15 before it
-abbrev pub mode_at : List ℕ → Mode
-mode_at regs = mode_of (r15_in regs)
-
--- the base: what its register of that mode holds before the instruction
-abbrev pub base_at : Register → List ℕ → ℕ
-base_at rn regs = register_in (mode_at regs) (register_number rn) regs
-
--- what that register holds after it
+-- what the base's register, by the mode before the instruction, holds after it
 abbrev pub base_left : Register → (before after : List ℕ) → ℕ
-base_left rn before after = register_in (mode_at before) (register_number rn) after
+base_left rn before after = register_in (mode_in before) (register_number rn) after
 
 -- What a transfer leaves in its base register: the loaded word, where it loads that register; else the moved
 -- base, where it writes it back; else the base as it was.
@@ -44,12 +35,12 @@ pub record LeavesBase (loads writes : Bool) (IsLoaded : ℕ → Type 0) (base mo
 -- ## Single transfers
 
 abbrev pub address_at : Single → List ℕ → ℕ
-address_at x regs = address_for x (base_at x.rn regs)
+address_at x regs = address_for x (current_in x.rn regs)
 
 -- where the word goes or comes from
 abbrev pub IsSpot : Single → List ℕ → Bus → Spot → Type 0
 IsSpot x regs bus spot =
-    located bus.memc (address_at x regs) (has_user_rights x (mode_at regs)) (not x.load) ≡ Ok spot
+    located bus.memc (address_at x regs) (has_user_rights x (mode_in regs)) (not x.load) ≡ Ok spot
 
 -- whether the register that is loaded or stored is the base register
 abbrev pub is_own_base : Single → Bool
@@ -69,9 +60,9 @@ PutsWord x regs bus value after =
 -- with its PSR
 pub record SingleBase (x : Single) (port : ℕ) (regs : List ℕ) (bus : Bus) (m : Moved) : Type 0 where
   pub leaves : LeavesBase (x.load && is_own_base x) (writes_base x.before x.write_back)
-      (IsLoadedWord x port regs bus) (base_at x.rn regs) (moved_by x.up (base_at x.rn regs) x.offset)
+      (IsLoadedWord x port regs bus) (current_in x.rn regs) (moved_by x.up (current_in x.rn regs) x.offset)
       (base_left x.rn regs m.regs)
-  pub stores_old : x.load ≡ false → is_own_base x ≡ true → PutsWord x regs bus (base_at x.rn regs) m.bus
+  pub stores_old : x.load ≡ false → is_own_base x ≡ true → PutsWord x regs bus (current_in x.rn regs) m.bus
 
 -- ## Blocks
 
@@ -80,22 +71,22 @@ abbrev pub words_in : Block → ℕ
 words_in x = length (registers_in x.list)
 
 abbrev pub base_moved : Block → List ℕ → ℕ
-base_moved x regs = moved_by x.up (base_at x.rn regs) (4 * words_in x)
+base_moved x regs = moved_by x.up (current_in x.rn regs) (4 * words_in x)
 
 abbrev pub lowest_at : Block → List ℕ → ℕ
-lowest_at x regs = lowest_of x (base_at x.rn regs) (words_in x)
+lowest_at x regs = lowest_of x (current_in x.rn regs) (words_in x)
 
 -- where word number i goes or comes from, by the memory controller as it is before the first is moved
 abbrev pub IsWordSpot : Block → List ℕ → Bus → (i : ℕ) → Spot → Type 0
 IsWordSpot x regs bus i spot =
-    located bus.memc (word_address (lowest_at x regs) i) (is_user (mode_at regs)) (not x.load) ≡ Ok spot
+    located bus.memc (word_address (lowest_at x regs) i) (is_user (mode_in regs)) (not x.load) ≡ Ok spot
 
 -- Whether a register of the list is the base register. Where S asks for User's registers and the base is R13
 -- of IRQ, the R13 of the list is another.
 abbrev pub is_base : Block → List ℕ → Register → Bool
 is_base x regs register =
-    slot_of (mode_for x (mode_at regs)) (register_number register)
-    == slot_of (mode_at regs) (register_number x.rn)
+    slot_of (mode_for x (mode_in regs)) (register_number register)
+    == slot_of (mode_in regs) (register_number x.rn)
 
 abbrev pub loads_base : Block → List ℕ → Bool
 loads_base x regs = x.load && list_any (is_base x regs) (registers_in x.list)
@@ -109,11 +100,11 @@ IsBaseWord x port regs bus value =
 -- What a store writes for a register of its list: the base as it was, where it is the lowest of the list or
 -- is not written back; the moved base, where it comes later and is; and any other register as it is.
 pub record Stores (x : Block) (regs : List ℕ) (first : Bool) (register : Register) (word : ℕ) : Type 0 where
-  pub lowest_base : is_base x regs register ≡ true → first ≡ true → word ≡ base_at x.rn regs
+  pub lowest_base : is_base x regs register ≡ true → first ≡ true → word ≡ current_in x.rn regs
   pub later_base : is_base x regs register ≡ true → first ≡ false → x.write_back ≡ true
       → word ≡ base_moved x regs
-  pub kept_base : is_base x regs register ≡ true → x.write_back ≡ false → word ≡ base_at x.rn regs
-  pub other : is_base x regs register ≡ false → word ≡ given (mode_for x (mode_at regs)) register regs
+  pub kept_base : is_base x regs register ≡ true → x.write_back ≡ false → word ≡ current_in x.rn regs
+  pub other : is_base x regs register ≡ false → word ≡ given (mode_for x (mode_in regs)) register regs
 
 -- the bus once the words of some registers were put on it, from number i on; `start` is the bus before word 0
 abbrev pub PutsWords : Block → List ℕ → (start : Bus) → (i : ℕ) → List Register → (old new : Bus) → Type 0
@@ -125,5 +116,5 @@ PutsWords x regs start i (register ∷ rest) old new =
 -- a block transfer and its base, which is never R15: a word with that base is unallocated
 pub record BlockBase (x : Block) (port : ℕ) (regs : List ℕ) (bus : Bus) (m : Moved) : Type 0 where
   pub leaves : LeavesBase (loads_base x regs) x.write_back (IsBaseWord x port regs bus)
-      (base_at x.rn regs) (base_moved x regs) (base_left x.rn regs m.regs)
+      (current_in x.rn regs) (base_moved x regs) (base_left x.rn regs m.regs)
   pub stores : x.load ≡ false → PutsWords x regs bus 0 (registers_in x.list) bus m.bus

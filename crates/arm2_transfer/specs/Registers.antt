@@ -3,15 +3,8 @@ use Rattle.std.specs.Prelude.{ℕ, ◌+◌, ◌-◌, ◌%◌, ◌^◌, Bool, tru
 use Rattle.arm2_decode.specs.declared.names.Register.{Register}
 use Rattle.arm2_decode.specs.Names.{is_pc, register_number}
 use Rattle.arm2_effect.specs.declared.modes.Mode.{Mode}
-use Rattle.arm2_effect.specs.declared.modes.Mode.TheVariants.{User, Fiq, Irq, Svc}
 use Rattle.arm2_effect.specs.Modes.{r15_in, with_r15, register_in, with_register}
 use Rattle.arm2_effect.specs.ProgramCounter.{address_of, r15_ahead, jumped_of, restored_of}
-
-abbrev pub is_user : Mode → Bool
-is_user User = true
-is_user Fiq = false
-is_user Irq = false
-is_user Svc = false
 
 -- a base and an offset, on 32 bits
 abbrev pub moved_by : (up : Bool) → (base offset : ℕ) → ℕ

@@ -14,7 +14,7 @@ use crate::addresses::{lowest_of, moved_by};
 use crate::bus::{Bus, put, seen};
 use crate::inputs::Inputs;
 use crate::moved::{Accesses, load_ticks, refuse, store_ticks};
-use crate::registers::{Loading, enter, given, is_user, pass, write_base};
+use crate::registers::{Loading, enter, given, pass, write_base};
 use crate::run::{load_along, put_along};
 use crate::span::Span;
 use crate::words::{Move, count, locate_block, split_lowest};
@@ -281,7 +281,7 @@ fn word_by_word(
     ensures stopped { is_stopped result.kind ≡ true
         → ChangesNothing result registers.old registers.new bus.old bus.new }
 {
-    let user = is_user(mode_of(registers.get(Reg::R15)));
+    let user = mode_of(registers.get(Reg::R15)).is_user();
     match locate_block(&bus.memc, block.transfer, block.span.lowest, user) {
         Err(fault) => refuse(registers, bus, &inputs.prices, fault),
         Ok(moves) if block.transfer.load => load(registers, bus, inputs, block, moves.as_slice()),
@@ -303,7 +303,7 @@ fn block_at(registers: &mut Registers, bus: &mut Bus, inputs: &Inputs, block: Pl
     if span.lowest >= SPACE_END {
         return registers.take(&inputs.prices, Vector::AddressException);
     }
-    let user = is_user(mode_of(registers.get(Reg::R15)));
+    let user = mode_of(registers.get(Reg::R15)).is_user();
     match bus.memc.locate_run(span.lowest, span.words, user, !load) {
         Some(place) if load => load_run(registers, bus, inputs, block, place),
         Some(place) => store_run(registers, bus, &inputs.prices, block, place),

@@ -1,16 +1,9 @@
 ghost use Rattle.std.specs.Prelude.{◌≡◌, ◌<◌};
-ghost use Rattle.arm2_transfer.specs.Registers.{is_user, given, with_loaded, with_base};
+ghost use Rattle.arm2_transfer.specs.Registers.{given, with_loaded, with_base};
 ghost use Rattle.arm2_transfer.specs.Registers.{passed, loaded_r15};
 
 use arm2_decode::Register;
 use arm2_effect::{Mode, Reg, Registers, address_of, advanced, jumped, restored};
-
-#[inline(always)]
-pub(crate) fn is_user(mode: Mode) -> bool
-    ensures { result ≡ is_user mode }
-{
-    matches!(mode, Mode::User)
-}
 
 /// What a store takes from a register.
 #[inline(always)]

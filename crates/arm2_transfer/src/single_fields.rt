@@ -1,5 +1,5 @@
 use crate::addresses::{address_by, moved_by};
-use crate::registers::{is_user, pass, write_base};
+use crate::registers::{pass, write_base};
 use arm2_decode::{Register, asks_for_user, writes_base};
 use arm2_effect::{Mode, Reg, Registers, mode_of};
 
@@ -39,7 +39,7 @@ impl Single {
     pub(crate) fn has_user_rights(self, mode: Mode) -> bool
         ensures { result ≡ has_user_rights self mode }
     {
-        is_user(mode) || asks_for_user(self.before, self.write_back)
+        mode.is_user() || asks_for_user(self.before, self.write_back)
     }
 
     /// R15 goes on, and the moved base is written back where it is.
