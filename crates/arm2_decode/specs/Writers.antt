@@ -1,5 +1,6 @@
--- Which operations write R15 (VL86C010 data sheet, by the table of instruction words).
-use Rattle.std.specs.Prelude.{Bool, false, not, ◌&&◌}
+-- Which operations load and store, and which write R15 (VL86C010 data sheet, by the table of instruction
+-- words).
+use Rattle.std.specs.Prelude.{Bool, true, false, not, ◌&&◌}
 use Rattle.arm2_decode.specs.Names.{is_compare, is_pc}
 use Rattle.arm2_decode.specs.Transfers.{is_listed}
 use Rattle.arm2_decode.specs.declared.instr.Operation.{Operation}
@@ -7,6 +8,13 @@ use Rattle.arm2_decode.specs.declared.instr.Operation.TheVariants as operation
 use Rattle.arm2_decode.specs.declared.names.Opcode.{Opcode}
 use Rattle.arm2_decode.specs.declared.names.Register.{Register}
 use Rattle.arm2_decode.specs.declared.names.Register.TheVariants.{R15}
+
+-- loads and stores, which reach past the registers
+abbrev pub is_transfer : Operation → Bool
+is_transfer (operation.SingleImmediate x) = true
+is_transfer (operation.SingleRegister x) = true
+is_transfer (operation.Block x) = true
+is_transfer other = false
 
 -- data processing writes Rd, unless it compares
 abbrev pub data_writes_pc : Opcode → Register → Bool

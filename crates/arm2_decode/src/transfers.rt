@@ -2,7 +2,7 @@ ghost use Rattle.std.specs.Prelude.{◌≡◌};
 ghost use Rattle.arm2_decode.specs.Transfers.{asks_for_user, writes_base};
 
 use crate::field::bit_of_word;
-use crate::instr::{Block, Operation};
+use crate::instr::Block;
 use crate::names::Register;
 
 /// Whether a single transfer writes its base, by P and W.
@@ -19,20 +19,6 @@ pub fn asks_for_user(before: bool, write_back: bool) -> bool
     ensures { result ≡ asks_for_user before write_back }
 {
     write_back && !before
-}
-
-impl Operation {
-    ghost use Rattle.arm2_decode.specs.Transfers.{is_transfer};
-
-    /// Whether it loads or stores.
-    pub fn is_transfer(&self) -> bool
-        ensures { result ≡ is_transfer self.now }
-    {
-        matches!(
-            self,
-            Operation::SingleImmediate(_) | Operation::SingleRegister(_) | Operation::Block(_)
-        )
-    }
 }
 
 impl Block {

@@ -1,5 +1,5 @@
 ghost use Rattle.std.specs.Prelude.{◌≡◌};
-ghost use Rattle.arm2_decode.specs.Writers.{data_writes_pc, writes_pc};
+ghost use Rattle.arm2_decode.specs.Writers.{data_writes_pc, is_transfer, writes_pc};
 
 use crate::instr::Operation;
 use crate::names::{Opcode, Register};
@@ -11,6 +11,16 @@ fn data_writes_pc(opcode: Opcode, rd: Register) -> bool
 }
 
 impl Operation {
+    /// Whether it loads or stores.
+    pub fn is_transfer(&self) -> bool
+        ensures { result ≡ is_transfer self.now }
+    {
+        matches!(
+            self,
+            Operation::SingleImmediate(_) | Operation::SingleRegister(_) | Operation::Block(_)
+        )
+    }
+
     /// Whether it writes R15, other than a branch or a call.
     pub fn writes_pc(&self) -> bool
         ensures { result ≡ writes_pc self.now }

@@ -18,8 +18,8 @@ use Rattle.arm2_effect.specs.declared.outcomes.Outcome.{Outcome}
 use Rattle.arm2_effect.specs.declared.exceptions.Vector.TheVariants as vector
 use Rattle.arm2_effect.specs.declared.step_end.Kind.TheVariants.{Plain}
 use Rattle.arm2_effect.specs.Modes.{r15_in, with_r15, with_register}
-use Rattle.arm2_effect.specs.ProgramCounter.{address_of, branch_target, flags_of, jumped_of}
-use Rattle.arm2_effect.specs.ProgramCounter.{mode_of, psr_of, psr_with, r15_ahead, r15_of, restored_of}
+use Rattle.arm2_effect.specs.ProgramCounter.{address_of, branch_target, flags_of, r15_jumped}
+use Rattle.arm2_effect.specs.ProgramCounter.{mode_of, psr_of, psr_with, r15_ahead, r15_of, r15_restored}
 use Rattle.arm2_effect.specs.Effects.{Effect, Internal, onward, straight}
 use Rattle.arm2_effect.specs.Exceptions.{taken}
 use Rattle.arm2_effect.specs.Operands.{current_in, first_of, mode_in, rotated_byte}
@@ -51,8 +51,8 @@ jumped sets_flags out regs =
       accesses = onward (address_of (r15_in regs)) (address_of out.value);
       regs =
           with_r15
-          (if sets_flags then restored_of (r15_in regs) out.value (address_of out.value)
-          else jumped_of (r15_in regs) out.value)
+          (if sets_flags then r15_restored (r15_in regs) out.value (address_of out.value)
+          else r15_jumped (r15_in regs) out.value)
           regs;
     }
 
@@ -64,7 +64,7 @@ compared rd out regs =
       accesses = straight (address_of (r15_in regs));
       regs =
           with_r15
-          (if is_pc rd then restored_of (r15_in regs) out.value (ahead_of (address_of (r15_in regs)) 4)
+          (if is_pc rd then r15_restored (r15_in regs) out.value (ahead_of (address_of (r15_in regs)) 4)
           else next_r15 true out (r15_in regs))
           regs;
     }

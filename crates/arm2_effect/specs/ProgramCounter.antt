@@ -54,11 +54,11 @@ abbrev pub r15_ahead : ℕ → ℕ → ℕ
 r15_ahead r by = r15_of (psr_of r) (ahead_of (address_of r) by) (mode_of r)
 
 -- R15 with the address bits of a value alone
-abbrev pub jumped_of : ℕ → ℕ → ℕ
-jumped_of r value = r15_of (psr_of r) (address_of value) (mode_of r)
+abbrev pub r15_jumped : ℕ → ℕ → ℕ
+r15_jumped r value = r15_of (psr_of r) (address_of value) (mode_of r)
 
 -- R15 with the PSR and the mode of a value, and an address: in User mode I, F and the mode stay
-abbrev pub restored_of : ℕ → ℕ → ℕ → ℕ
-restored_of r value address =
+abbrev pub r15_restored : ℕ → ℕ → ℕ → ℕ
+r15_restored r value address =
     if r % 4 == 0 then r15_of (value / 2 ^ 28 * 4 + psr_of r % 4) address User
     else r15_of (psr_of value) address (mode_of value)

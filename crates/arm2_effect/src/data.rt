@@ -8,7 +8,9 @@ ghost use Rattle.arm2_effect.specs.ProgramCounter.{psr_with};
 use crate::modes::Reg;
 use crate::outcomes::{Outcome, flags_after, outcome_of};
 use crate::prices::Prices;
-use crate::program_counter::{address_of, flags_of, jumped, mode_of, psr_of, r15_of, restored};
+use crate::program_counter::{
+    address_of, flags_of, mode_of, psr_of, r15_jumped, r15_of, r15_restored,
+};
 use crate::registers::Registers;
 use crate::step_end::Done;
 use arm2_decode::{DataImmediate, DataRegister, DataRegisterShift, Flags, Opcode, Register};
@@ -92,9 +94,9 @@ impl Registers {
         let r15 = self.get(Reg::R15);
         let to = address_of(outcome.value);
         if sets_flags {
-            self.set(Reg::R15, restored(r15, outcome.value, to));
+            self.set(Reg::R15, r15_restored(r15, outcome.value, to));
         } else {
-            self.set(Reg::R15, jumped(r15, outcome.value));
+            self.set(Reg::R15, r15_jumped(r15, outcome.value));
         }
         Done::plain(prices.onward(address_of(r15), to))
     }
@@ -111,7 +113,7 @@ impl Registers {
         if rd.is_pc() {
             self.set(
                 Reg::R15,
-                restored(r15, outcome.value, ahead_of(address_of(r15), 4)),
+                r15_restored(r15, outcome.value, ahead_of(address_of(r15), 4)),
             );
         } else {
             self.set(Reg::R15, next_r15(true, outcome, r15));

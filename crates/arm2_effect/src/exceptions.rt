@@ -4,7 +4,7 @@ ghost use Rattle.arm2_effect.specs.Exceptions.{entry_at, masked, taken};
 
 use crate::modes::{Mode, Reg};
 use crate::prices::Prices;
-use crate::program_counter::{address_of, advanced, psr_of, r15_of};
+use crate::program_counter::{address_of, psr_of, r15_ahead, r15_of};
 use crate::registers::Registers;
 use crate::step_end::{Done, Kind};
 use arm2_decode::Register;
@@ -84,7 +84,7 @@ impl Registers {
         self.write(
             entry.mode,
             Register::R14,
-            advanced(r15, entry.return_offset),
+            r15_ahead(r15, entry.return_offset),
         );
         self.set(
             Reg::R15,
@@ -108,7 +108,7 @@ impl Registers {
         ensures bound { result.ticks < 2 ^ 16 }
     {
         let r15 = self.get(Reg::R15);
-        self.set(Reg::R15, advanced(r15, 4));
+        self.set(Reg::R15, r15_ahead(r15, 4));
         Done::plain(prices.straight(address_of(r15)))
     }
 }

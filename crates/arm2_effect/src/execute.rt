@@ -1,6 +1,6 @@
 ghost use Rattle.std.specs.Prelude.{◌≡◌, ◌<◌, ◌≤◌, ◌^◌, false};
 ghost use Rattle.arm2_decode.specs.Conditions.{condition_holds};
-ghost use Rattle.arm2_decode.specs.Transfers.{is_transfer};
+ghost use Rattle.arm2_decode.specs.Writers.{is_transfer};
 ghost use Rattle.arm2_effect.specs.Modes.{r15_in};
 ghost use Rattle.arm2_effect.specs.ProgramCounter.{flags_of};
 ghost use Rattle.arm2_effect.specs.Effects.{IsEffect, is_stopped};
@@ -12,7 +12,7 @@ use crate::modes::Reg;
 use crate::outcomes::Outcome;
 use crate::prices::Prices;
 use crate::program_counter::{
-    address_of, advanced, branch_target, flags_of, mode_of, psr_of, r15_of,
+    address_of, branch_target, flags_of, mode_of, psr_of, r15_ahead, r15_of,
 };
 use crate::registers::Registers;
 use crate::step_end::Done;
@@ -75,7 +75,7 @@ impl Registers {
         let r15 = self.get(Reg::R15);
         let to = branch_target(address_of(r15), branch.offset);
         if branch.link {
-            self.write(mode_of(r15), Register::R14, advanced(r15, 4));
+            self.write(mode_of(r15), Register::R14, r15_ahead(r15, 4));
         }
         self.set(Reg::R15, r15_of(psr_of(r15), to, mode_of(r15)));
         Done::plain(prices.onward(address_of(r15), to))

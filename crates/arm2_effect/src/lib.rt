@@ -20,8 +20,8 @@ pub use exceptions::Vector;
 pub use modes::{Mode, Reg};
 pub use prices::Prices;
 pub use program_counter::{
-    address_of, advanced, branch_target, is_fiq_masked, is_irq_masked, jumped, mode_of, r15_of,
-    restored,
+    address_of, branch_target, is_fiq_masked, is_irq_masked, mode_of, r15_ahead, r15_jumped,
+    r15_of, r15_restored,
 };
 pub use registers::{Registers, slot_of};
 pub use step_end::{Done, Kind, Why};

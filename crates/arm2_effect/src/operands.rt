@@ -4,7 +4,7 @@ ghost use Rattle.arm2_effect.specs.Operands.{shifted_by_amount};
 ghost use Rattle.arm2_effect.specs.Operands.{shifted_by_register};
 
 use crate::modes::Reg;
-use crate::program_counter::{address_of, advanced, flags_of, mode_of};
+use crate::program_counter::{address_of, flags_of, mode_of, r15_ahead};
 use crate::registers::Registers;
 use arm2_decode::{Register, Shift};
 use bus_ticks::ahead_of;
@@ -34,7 +34,7 @@ impl Registers {
     {
         let r15 = self.get(Reg::R15);
         if register.is_pc() {
-            return advanced(r15, bytes);
+            return r15_ahead(r15, bytes);
         }
         self.read(mode_of(r15), register)
     }

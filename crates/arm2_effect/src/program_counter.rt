@@ -3,9 +3,9 @@ ghost use Rattle.std.specs.Prelude.{◌≡◌, ◌%◌, ◌^◌, ◌<◌};
 ghost use Rattle.bus_ticks.specs.Prices.{ahead_of};
 ghost use Rattle.arm2_effect.specs.ProgramCounter.{address_of, branch_target};
 ghost use Rattle.arm2_effect.specs.ProgramCounter.{flags_of, is_fiq_masked, is_irq_masked};
-ghost use Rattle.arm2_effect.specs.ProgramCounter.{jumped_of, mode_of};
+ghost use Rattle.arm2_effect.specs.ProgramCounter.{r15_jumped, mode_of};
 ghost use Rattle.arm2_effect.specs.ProgramCounter.{psr_of, r15_ahead, r15_of};
-ghost use Rattle.arm2_effect.specs.ProgramCounter.{restored_of};
+ghost use Rattle.arm2_effect.specs.ProgramCounter.{r15_restored};
 
 use crate::modes::Mode;
 use arm2_decode::{Flags, bit_of_word};
@@ -83,7 +83,7 @@ pub fn r15_of(psr: u32, address: u32, mode: Mode) -> u32
 }
 
 /// R15 some bytes on, with its PSR and mode.
-pub fn advanced(r15: u32, by: u32) -> u32
+pub fn r15_ahead(r15: u32, by: u32) -> u32
     requires words { by % 4 ≡ 0 }
     requires small { by < 2 ^ 28 }
     ensures { result ≡ r15_ahead r15 by }
@@ -92,17 +92,17 @@ pub fn advanced(r15: u32, by: u32) -> u32
 }
 
 /// R15 with the address bits of a value alone.
-pub fn jumped(r15: u32, value: u32) -> u32
-    ensures { result ≡ jumped_of r15 value }
+pub fn r15_jumped(r15: u32, value: u32) -> u32
+    ensures { result ≡ r15_jumped r15 value }
 {
     r15_of(psr_of(r15), address_of(value), mode_of(r15))
 }
 
 /// R15 with the PSR and the mode of a value, and an address: in User mode I, F and the mode stay.
-pub fn restored(r15: u32, value: u32, address: u32) -> u32
+pub fn r15_restored(r15: u32, value: u32, address: u32) -> u32
     requires below { address < SPACE_END }
     requires aligned { address % 4 ≡ 0 }
-    ensures { result ≡ restored_of r15 value address }
+    ensures { result ≡ r15_restored r15 value address }
 {
     if r15 % 4 == 0 {
         return r15_of(

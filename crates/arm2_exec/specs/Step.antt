@@ -15,14 +15,13 @@ use Rattle.vidc.specs.Video as vidc
 use Rattle.arm2_effect.specs.declared.exceptions.Vector.{Vector}
 use Rattle.arm2_effect.specs.declared.exceptions.Vector.TheVariants as vector
 use Rattle.arm2_effect.specs.declared.step_end.Why.TheVariants as why
-use Rattle.arm2_effect.specs.Modes.{r15_in}
+use Rattle.arm2_effect.specs.Modes.{r15_in, is_user}
 use Rattle.arm2_effect.specs.ProgramCounter.{address_of, flags_of, is_fiq_masked, is_irq_masked, mode_of}
 use Rattle.arm2_effect.specs.Effects.{is_stopped, skipped, stopped, ticks_of}
 use Rattle.arm2_effect.specs.Exceptions.{taken}
 use Rattle.arm2_transfer.specs.declared.bus.Bus.{Bus}
 use Rattle.arm2_transfer.specs.Moved.{Moved, on_bus}
 use Rattle.arm2_transfer.specs.Operations.{operation_moved}
-use Rattle.arm2_transfer.specs.Registers.{is_user}
 use Rattle.arm2_exec.specs.declared.machine.Input.{Input}
 use Rattle.arm2_exec.specs.declared.machine.Stepped.{Stepped}
 use Rattle.arm2_exec.specs.State.{State}

@@ -19,7 +19,7 @@ use Rattle.arm2_effect.specs.declared.exceptions.Vector.TheVariants as vector
 use Rattle.arm2_effect.specs.declared.modes.Mode.{Mode}
 use Rattle.arm2_effect.specs.Effects.{stopped}
 use Rattle.arm2_effect.specs.Exceptions.{taken}
-use Rattle.arm2_effect.specs.Modes.{r15_in}
+use Rattle.arm2_effect.specs.Modes.{r15_in, is_user}
 use Rattle.arm2_effect.specs.Operands.{current_in, first_of, mode_in}
 use Rattle.arm2_transfer.specs.declared.bus.Bus.{Bus}
 use Rattle.arm2_transfer.specs.declared.single_fields.Single.{Single}
@@ -31,7 +31,7 @@ use Rattle.arm2_transfer.specs.Bases.{address_at, base_moved, BlockBase, Stores,
 use Rattle.arm2_transfer.specs.Block.{all_loaded, all_put, block_at, block_by, block_carried_out, block_loads, block_moved, block_put, block_stores, mode_for, span_of}
 use Rattle.arm2_transfer.specs.Bus.{made_of, put, put_single, seen}
 use Rattle.arm2_transfer.specs.Moved.{on_bus, out_of_space, faulted}
-use Rattle.arm2_transfer.specs.Registers.{given, is_user, moved_by, passed, with_base, with_loaded}
+use Rattle.arm2_transfer.specs.Registers.{given, moved_by, passed, with_base, with_loaded}
 use Rattle.arm2_transfer.specs.Single.{base_after, has_user_rights, single_at, single_by, single_carried_out, single_loaded, single_loads, single_moved, single_stores}
 use Rattle.arm2_transfer.specs.Words.{Word, is_abort, is_unsupported, or_fault, moves_of, registers_in, verdict_of, words_from}
 use Rattle.arm2_transfer.proofs.Slots.{AtMostOne, base_slot, based_kept, based_long, based_written, given_apart, given_here, loaded_apart, loaded_here, loaded_long, one_listed, other_stands, passed_base, passed_long, place, same_stands, stands_at}

@@ -5,7 +5,7 @@ use Rattle.memc.specs.Memory.{located}
 use Rattle.memc.specs.declared.spots.Spot.{Spot}
 use Rattle.arm2_decode.specs.declared.instr.Block.{Block}
 use Rattle.arm2_effect.specs.declared.modes.Mode.{Mode}
-use Rattle.arm2_effect.specs.Modes.{r15_in}
+use Rattle.arm2_effect.specs.Modes.{r15_in, is_user}
 use Rattle.arm2_effect.specs.ProgramCounter.{mode_of}
 use Rattle.arm2_transfer.specs.declared.bus.Bus.{Bus}
 use Rattle.arm2_transfer.specs.declared.single_fields.Single.{Single}
@@ -13,7 +13,6 @@ use Rattle.arm2_transfer.specs.declared.span.Span.{Span}
 use Rattle.arm2_transfer.specs.declared.words.Move.{Move}
 use Rattle.arm2_transfer.specs.declared.words.TransferFault.{TransferFault}
 use Rattle.arm2_transfer.specs.Words.{or_fault, registers_in, words_from, verdict_of}
-use Rattle.arm2_transfer.specs.Registers.{is_user}
 use Rattle.arm2_transfer.specs.Moved.{out_of_space}
 use Rattle.arm2_transfer.specs.Single.{address_for, has_user_rights, single_loads, single_stores, single_carried_out, single_by, single_at}
 use Rattle.arm2_transfer.specs.Block.{block_loads, block_stores, block_carried_out, block_by, block_at}

@@ -10,12 +10,12 @@ use Rattle.arm2_decode.specs.declared.instr.Block.{Block}
 use Rattle.arm2_decode.specs.declared.names.Register.{Register}
 use Rattle.arm2_decode.specs.Names.{register_number}
 use Rattle.arm2_decode.specs.Transfers.{writes_base}
-use Rattle.arm2_effect.specs.Modes.{register_in, slot_of}
+use Rattle.arm2_effect.specs.Modes.{register_in, slot_of, is_user}
 use Rattle.arm2_transfer.specs.declared.bus.Bus.{Bus}
 use Rattle.arm2_transfer.specs.declared.single_fields.Single.{Single}
 use Rattle.arm2_transfer.specs.Bus.{made_of, put, put_single, seen}
 use Rattle.arm2_transfer.specs.Words.{registers_in}
-use Rattle.arm2_transfer.specs.Registers.{given, is_user, moved_by}
+use Rattle.arm2_transfer.specs.Registers.{given, moved_by}
 use Rattle.arm2_transfer.specs.Moved.{Moved}
 use Rattle.arm2_transfer.specs.Single.{address_for, has_user_rights}
 use Rattle.arm2_transfer.specs.Block.{lowest_of, mode_for}

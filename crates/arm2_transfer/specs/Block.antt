@@ -9,7 +9,7 @@ use Rattle.arm2_decode.specs.Transfers.{is_listed}
 use Rattle.arm2_effect.specs.declared.modes.Mode.{Mode}
 use Rattle.arm2_effect.specs.declared.modes.Mode.TheVariants.{User}
 use Rattle.arm2_effect.specs.declared.step_end.Kind.TheVariants.{Plain}
-use Rattle.arm2_effect.specs.Modes.{r15_in, register_in}
+use Rattle.arm2_effect.specs.Modes.{r15_in, register_in, is_user}
 use Rattle.arm2_effect.specs.ProgramCounter.{address_of, mode_of}
 use Rattle.arm2_transfer.specs.declared.bus.Bus.{Bus}
 use Rattle.arm2_transfer.specs.declared.words.Move.{Move}
@@ -17,7 +17,7 @@ use Rattle.arm2_transfer.specs.declared.words.TransferFault.{TransferFault}
 use Rattle.arm2_transfer.specs.declared.span.Span.{Span}
 use Rattle.arm2_transfer.specs.Bus.{put, seen}
 use Rattle.arm2_transfer.specs.Words.{registers_in, words_from, verdict_of}
-use Rattle.arm2_transfer.specs.Registers.{is_user, moved_by, given, with_loaded, with_base, passed}
+use Rattle.arm2_transfer.specs.Registers.{moved_by, given, with_loaded, with_base, passed}
 use Rattle.arm2_transfer.specs.Moved.{Moved, out_of_space, faulted, load_accesses, store_accesses}
 use Rattle.arm2_effect.specs.Operands.{mode_in}
 

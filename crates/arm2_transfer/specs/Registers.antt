@@ -4,7 +4,7 @@ use Rattle.arm2_decode.specs.declared.names.Register.{Register}
 use Rattle.arm2_decode.specs.Names.{is_pc, register_number}
 use Rattle.arm2_effect.specs.declared.modes.Mode.{Mode}
 use Rattle.arm2_effect.specs.Modes.{r15_in, with_r15, register_in, with_register}
-use Rattle.arm2_effect.specs.ProgramCounter.{address_of, r15_ahead, jumped_of, restored_of}
+use Rattle.arm2_effect.specs.ProgramCounter.{address_of, r15_ahead, r15_jumped, r15_restored}
 
 -- a base and an offset, on 32 bits
 abbrev pub moved_by : (up : Bool) → (base offset : ℕ) → ℕ
@@ -22,7 +22,7 @@ given mode register regs =
 -- a loaded word in R15, of which r was the value before the instruction: the PSR comes along where it is
 -- asked for
 abbrev pub loaded_r15 : (psr : Bool) → (r word : ℕ) → ℕ
-loaded_r15 psr r word = if psr then restored_of r word (address_of word) else jumped_of r word
+loaded_r15 psr r word = if psr then r15_restored r word (address_of word) else r15_jumped r word
 
 -- a loaded word in a register of a mode
 abbrev pub with_loaded : (psr : Bool) → Mode → (r : ℕ) → Register → (word : ℕ) → List ℕ → List ℕ

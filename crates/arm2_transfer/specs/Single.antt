@@ -11,7 +11,7 @@ use Rattle.arm2_decode.specs.Transfers.{asks_for_user, writes_base}
 use Rattle.arm2_decode.specs.declared.names.Register.{Register}
 use Rattle.arm2_effect.specs.declared.modes.Mode.{Mode}
 use Rattle.arm2_effect.specs.declared.step_end.Kind.TheVariants.{Plain}
-use Rattle.arm2_effect.specs.Modes.{r15_in}
+use Rattle.arm2_effect.specs.Modes.{r15_in, is_user}
 use Rattle.arm2_effect.specs.Operands.{first_of, mode_in, shifted_by_amount}
 use Rattle.arm2_decode.specs.Names.{is_pc}
 use Rattle.arm2_effect.specs.ProgramCounter.{address_of, mode_of}
@@ -20,7 +20,7 @@ use Rattle.arm2_transfer.specs.declared.words.TransferFault.{TransferFault}
 use Rattle.arm2_transfer.specs.declared.single_fields.Single.{Single}
 use Rattle.arm2_transfer.specs.Bus.{seen, made_of, put_single}
 use Rattle.arm2_transfer.specs.Words.{or_fault}
-use Rattle.arm2_transfer.specs.Registers.{address_by, is_user, moved_by, given, with_loaded, with_base}
+use Rattle.arm2_transfer.specs.Registers.{address_by, moved_by, given, with_loaded, with_base}
 use Rattle.arm2_transfer.specs.Registers.{passed}
 use Rattle.arm2_transfer.specs.Moved.{Moved, out_of_space, faulted, load_accesses, store_accesses}
 

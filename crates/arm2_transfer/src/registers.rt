@@ -3,7 +3,7 @@ ghost use Rattle.arm2_transfer.specs.Registers.{given, with_loaded, with_base};
 ghost use Rattle.arm2_transfer.specs.Registers.{passed, loaded_r15};
 
 use arm2_decode::Register;
-use arm2_effect::{Mode, Reg, Registers, address_of, advanced, jumped, restored};
+use arm2_effect::{Mode, Reg, Registers, address_of, r15_ahead, r15_jumped, r15_restored};
 
 /// What a store takes from a register.
 #[inline(always)]
@@ -11,7 +11,7 @@ pub(crate) fn given(registers: &Registers, mode: Mode, register: Register) -> u3
     ensures { result ≡ given mode register registers.now }
 {
     if register.is_pc() {
-        advanced(registers.get(Reg::R15), 12)
+        r15_ahead(registers.get(Reg::R15), 12)
     } else {
         registers.read(mode, register)
     }
@@ -21,9 +21,9 @@ fn loaded_r15(psr: bool, r15: u32, word: u32) -> u32
     ensures { result ≡ loaded_r15 psr r15 word }
 {
     if psr {
-        restored(r15, word, address_of(word))
+        r15_restored(r15, word, address_of(word))
     } else {
-        jumped(r15, word)
+        r15_jumped(r15, word)
     }
 }
 
@@ -73,5 +73,5 @@ pub(crate) fn pass(registers: &mut Registers)
     ensures { registers.new ≡ passed registers.old }
 {
     let r15 = registers.get(Reg::R15);
-    registers.set(Reg::R15, advanced(r15, 4));
+    registers.set(Reg::R15, r15_ahead(r15, 4));
 }

@@ -11,6 +11,7 @@ use Rattle.asm_text.specs.Spelling.{Spells}
 use Rattle.asm_text.specs.Statements.{Parsed}
 use Rattle.assembler.specs.Codes.{encoded, refer}
 use Rattle.loader.specs.Labels.{Names}
+use Rattle.assembler.specs.declared.sweep.TheConstants.{FIRST_ADDRESS}
 
 -- ## Where each line is placed
 
@@ -115,9 +116,9 @@ segments begun (line ∷ lines) =
 
 -- ## The whole
 
--- the first line is at 8000
+-- where each line lies
 abbrev pub laid : List Parsed → List Laid
-laid lines = laid_from 32768 lines
+laid lines = laid_from FIRST_ADDRESS lines
 
 pub record IsAssembly (source : List ℕ) (image : Words) (names : Names) : Type 0 where
   -- what each line says

@@ -20,6 +20,7 @@ use Rattle.assembler.specs.Faults.{number}
 use Rattle.assembler.specs.declared.fault.LineFault.{LineFault}
 use Rattle.assembler.specs.declared.fault.LineFault.TheVariants.{NotText, UnknownWord, BadOperand, LabelTwice}
 use Rattle.assembler.specs.declared.fault.LineFault.TheVariants.{LabelMissing, OutOfRange, TooLong}
+use Rattle.assembler.specs.declared.sweep.TheConstants.{FIRST_ADDRESS}
 
 -- ## A line that cannot be read
 
@@ -67,7 +68,7 @@ address_after_all at (p ∷ ps) = address_after_all (address_after at p.said) ps
 
 -- the address of a line after others
 abbrev pub address_of_next : List Parsed → ℕ
-address_of_next before = address_after_all 32768 before
+address_of_next before = address_after_all FIRST_ADDRESS before
 
 -- its word has no code, whatever address a label has
 abbrev pub HasCodeFault : ℕ → Option Said → LineFault → Type 0

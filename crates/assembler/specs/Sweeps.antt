@@ -19,6 +19,7 @@ use Rattle.assembler.specs.declared.fault.LineFault.TheVariants.{NotText, Unknow
 use Rattle.assembler.specs.declared.fault.LineFault.TheVariants.{LabelMissing, OutOfRange, TooLong}
 use Rattle.assembler.specs.Faults.{lower}
 use Rattle.assembler.specs.Codes.{encoded, refer, use_fault}
+use Rattle.assembler.specs.declared.sweep.TheConstants.{FIRST_ADDRESS}
 
 abbrev pub with_name : List ℕ → ℕ → Names → Names
 with_name name at names other = if bytes_eq other name then Some at else names other
@@ -46,9 +47,9 @@ pub record State : Type 0 where
   pub names : Names
   pub items : List Item
 
--- the first address is 8000
+-- the state in front of the first line
 abbrev pub at_first : State
-at_first = record { at = 32768; start = None; closed = []; words = 0; names = no_names; items = [] }
+at_first = record { at = FIRST_ADDRESS; start = None; closed = []; words = 0; names = no_names; items = [] }
 
 -- ## Places
 

@@ -6,7 +6,13 @@ ghost use Rattle.loader.specs.Labels.{Names};
 ghost use Rattle.assembler.specs.Sweeps.{assembled};
 ghost use Rattle.assembler.specs.declared.fault.LineFault.{LineFault};
 
+use crate::sweep::FIRST_ADDRESS;
 use asm_text::lines_are_spelled;
+
+/// States where a source's first line lies that no ORG precedes: at 8000. It does nothing.
+pub fn first_address()
+    ensures { FIRST_ADDRESS ≡ 0x8000 }
+{}
 
 /// States which image and names [`assemble`](crate::assembly::assemble) returns for a source: those of its
 /// lines, each at its place; and that it returns them for each source that has such. It does nothing.

@@ -23,6 +23,9 @@ use asm_text::{Code, Line, Reference, Statement, TextFault, Value, read_line};
 use loader::{Labels, MOST_SEGMENTS, MOST_WORDS, lies_in_memory, may_hold};
 use std::alloc::Global;
 
+/// Where the first line of a source lies that no ORG precedes, in bytes.
+pub const FIRST_ADDRESS: u32 = 0x8000;
+
 /// Words side by side: the address of the first, and that after the last.
 #[derive(Clone, Copy)]
 pub struct Span {
@@ -104,7 +107,7 @@ impl<'a> Sweep<'a> {
         ensures { state_of result ≡ at_first }
     {
         Sweep {
-            at: 0x8000,
+            at: FIRST_ADDRESS,
             start: None,
             closed: Vec::new(alloc),
             words: 0,

@@ -17,7 +17,7 @@ use Rattle.drafting.specs.Targets.{AreTargets}
 use Rattle.drafting.specs.declared.ends.End.{End}
 use Rattle.drafting.specs.declared.found_loop.FoundLoop.{FoundLoop}
 use Rattle.drafting.specs.declared.writers.FoundTarget.{FoundTarget}
-use Rattle.arm2_decode.specs.Transfers.{is_transfer}
+use Rattle.arm2_decode.specs.Writers.{is_transfer}
 use Rattle.word_shapes.specs.Words.{HasShape}
 
 -- what was found at the addresses that are reached from the entry, or at 16,384 of them: those at which the

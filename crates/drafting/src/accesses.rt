@@ -1,7 +1,7 @@
 ghost use Rattle.std.specs.Prelude.{IfOk, OnOk};
 ghost use Rattle.std.specs.Map.{keys_of};
 ghost use Rattle.drafting.specs.Picks.{Keeps, Picks};
-ghost use Rattle.arm2_decode.specs.Transfers.{is_transfer};
+ghost use Rattle.arm2_decode.specs.Writers.{is_transfer};
 ghost use Rattle.word_shapes.specs.Words.{HasShape};
 
 use crate::constants::Constants;

@@ -7,7 +7,7 @@ use Rattle.std.specs.List.Sorted.{IsStrictlySortedBy}
 use Rattle.std.specs.Ordering.{nat_cmp}
 use Rattle.arm2_decode.specs.Names.{is_never}
 use Rattle.arm2_decode.specs.declared.instr.Instr.{Instr}
-use Rattle.arm2_decode.specs.Transfers.{is_transfer}
+use Rattle.arm2_decode.specs.Writers.{is_transfer}
 use Rattle.asm_text.specs.Source.{lines_of}
 use Rattle.assembler.specs.declared.placed_line.PlacedLine.{PlacedLine}
 use Rattle.bus_ticks.specs.declared.profile.Class.TheVariants.{Any}

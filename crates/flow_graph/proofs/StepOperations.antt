@@ -23,10 +23,10 @@ use Rattle.arm2_effect.specs.declared.exceptions.Vector.{Vector}
 use Rattle.arm2_effect.specs.declared.step_end.Why.{Why}
 use Rattle.arm2_effect.specs.Effects.{Effect, onward, skipped, stopped}
 use Rattle.arm2_effect.specs.Exceptions.{taken}
-use Rattle.arm2_effect.specs.Modes.{r15_in, register_in, with_r15, with_register}
+use Rattle.arm2_effect.specs.Modes.{r15_in, register_in, with_r15, with_register, is_user}
 use Rattle.arm2_effect.specs.Operations.{branch_effect, compared, cycles_from, cycles_of, data_immediate_effect, data_register_effect, data_register_shift_effect, entered, jumped, multiply_effect, next_r15, operation_effect, placed, product_of}
 use Rattle.arm2_effect.specs.Outcomes as effect
-use Rattle.arm2_effect.specs.ProgramCounter.{address_of, branch_target, jumped_of, mode_of, psr_of, psr_with, r15_ahead, r15_of, restored_of}
+use Rattle.arm2_effect.specs.ProgramCounter.{address_of, branch_target, r15_jumped, mode_of, psr_of, psr_with, r15_ahead, r15_of, r15_restored}
 use Rattle.arm2_transfer.specs.declared.bus.Bus.{Bus}
 use Rattle.arm2_transfer.specs.declared.single_fields.Single.{Single}
 use Rattle.arm2_transfer.specs.declared.span.Span.{Span}
@@ -36,7 +36,7 @@ use Rattle.arm2_transfer.specs.declared.words.TransferFault.TheVariants as fault
 use Rattle.arm2_transfer.specs.Block.{block_at, block_by, block_carried_out, block_loads, block_moved, block_stores, mode_for, span_of}
 use Rattle.arm2_transfer.specs.Moved.{Moved, on_bus, faulted}
 use Rattle.arm2_transfer.specs.Operations.{operation_moved}
-use Rattle.arm2_transfer.specs.Registers.{is_user, moved_by, passed, with_base}
+use Rattle.arm2_transfer.specs.Registers.{moved_by, passed, with_base}
 use Rattle.arm2_transfer.specs.Single.{address_for, base_after, of_immediate, of_register, single_at, single_by, single_carried_out, single_loaded, single_loads, single_stores}
 use Rattle.arm2_transfer.specs.Words.{registers_in}
 use Rattle.flow_graph.specs.Kinds.{IsWork, kind_of, transfer, work_of, writer_if}
@@ -114,14 +114,14 @@ module _ (p : Profile) (rom : RomTimes) (class : Class) (regs : List ℕ) (long 
   unfolding compared
   compared_costs rd out =
       straight_costs p rom class (address_of (r15_in regs)) _
-      (either_goes (is_pc rd) (restored_of (r15_in regs) out.value (ahead_of (address_of (r15_in regs)) 4)) (next_r15 true out (r15_in regs)) (ahead_of (address_of (r15_in regs)) 4)
+      (either_goes (is_pc rd) (r15_restored (r15_in regs) out.value (ahead_of (address_of (r15_in regs)) 4)) (next_r15 true out (r15_in regs)) (ahead_of (address_of (r15_in regs)) 4)
       (address_restored (r15_in regs) out.value (ahead_of (address_of (r15_in regs)) 4) (word_address_ahead (r15_in regs) 1))
       (next_address (psr_with (effect.flags_after out) (psr_of (r15_in regs)))))
 
   pub jumped_goes : (sets_flags : Bool) (out : _) → address_of (r15_in (jumped sets_flags out regs).regs) ≡ address_of out.value
   unfolding jumped
   jumped_goes sets_flags out =
-      either_goes sets_flags (restored_of (r15_in regs) out.value (address_of out.value)) (jumped_of (r15_in regs) out.value) (address_of out.value)
+      either_goes sets_flags (r15_restored (r15_in regs) out.value (address_of out.value)) (r15_jumped (r15_in regs) out.value) (address_of out.value)
       (address_restored (r15_in regs) out.value (address_of out.value) (word_address_of out.value))
       (address_jumped (r15_in regs) out.value)
 

@@ -8,7 +8,7 @@ use Rattle.arm2_decode.specs.declared.names.Register.{Register}
 use Rattle.arm2_effect.specs.declared.modes.Mode.{Mode}
 use Rattle.arm2_effect.specs.declared.modes.Mode.TheVariants.{User, Fiq, Irq, Svc}
 use Rattle.arm2_effect.specs.Modes.{mode_number, r15_in, slot_of, with_r15, with_register}
-use Rattle.arm2_effect.specs.ProgramCounter.{address_of, jumped_of, mode_of, psr_of, r15_ahead, r15_of, restored_of}
+use Rattle.arm2_effect.specs.ProgramCounter.{address_of, r15_jumped, mode_of, psr_of, r15_ahead, r15_of, r15_restored}
 use Rattle.arm2_transfer.specs.Registers.{with_base, with_loaded, loaded_r15, passed}
 use Rattle.arm2_transfer.proofs.Slots.{below_15, slot_below}
 
@@ -40,13 +40,13 @@ address_cond : (b : Bool) (x y t : ℕ) → address_of x ≡ t → address_of y 
 address_cond true x y t p q = p
 address_cond false x y t p q = q
 
-pub address_restored : (r value t : ℕ) → IsWordAddress t → address_of (restored_of r value t) ≡ t
+pub address_restored : (r value t : ℕ) → IsWordAddress t → address_of (r15_restored r value t) ≡ t
 address_restored r value t h =
     address_cond (r % 4 == 0) (r15_of (value / 2 ^ 28 * 4 + psr_of r % 4) t User) (r15_of (psr_of value) t (mode_of value)) t
     (address_put (value / 2 ^ 28 * 4 + psr_of r % 4) t User h)
     (address_put (psr_of value) t (mode_of value) h)
 
-pub address_jumped : (r value : ℕ) → address_of (jumped_of r value) ≡ address_of value
+pub address_jumped : (r value : ℕ) → address_of (r15_jumped r value) ≡ address_of value
 address_jumped r value = address_put (psr_of r) (address_of value) (mode_of r) (word_address_of value)
 
 -- ## Writes

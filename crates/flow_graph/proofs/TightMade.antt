@@ -25,9 +25,8 @@ use Rattle.memc.specs.declared.spots.Spot.TheVariants.{Ram, Rom}
 use Rattle.arm2_decode.specs.Names.{is_pc, register_number}
 use Rattle.arm2_decode.specs.declared.flags.Flags.{Flags}
 use Rattle.arm2_effect.specs.declared.modes.Mode.TheVariants.{Svc}
-use Rattle.arm2_effect.specs.Modes.{mode_named, r15_in, register_in, slot_of}
+use Rattle.arm2_effect.specs.Modes.{mode_named, r15_in, register_in, slot_of, is_user}
 use Rattle.arm2_effect.specs.ProgramCounter.{address_of, mode_of, psr_with, r15_of}
-use Rattle.arm2_transfer.specs.Registers.{is_user}
 use Rattle.arm2_transfer.proofs.Slots.{below_15, slot_below}
 use Rattle.arm2_exec.specs.State.{State}
 use Rattle.arm2_exec.specs.Step.{fetched, fetched_at}

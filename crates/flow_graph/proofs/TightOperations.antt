@@ -19,7 +19,7 @@ use Rattle.arm2_decode.specs.declared.names.Register.TheVariants.{R15}
 use Rattle.memc.specs.Memory.{located}
 use Rattle.arm2_effect.specs.declared.modes.Mode.{Mode}
 use Rattle.arm2_effect.specs.declared.modes.Mode.TheVariants.{Svc}
-use Rattle.arm2_effect.specs.Modes.{register_in}
+use Rattle.arm2_effect.specs.Modes.{register_in, is_user}
 use Rattle.arm2_effect.specs.Operands.{first_of}
 use Rattle.arm2_effect.specs.Operations.{cycles_of, data_immediate_effect, data_register_effect}
 use Rattle.arm2_effect.specs.Operations.{data_register_shift_effect, operation_effect}
@@ -28,7 +28,6 @@ use Rattle.arm2_transfer.specs.declared.span.Span.{Span}
 use Rattle.arm2_transfer.specs.Block.{block_moved, lowest_of, span_of}
 use Rattle.arm2_transfer.specs.Bus.{made_of, seen}
 use Rattle.arm2_transfer.specs.Operations.{operation_moved}
-use Rattle.arm2_transfer.specs.Registers.{is_user}
 use Rattle.arm2_transfer.specs.Single.{address_for, has_user_rights, of_immediate, single_at}
 use Rattle.arm2_transfer.proofs.Listed.{words_are}
 use Rattle.arm2_exec.specs.State.{State}

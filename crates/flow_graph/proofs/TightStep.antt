@@ -13,12 +13,11 @@ use Rattle.arm2_effect.specs.declared.exceptions.Vector.{Vector}
 use Rattle.arm2_effect.specs.declared.modes.Mode.TheVariants.{Svc}
 use Rattle.arm2_effect.specs.declared.step_end.Kind.TheVariants as ended
 use Rattle.arm2_effect.specs.Effects.{is_stopped, skipped, ticks_of}
-use Rattle.arm2_effect.specs.Modes.{r15_in}
+use Rattle.arm2_effect.specs.Modes.{r15_in, is_user}
 use Rattle.arm2_effect.specs.ProgramCounter.{mode_of}
 use Rattle.arm2_transfer.specs.declared.bus.Bus.{Bus}
 use Rattle.arm2_transfer.specs.Moved.{Moved, on_bus}
 use Rattle.arm2_transfer.specs.Operations.{operation_moved}
-use Rattle.arm2_transfer.specs.Registers.{is_user}
 use Rattle.arm2_exec.specs.State.{State}
 use Rattle.arm2_exec.specs.Step.{Obeys, ObeysFetched, Works, address_in, answer_of, interrupt_due}
 use Rattle.arm2_exec.specs.Step.{state_after, with_lines}

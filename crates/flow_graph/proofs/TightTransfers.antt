@@ -11,7 +11,7 @@ use Rattle.arm2_decode.specs.declared.names.Register.{Register}
 use Rattle.arm2_decode.specs.declared.names.Register.TheVariants.{R15}
 use Rattle.memc.specs.Memory.{located}
 use Rattle.memc.specs.declared.spots.Spot.{Spot}
-use Rattle.arm2_effect.specs.Modes.{r15_in}
+use Rattle.arm2_effect.specs.Modes.{r15_in, is_user}
 use Rattle.arm2_effect.specs.ProgramCounter.{address_of, r15_ahead}
 use Rattle.arm2_transfer.specs.declared.single_fields.Single.{Single}
 use Rattle.arm2_transfer.specs.declared.span.Span.{Span}
@@ -20,7 +20,7 @@ use Rattle.arm2_transfer.specs.Block.{all_loaded, block_at, block_by, block_carr
 use Rattle.arm2_transfer.specs.Block.{block_stores, mode_for}
 use Rattle.arm2_transfer.specs.Bus.{made_of, seen}
 use Rattle.arm2_transfer.specs.Moved.{Moved}
-use Rattle.arm2_transfer.specs.Registers.{is_user, moved_by, passed, with_base}
+use Rattle.arm2_transfer.specs.Registers.{moved_by, passed, with_base}
 use Rattle.arm2_transfer.specs.Single.{address_for, base_after, has_user_rights, single_at, single_by}
 use Rattle.arm2_transfer.specs.Single.{single_carried_out, single_loaded, single_loads, single_stores}
 use Rattle.arm2_transfer.specs.Words.{moves_of, or_fault, registers_in, verdict_of}

@@ -1,7 +1,7 @@
 ghost use Rattle.std.specs.Prelude.{◌≡◌, ◌↔◌, IfSome, IsTrue, Some};
 ghost use Rattle.arm2_decode.specs.Table.{Means};
 ghost use Rattle.arm2_decode.specs.declared.instr.Instr.{Instr};
-ghost use Rattle.arm2_decode.specs.Transfers.{is_transfer};
+ghost use Rattle.arm2_decode.specs.Writers.{is_transfer};
 ghost use Rattle.word_shapes.specs.Shapes.{is_odd_writer, is_table_jump, keeps_return_address};
 ghost use Rattle.word_shapes.specs.Words.{HasInstr, HasShape};
 

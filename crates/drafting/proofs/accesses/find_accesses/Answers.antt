@@ -1,6 +1,6 @@
 use Rattle.std.proofs.Common.{ap, refl}
 use Rattle.std.specs.Map.{keys_of}
-use Rattle.arm2_decode.specs.Transfers.{is_transfer}
+use Rattle.arm2_decode.specs.Writers.{is_transfer}
 use Rattle.word_shapes.specs.Words.{HasShape}
 use Rattle.drafting.proofs.Picked.{so_far_all, so_far_kept, so_far_none}
 use Rattle.drafting.proofs.accesses.find_accesses.Goals as goal

@@ -1,5 +1,5 @@
 use Rattle.std.specs.Map.{keys_of}
-use Rattle.arm2_decode.specs.Transfers.{is_transfer}
+use Rattle.arm2_decode.specs.Writers.{is_transfer}
 use Rattle.word_shapes.specs.Words.{HasShape}
 use Rattle.drafting.proofs.Picked.{SoFar}
 use Rattle.drafting.proofs.accesses.find_accesses.Given as goal

@@ -1,5 +1,5 @@
 use Rattle.std.proofs.Common.{rules}
-use Rattle.arm2_decode.specs.Transfers.{is_transfer}
+use Rattle.arm2_decode.specs.Writers.{is_transfer}
 use Rattle.word_shapes.proofs.ShapeLaws.{shape_decides}
 use Rattle.word_shapes.proofs.words.is_transfer_at.Goals as goal
 
