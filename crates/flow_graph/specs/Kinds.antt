@@ -9,6 +9,7 @@ use Rattle.arm2_decode.specs.declared.instr.Unallocated.{Unallocated}
 use Rattle.arm2_decode.specs.declared.instr.Operation.{Operation}
 use Rattle.arm2_decode.specs.declared.instr.Operation.TheVariants as operation
 use Rattle.arm2_decode.specs.declared.names.Cond.{Cond}
+use Rattle.shifter.specs.declared.shifts.TheConstants.{MOST_MULTIPLY_CYCLES}
 use Rattle.flow_graph.specs.declared.kinds.Kind.{Kind}
 use Rattle.flow_graph.specs.declared.kinds.Kind.TheVariants as kind
 use Rattle.flow_graph.specs.declared.kinds.Work.{Work}
@@ -43,9 +44,9 @@ is_writer kind.Unallocated = false
 abbrev pub transfer : Bool → ℕ → Work
 transfer load words = if load then work.Load words else work.Store words
 
--- a shift by a register's amount takes one internal cycle, and a multiply at most 16
+-- a shift by a register's amount takes one internal cycle, and a multiply its most
 abbrev pub work_of : Operation → Work
-work_of (operation.Multiply x) = work.Internal 16
+work_of (operation.Multiply x) = work.Internal MOST_MULTIPLY_CYCLES
 work_of (operation.DataRegister x) = work.Internal 0
 work_of (operation.DataRegisterShift x) = work.Internal 1
 work_of (operation.DataImmediate x) = work.Internal 0
@@ -60,7 +61,7 @@ work_of (operation.Coprocessor x) = work.Internal 0
 
 -- a block has 1 to 16 words
 abbrev pub IsWork : Work → Type 0
-IsWork (work.Internal cycles) = cycles ≤ 16
+IsWork (work.Internal cycles) = cycles ≤ MOST_MULTIPLY_CYCLES
 IsWork (work.Load words) = (1 ≤ words) × (words ≤ 16)
 IsWork (work.Store words) = (1 ≤ words) × (words ≤ 16)
 

@@ -12,6 +12,7 @@ use Rattle.bus_ticks.specs.Worst.{leave_price}
 use Rattle.loader.specs.Image.{Words, word_of}
 use Rattle.memc.specs.Memory.{Memory, located}
 use Rattle.memc.specs.declared.spots.Spot.{Spot}
+use Rattle.shifter.specs.declared.shifts.TheConstants.{MOST_MULTIPLY_CYCLES}
 use Rattle.arm2_decode.specs.Names.{is_pc, register_number}
 use Rattle.arm2_decode.specs.Table.{Means}
 use Rattle.arm2_decode.specs.Transfers.{asks_for_user, is_listed}
@@ -92,7 +93,8 @@ module _ (st : Stated) (profile : Profile) (address : ℕ) (to : Place) (s : Sta
 
   -- the registers and memory are such that the operation costs the most, and leads to the place
   abbrev pub IsSetFor : Operation → Type 0
-  IsSetFor (operation.Multiply x) = cycles_of (register_in Svc (register_number x.rs) s.regs) ≡ 16
+  IsSetFor (operation.Multiply x) =
+      cycles_of (register_in Svc (register_number x.rs) s.regs) ≡ MOST_MULTIPLY_CYCLES
   IsSetFor (operation.DataRegister x) =
       WritesTarget (data_writes_pc x.opcode x.rd)
       (outcome_of x.opcode (first_of 8 x.rn s.regs) (shifted_by_amount x.shift x.amount x.rm s.regs)

@@ -3,6 +3,7 @@ ghost use Rattle.flow_graph.specs.Kinds.{IsAction, IsWork, is_writer, kind_of, t
 ghost use Rattle.flow_graph.specs.Kinds.{writer_if};
 
 use arm2_decode::{Cond, Operation, decode};
+use shifter::MOST_MULTIPLY_CYCLES;
 
 /// What a word does to the flow of control where its condition holds.
 #[derive(Clone, Copy)]
@@ -24,7 +25,7 @@ pub enum Kind {
 /// What an instruction does besides its fetches.
 #[derive(Clone, Copy)]
 pub enum Work {
-    /// It takes at most so many internal cycles: 0 to 16.
+    /// It takes at most so many internal cycles: 0 to [`MOST_MULTIPLY_CYCLES`].
     Internal(u32),
     /// It loads so many words, or one byte: 1 to 16; and takes one internal cycle.
     Load(u32),
@@ -80,7 +81,7 @@ fn work_of(operation: &Operation) -> Work
     ensures { result ≡ work_of operation.now }
 {
     match operation {
-        Operation::Multiply(_) => Work::Internal(16),
+        Operation::Multiply(_) => Work::Internal(MOST_MULTIPLY_CYCLES),
         Operation::DataRegisterShift(_) => Work::Internal(1),
         Operation::SingleImmediate(x) => transfer(x.load, 1),
         Operation::SingleRegister(x) => transfer(x.load, 1),

@@ -189,6 +189,14 @@ cycles number r below e =
     let same : long.0 ≡ 32 - count_leading_zeros 32 number = omega (arith, long.1) in
     cycles_of number long.0 r (omega (arith, long.1)) long.2 long.3 (rw (← same) at e)
 
+pub greatest_cycles : TakesCycles 0xFFFFFFFF 16
+greatest_cycles = record {
+  some = omega arith;
+  few = omega arith;
+  enough = λ h. absurd (omega arith);
+  least = λ h. omega arith;
+}
+
 pub lsr_zero : (k : Kind) (n : ℕ) (bits : List Bool) (carry : Bool) (r : Shifted) → k ≡ Lsr → n ≡ 0 → Has r (by_register Lsr 32 bits carry) → Has r (by_immediate k n bits carry)
 lsr_zero k n bits carry r e z h = rw (e, z) h
 

@@ -3,4 +3,7 @@
 
 mod shifts;
 
-pub use shifts::{Shifted, multiply_cycles, rotate_imm, shift_imm, shift_reg};
+pub use shifts::{
+    MOST_MULTIPLY_CYCLES, Shifted, multiply_cycles, multiply_limit, rotate_imm, shift_imm,
+    shift_reg,
+};

@@ -1,10 +1,13 @@
-ghost use Rattle.std.specs.Prelude.{◌≡◌, ◌≤◌, ◌<◌, ◌*◌, ◌++◌, drop, take};
+ghost use Rattle.std.specs.Prelude.{◌≡◌, ℕ, ◌≤◌, ◌<◌, ◌*◌, ◌++◌, drop, take};
 ghost use Rattle.shifter.specs.Shifts.{by_immediate, by_register, extended, left, right, rotated, Has};
 ghost use Rattle.shifter.specs.Shifts.{TakesCycles};
 ghost use Rattle.arm2_decode.specs.Bits.{bit_of_word};
 ghost use Rattle.shifter.specs.Word.{fill_word, word_bits};
 
 use arm2_decode::{Shift, bit_of_word};
+
+/// The most cycles that a multiply takes.
+pub const MOST_MULTIPLY_CYCLES: u32 = 16;
 
 /// The result of a shift.
 #[derive(Clone, Copy, Debug, PartialEq, Eq)]
@@ -136,10 +139,18 @@ pub fn rotate_imm(imm8: u32, rotation: u32, carry: bool) -> Shifted
     shift_reg(Shift::Ror, 2 * rotation, imm8, carry)
 }
 
-/// The cycles that a multiply takes with this multiplier, from 1 to 16: two bits of it in each.
+/// The cycles that a multiply takes with this multiplier, from 1 to [`MOST_MULTIPLY_CYCLES`]: two bits of it
+/// in each.
 pub fn multiply_cycles(number: u32) -> u32
     ensures { TakesCycles number result }
 {
     let significant = 32 - number.leading_zeros();
-    (significant / 2 + 1).min(16)
+    (significant / 2 + 1).min(MOST_MULTIPLY_CYCLES)
 }
+
+/// States that a multiply takes at most [`MOST_MULTIPLY_CYCLES`], and by the greatest word so many. It does
+/// nothing.
+pub fn multiply_limit()
+    ensures most { (number m : ℕ) → TakesCycles number m → m ≤ MOST_MULTIPLY_CYCLES }
+    ensures reached { TakesCycles 0xFFFFFFFF MOST_MULTIPLY_CYCLES }
+{}
