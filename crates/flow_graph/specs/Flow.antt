@@ -8,6 +8,7 @@ use Rattle.bus_ticks.specs.declared.profile.Profile.{Profile}
 use Rattle.flow_graph.specs.declared.places.Place.{Place}
 use Rattle.flow_graph.specs.declared.places.Place.TheVariants.{At, Exit}
 use Rattle.flow_graph.specs.declared.edges.Edge.{Edge}
+use Rattle.flow_graph.specs.declared.search.TheConstants.{MOST_PLACES}
 use Rattle.flow_graph.specs.Places.{IsInRange, place_cmp, place_at}
 
 -- where walks start, the places but Exit, their edges, where the edges of each place begin (and at the end
@@ -30,7 +31,7 @@ HasEdge flow e = Contains flow.edges e
 pub record IsWellFormed (flow : Flow) : Type 0 where
   pub ordered : IsStrictlySortedBy place_cmp flow.places
   pub no_exit : Contains flow.places Exit → ⊥
-  pub few : length flow.places ≤ 16384
+  pub few : length flow.places ≤ MOST_PLACES
   pub small : (calls : List ℕ) (a : ℕ) → Contains flow.places (At calls a) → IsInRange calls a
   pub starts_outside : (a : ℕ) × (flow.entry ≡ At [] a)
   pub entry_in : Contains flow.places flow.entry

@@ -21,6 +21,7 @@ use Rattle.flow_graph.specs.declared.kinds.Kind.{Kind}
 use Rattle.flow_graph.specs.declared.kinds.Kind.TheVariants as kind
 use Rattle.flow_graph.specs.declared.places.Place.{Place}
 use Rattle.flow_graph.specs.declared.places.Place.TheVariants.{At, Exit}
+use Rattle.flow_graph.specs.declared.search.TheConstants.{MOST_PLACES}
 use Rattle.statement.specs.declared.stated.TargetKind.{TargetKind}
 use Rattle.statement.specs.declared.stated.TargetKind.TheVariants as stated
 
@@ -111,7 +112,7 @@ module _ (words : Words) (st : Stated) (profile : Profile) where
   pub record IsCrowd : Type 0 where
     pub places : List Place
     pub ordered : IsStrictlySortedBy place_cmp places
-    pub many : 16384 < length places
+    pub many : MOST_PLACES < length places
     pub reached : (p : Place) → Contains places p → IsReached p
     pub no_exit : Contains places Exit → ⊥
 

@@ -23,6 +23,7 @@ use Rattle.flow_graph.specs.declared.kinds.Kind.{Kind}
 use Rattle.flow_graph.specs.declared.kinds.Kind.TheVariants as kind
 use Rattle.flow_graph.specs.declared.places.Place.{Place}
 use Rattle.flow_graph.specs.declared.places.Place.TheVariants.{At, Exit}
+use Rattle.flow_graph.specs.declared.search.TheConstants.{MOST_PLACES}
 use Rattle.statement.specs.declared.stated.TargetKind.{TargetKind}
 use Rattle.statement.specs.declared.stated.TargetKind.TheVariants as stated
 
@@ -52,7 +53,7 @@ places_in seen = ascending seen.keys
 pub record IsFound (seen : BTreeSet (Reverse Place)) (order : List Place) : Type 0 where
   pub same : (q : Place) → (IsTrue (contains downwards seen (in_set q))) ↔ Contains order q
   pub count : length order ≡ btree_set_len seen
-  pub few : length order ≤ 16384
+  pub few : length order ≤ MOST_PLACES
   pub no_exit : Contains order Exit → ⊥
 
 -- one more place, unless it is in the list or is Exit
@@ -63,7 +64,7 @@ Adds old p new = ((new ≡ old) × ((p ≡ Exit) ⊎ Contains old p)) ⊎ (new �
 pub record IsCrowded (old : List Place) (p : Place) : Type 0 where
   pub places : List Place
   pub ordered : IsStrictlySortedBy place_cmp places
-  pub many : 16384 < length places
+  pub many : MOST_PLACES < length places
   pub among : (q : Place) → Contains places q → Contains old q ⊎ (p ≡ q)
   pub inside : p ≡ Exit → ⊥
 
@@ -84,7 +85,7 @@ pub record Grows (old : List Place) (edges : List Edge) (new : List Place) : Typ
 pub record IsCrowdedBy (old : List Place) (edges : List Edge) : Type 0 where
   pub places : List Place
   pub ordered : IsStrictlySortedBy place_cmp places
-  pub many : 16384 < length places
+  pub many : MOST_PLACES < length places
   pub among : (q : Place) → Contains places q → Contains old q ⊎ EndsOne edges q
   pub no_exit : Contains places Exit → ⊥
 
@@ -172,7 +173,7 @@ module _ (words : Words) (st : Stated) (profile : Profile) where
 
   -- no reason to refuse
   pub record IsAllowed (places : List Place) : Type 0 where
-    pub few : length places ≤ 16384
+    pub few : length places ≤ MOST_PLACES
     pub sound : (p : Place) → Contains places p → IsSound words st p
 
   -- ## Edges of all places

@@ -4,10 +4,16 @@ ghost use Rattle.flow_graph.specs.StepLaw.{RunLaw, StepCost, StepLaw};
 ghost use Rattle.flow_graph.specs.TightWork.{TightLaw};
 
 use crate::places::Place;
+use crate::search::MOST_PLACES;
 
 /// States the order of places; it does nothing.
 pub fn order_of_places()
     ensures { (x y : Place) → ⟦<Place as Ord>⟧.cmp x y ≡ place_cmp x y }
+{}
+
+/// States how many places a graph has at most besides Exit, 16,384. It does nothing.
+pub fn place_limits()
+    ensures places { MOST_PLACES ≡ 16384 }
 {}
 
 /// What the machine's steps cost against the edges of the flow graph: a law over the definitions that

@@ -5,6 +5,7 @@ use Rattle.walks.specs.declared.limits.TheConstants.{MOST_INSTANCES}
 use Rattle.statement.specs.declared.stated.Loop.{Loop}
 use Rattle.flow_graph.specs.Flow.{Flow}
 use Rattle.flow_graph.specs.Places.{place_at}
+use Rattle.flow_graph.specs.declared.search.TheConstants.{MOST_PLACES}
 use Rattle.statement.specs.Stated.{IsLoop}
 use Rattle.loop_bounds.specs.declared.fault.NestFault.{NestFault}
 use Rattle.loop_bounds.specs.declared.fault.NestFault.TheVariants.{Memory, LoopsCross, SharedHeader}
@@ -37,7 +38,7 @@ pub record AreHandlerPositions (flow : Flow) (loops : List Loop) (positions : Ha
 
 -- positions and edges that extents may be nested over
 pub record IsSound (exit : ℕ) (edges : List NumberedEdge) (extents : List Extent) : Type 0 where
-  pub few : exit ≤ 16384
+  pub few : exit ≤ MOST_PLACES
   pub edges_in : All (λ e. (e.from < exit) × (e.to ≤ exit)) edges
   pub extents_are : AreExtents extents
   pub headers_in : All (λ s. s.header < exit) extents
