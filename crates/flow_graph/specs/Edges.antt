@@ -12,6 +12,7 @@ use Rattle.bus_ticks.specs.Prices.{ahead_of}
 use Rattle.loader.specs.Image.{Words, word_of}
 use Rattle.flow_graph.specs.Kinds.{IsAction}
 use Rattle.statement.specs.Stated.{Stated, Target, class_of, target_of}
+use Rattle.flow_graph.specs.declared.call_list.TheConstants.{MOST_CALLS}
 use Rattle.flow_graph.specs.declared.edges.Edge.{Edge}
 use Rattle.flow_graph.specs.declared.edges.Label.TheVariants.{Skip, Do}
 use Rattle.flow_graph.specs.declared.kinds.Action.{Action}
@@ -36,9 +37,10 @@ return_place calls =
 abbrev pub places_at : List ℕ → List ℕ → List Place
 places_at calls addresses = map (λ a. At calls a) addresses
 
--- a call appends its own address; from a place with eight calls it leads nowhere
+-- a call appends its own address; from a place with the most calls it leads nowhere
 abbrev pub call_places : List ℕ → ℕ → List ℕ → List Place
-call_places calls address to = cond (nat_lt (length calls) 8) (places_at (calls ++ address ∷ []) to) []
+call_places calls address to =
+    cond (nat_lt (length calls) MOST_CALLS) (places_at (calls ++ address ∷ []) to) []
 
 -- a stated jump keeps the calls
 abbrev pub stated_landings : List ℕ → ℕ → TargetKind → List ℕ → List Place

@@ -13,6 +13,7 @@ use Rattle.flow_graph.specs.Flow.{Flow, edge_shape}
 use Rattle.flow_graph.specs.Kinds.{is_writer}
 use Rattle.flow_graph.specs.Places.{place_cmp}
 use Rattle.statement.specs.Stated.{Stated, Target, target_of}
+use Rattle.flow_graph.specs.declared.call_list.TheConstants.{MOST_CALLS}
 use Rattle.flow_graph.specs.declared.edges.Edge.{Edge}
 use Rattle.flow_graph.specs.declared.faults.BuildFault.{BuildFault}
 use Rattle.flow_graph.specs.declared.faults.BuildFault.TheVariants as fault
@@ -97,12 +98,12 @@ module _ (words : Words) (st : Stated) (profile : Profile) where
   abbrev pub MayDo : ℕ → Kind → Type 0
   MayDo address k = (a : Action) × HasAction words address a × (a.kind ≡ k) × (is_never a.cond ≡ false)
 
-  -- a call that may be done, from a reached place with eight calls
+  -- a call that may be done, from a reached place with the most calls
   pub record IsTooDeep : Type 0 where
     pub calls : List ℕ
     pub address : ℕ
     pub reached : IsReached (At calls address)
-    pub full : 8 ≤ length calls
+    pub full : MOST_CALLS ≤ length calls
     pub action : Action
     pub has : HasAction words address action
     pub is_call : makes_call action.kind (target_of st address) ≡ true

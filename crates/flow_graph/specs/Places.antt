@@ -5,6 +5,7 @@ use Rattle.std.specs.Cmp.Lexicographic.{slice_cmp}
 use Rattle.std.specs.declared.cmp.Ordering.{Ordering}
 use Rattle.std.specs.declared.cmp.Ordering.TheVariants.{Less, Equal, Greater}
 use Rattle.bus_ticks.specs.declared.space.TheConstants.{SPACE_END}
+use Rattle.flow_graph.specs.declared.call_list.TheConstants.{MOST_CALLS}
 use Rattle.flow_graph.specs.declared.places.Place.{Place}
 use Rattle.flow_graph.specs.declared.places.Place.TheVariants.{At, Exit}
 
@@ -28,9 +29,10 @@ place_address Exit = 0
 abbrev pub place_at : List Place → ℕ → Place
 place_at places n = slice_index_or places n Exit
 
--- addresses lie below 4000000, and calls nest at most eight deep
+-- addresses lie below 4000000, and a place is inside of no more than the most calls
 abbrev pub IsInRange : List ℕ → ℕ → Type 0
-IsInRange calls address = (address < SPACE_END) × (length calls ≤ 8) × All (λ c. c < SPACE_END) calls
+IsInRange calls address =
+    (address < SPACE_END) × (length calls ≤ MOST_CALLS) × All (λ c. c < SPACE_END) calls
 
 -- Exit, or an address below 4000000
 abbrev pub IsInSpace : Place → Type 0

@@ -15,6 +15,7 @@ use Rattle.flow_graph.specs.Graph.{IsReached, start_of, starts_from}
 use Rattle.flow_graph.specs.Places.{place_cmp}
 use Rattle.statement.specs.Stated.{Stated, Target, target_of}
 use Rattle.flow_graph.specs.contracts.places.PlaceOrd.TheImpl as PlaceOrder
+use Rattle.flow_graph.specs.declared.call_list.TheConstants.{MOST_CALLS}
 use Rattle.flow_graph.specs.declared.edges.Edge.{Edge}
 use Rattle.flow_graph.specs.declared.faults.BuildFault.{BuildFault}
 use Rattle.flow_graph.specs.declared.faults.BuildFault.TheVariants as fault
@@ -93,7 +94,7 @@ pub record IsCrowdedBy (old : List Place) (edges : List Edge) : Type 0 where
 
 -- why a call is refused
 abbrev pub call_fault : List ℕ → Option BuildFault
-call_fault calls = cond (nat_lt (length calls) 8) None (Some fault.TooDeep)
+call_fault calls = cond (nat_lt (length calls) MOST_CALLS) None (Some fault.TooDeep)
 
 abbrev pub stated_fault : List ℕ → TargetKind → Option BuildFault
 stated_fault calls stated.Jump = None

@@ -10,15 +10,15 @@ ghost use Rattle.bus_ticks.specs.declared.space.TheConstants.{SPACE_END};
 use std::cmp::Ordering;
 use std::marker::Model;
 
-/// How many call addresses a list holds at most.
-pub(crate) const DEPTH: usize = 8;
+/// How many calls a place is inside of at most.
+pub const MOST_CALLS: usize = 8;
 
-/// The addresses of the calls that a place is inside of, the outermost first: at most eight, each below
-/// 4000000.
+/// The addresses of the calls that a place is inside of, the outermost first: at most [`MOST_CALLS`], each
+/// below 4000000.
 #[derive(Clone, Copy)]
 pub struct Calls {
     len: usize,
-    slots: [u32; 8],
+    slots: [u32; MOST_CALLS],
 }
 
 impl Model for Calls {
@@ -42,18 +42,18 @@ impl Calls {
     {
         Calls {
             len: 0,
-            slots: [0; 8],
+            slots: [0; MOST_CALLS],
         }
     }
 
-    /// The list with one more address, or None where it holds eight.
+    /// The list with one more address, or None where it holds the most.
     pub fn with(self, address: u32) -> Option<Calls>
         requires { address < SPACE_END }
         ensures longer { IfSome result (λ calls. calls ≡ self ++ address ∷ []) }
-        ensures full { IsNone result ↔ (length self ≡ 8) }
-        ensures few { length self ≤ 8 }
+        ensures full { IsNone result ↔ (length self ≡ MOST_CALLS) }
+        ensures few { length self ≤ MOST_CALLS }
     {
-        if self.len == DEPTH {
+        if self.len == MOST_CALLS {
             return None;
         }
         let mut slots = self.slots;
@@ -88,7 +88,7 @@ impl Calls {
     /// The addresses, the outermost call's first.
     pub fn as_slice(&self) -> &[u32]
         ensures value { result.now ≡ self.now }
-        ensures few { length self.now ≤ 8 }
+        ensures few { length self.now ≤ MOST_CALLS }
     {
         &self.slots[..self.len]
     }

@@ -3,6 +3,7 @@ ghost use Rattle.flow_graph.specs.Places.{place_cmp};
 ghost use Rattle.flow_graph.specs.StepLaw.{RunLaw, StepCost, StepLaw};
 ghost use Rattle.flow_graph.specs.TightWork.{TightLaw};
 
+use crate::call_list::MOST_CALLS;
 use crate::places::Place;
 use crate::search::MOST_PLACES;
 
@@ -11,9 +12,11 @@ pub fn order_of_places()
     ensures { (x y : Place) → ⟦<Place as Ord>⟧.cmp x y ≡ place_cmp x y }
 {}
 
-/// States how many places a graph has at most besides Exit, 16,384. It does nothing.
+/// States how many places a graph has at most besides Exit, 16,384, and how many calls a place is inside of
+/// at most: 8. It does nothing.
 pub fn place_limits()
     ensures places { MOST_PLACES ≡ 16384 }
+    ensures calls { MOST_CALLS ≡ 8 }
 {}
 
 /// What the machine's steps cost against the edges of the flow graph: a law over the definitions that

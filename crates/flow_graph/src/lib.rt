@@ -21,7 +21,7 @@ mod ticks;
 mod tight;
 
 pub use building::build;
-pub use call_list::Calls;
+pub use call_list::{Calls, MOST_CALLS};
 pub use edges::{Edge, Label};
 pub use faults::BuildFault;
 pub use faulty::{FaultyPlace, faulty_place};
