@@ -96,11 +96,11 @@ leave_small p Rom = omega (arith, rom_is_price p, p.quad_price)
 leave_small p Io = omega (arith, rom_is_price p, p.unfitted_price)
 leave_small p Any = omega (arith, rom_is_price p, p.n_price, p.quad_price, p.unfitted_price)
 
-jumping_small : (leave : Class) (p : Profile) (to : Place) → jump_ticks leave p to < 512
+jumping_small : (leave : Class) (p : Profile) (to : Place) → jump_ticks p leave to < 512
 jumping_small leave p (At calls t) = omega (arith, n_is_price p t, s_is_price p (ahead_of t 4))
 jumping_small leave p Exit = leave_small p leave
 
-arriving_small : (leave : Class) (p : Profile) (k : Kind) (to : Place) → arrival_ticks leave p k to < 512
+arriving_small : (leave : Class) (p : Profile) (k : Kind) (to : Place) → arrival_ticks p leave k to < 512
 arriving_small leave p Plain to = omega arith
 arriving_small leave p (Branch offset) to = jumping_small leave p to
 arriving_small leave p (Call offset) to = jumping_small leave p to

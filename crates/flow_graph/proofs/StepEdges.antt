@@ -190,14 +190,14 @@ lands st p rom class calls a kind.Unallocated t e few = absurd e
 
 -- ## What a jump costs
 
-jump_arrives : (st : Stated) (p : Profile) (rom : RomTimes) (class : Class) (a : ℕ) (to : Place) (t : ℕ) → t < 2 ^ 26 → IsPlaceOf st.leave t to → n_price p rom t + s_price p rom (ahead_of t 4) ≤ jump_ticks st.leave p to
+jump_arrives : (st : Stated) (p : Profile) (rom : RomTimes) (class : Class) (a : ℕ) (to : Place) (t : ℕ) → t < 2 ^ 26 → IsPlaceOf st.leave t to → n_price p rom t + s_price p rom (ahead_of t 4) ≤ jump_ticks p st.leave to
 jump_arrives st p rom class a (At calls x) t small e =
     subst (λ y. n_price p rom y + s_price p rom (ahead_of y 4) ≤ worst_n_price p x + worst_s_price p (ahead_of x 4)) e
     (omega (arith, n_most p rom class a x, s_most p rom class a (ahead_of x 4)))
 jump_arrives st p rom class a Exit t small is =
     (worst_leave_greatest p st.leave (worst_leave_of p st.leave) refl).none_above (record { address = t; rom = rom }) (record { below = small; is_of = is })
 
-pub arrives : (st : Stated) (p : Profile) (rom : RomTimes) (class : Class) (a : ℕ) (k : Kind) (to : Place) (t : ℕ) → t < 2 ^ 26 → IsPlaceOf st.leave t to → jump_price p rom class a k t ≤ arrival_ticks st.leave p k to
+pub arrives : (st : Stated) (p : Profile) (rom : RomTimes) (class : Class) (a : ℕ) (k : Kind) (to : Place) (t : ℕ) → t < 2 ^ 26 → IsPlaceOf st.leave t to → jump_price p rom class a k t ≤ arrival_ticks p st.leave k to
 arrives st p rom class a kind.Plain to t small is = omega arith
 arrives st p rom class a (kind.Branch offset) to t small is = jump_arrives st p rom class a to t small is
 arrives st p rom class a (kind.Call offset) to t small is = jump_arrives st p rom class a to t small is

@@ -31,10 +31,10 @@ module _ (st : Stated) (p : Profile) (rom : RomTimes) (class : Class) (dear : Ar
   -- the address is that of the place, and the jump there costs what the edge says
   pub record Arrives (k : Kind) (t : ℕ) (to : Place) : Type 0 where
     pub stands_for : IsPlaceOf st.leave t to
-    pub price : jump_price p rom class a k t ≡ arrival_ticks st.leave p k to
+    pub price : jump_price p rom class a k t ≡ arrival_ticks p st.leave k to
 
   jump_at : (inside : List ℕ) (x t : ℕ) → t ≡ x
-      → n_price p rom t + s_price p rom (ahead_of t 4) ≡ jump_ticks st.leave p (At inside x)
+      → n_price p rom t + s_price p rom (ahead_of t 4) ≡ jump_ticks p st.leave (At inside x)
   jump_at inside x t e =
       ap (λ y. n_price p rom y + s_price p rom (ahead_of y 4)) e
       ∙ omega (arith, n_worst p rom class a dear x, s_worst p rom class a dear (ahead_of x 4))

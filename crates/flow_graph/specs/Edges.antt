@@ -82,24 +82,24 @@ work_ticks profile class (Load words) = worst_block profile class words false + 
 work_ticks profile class (Store words) = worst_block profile class words true
 
 -- a jump fetches the word at its target, and the next; out of the handler, at any address of the stated class
-abbrev pub jump_ticks : Class → Profile → Place → ℕ
-jump_ticks leave profile (At calls t) = worst_n_price profile t + worst_s_price profile (ahead_of t 4)
-jump_ticks leave profile Exit = worst_leave_of profile leave
+abbrev pub jump_ticks : Profile → Class → Place → ℕ
+jump_ticks profile leave (At calls t) = worst_n_price profile t + worst_s_price profile (ahead_of t 4)
+jump_ticks profile leave Exit = worst_leave_of profile leave
 
 -- which words jump
-abbrev pub arrival_ticks : Class → Profile → Kind → Place → ℕ
-arrival_ticks leave profile Plain to = 0
-arrival_ticks leave profile (Branch offset) to = jump_ticks leave profile to
-arrival_ticks leave profile (Call offset) to = jump_ticks leave profile to
-arrival_ticks leave profile Writer to = jump_ticks leave profile to
-arrival_ticks leave profile Trap to = 0
-arrival_ticks leave profile Unallocated to = 0
+abbrev pub arrival_ticks : Profile → Class → Kind → Place → ℕ
+arrival_ticks profile leave Plain to = 0
+arrival_ticks profile leave (Branch offset) to = jump_ticks profile leave to
+arrival_ticks profile leave (Call offset) to = jump_ticks profile leave to
+arrival_ticks profile leave Writer to = jump_ticks profile leave to
+arrival_ticks profile leave Trap to = 0
+arrival_ticks profile leave Unallocated to = 0
 
 -- what a word costs where its condition holds
 abbrev pub do_ticks : Stated → Profile → ℕ → Action → Place → ℕ
 do_ticks st profile address action to =
     fetch_ticks profile address action.work + work_ticks profile (class_of st address) action.work
-    + arrival_ticks st.leave profile action.kind to
+    + arrival_ticks profile st.leave action.kind to
 
 -- ## Edges
 

@@ -66,7 +66,7 @@ pub record IsDearestTarget (st : Stated) (profile : Profile) (to : Place) (t : �
   pub below : t < SPACE_END
   pub stands_for : IsPlaceOf st.leave t to
   pub price : (rom : RomTimes) → AreDearest profile rom
-      → leave_price profile (record { address = t; rom = rom }) ≡ jump_ticks st.leave profile to
+      → leave_price profile (record { address = t; rom = rom }) ≡ jump_ticks profile st.leave to
 
 -- the words from an address on are of the class and cost the most that so many can, and the memory controller
 -- has a spot for each

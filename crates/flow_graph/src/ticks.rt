@@ -46,7 +46,7 @@ pub fn work_ticks(profile: &Profile, class: Class, work: Work) -> u32
 // What the fetches after a jump cost: of the word at its target, and of the next.
 fn jump_ticks(profile: &Profile, leave: Class, to: &Place) -> u32
     requires { IsInSpace to.now }
-    ensures ticks { result ≡ jump_ticks leave profile.now to.now }
+    ensures ticks { result ≡ jump_ticks profile.now leave to.now }
     ensures small { result < 512 }
 {
     match to {
@@ -59,7 +59,7 @@ fn jump_ticks(profile: &Profile, leave: Class, to: &Place) -> u32
 
 fn arrival_ticks(profile: &Profile, leave: Class, kind: Kind, to: &Place) -> u32
     requires { IsInSpace to.now }
-    ensures ticks { result ≡ arrival_ticks leave profile.now kind to.now }
+    ensures ticks { result ≡ arrival_ticks profile.now leave kind to.now }
     ensures small { result < 512 }
 {
     match kind {

@@ -164,7 +164,7 @@ by_work st profile a action to g change gain is =
     let of_any = unstated profile (class_of st a) action.work g gain in
     let less = falls (transfer_prices profile action.work) (λ c. work_ticks profile c action.work) refl refl refl g change of_any.1 is in
     let fetch = fetch_ticks profile a action.work in
-    let arrival = arrival_ticks st.leave profile action.kind to in
+    let arrival = arrival_ticks profile st.leave action.kind to in
     ap (λ (c : Class). fetch + work_ticks profile c action.work + arrival + g.ticks) (first_class st a change.better) ∙ sums fetch _ _ arrival g.ticks less
     ∙ ap (λ (c : Class). fetch + work_ticks profile c action.work + arrival) (sym of_any.0)
   where
@@ -201,7 +201,7 @@ pub access_gains : (st : Stated) (profile : Profile) (a : ℕ) (i : Instr) (to :
 access_gains st profile a i to g change gain is = of_operation st profile a i.cond to g change is i.operation gain
 
 pub leave_gains : (st : Stated) (profile : Profile) (g : Gain) (change : ClassChange) → leave_gain profile st.leave ≡ Some g → g.refinement ≡ Addresses change
-    → jump_ticks (with_leave st change.better).leave profile Exit + g.ticks ≡ jump_ticks st.leave profile Exit
+    → jump_ticks profile (with_leave st change.better).leave Exit + g.ticks ≡ jump_ticks profile st.leave Exit
 leave_gains st profile g change gain is =
     let of_any = unstated_leave profile st.leave g gain in
     falls (leave_prices profile) (worst_leave_of profile) refl refl refl g change of_any.1 is ∙ ap (worst_leave_of profile) (sym of_any.0)

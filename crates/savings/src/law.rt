@@ -40,8 +40,8 @@ pub fn gains_are_of_the_prices()
         ≡ do_ticks st profile a (instr_action i) to }
     ensures leave { (st : Stated) (profile : Profile) (gain : Gain) (change : ClassChange)
         → leave_gain profile st.leave ≡ Some gain → gain.refinement ≡ Addresses change
-        → jump_ticks (with_leave st change.better).leave profile Exit + gain.ticks
-        ≡ jump_ticks st.leave profile Exit }
+        → jump_ticks profile (with_leave st change.better).leave Exit + gain.ticks
+        ≡ jump_ticks profile st.leave Exit }
 {}
 
 /// States which class is the next better: one that a statement may name and whose price is below the present
