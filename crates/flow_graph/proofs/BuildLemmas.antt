@@ -284,7 +284,7 @@ module _ (words : Words) (st : Stated) (profile : Profile) where
       let calls : List ℕ = (h.0).0 in
       let here : Contains places (At calls address) = (are (At calls address)).1 ((h.0).1, λ e. cc) in
       let has = (allowed.sound (At calls address) here).1 in
-      let both : Some has.word ≡ None = sym has.stands ∙ h.1 in
+      let both : Some has.word ≡ None = sym has.word_is ∙ h.1 in
       cc
   none_refused places ordered are allowed strays (fault.UnallocatedWord address) other h = at_allowed places (h.0).0 address Unallocated (fault.UnallocatedWord address) are allowed refl (h.0).1 h.1
   none_refused places ordered are allowed strays (fault.TrapInHandler address) other h = at_allowed places (h.0).0 address Trap (fault.TrapInHandler address) are allowed refl (h.0).1 h.1

@@ -51,7 +51,7 @@ one_action word a b h k =
 
 pub one_action_at : (words : Words) (address : ℕ) (a b : Action) → HasAction words address a → HasAction words address b → a ≡ b
 one_action_at words address a b h k =
-    let both : Some h.word ≡ Some k.word = sym h.stands ∙ k.stands in
+    let both : Some h.word ≡ Some k.word = sym h.word_is ∙ k.word_is in
     let same : k.word ≡ h.word = cc in
     one_action h.word a b h.is (subst (λ w. IsAction w b) same k.is)
 

@@ -55,7 +55,7 @@ module _ (words : Words) (st : Stated) (profile : Profile) where
   no_fault : (p : Place) (f : BuildFault) → IsSound words st p → IsPlaceFault words st p f → ⊥
   no_fault (At calls address) f sound h =
       ⊎_elim
-      (λ out. let has : HasAction words address sound.0 = sound.1 in let both : Some has.word ≡ None = sym has.stands ∙ out.0 in cc)
+      (λ out. let has : HasAction words address sound.0 = sound.1 in let both : Some has.word ≡ None = sym has.word_is ∙ out.0 in cc)
       (λ act.
       let same : act.0 ≡ sound.0 = one_action_at words address act.0 sound.0 act.1 sound.1 in
       let at : action_fault st calls address sound.0 ≡ Some f = subst (λ (a : Action). action_fault st calls address a ≡ Some f) same act.2 in

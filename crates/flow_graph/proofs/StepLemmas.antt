@@ -148,8 +148,8 @@ module _ (words : Words) (st : Stated) (profile : Profile) (calls : List ℕ) (a
   step_costs =
       let bus : Bus = with_lines i.lines.0 s.bus in
       let obeyed : ObeysFetched (fetched bus.memc (r15_in s.regs)) i.port s.regs bus h.step.moved = works_plain (interrupt_due bus (r15_in s.regs)) i.port s.regs bus h.step.moved h.step.works (plain_is.kind) in
-      let stands : fetched s.bus.memc (r15_in s.regs) ≡ Some h.has.word = h.fetches ∙ h.has.stands in
-      let obeys : Obeys h.has.word i.port s.regs bus h.step.moved = subst (λ o. ObeysFetched o i.port s.regs bus h.step.moved) stands obeyed in
+      let fetches : fetched s.bus.memc (r15_in s.regs) ≡ Some h.has.word = h.fetches ∙ h.has.word_is in
+      let obeys : Obeys h.has.word i.port s.regs bus h.step.moved = subst (λ o. ObeysFetched o i.port s.regs bus h.step.moved) fetches obeyed in
       subst (λ t. Costs profile s.bus.memc.control.rom_times (class_of st (address_in s.regs)) (address_in s.regs) (kind_by (holds_in s.regs action.cond) action) (work_by (holds_in s.regs action.cond) action) h.step.moved.accesses t) (sym plain_is.to)
       (obeys_costs profile s.bus.memc.control.rom_times (class_of st (address_in s.regs)) s.regs (let n : length s.regs ≡ 27 = h.registers in omega arith)
       h.has.word action i.port bus h.step.moved h.has.is obeys h.transfers (plain_is.kind))

@@ -39,7 +39,7 @@ use Rattle.arm2_transfer.specs.Operations.{operation_moved}
 use Rattle.arm2_transfer.specs.Registers.{moved_by, passed, with_base}
 use Rattle.arm2_transfer.specs.Single.{address_for, base_after, of_immediate, of_register, single_at, single_by, single_carried_out, single_loaded, single_loads, single_stores}
 use Rattle.arm2_transfer.specs.Words.{registers_in}
-use Rattle.flow_graph.specs.Kinds.{IsWork, kind_of, transfer, work_of, writer_if}
+use Rattle.flow_graph.specs.Kinds.{IsWork, kind_of, transfer_work, work_of, writer_if}
 use Rattle.flow_graph.specs.StepLaw.{TransfersIn}
 use Rattle.flow_graph.specs.declared.kinds.Kind.{Kind}
 use Rattle.flow_graph.specs.declared.kinds.Kind.TheVariants as kind
@@ -80,7 +80,7 @@ base_other : (before byte write_back load : Bool) (rn rd : Register) → single_
 base_other before byte write_back load rn rd h w =
     base_by (is_pc rn) before write_back (refused_not (is_bad_base (bit_of before) (bit_of write_back) (register_number rn)) 5 _ h) w
 
-words_fit : (load : Bool) (words : ℕ) → IsWork (transfer load words) → (1 ≤ words) × (words ≤ 16)
+words_fit : (load : Bool) (words : ℕ) → IsWork (transfer_work load words) → (1 ≤ words) × (words ≤ 16)
 words_fit true words h = h
 words_fit false words h = h
 
@@ -217,12 +217,12 @@ module _ (p : Profile) (rom : RomTimes) (class : Class) (regs : List ℕ) (long 
       (base_passed x base other)
 
   -- a load or a store
-  either_costs : (load to_pc : Bool) (words : ℕ) (m n : Moved) → MovedCosts (writer_if to_pc) (work.Load words) m → MovedCosts kind.Plain (work.Store words) n → MovedCosts (writer_if (load && to_pc)) (transfer load words) (cond load m n)
+  either_costs : (load to_pc : Bool) (words : ℕ) (m n : Moved) → MovedCosts (writer_if to_pc) (work.Load words) m → MovedCosts kind.Plain (work.Store words) n → MovedCosts (writer_if (load && to_pc)) (transfer_work load words) (cond load m n)
   either_costs true to_pc words m n h g = h
   either_costs false to_pc words m n h g = g
 
   single_by_costs : (x : Single) (base port : ℕ) (found : Result Spot TransferFault) (bus : Bus) → (writes_base x.before x.write_back ≡ true → is_pc x.rn ≡ false) → address_for x base < 2 ^ 26 →
-      MovedCosts (writer_if (x.load && is_pc x.rd)) (transfer x.load 1) (single_by x base port found regs bus)
+      MovedCosts (writer_if (x.load && is_pc x.rd)) (transfer_work x.load 1) (single_by x base port found regs bus)
   unfolding single_by single_carried_out
   single_by_costs x base port (Err why) bus other below = faulted_costs _ _ why bus
   single_by_costs x base port (Ok spot) bus other below =
@@ -230,10 +230,10 @@ module _ (p : Profile) (rom : RomTimes) (class : Class) (regs : List ℕ) (long 
       (single_loads_cost x base port spot bus other below)
       (single_stores_cost x base spot bus other below)
 
-  single_costs : (x : Single) (base port : ℕ) (bus : Bus) → (writes_base x.before x.write_back ≡ true → is_pc x.rn ≡ false) → MovedCosts (writer_if (x.load && is_pc x.rd)) (transfer x.load 1) (single_at x base port regs bus)
+  single_costs : (x : Single) (base port : ℕ) (bus : Bus) → (writes_base x.before x.write_back ≡ true → is_pc x.rn ≡ false) → MovedCosts (writer_if (x.load && is_pc x.rd)) (transfer_work x.load 1) (single_at x base port regs bus)
   unfolding single_at
   single_costs x base port bus other =
-      choose (writer_if (x.load && is_pc x.rd)) (transfer x.load 1) (nat_lt (address_for x base) (2 ^ 26)) _ _
+      choose (writer_if (x.load && is_pc x.rd)) (transfer_work x.load 1) (nat_lt (address_for x base) (2 ^ 26)) _ _
       (λ inside. single_by_costs x base port _ bus other (ltb-true (address_for x base) (2 ^ 26) inside))
       (taken_costs _ _ _ bus)
 
@@ -262,7 +262,7 @@ module _ (p : Profile) (rom : RomTimes) (class : Class) (regs : List ℕ) (long 
 
   block_by_costs : (x : Block) (span : Span) (port : ℕ) (verdict : Result (List Move) TransferFault) (bus : Bus) → is_pc x.rn ≡ false → span.lowest < 2 ^ 26 → 1 ≤ span.words → span.words ≤ 16 →
       ((moves : List Move) → verdict ≡ Ok moves → is_listed x.list R15 ≡ false → AllMoveOther moves) →
-      MovedCosts (writer_if (x.load && is_listed x.list R15)) (transfer x.load span.words) (block_by x span port verdict regs bus)
+      MovedCosts (writer_if (x.load && is_listed x.list R15)) (transfer_work x.load span.words) (block_by x span port verdict regs bus)
   unfolding block_by block_carried_out
   block_by_costs x span port (Err why) bus other below some few others = faulted_costs _ _ why bus
   block_by_costs x span port (Ok moves) bus other below some few others =
@@ -271,15 +271,15 @@ module _ (p : Profile) (rom : RomTimes) (class : Class) (regs : List ℕ) (long 
       (block_stores_cost x span moves bus other below some few)
 
   block_costs : (x : Block) (span : Span) (port : ℕ) (bus : Bus) → is_pc x.rn ≡ false → 1 ≤ span.words → span.words ≤ 16 →
-      MovedCosts (writer_if (x.load && is_listed x.list R15)) (transfer x.load span.words) (block_at x span port regs bus)
+      MovedCosts (writer_if (x.load && is_listed x.list R15)) (transfer_work x.load span.words) (block_at x span port regs bus)
   unfolding block_at
   block_costs x span port bus other some few =
-      choose (writer_if (x.load && is_listed x.list R15)) (transfer x.load span.words) (nat_lt span.lowest (2 ^ 26)) _ _
+      choose (writer_if (x.load && is_listed x.list R15)) (transfer_work x.load span.words) (nat_lt span.lowest (2 ^ 26)) _ _
       (λ inside. block_by_costs x span port _ bus other (ltb-true span.lowest (2 ^ 26) inside) some few
       (λ moves e none. verdict_others bus.memc (is_user (mode_of (r15_in regs))) (not x.load) span.lowest x.list moves e none))
       (taken_costs _ _ _ bus)
 
-  block_done : (x : Block) (port : ℕ) (bus : Bus) → IsWork (transfer x.load (count_ones x.list)) → MovedCosts (writer_if (x.load && is_listed x.list R15)) (transfer x.load (count_ones x.list)) (block_moved x port regs bus)
+  block_done : (x : Block) (port : ℕ) (bus : Bus) → IsWork (transfer_work x.load (count_ones x.list)) → MovedCosts (writer_if (x.load && is_listed x.list R15)) (transfer_work x.load (count_ones x.list)) (block_moved x port regs bus)
   unfolding block_moved
   block_done x port bus fits =
       let words : length (registers_in x.list) ≡ count_ones x.list = words_are x.list x.list_fits in
@@ -287,7 +287,7 @@ module _ (p : Profile) (rom : RomTimes) (class : Class) (regs : List ℕ) (long 
       let other : is_pc x.rn ≡ false = refused_not (is_pc x.rn) 6 _ x.allocated in
       let base : ℕ = register_in (mode_of (r15_in regs)) (register_number x.rn) regs in
       let moved : Moved = block_at x (span_of x base (length (registers_in x.list))) port regs bus in
-      subst (λ n. MovedCosts (writer_if (x.load && is_listed x.list R15)) (transfer x.load n) moved) words
+      subst (λ n. MovedCosts (writer_if (x.load && is_listed x.list R15)) (transfer_work x.load n) moved) words
       (block_costs x (span_of x base (length (registers_in x.list))) port bus other (omega (arith, words, fit.0)) (omega (arith, words, fit.1)))
 
   -- ## Any instruction

@@ -30,7 +30,7 @@ module _ (st : Stated) (p : Profile) (rom : RomTimes) (class : Class) (dear : Ar
     (calls : List ℕ) (a : ℕ) where
   -- the address is that of the place, and the jump there costs what the edge says
   pub record Arrives (k : Kind) (t : ℕ) (to : Place) : Type 0 where
-    pub stands_for : IsPlaceOf st.leave t to
+    pub is_place : IsPlaceOf st.leave t to
     pub price : jump_price p rom class a k t ≡ arrival_ticks p st.leave k to
 
   jump_at : (inside : List ℕ) (x t : ℕ) → t ≡ x
@@ -43,15 +43,15 @@ module _ (st : Stated) (p : Profile) (rom : RomTimes) (class : Class) (dear : Ar
       → (is_writer k ≡ true → IsDearestTarget st p to t) → Contains (landings st calls a k) to
       → Arrives k t to
   arrives_exactly kind.Plain t to e target lands =
-      subst (Arrives kind.Plain t) (only_one _ to lands) (record { stands_for = sym e; price = refl })
+      subst (Arrives kind.Plain t) (only_one _ to lands) (record { is_place = sym e; price = refl })
   arrives_exactly (kind.Branch offset) t to e target lands =
       subst (Arrives (kind.Branch offset) t) (only_one _ to lands)
-      (record { stands_for = sym e; price = jump_at calls (branch_target a offset) t e })
+      (record { is_place = sym e; price = jump_at calls (branch_target a offset) t e })
   arrives_exactly (kind.Call offset) t to e target lands =
       subst (Arrives (kind.Call offset) t) (called_place (nat_lt (length calls) 8) _ to lands)
-      (record { stands_for = sym e; price = jump_at (calls ++ a ∷ []) (branch_target a offset) t e })
+      (record { is_place = sym e; price = jump_at (calls ++ a ∷ []) (branch_target a offset) t e })
   arrives_exactly kind.Writer t to e target lands =
       let is = target refl in
-      record { stands_for = is.stands_for; price = is.price rom dear }
+      record { is_place = is.is_place; price = is.price rom dear }
   arrives_exactly kind.Trap t to e target lands = absurd e
   arrives_exactly kind.Unallocated t to e target lands = absurd e

@@ -1,5 +1,5 @@
 -- The machine of an edge's file takes the edge at its price.
-use Rattle.std.proofs.Common.{◌≡◌, ℕ, ◌+◌, ◌*◌, ◌-◌, ◌/◌, ◌%◌, ◌^◌, ◌<◌, ◌≤◌, ◌⊎◌, inl, inr, true, false, Option, Some, None, Result, Ok, Err, List, [], ◌∷◌, ◌++◌, length, get_or, IsTrue, replicate, refl, sym, ap, subst, ◌∙◌, arith}
+use Rattle.std.proofs.Common.{◌≡◌, ℕ, ◌+◌, ◌*◌, ◌/◌, ◌%◌, ◌^◌, ◌<◌, ◌≤◌, ◌⊎◌, inl, inr, true, false, Option, Some, None, Result, Ok, Err, List, [], ◌∷◌, ◌++◌, length, get_or, IsTrue, replicate, refl, sym, ap, subst, ◌∙◌, arith}
 use Rattle.std.specs.Prelude.{All, Contains, IfErr, IfSome, IsSome, is_some}
 use Rattle.std.proofs.lemmas.Bool.{eqb-false, eq-eqb, lt-ltb}
 use Rattle.std.proofs.lemmas.List.{get_or-set_same, get_or_append_left, get_or_push, length-append, length-replicate, length-set}
@@ -43,7 +43,7 @@ use Rattle.flow_graph.specs.Places.{place_address, place_at}
 use Rattle.flow_graph.specs.Free.{IsFree}
 use Rattle.flow_graph.specs.Setting.{HasSetting, IsData}
 use Rattle.flow_graph.specs.Tight.{IsTight}
-use Rattle.flow_graph.specs.TightFile.{CanPlace, HasPlaceWord, HasWordAt, IsEntryOf, IsPlaceWord, IsPlaced, IsSetUp, IsTightFile, file_of, masked_flags, registers_with}
+use Rattle.flow_graph.specs.TightFile.{CanPlace, HasOwnWord, HasPlaceWord, HasWordAt, IsPlaceWord, IsPlaced, IsSetUp, IsTightFile, file_of, masked_flags, registers_with}
 use Rattle.flow_graph.specs.TightWork.{FetchesAt, masked}
 use Rattle.flow_graph.specs.declared.edges.Edge.{Edge}
 use Rattle.flow_graph.specs.declared.places.Place.{Place}
@@ -178,8 +178,8 @@ module _ (words : Words) (st : Stated) (profile : Profile) (e : Edge) (spare : �
         by_fields : (r : RomTimes) → r.low ≡ rom.low → r.high ≡ rom.high → AreDearest profile r
         by_fields r low high x = rom_same r low high x ∙ dear x
 
-    stands : FetchesAt profile h.word set_up.address set_up.flags s
-    stands = record {
+    begins : FetchesAt profile h.word set_up.address set_up.flags s
+    begins = record {
       registers = ap length begun.registers ∙ with_last set_up.setting.register _;
       whole = place.0;
       below = place.1;
@@ -225,7 +225,7 @@ module _ (words : Words) (st : Stated) (profile : Profile) (e : Edge) (spare : �
       has = h.has;
       is = h.is;
       label = h.label;
-      stands = stands;
+      begins = begins;
       skipped_or_set = elim h.setting.skipped_or_set [
         | inl skip ↦ inl skip
         | inr (x, means, sets) ↦ inr (x, means, sets.set st e.to s i refl h.leads setting)
@@ -332,11 +332,11 @@ placed_takes words st profile e f x s i file h placed port =
     (file.tight (x ∷ []) placed.start i (one_word words x h.has) (same_pair words e.from x h) placed.begun port)
 
 -- an edge's place has a word
-pub edge_entry : (words : Words) (st : Stated) (profile : Profile) (e : Edge) → IsEdge words st profile e → IsEntryOf words e.from
+pub edge_entry : (words : Words) (st : Stated) (profile : Profile) (e : Edge) → IsEdge words st profile e → HasOwnWord words e.from
 edge_entry words st profile e is = by_place e.from is.0 is.1 is.2
   where
-    by_place : (p : Place) (edges : List Edge) → AreEdgesOf words st profile p edges → Contains edges e → IsEntryOf words p
-    by_place (At calls address) edges are among = (are.1.word, are.1.stands)
+    by_place : (p : Place) (edges : List Edge) → AreEdgesOf words st profile p edges → Contains edges e → HasOwnWord words p
+    by_place (At calls address) edges are among = (are.1.word, are.1.word_is)
     by_place Exit edges are among = absurd (no_member e (subst (λ es. Contains es e) are among))
 
 -- and so has the place to which it leads, unless that is Exit
@@ -344,7 +344,7 @@ pub edge_lands : (words : Words) (st : Stated) (profile : Profile) (flow : Flow)
 edge_lands words st profile flow g form e has = by_place e.to (form.ends e has)
   where
     edges_entry : (address : ℕ) (calls : List ℕ) (edges : List Edge) → AreEdgesOf words st profile (At calls address) edges → HasWordAt words (At calls address)
-    edges_entry address calls edges are = (are.1.word, are.1.stands)
+    edges_entry address calls edges are = (are.1.word, are.1.word_is)
 
     of_place : (p : Place) → (v : ℕ) × (v < length flow.places) × (place_at flow.places v ≡ p) → HasWordAt words p
     of_place Exit w = tt

@@ -34,7 +34,7 @@ use Rattle.arm2_exec.specs.State.{State}
 use Rattle.arm2_exec.specs.Step.{with_lines}
 use Rattle.arm2_exec.specs.declared.machine.Input.{Input}
 use Rattle.flow_graph.specs.Edges.{landings}
-use Rattle.flow_graph.specs.Kinds.{kind_of, transfer, work_of, writer_if}
+use Rattle.flow_graph.specs.Kinds.{kind_of, transfer_work, work_of, writer_if}
 use Rattle.flow_graph.specs.TightWork.{IsDearestTarget, IsSetFor, TransfersDearest}
 use Rattle.flow_graph.specs.declared.places.Place.{Place}
 use Rattle.statement.specs.Stated.{Stated, class_of}
@@ -106,7 +106,7 @@ module _ (st : Stated) (profile : Profile) (address : ℕ) (to : Place) (s : Sta
         let whole : is_pc x.rd ≡ true → address_of seen_word ≡ address_of made =
         λ last. sym (made_whole x.byte (lowest_at x) seen_word (no_byte x last) h.transfer.whole) in
         subst
-        (λ b. MovedPays setting (writer_if (x.load && is_pc x.rd)) (transfer x.load 1)
+        (λ b. MovedPays setting (writer_if (x.load && is_pc x.rd)) (transfer_work x.load 1)
         (single_at (of_immediate x) b i.port s.regs (with_lines i.lines.0 s.bus))) (sym base_is)
         (single_pays setting (of_immediate x) (base_of x) (h.spot 0) found h.transfer.block
         (λ w. subst (IsDearestTarget st profile to) (whole (and_parts x.load (is_pc x.rd) w).1) (h.target w)))
@@ -120,7 +120,7 @@ module _ (st : Stated) (profile : Profile) (address : ℕ) (to : Place) (s : Sta
 
     abbrev BlockDone : Block → Bool → ℕ → Type 0
     BlockDone x last words =
-        MovedPays setting (writer_if (x.load && last)) (transfer x.load words)
+        MovedPays setting (writer_if (x.load && last)) (transfer_work x.load words)
         (block_moved x i.port s.regs (with_lines i.lines.0 s.bus))
 
     block_set : (x : Block) → BlockSet x (mode setting) (is_listed x.list R15) (words_in x)

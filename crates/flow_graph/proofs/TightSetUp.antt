@@ -29,7 +29,6 @@ use Rattle.flow_graph.specs.declared.edges.Edge.{Edge}
 use Rattle.flow_graph.specs.declared.edges.Label.{Label}
 use Rattle.flow_graph.specs.declared.edges.Label.TheVariants.{Skip, Do}
 use Rattle.flow_graph.specs.declared.kinds.Action.{Action}
-use Rattle.flow_graph.specs.declared.places.Place.{Place}
 use Rattle.flow_graph.specs.declared.places.Place.TheVariants.{At, Exit}
 use Rattle.flow_graph.specs.declared.setting.Aim.{Aim}
 use Rattle.flow_graph.specs.declared.setting.Setting.{Setting}
@@ -48,12 +47,12 @@ at_target st profile calls a may =
     record {
       whole = parts.0;
       below = parts.1;
-      stands_for = refl;
+      is_place = refl;
       price = λ rom dear. rw (n_worst profile rom Any 0 dear a, s_worst profile rom Any 0 dear (ahead_of a 4)) refl;
     }
 
 pub exit_target : (st : Stated) (profile : Profile) (leave : Class) (t : ℕ) → leave ≡ st.leave → IsDearestLeave profile leave t → IsDearestTarget st profile Exit t
-exit_target st profile leave t e h = subst (λ c. IsDearestLeave profile c t → IsDearestTarget st profile Exit t) (sym e) (λ x. record { whole = x.whole; below = x.below; stands_for = x.is_of; price = x.price }) h
+exit_target st profile leave t e h = subst (λ c. IsDearestLeave profile c t → IsDearestTarget st profile Exit t) (sym e) (λ x. record { whole = x.whole; below = x.below; is_place = x.is_of; price = x.price }) h
 
 -- ## The edge's word
 
@@ -127,7 +126,7 @@ pub some_flags : (words : Words) (st : Stated) (profile : Profile) (e : Edge) (c
     → (f : Flags) × (label_by f action.cond ≡ e.label)
 some_flags words st profile e calls address word action is from has is_action =
     let w = edge_word words st profile e calls address is from in
-    let same : w.has.word ≡ word = same_Some _ _ (sym w.has.stands ∙ has) in
+    let same : w.has.word ≡ word = same_Some _ _ (sym w.has.word_is ∙ has) in
     let one : w.action ≡ action = one_action word w.action action (subst (λ n. IsAction n w.action) same w.has.is) is_action in
     subst (λ (a : Action). (f : Flags) × (label_by f a.cond ≡ e.label)) one (label_flags words st profile e calls address w.action w.among)
 

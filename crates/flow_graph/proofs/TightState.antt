@@ -73,21 +73,21 @@ none_due fiq irq true false f i = absurd (cc)
 -- ## The machine
 
 module _ (profile : Profile) (word address : ℕ) (flags : Flags) (s : State)
-    (stands : FetchesAt profile word address flags s) where
+    (begins : FetchesAt profile word address flags s) where
   is_word : IsWordAddress address
-  is_word = (stands.below, stands.whole)
+  is_word = (begins.below, begins.whole)
 
   pub at_address : address_in s.regs ≡ address
-  at_address = ap address_of stands.r15 ∙ address_put (psr_with flags masked) address Svc is_word
+  at_address = ap address_of begins.r15 ∙ address_put (psr_with flags masked) address Svc is_word
 
   pub in_svc : mode_of (r15_in s.regs) ≡ Svc
-  in_svc = ap mode_of stands.r15 ∙ mode_put flags address is_word
+  in_svc = ap mode_of begins.r15 ∙ mode_put flags address is_word
 
   pub flags_are : flags_of (r15_in s.regs) ≡ flags
-  flags_are = ap flags_of stands.r15 ∙ flags_put flags address is_word
+  flags_are = ap flags_of begins.r15 ∙ flags_put flags address is_word
 
   pub no_interrupt : (lines : ℕ) → interrupt_due (with_lines lines s.bus) (r15_in s.regs) ≡ None
   no_interrupt lines =
       none_due _ _ (is_fiq_masked (r15_in s.regs)) (is_irq_masked (r15_in s.regs))
-      (ap is_fiq_masked stands.r15 ∙ fiq_masked flags address is_word)
-      (ap is_irq_masked stands.r15 ∙ irq_masked flags address is_word)
+      (ap is_fiq_masked begins.r15 ∙ fiq_masked flags address is_word)
+      (ap is_irq_masked begins.r15 ∙ irq_masked flags address is_word)

@@ -83,34 +83,34 @@ module _ (words : Words) (st : Stated) (profile : Profile) (e : Edge) (s : State
   class = class_of st a
 
   at : a ≡ h.address
-  at = at_address profile h.word h.address h.flags s h.stands
+  at = at_address profile h.word h.address h.flags s h.begins
 
   svc : mode_of (r15_in s.regs) ≡ Svc
-  svc = in_svc profile h.word h.address h.flags s h.stands
+  svc = in_svc profile h.word h.address h.flags s h.begins
 
   long : 26 < length s.regs
-  long = let n = h.stands.registers in omega arith
+  long = let n = h.begins.registers in omega arith
 
-  stands : word_of words a ≡ Some h.word
-  stands = ap (word_of words) at ∙ h.has
+  word_is : word_of words a ≡ Some h.word
+  word_is = ap (word_of words) at ∙ h.has
 
   has : HasAction words a h.action
-  has = record { word = h.word; stands = stands; is = h.is }
+  has = record { word = h.word; word_is = word_is; is = h.is }
 
   from : e.from ≡ At h.calls a
   from = h.from ∙ ap (λ t. At h.calls t) (sym at)
 
   label : e.label ≡ label_in s.regs h.action.cond
   label =
-      let flags = flags_are profile h.word h.address h.flags s h.stands in
+      let flags = flags_are profile h.word h.address h.flags s h.begins in
       sym h.label ∙ ap (λ f. label_by f h.action.cond) (sym flags)
 
   works : (m : Moved) → Obeys h.word i.port s.regs bus m
       → Works (interrupt_due bus (r15_in s.regs)) i.port s.regs bus m
   works m obeys =
-      let none = no_interrupt profile h.word h.address h.flags s h.stands i.lines.0 in
+      let none = no_interrupt profile h.word h.address h.flags s h.begins i.lines.0 in
       subst (λ (due : Option Vector). Works due i.port s.regs bus m) (sym none)
-      (subst (λ (word : Option ℕ). ObeysFetched word i.port s.regs bus m) (sym h.stands.fetches) obeys)
+      (subst (λ (word : Option ℕ). ObeysFetched word i.port s.regs bus m) (sym h.begins.fetches) obeys)
 
   -- a step that does this takes the edge at its price
   tight : (m : Moved) → Obeys h.word i.port s.regs bus m → m.kind ≡ ended.Plain
@@ -119,7 +119,7 @@ module _ (words : Words) (st : Stated) (profile : Profile) (e : Edge) (s : State
   tight m obeys plain transfers to cost =
       let plainly = kind_of_answer s m ∙ plain in
       let plain_is : IsPlainStep s m (answer_of s m) = plain_step s m (answer_of s m) refl plainly in
-      let ticks = plain_is.ticks ∙ ap (λ (p : Profile). ticks_of p rom m.accesses) h.stands.prices in
+      let ticks = plain_is.ticks ∙ ap (λ (p : Profile). ticks_of p rom m.accesses) h.begins.prices in
       record {
         privileged = ap is_user svc;
         stepped = answer_of s m;
@@ -128,10 +128,10 @@ module _ (words : Words) (st : Stated) (profile : Profile) (e : Edge) (s : State
           calls = h.calls;
           action = h.action;
           executes = record {
-            registers = h.stands.registers;
-            prices = h.stands.prices;
+            registers = h.begins.registers;
+            prices = h.begins.prices;
             has = has;
-            fetches = h.stands.fetches ∙ sym stands;
+            fetches = h.begins.fetches ∙ sym word_is;
             step = record { moved = m; works = works m obeys; stepped_is = refl; after_is = refl };
             plain = plainly;
             transfers = transfers;
@@ -163,7 +163,7 @@ module _ (words : Words) (st : Stated) (profile : Profile) (e : Edge) (s : State
   tight_skip : skip_edge profile h.calls a ≡ e → IsTight words st profile e s i
   tight_skip is =
       let fails = skips _ (sym label ∙ sym (ap (λ (x : Edge). x.label) is)) in
-      let done = skipped_pays (setting st profile a e.to s i h.stands.dearest long) in
+      let done = skipped_pays (setting st profile a e.to s i h.begins.dearest long) in
       let in_class = transfers_in class _ done.pays.in_class in
       let goes = (skipped_costs profile rom class s.regs long bus in_class done.plain).reaches in
       let cost : passing_ticks profile a ≡ e.cost = ap (λ (x : Edge). x.cost) is in
@@ -195,7 +195,7 @@ module _ (words : Words) (st : Stated) (profile : Profile) (e : Edge) (s : State
     done_by lands cost holds =
         let k : Kind = kind_of x.operation in
         let set_here = subst (λ n. IsSetFor st profile n e.to s i x.operation) (sym at) set in
-        let dear = h.stands.dearest in
+        let dear = h.begins.dearest in
         let done = operation_set st profile a e.to s i dear long svc x.operation h.calls a lands set_here in
         let in_class = transfers_in class _ done.pays.in_class in
         let fits = action_fits h.word (instr_action x) (inl (x, means, refl)) in
@@ -203,7 +203,7 @@ module _ (words : Words) (st : Stated) (profile : Profile) (e : Edge) (s : State
         let goes = (costs in_class done.plain).reaches in
         let t : ℕ = address_in moved.regs in
         let there = arrives_exactly st profile rom class dear h.calls a k t e.to goes done.lands lands in
-        tight moved (obeys_done holds) done.plain in_class there.stands_for
+        tight moved (obeys_done holds) done.plain in_class there.is_place
         (omega (arith, done.pays.exact, there.price, cost))
 
     tight_done : (to : Place) → Contains (landings st h.calls a h.action.kind) to

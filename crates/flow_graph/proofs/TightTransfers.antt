@@ -24,7 +24,7 @@ use Rattle.arm2_transfer.specs.Registers.{moved_by, passed, with_base}
 use Rattle.arm2_transfer.specs.Single.{address_for, base_after, has_user_rights, single_at, single_by}
 use Rattle.arm2_transfer.specs.Single.{single_carried_out, single_loaded, single_loads, single_stores}
 use Rattle.arm2_transfer.specs.Words.{moves_of, or_fault, registers_in, verdict_of}
-use Rattle.flow_graph.specs.Kinds.{is_writer, transfer, writer_if}
+use Rattle.flow_graph.specs.Kinds.{is_writer, transfer_work, writer_if}
 use Rattle.flow_graph.specs.TightWork.{IsDearestTarget}
 use Rattle.flow_graph.specs.declared.kinds.Kind.TheVariants as kind
 use Rattle.flow_graph.specs.declared.kinds.Work.TheVariants as work
@@ -45,7 +45,7 @@ module _ (c : Setting) where
       → (IsDear c words lowest false → (to_pc ≡ true → T) → MovedPays c (writer_if to_pc) (work.Load words) m)
       → (IsDear c words lowest true → MovedPays c kind.Plain (work.Store words) n)
       → IsDear c words lowest (not load) → ((load && to_pc) ≡ true → T)
-      → MovedPays c (writer_if (load && to_pc)) (transfer load words) (cond load m n)
+      → MovedPays c (writer_if (load && to_pc)) (transfer_work load words) (cond load m n)
   either_pays true to_pc words lowest T m n loads stores block target = loads block target
   either_pays false to_pc words lowest T m n loads stores block target = stores block
 
@@ -97,7 +97,7 @@ module _ (c : Setting) where
     }
 
     abbrev SinglePays : Moved → Type 0
-    SinglePays m = MovedPays c (writer_if (x.load && is_pc x.rd)) (transfer x.load 1) m
+    SinglePays m = MovedPays c (writer_if (x.load && is_pc x.rd)) (transfer_work x.load 1) m
 
     pub single_pays : IsFound → IsDear c 1 (address_for x base) (not x.load)
         → ((x.load && is_pc x.rd) ≡ true → IsTarget c word)
@@ -178,7 +178,7 @@ module _ (c : Setting) where
     }
 
     abbrev BlockPays : Moved → Type 0
-    BlockPays m = MovedPays c (writer_if (x.load && is_listed x.list R15)) (transfer x.load span.words) m
+    BlockPays m = MovedPays c (writer_if (x.load && is_listed x.list R15)) (transfer_work x.load span.words) m
 
     pub block_pays : AreFound → IsDear c span.words span.lowest (not x.load)
         → ((x.load && is_listed x.list R15) ≡ true → IsTarget c last)

@@ -6,7 +6,7 @@ use Rattle.arm2_decode.specs.Allowed.{block_clash}
 use Rattle.arm2_decode.specs.Names.{register_number}
 use Rattle.arm2_decode.specs.declared.instr.Operation.{Operation}
 use Rattle.arm2_decode.specs.declared.instr.Operation.TheVariants as operation
-use Rattle.flow_graph.specs.Kinds.{IsAction, IsWork, transfer, work_of}
+use Rattle.flow_graph.specs.Kinds.{IsAction, IsWork, transfer_work, work_of}
 use Rattle.flow_graph.specs.declared.kinds.Action.{Action}
 
 never_zero : (b : Bool) → (λ (n : ℕ). n ≡ 0) (cond b 7 8) → ⊥
@@ -21,7 +21,7 @@ some_ones rn list h =
     (λ p. p)
     (eq-zero-or-pos (count_ones list))
 
-transfer_fits : (load : Bool) (words : ℕ) → 1 ≤ words → words ≤ 16 → IsWork (transfer load words)
+transfer_fits : (load : Bool) (words : ℕ) → 1 ≤ words → words ≤ 16 → IsWork (transfer_work load words)
 transfer_fits true words some few = (some, few)
 transfer_fits false words some few = (some, few)
 

@@ -136,7 +136,7 @@ word_edges st profile calls address action =
 -- the image has a word at the address, which does this
 pub record HasAction (words : Words) (address : ℕ) (action : Action) : Type 0 where
   pub word : ℕ
-  pub stands : word_of words address ≡ Some word
+  pub word_is : word_of words address ≡ Some word
   pub is : IsAction word action
 
 module _ (words : Words) (st : Stated) (profile : Profile) where

@@ -41,8 +41,8 @@ is_writer kind.Unallocated = false
 
 -- ## Besides the fetches
 
-abbrev pub transfer : Bool → ℕ → Work
-transfer load words = if load then work.Load words else work.Store words
+abbrev pub transfer_work : Bool → ℕ → Work
+transfer_work load words = if load then work.Load words else work.Store words
 
 -- a shift by a register's amount takes one internal cycle, and a multiply its most
 abbrev pub work_of : Operation → Work
@@ -50,9 +50,9 @@ work_of (operation.Multiply x) = work.Internal MOST_MULTIPLY_CYCLES
 work_of (operation.DataRegister x) = work.Internal 0
 work_of (operation.DataRegisterShift x) = work.Internal 1
 work_of (operation.DataImmediate x) = work.Internal 0
-work_of (operation.SingleImmediate x) = transfer x.load 1
-work_of (operation.SingleRegister x) = transfer x.load 1
-work_of (operation.Block x) = transfer x.load (count_ones x.list)
+work_of (operation.SingleImmediate x) = transfer_work x.load 1
+work_of (operation.SingleRegister x) = transfer_work x.load 1
+work_of (operation.Block x) = transfer_work x.load (count_ones x.list)
 work_of (operation.Branch x) = work.Internal 0
 work_of (operation.Swi x) = work.Internal 0
 work_of (operation.UndefinedTransfer x) = work.Internal 0

@@ -19,23 +19,23 @@ module _ (site : Site) where
   abbrev pub writer_places : List Place
   writer_places = writer_landings site.calls site.address (target_of site.statement.now site.address)
 
-  abbrev pub writer_refusal : Option BuildFault
-  writer_refusal = writer_fault site.calls (target_of site.statement.now site.address)
+  abbrev pub site_writer_fault : Option BuildFault
+  site_writer_fault = writer_fault site.calls (target_of site.statement.now site.address)
 
   -- the do edges of the word, and why it is refused where its condition holds
   abbrev pub done_edges : List Edge
   done_edges = landing_edges site.statement.now site.profile.now site.calls site.address site.action
 
-  abbrev pub done_refusal : Option BuildFault
-  done_refusal = kind_fault site.statement.now site.calls site.address site.action.kind
+  abbrev pub done_fault : Option BuildFault
+  done_fault = kind_fault site.statement.now site.calls site.address site.action.kind
 
   -- all edges of the word, and why it is refused
   abbrev pub all_edges : List Edge
   all_edges = word_edges site.statement.now site.profile.now site.calls site.address site.action
 
-  abbrev pub refusal : Option BuildFault
-  refusal = action_fault site.statement.now site.calls site.address site.action
+  abbrev pub site_fault : Option BuildFault
+  site_fault = action_fault site.statement.now site.calls site.address site.action
 
 -- an allocation failed, or it is this fault
 abbrev pub IsMemoryOr : Option BuildFault → BuildFault → Type 0
-IsMemoryOr refusal fault = (fault ≡ Memory) ⊎ (refusal ≡ Some fault)
+IsMemoryOr other fault = (fault ≡ Memory) ⊎ (other ≡ Some fault)

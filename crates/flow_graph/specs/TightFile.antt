@@ -150,9 +150,9 @@ pub record IsTightFile (words : Words) (st : Stated) (profile : Profile) (e : Ed
 -- ## Where its words go
 
 -- the image has a word at the place, which is not Exit
-abbrev pub IsEntryOf : Words → Place → Type 0
-IsEntryOf words (At calls address) = (word : ℕ) × (word_of words address ≡ Some word)
-IsEntryOf words Exit = ⊥
+abbrev pub HasOwnWord : Words → Place → Type 0
+HasOwnWord words (At calls address) = (word : ℕ) × (word_of words address ≡ Some word)
+HasOwnWord words Exit = ⊥
 
 -- the image's word at the place, with its address
 pub record IsPlaceWord (words : Words) (place : Place) (e : ℕ × ℕ) : Type 0 where

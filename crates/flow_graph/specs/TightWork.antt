@@ -60,11 +60,11 @@ pub record FetchesAt (profile : Profile) (word address : ℕ) (flags : Flags) (s
   pub dearest : AreDearest profile s.bus.memc.control.rom_times
   pub fetches : fetched s.bus.memc (r15_in s.regs) ≡ Some word
 
--- an address of a word that the place stands for, to which a jump costs what the graph says
+-- an address of a word that is the place's, to which a jump costs what the graph says
 pub record IsDearestTarget (st : Stated) (profile : Profile) (to : Place) (t : ℕ) : Type 0 where
   pub whole : t % 4 ≡ 0
   pub below : t < SPACE_END
-  pub stands_for : IsPlaceOf st.leave t to
+  pub is_place : IsPlaceOf st.leave t to
   pub price : (rom : RomTimes) → AreDearest profile rom
       → leave_price profile (record { address = t; rom = rom }) ≡ jump_ticks profile st.leave to
 
@@ -128,7 +128,7 @@ module _ (words : Words) (st : Stated) (profile : Profile) where
     pub has : word_of words address ≡ Some word
     pub is : IsAction word action
     pub label : label_by flags action.cond ≡ e.label
-    pub stands : FetchesAt profile word address flags s
+    pub begins : FetchesAt profile word address flags s
     pub skipped_or_set : (e.label ≡ Skip)
         ⊎ ((x : Instr) × Means word x × IsSetFor st profile address e.to s i x.operation)
 

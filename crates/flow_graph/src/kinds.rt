@@ -1,5 +1,5 @@
 ghost use Rattle.std.specs.Prelude.{◌≡◌};
-ghost use Rattle.flow_graph.specs.Kinds.{IsAction, IsWork, is_writer, kind_of, transfer, work_of};
+ghost use Rattle.flow_graph.specs.Kinds.{IsAction, IsWork, is_writer, kind_of, transfer_work, work_of};
 ghost use Rattle.flow_graph.specs.Kinds.{writer_if};
 
 use arm2_decode::{Cond, Operation, decode};
@@ -67,8 +67,8 @@ fn kind_of(operation: &Operation) -> Kind
 }
 
 /// What a load or a store of so many words does besides its fetches.
-pub fn transfer(load: bool, words: u32) -> Work
-    ensures { result ≡ transfer load words }
+pub fn transfer_work(load: bool, words: u32) -> Work
+    ensures { result ≡ transfer_work load words }
 {
     if load {
         Work::Load(words)
@@ -83,9 +83,9 @@ fn work_of(operation: &Operation) -> Work
     match operation {
         Operation::Multiply(_) => Work::Internal(MOST_MULTIPLY_CYCLES),
         Operation::DataRegisterShift(_) => Work::Internal(1),
-        Operation::SingleImmediate(x) => transfer(x.load, 1),
-        Operation::SingleRegister(x) => transfer(x.load, 1),
-        Operation::Block(x) => transfer(x.load, x.list.count_ones()),
+        Operation::SingleImmediate(x) => transfer_work(x.load, 1),
+        Operation::SingleRegister(x) => transfer_work(x.load, 1),
+        Operation::Block(x) => transfer_work(x.load, x.list.count_ones()),
         Operation::DataRegister(_)
         | Operation::DataImmediate(_)
         | Operation::Branch(_)

@@ -28,7 +28,7 @@ pub use faulty::{FaultyPlace, faulty_place};
 pub use flags::flags_for;
 pub use flow::Graph;
 pub use free::is_free;
-pub use kinds::{Action, Kind, Work, action_of, transfer};
+pub use kinds::{Action, Kind, Work, action_of, transfer_work};
 pub use law::{order_of_places, place_limits, run_law, step_law, tight_law};
 pub use places::Place;
 pub use search::MOST_PLACES;

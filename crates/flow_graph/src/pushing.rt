@@ -4,8 +4,8 @@ ghost use Rattle.flow_graph.specs.Edges.{call_places, places_at, return_place, s
 ghost use Rattle.flow_graph.specs.Kinds.{IsWork};
 ghost use Rattle.flow_graph.specs.Places.{IsInSpace};
 ghost use Rattle.flow_graph.specs.Search.{AddsEdges, IsEdgeFault, IsSound, call_fault};
-ghost use Rattle.flow_graph.specs.Sites.{IsMemoryOr, all_edges, done_edges, done_refusal, edge_to, refusal};
-ghost use Rattle.flow_graph.specs.Sites.{writer_places, writer_refusal};
+ghost use Rattle.flow_graph.specs.Sites.{IsMemoryOr, all_edges, done_edges, done_fault, edge_to, site_fault};
+ghost use Rattle.flow_graph.specs.Sites.{site_writer_fault, writer_places};
 
 use crate::call_list::Calls;
 use crate::edges::{Edge, Label};
@@ -117,8 +117,8 @@ fn push_writer(out: &mut Vec<Edge>, site: &Site) -> Result<(), BuildFault>
     requires work { IsWork site.now.action.work }
     ensures ok { OnOk result
         (out.new.items ≡ out.old.items ++ map (edge_to site.now) (writer_places site.now)) }
-    ensures sound { OnOk result (writer_refusal site.now ≡ None) }
-    ensures err { IfErr result (IsMemoryOr (writer_refusal site.now)) }
+    ensures sound { OnOk result (site_writer_fault site.now ≡ None) }
+    ensures err { IfErr result (IsMemoryOr (site_writer_fault site.now)) }
 {
     let Some(target) = site.statement.target_at(site.address) else {
         return push_do(out, site, return_place(&site.calls));
@@ -140,8 +140,8 @@ fn push_done(out: &mut Vec<Edge>, site: &Site) -> Result<(), BuildFault>
     requires work { IsWork site.now.action.work }
     ensures ok { OnOk result
         (out.new.items ≡ out.old.items ++ done_edges site.now) }
-    ensures sound { OnOk result (done_refusal site.now ≡ None) }
-    ensures err { IfErr result (IsMemoryOr (done_refusal site.now)) }
+    ensures sound { OnOk result (done_fault site.now ≡ None) }
+    ensures err { IfErr result (IsMemoryOr (done_fault site.now)) }
 {
     let address = site.address;
     match site.action.kind {
@@ -166,8 +166,8 @@ fn push_word(out: &mut Vec<Edge>, site: &Site) -> Result<(), BuildFault>
     requires work { IsWork site.now.action.work }
     ensures ok { OnOk result
         (out.new.items ≡ out.old.items ++ all_edges site.now) }
-    ensures sound { OnOk result (refusal site.now ≡ None) }
-    ensures err { IfErr result (IsMemoryOr (refusal site.now)) }
+    ensures sound { OnOk result (site_fault site.now ≡ None) }
+    ensures err { IfErr result (IsMemoryOr (site_fault site.now)) }
 {
     if !site.action.cond.is_always() {
         push_skip(out, site)?;

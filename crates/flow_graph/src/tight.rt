@@ -12,7 +12,7 @@ ghost use Rattle.arm2_decode.specs.Names.{is_pc};
 ghost use Rattle.machine_file.specs.Parts.{IsInRange, HasNoneTwice, stated_by};
 ghost use Rattle.flow_graph.specs.Edges.{IsEdge};
 ghost use Rattle.flow_graph.specs.Free.{IsFree, IsFreeWord};
-ghost use Rattle.flow_graph.specs.TightFile.{CanPlace, HasWordAt, IsEntryOf, IsPlaceWord, IsPlaced};
+ghost use Rattle.flow_graph.specs.TightFile.{CanPlace, HasOwnWord, HasWordAt, IsPlaceWord, IsPlaced};
 ghost use Rattle.flow_graph.specs.TightFile.{IsSettingOf, IsSetUp, IsTightAt, IsTightFile};
 ghost use Rattle.flow_graph.specs.TightFile.{file_of, masked_flags};
 ghost use Rattle.flow_graph.specs.TightFile.{open_page, registers_with};
@@ -79,7 +79,7 @@ pub(crate) struct SetUp {
     pub(crate) setting: Setting,
 }
 
-// An address that the place stands for, to which a jump costs the most.
+// An address that is the place's, to which a jump costs the most.
 fn target(image: &Image, profile: &Profile, leave: Class, to: &Place) -> Option<u32>
     ensures leads { IfSome result
         (λ t. (st : Stated) → leave ≡ st.leave → IsDearestTarget st profile.now to.now t) }
@@ -118,7 +118,7 @@ fn set_up_for(
     requires is_edge { IsEdge image.now statement.now profile.now edge.now }
     requires lands { HasWordAt image.now edge.now.to }
     requires spare { spare < PHYSICAL_PAGES }
-    ensures stands { IfSome result (IsSetUp image.now statement.now profile.now edge.now spare) }
+    ensures is_set_up { IfSome result (IsSetUp image.now statement.now profile.now edge.now spare) }
     ensures free { IfSome result (λ _. IsFree image.now edge.now) }
     ensures none { IsNone result → IsFree image.now edge.now → ⊥ }
 {
@@ -345,7 +345,7 @@ fn placed(
 // The image's word at a place, with its address in front.
 fn place_word(image: &Image, place: &Place) -> Option<(u32, u32)>
     ensures word { IfSome result (λ e. IsPlaceWord image.now place.now e) }
-    ensures none { IsNone result → IsEntryOf image.now place.now → ⊥ }
+    ensures none { IsNone result → HasOwnWord image.now place.now → ⊥ }
 {
     match place {
         Place::At(_, address) => {

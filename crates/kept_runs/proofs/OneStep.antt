@@ -38,7 +38,7 @@ module _ (words : Words) (st : Stated) (profile : Profile) (s : State) (i : Inpu
   one_edge_of stepped other after last d e h g from =
       let same = one_step s i stepped other after last h.executes.step g.executes.step in
       let calls : h.calls ≡ g.calls = (same_at h.calls g.calls (address_in s.regs) (address_in s.regs) (sym h.taken.from ∙ from ∙ g.taken.from)).0 in
-      let word : h.executes.has.word ≡ g.executes.has.word = same_Some h.executes.has.word g.executes.has.word (sym h.executes.has.stands ∙ g.executes.has.stands) in
+      let word : h.executes.has.word ≡ g.executes.has.word = same_Some h.executes.has.word g.executes.has.word (sym h.executes.has.word_is ∙ g.executes.has.word_is) in
       let act : h.action ≡ g.action = one_action g.executes.has.word h.action g.action (subst (λ w. IsAction w h.action) word h.executes.has.is) g.executes.has.is in
       let taken_same : IsTaken words st profile g.calls g.action s stepped e = subst (λ (x : Stepped). IsTaken words st profile g.calls g.action s x e) same.0 g.taken in
       let act_same : IsTaken words st profile g.calls h.action s stepped e = subst (λ (x : Action). IsTaken words st profile g.calls x s stepped e) (sym act) taken_same in

@@ -16,7 +16,7 @@ use Rattle.flow_graph.specs.declared.kinds.Work.{Work}
 use Rattle.flow_graph.specs.declared.places.Place.{Place}
 use Rattle.flow_graph.specs.declared.places.Place.TheVariants.{Exit}
 use Rattle.flow_graph.specs.Edges.{arrival_ticks, do_ticks, fetch_ticks, jump_ticks, work_ticks}
-use Rattle.flow_graph.specs.Kinds.{action, instr_action, kind_of, transfer, work_of}
+use Rattle.flow_graph.specs.Kinds.{action, instr_action, kind_of, transfer_work, work_of}
 use Rattle.statement.specs.Stated.{Stated, class_of}
 use Rattle.savings.specs.Changed.{with_access, with_leave}
 use Rattle.savings.specs.Gains.{IsDearestBelow, class_gain, if_less, leave_gain, leave_prices, multiply_gain, next_class, next_gain, next_price, operation_gain, transfer_gain, transfer_prices}
@@ -186,9 +186,9 @@ module _ (st : Stated) (profile : Profile) (a : ℕ) (c : Cond) (to : Place) (g 
   of_operation (operation.DataRegister x) gain = absurd (not_none g gain)
   of_operation (operation.DataRegisterShift x) gain = absurd (not_none g gain)
   of_operation (operation.DataImmediate x) gain = absurd (not_none g gain)
-  of_operation (operation.SingleImmediate x) gain = by_work st profile a (action c (kind_of (operation.SingleImmediate x)) (transfer x.load 1)) to g change gain is
-  of_operation (operation.SingleRegister x) gain = by_work st profile a (action c (kind_of (operation.SingleRegister x)) (transfer x.load 1)) to g change gain is
-  of_operation (operation.Block x) gain = by_work st profile a (action c (kind_of (operation.Block x)) (transfer x.load (count_ones x.list))) to g change gain is
+  of_operation (operation.SingleImmediate x) gain = by_work st profile a (action c (kind_of (operation.SingleImmediate x)) (transfer_work x.load 1)) to g change gain is
+  of_operation (operation.SingleRegister x) gain = by_work st profile a (action c (kind_of (operation.SingleRegister x)) (transfer_work x.load 1)) to g change gain is
+  of_operation (operation.Block x) gain = by_work st profile a (action c (kind_of (operation.Block x)) (transfer_work x.load (count_ones x.list))) to g change gain is
   of_operation (operation.Branch x) gain = absurd (not_none g gain)
   of_operation (operation.Swi x) gain = absurd (not_none g gain)
   of_operation (operation.UndefinedTransfer x) gain = absurd (not_none g gain)

@@ -8,7 +8,7 @@ use Rattle.bus_ticks.specs.declared.profile.Class.TheVariants.{Any, Ram, Rom, Io
 use Rattle.bus_ticks.specs.declared.profile.Profile.{Profile}
 use Rattle.bus_ticks.specs.Worst.{worst_leave_of}
 use Rattle.flow_graph.specs.Edges.{work_ticks}
-use Rattle.flow_graph.specs.Kinds.{transfer}
+use Rattle.flow_graph.specs.Kinds.{transfer_work}
 use Rattle.flow_graph.specs.declared.kinds.Work.{Work}
 use Rattle.savings.specs.declared.classes.ClassPrices.{ClassPrices}
 use Rattle.savings.specs.declared.gains.Gain.{Gain}
@@ -75,9 +75,9 @@ operation_gain p class (operation.Multiply x) = Some (multiply_gain p)
 operation_gain p class (operation.DataRegister x) = None
 operation_gain p class (operation.DataRegisterShift x) = None
 operation_gain p class (operation.DataImmediate x) = None
-operation_gain p class (operation.SingleImmediate x) = transfer_gain p class (transfer x.load 1)
-operation_gain p class (operation.SingleRegister x) = transfer_gain p class (transfer x.load 1)
-operation_gain p class (operation.Block x) = transfer_gain p class (transfer x.load (count_ones x.list))
+operation_gain p class (operation.SingleImmediate x) = transfer_gain p class (transfer_work x.load 1)
+operation_gain p class (operation.SingleRegister x) = transfer_gain p class (transfer_work x.load 1)
+operation_gain p class (operation.Block x) = transfer_gain p class (transfer_work x.load (count_ones x.list))
 operation_gain p class (operation.Branch x) = None
 operation_gain p class (operation.Swi x) = None
 operation_gain p class (operation.UndefinedTransfer x) = None

@@ -5,7 +5,7 @@ ghost use Rattle.savings.specs.Gains.{leave_gain, operation_gain, transfer_gain}
 use crate::classes::{ClassChange, ClassPrices, class_gain};
 use arm2_decode::Operation;
 use bus_ticks::{Class, Profile, worst_leave};
-use flow_graph::{Work, transfer, work_ticks};
+use flow_graph::{Work, transfer_work, work_ticks};
 
 /// What a price would take for granted in place of what it does.
 #[derive(Clone, Copy)]
@@ -51,9 +51,13 @@ pub(crate) fn operation_gain(profile: &Profile, class: Class, operation: &Operat
             refinement: Refinement::Multiplier,
             ticks: profile.internal,
         }),
-        Operation::SingleImmediate(x) => transfer_gain(profile, class, transfer(x.load, 1)),
-        Operation::SingleRegister(x) => transfer_gain(profile, class, transfer(x.load, 1)),
-        Operation::Block(x) => transfer_gain(profile, class, transfer(x.load, x.list.count_ones())),
+        Operation::SingleImmediate(x) => transfer_gain(profile, class, transfer_work(x.load, 1)),
+        Operation::SingleRegister(x) => transfer_gain(profile, class, transfer_work(x.load, 1)),
+        Operation::Block(x) => transfer_gain(
+            profile,
+            class,
+            transfer_work(x.load, x.list.count_ones()),
+        ),
         _ => None,
     }
 }

@@ -7,4 +7,4 @@ pub returns-in-Some-clause-only : goal.returns-in-Some-clause-only
 returns-in-Some-clause-only c = λ action has.
     ap (λ (a : Action). Some a)
     (one_action_at c.args.image.now c.args.at c.action_of.result action
-    (record { word = c.in-Some.word; stands = sym c.in-Some.ensures.value; is = c.action_of.ensures.value }) has)
+    (record { word = c.in-Some.word; word_is = sym c.in-Some.ensures.value; is = c.action_of.ensures.value }) has)

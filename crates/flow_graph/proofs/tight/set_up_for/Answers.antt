@@ -12,8 +12,8 @@ pub setting_at-requires-clause-free : goal.setting_at-requires-clause-free
 setting_at-requires-clause-free c =
     word_free c.args.image.now c.args.edge.now _ c.in-At.address c.in_ok-word.word (search rules) c.in-At.is (sym c.in_ok-word.ensures.value)
 
-pub returns-clause-stands : goal.returns-clause-stands
-returns-clause-stands c = record {
+pub returns-clause-is_set_up : goal.returns-clause-is_set_up
+returns-clause-is_set_up c = record {
   calls = _;
   word = c.in_ok-word.word;
   action = c.action_of.result;
