@@ -7,6 +7,7 @@ use Rattle.bus_ticks.specs.declared.profile.Class.{Class}
 use Rattle.bus_ticks.specs.declared.profile.Class.TheVariants.{Any, Ram, Rom, Io}
 use Rattle.bus_ticks.specs.declared.profile.Profile.{Profile}
 use Rattle.bus_ticks.specs.Worst.{worst_leave_of}
+use Rattle.shifter.specs.declared.shifts.TheConstants.{MOST_MULTIPLY_CYCLES}
 use Rattle.flow_graph.specs.Edges.{work_ticks}
 use Rattle.flow_graph.specs.Kinds.{transfer_work}
 use Rattle.flow_graph.specs.declared.kinds.Work.{Work}
@@ -65,9 +66,13 @@ transfer_gain p Ram w = None
 transfer_gain p Rom w = None
 transfer_gain p Io w = None
 
--- a multiply is priced at 16 internal cycles, and with the next better multiplier takes 15
+-- a multiply is priced at its most internal cycles, and takes one less with the next better multiplier
 abbrev pub multiply_gain : Profile → Gain
-multiply_gain p = record { refinement = Multiplier; ticks = 16 * p.internal - 15 * p.internal }
+multiply_gain p =
+    record {
+      refinement = Multiplier;
+      ticks = MOST_MULTIPLY_CYCLES * p.internal - (MOST_MULTIPLY_CYCLES - 1) * p.internal;
+    }
 
 -- what takes neither is priced by no entry
 abbrev pub operation_gain : Profile → Class → Operation → Option Gain
