@@ -1,15 +1,8 @@
 ghost use Rattle.std.specs.Prelude.{◌≡◌, ◌≢◌, MatchBool};
 ghost use Rattle.diagnosis.specs.Cycles.{turns_back};
 
-use flow_graph::{Calls, Edge, Loop, Place};
+use flow_graph::{Calls, Edge, Loop};
 use loop_bounds::is_back_edge_of;
-
-/// Whether the two are one place.
-pub(crate) fn is_same(place: &Place, other: &Place) -> bool
-    ensures { MatchBool result (place.now ≡ other.now) (place.now ≢ other.now) }
-{
-    place == other
-}
 
 /// Whether the two are one list of calls.
 pub(crate) fn are_same(list: Calls, other: Calls) -> bool

@@ -9,7 +9,7 @@ ghost use Rattle.diagnosis.specs.Cycles.{EndsCleared, IsCleared, IsClosed, IsCyc
 ghost use Rattle.diagnosis.specs.Cycles.{IsIdle, IsOpen};
 ghost use Rattle.diagnosis.specs.Cycles.{IsSearching, LeadToCleared, steps_left};
 
-use crate::members::{is_same, turns_back};
+use crate::members::turns_back;
 use flow_graph::{Edge, Graph, Loop, Place};
 use std::alloc::{AllocError, Global};
 
@@ -82,7 +82,7 @@ fn cycle_of(alloc: Global, path: &[Edge], end: &Place) -> Result<Vec<Edge>, Allo
         → IsCycleOf flow loops cycle.items) }
 {
     for (k, edge) in path.iter().enumerate() {
-        if is_same(&edge.from, end) {
+        if edge.from == *end {
             return Vec::from_slice(alloc, &path[k..]);
         }
     }

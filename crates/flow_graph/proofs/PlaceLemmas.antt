@@ -1,19 +1,21 @@
 -- The order of places: total, and exact.
-use Rattle.std.proofs.Common.{◌≡◌, ℕ, List, refl, ap, sym, ◌∙◌, subst}
+use Rattle.std.proofs.Common.{◌≡◌, ℕ, true, false, List, refl, ap, sym, ◌∙◌, subst}
 use Rattle.std.specs.Prelude.{Contains, IsTrue, ◌↔◌}
 use Rattle.std.specs.BTreeSet.{BTreeSet, contains}
-use Rattle.std.specs.Cmp.{IsTotalOrder}
+use Rattle.std.specs.Cmp.{IsTotalOrder, Equal-is}
 use Rattle.std.specs.declared.cmp.Reverse.{Reverse}
-use Rattle.std.proofs.lemmas.Cmp.{back_total, on_total}
+use Rattle.std.proofs.lemmas.Bool.{false≢true}
+use Rattle.std.proofs.lemmas.Cmp.{back_total, on_total, tied_itself}
 use Rattle.std.proofs.lemmas.Map.Views.{btree_set_contains_iff}
 use Rattle.std.specs.Cmp.Lexicographic.{slice_cmp}
 use Rattle.std.specs.List.Sorted.{IsStrictlySortedBy}
-use Rattle.std.specs.Ordering.{nat_cmp, ordering_then}
+use Rattle.std.specs.Ordering.{is_eq, nat_cmp, ordering_then}
 use Rattle.std.proofs.lemmas.Map.Lookups.{CmpEqualImpliesEq, exact_unsigned, exact_bytes, exact_pairs}
 use Rattle.std.specs.declared.cmp.Ordering.TheVariants.{Equal}
 use Rattle.flow_graph.specs.Places.{place_cmp}
 use Rattle.flow_graph.specs.Search.{by_order, downwards, in_set, places_in}
-use Rattle.flow_graph.specs.contracts.places.PlaceOrd.TheImpl.Laws.{total-law}
+use Rattle.flow_graph.specs.contracts.places.PlaceOrd.TheImpl.Laws.{matches_eq-law, total-law}
+use Rattle.flow_graph.specs.contracts.places.PlacePartialEq.TheImpl as PlaceEqual
 use Rattle.flow_graph.specs.declared.places.Place.{Place}
 use Rattle.flow_graph.specs.declared.places.Place.TheVariants.{At, Exit}
 use Rattle.flow_graph.proofs.Ascending.{ascending_from, ascending_has, sorted_ascending}
@@ -50,6 +52,20 @@ place_exact Exit Exit h = refl
 
 pub by_order_exact : CmpEqualImpliesEq by_order
 by_order_exact x y h = place_exact x y (sym (by_order_is_place_cmp x y) ∙ h)
+
+-- ## What `==` answers
+
+pub equal_is_tied : (p q : Place) → (PlaceEqual.ghosts).eq p q ≡ is_eq (place_cmp p q)
+equal_is_tied p q = matches_eq-law p q ∙ ap is_eq (by_order_is_place_cmp p q)
+
+pub equal_places : (p q : Place) → true ≡ (PlaceEqual.ghosts).eq p q → p ≡ q
+equal_places p q equal = place_exact p q ((Equal-is (place_cmp p q)).0 (sym (equal ∙ equal_is_tied p q)))
+
+pub unequal_places : (p q : Place) → false ≡ (PlaceEqual.ghosts).eq p q → p ≡ q → ⊥
+unequal_places p q unequal same =
+    false≢true (unequal ∙ equal_is_tied p q ∙ ap (λ r. is_eq (place_cmp r q)) same ∙ ap is_eq (tied_itself place_total q))
+
+-- ## Sorted places
 
 pub sorted_by_place : (ks : List Place) → IsStrictlySortedBy by_order ks → IsStrictlySortedBy place_cmp ks
 sorted_by_place ks s = subst (λ R. IsStrictlySortedBy R ks) by_place s

@@ -6,14 +6,12 @@ ghost use Rattle.flow_graph.specs.Search.{EndsOne};
 use crate::building::{edges_at, start_of};
 use crate::edges::Edge;
 use crate::faults::BuildFault;
-use crate::law::order_of_places;
 use crate::places::Place;
 use crate::search::{add, add_ends};
 use bus_ticks::Profile;
 use loader::Image;
 use statement::Statement;
 use std::alloc::Global;
-use std::cmp::Ordering;
 use std::collections::BTreeSet;
 
 /// A reached place whose word keeps a handler from having a flow graph.
@@ -35,23 +33,13 @@ fn is_memory(fault: BuildFault) -> bool
     }
 }
 
-fn is_same(place: &Place, other: &Place) -> bool
-    ensures { MatchBool result (place.now ≡ other.now) (place.now ≢ other.now) }
-{
-    order_of_places();
-    match place.cmp(other) {
-        Ordering::Equal => true,
-        Ordering::Less | Ordering::Greater => false,
-    }
-}
-
 // The first edge that leads to the place.
 fn edge_to(edges: &[Edge], place: &Place) -> Option<Edge>
     ensures edge { IfSome result (λ edge. Contains edges.now edge × (edge.to ≡ place.now)) }
     ensures none { IfNone result (EndsOne edges.now place.now → ⊥) }
 {
     for edge in edges {
-        if is_same(&edge.to, place) {
+        if edge.to == *place {
             return Some(*edge);
         }
     }

@@ -16,13 +16,17 @@ use Rattle.flow_graph.specs.declared.edges.Label.TheVariants.{Skip, Do}
 use Rattle.flow_graph.specs.Flow.{Flow, IsEdgeRange, IsWellFormed}
 use Rattle.flow_graph.specs.Places.{place_at, place_cmp}
 use Rattle.flow_graph.specs.Search.{by_order}
-use Rattle.flow_graph.proofs.PlaceLemmas.{by_order_exact, place_exact, place_total}
+use Rattle.flow_graph.specs.contracts.places.PlacePartialEq.TheImpl as PlaceEqual
+use Rattle.flow_graph.proofs.PlaceLemmas.{by_order_exact, equal_is_tied, place_exact, place_total}
 use Rattle.loop_bounds.proofs.Positions.{known}
 use Rattle.longest_walk.specs.Built.{step_at}
 use Rattle.flow_graph.proofs.Firsts.{no_edge, whole_range}
 use Rattle.walk_counts.specs.Counts.{is_same_edge, is_same_label, is_same_place, number_of}
 
 -- ## The same edge
+
+pub equal_is_same : (p q : Place) → (PlaceEqual.ghosts).eq p q ≡ is_same_place p q
+equal_is_same p q = equal_is_tied p q
 
 one_place : (p q : Place) → is_same_place p q ≡ true → p ≡ q
 one_place p q e = place_exact p q ((Equal-is (place_cmp p q)).0 e)

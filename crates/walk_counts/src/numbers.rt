@@ -1,16 +1,8 @@
 ghost use Rattle.std.specs.Prelude.{◌≡◌, ◌<◌, ◌≤◌, MatchOption, length};
 ghost use Rattle.flow_graph.specs.Places.{place_at, place_cmp};
-ghost use Rattle.walk_counts.specs.Counts.{is_same_edge, is_same_label, is_same_place, number_of};
+ghost use Rattle.walk_counts.specs.Counts.{is_same_edge, is_same_label, number_of};
 
-use flow_graph::{Edge, Graph, Label, Place, order_of_places};
-use std::cmp::Ordering;
-
-fn is_same_place(place: &Place, other: &Place) -> bool
-    ensures { result ≡ is_same_place place.now other.now }
-{
-    order_of_places();
-    place.cmp(other) == Ordering::Equal
-}
+use flow_graph::{Edge, Graph, Label};
 
 /// Whether the two are one label.
 pub fn is_same_label(label: Label, other: Label) -> bool
@@ -22,12 +14,13 @@ pub fn is_same_label(label: Label, other: Label) -> bool
     }
 }
 
+#[tactic(auto, using(crate::proofs::NumberLemmas::equal_is_same))]
 fn is_same_edge(edge: &Edge, other: &Edge) -> bool
     ensures { result ≡ is_same_edge edge.now other.now }
 {
-    is_same_place(&edge.from, &other.from)
+    edge.from == other.from
         && is_same_label(edge.label, other.label)
-        && is_same_place(&edge.to, &other.to)
+        && edge.to == other.to
         && edge.cost == other.cost
 }
 

@@ -2,6 +2,7 @@ use Rattle.std.proofs.Common.{◌≡◌, ℕ, ◌<◌, length, get_or, ap, ◌�
 use Rattle.std.proofs.lemmas.List.{get_or_read}
 use Rattle.flow_graph.specs.declared.edges.Edge.{Edge}
 use Rattle.flow_graph.proofs.GrowLemmas.{has_item}
+use Rattle.flow_graph.proofs.PlaceLemmas.{equal_places, unequal_places}
 use Rattle.flow_graph.proofs.faulty.edge_to.Goals as goal
 use borrow.Author.Count.{below_more}
 
@@ -11,12 +12,12 @@ loop-edge-preserved c = λ k d lt.
     (λ (j : ℕ). (x : Edge) → (get_or c.args.edges.now j x).to ≡ c.args.place.now → ⊥)
     c.loop-edge.edge-index
     (λ j l x. c.loop-edge.invariant j x l)
-    (λ x e. c.if-is_same.ensures (ap (λ (y : Edge). y.to) (get_or_read c.args.edges.now c.loop-edge.edge-index c.edge-item.result c.loop-edge-test.true c.edge-item.is x) ∙ e))
+    (λ x e. unequal_places c.edge-item.result.to c.args.place.now c.if-eq.ensures (ap (λ (y : Edge). y.to) (get_or_read c.args.edges.now c.loop-edge.edge-index c.edge-item.result c.loop-edge-test.true c.edge-item.is x) ∙ e))
     k lt d
 
-pub returns-then-is_same-clause-edge : goal.returns-then-is_same-clause-edge
-returns-then-is_same-clause-edge c =
-    (has_item c.args.edges.now c.loop-edge.edge-index c.edge-item.result c.loop-edge-test.true c.edge-item.is, c.if-is_same.ensures)
+pub returns-then-eq-clause-edge : goal.returns-then-eq-clause-edge
+returns-then-eq-clause-edge c =
+    (has_item c.args.edges.now c.loop-edge.edge-index c.edge-item.result c.loop-edge-test.true c.edge-item.is, equal_places c.edge-item.result.to c.args.place.now c.if-eq.ensures)
 
 pub returns-clause-none : goal.returns-clause-none
 returns-clause-none c = λ one.
