@@ -15,7 +15,7 @@ use diagnosis::{
 use flow_graph::{
     BuildFault, FaultyPlace, Statement, StatementFault, faulty_place, read_statement,
 };
-use loader::MAGIC;
+use loader::is_image;
 use loop_bounds::NestFault;
 use machine_reports::{HandlerGraph, read_graph};
 use report_input::{profile_of, read_source};
@@ -24,7 +24,7 @@ use std::alloc::{AllocError, Global};
 
 // Where the lines of a source are placed. An image has none.
 fn placed_in(alloc: Global, source: &[u8]) -> Result<Vec<PlacedLine>, ReportFault> {
-    if source.starts_with(&MAGIC) {
+    if is_image(source) {
         return Ok(Vec::new(alloc));
     }
     let placed = placed_lines(alloc, source)?;

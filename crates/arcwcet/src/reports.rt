@@ -105,7 +105,9 @@ impl<'a> PairReport<'a> {
             PairReport::Run(_) => {
                 machine_report::<ShownRegisters, O>(alloc, first, second, profile, out)
             }
-            PairReport::Trace(_) => machine_report::<ShownSteps, O>(alloc, first, second, profile, out),
+            PairReport::Trace(_) => machine_report::<ShownSteps, O>(
+                alloc, first, second, profile, out,
+            ),
             PairReport::Bound(_) => answered(bound_report(alloc, first, second, profile, out)),
             PairReport::Graph(_) => answered(graph_report(alloc, first, second, profile, out)),
             PairReport::Tight(names) => {

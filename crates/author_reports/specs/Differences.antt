@@ -24,7 +24,7 @@ use Rattle.kept_runs.specs.Passing as passing
 use Rattle.kept_runs.specs.Passing.{Pass}
 use Rattle.kept_runs.specs.declared.tally.Passed.{Passed}
 use Rattle.loader.specs.Image.{Words}
-use Rattle.report_input.specs.Source.{is_image}
+use Rattle.loader.specs.ImageBytes.{is_image}
 use Rattle.walk_counts.specs.Counts.{capped}
 use Rattle.author_reports.specs.declared.differences.Compared.{Compared}
 use Rattle.author_reports.specs.declared.differences.Numbers.{Numbers}

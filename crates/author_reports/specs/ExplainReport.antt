@@ -3,6 +3,7 @@ use Rattle.std.specs.Prelude.{◌≡◌, ℕ, Bool, true, false, nat_le, List, �
 use Rattle.std.specs.Prelude.{Result}
 use Rattle.bus_ticks.specs.declared.profile.Profile.{Profile}
 use Rattle.loader.specs.Image.{Words}
+use Rattle.loader.specs.ImageBytes.{is_image}
 use Rattle.statement.specs.Stated.{Stated}
 use Rattle.assembler.specs.Placed.{ArePlaced}
 use Rattle.assembler.specs.declared.placed_line.PlacedLine.{PlacedLine}
@@ -19,7 +20,6 @@ use Rattle.explained.specs.Taken.{taken_at}
 use Rattle.savings.specs.Sections.{AreImageSavings, AreSourceSavings}
 use Rattle.report_output.specs.Answers.{Answers}
 use Rattle.report_input.specs.Report.{IsAccepted, IsBounded, IsRefused}
-use Rattle.report_input.specs.Source.{is_image}
 use Rattle.report_output.specs.declared.fault.ReportFault.{ReportFault}
 
 -- ## The explanation

@@ -16,7 +16,7 @@ use Rattle.kept_runs.specs.declared.following.Unkept.TheVariants as unkept
 use Rattle.kept_runs.specs.declared.judging.Stray.{Stray}
 use Rattle.kept_runs.specs.declared.judging.Stray.TheVariants as stray
 use Rattle.kept_runs.specs.declared.transfers.Access.{Access}
-use Rattle.report_input.specs.Source.{is_image}
+use Rattle.loader.specs.ImageBytes.{is_image}
 
 -- ## A run that keeps the statement
 

@@ -3,6 +3,7 @@ use Rattle.std.specs.Prelude.{◌≡◌, ℕ, true, false, List, Option, Result,
 use Rattle.std.specs.Global.{Global}
 use Rattle.bus_ticks.specs.declared.profile.Profile.{Profile}
 use Rattle.loader.specs.Image.{Words}
+use Rattle.loader.specs.ImageBytes.{is_image}
 use Rattle.assembler.specs.Placed.{ArePlaced}
 use Rattle.assembler.specs.declared.placed_line.PlacedLine.{PlacedLine}
 use Rattle.flow_graph.specs.declared.places.Place.{Place}
@@ -11,7 +12,6 @@ use Rattle.dot_text.specs.Nodes.{HoldEachOnce, LeadToNodes, all_ticks}
 use Rattle.dot_text.specs.Text.{IsDrawing}
 use Rattle.report_output.specs.Answers.{Answers}
 use Rattle.report_input.specs.Report.{IsAccepted, IsBounded, IsRefused}
-use Rattle.report_input.specs.Source.{is_image}
 use Rattle.report_output.specs.declared.fault.ReportFault.{ReportFault}
 
 -- the lines of a text, each where it is placed

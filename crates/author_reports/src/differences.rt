@@ -16,7 +16,7 @@ use assembler::placed_lines;
 use explained::Tally;
 use flow_graph::{Graph, Place};
 use kept_runs::Passed;
-use loader::{Image, MAGIC};
+use loader::{Image, is_image};
 use longest_walk::FoldedWalk;
 use report_output::ReportFault;
 use std::alloc::{AllocError, Global};
@@ -227,7 +227,7 @@ fn table_by(alloc: Global, words: Words<'_>, tallies: Tallies<'_>) -> Result<Vec
         (compared_in tallies.entry.run.now tallies.entry.walk.now) text.items) }
     ensures fault { IfErr result (IsSourceFault words.entry.source.now) }
 {
-    if words.source.starts_with(&MAGIC) {
+    if is_image(words.source) {
         let rows = image_rows(alloc, tallies, words.image)?;
         return Ok(section(alloc, IMAGE_HEADING, &rows)?);
     }

@@ -13,7 +13,7 @@ use asm_text::read_number;
 use assembler::{Assembly, Program, placed_lines};
 use bus_ticks::is_word_address;
 use drafting::draft;
-use loader::{Labels, MAGIC};
+use loader::{Labels, is_image};
 use report_input::read_source;
 use report_output::{Output, ReportFault, print_answer};
 use std::alloc::Global;
@@ -49,7 +49,7 @@ fn draft_text(
     ensures draft { IfOk result (λ text. IsDraft said.now.image said.now.labels entry text.items) }
     ensures fault { IfErr result (IsSourceFault source.now) }
 {
-    let placed = if source.starts_with(&MAGIC) {
+    let placed = if is_image(source) {
         Vec::new(alloc)
     } else {
         placed_lines(alloc, source)?

@@ -19,7 +19,7 @@ use explained::{
     latest_starts_are_of_walks, places_are_listed_once, source_assumptions, source_table,
     totals_are_the_bound,
 };
-use loader::{Image, MAGIC};
+use loader::{Image, is_image};
 use longest_walk::worst_starts;
 use report_input::{Handler, longest_of, profile_of, said_handler};
 use report_output::{Output, ReportFault, print_answer};
@@ -129,7 +129,7 @@ fn text_of(
         walk.entry.profile.now.burst walk.entry.bursts text.items) }
     ensures fault { IfErr result (IsSourceFault source.now) }
 {
-    if source.starts_with(&MAGIC) {
+    if is_image(source) {
         let text = image_text(alloc, stated, walk)?;
         return Ok(text);
     }

@@ -11,7 +11,7 @@ use assembler::placed_lines;
 use bus_ticks::{Class, class_of};
 use flow_graph::Statement;
 use kept_runs::{Access, Stray, Unkept};
-use loader::MAGIC;
+use loader::is_image;
 use report_output::ReportFault;
 use std::alloc::{AllocError, Global};
 use text_rows::{class_name, lines_by_address};
@@ -136,7 +136,7 @@ pub(crate) fn line_number_at(
     ensures line { IfOk result (IsLineNumberAt source.now address) }
     ensures fault { IfErr result (IsSourceFault source.now) }
 {
-    if source.starts_with(&MAGIC) {
+    if is_image(source) {
         return Ok(None);
     }
     let placed = placed_lines(alloc, source)?;

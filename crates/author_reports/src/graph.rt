@@ -15,7 +15,7 @@ use dot_text::{
     drawing, image_labels, node_ticks_are_the_bound, places_are_drawn_once, source_labels,
 };
 use flow_graph::Graph;
-use loader::{Image, MAGIC};
+use loader::{Image, is_image};
 use report_input::{Handler, longest_of, profile_of, said_handler};
 use report_output::{Output, ReportFault, print_answer};
 use std::alloc::Global;
@@ -31,7 +31,7 @@ fn labels_of(
         (λ labels. AreLabelsOf source.now image.now graph.now.places labels.items) }
     ensures fault { IfErr result (IsSourceFault source.now) }
 {
-    if source.starts_with(&MAGIC) {
+    if is_image(source) {
         let labels = image_labels(alloc, image, graph)?;
         return Ok(labels);
     }

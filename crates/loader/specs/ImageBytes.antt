@@ -1,8 +1,8 @@
 -- Images as bytes. Every number has 32 bits, the lowest byte first.
-use Rattle.std.specs.Prelude.{ℕ, zero, suc, ◌+◌, ◌*◌, ◌%◌, ◌==◌, ◌&&◌, ◌||◌, not, nat_lt, nat_le}
+use Rattle.std.specs.Prelude.{ℕ, zero, suc, ◌+◌, ◌*◌, ◌%◌, ◌==◌, ◌&&◌, ◌||◌, not, nat_eq, nat_lt, nat_le}
 use Rattle.std.specs.Prelude.{if◌then◌else◌, Bool, List, [], ◌∷◌, ◌++◌, length, drop, take, flat_map, codes}
 use Rattle.std.specs.Prelude.{Option, Some, None, is_some, Result, Ok, Err}
-use Rattle.std.specs.List.{list_any}
+use Rattle.std.specs.List.{list_any, starts_with}
 use Rattle.std.specs.Str.{bytes_eq}
 use Rattle.byteorder.specs.Endian.{little_bytes, little_number}
 use Rattle.loader.specs.Image.{Words, lies_in_memory, may_hold, with_word, word_of}
@@ -15,6 +15,10 @@ use Rattle.loader.specs.declared.reading.ReadFault.TheVariants.{TrailingBytes, O
 
 abbrev pub magic : List ℕ
 magic = codes "ARC2IMG1"
+
+-- bytes begin as an image does
+abbrev pub is_image : List ℕ → Bool
+is_image bytes = starts_with nat_eq bytes magic
 
 -- words side by side
 pub record Segment : Type 0 where

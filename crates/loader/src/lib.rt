@@ -20,5 +20,5 @@ pub use law::{
 pub use loading::{LoadFault, load, put_words};
 pub use places::{MOST_SEGMENTS, MOST_WORDS, is_past_ram, lies_in_memory, may_hold};
 pub use plan::{PagePlan, PlacedPage, page_plan};
-pub use reading::{MAGIC, ReadFault, read_image};
+pub use reading::{ReadFault, is_image, read_image};
 pub use writing::write_image;

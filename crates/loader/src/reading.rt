@@ -5,7 +5,7 @@ ghost use Rattle.std.specs.List.{list_any};
 ghost use Rattle.byteorder.specs.Endian.{little_number};
 ghost use Rattle.loader.specs.Image.{runs_of};
 ghost use Rattle.loader.specs.ImageBytes.{Segment, cut_fault, end_fault, head_address, head_count};
-ghost use Rattle.loader.specs.ImageBytes.{image_bytes, image_read, is_taken};
+ghost use Rattle.loader.specs.ImageBytes.{image_bytes, image_read, is_image, is_taken};
 ghost use Rattle.loader.specs.ImageBytes.{numbers, overlaps, segment_fault, segments_read, with_words};
 ghost use Rattle.loader.specs.Spelling.{Spell};
 
@@ -18,8 +18,8 @@ use std::alloc::Global;
 use std::collections::VecDeque;
 use thiserror::Error;
 
-/// The bytes with which every image begins.
-pub const MAGIC: [u8; 8] = *b"ARC2IMG1";
+// The bytes with which every image begins.
+pub(crate) const MAGIC: [u8; 8] = *b"ARC2IMG1";
 
 /// Why bytes are no image.
 #[derive(Clone, Copy, Debug, PartialEq, Eq, Drop, Error)]
@@ -46,6 +46,14 @@ pub enum ReadFault {
     /// than 65,536 words in all.
     #[error("OutOfRange")]
     OutOfRange,
+}
+
+/// Whether bytes begin as an image does, with the eight bytes `ARC2IMG1`. [`read_image`] says whether they
+/// are one.
+pub fn is_image(bytes: &[u8]) -> bool
+    ensures { result ≡ is_image bytes.now }
+{
+    bytes.starts_with(&MAGIC)
 }
 
 // The number in four bytes, the lowest first; those that are missing count as 0.
@@ -265,8 +273,8 @@ fn read_count(bytes: &[u8]) -> Result<(u32, &[u8]), ReadFault>
     Ok((count, &bytes[12..]))
 }
 
-/// Reads an image from its bytes: [`MAGIC`], the number of segments, and of each segment its address, its
-/// number of words and its words, every number in 32 bits, the lowest byte first.
+/// Reads an image from its bytes: the eight bytes `ARC2IMG1`, the number of segments, and of each segment its
+/// address, its number of words and its words, every number in 32 bits, the lowest byte first.
 ///
 /// # Errors
 ///

@@ -69,8 +69,8 @@ fn push_segments(bytes: &mut Vec<u8>, words: &[(u32, u32)]) -> Result<(), AllocE
     Ok(())
 }
 
-/// Writes an image as bytes: [`MAGIC`], the number of segments, and of each segment its address, its number
-/// of words and its words, every number in 32 bits, the lowest byte first.
+/// Writes an image as bytes: the eight bytes `ARC2IMG1`, the number of segments, and of each segment its
+/// address, its number of words and its words, every number in 32 bits, the lowest byte first.
 ///
 /// The segments are the maximal runs of words side by side, by ascending addresses.
 ///

@@ -1,12 +1,12 @@
 -- What the report of a listing prints.
 use Rattle.std.specs.Prelude.{◌≡◌, ◌++◌, ℕ, List, true, false}
 use Rattle.loader.specs.Image.{Words}
+use Rattle.loader.specs.ImageBytes.{is_image}
 use Rattle.asm_text.specs.Source.{lines_of}
 use Rattle.assembler.specs.Placed.{ArePlaced}
 use Rattle.assembler.specs.declared.placed_line.PlacedLine.{PlacedLine}
 use Rattle.listing.specs.Listing.{AreWordRows, source_rows}
 use Rattle.machine_reports.specs.Assembly.{HasWords, size_text}
-use Rattle.report_input.specs.Source.{is_image}
 
 -- the rows of a text's lines, each where it is placed
 pub record AreLineRows (source : List ℕ) (words : Words) (rows : List ℕ) : Type 0 where

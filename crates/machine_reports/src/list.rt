@@ -8,7 +8,7 @@ ghost use Rattle.report_input.specs.Source.{IsSourceFault};
 use crate::assembly::size_line;
 use assembler::placed_lines;
 use listing::{list_image, list_source};
-use loader::{Image, MAGIC};
+use loader::{Image, is_image};
 use report_input::read_source;
 use report_output::{Output, ReportFault, print_answer};
 use std::alloc::Global;
@@ -18,7 +18,7 @@ fn rows_of(alloc: Global, source: &[u8], image: &Image) -> Result<Vec<u8>, Repor
     ensures rows { IfOk result (λ rows. AreRows source.now image.now rows.items) }
     ensures fault { IfErr result (IsSourceFault source.now) }
 {
-    if source.starts_with(&MAGIC) {
+    if is_image(source) {
         let rows = list_image(alloc, image)?;
         return Ok(rows);
     }

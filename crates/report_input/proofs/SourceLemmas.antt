@@ -3,7 +3,7 @@ use Rattle.std.proofs.Common.{◌≡◌, ◌∙◌, ◌⊎◌, ℕ, Bool, true, 
 use Rattle.std.specs.Prelude.{IfErr}
 use Rattle.std.specs.Result.{IsErrAnd}
 use Rattle.loader.specs.Image.{Words}
-use Rattle.loader.specs.ImageBytes.{image_read}
+use Rattle.loader.specs.ImageBytes.{image_read, is_image}
 use Rattle.loader.specs.declared.reading.ReadFault.{ReadFault}
 use Rattle.loader.specs.declared.reading.ReadFault.TheVariants as read_fault
 use Rattle.loader.specs.Labels.{Names, no_names}
@@ -13,7 +13,7 @@ use Rattle.assembler.specs.declared.fault.LineFault.{LineFault}
 use Rattle.assembler.specs.declared.fault.AsmFault.{AsmFault}
 use Rattle.assembler.specs.declared.fault.AsmFault.TheVariants as asm_fault
 use Rattle.report_output.specs.Faults.{of_image, of_source}
-use Rattle.report_input.specs.Source.{IsSourceFault, is_image, said_by_image, said_by_text, source_of}
+use Rattle.report_input.specs.Source.{IsSourceFault, said_by_image, said_by_text, source_of}
 use Rattle.report_output.specs.declared.fault.ReportFault.{ReportFault}
 use Rattle.report_input.proofs.HandlerLemmas.{refused_as}
 

@@ -1,8 +1,7 @@
 -- What a source says: an image where it begins as one, which names no addresses, else a text.
-use Rattle.std.specs.Prelude.{◌≡◌, ℕ, Bool, List, Result, Ok, Err, nat_eq, if◌then◌else◌}
-use Rattle.std.specs.List.{starts_with}
+use Rattle.std.specs.Prelude.{◌≡◌, ℕ, List, Result, Ok, Err, if◌then◌else◌}
 use Rattle.loader.specs.Image.{Words}
-use Rattle.loader.specs.ImageBytes.{image_read, magic}
+use Rattle.loader.specs.ImageBytes.{image_read, is_image}
 use Rattle.loader.specs.Labels.{Names, address_of, no_names}
 use Rattle.loader.specs.declared.reading.ReadFault.{ReadFault}
 use Rattle.assembler.specs.Sweeps.{assembled}
@@ -15,9 +14,6 @@ use Rattle.report_output.specs.declared.fault.ReportFault.TheVariants.{Memory, S
 -- the words by their addresses, and the addresses of the labels
 abbrev pub Said : Type 0
 Said = Words × Names
-
-abbrev pub is_image : List ℕ → Bool
-is_image source = starts_with nat_eq source magic
 
 abbrev pub said_by_image : Result Words ReadFault → Result Said ReportFault
 said_by_image (Ok words) = Ok (words, no_names)

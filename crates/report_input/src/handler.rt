@@ -13,7 +13,7 @@ ghost use Rattle.report_input.specs.Source.{IsSourceFault, Says};
 use assembler::{Assembly, assemble};
 use bus_ticks::Profile;
 use flow_graph::{Graph, Statement, build, read_statement};
-use loader::{Labels, MAGIC, read_image};
+use loader::{Labels, is_image, read_image};
 use longest_walk::{Longest, longest};
 use loop_bounds::{LoopTree, nest};
 use machine_file::read_profile;
@@ -48,7 +48,7 @@ pub fn read_source(alloc: Global, source: &[u8]) -> Result<Assembly, ReportFault
     ensures said { IfOk result (Says source.now) }
     ensures fault { IfErr result (IsSourceFault source.now) }
 {
-    if source.starts_with(&MAGIC) {
+    if is_image(source) {
         let image = read_image(alloc, source)?;
         let labels = Labels::new(alloc);
         return Ok(Assembly { image, labels });

@@ -1,7 +1,8 @@
 use Rattle.std.proofs.Common.{◌≡◌, true, false, rules, ap}
+use Rattle.loader.specs.ImageBytes.{is_image}
 use Rattle.loader.specs.Labels.{address_of}
 use Rattle.report_output.specs.Faults.{of_image}
-use Rattle.report_input.specs.Source.{IsSourceFault, is_image}
+use Rattle.report_input.specs.Source.{IsSourceFault}
 use Rattle.report_input.proofs.HandlerLemmas.{refused_as}
 use Rattle.report_input.proofs.SourceLemmas.{image_fault, image_said, text_refused, text_said}
 use Rattle.report_input.proofs.handler.read_source.Goals as goal
@@ -12,8 +13,8 @@ returns-in_err-image-clause-fault c =
     let f = c.in_err-image.field-0.0 in
     refused_as c.from_residual.result (of_image f) (IsSourceFault c.args.source.now) c.from_residual.ensures.1 (image_fault c.args.source.now f is c.in_err-image.ensures.fault)
 
-pub returns-then-starts_with-clause-said : goal.returns-then-starts_with-clause-said
-returns-then-starts_with-clause-said c =
+pub returns-then-is_image-clause-said : goal.returns-then-is_image-clause-said
+returns-then-is_image-clause-said c =
     let is : is_image c.args.source.now ≡ true = search rules in
     image_said c.args.source.now c.in_ok-image.image (address_of c.new-labels.result) is c.in_ok-image.ensures.image (ap address_of c.new-labels.ensures)
 
