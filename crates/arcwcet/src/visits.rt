@@ -1,9 +1,8 @@
 ghost use Rattle.std.specs.Prelude.{◌≡◌, ◌⊎◌, ◌++◌, ◌≤◌, ◌<◌, ◌^◌, List, ℕ, IfErr, IfOk};
 ghost use Rattle.std.specs.Prelude.{OnOk, option_map};
-ghost use Rattle.flow_graph.specs.Flow.{IsWellFormed};
 ghost use Rattle.longest_walk.specs.Visits.{visits_bound};
 ghost use Rattle.report_input.specs.Priced.{Priced};
-ghost use Rattle.report_input.specs.Report.{BeforeOutput, HasLoops, IsRefused, IsTreeOf};
+ghost use Rattle.report_input.specs.Report.{BeforeOutput, IsHandlerOf, IsRefused};
 ghost use Rattle.report_input.specs.Source.{Says};
 ghost use Rattle.arcwcet.specs.VisitsReport.{AreRefused, HasBound, HasFiqBound, IsFiqRefused};
 ghost use Rattle.arcwcet.specs.VisitsReport.{IsVisitsReport, ReportsVisits, summary};
@@ -36,10 +35,7 @@ fn fiq_handler(
     statement: &[u8],
     profile: &Profile,
 ) -> Result<Handler, ReportFault>
-    ensures loops { (source : List ℕ) → Says source said.now
-        → IfOk result (λ h. HasLoops source statement.now profile.now h.statement h.graph) }
-    ensures formed { IfOk result (λ h. IsWellFormed h.graph) }
-    ensures tree { IfOk result (λ h. IsTreeOf h.graph h.statement.loops h.tree) }
+    ensures is { IfOk result (IsHandlerOf said.now statement.now profile.now) }
     ensures entry { IfOk result (λ h. h.statement.entry ≡ FIQ_VECTOR) }
     ensures fault { (source : List ℕ) → Says source said.now
         → IfErr result (BeforeOutput (IsFiqRefused source statement.now profile.now)) }

@@ -3,13 +3,12 @@
 ghost use Rattle.std.specs.Prelude.{◌≡◌, Ok, IfErr, IfOk, option_map};
 ghost use Rattle.bus_ticks.specs.declared.profile.Profile.{Profile};
 ghost use Rattle.explained.specs.Starts.{latest_at};
-ghost use Rattle.flow_graph.specs.Flow.{IsWellFormed};
 ghost use Rattle.loader.specs.Labels.{Names};
 ghost use Rattle.assembler.specs.Placed.{ArePlaced};
 ghost use Rattle.author_reports.specs.ExplainReport.{Explains, IsExplanation, IsImageText, IsSourceText};
 ghost use Rattle.author_reports.specs.ExplainReport.{IsTextOf, is_enough};
 ghost use Rattle.report_input.specs.Priced.{Priced};
-ghost use Rattle.report_input.specs.Report.{BeforeOutput, HasLoops, IsRefused, IsTreeOf};
+ghost use Rattle.report_input.specs.Report.{BeforeOutput, HasItsTree, HasLoops, IsRefused};
 ghost use Rattle.report_input.specs.Source.{IsSourceFault, source_of};
 
 use assembler::{PlacedLine, placed_lines};
@@ -21,7 +20,7 @@ use explained::{
 };
 use loader::{Image, is_image};
 use longest_walk::worst_starts;
-use report_input::{Handler, longest_of, profile_of, said_handler};
+use report_input::{Handler, graph_is_well_formed, longest_of, profile_of, said_handler};
 use report_output::{Output, ReportFault, print_answer};
 use savings::{image_savings, source_savings};
 use std::alloc::{AllocError, Global};
@@ -146,8 +145,7 @@ fn explanation_of(
     image: &Image,
     handler: &Handler,
 ) -> Result<Explanation, ReportFault>
-    requires formed { IsWellFormed handler.now.graph }
-    requires tree { IsTreeOf handler.now.graph handler.now.statement.loops handler.now.tree }
+    requires { HasItsTree handler.now }
     ensures explains { (names : Names)
         → source_of explained.entry.source.now ≡ Ok (image.now, names)
         → HasLoops explained.entry.source.now explained.entry.statement.now profile.now
@@ -163,6 +161,7 @@ fn explanation_of(
 {
     let found = longest_of(alloc, handler)?;
     let starts = worst_starts(alloc, &handler.graph, &handler.tree)?;
+    graph_is_well_formed(handler);
     places_are_listed_once();
     totals_are_the_bound();
     latest_starts_are_of_walks();

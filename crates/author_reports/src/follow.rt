@@ -1,7 +1,6 @@
 //! Whether a machine's run keeps the statement of its handler.
 
 ghost use Rattle.std.specs.Prelude.{◌≡◌, ℕ, IfErr, IfOk, Option, length, option_map};
-ghost use Rattle.flow_graph.specs.Flow.{IsWellFormed};
 ghost use Rattle.flow_graph.specs.Graph.{IsFlowGraph};
 ghost use Rattle.kept_runs.specs.Judging.{IsMachineFor};
 ghost use Rattle.longest_walk.specs.Longest.{IsLongest};
@@ -11,19 +10,21 @@ ghost use Rattle.author_reports.specs.FollowText.{IsLineNumberAt, strayed_text, 
 ghost use Rattle.author_reports.specs.FollowWork.{HasAllPlaces, IsJudgedRun, IsRefusalOf, IsReportOn};
 ghost use Rattle.author_reports.specs.FollowWork.{IsFollowedText, IsTallyText};
 ghost use Rattle.report_input.specs.Priced.{Priced};
-ghost use Rattle.report_input.specs.Report.{BeforeOutput, HasLoops, IsTreeOf};
+ghost use Rattle.report_input.specs.Report.{BeforeOutput, HasItsTree, HasLoops};
 ghost use Rattle.report_input.specs.Source.{IsSourceFault, Says};
 
 use crate::differences::{Words, differences};
 use crate::follow_text::{kept_text, line_number_at, strayed_text, why_text};
 use assembler::Assembly;
 use bus_ticks::Profile;
-use flow_graph::{Graph, run_law, step_law};
+use flow_graph::{run_law, step_law};
 use kept_runs::{AcceptedHandler, Followed, Passed, Unkept, follow};
 use loader::Image;
 use longest_walk::Longest;
 use machine_file::MachineFile;
-use report_input::{Handler, Placed, longest_of, place_image, profile_of, said_handler};
+use report_input::{
+    Handler, Placed, graph_is_well_formed, longest_of, place_image, profile_of, said_handler,
+};
 use report_output::{Output, ReportFault, print_answer};
 use std::alloc::Global;
 
@@ -127,13 +128,6 @@ fn judgement(
     }
 }
 
-// A graph is well formed.
-fn is_well_formed(graph: &Graph)
-    ensures { IsWellFormed graph.now }
-{
-    let _places = graph.places();
-}
-
 // The answer on the run of a machine that has all its words.
 fn judged_run(
     alloc: Global,
@@ -142,8 +136,7 @@ fn judged_run(
 ) -> Result<Judged, ReportFault>
     requires graph { IsFlowGraph bounded.image.now bounded.handler.now.statement
         bounded.handler.now.graph.profile bounded.handler.now.graph }
-    requires tree { IsTreeOf bounded.handler.now.graph bounded.handler.now.statement.loops
-        bounded.handler.now.tree }
+    requires tree { HasItsTree bounded.handler.now }
     requires longest { IsLongest bounded.handler.now.graph bounded.handler.now.tree bounded.longest.now }
     requires greatest { IsGreatestCost bounded.handler.now.graph bounded.handler.now.statement.loops
         bounded.longest.now.bound }
@@ -163,7 +156,7 @@ fn judged_run(
     };
     run_law();
     step_law();
-    is_well_formed(&bounded.handler.graph);
+    graph_is_well_formed(bounded.handler);
     let followed = follow(alloc, handler, &mut placed.machine, &inputs)?;
     judgement(alloc, bounded, &followed)
 }
@@ -186,7 +179,7 @@ fn handler_run(
     requires said { Says run.source.now said.now }
     requires loops { HasLoops run.source.now run.statement.now profile.now handler.now.statement
         handler.now.graph }
-    requires tree { IsTreeOf handler.now.graph handler.now.statement.loops handler.now.tree }
+    requires tree { HasItsTree handler.now }
     ensures judged { IfOk result (λ j. IsReportOn run.entry profile.now j.kept j.text.items) }
     ensures fault { IfErr result (BeforeOutput (IsRefusalOf run.entry profile.now)) }
 {

@@ -2,11 +2,10 @@
 
 ghost use Rattle.std.specs.Prelude.{◌≡◌, ℕ, List, Ok, IfErr, IfOk, option_map};
 ghost use Rattle.bus_ticks.specs.declared.profile.Profile.{Profile};
-ghost use Rattle.flow_graph.specs.Flow.{IsWellFormed};
 ghost use Rattle.loader.specs.Labels.{Names};
 ghost use Rattle.author_reports.specs.GraphReport.{AreLabelsOf, Draws, IsGraphReport};
 ghost use Rattle.report_input.specs.Priced.{Priced};
-ghost use Rattle.report_input.specs.Report.{BeforeOutput, HasLoops, IsRefused, IsTreeOf};
+ghost use Rattle.report_input.specs.Report.{BeforeOutput, HasItsTree, HasLoops, IsRefused};
 ghost use Rattle.report_input.specs.Source.{IsSourceFault, source_of};
 
 use assembler::placed_lines;
@@ -16,7 +15,7 @@ use dot_text::{
 };
 use flow_graph::Graph;
 use loader::{Image, is_image};
-use report_input::{Handler, longest_of, profile_of, said_handler};
+use report_input::{Handler, graph_is_well_formed, longest_of, profile_of, said_handler};
 use report_output::{Output, ReportFault, print_answer};
 use std::alloc::Global;
 
@@ -47,8 +46,7 @@ fn drawing_of(
     image: &Image,
     handler: &Handler,
 ) -> Result<Vec<u8>, ReportFault>
-    requires formed { IsWellFormed handler.now.graph }
-    requires tree { IsTreeOf handler.now.graph handler.now.statement.loops handler.now.tree }
+    requires { HasItsTree handler.now }
     ensures draws { (statement : List ℕ) (profile : Profile) (names : Names)
         → source_of source.now ≡ Ok (image.now, names)
         → HasLoops source.now statement profile handler.now.statement handler.now.graph
@@ -59,6 +57,7 @@ fn drawing_of(
         → IfErr result (BeforeOutput (IsRefused source.now statement profile)) }
 {
     let found = longest_of(alloc, handler)?;
+    graph_is_well_formed(handler);
     places_are_drawn_once();
     node_ticks_are_the_bound();
     let labels = labels_of(alloc, source, image, &handler.graph)?;

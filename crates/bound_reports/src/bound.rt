@@ -1,17 +1,16 @@
 ghost use Rattle.std.specs.Prelude.{IfErr, IfOk, OnOk, option_map};
-ghost use Rattle.flow_graph.specs.Flow.{IsWellFormed};
 ghost use Rattle.bound_reports.specs.Bound.{Reports};
 ghost use Rattle.certificate.specs.Lines.{cert_text, said_of};
 ghost use Rattle.report_input.specs.Priced.{Priced};
-ghost use Rattle.report_input.specs.Report.{BeforeOutput, IsAccepted, IsBoundReport, IsRefused, IsReport};
-ghost use Rattle.report_input.specs.Report.{IsTreeOf, OfHandler};
+ghost use Rattle.report_input.specs.Report.{BeforeOutput, HasItsTree, IsAccepted, IsBoundReport};
+ghost use Rattle.report_input.specs.Report.{IsRefused, IsReport, OfHandler};
 
 use bus_ticks::Profile;
 use cert_check::longest_gets_yes;
 use certificate::{print_cert, write_cert};
 use flow_graph::run_law;
 use longest_walk::Longest;
-use report_input::{Handler, longest_of, profile_of, read_handler};
+use report_input::{Handler, graph_is_well_formed, longest_of, profile_of, read_handler};
 use report_output::{Output, ReportFault};
 use std::alloc::Global;
 
@@ -33,8 +32,7 @@ fn read_longest(
 
 // The greatest walk of a handler that was read, whose certificate is judged yes.
 fn certified_longest(alloc: Global, handler: &Handler) -> Result<Longest, ReportFault>
-    requires formed { IsWellFormed handler.now.graph }
-    requires tree { IsTreeOf handler.now.graph handler.now.statement.loops handler.now.tree }
+    requires { HasItsTree handler.now }
     ensures report { OfHandler handler.now
         (λ source statement profile. IfOk result
         (λ found. IsBoundReport source statement profile handler.now.statement found.bound
@@ -45,6 +43,7 @@ fn certified_longest(alloc: Global, handler: &Handler) -> Result<Longest, Report
         (λ source statement profile. IfErr result (BeforeOutput (IsRefused source statement profile))) }
 {
     let found = longest_of(alloc, handler)?;
+    graph_is_well_formed(handler);
     run_law();
     longest_gets_yes();
     Ok(found)
@@ -63,8 +62,7 @@ pub struct BoundReport {
 ///
 /// Those of [`longest_of`].
 pub fn longest_report(alloc: Global, handler: &Handler) -> Result<BoundReport, ReportFault>
-    requires formed { IsWellFormed handler.now.graph }
-    requires tree { IsTreeOf handler.now.graph handler.now.statement.loops handler.now.tree }
+    requires { HasItsTree handler.now }
     ensures report { OfHandler handler.now
         (λ source statement profile. IfOk result
         (λ r. IsBoundReport source statement profile handler.now.statement r.bound r.text.items)) }

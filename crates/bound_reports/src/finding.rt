@@ -5,11 +5,10 @@ ghost use Rattle.bus_ticks.specs.declared.profile.Profile.{Profile};
 ghost use Rattle.cert_check.specs.Columns.{Ascends};
 ghost use Rattle.cert_check.specs.Failing.{IsFirstFailing};
 ghost use Rattle.cert_check.specs.Verdict.{objections};
-ghost use Rattle.flow_graph.specs.Flow.{IsWellFormed};
 ghost use Rattle.loop_bounds.specs.Tree.{IsTree};
 ghost use Rattle.bound_reports.specs.Check.{IsCheckRefused, IsCheckable};
 ghost use Rattle.bound_reports.specs.Found.{Finds, FindsRow, FindsVerdict, IsFound};
-ghost use Rattle.report_input.specs.Report.{BeforeOutput, IsTreeOf, OfHandler};
+ghost use Rattle.report_input.specs.Report.{BeforeOutput, HasItsTree, OfHandler};
 
 use crate::check::CheckInputs;
 use bus_ticks::Profile;
@@ -17,7 +16,7 @@ use cert_check::{CheckFault, FailingRow, Verdict, check, failing_row};
 use certificate::{Cert, read_cert};
 use flow_graph::Graph;
 use loop_bounds::LoopTree;
-use report_input::{Handler, read_handler};
+use report_input::{Handler, graph_is_well_formed, read_handler};
 use report_output::ReportFault;
 use std::alloc::Global;
 
@@ -80,8 +79,7 @@ pub(crate) fn found_of<F: Finding>(
 
 // The same, by a handler that was read.
 fn found_on<F: Finding>(alloc: Global, handler: &Handler, cert: &[u8]) -> Result<F, ReportFault>
-    requires formed { IsWellFormed handler.now.graph }
-    requires tree { IsTreeOf handler.now.graph handler.now.statement.loops handler.now.tree }
+    requires { HasItsTree handler.now }
     ensures found { OfHandler handler.now
         (λ source statement profile. IfOk result (IsFound F.says source statement cert.now profile)) }
     ensures fault { OfHandler handler.now
@@ -90,6 +88,7 @@ fn found_on<F: Finding>(alloc: Global, handler: &Handler, cert: &[u8]) -> Result
     ensures only { (source statement : List ℕ) (profile : Profile)
         → IsCheckable source statement cert.now profile → IfErr result (λ e. e ≡ ReportFault.Memory) }
 {
+    graph_is_well_formed(handler);
     let read = read_cert(alloc, cert)?;
     let found = F::find(alloc, &handler.graph, &handler.tree, &read)?;
     Ok(found)

@@ -1,6 +1,6 @@
 -- What is known of a source and a statement up to their tree of loops, and what their refusals say.
 use Rattle.std.proofs.Common.{◌≡◌, ◌≢◌, ◌∙◌, ◌⊎◌, ℕ, List, Result, Ok, Err, refl, sym, ap, subst, inl, inr}
-use Rattle.std.specs.Prelude.{IfErr}
+use Rattle.std.specs.Prelude.{IfErr, IfOk}
 use Rattle.std.specs.Result.{IsErrAnd}
 use Rattle.bus_ticks.specs.declared.profile.Profile.{Profile}
 use Rattle.loader.specs.Image.{Words}
@@ -20,8 +20,10 @@ use Rattle.loop_bounds.specs.Nest.{Applies, IsNestFault}
 use Rattle.loop_bounds.specs.declared.fault.NestFault.{NestFault}
 use Rattle.loop_bounds.specs.declared.fault.NestFault.TheVariants as nest_fault
 use Rattle.report_output.specs.Faults.{of_graph, of_loops, of_statement}
-use Rattle.report_input.specs.Report.{AreLoopsRefused, HasGraph, HasLoops, IsGraphRefused, IsHandlerRefused, IsStatementRefused}
-use Rattle.report_input.specs.Source.{IsSourceFault, Said, source_of}
+use Rattle.assembler.specs.declared.assembly.Assembly.{Assembly}
+use Rattle.report_input.specs.Report.{AreLoopsRefused, HasGraph, HasItsTree, HasLoops, IsGraphRefused, IsHandlerOf, IsHandlerRefused, IsStatementRefused}
+use Rattle.report_input.specs.Source.{IsSourceFault, Said, Says, source_of}
+use Rattle.report_input.specs.declared.handler.Handler.{Handler}
 use Rattle.report_output.specs.declared.fault.ReportFault.{ReportFault}
 use Rattle.report_output.specs.declared.fault.ReportFault.TheVariants.{Memory, Source, Image, Statement, Graph, Loops}
 use Rattle.report_output.specs.declared.fault.ReportFault.TheVariants as report_fault
@@ -63,6 +65,12 @@ graph_there source statement profile words names st flow said read allowed is = 
   no_fault = allowed;
   graph_is = is;
 }
+
+-- loops by each source that says this, and the tree, are the handler
+pub handler_is : (r : Result Handler ReportFault) (said : Assembly) (statement : List ℕ) (profile : Profile) → ((source : List ℕ) → Says source said → IfOk r (λ h. HasLoops source statement profile h.statement h.graph))
+    → IfOk r HasItsTree → IfOk r (IsHandlerOf said statement profile)
+handler_is (Ok h) said statement profile loops tree = record { loops = loops; tree = tree }
+handler_is (Err e) said statement profile loops tree = tt
 
 -- a refusal of the loops says what applies
 applies : (flow : Flow) (loops : List Loop) (f : NestFault) → IsNestFault flow loops f → Applies flow loops f

@@ -2,6 +2,7 @@
 -- none.
 use Rattle.std.specs.Prelude.{◌≡◌, ◌≢◌, ◌↔◌, ℕ, List, Ok, Err, Contains}
 use Rattle.bus_ticks.specs.declared.profile.Profile.{Profile}
+use Rattle.assembler.specs.declared.assembly.Assembly.{Assembly}
 use Rattle.loader.specs.Image.{Words}
 use Rattle.flow_graph.specs.declared.edges.Edge.{Edge}
 use Rattle.flow_graph.specs.Flow.{Flow, edge_shape}
@@ -32,7 +33,7 @@ use Rattle.certificate.specs.declared.cert.Cert.{Cert}
 use Rattle.cert_check.specs.Verdict.{IsVerdict}
 use Rattle.cert_check.specs.declared.verdict.Verdict.TheVariants.{Yes}
 use Rattle.report_input.specs.Keeping.{BoundsRuns}
-use Rattle.report_input.specs.Source.{IsSourceFault, source_of}
+use Rattle.report_input.specs.Source.{IsSourceFault, Says, source_of}
 use Rattle.report_input.specs.declared.handler.Handler.{Handler}
 use Rattle.report_output.specs.declared.fault.ReportFault.{ReportFault}
 use Rattle.report_output.specs.declared.fault.ReportFault.TheVariants as report_fault
@@ -79,6 +80,17 @@ OfHandler handler Holds =
 pub record IsTreeOf (flow : Flow) (loops : List Loop) (tree : Tree) : Type 0 where
   pub tree_is : IsTree flow tree
   pub instances : (i : Instance) → Contains tree.instances i ↔ IsInstance flow loops i
+
+-- its tree is of its graph and the loops of its statement
+abbrev pub HasItsTree : Handler → Type 0
+HasItsTree handler = IsTreeOf handler.graph handler.statement.loops handler.tree
+
+-- it is the handler of each source that says this, and of the statement
+pub record IsHandlerOf (said : Assembly) (statement : List ℕ) (profile : Profile)
+    (handler : Handler) : Type 0 where
+  pub loops : (source : List ℕ) → Says source said
+      → HasLoops source statement profile handler.statement handler.graph
+  pub tree : HasItsTree handler
 
 -- and none of the walk
 pub record IsAccepted (source statement : List ℕ) (profile : Profile) : Type 0 where

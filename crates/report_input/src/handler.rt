@@ -6,8 +6,8 @@ ghost use Rattle.loop_bounds.specs.Bounds.{IsGreatestCost};
 ghost use Rattle.numbered_walks.specs.declared.fault.WalkFault.{WalkFault};
 ghost use Rattle.statement.specs.Statement.{IsStatement};
 ghost use Rattle.report_input.specs.Priced.{HasNoProfile, IsProfile};
-ghost use Rattle.report_input.specs.Report.{BeforeOutput, HasLoops, IsHandlerRefused, IsRefused};
-ghost use Rattle.report_input.specs.Report.{IsTreeOf, OfHandler};
+ghost use Rattle.report_input.specs.Report.{BeforeOutput, HasItsTree, HasLoops, IsHandlerOf};
+ghost use Rattle.report_input.specs.Report.{IsHandlerRefused, IsRefused, OfHandler};
 ghost use Rattle.report_input.specs.Source.{IsSourceFault, Says};
 
 use assembler::{Assembly, assemble};
@@ -86,9 +86,7 @@ pub fn said_handler(
     ensures said { IfOk result (λ r. Says source.now r.said) }
     ensures loops { IfOk result
         (λ r. HasLoops source.now statement.now profile.now r.handler.statement r.handler.graph) }
-    ensures formed { IfOk result (λ r. IsWellFormed r.handler.graph) }
-    ensures tree { IfOk result
-        (λ r. IsTreeOf r.handler.graph r.handler.statement.loops r.handler.tree) }
+    ensures tree { IfOk result (λ r. HasItsTree r.handler) }
     ensures fault { IfErr result (IsHandlerRefused source.now statement.now profile.now) }
 {
     let said = read_source(alloc, source)?;
@@ -108,8 +106,7 @@ pub fn read_handler(
     profile: &Profile,
 ) -> Result<Handler, ReportFault>
     ensures loops { IfOk result (λ h. HasLoops source.now statement.now profile.now h.statement h.graph) }
-    ensures formed { IfOk result (λ h. IsWellFormed h.graph) }
-    ensures tree { IfOk result (λ h. IsTreeOf h.graph h.statement.loops h.tree) }
+    ensures tree { IfOk result HasItsTree }
     ensures fault { IfErr result (IsHandlerRefused source.now statement.now profile.now) }
 {
     let read = said_handler(alloc, source, statement, profile)?;
@@ -127,10 +124,7 @@ pub fn handler_of(
     statement: &[u8],
     profile: &Profile,
 ) -> Result<Handler, ReportFault>
-    ensures loops { (source : List ℕ) → Says source said.now
-        → IfOk result (λ h. HasLoops source statement.now profile.now h.statement h.graph) }
-    ensures formed { IfOk result (λ h. IsWellFormed h.graph) }
-    ensures tree { IfOk result (λ h. IsTreeOf h.graph h.statement.loops h.tree) }
+    ensures is { IfOk result (IsHandlerOf said.now statement.now profile.now) }
     ensures fault { (source : List ℕ) → Says source said.now
         → IfErr result (IsHandlerRefused source statement.now profile.now) }
 {
@@ -152,8 +146,7 @@ pub fn stated_handler(
     ensures loops { (source text : List ℕ) → Says source said.now
         → IsStatement text (address_of said.now.labels) (Ok statement)
         → IfOk result (λ h. HasLoops source text profile.now h.statement h.graph) }
-    ensures formed { IfOk result (λ h. IsWellFormed h.graph) }
-    ensures tree { IfOk result (λ h. IsTreeOf h.graph h.statement.loops h.tree) }
+    ensures tree { IfOk result HasItsTree }
     ensures same { IfOk result (λ h. h.statement ≡ statement) }
     ensures fault { (source text : List ℕ) → Says source said.now
         → IsStatement text (address_of said.now.labels) (Ok statement)
@@ -168,6 +161,13 @@ pub fn stated_handler(
     })
 }
 
+/// States that a handler's graph is well formed. It does nothing.
+pub fn graph_is_well_formed(handler: &Handler)
+    ensures { IsWellFormed handler.now.graph }
+{
+    let _places = handler.graph.places();
+}
+
 /// The greatest of a handler's walks.
 ///
 /// # Errors
@@ -175,7 +175,7 @@ pub fn stated_handler(
 /// `Walk` with `NoCompleteWalk` where no walk leads to Exit, else with `BoundTooLarge` where a walk that
 /// keeps the bounds costs 2^63 ticks or more, wherever it ends. `Memory`: an allocation failed.
 pub fn longest_of(alloc: Global, handler: &Handler) -> Result<Longest, ReportFault>
-    requires { IsTreeOf handler.now.graph handler.now.statement.loops handler.now.tree }
+    requires { HasItsTree handler.now }
     ensures longest { IfOk result (IsLongest handler.now.graph handler.now.tree) }
     ensures greatest { IfOk result
         (λ l. IsGreatestCost handler.now.graph handler.now.statement.loops l.bound) }

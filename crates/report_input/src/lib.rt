@@ -6,7 +6,7 @@ mod handler;
 mod placing;
 
 pub use handler::{
-    Handler, SaidHandler, handler_of, longest_of, profile_of, read_handler, read_source,
-    said_handler, stated_handler,
+    Handler, SaidHandler, graph_is_well_formed, handler_of, longest_of, profile_of, read_handler,
+    read_source, said_handler, stated_handler,
 };
 pub use placing::{Placed, place, place_image};

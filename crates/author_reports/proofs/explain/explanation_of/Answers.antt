@@ -24,7 +24,7 @@ returns-in_err-starts-clause-fault c = λ names said loops.
     let h = c.args.handler.now in
     let f = c.in_err-starts.field-0.0 in
     refused_as c.from_residual-in_err-starts.result (of_walk f) (BeforeOutput (IsRefused source statement profile)) c.from_residual-in_err-starts.ensures.1
-    (walk_refusal source statement profile h.statement h.graph h.tree loops c.requires.tree f c.in_err-starts.ensures.fault)
+    (walk_refusal source statement profile h.statement h.graph h.tree loops c.requires f c.in_err-starts.ensures.fault)
 
 pub returns-in_err-text-clause-fault : goal.returns-in_err-text-clause-fault
 returns-in_err-text-clause-fault c = λ names said loops.
@@ -44,7 +44,7 @@ returns-clause-explains c = λ names said loops.
     let found = c.in_ok-found.found in
     let words = loops.graph.words in
     let walk = c.in_ok-found.ensures.longest.walk_is in
-    let formed = c.requires.formed in
+    let formed = c.graph_is_well_formed.ensures in
     let fits = bound_fits h.graph h.tree found c.in_ok-found.ensures.longest in
     let on = c.places_are_listed_once.ensures.words words h.statement profile h.graph loops.graph.graph_is loops.graph.no_fault in
     let total : IsTotal source words h.graph found = record {
@@ -57,6 +57,6 @@ returns-clause-explains c = λ names said loops.
           (text_was_assembled source words loops.graph.names is loops.graph.source_is) stand on);
     } in
     let starts = subst (AreWorstStarts h.graph h.tree) (sym c.deref.ensures.value) c.in_ok-starts.ensures.starts in
-    explained source statement profile c.args.image.now names said h.statement h.graph h.tree loops c.requires.tree
+    explained source statement profile c.args.image.now names said h.statement h.graph h.tree loops c.requires
     c.args.explained.bursts found (latest_at h.graph.places c.deref.result.now) c.in_ok-text.text.items c.in_ok-found.ensures.longest
     (λ a. c.latest_starts_are_of_walks.ensures h.graph h.tree c.deref.result.now a formed starts) c.in_ok-found.ensures.allowed c.in_ok-text.ensures.text total

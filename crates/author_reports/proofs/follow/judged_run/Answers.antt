@@ -28,6 +28,6 @@ returns-clause-judged c =
     (λ j text. record {
       inputs = inputs;
       inputs_are = c.in_ok-inputs.ensures;
-      is_text = run_text b.image.now h.statement h.graph h.tree c.requires.tree b.source.now b.longest.now start inputs c.is_well_formed.ensures c.step_law.ensures.cost c.run_law.ensures c.requires.longest c.requires.greatest after f j.kept j.text.items is text;
+      is_text = run_text b.image.now h.statement h.graph h.tree c.requires.tree b.source.now b.longest.now start inputs c.graph_is_well_formed.ensures c.step_law.ensures.cost c.run_law.ensures c.requires.longest c.requires.greatest after f j.kept j.text.items is text;
     })
     c.judgement.ensures.text

@@ -2,7 +2,7 @@ use Rattle.std.proofs.Common.{rules}
 use Rattle.loader.specs.Labels.{address_of}
 use Rattle.report_output.specs.Faults.{of_statement}
 use Rattle.report_input.specs.Report.{IsHandlerRefused}
-use Rattle.report_input.proofs.HandlerLemmas.{refused_as, statement_refusal}
+use Rattle.report_input.proofs.HandlerLemmas.{handler_is, refused_as, statement_refusal}
 use Rattle.report_input.proofs.handler.handler_of.Goals as goal
 
 pub returns-in_err-statement-clause-fault : goal.returns-in_err-statement-clause-fault
@@ -12,12 +12,11 @@ returns-in_err-statement-clause-fault c = λ source is.
     refused_as c.from_residual.result (of_statement f) (IsHandlerRefused source c.args.statement.now c.args.profile.now) c.from_residual.ensures.1
     (statement_refusal source c.args.statement.now c.args.profile.now said.image (address_of said.labels) is f (search rules))
 
-pub returns : goal.returns
-returns c =
-    let read = c.in_ok-statement.ensures (λ e. cc e) in
-    record {
-      loops = λ source is. c.stated_handler.ensures.loops source c.args.statement.now is read;
-      formed = c.stated_handler.ensures.formed;
-      tree = c.stated_handler.ensures.tree;
-      fault = λ source is. c.stated_handler.ensures.fault source c.args.statement.now is read;
-    }
+pub returns-clause-is : goal.returns-clause-is
+returns-clause-is c =
+    handler_is c.stated_handler.result c.args.said.now c.args.statement.now c.args.profile.now
+    (λ source is. c.stated_handler.ensures.loops source c.args.statement.now is (c.in_ok-statement.ensures (λ e. cc e))) c.stated_handler.ensures.tree
+
+pub returns-clause-fault : goal.returns-clause-fault
+returns-clause-fault c = λ source is.
+    c.stated_handler.ensures.fault source c.args.statement.now is (c.in_ok-statement.ensures (λ e. cc e))

@@ -14,4 +14,4 @@ returns-in_err-handler-clause-fault c =
     c.from_residual-in_err-handler.ensures.1 (c.in_err-handler.ensures.fault c.args.source.now c.in_ok-said.ensures.said)
 
 pub returns-clause-loops : goal.returns-clause-loops
-returns-clause-loops c = c.in_ok-handler.ensures.loops c.args.source.now c.in_ok-said.ensures.said
+returns-clause-loops c = c.in_ok-handler.ensures.is.loops c.args.source.now c.in_ok-said.ensures.said

@@ -1,6 +1,5 @@
-use Rattle.std.proofs.Common.{rules, subst}
+use Rattle.std.proofs.Common.{rules}
 use Rattle.loader.specs.Labels.{address_of}
-use Rattle.flow_graph.specs.Flow.{IsWellFormed}
 use Rattle.report_output.specs.Faults.{of_graph, of_loops}
 use Rattle.report_input.specs.Report.{IsHandlerRefused}
 use Rattle.report_input.proofs.HandlerLemmas.{graph_refusal, graph_there, loops_refusal, refused_as}
@@ -28,6 +27,3 @@ returns-clause-loops c = λ source text is read.
       graph = graph_there source text c.args.profile.now said.image (address_of said.labels) c.args.statement c.in_ok-graph.graph is read c.in_ok-graph.ensures.allowed c.in_ok-graph.ensures.graph;
       no_fault = c.in_ok-tree.ensures.allowed;
     }
-
-pub returns-clause-formed : goal.returns-clause-formed
-returns-clause-formed c = subst IsWellFormed c.graph.view_is c.graph.invariant
