@@ -1,7 +1,7 @@
 //! Runs of the program over files and a standard input that are too long or fail.
 
 use crate::files::{File, Files, line};
-use arcwcet::{LIMIT, MemoryOutput, ReportFault, program};
+use arcwcet::{MOST_INPUT_BYTES, MemoryOutput, ReportFault, program};
 use samples::countdown;
 use std::alloc::Global;
 use std::io;
@@ -14,26 +14,26 @@ const NO_SOURCE: File = (b"frob", 0);
 
 const RETURN: File = (b" SUBS PC,R14,#4 ;", 0);
 
-const LONG_RETURN: File = (b" SUBS PC,R14,#4 ;", LIMIT);
+const LONG_RETURN: File = (b" SUBS PC,R14,#4 ;", MOST_INPUT_BYTES);
 
 const ENTRY: File = (b"entry = 0x8000 #", 0);
 
-const LONG_ENTRY: File = (b"entry = 0x8000 #", LIMIT);
+const LONG_ENTRY: File = (b"entry = 0x8000 #", MOST_INPUT_BYTES);
 
 // By the numbers of the first cycle profile.
 const LONG_PROFILE: File = (
     b"n=2\ns=1\nquad=2\nrom=[4,3,2,2]\nio=[8,6,5,10]\ncontrol=2\nunfitted=2\ninternal=1\nburst=6#",
-    LIMIT,
+    MOST_INPUT_BYTES,
 );
 
 const MACHINE: File = (countdown::MACHINE, 0);
 
 const LONG_MACHINE: File = (
     b"steps = 8\npc = 0x8000\nmode = \"irq\"\nregisters.r14_irq = 0x1010 #",
-    LIMIT,
+    MOST_INPUT_BYTES,
 );
 
-const TOO_LONG: File = (b"#", LIMIT + 1);
+const TOO_LONG: File = (b"#", MOST_INPUT_BYTES + 1);
 
 const NONE: File = (b"", 0);
 
@@ -66,7 +66,7 @@ type Input = (u8, usize, Option<ErrorKind>, usize);
 
 const NOTHING: Input = (b'\n', 0, None, 0);
 
-const LONG: Input = (b'x', LIMIT, None, 0);
+const LONG: Input = (b'x', MOST_INPUT_BYTES, None, 0);
 
 const FAILS: Input = (b'\n', 0, Some(ErrorKind::Other), 0);
 
@@ -76,7 +76,7 @@ const FAILS_LATER: Input = (b'\n', 4096, Some(ErrorKind::Other), 0);
 const INTERRUPTED: Input = (b'\n', 8192, Some(ErrorKind::Interrupted), 0);
 
 // A byte more than the limit is read.
-const ENDLESS: Input = (b'\n', usize::MAX, None, usize::MAX - LIMIT - 1);
+const ENDLESS: Input = (b'\n', usize::MAX, None, usize::MAX - MOST_INPUT_BYTES - 1);
 
 const BOUND: &[&str] = &["bound"];
 

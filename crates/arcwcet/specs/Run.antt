@@ -1,6 +1,6 @@
 -- What a run of the program does, by its exit status.
-use Rattle.std.specs.Prelude.{◌≡◌, ◌≢◌, ◌⊎◌, ◌≤◌, ℕ, Bool, true, false, if◌then◌else◌, List, [], ◌∷◌, length}
-use Rattle.std.specs.Prelude.{Option, Some, None, Result, Ok, Err}
+use Rattle.std.specs.Prelude.{◌≡◌, ◌≢◌, ◌⊎◌, ◌+◌, ◌≤◌, ℕ, Bool, true, false, if◌then◌else◌, List, [], ◌∷◌}
+use Rattle.std.specs.Prelude.{length, Option, Some, None, Result, Ok, Err}
 use Rattle.std.specs.Io.KnownBytes.{Appends, Consumes, IsAtEnd}
 use Rattle.report_output.specs.Answers.{FailsWithin, OfSome, Prints, PrintsOrRefuses}
 use Rattle.machine_reports.specs.Assembly.{IsAsmReport, IsSourceRefused, IsWritten}
@@ -26,6 +26,7 @@ use Rattle.bus_ticks.specs.declared.profile.Profile.{Profile}
 use Rattle.explained.specs.declared.bursts.Bursts.{Bursts}
 use Rattle.report_output.specs.declared.fault.ReportFault.{ReportFault}
 use Rattle.report_output.specs.declared.fault.ReportFault.TheVariants as report_fault
+use Rattle.arcwcet.specs.declared.files.TheConstants.{MOST_INPUT_BYTES}
 use Rattle.arcwcet.specs.declared.fault.StoreFault.{StoreFault}
 use Rattle.arcwcet.specs.declared.fault.StoreFault.TheVariants as store_fault
 
@@ -288,7 +289,7 @@ module _ {S I : Type 0} (reads : Reading S) (remaining : I → Option (List ℕ)
     pub read : ReadsAll reads old names files new
     pub consumed : Consumes (remaining input_old) (remaining input_new) commands
     pub at_end : IsAtEnd (remaining input_new)
-    pub few : length commands ≤ 16777216
+    pub few : length commands ≤ MOST_INPUT_BYTES
 
   -- a file could not be read, and standard input was not
   pub record FailsBeforeInput (status : ℕ) : Type 0 where
@@ -304,7 +305,7 @@ module _ {S I : Type 0} (reads : Reading S) (remaining : I → Option (List ℕ)
     pub fault : StoreFault
     pub status_is : status ≡ store_status fault
     pub too_long : fault ≡ store_fault.InputTooLong
-        → (front : List ℕ) × (length front ≡ 16777217)
+        → (front : List ℕ) × (length front ≡ MOST_INPUT_BYTES + 1)
         × Consumes (remaining input_old) (remaining input_new) front
 
 module _ {S I O : Type 0} (reads : Reading S) (remaining : I → Option (List ℕ))

@@ -53,8 +53,9 @@ fn obey<S: Store, I: Read, O: Output, E: Output>(
 ///
 /// A refusal is one line on `err`, after which `explain` alone prints what shows why; failures of `err`
 /// change no status. The work begins once everything is read: a cycle profile's file, the others as the
-/// words name them, then for `debug` alone standard input, each up to [`LIMIT`](crate::LIMIT) bytes; a longer
-/// one is refused with status 1. No memory is taken once the words are refused.
+/// words name them, then for `debug` alone standard input, each up to
+/// [`MOST_INPUT_BYTES`](crate::MOST_INPUT_BYTES); a longer one is refused with status 1. No memory is taken
+/// once the words are refused.
 pub fn program<S: Store, I: Read, O: Output, E: Output>(
     alloc: Global,
     words: &[String],

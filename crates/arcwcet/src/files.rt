@@ -22,7 +22,7 @@ pub trait Store {
     /// What a read of a name may return, and the store after it; the default says nothing.
     ghost read_gives: { Reading Self } = { λ _ _ _ _. Unit {0} };
 
-    /// The file's bytes, of which there are at most [`LIMIT`].
+    /// The file's bytes, of which there are at most [`MOST_INPUT_BYTES`].
     ///
     /// # Errors
     ///
@@ -30,7 +30,7 @@ pub trait Store {
     /// allocation failed.
     fn read(&mut self, alloc: Global, name: &str) -> Result<Vec<u8>, StoreFault>
         ensures gives { read_gives self.old name.now (bytes_read result) self.new }
-        ensures limit { IfOk result (λ v. vec_len v ≤ LIMIT) };
+        ensures limit { IfOk result (λ v. vec_len v ≤ MOST_INPUT_BYTES) };
 
     /// What a write of bytes to a name may return, and the store after it; the default says nothing.
     ghost write_gives: { Writing Self } = { λ _ _ _ _ _. Unit {0} };
@@ -122,8 +122,8 @@ fn remove_part<R: Files>(rt: &R, name: &str) {
     }
 }
 
-/// The greatest length of an input, in bytes.
-pub const LIMIT: usize = 16_777_216;
+/// How many bytes an input has at most, a file or what standard input has left.
+pub const MOST_INPUT_BYTES: usize = 16_777_216;
 
 // How many bytes are asked for at once.
 const CHUNK: usize = 4096;
@@ -135,17 +135,18 @@ const CHUNK: usize = 4096;
 /// `InputTooLong`: more than 16,777,216 bytes are left, of which 16,777,217 were then read. `Device`: a read
 /// failed. `Memory`: an allocation failed.
 pub fn read_limited<R: Read>(alloc: Global, reader: &mut R) -> Result<Vec<u8>, StoreFault>
-    ensures limit { IfOk result (λ v. vec_len v ≤ LIMIT) }
+    ensures limit { IfOk result (λ v. vec_len v ≤ MOST_INPUT_BYTES) }
     ensures consumed { IfOk result (λ v. Consumes (R.remaining reader.old) (R.remaining reader.new) v.items) }
     ensures at_end { OnOk result (IsAtEnd (R.remaining reader.new)) }
     ensures whole { IfOk result (λ v. IfSome (R.remaining reader.old) (λ xs. v.items ≡ xs)) }
-    ensures too_long { IsErrOf result StoreFault.InputTooLong → (front : List ℕ) × (length front ≡ LIMIT + 1)
+    ensures too_long { IsErrOf result StoreFault.InputTooLong
+        → (front : List ℕ) × (length front ≡ MOST_INPUT_BYTES + 1)
         × Consumes (R.remaining reader.old) (R.remaining reader.new) front }
 {
     let mut bytes = Vec::new(alloc);
     let mut chunk = [0u8; CHUNK];
-    while bytes.len() <= LIMIT {
-        let want = (LIMIT + 1 - bytes.len()).min(CHUNK);
+    while bytes.len() <= MOST_INPUT_BYTES {
+        let want = (MOST_INPUT_BYTES + 1 - bytes.len()).min(CHUNK);
         let part = &mut chunk[..want];
         let n = match reader.read(part) {
             Ok(n) => n,

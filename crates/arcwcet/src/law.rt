@@ -1,6 +1,14 @@
+ghost use Rattle.std.specs.Prelude.{◌≡◌};
 ghost use Rattle.bus_ticks.specs.declared.profile.Profile.{Profile};
 ghost use Rattle.report_input.specs.Keeping.{HasKeptRun};
 ghost use Rattle.arcwcet.specs.Visits.{HasVisitedRun};
+
+use crate::files::MOST_INPUT_BYTES;
+
+/// States how many bytes an input has at most: 16,777,216. It does nothing.
+pub fn input_limit()
+    ensures { MOST_INPUT_BYTES ≡ 16777216 }
+{}
 
 /// States that runs can keep statements: by each cycle profile some run does, of a handler that returns at
 /// once. So what a report says of every run that keeps the statement is not said of none. It does nothing.

@@ -20,8 +20,8 @@ pub use bound_reports::{
 pub use commands::program;
 pub use explained::Bursts;
 pub use fault::{FileFault, StoreFault};
-pub use files::{HostStore, LIMIT, Store, read_limited};
-pub use law::{some_run_has_visits, some_run_keeps};
+pub use files::{HostStore, MOST_INPUT_BYTES, Store, read_limited};
+pub use law::{input_limit, some_run_has_visits, some_run_keeps};
 pub use machine_file::{MachineFile, read_machine, read_profile};
 pub use machine_reports::{
     asm_report, debug_report, list_report, run_report, tight_report, trace_report,

@@ -2,7 +2,7 @@ ghost use Rattle.std.specs.Prelude.{◌≡◌, ◌≢◌, ◌⊎◌};
 ghost use Rattle.arcwcet.specs.Run.{answer_status, report_status, store_status};
 
 use crate::fault::StoreFault;
-use crate::files::{LIMIT, Store, Unread};
+use crate::files::{MOST_INPUT_BYTES, Store, Unread};
 use command_line::CommandLineFault;
 use report_output::{Output, ReportFault, write_whole};
 use std::fmt;
@@ -68,7 +68,7 @@ fn print_unread<S: Store, E: Output>(name: &str, fault: StoreFault, store: &S, e
             let _ = writeln!(text, "{name}: {why}");
         }
         StoreFault::InputTooLong => {
-            let _ = writeln!(text, "{name}: more than {LIMIT} bytes");
+            let _ = writeln!(text, "{name}: more than {MOST_INPUT_BYTES} bytes");
         }
     }
 }
