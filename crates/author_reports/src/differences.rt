@@ -98,7 +98,7 @@ impl Numbers {
 }
 
 impl RunTally {
-    fn at(&self, address: u32) -> Numbers
+    fn tallied(&self, address: u32) -> Numbers
         ensures { result ≡ tallied self.now address }
     {
         self.by_address
@@ -114,7 +114,7 @@ impl RunTally {
         let Place::At(_, address) = place else {
             return Ok(());
         };
-        let more = self.at(*address).with_place(passed);
+        let more = self.tallied(*address).with_place(passed);
         self.by_address.insert(*address, more)?;
         Ok(())
     }
@@ -143,7 +143,7 @@ impl Compared {
 }
 
 impl Tallies<'_> {
-    fn at(self, address: u32) -> Compared
+    fn compared_in(self, address: u32) -> Compared
         ensures { result ≡ compared_in self.entry.run.now self.entry.walk.now address }
     {
         let bound = match self.walk.at(address) {
@@ -154,7 +154,7 @@ impl Tallies<'_> {
             None => Numbers::NONE,
         };
         Compared {
-            run: self.run.at(address),
+            run: self.run.tallied(address),
             bound,
         }
     }
@@ -181,7 +181,7 @@ impl WordRows for Tallies<'_> {
     ghost word_row = { λ t. row_if_apart (compared_in t.run.now t.walk.now) };
 
     fn put(&self, out: &mut Vec<u8>, line: NumberedLine<'_>, at: u32) -> Result<(), AllocError> {
-        let compared = self.at(at);
+        let compared = self.compared_in(at);
         if compared.agree() {
             return Ok(());
         }
@@ -197,7 +197,7 @@ fn put_word(out: &mut Vec<u8>, tallies: Tallies<'_>, at: u32, word: u32) -> Resu
         (Appends (IsRowIfApart (compared_in tallies.entry.run.now tallies.entry.walk.now) (at, word))
         out.old.items out.new.items) }
 {
-    let compared = tallies.at(at);
+    let compared = tallies.compared_in(at);
     if compared.agree() {
         return Ok(());
     }

@@ -8,7 +8,7 @@ use report_input::profile_of;
 use report_output::{Output, ReportFault, print_answer};
 use std::alloc::Global;
 
-fn objected(objection: Objection) -> &'static [u8]
+fn objection_line(objection: Objection) -> &'static [u8]
     ensures { result.now ≡ objection_line objection }
 {
     match objection {
@@ -26,12 +26,12 @@ fn objected(objection: Objection) -> &'static [u8]
 }
 
 /// The line of a verdict, with its end.
-pub(crate) fn line_of(verdict: Verdict) -> &'static [u8]
+pub(crate) fn verdict_line(verdict: Verdict) -> &'static [u8]
     ensures { result.now ≡ verdict_line verdict }
 {
     match verdict {
         Verdict::Yes => b"yes\n",
-        Verdict::No(objection) => objected(objection),
+        Verdict::No(objection) => objection_line(objection),
     }
 }
 
@@ -83,5 +83,5 @@ pub fn check_report<O: Output>(
         cert,
     };
     let verdict: Verdict = found_of(alloc, inputs, &profile)?;
-    print_answer(is_yes(verdict), line_of(verdict), out)
+    print_answer(is_yes(verdict), verdict_line(verdict), out)
 }

@@ -4,7 +4,7 @@ ghost use Rattle.report_input.specs.Priced.{Priced};
 ghost use Rattle.bound_reports.specs.Check.{verdict_line};
 ghost use Rattle.bound_reports.specs.Verdict.{ExplainsVerdict, row_text};
 
-use crate::check::{CheckInputs, line_of};
+use crate::check::{CheckInputs, verdict_line};
 use crate::finding::found_of;
 use cert_check::{FailingRow, Verdict, objection_of};
 use objections::objection_text;
@@ -18,9 +18,9 @@ fn text_of(alloc: Global, row: &Option<FailingRow>) -> Result<Vec<u8>, AllocErro
         (λ text. text.items ≡ verdict_line (verdict_of row.now) ++ row_text row.now) }
 {
     let Some(row) = row else {
-        return Vec::from_slice(alloc, line_of(Verdict::Yes));
+        return Vec::from_slice(alloc, verdict_line(Verdict::Yes));
     };
-    let mut text = Vec::from_slice(alloc, line_of(Verdict::No(objection_of(row))))?;
+    let mut text = Vec::from_slice(alloc, verdict_line(Verdict::No(objection_of(row))))?;
     let what = objection_text(alloc, row)?;
     text.extend_from_slice(&what)?;
     Ok(text)

@@ -17,7 +17,7 @@ pub struct Written {
 }
 
 /// The line that says an image's size.
-pub(crate) fn size_line(alloc: Global, image: &Image) -> Result<String, AllocError>
+pub(crate) fn size_text(alloc: Global, image: &Image) -> Result<String, AllocError>
     ensures { IfOk result (λ line. string_bytes line ≡ size_text image.now) }
 {
     let words = image.words();
@@ -39,7 +39,7 @@ pub fn image_written(alloc: Global, source: &[u8]) -> Result<Written, ReportFaul
     let Ok(bytes) = write_image(alloc, &image) else {
         return Err(ReportFault::Memory);
     };
-    let line = size_line(alloc, &image)?;
+    let line = size_text(alloc, &image)?;
     Ok(Written { bytes, line })
 }
 

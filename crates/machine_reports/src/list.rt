@@ -5,7 +5,7 @@ ghost use Rattle.machine_reports.specs.ListReport.{AreRows, IsListReport};
 ghost use Rattle.report_input.specs.Report.{BeforeOutput};
 ghost use Rattle.report_input.specs.Source.{IsSourceFault};
 
-use crate::assembly::size_line;
+use crate::assembly::size_text;
 use assembler::placed_lines;
 use listing::{list_image, list_source};
 use loader::{Image, is_image};
@@ -35,7 +35,7 @@ fn list_text(alloc: Global, source: &[u8]) -> Result<Vec<u8>, ReportFault>
 {
     let image = read_source(alloc, source)?.image;
     let mut text = rows_of(alloc, source, &image)?;
-    let size = size_line(alloc, &image)?;
+    let size = size_text(alloc, &image)?;
     text.extend_from_slice(size.as_bytes())?;
     Ok(text)
 }

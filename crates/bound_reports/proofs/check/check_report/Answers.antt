@@ -18,6 +18,6 @@ returns g c =
     let v = c.in_ok-verdict.verdict in
     let is = judged source statement cert profile v c.in_ok-verdict.ensures.found in
     by_profile profile c.in_ok-profile.ensures.is
-    (ends_printed _ _ _ _ _ c.args.out.now c.print_answer.new.out c.is_yes.result c.line_of.result.now c.print_answer.result
-    (record { verdict = v; judged = is; answer_is = c.is_yes.ensures; line_is = c.line_of.ensures })
+    (ends_printed _ _ _ _ _ c.args.out.now c.print_answer.new.out c.is_yes.result c.verdict_line.result.now c.print_answer.result
+    (record { verdict = v; judged = is; answer_is = c.is_yes.ensures; line_is = c.verdict_line.ensures })
     (checkable source statement cert profile v is) tt c.print_answer.ensures.printed c.print_answer.ensures.device)
