@@ -62,9 +62,9 @@ struct Tallies<'a> {
     walk: &'a Tally,
 }
 
-/// A handler's source and its words.
+/// A handler's source and its image.
 #[derive(Clone, Copy)]
-pub(crate) struct Words<'a> {
+pub(crate) struct SourceAndImage<'a> {
     pub(crate) source: &'a [u8],
     pub(crate) image: &'a Image,
 }
@@ -221,19 +221,23 @@ fn image_rows(alloc: Global, tallies: Tallies<'_>, image: &Image) -> Result<Vec<
 }
 
 // The table by the tallies.
-fn table_by(alloc: Global, words: Words<'_>, tallies: Tallies<'_>) -> Result<Vec<u8>, ReportFault>
+fn table_by(
+    alloc: Global,
+    program: SourceAndImage<'_>,
+    tallies: Tallies<'_>,
+) -> Result<Vec<u8>, ReportFault>
     ensures table { IfOk result
-        (λ text. IsTable words.entry.source.now words.entry.image.now
+        (λ text. IsTable program.entry.source.now program.entry.image.now
         (compared_in tallies.entry.run.now tallies.entry.walk.now) text.items) }
-    ensures fault { IfErr result (IsSourceFault words.entry.source.now) }
+    ensures fault { IfErr result (IsSourceFault program.entry.source.now) }
 {
-    if is_image(words.source) {
-        let rows = image_rows(alloc, tallies, words.image)?;
+    if is_image(program.source) {
+        let rows = image_rows(alloc, tallies, program.image)?;
         return Ok(section(alloc, IMAGE_HEADING, &rows)?);
     }
-    let placed = placed_lines(alloc, words.source)?;
+    let placed = placed_lines(alloc, program.source)?;
     let mut rows = Vec::new(alloc);
-    put_word_rows(&mut rows, words.source, &placed, &tallies)?;
+    put_word_rows(&mut rows, program.source, &placed, &tallies)?;
     Ok(section(alloc, HEADING, &rows)?)
 }
 
@@ -243,7 +247,7 @@ fn table_by(alloc: Global, words: Words<'_>, tallies: Tallies<'_>) -> Result<Vec
 /// order. No text where the two nowhere differ.
 pub(crate) fn differences(
     alloc: Global,
-    words: Words<'_>,
+    program: SourceAndImage<'_>,
     graph: &Graph,
     by_place: &[Passed],
     walk: &FoldedWalk,
@@ -251,9 +255,9 @@ pub(crate) fn differences(
     requires { length by_place.now ≡ length graph.now.places }
     ensures table { (passes : List Pass) → IsTally graph.now passes by_place.now
         → IfOk result
-        (λ text. IsTable words.entry.source.now words.entry.image.now
+        (λ text. IsTable program.entry.source.now program.entry.image.now
         (capped_at graph.now passes (unfolded walk.now)) text.items) }
-    ensures fault { IfErr result (IsSourceFault words.entry.source.now) }
+    ensures fault { IfErr result (IsSourceFault program.entry.source.now) }
 {
     let run_tally = RunTally::of_places(alloc, graph, by_place)?;
     let walk_tally = Tally::of_walk(alloc, graph, walk)?;
@@ -261,5 +265,5 @@ pub(crate) fn differences(
         run: &run_tally,
         walk: &walk_tally,
     };
-    table_by(alloc, words, tallies)
+    table_by(alloc, program, tallies)
 }

@@ -13,7 +13,7 @@ ghost use Rattle.report_input.specs.Priced.{Priced};
 ghost use Rattle.report_input.specs.Report.{BeforeOutput, HasItsTree, HasLoops};
 ghost use Rattle.report_input.specs.Source.{IsSourceFault, Says};
 
-use crate::differences::{Words, differences};
+use crate::differences::{SourceAndImage, differences};
 use crate::follow_text::{kept_text, line_number_at, strayed_text, why_text};
 use assembler::Assembly;
 use bus_ticks::Profile;
@@ -68,12 +68,12 @@ fn kept_run(
         bounded.entry.handler.now.graph bounded.entry.longest.now ticks by_place.now text.items) }
     ensures fault { IfErr result (IsSourceFault bounded.entry.source.now) }
 {
-    let words = Words {
+    let program = SourceAndImage {
         source: bounded.source,
         image: bounded.image,
     };
     let graph = &bounded.handler.graph;
-    let table = differences(alloc, words, graph, by_place, &bounded.longest.walk)?;
+    let table = differences(alloc, program, graph, by_place, &bounded.longest.walk)?;
     let line = kept_text(alloc, ticks, bounded.longest.bound)?;
     let mut text = Vec::from_slice(alloc, line.as_bytes())?;
     text.extend_from_slice(&table)?;
