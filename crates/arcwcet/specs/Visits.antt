@@ -1,6 +1,7 @@
 -- Runs of an interrupt handler that FIQ interrupts, and what a bound says of them.
 use Rattle.std.specs.Prelude.{◌≡◌, ℕ, ◌≤◌, List, [], ◌∷◌, ◌++◌, length, sum_by}
 use Rattle.bus_ticks.specs.declared.profile.Profile.{Profile}
+use Rattle.bus_ticks.specs.declared.space.TheConstants.{FIQ_VECTOR}
 use Rattle.loader.specs.Image.{Words}
 use Rattle.arm2_effect.specs.declared.step_end.Kind.TheVariants.{Taken}
 use Rattle.arm2_effect.specs.declared.exceptions.Vector.TheVariants.{Fiq}
@@ -92,7 +93,7 @@ pub record HasVisitedRun (profile : Profile) : Type 0 where
   pub fiq_flow : Flow
   pub irq_graph_is : IsFlowGraph words irq profile irq_flow
   pub fiq_graph_is : IsFlowGraph words fiq profile fiq_flow
-  pub fiq_entry_is : fiq.entry ≡ 0x1C
+  pub fiq_entry_is : fiq.entry ≡ FIQ_VECTOR
   pub s : State
   pub steps : List MainStep
   pub two : visits_of steps ≡ 2

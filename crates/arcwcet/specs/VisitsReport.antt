@@ -1,6 +1,7 @@
 -- What the report of a handler that FIQ interrupts prints, and when it is refused.
 use Rattle.std.specs.Prelude.{◌≡◌, ◌≢◌, ◌⊎◌, ◌≤◌, ◌<◌, ◌^◌, ◌++◌, ℕ, List, Option, Result, Ok, codes, decimal}
 use Rattle.bus_ticks.specs.declared.profile.Profile.{Profile}
+use Rattle.bus_ticks.specs.declared.space.TheConstants.{FIQ_VECTOR}
 use Rattle.bus_ticks.specs.Worst.{fiq_entry}
 use Rattle.loader.specs.Image.{Words}
 use Rattle.statement.specs.Stated.{Stated}
@@ -33,7 +34,7 @@ pub record EntersElsewhere (source fiq : List ℕ) : Type 0 where
   pub stated : Stated
   pub source_is : source_of source ≡ Ok (words, names)
   pub statement_is : IsStatement fiq names (Ok stated)
-  pub elsewhere : stated.entry ≢ 0x1C
+  pub elsewhere : stated.entry ≢ FIQ_VECTOR
 
 -- a source and a statement have this bound and this report
 abbrev pub HasBound : List ℕ → List ℕ → Profile → (bound : ℕ) → List ℕ → Type 0
@@ -43,7 +44,7 @@ HasBound source statement profile bound text =
 -- so have FIQ's, and the handler begins at FIQ's vector
 abbrev pub HasFiqBound : List ℕ → List ℕ → Profile → (bound : ℕ) → List ℕ → Type 0
 HasFiqBound source fiq profile bound text =
-    (stated : Stated) × IsBoundReport source fiq profile stated bound text × (stated.entry ≡ 0x1C)
+    (stated : Stated) × IsBoundReport source fiq profile stated bound text × (stated.entry ≡ FIQ_VECTOR)
 
 -- both handlers have reports, and FIQ's begins at its vector
 pub record HaveReports (source irq fiq : List ℕ) (profile : Profile) : Type 0 where
@@ -51,7 +52,7 @@ pub record HaveReports (source irq fiq : List ℕ) (profile : Profile) : Type 0 
   pub irq_is : IsReport source irq profile irq_text
   pub fiq_text : List ℕ
   pub fiq_is : IsReport source fiq profile fiq_text
-  pub entry_is : fiq_is.bounded.accepted.stated.entry ≡ 0x1C
+  pub entry_is : fiq_is.bounded.accepted.stated.entry ≡ FIQ_VECTOR
 
 module _ (source irq fiq : List ℕ) (k : ℕ) (profile : Profile) where
   -- the most ticks of the interrupted handler with k visits

@@ -9,16 +9,13 @@ ghost use Rattle.arcwcet.specs.VisitsReport.{IsVisitsReport, ReportsVisits, summ
 
 use assembler::Assembly;
 use bound_reports::{BoundReport, longest_report};
-use bus_ticks::{Profile, fiq_entry};
+use bus_ticks::{FIQ_VECTOR, Profile, fiq_entry};
 use flow_graph::read_statement;
 use longest_walk::{WalkFault, visits_bound};
 use report_input::{Handler, handler_of, profile_of, read_source, stated_handler};
 use report_output::{Output, ReportFault, print_answer};
 use std::alloc::Global;
 use std::fmt::Write;
-
-// Where FIQ's handler begins.
-const FIQ_VECTOR: u32 = 0x1C;
 
 // The statement of an interrupt handler, that of FIQ's handler, and how often FIQ interrupts it at most.
 #[derive(Clone, Copy)]

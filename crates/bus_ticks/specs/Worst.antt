@@ -1,6 +1,6 @@
 -- The greatest prices over all accesses of a class, in ticks.
 use Rattle.std.specs.Prelude.{ℕ, ◌+◌, ◌-◌, ◌*◌, ◌/◌, ◌≤◌, ◌<◌, ◌≡◌, Bool, if◌then◌else◌, max}
-use Rattle.bus_ticks.specs.declared.space.TheConstants.{SPACE_END}
+use Rattle.bus_ticks.specs.declared.space.TheConstants.{FIQ_VECTOR, SPACE_END}
 use Rattle.bus_ticks.specs.declared.profile.Profile.{Profile}
 use Rattle.bus_ticks.specs.declared.profile.RomTimes.{RomTimes}
 use Rattle.bus_ticks.specs.declared.profile.Class.{Class}
@@ -81,7 +81,7 @@ worst_leave_of p Any =
 -- taking FIQ before the instruction at an address: the fetch 8 bytes on, and the two at FIQ's vector
 abbrev pub fiq_entry_price : Profile → AtTimes → ℕ
 fiq_entry_price p t =
-    s_price p t.rom (ahead_of t.address 8) + (n_price p t.rom 0x1C + s_price p t.rom 0x20)
+    s_price p t.rom (ahead_of t.address 8) + (n_price p t.rom FIQ_VECTOR + s_price p t.rom (FIQ_VECTOR + 4))
 
 -- the greatest price of taking FIQ: the first fetch may be of any class, and the vector is in Ram
 abbrev pub fiq_entry : Profile → ℕ

@@ -4,11 +4,13 @@ ghost use Rattle.bus_ticks.specs.Worst.{AtTimes, IsBlockOf, worst_n_price, worst
 ghost use Rattle.bus_ticks.specs.Dearest.{AreDearest, IsDearestBlock};
 
 use crate::profile::{Class, Profile, RomTimes};
-use crate::space::{HIGH_ROM_START, IO_START, PHYSICAL_START, ROM_START, SPACE_END};
+use crate::space::{FIQ_VECTOR, HIGH_ROM_START, IO_START, PHYSICAL_START, ROM_START, SPACE_END};
 
 /// States where the kinds of memory are: logical RAM up to 1FFFFFF, physical RAM up to 2FFFFFF, I/O from
-/// 3000000 to 33FFFFF, ROM from there to 3FFFFFF, its high half from 3800000. It does nothing.
+/// 3000000 to 33FFFFF, ROM from there to 3FFFFFF, its high half from 3800000; and FIQ's vector, 1C. It does
+/// nothing.
 pub fn memory_map()
+    ensures fiq { FIQ_VECTOR ≡ 0x1C }
     ensures physical { PHYSICAL_START ≡ 0x2000000 }
     ensures io { IO_START ≡ 0x3000000 }
     ensures rom { ROM_START ≡ 0x3400000 }

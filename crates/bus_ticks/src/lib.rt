@@ -16,7 +16,7 @@ pub use law::{fetches_cost_the_worst, memory_map, rom_blocks_cost_the_worst};
 pub use prices::{class_of, fetch_n, fetch_s, transfer};
 pub use profile::{Class, NumbersFault, Profile, RomTimes};
 pub use space::{
-    HIGH_ROM_START, IO_START, PHYSICAL_START, ROM_START, SPACE_END, ahead_of, is_word_address,
-    word_address,
+    FIQ_VECTOR, HIGH_ROM_START, IO_START, PHYSICAL_START, ROM_START, SPACE_END, ahead_of,
+    is_word_address, word_address,
 };
 pub use worst::{fiq_entry, worst_fetch_n, worst_fetch_s, worst_leave, worst_transfer};

@@ -3,6 +3,9 @@
 ghost use Rattle.std.specs.Prelude.{◌≡◌, ◌<◌, ◌%◌};
 ghost use Rattle.bus_ticks.specs.Prices.{ahead_of, is_word_address, word_address};
 
+/// FIQ's vector: where the processor goes on when it takes FIQ.
+pub const FIQ_VECTOR: u32 = 0x1C;
+
 /// Where logical RAM ends, and physical RAM begins.
 pub const PHYSICAL_START: u32 = 0x200_0000;
 

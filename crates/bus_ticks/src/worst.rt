@@ -138,7 +138,7 @@ fn fiq_entry_ticks(profile: &Profile) -> u32
 }
 
 /// The greatest ticks of taking FIQ, over all addresses at which a handler may be interrupted and all time
-/// fields of ROM: the fetch 8 bytes after that address, and the two at FIQ's vector, 1C.
+/// fields of ROM: the fetch 8 bytes after that address, and the two at FIQ's vector.
 pub fn fiq_entry(profile: &Profile) -> u32
     ensures number { result ≡ fiq_entry profile.now }
     ensures greatest { IsGreatest (IsTargetOf Class.Any) (fiq_entry_price profile.now) result }
