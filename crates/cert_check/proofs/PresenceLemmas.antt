@@ -11,7 +11,7 @@ use Rattle.flow_graph.specs.declared.places.Place.{Place}
 use Rattle.flow_graph.specs.Places.{place_cmp}
 use Rattle.flow_graph.specs.Search.{by_order}
 use Rattle.flow_graph.proofs.PlaceLemmas.{by_place, place_exact, place_total}
-use Rattle.loop_bounds.specs.declared.loop_instances.Found.{Found}
+use Rattle.loop_bounds.specs.declared.loop_instances.LoopInstance.{LoopInstance}
 use Rattle.loop_bounds.specs.Extents.{found_instance}
 use Rattle.longest_walk.specs.Rows.{header_of}
 use Rattle.cert_check.specs.Presence.{Lists}
@@ -42,7 +42,7 @@ module _ (places : List Place) (p : Place) (ascending : IsSorted place_cmp place
 
 -- ## Lists of places
 
-pub map_found : (xs : List Found) → map (λ f. header_of (found_instance f)) xs ≡ map header_of (map found_instance xs)
+pub map_found : (xs : List LoopInstance) → map (λ f. header_of (found_instance f)) xs ≡ map header_of (map found_instance xs)
 map_found [] = refl
 map_found (x ∷ xs) = ap (λ (ps : List Place). header_of (found_instance x) ∷ ps) (map_found xs)
 

@@ -2,7 +2,7 @@ ghost use Rattle.std.specs.Prelude.{◌≡◌, ℕ, List};
 
 use certificate::{InstanceRow, PlaceRow};
 use flow_graph::Place;
-use loop_bounds::Found;
+use loop_bounds::LoopInstance;
 
 /// What is about a place: a row about its own, or an instance or its row about their header.
 pub(crate) trait AboutPlace {
@@ -35,7 +35,7 @@ impl AboutPlace for InstanceRow {
     }
 }
 
-impl AboutPlace for Found {
+impl AboutPlace for LoopInstance {
     ghost calls = { λ f. f.list };
 
     ghost address = { λ f. f.stated.header };

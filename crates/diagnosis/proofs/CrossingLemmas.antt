@@ -6,7 +6,7 @@ use Rattle.flow_graph.specs.declared.places.Place.{Place}
 use Rattle.flow_graph.specs.declared.places.Place.TheVariants.{At}
 use Rattle.flow_graph.specs.Flow.{Flow}
 use Rattle.statement.specs.declared.stated.Loop.{Loop}
-use Rattle.loop_bounds.specs.declared.loop_instances.Found.{Found}
+use Rattle.loop_bounds.specs.declared.loop_instances.LoopInstance.{LoopInstance}
 use Rattle.loop_bounds.specs.Extents.{found_instance}
 use Rattle.loop_bounds.specs.Instance.{Instance, IsInstance, instance_of, is_member}
 use Rattle.loop_bounds.specs.Nest.{HasCrossing, HasOwn}
@@ -24,7 +24,7 @@ module _ (flow : Flow) where
     other = not-true (is_member j p) (and_parts (is_member i p) (not (is_member j p)) is).1;
   }
 
-  pub shows : (one other : Found) (shared own others : Place) → Contains flow.places shared → is_shared (found_instance one) (found_instance other) shared ≡ true
+  pub shows : (one other : LoopInstance) (shared own others : Place) → Contains flow.places shared → is_shared (found_instance one) (found_instance other) shared ≡ true
       → Contains flow.places own → is_own (found_instance one) (found_instance other) own ≡ true → Contains flow.places others → is_own (found_instance other) (found_instance one) others ≡ true
       → ShowsCrossing flow one other (record { one = one; other = other; shared = shared; one_has = own; other_has = others })
   shows one other shared own others has is own_has own_is others_has others_is = record {
@@ -54,7 +54,7 @@ module _ (flow : Flow) (loops : List Loop) where
   pub instance_at : (l : Loop) (list : List ℕ) → Contains loops l → Contains flow.places (At list l.header) → IsInstance flow loops (instance_of l list)
   instance_at l list stated reached = record { stated_loop = l; stated = stated; reached = reached; parts = refl }
 
-  pub crossed : (one other : Found) (c : Crossing) → IsInstance flow loops (found_instance one) → IsInstance flow loops (found_instance other) → ShowsCrossing flow one other c → IsCrossing flow loops c
+  pub crossed : (one other : LoopInstance) (c : Crossing) → IsInstance flow loops (found_instance one) → IsInstance flow loops (found_instance other) → ShowsCrossing flow one other c → IsCrossing flow loops c
   crossed one other c one_is other_is s = record {
     crossing = record {
       one = found_instance one;

@@ -10,7 +10,7 @@ use Rattle.flow_graph.specs.declared.places.Place.TheVariants.{At}
 use Rattle.flow_graph.specs.Flow.{Flow}
 use Rattle.statement.specs.declared.stated.Loop.{Loop}
 use Rattle.loop_bounds.proofs.ExtentOf.{header_itself}
-use Rattle.loop_bounds.specs.declared.loop_instances.Found.{Found}
+use Rattle.loop_bounds.specs.declared.loop_instances.LoopInstance.{LoopInstance}
 use Rattle.loop_bounds.specs.Extents.{found_instance}
 use Rattle.loop_bounds.specs.Instance.{Instance, IsInstance, is_header, is_member}
 use Rattle.diagnosis.specs.Nested.{HasPlace, HavePlace, IsDeep, is_around}
@@ -24,10 +24,10 @@ not_itself i j around same =
     let apart = (and_parts (is_member i (At i.list i.last)) (not (is_header i (At i.list i.header))) parts.1).1 in
     false≢true (sym (ap not (header_itself i)) ∙ apart)
 
-pairs_map : (R : Instance → Instance → Type 0) (found : List Found) → AllPairs (λ f g. R (found_instance f) (found_instance g)) found → AllPairs R (map found_instance found)
+pairs_map : (R : Instance → Instance → Type 0) (found : List LoopInstance) → AllPairs (λ f g. R (found_instance f) (found_instance g)) found → AllPairs R (map found_instance found)
 pairs_map R found pairs i j d before inside =
     let none : Loop = record { header = 0; first = 0; last = 0; bound = 0 } in
-    let e : Found = record { list = []; stated = none } in
+    let e : LoopInstance = record { list = []; stated = none } in
     let lt : j < length found = subst (λ (n : ℕ). j < n) (length-map found found_instance) inside in
     let first : i < length found = omega (arith, before, lt) in
     subst (λ (x : Instance). R x (get_or (map found_instance found) j d)) (sym (get_or-map found_instance found i e d first))
@@ -37,7 +37,7 @@ module _ (flow : Flow) (loops : List Loop) (p : Place) where
   pub none_yet : HavePlace flow loops p []
   none_yet = record { each = λ k d lt. absurd (omega (arith, lt)); nested = λ i j d before lt. absurd (omega (arith, lt)) }
 
-  pub one_more : (found : List Found) (f : Found) → HavePlace flow loops p found → HasPlace flow loops p f → All (λ g. is_around (found_instance g) (found_instance f) ≡ true) found
+  pub one_more : (found : List LoopInstance) (f : LoopInstance) → HavePlace flow loops p found → HasPlace flow loops p f → All (λ g. is_around (found_instance g) (found_instance f) ≡ true) found
       → HavePlace flow loops p (found ++ f ∷ [])
   one_more found f have has around = record {
     each = All-push (HasPlace flow loops p) found f have.each has;

@@ -4,7 +4,7 @@ use Rattle.flow_graph.specs.declared.places.Place.{Place}
 use Rattle.flow_graph.specs.declared.places.Place.TheVariants.{At}
 use Rattle.flow_graph.specs.Flow.{Flow}
 use Rattle.statement.specs.declared.stated.Loop.{Loop}
-use Rattle.loop_bounds.specs.declared.loop_instances.Found.{Found}
+use Rattle.loop_bounds.specs.declared.loop_instances.LoopInstance.{LoopInstance}
 use Rattle.loop_bounds.specs.Extents.{found_instance}
 use Rattle.loop_bounds.specs.Instance.{Instance, instance_of, is_member}
 use Rattle.loop_bounds.specs.Nest.{HasCrossing, HasOwn}
@@ -35,7 +35,7 @@ pub record HasShared (flow : Flow) (i j : Instance) : Type 0 where
   pub in_other : is_member j place ≡ true
 
 -- so the two cross, by the places of the crossing
-pub record ShowsCrossing (flow : Flow) (one other : Found) (c : Crossing) : Type 0 where
+pub record ShowsCrossing (flow : Flow) (one other : LoopInstance) (c : Crossing) : Type 0 where
   pub one_is : c.one ≡ one
   pub other_is : c.other ≡ other
   pub shared : HasShared flow (found_instance one) (found_instance other)

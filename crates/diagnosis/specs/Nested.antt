@@ -4,7 +4,7 @@ use Rattle.flow_graph.specs.declared.places.Place.{Place}
 use Rattle.flow_graph.specs.declared.places.Place.TheVariants.{At}
 use Rattle.flow_graph.specs.Flow.{Flow}
 use Rattle.statement.specs.declared.stated.Loop.{Loop}
-use Rattle.loop_bounds.specs.declared.loop_instances.Found.{Found}
+use Rattle.loop_bounds.specs.declared.loop_instances.LoopInstance.{LoopInstance}
 use Rattle.loop_bounds.specs.Extents.{found_instance}
 use Rattle.loop_bounds.specs.Instance.{Instance, IsInstance, is_header, is_member}
 use Rattle.loop_bounds.specs.Nest.{HasDeepPlace}
@@ -31,14 +31,14 @@ pub record IsDeep (flow : Flow) (loops : List Loop) (d : DeepPlace) : Type 0 whe
 -- ## Instances one after another, which clauses of private calls speak of
 
 -- the instance has the place
-pub record HasPlace (flow : Flow) (loops : List Loop) (p : Place) (f : Found) : Type 0 where
+pub record HasPlace (flow : Flow) (loops : List Loop) (p : Place) (f : LoopInstance) : Type 0 where
   pub is : IsInstance flow loops (found_instance f)
   pub member : is_member (found_instance f) p ≡ true
 
 -- so has each, and each is around those after it
-pub record HavePlace (flow : Flow) (loops : List Loop) (p : Place) (found : List Found) : Type 0 where
+pub record HavePlace (flow : Flow) (loops : List Loop) (p : Place) (found : List LoopInstance) : Type 0 where
   pub each : All (HasPlace flow loops p) found
   pub nested : AllPairs (λ f g. is_around (found_instance f) (found_instance g) ≡ true) found
 
-abbrev pub AreWanted : Wanted → List Found → Type 0
+abbrev pub AreWanted : Wanted → List LoopInstance → Type 0
 AreWanted wanted found = HavePlace wanted.graph.now wanted.sorted.now wanted.place.now found

@@ -13,7 +13,7 @@ use Rattle.flow_graph.specs.declared.faults.BuildFault.TheVariants as build
 use Rattle.flow_graph.specs.declared.faulty.FaultyPlace.{FaultyPlace}
 use Rattle.flow_graph.specs.declared.places.Place.{Place}
 use Rattle.loop_bounds.specs.Keys.{key_of}
-use Rattle.loop_bounds.specs.declared.loop_instances.Found.{Found}
+use Rattle.loop_bounds.specs.declared.loop_instances.LoopInstance.{LoopInstance}
 use Rattle.statement.specs.declared.stated.Loop.{Loop}
 use Rattle.text_rows.specs.Rows.{AreRows}
 use Rattle.text_rows.specs.Addresses.{name_text}
@@ -109,7 +109,7 @@ pub record IsCrossingText (words : Words) (c : Crossing) (text : List ℕ) : Typ
       ++ (shared ++ (one_has ++ other_has))
 
 -- the headers of instances
-abbrev pub headers_of : List Found → List ℕ
+abbrev pub headers_of : List LoopInstance → List ℕ
 headers_of found = map (λ f. f.stated.header) found
 
 -- above a place in so many loops

@@ -8,13 +8,13 @@ ghost use Rattle.diagnosis.specs.Crossings.{AreApart, CrossNone, CrossNoneAt, Is
 ghost use Rattle.diagnosis.specs.Crossings.{is_own, is_shared};
 
 use flow_graph::{Calls, Graph, Loop, Place};
-use loop_bounds::Found;
+use loop_bounds::LoopInstance;
 
 /// Two instances of loops that cross, and places that show it.
 #[derive(Clone, Copy)]
 pub struct Crossing {
-    pub one: Found,
-    pub other: Found,
+    pub one: LoopInstance,
+    pub other: LoopInstance,
     /// A member of both.
     pub shared: Place,
     /// A member of the one alone.
@@ -23,20 +23,20 @@ pub struct Crossing {
     pub other_has: Place,
 }
 
-fn is_shared(one: &Found, other: &Found, place: &Place) -> bool
+fn is_shared(one: &LoopInstance, other: &LoopInstance, place: &Place) -> bool
     ensures { result ≡ is_shared (found_instance one.now) (found_instance other.now) place.now }
 {
     one.is_member(place) && other.is_member(place)
 }
 
-fn is_own(one: &Found, other: &Found, place: &Place) -> bool
+fn is_own(one: &LoopInstance, other: &LoopInstance, place: &Place) -> bool
     ensures { result ≡ is_own (found_instance one.now) (found_instance other.now) place.now }
 {
     one.is_member(place) && !other.is_member(place)
 }
 
 // A member of both instances.
-fn shared_place<'a>(graph: &'a Graph, one: &Found, other: &Found) -> Option<&'a Place>
+fn shared_place<'a>(graph: &'a Graph, one: &LoopInstance, other: &LoopInstance) -> Option<&'a Place>
     ensures { option_map (λ place. place.now) result
         ≡ find (is_shared (found_instance one.now) (found_instance other.now)) graph.now.places }
 {
@@ -45,7 +45,7 @@ fn shared_place<'a>(graph: &'a Graph, one: &Found, other: &Found) -> Option<&'a 
 }
 
 // A member of the one instance alone.
-fn own_place<'a>(graph: &'a Graph, one: &Found, other: &Found) -> Option<&'a Place>
+fn own_place<'a>(graph: &'a Graph, one: &LoopInstance, other: &LoopInstance) -> Option<&'a Place>
     ensures { option_map (λ place. place.now) result
         ≡ find (is_own (found_instance one.now) (found_instance other.now)) graph.now.places }
 {
@@ -54,7 +54,7 @@ fn own_place<'a>(graph: &'a Graph, one: &Found, other: &Found) -> Option<&'a Pla
 }
 
 // How the two instances cross.
-fn crossing_of(graph: &Graph, one: &Found, other: &Found) -> Option<Crossing>
+fn crossing_of(graph: &Graph, one: &LoopInstance, other: &LoopInstance) -> Option<Crossing>
     ensures shows { IfSome result (ShowsCrossing graph.now one.now other.now) }
     ensures none { IfNone result
         (AreApart graph.now (found_instance one.now) (found_instance other.now)) }
@@ -87,7 +87,7 @@ pub(crate) fn has_place(graph: &Graph, place: &Place) -> bool
 }
 
 // How the instance crosses another with its list of calls.
-fn crossing_with(graph: &Graph, loops: &[Loop], one: &Found) -> Option<Crossing>
+fn crossing_with(graph: &Graph, loops: &[Loop], one: &LoopInstance) -> Option<Crossing>
     requires { IsInstance graph.now loops.now (found_instance one.now) }
     ensures crossing { IfSome result (IsCrossing graph.now loops.now) }
     ensures none { IfNone result (CrossNone graph.now loops.now (found_instance one.now)) }
@@ -95,7 +95,7 @@ fn crossing_with(graph: &Graph, loops: &[Loop], one: &Found) -> Option<Crossing>
     for stated in loops {
         let list = one.list;
         if has_place(graph, &Place::At(list, stated.header)) {
-            let other = Found {
+            let other = LoopInstance {
                 list,
                 stated: *stated,
             };
@@ -117,7 +117,7 @@ fn crossing_at(graph: &Graph, loops: &[Loop], list: Calls, address: u32) -> Opti
         if stated.header != address {
             continue;
         }
-        let one = Found {
+        let one = LoopInstance {
             list,
             stated: *stated,
         };

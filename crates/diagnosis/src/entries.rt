@@ -7,7 +7,7 @@ ghost use Rattle.diagnosis.specs.Entries.{AreRightlyEntered, IsMidEntry, IsMidOf
 ghost use Rattle.diagnosis.specs.Entries.{enters_mid, is_mid};
 
 use flow_graph::{Edge, Graph, Loop, Place};
-use loop_bounds::Found;
+use loop_bounds::LoopInstance;
 
 /// Where a loop is entered elsewhere than at its header.
 #[derive(Clone, Copy)]
@@ -17,18 +17,18 @@ pub struct MidEntry {
     /// The place that is entered.
     pub place: Place,
     /// The instance of the loop.
-    pub instance: Found,
+    pub instance: LoopInstance,
 }
 
 // Whether the place is a member of the instance elsewhere than at its header.
-fn is_mid(instance: &Found, place: &Place) -> bool
+fn is_mid(instance: &LoopInstance, place: &Place) -> bool
     ensures { result ≡ is_mid (found_instance instance.now) place.now }
 {
     instance.is_member(place) && !instance.is_header(place)
 }
 
 // The first edge that leads to such a place from no member.
-fn entering<'a>(graph: &'a Graph, instance: &Found) -> Option<&'a Edge>
+fn entering<'a>(graph: &'a Graph, instance: &LoopInstance) -> Option<&'a Edge>
     ensures { option_map (λ edge. edge.now) result
         ≡ find (enters_mid (found_instance instance.now)) graph.now.edges }
 {
@@ -37,7 +37,7 @@ fn entering<'a>(graph: &'a Graph, instance: &Found) -> Option<&'a Edge>
 }
 
 // Where the instance is entered elsewhere than at its header.
-fn entry_of(graph: &Graph, instance: Found) -> Option<MidEntry>
+fn entry_of(graph: &Graph, instance: LoopInstance) -> Option<MidEntry>
     ensures instance { IfSome result (λ m. m.instance ≡ instance) }
     ensures entry { IfSome result (λ m. IsMidOf graph.now (found_instance instance) m.place m.edge) }
     ensures none { IfNone result (IsRightlyEntered graph.now (found_instance instance)) }
@@ -72,7 +72,7 @@ fn entry_at(graph: &Graph, loops: &[Loop], header: &Place) -> Option<MidEntry>
         if stated.header != *address {
             continue;
         }
-        let instance = Found {
+        let instance = LoopInstance {
             list: *list,
             stated: *stated,
         };

@@ -5,7 +5,7 @@ ghost use Rattle.diagnosis.specs.Nested.{AreWanted, HasPlace, HavePlace, IsDeep,
 
 use crate::crossings::has_place;
 use flow_graph::{Calls, Graph, Loop, Place};
-use loop_bounds::{Found, MOST_INSTANCES};
+use loop_bounds::{LoopInstance, MOST_INSTANCES};
 use std::alloc::{AllocError, Global};
 use std::cmp::Reverse;
 
@@ -14,11 +14,11 @@ use std::cmp::Reverse;
 pub struct DeepPlace {
     pub place: Place,
     /// The outermost first.
-    pub instances: Vec<Found>,
+    pub instances: Vec<LoopInstance>,
 }
 
 // Whether the first and the last address of the inner one are of the outer one, and its header is another.
-fn is_around(outer: &Found, inner: &Found) -> bool
+fn is_around(outer: &LoopInstance, inner: &LoopInstance) -> bool
     ensures { result ≡ is_around (found_instance outer.now) (found_instance inner.now) }
 {
     let list = inner.list;
@@ -37,7 +37,7 @@ fn by_extent(alloc: Global, loops: &[Loop]) -> Result<Vec<Loop>, AllocError>
 }
 
 // Whether all of them are around the one.
-fn are_around(found: &[Found], inner: &Found) -> bool
+fn are_around(found: &[LoopInstance], inner: &LoopInstance) -> bool
     ensures { result ≡ true
         → All (λ f. is_around (found_instance f) (found_instance inner.now) ≡ true) found.now }
 {
@@ -45,7 +45,7 @@ fn are_around(found: &[Found], inner: &Found) -> bool
 }
 
 // Whether it is an instance that has the place.
-fn has_member(graph: &Graph, one: &Found, place: &Place) -> bool
+fn has_member(graph: &Graph, one: &LoopInstance, place: &Place) -> bool
     ensures { (loops : List Loop) → Contains loops one.now.stated → result ≡ true
         → HasPlace graph.now loops place.now one.now }
 {
@@ -53,7 +53,12 @@ fn has_member(graph: &Graph, one: &Found, place: &Place) -> bool
 }
 
 // Adds the instance, if it has the place and those before it are around it.
-fn add(found: &mut Vec<Found>, graph: &Graph, place: &Place, one: &Found) -> Result<(), AllocError>
+fn add(
+    found: &mut Vec<LoopInstance>,
+    graph: &Graph,
+    place: &Place,
+    one: &LoopInstance,
+) -> Result<(), AllocError>
     ensures { (loops : List Loop) → Contains loops one.now.stated
         → HavePlace graph.now loops place.now found.old.items
         → OnOk result (HavePlace graph.now loops place.now found.new.items) }
@@ -74,11 +79,11 @@ pub(crate) struct Wanted<'a> {
 
 impl Wanted<'_> {
     // Adds the instances with the list of calls.
-    fn add_inside(&self, found: &mut Vec<Found>, list: Calls) -> Result<(), AllocError>
+    fn add_inside(&self, found: &mut Vec<LoopInstance>, list: Calls) -> Result<(), AllocError>
         ensures { AreWanted self.now found.old.items → OnOk result (AreWanted self.now found.new.items) }
     {
         for stated in self.sorted {
-            let one = Found {
+            let one = LoopInstance {
                 list,
                 stated: *stated,
             };
@@ -88,7 +93,7 @@ impl Wanted<'_> {
     }
 
     // Adds the instances with the list or with a front of it, those with fewer calls first.
-    fn add_up_to(&self, found: &mut Vec<Found>, list: Calls) -> Result<(), AllocError>
+    fn add_up_to(&self, found: &mut Vec<LoopInstance>, list: Calls) -> Result<(), AllocError>
         ensures { AreWanted self.now found.old.items → OnOk result (AreWanted self.now found.new.items) }
     {
         if let Some((shorter, _)) = list.split_last() {
@@ -104,7 +109,7 @@ fn instances_of(
     graph: &Graph,
     sorted: &[Loop],
     place: &Place,
-) -> Result<Vec<Found>, AllocError>
+) -> Result<Vec<LoopInstance>, AllocError>
     ensures { IfOk result (λ found. HavePlace graph.now sorted.now place.now found.items) }
 {
     let mut found = Vec::new(alloc);

@@ -15,7 +15,7 @@ use crate::nested::DeepPlace;
 use crate::rows::around_number;
 use crate::words::Words;
 use flow_graph::{BuildFault, Edge, FaultyPlace, Loop, Place};
-use loop_bounds::Found;
+use loop_bounds::LoopInstance;
 use std::alloc::{AllocError, Global};
 use text_rows::{put, put_decimal};
 
@@ -225,7 +225,7 @@ fn in_loops(alloc: Global, count: usize) -> Result<Vec<u8>, AllocError>
     )
 }
 
-fn headers_of(alloc: Global, found: &[Found]) -> Result<Vec<u32>, AllocError>
+fn headers_of(alloc: Global, found: &[LoopInstance]) -> Result<Vec<u32>, AllocError>
     ensures { IfOk result (λ headers. headers.items ≡ headers_of found.now) }
 {
     found.iter().map(|one| one.stated.header).collect(alloc)

@@ -8,7 +8,7 @@ ghost use Rattle.longest_walk.specs.Rows.{header_of, header_of_row};
 
 use crate::rows::{InstanceRow, PlaceRow};
 use flow_graph::{Graph, Place, order_of_places};
-use loop_bounds::{Found, LoopTree};
+use loop_bounds::{LoopInstance, LoopTree};
 use numbered_walks::{ItemList, Span, Tables};
 use std::alloc::{AllocError, Global};
 
@@ -58,7 +58,7 @@ pub(crate) fn place_rows(
 }
 
 // The row of an instance.
-fn instance_row(found: &Found, span: &Span, tables: &Tables) -> InstanceRow
+fn instance_row(found: &LoopInstance, span: &Span, tables: &Tables) -> InstanceRow
     requires arrivals { span.now.header < length tables.now.arrivals.items }
     requires rounds { span.now.header < length tables.now.rounds.items }
     ensures header { header_of_row result ≡ header_of (found_instance found.now) }

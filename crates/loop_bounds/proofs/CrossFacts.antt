@@ -12,7 +12,7 @@ use Rattle.statement.specs.declared.stated.Loop.{Loop}
 use Rattle.flow_graph.specs.Flow.{Flow, IsWellFormed}
 use Rattle.flow_graph.specs.Places.{place_at}
 use Rattle.loop_bounds.specs.declared.extents.Extent.{Extent}
-use Rattle.loop_bounds.specs.declared.loop_instances.Found.{Found}
+use Rattle.loop_bounds.specs.declared.loop_instances.LoopInstance.{LoopInstance}
 use Rattle.loop_bounds.specs.Instance.{Instance, IsInstance, holds, is_member}
 use Rattle.loop_bounds.specs.Keys.{IsListed, key_of}
 use Rattle.loop_bounds.specs.Extents.{AreExtentsOf, AreNested, HaveCrossing, IsWithin, extent_at, found_instance, is_within}
@@ -27,7 +27,7 @@ use Rattle.loop_bounds.proofs.Within.{from_in, in_from, out_from}
 pub index_of : (extents : List Extent) (s : Extent) (has : Contains extents s) → extent_at extents has.0 ≡ s
 index_of extents s has = get_or_default extents has.0 _ s has.1 ∙ has.2
 
-module _ (flow : Flow) (loops : List Loop) (listed : List Place) (found : List Found) (extents : List Extent) (well_formed : IsWellFormed flow) (listed_is : IsListed flow.places listed) (all_are : (i : Instance) → Contains (map found_instance found) i → IsInstance flow loops i) (extents_of : AreExtentsOf listed found extents) where
+module _ (flow : Flow) (loops : List Loop) (listed : List Place) (found : List LoopInstance) (extents : List Extent) (well_formed : IsWellFormed flow) (listed_is : IsListed flow.places listed) (all_are : (i : Instance) → Contains (map found_instance found) i → IsInstance flow loops i) (extents_of : AreExtentsOf listed found extents) where
   abbrev instance_at : Extent → Instance
   instance_at s = found_instance (get_or found s.instance no_found)
 

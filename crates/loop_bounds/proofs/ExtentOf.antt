@@ -16,7 +16,7 @@ use Rattle.flow_graph.specs.declared.places.Place.{Place}
 use Rattle.flow_graph.specs.declared.places.Place.TheVariants.{At, Exit}
 use Rattle.flow_graph.specs.Places.{place_at}
 use Rattle.loop_bounds.specs.declared.extents.Extent.{Extent}
-use Rattle.loop_bounds.specs.declared.loop_instances.Found.{Found}
+use Rattle.loop_bounds.specs.declared.loop_instances.LoopInstance.{LoopInstance}
 use Rattle.loop_bounds.specs.Instance.{Instance, holds, is_member, is_header}
 use Rattle.loop_bounds.specs.Keys.{AreByKey, IsPoint, key_of, is_before}
 use Rattle.loop_bounds.specs.Extents.{AreExtents, AreExtentsOf, AreExtentsUpto, IsExtentOf, is_within, found_instance, extent_at}
@@ -144,7 +144,7 @@ module _ (listed : List Place) (by : AreByKey listed) (i : Instance) (first end 
 
 -- ## All extents
 
-pub extents_more : (listed : List Place) (found : List Found) (extents : List Extent) (k : ℕ) (f : Found) (s : Extent) → AreExtentsUpto listed found extents k → k < length found → f ≡ get_or found k f → IsExtentOf listed (found_instance f) s → s.instance ≡ k → s.first < s.end → AreExtentsUpto listed found (extents ++ s ∷ []) (k + 1)
+pub extents_more : (listed : List Place) (found : List LoopInstance) (extents : List Extent) (k : ℕ) (f : LoopInstance) (s : Extent) → AreExtentsUpto listed found extents k → k < length found → f ≡ get_or found k f → IsExtentOf listed (found_instance f) s → s.instance ≡ k → s.first < s.end → AreExtentsUpto listed found (extents ++ s ∷ []) (k + 1)
 extents_more listed found extents k f s upto lt f_is is named some =
     let same : length extents ≡ k = upto.same in
     record {
@@ -156,17 +156,17 @@ extents_more listed found extents k f s upto lt f_is is named some =
           let new : s ≡ get_or (extents ++ s ∷ []) j t = sym (ap (λ (x : ℕ). get_or (extents ++ s ∷ []) x t) (here ∙ sym same) ∙ get_or-append_seam extents s [] t) in
           let old : f ≡ get_or found j d = f_is ∙ get_or_default found k f d lt ∙ ap (λ (x : ℕ). get_or found x d) (sym here) in
           subst (λ (x : Extent). IsExtentOf listed (found_instance (get_or found j d)) x × (x.instance ≡ j) × (x.first < x.end)) new
-          (subst (λ (x : Found). IsExtentOf listed (found_instance x) s) old is, named ∙ sym here, some))
+          (subst (λ (x : LoopInstance). IsExtentOf listed (found_instance x) s) old is, named ∙ sym here, some))
           (cases_lt j k);
     }
 
-abbrev pub no_found : Found
+abbrev pub no_found : LoopInstance
 no_found = record { list = []; stated = record { header = 0; first = 0; last = 0; bound = 0 } }
 
-pub extents_of : (listed : List Place) (found : List Found) (extents moved : List Extent) → AreExtentsUpto listed found extents (length found) → IsPermutation extents moved → AreExtentsOf listed found moved
+pub extents_of : (listed : List Place) (found : List LoopInstance) (extents moved : List Extent) → AreExtentsUpto listed found extents (length found) → IsPermutation extents moved → AreExtentsOf listed found moved
 extents_of listed found extents moved upto perm =
     let back : (s : Extent) → Contains moved s → Contains extents s = λ s has. Contains-permutation moved extents s (IsPermutation-sym extents moved perm) has in
-    let at : (s : Extent) (has : Contains extents s) (d : Found) → IsExtentOf listed (found_instance (get_or found has.0 d)) s × (s.instance ≡ has.0) × (s.first < s.end) =
+    let at : (s : Extent) (has : Contains extents s) (d : LoopInstance) → IsExtentOf listed (found_instance (get_or found has.0 d)) s × (s.instance ≡ has.0) × (s.first < s.end) =
     λ s has d. subst (λ (x : Extent). IsExtentOf listed (found_instance (get_or found has.0 d)) x × (x.instance ≡ has.0) × (x.first < x.end)) has.2 (upto.each has.0 s d (omega (arith, has.1, upto.same))) in
     record {
       named = λ s has. let h = back s has in omega (arith, h.1, upto.same, (at s h no_found).1);
@@ -201,7 +201,7 @@ opens_before x y = is_lt (ordering_then (nat_cmp x.first y.first) (nat_cmp y.end
 opening_ranks : IsStrictWeakOrder opens_before
 opening_ranks = ranks_by (then_total (on_total (λ (s : Extent). s.first) nat_cmp_total) (back_total (on_total (λ (s : Extent). s.end) nat_cmp_total))) (λ (s : Extent). s)
 
-pub extents_ordered : (listed : List Place) (found : List Found) (extents moved : List Extent) → AreExtentsUpto listed found extents (length found) → IsPermutation extents moved → IsSortedBy opens_before moved → AreExtents moved
+pub extents_ordered : (listed : List Place) (found : List LoopInstance) (extents moved : List Extent) → AreExtentsUpto listed found extents (length found) → IsPermutation extents moved → IsSortedBy opens_before moved → AreExtents moved
 extents_ordered listed found extents moved upto perm sorted =
     let none : Extent = record { first = 0; end = 0; header = 0; instance = 0 } in
     record {

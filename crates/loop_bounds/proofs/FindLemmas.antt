@@ -12,7 +12,7 @@ use Rattle.flow_graph.specs.declared.places.Place.{Place}
 use Rattle.flow_graph.specs.declared.places.Place.TheVariants.{At, Exit}
 use Rattle.flow_graph.proofs.StepEdges.{from_map, into_map, only_one}
 use Rattle.statement.specs.declared.stated.Loop.{Loop}
-use Rattle.loop_bounds.specs.declared.loop_instances.Found.{Found}
+use Rattle.loop_bounds.specs.declared.loop_instances.LoopInstance.{LoopInstance}
 use Rattle.loop_bounds.specs.Instance.{Instance, instance_of}
 use Rattle.loop_bounds.specs.Extents.{AreSeen, HeadersDiffer, IsFoundAmong, PlacesDiffer, found_instance, header_place}
 use Rattle.loop_bounds.specs.Nest.{HasSharedHeader}
@@ -66,7 +66,7 @@ first_upto_end sorted header first end inside below above = ⊎_elim
 
 -- ## Instances at a place
 
-abbrev pub found_at : List ℕ → Loop → Found
+abbrev pub found_at : List ℕ → Loop → LoopInstance
 found_at list l = record { list = list; stated = l }
 
 has_map : (loops : List Loop) (list : List ℕ) (i : Instance) → Contains (map found_instance (map (found_at list) loops)) i → (l : Loop) × Contains loops l × (i ≡ instance_of l list)
@@ -78,7 +78,7 @@ has_map loops list i has =
 map_has : (loops : List Loop) (list : List ℕ) (l : Loop) → Contains loops l → Contains (map found_instance (map (found_at list) loops)) (instance_of l list)
 map_has loops list l has = into_map found_instance (map (found_at list) loops) (found_at list l) (into_map (found_at list) loops l has)
 
-pub added : (loops : List Loop) (sorted : List Loop) (list : List ℕ) (address : ℕ) (old new : List Found) → ((l : Loop) → Contains loops l ↔ (Contains sorted l × (l.header ≡ address))) → new ≡ old ++ map (found_at list) loops → (i : Instance) → Contains (map found_instance new) i ↔ (Contains (map found_instance old) i ⊎ IsFoundAmong (At list address ∷ []) sorted i)
+pub added : (loops : List Loop) (sorted : List Loop) (list : List ℕ) (address : ℕ) (old new : List LoopInstance) → ((l : Loop) → Contains loops l ↔ (Contains sorted l × (l.header ≡ address))) → new ≡ old ++ map (found_at list) loops → (i : Instance) → Contains (map found_instance new) i ↔ (Contains (map found_instance old) i ⊎ IsFoundAmong (At list address ∷ []) sorted i)
 added loops sorted list address old new exact is i =
     let all : map found_instance new ≡ map found_instance old ++ map found_instance (map (found_at list) loops) = ap (map found_instance) is ∙ map-append found_instance old (map (found_at list) loops) in (
       (λ has. ⊎_elim
@@ -106,7 +106,7 @@ added loops sorted list address old new exact is i =
     )
 
 -- no instance has Exit for its header
-pub none_at_exit : (sorted : List Loop) (old : List Found) (i : Instance) → Contains (map found_instance old) i ↔ (Contains (map found_instance old) i ⊎ IsFoundAmong (Exit ∷ []) sorted i)
+pub none_at_exit : (sorted : List Loop) (old : List LoopInstance) (i : Instance) → Contains (map found_instance old) i ↔ (Contains (map found_instance old) i ⊎ IsFoundAmong (Exit ∷ []) sorted i)
 none_at_exit sorted old i = (
   (λ h. inl h),
   (λ h. ⊎_elim (λ before. before) (λ f. let x : Exit ≡ At i.list i.header = only_one Exit (At i.list i.header) f.reached in cc) h),
@@ -130,10 +130,10 @@ among_more places sorted k p i lt is =
           h),
     )
 
-pub found_more : (old now : List Found) (list : List ℕ) (loops : List Loop) (k : ℕ) → k < length loops → now ≡ old ++ map (found_at list) (take k loops) → now ++ found_at list (get_or loops k no_loop) ∷ [] ≡ old ++ map (found_at list) (take (k + 1) loops)
+pub found_more : (old now : List LoopInstance) (list : List ℕ) (loops : List Loop) (k : ℕ) → k < length loops → now ≡ old ++ map (found_at list) (take k loops) → now ++ found_at list (get_or loops k no_loop) ∷ [] ≡ old ++ map (found_at list) (take (k + 1) loops)
 found_more old now list loops k lt is =
-    ap (λ (xs : List Found). xs ++ found_at list (get_or loops k no_loop) ∷ []) is ∙ append_assoc old (map (found_at list) (take k loops)) (found_at list (get_or loops k no_loop) ∷ [])
-    ∙ ap (λ (xs : List Found). old ++ xs) (sym (ap (map (found_at list)) (take_more loops k no_loop lt) ∙ map_push (found_at list) (take k loops) (get_or loops k no_loop)))
+    ap (λ (xs : List LoopInstance). xs ++ found_at list (get_or loops k no_loop) ∷ []) is ∙ append_assoc old (map (found_at list) (take k loops)) (found_at list (get_or loops k no_loop) ∷ [])
+    ∙ ap (λ (xs : List LoopInstance). old ++ xs) (sym (ap (map (found_at list)) (take_more loops k no_loop lt) ∙ map_push (found_at list) (take k loops) (get_or loops k no_loop)))
 
 -- ## Headers that are seen
 
@@ -204,7 +204,7 @@ at_most_one sorted header first end inside from upto differ =
     (λ (few : end ≤ first + 1). omega arith)
     (cases_lt (first + 1) end)
 
-differ_push : (old : List Found) (f : Found) → PlacesDiffer old → All (λ g. header_place g ≢ header_place f) old → PlacesDiffer (old ++ f ∷ [])
+differ_push : (old : List LoopInstance) (f : LoopInstance) → PlacesDiffer old → All (λ g. header_place g ≢ header_place f) old → PlacesDiffer (old ++ f ∷ [])
 differ_push old f pairs apart j k d less lt =
     let len : length (old ++ f ∷ []) ≡ length old + 1 = length-append old (f ∷ []) in
     ⊎_elim
@@ -214,16 +214,16 @@ differ_push old f pairs apart j k d less lt =
     (λ (below : k ≡ length old → ⊥). rw (get_or_append_left old (f ∷ []) d k (omega arith), get_or_append_left old (f ∷ []) d j (omega arith)) (pairs j k d less (omega arith)))
     (cases_eq k (length old))
 
-pub differ_more : (loops : List Loop) (list : List ℕ) (address : ℕ) (old new : List Found) → length loops ≤ 1 → ((l : Loop) → Contains loops l → l.header ≡ address) → new ≡ old ++ map (found_at list) loops → PlacesDiffer old → All (λ f. header_place f ≢ At list address) old → PlacesDiffer new
+pub differ_more : (loops : List Loop) (list : List ℕ) (address : ℕ) (old new : List LoopInstance) → length loops ≤ 1 → ((l : Loop) → Contains loops l → l.header ≡ address) → new ≡ old ++ map (found_at list) loops → PlacesDiffer old → All (λ f. header_place f ≢ At list address) old → PlacesDiffer new
 differ_more [] list address old new few headers is pairs apart = subst PlacesDiffer (sym (is ∙ append-nil old)) pairs
 differ_more (l ∷ []) list address old new few headers is pairs apart =
     let header : l.header ≡ address = headers l (0, omega arith, refl) in
     subst PlacesDiffer (sym is) (differ_push old (found_at list l) pairs (subst (λ (a : ℕ). All (λ f. header_place f ≢ At list a) old) (sym header) apart))
 differ_more (l ∷ m ∷ loops) list address old new few headers is pairs apart = absurd (omega arith)
 
-pub apart_from : (places : List Place) (sorted : List Loop) (found : List Found) (k : ℕ) (p : Place) → k < length places → p ≡ get_or places k p → ((i : Instance) → Contains (map found_instance found) i → IsFoundAmong (take k places) sorted i) → AllPairs (λ (x : Place) (y : Place). x ≢ y) places → All (λ f. header_place f ≢ p) found
+pub apart_from : (places : List Place) (sorted : List Loop) (found : List LoopInstance) (k : ℕ) (p : Place) → k < length places → p ≡ get_or places k p → ((i : Instance) → Contains (map found_instance found) i → IsFoundAmong (take k places) sorted i) → AllPairs (λ (x : Place) (y : Place). x ≢ y) places → All (λ f. header_place f ≢ p) found
 apart_from places sorted found k p lt is among differ j d inside same =
-    let f : Found = get_or found j d in
+    let f : LoopInstance = get_or found j d in
     let has : Contains (map found_instance found) (found_instance f) = (j, omega (arith, length-map found found_instance), get_or-map found_instance found j d (found_instance f) inside) in
     let m = among (found_instance f) has in
     let m_lt : (m.reached).0 < k = omega (arith, (m.reached).1, length-take-le k places (omega arith)) in
@@ -236,18 +236,18 @@ one_more : (loops : List Loop) (k : ℕ) → k < length loops → take (k + 1) l
 one_more loops k lt = take_more loops k no_loop lt
 
 -- the instances of the first loops with the list
-pub record AreWith (places : List Place) (loops : List Loop) (list : List ℕ) (found : List Found) (limit : ℕ) : Type 0 where
+pub record AreWith (places : List Place) (loops : List Loop) (list : List ℕ) (found : List LoopInstance) (limit : ℕ) : Type 0 where
   pub exact : (i : Instance) → Contains (map found_instance found) i ↔ (IsFoundAmong places (take limit loops) i × (i.list ≡ list))
 
-pub with_none : (places : List Place) (loops : List Loop) (list : List ℕ) (found : List Found) → found ≡ [] → AreWith places loops list found 0
+pub with_none : (places : List Place) (loops : List Loop) (list : List ℕ) (found : List LoopInstance) → found ≡ [] → AreWith places loops list found 0
 with_none places loops list found none = record {
   exact = λ i. (
-    (λ has. absurd (omega (arith, (subst (λ (xs : List Found). Contains (map found_instance xs) i) none has).1))),
+    (λ has. absurd (omega (arith, (subst (λ (xs : List LoopInstance). Contains (map found_instance xs) i) none has).1))),
     (λ h. absurd (omega (arith, ((h.0).stated).1, length-take-le 0 loops (omega arith)))),
   );
 }
 
-pub with_one : (places : List Place) (loops : List Loop) (list : List ℕ) (found : List Found) (k : ℕ) → AreWith places loops list found k → k < length loops → Contains places (At list (get_or loops k no_loop).header) → AreWith places loops list (found ++ found_at list (get_or loops k no_loop) ∷ []) (k + 1)
+pub with_one : (places : List Place) (loops : List Loop) (list : List ℕ) (found : List LoopInstance) (k : ℕ) → AreWith places loops list found k → k < length loops → Contains places (At list (get_or loops k no_loop).header) → AreWith places loops list (found ++ found_at list (get_or loops k no_loop) ∷ []) (k + 1)
 with_one places loops list found k so_far lt reached =
     let l : Loop = get_or loops k no_loop in
     let more : take (k + 1) loops ≡ take k loops ++ l ∷ [] = one_more loops k lt in
@@ -273,7 +273,7 @@ with_one places loops list found k so_far lt reached =
       );
     }
 
-pub with_same : (places : List Place) (loops : List Loop) (list : List ℕ) (found : List Found) (k : ℕ) → AreWith places loops list found k → k < length loops → (Contains places (At list (get_or loops k no_loop).header) → ⊥) → AreWith places loops list found (k + 1)
+pub with_same : (places : List Place) (loops : List Loop) (list : List ℕ) (found : List LoopInstance) (k : ℕ) → AreWith places loops list found k → k < length loops → (Contains places (At list (get_or loops k no_loop).header) → ⊥) → AreWith places loops list found (k + 1)
 with_same places loops list found k so_far lt unreached =
     let l : Loop = get_or loops k no_loop in
     let more : take (k + 1) loops ≡ take k loops ++ l ∷ [] = one_more loops k lt in

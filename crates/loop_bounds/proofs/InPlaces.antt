@@ -9,7 +9,7 @@ use Rattle.flow_graph.specs.declared.places.Place.TheVariants.{At, Exit}
 use Rattle.statement.specs.declared.stated.Loop.{Loop}
 use Rattle.flow_graph.specs.Flow.{Flow, IsWellFormed}
 use Rattle.statement.specs.Stated.{IsLoop}
-use Rattle.loop_bounds.specs.declared.loop_instances.Found.{Found}
+use Rattle.loop_bounds.specs.declared.loop_instances.LoopInstance.{LoopInstance}
 use Rattle.loop_bounds.specs.Instance.{Instance, IsInstance}
 use Rattle.loop_bounds.specs.Keys.{AreByKey, IsListed}
 use Rattle.loop_bounds.specs.Extents.{HeadersDiffer, IsFoundAmong, found_instance, header_place}
@@ -54,13 +54,13 @@ instances_are flow loops sorted moved i = (
   (λ f. record { stated_loop = f.stated_loop; stated = Contains-permutation loops sorted f.stated_loop moved f.stated; reached = f.reached; parts = f.parts }),
 )
 
-pub found_has : (found : List Found) (k : ℕ) (d : Found) → k < length found → Contains (map found_instance found) (found_instance (get_or found k d))
+pub found_has : (found : List LoopInstance) (k : ℕ) (d : LoopInstance) → k < length found → Contains (map found_instance found) (found_instance (get_or found k d))
 found_has found k d lt = (k, omega (arith, length-map found found_instance), get_or-map found_instance found k d (found_instance (get_or found k d)) lt)
 
-pub found_reached : (flow : Flow) (sorted : List Loop) (listed : List Place) (found : List Found) → IsListed flow.places listed → ((i : Instance) → Contains (map found_instance found) i → IsFoundAmong flow.places sorted i) → All (λ f. Contains listed (At f.list f.stated.header)) found
+pub found_reached : (flow : Flow) (sorted : List Loop) (listed : List Place) (found : List LoopInstance) → IsListed flow.places listed → ((i : Instance) → Contains (map found_instance found) i → IsFoundAmong flow.places sorted i) → All (λ f. Contains listed (At f.list f.stated.header)) found
 found_reached flow sorted listed found l are k d lt = listed_has flow.places listed l (header_place (get_or found k d)) (are (found_instance (get_or found k d)) (found_has found k d lt)).reached
 
-pub found_stated : (flow : Flow) (loops sorted : List Loop) (found : List Found) → IsPermutation loops sorted → All IsLoop loops → ((i : Instance) → Contains (map found_instance found) i → IsFoundAmong flow.places sorted i) → All (λ f. IsLoop f.stated) found
+pub found_stated : (flow : Flow) (loops sorted : List Loop) (found : List LoopInstance) → IsPermutation loops sorted → All IsLoop loops → ((i : Instance) → Contains (map found_instance found) i → IsFoundAmong flow.places sorted i) → All (λ f. IsLoop f.stated) found
 found_stated flow loops sorted found moved all are k d lt =
     let f = are (found_instance (get_or found k d)) (found_has found k d lt) in
     let has = Contains-permutation sorted loops f.stated_loop (IsPermutation-sym loops sorted moved) f.stated in

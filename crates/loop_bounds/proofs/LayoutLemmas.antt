@@ -14,7 +14,7 @@ use Rattle.std.proofs.lemmas.List.Sorted.{ranks_by, sorted_far, Contains-permuta
 use Rattle.loop_bounds.specs.declared.extents.Extent.{Extent}
 use Rattle.loop_bounds.specs.declared.layout.Keyed.{Keyed}
 use Rattle.numbered_walks.specs.declared.span.NumberedEdge.{NumberedEdge}
-use Rattle.loop_bounds.specs.declared.loop_instances.Found.{Found}
+use Rattle.loop_bounds.specs.declared.loop_instances.LoopInstance.{LoopInstance}
 use Rattle.numbered_walks.specs.declared.span.Span.{Span}
 use Rattle.numbered_walks.proofs.Members.{no_numbered_edge, no_span}
 use Rattle.loop_bounds.specs.Extents.{extent_at}
@@ -159,7 +159,7 @@ module _ (key : ℕ → List ℕ) (chains : List (List ℕ)) (exit : ℕ) (keyed
 
 -- ## Spans
 
-pub spans_more : (numbers : List ℕ) (found : List Found) (extents : List Extent) (spans : List (Span × ℕ)) (i : ℕ) (span : Span) → AreSpans numbers found extents spans i → i < length extents → ((d : Found) → IsShown numbers (extent_at extents i) (get_or found (extent_at extents i).instance d).stated.bound span) → AreSpans numbers found extents (spans ++ (span, (extent_at extents i).instance) ∷ []) (i + 1)
+pub spans_more : (numbers : List ℕ) (found : List LoopInstance) (extents : List Extent) (spans : List (Span × ℕ)) (i : ℕ) (span : Span) → AreSpans numbers found extents spans i → i < length extents → ((d : LoopInstance) → IsShown numbers (extent_at extents i) (get_or found (extent_at extents i).instance d).stated.bound span) → AreSpans numbers found extents (spans ++ (span, (extent_at extents i).instance) ∷ []) (i + 1)
 spans_more numbers found extents spans i span so_far lt is =
     let new : Span × ℕ = (span, (extent_at extents i).instance) in
     let same : length spans ≡ i = so_far.same in
@@ -241,7 +241,7 @@ shown_from numbers s header bound last spare (Some m) some inside is most attain
 abbrev pub no_numbered_span : Span × ℕ
 no_numbered_span = (no_span, 0)
 
-pub parted_more : (found : List Found) (closing : List (Span × ℕ)) (instances : List Found) (spans : List Span) (i : ℕ) (f : Found) → AreParted found closing instances spans i → i < length closing → (get_or closing i no_numbered_span).1 < length found → f ≡ get_or found (get_or closing i no_numbered_span).1 f → AreParted found closing (instances ++ f ∷ []) (spans ++ (get_or closing i no_numbered_span).0 ∷ []) (i + 1)
+pub parted_more : (found : List LoopInstance) (closing : List (Span × ℕ)) (instances : List LoopInstance) (spans : List Span) (i : ℕ) (f : LoopInstance) → AreParted found closing instances spans i → i < length closing → (get_or closing i no_numbered_span).1 < length found → f ≡ get_or found (get_or closing i no_numbered_span).1 f → AreParted found closing (instances ++ f ∷ []) (spans ++ (get_or closing i no_numbered_span).0 ∷ []) (i + 1)
 parted_more found closing instances spans i f so_far lt named is =
     let same : length instances ≡ i = so_far.same in
     record {
@@ -261,7 +261,7 @@ pub take_none : {X : Type 0} (xs : List X) → take 0 xs ≡ []
 take_none [] = refl
 take_none (x ∷ xs) = refl
 
-pub parted_none : (found : List Found) (closing : List (Span × ℕ)) (instances : List Found) (spans : List Span) → instances ≡ [] → spans ≡ [] → AreParted found closing instances spans 0
+pub parted_none : (found : List LoopInstance) (closing : List (Span × ℕ)) (instances : List LoopInstance) (spans : List Span) → instances ≡ [] → spans ≡ [] → AreParted found closing instances spans 0
 parted_none found closing instances spans none no_spans = record {
   same = ap length none;
   spans_are = no_spans ∙ sym (ap (map (λ (x : Span × ℕ). x.0)) (take_none closing));

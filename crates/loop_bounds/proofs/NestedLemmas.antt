@@ -4,7 +4,7 @@ use Rattle.std.proofs.lemmas.Grind.{flat_map-append}
 use Rattle.std.proofs.lemmas.List.{append-nil, append_assoc, drop-map, map-append, take-append-drop, take-map}
 use Rattle.std.proofs.lemmas.List.Folds.{flat_map-map}
 use Rattle.flow_graph.specs.declared.places.Place.{Place}
-use Rattle.loop_bounds.specs.declared.loop_instances.Found.{Found}
+use Rattle.loop_bounds.specs.declared.loop_instances.LoopInstance.{LoopInstance}
 use Rattle.loop_bounds.specs.declared.nested.Instance.{Instance as Nested, out-Instance, roll-Instance}
 use Rattle.loop_bounds.specs.declared.nested.Instance.TheOpen.{Instance-F}
 use Rattle.loop_bounds.specs.declared.nested.Instance.TheFolds.{fold-roll-Instance, fold_out-Instance}
@@ -18,7 +18,7 @@ map_twice : {A B C : Type 0} (f : B → C) (g : A → B) (xs : List A) → map f
 map_twice f g [] = refl
 map_twice f g (x ∷ xs) = ap (λ rest. f (g x) ∷ rest) (map_twice f g xs)
 
-abbrev node : Found → List Place → List Instance → Node
+abbrev node : LoopInstance → List Place → List Instance → Node
 node found places inner = record { instance = found_instance found; places = places; inner = inner }
 
 abbrev nodes_of : Nested → List Node

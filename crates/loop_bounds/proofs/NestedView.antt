@@ -6,7 +6,7 @@ use Rattle.std.proofs.lemmas.List.Elements.{All-nil, All-push, Contains-get_or}
 use Rattle.flow_graph.specs.declared.places.Place.{Place}
 use Rattle.flow_graph.specs.Flow.{Flow}
 use Rattle.numbered_walks.specs.declared.span.Span.{Span}
-use Rattle.loop_bounds.specs.declared.loop_instances.Found.{Found}
+use Rattle.loop_bounds.specs.declared.loop_instances.LoopInstance.{LoopInstance}
 use Rattle.loop_bounds.specs.declared.nested.Outermost.{Outermost}
 use Rattle.loop_bounds.specs.Extents.{found_instance}
 use Rattle.loop_bounds.specs.Instance.{Instance, is_member}
@@ -17,7 +17,7 @@ use Rattle.loop_bounds.specs.Tree.{IsTree, Tree}
 use Rattle.loop_bounds.proofs.NestedSpans.{IsDirectlyIn, direct_from, direct_to, outermost_more}
 use Rattle.loop_bounds.proofs.NestedPlaces.{as_many, inside_from, inside_to, is_of, members_from, members_to}
 
-pub found_at : (found : List Found) (instances : List Instance) (k : ℕ) (f : Found) → map found_instance found ≡ instances → k < length found → f ≡ get_or found k f → found_instance f ≡ instance_at instances k
+pub found_at : (found : List LoopInstance) (instances : List Instance) (k : ℕ) (f : LoopInstance) → map found_instance found ≡ instances → k < length found → f ≡ get_or found k f → found_instance f ≡ instance_at instances k
 found_at found instances k f same lt is = ap found_instance is ∙ sym (get_or-map found_instance found k f _ lt) ∙ ap (λ (is : List Instance). instance_at is k) same
 
 module _ (flow : Flow) (tree : Tree) (t : IsTree flow tree) where

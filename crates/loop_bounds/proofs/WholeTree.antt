@@ -13,7 +13,7 @@ use Rattle.statement.specs.declared.stated.Loop.{Loop}
 use Rattle.flow_graph.specs.Flow.{Flow, IsWellFormed}
 use Rattle.flow_graph.specs.Places.{place_at}
 use Rattle.loop_bounds.specs.declared.extents.Extent.{Extent}
-use Rattle.loop_bounds.specs.declared.loop_instances.Found.{Found}
+use Rattle.loop_bounds.specs.declared.loop_instances.LoopInstance.{LoopInstance}
 use Rattle.loop_bounds.specs.declared.handler_positions.HandlerPositions.{HandlerPositions}
 use Rattle.loop_bounds.specs.declared.nesting.Nesting.{Nesting}
 use Rattle.numbered_walks.specs.declared.span.NumberedEdge.{NumberedEdge}
@@ -98,7 +98,7 @@ module _ (flow : Flow) (loops : List Loop) (positions : HandlerPositions) (well_
   back_of : (p : ℕ) → p < exit → (get_or numbers_list p 0 < exit) × (get_or order (get_or numbers_list p 0) 0 ≡ p)
   back_of p lt = number_back edges positions.entry exit extents rank order numbers_list plan p lt
 
-  module _ (closing : List (Span × ℕ)) (shown : AreShown numbers_list positions.found.items extents closing) (instances : List Found) (spans : List Span) (parted_upto : AreParted positions.found.items closing instances spans (length closing)) (indexes : List ℕ) (placed : ArePlaced flow.places positions.listed.items order indexes) (moved : List NumberedEdge) (moves : AreMoved numbers_list edges moved (length edges)) where
+  module _ (closing : List (Span × ℕ)) (shown : AreShown numbers_list positions.found.items extents closing) (instances : List LoopInstance) (spans : List Span) (parted_upto : AreParted positions.found.items closing instances spans (length closing)) (indexes : List ℕ) (placed : ArePlaced flow.places positions.listed.items order indexes) (moved : List NumberedEdge) (moves : AreMoved numbers_list edges moved (length edges)) where
     parted_spans : spans ≡ map (λ (x : Span × ℕ). x.0) closing
     parted_spans = parted_upto.spans_are ∙ ap (map (λ (x : Span × ℕ). x.0)) (take_all (length closing) closing (omega arith))
 
@@ -498,7 +498,7 @@ module _ (flow : Flow) (loops : List Loop) (positions : HandlerPositions) (well_
 pub extents_some : (flow : Flow) (loops : List Loop) (positions : HandlerPositions) → AreHandlerPositions flow loops positions → All (λ (s : Extent). s.first < s.end) positions.extents.items
 extents_some flow loops positions g k d lt = subst (λ (s : Extent). s.first < s.end) (get_or_default positions.extents.items k _ d lt) ((g.extents_are).some k lt)
 
-pub pairs_named : (numbers_list : List ℕ) (found : List Found) (extents : List Extent) (closing : List (Span × ℕ)) → AreShown numbers_list found extents closing → All (λ (s : Extent). s.instance < length found) extents → All (λ (x : Span × ℕ). x.1 < length found) closing
+pub pairs_named : (numbers_list : List ℕ) (found : List LoopInstance) (extents : List Extent) (closing : List (Span × ℕ)) → AreShown numbers_list found extents closing → All (λ (s : Extent). s.instance < length found) extents → All (λ (x : Span × ℕ). x.1 < length found) closing
 pairs_named numbers_list found extents closing shown named k d lt =
     let x : Span × ℕ = get_or closing k d in
     let h = Contains-permutation closing shown.turn x (IsPermutation-sym shown.turn closing shown.moved) (Contains-get_or closing k d lt) in

@@ -9,7 +9,7 @@ use Rattle.flow_graph.specs.declared.places.Place.TheVariants.{At}
 use Rattle.statement.specs.declared.stated.Loop.{Loop}
 use Rattle.flow_graph.specs.Places.{place_at}
 use Rattle.loop_bounds.specs.declared.extents.Extent.{Extent}
-use Rattle.loop_bounds.specs.declared.loop_instances.Found.{Found}
+use Rattle.loop_bounds.specs.declared.loop_instances.LoopInstance.{LoopInstance}
 use Rattle.loop_bounds.specs.Instance.{Instance, instance_of, is_member, is_header}
 
 abbrev pub extent_at : List Extent → ℕ → Extent
@@ -28,7 +28,7 @@ is_within s p = nat_le s.first p && nat_lt p s.end
 -- ## Of which instance
 
 -- a loop that was found with a list of calls
-abbrev pub found_instance : Found → Instance
+abbrev pub found_instance : LoopInstance → Instance
 found_instance found = instance_of found.stated found.list
 
 -- a stated loop, and a list of calls with which its header is one of the places
@@ -42,11 +42,11 @@ pub record IsFoundAmong (places : List Place) (loops : List Loop) (i : Instance)
 abbrev pub HeadersDiffer : List Loop → Type 0
 HeadersDiffer loops = AllPairs (λ l m. l.header ≢ m.header) loops
 
-abbrev pub header_place : Found → Place
+abbrev pub header_place : LoopInstance → Place
 header_place found = At found.list found.stated.header
 
 -- the instances have each another place for their header
-abbrev pub PlacesDiffer : List Found → Type 0
+abbrev pub PlacesDiffer : List LoopInstance → Type 0
 PlacesDiffer found = AllPairs (λ f g. header_place f ≢ header_place g) found
 
 -- the extent holds the positions of the instance's members, one of them the header's
@@ -56,19 +56,20 @@ pub record IsExtentOf (listed : List Place) (i : Instance) (s : Extent) : Type 0
   pub headers : (p : ℕ) → p ≤ length listed → is_header i (place_at listed p) ≡ (p == s.header)
 
 -- each extent is that of the instance that it names, and each instance has one
-pub record AreExtentsOf (listed : List Place) (found : List Found) (extents : List Extent) : Type 0 where
+pub record AreExtentsOf (listed : List Place) (found : List LoopInstance) (extents : List Extent)
+    : Type 0 where
   pub named : (s : Extent) → Contains extents s → s.instance < length found
-  pub are : (s : Extent) (d : Found) → Contains extents s
+  pub are : (s : Extent) (d : LoopInstance) → Contains extents s
       → IsExtentOf listed (found_instance (slice_index_or found s.instance d)) s
   pub all : (k : ℕ) → k < length found → (s : Extent) × Contains extents s × (s.instance ≡ k)
   pub once : (j k : ℕ) (d : Extent) → j < length extents → k < length extents
       → (slice_index_or extents j d).instance ≡ (slice_index_or extents k d).instance → j ≡ k
 
 -- the extents of the first instances, in their turn
-pub record AreExtentsUpto (listed : List Place) (found : List Found) (extents : List Extent)
+pub record AreExtentsUpto (listed : List Place) (found : List LoopInstance) (extents : List Extent)
     (limit : ℕ) : Type 0 where
   pub same : length extents ≡ limit
-  pub each : (k : ℕ) (s : Extent) (d : Found) → k < limit
+  pub each : (k : ℕ) (s : Extent) (d : LoopInstance) → k < limit
       → IsExtentOf listed (found_instance (slice_index_or found k d)) (slice_index_or extents k s)
       × ((slice_index_or extents k s).instance ≡ k)
       × ((slice_index_or extents k s).first < (slice_index_or extents k s).end)

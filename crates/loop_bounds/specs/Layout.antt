@@ -12,7 +12,7 @@ use Rattle.walks.specs.declared.limits.TheConstants.{MOST_INSTANCES}
 use Rattle.numbered_walks.specs.declared.span.NumberedEdge.{NumberedEdge}
 use Rattle.loop_bounds.specs.declared.extents.Extent.{Extent}
 use Rattle.loop_bounds.specs.declared.layout.Keyed.{Keyed}
-use Rattle.loop_bounds.specs.declared.loop_instances.Found.{Found}
+use Rattle.loop_bounds.specs.declared.loop_instances.LoopInstance.{LoopInstance}
 use Rattle.numbered_walks.specs.declared.span.Span.{Span}
 use Rattle.flow_graph.specs.declared.places.Place.{Place}
 use Rattle.flow_graph.specs.Places.{place_at}
@@ -209,12 +209,12 @@ pub record IsShown (numbers : List ℕ) (s : Extent) (bound : ℕ) (span : Span)
   pub bound_is : span.bound ≡ bound
 
 -- the spans of the first extents in turn, with their instances
-pub record AreSpans (numbers : List ℕ) (found : List Found) (extents : List Extent) (spans : List (Span × ℕ))
-    (limit : ℕ) : Type 0 where
+pub record AreSpans (numbers : List ℕ) (found : List LoopInstance) (extents : List Extent)
+    (spans : List (Span × ℕ)) (limit : ℕ) : Type 0 where
   pub same : length spans ≡ limit
   pub named : (k : ℕ) (s : Extent) (x : Span × ℕ) → k < limit
       → (slice_index_or spans k x).1 ≡ (slice_index_or extents k s).instance
-  pub shown : (k : ℕ) (s : Extent) (d : Found) (x : Span × ℕ) → k < limit
+  pub shown : (k : ℕ) (s : Extent) (d : LoopInstance) (x : Span × ℕ) → k < limit
       → IsShown numbers (slice_index_or extents k s)
       (slice_index_or found (slice_index_or extents k s).instance d).stated.bound (slice_index_or spans k x).0
 
@@ -223,7 +223,7 @@ abbrev pub opens_after : Span × ℕ → Span × ℕ → Bool
 opens_after x y = is_lt (ordering_then (nat_cmp x.0.last y.0.last) (nat_cmp y.0.header x.0.header))
 
 -- the spans of the extents with their instances, the inner ones first
-pub record AreShown (numbers : List ℕ) (found : List Found) (extents : List Extent)
+pub record AreShown (numbers : List ℕ) (found : List LoopInstance) (extents : List Extent)
     (spans : List (Span × ℕ)) : Type 0 where
   pub turn : List (Span × ℕ)
   pub turn_is : AreSpans numbers found extents turn (length extents)
@@ -246,9 +246,9 @@ pub record ArePlaced (places listed : List Place) (order indexes : List ℕ) : T
       → place_at places (slice_index indexes n) ≡ place_at listed (slice_index order n)
 
 -- the instances that are named, and the spans, of the first pairs
-pub record AreParted (found : List Found) (closing : List (Span × ℕ)) (instances : List Found)
+pub record AreParted (found : List LoopInstance) (closing : List (Span × ℕ)) (instances : List LoopInstance)
     (spans : List Span) (limit : ℕ) : Type 0 where
   pub same : length instances ≡ limit
   pub spans_are : spans ≡ map (λ x. x.0) (take limit closing)
-  pub named : (k : ℕ) (d : Found) (x : Span × ℕ) → k < limit
+  pub named : (k : ℕ) (d : LoopInstance) (x : Span × ℕ) → k < limit
       → slice_index_or instances k d ≡ slice_index_or found (slice_index_or closing k x).1 d

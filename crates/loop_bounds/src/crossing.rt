@@ -8,7 +8,7 @@ ghost use Rattle.loop_bounds.specs.Keys.{IsListed};
 ghost use Rattle.loop_bounds.specs.Nest.{HasCrossing, HasCrossingWith};
 
 use crate::extents::extents;
-use crate::loop_instances::Found;
+use crate::loop_instances::LoopInstance;
 use crate::parents::parents;
 use flow_graph::{Calls, Graph, Loop, Place};
 use std::alloc::{AllocError, Global};
@@ -19,7 +19,7 @@ fn instances_with(
     places: &[Place],
     loops: &[Loop],
     list: Calls,
-) -> Result<Vec<Found>, AllocError>
+) -> Result<Vec<LoopInstance>, AllocError>
     requires { IsStrictlySortedBy place_cmp places.now }
     ensures { IfOk result
         (λ found. (i : Instance) → Contains (map found_instance found.items) i
@@ -29,7 +29,7 @@ fn instances_with(
     for stated in loops {
         let header = Place::At(list, stated.header);
         if places.binary_search(&header).is_ok() {
-            found.push(Found {
+            found.push(LoopInstance {
                 list,
                 stated: *stated,
             })?;

@@ -4,7 +4,7 @@ ghost use Rattle.flow_graph.specs.declared.places.Place.TheVariants.{At};
 ghost use Rattle.loop_bounds.specs.Keys.{AreByKey};
 ghost use Rattle.loop_bounds.specs.Extents.{AreExtents, AreExtentsOf, IsExtentOf, IsWithin, found_instance};
 
-use crate::loop_instances::Found;
+use crate::loop_instances::LoopInstance;
 use crate::numbering::point;
 use flow_graph::Place;
 use std::alloc::{AllocError, Global};
@@ -31,7 +31,7 @@ impl Extent {
 }
 
 // The extent of an instance.
-fn extent_of(listed: &[Place], found: &Found, instance: usize) -> Extent
+fn extent_of(listed: &[Place], found: &LoopInstance, instance: usize) -> Extent
     requires listed { AreByKey listed.now }
     requires stated { IsLoop found.now.stated }
     requires reached { Contains listed.now (At found.now.list found.now.stated.header) }
@@ -51,7 +51,7 @@ fn extent_of(listed: &[Place], found: &Found, instance: usize) -> Extent
 pub(crate) fn extents(
     alloc: Global,
     listed: &[Place],
-    found: &[Found],
+    found: &[LoopInstance],
 ) -> Result<Vec<Extent>, AllocError>
     requires listed { AreByKey listed.now }
     requires stated { All (λ f. IsLoop f.stated) found.now }

@@ -6,7 +6,7 @@ ghost use Rattle.loop_bounds.specs.Keys.{IsListed};
 ghost use Rattle.loop_bounds.specs.Nest.{HasSharedHeader};
 
 use crate::extents::{Extent, extents};
-use crate::loop_instances::{Found, instances_among};
+use crate::loop_instances::{LoopInstance, instances_among};
 use crate::numbering::{number_edges, position_of};
 use flow_graph::{Graph, Loop, Place};
 use numbered_walks::NumberedEdge;
@@ -17,7 +17,7 @@ use std::alloc::{AllocError, Global};
 #[derive(Drop)]
 pub(crate) struct HandlerPositions {
     pub listed: Vec<Place>,
-    pub found: Vec<Found>,
+    pub found: Vec<LoopInstance>,
     pub extents: Vec<Extent>,
     pub edges: Vec<NumberedEdge>,
     pub entry: usize,

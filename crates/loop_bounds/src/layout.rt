@@ -9,7 +9,7 @@ ghost use Rattle.loop_bounds.specs.Layout.{chain_above, items_of, key_in};
 ghost use Rattle.loop_bounds.specs.Keys.{IsListed};
 
 use crate::extents::Extent;
-use crate::loop_instances::Found;
+use crate::loop_instances::LoopInstance;
 use crate::nesting::Nesting;
 use crate::numbering::index_near;
 use crate::parents::innermost;
@@ -141,7 +141,7 @@ fn greatest(numbers: &[usize]) -> Option<usize>
 }
 
 // The span of an extent.
-fn span_of(extent: &Extent, found: &Found, numbers: &[usize]) -> Span
+fn span_of(extent: &Extent, found: &LoopInstance, numbers: &[usize]) -> Span
     requires some { extent.now.first < extent.now.end }
     requires inside { extent.now.end ≤ length numbers.now }
     requires header { extent.now.header < length numbers.now }
@@ -160,7 +160,7 @@ fn span_of(extent: &Extent, found: &Found, numbers: &[usize]) -> Span
 pub(crate) fn spans(
     alloc: Global,
     extents: &[Extent],
-    found: &[Found],
+    found: &[LoopInstance],
     numbers: &[usize],
 ) -> Result<Vec<(Span, usize)>, AllocError>
     requires some { All (λ s. s.first < s.end) extents.now }

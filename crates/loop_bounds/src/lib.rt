@@ -30,7 +30,7 @@ mod ranks;
 mod tree;
 
 pub use fault::NestFault;
-pub use loop_instances::Found;
+pub use loop_instances::LoopInstance;
 pub use members::is_back_edge_of;
 pub use nested::{Instance, Instances};
 pub use tree::{LoopTree, nest, place_in};

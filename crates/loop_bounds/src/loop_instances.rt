@@ -13,7 +13,7 @@ use std::collections::BTreeSet;
 
 /// An instance of a loop: a stated loop, and a list of calls with which its header is reached.
 #[derive(Clone, Copy)]
-pub struct Found {
+pub struct LoopInstance {
     /// The calls inside of which the loop is taken.
     pub list: Calls,
     /// What the statement says of the loop.
@@ -57,7 +57,11 @@ fn loops_at(sorted: &[Loop], header: u32) -> &[Loop]
 }
 
 // Adds the instances whose header is the place.
-fn add_instances(found: &mut Vec<Found>, sorted: &[Loop], place: &Place) -> Result<(), AllocError>
+fn add_instances(
+    found: &mut Vec<LoopInstance>,
+    sorted: &[Loop],
+    place: &Place,
+) -> Result<(), AllocError>
     requires { IsNonDecreasingBy (λ l. l.header) sorted.now }
     ensures added { OnOk result
         ((i : Instance) → Contains (map found_instance found.new.items) i
@@ -68,7 +72,7 @@ fn add_instances(found: &mut Vec<Found>, sorted: &[Loop], place: &Place) -> Resu
 {
     if let Place::At(list, address) = place {
         for stated in loops_at(sorted, *address) {
-            found.push(Found {
+            found.push(LoopInstance {
                 list: *list,
                 stated: *stated,
             })?;
@@ -82,7 +86,7 @@ pub(crate) fn instances_among(
     alloc: Global,
     sorted: &[Loop],
     places: &[Place],
-) -> Result<Vec<Found>, AllocError>
+) -> Result<Vec<LoopInstance>, AllocError>
     requires { IsNonDecreasingBy (λ l. l.header) sorted.now }
     ensures exact { IfOk result
         (λ found. (i : Instance) → Contains (map found_instance found.items) i

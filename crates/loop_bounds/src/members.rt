@@ -2,7 +2,7 @@ ghost use Rattle.std.specs.Prelude.{◌≡◌, ◌++◌, [], ◌∷◌};
 ghost use Rattle.loop_bounds.specs.Extents.{found_instance};
 ghost use Rattle.loop_bounds.specs.Instance.{holds, is_header, is_member, is_back_edge_of};
 
-use crate::loop_instances::Found;
+use crate::loop_instances::LoopInstance;
 use flow_graph::{Edge, Loop, Place};
 
 fn is_between(stated: &Loop, address: u32) -> bool
@@ -27,7 +27,7 @@ fn holds(stated: &Loop, list: &[u32], calls: &[u32], address: u32) -> bool
     }
 }
 
-impl Found {
+impl LoopInstance {
     /// Whether the place is a member of the instance.
     pub fn is_member(&self, place: &Place) -> bool
         ensures { result ≡ is_member (found_instance self.now) place.now }
@@ -62,7 +62,7 @@ pub fn is_back_edge_of(stated: &Loop, edge: &Edge) -> bool
 {
     match edge.to {
         Place::At(list, _) => {
-            let found = Found {
+            let found = LoopInstance {
                 list,
                 stated: *stated,
             };

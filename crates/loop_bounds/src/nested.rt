@@ -8,7 +8,7 @@ ghost use Rattle.loop_bounds.specs.Nested.{places_in};
 ghost use Rattle.loop_bounds.specs.NestedParts.{Encloses};
 ghost use Rattle.loop_bounds.specs.Tree.{IsTree};
 
-use crate::loop_instances::Found;
+use crate::loop_instances::LoopInstance;
 use crate::tree::LoopTree;
 use flow_graph::{Calls, Graph, Place};
 use numbered_walks::{ItemList, Span};
@@ -17,7 +17,7 @@ use std::alloc::{AllocError, Global};
 /// An instance of a loop, with its places and the instances directly inside it.
 #[derive(Drop)]
 pub struct Instance {
-    found: Found,
+    found: LoopInstance,
     places: Vec<Place>,
     inner: Vec<Instance>,
 }
@@ -73,7 +73,12 @@ struct Outermost {
 
 impl Outermost {
     // Adds an instance that ends after all, and takes those that begin within it.
-    fn enclose(&mut self, header: usize, found: Found, places: Vec<Place>) -> Result<(), AllocError>
+    fn enclose(
+        &mut self,
+        header: usize,
+        found: LoopInstance,
+        places: Vec<Place>,
+    ) -> Result<(), AllocError>
         requires same { length self.old.headers.items ≡ length self.old.instances.items }
         requires ascending { IsNonDecreasingBy (λ h. h) self.old.headers.items }
         ensures { OnOk result (Encloses self.old self.new header (found_instance found) places.items) }

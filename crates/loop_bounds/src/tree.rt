@@ -12,7 +12,7 @@ use crate::crossing::have_crossing;
 use crate::fault::NestFault;
 use crate::handler_positions::{HandlerPositions, find_positions};
 use crate::layout::{indexes, numbers, order, renumbered, spans};
-use crate::loop_instances::{Found, by_header, shares_header};
+use crate::loop_instances::{LoopInstance, by_header, shares_header};
 use crate::nesting::{Nesting, nest_extents};
 use crate::numbering::listed;
 use flow_graph::{Graph, Loop, Place, Statement};
@@ -24,7 +24,7 @@ use std::marker::Model;
 /// order in which each instance is an interval.
 #[derive(Drop)]
 pub struct LoopTree {
-    instances: Vec<Found>,
+    instances: Vec<LoopInstance>,
     spans: Vec<Span>,
     order: Vec<usize>,
     edges: Vec<NumberedEdge>,
@@ -56,7 +56,7 @@ impl LoopTree {
     }
 
     /// The instances, the inner ones before the outer ones.
-    pub fn instances(&self) -> &[Found]
+    pub fn instances(&self) -> &[LoopInstance]
         ensures { map found_instance result.now ≡ self.now.instances }
     {
         &self.instances
@@ -82,9 +82,9 @@ pub fn place_in(graph: &Graph, tree: &LoopTree, number: usize) -> Place
 // The instances in the order of their spans, with these.
 fn in_closing_order(
     alloc: Global,
-    found: &[Found],
+    found: &[LoopInstance],
     closing: &[(Span, usize)],
-) -> Result<(Vec<Found>, Vec<Span>), AllocError>
+) -> Result<(Vec<LoopInstance>, Vec<Span>), AllocError>
     requires { All (λ x. x.1 < length found.now) closing.now }
     ensures { IfOk result
         (λ parts. AreParted found.now closing.now parts.0.items parts.1.items (length closing.now)) }

@@ -5,7 +5,7 @@ use Rattle.flow_graph.specs.declared.places.Place.{Place}
 use Rattle.flow_graph.specs.declared.places.Place.TheVariants.{At}
 use Rattle.statement.specs.Stated.{IsLoop}
 use Rattle.loop_bounds.specs.declared.extents.Extent.{Extent}
-use Rattle.loop_bounds.specs.declared.loop_instances.Found.{Found}
+use Rattle.loop_bounds.specs.declared.loop_instances.LoopInstance.{LoopInstance}
 use Rattle.loop_bounds.specs.Instance.{Instance, IsInstance}
 use Rattle.loop_bounds.specs.Extents.{AreExtentsOf, HaveCrossing, IsFoundAmong, found_instance}
 use Rattle.loop_bounds.proofs.CrossFacts.{crossing, no_crossing, none_cross, some_apart}
@@ -18,12 +18,12 @@ extents-requires-clause-listed c = by_key_once c.args.graph.now c.args.listed.no
 pub extents-requires-clause-stated : goal.extents-requires-clause-stated
 extents-requires-clause-stated c =
     let are : (i : Instance) → Contains (map found_instance c.in_ok-found.found.items) i → IsFoundAmong c.args.graph.now.places c.args.loops.now i = λ i has. subst (λ (xs : List Place). IsFoundAmong xs c.args.loops.now i) c.places.ensures.value ((c.in_ok-found.ensures i).0 has).0 in
-    subst (λ (xs : List Found). All (λ (f : Found). IsLoop f.stated) xs) (sym c.deref.ensures.value) (found_stated c.args.graph.now c.args.loops.now c.args.loops.now c.in_ok-found.found.items (IsPermutation-refl c.args.loops.now) c.requires.stated are)
+    subst (λ (xs : List LoopInstance). All (λ (f : LoopInstance). IsLoop f.stated) xs) (sym c.deref.ensures.value) (found_stated c.args.graph.now c.args.loops.now c.args.loops.now c.in_ok-found.found.items (IsPermutation-refl c.args.loops.now) c.requires.stated are)
 
 pub extents-requires-clause-reached : goal.extents-requires-clause-reached
 extents-requires-clause-reached c =
     let are : (i : Instance) → Contains (map found_instance c.in_ok-found.found.items) i → IsFoundAmong c.args.graph.now.places c.args.loops.now i = λ i has. subst (λ (xs : List Place). IsFoundAmong xs c.args.loops.now i) c.places.ensures.value ((c.in_ok-found.ensures i).0 has).0 in
-    subst (λ (xs : List Found). All (λ (f : Found). Contains c.args.listed.now (At f.list f.stated.header)) xs) (sym c.deref.ensures.value) (found_reached c.args.graph.now c.args.loops.now c.args.listed.now c.in_ok-found.found.items c.requires.listed are)
+    subst (λ (xs : List LoopInstance). All (λ (f : LoopInstance). Contains c.args.listed.now (At f.list f.stated.header)) xs) (sym c.deref.ensures.value) (found_reached c.args.graph.now c.args.loops.now c.args.listed.now c.in_ok-found.found.items c.requires.listed are)
 
 pub returns-clause-crossing : goal.returns-clause-crossing
 returns-clause-crossing c = λ crossed.

@@ -4,7 +4,7 @@ use Rattle.flow_graph.specs.declared.places.Place.{Place}
 use Rattle.flow_graph.specs.declared.places.Place.TheVariants.{At, Exit}
 use Rattle.statement.specs.Stated.{IsLoop}
 use Rattle.flow_graph.specs.Places.{place_at}
-use Rattle.loop_bounds.specs.declared.loop_instances.Found.{Found}
+use Rattle.loop_bounds.specs.declared.loop_instances.LoopInstance.{LoopInstance}
 use Rattle.loop_bounds.specs.Instance.{Instance}
 use Rattle.loop_bounds.specs.Keys.{AreByKey, IsListed}
 use Rattle.loop_bounds.specs.Extents.{IsFoundAmong, found_instance}
@@ -18,13 +18,13 @@ extents-requires-clause-listed c = subst AreByKey (sym c.deref.ensures.value) (b
 pub extents-requires-clause-stated : goal.extents-requires-clause-stated
 extents-requires-clause-stated c =
     let are : (i : Instance) → Contains (map found_instance c.in_ok-found.found.items) i → IsFoundAmong c.args.graph.now.places c.args.sorted.now i = λ i has. subst (λ (xs : List Place). IsFoundAmong xs c.args.sorted.now i) c.places.ensures.value ((c.in_ok-found.ensures.exact i).0 has) in
-    subst (λ (xs : List Found). All (λ (f : Found). IsLoop f.stated) xs) (sym c.deref-2.ensures.value) (found_stated c.args.graph.now c.args.loops.now c.args.sorted.now c.in_ok-found.found.items c.requires.moved c.requires.stated are)
+    subst (λ (xs : List LoopInstance). All (λ (f : LoopInstance). IsLoop f.stated) xs) (sym c.deref-2.ensures.value) (found_stated c.args.graph.now c.args.loops.now c.args.sorted.now c.in_ok-found.found.items c.requires.moved c.requires.stated are)
 
 pub extents-requires-clause-reached : goal.extents-requires-clause-reached
 extents-requires-clause-reached c =
     let are : (i : Instance) → Contains (map found_instance c.in_ok-found.found.items) i → IsFoundAmong c.args.graph.now.places c.args.sorted.now i = λ i has. subst (λ (xs : List Place). IsFoundAmong xs c.args.sorted.now i) c.places.ensures.value ((c.in_ok-found.ensures.exact i).0 has) in
-    subst (λ (xs : List Place). All (λ (f : Found). Contains xs (At f.list f.stated.header)) c.deref-2.result.now) (sym c.deref.ensures.value)
-    (subst (λ (xs : List Found). All (λ (f : Found). Contains c.args.listed.items (At f.list f.stated.header)) xs) (sym c.deref-2.ensures.value)
+    subst (λ (xs : List Place). All (λ (f : LoopInstance). Contains xs (At f.list f.stated.header)) c.deref-2.result.now) (sym c.deref.ensures.value)
+    (subst (λ (xs : List LoopInstance). All (λ (f : LoopInstance). Contains c.args.listed.items (At f.list f.stated.header)) xs) (sym c.deref-2.ensures.value)
     (found_reached c.args.graph.now c.args.sorted.now c.args.listed.items c.in_ok-found.found.items c.requires.listed are))
 
 pub number_edges-requires : goal.number_edges-requires

@@ -1,7 +1,7 @@
 use Rattle.std.proofs.Common.{◌≡◌, ◌<◌, ℕ, length, subst, ap, ◌∙◌, rules, arith}
 use Rattle.std.proofs.lemmas.List.Sorted.{answers_always}
 use Rattle.std.proofs.lemmas.List.{get_or_default}
-use Rattle.loop_bounds.specs.declared.loop_instances.Found.{Found}
+use Rattle.loop_bounds.specs.declared.loop_instances.LoopInstance.{LoopInstance}
 use Rattle.numbered_walks.specs.declared.span.Span.{Span}
 use Rattle.loop_bounds.specs.Extents.{extent_at}
 use Rattle.loop_bounds.specs.Layout.{AreSpans, IsShown}
@@ -18,7 +18,7 @@ loop-extent-preserved c =
     let named : (extent_at extents i).instance < length c.args.found.now = c.requires.named i (record { first = 0; end = 0; header = 0; instance = 0 }) c.loop-extent-test.true in
     rw c.in_ok-push.ensures.items
     (spans_more c.args.numbers.now c.args.found.now extents c.loop-extent.spans.items i c.span_of.result c.loop-extent.invariant c.loop-extent-test.true
-    (λ d. subst (λ (f : Found). IsShown c.args.numbers.now (extent_at extents i) f.stated.bound c.span_of.result)
+    (λ d. subst (λ (f : LoopInstance). IsShown c.args.numbers.now (extent_at extents i) f.stated.bound c.span_of.result)
     (c.index-found-instance.is ∙ get_or_default c.args.found.now (extent_at extents i).instance c.index-found-instance.result d named) c.span_of.ensures))
 
 pub returns : goal.returns

@@ -2,7 +2,7 @@ use Rattle.std.proofs.Common.{List, map, subst, ap, ⊎_elim, inl, inr, arith, l
 use Rattle.std.specs.Prelude.{Contains}
 use Rattle.std.proofs.lemmas.List.{take_all}
 use Rattle.flow_graph.specs.declared.places.Place.{Place}
-use Rattle.loop_bounds.specs.declared.loop_instances.Found.{Found}
+use Rattle.loop_bounds.specs.declared.loop_instances.LoopInstance.{LoopInstance}
 use Rattle.loop_bounds.specs.Instance.{Instance}
 use Rattle.loop_bounds.specs.Extents.{IsFoundAmong, found_instance}
 use Rattle.loop_bounds.proofs.FindLemmas.{among_more, among_none, apart_from}
@@ -11,7 +11,7 @@ use Rattle.loop_bounds.proofs.loop_instances.instances_among.Goals as goal
 pub loop-place-init : goal.loop-place-init
 loop-place-init c = record {
   exact = λ i. (
-    (λ has. absurd (omega (arith, (subst (λ (xs : List Found). Contains (map found_instance xs) i) c.new-found.ensures.items has).1))),
+    (λ has. absurd (omega (arith, (subst (λ (xs : List LoopInstance). Contains (map found_instance xs) i) c.new-found.ensures.items has).1))),
     (λ f. absurd (among_none c.args.sorted.now i f)),
   );
   differ = λ headers places j k d less lt. absurd (omega (arith, ap length c.new-found.ensures.items));
