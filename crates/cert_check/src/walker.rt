@@ -71,7 +71,7 @@ fn broken_by(headers: &[Option<Span>], number: usize, turns: u128) -> Option<Spa
 
 impl Walker {
     // The back edges of its stay at the end of the edge, once that is followed.
-    fn turns_along(&self, headers: &[Option<Span>], edge: &NumberedEdge) -> u128
+    fn turns_after(&self, headers: &[Option<Span>], edge: &NumberedEdge) -> u128
         requires known { edge.now.to < length headers.now }
         requires room { edge.now.to < length self.now.turns.items }
         ensures { result
@@ -113,7 +113,7 @@ impl Walker {
             (slice_index self.old.turns.items edge.now.to)) self.old self.new }
     {
         let cost = capped_sum(self.cost, edge.cost);
-        let turns = self.turns_along(headers, edge);
+        let turns = self.turns_after(headers, edge);
         self.arrive(headers, edge.to, cost, turns);
     }
 

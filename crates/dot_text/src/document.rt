@@ -2,7 +2,7 @@ ghost use Rattle.std.specs.Prelude.{◌≡◌, ◌<◌, ◌≤◌, ◌+◌, ◌+
 ghost use Rattle.std.specs.List.{flat_map, range_with_len};
 ghost use Rattle.loop_bounds.specs.Tree.{IsTree};
 ghost use Rattle.dot_text.specs.Stretches.{CanDraw, first_of};
-ghost use Rattle.dot_text.specs.Text.{IsDrawing, drawing, ended};
+ghost use Rattle.dot_text.specs.Text.{IsDrawing, drawn_text, ended};
 
 use crate::nodes::put_stretch;
 use crate::pieces::put_name;
@@ -72,7 +72,7 @@ fn drawn_text(alloc: Global, drawn: Drawn<'_>) -> Result<Vec<u8>, AllocError>
     requires drawn { CanDraw drawn }
     ensures { IfOk result
         (λ text. text.items
-        ≡ drawing drawn.entry.graph.now drawn.entry.tree.now drawn.entry.counts.now
+        ≡ drawn_text drawn.entry.graph.now drawn.entry.tree.now drawn.entry.counts.now
         drawn.entry.labels.now) }
 {
     let mut out = Vec::from_slice(alloc, HEADING)?;

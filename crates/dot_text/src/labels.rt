@@ -10,7 +10,7 @@ use std::collections::BTreeMap;
 use text_rows::{NumberedLine, lines_by_address};
 
 // The text at an address, empty where there is none.
-fn text_at(
+fn text_of(
     alloc: Global,
     lines: &BTreeMap<u32, NumberedLine<'_>>,
     at: u32,
@@ -41,7 +41,7 @@ pub fn source_labels(
     let lines = lines_by_address(alloc, source, placed)?;
     let mut labels = Vec::new(alloc);
     for place in graph.places() {
-        labels.push(text_at(alloc, &lines, place.address())?)?;
+        labels.push(text_of(alloc, &lines, place.address())?)?;
     }
     Ok(labels)
 }

@@ -10,7 +10,7 @@ use Rattle.walks.specs.declared.limits.TheConstants.{MOST_INSTANCES}
 use Rattle.numbered_walks.proofs.Nesting.{cond_le}
 use Rattle.loop_bounds.specs.declared.extents.Extent.{Extent}
 use Rattle.loop_bounds.specs.Extents.{AreExtents, AreParents, IsParent, IsWithin, IsInnermost, extent_at, parent_at, is_within}
-use Rattle.loop_bounds.specs.Layout.{AreChains, AreShallow, chain_above, depth_at, headers_in, items_of}
+use Rattle.loop_bounds.specs.Layout.{AreChains, AreShallow, chain_of, depth_at, headers_in, items_of}
 use Rattle.loop_bounds.proofs.ExtentLemmas.{first_of, end_of, sorted_first}
 use Rattle.loop_bounds.proofs.Within.{in_from, from_in}
 
@@ -84,7 +84,7 @@ holders_innermost extents parents p k all known here =
     (λ j d ge inside. at_default extents p j d inside ∙ false_from_ne_true (is_within (extent_at extents j) p) (λ within. let h = (here.2 j inside (in_from (extent_at extents j) p within)).0 in omega arith))
 
 -- the key of a position, from the chain of its innermost extent
-pub key_at : (rank : ℕ → ℕ) (extents : List Extent) (parents : List (Option ℕ)) (chains : List (List ℕ)) (p : ℕ) (inner : Option ℕ) → AreExtents extents → AreParents extents parents (length extents) → AreChains rank extents chains (length extents) → IsInnermost extents p inner → chain_above chains inner ≡ headers_in rank extents p
+pub key_at : (rank : ℕ → ℕ) (extents : List Extent) (parents : List (Option ℕ)) (chains : List (List ℕ)) (p : ℕ) (inner : Option ℕ) → AreExtents extents → AreParents extents parents (length extents) → AreChains rank extents chains (length extents) → IsInnermost extents p inner → chain_of chains inner ≡ headers_in rank extents p
 key_at rank extents parents chains p None all known deep none =
     let h : holders extents p ≡ [] = filter_none (λ s. is_within s p) extents (λ j d lt. at_default extents p j d lt ∙ false_from_ne_true (is_within (extent_at extents j) p) (λ within. none j lt (in_from (extent_at extents j) p within))) in
     sym (ap (map (λ (s : Extent). rank s.header)) h)
@@ -92,7 +92,7 @@ key_at rank extents parents chains p (Some k) all known deep here = deep k here.
 
 -- ## The loop
 
-holders_above : (extents : List Extent) (parents : List (Option ℕ)) (k : ℕ) (o : Option ℕ) (rank : ℕ → ℕ) (chains : List (List ℕ)) → AreExtents extents → AreParents extents parents (length extents) → k < length extents → IsParent extents k o → AreChains rank extents chains k → headers_in rank (take k extents) (first_of extents k) ≡ chain_above chains o
+holders_above : (extents : List Extent) (parents : List (Option ℕ)) (k : ℕ) (o : Option ℕ) (rank : ℕ → ℕ) (chains : List (List ℕ)) → AreExtents extents → AreParents extents parents (length extents) → k < length extents → IsParent extents k o → AreChains rank extents chains k → headers_in rank (take k extents) (first_of extents k) ≡ chain_of chains o
 holders_above extents parents k None rank chains all known inside up deep =
     ap (map (λ (s : Extent). rank s.header))
     (filter_none (λ s. is_within s (first_of extents k)) (take k extents)
@@ -136,7 +136,7 @@ map_append : (f : Extent → ℕ) (xs ys : List Extent) → map f (xs ++ ys) ≡
 map_append f [] ys = refl
 map_append f (x ∷ xs) ys = λ i. f x ∷ map_append f xs ys i
 
-pub chain_here : (rank : ℕ → ℕ) (extents : List Extent) (parents : List (Option ℕ)) (chains : List (List ℕ)) (k : ℕ) → AreExtents extents → AreParents extents parents (length extents) → k < length extents → AreChains rank extents chains k → chain_above chains (parent_at parents k) ++ rank (extent_at extents k).header ∷ [] ≡ headers_in rank (take (k + 1) extents) (first_of extents k)
+pub chain_here : (rank : ℕ → ℕ) (extents : List Extent) (parents : List (Option ℕ)) (chains : List (List ℕ)) (k : ℕ) → AreExtents extents → AreParents extents parents (length extents) → k < length extents → AreChains rank extents chains k → chain_of chains (parent_at parents k) ++ rank (extent_at extents k).header ∷ [] ≡ headers_in rank (take (k + 1) extents) (first_of extents k)
 chain_here rank extents parents chains k all known inside deep =
     let own : is_within (extent_at extents k) (first_of extents k) ≡ true = from_in (extent_at extents k) (first_of extents k) (omega arith, all.some k inside) in
     let above = holders_above extents parents k (parent_at parents k) rank chains all known inside (known k inside) deep in
@@ -170,7 +170,7 @@ pub record IsChain (rank : ℕ → ℕ) (extents : List Extent) (k : ℕ) (chain
   pub depth_is : length chain ≡ depth_at (take (k + 1) extents) (first_of extents k)
 
 pub is_chain : (rank : ℕ → ℕ) (extents : List Extent) (parents : List (Option ℕ)) (chains : List (List ℕ)) (k : ℕ) (chain : List ℕ) → AreExtents extents → AreParents extents parents (length extents) → k < length extents → AreChains rank extents chains k
-    → chain ≡ chain_above chains (parent_at parents k) ++ rank (extent_at extents k).header ∷ [] → IsChain rank extents k chain
+    → chain ≡ chain_of chains (parent_at parents k) ++ rank (extent_at extents k).header ∷ [] → IsChain rank extents k chain
 is_chain rank extents parents chains k chain all known inside deep made =
     let is = made ∙ chain_here rank extents parents chains k all known inside deep in
     record { headers_are = is; depth_is = ap length is ∙ chain_depth rank (take (k + 1) extents) (first_of extents k) }

@@ -165,9 +165,9 @@ IsChainFault extents EntersMidLoop = ⊥
 IsChainFault extents UnboundedCycle = ⊥
 
 -- the chain of an extent, or of none
-abbrev pub chain_above : List (List ℕ) → Option ℕ → List ℕ
-chain_above chains None = []
-chain_above chains (Some k) = slice_index_or chains k []
+abbrev pub chain_of : List (List ℕ) → Option ℕ → List ℕ
+chain_of chains None = []
+chain_of chains (Some k) = slice_index_or chains k []
 
 abbrev pub items_of : List (Vec ℕ Global) → List (List ℕ)
 items_of chains = map (λ v. v.items) chains
@@ -176,7 +176,7 @@ items_of chains = map (λ v. v.items) chains
 
 -- the key that is kept by the chain of the innermost extent
 abbrev pub kept_key : List (List ℕ) → Keyed → List ℕ
-kept_key chains k = chain_above chains k.inner ++ k.rank ∷ []
+kept_key chains k = chain_of chains k.inner ++ k.rank ∷ []
 
 -- number by number, a prefix first
 abbrev pub by_keys : List (List ℕ) → Keyed → Keyed → Ordering

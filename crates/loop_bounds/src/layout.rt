@@ -5,7 +5,7 @@ ghost use Rattle.flow_graph.specs.Places.{place_cmp, place_at};
 ghost use Rattle.loop_bounds.specs.InPositions.{HasKeys};
 ghost use Rattle.loop_bounds.specs.Layout.{AreNumbers, IsLaidOut, ArePlaced, AreMoved, Moves};
 ghost use Rattle.loop_bounds.specs.Layout.{IsShown, AreShown, AreKeyed, by_keys};
-ghost use Rattle.loop_bounds.specs.Layout.{chain_above, items_of, key_in};
+ghost use Rattle.loop_bounds.specs.Layout.{chain_of, items_of, key_in};
 ghost use Rattle.loop_bounds.specs.Keys.{IsListed};
 
 use crate::extents::Extent;
@@ -30,7 +30,7 @@ pub(crate) struct Keyed {
 
 // The chain of an extent; none where there is no extent.
 fn chain_of(chains: &[Vec<usize>], inner: Option<usize>) -> &[usize]
-    ensures { result.now ≡ chain_above (items_of chains.now) inner }
+    ensures { result.now ≡ chain_of (items_of chains.now) inner }
 {
     if let Some(k) = inner {
         if k < chains.len() {

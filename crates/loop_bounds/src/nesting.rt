@@ -1,7 +1,7 @@
 ghost use Rattle.std.specs.Prelude.{◌≡◌, ℕ, ◌<◌, ◌≤◌, ◌++◌, [], ◌∷◌, IfOk, IfErr, IfSome, length, All};
 ghost use Rattle.std.specs.Prelude.{slice_index, MatchBool};
 ghost use Rattle.loop_bounds.specs.Extents.{AreNested, extent_at};
-ghost use Rattle.loop_bounds.specs.Layout.{AreChains, IsChainFault, AreShallow, chain_above, items_of};
+ghost use Rattle.loop_bounds.specs.Layout.{AreChains, IsChainFault, AreShallow, chain_of, items_of};
 ghost use Rattle.loop_bounds.specs.InPositions.{EnterRight, EnterWrong, IsNesting, IsNestingFault, IsSound};
 
 use crate::extents::Extent;
@@ -20,7 +20,7 @@ fn extended(
     rank: usize,
 ) -> Result<Vec<usize>, AllocError>
     requires { IfSome above (λ k. k < length chains.now) }
-    ensures { IfOk result (λ chain. chain.items ≡ chain_above (items_of chains.now) above ++ rank ∷ []) }
+    ensures { IfOk result (λ chain. chain.items ≡ chain_of (items_of chains.now) above ++ rank ∷ []) }
 {
     let mut chain = match above {
         Some(k) => chains[k].clone()?,

@@ -75,7 +75,7 @@ fn at_row(alloc: Global, heading: &[u8], row: &HeavyRow) -> Result<Vec<u8>, Allo
     Ok(out)
 }
 
-fn item_text(alloc: Global, index: usize) -> Result<Vec<u8>, AllocError>
+fn item_line(alloc: Global, index: usize) -> Result<Vec<u8>, AllocError>
     ensures { IfOk result (λ text. text.items ≡ item_line index) }
 {
     let mut out = Vec::from_slice(alloc, b"Item ")?;
@@ -113,7 +113,7 @@ fn put_cost(out: &mut Vec<u8>, cost: u128) -> Result<(), AllocError>
     put(out, b"2^64 or more")
 }
 
-fn cost_text(alloc: Global, cost: u128) -> Result<Vec<u8>, AllocError>
+fn cost_line(alloc: Global, cost: u128) -> Result<Vec<u8>, AllocError>
     ensures { IfOk result (λ text. text.items ≡ cost_line cost) }
 {
     let mut out = Vec::from_slice(alloc, b"The walk costs ")?;
@@ -141,9 +141,9 @@ pub fn objection_text(alloc: Global, row: &FailingRow) -> Result<Vec<u8>, AllocE
         FailingRow::EdgeTooHeavy(heavy) => at_row(alloc, EDGE, heavy),
         FailingRow::RoundTooHeavy(heavy) => at_row(alloc, ROUND, heavy),
         FailingRow::LeaveTooHeavy(heavy) => at_row(alloc, LEAVE, heavy),
-        FailingRow::BrokenWalk(index) => item_text(alloc, *index),
+        FailingRow::BrokenWalk(index) => item_line(alloc, *index),
         FailingRow::OpenWalk(place) => at_place(alloc, OPEN, AT, place),
         FailingRow::WalkOverBound(header, bound) => bound_text(alloc, header, *bound),
-        FailingRow::WalkCost(cost) => cost_text(alloc, *cost),
+        FailingRow::WalkCost(cost) => cost_line(alloc, *cost),
     }
 }

@@ -1,7 +1,7 @@
 use Rattle.std.proofs.Common.{◌≡◌, ◌++◌, [], ◌∷◌, ◌∙◌, refl, sym, subst}
 use Rattle.std.specs.Ordering.{nat_cmp}
 use Rattle.std.specs.Cmp.Lexicographic.{slice_cmp}
-use Rattle.loop_bounds.specs.Layout.{chain_above, items_of, kept_key}
+use Rattle.loop_bounds.specs.Layout.{chain_of, items_of, kept_key}
 use Rattle.loop_bounds.proofs.KeyLemmas.{compared_after, same_option}
 use Rattle.loop_bounds.proofs.layout.by_keys.Goals as goal
 
@@ -12,5 +12,5 @@ returns-then-eq c =
     let right = c.args.right.now in
     let inner = same_option left.inner right.inner (sym c.eq.ensures ∙ c.if-eq.true) in
     c.cmp.ensures
-    ∙ sym (compared_after (chain_above chains left.inner) left.rank right.rank)
-    ∙ subst (λ o. slice_cmp nat_cmp (kept_key chains left) (chain_above chains left.inner ++ right.rank ∷ []) ≡ slice_cmp nat_cmp (kept_key chains left) (chain_above chains o ++ right.rank ∷ [])) inner refl
+    ∙ sym (compared_after (chain_of chains left.inner) left.rank right.rank)
+    ∙ subst (λ o. slice_cmp nat_cmp (kept_key chains left) (chain_of chains left.inner ++ right.rank ∷ []) ≡ slice_cmp nat_cmp (kept_key chains left) (chain_of chains o ++ right.rank ∷ [])) inner refl
