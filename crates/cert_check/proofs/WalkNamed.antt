@@ -1,5 +1,5 @@
 -- The edge that a line names: it is among the edges of its place.
-use Rattle.std.proofs.Common.{◌≡◌, ◌∙◌, ℕ, zero, suc, ◌<◌, ◌≤◌, Bool, true, false, cond, ◌&&◌, List, [], ◌∷◌, length, get_or, Some, None, ⊎_elim, refl, sym, ap, subst, arith}
+use Rattle.std.proofs.Common.{◌≡◌, ◌∙◌, ℕ, zero, suc, ◌<◌, ◌≤◌, Bool, true, false, cond, ◌&&◌, List, [], ◌∷◌, length, get_or, Some, None, ⊎_elim, refl, sym, ap, arith}
 use Rattle.std.specs.List.{find}
 use Rattle.std.proofs.lemmas.Bool.{cases_Bool, cases_lt, false≢true}
 use Rattle.std.proofs.lemmas.List.{get_or_default}
@@ -7,7 +7,6 @@ use Rattle.flow_graph.specs.declared.places.Place.{Place}
 use Rattle.flow_graph.specs.declared.places.Place.TheVariants.{At, Exit}
 use Rattle.flow_graph.specs.declared.edges.Edge.{Edge}
 use Rattle.flow_graph.specs.Flow.{Flow, IsEdgeRange, IsWellFormed}
-use Rattle.flow_graph.specs.Places.{place_at}
 use Rattle.flow_graph.proofs.Firsts.{no_edge, whole_range}
 use Rattle.loop_bounds.specs.Tree.{IsTree, Tree, place_in}
 use Rattle.longest_walk.specs.Built.{step_at}
@@ -43,20 +42,10 @@ named_from Exit line e is = absurd (false≢true is)
 
 module _ (flow : Flow) (well : IsWellFormed flow) where
   module _ (tree : Tree) (t : IsTree flow tree) where
-    -- the place of a number
-    pub place_is : (n : ℕ) → n ≤ length flow.places → place_in flow tree n ≡ place_at flow.places (get_or tree.order n 0)
-    place_is n le = ap (λ (v : ℕ). place_at flow.places v) (get_or_default tree.order n (length flow.places) 0 (omega (arith, t.whole)))
-
     pub none_at_exit : (n : ℕ) (line : StepLine) → n ≡ length flow.places → None ≡ edge_named flow (place_in flow tree n) line
     none_at_exit n line is =
         let at : place_in flow tree n ≡ Exit = ap (place_in flow tree) is ∙ exit_place flow tree well t in
         sym (ap (λ (p : Place). edge_named flow p line) at ∙ find_nothing (is_named Exit line) flow.edges no_edge (λ j less. refl))
-
-    -- the range of the place that a list of the tree's order has at the number
-    pub range_of_number : (n : ℕ) → n < length flow.places → (order : List ℕ) → order ≡ tree.order → (first end : ℕ)
-        → IsEdgeRange flow (place_at flow.places (get_or order n 0)) first end → IsEdgeRange flow (place_in flow tree n) first end
-    range_of_number n lt order is first end =
-        subst (λ (p : Place). IsEdgeRange flow p first end) (ap (λ (o : List ℕ). place_at flow.places (get_or o n 0)) is ∙ sym (place_is n (omega arith)))
 
 module _ (flow : Flow) (p : Place) (line : StepLine) (first end : ℕ) (range : IsEdgeRange flow p first end) where
   fails_outside : (k : ℕ) → k < length flow.edges → (first ≤ k → k < end → ⊥) → is_named p line (step_at flow.edges k) ≡ false

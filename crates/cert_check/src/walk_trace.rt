@@ -1,5 +1,4 @@
 ghost use Rattle.std.specs.Prelude.{◌≡◌, ◌<◌, ◌≤◌, ℕ, length, option_map, IfSome, MatchOption};
-ghost use Rattle.flow_graph.specs.Flow.{IsEdgeRange};
 ghost use Rattle.loop_bounds.specs.Tree.{IsTree, place_in};
 ghost use Rattle.longest_walk.specs.Built.{step_at};
 ghost use Rattle.cert_check.specs.Followed.{edge_named, follow_edge, follow_item, followed};
@@ -11,7 +10,7 @@ use crate::index::Index;
 use crate::walker::{Round, Walker};
 use certificate::{CertItem, StepLine, To};
 use flow_graph::{Edge, Graph, MOST_ROUNDS, Place};
-use loop_bounds::LoopTree;
+use loop_bounds::{LoopTree, edge_range_in};
 use numbered_walks::Span;
 use walk_counts::{holds, is_same_label};
 
@@ -40,15 +39,6 @@ fn is_named(edge: &Edge, line: &StepLine) -> bool
     }
 }
 
-// Where the edges of the number's place begin and end.
-fn edge_range(graph: &Graph, tree: &LoopTree, number: usize) -> (usize, usize)
-    requires tree { IsTree graph.now tree.now }
-    requires known { number < length graph.now.places }
-    ensures { IsEdgeRange graph.now (place_in graph.now tree.now number) result.0 result.1 }
-{
-    graph.edge_range(tree.order()[number])
-}
-
 // Which edge of the graph the line names at the place of the number.
 fn named_edge(graph: &Graph, tree: &LoopTree, number: usize, line: &StepLine) -> Option<usize>
     requires tree { IsTree graph.now tree.now }
@@ -60,7 +50,7 @@ fn named_edge(graph: &Graph, tree: &LoopTree, number: usize, line: &StepLine) ->
     if number == graph.places().len() {
         return None;
     }
-    let (first, end) = edge_range(graph, tree, number);
+    let (first, end) = edge_range_in(graph, tree, number);
     for edge in first..end {
         if is_named(&graph.edges()[edge], line) {
             return Some(edge);

@@ -10,12 +10,12 @@ use Rattle.std.proofs.lemmas.List.FromFn.{get_or-range_with_len, length-range_wi
 use Rattle.std.proofs.lemmas.List.Sums.{count_by_more_yes, sum_by-take-le}
 use Rattle.flow_graph.specs.Flow.{Flow, IsWellFormed}
 use Rattle.flow_graph.specs.declared.places.Place.TheVariants.{Exit}
-use Rattle.loop_bounds.specs.Tree.{IsTree, Tree}
+use Rattle.loop_bounds.specs.Tree.{IsTree, Tree, end_edge, first_edge}
 use Rattle.loop_bounds.proofs.Positions.{places_once}
 use Rattle.flow_graph.proofs.Firsts.{no_edge, part_fits}
 use Rattle.numbered_walks.specs.Index.{edge_at}
 use Rattle.dot_text.specs.Nodes.{HasNode, HoldEachOnce, LeadToNodes, numbers_in}
-use Rattle.dot_text.specs.Stretches.{arrivals, between, end_edge, first_edge, first_of, goes_on, leads_on, stays_inside}
+use Rattle.dot_text.specs.Stretches.{arrivals, between, first_of, goes_on, leads_on, stays_inside}
 use Rattle.dot_text.proofs.StretchLaws.{first_kept, first_kept_suc, first_next_suc}
 use Rattle.walk_counts.proofs.SumLemmas.{range_push}
 

@@ -1,11 +1,11 @@
 -- One cluster more, one stretch more, one edge more.
-use Rattle.std.proofs.Common.{◌≡◌, ◌∙◌, ℕ, suc, ◌+◌, ◌<◌, ◌≤◌, Bool, true, false, ◌&&◌, if◌then◌else◌, List, [], ◌++◌, Vec, append-nil, append_assoc, length, drop, get_or, sym, ap, subst, arith}
+use Rattle.std.proofs.Common.{◌≡◌, ◌∙◌, ℕ, suc, ◌+◌, ◌<◌, ◌≤◌, Bool, true, false, ◌&&◌, if◌then◌else◌, List, [], ◌++◌, Vec, append-nil, append_assoc, length, drop, get_or, sym, ap, arith}
 use Rattle.std.specs.Prelude.{max}
 use Rattle.std.specs.Global.{Global}
 use Rattle.std.proofs.Math.ListN.{drop_of_length-le}
 use Rattle.std.proofs.lemmas.List.{drop_more}
 use Rattle.flow_graph.specs.Flow.{Flow}
-use Rattle.loop_bounds.specs.Tree.{IsTree, Tree}
+use Rattle.loop_bounds.specs.Tree.{Tree}
 use Rattle.numbered_walks.specs.declared.span.Span.{Span}
 use Rattle.dot_text.specs.Clusters.{clusters, depth_in, loop_text, routines}
 use Rattle.dot_text.specs.Stretches.{first_of, goes_on}
@@ -70,8 +70,3 @@ module _ (flow : Flow) (tree : Tree) where
     ended_here n first text new off first_is one =
         let here : at_end n ≡ stretch flow tree counts labels (first_of flow tree n) n = ap (λ b. if b then [] else stretch flow tree counts labels (first_of flow tree n) n) off in
         one ∙ ap (λ f. text ++ stretch flow tree counts labels f n) first_is ∙ ap (λ xs. text ++ xs) (sym here)
-
-  -- ## Places
-
-  pub place_known : IsTree flow tree → (order : List ℕ) (n : ℕ) → order ≡ tree.order → n < length flow.places → get_or order n 0 < length flow.places
-  place_known t order n is lt = subst (λ (ns : List ℕ). get_or ns n 0 < length flow.places) (sym is) (t.inside n lt)

@@ -6,7 +6,7 @@ use Rattle.std.specs.List.{filter, list_all, range_with_len}
 use Rattle.flow_graph.specs.Flow.{Flow}
 use Rattle.flow_graph.specs.Places.{place_calls}
 use Rattle.longest_walk.specs.Built.{step_at}
-use Rattle.loop_bounds.specs.Tree.{IsTree, Tree, place_in}
+use Rattle.loop_bounds.specs.Tree.{IsTree, Tree, end_edge, first_edge, place_in}
 use Rattle.numbered_walks.specs.Index.{AreHolders, edge_at}
 use Rattle.numbered_walks.specs.Ordered.{is_in}
 use Rattle.numbered_walks.specs.declared.index.Index.{Index}
@@ -24,15 +24,9 @@ edge_ticks flow counts k = capped (slice_index counts k * (step_at flow.edges k)
 
 -- Places have the numbers of the tree's order, and edges those of the graph's list.
 module _ (flow : Flow) (tree : Tree) where
-  -- where the edges that leave the place of a number begin in the list, and where they end
-  abbrev pub first_edge : ℕ → ℕ
-  first_edge n = slice_index flow.firsts (slice_index tree.order n)
-
-  abbrev pub end_edge : ℕ → ℕ
-  end_edge n = slice_index flow.firsts (slice_index tree.order n + 1)
-
+  -- the edges that leave the place of a number
   abbrev pub leaving : ℕ → List ℕ
-  leaving n = between (first_edge n) (end_edge n)
+  leaving n = between (first_edge flow tree n) (end_edge flow tree n)
 
   abbrev pub calls_in : ℕ → List ℕ
   calls_in n = place_calls (place_in flow tree n)
@@ -50,8 +44,8 @@ module _ (flow : Flow) (tree : Tree) where
   -- one edge alone leaves a number, and leads to the next as the only one there
   abbrev pub leads_on : ℕ → Bool
   leads_on n =
-      end_edge n - first_edge n == 1
-      && ((edge_at tree.edges (first_edge n)).to == n + 1 && arrivals (n + 1) == 1)
+      end_edge flow tree n - first_edge flow tree n == 1
+      && ((edge_at tree.edges (first_edge flow tree n)).to == n + 1 && arrivals (n + 1) == 1)
 
   -- the next number is inside the same calls and the same loops
   abbrev pub stays_inside : ℕ → Bool

@@ -7,9 +7,10 @@ ghost use Rattle.dot_text.specs.Stretches.{leaving};
 ghost use Rattle.dot_text.specs.Text.{edge};
 
 use crate::pieces::{put_edge_name, put_name, put_style};
-use crate::stretches::{Stretch, count_of, part};
+use crate::stretches::{Stretch, count_of};
 use crate::tables::Drawn;
 use flow_graph::Edge;
+use loop_bounds::edge_range_in;
 use std::alloc::AllocError;
 use text_rows::{put, put_decimal};
 
@@ -68,7 +69,7 @@ pub(crate) fn put_edges(
         stretch.first)
         (leaving drawn.entry.graph.now drawn.entry.tree.now stretch.last)) }
 {
-    let (begin, end) = part(drawn, stretch.last);
+    let (begin, end) = edge_range_in(drawn.graph, drawn.tree, stretch.last);
     for number in begin..end {
         put_edge(out, drawn, stretch.first, number)?;
     }

@@ -3,12 +3,11 @@ ghost use Rattle.std.specs.List.{list_all};
 ghost use Rattle.loop_bounds.specs.Tree.{IsTree};
 ghost use Rattle.numbered_walks.specs.Ordered.{is_in};
 ghost use Rattle.dot_text.specs.Stretches.{AreTables, CanDraw, calls_in, edge_ticks};
-ghost use Rattle.dot_text.specs.Stretches.{end_edge, first_edge, goes_on};
-ghost use Rattle.dot_text.specs.Stretches.{leads_on, loops_of, passes, stays_inside, stretch_ticks, ticks};
+ghost use Rattle.dot_text.specs.Stretches.{goes_on, leads_on, loops_of, passes, stays_inside, stretch_ticks, ticks};
 
 use crate::tables::Drawn;
 use flow_graph::{Calls, Place};
-use loop_bounds::place_in;
+use loop_bounds::{edge_range_in, place_in};
 use numbered_walks::Span;
 use walk_counts::{capped_product, capped_sum, holds};
 
@@ -17,18 +16,6 @@ use walk_counts::{capped_product, capped_sum, holds};
 pub(crate) struct Stretch {
     pub(crate) first: usize,
     pub(crate) last: usize,
-}
-
-/// Where the edges that leave the place of a number begin in the graph's list, and where they end.
-pub(crate) fn part(drawn: Drawn<'_>, number: usize) -> (usize, usize)
-    requires tree { IsTree drawn.graph.now drawn.tree.now }
-    requires known { number < length drawn.graph.now.places }
-    ensures first { result.0 ≡ first_edge drawn.entry.graph.now drawn.entry.tree.now number }
-    ensures end { result.1 ≡ end_edge drawn.entry.graph.now drawn.entry.tree.now number }
-    ensures order { result.0 ≤ result.1 }
-    ensures fits { result.1 ≤ length drawn.entry.graph.now.edges }
-{
-    drawn.graph.edge_range(drawn.tree.order()[number])
 }
 
 /// The calls inside of which the place of a number is.
@@ -68,7 +55,7 @@ fn leads_on(drawn: Drawn<'_>, number: usize) -> bool
     requires known { number < length drawn.graph.now.places }
     ensures { result ≡ leads_on drawn.entry.graph.now drawn.entry.tree.now number }
 {
-    let (first, end) = part(drawn, number);
+    let (first, end) = edge_range_in(drawn.graph, drawn.tree, number);
     end - first == 1
         && drawn.tree.edges()[first].to == number + 1
         && drawn.arrivals[number + 1] == 1
@@ -120,7 +107,7 @@ pub(crate) fn passes(drawn: Drawn<'_>, number: usize) -> u64
     requires counted { length drawn.counts.now ≡ length drawn.graph.now.edges }
     ensures { result ≡ passes drawn.entry.graph.now drawn.entry.tree.now drawn.entry.counts.now number }
 {
-    let (first, end) = part(drawn, number);
+    let (first, end) = edge_range_in(drawn.graph, drawn.tree, number);
     let mut passes = 0;
     for edge in first..end {
         passes = capped_sum(passes, count_of(drawn, edge));
@@ -144,7 +131,7 @@ fn ticks(drawn: Drawn<'_>, number: usize) -> u64
     requires counted { length drawn.counts.now ≡ length drawn.graph.now.edges }
     ensures { result ≡ ticks drawn.entry.graph.now drawn.entry.tree.now drawn.entry.counts.now number }
 {
-    let (first, end) = part(drawn, number);
+    let (first, end) = edge_range_in(drawn.graph, drawn.tree, number);
     let mut ticks = 0;
     for edge in first..end {
         ticks = capped_sum(ticks, edge_ticks(drawn, edge));

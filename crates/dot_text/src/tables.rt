@@ -1,7 +1,6 @@
-ghost use Rattle.std.specs.Prelude.{◌≡◌, ◌<◌, ◌≤◌, ◌+◌, ℕ, IfOk, length, slice_index};
+ghost use Rattle.std.specs.Prelude.{◌≡◌, ◌≤◌, ◌+◌, ℕ, IfOk, length, slice_index};
 ghost use Rattle.loop_bounds.specs.Tree.{IsTree};
-ghost use Rattle.dot_text.specs.Stretches.{AreTables, arrivals, end_edge, first_edge, loops_of};
-ghost use Rattle.flow_graph.specs.Flow.{IsWellFormed};
+ghost use Rattle.dot_text.specs.Stretches.{arrivals};
 
 use flow_graph::Graph;
 use loop_bounds::LoopTree;

@@ -17,6 +17,7 @@ pub mod FindLemmas
 pub mod InPlaces
 pub mod CrossFacts
 pub mod PlaceFacts
+pub mod EdgeRanges
 pub mod TreeLemmas
 pub mod WholeTree
 pub mod NestLemmas

@@ -24,6 +24,13 @@ pub record Tree : Type 0 where
 abbrev pub place_in : Flow → Tree → ℕ → Place
 place_in flow tree n = place_at flow.places (slice_index_or tree.order n (length flow.places))
 
+-- where the edges that leave the place of a number begin among the graph's, and where they end
+abbrev pub first_edge : Flow → Tree → ℕ → ℕ
+first_edge flow tree n = slice_index flow.firsts (slice_index tree.order n)
+
+abbrev pub end_edge : Flow → Tree → ℕ → ℕ
+end_edge flow tree n = slice_index flow.firsts (slice_index tree.order n + 1)
+
 -- ## Edges between numbers
 
 -- each number below that of Exit stands for one place

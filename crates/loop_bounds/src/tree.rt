@@ -1,10 +1,11 @@
 ghost use Rattle.std.specs.Prelude.{◌≡◌, ◌≢◌, ◌↔◌, ◌<◌, All, Contains, IfOk, OnOk, IfErr, List, length, map};
 ghost use Rattle.statement.specs.Stated.{IsLoop};
+ghost use Rattle.flow_graph.specs.Flow.{IsEdgeRange};
 ghost use Rattle.loop_bounds.specs.Extents.{found_instance};
 ghost use Rattle.loop_bounds.specs.InPositions.{AreHandlerPositions, IsNesting};
 ghost use Rattle.loop_bounds.specs.Keys.{IsListed};
 ghost use Rattle.loop_bounds.specs.Layout.{AreParted};
-ghost use Rattle.loop_bounds.specs.Tree.{IsTree, place_in};
+ghost use Rattle.loop_bounds.specs.Tree.{IsTree, end_edge, first_edge, place_in};
 ghost use Rattle.loop_bounds.specs.Instance.{Instance, IsInstance};
 ghost use Rattle.loop_bounds.specs.Nest.{Applies, HasSharedHeader, IsNestFault};
 
@@ -77,6 +78,18 @@ pub fn place_in(graph: &Graph, tree: &LoopTree, number: usize) -> Place
     let places = graph.places();
     let at = tree.order().get(number).copied().unwrap_or(places.len());
     places.get(at).copied().unwrap_or(Place::Exit)
+}
+
+/// Where the edges that leave the place of a number in the order of the graph's tree begin among the graph's
+/// edges, and where they end.
+pub fn edge_range_in(graph: &Graph, tree: &LoopTree, number: usize) -> (usize, usize)
+    requires tree { IsTree graph.now tree.now }
+    requires known { number < length graph.now.places }
+    ensures range { IsEdgeRange graph.now (place_in graph.now tree.now number) result.0 result.1 }
+    ensures first { result.0 ≡ first_edge graph.now tree.now number }
+    ensures end { result.1 ≡ end_edge graph.now tree.now number }
+{
+    graph.edge_range(tree.order()[number])
 }
 
 // The instances in the order of their spans, with these.

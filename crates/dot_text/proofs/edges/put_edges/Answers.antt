@@ -8,13 +8,13 @@ pub loop-number-preserved : goal.loop-number-preserved
 loop-number-preserved c =
     let d = c.args.drawn in
     let f = edge d.graph.now d.tree.now d.counts.now d.labels.now c.args.stretch.first in
-    number_more f c.loop-number.number c.part-begin.result.1 c.loop-number.out.items c.put_edge.new.out.items
-    (c.args.out.now.items ++ flat_map f (between c.part-begin.result.0 c.part-begin.result.1)) c.loop-number.invariant c.loop-number-test.true c.in_ok-put_edge.ensures
+    number_more f c.loop-number.number c.edge_range_in-begin.result.1 c.loop-number.out.items c.put_edge.new.out.items
+    (c.args.out.now.items ++ flat_map f (between c.edge_range_in-begin.result.0 c.edge_range_in-begin.result.1)) c.loop-number.invariant c.loop-number-test.true c.in_ok-put_edge.ensures
 
 pub returns : goal.returns
 returns c =
     let d = c.args.drawn in
     let f = edge d.graph.now d.tree.now d.counts.now d.labels.now c.args.stretch.first in
-    numbers_end f c.loop-number.number c.part-begin.result.1 c.loop-number.out.items
-    (c.args.out.now.items ++ flat_map f (between c.part-begin.result.0 c.part-begin.result.1)) c.loop-number.invariant c.loop-number-test.false
-    ∙ (λ i. c.args.out.now.items ++ flat_map f (between (c.part-begin.ensures.first i) (c.part-begin.ensures.end i)))
+    numbers_end f c.loop-number.number c.edge_range_in-begin.result.1 c.loop-number.out.items
+    (c.args.out.now.items ++ flat_map f (between c.edge_range_in-begin.result.0 c.edge_range_in-begin.result.1)) c.loop-number.invariant c.loop-number-test.false
+    ∙ (λ i. c.args.out.now.items ++ flat_map f (between (c.edge_range_in-begin.ensures.first i) (c.edge_range_in-begin.ensures.end i)))
