@@ -40,7 +40,7 @@ use Rattle.cert_check.specs.declared.walker.Walker.{Walker}
 use Rattle.cert_check.specs.Followed.{Followed, edge_named, follow_edge, follow_item, follow_turns, followed, is_named}
 use Rattle.walk_counts.specs.Spans.{header_at}
 use Rattle.walk_counts.proofs.StayLemmas.{span_there}
-use Rattle.cert_check.specs.Walking.{Adds, Arrives, Begins, CanFollow, CannotBegin, EndsIn, IsRefused, IsTaken, capped, gained, turns_after}
+use Rattle.cert_check.specs.Walking.{Adds, Arrives, Begins, CanFollow, CannotBegin, EndsIn, IsRefused, IsTaken, capped_cost, gained, turns_after}
 use Rattle.cert_check.proofs.WalkNamed.{named_from}
 use Rattle.cert_check.proofs.WalkParts.{ends_same, leads_once, repeated-long, some_element, starts_same}
 use Rattle.cert_check.proofs.WalkFollowing.{item_repeat, leads_of, some_lines}
@@ -104,7 +104,7 @@ module _ (flow : Flow) (tree : Tree) (index : Index) (well : IsWellFormed flow) 
           both_ways (is_in within (edge_at tree.edges k).to) out (All-head (EndsIn flow tree within) (step_at flow.edges k) [] stay (edge_at tree.edges k).to here.to_in here.to_is)
 
       module _ (y : Walker) (inner : is_in within (edge_at tree.edges k).to ≡ true)
-          (goes : Arrives index.headers.items (edge_at tree.edges k).to (capped (x.cost + (edge_at tree.edges k).cost)) (turns_after (header_at index.headers.items (edge_at tree.edges k).to) (edge_at tree.edges k).from (get_or x.turns.items (edge_at tree.edges k).to 0)) x y) where
+          (goes : Arrives index.headers.items (edge_at tree.edges k).to (capped_cost (x.cost + (edge_at tree.edges k).cost)) (turns_after (header_at index.headers.items (edge_at tree.edges k).to) (edge_at tree.edges k).from (get_or x.turns.items (edge_at tree.edges k).to 0)) x y) where
         to_in : (edge_at tree.edges k).to ≤ length flow.places
         to_in = here.to_in
 

@@ -23,7 +23,7 @@ use Rattle.cert_check.specs.Index.{IsIndex}
 use Rattle.cert_check.specs.declared.verdict.Verdict.{Verdict}
 use Rattle.cert_check.specs.declared.verdict.Objection.TheVariants.{WalkCost}
 use Rattle.cert_check.specs.Verdict.{CostsBound, IsFirstOf, IsFollowed, KeepsAll, walk_objections}
-use Rattle.cert_check.specs.Walking.{CanFollow, IsFresh, IsTaken, IsWalkerAfter, capped, graph_span}
+use Rattle.cert_check.specs.Walking.{CanFollow, IsFresh, IsTaken, IsWalkerAfter, capped_cost, graph_span}
 use Rattle.cert_check.proofs.WalkFollowing.{leads_of}
 
 module _ (flow : Flow) (tree : Tree) (index : Index) (well : IsWellFormed flow) (t : IsTree flow tree) (indexed : IsIndex (length flow.places) tree.spans index) (x : Walker) (fresh : IsFresh (length flow.places) x) where
@@ -87,8 +87,8 @@ module _ (flow : Flow) (tree : Tree) (index : Index) (well : IsWellFormed flow) 
             let kept : KeepsTree tree (steps_of flow.edges a.numbers) = keeps_up flow tree well t a.numbers a.inside (λ s s_in. keeps_from_most (O.is_inside s) (O.ends_at_header s) s.bound (edges_of tree.edges a.numbers) (after_walk.kept fine s s_in)) in
             subst (λ (g : Followed). KeepsTree tree g.opened.walk) (is_walk f is) (subst (λ (w : List Edge). KeepsTree tree w) (sym a.edges_are) kept)
 
-        pub cost_after_walk : y.cost ≡ capped (cost_of edge_shape a.walk.opened.walk)
-        cost_after_walk = after_walk.cost_is ∙ ap capped (sym (ap (λ (w : List Edge). cost_of edge_shape w) a.edges_are ∙ costs_same flow tree well t a.numbers a.inside))
+        pub cost_after_walk : y.cost ≡ capped_cost (cost_of edge_shape a.walk.opened.walk)
+        cost_after_walk = after_walk.cost_is ∙ ap capped_cost (sym (ap (λ (w : List Edge). cost_of edge_shape w) a.edges_are ∙ costs_same flow tree well t a.numbers a.inside))
 
         -- of a walk within the bounds the cost alone is left to judge
         pub cost_left : (v : Verdict) → y.over ≡ None → IsFirstOf flow tree cert (WalkCost ∷ []) v → IsFirstOf flow tree cert walk_objections v

@@ -21,7 +21,7 @@ use Rattle.numbered_walks.proofs.Nesting.{same_header}
 use Rattle.cert_check.specs.declared.walker.Walker.{Walker}
 use Rattle.walk_counts.specs.Spans.{header_at, turns_at_end}
 use Rattle.walk_counts.proofs.StayLemmas.{edge_back, edge_elsewhere, edge_from_outside, edge_in_stay, span_there}
-use Rattle.cert_check.specs.Walking.{Adds, Arrives, IsWalkerAfter, broken_by, capped, gained, turns_after}
+use Rattle.cert_check.specs.Walking.{Adds, Arrives, IsWalkerAfter, broken_by, capped_cost, gained, turns_after}
 
 -- ## Numbers
 
@@ -43,7 +43,7 @@ gained-exact limit a b k some = ⊎_elim
     left ∙ sym right)
     (cases_lt (a + b) limit)
 
-gained_is : (a b k : ℕ) → 0 < k → gained (capped a) (capped (a + b)) k ≡ capped (a + k * b)
+gained_is : (a b k : ℕ) → 0 < k → gained (capped_cost a) (capped_cost (a + b)) k ≡ capped_cost (a + k * b)
 gained_is a b k some = gained-exact (2 ^ 64) a b k some
 
 -- the first of two, if there is one
@@ -122,20 +122,20 @@ module _ (exit : ℕ) (edges : List NumberedEdge) (spans : List Span) (order : I
     pub same_stay : (s : Span) → Contains spans s → s.header ≢ to → is_in s to ≡ true → (is_in s from ≡ true) × (turns_at_end s w ≡ turns_at_end s v)
 
   module _ (old new : Walker) (v w : List NumberedEdge) (to cost turns : ℕ) (goes : Arrives headers to cost turns old new) (change : Changes old.number to v w) (old_after : IsWalkerAfter spans old v)
-      (room : to < length old.turns.items) (cost_is : cost ≡ capped (cost_of w)) (turns_is : (s : Span) → Contains spans s → s.header ≡ to → turns ≡ capped (turns_at_end s w)) where
+      (room : to < length old.turns.items) (cost_is : cost ≡ capped_cost (cost_of w)) (turns_is : (s : Span) → Contains spans s → s.header ≡ to → turns ≡ capped_cost (turns_at_end s w)) where
     no_less : (s : Span) → Contains spans s → most_in s v ≤ most_in s w
     no_less s has = ⊎_elim
         (λ (is : s.header ≡ to). omega (arith, change.there s has is))
         (λ (other : s.header ≢ to). omega (arith, change.elsewhere s has other))
         (cases_eq s.header to)
 
-    turns_after_step : (s : Span) → Contains spans s → is_in s new.number ≡ true → get_or new.turns.items s.header 0 ≡ capped (turns_at_end s w)
+    turns_after_step : (s : Span) → Contains spans s → is_in s new.number ≡ true → get_or new.turns.items s.header 0 ≡ capped_cost (turns_at_end s w)
     turns_after_step s has here = ⊎_elim
         (λ (is : s.header ≡ to).
         ap (λ (xs : List ℕ). get_or xs s.header 0) goes.turns_are ∙ ap (λ (k : ℕ). get_or (slice_set old.turns.items to turns) k 0) is ∙ get_or-set_same old.turns.items to turns 0 room ∙ turns_is s has is)
         (λ (other : s.header ≢ to).
         let stay = change.same_stay s has other (subst (λ (k : ℕ). is_in s k ≡ true) goes.number_is here) in
-        ap (λ (xs : List ℕ). get_or xs s.header 0) goes.turns_are ∙ get_or-set_other old.turns.items to s.header turns 0 other ∙ old_after.turns_are s has stay.0 ∙ ap capped (sym stay.1))
+        ap (λ (xs : List ℕ). get_or xs s.header 0) goes.turns_are ∙ get_or-set_other old.turns.items to s.header turns 0 other ∙ old_after.turns_are s has stay.0 ∙ ap capped_cost (sym stay.1))
         (cases_eq s.header to)
 
     broken_after_step : (s : Span) → new.over ≡ Some s → Contains spans s × (s.bound < most_in s w)
@@ -144,7 +144,7 @@ module _ (exit : ℕ) (edges : List NumberedEdge) (spans : List Span) (order : I
         (λ now.
         let found = broken_some (header_at headers to) turns s now.1 in
         let known = all.known to s found.0 in
-        let t : turns ≡ capped (turns_at_end s w) = turns_is s known.0 known.1 in
+        let t : turns ≡ capped_cost (turns_at_end s w) = turns_is s known.0 known.1 in
         (known.0, omega (arith, found.1, t, change.there s known.0 known.1)))
         (or_some old.over (broken_by (header_at headers to) turns) s (sym goes.over_is ∙ is))
 
@@ -154,7 +154,7 @@ module _ (exit : ℕ) (edges : List NumberedEdge) (spans : List Span) (order : I
         let before : most_in s v ≤ s.bound = old_after.kept parts.0 s has in
         ⊎_elim
         (λ (at : s.header ≡ to).
-        let t : turns ≡ capped (turns_at_end s w) = turns_is s has at in
+        let t : turns ≡ capped_cost (turns_at_end s w) = turns_is s has at in
         let few : turns ≤ s.bound = broken_none (header_at headers to) turns s (span_there exit edges spans order headers all to s has at) parts.1 in
         let small : s.bound ≤ MOST_ROUNDS = (order.shape s has).2 in
         omega (arith, t, few, small, before, change.there s has at))
@@ -183,35 +183,35 @@ module _ (exit : ℕ) (edges : List NumberedEdge) (spans : List Span) (order : I
       same_stay = λ s has. edge_in_stay exit edges spans order e in_graph w s has;
     }
 
-    turned : (o : Option Span) (s : Span) (from turns : ℕ) → o ≡ Some s → turns_after o from turns ≡ cond (is_in s from) (capped (turns + 1)) 0
+    turned : (o : Option Span) (s : Span) (from turns : ℕ) → o ≡ Some s → turns_after o from turns ≡ cond (is_in s from) (capped_cost (turns + 1)) 0
     turned o s from turns is = ap (λ (x : Option Span). turns_after x from turns) is
 
-    edge_turns : (old : Walker) → old.number ≡ e.from → IsWalkerAfter spans old w → (s : Span) → Contains spans s → s.header ≡ e.to → turns_after (header_at headers e.to) e.from (get_or old.turns.items e.to 0) ≡ capped (turns_at_end s (w ++ e ∷ []))
+    edge_turns : (old : Walker) → old.number ≡ e.from → IsWalkerAfter spans old w → (s : Span) → Contains spans s → s.header ≡ e.to → turns_after (header_at headers e.to) e.from (get_or old.turns.items e.to 0) ≡ capped_cost (turns_at_end s (w ++ e ∷ []))
     edge_turns old from_is old_after s has is =
         turned (header_at headers e.to) s e.from (get_or old.turns.items e.to 0) (span_there exit edges spans order headers all e.to s has is)
         ∙ ⊎_elim
         (λ (from_in : is_in s e.from ≡ true).
-        let before : get_or old.turns.items s.header 0 ≡ capped (turns_at_end s w) = old_after.turns_are s has (subst (λ (n : ℕ). is_in s n ≡ true) (sym from_is) from_in) in
-        let here : get_or old.turns.items e.to 0 ≡ capped (turns_at_end s w) = ap (λ (n : ℕ). get_or old.turns.items n 0) (sym is) ∙ before in
+        let before : get_or old.turns.items s.header 0 ≡ capped_cost (turns_at_end s w) = old_after.turns_are s has (subst (λ (n : ℕ). is_in s n ≡ true) (sym from_is) from_in) in
+        let here : get_or old.turns.items e.to 0 ≡ capped_cost (turns_at_end s w) = ap (λ (n : ℕ). get_or old.turns.items n 0) (sym is) ∙ before in
         let after : turns_at_end s (w ++ e ∷ []) ≡ turns_at_end s w + 1 = (back s has is from_in).1 in
-        let more : capped (get_or old.turns.items e.to 0 + 1) ≡ capped (turns_at_end s (w ++ e ∷ [])) = omega (arith, here, after) in
-        ap (λ (b : Bool). cond b (capped (get_or old.turns.items e.to 0 + 1)) 0) from_in ∙ more)
+        let more : capped_cost (get_or old.turns.items e.to 0 + 1) ≡ capped_cost (turns_at_end s (w ++ e ∷ [])) = omega (arith, here, after) in
+        ap (λ (b : Bool). cond b (capped_cost (get_or old.turns.items e.to 0 + 1)) 0) from_in ∙ more)
         (λ (out : is_in s e.from ≡ false).
         let after : turns_at_end s (w ++ e ∷ []) ≡ 0 = (enters s has out).1 in
-        let none : 0 ≡ capped (turns_at_end s (w ++ e ∷ [])) = omega (arith, after) in
-        ap (λ (b : Bool). cond b (capped (get_or old.turns.items e.to 0 + 1)) 0) out ∙ none)
+        let none : 0 ≡ capped_cost (turns_at_end s (w ++ e ∷ [])) = omega (arith, after) in
+        ap (λ (b : Bool). cond b (capped_cost (get_or old.turns.items e.to 0 + 1)) 0) out ∙ none)
         (cases_Bool (is_in s e.from))
 
-    after_edge : (old new : Walker) → old.number ≡ e.from → e.to < length old.turns.items → Arrives headers e.to (capped (old.cost + e.cost)) (turns_after (header_at headers e.to) e.from (get_or old.turns.items e.to 0)) old new → IsWalkerAfter spans old w → IsWalkerAfter spans new (w ++ e ∷ [])
+    after_edge : (old new : Walker) → old.number ≡ e.from → e.to < length old.turns.items → Arrives headers e.to (capped_cost (old.cost + e.cost)) (turns_after (header_at headers e.to) e.from (get_or old.turns.items e.to 0)) old new → IsWalkerAfter spans old w → IsWalkerAfter spans new (w ++ e ∷ [])
     after_edge old new from_is room goes old_after =
-        after_step old new w (w ++ e ∷ []) e.to (capped (old.cost + e.cost)) (turns_after (header_at headers e.to) e.from (get_or old.turns.items e.to 0)) goes
+        after_step old new w (w ++ e ∷ []) e.to (capped_cost (old.cost + e.cost)) (turns_after (header_at headers e.to) e.from (get_or old.turns.items e.to 0)) goes
         (subst (λ (n : ℕ). Changes n e.to w (w ++ e ∷ [])) (sym from_is) edge_changes) old_after room
         (let sum : cost_of (w ++ e ∷ []) ≡ cost_of w + cost_of (e ∷ []) = cost-append number_shape w (e ∷ []) in
         let last : cost_of (e ∷ []) ≡ e.cost + 0 = sum_by-cons (λ (x : NumberedEdge). x.cost) e [] in
         omega (arith, sum, last, old_after.cost_is))
         (edge_turns old from_is old_after)
 
-  pub edge_adds : (e : NumberedEdge) → Contains edges e → (old new : Walker) → old.number ≡ e.from → e.to < length old.turns.items → Arrives headers e.to (capped (old.cost + e.cost)) (turns_after (header_at headers e.to) e.from (get_or old.turns.items e.to 0)) old new → Adds spans old new (e ∷ [])
+  pub edge_adds : (e : NumberedEdge) → Contains edges e → (old new : Walker) → old.number ≡ e.from → e.to < length old.turns.items → Arrives headers e.to (capped_cost (old.cost + e.cost)) (turns_after (header_at headers e.to) e.from (get_or old.turns.items e.to 0)) old new → Adds spans old new (e ∷ [])
   edge_adds e in_graph old new from_is room goes w old_after = after_edge e in_graph w old new from_is room goes old_after
 
   -- ## Rounds
@@ -302,19 +302,19 @@ module _ (exit : ℕ) (edges : List NumberedEdge) (spans : List Span) (order : I
 
     module _ (old mid new : Walker) (start : old.number ≡ n) (back : mid.number ≡ n) (room : n < length mid.turns.items) (positive : 0 < k)
         (goes : Arrives headers n (gained old.cost mid.cost k) (gained (get_or old.turns.items n 0) (get_or mid.turns.items n 0) k) mid new) (before : IsWalkerAfter spans old w) (once : IsWalkerAfter spans mid (w ++ v)) where
-      rounds_cost : gained old.cost mid.cost k ≡ capped (cost_of (w ++ repeat k v))
+      rounds_cost : gained old.cost mid.cost k ≡ capped_cost (cost_of (w ++ repeat k v))
       rounds_cost =
-          let more : mid.cost ≡ capped (cost_of w + cost_of v) = once.cost_is ∙ ap capped (cost-append number_shape w v) in
+          let more : mid.cost ≡ capped_cost (cost_of w + cost_of v) = once.cost_is ∙ ap capped_cost (cost-append number_shape w v) in
           let all_of : cost_of (w ++ repeat k v) ≡ cost_of w + k * cost_of v = cost-append number_shape w (repeat k v) ∙ ap (λ (x : ℕ). cost_of w + x) (cost-repeated number_shape k v) in
-          (λ i. gained (before.cost_is i) (more i) k) ∙ gained_is (cost_of w) (cost_of v) k positive ∙ ap capped (sym all_of)
+          (λ i. gained (before.cost_is i) (more i) k) ∙ gained_is (cost_of w) (cost_of v) k positive ∙ ap capped_cost (sym all_of)
 
-      rounds_turns : (s : Span) → Contains spans s → s.header ≡ n → gained (get_or old.turns.items n 0) (get_or mid.turns.items n 0) k ≡ capped (turns_at_end s (w ++ repeat k v))
+      rounds_turns : (s : Span) → Contains spans s → s.header ≡ n → gained (get_or old.turns.items n 0) (get_or mid.turns.items n 0) k ≡ capped_cost (turns_at_end s (w ++ repeat k v))
       rounds_turns s s_in is =
           let here = holds_header s s_in is in
           let c : ℕ = count (is_inside s) (ends_at_header s) v in
-          let first : get_or old.turns.items n 0 ≡ capped (turns_at_end s w) = ap (λ (p : ℕ). get_or old.turns.items p 0) (sym is) ∙ before.turns_are s s_in (subst (λ (p : ℕ). is_in s p ≡ true) (sym start) here) in
-          let second : get_or mid.turns.items n 0 ≡ capped (turns_at_end s w + c) = ap (λ (p : ℕ). get_or mid.turns.items p 0) (sym is) ∙ once.turns_are s s_in (subst (λ (p : ℕ). is_in s p ≡ true) (sym back) here) ∙ ap capped (joined_once s s_in here).1 in
-          (λ i. gained (first i) (second i) k) ∙ gained_is (turns_at_end s w) c k positive ∙ ap capped (sym (joined_rounds s s_in here).1)
+          let first : get_or old.turns.items n 0 ≡ capped_cost (turns_at_end s w) = ap (λ (p : ℕ). get_or old.turns.items p 0) (sym is) ∙ before.turns_are s s_in (subst (λ (p : ℕ). is_in s p ≡ true) (sym start) here) in
+          let second : get_or mid.turns.items n 0 ≡ capped_cost (turns_at_end s w + c) = ap (λ (p : ℕ). get_or mid.turns.items p 0) (sym is) ∙ once.turns_are s s_in (subst (λ (p : ℕ). is_in s p ≡ true) (sym back) here) ∙ ap capped_cost (joined_once s s_in here).1 in
+          (λ i. gained (first i) (second i) k) ∙ gained_is (turns_at_end s w) c k positive ∙ ap capped_cost (sym (joined_rounds s s_in here).1)
 
       after_rounds : IsWalkerAfter spans new (w ++ repeat k v)
       after_rounds =

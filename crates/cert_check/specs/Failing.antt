@@ -24,7 +24,7 @@ use Rattle.cert_check.specs.declared.verdict.Verdict.{Verdict}
 use Rattle.cert_check.specs.declared.verdict.Verdict.TheVariants.{Yes, No}
 use Rattle.cert_check.specs.Followed.{Followed, followed}
 use Rattle.cert_check.specs.Verdict.{IsFirstOf, IsFollowed, RowHolds, goes_back, goes_out, potentials}
-use Rattle.cert_check.specs.Walking.{capped}
+use Rattle.cert_check.specs.Walking.{capped_cost}
 use Rattle.cert_check.specs.Weighing.{RowFits}
 
 -- ## The first of a list
@@ -88,7 +88,7 @@ pub record BreaksBound (flow : Flow) (tree : Tree) (cert : Cert) (header : Place
 pub record CostsOther (flow : Flow) (tree : Tree) (cert : Cert) (cost : ℕ) : Type 0 where
   pub walk : Followed
   pub is_walk : IsFollowed flow tree cert.walk walk
-  pub cost_is : cost ≡ capped (cost_of edge_shape walk.opened.walk)
+  pub cost_is : cost ≡ capped_cost (cost_of edge_shape walk.opened.walk)
   pub other : cost_of edge_shape walk.opened.walk ≢ cert.bound
 
 -- ## What fails

@@ -26,16 +26,16 @@ use Rattle.cert_check.specs.Index.{IsIndex}
 
 -- ## What a walker holds of a walk
 
--- sums are capped at 2^64, which is more than any bound
-abbrev pub capped : ℕ → ℕ
-capped n = min n (2 ^ 64)
+-- costs and numbers of back edges are capped at 2^64, which is more than any bound
+abbrev pub capped_cost : ℕ → ℕ
+capped_cost n = min n (2 ^ 64)
 
 -- what a walker holds after a walk: its cost; the back edges of the stay in each instance where it ends; and
 -- an instance in which a stay has more of them than the bound, if there is one
 pub record IsWalkerAfter (spans : List Span) (x : Walker) (walk : List NumberedEdge) : Type 0 where
-  pub cost_is : x.cost ≡ capped (O.cost_of walk)
+  pub cost_is : x.cost ≡ capped_cost (O.cost_of walk)
   pub turns_are : (s : Span) → Contains spans s → is_in s x.number ≡ true
-      → slice_index x.turns.items s.header ≡ capped (turns_at_end s walk)
+      → slice_index x.turns.items s.header ≡ capped_cost (turns_at_end s walk)
   pub broken : (s : Span) → x.over ≡ Some s → Contains spans s × (s.bound < most_in s walk)
   pub kept : x.over ≡ None → (s : Span) → Contains spans s → most_in s walk ≤ s.bound
 
@@ -62,11 +62,11 @@ broken_by (Some s) turns = cond (nat_lt s.bound turns) (Some s) None
 -- enters
 abbrev pub turns_after : Option Span → ℕ → ℕ → ℕ
 turns_after None from turns = 0
-turns_after (Some s) from turns = cond (is_in s from) (capped (turns + 1)) 0
+turns_after (Some s) from turns = cond (is_in s from) (capped_cost (turns + 1)) 0
 
 -- what was gained once, so many times
 abbrev pub gained : ℕ → ℕ → ℕ → ℕ
-gained before after count = capped (capped before + count * (capped after - before))
+gained before after count = capped_cost (capped_cost before + count * (capped_cost after - before))
 
 -- it is at the number with this cost, and with these back edges of the stay in the instance that begins
 -- there

@@ -43,7 +43,7 @@ pub enum FailingRow {
     OpenWalk(Place),
     /// The header and the bound of an instance in which a stay of the walk turns back more often.
     WalkOverBound(Place, u32),
-    /// What the walk costs, in ticks, capped at 2^64.
+    /// What the walk costs, in ticks, capped at [`COST_CAP`](crate::COST_CAP), 2^64.
     WalkCost(u128),
 }
 

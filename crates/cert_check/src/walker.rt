@@ -1,12 +1,12 @@
 ghost use Rattle.std.specs.Prelude.{◌≡◌, ◌+◌, ◌<◌, length, slice_index};
 ghost use Rattle.walk_counts.specs.Spans.{header_at};
-ghost use Rattle.cert_check.specs.Walking.{Arrives, broken_by, capped, gained, turns_after};
+ghost use Rattle.cert_check.specs.Walking.{Arrives, broken_by, capped_cost, gained, turns_after};
 
 use numbered_walks::{NumberedEdge, Span};
 use walk_counts::holds;
 
-// Sums stop here, above each bound that they are compared with.
-const LIMIT: u128 = 1 << 64;
+/// The costs of walks, in ticks, and their numbers of back edges are capped here, at 2^64: above each bound.
+pub const COST_CAP: u128 = 1 << 64;
 
 /// How far a walk has been followed from the entry, and what is known of it.
 #[derive(Drop)]
@@ -33,13 +33,13 @@ pub(crate) struct Round {
     pub(crate) turns: u128,
 }
 
-fn capped_sum(sum: u128, more: u32) -> u128
-    ensures { result ≡ capped (sum + more) }
+fn capped_cost_sum(sum: u128, more: u32) -> u128
+    ensures { result ≡ capped_cost (sum + more) }
 {
-    if sum < LIMIT {
-        (sum + u128::from(more)).min(LIMIT)
+    if sum < COST_CAP {
+        (sum + u128::from(more)).min(COST_CAP)
     } else {
-        LIMIT
+        COST_CAP
     }
 }
 
@@ -47,9 +47,9 @@ fn capped_sum(sum: u128, more: u32) -> u128
 fn gained(before: u128, after: u128, count: u32) -> u128
     ensures { result ≡ gained before after count }
 {
-    let start = before.min(LIMIT);
-    let once = after.min(LIMIT).saturating_sub(before);
-    (start + u128::from(count) * once).min(LIMIT)
+    let start = before.min(COST_CAP);
+    let once = after.min(COST_CAP).saturating_sub(before);
+    (start + u128::from(count) * once).min(COST_CAP)
 }
 
 // The instance that begins at the number, if these are more back edges than its bound.
@@ -81,7 +81,7 @@ impl Walker {
         match headers[edge.to] {
             Some(span) => {
                 if holds(&span, edge.from) {
-                    capped_sum(self.turns[edge.to], 1)
+                    capped_cost_sum(self.turns[edge.to], 1)
                 } else {
                     0
                 }
@@ -108,11 +108,11 @@ impl Walker {
     pub(crate) fn take(&mut self, headers: &[Option<Span>], edge: &NumberedEdge)
         requires known { edge.now.to < length headers.now }
         requires room { edge.now.to < length self.old.turns.items }
-        ensures { Arrives headers.now edge.now.to (capped (self.old.cost + edge.now.cost))
+        ensures { Arrives headers.now edge.now.to (capped_cost (self.old.cost + edge.now.cost))
             (turns_after (header_at headers.now edge.now.to) edge.now.from
             (slice_index self.old.turns.items edge.now.to)) self.old self.new }
     {
-        let cost = capped_sum(self.cost, edge.cost);
+        let cost = capped_cost_sum(self.cost, edge.cost);
         let turns = self.turns_after(headers, edge);
         self.arrive(headers, edge.to, cost, turns);
     }

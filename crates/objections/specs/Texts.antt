@@ -1,5 +1,5 @@
 -- What is printed of what fails in a certificate.
-use Rattle.std.specs.Prelude.{ℕ, ◌∷◌, ◌++◌, ◌^◌, List, codes, cond, decimal, nat_lt}
+use Rattle.std.specs.Prelude.{ℕ, ◌∷◌, ◌++◌, List, codes, cond, decimal, nat_lt}
 use Rattle.asm_text.specs.Hex.{hex}
 use Rattle.flow_graph.specs.declared.edges.Edge.{Edge}
 use Rattle.flow_graph.specs.declared.places.Place.{Place}
@@ -8,6 +8,7 @@ use Rattle.certificate.specs.Words.{label_words, list_words}
 use Rattle.cert_check.specs.declared.failing.FailingRow.{FailingRow}
 use Rattle.cert_check.specs.declared.failing.FailingRow.TheVariants as f
 use Rattle.cert_check.specs.declared.failing.HeavyRow.{HeavyRow}
+use Rattle.cert_check.specs.declared.walker.TheConstants.{COST_CAP}
 
 -- ## Places and edges
 
@@ -53,9 +54,9 @@ bound_heading bound =
     codes "The walk turns back more than "
     ++ (decimal bound ++ codes " times in a stay in this loop:\n")
 
--- a cost that is capped at 2^64
+-- a cost that is capped
 abbrev pub cost_words : ℕ → List ℕ
-cost_words cost = cond (nat_lt cost (2 ^ 64)) (decimal cost) (codes "2^64 or more")
+cost_words cost = cond (nat_lt cost COST_CAP) (decimal cost) (codes "2^64 or more")
 
 abbrev pub cost_line : ℕ → List ℕ
 cost_line cost = codes "The walk costs " ++ (cost_words cost ++ codes " ticks, which is not the bound.\n")

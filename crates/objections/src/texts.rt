@@ -3,7 +3,7 @@ ghost use Rattle.objections.specs.Texts.{bound_heading, cost_line, cost_words, e
 ghost use Rattle.objections.specs.Texts.{heavy_lines, item_line, numbers_line, objection_text, place_line};
 
 use crate::parts::{put_edge, put_place};
-use cert_check::{FailingRow, HeavyRow};
+use cert_check::{COST_CAP, FailingRow, HeavyRow};
 use flow_graph::{Edge, Place};
 use std::alloc::{AllocError, Global};
 use text_rows::{put, put_decimal};
@@ -103,11 +103,11 @@ fn bound_text(alloc: Global, header: &Place, bound: u32) -> Result<Vec<u8>, Allo
     at_place(alloc, &heading, HEADER, header)
 }
 
-// Adds a cost that is capped at 2^64.
+// Adds a cost that is capped.
 fn put_cost(out: &mut Vec<u8>, cost: u128) -> Result<(), AllocError>
     ensures { OnOk result (out.new.items ≡ out.old.items ++ cost_words cost) }
 {
-    if cost < 1 << 64 {
+    if cost < COST_CAP {
         return put_decimal(out, cost as u64);
     }
     put(out, b"2^64 or more")
