@@ -9,6 +9,7 @@ use crate::failing::FailingRow;
 use crate::fault::CheckFault;
 use crate::heavy::failing_edge;
 use crate::index::Index;
+use crate::indexed_tree::IndexedTree;
 use crate::listed::failing_presence;
 use crate::straying::failing_walk;
 use certificate::Cert;
@@ -39,8 +40,13 @@ pub fn failing_row(
     }
     let index = Index::of(alloc, tree.spans(), exit)?;
     let tables = tables_of(alloc, graph, tree, cert)?;
-    if let Some(row) = failing_edge(graph, tree, cert, &index, &tables) {
+    let indexed = IndexedTree {
+        graph,
+        tree,
+        index: &index,
+    };
+    if let Some(row) = failing_edge(indexed, cert, &tables) {
         return Ok(Some(row));
     }
-    Ok(failing_walk(alloc, graph, tree, cert, &index)?)
+    Ok(failing_walk(alloc, indexed, cert)?)
 }

@@ -1,21 +1,19 @@
 ghost use Rattle.std.specs.Prelude.{IfOk, MatchOption, length};
-ghost use Rattle.loop_bounds.specs.Tree.{IsTree};
 ghost use Rattle.longest_walk.specs.Folded.{most_nested};
 ghost use Rattle.cert_check.specs.Failing.{IsFirstFailing};
 ghost use Rattle.cert_check.specs.Followed.{followed};
-ghost use Rattle.cert_check.specs.Index.{IsIndex};
+ghost use Rattle.cert_check.specs.Index.{IsIndexed};
 ghost use Rattle.cert_check.specs.Straying.{StraysAt};
 ghost use Rattle.cert_check.specs.Verdict.{walk_objections};
 ghost use Rattle.cert_check.specs.Walking.{CanFollow, IsFresh, IsTaken, graph_span};
 
 use crate::failing::FailingRow;
-use crate::handler::Handler;
-use crate::index::Index;
+use crate::indexed_tree::IndexedTree;
 use crate::walk_trace::follow_one;
 use crate::walker::Walker;
 use certificate::{Cert, CertItem};
 use flow_graph::Graph;
-use loop_bounds::{LoopTree, MOST_INSTANCES, place_in};
+use loop_bounds::{MOST_INSTANCES, place_in};
 use numbered_walks::Span;
 use std::alloc::{AllocError, Global};
 
@@ -37,20 +35,20 @@ fn start(alloc: Global, graph: &Graph) -> Result<Walker, AllocError>
 
 // Follows the lines from where the walker is, inside the span: the first that it cannot follow.
 fn first_not_followed(
-    handler: Handler<'_>,
+    indexed: IndexedTree<'_>,
     within: &Span,
     walker: &mut Walker,
     items: &[CertItem],
 ) -> Option<usize>
-    requires { CanFollow handler.graph.now handler.tree.now handler.index.now within.now walker.old }
+    requires { CanFollow indexed.graph.now indexed.tree.now indexed.index.now within.now walker.old }
     ensures { MatchOption result
-        (IsTaken handler.entry.graph.now handler.entry.tree.now handler.entry.index.now within.now
-        most_nested (length items.now) (followed handler.entry.graph.now items.now) walker.old walker.new)
-        (StraysAt handler.entry.graph.now handler.entry.tree.now handler.entry.index.now within.now
+        (IsTaken indexed.entry.graph.now indexed.entry.tree.now indexed.entry.index.now within.now
+        most_nested (length items.now) (followed indexed.entry.graph.now items.now) walker.old walker.new)
+        (StraysAt indexed.entry.graph.now indexed.entry.tree.now indexed.entry.index.now within.now
         most_nested items.now walker.old) }
 {
     for (number, item) in items.iter().enumerate() {
-        if !follow_one(handler, within, LEVELS, walker, item) {
+        if !follow_one(indexed, within, LEVELS, walker, item) {
             return Some(number);
         }
     }
@@ -58,36 +56,34 @@ fn first_not_followed(
 }
 
 // Follows the lines of the certificate: the first that it cannot follow.
-fn first_broken(handler: Handler<'_>, cert: &Cert, walker: &mut Walker) -> Option<usize>
-    requires tree { IsTree handler.graph.now handler.tree.now }
-    requires indexed { IsIndex (length handler.graph.now.places) handler.tree.now.spans handler.index.now }
-    requires fresh { IsFresh (length handler.graph.now.places) walker.old }
+fn first_broken(indexed: IndexedTree<'_>, cert: &Cert, walker: &mut Walker) -> Option<usize>
+    requires indexed { IsIndexed indexed }
+    requires fresh { IsFresh (length indexed.graph.now.places) walker.old }
     ensures { MatchOption result
-        (IsTaken handler.entry.graph.now handler.entry.tree.now handler.entry.index.now
-        (graph_span handler.entry.graph.now) most_nested (length cert.now.walk)
-        (followed handler.entry.graph.now cert.now.walk) walker.old walker.new)
-        (StraysAt handler.entry.graph.now handler.entry.tree.now handler.entry.index.now
-        (graph_span handler.entry.graph.now) most_nested cert.now.walk walker.old) }
+        (IsTaken indexed.entry.graph.now indexed.entry.tree.now indexed.entry.index.now
+        (graph_span indexed.entry.graph.now) most_nested (length cert.now.walk)
+        (followed indexed.entry.graph.now cert.now.walk) walker.old walker.new)
+        (StraysAt indexed.entry.graph.now indexed.entry.tree.now indexed.entry.index.now
+        (graph_span indexed.entry.graph.now) most_nested cert.now.walk walker.old) }
 {
     let whole = Span {
         header: 0,
-        last: handler.graph.places().len(),
+        last: indexed.graph.places().len(),
         bound: 0,
     };
-    first_not_followed(handler, &whole, walker, cert.walk.items())
+    first_not_followed(indexed, &whole, walker, cert.walk.items())
 }
 
 // Where the walk fails the first of its three tests that is not passed.
-fn failing_line(handler: Handler<'_>, cert: &Cert, walker: &mut Walker) -> Option<FailingRow>
-    requires tree { IsTree handler.graph.now handler.tree.now }
-    requires indexed { IsIndex (length handler.graph.now.places) handler.tree.now.spans handler.index.now }
-    requires fresh { IsFresh (length handler.graph.now.places) walker.old }
-    ensures { IsFirstFailing handler.entry.graph.now handler.entry.tree.now cert.now walk_objections result }
+fn failing_line(indexed: IndexedTree<'_>, cert: &Cert, walker: &mut Walker) -> Option<FailingRow>
+    requires indexed { IsIndexed indexed }
+    requires fresh { IsFresh (length indexed.graph.now.places) walker.old }
+    ensures { IsFirstFailing indexed.entry.graph.now indexed.entry.tree.now cert.now walk_objections result }
 {
-    let Handler { graph, tree, .. } = handler;
+    let IndexedTree { graph, tree, .. } = indexed;
     let exit = graph.places().len();
     let bound = cert.bound;
-    if let Some(item) = first_broken(handler, cert, walker) {
+    if let Some(item) = first_broken(indexed, cert, walker) {
         return Some(FailingRow::BrokenWalk(item));
     }
     if walker.number != exit {
@@ -104,23 +100,21 @@ fn failing_line(handler: Handler<'_>, cert: &Cert, walker: &mut Walker) -> Optio
     None
 }
 
-/// Where a certificate's walk fails, each repeat followed once. The index is that of the tree. It takes time
-/// linear in the lines of the walk, a step as many times as its place has edges.
+/// Where a certificate's walk fails, each repeat followed once. It takes time linear in the lines of the
+/// walk, a step as many times as its place has edges.
 ///
 /// # Errors
 ///
 /// `AllocError` where an allocation failed.
 pub(crate) fn failing_walk(
     alloc: Global,
-    graph: &Graph,
-    tree: &LoopTree,
+    indexed: IndexedTree<'_>,
     cert: &Cert,
-    index: &Index,
 ) -> Result<Option<FailingRow>, AllocError>
-    requires tree { IsTree graph.now tree.now }
-    requires indexed { IsIndex (length graph.now.places) tree.now.spans index.now }
-    ensures { IfOk result (IsFirstFailing graph.now tree.now cert.now walk_objections) }
+    requires indexed { IsIndexed indexed }
+    ensures { IfOk result
+        (IsFirstFailing indexed.entry.graph.now indexed.entry.tree.now cert.now walk_objections) }
 {
-    let mut walker = start(alloc, graph)?;
-    Ok(failing_line(Handler { graph, tree, index }, cert, &mut walker))
+    let mut walker = start(alloc, indexed.graph)?;
+    Ok(failing_line(indexed, cert, &mut walker))
 }

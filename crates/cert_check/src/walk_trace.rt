@@ -5,8 +5,8 @@ ghost use Rattle.cert_check.specs.Followed.{edge_named, follow_edge, follow_item
 ghost use Rattle.cert_check.specs.Followed.{is_named, leads_to};
 ghost use Rattle.cert_check.specs.Walking.{Begins, CanFollow, CannotBegin, Follows};
 
-use crate::handler::Handler;
 use crate::index::Index;
+use crate::indexed_tree::IndexedTree;
 use crate::walker::{Round, Walker};
 use certificate::{CertItem, StepLine, To};
 use flow_graph::{Edge, Graph, MOST_ROUNDS, Place};
@@ -61,21 +61,26 @@ fn named_edge(graph: &Graph, tree: &LoopTree, number: usize, line: &StepLine) ->
 
 // Follows the edge that the line names, if there is one and it ends inside the span. No level is asked, as
 // there is no repeat here.
-fn follow_step(handler: Handler<'_>, within: &Span, walker: &mut Walker, line: &StepLine) -> bool
-    requires { CanFollow handler.graph.now handler.tree.now handler.index.now within.now walker.old }
+fn follow_step(
+    indexed: IndexedTree<'_>,
+    within: &Span,
+    walker: &mut Walker,
+    line: &StepLine,
+) -> bool
+    requires { CanFollow indexed.graph.now indexed.tree.now indexed.index.now within.now walker.old }
     ensures { (levels : ℕ)
-        → Follows handler.entry.graph.now handler.entry.tree.now handler.entry.index.now within.now levels 1
-        (λ p. option_map follow_edge (edge_named handler.entry.graph.now p line.now))
+        → Follows indexed.entry.graph.now indexed.entry.tree.now indexed.entry.index.now within.now levels 1
+        (λ p. option_map follow_edge (edge_named indexed.entry.graph.now p line.now))
         walker.old walker.new result }
 {
-    let Some(number) = named_edge(handler.graph, handler.tree, walker.number, line) else {
+    let Some(number) = named_edge(indexed.graph, indexed.tree, walker.number, line) else {
         return false;
     };
-    let edge = handler.tree.edges()[number];
+    let edge = indexed.tree.edges()[number];
     if !holds(within, edge.to) {
         return false;
     }
-    walker.take(&handler.index.headers, &edge);
+    walker.take(&indexed.index.headers, &edge);
     true
 }
 
@@ -109,29 +114,29 @@ fn begin(
 /// Follows one item: a repeat's body once, inside the instance that begins where the walker is.
 #[cycle(walk)]
 pub(crate) fn follow_one(
-    handler: Handler<'_>,
+    indexed: IndexedTree<'_>,
     within: &Span,
     levels: u32,
     walker: &mut Walker,
     item: &CertItem,
 ) -> bool
-    requires { CanFollow handler.graph.now handler.tree.now handler.index.now within.now walker.old }
-    ensures { Follows handler.entry.graph.now handler.entry.tree.now handler.entry.index.now within.now levels
-        1 (follow_item handler.entry.graph.now item.now) walker.old walker.new result }
+    requires { CanFollow indexed.graph.now indexed.tree.now indexed.index.now within.now walker.old }
+    ensures { Follows indexed.entry.graph.now indexed.entry.tree.now indexed.entry.index.now within.now levels
+        1 (follow_item indexed.entry.graph.now item.now) walker.old walker.new result }
 {
     match item {
-        CertItem::Step(line) => follow_step(handler, within, walker, line),
+        CertItem::Step(line) => follow_step(indexed, within, walker, line),
         CertItem::Repeat(count, body) => {
-            let Some(round) = begin(handler.index, walker, levels, *count, body) else {
+            let Some(round) = begin(indexed.index, walker, levels, *count, body) else {
                 return false;
             };
-            if !follow_all(handler, &round.span, levels - 1, walker, body) {
+            if !follow_all(indexed, &round.span, levels - 1, walker, body) {
                 return false;
             }
             if walker.number != round.span.header {
                 return false;
             }
-            walker.repeat(&handler.index.headers, &round, *count);
+            walker.repeat(&indexed.index.headers, &round, *count);
             true
         }
     }
@@ -141,18 +146,18 @@ pub(crate) fn follow_one(
 /// each repeat once: whether they are such a walk.
 #[cycle(walk)]
 pub(crate) fn follow_all(
-    handler: Handler<'_>,
+    indexed: IndexedTree<'_>,
     within: &Span,
     levels: u32,
     walker: &mut Walker,
     items: &[CertItem],
 ) -> bool
-    requires { CanFollow handler.graph.now handler.tree.now handler.index.now within.now walker.old }
-    ensures { Follows handler.entry.graph.now handler.entry.tree.now handler.entry.index.now within.now levels
-        (length items.now) (followed handler.entry.graph.now items.now) walker.old walker.new result }
+    requires { CanFollow indexed.graph.now indexed.tree.now indexed.index.now within.now walker.old }
+    ensures { Follows indexed.entry.graph.now indexed.entry.tree.now indexed.entry.index.now within.now levels
+        (length items.now) (followed indexed.entry.graph.now items.now) walker.old walker.new result }
 {
     for item in items {
-        if !follow_one(handler, within, levels, walker, item) {
+        if !follow_one(indexed, within, levels, walker, item) {
             return false;
         }
     }

@@ -9,8 +9,8 @@ use Rattle.cert_check.proofs.heavy.failing_edge.Goals as goal
 
 pub returns-in-Some : goal.returns-in-Some
 returns-in-Some c =
-    let flow = c.args.graph.now in
-    let tree = c.args.tree.now in
+    let flow = c.args.indexed.graph.now in
+    let tree = c.args.indexed.tree.now in
     let cert = c.args.cert.now in
     let edge = c.index-edges-number.result in
     let edge_is = c.index-edges-number.is ∙ ap (λ (xs : List Edge). get_or xs c.in-Some.number edge) c.edges.ensures.value ∙ get_or_default flow.edges c.in-Some.number edge no_edge c.in-Some.ensures.0 in

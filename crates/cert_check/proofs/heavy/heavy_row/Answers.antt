@@ -12,8 +12,8 @@ use Rattle.cert_check.proofs.heavy.heavy_row.Goals as goal
 
 pub weight-needed-requires : goal.weight-needed-requires
 weight-needed-requires c =
-    let flow = c.args.handler.graph.now in
-    let tree = c.args.handler.tree.now in
+    let flow = c.args.indexed.graph.now in
+    let tree = c.args.indexed.tree.now in
     let tables = c.args.tables.now in
     let w = c.weighing_of.ensures in
     let own = c.weighing_of.result in
@@ -22,22 +22,22 @@ weight-needed-requires c =
     record {
       can_weigh =
           rw (w.spans, w.index, c.edges.ensures)
-          (can_weigh flow tree w.well_formed c.requires.tree c.args.cert.now tables c.requires.tables c.args.number c.requires.inside c.args.handler.index.now c.requires.indexed);
+          (can_weigh flow tree w.well_formed c.requires.indexed.tree c.args.cert.now tables c.requires.tables c.args.number c.requires.inside c.args.indexed.index.now c.requires.indexed.index);
       fits =
           rw w.tables
           (carried Fits (length flow.places) own.exit tree.spans own.spans.now tree.edges c.edges.result.now (sym w.exit) (sym w.spans) (sym c.edges.ensures)
-          (fits_down flow tree w.well_formed c.requires.tree c.args.cert.now tables c.requires.tables c.args.number c.requires.inside c.requires.fits));
+          (fits_down flow tree w.well_formed c.requires.indexed.tree c.args.cert.now tables c.requires.tables c.args.number c.requires.inside c.requires.fits));
       fails =
           rw w.tables
           (λ holds.
           c.requires.fails
-          (holds_up flow tree w.well_formed c.requires.tree c.args.cert.now tables c.requires.tables c.args.number c.requires.inside
+          (holds_up flow tree w.well_formed c.requires.indexed.tree c.args.cert.now tables c.requires.tables c.args.number c.requires.inside
           (carried Holds own.exit (length flow.places) own.spans.now tree.spans c.edges.result.now tree.edges w.exit w.spans c.edges.ensures holds)));
     }
 
 pub returns : goal.returns
 returns c =
-    let flow = c.args.handler.graph.now in
+    let flow = c.args.indexed.graph.now in
     let w = c.weighing_of.ensures in
     let own = c.weighing_of.result in
     let edge = c.index-edges-number.result in
@@ -46,7 +46,7 @@ returns c =
     record {
       edge = edge_is;
       heavy =
-          is_heavy flow c.args.handler.tree.now w.well_formed c.requires.tree c.args.cert.now c.args.tables.now c.requires.tables c.args.number c.requires.inside
+          is_heavy flow c.args.indexed.tree.now w.well_formed c.requires.indexed.tree c.args.cert.now c.args.tables.now c.requires.tables c.args.number c.requires.inside
           (record { edge = edge; needed = c.weight-needed.result.0; stated = c.weight-needed.result.1 })
           own.exit own.spans.now c.edges.result.now edge_is w.exit w.spans c.edges.ensures weight_is.needed weight_is.stated weight_is.less;
     }

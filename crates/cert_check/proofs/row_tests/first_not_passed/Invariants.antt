@@ -4,4 +4,4 @@ use Rattle.cert_check.specs.Weighing.{EdgePasses}
 use Rattle.cert_check.proofs.row_tests.first_not_passed.Given as goal
 
 abbrev pub invariant-loop-number : goal.invariant-loop-number
-invariant-loop-number l = (k : ℕ) → k < l.number → EdgePasses l.handler.tree.now l.cert l.test (step_at l.handler.graph.now.edges k)
+invariant-loop-number l = (k : ℕ) → k < l.number → EdgePasses l.indexed.tree.now l.cert l.test (step_at l.indexed.graph.now.edges k)

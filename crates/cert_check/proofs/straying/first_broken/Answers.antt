@@ -10,14 +10,14 @@ use Rattle.cert_check.proofs.straying.first_broken.Goals as goal
 
 pub first_not_followed-requires : goal.first_not_followed-requires
 first_not_followed-requires c =
-    subst (λ (ps : List Place). CanFollow c.args.handler.graph.now c.args.handler.tree.now c.args.handler.index.now (record { header = 0; last = length ps; bound = 0 }) c.args.walker.now) (sym c.places.ensures.value)
-    (ready c.args.handler.graph.now c.args.handler.tree.now c.args.handler.index.now c.places.ensures.well_formed c.requires.tree c.requires.indexed c.args.walker.now c.requires.fresh)
+    subst (λ (ps : List Place). CanFollow c.args.indexed.graph.now c.args.indexed.tree.now c.args.indexed.index.now (record { header = 0; last = length ps; bound = 0 }) c.args.walker.now) (sym c.places.ensures.value)
+    (ready c.args.indexed.graph.now c.args.indexed.tree.now c.args.indexed.index.now c.places.ensures.well_formed c.requires.indexed.tree c.requires.indexed.index c.args.walker.now c.requires.fresh)
 
 pub returns : goal.returns
 returns c =
-    let flow = c.args.handler.graph.now in
-    let tree = c.args.handler.tree.now in
-    let index = c.args.handler.index.now in
+    let flow = c.args.indexed.graph.now in
+    let tree = c.args.indexed.tree.now in
+    let index = c.args.indexed.index.now in
     let old = c.args.walker.now in
     let new = c.first_not_followed.new.walker in
     let found = c.first_not_followed.result in

@@ -5,5 +5,5 @@ use Rattle.cert_check.specs.Walking.{CanFollow, Follows}
 use Rattle.cert_check.proofs.walk_trace.+walk.Given as goal
 
 abbrev pub invariant-follow_all-loop-item : goal.invariant-follow_all-loop-item
-invariant-follow_all-loop-item l = CanFollow l.handler.graph.now l.handler.tree.now l.handler.index.now l.within l.walker × ((new : Walker) (b : Bool) → Follows l.handler.graph.now l.handler.tree.now l.handler.index.now l.within l.levels (length (drop l.item-index l.items)) (followed l.handler.graph.now (drop l.item-index l.items)) l.walker new b
-    → Follows l.handler.graph.now l.handler.tree.now l.handler.index.now l.within l.levels (length l.items) (followed l.handler.graph.now l.items) l.initial.walker new b)
+invariant-follow_all-loop-item l = CanFollow l.indexed.graph.now l.indexed.tree.now l.indexed.index.now l.within l.walker × ((new : Walker) (b : Bool) → Follows l.indexed.graph.now l.indexed.tree.now l.indexed.index.now l.within l.levels (length (drop l.item-index l.items)) (followed l.indexed.graph.now (drop l.item-index l.items)) l.walker new b
+    → Follows l.indexed.graph.now l.indexed.tree.now l.indexed.index.now l.within l.levels (length l.items) (followed l.indexed.graph.now l.items) l.initial.walker new b)

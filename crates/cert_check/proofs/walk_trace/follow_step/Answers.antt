@@ -12,7 +12,7 @@ pub returns-then-not-holds : goal.returns-then-not-holds
 returns-then-not-holds c levels =
     let within = c.args.within.now in
     let k = c.in-Some.number in
-    step_outside c.args.handler.graph.now c.args.handler.tree.now c.args.handler.index.now c.requires.well_formed within levels c.args.walker.now c.requires c.args.line.now k c.in-Some.ensures.inside c.in-Some.ensures.found
+    step_outside c.args.indexed.graph.now c.args.indexed.tree.now c.args.indexed.index.now c.requires.well_formed within levels c.args.walker.now c.requires c.args.line.now k c.in-Some.ensures.inside c.in-Some.ensures.found
     (ap (λ (es : List NumberedEdge). is_in within (edge_at es k).to) (sym c.edges.ensures) ∙ sym c.holds.ensures ∙ c.if-not-holds.true)
 
 pub returns : goal.returns
@@ -21,8 +21,8 @@ returns c levels =
     let k = c.in-Some.number in
     let x = c.args.walker.now in
     let y = c.take.new.self in
-    step_taken c.args.handler.graph.now c.args.handler.tree.now c.args.handler.index.now c.requires.well_formed within levels x c.requires c.args.line.now k c.in-Some.ensures.inside c.in-Some.ensures.found y
+    step_taken c.args.indexed.graph.now c.args.indexed.tree.now c.args.indexed.index.now c.requires.well_formed within levels x c.requires c.args.line.now k c.in-Some.ensures.inside c.in-Some.ensures.found y
     (ap (λ (es : List NumberedEdge). is_in within (edge_at es k).to) (sym c.edges.ensures) ∙ sym c.holds.ensures ∙ c.if-not-holds.false)
-    (subst (λ (es : List NumberedEdge). Arrives c.args.handler.index.now.headers.items (edge_at es k).to (capped_cost (x.cost + (edge_at es k).cost)) (turns_after (header_at c.args.handler.index.now.headers.items (edge_at es k).to) (edge_at es k).from (get_or x.turns.items (edge_at es k).to 0)) x y) c.edges.ensures
+    (subst (λ (es : List NumberedEdge). Arrives c.args.indexed.index.now.headers.items (edge_at es k).to (capped_cost (x.cost + (edge_at es k).cost)) (turns_after (header_at c.args.indexed.index.now.headers.items (edge_at es k).to) (edge_at es k).from (get_or x.turns.items (edge_at es k).to 0)) x y) c.edges.ensures
     (subst (λ (hs : List (Option Span)). Arrives hs (edge_at c.edges.result.now k).to (capped_cost (x.cost + (edge_at c.edges.result.now k).cost)) (turns_after (header_at hs (edge_at c.edges.result.now k).to) (edge_at c.edges.result.now k).from (get_or x.turns.items (edge_at c.edges.result.now k).to 0)) x y) c.deref.ensures.value
     c.take.ensures))
