@@ -88,6 +88,6 @@ pub record AreTables (flow : Flow) (tree : Tree) (index : Index) (counted : List
 
 -- what each call that draws is handed: the tables of a graph and of its tree, and a count for each edge
 pub record CanDraw (d : Drawn) : Type 0 where
-  pub tree_is : IsTree d.graph.now d.tree.now
+  pub tree : IsTree d.graph.now d.tree.now
   pub tables : AreTables d.graph.now d.tree.now d.index.now d.arrivals.now
   pub counted : length d.counts.now ≡ length d.graph.now.edges

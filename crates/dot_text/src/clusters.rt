@@ -1,7 +1,7 @@
 ghost use Rattle.std.specs.Prelude.{◌≡◌, ◌≤◌, ◌<◌, ◌^◌, ◌++◌, OnOk, length, replicate};
 ghost use Rattle.dot_text.specs.Clusters.{call_names, closed, clusters, depth_in, loop_text};
 ghost use Rattle.dot_text.specs.Clusters.{opened, routine_text, routines};
-ghost use Rattle.dot_text.specs.Stretches.{AreTables};
+ghost use Rattle.dot_text.specs.Stretches.{CanDraw};
 
 use crate::pieces::put_address;
 use crate::stretches::{calls_in, loops_of};
@@ -98,7 +98,7 @@ pub(crate) fn put_opened(
     drawn: Drawn<'_>,
     number: usize,
 ) -> Result<(), AllocError>
-    requires tables { AreTables drawn.graph.now drawn.tree.now drawn.index.now drawn.arrivals.now }
+    requires drawn { CanDraw drawn }
     requires known { number ≤ length drawn.graph.now.places }
     ensures { OnOk result
         (out.new.items ≡ out.old.items ++ opened drawn.entry.graph.now drawn.entry.tree.now number) }
@@ -123,7 +123,7 @@ pub(crate) fn put_closed(
     drawn: Drawn<'_>,
     number: usize,
 ) -> Result<(), AllocError>
-    requires tables { AreTables drawn.graph.now drawn.tree.now drawn.index.now drawn.arrivals.now }
+    requires drawn { CanDraw drawn }
     requires known { number ≤ length drawn.graph.now.places }
     ensures { OnOk result
         (out.new.items ≡ out.old.items ++ closed drawn.entry.graph.now drawn.entry.tree.now number) }

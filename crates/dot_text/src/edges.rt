@@ -1,9 +1,8 @@
 ghost use Rattle.std.specs.Prelude.{◌≡◌, ◌<◌, ◌++◌, OnOk, length};
 ghost use Rattle.std.specs.List.{flat_map};
-ghost use Rattle.loop_bounds.specs.Tree.{IsTree};
 ghost use Rattle.longest_walk.specs.Built.{step_at};
 ghost use Rattle.numbered_walks.specs.Index.{edge_at};
-ghost use Rattle.dot_text.specs.Stretches.{leaving};
+ghost use Rattle.dot_text.specs.Stretches.{CanDraw, leaving};
 ghost use Rattle.dot_text.specs.Text.{edge};
 
 use crate::pieces::{put_edge_name, put_name, put_style};
@@ -16,7 +15,7 @@ use text_rows::{put, put_decimal};
 
 // An edge, and the number that it leads to.
 fn edge_of(drawn: Drawn<'_>, number: usize) -> (Edge, usize)
-    requires tree { IsTree drawn.graph.now drawn.tree.now }
+    requires drawn { CanDraw drawn }
     requires known { number < length drawn.graph.now.edges }
     ensures edge { result.0 ≡ step_at drawn.entry.graph.now.edges number }
     ensures to { result.1 ≡ (edge_at drawn.entry.tree.now.edges number).to }
@@ -31,9 +30,8 @@ fn put_edge(
     first: usize,
     number: usize,
 ) -> Result<(), AllocError>
-    requires tree { IsTree drawn.graph.now drawn.tree.now }
+    requires drawn { CanDraw drawn }
     requires known { number < length drawn.graph.now.edges }
-    requires counted { length drawn.counts.now ≡ length drawn.graph.now.edges }
     ensures { OnOk result
         (out.new.items ≡ out.old.items
         ++ edge drawn.entry.graph.now drawn.entry.tree.now drawn.entry.counts.now drawn.entry.labels.now first
@@ -59,9 +57,8 @@ pub(crate) fn put_edges(
     drawn: Drawn<'_>,
     stretch: Stretch,
 ) -> Result<(), AllocError>
-    requires tree { IsTree drawn.graph.now drawn.tree.now }
+    requires drawn { CanDraw drawn }
     requires known { stretch.last < length drawn.graph.now.places }
-    requires counted { length drawn.counts.now ≡ length drawn.graph.now.edges }
     ensures { OnOk result
         (out.new.items ≡ out.old.items
         ++ flat_map

@@ -1,6 +1,5 @@
 ghost use Rattle.std.specs.Prelude.{◌≡◌, ◌<◌, ◌≤◌, ◌+◌, ◌++◌, OnOk, length, slice_index};
 ghost use Rattle.std.specs.List.{flat_map, slice_get};
-ghost use Rattle.loop_bounds.specs.Tree.{IsTree};
 ghost use Rattle.dot_text.specs.Stretches.{CanDraw, between};
 ghost use Rattle.dot_text.specs.Text.{escaped, label_of, node, row, stretch};
 
@@ -26,7 +25,7 @@ fn put_label(out: &mut Vec<u8>, labels: &[Vec<u8>], place: usize) -> Result<(), 
 
 // Adds the address of a number and its label.
 fn put_row(out: &mut Vec<u8>, drawn: Drawn<'_>, number: usize) -> Result<(), AllocError>
-    requires tree { IsTree drawn.graph.now drawn.tree.now }
+    requires drawn { CanDraw drawn }
     requires known { number < length drawn.graph.now.places }
     ensures { OnOk result
         (out.new.items ≡ out.old.items

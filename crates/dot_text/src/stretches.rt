@@ -1,9 +1,8 @@
 ghost use Rattle.std.specs.Prelude.{◌≡◌, ◌<◌, ◌≤◌, ◌+◌, length, slice_index};
 ghost use Rattle.std.specs.List.{list_all};
-ghost use Rattle.loop_bounds.specs.Tree.{IsTree};
 ghost use Rattle.numbered_walks.specs.Ordered.{is_in};
-ghost use Rattle.dot_text.specs.Stretches.{AreTables, CanDraw, calls_in, edge_ticks};
-ghost use Rattle.dot_text.specs.Stretches.{goes_on, leads_on, loops_of, passes, stays_inside, stretch_ticks, ticks};
+ghost use Rattle.dot_text.specs.Stretches.{CanDraw, calls_in, edge_ticks, goes_on, leads_on, loops_of};
+ghost use Rattle.dot_text.specs.Stretches.{passes, stays_inside, stretch_ticks, ticks};
 
 use crate::tables::Drawn;
 use flow_graph::{Calls, Place};
@@ -30,7 +29,7 @@ pub(crate) fn calls_in(drawn: Drawn<'_>, number: usize) -> Calls
 
 /// The loops that hold a number, the inner ones first.
 pub(crate) fn loops_of<'a>(drawn: Drawn<'a>, number: usize) -> &'a [Span]
-    requires tables { AreTables drawn.graph.now drawn.tree.now drawn.index.now drawn.arrivals.now }
+    requires drawn { CanDraw drawn }
     requires known { number ≤ length drawn.graph.now.places }
     ensures { result.now ≡ loops_of drawn.entry.graph.now drawn.entry.tree.now number }
 {
@@ -50,8 +49,7 @@ fn all_hold(loops: &[Span], number: usize) -> bool
 
 // Whether one edge alone leaves a number, and leads to the next as the only one there.
 fn leads_on(drawn: Drawn<'_>, number: usize) -> bool
-    requires tree { IsTree drawn.graph.now drawn.tree.now }
-    requires tables { AreTables drawn.graph.now drawn.tree.now drawn.index.now drawn.arrivals.now }
+    requires drawn { CanDraw drawn }
     requires known { number < length drawn.graph.now.places }
     ensures { result ≡ leads_on drawn.entry.graph.now drawn.entry.tree.now number }
 {
@@ -63,7 +61,7 @@ fn leads_on(drawn: Drawn<'_>, number: usize) -> bool
 
 // Whether the next number is inside the same calls and the same loops.
 fn stays_inside(drawn: Drawn<'_>, number: usize) -> bool
-    requires tables { AreTables drawn.graph.now drawn.tree.now drawn.index.now drawn.arrivals.now }
+    requires drawn { CanDraw drawn }
     requires known { number < length drawn.graph.now.places }
     ensures { result ≡ stays_inside drawn.entry.graph.now drawn.entry.tree.now number }
 {
@@ -81,8 +79,7 @@ fn stays_inside(drawn: Drawn<'_>, number: usize) -> bool
 
 /// Whether the next number belongs to the same stretch.
 pub(crate) fn goes_on(drawn: Drawn<'_>, number: usize) -> bool
-    requires tree { IsTree drawn.graph.now drawn.tree.now }
-    requires tables { AreTables drawn.graph.now drawn.tree.now drawn.index.now drawn.arrivals.now }
+    requires drawn { CanDraw drawn }
     requires known { number < length drawn.graph.now.places }
     ensures { result ≡ goes_on drawn.entry.graph.now drawn.entry.tree.now number }
 {
@@ -93,8 +90,8 @@ pub(crate) fn goes_on(drawn: Drawn<'_>, number: usize) -> bool
 
 /// How often the walk takes an edge.
 pub(crate) fn count_of(drawn: Drawn<'_>, edge: usize) -> u64
+    requires drawn { CanDraw drawn }
     requires known { edge < length drawn.graph.now.edges }
-    requires counted { length drawn.counts.now ≡ length drawn.graph.now.edges }
     ensures { result ≡ slice_index drawn.entry.counts.now edge }
 {
     drawn.counts[edge]
@@ -102,9 +99,8 @@ pub(crate) fn count_of(drawn: Drawn<'_>, edge: usize) -> u64
 
 /// How often the walk leaves a number.
 pub(crate) fn passes(drawn: Drawn<'_>, number: usize) -> u64
-    requires tree { IsTree drawn.graph.now drawn.tree.now }
+    requires drawn { CanDraw drawn }
     requires known { number < length drawn.graph.now.places }
-    requires counted { length drawn.counts.now ≡ length drawn.graph.now.edges }
     ensures { result ≡ passes drawn.entry.graph.now drawn.entry.tree.now drawn.entry.counts.now number }
 {
     let (first, end) = edge_range_in(drawn.graph, drawn.tree, number);
@@ -117,8 +113,8 @@ pub(crate) fn passes(drawn: Drawn<'_>, number: usize) -> u64
 
 // The ticks of an edge, as often as the walk takes it.
 fn edge_ticks(drawn: Drawn<'_>, edge: usize) -> u64
+    requires drawn { CanDraw drawn }
     requires known { edge < length drawn.graph.now.edges }
-    requires counted { length drawn.counts.now ≡ length drawn.graph.now.edges }
     ensures { result ≡ edge_ticks drawn.entry.graph.now drawn.entry.counts.now edge }
 {
     capped_product(count_of(drawn, edge), drawn.graph.edges()[edge].cost)
@@ -126,9 +122,8 @@ fn edge_ticks(drawn: Drawn<'_>, edge: usize) -> u64
 
 // The ticks that the walk takes at a number.
 fn ticks(drawn: Drawn<'_>, number: usize) -> u64
-    requires tree { IsTree drawn.graph.now drawn.tree.now }
+    requires drawn { CanDraw drawn }
     requires known { number < length drawn.graph.now.places }
-    requires counted { length drawn.counts.now ≡ length drawn.graph.now.edges }
     ensures { result ≡ ticks drawn.entry.graph.now drawn.entry.tree.now drawn.entry.counts.now number }
 {
     let (first, end) = edge_range_in(drawn.graph, drawn.tree, number);
