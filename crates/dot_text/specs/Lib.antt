@@ -1,5 +1,6 @@
 pub mod Clusters
 pub mod Labels
 pub mod Nodes
+pub mod Parts
 pub mod Stretches
 pub mod Text

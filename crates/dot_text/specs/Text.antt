@@ -94,8 +94,8 @@ module _ (flow : Flow) (tree : Tree) (counts : List ℕ) (labels : List (Vec ℕ
   abbrev pub ended : ℕ → List ℕ
   ended n = if goes_on flow tree n then [] else stretch (first_of flow tree n) n
 
-  abbrev pub drawn_text : List ℕ
-  drawn_text =
+  abbrev pub drawing_text : List ℕ
+  drawing_text =
       heading
       ++ (flat_map ended (range_with_len 0 (length flow.places))
       ++ (name (length flow.places) ++ codes " [label=\"Exit\", shape=oval];\n}\n"))
@@ -105,4 +105,4 @@ pub record IsDrawing (flow : Flow) (tree : Tree) (longest : Longest) (labels : L
     (text : List ℕ) : Type 0 where
   pub counts : List ℕ
   pub are_counts : AreCounts flow.edges (unfolded longest.walk) counts
-  pub text_is : text ≡ drawn_text flow tree counts labels
+  pub text_is : text ≡ drawing_text flow tree counts labels

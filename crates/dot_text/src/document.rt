@@ -2,7 +2,8 @@ ghost use Rattle.std.specs.Prelude.{◌≡◌, ◌<◌, ◌≤◌, ◌+◌, ◌+
 ghost use Rattle.std.specs.List.{flat_map, range_with_len};
 ghost use Rattle.loop_bounds.specs.Tree.{IsTree};
 ghost use Rattle.dot_text.specs.Stretches.{CanDraw, first_of};
-ghost use Rattle.dot_text.specs.Text.{IsDrawing, drawn_text, ended};
+ghost use Rattle.dot_text.specs.Parts.{drawn_ended, drawn_text};
+ghost use Rattle.dot_text.specs.Text.{IsDrawing};
 
 use crate::nodes::put_stretch;
 use crate::pieces::put_name;
@@ -36,9 +37,7 @@ fn put_ended(
         (λ next. next ≡ first_of drawn.entry.graph.now drawn.entry.tree.now (number + 1)) }
     ensures order { IfOk result (λ next. next ≤ number + 1) }
     ensures text { OnOk result
-        (out.new.items ≡ out.old.items
-        ++ ended drawn.entry.graph.now drawn.entry.tree.now drawn.entry.counts.now drawn.entry.labels.now
-        number) }
+        (out.new.items ≡ out.old.items ++ drawn_ended drawn.entry number) }
 {
     if goes_on(drawn, number) {
         return Ok(first);
@@ -56,9 +55,7 @@ fn put_stretches(out: &mut Vec<u8>, drawn: Drawn<'_>) -> Result<(), AllocError>
     requires drawn { CanDraw drawn }
     ensures { OnOk result
         (out.new.items ≡ out.old.items
-        ++ flat_map
-        (ended drawn.entry.graph.now drawn.entry.tree.now drawn.entry.counts.now drawn.entry.labels.now)
-        (range_with_len 0 (length drawn.entry.graph.now.places))) }
+        ++ flat_map (drawn_ended drawn.entry) (range_with_len 0 (length drawn.entry.graph.now.places))) }
 {
     let mut first = 0;
     for number in 0..drawn.graph.places().len() {
@@ -70,10 +67,7 @@ fn put_stretches(out: &mut Vec<u8>, drawn: Drawn<'_>) -> Result<(), AllocError>
 // The whole drawing, by its tables.
 fn drawn_text(alloc: Global, drawn: Drawn<'_>) -> Result<Vec<u8>, AllocError>
     requires drawn { CanDraw drawn }
-    ensures { IfOk result
-        (λ text. text.items
-        ≡ drawn_text drawn.entry.graph.now drawn.entry.tree.now drawn.entry.counts.now
-        drawn.entry.labels.now) }
+    ensures { IfOk result (λ text. text.items ≡ drawn_text drawn.entry) }
 {
     let mut out = Vec::from_slice(alloc, HEADING)?;
     put(&mut out, FONTS)?;

@@ -3,7 +3,7 @@ ghost use Rattle.std.specs.List.{flat_map};
 ghost use Rattle.longest_walk.specs.Built.{step_at};
 ghost use Rattle.numbered_walks.specs.Index.{edge_at};
 ghost use Rattle.dot_text.specs.Stretches.{CanDraw, leaving};
-ghost use Rattle.dot_text.specs.Text.{edge};
+ghost use Rattle.dot_text.specs.Parts.{drawn_edge};
 
 use crate::pieces::{put_edge_name, put_name, put_style};
 use crate::stretches::{Stretch, count_of};
@@ -33,9 +33,7 @@ fn put_edge(
     requires drawn { CanDraw drawn }
     requires known { number < length drawn.graph.now.edges }
     ensures { OnOk result
-        (out.new.items ≡ out.old.items
-        ++ edge drawn.entry.graph.now drawn.entry.tree.now drawn.entry.counts.now drawn.entry.labels.now first
-        number) }
+        (out.new.items ≡ out.old.items ++ drawn_edge drawn.entry first number) }
 {
     let (edge, to) = edge_of(drawn, number);
     let count = count_of(drawn, number);
@@ -61,9 +59,7 @@ pub(crate) fn put_edges(
     requires known { stretch.last < length drawn.graph.now.places }
     ensures { OnOk result
         (out.new.items ≡ out.old.items
-        ++ flat_map
-        (edge drawn.entry.graph.now drawn.entry.tree.now drawn.entry.counts.now drawn.entry.labels.now
-        stretch.first)
+        ++ flat_map (drawn_edge drawn.entry stretch.first)
         (leaving drawn.entry.graph.now drawn.entry.tree.now stretch.last)) }
 {
     let (begin, end) = edge_range_in(drawn.graph, drawn.tree, stretch.last);

@@ -1,7 +1,8 @@
 ghost use Rattle.std.specs.Prelude.{◌≡◌, ◌<◌, ◌≤◌, ◌+◌, ◌++◌, OnOk, length, slice_index};
 ghost use Rattle.std.specs.List.{flat_map, slice_get};
 ghost use Rattle.dot_text.specs.Stretches.{CanDraw, between};
-ghost use Rattle.dot_text.specs.Text.{escaped, label_of, node, row, stretch};
+ghost use Rattle.dot_text.specs.Parts.{drawn_node, drawn_row, drawn_stretch};
+ghost use Rattle.dot_text.specs.Text.{escaped, label_of};
 
 use crate::clusters::{put_closed, put_opened};
 use crate::edges::put_edges;
@@ -28,9 +29,7 @@ fn put_row(out: &mut Vec<u8>, drawn: Drawn<'_>, number: usize) -> Result<(), All
     requires drawn { CanDraw drawn }
     requires known { number < length drawn.graph.now.places }
     ensures { OnOk result
-        (out.new.items ≡ out.old.items
-        ++ row drawn.entry.graph.now drawn.entry.tree.now drawn.entry.counts.now drawn.entry.labels.now
-        number) }
+        (out.new.items ≡ out.old.items ++ drawn_row drawn.entry number) }
 {
     put_address(out, place_in(drawn.graph, drawn.tree, number).address())?;
     put(out, b"  ")?;
@@ -44,9 +43,7 @@ fn put_rows(out: &mut Vec<u8>, drawn: Drawn<'_>, stretch: Stretch) -> Result<(),
     requires known { stretch.last < length drawn.graph.now.places }
     ensures { OnOk result
         (out.new.items ≡ out.old.items
-        ++ flat_map
-        (row drawn.entry.graph.now drawn.entry.tree.now drawn.entry.counts.now drawn.entry.labels.now)
-        (between stretch.first (stretch.last + 1))) }
+        ++ flat_map (drawn_row drawn.entry) (between stretch.first (stretch.last + 1))) }
 {
     for number in stretch.first..stretch.last + 1 {
         put_row(out, drawn, number)?;
@@ -60,9 +57,7 @@ fn put_node(out: &mut Vec<u8>, drawn: Drawn<'_>, stretch: Stretch) -> Result<(),
     requires order { stretch.first ≤ stretch.last }
     requires known { stretch.last < length drawn.graph.now.places }
     ensures { OnOk result
-        (out.new.items ≡ out.old.items
-        ++ node drawn.entry.graph.now drawn.entry.tree.now drawn.entry.counts.now drawn.entry.labels.now
-        stretch.first stretch.last) }
+        (out.new.items ≡ out.old.items ++ drawn_node drawn.entry stretch.first stretch.last) }
 {
     let passes = passes(drawn, stretch.first);
     put_name(out, stretch.first)?;
@@ -86,9 +81,7 @@ pub(crate) fn put_stretch(
     requires order { whole.first ≤ whole.last }
     requires known { whole.last < length drawn.graph.now.places }
     ensures { OnOk result
-        (out.new.items ≡ out.old.items
-        ++ stretch drawn.entry.graph.now drawn.entry.tree.now drawn.entry.counts.now drawn.entry.labels.now
-        whole.first whole.last) }
+        (out.new.items ≡ out.old.items ++ drawn_stretch drawn.entry whole.first whole.last) }
 {
     put_opened(out, drawn, whole.first)?;
     put_node(out, drawn, whole)?;

@@ -1,14 +1,14 @@
 use Rattle.std.proofs.Common.{◌≡◌, ◌∙◌, ◌-◌, ◌++◌, ap, arith, flat_map, length}
 use Rattle.std.specs.List.{range_with_len}
 use Rattle.dot_text.specs.Stretches.{between}
-use Rattle.dot_text.specs.Text.{ended}
+use Rattle.dot_text.specs.Parts.{drawn_ended}
 use Rattle.dot_text.proofs.DrawLaws.{number_more, numbers_end}
 use Rattle.dot_text.proofs.document.put_stretches.Goals as goal
 
 pub loop-number-preserved : goal.loop-number-preserved
 loop-number-preserved c =
     let d = c.args.drawn in
-    let f = ended d.graph.now d.tree.now d.counts.now d.labels.now in
+    let f = drawn_ended d in
     let exit = length d.graph.now.places in
     record {
       first = c.in_ok-first.ensures.next;
@@ -21,7 +21,7 @@ loop-number-preserved c =
 pub returns : goal.returns
 returns c =
     let d = c.args.drawn in
-    let f = ended d.graph.now d.tree.now d.counts.now d.labels.now in
+    let f = drawn_ended d in
     let exit = length d.graph.now.places in
     let whole : exit - 0 ≡ exit = omega arith in
     numbers_end f c.loop-number.number exit c.loop-number.out.items (c.args.out.now.items ++ flat_map f (between 0 exit)) c.loop-number.invariant.same

@@ -1,9 +1,9 @@
 use Rattle.std.proofs.Common.{◌≡◌, ◌++◌, flat_map}
 use Rattle.dot_text.specs.Stretches.{between}
-use Rattle.dot_text.specs.Text.{edge}
+use Rattle.dot_text.specs.Parts.{drawn_edge}
 use Rattle.dot_text.proofs.edges.put_edges.Given as goal
 
 abbrev pub invariant-loop-number : goal.invariant-loop-number
 invariant-loop-number l =
-    l.out.items ++ flat_map (edge l.drawn.graph.now l.drawn.tree.now l.drawn.counts.now l.drawn.labels.now l.stretch.first) (between l.number l.end)
-    ≡ l.initial.out.items ++ flat_map (edge l.drawn.graph.now l.drawn.tree.now l.drawn.counts.now l.drawn.labels.now l.stretch.first) (between l.begin l.end)
+    l.out.items ++ flat_map (drawn_edge l.drawn l.stretch.first) (between l.number l.end)
+    ≡ l.initial.out.items ++ flat_map (drawn_edge l.drawn l.stretch.first) (between l.begin l.end)

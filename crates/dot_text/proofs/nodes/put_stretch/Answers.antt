@@ -3,14 +3,14 @@ use Rattle.std.proofs.lemmas.Result.{on_ok_weaker}
 use Rattle.text_rows.proofs.ColumnLaws.{five_parts}
 use Rattle.dot_text.specs.Clusters.{closed, opened}
 use Rattle.dot_text.specs.Stretches.{leaving}
-use Rattle.dot_text.specs.Text.{edge, node}
+use Rattle.dot_text.specs.Parts.{drawn_edge, drawn_node}
 use Rattle.dot_text.proofs.nodes.put_stretch.Goals as goal
 
 pub returns : goal.returns
 returns c =
     let d = c.args.drawn in
     on_ok_weaker c.put_edges.result
-    (five_parts c.args.out.now.items (opened d.graph.now d.tree.now c.args.whole.first) (node d.graph.now d.tree.now d.counts.now d.labels.now c.args.whole.first c.args.whole.last)
-    (closed d.graph.now d.tree.now c.args.whole.first) (codes "\n") (flat_map (edge d.graph.now d.tree.now d.counts.now d.labels.now c.args.whole.first) (leaving d.graph.now d.tree.now c.args.whole.last))
+    (five_parts c.args.out.now.items (opened d.graph.now d.tree.now c.args.whole.first) (drawn_node d c.args.whole.first c.args.whole.last)
+    (closed d.graph.now d.tree.now c.args.whole.first) (codes "\n") (flat_map (drawn_edge d c.args.whole.first) (leaving d.graph.now d.tree.now c.args.whole.last))
     _ _ _ _ _ c.in_ok-put_opened.ensures c.in_ok-put_node.ensures c.in_ok-put_closed.ensures c.in_ok-put.ensures)
     c.put_edges.ensures
