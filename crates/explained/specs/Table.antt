@@ -101,55 +101,52 @@ line_row bound taken latest pricing n =
     (columns_text bound taken latest pricing
     ++ (codes " " ++ (in_columns 4 (decimal n) ++ codes "  ")))
 
--- the row of a line, if it has words; the latest start and the price are those of its first word
-abbrev pub line_rows : (ℕ → Option Taken) → (latest : ℕ → Option ℕ) → (ℕ → Option Pricing) → ℕ → ℕ → List ℕ
-    → PlacedLine → List ℕ
-line_rows taken latest priced bound n text p =
-    if p.words == 0 then [] else line_row bound (line_taken taken p) (latest p.at) (priced p.at) n text
-
--- those of all lines, with numbers from one on
-abbrev pub source_rows : (ℕ → Option Taken) → (latest : ℕ → Option ℕ) → (ℕ → Option Pricing) → ℕ → ℕ
-    → List (List ℕ) → List PlacedLine → List ℕ
-source_rows taken latest priced bound = rows_by_line (line_rows taken latest priced bound)
-
 -- with the address of a word, and as much of its line as there is room for
 abbrev pub word_row : ℕ → Option Taken → (latest : Option ℕ) → Option Pricing → (at : ℕ) → (line : List ℕ)
     → List ℕ
 word_row bound taken latest pricing at =
     row_end 0 (columns_text bound taken latest pricing ++ (address_column at ++ codes "  "))
 
--- the line is the one that the word is shown as
-abbrev pub IsWordRow : (ℕ → Option Taken) → (latest : ℕ → Option ℕ) → (ℕ → Option Pricing) → ℕ → ℕ × ℕ
-    → List ℕ → Type 0
-IsWordRow taken latest priced bound e row =
-    (line : List ℕ) × IsShown e.1 e.0 line
-    × (row ≡ word_row bound (taken e.0) (latest e.0) (priced e.0) e.0 line)
-
 -- ## Tables
 
 abbrev pub heading : List ℕ
 heading = codes "passes  each  ticks  share latest priced as line  text\n"
 
-abbrev pub table_end : (total bound : ℕ) → List ℕ
-table_end total bound = total_row total bound ++ bound_line bound
-
--- of a source whose lines are placed so
-abbrev pub source_table : (ℕ → Option Taken) → (latest : ℕ → Option ℕ) → (ℕ → Option Pricing) → ℕ → List ℕ
-    → List PlacedLine → List ℕ
-source_table taken latest priced bound source placed =
-    heading
-    ++ (source_rows taken latest priced bound 1 (lines_of source) placed
-    ++ table_end (source_ticks taken placed) bound)
-
 abbrev pub image_heading : List ℕ
 image_heading = codes "passes  each  ticks  share latest priced as   address  text\n"
 
--- of an image
-abbrev pub AreImageRows : (ℕ → Option Taken) → (latest : ℕ → Option ℕ) → (ℕ → Option Pricing) → ℕ → Words
-    → List ℕ → Type 0
-AreImageRows taken latest priced bound words text =
-    (rows : List ℕ) × AreRows (IsWordRow taken latest priced bound) words rows
-    × (text ≡ image_heading ++ (rows ++ table_end (image_ticks taken words) bound))
+abbrev pub table_end : (total bound : ℕ) → List ℕ
+table_end total bound = total_row total bound ++ bound_line bound
+
+-- what is taken at each address, when the word there begins at the latest, and its price; and the bound
+module _ (taken : ℕ → Option Taken) (latest : ℕ → Option ℕ) (priced : ℕ → Option Pricing) (bound : ℕ) where
+  -- the row of a line, if it has words; the latest start and the price are those of its first word
+  abbrev pub line_rows : ℕ → List ℕ → PlacedLine → List ℕ
+  line_rows n text p =
+      if p.words == 0 then []
+      else line_row bound (line_taken taken p) (latest p.at) (priced p.at) n text
+
+  -- those of all lines, with numbers from one on
+  abbrev pub source_rows : ℕ → List (List ℕ) → List PlacedLine → List ℕ
+  source_rows = rows_by_line line_rows
+
+  -- the line is the one that the word is shown as
+  abbrev pub IsWordRow : ℕ × ℕ → List ℕ → Type 0
+  IsWordRow e row =
+      (line : List ℕ) × IsShown e.1 e.0 line
+      × (row ≡ word_row bound (taken e.0) (latest e.0) (priced e.0) e.0 line)
+
+  -- of a source whose lines are placed so
+  abbrev pub source_table : List ℕ → List PlacedLine → List ℕ
+  source_table source placed =
+      heading
+      ++ (source_rows 1 (lines_of source) placed ++ table_end (source_ticks taken placed) bound)
+
+  -- of an image
+  abbrev pub AreImageRows : Words → List ℕ → Type 0
+  AreImageRows words text =
+      (rows : List ℕ) × AreRows IsWordRow words rows
+      × (text ≡ image_heading ++ (rows ++ table_end (image_ticks taken words) bound))
 
 -- of a walk that costs so much, by the words, the statement, the flow graph and when its words begin at the
 -- latest
