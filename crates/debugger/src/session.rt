@@ -25,14 +25,14 @@ use std::marker::Model;
 use trace_text::{LINE_ROOM, write_registers, write_ticks};
 
 // The most breakpoints.
-const BREAKS: usize = 16;
+const MOST_BREAKS: usize = 16;
 
 /// A machine that is stepped by commands, with its breakpoints, the inputs of its next step, and the sums of
 /// its ticks.
 #[derive(Drop)]
 pub struct Session {
     machine: Machine,
-    breaks: ArrayVec<u32, BREAKS>,
+    breaks: ArrayVec<u32, MOST_BREAKS>,
     next: Input,
     ticks: u128,
     elapsed: u128,
@@ -190,11 +190,11 @@ impl Session {
 
     fn toggle(&mut self, alloc: Global, address: u32) -> Result<Vec<u8>, DebugFault>
         ensures ok { IfOk result
-            (λ answer. (length (toggled address self.old.breaks) ≤ BREAKS)
+            (λ answer. (length (toggled address self.old.breaks) ≤ MOST_BREAKS)
             × Sets answer.items self.new (record self.old { breaks = toggled address self.old.breaks })) }
         ensures err { IfErr result
             (λ fault. (fault ≡ DebugFault.TooManyBreaks)
-            × (BREAKS < length (toggled address self.old.breaks))) }
+            × (MOST_BREAKS < length (toggled address self.old.breaks))) }
         ensures unchanged { OnErr result (self.new ≡ self.old) }
     {
         toggle_break(&mut self.breaks, address)?;
@@ -206,7 +206,7 @@ impl Session {
             (λ answer. Ascending self.now.breaks × (answer.items ≡ breaks_text self.now.breaks)) }
         ensures err { IfErr result (λ fault. fault ≡ DebugFault.Memory) }
     {
-        let mut answer = Vec::with_capacity(alloc, BREAKS * 9)?;
+        let mut answer = Vec::with_capacity(alloc, MOST_BREAKS * 9)?;
         put_breaks(&mut answer, self.breaks.as_slice());
         Ok(answer)
     }
@@ -281,10 +281,10 @@ fn switched(line: Lines, on: bool, lines: Lines) -> Lines
 }
 
 // The number of breakpoints below an address.
-fn below(breaks: &ArrayVec<u32, BREAKS>, address: u32) -> usize
+fn below(breaks: &ArrayVec<u32, MOST_BREAKS>, address: u32) -> usize
     ensures len { result ≡ prefix_len (λ a. nat_lt a address) breaks.now.items }
     ensures within { result ≤ length breaks.now.items }
-    ensures fits { length breaks.now.items ≤ BREAKS }
+    ensures fits { length breaks.now.items ≤ MOST_BREAKS }
 {
     breaks
         .as_slice()
@@ -293,7 +293,7 @@ fn below(breaks: &ArrayVec<u32, BREAKS>, address: u32) -> usize
         .count()
 }
 
-fn has_at(breaks: &ArrayVec<u32, BREAKS>, at: usize, address: u32) -> bool
+fn has_at(breaks: &ArrayVec<u32, MOST_BREAKS>, at: usize, address: u32) -> bool
     ensures yes { result ≡ true
         → (at < length breaks.now.items) × (slice_index breaks.now.items at ≡ address) }
     ensures no { result ≡ false → at < length breaks.now.items → slice_index breaks.now.items at ≢ address }
@@ -306,18 +306,18 @@ fn has_at(breaks: &ArrayVec<u32, BREAKS>, at: usize, address: u32) -> bool
 }
 
 // Removes a breakpoint that is set, or adds it.
-fn toggle_break(breaks: &mut ArrayVec<u32, BREAKS>, address: u32) -> Result<(), DebugFault>
+fn toggle_break(breaks: &mut ArrayVec<u32, MOST_BREAKS>, address: u32) -> Result<(), DebugFault>
     requires { Ascending breaks.old.items }
     ensures ok { OnOk result (breaks.new.items ≡ toggled address breaks.old.items) }
-    ensures few { OnOk result (length (toggled address breaks.old.items) ≤ BREAKS) }
+    ensures few { OnOk result (length (toggled address breaks.old.items) ≤ MOST_BREAKS) }
     ensures ascending { Ascending breaks.new.items }
     ensures err { IfErr result
-        (λ fault. (fault ≡ DebugFault.TooManyBreaks) × (BREAKS < length (toggled address breaks.old.items))) }
+        (λ fault. (fault ≡ DebugFault.TooManyBreaks) × (MOST_BREAKS < length (toggled address breaks.old.items))) }
     ensures unchanged { OnErr result (breaks.new.items ≡ breaks.old.items) }
 {
     let at = below(breaks, address);
-    let stands = has_at(breaks, at, address);
-    if stands {
+    let is_set = has_at(breaks, at, address);
+    if is_set {
         breaks.remove(at);
         return Ok(());
     }

@@ -201,7 +201,10 @@ target_rows t items =
     let kind = value_at (codes "kind") items in
     if is_none (value_at (codes "to") items)
     then row_if (is_kind_of (codes "jump" ∷ codes "call" ∷ []) kind) (table_row t (codes " has no to") [])
-    else row_if (is_kind_of (codes "return" ∷ codes "leave" ∷ []) kind) (table_row t (codes " may have no to") [])
+    else
+    row_if
+    (is_kind_of (codes "return" ∷ codes "leave" ∷ []) kind)
+    (table_row t (codes " may have no to") [])
 
 -- what the table lacks, or that it is in single brackets
 abbrev pub kind_rows : Table → List Item → List Row

@@ -418,8 +418,18 @@ impl Report {
         const WITHOUT_TO: &[&str] = &["return", "leave"];
         let kind = value_at(table.rest, b"kind");
         match value_at(table.rest, b"to") {
-            None => self.put_if(alloc, is_kind_of(WITH_TO, kind), table.section, b" has no to"),
-            Some(_) => self.put_if(alloc, is_kind_of(WITHOUT_TO, kind), table.section, b" may have no to"),
+            None => self.put_if(
+                alloc,
+                is_kind_of(WITH_TO, kind),
+                table.section,
+                b" has no to",
+            ),
+            Some(_) => self.put_if(
+                alloc,
+                is_kind_of(WITHOUT_TO, kind),
+                table.section,
+                b" may have no to",
+            ),
         }
     }
 

@@ -38,25 +38,25 @@ use borrow.Author.Count.{below_more}
 -- ## Words
 
 module _ (is : Instr → Bool) (image : Words) (a : ℕ) where
-  abbrev pub Stands : Type 0
-  Stands = (i : Instr) × HasInstr image a i × (is i ≡ true)
+  abbrev pub IsShaped : Type 0
+  IsShaped = (i : Instr) × HasInstr image a i × (is i ≡ true)
 
-  pub word_decides : (i : Instr) (b : Bool) → HasInstr image a i → ((j : Instr) → HasInstr image a j → Some i ≡ Some j) → b ≡ is i → IsTrue b ↔ Stands
+  pub word_decides : (i : Instr) (b : Bool) → HasInstr image a i → ((j : Instr) → HasInstr image a j → Some i ≡ Some j) → b ≡ is i → IsTrue b ↔ IsShaped
   word_decides i b has only same = (
     λ e. (i, has, sym same ∙ e),
     λ h. let both : Some i ≡ Some h.0 = only h.0 h.1 in let one : i ≡ h.0 = cc in same ∙ ap is one ∙ h.2,
   )
 
-  pub none_decides : ((j : Instr) → HasInstr image a j → None ≡ Some j) → IsTrue false ↔ Stands
+  pub none_decides : ((j : Instr) → HasInstr image a j → None ≡ Some j) → IsTrue false ↔ IsShaped
   none_decides none = (
     λ e. absurd (false≢true e),
     λ h. absurd (let both : None ≡ Some h.0 = none h.0 h.1 in cc),
   )
 
-pub returns_decides : (image : Words) (a : ℕ) (b : Bool) → IsTrue b ↔ Stands may_return_by_link image a → IsTrue b ↔ MayReturnByLink image a
-returns_decides image a b stands = (
-  λ e. let w = stands.0 e in record { instr = w.0; there = w.1; returns = w.2 },
-  λ h. stands.1 (h.instr, h.there, h.returns),
+pub returns_decides : (image : Words) (a : ℕ) (b : Bool) → IsTrue b ↔ IsShaped may_return_by_link image a → IsTrue b ↔ MayReturnByLink image a
+returns_decides image a b shaped = (
+  λ e. let w = shaped.0 e in record { instr = w.0; there = w.1; returns = w.2 },
+  λ h. shaped.1 (h.instr, h.there, h.returns),
 )
 
 -- ## Edges

@@ -8,7 +8,7 @@ use Rattle.loader.specs.Image.{Words, word_of}
 -- the image has a word at the address, which is this instruction
 pub record HasInstr (words : Words) (at : ℕ) (i : Instr) : Type 0 where
   pub word : ℕ
-  pub stands : word_of words at ≡ Some word
+  pub has_word : word_of words at ≡ Some word
   pub means : Means word i
 
 -- the image has an instruction at the address, and its operation has the shape

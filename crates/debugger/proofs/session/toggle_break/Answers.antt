@@ -4,9 +4,9 @@ use Rattle.debugger.specs.SessionState.{Ascending}
 use Rattle.debugger.proofs.BreakLaws.{ascending_toggled, toggled_longer, toggled_new, toggled_there}
 use Rattle.debugger.proofs.session.toggle_break.Goals as goal
 
-pub returns-then-stands : goal.returns-then-stands
-returns-then-stands c =
-    let there = c.has_at-stands.ensures.yes c.if-stands.true in
+pub returns-then-is_set : goal.returns-then-is_set
+returns-then-is_set c =
+    let there = c.has_at-is_set.ensures.yes c.if-is_set.true in
     let same =
     c.remove.ensures.items ∙ sym (toggled_there c.args.address c.below-at.result c.args.breaks.now.items
     c.below-at.ensures.len there.0 there.1) in
@@ -23,12 +23,12 @@ pub returns-then-is_full-clause-err : goal.returns-then-is_full-clause-err
 returns-then-is_full-clause-err c =
     let longer =
     toggled_longer c.args.address c.below-at.result c.args.breaks.now.items c.below-at.ensures.len
-    c.below-at.ensures.within (c.has_at-stands.ensures.no c.if-stands.false) in
+    c.below-at.ensures.within (c.has_at-is_set.ensures.no c.if-is_set.false) in
     (refl, omega (arith, longer, eqb-true _ 16 (sym c.if-is_full.ensures.value)))
 
 pub returns : goal.returns
 returns c =
-    let other = c.has_at-stands.ensures.no c.if-stands.false in
+    let other = c.has_at-is_set.ensures.no c.if-is_set.false in
     let address = c.args.address in
     let breaks = c.args.breaks.now.items in
     let longer =
