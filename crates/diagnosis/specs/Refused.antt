@@ -244,7 +244,7 @@ extra_destination_row (Some p) =
 abbrev pub range_rows : NamedAddresses → Table → List Item → List Row
 range_rows names t items =
     row_if (is_misplaced names items) (table_row t (codes " has its header outside first to last") [])
-    ++ extra_destination_row (first_after 64 (stated_at (codes "to") items))
+    ++ extra_destination_row (first_after MOST_DESTINATIONS (stated_at (codes "to") items))
 
 abbrev pub table_rows : NamedAddresses → StatementFault → Table → List Item → List Row
 table_rows names UnknownKey t items =
@@ -293,7 +293,7 @@ abbrev pub loop_limit : Limit
 loop_limit =
     record {
       list = codes "loop";
-      most = 256;
+      most = MOST_LOOPS;
       words = codes " comes after the 256 loops that a statement may have";
     }
 
@@ -301,7 +301,7 @@ abbrev pub target_limit : Limit
 target_limit =
     record {
       list = codes "target";
-      most = 1024;
+      most = MOST_TARGETS;
       words = codes " comes after the 1024 targets that a statement may have";
     }
 
@@ -309,7 +309,7 @@ abbrev pub access_limit : Limit
 access_limit =
     record {
       list = codes "access";
-      most = 4096;
+      most = MOST_ACCESSES;
       words = codes " comes after the 4096 accesses that a statement may have";
     }
 

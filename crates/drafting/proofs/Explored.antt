@@ -9,7 +9,8 @@ use Rattle.std.proofs.lemmas.Map.Lookups.{exact_unsigned}
 use Rattle.std.proofs.lemmas.Map.Views.{btree_set_contains_iff}
 use borrow.Author.Count.{below_more}
 use Rattle.drafting.specs.Exploring.{HasRoom, IsFound}
-use Rattle.drafting.specs.Reach.{AreReached, LeadsTo, Reaches, begins, leads_on, most_addresses}
+use Rattle.flow_graph.specs.declared.search.TheConstants.{MOST_PLACES}
+use Rattle.drafting.specs.Reach.{AreReached, LeadsTo, Reaches, begins, leads_on}
 use Rattle.loader.specs.Image.{Words}
 use Rattle.word_shapes.specs.Growing.{Adds, Grows}
 use Rattle.word_shapes.proofs.GrowLaws.{grows_on, grows_one, kept, no_shorter}
@@ -100,8 +101,8 @@ module _ (words : Words) where
       (found.same a).0 ((btree_set_contains_iff nat_cmp_total exact_unsigned seen a).1 (subst (λ t. Contains t a) is h)) in
       let same : length addresses ≡ length order = ap length is ∙ sym found.count in
       record {
-        few = subst (λ n. n ≤ most_addresses) (sym same) r.few;
+        few = subst (λ n. n ≤ MOST_PLACES) (sym same) r.few;
         begun = inside entry r.begun;
         reached = λ at h. r.reached at (back at h);
-        all = λ room at h. inside at (r.all (subst (λ n. n < most_addresses) same room) at h);
+        all = λ room at h. inside at (r.all (subst (λ n. n < MOST_PLACES) same room) at h);
       }

@@ -3,17 +3,17 @@
 use Rattle.std.specs.Prelude.{◌≡◌, ◌⊎◌, ◌↔◌, ℕ, ◌<◌, ◌≤◌, List, length, Contains, IsTrue}
 use Rattle.std.specs.BTreeSet.{BTreeSet, contains, btree_set_len}
 use Rattle.std.specs.Ordering.{nat_cmp}
-use Rattle.drafting.specs.Reach.{most_addresses}
+use Rattle.flow_graph.specs.declared.search.TheConstants.{MOST_PLACES}
 
--- the set and the list have the same addresses, each once, and as many as are looked at at most
+-- the set and the list have the same addresses, each once, and no more than a graph may have places
 pub record IsFound (seen : BTreeSet ℕ) (order : List ℕ) : Type 0 where
   pub same : (at : ℕ) → (IsTrue (contains nat_cmp seen at)) ↔ Contains order at
   pub count : length order ≡ btree_set_len seen
-  pub few : length order ≤ most_addresses
+  pub few : length order ≤ MOST_PLACES
 
 -- there is room for one more
 abbrev pub HasRoom : List ℕ → Type 0
-HasRoom order = length order < most_addresses
+HasRoom order = length order < MOST_PLACES
 
 -- all of those addresses more and no others
 abbrev pub Gains : (ℕ → Type 0) → List ℕ → List ℕ → Type 0

@@ -9,7 +9,9 @@ use Rattle.flow_graph.specs.Edges.{HasAction}
 use Rattle.flow_graph.specs.declared.kinds.Action.{Action}
 use Rattle.flow_graph.specs.declared.kinds.Kind.{Kind}
 use Rattle.flow_graph.specs.declared.kinds.Kind.TheVariants as kind
+use Rattle.flow_graph.specs.declared.search.TheConstants.{MOST_PLACES}
 use Rattle.loader.specs.Image.{Words}
+use Rattle.statement.specs.declared.entries.TheConstants.{MOST_DESTINATIONS}
 use Rattle.word_shapes.specs.Shapes.{is_odd_writer, is_table_jump, keeps_return_address}
 use Rattle.word_shapes.specs.Words.{HasShape}
 
@@ -21,10 +23,6 @@ next_of at = ahead_of at 4
 
 abbrev pub before : ℕ → ℕ
 before at = ahead_of at (SPACE_END - 4)
-
--- how many addresses are looked at: as many as the flow graph of a handler has places at most
-abbrev pub most_addresses : ℕ
-most_addresses = 16384
 
 -- ## Words of an image
 
@@ -46,10 +44,11 @@ module _ (words : Words) where
   HasReturnAddress at = HasShape keeps_return_address words (before at)
 
   -- a place of the table after a jump, from 0 on: so many words on from the jump's address plus 8, where a
-  -- branch with that offset would lead. Up to it all are branches, and a table has 64 at most
+  -- branch with that offset would lead. Up to it all are branches, and a table has
+  -- no more than a target may have destinations
   pub record IsTablePlace (at n : ℕ) : Type 0 where
     pub jumps : JumpsIntoTable at
-    pub few : n < 64
+    pub few : n < MOST_DESTINATIONS
     pub branches : (m : ℕ) → m ≤ n → IsBranchAt (branch_target at m)
 
   -- so many places the table has
@@ -102,9 +101,9 @@ module _ (words : Words) where
     begins : Reaches entry entry
     leads_on : (at to : ℕ) → Reaches entry at → LeadsTo at to → Reaches entry to
 
-  -- of the addresses that are reached from the entry these: all, or as many as are looked at
+  -- of the addresses that are reached from the entry these: all, or as many as a graph may have places
   pub record AreReached (entry : ℕ) (addresses : List ℕ) : Type 0 where
-    pub few : length addresses ≤ most_addresses
+    pub few : length addresses ≤ MOST_PLACES
     pub begun : Contains addresses entry
     pub reached : (at : ℕ) → Contains addresses at → Reaches entry at
-    pub all : length addresses < most_addresses → (at : ℕ) → Reaches entry at → Contains addresses at
+    pub all : length addresses < MOST_PLACES → (at : ℕ) → Reaches entry at → Contains addresses at

@@ -2,6 +2,7 @@
 use Rattle.std.specs.Prelude.{ℕ, ◌-◌, ◌&&◌, nat_le, if◌then◌else◌, List, [], ◌++◌, length, map}
 use Rattle.std.specs.Prelude.{take}
 use Rattle.std.specs.Prelude.{codes, decimal, Option, Some, None, option_map}
+use Rattle.text_rows.specs.declared.columns.TheConstants.{ROW_COLUMNS}
 use Rattle.text_rows.specs.declared.line_labels.SourceLine.{SourceLine}
 
 -- the label of a line
@@ -17,6 +18,6 @@ abbrev pub remark : Option SourceLine → List ℕ
 remark None = []
 remark (Some line) = codes "  # line " ++ (decimal line.number ++ (codes ": " ++ map shown line.text.now))
 
--- a text, and as much of its line's comment as eighty columns leave room for
+-- a text, and as much of its line's comment as a row has room for
 abbrev pub row : List ℕ → Option SourceLine → List ℕ
-row text line = text ++ (take (80 - length text) (remark line) ++ codes "\n")
+row text line = text ++ (take (ROW_COLUMNS - length text) (remark line) ++ codes "\n")

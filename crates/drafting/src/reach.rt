@@ -6,12 +6,13 @@ ghost use Rattle.drafting.specs.Reach.{AreReached, CallsTo, LeadsTo};
 ghost use Rattle.word_shapes.specs.Growing.{Adds, Grows};
 
 use crate::ways::{called, push_ways};
+use flow_graph::MOST_PLACES;
 use loader::Image;
 use std::alloc::{AllocError, Global};
 use std::collections::BTreeSet;
 
 /// How many addresses are looked at: as many as the flow graph of a handler has places at most.
-pub(crate) const MOST_ADDRESSES: usize = 16_384;
+pub(crate) const MOST_ADDRESSES: usize = MOST_PLACES;
 
 /// What is reached from an entry, routines that are called included, as far as the words show.
 #[derive(Drop)]

@@ -10,11 +10,12 @@ use arm2_effect::branch_target;
 use bus_ticks::{SPACE_END, ahead_of};
 use flow_graph::{Action, Kind};
 use loader::Image;
+use statement::MOST_DESTINATIONS;
 use std::alloc::AllocError;
 use word_shapes::{is_odd_writer_at, is_table_jump_at, keeps_return_address_at};
 
-// The most destinations of a target.
-const MOST_BRANCHES: u32 = 64;
+// As many as a target may have destinations.
+const MOST_BRANCHES: u32 = MOST_DESTINATIONS as u32;
 
 /// The address of the word before.
 pub(crate) fn before(address: u32) -> u32

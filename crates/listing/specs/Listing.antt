@@ -5,6 +5,7 @@ use Rattle.asm_text.specs.Hex.{hex8}
 use Rattle.assembler.specs.ShownLines.{IsShown}
 use Rattle.assembler.specs.declared.placed_line.PlacedLine.{PlacedLine}
 use Rattle.loader.specs.Image.{Words, word_of}
+use Rattle.listing.specs.declared.columns.TheConstants.{WORD_COLUMNS}
 use Rattle.text_rows.specs.Columns.{in_columns}
 use Rattle.text_rows.specs.Lines.{rows_by_line, rows_from}
 use Rattle.text_rows.specs.Rows.{AreRows, row_end}
@@ -18,9 +19,9 @@ word_columns at word = hex8 at ++ (codes "  " ++ word_text word)
 abbrev pub no_columns : List ℕ
 no_columns = codes "                  "
 
--- after the 18 columns of a word, the number of a line, and as much of its text as there is room for
+-- after the columns of a word, the number of a line, and as much of its text as there is room for
 abbrev pub line_row : ℕ → List ℕ → List ℕ
-line_row n = row_end 18 (codes "  " ++ (in_columns 6 (decimal n) ++ codes "  "))
+line_row n = row_end WORD_COLUMNS (codes "  " ++ (in_columns 6 (decimal n) ++ codes "  "))
 
 -- a row for each of so many words from an address on
 abbrev pub word_rows : Words → (at count : ℕ) → List ℕ

@@ -1,7 +1,7 @@
 -- Rows that are put one after another.
 use Rattle.std.proofs.Common.{◌≡◌, ◌∙◌, ℕ, ◌+◌, ◌-◌, ◌<◌, ◌≤◌, min, take, arith, List, [], ◌++◌, append-nil, length, drop, get_or, refl, sym, ap, subst, append_assoc, codes}
 use Rattle.std.proofs.Math.ListN.{drop_of_length-le}
-use Rattle.std.proofs.lemmas.List.{drop_more}
+use Rattle.std.proofs.lemmas.List.{drop_more, length-append}
 use Rattle.asm_text.specs.Hex.{hex8}
 use Rattle.assembler.specs.ShownLines.{IsShown}
 use Rattle.text_rows.specs.Columns.{cut_at, cut_row}
@@ -49,6 +49,16 @@ pub capped_row : (used most n : ℕ) (text : List ℕ) → n ≡ min used most �
 capped_row used most n text is fits =
     let same : 80 - n ≡ 80 - used = omega (arith, is) in
     ap (λ room. take (cut_at room text) text ++ codes "\n") same
+
+-- the columns of the row of a word, before its line
+pub shown_columns : (at word : ℕ) (old a b c d : List ℕ) → a ≡ old ++ address_column at → b ≡ a ++ codes "  " → c ≡ b ++ hex8 word → d ≡ c ++ codes "  "
+    → length d - length old ≡ 22
+shown_columns at word old a b c d ia ib ic id =
+    let la : length a ≡ length old + 10 = ap length ia ∙ length-append old (address_column at) in
+    let lb : length b ≡ length a + 2 = ap length ib ∙ length-append a (codes "  ") in
+    let lc : length c ≡ length b + 8 = ap length ic ∙ length-append b (hex8 word) in
+    let ld : length d ≡ length c + 2 = ap length id ∙ length-append c (codes "  ") in
+    omega (arith, la, lb, lc, ld)
 
 -- the row of a word, after the columns that it has before
 pub shown_row : (used at word : ℕ) (line old a b c d new : List ℕ) → IsShown word at line

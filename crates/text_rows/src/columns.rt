@@ -4,7 +4,10 @@ ghost use Rattle.text_rows.specs.Columns.{cut_at, cut_row, goes_on, in_columns};
 use itoa::Buffer;
 use std::alloc::AllocError;
 
-// As many blanks as the widest column has.
+/// The most columns that a text or a number is put into, so that it ends at a given one.
+pub const WIDEST_COLUMN: usize = 36;
+
+// As many blanks.
 const BLANKS: &[u8] = b"                                    ";
 
 /// The columns of a row.
@@ -33,26 +36,26 @@ pub fn put_decimal(out: &mut Vec<u8>, number: u64) -> Result<(), AllocError>
     put(out, buffer.format(number).as_bytes())
 }
 
-/// Adds a text that ends so many columns on, up to 36; a longer text has no blank in front.
+/// Adds a text that ends so many columns on, up to [`WIDEST_COLUMN`]; a longer text has no blank in front.
 ///
 /// # Errors
 ///
 /// An allocation failed.
 pub fn put_right(out: &mut Vec<u8>, text: &[u8], width: usize) -> Result<(), AllocError>
-    requires { width ≤ 36 }
+    requires { width ≤ WIDEST_COLUMN }
     ensures { OnOk result (out.new.items ≡ out.old.items ++ in_columns width text.now) }
 {
     put(out, &BLANKS[..width.saturating_sub(text.len())])?;
     put(out, text)
 }
 
-/// Adds a number in decimal that ends so many columns on, up to 36.
+/// Adds a number in decimal that ends so many columns on, up to [`WIDEST_COLUMN`].
 ///
 /// # Errors
 ///
 /// An allocation failed.
 pub fn put_number(out: &mut Vec<u8>, number: u64, width: usize) -> Result<(), AllocError>
-    requires { width ≤ 36 }
+    requires { width ≤ WIDEST_COLUMN }
     ensures { OnOk result (out.new.items ≡ out.old.items ++ in_columns width (decimal number)) }
 {
     let mut buffer = Buffer::new();

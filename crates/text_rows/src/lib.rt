@@ -10,7 +10,9 @@ mod rows;
 
 pub use addresses::{class_name, put_labelled};
 pub use by_address::lines_by_address;
-pub use columns::{ROW_COLUMNS, put, put_cut_row, put_decimal, put_number, put_right};
+pub use columns::{
+    ROW_COLUMNS, WIDEST_COLUMN, put, put_cut_row, put_decimal, put_number, put_right,
+};
 pub use line_labels::{SourceLine, first_word, label_of};
 pub use lines::{LineRows, WordRows, put_line_rows, put_word_rows};
 pub use rows::{NumberedLine, put_address, put_address_row, put_named_row, put_shown_row, section};

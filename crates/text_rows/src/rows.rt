@@ -87,10 +87,11 @@ pub fn put_named_row(
 pub fn put_shown_row(out: &mut Vec<u8>, used: usize, at: u32, word: u32) -> Result<(), AllocError>
     ensures { OnOk result (Appends (IsShownRow used (at, word)) out.old.items out.new.items) }
 {
+    let begun = out.len();
     put_address(out, at)?;
     put(out, b"  ")?;
     put(out, &hex8(word))?;
     put(out, b"  ")?;
     let line = disassemble(word, at);
-    put_cut_row(out, used.saturating_add(22), line.items())
+    put_cut_row(out, used.saturating_add(out.len() - begun), line.items())
 }
