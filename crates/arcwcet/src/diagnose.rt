@@ -8,8 +8,8 @@ use assembler::{Assembly, PlacedLine, Program, placed_lines};
 use author_reports::Explained;
 use bus_ticks::Profile;
 use diagnosis::{
-    Words, crossing_text, cycle_text, deep_place, deep_text, entry_text, extent_of, faulty_lines,
-    faulty_text, loops_that_cross, mid_entry, place_text, shared_header, shared_text,
+    WordLines, crossing_text, cycle_text, deep_place, deep_text, entry_text, extent_of,
+    faulty_lines, faulty_text, loops_that_cross, mid_entry, place_text, shared_header, shared_text,
     statement_text, unbounded_cycle, word_text, words_of,
 };
 use flow_graph::{
@@ -37,7 +37,7 @@ fn source_words<'a>(
     source: &'a [u8],
     said: &'a Assembly,
     placed: &'a [PlacedLine],
-) -> Result<Words<'a>, AllocError> {
+) -> Result<WordLines<'a>, AllocError> {
     let program = Program {
         source,
         placed,
@@ -50,7 +50,7 @@ fn source_words<'a>(
 // Of loops that are refused, the places that show why.
 fn loops_text(
     alloc: Global,
-    words: &Words<'_>,
+    words: &WordLines<'_>,
     stated: &HandlerGraph,
     fault: NestFault,
 ) -> Result<Vec<u8>, AllocError> {
@@ -126,7 +126,7 @@ fn refused_statement(
 // What shows why a place has no edges; nothing where there is no such place.
 fn shown_place(
     alloc: Global,
-    words: &Words<'_>,
+    words: &WordLines<'_>,
     found: Option<FaultyPlace>,
 ) -> Result<Vec<u8>, AllocError> {
     match found {
@@ -138,7 +138,7 @@ fn shown_place(
 // The place at which a handler's flow graph fails, with the words that show why.
 fn unbuilt_text(
     alloc: Global,
-    words: &Words<'_>,
+    words: &WordLines<'_>,
     statement: &Statement,
     profile: &Profile,
 ) -> Result<Vec<u8>, AllocError> {
@@ -152,7 +152,7 @@ fn unbuilt_text(
 // Of a handler that has no flow graph, the words that show why.
 fn graph_text(
     alloc: Global,
-    words: &Words<'_>,
+    words: &WordLines<'_>,
     statement: &Statement,
     profile: &Profile,
     fault: BuildFault,

@@ -4,9 +4,9 @@ use Rattle.flow_graph.specs.declared.edges.Edge.{Edge}
 use Rattle.flow_graph.specs.declared.places.Place.{Place}
 use Rattle.asm_text.specs.Appended.{Appends}
 use Rattle.diagnosis.specs.Texts.{IsEntryFront, IsUnder}
-use Rattle.diagnosis.specs.declared.words.Words.{Words}
+use Rattle.diagnosis.specs.declared.words.WordLines.{WordLines}
 
-pub entered : (words : Words) (place : Place) (edge : Option Edge) (e : Edge) (old mid new : List ℕ) → edge ≡ Some e
+pub entered : (words : WordLines) (place : Place) (edge : Option Edge) (e : Edge) (old mid new : List ℕ) → edge ≡ Some e
     → Appends (IsUnder words (codes "A loop is entered elsewhere than at its header. From here:\n") e.from) old mid
     → Appends (IsUnder words (codes "To here:\n") place) mid new → Appends (IsEntryFront words place edge) old new
 entered words place edge e old mid new is a b =

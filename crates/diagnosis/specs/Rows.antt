@@ -3,11 +3,11 @@
 use Rattle.std.specs.Prelude.{◌≡◌, ℕ, List, [], Option, Some, None}
 use Rattle.flow_graph.specs.declared.places.Place.{Place}
 use Rattle.flow_graph.specs.declared.places.Place.TheVariants.{At, Exit}
-use Rattle.loader.specs.Image.{Words as Held, word_of}
+use Rattle.loader.specs.Image.{Words, word_of}
 use Rattle.text_rows.specs.Rows.{IsShownRow, address_row, named_row}
 use Rattle.text_rows.specs.declared.line_labels.SourceLine.{SourceLine}
 use Rattle.diagnosis.specs.Lines.{line_at}
-use Rattle.diagnosis.specs.declared.words.Words.{Words}
+use Rattle.diagnosis.specs.declared.words.WordLines.{WordLines}
 
 -- ## Rows
 
@@ -19,15 +19,15 @@ abbrev pub IsImageRow : ℕ → Option ℕ → List ℕ → Type 0
 IsImageRow at (Some word) row = IsShownRow 0 (at, word) row
 IsImageRow at None row = row ≡ address_row at
 
-abbrev pub IsLineRow : Held → ℕ → Option SourceLine → List ℕ → Type 0
+abbrev pub IsLineRow : Words → ℕ → Option SourceLine → List ℕ → Type 0
 IsLineRow image at (Some line) row = row ≡ source_row at line
 IsLineRow image at None row = IsImageRow at (word_of image at) row
 
 -- the row of what is at an address
-abbrev pub IsRow : Words → ℕ → List ℕ → Type 0
+abbrev pub IsRow : WordLines → ℕ → List ℕ → Type 0
 IsRow words at = IsLineRow words.image.now at (line_at words.lines at)
 
 -- the row of a place; Exit has none
-abbrev pub IsPlaceRow : Words → Place → List ℕ → Type 0
+abbrev pub IsPlaceRow : WordLines → Place → List ℕ → Type 0
 IsPlaceRow words (At calls at) row = IsRow words at row
 IsPlaceRow words Exit row = row ≡ []

@@ -25,7 +25,7 @@ use Rattle.diagnosis.specs.declared.entries.MidEntry.{MidEntry}
 use Rattle.diagnosis.specs.declared.extents.Extent.{Extent}
 use Rattle.diagnosis.specs.declared.nested.DeepPlace.{DeepPlace}
 use Rattle.diagnosis.specs.declared.sources.FaultyLine.{FaultyLine}
-use Rattle.diagnosis.specs.declared.words.Words.{Words}
+use Rattle.diagnosis.specs.declared.words.WordLines.{WordLines}
 
 -- ## A cycle
 
@@ -45,11 +45,11 @@ abbrev pub loop_text : BTreeMap ℕ SourceLine → Extent → List ℕ
 loop_text lines extent = addresses_text lines extent ++ codes "  bound = \"?\"\n"
 
 -- the row of the place where an edge begins
-abbrev pub IsStartRow : Words → Edge → List ℕ → Type 0
+abbrev pub IsStartRow : WordLines → Edge → List ℕ → Type 0
 IsStartRow words e row = IsPlaceRow words e.from row
 
 -- the rows of the cycle's places, and then its loop
-pub record IsCycleText (words : Words) (cycle : List Edge) (extent : Extent) (text : List ℕ) : Type 0 where
+pub record IsCycleText (words : WordLines) (cycle : List Edge) (extent : Extent) (text : List ℕ) : Type 0 where
   pub rows : List ℕ
   pub are_rows : AreRows (IsStartRow words) cycle rows
   pub text_is : text
@@ -61,11 +61,11 @@ pub record IsCycleText (words : Words) (cycle : List Edge) (extent : Extent) (te
 -- ## An entry
 
 -- the row of a place under a line
-abbrev pub IsUnder : Words → List ℕ → Place → List ℕ → Type 0
+abbrev pub IsUnder : WordLines → List ℕ → Place → List ℕ → Type 0
 IsUnder words heading place text = (row : List ℕ) × IsPlaceRow words place row × (text ≡ heading ++ row)
 
 -- where the edge leads from and to, or where the handler begins
-abbrev pub IsEntryFront : Words → Place → Option Edge → List ℕ → Type 0
+abbrev pub IsEntryFront : WordLines → Place → Option Edge → List ℕ → Type 0
 IsEntryFront words place None text =
     IsUnder words (codes "The handler begins in a loop elsewhere than at its header. Here:\n") place text
 IsEntryFront words place (Some e) text =
@@ -74,7 +74,7 @@ IsEntryFront words place (Some e) text =
     × IsUnder words (codes "To here:\n") place to × (text ≡ from ++ to)
 
 -- and then the loop's header
-pub record IsEntryText (words : Words) (entry : MidEntry) (text : List ℕ) : Type 0 where
+pub record IsEntryText (words : WordLines) (entry : MidEntry) (text : List ℕ) : Type 0 where
   pub front : List ℕ
   pub row : List ℕ
   pub is_front : IsEntryFront words entry.place entry.edge front
@@ -97,7 +97,7 @@ abbrev pub shared_text : BTreeMap ℕ SourceLine → (one other : Loop) → List
 shared_text lines = two_loops lines (codes "These two loops have one header:\n")
 
 -- the two loops, a word of both, and one that each has alone
-pub record IsCrossingText (words : Words) (c : Crossing) (text : List ℕ) : Type 0 where
+pub record IsCrossingText (words : WordLines) (c : Crossing) (text : List ℕ) : Type 0 where
   pub shared : List ℕ
   pub one_has : List ℕ
   pub other_has : List ℕ
@@ -117,7 +117,7 @@ abbrev pub in_loops : ℕ → List ℕ
 in_loops n = codes "This word is in " ++ (decimal n ++ codes " loops; 16 is the most:\n")
 
 -- the place, and then the loops' headers
-pub record IsDeepText (words : Words) (d : DeepPlace) (text : List ℕ) : Type 0 where
+pub record IsDeepText (words : WordLines) (d : DeepPlace) (text : List ℕ) : Type 0 where
   pub place : List ℕ
   pub rows : List ℕ
   pub is_place : IsUnder words (in_loops (length d.instances.items)) d.place place
@@ -135,17 +135,17 @@ abbrev pub leads : List ℕ
 leads = codes "No word stands there. This leads to it:\n"
 
 -- the calls that a place is inside of, the outermost first, and then its own word
-abbrev pub IsChainText : Words → Place → List ℕ → Type 0
+abbrev pub IsChainText : WordLines → Place → List ℕ → Type 0
 IsChainText words place text =
     (rows : List ℕ) × AreRows (IsRow words) (key_of place) rows × (text ≡ nine ++ rows)
 
 -- the word where the edge begins; nothing where the handler begins at the place
-abbrev pub IsLeadText : Words → Option Edge → List ℕ → Type 0
+abbrev pub IsLeadText : WordLines → Option Edge → List ℕ → Type 0
 IsLeadText words None text = text ≡ []
 IsLeadText words (Some e) text = IsUnder words leads e.from text
 
 -- what shows why the place has no edges
-abbrev pub IsFaultText : Words → FaultyPlace → BuildFault → List ℕ → Type 0
+abbrev pub IsFaultText : WordLines → FaultyPlace → BuildFault → List ℕ → Type 0
 IsFaultText words faulty build.TooDeep text = IsChainText words faulty.place text
 IsFaultText words faulty (build.OutsideImage at) text = IsLeadText words faulty.edge text
 IsFaultText words faulty _ text = IsPlaceRow words faulty.place text

@@ -33,4 +33,4 @@ pub use statements::statement_text;
 pub use texts::{
     crossing_text, cycle_text, deep_text, entry_text, place_text, shared_text, word_text,
 };
-pub use words::{Words, words_of};
+pub use words::{WordLines, words_of};

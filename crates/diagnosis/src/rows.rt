@@ -4,7 +4,7 @@ ghost use Rattle.asm_text.specs.Appended.{Appends};
 ghost use Rattle.diagnosis.specs.Lines.{label_at};
 ghost use Rattle.diagnosis.specs.Rows.{IsImageRow, IsPlaceRow, IsRow, source_row};
 
-use crate::words::Words;
+use crate::words::WordLines;
 use flow_graph::Place;
 use std::alloc::{AllocError, Global};
 use text_rows::{
@@ -51,7 +51,7 @@ fn put_image_row(out: &mut Vec<u8>, at: u32, word: Option<u32>) -> Result<(), Al
     }
 }
 
-impl Words<'_> {
+impl WordLines<'_> {
     /// Adds the row of what is at an address: the address, and the number and the text of its line, or
     /// the word and the line that the disassembler shows. It ends at column 80.
     pub(crate) fn put_row(&self, out: &mut Vec<u8>, at: u32) -> Result<(), AllocError>

@@ -13,7 +13,7 @@ use crate::entries::MidEntry;
 use crate::extents::Extent;
 use crate::nested::DeepPlace;
 use crate::rows::around_number;
-use crate::words::Words;
+use crate::words::WordLines;
 use flow_graph::{BuildFault, Edge, FaultyPlace, Loop, Place};
 use loop_bounds::LoopInstance;
 use std::alloc::{AllocError, Global};
@@ -40,7 +40,7 @@ const SECOND: &[u8] = b"The second alone has this one:\n";
 const BEGINS: &[u8] = b"The handler begins in a loop elsewhere than at its header. Here:\n";
 
 // Adds a key of a loop, with an address.
-fn put_key(out: &mut Vec<u8>, words: &Words<'_>, key: &[u8], at: u32) -> Result<(), AllocError>
+fn put_key(out: &mut Vec<u8>, words: &WordLines<'_>, key: &[u8], at: u32) -> Result<(), AllocError>
     ensures { OnOk result (out.new.items ≡ out.old.items ++ key_text words.now.lines key.now at) }
 {
     put(out, b"  ")?;
@@ -51,7 +51,11 @@ fn put_key(out: &mut Vec<u8>, words: &Words<'_>, key: &[u8], at: u32) -> Result<
 }
 
 // Adds the addresses of a loop as a statement has it.
-fn put_addresses(out: &mut Vec<u8>, words: &Words<'_>, extent: &Extent) -> Result<(), AllocError>
+fn put_addresses(
+    out: &mut Vec<u8>,
+    words: &WordLines<'_>,
+    extent: &Extent,
+) -> Result<(), AllocError>
     ensures { OnOk result
         (out.new.items ≡ out.old.items ++ addresses_text words.now.lines extent.now) }
 {
@@ -62,7 +66,7 @@ fn put_addresses(out: &mut Vec<u8>, words: &Words<'_>, extent: &Extent) -> Resul
 }
 
 // Adds a loop as a statement has it.
-fn put_stated(out: &mut Vec<u8>, words: &Words<'_>, stated: &Loop) -> Result<(), AllocError>
+fn put_stated(out: &mut Vec<u8>, words: &WordLines<'_>, stated: &Loop) -> Result<(), AllocError>
     ensures { OnOk result (out.new.items ≡ out.old.items ++ stated_text words.now.lines stated.now) }
 {
     let extent = Extent {
@@ -77,7 +81,7 @@ fn put_stated(out: &mut Vec<u8>, words: &Words<'_>, stated: &Loop) -> Result<(),
 }
 
 // Adds a loop as a statement has it, with a question mark for its bound.
-fn put_loop(out: &mut Vec<u8>, words: &Words<'_>, extent: &Extent) -> Result<(), AllocError>
+fn put_loop(out: &mut Vec<u8>, words: &WordLines<'_>, extent: &Extent) -> Result<(), AllocError>
     ensures { OnOk result (out.new.items ≡ out.old.items ++ loop_text words.now.lines extent.now) }
 {
     put_addresses(out, words, extent)?;
@@ -85,7 +89,7 @@ fn put_loop(out: &mut Vec<u8>, words: &Words<'_>, extent: &Extent) -> Result<(),
 }
 
 // Adds the rows of the places where the edges begin.
-fn put_starts(out: &mut Vec<u8>, words: &Words<'_>, cycle: &[Edge]) -> Result<(), AllocError>
+fn put_starts(out: &mut Vec<u8>, words: &WordLines<'_>, cycle: &[Edge]) -> Result<(), AllocError>
     ensures { OnOk result (Appends (AreRows (IsStartRow words.now) cycle.now) out.old.items out.new.items) }
 {
     for edge in cycle {
@@ -101,7 +105,7 @@ fn put_starts(out: &mut Vec<u8>, words: &Words<'_>, cycle: &[Edge]) -> Result<()
 /// An allocation failed.
 pub fn cycle_text(
     alloc: Global,
-    words: &Words<'_>,
+    words: &WordLines<'_>,
     cycle: &[Edge],
     extent: &Extent,
 ) -> Result<Vec<u8>, AllocError>
@@ -120,7 +124,7 @@ pub fn cycle_text(
 // Adds a line, and under it the row of a place.
 fn put_under(
     out: &mut Vec<u8>,
-    words: &Words<'_>,
+    words: &WordLines<'_>,
     heading: &[u8],
     place: &Place,
 ) -> Result<(), AllocError>
@@ -131,7 +135,7 @@ fn put_under(
 }
 
 // Adds how the loop is entered.
-fn put_entry(out: &mut Vec<u8>, words: &Words<'_>, entry: &MidEntry) -> Result<(), AllocError>
+fn put_entry(out: &mut Vec<u8>, words: &WordLines<'_>, entry: &MidEntry) -> Result<(), AllocError>
     ensures { OnOk result
         (Appends (IsEntryFront words.now entry.now.place entry.now.edge) out.old.items out.new.items) }
 {
@@ -149,7 +153,11 @@ fn put_entry(out: &mut Vec<u8>, words: &Words<'_>, entry: &MidEntry) -> Result<(
 /// # Errors
 ///
 /// An allocation failed.
-pub fn entry_text(alloc: Global, words: &Words<'_>, entry: &MidEntry) -> Result<Vec<u8>, AllocError>
+pub fn entry_text(
+    alloc: Global,
+    words: &WordLines<'_>,
+    entry: &MidEntry,
+) -> Result<Vec<u8>, AllocError>
     ensures { IfOk result (λ text. IsEntryText words.now entry.now text.items) }
 {
     let mut out = Vec::new(alloc);
@@ -162,7 +170,7 @@ pub fn entry_text(alloc: Global, words: &Words<'_>, entry: &MidEntry) -> Result<
 // A line, and under it two loops.
 fn two_loops(
     alloc: Global,
-    words: &Words<'_>,
+    words: &WordLines<'_>,
     heading: &[u8],
     one: &Loop,
     other: &Loop,
@@ -183,7 +191,7 @@ fn two_loops(
 /// An allocation failed.
 pub fn shared_text(
     alloc: Global,
-    words: &Words<'_>,
+    words: &WordLines<'_>,
     one: &Loop,
     other: &Loop,
 ) -> Result<Vec<u8>, AllocError>
@@ -199,7 +207,7 @@ pub fn shared_text(
 /// An allocation failed.
 pub fn crossing_text(
     alloc: Global,
-    words: &Words<'_>,
+    words: &WordLines<'_>,
     crossing: &Crossing,
 ) -> Result<Vec<u8>, AllocError>
     ensures { IfOk result (λ text. IsCrossingText words.now crossing.now text.items) }
@@ -236,7 +244,11 @@ fn headers_of(alloc: Global, found: &[LoopInstance]) -> Result<Vec<u32>, AllocEr
 /// # Errors
 ///
 /// An allocation failed.
-pub fn deep_text(alloc: Global, words: &Words<'_>, deep: &DeepPlace) -> Result<Vec<u8>, AllocError>
+pub fn deep_text(
+    alloc: Global,
+    words: &WordLines<'_>,
+    deep: &DeepPlace,
+) -> Result<Vec<u8>, AllocError>
     ensures { IfOk result (λ text. IsDeepText words.now deep.now text.items) }
 {
     let found = deep.instances.as_slice();
@@ -250,7 +262,7 @@ pub fn deep_text(alloc: Global, words: &Words<'_>, deep: &DeepPlace) -> Result<V
 }
 
 // Adds the rows of words.
-fn put_rows(out: &mut Vec<u8>, words: &Words<'_>, named: &[u32]) -> Result<(), AllocError>
+fn put_rows(out: &mut Vec<u8>, words: &WordLines<'_>, named: &[u32]) -> Result<(), AllocError>
     ensures { OnOk result (Appends (AreRows (IsRow words.now) named.now) out.old.items out.new.items) }
 {
     for at in named {
@@ -274,7 +286,7 @@ fn chain_of(alloc: Global, place: &Place) -> Result<Vec<u32>, AllocError>
 }
 
 // The calls that a place is inside of, and its own.
-fn chain_text(alloc: Global, words: &Words<'_>, place: &Place) -> Result<Vec<u8>, AllocError>
+fn chain_text(alloc: Global, words: &WordLines<'_>, place: &Place) -> Result<Vec<u8>, AllocError>
     ensures { IfOk result (λ text. IsChainText words.now place.now text.items) }
 {
     let chain = chain_of(alloc, place)?;
@@ -284,7 +296,11 @@ fn chain_text(alloc: Global, words: &Words<'_>, place: &Place) -> Result<Vec<u8>
 }
 
 // The word where the edge begins.
-fn lead_text(alloc: Global, words: &Words<'_>, edge: &Option<Edge>) -> Result<Vec<u8>, AllocError>
+fn lead_text(
+    alloc: Global,
+    words: &WordLines<'_>,
+    edge: &Option<Edge>,
+) -> Result<Vec<u8>, AllocError>
     ensures { IfOk result (λ text. IsLeadText words.now edge.now text.items) }
 {
     let mut out = Vec::new(alloc);
@@ -295,7 +311,7 @@ fn lead_text(alloc: Global, words: &Words<'_>, edge: &Option<Edge>) -> Result<Ve
 }
 
 // The row of a place.
-fn row_text(alloc: Global, words: &Words<'_>, place: &Place) -> Result<Vec<u8>, AllocError>
+fn row_text(alloc: Global, words: &WordLines<'_>, place: &Place) -> Result<Vec<u8>, AllocError>
     ensures { IfOk result (λ text. IsPlaceRow words.now place.now text.items) }
 {
     let mut out = Vec::new(alloc);
@@ -311,7 +327,7 @@ fn row_text(alloc: Global, words: &Words<'_>, place: &Place) -> Result<Vec<u8>, 
 /// An allocation failed.
 pub fn place_text(
     alloc: Global,
-    words: &Words<'_>,
+    words: &WordLines<'_>,
     faulty: &FaultyPlace,
 ) -> Result<Vec<u8>, AllocError>
     ensures { IfOk result (λ text. IsFaultText words.now faulty.now faulty.now.fault text.items) }
@@ -328,7 +344,7 @@ pub fn place_text(
 /// # Errors
 ///
 /// An allocation failed.
-pub fn word_text(alloc: Global, words: &Words<'_>, at: u32) -> Result<Vec<u8>, AllocError>
+pub fn word_text(alloc: Global, words: &WordLines<'_>, at: u32) -> Result<Vec<u8>, AllocError>
     ensures { IfOk result (λ text. Appends (IsRow words.now at) [] text.items) }
 {
     let mut out = Vec::new(alloc);

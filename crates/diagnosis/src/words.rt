@@ -15,7 +15,7 @@ use text_rows::{SourceLine, label_of};
 /// The lines of a text by the addresses of their words, and the words of the image, for which there are no
 /// lines where the source is an image.
 #[derive(Drop)]
-pub struct Words<'a> {
+pub struct WordLines<'a> {
     pub lines: BTreeMap<u32, SourceLine<'a>>,
     pub image: &'a Image,
 }
@@ -79,7 +79,7 @@ fn lines_of<'a>(
 /// # Errors
 ///
 /// An allocation failed.
-pub fn words_of<'a>(alloc: Global, program: &Program<'a>) -> Result<Words<'a>, AllocError>
+pub fn words_of<'a>(alloc: Global, program: &Program<'a>) -> Result<WordLines<'a>, AllocError>
     ensures named { IfOk result (λ words. AreNamed program.now.labels.now words.lines) }
     ensures lines { IfOk result
         (λ words. AreLinesOf program.now.labels.now program.now.source.now program.now.placed.now
@@ -87,7 +87,7 @@ pub fn words_of<'a>(alloc: Global, program: &Program<'a>) -> Result<Words<'a>, A
     ensures image { IfOk result (λ words. words.image.now ≡ program.now.image.now) }
 {
     let lines = lines_of(alloc, program)?;
-    Ok(Words {
+    Ok(WordLines {
         lines,
         image: program.image,
     })

@@ -1,4 +1,4 @@
-use Rattle.diagnosis.proofs.words.Words.put_place.Goals as goal
+use Rattle.diagnosis.proofs.words.WordLines.put_place.Goals as goal
 
 pub returns-in-At : goal.returns-in-At
 returns-in-At c = rw c.in-At.is c.put_row.ensures
