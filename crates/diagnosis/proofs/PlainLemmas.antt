@@ -8,10 +8,10 @@ use Rattle.std.proofs.lemmas.List.{length-append}
 use Rattle.std.proofs.lemmas.List.Folds.{list_all-append}
 use Rattle.asm_text.specs.Pieces.{is_blank}
 use Rattle.asm_text.specs.Source.{lines_of}
-use Rattle.diagnosis.specs.Outline.{Bare, Begins, Gap, Key, Piece, Quoted, Reading, Stated, States, Table, OfValue, Value, all_taken, bare_at, begun, first_piece, header_of, is_bare, is_gap, is_quote, keyed, line_read, lines_read, past_blanks, piece_at, pieces, quoted_len, taken, key_or_value, valued, word_at}
+use Rattle.diagnosis.specs.Outline.{Bare, Begins, Gap, Key, Token, Quoted, Reading, KeyValue, States, Table, OfValue, Value, all_taken, bare_at, begun, first_token, header_of, is_bare, is_gap, is_quote, keyed, line_read, lines_read, past_blanks, token_at, tokens, quoted_len, taken, key_or_value, valued, word_at}
 use Rattle.diagnosis.specs.PlainLines.{ArePlain, Heading, IsPlainValue, PlainLine, Setting, is_plain, is_quotable, items_from, line_text, lines_text}
 use Rattle.diagnosis.specs.Refused.{value_text}
-use Rattle.diagnosis.proofs.OutlineLemmas.{after_first, one_piece}
+use Rattle.diagnosis.proofs.OutlineLemmas.{after_first, one_token}
 
 not_or : (x y : Bool) → not (x || y) ≡ true → (x ≡ false) × (not y ≡ true)
 not_or false y h = (refl, h)
@@ -77,25 +77,25 @@ left_of_word : (w rest : List ℕ) → list_all is_plain w ≡ true → prefix_l
 left_of_word w rest h stops = ap (λ n. drop n (w ++ rest)) (word_len is_bare w rest (plain_parts w h) stops) ∙ drop-append_seam w rest
 
 -- what a word begins
-word_piece : (b : ℕ) (w rest : List ℕ) → list_all is_plain (b ∷ w) ≡ true → prefix_len is_bare rest ≡ 0 → first_piece ((b ∷ w) ++ rest) ≡ Some (key_or_value (Bare (b ∷ w)) rest, rest)
-word_piece b w rest h stops =
+word_token : (b : ℕ) (w rest : List ℕ) → list_all is_plain (b ∷ w) ≡ true → prefix_len is_bare rest ≡ 0 → first_token ((b ∷ w) ++ rest) ≡ Some (key_or_value (Bare (b ∷ w)) rest, rest)
+word_token b w rest h stops =
     let f = (first_of b w h).bare in
-    let here : piece_at b (w ++ rest) ≡ bare_at ((b ∷ w) ++ rest) = rw (f.comment, f.gap, f.opens, f.closes, f.quote) refl in
+    let here : token_at b (w ++ rest) ≡ bare_at ((b ∷ w) ++ rest) = rw (f.comment, f.gap, f.opens, f.closes, f.quote) refl in
     let text = (b ∷ w) ++ rest in
     let n = prefix_len is_bare text in
-    ap (λ (x : Piece × List ℕ). Some x) (here
+    ap (λ (x : Token × List ℕ). Some x) (here
     ∙ (ap (λ v. (key_or_value (Bare v) (drop n text), drop n text)) (taken_word (b ∷ w) rest h stops)
     ∙ ap (λ v. (key_or_value (Bare (b ∷ w)) v, v)) (left_of_word (b ∷ w) rest h stops)))
 
 -- ## Lines
 
-no_pieces : (line : ℕ) (r : Reading) (n : ℕ) → all_taken line r (pieces n []) ≡ r
-unfolding all_taken pieces
-no_pieces line r zero = refl
-no_pieces line r (suc n) = refl
+no_tokens : (line : ℕ) (r : Reading) (n : ℕ) → all_taken line r (tokens n []) ≡ r
+unfolding all_taken tokens
+no_tokens line r zero = refl
+no_tokens line r (suc n) = refl
 
-next : (line : ℕ) (r : Reading) (n : ℕ) (text : List ℕ) (p : Piece) (rest : List ℕ) → first_piece text ≡ Some (p, rest) → all_taken line r (pieces (suc n) text) ≡ all_taken line (taken line r p) (pieces n rest)
-next line r n text p rest is = one_piece line r n text ∙ ap (after_first line r n) is
+next : (line : ℕ) (r : Reading) (n : ℕ) (text : List ℕ) (p : Token) (rest : List ℕ) → first_token text ≡ Some (p, rest) → all_taken line r (tokens (suc n) text) ≡ all_taken line (taken line r p) (tokens n rest)
+next line r n text p rest is = one_token line r n text ∙ ap (after_first line r n) is
 
 -- a byte of a text in double quotes
 record Quotable (b : ℕ) : Type 0 where
@@ -120,10 +120,10 @@ quoted_text (b ∷ w) h =
     let rec = quoted_text w parts.1 in rw (here.quote, here.escape) (omega (arith, rec))
 
 -- what a value begins
-value_piece : (value : Value) → IsPlainValue value → first_piece (value_text value) ≡ Some (OfValue value, [])
-value_piece (Bare []) h = absurd h
-value_piece (Bare (b ∷ w)) h = ap first_piece (sym (append-nil (b ∷ w))) ∙ word_piece b w [] h refl
-value_piece (Quoted quote w) h =
+value_token : (value : Value) → IsPlainValue value → first_token (value_text value) ≡ Some (OfValue value, [])
+value_token (Bare []) h = absurd h
+value_token (Bare (b ∷ w)) h = ap first_token (sym (append-nil (b ∷ w))) ∙ word_token b w [] h refl
+value_token (Quoted quote w) h =
     let text = w ++ 34 ∷ [] in
     let len : quoted_len 34 false text ≡ length w = quoted_text w h.1 in
     let rest : drop (length w + 1) text ≡ [] = drop-append-add w (34 ∷ []) 1 in
@@ -134,14 +134,14 @@ value_piece (Quoted quote w) h =
     )
 
 set_line : (line : ℕ) (r : Reading) (n b : ℕ) (key : List ℕ) (value : Value) → list_all is_plain (b ∷ key) ≡ true → IsPlainValue value
-    → all_taken line r (pieces (suc (suc (suc (suc (suc n))))) ((b ∷ key) ++ (codes " = " ++ value_text value))) ≡ valued line (keyed r (b ∷ key)) value
+    → all_taken line r (tokens (suc (suc (suc (suc (suc n))))) ((b ∷ key) ++ (codes " = " ++ value_text value))) ≡ valued line (keyed r (b ∷ key)) value
 set_line line r n b key value is_key is_value =
     let s = keyed r (b ∷ key) in
     let text = value_text value in
-    next line r (suc (suc (suc (suc n)))) _ (Key (b ∷ key)) (codes " = " ++ text) (word_piece b key (codes " = " ++ text) is_key refl)
+    next line r (suc (suc (suc (suc n)))) _ (Key (b ∷ key)) (codes " = " ++ text) (word_token b key (codes " = " ++ text) is_key refl)
     ∙ (next line s (suc (suc (suc n))) _ Gap (codes "= " ++ text) refl
     ∙ (next line s (suc (suc n)) _ Gap (codes " " ++ text) refl
-    ∙ (next line s (suc n) _ Gap text refl ∙ (next line s n _ (OfValue value) [] (value_piece value is_value) ∙ no_pieces line (valued line s value) n))))
+    ∙ (next line s (suc n) _ Gap text refl ∙ (next line s n _ (OfValue value) [] (value_token value is_value) ∙ no_tokens line (valued line s value) n))))
 
 heading : (line : ℕ) (b : ℕ) (name : List ℕ) → list_all is_plain (b ∷ name) ≡ true
     → header_of line (line_text (Heading (b ∷ name))) ≡ Some (record { line = line; name = b ∷ name; is_listed = true })
@@ -168,7 +168,7 @@ set_read line r b key value is_key is_value =
     let some = some_text value is_value in
     let count : length text ≡ suc (suc (suc (suc (suc n)))) = omega (arith, length-append key after, some) in
     ap (line_read line r text) (no_heading line b key after is_key)
-    ∙ (ap (λ k. all_taken line r (pieces k text)) count ∙ set_line line r n b key value is_key is_value)
+    ∙ (ap (λ k. all_taken line r (tokens k text)) count ∙ set_line line r n b key value is_key is_value)
 
 -- ## Texts
 
@@ -229,7 +229,7 @@ lines_state n r (Heading (b ∷ name) ∷ lines) h =
 lines_state n r (Setting (b ∷ key) value ∷ lines) h =
     let rest = lines_text lines in
     let text = line_text (Setting (b ∷ key) value) in
-    let p : Stated = record { line = n; list = (r.at).list; key = b ∷ key; value = value } in
+    let p : KeyValue = record { line = n; list = (r.at).list; key = b ∷ key; value = value } in
     let ends = both_go_on (b ∷ key) (codes " = " ++ value_text value) (plain_goes_on (b ∷ key) h.0.0) (value_goes_on value h.0.1) in
     ap (λ (s : Reading). s.items) (one_line n r text rest ends ∙ ap (λ s. lines_read (n + 1) s (lines_of rest)) (set_read n r b key value h.0.0 h.0.1))
     ∙ (lines_state (n + 1) (valued n (keyed r (b ∷ key)) value) lines h.1 ∙ append_assoc r.items (States p ∷ []) (items_from (n + 1) (r.at).list lines))

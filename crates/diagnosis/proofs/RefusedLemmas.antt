@@ -4,7 +4,7 @@ use Rattle.std.proofs.lemmas.List.{drop_more}
 use Rattle.loader.specs.Labels.{NamedAddresses}
 use Rattle.diagnosis.specs.Outline.{Item, item_of}
 use Rattle.diagnosis.specs.Refused.{Adds, Row, is_twice, item_row_if, row_text, shown, twice_rows}
-use Rattle.diagnosis.specs.declared.outline.Entry.{Entry}
+use Rattle.diagnosis.specs.declared.outline.Item.{Item as CodeItem}
 use Rattle.diagnosis.specs.declared.statements.Report.{Report}
 
 shown_more : (n : ℕ) (row : Row) (more : List Row) → shown (suc n) (row ∷ more) ≡ row_text row ++ shown n more
@@ -55,11 +55,11 @@ one_row : (names : NamedAddresses) (before items : List Item) (i : Item) → twi
 unfolding twice_rows
 one_row names before items i = refl
 
--- the row of the entry at an index, if an earlier one has its address
-pub twice_more : (names : NamedAddresses) (before : List Item) (entries : List Entry) (k : ℕ) (d : Entry) (holds : Bool) → k < length entries → holds ≡ is_twice names before (item_of (get_or entries k d))
-    → twice_rows names before (map item_of (drop k entries)) ≡ item_row_if holds (item_of (get_or entries k d)) ++ twice_rows names (item_of (get_or entries k d) ∷ before) (map item_of (drop (k + 1) entries))
-twice_more names before entries k d holds inside is_among =
-    let i = item_of (get_or entries k d) in
-    let rest = map item_of (drop (k + 1) entries) in
-    ap (λ (es : List Entry). twice_rows names before (map item_of es)) (drop_more entries k d inside)
+-- the row of the item at an index, if an earlier one has its address
+pub twice_more : (names : NamedAddresses) (before : List Item) (items : List CodeItem) (k : ℕ) (d : CodeItem) (holds : Bool) → k < length items → holds ≡ is_twice names before (item_of (get_or items k d))
+    → twice_rows names before (map item_of (drop k items)) ≡ item_row_if holds (item_of (get_or items k d)) ++ twice_rows names (item_of (get_or items k d) ∷ before) (map item_of (drop (k + 1) items))
+twice_more names before items k d holds inside is_among =
+    let i = item_of (get_or items k d) in
+    let rest = map item_of (drop (k + 1) items) in
+    ap (λ (es : List CodeItem). twice_rows names before (map item_of es)) (drop_more items k d inside)
     ∙ (one_row names before rest i ∙ ap (λ b. item_row_if b i ++ twice_rows names (i ∷ before) rest) (sym is_among))

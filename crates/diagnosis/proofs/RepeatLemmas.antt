@@ -6,11 +6,11 @@ use Rattle.std.specs.List.{list_any}
 use Rattle.std.specs.Ordering.{nat_cmp}
 use Rattle.loader.specs.Labels.{NamedAddresses}
 use Rattle.text_rows.specs.LineLabels.{is_at}
-use Rattle.diagnosis.specs.Outline.{Item, Stated, Table, Begins, Ends, States, item_of, table_of}
+use Rattle.diagnosis.specs.Outline.{Item, KeyValue, Table, Begins, Ends, States, item_of, table_of}
 use Rattle.diagnosis.specs.Refused.{AreTaken, address_as, of_table, is_among}
-use Rattle.diagnosis.specs.declared.outline.Entry.{Entry}
-use Rattle.diagnosis.specs.declared.outline.Entry.TheVariants as entry
-use Rattle.diagnosis.specs.declared.outline.Section.{Section}
+use Rattle.diagnosis.specs.declared.outline.Item.{Item as CodeItem}
+use Rattle.diagnosis.specs.declared.outline.Item.TheVariants as code_item
+use Rattle.diagnosis.specs.declared.outline.Table.{Table as CodeTable}
 use Rattle.diagnosis.specs.declared.repeats.Taken.{Taken}
 
 pub none_come_to : (set : BTreeSet ℕ) (a : ℕ) → set.keys ≡ [] → contains nat_cmp set a ≡ false
@@ -25,7 +25,7 @@ pub of_no_table : of_table [] ≡ []
 unfolding of_table
 of_no_table = refl
 
-pub of_same_table : (p : Stated) (before : List Item) → of_table (States p ∷ before) ≡ States p ∷ of_table before
+pub of_same_table : (p : KeyValue) (before : List Item) → of_table (States p ∷ before) ≡ States p ∷ of_table before
 unfolding of_table
 of_same_table p before = refl
 
@@ -38,7 +38,7 @@ unfolding of_table
 of_ended_table before = refl
 
 -- a table's begin or end sets the destinations anew
-pub next_table : (names : NamedAddresses) (before : List Item) (e : Entry) (old new : Taken) → ((t : Section) × (e ≡ entry.Table t)) ⊎ (e ≡ entry.End) → AreTaken names before old
+pub next_table : (names : NamedAddresses) (before : List Item) (e : CodeItem) (old new : Taken) → ((t : CodeTable) × (e ≡ code_item.Begins t)) ⊎ (e ≡ code_item.Ends) → AreTaken names before old
     → new.targets ≡ old.targets → new.accesses ≡ old.accesses → new.destinations.keys ≡ [] → AreTaken names (item_of e ∷ before) new
 next_table names before e old new (inl (t, is)) have targets accesses empty =
     rw is (record {

@@ -8,15 +8,15 @@ use Rattle.std.specs.Borrow.{Bor}
 use Rattle.std.specs.List.{prefix_len}
 use Rattle.asm_text.specs.Pieces.{is_blank}
 use Rattle.asm_text.specs.Source.{lines_of}
-use Rattle.diagnosis.specs.declared.outline.Entry.{Entry}
-use Rattle.diagnosis.specs.declared.outline.Entry.TheVariants as entry
-use Rattle.diagnosis.specs.declared.outline.Pair.{Pair}
-use Rattle.diagnosis.specs.declared.outline.Reader.{Reader}
-use Rattle.diagnosis.specs.declared.outline.Section.{Section}
-use Rattle.diagnosis.specs.declared.tokens.Token.{Token}
-use Rattle.diagnosis.specs.declared.tokens.Token.TheVariants as token
-use Rattle.diagnosis.specs.declared.tokens.Word.{Word}
-use Rattle.diagnosis.specs.declared.tokens.Word.TheVariants as word
+use Rattle.diagnosis.specs.declared.outline.Item.{Item as CodeItem}
+use Rattle.diagnosis.specs.declared.outline.Item.TheVariants as code_item
+use Rattle.diagnosis.specs.declared.outline.KeyValue.{KeyValue as CodeKeyValue}
+use Rattle.diagnosis.specs.declared.outline.Reading.{Reading as CodeReading}
+use Rattle.diagnosis.specs.declared.outline.Table.{Table as CodeTable}
+use Rattle.diagnosis.specs.declared.tokens.Token.{Token as CodeToken}
+use Rattle.diagnosis.specs.declared.tokens.Token.TheVariants as code_token
+use Rattle.diagnosis.specs.declared.tokens.Value.{Value as CodeValue}
+use Rattle.diagnosis.specs.declared.tokens.Value.TheVariants as code_value
 
 -- ## The words of a line
 
@@ -41,12 +41,12 @@ text_of (Bare w) = w
 text_of (Quoted quote w) = w
 
 -- a brace, a key, a value, or what is between them
-pub data Piece : Type 0 where
-  Gap : Piece
-  Opens : Piece
-  Closes : Piece
-  Key : List ℕ → Piece
-  OfValue : Value → Piece
+pub data Token : Type 0 where
+  Gap : Token
+  Opens : Token
+  Closes : Token
+  Key : List ℕ → Token
+  OfValue : Value → Token
 
 -- how many bytes are before the quote that ends a text; between two " a quote after \ does not
 unfoldable pub quoted_len : (quote : ℕ) → (escaped : Bool) → List ℕ → ℕ
@@ -63,40 +63,40 @@ abbrev pub past_blanks : List ℕ → List ℕ
 past_blanks text = drop (prefix_len is_blank text) text
 
 -- a word is a key where = comes next, else a value
-abbrev pub key_or_value : Value → List ℕ → Piece
+abbrev pub key_or_value : Value → List ℕ → Token
 key_or_value value after = if starts_equals (past_blanks after) then Key (text_of value) else OfValue value
 
 -- with what follows it
-abbrev pub word_at : Value → List ℕ → Piece × List ℕ
+abbrev pub word_at : Value → List ℕ → Token × List ℕ
 word_at value after = (key_or_value value after, after)
 
-abbrev pub bare_at : List ℕ → Piece × List ℕ
+abbrev pub bare_at : List ℕ → Token × List ℕ
 bare_at text = word_at (Bare (take (prefix_len is_bare text) text)) (drop (prefix_len is_bare text) text)
 
-abbrev pub quoted_at : ℕ → List ℕ → Piece × List ℕ
+abbrev pub quoted_at : ℕ → List ℕ → Token × List ℕ
 quoted_at quote rest =
     word_at
     (Quoted quote (take (quoted_len quote false rest) rest))
     (drop (quoted_len quote false rest + 1) rest)
 
 -- what a byte begins, and what follows that; # begins a comment
-abbrev pub piece_at : ℕ → List ℕ → Piece × List ℕ
-piece_at b rest =
+abbrev pub token_at : ℕ → List ℕ → Token × List ℕ
+token_at b rest =
     if b == 35 then (Gap, [])
     else (if is_gap b then (Gap, rest)
     else (if b == 123 then (Opens, rest)
     else (if b == 125 then (Closes, rest)
     else (if is_quote b then quoted_at b rest else bare_at (b ∷ rest)))))
 
-abbrev pub first_piece : List ℕ → Option (Piece × List ℕ)
-first_piece [] = None
-first_piece (b ∷ rest) = Some (piece_at b rest)
+abbrev pub first_token : List ℕ → Option (Token × List ℕ)
+first_token [] = None
+first_token (b ∷ rest) = Some (token_at b rest)
 
--- as many pieces at most
-unfoldable pub pieces : ℕ → List ℕ → List Piece
-pieces zero text = []
-pieces (suc n) [] = []
-pieces (suc n) (b ∷ rest) = (piece_at b rest).0 ∷ pieces n (piece_at b rest).1
+-- as many tokens at most
+unfoldable pub tokens : ℕ → List ℕ → List Token
+tokens zero text = []
+tokens (suc n) [] = []
+tokens (suc n) (b ∷ rest) = (token_at b rest).0 ∷ tokens n (token_at b rest).1
 
 -- ## The tables and values
 
@@ -107,7 +107,7 @@ pub record Table : Type 0 where
   pub is_listed : Bool
 
 -- a value: its line, the name of its table's list, empty for the statement itself, and its key
-pub record Stated : Type 0 where
+pub record KeyValue : Type 0 where
   pub line : ℕ
   pub list : List ℕ
   pub key : List ℕ
@@ -116,7 +116,7 @@ pub record Stated : Type 0 where
 -- the end of a table in braces
 pub data Item : Type 0 where
   Begins : Table → Item
-  States : Stated → Item
+  States : KeyValue → Item
   Ends : Item
 
 -- the name of a table's list, and the last key
@@ -156,14 +156,14 @@ abbrev pub valued : ℕ → Reading → Value → Reading
 valued line r value =
     item r (States (record { line = line; list = (r.at).list; key = (r.at).key; value = value }))
 
-abbrev pub taken : ℕ → Reading → Piece → Reading
+abbrev pub taken : ℕ → Reading → Token → Reading
 taken line r Gap = r
 taken line r Opens = opened line r
 taken line r Closes = closed r
 taken line r (Key key) = keyed r key
 taken line r (OfValue value) = valued line r value
 
-unfoldable pub all_taken : ℕ → Reading → List Piece → Reading
+unfoldable pub all_taken : ℕ → Reading → List Token → Reading
 all_taken line r [] = r
 all_taken line r (p ∷ ps) = all_taken line (taken line r p) ps
 
@@ -192,7 +192,7 @@ begun r t = record { at = in_list t.name; around = in_list t.name; items = r.ite
 
 abbrev pub line_read : ℕ → Reading → List ℕ → Option Table → Reading
 line_read line r text (Some t) = begun r t
-line_read line r text None = all_taken line r (pieces (length text) text)
+line_read line r text None = all_taken line r (tokens (length text) text)
 
 -- the lines, the first of which has the number
 unfoldable pub lines_read : ℕ → Reading → List (List ℕ) → Reading
@@ -208,36 +208,36 @@ items_of text = (lines_read 1 nothing_read (lines_of text)).items
 
 -- ## As the code has them
 
-abbrev pub value_of : Word → Value
-value_of (word.Bare w) = Bare w.now
-value_of (word.Quoted quote w) = Quoted quote w.now
+abbrev pub value_of : CodeValue → Value
+value_of (code_value.Bare w) = Bare w.now
+value_of (code_value.Quoted quote w) = Quoted quote w.now
 
-abbrev pub piece_of : Token → Piece
-piece_of token.Gap = Gap
-piece_of token.Opens = Opens
-piece_of token.Closes = Closes
-piece_of (token.Key w) = Key w.now
-piece_of (token.OfValue w) = OfValue (value_of w)
+abbrev pub token_of : CodeToken → Token
+token_of code_token.Gap = Gap
+token_of code_token.Opens = Opens
+token_of code_token.Closes = Closes
+token_of (code_token.Key w) = Key w.now
+token_of (code_token.OfValue w) = OfValue (value_of w)
 
 -- with what follows it
-abbrev pub in_pieces : Token × Bor (List ℕ) → Piece × List ℕ
-in_pieces f = (piece_of f.0, f.1.now)
+abbrev pub in_tokens : CodeToken × Bor (List ℕ) → Token × List ℕ
+in_tokens f = (token_of f.0, f.1.now)
 
-abbrev pub table_of : Section → Table
+abbrev pub table_of : CodeTable → Table
 table_of t = record { line = t.line; name = t.name.now; is_listed = t.is_listed }
 
-abbrev pub stated_of : Pair → Stated
-stated_of p = record { line = p.line; list = p.list.now; key = p.key.now; value = value_of p.value }
+abbrev pub key_value_of : CodeKeyValue → KeyValue
+key_value_of p = record { line = p.line; list = p.list.now; key = p.key.now; value = value_of p.value }
 
-abbrev pub item_of : Entry → Item
-item_of (entry.Table t) = Begins (table_of t)
-item_of (entry.Value p) = States (stated_of p)
-item_of entry.End = Ends
+abbrev pub item_of : CodeItem → Item
+item_of (code_item.Begins t) = Begins (table_of t)
+item_of (code_item.States p) = States (key_value_of p)
+item_of code_item.Ends = Ends
 
-abbrev pub reading_of : Reader → Reading
+abbrev pub reading_of : CodeReading → Reading
 reading_of r =
     record {
       at = record { list = (r.at).list.now; key = (r.at).key.now };
       around = record { list = (r.around).list.now; key = (r.around).key.now };
-      items = map item_of r.entries.items;
+      items = map item_of r.items.items;
     }

@@ -18,10 +18,13 @@ use Rattle.toml.specs.Parse.{parse_document}
 use Rattle.toml_reading.specs.Documents.{is_one_of}
 use Rattle.text_rows.specs.LineLabels.{is_at}
 use Rattle.statement.specs.Statement.{access_keys, loop_keys, statement_keys, target_keys}
+use Rattle.statement.specs.declared.entries.TheConstants.{MOST_DESTINATIONS}
 use Rattle.statement.specs.declared.faults.StatementFault.{StatementFault}
 use Rattle.statement.specs.declared.faults.StatementFault.TheVariants.{NotToml, UnknownKey, WrongKind}
 use Rattle.statement.specs.declared.faults.StatementFault.TheVariants.{UnknownLabel, OutOfRange, Twice}
-use Rattle.diagnosis.specs.Outline.{Item, Begins, States, Ends, Stated, Table, Value, Bare, Quoted, items_of}
+use Rattle.statement.specs.declared.reading.TheConstants.{MOST_ACCESSES, MOST_LOOPS, MOST_TARGETS}
+use Rattle.diagnosis.specs.Outline.{Bare, Begins, Ends, Item, KeyValue, Quoted, States, Table, Value}
+use Rattle.diagnosis.specs.Outline.{items_of}
 use Rattle.diagnosis.specs.declared.repeats.Taken.{Taken}
 use Rattle.diagnosis.specs.declared.statements.Limit as declared
 use Rattle.diagnosis.specs.declared.statements.Report.{Report}
@@ -48,7 +51,7 @@ abbrev pub value_text : Value → List ℕ
 value_text (Bare w) = w
 value_text (Quoted quote w) = quote ∷ [] ++ (w ++ quote ∷ [])
 
-abbrev pub value_row : Stated → Row
+abbrev pub value_row : KeyValue → Row
 value_row p = record { line = p.line; text = p.key ++ (codes " = " ++ value_text p.value) }
 
 abbrev pub name_text : Table → List ℕ
@@ -135,7 +138,7 @@ address_at names (Bare w) = run_number w
 address_at names (Quoted quote w) = address_of names w
 
 -- a text in the place of an address that is no label
-abbrev pub is_unknown_label : NamedAddresses → Stated → Bool
+abbrev pub is_unknown_label : NamedAddresses → KeyValue → Bool
 is_unknown_label names p = takes_address p.key && (is_text p.value && is_none (address_at names p.value))
 
 abbrev pub is_outside : List ℕ → ℕ → Bool
@@ -148,7 +151,7 @@ is_number_outside key None = false
 is_number_outside key (Some n) = is_outside key n
 
 -- a number below 0, or out of the key's range
-abbrev pub is_out_of_range : NamedAddresses → Stated → Bool
+abbrev pub is_out_of_range : NamedAddresses → KeyValue → Bool
 is_out_of_range names p = is_negative p.value || is_number_outside p.key (address_at names p.value)
 
 -- ## Of a value
@@ -158,7 +161,7 @@ is_unknown_key None key = false
 is_unknown_key (Some keys) key = not (is_one_of keys key)
 
 -- the value has the fault
-abbrev pub is_faulty : NamedAddresses → StatementFault → Stated → Bool
+abbrev pub is_faulty : NamedAddresses → StatementFault → KeyValue → Bool
 is_faulty names UnknownKey p = is_unknown_key (keys_of p.list) p.key
 is_faulty names WrongKind p = not (fits_key p.key p.value)
 is_faulty names UnknownLabel p = is_unknown_label names p
@@ -168,7 +171,7 @@ is_faulty names _ p = false
 -- ## Of a table, by the items after its begin
 
 -- the values at a key, before the next table
-unfoldable pub stated_at : List ℕ → List Item → List Stated
+unfoldable pub stated_at : List ℕ → List Item → List KeyValue
 stated_at key [] = []
 stated_at key (Begins t ∷ items) = []
 stated_at key (States p ∷ items) =
@@ -231,7 +234,7 @@ abbrev pub first_after : {A : Type 0} → ℕ → List A → Option A
 first_after most xs = first_item (drop most xs)
 
 -- the row of a destination that comes after those that its target may have
-abbrev pub extra_destination_row : Option Stated → List Row
+abbrev pub extra_destination_row : Option KeyValue → List Row
 extra_destination_row None = []
 extra_destination_row (Some p) =
     record {

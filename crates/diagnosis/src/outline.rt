@@ -1,15 +1,15 @@
 ghost use Rattle.std.specs.Prelude.{◌≡◌, IfOk, OnOk, length, map, option_map};
-ghost use Rattle.diagnosis.specs.Outline.{begun, header_of, item_of, items_of, line_read, piece_of};
-ghost use Rattle.diagnosis.specs.Outline.{all_taken, bare_word, closed, opened, pieces, reading_of};
-ghost use Rattle.diagnosis.specs.Outline.{table_of, taken, value_of, valued};
+ghost use Rattle.diagnosis.specs.Outline.{begun, header_of, item_of, items_of, line_read};
+ghost use Rattle.diagnosis.specs.Outline.{all_taken, bare_word, closed, opened, reading_of};
+ghost use Rattle.diagnosis.specs.Outline.{table_of, taken, token_of, tokens, value_of, valued};
 
-use crate::tokens::{Token, Word, bare_front, next_token};
+use crate::tokens::{Token, Value, bare_front, first_token};
 use asm_text::{after_blanks, first_line};
 use std::alloc::{AllocError, Global};
 
 /// Where a table of a statement's text begins.
 #[derive(Clone, Copy)]
-pub(crate) struct Section<'a> {
+pub(crate) struct Table<'a> {
     /// The number of its line, from 1.
     pub line: usize,
     /// The name of its list.
@@ -18,26 +18,26 @@ pub(crate) struct Section<'a> {
     pub is_listed: bool,
 }
 
-/// A value of a statement's text.
+/// A key of a statement's text, and its value.
 #[derive(Clone, Copy)]
-pub(crate) struct Pair<'a> {
+pub(crate) struct KeyValue<'a> {
     /// The number of its line, from 1.
     pub line: usize,
     /// The name of its table's list, empty for the statement itself.
     pub list: &'a [u8],
     pub key: &'a [u8],
-    pub value: Word<'a>,
+    pub value: Value<'a>,
 }
 
 /// What a part of a statement's text says.
 #[derive(Clone, Copy)]
-pub(crate) enum Entry<'a> {
+pub(crate) enum Item<'a> {
     /// A table begins.
-    Table(Section<'a>),
-    /// A value.
-    Value(Pair<'a>),
+    Begins(Table<'a>),
+    /// A key has a value.
+    States(KeyValue<'a>),
     /// A table in braces ends.
-    End,
+    Ends,
 }
 
 /// The table at hand, by the name of its list and its last key.
@@ -51,20 +51,20 @@ pub(crate) struct Spot<'a> {
 
 /// What was read of a statement's text.
 #[derive(Drop)]
-pub(crate) struct Reader<'a> {
+pub(crate) struct Reading<'a> {
     at: Spot<'a>,
     // the spot outside the last brace
     around: Spot<'a>,
-    entries: Vec<Entry<'a>>,
+    items: Vec<Item<'a>>,
 }
 
-impl<'a> Reader<'a> {
-    fn begin(&mut self, section: Section<'a>) -> Result<(), AllocError>
-        ensures { OnOk result (reading_of self.new ≡ begun (reading_of self.old) (table_of section.entry)) }
+impl<'a> Reading<'a> {
+    fn begin(&mut self, table: Table<'a>) -> Result<(), AllocError>
+        ensures { OnOk result (reading_of self.new ≡ begun (reading_of self.old) (table_of table.entry)) }
     {
-        self.entries.push(Entry::Table(section))?;
+        self.items.push(Item::Begins(table))?;
         self.at = Spot {
-            list: section.name,
+            list: table.name,
             key: b"",
         };
         self.around = self.at;
@@ -76,7 +76,7 @@ impl<'a> Reader<'a> {
         ensures { OnOk result (reading_of self.new ≡ opened line (reading_of self.old)) }
     {
         let name = self.at.key;
-        self.entries.push(Entry::Table(Section {
+        self.items.push(Item::Begins(Table {
             line,
             name,
             is_listed: true,
@@ -93,16 +93,16 @@ impl<'a> Reader<'a> {
     fn close(&mut self) -> Result<(), AllocError>
         ensures { OnOk result (reading_of self.new ≡ closed (reading_of self.old)) }
     {
-        self.entries.push(Entry::End)?;
+        self.items.push(Item::Ends)?;
         self.at = self.around;
         Ok(())
     }
 
-    fn value(&mut self, line: usize, value: Word<'a>) -> Result<(), AllocError>
+    fn value(&mut self, line: usize, value: Value<'a>) -> Result<(), AllocError>
         ensures { OnOk result
             (reading_of self.new ≡ valued line (reading_of self.old) (value_of value.entry)) }
     {
-        self.entries.push(Entry::Value(Pair {
+        self.items.push(Item::States(KeyValue {
             line,
             list: self.at.list,
             key: self.at.key,
@@ -113,7 +113,7 @@ impl<'a> Reader<'a> {
 
     fn take(&mut self, line: usize, token: Token<'a>) -> Result<(), AllocError>
         ensures { OnOk result
-            (reading_of self.new ≡ taken line (reading_of self.old) (piece_of token.entry)) }
+            (reading_of self.new ≡ taken line (reading_of self.old) (token_of token.entry)) }
     {
         match token {
             Token::Gap => Ok(()),
@@ -128,15 +128,15 @@ impl<'a> Reader<'a> {
     }
 
     // Reads a line that begins no table.
-    #[tactic(auto, unfolding(crate::specs::Outline::all_taken, crate::specs::Outline::pieces))]
+    #[tactic(auto, unfolding(crate::specs::Outline::all_taken, crate::specs::Outline::tokens))]
     fn take_all(&mut self, line: usize, text: &'a [u8]) -> Result<(), AllocError>
         ensures { OnOk result
             (reading_of self.new
-            ≡ all_taken line (reading_of self.old) (pieces (length text.now) text.now)) }
+            ≡ all_taken line (reading_of self.old) (tokens (length text.now) text.now)) }
     {
         let mut rest = text;
         for _ in 0..text.len() {
-            let Some((token, after)) = next_token(rest) else {
+            let Some((token, after)) = first_token(rest) else {
                 return Ok(());
             };
             self.take(line, token)?;
@@ -151,7 +151,7 @@ impl<'a> Reader<'a> {
             ≡ line_read line (reading_of self.old) text.now (header_of line text.now)) }
     {
         match header_of(line, text) {
-            Some(section) => self.begin(section),
+            Some(table) => self.begin(table),
             None => self.take_all(line, text),
         }
     }
@@ -165,16 +165,16 @@ fn bare_word(text: &[u8]) -> &[u8]
 }
 
 // The table that a line begins, if it begins one.
-fn header_of(line: usize, text: &[u8]) -> Option<Section<'_>>
+fn header_of(line: usize, text: &[u8]) -> Option<Table<'_>>
     ensures { option_map table_of result ≡ header_of line text.now }
 {
     match after_blanks(text) {
-        [b'[', b'[', rest @ ..] => Some(Section {
+        [b'[', b'[', rest @ ..] => Some(Table {
             line,
             name: bare_word(rest),
             is_listed: true,
         }),
-        [b'[', rest @ ..] => Some(Section {
+        [b'[', rest @ ..] => Some(Table {
             line,
             name: bare_word(rest),
             is_listed: false,
@@ -189,24 +189,24 @@ fn header_of(line: usize, text: &[u8]) -> Option<Section<'_>>
 ///
 /// An allocation failed.
 #[tactic(auto, unfolding(crate::specs::Outline::lines_read))]
-pub(crate) fn entries_of(alloc: Global, text: &[u8]) -> Result<Vec<Entry<'_>>, AllocError>
-    ensures { IfOk result (λ entries. map item_of entries.items ≡ items_of text.now) }
+pub(crate) fn items_of(alloc: Global, text: &[u8]) -> Result<Vec<Item<'_>>, AllocError>
+    ensures { IfOk result (λ items. map item_of items.items ≡ items_of text.now) }
 {
     let nowhere = Spot {
         list: b"",
         key: b"",
     };
-    let mut reader = Reader {
+    let mut read = Reading {
         at: nowhere,
         around: nowhere,
-        entries: Vec::new(alloc),
+        items: Vec::new(alloc),
     };
     let mut rest = text;
     let mut line = 1;
     while let Some((first, after)) = first_line(rest) {
-        reader.read_line(line, first)?;
+        read.read_line(line, first)?;
         rest = after;
         line += 1;
     }
-    Ok(reader.entries)
+    Ok(read.items)
 }

@@ -2,19 +2,19 @@ ghost use Rattle.std.specs.Prelude.{◌≡◌, ◌||◌, ◌∷◌, [], ℕ, cod
 ghost use Rattle.std.specs.BTreeSet.{contains};
 ghost use Rattle.std.specs.Ordering.{nat_cmp};
 ghost use Rattle.text_rows.specs.LineLabels.{is_at};
-ghost use Rattle.diagnosis.specs.Outline.{Item, States, item_of, stated_of};
+ghost use Rattle.diagnosis.specs.Outline.{Item, States, item_of, key_value_of};
 ghost use Rattle.loader.specs.Labels.{NamedAddresses};
 ghost use Rattle.diagnosis.specs.Refused.{AreTaken, address_as, is_twice, passes};
 
-use crate::outline::{Entry, Pair};
+use crate::outline::{Item, KeyValue};
 use crate::values::address_at;
 use loader::Labels;
 use std::alloc::{AllocError, Global};
 use std::collections::BTreeSet;
 
 // The address of a value at the key in a table of the list.
-fn address_as(labels: &Labels, list: &[u8], key: &[u8], pair: &Pair<'_>) -> Option<u32>
-    ensures { result ≡ address_as labels.now list.now key.now (States (stated_of pair.now)) }
+fn address_as(labels: &Labels, list: &[u8], key: &[u8], pair: &KeyValue<'_>) -> Option<u32>
+    ensures { result ≡ address_as labels.now list.now key.now (States (key_value_of pair.now)) }
 {
     if pair.list == list && pair.key == key {
         return address_at(labels, pair.value);
@@ -60,11 +60,11 @@ impl Taken {
     }
 
     // Takes a value, and says whether its address was taken.
-    fn take_value(&mut self, labels: &Labels, pair: &Pair<'_>) -> Result<bool, AllocError>
+    fn take_value(&mut self, labels: &Labels, pair: &KeyValue<'_>) -> Result<bool, AllocError>
         ensures twice { (before : List Item) → AreTaken labels.now before self.old
-            → IfOk result (λ twice. twice ≡ is_twice labels.now before (States (stated_of pair.now))) }
+            → IfOk result (λ twice. twice ≡ is_twice labels.now before (States (key_value_of pair.now))) }
         ensures taken { (before : List Item) → AreTaken labels.now before self.old
-            → OnOk result (AreTaken labels.now (States (stated_of pair.now) ∷ before) self.new) }
+            → OnOk result (AreTaken labels.now (States (key_value_of pair.now) ∷ before) self.new) }
     {
         let target = address_as(labels, b"target", b"at", pair);
         let access = address_as(labels, b"access", b"at", pair);
@@ -75,16 +75,16 @@ impl Taken {
         Ok(by_target | (by_access | by_destination))
     }
 
-    /// Takes an entry, and says whether it is a value whose address was taken.
-    pub(crate) fn take(&mut self, labels: &Labels, entry: &Entry<'_>) -> Result<bool, AllocError>
+    /// Takes an item, and says whether it is a value whose address was taken.
+    pub(crate) fn take(&mut self, labels: &Labels, item: &Item<'_>) -> Result<bool, AllocError>
         ensures twice { (before : List Item) → AreTaken labels.now before self.old
-            → IfOk result (λ twice. twice ≡ is_twice labels.now before (item_of entry.now)) }
+            → IfOk result (λ twice. twice ≡ is_twice labels.now before (item_of item.now)) }
         ensures taken { (before : List Item) → AreTaken labels.now before self.old
-            → OnOk result (AreTaken labels.now (item_of entry.now ∷ before) self.new) }
+            → OnOk result (AreTaken labels.now (item_of item.now ∷ before) self.new) }
     {
-        match entry {
-            Entry::Value(pair) => self.take_value(labels, pair),
-            Entry::Table(_) | Entry::End => {
+        match item {
+            Item::States(pair) => self.take_value(labels, pair),
+            Item::Begins(_) | Item::Ends => {
                 self.destinations.clear();
                 Ok(false)
             }

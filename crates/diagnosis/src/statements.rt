@@ -1,7 +1,7 @@
 ghost use Rattle.std.specs.Prelude.{◌≡◌, ◌≤◌, ◌+◌, ◌++◌, ◌∷◌, [], IfOk, OnOk, codes, length, map};
 ghost use Rattle.std.specs.Prelude.{option_map, take};
 ghost use Rattle.std.specs.List.{list_any};
-ghost use Rattle.diagnosis.specs.Outline.{item_of, items_of, stated_of, table_of, value_of};
+ghost use Rattle.diagnosis.specs.Outline.{item_of, items_of, key_value_of, table_of, value_of};
 ghost use Rattle.diagnosis.specs.Refused.{Adds, IsStatementText, IsTomlText, address_in, all_rows};
 ghost use Rattle.diagnosis.specs.Refused.{extra_destination_row, feeds, first_after, is_entry, is_faulty};
 ghost use Rattle.diagnosis.specs.Refused.{is_misplaced, is_unknown_key, item_row_if, limit_of, extra_row};
@@ -13,10 +13,10 @@ ghost use Rattle.diagnosis.specs.Refused.{row_text, table_row};
 ghost use Rattle.diagnosis.specs.Refused.{table_rows, target_rows, toml_row, value_at, value_row, value_text};
 ghost use Rattle.diagnosis.specs.Refused.{is_kind_of};
 
-use crate::outline::{Entry, Pair, Section, entries_of};
+use crate::outline::{Item, KeyValue, Table, items_of};
 use crate::repeats::Taken;
 use crate::rows::{MOST_LINES, around_number};
-use crate::tokens::Word;
+use crate::tokens::Value;
 use crate::values::{address_at, fits_key, is_out_of_range, is_unknown_label, is_word_of};
 use flow_graph::StatementFault;
 use loader::Labels;
@@ -30,11 +30,11 @@ use toml_reading::is_one_of;
 
 const NO_ENTRY: &[u8] = b"the statement has no entry";
 
-/// A table, and the entries that follow its line.
+/// A table, and the items that follow its line.
 #[derive(Clone, Copy)]
 pub(crate) struct OpenTable<'a> {
-    section: &'a Section<'a>,
-    rest: &'a [Entry<'a>],
+    table: &'a Table<'a>,
+    rest: &'a [Item<'a>],
 }
 
 /// What is printed of the lines of a statement's text, and how many more may be named.
@@ -81,12 +81,12 @@ fn needed_keys(list: &[u8]) -> &'static [&'static str]
 }
 
 // Adds a value as it is in the text.
-fn put_word(out: &mut Vec<u8>, value: Word<'_>) -> Result<(), AllocError>
+fn put_word(out: &mut Vec<u8>, value: Value<'_>) -> Result<(), AllocError>
     ensures { OnOk result (out.new.items ≡ out.old.items ++ value_text (value_of value.entry)) }
 {
     match value {
-        Word::Bare(text) => put(out, text),
-        Word::Quoted(quote, text) => {
+        Value::Bare(text) => put(out, text),
+        Value::Quoted(quote, text) => {
             out.push(quote)?;
             put(out, text)?;
             out.push(quote)?;
@@ -96,22 +96,22 @@ fn put_word(out: &mut Vec<u8>, value: Word<'_>) -> Result<(), AllocError>
 }
 
 // Adds the name of a table, with the brackets that it has in the text.
-fn put_name(out: &mut Vec<u8>, section: &Section<'_>) -> Result<(), AllocError>
-    ensures { OnOk result (out.new.items ≡ out.old.items ++ name_text (table_of section.now)) }
+fn put_name(out: &mut Vec<u8>, table: &Table<'_>) -> Result<(), AllocError>
+    ensures { OnOk result (out.new.items ≡ out.old.items ++ name_text (table_of table.now)) }
 {
-    if !section.is_listed {
+    if !table.is_listed {
         put(out, b"[")?;
-        put(out, section.name)?;
+        put(out, table.name)?;
         return put(out, b"]");
     }
     put(out, b"[[")?;
-    put(out, section.name)?;
+    put(out, table.name)?;
     put(out, b"]]")
 }
 
 // What is said of a value.
-fn value_text(alloc: Global, pair: &Pair<'_>) -> Result<Vec<u8>, AllocError>
-    ensures { IfOk result (λ text. text.items ≡ (value_row (stated_of pair.now)).text) }
+fn value_text(alloc: Global, pair: &KeyValue<'_>) -> Result<Vec<u8>, AllocError>
+    ensures { IfOk result (λ text. text.items ≡ (value_row (key_value_of pair.now)).text) }
 {
     let mut out = Vec::from_slice(alloc, pair.key)?;
     put(&mut out, b" = ")?;
@@ -122,15 +122,15 @@ fn value_text(alloc: Global, pair: &Pair<'_>) -> Result<Vec<u8>, AllocError>
 // What is said of a table.
 fn table_text(
     alloc: Global,
-    section: &Section<'_>,
+    table: &Table<'_>,
     words: &[u8],
     key: &[u8],
 ) -> Result<Vec<u8>, AllocError>
     ensures { IfOk result
-        (λ text. text.items ≡ (table_row (table_of section.now) words.now key.now).text) }
+        (λ text. text.items ≡ (table_row (table_of table.now) words.now key.now).text) }
 {
     let mut out = Vec::new(alloc);
-    put_name(&mut out, section)?;
+    put_name(&mut out, table)?;
     put(&mut out, words)?;
     put(&mut out, key)?;
     Ok(out)
@@ -175,20 +175,20 @@ const ACCESSES: Limit = Limit {
 
 // The first table of the list after so many.
 #[tactic(auto, unfolding(crate::specs::Refused::tables_in))]
-fn table_after<'a>(most: usize, list: &[u8], entries: &[Entry<'a>]) -> Option<Section<'a>>
+fn table_after<'a>(most: usize, list: &[u8], items: &[Item<'a>]) -> Option<Table<'a>>
     ensures { option_map table_of result
-        ≡ first_after most (tables_in list.now (map item_of entries.now)) }
+        ≡ first_after most (tables_in list.now (map item_of items.now)) }
 {
     let mut left = most;
-    for entry in entries {
-        let Entry::Table(section) = entry else {
+    for item in items {
+        let Item::Begins(table) = item else {
             continue;
         };
-        if section.name != list {
+        if table.name != list {
             continue;
         }
         if left == 0 {
-            return Some(*section);
+            return Some(*table);
         }
         left -= 1;
     }
@@ -197,13 +197,13 @@ fn table_after<'a>(most: usize, list: &[u8], entries: &[Entry<'a>]) -> Option<Se
 
 // The first value at a key after so many, before the next table.
 #[tactic(auto, unfolding(crate::specs::Refused::stated_at))]
-fn value_after<'a>(most: usize, key: &[u8], entries: &[Entry<'a>]) -> Option<Pair<'a>>
-    ensures { option_map stated_of result
-        ≡ first_after most (stated_at key.now (map item_of entries.now)) }
+fn value_after<'a>(most: usize, key: &[u8], items: &[Item<'a>]) -> Option<KeyValue<'a>>
+    ensures { option_map key_value_of result
+        ≡ first_after most (stated_at key.now (map item_of items.now)) }
 {
     let mut left = most;
-    for entry in entries {
-        let Entry::Value(pair) = entry else {
+    for item in items {
+        let Item::States(pair) = item else {
             return None;
         };
         if pair.key != key {
@@ -219,10 +219,10 @@ fn value_after<'a>(most: usize, key: &[u8], entries: &[Entry<'a>]) -> Option<Pai
 
 // The value at a key, before the next table.
 #[tactic(auto, unfolding(crate::specs::Refused::value_at))]
-fn value_at<'a>(entries: &[Entry<'a>], key: &[u8]) -> Option<Word<'a>>
-    ensures { option_map value_of result ≡ value_at key.now (map item_of entries.now) }
+fn value_at<'a>(items: &[Item<'a>], key: &[u8]) -> Option<Value<'a>>
+    ensures { option_map value_of result ≡ value_at key.now (map item_of items.now) }
 {
-    let pair = value_after(0, key, entries)?;
+    let pair = value_after(0, key, items)?;
     Some(pair.value)
 }
 
@@ -235,7 +235,7 @@ pub(crate) struct Asked<'a> {
 }
 
 // Whether a kind is stated, and one of these.
-fn is_kind_of(kinds: &[&str], kind: Option<Word<'_>>) -> bool
+fn is_kind_of(kinds: &[&str], kind: Option<Value<'_>>) -> bool
     ensures { result ≡ is_kind_of (map (λ k. k.now) kinds.now) (option_map value_of kind.entry) }
 {
     match kind {
@@ -245,7 +245,7 @@ fn is_kind_of(kinds: &[&str], kind: Option<Word<'_>>) -> bool
 }
 
 // The address at a key, before the next table.
-fn address_in(labels: &Labels, key: &[u8], rest: &[Entry<'_>]) -> Option<u32>
+fn address_in(labels: &Labels, key: &[u8], rest: &[Item<'_>]) -> Option<u32>
     ensures { result ≡ address_in labels.now key.now (map item_of rest.now) }
 {
     match value_at(rest, key) {
@@ -270,7 +270,7 @@ fn lies_outside(header: Option<u32>, first: Option<u32>, last: Option<u32>) -> b
 }
 
 // Whether the header of a loop lies outside it.
-fn is_misplaced(labels: &Labels, rest: &[Entry<'_>]) -> bool
+fn is_misplaced(labels: &Labels, rest: &[Item<'_>]) -> bool
     ensures { result ≡ is_misplaced labels.now (map item_of rest.now) }
 {
     let header = address_in(labels, b"header", rest);
@@ -289,8 +289,8 @@ fn is_unknown_key(list: &[u8], key: &[u8]) -> bool
     }
 }
 
-fn is_faulty(asked: &Asked<'_>, pair: &Pair<'_>) -> bool
-    ensures { result ≡ is_faulty asked.now.labels.now asked.now.fault (stated_of pair.now) }
+fn is_faulty(asked: &Asked<'_>, pair: &KeyValue<'_>) -> bool
+    ensures { result ≡ is_faulty asked.now.labels.now asked.now.fault (key_value_of pair.now) }
 {
     match asked.fault {
         StatementFault::UnknownKey => is_unknown_key(pair.list, pair.key),
@@ -335,8 +335,8 @@ impl Report {
         Ok(())
     }
 
-    fn put_value(&mut self, alloc: Global, pair: &Pair<'_>) -> Result<(), AllocError>
-        ensures { OnOk result (Adds (value_row (stated_of pair.now) ∷ []) self.old self.new) }
+    fn put_value(&mut self, alloc: Global, pair: &KeyValue<'_>) -> Result<(), AllocError>
+        ensures { OnOk result (Adds (value_row (key_value_of pair.now) ∷ []) self.old self.new) }
     {
         let text = value_text(alloc, pair)?;
         self.put_row(pair.line, &text)
@@ -346,15 +346,15 @@ impl Report {
     fn put_table(
         &mut self,
         alloc: Global,
-        section: &Section<'_>,
+        table: &Table<'_>,
         words: &[u8],
         key: &[u8],
     ) -> Result<(), AllocError>
         ensures { OnOk result
-            (Adds (table_row (table_of section.now) words.now key.now ∷ []) self.old self.new) }
+            (Adds (table_row (table_of table.now) words.now key.now ∷ []) self.old self.new) }
     {
-        let text = table_text(alloc, section, words, key)?;
-        self.put_row(section.line, &text)
+        let text = table_text(alloc, table, words, key)?;
+        self.put_row(table.line, &text)
     }
 
     // Adds what is said of a table, where it holds.
@@ -362,14 +362,14 @@ impl Report {
         &mut self,
         alloc: Global,
         holds: bool,
-        section: &Section<'_>,
+        table: &Table<'_>,
         words: &[u8],
     ) -> Result<(), AllocError>
         ensures { OnOk result
-            (Adds (row_if holds (table_row (table_of section.now) words.now [])) self.old self.new) }
+            (Adds (row_if holds (table_row (table_of table.now) words.now [])) self.old self.new) }
     {
         if holds {
-            return self.put_table(alloc, section, words, b"");
+            return self.put_table(alloc, table, words, b"");
         }
         Ok(())
     }
@@ -378,15 +378,15 @@ impl Report {
     fn put_if_missing(
         &mut self,
         alloc: Global,
-        table: &OpenTable<'_>,
+        open: &OpenTable<'_>,
         key: &[u8],
     ) -> Result<(), AllocError>
         ensures { OnOk result
-            (Adds (missing_row (table_of table.now.section.now) (map item_of table.now.rest.now) key.now)
+            (Adds (missing_row (table_of open.now.table.now) (map item_of open.now.rest.now) key.now)
             self.old self.new) }
     {
-        if value_at(table.rest, key).is_none() {
-            return self.put_table(alloc, table.section, b" has no ", key);
+        if value_at(open.rest, key).is_none() {
+            return self.put_table(alloc, open.table, b" has no ", key);
         }
         Ok(())
     }
@@ -395,39 +395,34 @@ impl Report {
     fn put_missing(
         &mut self,
         alloc: Global,
-        table: &OpenTable<'_>,
+        open: &OpenTable<'_>,
         keys: &[&str],
     ) -> Result<(), AllocError>
         ensures { OnOk result
-            (Adds (missing_rows (table_of table.now.section.now) (map item_of table.now.rest.now)
+            (Adds (missing_rows (table_of open.now.table.now) (map item_of open.now.rest.now)
             (map (λ k. k.now) keys.now)) self.old self.new) }
     {
         for key in keys {
-            self.put_if_missing(alloc, table, key.as_bytes())?;
+            self.put_if_missing(alloc, open, key.as_bytes())?;
         }
         Ok(())
     }
 
     // Adds what is wrong with a target's destinations by its kind.
-    fn put_target(&mut self, alloc: Global, table: &OpenTable<'_>) -> Result<(), AllocError>
+    fn put_target(&mut self, alloc: Global, open: &OpenTable<'_>) -> Result<(), AllocError>
         ensures { OnOk result
-            (Adds (target_rows (table_of table.now.section.now) (map item_of table.now.rest.now))
+            (Adds (target_rows (table_of open.now.table.now) (map item_of open.now.rest.now))
             self.old self.new) }
     {
         const WITH_TO: &[&str] = &["jump", "call"];
         const WITHOUT_TO: &[&str] = &["return", "leave"];
-        let kind = value_at(table.rest, b"kind");
-        match value_at(table.rest, b"to") {
-            None => self.put_if(
-                alloc,
-                is_kind_of(WITH_TO, kind),
-                table.section,
-                b" has no to",
-            ),
+        let kind = value_at(open.rest, b"kind");
+        match value_at(open.rest, b"to") {
+            None => self.put_if(alloc, is_kind_of(WITH_TO, kind), open.table, b" has no to"),
             Some(_) => self.put_if(
                 alloc,
                 is_kind_of(WITHOUT_TO, kind),
-                table.section,
+                open.table,
                 b" may have no to",
             ),
         }
@@ -435,21 +430,21 @@ impl Report {
 
     // Adds what a table lacks, or that it is in single brackets.
     #[tactic(auto, using(crate::proofs::RefusedLemmas::adds_both))]
-    fn put_kinds(&mut self, alloc: Global, table: &OpenTable<'_>) -> Result<(), AllocError>
+    fn put_kinds(&mut self, alloc: Global, open: &OpenTable<'_>) -> Result<(), AllocError>
         ensures { OnOk result
-            (Adds (kind_rows (table_of table.now.section.now) (map item_of table.now.rest.now))
+            (Adds (kind_rows (table_of open.now.table.now) (map item_of open.now.rest.now))
             self.old self.new) }
     {
-        let section = table.section;
-        if !section.is_listed {
-            return self.put_table(alloc, section, b" is to stand in double brackets", b"");
+        let table = open.table;
+        if !table.is_listed {
+            return self.put_table(alloc, table, b" is to stand in double brackets", b"");
         }
-        self.put_missing(alloc, table, needed_keys(section.name))?;
-        self.put_target(alloc, table)
+        self.put_missing(alloc, open, needed_keys(table.name))?;
+        self.put_target(alloc, open)
     }
 
     // Adds the first destination after those that a target may have, if there is one.
-    fn put_extra_destination(&mut self, alloc: Global, rest: &[Entry<'_>]) -> Result<(), AllocError>
+    fn put_extra_destination(&mut self, alloc: Global, rest: &[Item<'_>]) -> Result<(), AllocError>
         ensures { OnOk result
             (Adds (extra_destination_row (first_after MOST_DESTINATIONS
             (stated_at (codes "to") (map item_of rest.now)))) self.old self.new) }
@@ -467,40 +462,40 @@ impl Report {
 
     // Adds that a loop's header lies outside it, and the first destination after those that there may be.
     #[tactic(auto, using(crate::proofs::RefusedLemmas::adds_both))]
-    fn put_ranges(&mut self, asked: &Asked<'_>, table: &OpenTable<'_>) -> Result<(), AllocError>
+    fn put_ranges(&mut self, asked: &Asked<'_>, open: &OpenTable<'_>) -> Result<(), AllocError>
         ensures { OnOk result
-            (Adds (range_rows asked.now.labels.now (table_of table.now.section.now)
-            (map item_of table.now.rest.now)) self.old self.new) }
+            (Adds (range_rows asked.now.labels.now (table_of open.now.table.now)
+            (map item_of open.now.rest.now)) self.old self.new) }
     {
-        let holds = is_misplaced(asked.labels, table.rest);
+        let holds = is_misplaced(asked.labels, open.rest);
         let words = b" has its header outside first to last";
-        self.put_if(asked.alloc, holds, table.section, words)?;
-        self.put_extra_destination(asked.alloc, table.rest)
+        self.put_if(asked.alloc, holds, open.table, words)?;
+        self.put_extra_destination(asked.alloc, open.rest)
     }
 
     // Adds what is wrong with a table.
-    fn put_of_table(&mut self, asked: &Asked<'_>, table: &OpenTable<'_>) -> Result<(), AllocError>
+    fn put_of_table(&mut self, asked: &Asked<'_>, open: &OpenTable<'_>) -> Result<(), AllocError>
         ensures { OnOk result
-            (Adds (table_rows asked.now.labels.now asked.now.fault (table_of table.now.section.now)
-            (map item_of table.now.rest.now)) self.old self.new) }
+            (Adds (table_rows asked.now.labels.now asked.now.fault (table_of open.now.table.now)
+            (map item_of open.now.rest.now)) self.old self.new) }
     {
         let alloc = asked.alloc;
         match asked.fault {
             StatementFault::UnknownKey => {
-                let holds = keys_of(table.section.name).is_none();
-                self.put_if(alloc, holds, table.section, b" is no list of statements")
+                let holds = keys_of(open.table.name).is_none();
+                self.put_if(alloc, holds, open.table, b" is no list of statements")
             }
-            StatementFault::WrongKind => self.put_kinds(alloc, table),
-            StatementFault::OutOfRange => self.put_ranges(asked, table),
+            StatementFault::WrongKind => self.put_kinds(alloc, open),
+            StatementFault::OutOfRange => self.put_ranges(asked, open),
             _ => Ok(()),
         }
     }
 
     // Adds a value that has the fault.
-    fn put_of_value(&mut self, asked: &Asked<'_>, pair: &Pair<'_>) -> Result<(), AllocError>
+    fn put_of_value(&mut self, asked: &Asked<'_>, pair: &KeyValue<'_>) -> Result<(), AllocError>
         ensures { OnOk result
-            (Adds (row_if (is_faulty asked.now.labels.now asked.now.fault (stated_of pair.now))
-            (value_row (stated_of pair.now))) self.old self.new) }
+            (Adds (row_if (is_faulty asked.now.labels.now asked.now.fault (key_value_of pair.now))
+            (value_row (key_value_of pair.now))) self.old self.new) }
     {
         if is_faulty(asked, pair) {
             return self.put_value(asked.alloc, pair);
@@ -508,48 +503,43 @@ impl Report {
         Ok(())
     }
 
-    fn put_of_entry(
+    fn put_of_item(
         &mut self,
         asked: &Asked<'_>,
-        entry: &Entry<'_>,
-        rest: &[Entry<'_>],
+        item: &Item<'_>,
+        rest: &[Item<'_>],
     ) -> Result<(), AllocError>
         ensures { OnOk result
-            (Adds (item_rows asked.now.labels.now asked.now.fault (item_of entry.now) (map item_of rest.now))
+            (Adds (item_rows asked.now.labels.now asked.now.fault (item_of item.now) (map item_of rest.now))
             self.old self.new) }
     {
-        match entry {
-            Entry::Table(section) => {
-                let table = OpenTable { section, rest };
-                self.put_of_table(asked, &table)
+        match item {
+            Item::Begins(table) => {
+                let open = OpenTable { table, rest };
+                self.put_of_table(asked, &open)
             }
-            Entry::Value(pair) => self.put_of_value(asked, pair),
-            Entry::End => Ok(()),
+            Item::States(pair) => self.put_of_value(asked, pair),
+            Item::Ends => Ok(()),
         }
     }
 
     // Adds what is wrong with the tables and values.
     #[tactic(auto, unfolding(crate::specs::Refused::rows))]
-    fn put_rows(&mut self, asked: &Asked<'_>, entries: &[Entry<'_>]) -> Result<(), AllocError>
+    fn put_rows(&mut self, asked: &Asked<'_>, items: &[Item<'_>]) -> Result<(), AllocError>
         ensures { OnOk result
-            (Adds (rows asked.now.labels.now asked.now.fault (map item_of entries.now)) self.old self.new) }
+            (Adds (rows asked.now.labels.now asked.now.fault (map item_of items.now)) self.old self.new) }
     {
-        for index in 0..entries.len() {
-            self.put_of_entry(asked, &entries[index], &entries[index + 1..])?;
+        for index in 0..items.len() {
+            self.put_of_item(asked, &items[index], &items[index + 1..])?;
         }
         Ok(())
     }
 
-    // Adds an entry that is a value, where it holds.
-    fn put_entry_if(
-        &mut self,
-        alloc: Global,
-        holds: bool,
-        entry: &Entry<'_>,
-    ) -> Result<(), AllocError>
-        ensures { OnOk result (Adds (item_row_if holds (item_of entry.now)) self.old self.new) }
+    // Adds an item that is a value, where it holds.
+    fn put_item_if(&mut self, alloc: Global, holds: bool, item: &Item<'_>) -> Result<(), AllocError>
+        ensures { OnOk result (Adds (item_row_if holds (item_of item.now)) self.old self.new) }
     {
-        if let Entry::Value(pair) = entry {
+        if let Item::States(pair) = item {
             if holds {
                 return self.put_value(alloc, pair);
             }
@@ -559,23 +549,23 @@ impl Report {
 
     // Adds the values whose address an earlier one has.
     #[tactic(auto, unfolding(crate::specs::Refused::twice_rows))]
-    fn put_twice(&mut self, asked: &Asked<'_>, entries: &[Entry<'_>]) -> Result<(), AllocError>
+    fn put_twice(&mut self, asked: &Asked<'_>, items: &[Item<'_>]) -> Result<(), AllocError>
         ensures { OnOk result
-            (Adds (twice_rows asked.now.labels.now [] (map item_of entries.now)) self.old self.new) }
+            (Adds (twice_rows asked.now.labels.now [] (map item_of items.now)) self.old self.new) }
     {
         let mut taken = Taken::new(asked.alloc);
-        for entry in entries {
-            let holds = taken.take(asked.labels, entry)?;
-            self.put_entry_if(asked.alloc, holds, entry)?;
+        for item in items {
+            let holds = taken.take(asked.labels, item)?;
+            self.put_item_if(asked.alloc, holds, item)?;
         }
         Ok(())
     }
 
     // Adds that a statement has no entry, where it has none.
-    fn put_if_no_entry(&mut self, entries: &[Entry<'_>]) -> Result<(), AllocError>
-        ensures { OnOk result (Adds (no_entry_rows (map item_of entries.now)) self.old self.new) }
+    fn put_if_no_entry(&mut self, items: &[Item<'_>]) -> Result<(), AllocError>
+        ensures { OnOk result (Adds (no_entry_rows (map item_of items.now)) self.old self.new) }
     {
-        let holds = !has_entry(entries);
+        let holds = !has_entry(items);
         self.put_row_if(holds, 1, NO_ENTRY)
     }
 
@@ -583,56 +573,56 @@ impl Report {
     fn put_extra_table(
         &mut self,
         alloc: Global,
-        entries: &[Entry<'_>],
+        items: &[Item<'_>],
         limit: &Limit,
     ) -> Result<(), AllocError>
         ensures { OnOk result
-            (Adds (extra_row (limit_of limit.now) (map item_of entries.now)) self.old self.new) }
+            (Adds (extra_row (limit_of limit.now) (map item_of items.now)) self.old self.new) }
     {
-        match table_after(limit.most, limit.list, entries) {
-            Some(section) => self.put_table(alloc, &section, limit.words, b""),
+        match table_after(limit.most, limit.list, items) {
+            Some(table) => self.put_table(alloc, &table, limit.words, b""),
             None => Ok(()),
         }
     }
 
     // Adds of each list the first table after those that there may be.
-    fn put_extra_tables(&mut self, alloc: Global, entries: &[Entry<'_>]) -> Result<(), AllocError>
+    fn put_extra_tables(&mut self, alloc: Global, items: &[Item<'_>]) -> Result<(), AllocError>
         ensures { OnOk result
-            (Adds (whole_rows StatementFault.OutOfRange (map item_of entries.now)) self.old self.new) }
+            (Adds (whole_rows StatementFault.OutOfRange (map item_of items.now)) self.old self.new) }
     {
-        self.put_extra_table(alloc, entries, &LOOPS)?;
-        self.put_extra_table(alloc, entries, &TARGETS)?;
-        self.put_extra_table(alloc, entries, &ACCESSES)
+        self.put_extra_table(alloc, items, &LOOPS)?;
+        self.put_extra_table(alloc, items, &TARGETS)?;
+        self.put_extra_table(alloc, items, &ACCESSES)
     }
 
     // Adds what is wrong with the whole.
-    fn put_of_whole(&mut self, asked: &Asked<'_>, entries: &[Entry<'_>]) -> Result<(), AllocError>
+    fn put_of_whole(&mut self, asked: &Asked<'_>, items: &[Item<'_>]) -> Result<(), AllocError>
         ensures { OnOk result
-            (Adds (whole_rows asked.now.fault (map item_of entries.now)) self.old self.new) }
+            (Adds (whole_rows asked.now.fault (map item_of items.now)) self.old self.new) }
     {
         match asked.fault {
-            StatementFault::WrongKind => self.put_if_no_entry(entries),
-            StatementFault::OutOfRange => self.put_extra_tables(asked.alloc, entries),
+            StatementFault::WrongKind => self.put_if_no_entry(items),
+            StatementFault::OutOfRange => self.put_extra_tables(asked.alloc, items),
             _ => Ok(()),
         }
     }
 }
 
 // Whether the value is the statement's entry.
-fn is_entry(entry: &Entry<'_>) -> bool
-    ensures { result ≡ is_entry (item_of entry.now) }
+fn is_entry(item: &Item<'_>) -> bool
+    ensures { result ≡ is_entry (item_of item.now) }
 {
-    match entry {
-        Entry::Value(pair) => pair.list.is_empty() && pair.key == b"entry".as_slice(),
-        Entry::Table(_) | Entry::End => false,
+    match item {
+        Item::States(pair) => pair.list.is_empty() && pair.key == b"entry".as_slice(),
+        Item::Begins(_) | Item::Ends => false,
     }
 }
 
-fn has_entry(entries: &[Entry<'_>]) -> bool
-    ensures { result ≡ list_any is_entry (map item_of entries.now) }
+fn has_entry(items: &[Item<'_>]) -> bool
+    ensures { result ≡ list_any is_entry (map item_of items.now) }
 {
-    for entry in entries {
-        if is_entry(entry) {
+    for item in items {
+        if is_entry(item) {
             return true;
         }
     }
@@ -646,10 +636,10 @@ fn rows_text(asked: &Asked<'_>, text: &[u8]) -> Result<Vec<u8>, AllocError>
         (λ out. out.items
         ≡ shown MOST_LINES (all_rows asked.now.labels.now asked.now.fault (items_of text.now))) }
 {
-    let entries = entries_of(asked.alloc, text)?;
+    let items = items_of(asked.alloc, text)?;
     let mut report = Report::new(asked.alloc);
-    report.put_of_whole(asked, &entries)?;
-    report.put_rows(asked, &entries)?;
+    report.put_of_whole(asked, &items)?;
+    report.put_rows(asked, &items)?;
     Ok(report.text)
 }
 
@@ -659,9 +649,9 @@ fn twice_text(asked: &Asked<'_>, text: &[u8]) -> Result<Vec<u8>, AllocError>
     ensures { IfOk result
         (λ out. out.items ≡ shown MOST_LINES (twice_rows asked.now.labels.now [] (items_of text.now))) }
 {
-    let entries = entries_of(asked.alloc, text)?;
+    let items = items_of(asked.alloc, text)?;
     let mut report = Report::new(asked.alloc);
-    report.put_twice(asked, &entries)?;
+    report.put_twice(asked, &items)?;
     Ok(report.text)
 }
 

@@ -1,15 +1,15 @@
 ghost use Rattle.std.specs.Prelude.{◌≡◌, ◌≤◌, drop, false, length, option_map, take};
 ghost use Rattle.std.specs.List.{prefix_len};
-ghost use Rattle.diagnosis.specs.Outline.{bare_at, first_piece, in_pieces, is_bare, is_gap, is_quote};
-ghost use Rattle.diagnosis.specs.Outline.{piece_of, quoted_at, quoted_len};
+ghost use Rattle.diagnosis.specs.Outline.{bare_at, first_token, in_tokens, is_bare, is_gap, is_quote};
+ghost use Rattle.diagnosis.specs.Outline.{quoted_at, quoted_len, token_of};
 ghost use Rattle.diagnosis.specs.Outline.{starts_equals, text_of, key_or_value, value_of};
 
 use asm_text::{after_blanks, is_blank};
 
-/// A word of a statement's text.
+/// A value of a statement's text, or a key.
 #[derive(Clone, Copy)]
-pub(crate) enum Word<'a> {
-    /// A bare one.
+pub(crate) enum Value<'a> {
+    /// A bare word.
     Bare(&'a [u8]),
     /// A text, and the quote that is before and after it.
     Quoted(u8, &'a [u8]),
@@ -27,7 +27,7 @@ pub(crate) enum Token<'a> {
     /// A word before `=`.
     Key(&'a [u8]),
     /// Any other word.
-    OfValue(Word<'a>),
+    OfValue(Value<'a>),
 }
 
 fn is_gap(byte: u8) -> bool
@@ -96,49 +96,49 @@ fn starts_equals(text: &[u8]) -> bool
     }
 }
 
-fn text_of<'a>(word: Word<'a>) -> &'a [u8]
-    ensures { result.now ≡ text_of (value_of word.entry) }
+fn text_of<'a>(value: Value<'a>) -> &'a [u8]
+    ensures { result.now ≡ text_of (value_of value.entry) }
 {
-    match word {
-        Word::Bare(text) => text,
-        Word::Quoted(_, text) => text,
+    match value {
+        Value::Bare(text) => text,
+        Value::Quoted(_, text) => text,
     }
 }
 
 // The token that a word is.
-fn key_or_value<'a>(word: Word<'a>, after: &[u8]) -> Token<'a>
-    ensures { piece_of result ≡ key_or_value (value_of word.entry) after.now }
+fn key_or_value<'a>(value: Value<'a>, after: &[u8]) -> Token<'a>
+    ensures { token_of result ≡ key_or_value (value_of value.entry) after.now }
 {
     if starts_equals(after_blanks(after)) {
-        return Token::Key(text_of(word));
+        return Token::Key(text_of(value));
     }
-    Token::OfValue(word)
+    Token::OfValue(value)
 }
 
 // The token of a text in quotes, after its first quote, and what follows it.
 fn quoted_at(quote: u8, rest: &[u8]) -> (Token<'_>, &[u8])
-    ensures { in_pieces result ≡ quoted_at quote rest.now }
+    ensures { in_tokens result ≡ quoted_at quote rest.now }
 {
     let len = quoted_len(quote, rest);
     let after = after(rest, len + 1);
     (
-        key_or_value(Word::Quoted(quote, &rest[..len]), after),
+        key_or_value(Value::Quoted(quote, &rest[..len]), after),
         after,
     )
 }
 
 // The token of a bare word, and what follows it.
 fn bare_at(text: &[u8]) -> (Token<'_>, &[u8])
-    ensures { in_pieces result ≡ bare_at text.now }
+    ensures { in_tokens result ≡ bare_at text.now }
 {
     let len = bare_len(text);
     let after = &text[len..];
-    (key_or_value(Word::Bare(&text[..len]), after), after)
+    (key_or_value(Value::Bare(&text[..len]), after), after)
 }
 
 /// The first token of a line's text, and what follows it, or None at its end.
-pub(crate) fn next_token(text: &[u8]) -> Option<(Token<'_>, &[u8])>
-    ensures { option_map in_pieces result ≡ first_piece text.now }
+pub(crate) fn first_token(text: &[u8]) -> Option<(Token<'_>, &[u8])>
+    ensures { option_map in_tokens result ≡ first_token text.now }
 {
     let (first, rest) = text.split_first()?;
     let byte = *first;

@@ -1,12 +1,12 @@
 ghost use Rattle.std.specs.Prelude.{◌≡◌, map};
-ghost use Rattle.diagnosis.specs.Outline.{stated_of, value_of};
+ghost use Rattle.diagnosis.specs.Outline.{key_value_of, value_of};
 ghost use Rattle.diagnosis.specs.Refused.{address_at, class_words, fits_key, is_negative};
 ghost use Rattle.diagnosis.specs.Refused.{is_number, is_number_outside, is_out_of_range, is_outside, is_text};
 ghost use Rattle.diagnosis.specs.Refused.{is_unknown_label, is_word_of, kind_words, starts_digit};
 ghost use Rattle.diagnosis.specs.Refused.{starts_number, takes_address};
 
-use crate::outline::Pair;
-use crate::tokens::Word;
+use crate::outline::KeyValue;
+use crate::tokens::Value;
 use asm_text::read_number;
 use bus_ticks::is_word_address;
 use loader::Labels;
@@ -37,40 +37,40 @@ fn starts_number(text: &[u8]) -> bool
     }
 }
 
-fn is_number(value: Word<'_>) -> bool
+fn is_number(value: Value<'_>) -> bool
     ensures { result ≡ is_number (value_of value.entry) }
 {
     match value {
-        Word::Bare(text) => starts_number(text),
-        Word::Quoted(_, _) => false,
+        Value::Bare(text) => starts_number(text),
+        Value::Quoted(_, _) => false,
     }
 }
 
-fn is_negative(value: Word<'_>) -> bool
+fn is_negative(value: Value<'_>) -> bool
     ensures { result ≡ is_negative (value_of value.entry) }
 {
     match value {
-        Word::Bare([byte, ..]) => *byte == b'-',
+        Value::Bare([byte, ..]) => *byte == b'-',
         _ => false,
     }
 }
 
-fn is_text(value: Word<'_>) -> bool
+fn is_text(value: Value<'_>) -> bool
     ensures { result ≡ is_text (value_of value.entry) }
 {
     match value {
-        Word::Bare(_) => false,
-        Word::Quoted(_, _) => true,
+        Value::Bare(_) => false,
+        Value::Quoted(_, _) => true,
     }
 }
 
 /// Whether the value is one of these words in quotes.
-pub(crate) fn is_word_of(words: &[&str], value: Word<'_>) -> bool
+pub(crate) fn is_word_of(words: &[&str], value: Value<'_>) -> bool
     ensures { result ≡ is_word_of (map (λ w. w.now) words.now) (value_of value.entry) }
 {
     match value {
-        Word::Bare(_) => false,
-        Word::Quoted(_, text) => is_one_of(words, text),
+        Value::Bare(_) => false,
+        Value::Quoted(_, text) => is_one_of(words, text),
     }
 }
 
@@ -83,7 +83,7 @@ fn takes_address(key: &[u8]) -> bool
 }
 
 // Whether the value is a class.
-fn is_class(value: Word<'_>) -> bool
+fn is_class(value: Value<'_>) -> bool
     ensures { result ≡ is_word_of class_words (value_of value.entry) }
 {
     const CLASSES: &[&str] = &["any", "ram", "rom", "io"];
@@ -91,7 +91,7 @@ fn is_class(value: Word<'_>) -> bool
 }
 
 // Whether the value is a kind of target.
-fn is_kind(value: Word<'_>) -> bool
+fn is_kind(value: Value<'_>) -> bool
     ensures { result ≡ is_word_of kind_words (value_of value.entry) }
 {
     const KINDS: &[&str] = &["jump", "call", "return", "leave"];
@@ -99,7 +99,7 @@ fn is_kind(value: Word<'_>) -> bool
 }
 
 /// Whether the value is of a kind that the key takes.
-pub(crate) fn fits_key(key: &[u8], value: Word<'_>) -> bool
+pub(crate) fn fits_key(key: &[u8], value: Value<'_>) -> bool
     ensures { result ≡ fits_key key.now (value_of value.entry) }
 {
     if takes_address(key) {
@@ -118,18 +118,18 @@ pub(crate) fn fits_key(key: &[u8], value: Word<'_>) -> bool
 }
 
 /// The address that a value means: a label's, or a number's in decimal or after `0x`.
-pub(crate) fn address_at(labels: &Labels, value: Word<'_>) -> Option<u32>
+pub(crate) fn address_at(labels: &Labels, value: Value<'_>) -> Option<u32>
     ensures { result ≡ address_at labels.now (value_of value.entry) }
 {
     match value {
-        Word::Bare(text) => read_number(text),
-        Word::Quoted(_, name) => labels.get(name),
+        Value::Bare(text) => read_number(text),
+        Value::Quoted(_, name) => labels.get(name),
     }
 }
 
 /// Whether a text in place of an address names no label.
-pub(crate) fn is_unknown_label(labels: &Labels, pair: &Pair<'_>) -> bool
-    ensures { result ≡ is_unknown_label labels.now (stated_of pair.now) }
+pub(crate) fn is_unknown_label(labels: &Labels, pair: &KeyValue<'_>) -> bool
+    ensures { result ≡ is_unknown_label labels.now (key_value_of pair.now) }
 {
     takes_address(pair.key) && is_text(pair.value) && address_at(labels, pair.value).is_none()
 }
@@ -145,8 +145,8 @@ fn is_outside(key: &[u8], number: u32) -> bool
 }
 
 /// Whether a number is none that the key takes, as far as it is written in decimal or after `0x`.
-pub(crate) fn is_out_of_range(labels: &Labels, pair: &Pair<'_>) -> bool
-    ensures { result ≡ is_out_of_range labels.now (stated_of pair.now) }
+pub(crate) fn is_out_of_range(labels: &Labels, pair: &KeyValue<'_>) -> bool
+    ensures { result ≡ is_out_of_range labels.now (key_value_of pair.now) }
 {
     if is_negative(pair.value) {
         return true;

@@ -4,5 +4,5 @@ use Rattle.diagnosis.specs.Outline.{item_of}
 use Rattle.diagnosis.specs.Refused.{is_entry}
 use Rattle.diagnosis.proofs.statements.has_entry.Given as goal
 
-abbrev pub invariant-loop-entry : goal.invariant-loop-entry
-invariant-loop-entry l = list_any is_entry (map item_of (drop l.entry-index l.entries)) ≡ list_any is_entry (map item_of l.entries)
+abbrev pub invariant-loop-item : goal.invariant-loop-item
+invariant-loop-item l = list_any is_entry (map item_of (drop l.item-index l.items)) ≡ list_any is_entry (map item_of l.items)

@@ -7,7 +7,7 @@ use Rattle.diagnosis.proofs.statements.Report.put_extra_tables.Goals as goal
 
 pub returns : goal.returns
 returns c =
-    let items = map item_of c.args.entries.now in
+    let items = map item_of c.args.items.now in
     let loops = extra_row loop_limit items in
     let targets = extra_row target_limit items in
     let accesses = extra_row access_limit items in

@@ -3,10 +3,10 @@ use Rattle.diagnosis.specs.Outline.{Item, item_of}
 use Rattle.diagnosis.specs.Refused.{AreTaken, Row, shown, twice_rows}
 use Rattle.diagnosis.proofs.statements.Report.put_twice.Given as goal
 
-abbrev pub invariant-loop-entry : goal.invariant-loop-entry
-invariant-loop-entry l = record {
+abbrev pub invariant-loop-item : goal.invariant-loop-item
+invariant-loop-item l = record {
   before : List Item;
   taken : AreTaken l.asked.labels.now before l.taken;
-  same : (more : List Row) → l.self.text.items ++ shown l.self.left (twice_rows l.asked.labels.now before (map item_of (drop l.entry-index l.entries)) ++ more)
-      ≡ l.fn.self.text.items ++ shown l.fn.self.left (twice_rows l.asked.labels.now [] (map item_of l.entries) ++ more);
+  same : (more : List Row) → l.self.text.items ++ shown l.self.left (twice_rows l.asked.labels.now before (map item_of (drop l.item-index l.items)) ++ more)
+      ≡ l.fn.self.text.items ++ shown l.fn.self.left (twice_rows l.asked.labels.now [] (map item_of l.items) ++ more);
 }
