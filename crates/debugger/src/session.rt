@@ -312,7 +312,8 @@ fn toggle_break(breaks: &mut ArrayVec<u32, MOST_BREAKS>, address: u32) -> Result
     ensures few { OnOk result (length (toggled address breaks.old.items) ≤ MOST_BREAKS) }
     ensures ascending { Ascending breaks.new.items }
     ensures err { IfErr result
-        (λ fault. (fault ≡ DebugFault.TooManyBreaks) × (MOST_BREAKS < length (toggled address breaks.old.items))) }
+        (λ fault. (fault ≡ DebugFault.TooManyBreaks)
+        × (MOST_BREAKS < length (toggled address breaks.old.items))) }
     ensures unchanged { OnErr result (breaks.new.items ≡ breaks.old.items) }
 {
     let at = below(breaks, address);

@@ -49,14 +49,14 @@ abbrev pub IsStartRow : WordLines → Edge → List ℕ → Type 0
 IsStartRow words e row = IsPlaceRow words e.from row
 
 -- the rows of the cycle's places, and then its loop
-pub record IsCycleText (words : WordLines) (cycle : List Edge) (extent : Extent) (text : List ℕ) : Type 0 where
+pub record IsCycleText (words : WordLines) (cycle : List Edge) (found : Extent) (text : List ℕ) : Type 0 where
   pub rows : List ℕ
   pub are_rows : AreRows (IsStartRow words) cycle rows
   pub text_is : text
       ≡ codes "This cycle has no [[loop]]:\n"
       ++ (rows
       ++ (codes "For its statement, with the most times that it turns back for the question mark:\n"
-      ++ loop_text words.lines extent))
+      ++ loop_text words.lines found))
 
 -- ## An entry
 
