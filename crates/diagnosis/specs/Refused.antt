@@ -386,13 +386,17 @@ feeds text = count_by (λ b. b == 10) text
 abbrev pub toml_row : ℕ → List ℕ
 toml_row number = codes "line " ++ (decimal number ++ codes " is no TOML\n")
 
--- the line that holds a byte of the text, or its end. Which byte is not said: the contract of the kit's
+-- of the line that holds a byte of the text, or its end
+abbrev pub toml_row_at : List ℕ → ℕ → List ℕ
+toml_row_at text at = toml_row (feeds (take at text) + 1)
+
+-- the row of a byte's line. Which byte is not said: the contract of the kit's
 -- reader of TOML says of the place where it stopped that it lies in the text, and no more.
 pub record IsTomlFaultText (text out : List ℕ) : Type 0 where
   pub no_toml : IsUtf8 text → parse_document text ≡ None
   pub at : ℕ
   pub inside : at ≤ length text
-  pub out_is : out ≡ toml_row (feeds (take at text) + 1)
+  pub out_is : out ≡ toml_row_at text at
 
 -- of a document nothing
 pub record IsNoFaultText (text out : List ℕ) : Type 0 where

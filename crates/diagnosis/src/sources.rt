@@ -132,7 +132,7 @@ pub fn faulty_lines(alloc: Global, source: &[u8]) -> Result<Vec<FaultyLine>, All
     Ok(lines)
 }
 
-fn name_of(fault: LineFault) -> &'static [u8]
+fn fault_name(fault: LineFault) -> &'static [u8]
     ensures { result.now ≡ fault_name fault }
 {
     match fault {
@@ -156,7 +156,7 @@ fn put_faulty(out: &mut Vec<u8>, line: &FaultyLine) -> Result<(), AllocError>
     put(out, b"line ")?;
     put_decimal(out, line.number as u64)?;
     put(out, b": ")?;
-    put(out, name_of(line.fault))?;
+    put(out, fault_name(line.fault))?;
     put(out, b"\n")
 }
 

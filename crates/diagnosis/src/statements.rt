@@ -1,5 +1,5 @@
-ghost use Rattle.std.specs.Prelude.{◌≡◌, ◌≤◌, ◌+◌, ◌++◌, ◌∷◌, [], IfOk, OnOk, codes, length, map};
-ghost use Rattle.std.specs.Prelude.{option_map, take};
+ghost use Rattle.std.specs.Prelude.{◌≡◌, ◌≤◌, ◌++◌, ◌∷◌, [], IfOk, OnOk, codes, length, map};
+ghost use Rattle.std.specs.Prelude.{option_map};
 ghost use Rattle.std.specs.List.{list_any};
 ghost use Rattle.diagnosis.specs.Outline.{item_of, items_of, key_value_of, table_of, value_of};
 ghost use Rattle.diagnosis.specs.Refused.{Adds, IsStatementText, IsTomlText, address_in, all_rows};
@@ -10,8 +10,8 @@ ghost use Rattle.diagnosis.specs.Refused.{row_if, rows, shown, tables_in, twice_
 ghost use Rattle.diagnosis.specs.Refused.{item_rows, keys_of, kind_rows, lies_outside, missing_row};
 ghost use Rattle.diagnosis.specs.Refused.{missing_rows, name_text, needed_keys, no_entry_rows};
 ghost use Rattle.diagnosis.specs.Refused.{row_text, table_row};
-ghost use Rattle.diagnosis.specs.Refused.{table_rows, target_rows, toml_row, value_at, value_row, value_text};
-ghost use Rattle.diagnosis.specs.Refused.{is_kind_of};
+ghost use Rattle.diagnosis.specs.Refused.{is_kind_of, table_rows, target_rows, toml_row, toml_row_at};
+ghost use Rattle.diagnosis.specs.Refused.{value_at, value_row, value_text};
 
 use crate::outline::{Item, KeyValue, Table, items_of};
 use crate::repeats::Taken;
@@ -670,9 +670,9 @@ fn toml_row(alloc: Global, number: usize) -> Result<Vec<u8>, AllocError>
 }
 
 // The row of the line that holds the byte at an index, or the end of the text.
-fn toml_line(alloc: Global, text: &[u8], at: usize) -> Result<Vec<u8>, AllocError>
+fn toml_row_at(alloc: Global, text: &[u8], at: usize) -> Result<Vec<u8>, AllocError>
     requires { at ≤ length text.now }
-    ensures { IfOk result (λ out. out.items ≡ toml_row (feeds (take at text.now) + 1)) }
+    ensures { IfOk result (λ out. out.items ≡ toml_row_at text.now at) }
 {
     let number = feeds(&text[..at]) + 1;
     toml_row(alloc, number)
@@ -686,7 +686,7 @@ fn no_toml_text(alloc: Global, text: &[u8]) -> Result<Vec<u8>, AllocError>
         return Ok(Vec::new(alloc));
     };
     match error.span() {
-        Some(span) => toml_line(alloc, text, span.start),
+        Some(span) => toml_row_at(alloc, text, span.start),
         None => Err(AllocError),
     }
 }

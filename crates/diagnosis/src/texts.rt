@@ -272,7 +272,7 @@ fn put_rows(out: &mut Vec<u8>, words: &WordLines<'_>, named: &[u32]) -> Result<(
 }
 
 // The addresses of the calls that a place is inside of, and then its own; none of Exit.
-fn chain_of(alloc: Global, place: &Place) -> Result<Vec<u32>, AllocError>
+fn key_of(alloc: Global, place: &Place) -> Result<Vec<u32>, AllocError>
     ensures { IfOk result (λ chain. chain.items ≡ key_of place.now) }
 {
     match place {
@@ -289,7 +289,7 @@ fn chain_of(alloc: Global, place: &Place) -> Result<Vec<u32>, AllocError>
 fn chain_text(alloc: Global, words: &WordLines<'_>, place: &Place) -> Result<Vec<u8>, AllocError>
     ensures { IfOk result (λ text. IsChainText words.now place.now text.items) }
 {
-    let chain = chain_of(alloc, place)?;
+    let chain = key_of(alloc, place)?;
     let mut out = Vec::from_slice(alloc, NINE)?;
     put_rows(&mut out, words, &chain)?;
     Ok(out)

@@ -20,7 +20,7 @@ use std::alloc::{AllocError, Global};
 
 /// What the words show of what is to be stated.
 #[derive(Drop)]
-pub struct Found {
+pub struct DraftParts {
     pub ends: Vec<(u32, End)>,
     pub loops: Loops,
     pub accesses: Vec<(u32, Class)>,
@@ -28,7 +28,12 @@ pub struct Found {
 }
 
 // What is found at the addresses that are reached.
-fn find_at(alloc: Global, image: &Image, entry: u32, reach: &Reached) -> Result<Found, AllocError>
+fn find_at(
+    alloc: Global,
+    image: &Image,
+    entry: u32,
+    reach: &Reached,
+) -> Result<DraftParts, AllocError>
     requires ascend { IsStrictlySortedBy nat_cmp reach.now.addresses.items }
     requires reached { AreReached image.now entry reach.now.addresses.items }
     ensures { IfOk result
@@ -39,7 +44,7 @@ fn find_at(alloc: Global, image: &Image, entry: u32, reach: &Reached) -> Result<
     let targets = find_targets(alloc, image, addresses)?;
     let accesses = find_accesses(alloc, image, reach, addresses)?;
     let loops = find_loops(alloc, image, reach, entry)?;
-    Ok(Found {
+    Ok(DraftParts {
         ends,
         loops,
         accesses,
@@ -47,7 +52,7 @@ fn find_at(alloc: Global, image: &Image, entry: u32, reach: &Reached) -> Result<
     })
 }
 
-fn find(alloc: Global, image: &Image, entry: u32) -> Result<Found, AllocError>
+fn find(alloc: Global, image: &Image, entry: u32) -> Result<DraftParts, AllocError>
     ensures { IfOk result
         (λ found. AreFound image.now entry found.ends.items found.accesses.items found.targets.items) }
 {
@@ -55,7 +60,12 @@ fn find(alloc: Global, image: &Image, entry: u32) -> Result<Found, AllocError>
     find_at(alloc, image, entry, &reach)
 }
 
-fn put_found(out: &mut Vec<u8>, sheet: &Sheet, entry: u32, found: &Found) -> Result<(), AllocError>
+fn put_found(
+    out: &mut Vec<u8>,
+    sheet: &Sheet,
+    entry: u32,
+    found: &DraftParts,
+) -> Result<(), AllocError>
     ensures { OnOk result
         (out.new.items
         ≡ out.old.items
@@ -72,11 +82,11 @@ fn put_found(out: &mut Vec<u8>, sheet: &Sheet, entry: u32, found: &Found) -> Res
 }
 
 // The text of what was found.
-fn text_of(
+fn draft_text(
     alloc: Global,
     lines: &SourceLines,
     entry: u32,
-    found: &Found,
+    found: &DraftParts,
 ) -> Result<Vec<u8>, AllocError>
     ensures { IfOk result
         (λ text. text.items
@@ -99,7 +109,7 @@ fn draft_by_lines(
     ensures { IfOk result (λ text. IsDraft program.now.image.now program.now.labels.now entry text.items) }
 {
     let found = find(alloc, program.image, entry)?;
-    text_of(alloc, lines, entry, &found)
+    draft_text(alloc, lines, entry, &found)
 }
 
 /// A statement of the handler that begins at an address, to be filled in: its entry, the loops, loads and

@@ -30,9 +30,9 @@ abbrev pub passes_of : Option Taken → ℕ
 passes_of None = 0
 passes_of (Some t) = t.passes
 
-abbrev pub each_of : Option Taken → Option Costs
-each_of None = None
-each_of (Some t) = t.costs
+abbrev pub costs_of : Option Taken → Option Costs
+costs_of None = None
+costs_of (Some t) = t.costs
 
 abbrev pub ticks_of : Option Taken → ℕ
 ticks_of None = 0
@@ -56,7 +56,7 @@ module _ (taken : ℕ → Option Taken) where
       then Some (record {
         passes = passes_of (taken line.at);
         ticks = ticks_in line.at line.words;
-        costs = each_of (taken line.at);
+        costs = costs_of (taken line.at);
       }) else None
 
   -- the ticks of all lines

@@ -13,7 +13,7 @@ pub(crate) const IMAGE_HEADING: &[u8] =
     b"passes  each  ticks  share latest priced as   address  text\n";
 
 // What part of the bound the ticks are, in per cent.
-fn share(alloc: Global, ticks: u64, bound: u64) -> Result<String, AllocError>
+fn share_text(alloc: Global, ticks: u64, bound: u64) -> Result<String, AllocError>
     ensures { IfOk result (λ text. string_bytes text ≡ share_text ticks bound) }
 {
     let thousandths = u128::from(ticks) * 1000 / u128::from(bound.max(1));
@@ -27,12 +27,12 @@ pub(crate) fn put_ticks(out: &mut Vec<u8>, ticks: u64, bound: u64) -> Result<(),
     put(out, b" ")?;
     put_number(out, ticks, 6)?;
     put(out, b" ")?;
-    let share = share(*out.allocator(), ticks, bound)?;
+    let share = share_text(*out.allocator(), ticks, bound)?;
     put_right(out, share.as_bytes(), 6)
 }
 
 // So many ticks of the 8 MHz processor, and in microseconds.
-fn time(alloc: Global, ticks: u128) -> Result<String, AllocError>
+fn time_text(alloc: Global, ticks: u128) -> Result<String, AllocError>
     ensures { IfOk result (λ text. string_bytes text ≡ time_text ticks) }
 {
     let rest = ticks % 8 * 125;
@@ -49,7 +49,7 @@ fn time(alloc: Global, ticks: u128) -> Result<String, AllocError>
 pub(crate) fn put_time(out: &mut Vec<u8>, ticks: u128) -> Result<(), AllocError>
     ensures { OnOk result (out.new.items ≡ out.old.items ++ time_text ticks) }
 {
-    let time = time(*out.allocator(), ticks)?;
+    let time = time_text(*out.allocator(), ticks)?;
     put(out, time.as_bytes())
 }
 

@@ -8,7 +8,7 @@ ghost use Rattle.explained.specs.Starts.{latest_at};
 ghost use Rattle.explained.specs.Table.{IsImageTable, IsWordRow, image_ticks, word_row};
 
 use crate::columns::{IMAGE_HEADING, put_end};
-use crate::lines::{Columns, Costing, put_columns, ticks_at};
+use crate::lines::{Columns, Costing, put_columns, ticks_of};
 use crate::sections::StatedGraph;
 use crate::starts::TimedWalk;
 use crate::tally::Tally;
@@ -61,7 +61,7 @@ fn image_ticks(tally: &Tally, words: &[(u32, u32)]) -> u64
 {
     let mut ticks = 0;
     for (at, _) in words {
-        ticks = capped_sum(ticks, ticks_at(tally, *at));
+        ticks = capped_sum(ticks, ticks_of(tally, *at));
     }
     ticks
 }

@@ -4,7 +4,7 @@ ghost use Rattle.std.specs.Ordering.{nat_cmp};
 ghost use Rattle.bus_ticks.specs.declared.space.TheConstants.{SPACE_END};
 ghost use Rattle.text_rows.specs.Columns.{in_columns};
 ghost use Rattle.explained.specs.Costing.{IsCosting};
-ghost use Rattle.explained.specs.Table.{columns_text, each_of, each_text, is_any_reached, latest_text};
+ghost use Rattle.explained.specs.Table.{columns_text, costs_of, each_text, is_any_reached, latest_text};
 ghost use Rattle.explained.specs.Table.{line_taken, passes_of, taken_text, ticks_in, ticks_of};
 
 use crate::columns::put_ticks;
@@ -96,7 +96,7 @@ fn is_any_reached(tally: &Tally, from: u32, count: usize) -> bool
 }
 
 /// The ticks that the walk takes at an address.
-pub(crate) fn ticks_at(tally: &Tally, at: u32) -> u64
+pub(crate) fn ticks_of(tally: &Tally, at: u32) -> u64
     ensures { result ≡ ticks_of (get nat_cmp tally.now.by_address at) }
 {
     match tally.at(at) {
@@ -105,7 +105,7 @@ pub(crate) fn ticks_at(tally: &Tally, at: u32) -> u64
     }
 }
 
-fn passes_at(tally: &Tally, at: u32) -> u64
+fn passes_of(tally: &Tally, at: u32) -> u64
     ensures { result ≡ passes_of (get nat_cmp tally.now.by_address at) }
 {
     match tally.at(at) {
@@ -114,8 +114,8 @@ fn passes_at(tally: &Tally, at: u32) -> u64
     }
 }
 
-fn costs_at(tally: &Tally, at: u32) -> Option<Costs>
-    ensures { result ≡ each_of (get nat_cmp tally.now.by_address at) }
+fn costs_of(tally: &Tally, at: u32) -> Option<Costs>
+    ensures { result ≡ costs_of (get nat_cmp tally.now.by_address at) }
 {
     match tally.at(at) {
         Some(taken) => taken.costs,
@@ -131,7 +131,7 @@ pub(crate) fn ticks_in(tally: &Tally, from: u32, count: usize) -> u64
     let mut at = from;
     let mut ticks = 0;
     for _ in 0..count {
-        ticks = capped_sum(ticks, ticks_at(tally, at));
+        ticks = capped_sum(ticks, ticks_of(tally, at));
         at += 4;
     }
     ticks
@@ -146,14 +146,14 @@ pub(crate) fn line_taken(tally: &Tally, line: PlacedLine) -> Option<Taken>
         return None;
     }
     Some(Taken {
-        passes: passes_at(tally, line.at),
+        passes: passes_of(tally, line.at),
         ticks: ticks_in(tally, line.at, line.words),
-        costs: costs_at(tally, line.at),
+        costs: costs_of(tally, line.at),
     })
 }
 
 // The ticks of a pass.
-fn each(alloc: Global, costs: Option<Costs>) -> Result<String, AllocError>
+fn each_text(alloc: Global, costs: Option<Costs>) -> Result<String, AllocError>
     ensures { IfOk result (λ text. string_bytes text ≡ each_text costs) }
 {
     let Some(costs) = costs else {
@@ -171,7 +171,7 @@ fn put_each(out: &mut Vec<u8>, costs: Option<Costs>) -> Result<(), AllocError>
         (out.new.items ≡ out.old.items ++ (codes " " ++ in_columns 5 (each_text costs))) }
 {
     put(out, b" ")?;
-    let each = each(*out.allocator(), costs)?;
+    let each = each_text(*out.allocator(), costs)?;
     put_right(out, each.as_bytes(), 5)
 }
 

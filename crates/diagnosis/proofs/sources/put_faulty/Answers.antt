@@ -13,6 +13,6 @@ returns c =
       refl,
       five_parts c.args.out.now.items (codes "line ") (decimal line.number) (codes ": ") (fault_name line.fault) (codes "\n") c.put.new.out.items c.put_decimal.new.out.items
           c.put-2.new.out.items c.put-3.new.out.items c.put-4.new.out.items c.in_ok-put.ensures c.in_ok-put_decimal.ensures c.in_ok-put-2.ensures
-          (c.in_ok-put-3.ensures ∙ ap (λ (xs : List ℕ). c.put-2.new.out.items ++ xs) c.name_of.ensures) is,
+          (c.in_ok-put-3.ensures ∙ ap (λ (xs : List ℕ). c.put-2.new.out.items ++ xs) c.fault_name.ensures) is,
     ))
     c.put-4.ensures

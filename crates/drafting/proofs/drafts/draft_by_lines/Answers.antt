@@ -3,7 +3,7 @@ use Rattle.drafting.proofs.drafts.draft_by_lines.Goals as goal
 
 pub returns : goal.returns
 returns c =
-    IfOk-weaker c.text_of.result _ _
+    IfOk-weaker c.draft_text.result _ _
     (λ text text_is. record {
       lines = c.args.lines.now;
       named = c.requires;
@@ -15,4 +15,4 @@ returns c =
       found = c.in_ok-found.ensures;
       text_is = text_is;
     })
-    c.text_of.ensures
+    c.draft_text.ensures

@@ -13,8 +13,8 @@ loop-preserved c =
       room = omega (arith, c.loop-test.true, c.loop.invariant.room);
       same =
           ticks_more (λ a. ticks_of (taken a)) c.loop.at (c.args.count - c.loop.counter) (c.args.count - (c.loop.counter + 1)) c.loop.ticks
-          c.ticks_at.result c.capped_sum-ticks.result (ticks_in taken c.args.from c.args.count) (omega (arith, c.loop-test.true)) c.loop.invariant.same
-          c.ticks_at.ensures c.capped_sum-ticks.ensures;
+          c.ticks_of.result c.capped_sum-ticks.result (ticks_in taken c.args.from c.args.count) (omega (arith, c.loop-test.true)) c.loop.invariant.same
+          c.ticks_of.ensures c.capped_sum-ticks.ensures;
     }
 
 pub returns : goal.returns
