@@ -16,7 +16,7 @@ use word_shapes::{instr_at, is_odd_writer, is_transfer_at};
 
 /// What a bound takes for granted of a word that its handler reaches.
 #[derive(Clone, Copy)]
-pub enum Assumption {
+pub(crate) enum Assumption {
     /// That a load or a store may be to any address, since no other class is stated for it.
     LooseTransfer,
     /// That a word that may write R15 returns, although it does not look like that, since no target is
@@ -95,7 +95,7 @@ pub(crate) fn sorted(alloc: Global, named: &BTreeSet<u32>) -> Result<Vec<u32>, A
 /// # Errors
 ///
 /// An allocation failed.
-pub fn assumed(
+pub(crate) fn assumed(
     alloc: Global,
     image: &Image,
     statement: &Statement,

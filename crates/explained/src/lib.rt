@@ -18,7 +18,6 @@ mod source;
 mod starts;
 mod tally;
 
-pub use assumptions::{Assumption, assumed};
 pub use bursts::{Bursts, burst_lines};
 pub use idle::idle_entries;
 pub use image::image_table;
@@ -27,7 +26,6 @@ pub use law::{
     places_are_listed_once, totals_are_the_bound, unreached_lines_have_no_place,
 };
 pub use links::lost_links;
-pub use named::named_lines;
 pub use sections::{StatedGraph, image_assumptions, source_assumptions};
 pub use source::source_table;
 pub use starts::TimedWalk;

@@ -44,7 +44,7 @@ impl WordRows for Named<'_> {
 /// # Errors
 ///
 /// An allocation failed.
-pub fn named_lines(
+pub(crate) fn named_lines(
     alloc: Global,
     source: &[u8],
     placed: &[PlacedLine],

@@ -1,5 +1,5 @@
 use crate::analysis::{AnalysisCall, PushItems, on_nested};
-use crate::assumptions::AssumedCall;
+use crate::assumptions::Assumed;
 use crate::certificates::CertificateCall;
 use crate::drafts::Drafted;
 use crate::explanations::ExplainedCall;
@@ -28,7 +28,7 @@ pub(crate) enum Pure {
     Analysis(AnalysisCall),
     Certificate(CertificateCall),
     Explained(ExplainedCall),
-    Assumed(AssumedCall),
+    Assumed,
     Draft,
     /// It changes the machine, which is made for each call.
     Follow,
@@ -46,7 +46,7 @@ impl Trial for Pure {
             Pure::Analysis(call) => on_nested(alloc, call),
             Pure::Certificate(call) => call.made(alloc),
             Pure::Explained(call) => on_nested(alloc, call),
-            Pure::Assumed(call) => call.made(alloc),
+            Pure::Assumed => Assumed.made(alloc),
             Pure::Draft => Drafted.made(alloc),
             Pure::Follow => Follow.made(alloc),
         }
@@ -154,8 +154,7 @@ pub(crate) const CALLS: &[(&str, Call)] = &[
         "image_table",
         Call::Pure(Pure::Explained(ExplainedCall::Words)),
     ),
-    ("assumed", Call::Pure(Pure::Assumed(AssumedCall::Addresses))),
-    ("named_lines", Call::Pure(Pure::Assumed(AssumedCall::Rows))),
+    ("source_assumptions", Call::Pure(Pure::Assumed)),
     ("draft", Call::Pure(Pure::Draft)),
     ("follow", Call::Pure(Pure::Follow)),
     ("Session::command-step", Call::Command(Command::Step)),
