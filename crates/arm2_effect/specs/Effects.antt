@@ -3,7 +3,7 @@
 use Rattle.std.specs.Prelude.{◌≡◌, ℕ, ◌*◌, ◌/◌, Bool, true, false, List, [], ◌∷◌, map, sum}
 use Rattle.bus_ticks.specs.declared.profile.Profile.{Profile}
 use Rattle.bus_ticks.specs.declared.profile.RomTimes.{RomTimes}
-use Rattle.bus_ticks.specs.Prices.{ahead_of, n_price, s_price, word_price}
+use Rattle.bus_ticks.specs.Prices.{ahead_of, fetch_n, fetch_s, word_price}
 use Rattle.arm2_effect.specs.declared.step_end.Kind.{Kind}
 use Rattle.arm2_effect.specs.declared.step_end.Kind.TheVariants.{Plain, Stopped, Taken}
 use Rattle.arm2_effect.specs.declared.step_end.Why.{Why}
@@ -20,8 +20,8 @@ pub data Access : Type 0 where
   Internal : ℕ → Access
 
 abbrev pub price_of : Profile → RomTimes → Access → ℕ
-price_of p rom (FetchN address) = n_price p rom address
-price_of p rom (FetchS address) = s_price p rom address
+price_of p rom (FetchN address) = fetch_n p rom address
+price_of p rom (FetchS address) = fetch_s p rom address
 price_of p rom (Word store first address) = word_price p rom store first (address / 4 * 4)
 price_of p rom (Internal cycles) = cycles * p.internal
 

@@ -3,7 +3,7 @@ use Rattle.std.proofs.Common.{◌≡◌, ◌≢◌, ◌∙◌, ℕ, ◌+◌, ◌
 use Rattle.std.specs.Prelude.{slice_index}
 use Rattle.std.proofs.lemmas.Bool.{false≢true, cases_Bool, cond-true, cond-false}
 use Rattle.std.proofs.lemmas.List.{get_or-set_other}
-use Rattle.bus_ticks.specs.Prices.{n_price, s_price}
+use Rattle.bus_ticks.specs.Prices.{fetch_n, fetch_s}
 use Rattle.bus_ticks.specs.Worst.{fiq_entry_price}
 use Rattle.arm2_effect.specs.declared.exceptions.Vector.{Vector}
 use Rattle.arm2_effect.specs.declared.exceptions.Vector.TheVariants as vector
@@ -98,9 +98,9 @@ keeps_the_rest s i stepped after v step kind =
 fiq_ticks : (s : State) (bus : Bus) → ticks_in s (on_bus bus (taken vector.Fiq s.regs)) ≡ fiq_entry_price s.profile (interrupted_in s)
 unfolding taken
 fiq_ticks s bus =
-    let first = s_price s.profile s.bus.memc.control.rom_times ((address_in s.regs + 8) % 0x4000000) in
-    let second = n_price s.profile s.bus.memc.control.rom_times 0x1C in
-    let third = s_price s.profile s.bus.memc.control.rom_times 0x20 in
+    let first = fetch_s s.profile s.bus.memc.control.rom_times ((address_in s.regs + 8) % 0x4000000) in
+    let second = fetch_n s.profile s.bus.memc.control.rom_times 0x1C in
+    let third = fetch_s s.profile s.bus.memc.control.rom_times 0x20 in
     let total : ticks_in s (on_bus bus (taken vector.Fiq s.regs)) ≡ 0 + first + second + third = refl in
     omega (arith, total)
 

@@ -3,7 +3,7 @@ use Rattle.std.proofs.Common.{◌≡◌, ℕ, zero, suc, ◌+◌, ◌*◌, ◌/�
 use Rattle.std.proofs.lemmas.List.Sums.{sum-map, sum_by-append}
 use Rattle.bus_ticks.specs.declared.profile.Profile.{Profile}
 use Rattle.bus_ticks.specs.declared.profile.RomTimes.{RomTimes}
-use Rattle.bus_ticks.specs.Prices.{ahead_of, block_price, n_price, word_address, word_price}
+use Rattle.bus_ticks.specs.Prices.{ahead_of, block_price, fetch_n, word_address, word_price}
 use Rattle.arm2_effect.specs.Effects.{Access, FetchN, Word, Internal, price_of, ticks_of, straight, refill}
 use Rattle.arm2_transfer.specs.Moved.{words_at, load_accesses, store_accesses}
 
@@ -46,9 +46,9 @@ load_ticks-passes p rom a address k t =
 
 -- what a store costs
 pub store_ticks-are : (p : Profile) (rom : RomTimes) (a next address k fetch words : ℕ) →
-    next ≡ ahead_of a 8 → fetch ≡ n_price p rom next → words ≡ block_price p rom true address k →
+    next ≡ ahead_of a 8 → fetch ≡ fetch_n p rom next → words ≡ block_price p rom true address k →
     fetch + words ≡ ticks_of p rom (store_accesses a address k)
 store_ticks-are p rom a next address k fetch words ahead fetched moved =
     let all = ticks_of-append p rom (FetchN (ahead_of a 8) ∷ []) (words_at true address k) in
-    let price : fetch ≡ n_price p rom (ahead_of a 8) = fetched ∙ ap (λ (x : ℕ). n_price p rom x) ahead in
+    let price : fetch ≡ fetch_n p rom (ahead_of a 8) = fetched ∙ ap (λ (x : ℕ). fetch_n p rom x) ahead in
     omega (arith, all, price, moved, ticks_of-words_at p rom true address k)

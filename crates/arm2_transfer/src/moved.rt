@@ -1,6 +1,6 @@
 ghost use Rattle.std.specs.Prelude.{◌≡◌, true, ◌<◌, ◌≤◌, ◌^◌, ◌%◌};
 ghost use Rattle.bus_ticks.specs.declared.space.TheConstants.{SPACE_END};
-ghost use Rattle.bus_ticks.specs.Prices.{ahead_of, n_price};
+ghost use Rattle.bus_ticks.specs.Prices.{ahead_of, fetch_n};
 ghost use Rattle.arm2_effect.specs.Effects.{is_stopped, ticks_of};
 ghost use Rattle.arm2_transfer.specs.Moved.{ChangesNothing, IsMoved, faulted, load_accesses, store_accesses};
 
@@ -76,7 +76,7 @@ pub(crate) fn load_ticks(prices: &Prices, accesses: Accesses, jumps: bool, to: u
 fn fetch_after(prices: &Prices, from: u32) -> u32
     requires from { from < SPACE_END }
     requires from_aligned { from % 4 ≡ 0 }
-    ensures price { result ≡ n_price prices.now.profile prices.now.rom (ahead_of from 8) }
+    ensures price { result ≡ fetch_n prices.now.profile prices.now.rom (ahead_of from 8) }
     ensures small { result < 256 }
 {
     fetch_n(&prices.profile, ahead_of(from, 8), prices.rom)

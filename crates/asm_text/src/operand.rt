@@ -2,7 +2,8 @@ ghost use Rattle.std.specs.Prelude.{◌≡◌, map, option_map};
 ghost use Rattle.asm_text.specs.Pieces.{in_pieces, piece_of};
 ghost use Rattle.asm_text.specs.Operands.{first_amount, compare_of, data_of, data_with, factors_of};
 ghost use Rattle.asm_text.specs.Operands.{lacks_rn, is_s, compare_rd, move_of, operand_of};
-ghost use Rattle.asm_text.specs.Operands.{product_of, first_shift, first_shift_by, first_shift_words, first_shifting};
+ghost use Rattle.asm_text.specs.Operands.{product_of, first_shift, first_shift_by, first_shift_words};
+ghost use Rattle.asm_text.specs.Operands.{first_shifting};
 ghost use Rattle.asm_text.specs.Operands.{sum_of, three_of, all_read};
 
 use crate::names::Suffix;

@@ -4,7 +4,7 @@ use Rattle.std.proofs.lemmas.Bool.{cases_lt}
 use Rattle.bus_ticks.specs.declared.profile.Profile.{Profile}
 use Rattle.bus_ticks.specs.declared.profile.RomTimes.{RomTimes}
 use Rattle.bus_ticks.specs.declared.profile.Class.TheVariants.{Ram, Rom, Io, Any}
-use Rattle.bus_ticks.specs.Prices.{s_price}
+use Rattle.bus_ticks.specs.Prices.{fetch_s}
 use Rattle.bus_ticks.specs.Worst.{AtTimes, IsGreatest, IsTargetOf, fiq_entry, fiq_entry_price, worst_rom}
 use Rattle.bus_ticks.proofs.LeaveLemmas.{class_cases, s_at, s_ram_le}
 use Rattle.bus_ticks.proofs.WorstLemmas.{dearest_times, rom_le}
@@ -13,7 +13,7 @@ use Rattle.bus_ticks.proofs.WorstLemmas.{dearest_times, rom_le}
 abbrev dearest : Profile → ℕ
 dearest p = max p.quad (max (worst_rom p) p.unfitted)
 
-following_le : (p : Profile) (rom : RomTimes) (x : ℕ) → s_price p rom x ≤ dearest p
+following_le : (p : Profile) (rom : RomTimes) (x : ℕ) → fetch_s p rom x ≤ dearest p
 following_le p rom x =
     elim (class_cases x) [
       | inl r ↦ omega (arith, s_at p rom x Ram r.0, s_ram_le p (eqb (x % 16) 0))

@@ -3,8 +3,8 @@ use Rattle.std.proofs.Common.{ℕ, ◌%◌, ◌≤◌, ◌≡◌, ap, arith, eqb
 use Rattle.bus_ticks.specs.declared.profile.Profile.{Profile}
 use Rattle.bus_ticks.specs.declared.profile.Class.{Class}
 use Rattle.bus_ticks.specs.declared.profile.Class.TheVariants.{Ram, Rom, Io, Any}
-use Rattle.bus_ticks.specs.Prices.{class_at, by_class, rom_price, n_price, s_price}
-use Rattle.bus_ticks.specs.Worst.{IsAnyTimes, IsGreatest, worst_rom, worst_n_price, worst_s_price}
+use Rattle.bus_ticks.specs.Prices.{class_at, by_class, rom_price, fetch_n, fetch_s}
+use Rattle.bus_ticks.specs.Worst.{IsAnyTimes, IsGreatest, worst_rom, worst_fetch_n, worst_fetch_s}
 use Rattle.bus_ticks.proofs.WorstLemmas.{dearest_times, rom_le}
 
 by_class_rises : (c : Class) (ram rom top io : ℕ) → rom ≤ top → by_class c ram rom io ≤ by_class c ram top io
@@ -24,10 +24,10 @@ dearest p x ram io top e =
       reached = (best.0, tt, ap (λ r. by_class (class_at x) ram r io) (best.1 x));
     })
 
-pub n_greatest : (p : Profile) (x top : ℕ) → top ≡ worst_n_price p x
-    → IsGreatest IsAnyTimes (λ rom. n_price p rom x) top
+pub n_greatest : (p : Profile) (x top : ℕ) → top ≡ worst_fetch_n p x
+    → IsGreatest IsAnyTimes (λ rom. fetch_n p rom x) top
 n_greatest p x top e = dearest p x p.n p.unfitted top e
 
-pub s_greatest : (p : Profile) (x top : ℕ) → top ≡ worst_s_price p x
-    → IsGreatest IsAnyTimes (λ rom. s_price p rom x) top
+pub s_greatest : (p : Profile) (x top : ℕ) → top ≡ worst_fetch_s p x
+    → IsGreatest IsAnyTimes (λ rom. fetch_s p rom x) top
 s_greatest p x top e = dearest p x (cond (eqb (x % 16) 0) p.quad p.s) p.unfitted top e

@@ -24,7 +24,8 @@ choice i a b c d = if i == 0 then a else (if i == 1 then b else (if i == 2 then 
 
 -- an access to ROM, by the time field of its half
 abbrev pub rom_price : Profile → RomTimes → ℕ → ℕ
-rom_price p rom x = choice (if nat_lt x HIGH_ROM_START then rom.low else rom.high) p.rom_0 p.rom_1 p.rom_2 p.rom_3
+rom_price p rom x =
+    choice (if nat_lt x HIGH_ROM_START then rom.low else rom.high) p.rom_0 p.rom_1 p.rom_2 p.rom_3
 
 -- an access to a device, by address bits 20 and 19
 abbrev pub io_price : Profile → ℕ → ℕ
@@ -35,12 +36,12 @@ abbrev pub ram_price : Profile → ℕ → ℕ
 ram_price p x = if x % 16 == 0 then p.quad else p.s
 
 -- a fetch that does not follow the access before it
-abbrev pub n_price : Profile → RomTimes → ℕ → ℕ
-n_price p rom x = by_class (class_at x) p.n (rom_price p rom x) p.unfitted
+abbrev pub fetch_n : Profile → RomTimes → ℕ → ℕ
+fetch_n p rom x = by_class (class_at x) p.n (rom_price p rom x) p.unfitted
 
 -- a fetch that follows the access before it
-abbrev pub s_price : Profile → RomTimes → ℕ → ℕ
-s_price p rom x = by_class (class_at x) (ram_price p x) (rom_price p rom x) p.unfitted
+abbrev pub fetch_s : Profile → RomTimes → ℕ → ℕ
+fetch_s p rom x = by_class (class_at x) (ram_price p x) (rom_price p rom x) p.unfitted
 
 -- one word of a transfer: in Ram the first word costs n, and each other follows; a store in Rom goes to a
 -- control register

@@ -5,7 +5,7 @@ use Rattle.bus_ticks.specs.declared.profile.Profile.{Profile}
 use Rattle.bus_ticks.specs.declared.profile.RomTimes.{RomTimes}
 use Rattle.bus_ticks.specs.declared.profile.Class.{Class}
 use Rattle.bus_ticks.specs.declared.profile.Class.TheVariants.{Ram, Rom, Io, Any}
-use Rattle.bus_ticks.specs.Prices.{ahead_of, class_at, by_class, n_price, ram_price, s_price, block_price}
+use Rattle.bus_ticks.specs.Prices.{ahead_of, class_at, by_class, fetch_n, ram_price, fetch_s, block_price}
 use Rattle.bus_ticks.specs.Prices.{word_address}
 use Rattle.bus_ticks.specs.Ranges.{greatest}
 
@@ -45,7 +45,7 @@ transfer_price p words store b = block_price p b.rom store b.address words
 
 -- the fetch at a target, and the one that follows
 abbrev pub leave_price : Profile → AtTimes → ℕ
-leave_price p t = n_price p t.rom t.address + s_price p t.rom (ahead_of t.address 4)
+leave_price p t = fetch_n p t.rom t.address + fetch_s p t.rom (ahead_of t.address 4)
 
 -- ROM at its dearest time field, and the dearest device
 abbrev pub worst_rom : Profile → ℕ
@@ -55,11 +55,11 @@ abbrev pub worst_io : Profile → ℕ
 worst_io p = greatest p.slow p.medium p.fast p.synchronous
 
 -- the fetches at an address, with Rom at its dearest field
-abbrev pub worst_n_price : Profile → ℕ → ℕ
-worst_n_price p x = by_class (class_at x) p.n (worst_rom p) p.unfitted
+abbrev pub worst_fetch_n : Profile → ℕ → ℕ
+worst_fetch_n p x = by_class (class_at x) p.n (worst_rom p) p.unfitted
 
-abbrev pub worst_s_price : Profile → ℕ → ℕ
-worst_s_price p x = by_class (class_at x) (ram_price p x) (worst_rom p) p.unfitted
+abbrev pub worst_fetch_s : Profile → ℕ → ℕ
+worst_fetch_s p x = by_class (class_at x) (ram_price p x) (worst_rom p) p.unfitted
 
 -- the greatest price of a transfer of k words: in Ram at most (k + 2) / 4 words after the first are at
 -- multiples of 16
@@ -81,7 +81,7 @@ worst_leave_of p Any =
 -- taking FIQ before the instruction at an address: the fetch 8 bytes on, and the two at FIQ's vector
 abbrev pub fiq_entry_price : Profile → AtTimes → ℕ
 fiq_entry_price p t =
-    s_price p t.rom (ahead_of t.address 8) + (n_price p t.rom FIQ_VECTOR + s_price p t.rom (FIQ_VECTOR + 4))
+    fetch_s p t.rom (ahead_of t.address 8) + (fetch_n p t.rom FIQ_VECTOR + fetch_s p t.rom (FIQ_VECTOR + 4))
 
 -- the greatest price of taking FIQ: the first fetch may be of any class, and the vector is in Ram
 abbrev pub fiq_entry : Profile → ℕ

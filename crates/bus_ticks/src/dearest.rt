@@ -1,8 +1,8 @@
 //! Which time fields and which addresses make an access cost the most.
 
 ghost use Rattle.std.specs.Prelude.{◌≡◌, ◌+◌, ◌<◌, ◌≤◌, ◌*◌, ◌/◌, ◌%◌, Bool, ℕ};
-ghost use Rattle.bus_ticks.specs.Prices.{class_at, n_price, s_price};
-ghost use Rattle.bus_ticks.specs.Worst.{worst_n_price, worst_s_price};
+ghost use Rattle.bus_ticks.specs.Prices.{class_at, fetch_n, fetch_s};
+ghost use Rattle.bus_ticks.specs.Worst.{worst_fetch_n, worst_fetch_s};
 ghost use Rattle.bus_ticks.specs.Dearest.{AreDearest, IsDearestBlock, IsDearestLeave, IsDearestOf};
 
 use crate::profile::{Class, Profile, RomTimes};
@@ -36,8 +36,8 @@ pub fn dearest_rom_times(profile: &Profile) -> RomTimes
     ensures low { IsDearestOf profile.now.rom_0 profile.now.rom_1 profile.now.rom_2 profile.now.rom_3
         result.low }
     ensures high { result.high ≡ result.low }
-    ensures fetch_n { (x : ℕ) → n_price profile.now result x ≡ worst_n_price profile.now x }
-    ensures fetch_s { (x : ℕ) → s_price profile.now result x ≡ worst_s_price profile.now x }
+    ensures fetch_n { (x : ℕ) → fetch_n profile.now result x ≡ worst_fetch_n profile.now x }
+    ensures fetch_s { (x : ℕ) → fetch_s profile.now result x ≡ worst_fetch_s profile.now x }
 {
     let field = dearest_of(profile.rom_0, profile.rom_1, profile.rom_2, profile.rom_3);
     RomTimes {

@@ -1,6 +1,6 @@
 ghost use Rattle.std.specs.Prelude.{◌≡◌, ℕ, false, true};
-ghost use Rattle.bus_ticks.specs.Prices.{n_price, s_price};
-ghost use Rattle.bus_ticks.specs.Worst.{AtTimes, IsBlockOf, worst_n_price, worst_s_price};
+ghost use Rattle.bus_ticks.specs.Prices.{fetch_n, fetch_s};
+ghost use Rattle.bus_ticks.specs.Worst.{AtTimes, IsBlockOf, worst_fetch_n, worst_fetch_s};
 ghost use Rattle.bus_ticks.specs.Dearest.{AreDearest, IsDearestBlock};
 
 use crate::profile::{Class, Profile, RomTimes};
@@ -22,9 +22,9 @@ pub fn memory_map()
 /// one that follows the access before it and one that does not. It does nothing.
 pub fn fetches_cost_the_worst()
     ensures n { (profile : Profile) → (rom : RomTimes) → AreDearest profile rom → (x : ℕ)
-        → n_price profile rom x ≡ worst_n_price profile x }
+        → fetch_n profile rom x ≡ worst_fetch_n profile x }
     ensures s { (profile : Profile) → (rom : RomTimes) → AreDearest profile rom → (x : ℕ)
-        → s_price profile rom x ≡ worst_s_price profile x }
+        → fetch_s profile rom x ≡ worst_fetch_s profile x }
 {}
 
 /// States that where a transfer starts in ROM does not change what it costs, if all its words are in ROM: at

@@ -1,5 +1,5 @@
 ghost use Rattle.std.specs.Prelude.{◌≡◌, ◌↔◌, ◌<◌, ◌≤◌, ◌*◌, IsTrue};
-ghost use Rattle.bus_ticks.specs.Prices.{class_at, rom_price, io_price, n_price, ram_price, s_price};
+ghost use Rattle.bus_ticks.specs.Prices.{class_at, rom_price, io_price, fetch_n, ram_price, fetch_s};
 ghost use Rattle.bus_ticks.specs.Prices.{word_price, block_price};
 
 use crate::profile::{Class, Profile, RomTimes};
@@ -63,7 +63,7 @@ fn rom_price(profile: &Profile, rom: RomTimes, address: u32) -> u32
 #[inline(always)]
 pub fn fetch_n(profile: &Profile, address: u32, rom: RomTimes) -> u32
     requires { address < SPACE_END }
-    ensures price { result ≡ n_price profile.now rom address }
+    ensures price { result ≡ fetch_n profile.now rom address }
     ensures small { result < 256 }
 {
     match class_of(address) {
@@ -90,7 +90,7 @@ pub(crate) fn ram_price(profile: &Profile, address: u32) -> u32
 #[inline(always)]
 pub fn fetch_s(profile: &Profile, address: u32, rom: RomTimes) -> u32
     requires { address < SPACE_END }
-    ensures price { result ≡ s_price profile.now rom address }
+    ensures price { result ≡ fetch_s profile.now rom address }
     ensures small { result < 256 }
 {
     match class_of(address) {

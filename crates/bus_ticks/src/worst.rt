@@ -1,7 +1,8 @@
 ghost use Rattle.std.specs.Prelude.{◌≡◌, ◌<◌, ◌≤◌, ◌*◌};
-ghost use Rattle.bus_ticks.specs.Prices.{by_class, class_at, n_price, s_price};
+ghost use Rattle.bus_ticks.specs.Prices.{by_class, class_at, fetch_n, fetch_s};
 ghost use Rattle.bus_ticks.specs.Ranges.{greatest};
-ghost use Rattle.bus_ticks.specs.Worst.{worst_block, worst_io, worst_leave_of, worst_n_price, worst_rom, worst_s_price};
+ghost use Rattle.bus_ticks.specs.Worst.{worst_block, worst_io, worst_leave_of, worst_rom};
+ghost use Rattle.bus_ticks.specs.Worst.{worst_fetch_n, worst_fetch_s};
 ghost use Rattle.bus_ticks.specs.Worst.{IsAnyTimes, IsGreatest, IsBlockOf, IsTargetOf, transfer_price};
 ghost use Rattle.bus_ticks.specs.Worst.{fiq_entry, fiq_entry_price, leave_price};
 
@@ -51,8 +52,8 @@ fn worst_fetch(profile: &Profile, address: u32, ram: u32) -> u32
 /// before it.
 pub fn worst_fetch_n(profile: &Profile, address: u32) -> u32
     requires { address < SPACE_END }
-    ensures number { result ≡ worst_n_price profile.now address }
-    ensures greatest { IsGreatest IsAnyTimes (λ rom. n_price profile.now rom address) result }
+    ensures number { result ≡ worst_fetch_n profile.now address }
+    ensures greatest { IsGreatest IsAnyTimes (λ rom. fetch_n profile.now rom address) result }
     ensures small { result < 256 }
 {
     worst_fetch(profile, address, profile.n)
@@ -61,8 +62,8 @@ pub fn worst_fetch_n(profile: &Profile, address: u32) -> u32
 /// The greatest ticks, over all time fields of ROM, of a fetch that follows the access before it.
 pub fn worst_fetch_s(profile: &Profile, address: u32) -> u32
     requires { address < SPACE_END }
-    ensures number { result ≡ worst_s_price profile.now address }
-    ensures greatest { IsGreatest IsAnyTimes (λ rom. s_price profile.now rom address) result }
+    ensures number { result ≡ worst_fetch_s profile.now address }
+    ensures greatest { IsGreatest IsAnyTimes (λ rom. fetch_s profile.now rom address) result }
     ensures small { result < 256 }
 {
     worst_fetch(profile, address, ram_price(profile, address))

@@ -12,7 +12,7 @@ use Rattle.bus_ticks.proofs.WorstLemmas.{worst_block_small}
 use Rattle.arm2_effect.specs.ProgramCounter.{branch_target}
 use Rattle.bus_ticks.specs.Prices.{ahead_of, by_class, class_at}
 use Rattle.bus_ticks.specs.Ranges.{IsPrice}
-use Rattle.bus_ticks.specs.Worst.{worst_block, worst_n_price, worst_s_price, worst_rom, worst_leave_of}
+use Rattle.bus_ticks.specs.Worst.{worst_block, worst_fetch_n, worst_fetch_s, worst_rom, worst_leave_of}
 use Rattle.bus_ticks.specs.declared.profile.Class.{Class}
 use Rattle.bus_ticks.specs.declared.profile.Class.TheVariants.{Any, Ram, Rom, Io}
 use Rattle.bus_ticks.specs.declared.profile.Profile.{Profile}
@@ -75,10 +75,10 @@ cond_all P false a b h k = k
 rom_is_price : (p : Profile) → IsPrice (worst_rom p)
 rom_is_price p = (omega (arith, p.rom_0_price), omega (arith, p.rom_0_price, p.rom_1_price, p.rom_2_price, p.rom_3_price))
 
-n_is_price : (p : Profile) (x : ℕ) → IsPrice (worst_n_price p x)
+n_is_price : (p : Profile) (x : ℕ) → IsPrice (worst_fetch_n p x)
 n_is_price p x = by_class_all IsPrice (class_at x) p.n (worst_rom p) p.unfitted p.n_price (rom_is_price p) p.unfitted_price
 
-s_is_price : (p : Profile) (x : ℕ) → IsPrice (worst_s_price p x)
+s_is_price : (p : Profile) (x : ℕ) → IsPrice (worst_fetch_s p x)
 s_is_price p x =
     by_class_all
     IsPrice

@@ -7,8 +7,8 @@ use Rattle.std.proofs.lemmas.List.Elements.{Contains-append_left, Contains-appen
 use Rattle.bus_ticks.specs.declared.profile.Class.{Class}
 use Rattle.bus_ticks.specs.declared.profile.Profile.{Profile}
 use Rattle.bus_ticks.specs.declared.profile.RomTimes.{RomTimes}
-use Rattle.bus_ticks.specs.Prices.{ahead_of, block_price, n_price, s_price, word_address}
-use Rattle.bus_ticks.specs.Worst.{IsBlockOf, worst_block, worst_n_price, worst_s_price}
+use Rattle.bus_ticks.specs.Prices.{ahead_of, block_price, fetch_n, fetch_s, word_address}
+use Rattle.bus_ticks.specs.Worst.{IsBlockOf, worst_block, worst_fetch_n, worst_fetch_s}
 use Rattle.bus_ticks.proofs.FetchLemmas.{n_greatest, s_greatest}
 use Rattle.bus_ticks.proofs.WorstLemmas.{worst_transfer_greatest}
 use Rattle.arm2_effect.specs.Effects.{Access, FetchN, FetchS, Internal, Word, straight, refill, ticks_of}
@@ -52,11 +52,11 @@ store_block class rom a address k below in_class = record {
 }
 
 module _ (p : Profile) (rom : RomTimes) (class : Class) (a : ℕ) where
-  pub n_most : (x : ℕ) → n_price p rom x ≤ worst_n_price p x
-  n_most x = (n_greatest p x (worst_n_price p x) refl).none_above rom tt
+  pub n_most : (x : ℕ) → fetch_n p rom x ≤ worst_fetch_n p x
+  n_most x = (n_greatest p x (worst_fetch_n p x) refl).none_above rom tt
 
-  pub s_most : (x : ℕ) → s_price p rom x ≤ worst_s_price p x
-  s_most x = (s_greatest p x (worst_s_price p x) refl).none_above rom tt
+  pub s_most : (x : ℕ) → fetch_s p rom x ≤ worst_fetch_s p x
+  s_most x = (s_greatest p x (worst_fetch_s p x) refl).none_above rom tt
 
   -- where a word of the kind leads from address a, by its own fields
   abbrev pub Reaches : Kind → ℕ → Type 0
@@ -70,9 +70,9 @@ module _ (p : Profile) (rom : RomTimes) (class : Class) (a : ℕ) where
   -- the two fetches of a word that jumps
   abbrev pub jump_price : Kind → ℕ → ℕ
   jump_price kind.Plain t = 0
-  jump_price (kind.Branch offset) t = n_price p rom t + s_price p rom (ahead_of t 4)
-  jump_price (kind.Call offset) t = n_price p rom t + s_price p rom (ahead_of t 4)
-  jump_price kind.Writer t = n_price p rom t + s_price p rom (ahead_of t 4)
+  jump_price (kind.Branch offset) t = fetch_n p rom t + fetch_s p rom (ahead_of t 4)
+  jump_price (kind.Call offset) t = fetch_n p rom t + fetch_s p rom (ahead_of t 4)
+  jump_price kind.Writer t = fetch_n p rom t + fetch_s p rom (ahead_of t 4)
   jump_price kind.Trap t = 0
   jump_price kind.Unallocated t = 0
 

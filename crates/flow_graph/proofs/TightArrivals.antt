@@ -6,7 +6,7 @@ use Rattle.bus_ticks.specs.Dearest.{AreDearest}
 use Rattle.bus_ticks.specs.declared.profile.Class.{Class}
 use Rattle.bus_ticks.specs.declared.profile.Profile.{Profile}
 use Rattle.bus_ticks.specs.declared.profile.RomTimes.{RomTimes}
-use Rattle.bus_ticks.specs.Prices.{ahead_of, n_price, s_price}
+use Rattle.bus_ticks.specs.Prices.{ahead_of, fetch_n, fetch_s}
 use Rattle.arm2_effect.specs.ProgramCounter.{branch_target}
 use Rattle.flow_graph.specs.Edges.{arrival_ticks, jump_ticks, landings}
 use Rattle.flow_graph.specs.Kinds.{is_writer}
@@ -34,9 +34,9 @@ module _ (st : Stated) (p : Profile) (rom : RomTimes) (class : Class) (dear : Ar
     pub price : jump_price p rom class a k t ≡ arrival_ticks p st.leave k to
 
   jump_at : (inside : List ℕ) (x t : ℕ) → t ≡ x
-      → n_price p rom t + s_price p rom (ahead_of t 4) ≡ jump_ticks p st.leave (At inside x)
+      → fetch_n p rom t + fetch_s p rom (ahead_of t 4) ≡ jump_ticks p st.leave (At inside x)
   jump_at inside x t e =
-      ap (λ y. n_price p rom y + s_price p rom (ahead_of y 4)) e
+      ap (λ y. fetch_n p rom y + fetch_s p rom (ahead_of y 4)) e
       ∙ omega (arith, n_worst p rom class a dear x, s_worst p rom class a dear (ahead_of x 4))
 
   pub arrives_exactly : (k : Kind) (t : ℕ) (to : Place) → Reaches p rom class a k t

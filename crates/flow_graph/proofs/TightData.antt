@@ -4,7 +4,7 @@ use Rattle.std.proofs.lemmas.Bool.{false≢true}
 use Rattle.bus_ticks.specs.declared.profile.Class.{Class}
 use Rattle.bus_ticks.specs.declared.profile.Profile.{Profile}
 use Rattle.bus_ticks.specs.declared.profile.RomTimes.{RomTimes}
-use Rattle.bus_ticks.specs.Prices.{ahead_of, n_price, s_price}
+use Rattle.bus_ticks.specs.Prices.{ahead_of, fetch_n, fetch_s}
 use Rattle.arm2_decode.specs.Names.{is_compare, is_pc, register_number}
 use Rattle.arm2_decode.specs.Writers.{data_writes_pc}
 use Rattle.arm2_decode.specs.declared.flags.Flags.{Flags}
@@ -34,7 +34,7 @@ abbrev pub branch_kind : Bool → ℕ → Kind
 branch_kind link offset = cond link (kind.Call offset) (kind.Branch offset)
 
 branch_jumps : (p : Profile) (rom : RomTimes) (class : Class) (a : ℕ) (link : Bool) (offset t : ℕ)
-    → jump_price p rom class a (branch_kind link offset) t ≡ n_price p rom t + s_price p rom (ahead_of t 4)
+    → jump_price p rom class a (branch_kind link offset) t ≡ fetch_n p rom t + fetch_s p rom (ahead_of t 4)
 branch_jumps p rom class a true offset t = refl
 branch_jumps p rom class a false offset t = refl
 
@@ -60,7 +60,7 @@ module _ (c : Setting) where
   jumps : (k : Kind) (t : ℕ) (e : Effect) → e.kind ≡ ended.Plain → e.accesses ≡ onward (start c) t
       → address_of (r15_in e.regs) ≡ t
       → jump_price c.profile c.rom c.class (start c) k t
-      ≡ n_price c.profile c.rom t + s_price c.profile c.rom (ahead_of t 4)
+      ≡ fetch_n c.profile c.rom t + fetch_s c.profile c.rom (ahead_of t 4)
       → (is_writer k ≡ true → IsDearestTarget c.st c.profile c.to t)
       → EffectPays c k (work.Internal 0) e
   jumps k t e plain accesses there price target = record {

@@ -7,8 +7,8 @@ use Rattle.bus_ticks.specs.Dearest.{AreDearest, IsDearestBlock}
 use Rattle.bus_ticks.specs.declared.profile.Class.{Class}
 use Rattle.bus_ticks.specs.declared.profile.Profile.{Profile}
 use Rattle.bus_ticks.specs.declared.profile.RomTimes.{RomTimes}
-use Rattle.bus_ticks.specs.Prices.{ahead_of, block_price, by_class, class_at, n_price, ram_price, s_price, word_address}
-use Rattle.bus_ticks.specs.Worst.{IsOf, worst_block, worst_n_price, worst_s_price}
+use Rattle.bus_ticks.specs.Prices.{ahead_of, block_price, by_class, class_at, fetch_n, ram_price, fetch_s, word_address}
+use Rattle.bus_ticks.specs.Worst.{IsOf, worst_block, worst_fetch_n, worst_fetch_s}
 use Rattle.arm2_effect.specs.Effects.{Access, FetchN, FetchS, Internal, Word, straight, refill, onward}
 use Rattle.arm2_effect.specs.Effects.{ticks_of}
 use Rattle.arm2_transfer.proofs.Ticks.{load_ticks-jumps, load_ticks-passes, ticks_of-append}
@@ -72,10 +72,10 @@ AreDear p rom class words lowest store =
     IsDearestBlock p class words store (record { address = lowest; rom = rom })
 
 module _ (p : Profile) (rom : RomTimes) (class : Class) (a : ℕ) (dear : AreDearest p rom) where
-  pub n_worst : (x : ℕ) → n_price p rom x ≡ worst_n_price p x
+  pub n_worst : (x : ℕ) → fetch_n p rom x ≡ worst_fetch_n p x
   n_worst x = ap (λ r. by_class (class_at x) p.n r p.unfitted) (dear x)
 
-  pub s_worst : (x : ℕ) → s_price p rom x ≡ worst_s_price p x
+  pub s_worst : (x : ℕ) → fetch_s p rom x ≡ worst_fetch_s p x
   s_worst x = ap (λ r. by_class (class_at x) (ram_price p x) r p.unfitted) (dear x)
 
   -- accesses of a step that ends at t: their words are of the class, and they cost what the kind and the work
@@ -90,7 +90,7 @@ module _ (p : Profile) (rom : RomTimes) (class : Class) (a : ℕ) (dear : AreDea
 
   -- the kinds that jump
   pub onward_pays : (k : Kind) (t : ℕ)
-      → jump_price p rom class a k t ≡ n_price p rom t + s_price p rom (ahead_of t 4)
+      → jump_price p rom class a k t ≡ fetch_n p rom t + fetch_s p rom (ahead_of t 4)
       → Pays k (work.Internal 0) (onward a t) t
   onward_pays k t jumps = record {
     in_class = All-append (IsIn class) (straight a) (refill t) (straight_in class a) (refill_in class t);

@@ -5,7 +5,7 @@ use Rattle.std.specs.Prelude.{◌≡◌, ℕ, ◌+◌, ◌-◌, ◌*◌, true, f
 use Rattle.std.specs.Prelude.{◌∷◌, ◌++◌, length, take, map, slice_index, Option, Some, None, Contains}
 use Rattle.arm2_decode.specs.Names.{is_always, is_never}
 use Rattle.arm2_effect.specs.ProgramCounter.{branch_target}
-use Rattle.bus_ticks.specs.Worst.{worst_n_price, worst_s_price, worst_block, worst_leave_of}
+use Rattle.bus_ticks.specs.Worst.{worst_fetch_n, worst_fetch_s, worst_block, worst_leave_of}
 use Rattle.bus_ticks.specs.declared.profile.Class.{Class}
 use Rattle.bus_ticks.specs.declared.profile.Profile.{Profile}
 use Rattle.bus_ticks.specs.Prices.{ahead_of}
@@ -67,13 +67,13 @@ landings st calls address Unallocated = []
 
 -- an instruction fetches the word after the next, which follows the access before it
 abbrev pub passing_ticks : Profile → ℕ → ℕ
-passing_ticks profile address = worst_s_price profile (ahead_of address 8)
+passing_ticks profile address = worst_fetch_s profile (ahead_of address 8)
 
 -- but after a store it does not follow it
 abbrev pub fetch_ticks : Profile → ℕ → Work → ℕ
 fetch_ticks profile address (Internal cycles) = passing_ticks profile address
 fetch_ticks profile address (Load words) = passing_ticks profile address
-fetch_ticks profile address (Store words) = worst_n_price profile (ahead_of address 8)
+fetch_ticks profile address (Store words) = worst_fetch_n profile (ahead_of address 8)
 
 -- besides its fetches: internal cycles, and words of the stated class
 abbrev pub work_ticks : Profile → Class → Work → ℕ
@@ -83,7 +83,7 @@ work_ticks profile class (Store words) = worst_block profile class words true
 
 -- a jump fetches the word at its target, and the next; out of the handler, at any address of the stated class
 abbrev pub jump_ticks : Profile → Class → Place → ℕ
-jump_ticks profile leave (At calls t) = worst_n_price profile t + worst_s_price profile (ahead_of t 4)
+jump_ticks profile leave (At calls t) = worst_fetch_n profile t + worst_fetch_s profile (ahead_of t 4)
 jump_ticks profile leave Exit = worst_leave_of profile leave
 
 -- which words jump

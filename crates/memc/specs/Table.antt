@@ -23,5 +23,6 @@ pub record IsPaged (shift : ℕ) (words : List ℕ) (pages : List (Option Entry)
       → slice_index_or held e.physical None ≡ Some l
   pub holds : (p l : ℕ) → slice_index_or held p None ≡ Some l
       → (e : Entry) × (slice_index_or pages l None ≡ Some e) × (e.physical ≡ p)
-  pub physical_below : (l : ℕ) (e : Entry) → slice_index_or pages l None ≡ Some e → e.physical < PHYSICAL_PAGES
+  pub physical_below : (l : ℕ) (e : Entry) → slice_index_or pages l None ≡ Some e
+      → e.physical < PHYSICAL_PAGES
   pub level_below : (l : ℕ) (e : Entry) → slice_index_or pages l None ≡ Some e → e.level < 4

@@ -19,8 +19,8 @@ pub struct Entry {
     pub level: u8,
 }
 
-/// The physical pages, of `2^shift` bytes, under a table of logical pages and its inverse. The shift is from 12
-/// to 15, and stays.
+/// The physical pages, of `2^shift` bytes, under a table of logical pages and its inverse. The shift is
+/// from 12 to 15, and stays.
 #[derive(Drop)]
 pub struct Pages {
     shift: u32,
