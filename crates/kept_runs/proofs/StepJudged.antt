@@ -72,12 +72,12 @@ after_regs : (stops : Bool) (s a b : State) → length a.regs ≡ length s.regs 
 after_regs true s a b h k = h
 after_regs false s a b h k = k
 
-module _ (words : Words) (st : Stated) (flow : Flow) (graph : IsFlowGraph words st flow.profile flow) (place : Place) (s : State) (i : Input) (stands : IsAtPlace flow place s) where
+module _ (words : Words) (st : Stated) (flow : Flow) (graph : IsFlowGraph words st flow.profile flow) (place : Place) (s : State) (i : Input) (is_there : IsAtPlace flow place s) where
   abbrev class : Class
   class = class_of st (address_in s.regs)
 
   abbrev calls : List ℕ
-  calls = stands.at.0
+  calls = is_there.at.0
 
   abbrev bus : Bus
   bus = with_lines i.lines.0 s.bus
@@ -86,7 +86,7 @@ module _ (words : Words) (st : Stated) (flow : Flow) (graph : IsFlowGraph words 
   IsStepOf stepped after e = IsEdgeOf words st flow.profile s i stepped after e
 
   there : {stepped : Stepped} {after : State} {e : Edge} → (h : IsEdgeOf words st flow.profile s i stepped after e) → FetchesWord words s h.executes.has.word
-  there h = record { stands = h.executes.has.word_is; fetches = h.executes.fetches ∙ h.executes.has.word_is }
+  there h = record { is_there = h.executes.has.word_is; fetches = h.executes.fetches ∙ h.executes.has.word_is }
 
   none_without_word : HasNoWord words s → TakesNone words st flow place s i
   none_without_word lacks stepped after e h from = lacks h.executes.has.word (there h)
@@ -136,7 +136,7 @@ module _ (words : Words) (st : Stated) (flow : Flow) (graph : IsFlowGraph words 
       read = has_read word s.regs r reads
 
       has : HasAction words (address_in s.regs) read.action
-      has = record { word = word; word_is = at_word.stands; is = read.is }
+      has = record { word = word; word_is = at_word.is_there; is = read.is }
 
       -- a word of another class
       none_with_other : (access : Access) → HasOther class r.transfer access → TakesNone words st flow place s i
@@ -172,7 +172,7 @@ module _ (words : Words) (st : Stated) (flow : Flow) (graph : IsFlowGraph words 
       -- an edge of the step is one of the place's
       met : {other : Stepped} {last : State} {e : Edge} → (h : IsEdgeOf words st flow.profile s i other last e) → IsMet going e
       met {other = other} {last = last} {e = e} h =
-          let word_is : h.executes.has.word ≡ word = same_Some h.executes.has.word word (sym h.executes.has.word_is ∙ at_word.stands) in
+          let word_is : h.executes.has.word ≡ word = same_Some h.executes.has.word word (sym h.executes.has.word_is ∙ at_word.is_there) in
           let act : h.action ≡ read.action = one_action word h.action read.action (subst (λ w. IsAction w h.action) word_is h.executes.has.is) read.is in
           let taken : IsTaken words st flow.profile h.calls h.action s stepped e = subst (λ (x : Stepped). IsTaken words st flow.profile h.calls h.action s x e) (same h).0 h.taken in
           met_by h.calls e (subst (λ (a : Action). IsTaken words st flow.profile h.calls a s stepped e) act taken)
@@ -191,10 +191,10 @@ module _ (words : Words) (st : Stated) (flow : Flow) (graph : IsFlowGraph words 
 
       executes : HasNoOther class r.transfer → Executes words st flow.profile read.action s i stepped after
       executes clean = record {
-        registers = stands.machine.registers;
-        prices = stands.machine.prices;
+        registers = is_there.machine.registers;
+        prices = is_there.machine.prices;
         has = has;
-        fetches = at_word.fetches ∙ sym at_word.stands;
+        fetches = at_word.fetches ∙ sym at_word.is_there;
         step = step;
         plain = plain;
         transfers = moves.in_class plain_is.kind clean;
@@ -212,7 +212,7 @@ module _ (words : Words) (st : Stated) (flow : Flow) (graph : IsFlowGraph words 
           let same_long : length step.moved.regs ≡ length s.regs = moves.registers plain_is.kind in
           ap (λ (x : State). length x.regs) step.after_is
           ∙ after_regs (is_stopped step.moved.kind) s s _ refl same_long
-          ∙ stands.machine.registers
+          ∙ is_there.machine.registers
 
       pub takes : HasNoOther class r.transfer → stepped.ticks < 65536 → (k : ℕ) → IsFound flow place going k → Takes words st flow place s i after (record { edge = k; stepped = stepped })
       takes clean small k found =
@@ -225,12 +225,12 @@ module _ (words : Words) (st : Stated) (flow : Flow) (graph : IsFlowGraph words 
               executes = executes clean;
               taken = record {
                 is_edge = has_edge_is_edge words st flow.profile flow graph e (Contains-get_or flow.edges k _ found.known);
-                from = found.from ∙ stands.at.1;
+                from = found.from ∙ is_there.at.1;
                 label = one_label e.label (label_if r.holds) found.met.0 ∙ label_is;
                 to = found.met.1;
               };
             };
             from = found.from;
-            machine = record { registers = long; prices = same_profile s i stepped after step ∙ stands.machine.prices };
+            machine = record { registers = long; prices = same_profile s i stepped after step ∙ is_there.machine.prices };
             small = small;
           }

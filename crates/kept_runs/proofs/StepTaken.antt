@@ -53,8 +53,8 @@ module _ (words : Words) (st : Stated) (flow : Flow) (tree : Tree) (well : IsWel
       let low : x.number < length flow.places = can.known in
       ap (λ (v : ℕ). place_at flow.places v) (get_or_default tree.order x.number (length flow.places) 0 (omega (arith, t.whole, low)))
 
-  pub stands : IsAtPlace flow (place_at flow.places (get_or tree.order x.number 0)) s
-  stands = record { machine = can.machine; at = (can.at.0, sym place_is ∙ can.at.1) }
+  pub is_there : IsAtPlace flow (place_at flow.places (get_or tree.order x.number 0)) s
+  is_there = record { machine = can.machine; at = (can.at.0, sym place_is ∙ can.at.1) }
 
   -- an edge of the graph, by its number
   pub in_tree : (k : ℕ) → k < length flow.edges → Contains tree.edges (edge_at tree.edges k)

@@ -57,7 +57,7 @@ pub fn judge_step(
     requires graph { IsFlowGraph handler.image.now handler.statement.now handler.graph.now.profile
         handler.graph.now }
     requires known { place < length handler.graph.now.places }
-    requires stands { IsAtPlace handler.graph.now (place_at handler.graph.now.places place) machine.old }
+    requires is_there { IsAtPlace handler.graph.now (place_at handler.graph.now.places place) machine.old }
     ensures { MatchResult result
         (Takes handler.entry.image.now handler.entry.statement.now handler.entry.graph.now
         (place_at handler.entry.graph.now.places place) machine.old input machine.new)

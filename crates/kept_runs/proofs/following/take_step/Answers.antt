@@ -5,7 +5,7 @@ use Rattle.numbered_walks.specs.declared.span.NumberedEdge.{NumberedEdge}
 use Rattle.kept_runs.specs.Judging.{IsAtPlace, Strays, Takes}
 use Rattle.kept_runs.specs.Passing.{counted, nothing}
 use Rattle.kept_runs.specs.Stays.{IsOver, Turns}
-use Rattle.kept_runs.proofs.StepTaken.{goes, index_in, room, stands, strays, to_in, turns_back}
+use Rattle.kept_runs.proofs.StepTaken.{goes, index_in, room, is_there, strays, to_in, turns_back}
 use Rattle.kept_runs.proofs.following.take_step.Goals as goal
 
 pub bounds-order-follower : goal.bounds-order-follower
@@ -22,10 +22,10 @@ judge_step-requires-clause-known c =
     subst (λ (xs : List ℕ). get_or xs c.args.follower.now.number 0 < length c.args.handler.graph.now.places) (sym c.order.ensures)
     (index_in c.args.handler.image.now c.args.handler.statement.now c.args.handler.graph.now c.args.handler.tree.now c.requires.well_formed c.requires.handler.tree_is c.args.follower.now c.args.machine.now c.requires.can)
 
-pub judge_step-requires-clause-stands : goal.judge_step-requires-clause-stands
-judge_step-requires-clause-stands c =
+pub judge_step-requires-clause-is_there : goal.judge_step-requires-clause-is_there
+judge_step-requires-clause-is_there c =
     subst (λ (xs : List ℕ). IsAtPlace c.args.handler.graph.now (place_at c.args.handler.graph.now.places (get_or xs c.args.follower.now.number 0)) c.args.machine.now) (sym c.order.ensures)
-    (stands c.args.handler.image.now c.args.handler.statement.now c.args.handler.graph.now c.args.handler.tree.now c.requires.well_formed c.requires.handler.tree_is c.args.follower.now c.args.machine.now c.requires.can)
+    (is_there c.args.handler.image.now c.args.handler.statement.now c.args.handler.graph.now c.args.handler.tree.now c.requires.well_formed c.requires.handler.tree_is c.args.follower.now c.args.machine.now c.requires.can)
 
 pub returns-in-Err : goal.returns-in-Err
 returns-in-Err c =

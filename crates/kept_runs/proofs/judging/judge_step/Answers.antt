@@ -13,7 +13,7 @@ use Rattle.kept_runs.proofs.judging.judge_step.Goals as goal
 pub returns-in_default : goal.returns-in_default
 returns-in_default c =
     let place = place_at c.args.handler.graph.now.places c.args.place in
-    other_word c.args.handler.image.now c.args.handler.statement.now c.args.handler.graph.now c.requires.graph place c.args.machine.now c.args.input c.requires.stands c.in_default.ensures
+    other_word c.args.handler.image.now c.args.handler.statement.now c.args.handler.graph.now c.requires.graph place c.args.machine.now c.args.input c.requires.is_there c.in_default.ensures
 
 pub other_of-other-requires : goal.other_of-other-requires
 other_of-other-requires c = c.read_word-reading.ensures.few
@@ -21,19 +21,19 @@ other_of-other-requires c = c.read_word-reading.ensures.few
 pub returns-in-Taken : goal.returns-in-Taken
 returns-in-Taken c =
     let place = place_at c.args.handler.graph.now.places c.args.place in
-    exception c.args.handler.image.now c.args.handler.statement.now c.args.handler.graph.now c.requires.graph place c.args.machine.now c.args.input c.requires.stands
+    exception c.args.handler.image.now c.args.handler.statement.now c.args.handler.graph.now c.requires.graph place c.args.machine.now c.args.input c.requires.is_there
     c.step-stepped.result c.step-stepped.new.self c.step-stepped.ensures.step c.in-Some.word c.in-Some.ensures c.in-Taken.vector c.in-Taken.is
 
 pub returns-in-Stopped : goal.returns-in-Stopped
 returns-in-Stopped c =
     let place = place_at c.args.handler.graph.now.places c.args.place in
-    stop c.args.handler.image.now c.args.handler.statement.now c.args.handler.graph.now c.requires.graph place c.args.machine.now c.args.input c.requires.stands
+    stop c.args.handler.image.now c.args.handler.statement.now c.args.handler.graph.now c.requires.graph place c.args.machine.now c.args.input c.requires.is_there
     c.step-stepped.result c.step-stepped.new.self c.step-stepped.ensures.step c.in-Some.word c.in-Some.ensures c.in-Stopped.why c.in-Stopped.is
 
 pub returns-in-Some-other : goal.returns-in-Some-other
 returns-in-Some-other c =
     let place = place_at c.args.handler.graph.now.places c.args.place in
-    other_class c.args.handler.image.now c.args.handler.statement.now c.args.handler.graph.now c.requires.graph place c.args.machine.now c.args.input c.requires.stands
+    other_class c.args.handler.image.now c.args.handler.statement.now c.args.handler.graph.now c.requires.graph place c.args.machine.now c.args.input c.requires.is_there
     c.step-stepped.result c.step-stepped.new.self c.step-stepped.ensures.step c.in-Plain.is c.in-Some.word c.in-Some.ensures c.read_word-reading.result c.read_word-reading.ensures.reading
     c.in-Some-other.access
     (subst (λ (k : Class). HasOther k c.read_word-reading.result.transfer c.in-Some-other.access) (c.class_at.ensures ∙ ap (class_of c.args.handler.statement.now) c.address-address.ensures.address) c.in-Some-other.ensures)
@@ -44,7 +44,7 @@ edge_taken-requires c = c.requires.known
 pub returns-in-Some-edge_taken : goal.returns-in-Some-edge_taken
 returns-in-Some-edge_taken c =
     let place = place_at c.args.handler.graph.now.places c.args.place in
-    takes c.args.handler.image.now c.args.handler.statement.now c.args.handler.graph.now c.requires.graph place c.args.machine.now c.args.input c.requires.stands
+    takes c.args.handler.image.now c.args.handler.statement.now c.args.handler.graph.now c.requires.graph place c.args.machine.now c.args.input c.requires.is_there
     c.step-stepped.result c.step-stepped.new.self c.step-stepped.ensures.step c.in-Plain.is c.in-Some.word c.in-Some.ensures c.read_word-reading.result c.read_word-reading.ensures.reading
     (subst (λ (k : Class). HasNoOther k c.read_word-reading.result.transfer) (c.class_at.ensures ∙ ap (class_of c.args.handler.statement.now) c.address-address.ensures.address) c.in_default-other.ensures)
     c.step-stepped.ensures.bound c.in-Some-edge_taken.edge
@@ -53,7 +53,7 @@ returns-in-Some-edge_taken c =
 pub returns-in-None : goal.returns-in-None
 returns-in-None c =
     let place = place_at c.args.handler.graph.now.places c.args.place in
-    elsewhere c.args.handler.image.now c.args.handler.statement.now c.args.handler.graph.now c.requires.graph place c.args.machine.now c.args.input c.requires.stands
+    elsewhere c.args.handler.image.now c.args.handler.statement.now c.args.handler.graph.now c.requires.graph place c.args.machine.now c.args.input c.requires.is_there
     c.step-stepped.result c.step-stepped.new.self c.step-stepped.ensures.step c.in-Plain.is c.in-Some.word c.in-Some.ensures c.read_word-reading.result c.read_word-reading.ensures.reading
     (subst (λ (k : Class). HasNoOther k c.read_word-reading.result.transfer) (c.class_at.ensures ∙ ap (class_of c.args.handler.statement.now) c.address-address.ensures.address) c.in_default-other.ensures)
     (Contains-get_or c.args.handler.graph.now.places c.args.place Exit c.requires.known)
