@@ -6,7 +6,7 @@ ghost use Rattle.diagnosis.specs.Outline.{Item, States, item_of, key_value_of};
 ghost use Rattle.loader.specs.Labels.{NamedAddresses};
 ghost use Rattle.diagnosis.specs.Refused.{AreTaken, address_as, is_twice, passes};
 
-use crate::outline::{Item, KeyValue};
+use crate::outline::{self, KeyValue};
 use crate::values::address_at;
 use loader::Labels;
 use std::alloc::{AllocError, Global};
@@ -76,15 +76,19 @@ impl Taken {
     }
 
     /// Takes an item, and says whether it is a value whose address was taken.
-    pub(crate) fn take(&mut self, labels: &Labels, item: &Item<'_>) -> Result<bool, AllocError>
+    pub(crate) fn take(
+        &mut self,
+        labels: &Labels,
+        item: &outline::Item<'_>,
+    ) -> Result<bool, AllocError>
         ensures twice { (before : List Item) → AreTaken labels.now before self.old
             → IfOk result (λ twice. twice ≡ is_twice labels.now before (item_of item.now)) }
         ensures taken { (before : List Item) → AreTaken labels.now before self.old
             → OnOk result (AreTaken labels.now (item_of item.now ∷ before) self.new) }
     {
         match item {
-            Item::States(pair) => self.take_value(labels, pair),
-            Item::Begins(_) | Item::Ends => {
+            outline::Item::States(pair) => self.take_value(labels, pair),
+            outline::Item::Begins(_) | outline::Item::Ends => {
                 self.destinations.clear();
                 Ok(false)
             }

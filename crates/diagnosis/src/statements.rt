@@ -378,15 +378,15 @@ impl Report {
     fn put_if_missing(
         &mut self,
         alloc: Global,
-        open: &OpenTable<'_>,
+        opened: &OpenTable<'_>,
         key: &[u8],
     ) -> Result<(), AllocError>
         ensures { OnOk result
-            (Adds (missing_row (table_of open.now.table.now) (map item_of open.now.rest.now) key.now)
+            (Adds (missing_row (table_of opened.now.table.now) (map item_of opened.now.rest.now) key.now)
             self.old self.new) }
     {
-        if value_at(open.rest, key).is_none() {
-            return self.put_table(alloc, open.table, b" has no ", key);
+        if value_at(opened.rest, key).is_none() {
+            return self.put_table(alloc, opened.table, b" has no ", key);
         }
         Ok(())
     }
@@ -395,34 +395,39 @@ impl Report {
     fn put_missing(
         &mut self,
         alloc: Global,
-        open: &OpenTable<'_>,
+        opened: &OpenTable<'_>,
         keys: &[&str],
     ) -> Result<(), AllocError>
         ensures { OnOk result
-            (Adds (missing_rows (table_of open.now.table.now) (map item_of open.now.rest.now)
+            (Adds (missing_rows (table_of opened.now.table.now) (map item_of opened.now.rest.now)
             (map (λ k. k.now) keys.now)) self.old self.new) }
     {
         for key in keys {
-            self.put_if_missing(alloc, open, key.as_bytes())?;
+            self.put_if_missing(alloc, opened, key.as_bytes())?;
         }
         Ok(())
     }
 
     // Adds what is wrong with a target's destinations by its kind.
-    fn put_target(&mut self, alloc: Global, open: &OpenTable<'_>) -> Result<(), AllocError>
+    fn put_target(&mut self, alloc: Global, opened: &OpenTable<'_>) -> Result<(), AllocError>
         ensures { OnOk result
-            (Adds (target_rows (table_of open.now.table.now) (map item_of open.now.rest.now))
+            (Adds (target_rows (table_of opened.now.table.now) (map item_of opened.now.rest.now))
             self.old self.new) }
     {
         const WITH_TO: &[&str] = &["jump", "call"];
         const WITHOUT_TO: &[&str] = &["return", "leave"];
-        let kind = value_at(open.rest, b"kind");
-        match value_at(open.rest, b"to") {
-            None => self.put_if(alloc, is_kind_of(WITH_TO, kind), open.table, b" has no to"),
+        let kind = value_at(opened.rest, b"kind");
+        match value_at(opened.rest, b"to") {
+            None => self.put_if(
+                alloc,
+                is_kind_of(WITH_TO, kind),
+                opened.table,
+                b" has no to",
+            ),
             Some(_) => self.put_if(
                 alloc,
                 is_kind_of(WITHOUT_TO, kind),
-                open.table,
+                opened.table,
                 b" may have no to",
             ),
         }
@@ -430,17 +435,17 @@ impl Report {
 
     // Adds what a table lacks, or that it is in single brackets.
     #[tactic(auto, using(crate::proofs::RefusedLemmas::adds_both))]
-    fn put_kinds(&mut self, alloc: Global, open: &OpenTable<'_>) -> Result<(), AllocError>
+    fn put_kinds(&mut self, alloc: Global, opened: &OpenTable<'_>) -> Result<(), AllocError>
         ensures { OnOk result
-            (Adds (kind_rows (table_of open.now.table.now) (map item_of open.now.rest.now))
+            (Adds (kind_rows (table_of opened.now.table.now) (map item_of opened.now.rest.now))
             self.old self.new) }
     {
-        let table = open.table;
+        let table = opened.table;
         if !table.is_listed {
             return self.put_table(alloc, table, b" is to stand in double brackets", b"");
         }
-        self.put_missing(alloc, open, needed_keys(table.name))?;
-        self.put_target(alloc, open)
+        self.put_missing(alloc, opened, needed_keys(table.name))?;
+        self.put_target(alloc, opened)
     }
 
     // Adds the first destination after those that a target may have, if there is one.
@@ -462,31 +467,31 @@ impl Report {
 
     // Adds that a loop's header lies outside it, and the first destination after those that there may be.
     #[tactic(auto, using(crate::proofs::RefusedLemmas::adds_both))]
-    fn put_ranges(&mut self, asked: &Asked<'_>, open: &OpenTable<'_>) -> Result<(), AllocError>
+    fn put_ranges(&mut self, asked: &Asked<'_>, opened: &OpenTable<'_>) -> Result<(), AllocError>
         ensures { OnOk result
-            (Adds (range_rows asked.now.labels.now (table_of open.now.table.now)
-            (map item_of open.now.rest.now)) self.old self.new) }
+            (Adds (range_rows asked.now.labels.now (table_of opened.now.table.now)
+            (map item_of opened.now.rest.now)) self.old self.new) }
     {
-        let holds = is_misplaced(asked.labels, open.rest);
+        let holds = is_misplaced(asked.labels, opened.rest);
         let words = b" has its header outside first to last";
-        self.put_if(asked.alloc, holds, open.table, words)?;
-        self.put_extra_destination(asked.alloc, open.rest)
+        self.put_if(asked.alloc, holds, opened.table, words)?;
+        self.put_extra_destination(asked.alloc, opened.rest)
     }
 
     // Adds what is wrong with a table.
-    fn put_of_table(&mut self, asked: &Asked<'_>, open: &OpenTable<'_>) -> Result<(), AllocError>
+    fn put_of_table(&mut self, asked: &Asked<'_>, opened: &OpenTable<'_>) -> Result<(), AllocError>
         ensures { OnOk result
-            (Adds (table_rows asked.now.labels.now asked.now.fault (table_of open.now.table.now)
-            (map item_of open.now.rest.now)) self.old self.new) }
+            (Adds (table_rows asked.now.labels.now asked.now.fault (table_of opened.now.table.now)
+            (map item_of opened.now.rest.now)) self.old self.new) }
     {
         let alloc = asked.alloc;
         match asked.fault {
             StatementFault::UnknownKey => {
-                let holds = keys_of(open.table.name).is_none();
-                self.put_if(alloc, holds, open.table, b" is no list of statements")
+                let holds = keys_of(opened.table.name).is_none();
+                self.put_if(alloc, holds, opened.table, b" is no list of statements")
             }
-            StatementFault::WrongKind => self.put_kinds(alloc, open),
-            StatementFault::OutOfRange => self.put_ranges(asked, open),
+            StatementFault::WrongKind => self.put_kinds(alloc, opened),
+            StatementFault::OutOfRange => self.put_ranges(asked, opened),
             _ => Ok(()),
         }
     }
