@@ -22,12 +22,12 @@ abbrev pub shifted_of : BitsAndCarry → Shifted
 shifted_of s = record { value = word_of s.bits; carry = s.carry }
 
 -- the current mode: that in R15
-abbrev pub mode_in : List ℕ → Mode
-mode_in regs = mode_of (r15_in regs)
+abbrev pub current_mode : List ℕ → Mode
+current_mode regs = mode_of (r15_in regs)
 
 -- a register of the current mode
 abbrev pub current_in : Register → List ℕ → ℕ
-current_in register regs = register_in (mode_in regs) (register_number register) regs
+current_in register regs = register_in (current_mode regs) (register_number register) regs
 
 -- A register as the first operand, or as a base: of R15 the address bits alone, so many bytes ahead.
 abbrev pub first_of : ℕ → Register → List ℕ → ℕ

@@ -22,7 +22,7 @@ use Rattle.arm2_effect.specs.ProgramCounter.{address_of, branch_target, flags_of
 use Rattle.arm2_effect.specs.ProgramCounter.{mode_of, psr_of, psr_with, r15_ahead, r15_of, r15_restored}
 use Rattle.arm2_effect.specs.Effects.{Effect, Internal, onward, straight}
 use Rattle.arm2_effect.specs.Exceptions.{taken}
-use Rattle.arm2_effect.specs.Operands.{current_in, first_of, mode_in, rotated_byte}
+use Rattle.arm2_effect.specs.Operands.{current_in, first_of, current_mode, rotated_byte}
 use Rattle.arm2_effect.specs.Operands.{shifted_by_amount, shifted_by_register}
 use Rattle.arm2_effect.specs.Outcomes.{flags_after, outcome_of}
 
@@ -40,7 +40,7 @@ entered sets_flags rd out regs =
       accesses = straight (address_of (r15_in regs));
       regs =
           with_r15 (next_r15 sets_flags out (r15_in regs))
-          (with_register (mode_in regs) (register_number rd) out.value regs);
+          (with_register (current_mode regs) (register_number rd) out.value regs);
     }
 
 -- a value enters R15: its address bits, and where flags are set the PSR and the mode too

@@ -20,7 +20,7 @@ use Rattle.arm2_effect.specs.declared.modes.Mode.{Mode}
 use Rattle.arm2_effect.specs.Effects.{stopped}
 use Rattle.arm2_effect.specs.Exceptions.{taken}
 use Rattle.arm2_effect.specs.Modes.{r15_in, is_user}
-use Rattle.arm2_effect.specs.Operands.{current_in, first_of, mode_in}
+use Rattle.arm2_effect.specs.Operands.{current_in, first_of, current_mode}
 use Rattle.arm2_transfer.specs.declared.bus.Bus.{Bus}
 use Rattle.arm2_transfer.specs.declared.single_fields.Single.{Single}
 use Rattle.arm2_transfer.specs.declared.span.Span.{Span}
@@ -62,10 +62,10 @@ module _ (x : Block) (regs : List ℕ) (bus : Bus) where
 
   abbrev words_on : (i : ℕ) → List Register → List Word
   words_on i registers =
-      words_from bus.memc (is_user (mode_in regs)) (not x.load) (lowest_at x regs) i registers
+      words_from bus.memc (is_user (current_mode regs)) (not x.load) (lowest_at x regs) i registers
 
   abbrev located_at : (i : ℕ) → Result Spot Refused
-  located_at i = located bus.memc (word_address (lowest_at x regs) i) (is_user (mode_in regs)) (not x.load)
+  located_at i = located bus.memc (word_address (lowest_at x regs) i) (is_user (current_mode regs)) (not x.load)
 
   word_placed : (i : ℕ) (r : Register) (rest : List Register) (found : Result Spot Refused)
       (words : List Word) → located_at i ≡ found → (is_abort found || any_abort words) ≡ false
@@ -154,17 +154,17 @@ module _ (x : Block) (regs : List ℕ) (bus : Bus) (port : ℕ) (psr : Bool) (mo
 
 -- ## A store
 
-module _ (x : Block) (regs : List ℕ) (bus : Bus) (low : place (mode_in regs) x.rn < 26)
+module _ (x : Block) (regs : List ℕ) (bus : Bus) (low : place (current_mode regs) x.rn < 26)
     (long : 26 < length regs) where
   abbrev after : List ℕ
-  after = with_base x.write_back (mode_in regs) x.rn (base_moved x regs) regs
+  after = with_base x.write_back (current_mode regs) x.rn (base_moved x regs) regs
 
   abbrev value_in : Register → List ℕ → ℕ
-  value_in register now = given (mode_for x (mode_in regs)) register now
+  value_in register now = given (mode_for x (current_mode regs)) register now
 
   stores_first : (register : Register) → Stores x regs true register (value_in register regs)
   stores_first register =
-      let here = given_here (mode_for x (mode_in regs)) (place (mode_in regs) x.rn) register regs low in
+      let here = given_here (mode_for x (current_mode regs)) (place (current_mode regs) x.rn) register regs low in
       record {
         lowest_base = λ is first. here is;
         later_base = λ is later writes. absurd (true≢false later);
@@ -176,30 +176,30 @@ module _ (x : Block) (regs : List ℕ) (bus : Bus) (low : place (mode_in regs) x
       → (x.write_back ≡ true) ⊎ (x.write_back ≡ false) → value_in register after ≡ value_in register regs
   stays register apart (inl writes) =
       ap (value_in register) (cond-true x.write_back _ _ writes)
-      ∙ given_apart (mode_for x (mode_in regs)) (place (mode_in regs) x.rn) register regs low
+      ∙ given_apart (mode_for x (current_mode regs)) (place (current_mode regs) x.rn) register regs low
       (base_moved x regs) apart
   stays register apart (inr keeps) = ap (value_in register) (cond-false x.write_back _ _ keeps)
 
   stores_later : (register : Register) → Stores x regs false register (value_in register after)
   stores_later register =
-      let here = given_here (mode_for x (mode_in regs)) (place (mode_in regs) x.rn) register after low in
+      let here = given_here (mode_for x (current_mode regs)) (place (current_mode regs) x.rn) register after low in
       record {
         lowest_base = λ is first. absurd (false≢true first);
         later_base = λ is later writes.
-            here is ∙ based_written (mode_in regs) x.rn (base_moved x regs) regs low long x.write_back writes;
+            here is ∙ based_written (current_mode regs) x.rn (base_moved x regs) regs low long x.write_back writes;
         kept_base = λ is keeps.
-            here is ∙ based_kept (mode_in regs) x.rn (base_moved x regs) regs low long x.write_back keeps;
+            here is ∙ based_kept (current_mode regs) x.rn (base_moved x regs) regs low long x.write_back keeps;
         other = λ apart. stays register apart (cases_Bool x.write_back);
       }
 
   later_put : (i : ℕ) (registers : List Register) (moves : List Move) (old : Bus)
       → Placed x regs bus i registers moves → (i == 0) ≡ false
-      → PutsWords x regs bus i registers old (all_put (mode_for x (mode_in regs)) after moves old)
+      → PutsWords x regs bus i registers old (all_put (mode_for x (current_mode regs)) after moves old)
   later_put i [] [] old placed later = refl
   later_put i [] (move ∷ moves) old placed later = absurd placed
   later_put i (a ∷ rest) [] old placed later = absurd placed
   later_put i (a ∷ rest) (move ∷ moves) old placed later =
-      let mode = mode_for x (mode_in regs) in
+      let mode = mode_for x (current_mode regs) in
       let word = value_in a after in
       let next_later = ne_eqb (i + 1) 0 (λ e. omega (arith, e)) in
       let more = later_put (i + 1) rest moves (put move.spot word old) placed.2 next_later in (
@@ -215,13 +215,13 @@ module _ (x : Block) (regs : List ℕ) (bus : Bus) (low : place (mode_in regs) x
       )
 
   words_put : (registers : List Register) (moves : List Move) → Placed x regs bus 0 registers moves
-      → PutsWords x regs bus 0 registers bus (block_put (mode_for x (mode_in regs)) regs after moves bus)
+      → PutsWords x regs bus 0 registers bus (block_put (mode_for x (current_mode regs)) regs after moves bus)
   unfolding block_put
   words_put [] [] placed = refl
   words_put [] (move ∷ moves) placed = absurd placed
   words_put (a ∷ rest) [] placed = absurd placed
   words_put (a ∷ rest) (move ∷ moves) placed =
-      let mode = mode_for x (mode_in regs) in
+      let mode = mode_for x (current_mode regs) in
       let word = value_in a regs in
       let more = later_put 1 rest moves (put move.spot word bus) placed.2 refl in (
         move.spot,
@@ -260,24 +260,24 @@ module _ (x : Block) (port : ℕ) (regs : List ℕ) (bus : Bus) where
   abbrev moves_base : Bool
   moves_base = list_any (is_base x regs) (registers_in x.list)
 
-  module _ (moves : List Move) (low : place (mode_in regs) x.rn < 26) (long : 26 < length regs)
+  module _ (moves : List Move) (low : place (current_mode regs) x.rn < 26) (long : 26 < length regs)
       (placed : Placed x regs bus 0 (registers_in x.list) moves) where
     block_loads_base : x.load ≡ true → BlockBase x port regs bus (block_loads x span port moves regs bus)
     unfolding block_loads
     block_loads_base loads =
-        let mode = mode_for x (mode_in regs) in
+        let mode = mode_for x (current_mode regs) in
         let moved = base_moved x regs in
-        let s = place (mode_in regs) x.rn in
-        let written = with_base x.write_back (mode_in regs) x.rn moved (passed regs) in
-        let long_passed = passed_long (mode_in regs) x.rn moved regs low long in
-        let long_written = based_long (mode_in regs) x.rn moved (passed regs) low long_passed x.write_back in
+        let s = place (current_mode regs) x.rn in
+        let written = with_base x.write_back (current_mode regs) x.rn moved (passed regs) in
+        let long_passed = passed_long (current_mode regs) x.rn moved regs low long in
+        let long_written = based_long (current_mode regs) x.rn moved (passed regs) low long_passed x.write_back in
         let registers = registers_in x.list in
         let r = r15_in regs in
         let none = none_loaded x regs bus port x.user mode r s low 0 registers moves written placed in
         let one =
         one_loaded x regs bus port x.user mode r s low 0 registers moves written placed long_written in
-        let based = based_written (mode_in regs) x.rn moved (passed regs) low long_passed x.write_back in
-        let unbased = based_kept (mode_in regs) x.rn moved (passed regs) low long_passed x.write_back in
+        let based = based_written (current_mode regs) x.rn moved (passed regs) low long_passed x.write_back in
+        let unbased = based_kept (current_mode regs) x.rn moved (passed regs) low long_passed x.write_back in
         let at = position_or_len (is_base x regs) registers in
         let same : (b : Bool) → loads_base x regs ≡ b → moves_base ≡ b =
         λ b is. ap (λ (l : Bool). l && moves_base) (sym loads) ∙ is in
@@ -289,7 +289,7 @@ module _ (x : Block) (port : ℕ) (regs : List ℕ) (bus : Bus) where
                 (found.0, subst (λ (k : ℕ). IsWordSpot x regs bus k found.0) first found.1, found.2);
             written_back = λ is writes. none (same false is) ∙ based writes;
             kept = λ is keeps.
-                none (same false is) ∙ unbased keeps ∙ passed_base (mode_in regs) x.rn moved regs low long;
+                none (same false is) ∙ unbased keeps ∙ passed_base (current_mode regs) x.rn moved regs low long;
           };
           stores = λ store. absurd (false≢true (sym store ∙ loads));
         }
@@ -298,11 +298,11 @@ module _ (x : Block) (port : ℕ) (regs : List ℕ) (bus : Bus) where
     unfolding block_stores
     block_stores_base stores =
         let moved = base_moved x regs in
-        let written = with_base x.write_back (mode_in regs) x.rn moved regs in
-        let long_written = based_long (mode_in regs) x.rn moved regs low long x.write_back in
-        let passes = passed_base (mode_in regs) x.rn moved written low long_written in
-        let based = based_written (mode_in regs) x.rn moved regs low long x.write_back in
-        let unbased = based_kept (mode_in regs) x.rn moved regs low long x.write_back in
+        let written = with_base x.write_back (current_mode regs) x.rn moved regs in
+        let long_written = based_long (current_mode regs) x.rn moved regs low long x.write_back in
+        let passes = passed_base (current_mode regs) x.rn moved written low long_written in
+        let based = based_written (current_mode regs) x.rn moved regs low long x.write_back in
+        let unbased = based_kept (current_mode regs) x.rn moved regs low long x.write_back in
         record {
           leaves = record {
             loaded = λ is. absurd (false≢true (sym stores ∙ (and_parts x.load moves_base is).0));
@@ -317,7 +317,7 @@ module _ (x : Block) (port : ℕ) (regs : List ℕ) (bus : Bus) where
     block_carried_base = cond_both x.load _ _ (BlockBase x port regs bus) block_loads_base block_stores_base
 
   block_base_by : (within : Bool) (found : Result (List Move) TransferFault)
-      → place (mode_in regs) x.rn < 26 → 26 < length regs
+      → place (current_mode regs) x.rn < 26 → 26 < length regs
       → verdict_of (words_on x regs bus 0 (registers_in x.list)) ≡ found
       → (cond within (block_by x span port found regs bus) (out_of_space regs bus)).kind ≡ Plain
       → BlockBase x port regs bus (cond within (block_by x span port found regs bus) (out_of_space regs bus))
@@ -331,7 +331,7 @@ module _ (x : Block) (port : ℕ) (regs : List ℕ) (bus : Bus) where
       → BlockBase x port regs bus (block_moved x port regs bus)
   unfolding block_at block_moved
   block_base all plain =
-      let low = base_slot (mode_in regs) x.rn (base_not_r15 (register_number x.rn) x.list x.allocated) in
+      let low = base_slot (current_mode regs) x.rn (base_not_r15 (register_number x.rn) x.list x.allocated) in
       block_base_by _ _ low (omega (arith, all)) refl plain
 
 -- ## A single transfer
@@ -351,25 +351,25 @@ module _ (x : Single) (port : ℕ) (regs : List ℕ) (bus : Bus) (not_15 : regis
   moved = moved_by x.up base x.offset
 
   abbrev slot : ℕ
-  slot = place (mode_in regs) x.rn
+  slot = place (current_mode regs) x.rn
 
   low : slot < 26
-  low = base_slot (mode_in regs) x.rn not_15
+  low = base_slot (current_mode regs) x.rn not_15
 
   long_passed : 26 < length (passed regs)
-  long_passed = passed_long (mode_in regs) x.rn moved regs low long
+  long_passed = passed_long (current_mode regs) x.rn moved regs low long
 
   long_after : 26 < length (base_after x base regs)
-  long_after = based_long (mode_in regs) x.rn moved (passed regs) low long_passed (writes_base x.before x.write_back)
+  long_after = based_long (current_mode regs) x.rn moved (passed regs) low long_passed (writes_base x.before x.write_back)
 
   written : writes_base x.before x.write_back ≡ true → slice_index (base_after x base regs) slot ≡ moved
   written writes =
-      based_written (mode_in regs) x.rn moved (passed regs) low long_passed (writes_base x.before x.write_back) writes
+      based_written (current_mode regs) x.rn moved (passed regs) low long_passed (writes_base x.before x.write_back) writes
 
   kept : writes_base x.before x.write_back ≡ false → slice_index (base_after x base regs) slot ≡ base
   kept keeps =
-      based_kept (mode_in regs) x.rn moved (passed regs) low long_passed (writes_base x.before x.write_back) keeps
-      ∙ passed_base (mode_in regs) x.rn moved regs low long
+      based_kept (current_mode regs) x.rn moved (passed regs) low long_passed (writes_base x.before x.write_back) keeps
+      ∙ passed_base (current_mode regs) x.rn moved regs low long
 
   module _ (spot : Spot) (here : IsSpot x regs bus spot) where
     single_loads_base : x.load ≡ true → SingleBase x port regs bus (single_loads x base port spot regs bus)
@@ -378,7 +378,7 @@ module _ (x : Single) (port : ℕ) (regs : List ℕ) (bus : Bus) (not_15 : regis
         let word = made_of x.byte (address_at x regs) (seen bus port spot) in
         let same : (b : Bool) → (x.load && is_own_base x) ≡ b → is_own_base x ≡ b =
         λ b is. ap (λ (l : Bool). l && is_own_base x) (sym loads) ∙ is in
-        let mode = mode_in regs in
+        let mode = current_mode regs in
         let now = base_after x base regs in
         let loaded_in = loaded_here mode slot x.rd now low false (r15_in regs) word long_after in
         let loaded_by = loaded_apart mode slot x.rd now low false (r15_in regs) word in
@@ -395,7 +395,7 @@ module _ (x : Single) (port : ℕ) (regs : List ℕ) (bus : Bus) (not_15 : regis
     single_stores_base : x.load ≡ false → SingleBase x port regs bus (single_stores x base spot regs bus)
     unfolding single_stores
     single_stores_base stores =
-        let gives = given_here (mode_in regs) slot x.rd regs low in
+        let gives = given_here (current_mode regs) slot x.rd regs low in
         record {
           leaves = record {
             loaded = λ is. absurd (false≢true (sym stores ∙ (and_parts x.load (is_own_base x) is).0));
@@ -406,7 +406,7 @@ module _ (x : Single) (port : ℕ) (regs : List ℕ) (bus : Bus) (not_15 : regis
             spot,
             here,
             ap (λ (value : ℕ). put_single x.byte spot (address_at x regs) value bus)
-                (gives (same_stands (mode_in regs) x.rd x.rn own)),
+                (gives (same_stands (current_mode regs) x.rd x.rn own)),
           );
         }
 
@@ -416,7 +416,7 @@ module _ (x : Single) (port : ℕ) (regs : List ℕ) (bus : Bus) (not_15 : regis
         cond_both x.load _ _ (SingleBase x port regs bus) single_loads_base single_stores_base
 
   single_base_by : (within : Bool) (found : Result Spot TransferFault)
-      → or_fault (located bus.memc (address_at x regs) (has_user_rights x (mode_in regs)) (not x.load)) ≡ found
+      → or_fault (located bus.memc (address_at x regs) (has_user_rights x (current_mode regs)) (not x.load)) ≡ found
       → (cond within (single_by x base port found regs bus) (out_of_space regs bus)).kind ≡ Plain
       → SingleBase x port regs bus
       (cond within (single_by x base port found regs bus) (out_of_space regs bus))

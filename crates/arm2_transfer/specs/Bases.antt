@@ -19,11 +19,11 @@ use Rattle.arm2_transfer.specs.Registers.{given, moved_by}
 use Rattle.arm2_transfer.specs.Moved.{Moved}
 use Rattle.arm2_transfer.specs.Single.{address_for, has_user_rights}
 use Rattle.arm2_transfer.specs.Block.{lowest_of, mode_for}
-use Rattle.arm2_effect.specs.Operands.{current_in, mode_in}
+use Rattle.arm2_effect.specs.Operands.{current_in, current_mode}
 
 -- what the base's register, by the mode before the instruction, holds after it
 abbrev pub base_left : Register → (before after : List ℕ) → ℕ
-base_left rn before after = register_in (mode_in before) (register_number rn) after
+base_left rn before after = register_in (current_mode before) (register_number rn) after
 
 -- What a transfer leaves in its base register: the loaded word, where it loads that register; else the moved
 -- base, where it writes it back; else the base as it was.
@@ -40,7 +40,7 @@ address_at x regs = address_for x (current_in x.rn regs)
 -- where the word goes or comes from
 abbrev pub IsSpot : Single → List ℕ → Bus → Spot → Type 0
 IsSpot x regs bus spot =
-    located bus.memc (address_at x regs) (has_user_rights x (mode_in regs)) (not x.load) ≡ Ok spot
+    located bus.memc (address_at x regs) (has_user_rights x (current_mode regs)) (not x.load) ≡ Ok spot
 
 -- whether the register that is loaded or stored is the base register
 abbrev pub is_own_base : Single → Bool
@@ -79,14 +79,14 @@ lowest_at x regs = lowest_of x (current_in x.rn regs) (words_in x)
 -- where word number i goes or comes from, by the memory controller as it is before the first is moved
 abbrev pub IsWordSpot : Block → List ℕ → Bus → (i : ℕ) → Spot → Type 0
 IsWordSpot x regs bus i spot =
-    located bus.memc (word_address (lowest_at x regs) i) (is_user (mode_in regs)) (not x.load) ≡ Ok spot
+    located bus.memc (word_address (lowest_at x regs) i) (is_user (current_mode regs)) (not x.load) ≡ Ok spot
 
 -- Whether a register of the list is the base register. Where S asks for User's registers and the base is R13
 -- of IRQ, the R13 of the list is another.
 abbrev pub is_base : Block → List ℕ → Register → Bool
 is_base x regs register =
-    slot_of (mode_for x (mode_in regs)) (register_number register)
-    == slot_of (mode_in regs) (register_number x.rn)
+    slot_of (mode_for x (current_mode regs)) (register_number register)
+    == slot_of (current_mode regs) (register_number x.rn)
 
 abbrev pub loads_base : Block → List ℕ → Bool
 loads_base x regs = x.load && list_any (is_base x regs) (registers_in x.list)
@@ -104,7 +104,7 @@ pub record Stores (x : Block) (regs : List ℕ) (first : Bool) (register : Regis
   pub later_base : is_base x regs register ≡ true → first ≡ false → x.write_back ≡ true
       → word ≡ base_moved x regs
   pub kept_base : is_base x regs register ≡ true → x.write_back ≡ false → word ≡ current_in x.rn regs
-  pub other : is_base x regs register ≡ false → word ≡ given (mode_for x (mode_in regs)) register regs
+  pub other : is_base x regs register ≡ false → word ≡ given (mode_for x (current_mode regs)) register regs
 
 -- the bus once the words of some registers were put on it, from number i on; `start` is the bus before word 0
 abbrev pub PutsWords : Block → List ℕ → (start : Bus) → (i : ℕ) → List Register → (old new : Bus) → Type 0

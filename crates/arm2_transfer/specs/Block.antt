@@ -19,7 +19,7 @@ use Rattle.arm2_transfer.specs.Bus.{put, seen}
 use Rattle.arm2_transfer.specs.Words.{registers_in, words_from, verdict_of}
 use Rattle.arm2_transfer.specs.Registers.{moved_by, given, with_loaded, with_base, passed}
 use Rattle.arm2_transfer.specs.Moved.{Moved, out_of_space, faulted, load_accesses, store_accesses}
-use Rattle.arm2_effect.specs.Operands.{mode_in}
+use Rattle.arm2_effect.specs.Operands.{current_mode}
 
 -- the lowest address of IA, IB, DA and DB, of 32 bits and without its two low bits
 abbrev pub lowest_of : Block → (base k : ℕ) → ℕ
@@ -39,11 +39,11 @@ mode_for x mode = if x.user && not (x.load && is_listed x.list R15) then User el
 
 -- whose registers are moved, by the mode in these
 abbrev pub block_mode : Block → List ℕ → Mode
-block_mode x regs = mode_for x (mode_in regs)
+block_mode x regs = mode_for x (current_mode regs)
 
 -- the registers with the base written back, where W is set
 abbrev pub written_back : Block → Span → List ℕ → List ℕ
-written_back x span regs = with_base x.write_back (mode_in regs) x.rn span.base regs
+written_back x span regs = with_base x.write_back (current_mode regs) x.rn span.base regs
 
 -- the words of some moves, from the registers of a mode
 abbrev pub all_put : Mode → List ℕ → List Move → Bus → Bus
@@ -106,12 +106,12 @@ block_at x span port regs bus =
     if nat_lt span.lowest SPACE_END then
     block_by x span port
     (verdict_of
-    (words_from bus.memc (is_user (mode_in regs)) (not x.load) span.lowest 0
+    (words_from bus.memc (is_user (current_mode regs)) (not x.load) span.lowest 0
     (registers_in x.list))) regs bus
     else out_of_space regs bus
 
 -- a block transfer
 unfoldable pub block_moved : Block → (port : ℕ) → List ℕ → Bus → Moved
 block_moved x port regs bus =
-    let base = register_in (mode_in regs) (register_number x.rn) regs in
+    let base = register_in (current_mode regs) (register_number x.rn) regs in
     block_at x (span_of x base (length (registers_in x.list))) port regs bus

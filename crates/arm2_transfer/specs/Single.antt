@@ -12,7 +12,7 @@ use Rattle.arm2_decode.specs.declared.names.Register.{Register}
 use Rattle.arm2_effect.specs.declared.modes.Mode.{Mode}
 use Rattle.arm2_effect.specs.declared.step_end.Kind.TheVariants.{Plain}
 use Rattle.arm2_effect.specs.Modes.{r15_in, is_user}
-use Rattle.arm2_effect.specs.Operands.{first_of, mode_in, shifted_by_amount}
+use Rattle.arm2_effect.specs.Operands.{first_of, current_mode, shifted_by_amount}
 use Rattle.arm2_decode.specs.Names.{is_pc}
 use Rattle.arm2_effect.specs.ProgramCounter.{address_of, mode_of}
 use Rattle.arm2_transfer.specs.declared.bus.Bus.{Bus}
@@ -35,7 +35,7 @@ has_user_rights x mode = is_user mode || asks_for_user x.before x.write_back
 -- R15 one instruction on, and the moved base in its register of the current mode where it is written back
 abbrev pub base_after : Single → (base : ℕ) → List ℕ → List ℕ
 base_after x base regs =
-    with_base (writes_base x.before x.write_back) (mode_in regs) x.rn
+    with_base (writes_base x.before x.write_back) (current_mode regs) x.rn
     (moved_by x.up base x.offset) (passed regs)
 
 -- a load's registers: the word comes after the base is written back, so that it stays where both name one
@@ -86,7 +86,7 @@ single_at x base port regs bus =
     if nat_lt (address_for x base) SPACE_END then
     single_by x base port
     (or_fault
-    (located bus.memc (address_for x base) (has_user_rights x (mode_in regs))
+    (located bus.memc (address_for x base) (has_user_rights x (current_mode regs))
     (not x.load))) regs bus
     else out_of_space regs bus
 

@@ -42,13 +42,13 @@ target_by None d = if is_label d then Some (Label d) else None
 abbrev pub run_target : List ℕ → Option Target
 run_target d = target_by (run_number d) d
 
-abbrev pub target_first : List Piece → Option (Target × List Piece)
-target_first (Run d ∷ ps) = with_rest ps (run_target d)
-target_first (Sign Ampersand ∷ ps) = option_map (λ f. (Number f.0, f.1)) (first_hex ps)
-target_first _ = None
+abbrev pub first_target : List Piece → Option (Target × List Piece)
+first_target (Run d ∷ ps) = with_rest ps (run_target d)
+first_target (Sign Ampersand ∷ ps) = option_map (λ f. (Number f.0, f.1)) (first_hex ps)
+first_target _ = None
 
 abbrev pub only_target : List Piece → Option Target
-only_target ps = all_read (target_first ps)
+only_target ps = all_read (first_target ps)
 
 abbrev pub only_number : List Piece → Option ℕ
 only_number ps = all_read (first_number ps)

@@ -7,7 +7,7 @@ ghost use Rattle.asm_text.specs.Statements.{action_of, adr_said, code_said, dcd_
 ghost use Rattle.asm_text.specs.Statements.{after_word, operands_of};
 ghost use Rattle.asm_text.specs.Statements.{only_number, only_target};
 ghost use Rattle.asm_text.specs.Statements.{is_label, plain_said, run_target};
-ghost use Rattle.asm_text.specs.Statements.{target_first, single_said, single_with, statement_of};
+ghost use Rattle.asm_text.specs.Statements.{first_target, single_said, single_with, statement_of};
 ghost use Rattle.asm_text.specs.Statements.{value_step, values_in};
 ghost use Rattle.asm_text.specs.declared.statement.Expects.TheVariants.{Start};
 ghost use Rattle.asm_text.specs.declared.statement.TextFault.TheVariants.{Memory};
@@ -96,7 +96,7 @@ fn only_number(tokens: &[Token<'_>]) -> Option<u32>
 // The number or label that some tokens begin with, and those after it.
 fn first_target<'a, 'b>(tokens: &'a [Token<'b>]) -> Option<(Value<'b>, &'a [Token<'b>])>
     ensures { option_map (λ f. (target_of f.0, map piece_of f.1.now)) result
-        ≡ target_first (map piece_of tokens.now) }
+        ≡ first_target (map piece_of tokens.now) }
 {
     match tokens {
         [Token::Run(text), rest @ ..] => {

@@ -9,7 +9,7 @@ ghost use Rattle.assembler.specs.declared.fault.LineFault.{LineFault};
 use crate::sweep::FIRST_ADDRESS;
 use asm_text::lines_are_spelled;
 
-/// States where a source's first line lies that no ORG precedes: at 8000. It does nothing.
+/// States where a source begins that has no ORG in front of its first line: at 8000. It does nothing.
 pub fn first_address()
     ensures { FIRST_ADDRESS ≡ 0x8000 }
 {}

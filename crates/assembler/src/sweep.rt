@@ -23,7 +23,7 @@ use asm_text::{Code, Line, Reference, Statement, TextFault, Value, read_line};
 use loader::{Labels, MOST_SEGMENTS, MOST_WORDS, lies_in_memory, may_hold};
 use std::alloc::Global;
 
-/// Where the first line of a source lies that no ORG precedes, in bytes.
+/// Where a source begins that has no ORG in front of its first line, in bytes.
 pub const FIRST_ADDRESS: u32 = 0x8000;
 
 /// Words side by side: the address of the first, and that after the last.

@@ -82,7 +82,7 @@ fn source_draft(alloc: Global, source: &[u8], entry: &[u8]) -> Result<Vec<u8>, R
 ///
 /// # Errors
 ///
-/// `Source` with the line of a text, `Image` of an image, then `NoSuchEntry`; `Memory`. After any but
+/// `Source`, with its line, of a text; `Image` of an image, then `NoSuchEntry`; `Memory`. After any but
 /// `Device` nothing was written.
 pub fn draft_report<O: Output>(
     alloc: Global,

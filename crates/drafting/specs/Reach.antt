@@ -44,8 +44,8 @@ module _ (words : Words) where
   HasReturnAddress at = HasShape keeps_return_address words (before at)
 
   -- a place of the table after a jump, from 0 on: so many words on from the jump's address plus 8, where a
-  -- branch with that offset would lead. Up to it all are branches, and a table has
-  -- no more than a target may have destinations
+  -- branch with that offset would lead. Up to it all are branches, and a table has no more places than a
+  -- target may have destinations
   pub record IsTablePlace (at n : ℕ) : Type 0 where
     pub jumps : JumpsIntoTable at
     pub few : n < MOST_DESTINATIONS

@@ -1,4 +1,4 @@
--- Lists of call addresses: no more than calls nest in a handler.
+-- Lists of call addresses: MOST_CALLS at most, as deep as calls may nest in a handler.
 use Rattle.std.specs.Prelude.{◌≡◌, ℕ, ◌-◌, ◌≤◌, ◌<◌, List, ◌++◌, length, take, replicate, All}
 use Rattle.bus_ticks.specs.declared.space.TheConstants.{SPACE_END}
 use Rattle.flow_graph.specs.declared.call_list.Calls.TheInside.{Inside}

@@ -29,7 +29,7 @@ place_address Exit = 0
 abbrev pub place_at : List Place → ℕ → Place
 place_at places n = slice_index_or places n Exit
 
--- addresses lie below 4000000, and a place is inside of no more than the most calls
+-- addresses lie below 4000000, and a place is inside of at most MOST_CALLS calls
 abbrev pub IsInRange : List ℕ → ℕ → Type 0
 IsInRange calls address =
     (address < SPACE_END) × (length calls ≤ MOST_CALLS) × All (λ c. c < SPACE_END) calls

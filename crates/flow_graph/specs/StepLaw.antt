@@ -46,7 +46,7 @@ label_by flags c = if condition_holds c flags then Do else Skip
 abbrev pub label_in : List ℕ → Cond → Label
 label_in regs c = label_by (flags_of (r15_in regs)) c
 
--- an address is that of the place; Exit's is each address of the leave class
+-- an address is that of the place; Exit's are all addresses of the leave class
 abbrev pub IsPlaceOf : (leave : Class) → ℕ → Place → Type 0
 IsPlaceOf leave t (At calls address) = address ≡ t
 IsPlaceOf leave t Exit = IsOf leave t

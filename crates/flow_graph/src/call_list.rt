@@ -46,7 +46,7 @@ impl Calls {
         }
     }
 
-    /// The list with one more address, or None where it holds the most.
+    /// The list with one more address, or None where it holds [`MOST_CALLS`].
     pub fn with(self, address: u32) -> Option<Calls>
         requires { address < SPACE_END }
         ensures longer { IfSome result (λ calls. calls ≡ self ++ address ∷ []) }

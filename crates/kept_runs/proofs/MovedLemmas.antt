@@ -240,7 +240,7 @@ module _ (class : Class) (regs : List ℕ) (bus : Bus) where
       let h = has.1 in (
         h.number == 0,
         subst (λ (b : Bool). Contains accesses (Word b (h.number == 0) access.address)) (sym h.store)
-            (subst (λ (n : ℕ). Contains accesses (Word store (h.number == 0) n)) (sym h.is_there) (each h.number h.below)),
+            (subst (λ (n : ℕ). Contains accesses (Word store (h.number == 0) n)) (sym h.address_is) (each h.number h.below)),
       )
 
   -- the first of another class, where the accesses in front of the words are none of the transfer's
@@ -256,7 +256,7 @@ module _ (class : Class) (regs : List ℕ) (bus : Bus) where
         after = at.0;
         accesses_are =
             subst (λ (b : Bool). accesses ≡ (front ++ words_at store address h.number) ++ Word b (h.number == 0) access.address ∷ at.0) (sym h.store)
-            (subst (λ (n : ℕ). accesses ≡ (front ++ words_at store address h.number) ++ Word store (h.number == 0) n ∷ at.0) (sym h.is_there) at.1);
+            (subst (λ (n : ℕ). accesses ≡ (front ++ words_at store address h.number) ++ Word store (h.number == 0) n ∷ at.0) (sym h.address_is) at.1);
         before_in =
             transfers_in class (front ++ words_at store address h.number)
             (All-append (IsIn class) front (words_at store address h.number) front_in (words_in class store address h.number h.before));

@@ -86,7 +86,7 @@ module _ (words : Words) (st : Stated) (flow : Flow) (graph : IsFlowGraph words 
   IsStepOf stepped after e = IsEdgeOf words st flow.profile s i stepped after e
 
   there : {stepped : Stepped} {after : State} {e : Edge} → (h : IsEdgeOf words st flow.profile s i stepped after e) → FetchesWord words s h.executes.has.word
-  there h = record { is_there = h.executes.has.word_is; fetches = h.executes.fetches ∙ h.executes.has.word_is }
+  there h = record { word_is = h.executes.has.word_is; fetches = h.executes.fetches ∙ h.executes.has.word_is }
 
   none_without_word : HasNoWord words s → TakesNone words st flow place s i
   none_without_word lacks stepped after e h from = lacks h.executes.has.word (there h)
@@ -136,7 +136,7 @@ module _ (words : Words) (st : Stated) (flow : Flow) (graph : IsFlowGraph words 
       read = has_read word s.regs r reads
 
       has : HasAction words (address_in s.regs) read.action
-      has = record { word = word; word_is = at_word.is_there; is = read.is }
+      has = record { word = word; word_is = at_word.word_is; is = read.is }
 
       -- a word of another class
       none_with_other : (access : Access) → HasOther class r.transfer access → TakesNone words st flow place s i
@@ -172,7 +172,7 @@ module _ (words : Words) (st : Stated) (flow : Flow) (graph : IsFlowGraph words 
       -- an edge of the step is one of the place's
       met : {other : Stepped} {last : State} {e : Edge} → (h : IsEdgeOf words st flow.profile s i other last e) → IsMet going e
       met {other = other} {last = last} {e = e} h =
-          let word_is : h.executes.has.word ≡ word = same_Some h.executes.has.word word (sym h.executes.has.word_is ∙ at_word.is_there) in
+          let word_is : h.executes.has.word ≡ word = same_Some h.executes.has.word word (sym h.executes.has.word_is ∙ at_word.word_is) in
           let act : h.action ≡ read.action = one_action word h.action read.action (subst (λ w. IsAction w h.action) word_is h.executes.has.is) read.is in
           let taken : IsTaken words st flow.profile h.calls h.action s stepped e = subst (λ (x : Stepped). IsTaken words st flow.profile h.calls h.action s x e) (same h).0 h.taken in
           met_by h.calls e (subst (λ (a : Action). IsTaken words st flow.profile h.calls a s stepped e) act taken)
@@ -194,7 +194,7 @@ module _ (words : Words) (st : Stated) (flow : Flow) (graph : IsFlowGraph words 
         registers = is_there.machine.registers;
         prices = is_there.machine.prices;
         has = has;
-        fetches = at_word.fetches ∙ sym at_word.is_there;
+        fetches = at_word.fetches ∙ sym at_word.word_is;
         step = step;
         plain = plain;
         transfers = moves.in_class plain_is.kind clean;

@@ -15,7 +15,7 @@ use Rattle.kept_runs.specs.Transfers.{words_of}
 
 -- the machine fetches the image's word at its address
 pub record FetchesWord (words : Words) (s : State) (word : ℕ) : Type 0 where
-  pub is_there : word_of words (address_in s.regs) ≡ Some word
+  pub word_is : word_of words (address_in s.regs) ≡ Some word
   pub fetches : fetched s.bus.memc (r15_in s.regs) ≡ Some word
 
 abbrev pub HasNoWord : Words → State → Type 0

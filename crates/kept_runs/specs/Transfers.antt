@@ -48,7 +48,7 @@ AllOf class t = (i : ℕ) → i < t.words → IsOf class (word_address t.address
 pub record HasOtherOf (class : Class) (t : Transfer) (access : Access) : Type 0 where
   pub number : ℕ
   pub below : number < t.words
-  pub is_there : access.address ≡ word_address t.address number
+  pub address_is : access.address ≡ word_address t.address number
   pub store : access.store ≡ t.store
   pub before : (i : ℕ) → i < number → IsOf class (word_address t.address i)
   pub other : IsOf class access.address → ⊥

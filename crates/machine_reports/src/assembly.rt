@@ -29,7 +29,7 @@ pub(crate) fn size_text(alloc: Global, image: &Image) -> Result<String, AllocErr
 ///
 /// # Errors
 ///
-/// `Source` with the line of a text, `Image` of an image. `Memory`: an allocation failed.
+/// `Source`, with its line, of a text; `Image` of an image. `Memory`: an allocation failed.
 pub fn image_written(alloc: Global, source: &[u8]) -> Result<Written, ReportFault>
     ensures is { IfOk result (λ w. IsWritten source.now w.bytes.items (string_bytes w.line)) }
     ensures fault { IfErr result (BeforeOutput (IsSourceRefused source.now)) }
@@ -48,7 +48,7 @@ pub fn image_written(alloc: Global, source: &[u8]) -> Result<Written, ReportFaul
 ///
 /// # Errors
 ///
-/// `Source` with the line of a text, `Image` of an image, `Memory`; after any but `Device` nothing was
+/// `Source`, with its line, of a text; `Image` of an image, `Memory`; after any but `Device` nothing was
 /// written.
 pub fn asm_report<O: Output>(alloc: Global, source: &[u8], out: &mut O) -> Result<(), ReportFault>
     ensures { Answers O.taken O.failures (λ _ text. IsAsmReport source.now text) (IsSource source.now)

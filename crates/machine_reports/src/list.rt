@@ -46,7 +46,7 @@ fn list_text(alloc: Global, source: &[u8]) -> Result<Vec<u8>, ReportFault>
 ///
 /// # Errors
 ///
-/// `Source` with the line of a text, `Image` of an image, `Memory`; after any but `Device` nothing was
+/// `Source`, with its line, of a text; `Image` of an image, `Memory`; after any but `Device` nothing was
 /// written.
 pub fn list_report<O: Output>(alloc: Global, source: &[u8], out: &mut O) -> Result<(), ReportFault>
     ensures { Answers O.taken O.failures (λ _ text. IsListReport source.now text) (IsSource source.now)

@@ -51,7 +51,8 @@ impl Model for Memc {
 impl Memc {
     /// All words of RAM 0, no ROM words, and all control fields 0.
     ///
-    /// Each of the 128 logical pages lies on the physical page of its number, at level 0.
+    /// Each of the first 128 logical pages lies on the physical page of its number, at level 0; no other is
+    /// mapped.
     ///
     /// # Errors
     ///

@@ -43,7 +43,7 @@ impl Model for Pages {
 }
 
 impl Pages {
-    /// All words 0, and each logical page on the physical page of its number, at level 0.
+    /// All words 0, and each of the first 128 logical pages on the physical page of its number, at level 0.
     ///
     /// # Errors
     ///

@@ -21,7 +21,7 @@ Loads and stores that may be anywhere (see [[access]]):
   00008008     3   STR R0,[R3]
 ";
 
-/// What a bound takes for granted of its handler. It changes no value.
+/// The call that reports what a bound takes for granted of its handler. It changes no value.
 #[derive(Clone, Copy)]
 pub(crate) struct Assumed;
 

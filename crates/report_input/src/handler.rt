@@ -43,7 +43,7 @@ pub fn profile_of(alloc: Global, file: Option<&[u8]>) -> Result<Profile, ReportF
 ///
 /// # Errors
 ///
-/// `Source` with the line of a text, `Image` of an image. `Memory`: an allocation failed.
+/// `Source`, with its line, of a text; `Image` of an image. `Memory`: an allocation failed.
 pub fn read_source(alloc: Global, source: &[u8]) -> Result<Assembly, ReportFault>
     ensures said { IfOk result (Says source.now) }
     ensures fault { IfErr result (IsSourceFault source.now) }
@@ -172,8 +172,9 @@ pub fn graph_is_well_formed(handler: &Handler)
 ///
 /// # Errors
 ///
-/// `Walk` with `NoCompleteWalk` where no walk leads to Exit, else with `BoundTooLarge` where a walk that
-/// keeps the bounds costs 2^63 ticks or more, wherever it ends. `Memory`: an allocation failed.
+/// `Walk` with `NoCompleteWalk` where no walk from the entry leaves the handler, else with `BoundTooLarge`
+/// where a walk from the entry that keeps the bounds costs 2^63 ticks or more, wherever it ends. `Memory`: an
+/// allocation failed.
 pub fn longest_of(alloc: Global, handler: &Handler) -> Result<Longest, ReportFault>
     requires { HasItsTree handler.now }
     ensures longest { IfOk result (IsLongest handler.now.graph handler.now.tree) }

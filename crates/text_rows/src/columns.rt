@@ -4,10 +4,10 @@ ghost use Rattle.text_rows.specs.Columns.{cut_at, cut_row, goes_on, in_columns};
 use itoa::Buffer;
 use std::alloc::AllocError;
 
-/// The most columns that a text or a number is put into, so that it ends at a given one.
+/// The most columns at whose right end a text or a number is put.
 pub const WIDEST_COLUMN: usize = 36;
 
-// As many blanks.
+// So many blanks.
 const BLANKS: &[u8] = b"                                    ";
 
 /// The columns of a row.

@@ -7,7 +7,7 @@ pub returns-then-not-is_of : goal.returns-then-not-is_of
 returns-then-not-is_of c = record {
   number = c.loop-word.word;
   below = c.loop-word-test.true;
-  is_there = c.word_address-address.ensures.address;
+  address_is = c.word_address-address.ensures.address;
   store = refl;
   before = c.loop-word.invariant;
   other = λ is. both_ways c.is_of.result c.if-not-is_of.true (c.is_of.ensures.1 is);
