@@ -3,7 +3,7 @@ use Rattle.std.proofs.Common.{◌≡◌, ℕ, zero, suc, ◌+◌, ◌*◌, ◌/�
 use Rattle.std.proofs.lemmas.List.Sums.{sum-map, sum_by-append}
 use Rattle.bus_ticks.specs.declared.profile.Profile.{Profile}
 use Rattle.bus_ticks.specs.declared.profile.RomTimes.{RomTimes}
-use Rattle.bus_ticks.specs.Prices.{ahead_of, block_price, fetch_n, word_address, word_price}
+use Rattle.bus_ticks.specs.Prices.{ahead_of, transfer, fetch_n, word_address, word_price}
 use Rattle.arm2_effect.specs.Effects.{Access, FetchN, Word, Internal, price_of, ticks_of, straight, refill}
 use Rattle.arm2_transfer.specs.Moved.{words_at, load_accesses, store_accesses}
 
@@ -17,8 +17,8 @@ ticks_of-append p rom xs ys =
 word_address-aligned : (address i : ℕ) → word_address address i / 4 * 4 ≡ word_address address i
 word_address-aligned address i = omega arith
 
-pub ticks_of-words_at : (p : Profile) (rom : RomTimes) (store : Bool) (address k : ℕ) → ticks_of p rom (words_at store address k) ≡ block_price p rom store address k
-unfolding words_at block_price
+pub ticks_of-words_at : (p : Profile) (rom : RomTimes) (store : Bool) (address k : ℕ) → ticks_of p rom (words_at store address k) ≡ transfer p rom store address k
+unfolding words_at transfer
 ticks_of-words_at p rom store address zero = refl
 ticks_of-words_at p rom store address (suc k) =
     let rounded : price_of p rom (Word store (k == 0) (word_address address k)) ≡ word_price p rom store (k == 0) (word_address address k)
@@ -29,7 +29,7 @@ ticks_of-words_at p rom store address (suc k) =
 -- what a load costs, where it jumps and where it does not
 pub load_ticks-jumps : (p : Profile) (rom : RomTimes) (a address k t : ℕ) →
     ticks_of p rom (load_accesses a address k true t)
-    ≡ ticks_of p rom (straight a) + block_price p rom false address k + (ticks_of p rom (Internal 1 ∷ []) + ticks_of p rom (refill t))
+    ≡ ticks_of p rom (straight a) + transfer p rom false address k + (ticks_of p rom (Internal 1 ∷ []) + ticks_of p rom (refill t))
 load_ticks-jumps p rom a address k t =
     let all = ticks_of-append p rom (straight a ++ words_at false address k) (Internal 1 ∷ refill t) in
     let first = ticks_of-append p rom (straight a) (words_at false address k) in
@@ -38,7 +38,7 @@ load_ticks-jumps p rom a address k t =
 
 pub load_ticks-passes : (p : Profile) (rom : RomTimes) (a address k t : ℕ) →
     ticks_of p rom (load_accesses a address k false t)
-    ≡ ticks_of p rom (straight a) + block_price p rom false address k + ticks_of p rom (Internal 1 ∷ [])
+    ≡ ticks_of p rom (straight a) + transfer p rom false address k + ticks_of p rom (Internal 1 ∷ [])
 load_ticks-passes p rom a address k t =
     let all = ticks_of-append p rom (straight a ++ words_at false address k) (Internal 1 ∷ []) in
     let first = ticks_of-append p rom (straight a) (words_at false address k) in
@@ -46,7 +46,7 @@ load_ticks-passes p rom a address k t =
 
 -- what a store costs
 pub store_ticks-are : (p : Profile) (rom : RomTimes) (a next address k fetch words : ℕ) →
-    next ≡ ahead_of a 8 → fetch ≡ fetch_n p rom next → words ≡ block_price p rom true address k →
+    next ≡ ahead_of a 8 → fetch ≡ fetch_n p rom next → words ≡ transfer p rom true address k →
     fetch + words ≡ ticks_of p rom (store_accesses a address k)
 store_ticks-are p rom a next address k fetch words ahead fetched moved =
     let all = ticks_of-append p rom (FetchN (ahead_of a 8) ∷ []) (words_at true address k) in

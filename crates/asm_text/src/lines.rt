@@ -75,7 +75,7 @@ fn after_label<'a>(
 ) -> Result<Line<'a>, TextFault>
     ensures ok { IfOk result
         (λ line. after_label label.now (map piece_of tokens.now) ≡ Ok (line_view line)) }
-    ensures err { IfErr result
+    ensures fault { IfErr result
         (λ fault. (fault ≡ TextFault.Memory)
         ⊎ (after_label label.now (map piece_of tokens.now) ≡ Err fault)) }
 {
@@ -97,7 +97,7 @@ fn after_label<'a>(
 
 fn parse<'a>(alloc: Global, tokens: &[Token<'a>]) -> Result<Line<'a>, TextFault>
     ensures ok { IfOk result (λ line. parsed (map piece_of tokens.now) ≡ Ok (line_view line)) }
-    ensures err { IfErr result
+    ensures fault { IfErr result
         (λ fault. (fault ≡ TextFault.Memory) ⊎ (parsed (map piece_of tokens.now) ≡ Err fault)) }
 {
     match tokens {
@@ -132,7 +132,7 @@ fn parse<'a>(alloc: Global, tokens: &[Token<'a>]) -> Result<Line<'a>, TextFault>
 /// `BadOperand`: what follows the word does not belong to it. `Memory`: an allocation failed.
 pub fn read_line<'a>(alloc: Global, text: &'a [u8]) -> Result<Line<'a>, TextFault>
     ensures ok { IfOk result (λ line. line_of text.now ≡ Ok (line_view line)) }
-    ensures err { IfErr result (λ fault. (fault ≡ TextFault.Memory) ⊎ (line_of text.now ≡ Err fault)) }
+    ensures fault { IfErr result (λ fault. (fault ≡ TextFault.Memory) ⊎ (line_of text.now ≡ Err fault)) }
 {
     let Some(body) = text_body(text) else {
         return Err(TextFault::NotText);

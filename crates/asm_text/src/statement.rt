@@ -335,7 +335,7 @@ fn after_word<'a>(
     tokens: &[Token<'a>],
 ) -> Result<Statement<'a>, TextFault>
     ensures ok { IfOk result (λ s. after_word word (map piece_of tokens.now) ≡ Ok (said s)) }
-    ensures err { IfErr result
+    ensures fault { IfErr result
         (λ fault. (fault ≡ TextFault.Memory) ⊎ (after_word word (map piece_of tokens.now) ≡ Err fault)) }
 {
     match tokens {
@@ -353,7 +353,7 @@ pub(crate) fn read_statement<'a>(
     tokens: &[Token<'a>],
 ) -> Result<Statement<'a>, TextFault>
     ensures ok { IfOk result (λ s. statement_of (map piece_of tokens.now) ≡ Ok (said s)) }
-    ensures err { IfErr result
+    ensures fault { IfErr result
         (λ fault. (fault ≡ TextFault.Memory) ⊎ (statement_of (map piece_of tokens.now) ≡ Err fault)) }
 {
     match tokens {

@@ -42,7 +42,7 @@ fn resolved(labels: &Labels, item: Item<'_>) -> Result<u32, LineFault>
 fn put(alloc: Global, image: &mut Image, labels: &Labels, item: Item<'_>) -> Result<(), AsmFault>
     ensures ok { OnOk result
         (item_step (address_of labels.now) image.old (item_of item.entry) ≡ Ok image.new) }
-    ensures err { IfErr result
+    ensures fault { IfErr result
         (λ fault. Faulted fault item.entry.line
         (item_step (address_of labels.now) image.old (item_of item.entry))) }
 {
@@ -62,7 +62,7 @@ fn put(alloc: Global, image: &mut Image, labels: &Labels, item: Item<'_>) -> Res
 #[tactic(auto, using(crate::proofs::SweepLaws::filled_more), unfolding(crate::specs::Sweeps::filled))]
 fn fill(alloc: Global, labels: &Labels, items: &[Item<'_>]) -> Result<Image, AsmFault>
     ensures ok { IfOk result (λ image. filled (address_of labels.now) [] (map item_of items.now) ≡ Ok image) }
-    ensures err { IfErr result
+    ensures fault { IfErr result
         (λ fault. FaultedAt fault (filled (address_of labels.now) [] (map item_of items.now))) }
 {
     let mut image = Image::new(alloc);
@@ -76,7 +76,7 @@ fn fill(alloc: Global, labels: &Labels, items: &[Item<'_>]) -> Result<Image, Asm
 #[tactic(auto, using(crate::proofs::SweepLaws::swept_more), unfolding(crate::specs::Sweeps::swept))]
 fn swept_source<'a>(alloc: Global, source: &'a [u8]) -> Result<Sweep<'a>, AsmFault>
     ensures ok { IfOk result (λ s. swept at_first 1 (lines_of source.now) ≡ Ok (state_of s)) }
-    ensures err { IfErr result (λ fault. FaultedAt fault (swept at_first 1 (lines_of source.now))) }
+    ensures fault { IfErr result (λ fault. FaultedAt fault (swept at_first 1 (lines_of source.now))) }
 {
     let mut sweep = Sweep::new(alloc);
     let mut rest = source;

@@ -25,7 +25,7 @@ fn place_line<'a>(
     ensures at { IfOk result (λ line. line.at ≡ sweep.old.at) }
     ensures words { IfOk result
         (λ line. length sweep.new.items.items ≡ length sweep.old.items.items + line.words) }
-    ensures err { IfErr result
+    ensures fault { IfErr result
         (λ fault. Faulted fault number (line_step (state_of sweep.old) number (line_of text.now))) }
 {
     let at = sweep.at;

@@ -231,7 +231,7 @@ impl<'a> Sweep<'a> {
             (pending_step (state_of self.old) line (option_copied label.entry) (result_pending pending.entry)
             ≡ Ok (state_of self.new)) }
         ensures within { OnOk result (self.new.at ≤ SPACE_END) }
-        ensures err { IfErr result
+        ensures fault { IfErr result
             (λ fault. Faulted fault line
             (pending_step (state_of self.old) line (option_copied label.entry)
             (result_pending pending.entry))) }
@@ -270,7 +270,7 @@ impl<'a> Sweep<'a> {
         ensures ok { OnOk result
             (org_step (state_of self.old) (option_copied label.entry) address ≡ Ok (state_of self.new)) }
         ensures within { OnOk result (self.new.at ≤ SPACE_END) }
-        ensures err { IfErr result
+        ensures fault { IfErr result
             (λ fault. Faulted fault line (org_step (state_of self.old) (option_copied label.entry) address)) }
     {
         let twice = self.label_fault(label);
@@ -312,7 +312,7 @@ impl<'a> Sweep<'a> {
             (list_step (state_of self.old) line (option_copied label.entry) (map target_of values.now)
             ≡ Ok (state_of self.new)) }
         ensures within { OnOk result (self.new.at ≤ SPACE_END) }
-        ensures err { IfErr result
+        ensures fault { IfErr result
             (λ fault. Faulted fault line
             (list_step (state_of self.old) line (option_copied label.entry) (map target_of values.now))) }
     {
@@ -334,7 +334,7 @@ impl<'a> Sweep<'a> {
         ensures ok { OnOk result
             (said_step (state_of self.old) line (option_copied label.entry) None ≡ Ok (state_of self.new)) }
         ensures within { OnOk result (self.new.at ≤ SPACE_END) }
-        ensures err { IfErr result
+        ensures fault { IfErr result
             (λ fault. Faulted fault line
             (said_step (state_of self.old) line (option_copied label.entry) None)) }
     {
@@ -349,7 +349,7 @@ impl<'a> Sweep<'a> {
         ensures ok { OnOk result
             (line_step (state_of self.old) line (Ok (line_view parsed.now)) ≡ Ok (state_of self.new)) }
         ensures within { OnOk result (self.new.at ≤ SPACE_END) }
-        ensures err { IfErr result
+        ensures fault { IfErr result
             (λ fault. Faulted fault line (line_step (state_of self.old) line (Ok (line_view parsed.now)))) }
     {
         let label = parsed.label;
@@ -379,7 +379,7 @@ impl<'a> Sweep<'a> {
         ensures ok { OnOk result
             (line_step (state_of self.old) line (line_of text.now) ≡ Ok (state_of self.new)) }
         ensures within { OnOk result (self.new.at ≤ SPACE_END) }
-        ensures err { IfErr result
+        ensures fault { IfErr result
             (λ fault. Faulted fault line (line_step (state_of self.old) line (line_of text.now))) }
     {
         match read_line(alloc, text) {

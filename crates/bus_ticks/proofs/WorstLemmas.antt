@@ -10,7 +10,7 @@ use Rattle.bus_ticks.specs.declared.profile.Class.{Class}
 use Rattle.bus_ticks.specs.declared.profile.Class.TheVariants.{Ram, Rom, Io, Any}
 use Rattle.bus_ticks.specs.Ranges.{greatest}
 use Rattle.bus_ticks.specs.Prices.{class_at, by_class, choice, rom_price, io_price, word_price, word_address}
-use Rattle.bus_ticks.specs.Prices.{block_price}
+use Rattle.bus_ticks.specs.Prices.{transfer}
 use Rattle.bus_ticks.specs.Worst.{AtTimes, IsBlockOf, IsGreatest, transfer_price, worst_rom, worst_io}
 use Rattle.bus_ticks.specs.Worst.{worst_block}
 use Rattle.bus_ticks.specs.Dearest.{AreDearest, IsDearestBlock}
@@ -73,8 +73,8 @@ word_small p rom store first x =
 -- a block costs at most its number of words times what each costs at most
 pub block_le : (p : Profile) (rom : RomTimes) (store : Bool) (a top k : ℕ)
     → ((i : ℕ) → i < k → (first : Bool) → word_price p rom store first (word_address a i) ≤ top)
-    → block_price p rom store a k ≤ k * top
-unfolding block_price
+    → transfer p rom store a k ≤ k * top
+unfolding transfer
 block_le p rom store a top zero each = omega arith
 block_le p rom store a top (suc k) each =
     let before = block_le p rom store a top k (λ i h first. each i (omega arith) first) in
@@ -82,8 +82,8 @@ block_le p rom store a top (suc k) each =
 
 pub block_is : (p : Profile) (rom : RomTimes) (store : Bool) (a top k : ℕ)
     → ((i : ℕ) → i < k → (first : Bool) → word_price p rom store first (word_address a i) ≡ top)
-    → block_price p rom store a k ≡ k * top
-unfolding block_price
+    → transfer p rom store a k ≡ k * top
+unfolding transfer
 block_is p rom store a top zero each = omega arith
 block_is p rom store a top (suc k) each =
     let before = block_is p rom store a top k (λ i h first. each i (omega arith) first) in
@@ -108,8 +108,8 @@ plain_step n k s m d before word e f = omega arith
 -- a block in Ram: n for the first word, s for each other, and what quad has more at each multiple of 16
 pub ram_block : (p : Profile) (rom : RomTimes) (store : Bool) (a k d : ℕ) → p.quad ≡ p.s + d
     → ((i : ℕ) → i < suc k → class_at (word_address a i) ≡ Ram)
-    → block_price p rom store a (suc k) ≡ p.n + k * p.s + ((a / 4 + k) / 4 - a / 4 / 4) * d
-unfolding block_price
+    → transfer p rom store a (suc k) ≡ p.n + k * p.s + ((a / 4 + k) / 4 - a / 4 / 4) * d
+unfolding transfer
 ram_block p rom store a zero d e each =
     let none : (a / 4 + 0) / 4 - a / 4 / 4 ≡ 0 = omega arith in
     rw none (omega (arith, word_at p rom store true (word_address a 0) Ram (each 0 (omega arith))))

@@ -65,8 +65,8 @@ ahead_of a by = (a + by) % SPACE_END
 abbrev pub word_address : ℕ → ℕ → ℕ
 word_address address i = 4 * (address / 4 + i) % SPACE_END
 
--- the first words of a block, together
-unfoldable pub block_price : Profile → RomTimes → Bool → ℕ → ℕ → ℕ
-block_price p rom store address zero = 0
-block_price p rom store address (suc k) =
-    block_price p rom store address k + word_price p rom store (k == 0) (word_address address k)
+-- the first words of a transfer, together
+unfoldable pub transfer : Profile → RomTimes → Bool → ℕ → ℕ → ℕ
+transfer p rom store address zero = 0
+transfer p rom store address (suc k) =
+    transfer p rom store address k + word_price p rom store (k == 0) (word_address address k)

@@ -5,7 +5,7 @@ use Rattle.bus_ticks.specs.declared.profile.Profile.{Profile}
 use Rattle.bus_ticks.specs.declared.profile.RomTimes.{RomTimes}
 use Rattle.bus_ticks.specs.declared.profile.Class.{Class}
 use Rattle.bus_ticks.specs.declared.profile.Class.TheVariants.{Ram, Rom, Io, Any}
-use Rattle.bus_ticks.specs.Prices.{ahead_of, class_at, by_class, fetch_n, ram_price, fetch_s, block_price}
+use Rattle.bus_ticks.specs.Prices.{ahead_of, class_at, by_class, fetch_n, ram_price, fetch_s, transfer}
 use Rattle.bus_ticks.specs.Prices.{word_address}
 use Rattle.bus_ticks.specs.Ranges.{greatest}
 
@@ -41,7 +41,7 @@ abbrev pub IsAnyTimes : RomTimes → Type 0
 IsAnyTimes rom = Unit {0}
 
 abbrev pub transfer_price : Profile → ℕ → Bool → AtTimes → ℕ
-transfer_price p words store b = block_price p b.rom store b.address words
+transfer_price p words store b = transfer p b.rom store b.address words
 
 -- the fetch at a target, and the one that follows
 abbrev pub leave_price : Profile → AtTimes → ℕ

@@ -1,18 +1,34 @@
-ghost use Rattle.std.specs.Prelude.{◌≡◌, ◌↔◌, ◌<◌, ◌≤◌, ◌*◌, IsTrue};
+ghost use Rattle.std.specs.Prelude.{◌≡◌, ◌↔◌, ◌<◌, ◌≤◌, ◌*◌, IsTrue, nat_lt};
 ghost use Rattle.bus_ticks.specs.Prices.{class_at, rom_price, io_price, fetch_n, ram_price, fetch_s};
-ghost use Rattle.bus_ticks.specs.Prices.{word_price, block_price};
+ghost use Rattle.bus_ticks.specs.Prices.{word_price, transfer};
 
 use crate::profile::{Class, Profile, RomTimes};
 use crate::space::{HIGH_ROM_START, IO_START, ROM_START, SPACE_END, word_address};
+
+// Whether an address is in RAM. Prices compare: with a match on the class, a step takes 20 instructions more.
+#[inline(always)]
+fn is_ram(address: u32) -> bool
+    ensures { result ≡ nat_lt address IO_START }
+{
+    address < IO_START
+}
+
+// The same for I/O, of an address that is not in RAM.
+#[inline(always)]
+fn is_io(address: u32) -> bool
+    ensures { result ≡ nat_lt address ROM_START }
+{
+    address < ROM_START
+}
 
 /// The class of an address: Ram below 3000000, Io from there and Rom from 3400000 on, never `Any`.
 #[inline(always)]
 pub fn class_of(address: u32) -> Class
     ensures { result ≡ class_at address }
 {
-    if address < IO_START {
+    if is_ram(address) {
         Class::Ram
-    } else if address < ROM_START {
+    } else if is_io(address) {
         Class::Io
     } else {
         Class::Rom
@@ -66,10 +82,12 @@ pub fn fetch_n(profile: &Profile, address: u32, rom: RomTimes) -> u32
     ensures price { result ≡ fetch_n profile.now rom address }
     ensures small { result < 256 }
 {
-    match class_of(address) {
-        Class::Ram => profile.n,
-        Class::Rom => rom_price(profile, rom, address),
-        Class::Io | Class::Any => profile.unfitted,
+    if is_ram(address) {
+        profile.n
+    } else if is_io(address) {
+        profile.unfitted
+    } else {
+        rom_price(profile, rom, address)
     }
 }
 
@@ -93,10 +111,12 @@ pub fn fetch_s(profile: &Profile, address: u32, rom: RomTimes) -> u32
     ensures price { result ≡ fetch_s profile.now rom address }
     ensures small { result < 256 }
 {
-    match class_of(address) {
-        Class::Ram => ram_price(profile, address),
-        Class::Rom => rom_price(profile, rom, address),
-        Class::Io | Class::Any => profile.unfitted,
+    if is_ram(address) {
+        ram_price(profile, address)
+    } else if is_io(address) {
+        profile.unfitted
+    } else {
+        rom_price(profile, rom, address)
     }
 }
 
@@ -115,22 +135,28 @@ fn word_price(profile: &Profile, address: u32, first: bool, store: bool, rom: Ro
     ensures price { result ≡ word_price profile.now rom store first address }
     ensures small { result < 256 }
 {
-    match (class_of(address), first) {
-        (Class::Ram, true) => profile.n,
-        (Class::Ram, false) => ram_price(profile, address),
-        (Class::Rom, _) if store => profile.control,
-        (Class::Rom, _) => rom_price(profile, rom, address),
-        (Class::Io | Class::Any, _) => io_price(profile, address),
+    if is_ram(address) {
+        if first {
+            profile.n
+        } else {
+            ram_price(profile, address)
+        }
+    } else if is_io(address) {
+        io_price(profile, address)
+    } else if store {
+        profile.control
+    } else {
+        rom_price(profile, rom, address)
     }
 }
 
-// The same, word by word.
-#[tactic(auto, unfolding(crate::specs::Prices::block_price))]
+// A transfer, word by word.
+#[tactic(auto, unfolding(crate::specs::Prices::transfer))]
 #[inline(never)]
-fn block_price(profile: &Profile, address: u32, words: u32, store: bool, rom: RomTimes) -> u32
+fn word_prices(profile: &Profile, address: u32, words: u32, store: bool, rom: RomTimes) -> u32
     requires in_space { address < SPACE_END }
     requires few { words ≤ 16 }
-    ensures price { result ≡ block_price profile.now rom store address words }
+    ensures price { result ≡ transfer profile.now rom store address words }
     ensures small { result ≤ 255 * words }
 {
     let mut ticks = 0;
@@ -144,17 +170,17 @@ fn block_price(profile: &Profile, address: u32, words: u32, store: bool, rom: Ro
 ///
 /// The words lie one after another from the word that holds `address`, and wrap at 4000000. A byte
 /// costs as much as the word that holds it.
-#[tactic(auto, unfolding(crate::specs::Prices::block_price))]
+#[tactic(auto, unfolding(crate::specs::Prices::transfer))]
 #[inline(always)]
 pub fn transfer(profile: &Profile, address: u32, words: u32, store: bool, rom: RomTimes) -> u32
     requires in_space { address < SPACE_END }
     requires some { 1 ≤ words }
     requires few { words ≤ 16 }
-    ensures price { result ≡ block_price profile.now rom store address words }
+    ensures price { result ≡ transfer profile.now rom store address words }
     ensures small { result ≤ 255 * words }
 {
     if words == 1 {
         return word_price(profile, word_address(address, 0), true, store, rom);
     }
-    block_price(profile, address, words, store, rom)
+    word_prices(profile, address, words, store, rom)
 }

@@ -39,7 +39,7 @@ fn put_answer(
     ensures ok { OnOk result
         (Appends (λ text. AnswersOrRefuses session.old line.now text session.new) out.old.items
         out.new.items) }
-    ensures err { IfErr result (λ fault. fault ≡ DebugFault.Memory) }
+    ensures fault { IfErr result (λ fault. fault ≡ DebugFault.Memory) }
 {
     match session.command(alloc, line) {
         Ok(answer) => {
@@ -63,7 +63,7 @@ fn put_answers(
 ) -> Result<(), DebugFault>
     requires { out.old.items ≡ [] }
     ensures ok { OnOk result (Converses session.old (lines_of lines.now) out.new.items) }
-    ensures err { IfErr result (λ fault. fault ≡ DebugFault.Memory) }
+    ensures fault { IfErr result (λ fault. fault ≡ DebugFault.Memory) }
 {
     let mut rest = lines;
     while let Some((line, after)) = first_line(rest) {
@@ -80,7 +80,7 @@ fn put_answers(
 fn hold(out: &mut Vec<u8>, alloc: Global, session: Session, lines: &[u8]) -> Result<(), DebugFault>
     requires { out.old.items ≡ [] }
     ensures ok { OnOk result (Converses session (lines_of lines.now) out.new.items) }
-    ensures err { IfErr result (λ fault. fault ≡ DebugFault.Memory) }
+    ensures fault { IfErr result (λ fault. fault ≡ DebugFault.Memory) }
 {
     let mut session = session;
     put_answers(out, alloc, &mut session, lines)
@@ -102,7 +102,7 @@ pub fn converse(
 ) -> Result<Vec<u8>, DebugFault>
     ensures ok { IfOk result
         (λ answers. Converses (begun machine port) (lines_of commands.now) answers.items) }
-    ensures err { IfErr result (λ fault. fault ≡ DebugFault.Memory) }
+    ensures fault { IfErr result (λ fault. fault ≡ DebugFault.Memory) }
 {
     let mut answers = Vec::new(alloc);
     let session = Session::with_port(machine, port);

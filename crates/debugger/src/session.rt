@@ -102,7 +102,7 @@ impl Session {
     /// allocation failed, of any command.
     pub fn command(&mut self, alloc: Global, line: &[u8]) -> Result<Vec<u8>, DebugFault>
         ensures ok { IfOk result (λ answer. AnswersLine self.old line.now answer.items self.new) }
-        ensures err { IfErr result
+        ensures fault { IfErr result
             (λ fault. (fault ≡ DebugFault.Memory) ⊎ RefusesLine self.old line.now fault) }
         ensures unchanged { OnErr result (self.new ≡ self.old) }
     {
@@ -113,7 +113,7 @@ impl Session {
     fn obey(&mut self, alloc: Global, command: Command) -> Result<Vec<u8>, DebugFault>
         requires { IsInRange command }
         ensures ok { IfOk result (λ answer. Answers self.old command answer.items self.new) }
-        ensures err { IfErr result (λ fault. (fault ≡ DebugFault.Memory) ⊎ Refuses self.old command fault) }
+        ensures fault { IfErr result (λ fault. (fault ≡ DebugFault.Memory) ⊎ Refuses self.old command fault) }
         ensures unchanged { OnErr result (self.new ≡ self.old) }
     {
         let next = self.next;
@@ -138,7 +138,7 @@ impl Session {
     fn step(&mut self, alloc: Global, steps: u32) -> Result<Vec<u8>, DebugFault>
         requires { (1 ≤ steps) × (steps ≤ MOST_SHOWN_STEPS) }
         ensures ok { IfOk result (λ answer. AnswersStep self.old steps answer.items self.new) }
-        ensures err { IfErr result
+        ensures fault { IfErr result
             (λ fault. (fault ≡ DebugFault.Memory)
             ⊎ ((fault ≡ DebugFault.MachineStopped) × IsStopped self.old)) }
         ensures unchanged { OnErr result (self.new ≡ self.old) }
@@ -155,7 +155,7 @@ impl Session {
     fn run(&mut self, alloc: Global, steps: u32) -> Result<Vec<u8>, DebugFault>
         requires { (1 ≤ steps) × (steps ≤ MOST_STEPS) }
         ensures ok { IfOk result (λ answer. AnswersRun self.old steps answer.items self.new) }
-        ensures err { IfErr result
+        ensures fault { IfErr result
             (λ fault. (fault ≡ DebugFault.Memory)
             ⊎ ((fault ≡ DebugFault.MachineStopped) × IsStopped self.old)) }
         ensures unchanged { OnErr result (self.new ≡ self.old) }
@@ -192,7 +192,7 @@ impl Session {
         ensures ok { IfOk result
             (λ answer. (length (toggled address self.old.breaks) ≤ MOST_BREAKS)
             × Sets answer.items self.new (record self.old { breaks = toggled address self.old.breaks })) }
-        ensures err { IfErr result
+        ensures fault { IfErr result
             (λ fault. (fault ≡ DebugFault.TooManyBreaks)
             × (MOST_BREAKS < length (toggled address self.old.breaks))) }
         ensures unchanged { OnErr result (self.new ≡ self.old) }
@@ -204,7 +204,7 @@ impl Session {
     fn list_breaks(&self, alloc: Global) -> Result<Vec<u8>, DebugFault>
         ensures ok { IfOk result
             (λ answer. Ascending self.now.breaks × (answer.items ≡ breaks_text self.now.breaks)) }
-        ensures err { IfErr result (λ fault. fault ≡ DebugFault.Memory) }
+        ensures fault { IfErr result (λ fault. fault ≡ DebugFault.Memory) }
     {
         let mut answer = Vec::with_capacity(alloc, MOST_BREAKS * 9)?;
         put_breaks(&mut answer, self.breaks.as_slice());
@@ -213,7 +213,7 @@ impl Session {
 
     fn registers(&self, alloc: Global) -> Result<Vec<u8>, DebugFault>
         ensures ok { IfOk result (λ answer. answer.items ≡ registers_text self.now.machine.regs) }
-        ensures err { IfErr result (λ fault. fault ≡ DebugFault.Memory) }
+        ensures fault { IfErr result (λ fault. fault ≡ DebugFault.Memory) }
     {
         let mut text = String::new(alloc);
         write_registers(&mut text, &self.machine)?;
@@ -222,7 +222,7 @@ impl Session {
 
     fn sums(&self, alloc: Global) -> Result<Vec<u8>, DebugFault>
         ensures ok { IfOk result (λ answer. answer.items ≡ ticks_text self.now.ticks self.now.elapsed) }
-        ensures err { IfErr result (λ fault. fault ≡ DebugFault.Memory) }
+        ensures fault { IfErr result (λ fault. fault ≡ DebugFault.Memory) }
     {
         let mut text = String::new(alloc);
         write_ticks(&mut text, self.ticks, self.elapsed)?;
@@ -258,7 +258,7 @@ impl Session {
         requires { (address + 4 * count ≤ SPACE_END) × (count ≤ MOST_SHOWN_WORDS) }
         ensures ok { IfOk result
             (λ answer. ShowsSpan row self.now.machine.bus.memc address count answer.items) }
-        ensures err { IfErr result
+        ensures fault { IfErr result
             (λ fault. (fault ≡ DebugFault.Memory)
             ⊎ ((fault ≡ DebugFault.NoPage) × HasGap self.now.machine.bus.memc address count)) }
     {
@@ -311,7 +311,7 @@ fn toggle_break(breaks: &mut ArrayVec<u32, MOST_BREAKS>, address: u32) -> Result
     ensures ok { OnOk result (breaks.new.items ≡ toggled address breaks.old.items) }
     ensures few { OnOk result (length (toggled address breaks.old.items) ≤ MOST_BREAKS) }
     ensures ascending { Ascending breaks.new.items }
-    ensures err { IfErr result
+    ensures fault { IfErr result
         (λ fault. (fault ≡ DebugFault.TooManyBreaks)
         × (MOST_BREAKS < length (toggled address breaks.old.items))) }
     ensures unchanged { OnErr result (breaks.new.items ≡ breaks.old.items) }

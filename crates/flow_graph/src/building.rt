@@ -39,7 +39,7 @@ pub(crate) fn edges_at(
     ensures adds { IfOk result
         (λ edges. AddsEdges image.now statement.now profile.now place.now [] edges.items) }
     ensures sound { OnOk result (IsSound image.now statement.now place.now) }
-    ensures err { IfErr result (IsEdgeFault image.now statement.now place.now) }
+    ensures fault { IfErr result (IsEdgeFault image.now statement.now place.now) }
 {
     let mut edges = Vec::new(alloc);
     push_edges(&mut edges, image, statement, profile, place)?;

@@ -61,7 +61,7 @@ pub fn faulty_place(
     ensures found { IfOk result
         (λ found. IfSome found (IsFaultyPlace image.now statement.now profile.now)) }
     ensures none { IfOk result (λ found. IfNone found (AreSound image.now statement.now profile.now)) }
-    ensures err { IfErr result
+    ensures fault { IfErr result
         (λ fault. (fault ≡ BuildFault.Memory)
         ⊎ ((fault ≡ BuildFault.TooManyPlaces) × IsCrowd image.now statement.now profile.now)) }
 {

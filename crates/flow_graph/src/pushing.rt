@@ -40,7 +40,7 @@ fn push_skip(out: &mut Vec<Edge>, site: &Site) -> Result<(), BuildFault>
     ensures ok { OnOk result
         (out.new.items
         ≡ out.old.items ++ skip_edge site.now.profile.now site.now.calls site.now.address ∷ []) }
-    ensures err { IfErr result (λ fault. fault ≡ BuildFault.Memory) }
+    ensures fault { IfErr result (λ fault. fault ≡ BuildFault.Memory) }
 {
     out.push(Edge {
         from: Place::At(site.calls, site.address),
@@ -57,7 +57,7 @@ fn push_do(out: &mut Vec<Edge>, site: &Site, to: Place) -> Result<(), BuildFault
     requires to { IsInSpace to }
     ensures ok { OnOk result
         (out.new.items ≡ out.old.items ++ edge_to site.now to ∷ []) }
-    ensures err { IfErr result (λ fault. fault ≡ BuildFault.Memory) }
+    ensures fault { IfErr result (λ fault. fault ≡ BuildFault.Memory) }
 {
     out.push(Edge {
         from: Place::At(site.calls, site.address),
@@ -75,7 +75,7 @@ fn push_landing(out: &mut Vec<Edge>, site: &Site, landing: &Landing) -> Result<(
     ensures ok { OnOk result
         (out.new.items ≡ out.old.items ++ map (edge_to site.now)
         (places_at landing.now.calls landing.now.to.now)) }
-    ensures err { IfErr result (λ fault. fault ≡ BuildFault.Memory) }
+    ensures fault { IfErr result (λ fault. fault ≡ BuildFault.Memory) }
 {
     for address in landing.to {
         push_do(out, site, Place::At(landing.calls, *address))?;
@@ -92,7 +92,7 @@ fn push_call(out: &mut Vec<Edge>, site: &Site, to: &[u32]) -> Result<(), BuildFa
         (out.new.items ≡ out.old.items ++ map (edge_to site.now)
         (call_places site.now.calls site.now.address to.now)) }
     ensures sound { OnOk result (call_fault site.now.calls ≡ None) }
-    ensures err { IfErr result (IsMemoryOr (call_fault site.now.calls)) }
+    ensures fault { IfErr result (IsMemoryOr (call_fault site.now.calls)) }
 {
     match site.calls.with(site.address) {
         Some(calls) => push_landing(out, site, &Landing { calls, to }),
@@ -118,7 +118,7 @@ fn push_writer(out: &mut Vec<Edge>, site: &Site) -> Result<(), BuildFault>
     ensures ok { OnOk result
         (out.new.items ≡ out.old.items ++ map (edge_to site.now) (writer_places site.now)) }
     ensures sound { OnOk result (site_writer_fault site.now ≡ None) }
-    ensures err { IfErr result (IsMemoryOr (site_writer_fault site.now)) }
+    ensures fault { IfErr result (IsMemoryOr (site_writer_fault site.now)) }
 {
     let Some(target) = site.statement.target_at(site.address) else {
         return push_do(out, site, return_place(&site.calls));
@@ -141,7 +141,7 @@ fn push_done(out: &mut Vec<Edge>, site: &Site) -> Result<(), BuildFault>
     ensures ok { OnOk result
         (out.new.items ≡ out.old.items ++ done_edges site.now) }
     ensures sound { OnOk result (done_fault site.now ≡ None) }
-    ensures err { IfErr result (IsMemoryOr (done_fault site.now)) }
+    ensures fault { IfErr result (IsMemoryOr (done_fault site.now)) }
 {
     let address = site.address;
     match site.action.kind {
@@ -167,7 +167,7 @@ fn push_word(out: &mut Vec<Edge>, site: &Site) -> Result<(), BuildFault>
     ensures ok { OnOk result
         (out.new.items ≡ out.old.items ++ all_edges site.now) }
     ensures sound { OnOk result (site_fault site.now ≡ None) }
-    ensures err { IfErr result (IsMemoryOr (site_fault site.now)) }
+    ensures fault { IfErr result (IsMemoryOr (site_fault site.now)) }
 {
     if !site.action.cond.is_always() {
         push_skip(out, site)?;
@@ -189,7 +189,7 @@ pub(crate) fn push_edges(
     ensures adds { OnOk result
         (AddsEdges image.now statement.now profile.now place.now out.old.items out.new.items) }
     ensures sound { OnOk result (IsSound image.now statement.now place.now) }
-    ensures err { IfErr result (IsEdgeFault image.now statement.now place.now) }
+    ensures fault { IfErr result (IsEdgeFault image.now statement.now place.now) }
 {
     let (calls, address) = match place {
         Place::Exit => return Ok(()),

@@ -23,7 +23,7 @@ pub(crate) fn add(
     requires { IsFound seen.old order.old.items }
     ensures found { OnOk result (IsFound seen.new order.new.items) }
     ensures adds { OnOk result (Adds order.old.items place.now order.new.items) }
-    ensures err { IfErr result
+    ensures fault { IfErr result
         (λ fault. (fault ≡ BuildFault.Memory)
         ⊎ ((fault ≡ BuildFault.TooManyPlaces) × IsCrowded order.old.items place.now)) }
 {
@@ -52,7 +52,7 @@ pub(crate) fn add_ends(
     requires { IsFound seen.old order.old.items }
     ensures found { OnOk result (IsFound seen.new order.new.items) }
     ensures grows { OnOk result (Grows order.old.items edges.now order.new.items) }
-    ensures err { IfErr result
+    ensures fault { IfErr result
         (λ fault. (fault ≡ BuildFault.Memory)
         ⊎ ((fault ≡ BuildFault.TooManyPlaces) × IsCrowdedBy order.old.items edges.now)) }
 {

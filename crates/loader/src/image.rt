@@ -287,7 +287,7 @@ impl Image {
             ((self.new ≡ with_word self.old address word) × (put_fault self.old address word ≡ None)) }
         ensures fault { IfErr result
             (λ fault. (fault ≡ ImageFault.Memory) ⊎ (put_fault self.old address word ≡ Some fault)) }
-        ensures same { OnErr result (self.new ≡ self.old) }
+        ensures unchanged { OnErr result (self.new ≡ self.old) }
     {
         let runs = self.runs_with(address, word)?;
         move_up(&mut self.below, &mut self.above, address)?;

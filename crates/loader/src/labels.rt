@@ -82,7 +82,7 @@ impl Labels {
         ensures fault { IfErr result
             (λ fault. (fault ≡ LabelFault.Memory)
             ⊎ ((fault ≡ LabelFault.Twice) × IsSome (address_of self.old name.now))) }
-        ensures same { OnErr result (self.new ≡ self.old) }
+        ensures unchanged { OnErr result (self.new ≡ self.old) }
     {
         if self.get(name).is_some() {
             return Err(LabelFault::Twice);

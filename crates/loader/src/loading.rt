@@ -93,7 +93,7 @@ fn load_words(alloc: Global, memc: &mut Memc, words: &[(u32, u32)]) -> Result<()
     ensures fault { IfErr result
         (λ fault. (fault ≡ LoadFault.Memory)
         ⊎ ((fault ≡ LoadFault.NoPage) × (lacks_page memc.old words.now ≡ true))) }
-    ensures same { OnErr result (memc.new ≡ memc.old) }
+    ensures unchanged { OnErr result (memc.new ≡ memc.old) }
 {
     let rom = rom_words(alloc, memc, words)?;
     memc.add_rom(alloc, &rom)?;
@@ -123,7 +123,7 @@ pub fn put_words(
     ensures fault { IfErr result
         (λ fault. (fault ≡ LoadFault.Memory)
         ⊎ ((fault ≡ LoadFault.NoPage) × (lacks_page machine.old.bus.memc words.now ≡ true))) }
-    ensures same { OnErr result (machine.new ≡ machine.old) }
+    ensures unchanged { OnErr result (machine.new ≡ machine.old) }
 {
     load_words(alloc, machine.memc_mut(), words)
 }
@@ -140,7 +140,7 @@ pub fn load(alloc: Global, machine: &mut Machine, image: &Image) -> Result<(), L
     ensures fault { IfErr result
         (λ fault. (fault ≡ LoadFault.Memory)
         ⊎ ((fault ≡ LoadFault.NoPage) × (lacks_page machine.old.bus.memc image.now ≡ true))) }
-    ensures same { OnErr result (machine.new ≡ machine.old) }
+    ensures unchanged { OnErr result (machine.new ≡ machine.old) }
 {
     image.whole();
     let words = image.listed(alloc)?;

@@ -188,7 +188,7 @@ impl Memc {
     /// memory is then as it was.
     pub fn map(&mut self, physical: u32, logical: u32, level: u32) -> Result<(), MapFault>
         ensures ok { OnOk result (self.new ≡ with_map physical logical level self.old) }
-        ensures err { OnErr result (self.new ≡ self.old) }
+        ensures unchanged { OnErr result (self.new ≡ self.old) }
         ensures refused { (result ≡ Err MapFault.OutOfRange)
             ↔ (can_map self.old.shift physical logical level ≡ false) }
     {
@@ -206,7 +206,7 @@ impl Memc {
     /// `OutOfRange`: a physical page above 127. The memory is then as it was.
     pub fn unmap(&mut self, physical: u32) -> Result<(), MapFault>
         ensures ok { OnOk result (self.new ≡ without_page physical self.old) }
-        ensures err { OnErr result (self.new ≡ self.old) }
+        ensures unchanged { OnErr result (self.new ≡ self.old) }
         ensures refused { (result ≡ Err MapFault.OutOfRange) ↔ (PHYSICAL_PAGES ≤ physical) }
     {
         if physical >= PHYSICAL_PAGES {
@@ -229,7 +229,7 @@ impl Memc {
         ensures words { OnOk result
             ((address : ℕ)
             → rom_word self.new.rom address ≡ last_word words.now address (rom_word self.old.rom address)) }
-        ensures err { OnErr result (self.new ≡ self.old) }
+        ensures unchanged { OnErr result (self.new ≡ self.old) }
     {
         let mut rom = self.rom.clone()?;
         for &(address, word) in words {

@@ -47,7 +47,7 @@ impl<T: Drop> ItemList<T> {
     pub fn push(&mut self, _alloc: Global, item: T) -> Result<(), WalkFault>
         ensures ok { OnOk result (self.new ≡ self.old ++ item ∷ []) }
         ensures memory { IfErr result (λ fault. fault ≡ WalkFault.Memory) }
-        ensures same { OnErr result (self.new ≡ self.old) }
+        ensures unchanged { OnErr result (self.new ≡ self.old) }
     {
         match self.list.push(item) {
             Ok(()) => Ok(()),

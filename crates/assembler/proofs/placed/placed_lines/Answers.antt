@@ -17,7 +17,7 @@ returns-in_err-place_line-clause-refused c =
     (fault_at_once texts c.args.source.now c.in_err-place_line.field-0.0
     (sweep_fault c.args.source.now c.in-Some.text.now (lines_of c.loop-text.rest.now) (lines_of c.in-Some.after.now)
     (state_of c.loop-text.sweep) c.loop-text.number c.in_err-place_line.field-0.0 c.loop-text.invariant.same
-    c.in-Some.ensures.0 c.in_err-place_line.ensures.err))
+    c.in-Some.ensures.0 c.in_err-place_line.ensures.fault))
 
 pub loop-text-preserved : goal.loop-text-preserved
 loop-text-preserved c =

@@ -19,8 +19,8 @@ returns-then-is_set c =
       unchanged = tt;
     }
 
-pub returns-then-is_full-clause-err : goal.returns-then-is_full-clause-err
-returns-then-is_full-clause-err c =
+pub returns-then-is_full-clause-fault : goal.returns-then-is_full-clause-fault
+returns-then-is_full-clause-fault c =
     let longer =
     toggled_longer c.args.address c.below-at.result c.args.breaks.now.items c.below-at.ensures.len
     c.below-at.ensures.within (c.has_at-is_set.ensures.no c.if-is_set.false) in

@@ -8,7 +8,7 @@ pub returns-in_err-push_edges-clause-fault : goal.returns-in_err-push_edges-clau
 returns-in_err-push_edges-clause-fault c =
     let p = err_from_is_err_and c.from_residual-in_err-push_edges.result c.from_residual-in_err-push_edges.ensures.1 in
     let has = read_in c.args.places.now c.loop-place.place-index c.place-item.result c.loop-place-test.true c.place-item.is in
-    rw (p.1, p.2) (⊎_elim (λ e. inl e) (λ why. inr (c.place-item.result, has, why)) c.in_err-push_edges.ensures.err)
+    rw (p.1, p.2) (⊎_elim (λ e. inl e) (λ why. inr (c.place-item.result, has, why)) c.in_err-push_edges.ensures.fault)
 
 pub loop-place-preserved : goal.loop-place-preserved
 loop-place-preserved c =

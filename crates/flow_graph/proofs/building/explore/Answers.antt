@@ -6,20 +6,20 @@ use Rattle.flow_graph.proofs.building.explore.Goals as goal
 pub returns-in_err-add-clause-fault : goal.returns-in_err-add-clause-fault
 returns-in_err-add-clause-fault c =
     let p = err_from_is_err_and c.from_residual.result c.from_residual.ensures.1 in
-    rw (p.1, p.2) (add_fault c.args.image.now c.args.statement.now c.args.profile.now c.new-order.result.items c.start_of.result _ c.new-order.ensures.items c.start_of.ensures.value c.in_err-add.ensures.err)
+    rw (p.1, p.2) (add_fault c.args.image.now c.args.statement.now c.args.profile.now c.new-order.result.items c.start_of.result _ c.new-order.ensures.items c.start_of.ensures.value c.in_err-add.ensures.fault)
 
 pub returns-in_err-push_edges-clause-fault : goal.returns-in_err-push_edges-clause-fault
 returns-in_err-push_edges-clause-fault c =
     let lt : c.loop-next.next < length c.loop-next.order.items = omega (arith, c.loop-next.order.ok.0, c.len.ensures) in
     let p = err_from_is_err_and c.from_residual-in_err-push_edges.result c.from_residual-in_err-push_edges.ensures.1 in
     rw (p.1, p.2)
-    (search_fault c.args.image.now c.args.statement.now c.args.profile.now c.loop-next.order.items c.loop-next.next c.index.result.now _ c.loop-next.invariant.1 lt c.index.ensures (inl c.in_err-push_edges.ensures.err))
+    (search_fault c.args.image.now c.args.statement.now c.args.profile.now c.loop-next.order.items c.loop-next.next c.index.result.now _ c.loop-next.invariant.1 lt c.index.ensures (inl c.in_err-push_edges.ensures.fault))
 
 pub returns-in_err-add_ends-clause-fault : goal.returns-in_err-add_ends-clause-fault
 returns-in_err-add_ends-clause-fault c =
     let lt : c.loop-next.next < length c.loop-next.order.items = omega (arith, c.loop-next.order.ok.0, c.len.ensures) in
     let p = err_from_is_err_and c.from_residual-in_err-add_ends.result c.from_residual-in_err-add_ends.ensures.1 in
-    let why = visit_fault c.args.image.now c.args.statement.now c.args.profile.now c.loop-next.order.items c.clear.new.self.items c.push_edges.new.out.items c.deref.result.now c.index.result.now _ c.clear.ensures.items c.deref.ensures.value c.in_ok-push_edges.ensures.adds c.in_err-add_ends.ensures.err in
+    let why = visit_fault c.args.image.now c.args.statement.now c.args.profile.now c.loop-next.order.items c.clear.new.self.items c.push_edges.new.out.items c.deref.result.now c.index.result.now _ c.clear.ensures.items c.deref.ensures.value c.in_ok-push_edges.ensures.adds c.in_err-add_ends.ensures.fault in
     rw (p.1, p.2)
     (search_fault c.args.image.now c.args.statement.now c.args.profile.now c.loop-next.order.items c.loop-next.next c.index.result.now _ c.loop-next.invariant.1 lt c.index.ensures why)
 

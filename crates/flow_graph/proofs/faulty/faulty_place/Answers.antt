@@ -9,17 +9,17 @@ use Rattle.flow_graph.proofs.BuildLemmas.{add_fault, search_fault, search_more, 
 use Rattle.flow_graph.proofs.FaultyLemmas.{all_sound, found_by, reached_next, walked_more}
 use Rattle.flow_graph.proofs.faulty.faulty_place.Goals as goal
 
-pub returns-in_err-add-clause-err : goal.returns-in_err-add-clause-err
-returns-in_err-add-clause-err c =
+pub returns-in_err-add-clause-fault : goal.returns-in_err-add-clause-fault
+returns-in_err-add-clause-fault c =
     let p = err_from_is_err_and c.from_residual.result c.from_residual.ensures.1 in
     rw (p.1, p.2)
     (⊎_elim
     (λ e. inl e)
     (λ e. inr (e.0, add_fault c.args.image.now c.args.statement.now c.args.profile.now c.new-order.result.items c.start_of.result TooManyPlaces c.new-order.ensures.items c.start_of.ensures.value (inr (refl, e.1))))
-    c.in_err-add.ensures.err)
+    c.in_err-add.ensures.fault)
 
-pub returns-in_err-add_ends-clause-err : goal.returns-in_err-add_ends-clause-err
-returns-in_err-add_ends-clause-err c =
+pub returns-in_err-add_ends-clause-fault : goal.returns-in_err-add_ends-clause-fault
+returns-in_err-add_ends-clause-fault c =
     let lt : c.loop-next.next < length c.loop-next.order.items = omega (arith, c.loop-next.order.ok.0, c.len.ensures) in
     let p = err_from_is_err_and c.from_residual-in_err-add_ends.result c.from_residual-in_err-add_ends.ensures.1 in
     rw (p.1, p.2)
@@ -28,7 +28,7 @@ returns-in_err-add_ends-clause-err c =
     (λ e.
     let why = visit_fault c.args.image.now c.args.statement.now c.args.profile.now c.loop-next.order.items [] c.in-Ok.edges.items c.deref-in-loop-next.result.now c.index.result.now TooManyPlaces refl c.deref-in-loop-next.ensures.value c.in-Ok.ensures.adds (inr (refl, e.1)) in
     inr (e.0, search_fault c.args.image.now c.args.statement.now c.args.profile.now c.loop-next.order.items c.loop-next.next c.index.result.now TooManyPlaces c.loop-next.invariant.search lt c.index.ensures why))
-    c.in_err-add_ends.ensures.err)
+    c.in_err-add_ends.ensures.fault)
 
 pub returns-in-Err-clause-found : goal.returns-in-Err-clause-found
 returns-in-Err-clause-found c =
@@ -37,7 +37,7 @@ returns-in-Err-clause-found c =
     record {
       reached = reached_next c.args.image.now c.args.statement.now c.args.profile.now c.loop-next.order.items c.loop-next.next c.index.result.now c.loop-next.invariant.search lt c.index.ensures;
       by = found_by c.args.image.now c.args.statement.now c.args.profile.now c.loop-next.order.items c.deref.result.now c.index.result.now c.edge_to-edge.result walked (c.loop-next.next, lt, sym c.index.ensures) c.edge_to-edge.ensures.edge c.edge_to-edge.ensures.none;
-      faulty = ⊎_elim (λ e. absurd (c.if-is_memory.ensures e)) (λ why. why) c.in-Err.ensures.err;
+      faulty = ⊎_elim (λ e. absurd (c.if-is_memory.ensures e)) (λ why. why) c.in-Err.ensures.fault;
     }
 
 pub loop-next-preserved : goal.loop-next-preserved

@@ -2,8 +2,8 @@ use Rattle.std.proofs.Common.{rules, inl, inr, refl, sym, ◌∙◌, arith}
 use Rattle.flow_graph.proofs.FoundLemmas.{crowd, found_more, there_before}
 use Rattle.flow_graph.proofs.search.add.Goals as goal
 
-pub returns-then-len-gt-MOST_PLACES-clause-err : goal.returns-then-len-gt-MOST_PLACES-clause-err
-returns-then-len-gt-MOST_PLACES-clause-err c =
+pub returns-then-len-gt-MOST_PLACES-clause-fault : goal.returns-then-len-gt-MOST_PLACES-clause-fault
+returns-then-len-gt-MOST_PLACES-clause-fault c =
     inr (refl, crowd c.args.seen.now c.insert.new.self c.args.order.now.items c.args.place.now c.requires c.in_ok-is_new.ensures.updates c.len.ensures.ordered (omega (arith, c.len.ensures.len)) c.in_default.not-Exit)
 
 pub returns-clause-found : goal.returns-clause-found

@@ -1,10 +1,10 @@
 use Rattle.std.proofs.Common.{◌≡◌, suc, ◌+◌, refl, arith}
-use Rattle.bus_ticks.specs.Prices.{block_price}
-use Rattle.bus_ticks.proofs.prices.block_price.Goals as goal
+use Rattle.bus_ticks.specs.Prices.{transfer}
+use Rattle.bus_ticks.proofs.prices.word_prices.Goals as goal
 
 -- src/prices.rt:126:5
 pub loop-i-preserved : goal.loop-i-preserved
-unfolding block_price
+unfolding transfer
 loop-i-preserved c =
     let next : c.loop-i.i + 1 ≡ suc c.loop-i.i = omega arith in
     let ticks = c.loop-i.invariant.0 in
