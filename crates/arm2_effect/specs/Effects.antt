@@ -1,9 +1,8 @@
 -- What a step does, and what it costs (a cycle profile shaped on the N, S and I cycles of the VL86C010 data
 -- sheet).
 use Rattle.std.specs.Prelude.{◌≡◌, ℕ, ◌*◌, ◌/◌, Bool, true, false, List, [], ◌∷◌, map, sum}
-use Rattle.bus_ticks.specs.declared.profile.Profile.{Profile}
-use Rattle.bus_ticks.specs.declared.profile.RomTimes.{RomTimes}
 use Rattle.bus_ticks.specs.Prices.{ahead_of, fetch_n, fetch_s, word_price}
+use Rattle.arm2_effect.specs.declared.prices.Prices.{Prices}
 use Rattle.arm2_effect.specs.declared.step_end.Kind.{Kind}
 use Rattle.arm2_effect.specs.declared.step_end.Kind.TheVariants.{Plain, Stopped, Taken}
 use Rattle.arm2_effect.specs.declared.step_end.Why.{Why}
@@ -19,15 +18,15 @@ pub data Access : Type 0 where
   Word : Bool → Bool → ℕ → Access
   Internal : ℕ → Access
 
-abbrev pub price_of : Profile → RomTimes → Access → ℕ
-price_of p rom (FetchN address) = fetch_n p rom address
-price_of p rom (FetchS address) = fetch_s p rom address
-price_of p rom (Word store first address) = word_price p rom store first (address / 4 * 4)
-price_of p rom (Internal cycles) = cycles * p.internal
+abbrev pub price_of : Prices → Access → ℕ
+price_of prices (FetchN address) = fetch_n prices.profile prices.rom address
+price_of prices (FetchS address) = fetch_s prices.profile prices.rom address
+price_of prices (Word store first address) = word_price prices.profile prices.rom store first (address / 4 * 4)
+price_of prices (Internal cycles) = cycles * prices.profile.internal
 
 -- the ticks of a step are the prices of its accesses, added up
-abbrev pub ticks_of : Profile → RomTimes → List Access → ℕ
-ticks_of p rom accesses = sum (map (price_of p rom) accesses)
+abbrev pub ticks_of : Prices → List Access → ℕ
+ticks_of prices accesses = sum (map (price_of prices) accesses)
 
 -- whether a step stops the machine
 abbrev pub is_stopped : Kind → Bool
@@ -42,9 +41,9 @@ pub record Effect : Type 0 where
   pub regs : List ℕ
 
 -- the code's answer and the registers after it are those of an effect
-pub record IsEffect (p : Profile) (rom : RomTimes) (done : Done) (new : List ℕ) (e : Effect) : Type 0 where
+pub record IsEffect (prices : Prices) (done : Done) (new : List ℕ) (e : Effect) : Type 0 where
   pub kind : done.kind ≡ e.kind
-  pub ticks : done.ticks ≡ ticks_of p rom e.accesses
+  pub ticks : done.ticks ≡ ticks_of prices e.accesses
   pub regs : new ≡ e.regs
 
 -- the instruction at a is followed by the next one

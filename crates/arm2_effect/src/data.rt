@@ -72,8 +72,7 @@ impl Registers {
         rd: Register,
         outcome: Outcome,
     ) -> Done
-        ensures effect { IsEffect prices.now.profile prices.now.rom result self.new
-            (entered sets_flags rd outcome self.old) }
+        ensures effect { IsEffect prices.now result self.new (entered sets_flags rd outcome self.old) }
         ensures goes_on { is_stopped result.kind ≡ false }
         ensures bound { result.ticks < 2 ^ 10 }
     {
@@ -86,8 +85,7 @@ impl Registers {
     #[tactic(auto, unfolding(crate::specs::Operations::jumped))]
     #[inline(never)]
     fn jump(&mut self, prices: &Prices, sets_flags: bool, outcome: Outcome) -> Done
-        ensures effect { IsEffect prices.now.profile prices.now.rom result self.new
-            (jumped sets_flags outcome self.old) }
+        ensures effect { IsEffect prices.now result self.new (jumped sets_flags outcome self.old) }
         ensures goes_on { is_stopped result.kind ≡ false }
         ensures bound { result.ticks < 2 ^ 10 }
     {
@@ -104,8 +102,7 @@ impl Registers {
     #[tactic(auto, unfolding(crate::specs::Operations::compared))]
     #[inline(always)]
     fn compare(&mut self, prices: &Prices, rd: Register, outcome: Outcome) -> Done
-        ensures effect { IsEffect prices.now.profile prices.now.rom result self.new
-            (compared rd outcome self.old) }
+        ensures effect { IsEffect prices.now result self.new (compared rd outcome self.old) }
         ensures goes_on { is_stopped result.kind ≡ false }
         ensures bound { result.ticks < 2 ^ 10 }
     {
@@ -124,7 +121,7 @@ impl Registers {
     #[tactic(auto, unfolding(crate::specs::Operations::placed))]
     #[inline(always)]
     fn place(&mut self, prices: &Prices, to: Destination, outcome: Outcome) -> Done
-        ensures effect { IsEffect prices.now.profile prices.now.rom result self.new
+        ensures effect { IsEffect prices.now result self.new
             (placed to.opcode to.sets_flags to.rd outcome self.old) }
         ensures goes_on { is_stopped result.kind ≡ false }
         ensures bound { result.ticks < 2 ^ 10 }
@@ -142,8 +139,7 @@ impl Registers {
     #[tactic(auto, unfolding(crate::specs::Operations::data_immediate_effect))]
     #[inline(always)]
     pub(crate) fn data_immediate(&mut self, prices: &Prices, fields: &DataImmediate) -> Done
-        ensures effect { IsEffect prices.now.profile prices.now.rom result self.new
-            (data_immediate_effect fields.now self.old) }
+        ensures effect { IsEffect prices.now result self.new (data_immediate_effect fields.now self.old) }
         ensures goes_on { is_stopped result.kind ≡ false }
         ensures bound { result.ticks < 2 ^ 16 }
     {
@@ -157,8 +153,7 @@ impl Registers {
     #[tactic(auto, unfolding(crate::specs::Operations::data_register_effect))]
     #[inline(always)]
     pub(crate) fn data_register(&mut self, prices: &Prices, fields: &DataRegister) -> Done
-        ensures effect { IsEffect prices.now.profile prices.now.rom result self.new
-            (data_register_effect fields.now self.old) }
+        ensures effect { IsEffect prices.now result self.new (data_register_effect fields.now self.old) }
         ensures goes_on { is_stopped result.kind ≡ false }
         ensures bound { result.ticks < 2 ^ 16 }
     {
@@ -176,7 +171,7 @@ impl Registers {
         prices: &Prices,
         fields: &DataRegisterShift,
     ) -> Done
-        ensures effect { IsEffect prices.now.profile prices.now.rom result self.new
+        ensures effect { IsEffect prices.now result self.new
             (data_register_shift_effect fields.now self.old) }
         ensures goes_on { is_stopped result.kind ≡ false }
         ensures bound { result.ticks < 2 ^ 16 }

@@ -75,7 +75,7 @@ impl Registers {
     #[tactic(auto, unfolding(crate::specs::Exceptions::taken))]
     #[inline(never)]
     pub fn take(&mut self, prices: &Prices, vector: Vector) -> Done
-        ensures effect { IsEffect prices.now.profile prices.now.rom result self.new (taken vector self.old) }
+        ensures effect { IsEffect prices.now result self.new (taken vector self.old) }
         ensures goes_on { is_stopped result.kind ≡ false }
         ensures bound { result.ticks < 2 ^ 16 }
     {
@@ -103,7 +103,7 @@ impl Registers {
     /// Passes over the instruction in R15: its condition fails.
     #[tactic(auto, unfolding(crate::specs::Effects::skipped))]
     pub fn skip(&mut self, prices: &Prices) -> Done
-        ensures effect { IsEffect prices.now.profile prices.now.rom result self.new (skipped self.old) }
+        ensures effect { IsEffect prices.now result self.new (skipped self.old) }
         ensures goes_on { is_stopped result.kind ≡ false }
         ensures bound { result.ticks < 2 ^ 16 }
     {

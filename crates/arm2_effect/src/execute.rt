@@ -52,8 +52,7 @@ impl Registers {
     #[tactic(auto, unfolding(crate::specs::Operations::multiply_effect))]
     #[inline(never)]
     fn multiply(&mut self, prices: &Prices, multiply: &Multiply) -> Done
-        ensures effect { IsEffect prices.now.profile prices.now.rom result self.new
-            (multiply_effect multiply.now self.old) }
+        ensures effect { IsEffect prices.now result self.new (multiply_effect multiply.now self.old) }
         ensures goes_on { is_stopped result.kind ≡ false }
         ensures bound { result.ticks < 2 ^ 16 }
     {
@@ -67,8 +66,7 @@ impl Registers {
     #[tactic(auto, unfolding(crate::specs::Operations::branch_effect))]
     #[inline(always)]
     fn branch(&mut self, prices: &Prices, branch: &Branch) -> Done
-        ensures effect { IsEffect prices.now.profile prices.now.rom result self.new
-            (branch_effect branch.now self.old) }
+        ensures effect { IsEffect prices.now result self.new (branch_effect branch.now self.old) }
         ensures goes_on { is_stopped result.kind ≡ false }
         ensures bound { result.ticks < 2 ^ 16 }
     {
@@ -97,8 +95,7 @@ impl Registers {
     #[inline(always)]
     pub fn execute(&mut self, prices: &Prices, operation: &Operation) -> Done
         requires { is_transfer operation.now ≡ false }
-        ensures effect { IsEffect prices.now.profile prices.now.rom result self.new
-            (operation_effect operation.now self.old) }
+        ensures effect { IsEffect prices.now result self.new (operation_effect operation.now self.old) }
         ensures goes_on { is_stopped result.kind ≡ false }
         ensures bound { result.ticks < 2 ^ 16 }
     {

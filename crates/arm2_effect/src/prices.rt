@@ -19,7 +19,7 @@ impl Prices {
     pub fn straight(&self, from: u32) -> u32
         requires below { from < SPACE_END }
         requires aligned { from % 4 ≡ 0 }
-        ensures ticks { result ≡ ticks_of self.now.profile self.now.rom (straight from) }
+        ensures ticks { result ≡ ticks_of self.now (straight from) }
         ensures bound { result < 256 }
     {
         fetch_s(&self.profile, ahead_of(from, 8), self.rom)
@@ -30,7 +30,7 @@ impl Prices {
     pub fn refill(&self, to: u32) -> u32
         requires below { to < SPACE_END }
         requires aligned { to % 4 ≡ 0 }
-        ensures ticks { result ≡ ticks_of self.now.profile self.now.rom (refill to) }
+        ensures ticks { result ≡ ticks_of self.now (refill to) }
         ensures bound { result < 2 * 256 }
     {
         fetch_n(&self.profile, to, self.rom) + fetch_s(&self.profile, ahead_of(to, 4), self.rom)
@@ -43,7 +43,7 @@ impl Prices {
         requires from_aligned { from % 4 ≡ 0 }
         requires to_below { to < SPACE_END }
         requires to_aligned { to % 4 ≡ 0 }
-        ensures ticks { result ≡ ticks_of self.now.profile self.now.rom (onward from to) }
+        ensures ticks { result ≡ ticks_of self.now (onward from to) }
         ensures bound { result < 3 * 256 }
     {
         self.straight(from) + self.refill(to)
@@ -53,7 +53,7 @@ impl Prices {
     #[inline(always)]
     pub fn internal(&self, cycles: u32) -> u32
         requires { cycles ≤ 16 }
-        ensures ticks { result ≡ ticks_of self.now.profile self.now.rom (Internal cycles ∷ []) }
+        ensures ticks { result ≡ ticks_of self.now (Internal cycles ∷ []) }
         ensures bound { result ≤ 16 * 255 }
     {
         cycles * self.profile.internal

@@ -21,7 +21,7 @@ use Rattle.arm2_transfer.specs.Moved.{Moved, on_bus}
 use Rattle.arm2_exec.specs.declared.machine.Input.{Input}
 use Rattle.arm2_exec.specs.declared.machine.Stepped.{Stepped}
 use Rattle.arm2_exec.specs.State.{State}
-use Rattle.arm2_exec.specs.Step.{Obeys, ObeysFetched, Works, Step, HasOneOutcome, address_in, answer_of, elapsed, fetched, instruction_moved, interrupt_due, state_after, unallocated_moved, with_lines}
+use Rattle.arm2_exec.specs.Step.{Obeys, ObeysFetched, Works, Step, HasOneOutcome, address_in, answer_of, elapsed, fetched, instruction_moved, interrupt_due, prices_in, state_after, unallocated_moved, with_lines}
 use Rattle.arm2_exec.specs.Work.{Worked}
 use Rattle.arm2_exec.proofs.StillLemmas.{works_still}
 
@@ -44,7 +44,7 @@ module _ (s : State) (i : Input) where
   unlined now same = ap (λ (b : Bus). let t : State = record { regs = s.regs; bus = record { memc = b.memc; ioc = unlined_ioc b.ioc; vidc = b.vidc }; profile = s.profile } in t) same
 
   pub stopped_step : (done : Done) (new : List ℕ) (now : Bus)
-      → Worked s.profile s.bus.memc.control.rom_times (interrupt_due (with_lines i.lines.0 s.bus) (r15_in s.regs)) i.port s.regs (with_lines i.lines.0 s.bus) done new now
+      → Worked (prices_in s) (interrupt_due (with_lines i.lines.0 s.bus) (r15_in s.regs)) i.port s.regs (with_lines i.lines.0 s.bus) done new now
       → is_stopped done.kind ≡ true
       → Step s i (record { kind = done.kind; ticks = 0; from = address_in s.regs; to = address_in s.regs }) (record { regs = new; bus = record { memc = now.memc; ioc = record now.ioc { lines = s.bus.ioc.lines; a2_rose = s.bus.ioc.a2_rose }; vidc = now.vidc }; profile = s.profile })
   unfolding answer_of state_after
@@ -59,7 +59,7 @@ module _ (s : State) (i : Input) where
       }
 
   pub going_step : (done : Done) (new : List ℕ) (now : Bus)
-      → Worked s.profile s.bus.memc.control.rom_times (interrupt_due (with_lines i.lines.0 s.bus) (r15_in s.regs)) i.port s.regs (with_lines i.lines.0 s.bus) done new now
+      → Worked (prices_in s) (interrupt_due (with_lines i.lines.0 s.bus) (r15_in s.regs)) i.port s.regs (with_lines i.lines.0 s.bus) done new now
       → is_stopped done.kind ≡ false
       → Step s i (record { kind = done.kind; ticks = done.ticks; from = address_in s.regs; to = address_in new }) (record { regs = new; bus = elapsed (done.ticks + s.profile.burst * i.bursts) now; profile = s.profile })
   unfolding answer_of state_after

@@ -14,6 +14,7 @@ use Rattle.ioc.specs.Interrupts as ioc
 use Rattle.vidc.specs.Video as vidc
 use Rattle.arm2_effect.specs.declared.exceptions.Vector.{Vector}
 use Rattle.arm2_effect.specs.declared.exceptions.Vector.TheVariants as vector
+use Rattle.arm2_effect.specs.declared.prices.Prices.{Prices}
 use Rattle.arm2_effect.specs.declared.step_end.Why.TheVariants as why
 use Rattle.arm2_effect.specs.Modes.{r15_in, is_user}
 use Rattle.arm2_effect.specs.ProgramCounter.{address_of, flags_of, is_fiq_masked, is_irq_masked, mode_of}
@@ -112,9 +113,13 @@ traced_word s i =
 abbrev pub address_in : List ℕ → ℕ
 address_in regs = address_of (r15_in regs)
 
--- a step's ticks are the prices of its accesses by the ROM time fields before it
+-- the prices of a step's accesses are those by the ROM time fields before it
+abbrev pub prices_in : State → Prices
+prices_in s = record { profile = s.profile; rom = s.bus.memc.control.rom_times }
+
+-- a step's ticks are the prices of its accesses
 abbrev pub ticks_in : State → Moved → ℕ
-ticks_in s m = ticks_of s.profile s.bus.memc.control.rom_times m.accesses
+ticks_in s m = ticks_of (prices_in s) m.accesses
 
 -- the devices have the step's ticks, and those of its DMA bursts
 abbrev pub time_in : State → Input → Moved → ℕ

@@ -1,22 +1,21 @@
 -- What the code of a step answers.
 use Rattle.std.specs.Prelude.{ℕ, List, Option}
-use Rattle.bus_ticks.specs.declared.profile.Profile.{Profile}
-use Rattle.bus_ticks.specs.declared.profile.RomTimes.{RomTimes}
 use Rattle.arm2_effect.specs.declared.exceptions.Vector.{Vector}
+use Rattle.arm2_effect.specs.declared.prices.Prices.{Prices}
 use Rattle.arm2_effect.specs.declared.step_end.Done.{Done}
 use Rattle.arm2_transfer.specs.declared.bus.Bus.{Bus}
 use Rattle.arm2_transfer.specs.Moved.{Moved, IsMoved}
 use Rattle.arm2_exec.specs.Step.{ObeysFetched, Works}
 
 -- the answer, the registers and the bus are those of one thing that the word, or the step, may do
-pub record Obeyed (p : Profile) (rom : RomTimes) (word : Option ℕ) (port : ℕ) (old : List ℕ) (bus : Bus)
+pub record Obeyed (prices : Prices) (word : Option ℕ) (port : ℕ) (old : List ℕ) (bus : Bus)
     (done : Done) (new : List ℕ) (now : Bus) : Type 0 where
   pub moved : Moved
   pub obeys : ObeysFetched word port old bus moved
-  pub is : IsMoved p rom done new now moved
+  pub is : IsMoved prices done new now moved
 
-pub record Worked (p : Profile) (rom : RomTimes) (interrupt : Option Vector) (port : ℕ) (old : List ℕ)
+pub record Worked (prices : Prices) (interrupt : Option Vector) (port : ℕ) (old : List ℕ)
     (bus : Bus) (done : Done) (new : List ℕ) (now : Bus) : Type 0 where
   pub moved : Moved
   pub works : Works interrupt port old bus moved
-  pub is : IsMoved p rom done new now moved
+  pub is : IsMoved prices done new now moved

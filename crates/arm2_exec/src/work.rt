@@ -59,7 +59,7 @@ fn obey_instruction(
     inputs: &Inputs,
     instr: &Instr,
 ) -> Done
-    ensures moved { IsMoved inputs.now.prices.profile inputs.now.prices.rom result registers.new bus.new
+    ensures moved { IsMoved inputs.now.prices result registers.new bus.new
         (instruction_moved instr.now inputs.now.port registers.old bus.old) }
     ensures bound { result.ticks < 2 ^ 16 }
 {
@@ -78,7 +78,7 @@ fn obey_unallocated(
     prices: &Prices,
     unallocated: Unallocated,
 ) -> Done
-    ensures moved { IsMoved prices.now.profile prices.now.rom result registers.new bus.now
+    ensures moved { IsMoved prices.now result registers.new bus.now
         (unallocated_moved unallocated registers.old bus.now) }
     ensures bound { result.ticks < 2 ^ 16 }
 {
@@ -97,8 +97,8 @@ fn obey(
     decoded: &mut Decoded,
     word: Option<u32>,
 ) -> Done
-    ensures obeyed { Obeyed inputs.now.prices.profile inputs.now.prices.rom word inputs.now.port
-        registers.old bus.old result registers.new bus.new }
+    ensures obeyed { Obeyed inputs.now.prices word inputs.now.port registers.old bus.old result
+        registers.new bus.new }
     ensures bound { result.ticks < 2 ^ 16 }
 {
     let Some(word) = word else {
@@ -120,9 +120,8 @@ pub(crate) fn work(
     inputs: &Inputs,
     decoded: &mut Decoded,
 ) -> Made
-    ensures worked { Worked inputs.now.prices.profile inputs.now.prices.rom
-        (interrupt_due bus.old
-        (r15_in registers.old)) inputs.now.port registers.old bus.old result.done registers.new bus.new }
+    ensures worked { Worked inputs.now.prices (interrupt_due bus.old (r15_in registers.old)) inputs.now.port
+        registers.old bus.old result.done registers.new bus.new }
     ensures word { result.word
         ≡ word_unless (interrupt_due bus.old (r15_in registers.old))
         (fetched bus.old.memc (r15_in registers.old)) }

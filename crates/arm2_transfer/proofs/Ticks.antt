@@ -1,15 +1,14 @@
 -- The ticks of a transfer's accesses.
 use Rattle.std.proofs.Common.{◌≡◌, ℕ, zero, suc, ◌+◌, ◌*◌, ◌/◌, Bool, true, false, ◌==◌, List, [], ◌∷◌, ◌++◌, refl, ◌∙◌, ap, arith}
 use Rattle.std.proofs.lemmas.List.Sums.{sum-map, sum_by-append}
-use Rattle.bus_ticks.specs.declared.profile.Profile.{Profile}
-use Rattle.bus_ticks.specs.declared.profile.RomTimes.{RomTimes}
 use Rattle.bus_ticks.specs.Prices.{ahead_of, transfer, fetch_n, word_address, word_price}
+use Rattle.arm2_effect.specs.declared.prices.Prices.{Prices}
 use Rattle.arm2_effect.specs.Effects.{Access, FetchN, Word, Internal, price_of, ticks_of, straight, refill}
 use Rattle.arm2_transfer.specs.Moved.{words_at, load_accesses, store_accesses}
 
-pub ticks_of-append : (p : Profile) (rom : RomTimes) (xs ys : List Access) → ticks_of p rom (xs ++ ys) ≡ ticks_of p rom xs + ticks_of p rom ys
-ticks_of-append p rom xs ys =
-    let f : Access → ℕ = price_of p rom in
+pub ticks_of-append : (prices : Prices) (xs ys : List Access) → ticks_of prices (xs ++ ys) ≡ ticks_of prices xs + ticks_of prices ys
+ticks_of-append prices xs ys =
+    let f : Access → ℕ = price_of prices in
     let parts = sum_by-append f xs ys in
     omega (arith, sum-map f (xs ++ ys), parts, sum-map f xs, sum-map f ys)
 
@@ -17,38 +16,38 @@ ticks_of-append p rom xs ys =
 word_address-aligned : (address i : ℕ) → word_address address i / 4 * 4 ≡ word_address address i
 word_address-aligned address i = omega arith
 
-pub ticks_of-words_at : (p : Profile) (rom : RomTimes) (store : Bool) (address k : ℕ) → ticks_of p rom (words_at store address k) ≡ transfer p rom store address k
+pub ticks_of-words_at : (prices : Prices) (store : Bool) (address k : ℕ) → ticks_of prices (words_at store address k) ≡ transfer prices.profile prices.rom store address k
 unfolding words_at transfer
-ticks_of-words_at p rom store address zero = refl
-ticks_of-words_at p rom store address (suc k) =
-    let rounded : price_of p rom (Word store (k == 0) (word_address address k)) ≡ word_price p rom store (k == 0) (word_address address k)
-    = ap (λ (x : ℕ). word_price p rom store (k == 0) x) (word_address-aligned address k) in
-    let split = ticks_of-append p rom (words_at store address k) (Word store (k == 0) (word_address address k) ∷ []) in
-    omega (arith, split, rounded, ticks_of-words_at p rom store address k)
+ticks_of-words_at prices store address zero = refl
+ticks_of-words_at prices store address (suc k) =
+    let rounded : price_of prices (Word store (k == 0) (word_address address k)) ≡ word_price prices.profile prices.rom store (k == 0) (word_address address k)
+    = ap (λ (x : ℕ). word_price prices.profile prices.rom store (k == 0) x) (word_address-aligned address k) in
+    let split = ticks_of-append prices (words_at store address k) (Word store (k == 0) (word_address address k) ∷ []) in
+    omega (arith, split, rounded, ticks_of-words_at prices store address k)
 
 -- what a load costs, where it jumps and where it does not
-pub load_ticks-jumps : (p : Profile) (rom : RomTimes) (a address k t : ℕ) →
-    ticks_of p rom (load_accesses a address k true t)
-    ≡ ticks_of p rom (straight a) + transfer p rom false address k + (ticks_of p rom (Internal 1 ∷ []) + ticks_of p rom (refill t))
-load_ticks-jumps p rom a address k t =
-    let all = ticks_of-append p rom (straight a ++ words_at false address k) (Internal 1 ∷ refill t) in
-    let first = ticks_of-append p rom (straight a) (words_at false address k) in
-    let last = ticks_of-append p rom (Internal 1 ∷ []) (refill t) in
-    omega (arith, all, first, last, ticks_of-words_at p rom false address k)
+pub load_ticks-jumps : (prices : Prices) (a address k t : ℕ) →
+    ticks_of prices (load_accesses a address k true t)
+    ≡ ticks_of prices (straight a) + transfer prices.profile prices.rom false address k + (ticks_of prices (Internal 1 ∷ []) + ticks_of prices (refill t))
+load_ticks-jumps prices a address k t =
+    let all = ticks_of-append prices (straight a ++ words_at false address k) (Internal 1 ∷ refill t) in
+    let first = ticks_of-append prices (straight a) (words_at false address k) in
+    let last = ticks_of-append prices (Internal 1 ∷ []) (refill t) in
+    omega (arith, all, first, last, ticks_of-words_at prices false address k)
 
-pub load_ticks-passes : (p : Profile) (rom : RomTimes) (a address k t : ℕ) →
-    ticks_of p rom (load_accesses a address k false t)
-    ≡ ticks_of p rom (straight a) + transfer p rom false address k + ticks_of p rom (Internal 1 ∷ [])
-load_ticks-passes p rom a address k t =
-    let all = ticks_of-append p rom (straight a ++ words_at false address k) (Internal 1 ∷ []) in
-    let first = ticks_of-append p rom (straight a) (words_at false address k) in
-    omega (arith, all, first, ticks_of-words_at p rom false address k)
+pub load_ticks-passes : (prices : Prices) (a address k t : ℕ) →
+    ticks_of prices (load_accesses a address k false t)
+    ≡ ticks_of prices (straight a) + transfer prices.profile prices.rom false address k + ticks_of prices (Internal 1 ∷ [])
+load_ticks-passes prices a address k t =
+    let all = ticks_of-append prices (straight a ++ words_at false address k) (Internal 1 ∷ []) in
+    let first = ticks_of-append prices (straight a) (words_at false address k) in
+    omega (arith, all, first, ticks_of-words_at prices false address k)
 
 -- what a store costs
-pub store_ticks-are : (p : Profile) (rom : RomTimes) (a next address k fetch words : ℕ) →
-    next ≡ ahead_of a 8 → fetch ≡ fetch_n p rom next → words ≡ transfer p rom true address k →
-    fetch + words ≡ ticks_of p rom (store_accesses a address k)
-store_ticks-are p rom a next address k fetch words ahead fetched moved =
-    let all = ticks_of-append p rom (FetchN (ahead_of a 8) ∷ []) (words_at true address k) in
-    let price : fetch ≡ fetch_n p rom (ahead_of a 8) = fetched ∙ ap (λ (x : ℕ). fetch_n p rom x) ahead in
-    omega (arith, all, price, moved, ticks_of-words_at p rom true address k)
+pub store_ticks-are : (prices : Prices) (a next address k fetch words : ℕ) →
+    next ≡ ahead_of a 8 → fetch ≡ fetch_n prices.profile prices.rom next → words ≡ transfer prices.profile prices.rom true address k →
+    fetch + words ≡ ticks_of prices (store_accesses a address k)
+store_ticks-are prices a next address k fetch words ahead fetched moved =
+    let all = ticks_of-append prices (FetchN (ahead_of a 8) ∷ []) (words_at true address k) in
+    let price : fetch ≡ fetch_n prices.profile prices.rom (ahead_of a 8) = fetched ∙ ap (λ (x : ℕ). fetch_n prices.profile prices.rom x) ahead in
+    omega (arith, all, price, moved, ticks_of-words_at prices true address k)

@@ -1,9 +1,8 @@
 -- What a whole transfer does, and what it costs (VL86C010 data sheet, instruction cycles, but for the
 -- prices, what an aborted transfer leaves and costs, and what stops the machine).
 use Rattle.std.specs.Prelude.{◌≡◌, ℕ, zero, suc, ◌==◌, Bool, true, false, if◌then◌else◌, List, [], ◌∷◌, ◌++◌}
-use Rattle.bus_ticks.specs.declared.profile.Profile.{Profile}
-use Rattle.bus_ticks.specs.declared.profile.RomTimes.{RomTimes}
 use Rattle.bus_ticks.specs.Prices.{ahead_of, word_address}
+use Rattle.arm2_effect.specs.declared.prices.Prices.{Prices}
 use Rattle.arm2_effect.specs.declared.step_end.Kind.{Kind}
 use Rattle.arm2_effect.specs.declared.step_end.Why.TheVariants.{UnsupportedWrite}
 use Rattle.arm2_effect.specs.declared.step_end.Done.{Done}
@@ -23,10 +22,9 @@ pub record Moved : Type 0 where
   pub bus : Bus
 
 -- the code's answer, and the registers and the bus after it, are those of a transfer
-pub record IsMoved (p : Profile) (rom : RomTimes) (done : Done) (new : List ℕ) (now : Bus)
-    (m : Moved) : Type 0 where
+pub record IsMoved (prices : Prices) (done : Done) (new : List ℕ) (now : Bus) (m : Moved) : Type 0 where
   pub kind : done.kind ≡ m.kind
-  pub ticks : done.ticks ≡ ticks_of p rom m.accesses
+  pub ticks : done.ticks ≡ ticks_of prices m.accesses
   pub regs : new ≡ m.regs
   pub bus : now ≡ m.bus
 

@@ -167,10 +167,9 @@ fn end_load(registers: &Registers, prices: &Prices, block: PlacedBlock, r15: u32
     requires { block.span.lowest < SPACE_END }
     ensures kind { result.kind ≡ Kind.Plain }
     ensures ticks { result.ticks
-        ≡ ticks_of prices.now.profile prices.now.rom
+        ≡ ticks_of prices.now
         (load_accesses (address_of r15) block.span.lowest block.span.words
-        (is_listed block.transfer.list Register.R15)
-        (address_of (r15_in registers.now))) }
+        (is_listed block.transfer.list Register.R15) (address_of (r15_in registers.now))) }
     ensures bound { result.ticks < 2 ^ 16 }
 {
     let to = address_of(registers.get(Reg::R15));
@@ -188,7 +187,7 @@ fn load(
 ) -> Done
     requires fit { AllFit bus.now.memc.shift moves.now }
     requires below { block.span.lowest < SPACE_END }
-    ensures moved { IsMoved inputs.now.prices.profile inputs.now.prices.rom result registers.new bus.now
+    ensures moved { IsMoved inputs.now.prices result registers.new bus.now
         (block_loads block.transfer block.span inputs.now.port moves.now registers.old bus.now) }
     ensures bound { result.ticks < 2 ^ 16 }
     ensures goes_on { is_stopped result.kind ≡ false }
@@ -209,7 +208,7 @@ fn load_run(
 ) -> Done
     requires fitted { AreFitted bus.now.memc.shift place block.transfer.list }
     requires below { block.span.lowest < SPACE_END }
-    ensures moved { IsMoved inputs.now.prices.profile inputs.now.prices.rom result registers.new bus.now
+    ensures moved { IsMoved inputs.now.prices result registers.new bus.now
         (block_loads block.transfer block.span inputs.now.port
         (moves_along place (registers_in block.transfer.list)) registers.old bus.now) }
     ensures bound { result.ticks < 2 ^ 16 }
@@ -230,7 +229,7 @@ fn store(
 ) -> Done
     requires fit { AllFit bus.old.memc.shift moves.now }
     requires below { block.span.lowest < SPACE_END }
-    ensures moved { IsMoved prices.now.profile prices.now.rom result registers.new bus.new
+    ensures moved { IsMoved prices.now result registers.new bus.new
         (block_stores block.transfer block.span moves.now registers.old bus.old) }
     ensures bound { result.ticks < 2 ^ 16 }
     ensures goes_on { is_stopped result.kind ≡ false }
@@ -253,7 +252,7 @@ fn store_run(
     requires listed { 1 ≤ length (registers_in block.transfer.list) }
     requires fitted { AreFitted bus.old.memc.shift place block.transfer.list }
     requires below { block.span.lowest < SPACE_END }
-    ensures moved { IsMoved prices.now.profile prices.now.rom result registers.new bus.new
+    ensures moved { IsMoved prices.now result registers.new bus.new
         (block_stores block.transfer block.span
         (moves_along place (registers_in block.transfer.list)) registers.old bus.old) }
     ensures bound { result.ticks < 2 ^ 16 }
@@ -275,7 +274,7 @@ fn word_by_word(
     block: PlacedBlock,
 ) -> Done
     requires { block.span.lowest < SPACE_END }
-    ensures moved { IsMoved inputs.now.prices.profile inputs.now.prices.rom result registers.new bus.new
+    ensures moved { IsMoved inputs.now.prices result registers.new bus.new
         (block_at block.transfer block.span inputs.now.port registers.old bus.old) }
     ensures bound { result.ticks < 2 ^ 16 }
     ensures stopped { is_stopped result.kind ≡ true
@@ -293,7 +292,7 @@ fn word_by_word(
 #[inline(always)]
 fn block_at(registers: &mut Registers, bus: &mut Bus, inputs: &Inputs, block: PlacedBlock) -> Done
     requires { block.span.words ≡ length (registers_in block.transfer.list) }
-    ensures moved { IsMoved inputs.now.prices.profile inputs.now.prices.rom result registers.new bus.new
+    ensures moved { IsMoved inputs.now.prices result registers.new bus.new
         (block_at block.transfer block.span inputs.now.port registers.old bus.old) }
     ensures bound { result.ticks < 2 ^ 16 }
     ensures stopped { is_stopped result.kind ≡ true
@@ -319,7 +318,7 @@ pub(crate) fn block(
     inputs: &Inputs,
     transfer: &Block,
 ) -> Done
-    ensures moved { IsMoved inputs.now.prices.profile inputs.now.prices.rom result registers.new bus.new
+    ensures moved { IsMoved inputs.now.prices result registers.new bus.new
         (block_moved transfer.now inputs.now.port registers.old bus.old) }
     ensures bound { result.ticks < 2 ^ 16 }
     ensures stopped { is_stopped result.kind ≡ true

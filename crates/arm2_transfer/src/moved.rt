@@ -18,8 +18,7 @@ pub(crate) fn refuse(
     prices: &Prices,
     fault: TransferFault,
 ) -> Done
-    ensures moved { IsMoved prices.now.profile prices.now.rom result registers.new bus.now
-        (faulted fault registers.old bus.now) }
+    ensures moved { IsMoved prices.now result registers.new bus.now (faulted fault registers.old bus.now) }
     ensures bound { result.ticks < 2 ^ 16 }
     ensures stopped { is_stopped result.kind ≡ true
         → ChangesNothing result registers.old registers.new bus.now bus.now }
@@ -52,8 +51,7 @@ pub(crate) fn load_ticks(prices: &Prices, accesses: Accesses, jumps: bool, to: u
     requires to { to < SPACE_END }
     requires to_aligned { to % 4 ≡ 0 }
     ensures ticks { result
-        ≡ ticks_of prices.now.profile prices.now.rom
-        (load_accesses accesses.from accesses.address accesses.words jumps to) }
+        ≡ ticks_of prices.now (load_accesses accesses.from accesses.address accesses.words jumps to) }
     ensures bound { result < 2 ^ 16 }
 {
     let moved = transfer(
@@ -91,8 +89,7 @@ pub(crate) fn store_ticks(prices: &Prices, accesses: Accesses) -> u32
     requires some { 1 ≤ accesses.words }
     requires few { accesses.words ≤ 16 }
     ensures ticks { result
-        ≡ ticks_of prices.now.profile prices.now.rom
-        (store_accesses accesses.from accesses.address accesses.words) }
+        ≡ ticks_of prices.now (store_accesses accesses.from accesses.address accesses.words) }
     ensures bound { result < 2 ^ 16 }
 {
     let moved = transfer(

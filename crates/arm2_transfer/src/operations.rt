@@ -20,7 +20,7 @@ pub fn carry_out(
     inputs: &Inputs,
     operation: &Operation,
 ) -> Done
-    ensures moved { IsMoved inputs.now.prices.profile inputs.now.prices.rom result registers.new bus.new
+    ensures moved { IsMoved inputs.now.prices result registers.new bus.new
         (operation_moved operation.now inputs.now.port registers.old bus.old) }
     ensures bound { result.ticks < 2 ^ 16 }
     ensures stopped { is_stopped result.kind ≡ true

@@ -67,7 +67,7 @@ fn load(
 ) -> Done
     requires fits { Fits bus.now.memc.shift spot }
     requires below { address_for single.transfer single.base < SPACE_END }
-    ensures moved { IsMoved inputs.now.prices.profile inputs.now.prices.rom result registers.new bus.now
+    ensures moved { IsMoved inputs.now.prices result registers.new bus.now
         (single_loads single.transfer single.base inputs.now.port spot registers.old bus.now) }
     ensures bound { result.ticks < 2 ^ 16 }
     ensures goes_on { is_stopped result.kind ≡ false }
@@ -90,7 +90,7 @@ fn store(
 ) -> Done
     requires fits { Fits bus.old.memc.shift spot }
     requires below { address_for single.transfer single.base < SPACE_END }
-    ensures moved { IsMoved prices.now.profile prices.now.rom result registers.new bus.new
+    ensures moved { IsMoved prices.now result registers.new bus.new
         (single_stores single.transfer single.base spot registers.old bus.old) }
     ensures bound { result.ticks < 2 ^ 16 }
     ensures goes_on { is_stopped result.kind ≡ false }
@@ -111,7 +111,7 @@ fn single_at(
     inputs: &Inputs,
     single: PlacedSingle,
 ) -> Done
-    ensures moved { IsMoved inputs.now.prices.profile inputs.now.prices.rom result registers.new bus.new
+    ensures moved { IsMoved inputs.now.prices result registers.new bus.new
         (single_at single.transfer single.base inputs.now.port registers.old bus.old) }
     ensures bound { result.ticks < 2 ^ 16 }
     ensures stopped { is_stopped result.kind ≡ true
@@ -132,7 +132,7 @@ fn single_at(
 
 #[inline(always)]
 fn single(registers: &mut Registers, bus: &mut Bus, inputs: &Inputs, transfer: Single) -> Done
-    ensures moved { IsMoved inputs.now.prices.profile inputs.now.prices.rom result registers.new bus.new
+    ensures moved { IsMoved inputs.now.prices result registers.new bus.new
         (single_moved transfer inputs.now.port registers.old bus.old) }
     ensures bound { result.ticks < 2 ^ 16 }
     ensures stopped { is_stopped result.kind ≡ true
@@ -165,7 +165,7 @@ pub(crate) fn single_immediate(
     inputs: &Inputs,
     fields: &SingleImmediate,
 ) -> Done
-    ensures moved { IsMoved inputs.now.prices.profile inputs.now.prices.rom result registers.new bus.new
+    ensures moved { IsMoved inputs.now.prices result registers.new bus.new
         (single_moved (of_immediate fields.now) inputs.now.port registers.old bus.old) }
     ensures bound { result.ticks < 2 ^ 16 }
     ensures stopped { is_stopped result.kind ≡ true
@@ -181,7 +181,7 @@ pub(crate) fn single_register(
     inputs: &Inputs,
     fields: &SingleRegister,
 ) -> Done
-    ensures moved { IsMoved inputs.now.prices.profile inputs.now.prices.rom result registers.new bus.new
+    ensures moved { IsMoved inputs.now.prices result registers.new bus.new
         (single_moved (of_register fields.now registers.old) inputs.now.port registers.old bus.old) }
     ensures bound { result.ticks < 2 ^ 16 }
     ensures stopped { is_stopped result.kind ≡ true

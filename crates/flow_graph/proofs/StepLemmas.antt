@@ -141,8 +141,8 @@ module _ (words : Words) (st : Stated) (profile : Profile) (calls : List ℕ) (a
   small : stepped.to < 2 ^ 26
   small = subst (λ t. t < 2 ^ 26) (sym plain_is.to) ((word_address_of (r15_in h.step.moved.regs)).0)
 
-  ticks : stepped.ticks ≡ ticks_of profile s.bus.memc.control.rom_times h.step.moved.accesses
-  ticks = plain_is.ticks ∙ ap (λ (p : Profile). ticks_of p s.bus.memc.control.rom_times h.step.moved.accesses) h.prices
+  ticks : stepped.ticks ≡ ticks_of (record { profile = profile; rom = s.bus.memc.control.rom_times }) h.step.moved.accesses
+  ticks = plain_is.ticks ∙ ap (λ (p : Profile). ticks_of (record { profile = p; rom = s.bus.memc.control.rom_times }) h.step.moved.accesses) h.prices
 
   step_costs : StepCosts (holds_in s.regs action.cond)
   step_costs =

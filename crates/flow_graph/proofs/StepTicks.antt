@@ -11,6 +11,7 @@ use Rattle.bus_ticks.specs.Prices.{ahead_of, transfer, fetch_n, fetch_s, word_ad
 use Rattle.bus_ticks.specs.Worst.{IsBlockOf, worst_block, worst_fetch_n, worst_fetch_s}
 use Rattle.bus_ticks.proofs.FetchLemmas.{n_greatest, s_greatest}
 use Rattle.bus_ticks.proofs.WorstLemmas.{worst_transfer_greatest}
+use Rattle.arm2_effect.specs.declared.prices.Prices.{Prices}
 use Rattle.arm2_effect.specs.Effects.{Access, FetchN, FetchS, Internal, Word, straight, refill, ticks_of}
 use Rattle.arm2_effect.specs.ProgramCounter.{branch_target}
 use Rattle.arm2_transfer.proofs.Ticks.{load_ticks-jumps, load_ticks-passes, ticks_of-append, ticks_of-words_at}
@@ -52,6 +53,9 @@ store_block class rom a address k below in_class = record {
 }
 
 module _ (p : Profile) (rom : RomTimes) (class : Class) (a : ℕ) where
+  abbrev prices : Prices
+  prices = record { profile = p; rom = rom }
+
   pub n_most : (x : ℕ) → fetch_n p rom x ≤ worst_fetch_n p x
   n_most x = (n_greatest p x (worst_fetch_n p x) refl).none_above rom tt
 
@@ -79,7 +83,7 @@ module _ (p : Profile) (rom : RomTimes) (class : Class) (a : ℕ) where
   -- a step of these accesses that ends at t is one of a word of the kind and the work, and costs no more than they do
   pub record Costs (k : Kind) (w : Work) (accesses : List Access) (t : ℕ) : Type 0 where
     pub reaches : Reaches k t
-    pub most : ticks_of p rom accesses ≤ fetch_ticks p a w + work_ticks p class w + jump_price k t
+    pub most : ticks_of prices accesses ≤ fetch_ticks p a w + work_ticks p class w + jump_price k t
 
   pub straight_costs : (t : ℕ) → t ≡ ahead_of a 4 → Costs kind.Plain (work.Internal 0) (straight a) t
   straight_costs t e = record { reaches = e; most = omega (arith, s_most (ahead_of a 8)) }
@@ -98,9 +102,9 @@ module _ (p : Profile) (rom : RomTimes) (class : Class) (a : ℕ) where
   delayed_costs cycles most k accesses t few h = record {
     reaches = h.reaches;
     most =
-        let all = ticks_of-append p rom (Internal cycles ∷ []) accesses in
+        let all = ticks_of-append prices (Internal cycles ∷ []) accesses in
         let product : cycles * p.internal ≤ most * p.internal = mul-le cycles p.internal most p.internal few (omega arith) in
-        let before : ticks_of p rom accesses ≤ passing_ticks p a + 0 * p.internal + jump_price k t = h.most in
+        let before : ticks_of prices accesses ≤ passing_ticks p a + 0 * p.internal + jump_price k t = h.most in
         omega (arith, all, product, before);
   }
 
@@ -110,17 +114,17 @@ module _ (p : Profile) (rom : RomTimes) (class : Class) (a : ℕ) where
   pub load_costs : (address k : ℕ) (jumps : Bool) (t : ℕ) → 1 ≤ k → k ≤ 16 → IsBlockOf class k (record { address = address; rom = rom }) → (jumps ≡ false → t ≡ ahead_of a 4) → Costs (writer_if jumps) (work.Load k) (load_accesses a address k jumps t) t
   load_costs address k true t some few of_class to = record {
     reaches = tt;
-    most = omega (arith, load_ticks-jumps p rom a address k t, s_most (ahead_of a 8), block_most address k false some few of_class);
+    most = omega (arith, load_ticks-jumps prices a address k t, s_most (ahead_of a 8), block_most address k false some few of_class);
   }
   load_costs address k false t some few of_class to = record {
     reaches = to refl;
-    most = omega (arith, load_ticks-passes p rom a address k t, s_most (ahead_of a 8), block_most address k false some few of_class);
+    most = omega (arith, load_ticks-passes prices a address k t, s_most (ahead_of a 8), block_most address k false some few of_class);
   }
 
   pub store_costs : (address k t : ℕ) → 1 ≤ k → k ≤ 16 → IsBlockOf class k (record { address = address; rom = rom }) → t ≡ ahead_of a 4 → Costs kind.Plain (work.Store k) (store_accesses a address k) t
   store_costs address k t some few of_class to = record {
     reaches = to;
     most =
-        let all = ticks_of-append p rom (FetchN (ahead_of a 8) ∷ []) (words_at true address k) in
-        omega (arith, all, ticks_of-words_at p rom true address k, n_most (ahead_of a 8), block_most address k true some few of_class);
+        let all = ticks_of-append prices (FetchN (ahead_of a 8) ∷ []) (words_at true address k) in
+        omega (arith, all, ticks_of-words_at prices true address k, n_most (ahead_of a 8), block_most address k true some few of_class);
   }

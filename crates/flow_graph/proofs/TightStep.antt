@@ -11,6 +11,7 @@ use Rattle.arm2_decode.specs.Table.{Means}
 use Rattle.arm2_decode.specs.declared.instr.Instr.{Instr}
 use Rattle.arm2_effect.specs.declared.exceptions.Vector.{Vector}
 use Rattle.arm2_effect.specs.declared.modes.Mode.TheVariants.{Svc}
+use Rattle.arm2_effect.specs.declared.prices.Prices.{Prices}
 use Rattle.arm2_effect.specs.declared.step_end.Kind.TheVariants as ended
 use Rattle.arm2_effect.specs.Effects.{is_stopped, skipped, ticks_of}
 use Rattle.arm2_effect.specs.Modes.{r15_in, is_user}
@@ -79,6 +80,9 @@ module _ (words : Words) (st : Stated) (profile : Profile) (e : Edge) (s : State
   abbrev rom : RomTimes
   rom = s.bus.memc.control.rom_times
 
+  abbrev prices : Profile → Prices
+  prices p = record { profile = p; rom = rom }
+
   abbrev class : Class
   class = class_of st a
 
@@ -115,11 +119,11 @@ module _ (words : Words) (st : Stated) (profile : Profile) (e : Edge) (s : State
   -- a step that does this takes the edge at its price
   tight : (m : Moved) → Obeys h.word i.port s.regs bus m → m.kind ≡ ended.Plain
       → TransfersIn class m.accesses → IsPlaceOf st.leave (address_in m.regs) e.to
-      → ticks_of profile rom m.accesses ≡ e.cost → IsTight words st profile e s i
+      → ticks_of (prices profile) m.accesses ≡ e.cost → IsTight words st profile e s i
   tight m obeys plain transfers to cost =
       let plainly = kind_of_answer s m ∙ plain in
       let plain_is : IsPlainStep s m (answer_of s m) = plain_step s m (answer_of s m) refl plainly in
-      let ticks = plain_is.ticks ∙ ap (λ (p : Profile). ticks_of p rom m.accesses) h.begins.prices in
+      let ticks = plain_is.ticks ∙ ap (λ (p : Profile). ticks_of (prices p) m.accesses) h.begins.prices in
       record {
         privileged = ap is_user svc;
         stepped = answer_of s m;
@@ -167,7 +171,7 @@ module _ (words : Words) (st : Stated) (profile : Profile) (e : Edge) (s : State
       let in_class = transfers_in class _ done.pays.in_class in
       let goes = (skipped_costs profile rom class s.regs long bus in_class done.plain).reaches in
       let cost : passing_ticks profile a ≡ e.cost = ap (λ (x : Edge). x.cost) is in
-      let exact : ticks_of profile rom (skipped s.regs).accesses
+      let exact : ticks_of (prices profile) (skipped s.regs).accesses
       ≡ passing_ticks profile a + 0 * profile.internal + 0 = done.pays.exact in
       tight (on_bus bus (skipped s.regs)) (obeys_skipped fails h.is) done.plain in_class
       (subst (λ (x : Edge). IsPlaceOf st.leave (address_in (skipped s.regs).regs) x.to) is (sym goes))

@@ -9,6 +9,7 @@ use Rattle.bus_ticks.specs.declared.profile.Profile.{Profile}
 use Rattle.bus_ticks.specs.declared.profile.RomTimes.{RomTimes}
 use Rattle.bus_ticks.specs.Prices.{ahead_of, transfer, by_class, class_at, fetch_n, ram_price, fetch_s, word_address}
 use Rattle.bus_ticks.specs.Worst.{IsOf, worst_block, worst_fetch_n, worst_fetch_s}
+use Rattle.arm2_effect.specs.declared.prices.Prices.{Prices}
 use Rattle.arm2_effect.specs.Effects.{Access, FetchN, FetchS, Internal, Word, straight, refill, onward}
 use Rattle.arm2_effect.specs.Effects.{ticks_of}
 use Rattle.arm2_transfer.proofs.Ticks.{load_ticks-jumps, load_ticks-passes, ticks_of-append}
@@ -72,6 +73,9 @@ AreDear p rom class words lowest store =
     IsDearestBlock p class words store (record { address = lowest; rom = rom })
 
 module _ (p : Profile) (rom : RomTimes) (class : Class) (a : ℕ) (dear : AreDearest p rom) where
+  abbrev prices : Prices
+  prices = record { profile = p; rom = rom }
+
   pub n_worst : (x : ℕ) → fetch_n p rom x ≡ worst_fetch_n p x
   n_worst x = ap (λ r. by_class (class_at x) p.n r p.unfitted) (dear x)
 
@@ -82,7 +86,7 @@ module _ (p : Profile) (rom : RomTimes) (class : Class) (a : ℕ) (dear : AreDea
   -- do
   pub record Pays (k : Kind) (w : Work) (accesses : List Access) (t : ℕ) : Type 0 where
     pub in_class : All (IsIn class) accesses
-    pub exact : ticks_of p rom accesses
+    pub exact : ticks_of prices accesses
         ≡ fetch_ticks p a w + work_ticks p class w + jump_price p rom class a k t
 
   pub straight_pays : (t : ℕ) → Pays kind.Plain (work.Internal 0) (straight a) t
@@ -106,9 +110,9 @@ module _ (p : Profile) (rom : RomTimes) (class : Class) (a : ℕ) (dear : AreDea
         (All-from_recursion (IsIn class) (Internal cycles ∷ []) (tt, tt))
         h.in_class;
     exact =
-        let both = ticks_of-append p rom (Internal cycles ∷ []) accesses in
+        let both = ticks_of-append prices (Internal cycles ∷ []) accesses in
         let product : cycles * p.internal ≡ most * p.internal = ap (λ n. n * p.internal) all in
-        let rest : ticks_of p rom accesses
+        let rest : ticks_of prices accesses
         ≡ passing_ticks p a + 0 * p.internal + jump_price p rom class a k t = h.exact in
         omega (arith, both, product, rest);
   }
@@ -119,13 +123,13 @@ module _ (p : Profile) (rom : RomTimes) (class : Class) (a : ℕ) (dear : AreDea
     in_class = load_in class a x k true t block.of_class.each;
     exact =
         let price : transfer p rom false x k ≡ worst_block p class k false = block.price in
-        omega (arith, load_ticks-jumps p rom a x k t, s_worst (ahead_of a 8), price);
+        omega (arith, load_ticks-jumps prices a x k t, s_worst (ahead_of a 8), price);
   }
   load_pays x k false t block = record {
     in_class = load_in class a x k false t block.of_class.each;
     exact =
         let price : transfer p rom false x k ≡ worst_block p class k false = block.price in
-        omega (arith, load_ticks-passes p rom a x k t, s_worst (ahead_of a 8), price);
+        omega (arith, load_ticks-passes prices a x k t, s_worst (ahead_of a 8), price);
   }
 
   pub store_pays : (x k t : ℕ) → AreDear p rom class k x true
@@ -137,6 +141,6 @@ module _ (p : Profile) (rom : RomTimes) (class : Class) (a : ℕ) (dear : AreDea
         (words_in class true x k block.of_class.each);
     exact =
         let price : transfer p rom true x k ≡ worst_block p class k true = block.price in
-        let all = ticks_of-append p rom (FetchN (ahead_of a 8) ∷ []) (words_at true x k) in
-        omega (arith, all, ticks_of-words_at p rom true x k, n_worst (ahead_of a 8), price);
+        let all = ticks_of-append prices (FetchN (ahead_of a 8) ∷ []) (words_at true x k) in
+        omega (arith, all, ticks_of-words_at prices true x k, n_worst (ahead_of a 8), price);
   }

@@ -7,7 +7,7 @@ use Rattle.arm2_exec.proofs.work.obey.Goals as goal
 
 pub returns-in_default-clause-obeyed : goal.returns-in_default-clause-obeyed
 returns-in_default-clause-obeyed c =
-    obeyed_none c.args.inputs.now.prices.profile c.args.inputs.now.prices.rom c.args.inputs.now.port c.args.registers.now c.args.bus.now c.take.result c.take.new.self c.args.word c.in_default.is c.take.ensures.effect
+    obeyed_none c.args.inputs.now.prices c.args.inputs.now.port c.args.registers.now c.args.bus.now c.take.result c.take.new.self c.args.word c.in_default.is c.take.ensures.effect
 
 pub returns-in-Ok-clause-obeyed : goal.returns-in-Ok-clause-obeyed
 returns-in-Ok-clause-obeyed c =

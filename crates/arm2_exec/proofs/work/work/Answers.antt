@@ -9,7 +9,7 @@ returns-in-Some c =
     let due : interrupt_due c.args.bus.now (r15_in c.args.registers.now) ≡ Some c.in-Some.vector =
     ap (interrupt_due c.args.bus.now) (sym c.get-r15.ensures.word) ∙ sym c.interrupt_of.ensures ∙ c.in-Some.is in
     record {
-      worked = worked_interrupt c.args.inputs.now.prices.profile c.args.inputs.now.prices.rom c.args.inputs.now.port c.args.registers.now c.args.bus.now c.take-done.result c.take-done.new.self _ c.in-Some.vector due c.take-done.ensures.effect;
+      worked = worked_interrupt c.args.inputs.now.prices c.args.inputs.now.port c.args.registers.now c.args.bus.now c.take-done.result c.take-done.new.self _ c.in-Some.vector due c.take-done.ensures.effect;
       word = rw due refl;
       bound = search rules;
     }
@@ -21,7 +21,7 @@ returns c =
     let word : c.fetched-word.result ≡ fetched c.args.bus.now.memc (r15_in c.args.registers.now) =
     c.fetched-word.ensures ∙ ap (fetched c.args.bus.now.memc) c.get-r15.ensures.word in
     record {
-      worked = worked_word c.args.inputs.now.prices.profile c.args.inputs.now.prices.rom c.args.inputs.now.port c.args.registers.now c.args.bus.now c.obey-done.result c.obey-done.new.registers _ c.fetched-word.result c.obey-done.new.bus none word c.obey-done.ensures.obeyed;
+      worked = worked_word c.args.inputs.now.prices c.args.inputs.now.port c.args.registers.now c.args.bus.now c.obey-done.result c.obey-done.new.registers _ c.fetched-word.result c.obey-done.new.bus none word c.obey-done.ensures.obeyed;
       word = rw none word;
       bound = c.obey-done.ensures.bound;
     }

@@ -4,8 +4,8 @@ use Rattle.arm2_transfer.proofs.moved.load_ticks.Goals as goal
 
 pub returns-then-jumps-clause-ticks : goal.returns-then-jumps-clause-ticks
 returns-then-jumps-clause-ticks c =
-    rw c.if-jumps.true (omega (arith, load_ticks-jumps c.args.prices.now.profile c.args.prices.now.rom c.args.accesses.from c.args.accesses.address c.args.accesses.words c.args.to, c.transfer-moved.ensures.price, c.straight.ensures.ticks, c.internal.ensures.ticks, c.refill.ensures.ticks))
+    rw c.if-jumps.true (omega (arith, load_ticks-jumps c.args.prices.now c.args.accesses.from c.args.accesses.address c.args.accesses.words c.args.to, c.transfer-moved.ensures.price, c.straight.ensures.ticks, c.internal.ensures.ticks, c.refill.ensures.ticks))
 
 pub returns-else-jumps-clause-ticks : goal.returns-else-jumps-clause-ticks
 returns-else-jumps-clause-ticks c =
-    rw c.if-jumps.false (omega (arith, load_ticks-passes c.args.prices.now.profile c.args.prices.now.rom c.args.accesses.from c.args.accesses.address c.args.accesses.words c.args.to, c.transfer-moved.ensures.price, c.straight.ensures.ticks, c.internal.ensures.ticks))
+    rw c.if-jumps.false (omega (arith, load_ticks-passes c.args.prices.now c.args.accesses.from c.args.accesses.address c.args.accesses.words c.args.to, c.transfer-moved.ensures.price, c.straight.ensures.ticks, c.internal.ensures.ticks))

@@ -5,4 +5,4 @@ use Rattle.arm2_transfer.proofs.moved.store_ticks.Goals as goal
 
 pub returns-clause-ticks : goal.returns-clause-ticks
 returns-clause-ticks c =
-    store_ticks-are c.args.prices.now.profile c.args.prices.now.rom c.args.accesses.from (ahead_of c.args.accesses.from 8) c.args.accesses.address c.args.accesses.words c.fetch_after.result c.transfer-moved.result refl c.fetch_after.ensures.price c.transfer-moved.ensures.price
+    store_ticks-are c.args.prices.now c.args.accesses.from (ahead_of c.args.accesses.from 8) c.args.accesses.address c.args.accesses.words c.fetch_after.result c.transfer-moved.result refl c.fetch_after.ensures.price c.transfer-moved.ensures.price
