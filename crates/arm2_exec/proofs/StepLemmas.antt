@@ -23,7 +23,7 @@ use Rattle.arm2_exec.specs.declared.machine.Stepped.{Stepped}
 use Rattle.arm2_exec.specs.State.{State}
 use Rattle.arm2_exec.specs.Step.{Obeys, ObeysFetched, Works, Step, HasOneOutcome, address_in, answer_of, elapsed, fetched, instruction_moved, interrupt_due, prices_in, state_after, unallocated_moved, with_lines}
 use Rattle.arm2_exec.specs.Work.{Worked}
-use Rattle.arm2_exec.proofs.StillLemmas.{works_still}
+use Rattle.arm2_exec.proofs.MovedCases.{works_still}
 
 pub stops : (k : Kind) (w : Why) → k ≡ Stopped w → is_stopped k ≡ true
 stops k w is = ap is_stopped is
@@ -55,7 +55,7 @@ module _ (s : State) (i : Input) where
         moved = w.moved;
         works = w.works;
         stepped_is = rw kind (ap (λ (k : Kind). let t : Stepped = record { kind = k; ticks = 0; from = address_in s.regs; to = address_in s.regs } in t) w.is.kind);
-        after_is = rw (kind, w.is.regs ∙ still.0) (unlined now (w.is.bus ∙ still.1));
+        after_is = rw (kind, w.is.regs ∙ still.1) (unlined now (w.is.bus ∙ still.2));
       }
 
   pub going_step : (done : Done) (new : List ℕ) (now : Bus)

@@ -8,14 +8,14 @@ use Rattle.bus_ticks.specs.Worst.{fiq_entry_price}
 use Rattle.arm2_effect.specs.declared.exceptions.Vector.{Vector}
 use Rattle.arm2_effect.specs.declared.exceptions.Vector.TheVariants as vector
 use Rattle.arm2_effect.specs.declared.step_end.Kind.{Kind}
-use Rattle.arm2_effect.specs.declared.step_end.Kind.TheVariants.{Plain, Taken}
-use Rattle.arm2_effect.specs.declared.step_end.Why.{Why}
+use Rattle.arm2_effect.specs.declared.step_end.Kind.TheVariants.{Taken}
 use Rattle.arm2_effect.specs.Modes.{r15_in, reg_number, slot_of}
 use Rattle.arm2_effect.specs.Effects.{is_stopped, stopped}
 use Rattle.arm2_effect.specs.Exceptions.{entry_at, taken}
 use Rattle.arm2_transfer.specs.declared.bus.Bus.{Bus}
 use Rattle.arm2_transfer.specs.Moved.{Moved, on_bus}
 use Rattle.arm2_transfer.proofs.Slots.{slot_of_r15}
+use Rattle.arm2_transfer.proofs.MovedCases.{HasAll}
 use Rattle.arm2_exec.proofs.MovedCases.{works_has}
 use Rattle.arm2_exec.specs.declared.machine.Input.{Input}
 use Rattle.arm2_exec.specs.declared.machine.Stepped.{Stepped}
@@ -29,9 +29,6 @@ module _ (regs : List ℕ) (bus : Bus) (v : Vector) where
   abbrev pub IsTaken : Moved → Type 0
   IsTaken m = m.kind ≡ Taken v → m ≡ on_bus bus (taken v regs)
 
-  plain : (m : Moved) → m.kind ≡ Plain → IsTaken m
-  plain m is = λ kind. absurd (cc (is, kind))
-
   taken_kind : (w : Vector) → (taken w regs).kind ≡ Taken w
   unfolding taken
   taken_kind w = refl
@@ -39,15 +36,16 @@ module _ (regs : List ℕ) (bus : Bus) (v : Vector) where
   same_vector : (w : Vector) (k : Kind) → k ≡ Taken w → k ≡ Taken v → w ≡ v
   same_vector w k p q = cc
 
-  takes : (w : Vector) → IsTaken (on_bus bus (taken w regs))
-  takes w = λ kind. ap (λ (x : Vector). on_bus bus (taken x regs)) (same_vector w (taken w regs).kind (taken_kind w) kind)
-
-  stops : (w : Why) → IsTaken (on_bus bus (stopped w regs))
+  all_taken : HasAll regs bus IsTaken
   unfolding stopped
-  stops w = λ kind. absurd (cc kind)
+  all_taken = record {
+    plain = λ m is kind. absurd (cc (is, kind));
+    takes = λ w kind. ap (λ (x : Vector). on_bus bus (taken x regs)) (same_vector w (taken w regs).kind (taken_kind w) kind);
+    stops = λ w kind. absurd (cc kind);
+  }
 
   works_takes : (interrupt : Option Vector) (port : ℕ) (m : Moved) → Works interrupt port regs bus m → IsTaken m
-  works_takes interrupt port m works = works_has regs bus IsTaken plain takes stops interrupt port m works
+  works_takes interrupt port m works = works_has regs bus IsTaken all_taken interrupt port m works
 
 -- ## What it keeps
 

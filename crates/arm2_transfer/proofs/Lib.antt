@@ -4,5 +4,6 @@ pub mod Listed
 pub mod Lowest
 pub mod RunLemmas
 pub mod Chosen
+pub mod MovedCases
 pub mod Slots
 pub mod BaseLemmas

@@ -1,5 +1,5 @@
 -- What a load or a store does to the registers (VL86C010 data sheet, data transfer, where it speaks).
-use Rattle.std.specs.Prelude.{ℕ, ◌+◌, ◌-◌, ◌%◌, ◌^◌, Bool, true, false, if◌then◌else◌, List}
+use Rattle.std.specs.Prelude.{ℕ, ◌+◌, ◌-◌, ◌%◌, ◌^◌, Bool, if◌then◌else◌, List}
 use Rattle.arm2_decode.specs.declared.names.Register.{Register}
 use Rattle.arm2_decode.specs.Names.{is_pc, register_number}
 use Rattle.arm2_effect.specs.declared.modes.Mode.{Mode}

@@ -1,9 +1,9 @@
-ghost use Rattle.std.specs.Prelude.{◌≡◌, true, false, ◌<◌, ◌≤◌, ◌^◌, length};
-ghost use Rattle.arm2_effect.specs.Effects.{is_stopped, ticks_of};
+ghost use Rattle.std.specs.Prelude.{◌≡◌, ◌<◌, ◌≤◌, ◌^◌, length};
+ghost use Rattle.arm2_effect.specs.Effects.{ticks_of};
 ghost use Rattle.arm2_effect.specs.Modes.{r15_in, register_in};
 ghost use Rattle.arm2_decode.specs.Transfers.{is_listed};
 ghost use Rattle.arm2_transfer.specs.Words.{AllFit, AreFitted, registers_in, moves_along};
-ghost use Rattle.arm2_transfer.specs.Moved.{ChangesNothing, IsMoved, load_accesses};
+ghost use Rattle.arm2_transfer.specs.Moved.{IsMoved, load_accesses};
 ghost use Rattle.arm2_effect.specs.ProgramCounter.{address_of, mode_of};
 ghost use Rattle.arm2_transfer.specs.Registers.{passed, with_base};
 ghost use Rattle.arm2_transfer.specs.Block.{all_loaded, all_put, block_at, block_loads, block_mode};
@@ -190,7 +190,6 @@ fn load(
     ensures moved { IsMoved inputs.now.prices result registers.new bus.now
         (block_loads block.transfer block.span inputs.now.port moves.now registers.old bus.now) }
     ensures bound { result.ticks < 2 ^ 16 }
-    ensures goes_on { is_stopped result.kind ≡ false }
 {
     let loading = begin_load(registers, block);
     load_all(registers, bus, inputs.port, loading, moves);
@@ -212,7 +211,6 @@ fn load_run(
         (block_loads block.transfer block.span inputs.now.port
         (moves_along place (registers_in block.transfer.list)) registers.old bus.now) }
     ensures bound { result.ticks < 2 ^ 16 }
-    ensures goes_on { is_stopped result.kind ≡ false }
 {
     let loading = begin_load(registers, block);
     load_along(registers, bus, loading, block.transfer.list, place);
@@ -232,7 +230,6 @@ fn store(
     ensures moved { IsMoved prices.now result registers.new bus.new
         (block_stores block.transfer block.span moves.now registers.old bus.old) }
     ensures bound { result.ticks < 2 ^ 16 }
-    ensures goes_on { is_stopped result.kind ≡ false }
 {
     let r15 = registers.get(Reg::R15);
     put_block(registers, bus, block, moves);
@@ -256,7 +253,6 @@ fn store_run(
         (block_stores block.transfer block.span
         (moves_along place (registers_in block.transfer.list)) registers.old bus.old) }
     ensures bound { result.ticks < 2 ^ 16 }
-    ensures goes_on { is_stopped result.kind ≡ false }
 {
     let r15 = registers.get(Reg::R15);
     put_run(registers, bus, block, place);
@@ -277,8 +273,6 @@ fn word_by_word(
     ensures moved { IsMoved inputs.now.prices result registers.new bus.new
         (block_at block.transfer block.span inputs.now.port registers.old bus.old) }
     ensures bound { result.ticks < 2 ^ 16 }
-    ensures stopped { is_stopped result.kind ≡ true
-        → ChangesNothing result registers.old registers.new bus.old bus.new }
 {
     let user = mode_of(registers.get(Reg::R15)).is_user();
     match locate_block(&bus.memc, block.transfer, block.span.lowest, user) {
@@ -295,8 +289,6 @@ fn block_at(registers: &mut Registers, bus: &mut Bus, inputs: &Inputs, block: Pl
     ensures moved { IsMoved inputs.now.prices result registers.new bus.new
         (block_at block.transfer block.span inputs.now.port registers.old bus.old) }
     ensures bound { result.ticks < 2 ^ 16 }
-    ensures stopped { is_stopped result.kind ≡ true
-        → ChangesNothing result registers.old registers.new bus.old bus.new }
 {
     let (span, load) = (block.span, block.transfer.load);
     if span.lowest >= SPACE_END {
@@ -321,8 +313,6 @@ pub(crate) fn block(
     ensures moved { IsMoved inputs.now.prices result registers.new bus.new
         (block_moved transfer.now inputs.now.port registers.old bus.old) }
     ensures bound { result.ticks < 2 ^ 16 }
-    ensures stopped { is_stopped result.kind ≡ true
-        → ChangesNothing result registers.old registers.new bus.old bus.new }
 {
     let base = registers.read(mode_of(registers.get(Reg::R15)), transfer.rn);
     let span = span_of(transfer, base, count(transfer.list));

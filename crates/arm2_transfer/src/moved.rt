@@ -1,8 +1,8 @@
-ghost use Rattle.std.specs.Prelude.{◌≡◌, true, ◌<◌, ◌≤◌, ◌^◌, ◌%◌};
+ghost use Rattle.std.specs.Prelude.{◌≡◌, ◌<◌, ◌≤◌, ◌^◌, ◌%◌};
 ghost use Rattle.bus_ticks.specs.declared.space.TheConstants.{SPACE_END};
 ghost use Rattle.bus_ticks.specs.Prices.{ahead_of, fetch_n};
-ghost use Rattle.arm2_effect.specs.Effects.{is_stopped, ticks_of};
-ghost use Rattle.arm2_transfer.specs.Moved.{ChangesNothing, IsMoved, faulted, load_accesses, store_accesses};
+ghost use Rattle.arm2_effect.specs.Effects.{ticks_of};
+ghost use Rattle.arm2_transfer.specs.Moved.{IsMoved, faulted, load_accesses, store_accesses};
 
 use crate::bus::Bus;
 use crate::words::TransferFault;
@@ -20,8 +20,6 @@ pub(crate) fn refuse(
 ) -> Done
     ensures moved { IsMoved prices.now result registers.new bus.now (faulted fault registers.old bus.now) }
     ensures bound { result.ticks < 2 ^ 16 }
-    ensures stopped { is_stopped result.kind ≡ true
-        → ChangesNothing result registers.old registers.new bus.now bus.now }
 {
     match fault {
         TransferFault::DataAbort => registers.take(prices, Vector::DataAbort),

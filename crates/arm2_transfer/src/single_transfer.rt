@@ -1,7 +1,6 @@
-ghost use Rattle.std.specs.Prelude.{◌≡◌, true, false, ◌<◌, ◌^◌};
+ghost use Rattle.std.specs.Prelude.{◌≡◌, ◌<◌, ◌^◌};
 ghost use Rattle.memc.specs.Memory.{Fits};
-ghost use Rattle.arm2_effect.specs.Effects.{is_stopped};
-ghost use Rattle.arm2_transfer.specs.Moved.{ChangesNothing, IsMoved};
+ghost use Rattle.arm2_transfer.specs.Moved.{IsMoved};
 ghost use Rattle.arm2_transfer.specs.Single.{address_for, single_loaded, single_loads, single_stores};
 ghost use Rattle.arm2_transfer.specs.Single.{single_at, single_moved, of_immediate};
 ghost use Rattle.arm2_transfer.specs.Single.{of_register};
@@ -70,7 +69,6 @@ fn load(
     ensures moved { IsMoved inputs.now.prices result registers.new bus.now
         (single_loads single.transfer single.base inputs.now.port spot registers.old bus.now) }
     ensures bound { result.ticks < 2 ^ 16 }
-    ensures goes_on { is_stopped result.kind ≡ false }
 {
     let r15 = registers.get(Reg::R15);
     load_word(registers, bus, inputs.port, single, spot);
@@ -93,7 +91,6 @@ fn store(
     ensures moved { IsMoved prices.now result registers.new bus.new
         (single_stores single.transfer single.base spot registers.old bus.old) }
     ensures bound { result.ticks < 2 ^ 16 }
-    ensures goes_on { is_stopped result.kind ≡ false }
 {
     let (transfer, base) = (single.transfer, single.base);
     let r15 = registers.get(Reg::R15);
@@ -114,8 +111,6 @@ fn single_at(
     ensures moved { IsMoved inputs.now.prices result registers.new bus.new
         (single_at single.transfer single.base inputs.now.port registers.old bus.old) }
     ensures bound { result.ticks < 2 ^ 16 }
-    ensures stopped { is_stopped result.kind ≡ true
-        → ChangesNothing result registers.old registers.new bus.old bus.new }
 {
     let transfer = single.transfer;
     let address = transfer.address(single.base);
@@ -135,8 +130,6 @@ fn single(registers: &mut Registers, bus: &mut Bus, inputs: &Inputs, transfer: S
     ensures moved { IsMoved inputs.now.prices result registers.new bus.new
         (single_moved transfer inputs.now.port registers.old bus.old) }
     ensures bound { result.ticks < 2 ^ 16 }
-    ensures stopped { is_stopped result.kind ≡ true
-        → ChangesNothing result registers.old registers.new bus.old bus.new }
 {
     let base = registers.first(transfer.rn, 8);
     single_at(registers, bus, inputs, PlacedSingle { transfer, base })
@@ -168,8 +161,6 @@ pub(crate) fn single_immediate(
     ensures moved { IsMoved inputs.now.prices result registers.new bus.new
         (single_moved (of_immediate fields.now) inputs.now.port registers.old bus.old) }
     ensures bound { result.ticks < 2 ^ 16 }
-    ensures stopped { is_stopped result.kind ≡ true
-        → ChangesNothing result registers.old registers.new bus.old bus.new }
 {
     single(registers, bus, inputs, with_offset!(fields, fields.offset))
 }
@@ -184,8 +175,6 @@ pub(crate) fn single_register(
     ensures moved { IsMoved inputs.now.prices result registers.new bus.new
         (single_moved (of_register fields.now registers.old) inputs.now.port registers.old bus.old) }
     ensures bound { result.ticks < 2 ^ 16 }
-    ensures stopped { is_stopped result.kind ≡ true
-        → ChangesNothing result registers.old registers.new bus.old bus.new }
 {
     let offset = registers.shifted_by_amount(fields.shift, fields.amount, fields.rm);
     single(registers, bus, inputs, with_offset!(fields, offset.value))
