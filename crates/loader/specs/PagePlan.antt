@@ -9,6 +9,7 @@ use Rattle.std.specs.Ordering.{nat_cmp}
 use Rattle.loader.specs.Image.{Words, word_of}
 use Rattle.loader.specs.declared.image.TheConstants.{PAGE_BYTES}
 use Rattle.loader.specs.declared.plan.PlacedPage.{PlacedPage}
+use Rattle.loader.specs.declared.plan.TheConstants.{LOGICAL_PAGES}
 use Rattle.memc.specs.declared.pages.TheConstants.{PHYSICAL_PAGES}
 
 -- the number of the page of an address, and that of a physical page by its own addresses
@@ -16,7 +17,7 @@ abbrev pub page_of : ℕ → ℕ
 page_of address = address / PAGE_BYTES
 
 abbrev pub physical_page : ℕ → ℕ
-physical_page p = 1024 + p
+physical_page p = LOGICAL_PAGES + p
 
 -- a word lies on the page
 abbrev pub HasWordOn : Words → ℕ → Type 0
@@ -35,7 +36,7 @@ pub record AreHeld (words : Words) (pages : List ℕ) : Type 0 where
 
 -- a page is logical; a physical one is not among pages, and so no word names it by its own address
 abbrev pub is_logical : ℕ → Bool
-is_logical page = nat_lt page 1024
+is_logical page = nat_lt page LOGICAL_PAGES
 
 abbrev pub is_unnamed : List ℕ → ℕ → Bool
 is_unnamed pages physical = not (list_any (nat_eq (physical_page physical)) pages)
@@ -56,7 +57,7 @@ pub record IsFree (words : Words) (physical : ℕ) : Type 0 where
 -- lowest that no word names, and ascend.
 pub record IsPagePlan (words : Words) (pages : List PlacedPage) (spare : ℕ) : Type 0 where
   pub logical : (page : ℕ)
-      → Contains (map (λ p. p.logical) pages) page ↔ ((page < 1024) × HasWordOn words page)
+      → Contains (map (λ p. p.logical) pages) page ↔ ((page < LOGICAL_PAGES) × HasWordOn words page)
   pub logical_ascend : Ascend (map (λ p. p.logical) pages)
   pub physical_ascend : Ascend (map (λ p. p.physical) pages)
   pub free : All (λ p. IsFree words p.physical) pages

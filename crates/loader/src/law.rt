@@ -13,6 +13,7 @@ ghost use Rattle.memc.specs.declared.pages.TheConstants.{PHYSICAL_PAGES};
 
 use crate::image::PAGE_BYTES;
 use crate::places::{LARGEST_RAM_END, MOST_SEGMENTS, MOST_WORDS};
+use crate::plan::LOGICAL_PAGES;
 use crate::reading::ReadFault;
 
 /// States that [`read_image`](crate::read_image) takes the bytes of every list of segments that
@@ -50,9 +51,11 @@ pub fn image_limits()
     ensures segments { MOST_SEGMENTS ≡ 16 }
 {}
 
-/// States that the largest pages have 32 KB, and that with them RAM ends at 2400000. It does nothing.
+/// States that the largest pages have 32 KB, and that with them there are 1024 logical pages and RAM ends at
+/// 2400000. It does nothing.
 pub fn largest_ram()
     ensures page { PAGE_BYTES ≡ 32768 }
+    ensures logical { LOGICAL_PAGES ≡ 1024 }
     ensures ram { LARGEST_RAM_END ≡ 0x2400000 }
 {}
 

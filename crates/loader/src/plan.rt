@@ -10,7 +10,7 @@ use memc::PHYSICAL_PAGES;
 use std::alloc::{AllocError, Global};
 
 // Logical pages of 32 KB are numbered below this, and the page of this number plus p is the physical page p.
-const LOGICAL_PAGES: u32 = 1024;
+pub(crate) const LOGICAL_PAGES: u32 = 1024;
 
 /// A logical page on a physical page, both of 32 KB and by number: below 1,024 and below 128.
 #[derive(Clone, Copy, Debug, PartialEq, Eq, Drop)]
