@@ -333,7 +333,7 @@ module _ (words : Words) (st : Stated) (flow : Flow) (tree : Tree) (well : IsWel
     unkept_by last Unfinished cannot is = absurd is
 
     pub strays : (last : State) (a : ℕ) (why : Unkept) → a ≡ address_in now.regs → Halts words st flow tree x now i last why → IsStrayedRun words st flow tree start inputs x.steps a why last
-    strays last a why here h = record { none = none_next h.cannot; is_there = there_at n x now so_far a here; is = unkept_by last why h.cannot h.is }
+    strays last a why here h = record { none = none_next h.cannot; ends_at = there_at n x now so_far a here; is = unkept_by last why h.cannot h.is }
 
     module _ (y : Follower) (after : State) (goes : Goes words st flow tree x y now i after) where
       abbrev k : ℕ
@@ -480,7 +480,7 @@ module _ (words : Words) (st : Stated) (flow : Flow) (tree : Tree) (well : IsWel
       let count = so_far.steps_count in
       record {
         none = none_left n x now can so_far past;
-        is_there = there_at n x now so_far a here;
+        ends_at = there_at n x now so_far a here;
         is = (omega (arith, count, past, few), (place_in flow tree x.number, comes_to n x now so_far can few));
       }
 
@@ -503,7 +503,7 @@ module _ (words : Words) (st : Stated) (flow : Flow) (tree : Tree) (well : IsWel
   pub elsewhere : (a : ℕ) → a ≡ address_in start.regs → (address_in start.regs ≡ st.entry → ⊥) → IsStrayedRun words st flow tree start inputs 0 a NotAtEntry start
   elsewhere a here other = record {
     none = none_there other;
-    is_there = record {
+    ends_at = record {
       ran = record { steps = 0; ticks = 0; elapsed = 0; stopped = None };
       now = start;
       runs = subst (λ (is : List Input). Runs start is (record { steps = 0; ticks = 0; elapsed = 0; stopped = None }) start) (sym (take_none inputs)) (refl, refl);

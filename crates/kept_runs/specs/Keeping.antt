@@ -120,7 +120,7 @@ module _ (words : Words) (st : Stated) (flow : Flow) (tree : Tree) where
   pub record IsStrayedRun (s : State) (inputs : List Input) (steps at : ℕ) (why : Unkept)
       (after : State) : Type 0 where
     pub none : KeepsNone s inputs
-    pub is_there : IsAtAfter s inputs steps at
+    pub ends_at : IsAtAfter s inputs steps at
     pub is : IsUnkept s inputs steps after why
 
   abbrev pub IsFollowed : State → List Input → State → Followed → Type 0
