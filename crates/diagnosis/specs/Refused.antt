@@ -213,7 +213,7 @@ target_rows t items =
 abbrev pub kind_rows : Table → List Item → List Row
 kind_rows t items =
     if t.is_listed then missing_rows t items (needed_keys t.name) ++ target_rows t items
-    else table_row t (codes " is to stand in double brackets") [] ∷ []
+    else table_row t (codes " has to be in double brackets") [] ∷ []
 
 abbrev pub address_in : NamedAddresses → List ℕ → List Item → Option ℕ
 address_in names key items = option_and_then (address_at names) (value_at key items)

@@ -132,7 +132,7 @@ nine = codes "Nine calls, each inside the one before it; eight is the most:\n"
 
 -- above a word that leads to an address
 abbrev pub leads : List ℕ
-leads = codes "No word stands there. This leads to it:\n"
+leads = codes "No word is there. This leads to it:\n"
 
 -- the calls that a place is inside of, the outermost first, and then its own word
 abbrev pub IsChainText : WordLines → Place → List ℕ → Type 0

@@ -442,7 +442,7 @@ impl Report {
     {
         let table = opened.table;
         if !table.is_listed {
-            return self.put_table(alloc, table, b" is to stand in double brackets", b"");
+            return self.put_table(alloc, table, b" has to be in double brackets", b"");
         }
         self.put_missing(alloc, opened, needed_keys(table.name))?;
         self.put_target(alloc, opened)

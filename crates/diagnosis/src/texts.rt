@@ -23,7 +23,7 @@ const ENTERED: &[u8] = b"A loop is entered elsewhere than at its header. From he
 
 const NINE: &[u8] = b"Nine calls, each inside the one before it; eight is the most:\n";
 
-const LEADS: &[u8] = b"No word stands there. This leads to it:\n";
+const LEADS: &[u8] = b"No word is there. This leads to it:\n";
 
 const TO_HERE: &[u8] = b"To here:\n";
 

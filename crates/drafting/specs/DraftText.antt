@@ -22,7 +22,7 @@ class_text class = codes ", class = \"" ++ (class_name class ++ codes "\"},")
 
 -- what a draft says of an end
 abbrev pub end_words : End → List ℕ
-end_words NoWord = codes ": reached, and no word stands there."
+end_words NoWord = codes ": reached, and no word is there."
 end_words Unallocated = codes ": reached, and the word is no instruction."
 end_words Trap = codes ": reached, and the word is a SWI or undefined."
 

@@ -314,7 +314,7 @@ fn end_words(end: End) -> &'static [u8]
     ensures { result.now ≡ end_words end }
 {
     match end {
-        End::NoWord => b": reached, and no word stands there.",
+        End::NoWord => b": reached, and no word is there.",
         End::Unallocated => b": reached, and the word is no instruction.",
         End::Trap => b": reached, and the word is a SWI or undefined.",
     }
