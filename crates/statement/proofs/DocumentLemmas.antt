@@ -17,7 +17,7 @@ use Rattle.toml_reading.proofs.TwiceLemmas.{keys_not_distinct}
 use Rattle.statement.specs.StatementRules.{AccessFault, AddressFault, HasAccess, HasFault, HasParts, HasTarget, HasTwo, IsAddress, IsAt, IsSingle, LoopFault, PartsFault, RequiredFault, States, StatesAccess, StatesLoop, StatesTarget, TargetFault}
 use Rattle.statement.specs.Stated.{Stated}
 use Rattle.loader.specs.Labels.{Names}
-use Rattle.statement.specs.Statement.{Parts, access_at, access_keys, class_at, leave_in, loop_at, named_class, parts_of, statement_keys, statement_of, target_at, target_keys, stated_by_parts}
+use Rattle.statement.specs.Statement.{Parts, access_at, access_keys, class_at, leave_in, loop_at, named_class, parts_of, statement_keys, statement_of, target_at, target_keys, stated_once}
 use Rattle.statement.specs.StatementFaults.{number_of, statement_faults}
 use Rattle.statement.specs.declared.faults.StatementFault.{StatementFault}
 use Rattle.statement.specs.declared.faults.StatementFault.TheVariants.{Memory, NotToml, UnknownKey, WrongKind, UnknownLabel, OutOfRange, Twice}
@@ -150,7 +150,7 @@ module _ (names : Names) where
       statement_faults
       (λ st. (p : Parts) × HasEach ms p × (IsSingle names (made_of p) × (st ≡ made_of p)))
       (λ f. EachFault ms f ⊎ SingleFault ms f)
-      (and_then (parts_of names ms) stated_by_parts)
+      (and_then (parts_of names ms) stated_once)
   single_judged ms =
       then_judged
       statement_faults
@@ -158,7 +158,7 @@ module _ (names : Names) where
       (λ p st. IsSingle names (made_of p) × (st ≡ made_of p))
       (EachFault ms)
       (λ p f. (¬ IsSingle names (made_of p)) × (f ≡ Twice))
-      stated_by_parts
+      stated_once
       (λ p s. test_judged statement_faults (IsSingle names (made_of p)) (made_of p) Twice (are_distinct (keys_of p.1.0) && are_distinct (keys_of p.1.1)) (is_single (made_of p)))
       (parts_of names ms)
       (each_judged ms)
@@ -228,7 +228,7 @@ module _ (names : Names) where
       statement_faults
       (λ st. HasParts names ms st × IsSingle names st)
       (PartsFault names ms)
-      (and_then (parts_of names ms) stated_by_parts)
+      (and_then (parts_of names ms) stated_once)
   parts_judged ms =
       judged_as
       statement_faults
@@ -241,8 +241,8 @@ module _ (names : Names) where
         λ h. (split st, each_of st h.0, (h.1, refl)),
       ))
       (λ f. six_in_line)
-      (and_then (parts_of names ms) stated_by_parts)
-      (widened_judged statement_faults _ (EachFault ms) (SingleFault ms) (TwoFault ms) (two_of ms) (two_under ms) (and_then (parts_of names ms) stated_by_parts) (single_judged ms))
+      (and_then (parts_of names ms) stated_once)
+      (widened_judged statement_faults _ (EachFault ms) (SingleFault ms) (TwoFault ms) (two_of ms) (two_under ms) (and_then (parts_of names ms) stated_once) (single_judged ms))
     where
       of_each : (p : Parts) → HasEach ms p → HasParts names ms (made_of p)
       of_each p s =
@@ -264,7 +264,7 @@ module _ (names : Names) where
       (λ st. (λ h. record { known = h.0; parts = h.1.0; single = h.1.1 }, λ h. (h.known, (h.parts, h.single))))
       (λ f. (λ y. y, λ y. y))
       (statement_of names ms)
-      (keys_judged statement_faults statement_keys (λ ms st. HasParts names ms st × IsSingle names st) (PartsFault names) (λ ms. and_then (parts_of names ms) stated_by_parts) parts_judged ms)
+      (keys_judged statement_faults statement_keys (λ ms st. HasParts names ms st × IsSingle names st) (PartsFault names) (λ ms. and_then (parts_of names ms) stated_once) parts_judged ms)
 
   pub stated_as_read : (ms : Members) (st : Stated) → statement_of names ms ≡ Ok st ↔ States names ms st
   stated_as_read ms st =

@@ -10,10 +10,10 @@ use Rattle.walks.specs.declared.limits.TheConstants.{MOST_ROUNDS}
 use Rattle.toml_reading.specs.Documents.{are_distinct, items_at, listed_up_to, number_in, once}
 use Rattle.toml_reading.specs.Readings.{and_then, both, items_in, required, seen}
 use Rattle.toml_reading.proofs.ReadingLemmas.{also_holds, and_then_holds, both_hold, checked_holds, first_holds, follows_holds, implied, in_space_holds, listed_up_to_holds, number_in_holds, required_holds, second_holds, seen_both, seen_second, tables_few, tables_up_to_hold, test_holds}
-use Rattle.statement.specs.ReadingParts.{AreParts, parts_in}
-use Rattle.statement.specs.Stated.{IsLoop, IsTarget, Target}
+use Rattle.statement.specs.ReadingParts.{parts_in}
+use Rattle.statement.specs.Stated.{IsLoop, IsStated, IsTarget, Target}
 use Rattle.loader.specs.Labels.{Names}
-use Rattle.statement.specs.Statement.{Parts, Read, accesses_in, address_at, address_in, destinations, destinations_at, directed, ends_in, kind_in, labelled, leave_in, loop_at, loop_in, loop_parts, loops_in, number_or_name, parts_of, placed_loop, some_destinations, target_at, target_in, targets_in}
+use Rattle.statement.specs.Statement.{Parts, Read, accesses_in, address_at, address_in, destinations, destinations_at, directed, ends_in, kind_in, labelled, leave_in, loop_at, loop_in, loop_parts, loops_in, number_or_name, parts_of, placed_loop, some_destinations, stated_by, target_at, target_in, targets_in}
 use Rattle.statement.specs.StatementFaults.{statement_faults}
 use Rattle.statement.specs.declared.faults.StatementFault.TheVariants.{OutOfRange, WrongKind, Twice}
 use Rattle.statement.specs.declared.stated.Loop.{Loop}
@@ -179,14 +179,14 @@ targets_hold names ms =
     1024
     (get_member (codes "target") ms)
 
-pub parts_hold : (names : Names) (ms : Members) → IfOk (parts_of names ms) AreParts
+pub parts_hold : (names : Names) (ms : Members) → IfOk (parts_of names ms) (λ p. IsStated (stated_by p))
 parts_hold names ms =
     let ends = ends_in names ms in
     let few = both statement_faults ends (loops_in names ms) in
     let rest = both statement_faults (targets_in names ms) (accesses_in names ms) in
     implied
     (λ (p : Parts). (IsSmall p.0.0.0 × AreLoops p.0.1) × AreTargets p.1.0)
-    AreParts
+    (λ p. IsStated (stated_by p))
     (parts_of names ms)
     (λ p h. record { entry_small = h.0.0; within = h.0.1.0; few = h.0.1.1; destinations = h.1 })
     (both_hold statement_faults (λ p. IsSmall p.0.0 × AreLoops p.1) (λ p. AreTargets p.0) few rest

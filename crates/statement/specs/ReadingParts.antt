@@ -1,9 +1,8 @@
 -- The parts of a statement as they are read.
-use Rattle.std.specs.Prelude.{ℕ, ◌≤◌, ◌<◌, length, All, Vec}
+use Rattle.std.specs.Prelude.{ℕ, Vec}
 use Rattle.std.specs.declared.alloc.Global.{Global}
-use Rattle.bus_ticks.specs.declared.space.TheConstants.{SPACE_END}
 use Rattle.bus_ticks.specs.declared.profile.Class.{Class}
-use Rattle.statement.specs.Stated.{IsLoop, IsTarget, Target}
+use Rattle.statement.specs.Stated.{Target}
 use Rattle.statement.specs.Statement.{Parts}
 use Rattle.statement.specs.declared.stated.Loop.{Loop}
 
@@ -12,10 +11,3 @@ Stored = ((ℕ × Class) × Vec Loop Global) × (Vec (ℕ × Target) Global × V
 
 abbrev pub parts_in : Stored → Parts
 parts_in p = ((p.0.0, p.0.1.items), (p.1.0.items, p.1.1.items))
-
--- what holds of the parts of each statement
-pub record AreParts (p : Parts) : Type 0 where
-  pub entry_small : p.0.0.0 < SPACE_END
-  pub within : All IsLoop p.0.1
-  pub few : length p.0.1 ≤ 256
-  pub destinations : All (λ t. IsTarget t.1) p.1.0

@@ -93,12 +93,14 @@ leave_in ms = optional Any (get_member (codes "leave") ms) class_at
 abbrev pub Parts : Type 0
 Parts = ((ℕ × Class) × List Loop) × (List (ℕ × Target) × List (ℕ × Class))
 
+abbrev pub stated_by : Parts → Stated
+stated_by p =
+    record { entry = p.0.0.0; leave = p.0.0.1; loops = p.0.1; targets = p.1.0; accesses = p.1.1 }
+
 -- one target and one access at most for an address
-abbrev pub stated_by_parts : Parts → Read Stated
-stated_by_parts p =
-    if are_distinct (keys_of p.1.0) && are_distinct (keys_of p.1.1)
-    then Ok (record { entry = p.0.0.0; leave = p.0.0.1; loops = p.0.1; targets = p.1.0; accesses = p.1.1 })
-    else Err Twice
+abbrev pub stated_once : Parts → Read Stated
+stated_once p =
+    if are_distinct (keys_of p.1.0) && are_distinct (keys_of p.1.1) then Ok (stated_by p) else Err Twice
 
 -- ## Tables
 
@@ -188,7 +190,7 @@ module _ (names : Names) where
       (both statement_faults (targets_in ms) (accesses_in ms))
 
   abbrev pub statement_of : Members → Read Stated
-  statement_of ms = of_keys statement_faults statement_keys ms (and_then (parts_of ms) stated_by_parts)
+  statement_of ms = of_keys statement_faults statement_keys ms (and_then (parts_of ms) stated_once)
 
 -- the answer to a text, but for lack of memory
 abbrev pub IsStatement : List ℕ → Names → Read Stated → Type 0

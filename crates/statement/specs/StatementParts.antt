@@ -1,6 +1,6 @@
 -- A statement as it is stored.
 use Rattle.statement.specs.declared.stated.Statement.TheInside.{Inside}
-use Rattle.statement.specs.Stated.{Stated, IsStated}
+use Rattle.statement.specs.Stated.{Stated}
 
 abbrev pub stated_of : Inside → Stated
 stated_of statement = record {
@@ -10,6 +10,3 @@ stated_of statement = record {
   targets = statement.targets.entries;
   accesses = statement.accesses.entries;
 }
-
-abbrev pub IsStatement : Inside → Type 0
-IsStatement statement = IsStated (stated_of statement)

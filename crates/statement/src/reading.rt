@@ -2,8 +2,9 @@ ghost use Rattle.std.specs.Prelude.{◌≡◌, ◌≢◌, Err, IfOk};
 ghost use Rattle.toml.specs.View.{table_view};
 ghost use Rattle.loader.specs.Labels.{address_of};
 ghost use Rattle.toml_reading.specs.Readings.{and_then, seen};
-ghost use Rattle.statement.specs.ReadingParts.{AreParts, parts_in};
-ghost use Rattle.statement.specs.Statement.{IsStatement, ends_in, leave_in, parts_of, stated_by_parts};
+ghost use Rattle.statement.specs.ReadingParts.{parts_in};
+ghost use Rattle.statement.specs.Stated.{IsStated};
+ghost use Rattle.statement.specs.Statement.{IsStatement, ends_in, leave_in, parts_of, stated_by, stated_once};
 ghost use Rattle.statement.specs.Statement.{statement_of};
 
 use crate::entries::{address_in, class_at};
@@ -47,9 +48,9 @@ type Parts = (
 );
 
 // The statement of its parts.
-fn stated(alloc: Global, parts: Read<Parts>) -> Result<Read<Statement>, AllocError>
-    requires { IfOk (seen parts_in parts) AreParts }
-    ensures { IfOk result (λ reading. reading ≡ and_then (seen parts_in parts) stated_by_parts) }
+fn stated_once(alloc: Global, parts: Read<Parts>) -> Result<Read<Statement>, AllocError>
+    requires { IfOk (seen parts_in parts) (λ p. IsStated (stated_by p)) }
+    ensures { IfOk result (λ reading. reading ≡ and_then (seen parts_in parts) stated_once) }
 {
     let (((entry, leave), loops), (targets, accesses)) = match parts {
         Ok(parts) => parts,
@@ -89,7 +90,7 @@ fn statement_of(
 ) -> Result<Read<Statement>, AllocError>
     ensures { IfOk result (λ reading. reading ≡ statement_of (address_of labels.now) (table_view table.now)) }
 {
-    let reading = stated(alloc, parts_of(alloc, labels, table)?)?;
+    let reading = stated_once(alloc, parts_of(alloc, labels, table)?)?;
     Ok(of_keys(STATEMENT_KEYS, table, reading))
 }
 

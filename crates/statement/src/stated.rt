@@ -76,15 +76,15 @@ pub struct Statement {
 }
 
 impl Model for Statement {
-    ghost use Rattle.statement.specs.Stated.{Stated};
+    ghost use Rattle.statement.specs.Stated.{IsStated, Stated};
 
     ghost Value = { Stated };
 
-    ghost use Rattle.statement.specs.StatementParts.{IsStatement, stated_of};
+    ghost use Rattle.statement.specs.StatementParts.{stated_of};
 
     ghost view = { stated_of };
 
-    ghost invariant = { IsStatement };
+    ghost invariant = { λ statement. IsStated (stated_of statement) };
 }
 
 impl Statement {
