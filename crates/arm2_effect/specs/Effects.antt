@@ -70,6 +70,3 @@ skipped regs =
 -- a stopped step takes no ticks and changes nothing
 unfoldable pub stopped : Why → List ℕ → Effect
 stopped why regs = record { kind = Stopped why; accesses = []; regs = regs }
-
-abbrev pub stopped_answer : Why → Done
-stopped_answer why = record { kind = Stopped why; ticks = 0 }

@@ -141,7 +141,6 @@ impl Registers {
     pub(crate) fn data_immediate(&mut self, prices: &Prices, fields: &DataImmediate) -> Done
         ensures effect { IsEffect prices.now result self.new (data_immediate_effect fields.now self.old) }
         ensures goes_on { is_stopped result.kind ≡ false }
-        ensures bound { result.ticks < 2 ^ 16 }
     {
         let operand = self.rotated_byte(fields.value, fields.rotation);
         let flags = flags_of(self.get(Reg::R15));
@@ -155,7 +154,6 @@ impl Registers {
     pub(crate) fn data_register(&mut self, prices: &Prices, fields: &DataRegister) -> Done
         ensures effect { IsEffect prices.now result self.new (data_register_effect fields.now self.old) }
         ensures goes_on { is_stopped result.kind ≡ false }
-        ensures bound { result.ticks < 2 ^ 16 }
     {
         let operand = self.shifted_by_amount(fields.shift, fields.amount, fields.rm);
         let flags = flags_of(self.get(Reg::R15));
@@ -174,7 +172,6 @@ impl Registers {
         ensures effect { IsEffect prices.now result self.new
             (data_register_shift_effect fields.now self.old) }
         ensures goes_on { is_stopped result.kind ≡ false }
-        ensures bound { result.ticks < 2 ^ 16 }
     {
         let operand = self.shifted_by_register(fields.shift, fields.rs, fields.rm);
         let flags = flags_of(self.get(Reg::R15));

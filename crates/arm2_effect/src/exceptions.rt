@@ -1,4 +1,4 @@
-ghost use Rattle.std.specs.Prelude.{◌≡◌, ◌<◌, ◌%◌, ◌^◌, false};
+ghost use Rattle.std.specs.Prelude.{◌≡◌, ◌<◌, ◌%◌, false};
 ghost use Rattle.arm2_effect.specs.Effects.{IsEffect, is_stopped, skipped};
 ghost use Rattle.arm2_effect.specs.Exceptions.{entry_at, masked, taken};
 
@@ -77,7 +77,6 @@ impl Registers {
     pub fn take(&mut self, prices: &Prices, vector: Vector) -> Done
         ensures effect { IsEffect prices.now result self.new (taken vector self.old) }
         ensures goes_on { is_stopped result.kind ≡ false }
-        ensures bound { result.ticks < 2 ^ 16 }
     {
         let r15 = self.get(Reg::R15);
         let entry = entry_at(vector);
@@ -105,7 +104,6 @@ impl Registers {
     pub fn skip(&mut self, prices: &Prices) -> Done
         ensures effect { IsEffect prices.now result self.new (skipped self.old) }
         ensures goes_on { is_stopped result.kind ≡ false }
-        ensures bound { result.ticks < 2 ^ 16 }
     {
         let r15 = self.get(Reg::R15);
         self.set(Reg::R15, r15_ahead(r15, 4));

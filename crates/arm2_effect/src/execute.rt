@@ -1,4 +1,4 @@
-ghost use Rattle.std.specs.Prelude.{◌≡◌, ◌<◌, ◌≤◌, ◌^◌, false};
+ghost use Rattle.std.specs.Prelude.{◌≡◌, ◌≤◌, false};
 ghost use Rattle.arm2_decode.specs.Conditions.{condition_holds};
 ghost use Rattle.arm2_decode.specs.Writers.{is_transfer};
 ghost use Rattle.arm2_effect.specs.Modes.{r15_in};
@@ -54,7 +54,6 @@ impl Registers {
     fn multiply(&mut self, prices: &Prices, multiply: &Multiply) -> Done
         ensures effect { IsEffect prices.now result self.new (multiply_effect multiply.now self.old) }
         ensures goes_on { is_stopped result.kind ≡ false }
-        ensures bound { result.ticks < 2 ^ 16 }
     {
         let multiplier = self.read(mode_of(self.get(Reg::R15)), multiply.rs);
         let outcome = self.product(multiply);
@@ -68,7 +67,6 @@ impl Registers {
     fn branch(&mut self, prices: &Prices, branch: &Branch) -> Done
         ensures effect { IsEffect prices.now result self.new (branch_effect branch.now self.old) }
         ensures goes_on { is_stopped result.kind ≡ false }
-        ensures bound { result.ticks < 2 ^ 16 }
     {
         let r15 = self.get(Reg::R15);
         let to = branch_target(address_of(r15), branch.offset);
@@ -97,7 +95,6 @@ impl Registers {
         requires { is_transfer operation.now ≡ false }
         ensures effect { IsEffect prices.now result self.new (operation_effect operation.now self.old) }
         ensures goes_on { is_stopped result.kind ≡ false }
-        ensures bound { result.ticks < 2 ^ 16 }
     {
         match operation {
             Operation::Multiply(multiply) => self.multiply(prices, multiply),

@@ -1,5 +1,4 @@
 ghost use Rattle.std.specs.Prelude.{◌≡◌, ◌+◌, ◌<◌, ◌^◌};
-ghost use Rattle.arm2_effect.specs.Effects.{stopped_answer};
 
 use crate::exceptions::Vector;
 
@@ -29,12 +28,14 @@ pub struct Done {
     pub kind: Kind,
     /// In ticks of the processor.
     pub ticks: u32,
+    ghost few: { ticks < 2 ^ 16 },
 }
 
 impl Done {
     /// The answer of a step that does an instruction or passes it over, in so many ticks.
     #[inline(always)]
-    pub fn plain(ticks: u32) -> Self
+    pub(crate) fn plain(ticks: u32) -> Self
+        requires { ticks < 2 ^ 16 }
         ensures kind { result.kind ≡ Kind.Plain }
         ensures ticks { result.ticks ≡ ticks }
     {
@@ -47,7 +48,7 @@ impl Done {
     /// The same answer, so many ticks later.
     #[inline(always)]
     pub(crate) fn delayed(self, ticks: u32) -> Self
-        requires { ticks + self.ticks < 2 ^ 32 }
+        requires { ticks + self.ticks < 2 ^ 16 }
         ensures kind { result.kind ≡ self.kind }
         ensures ticks { result.ticks ≡ ticks + self.ticks }
     {
@@ -59,7 +60,8 @@ impl Done {
 
     /// The answer of a step that stops: no time passes.
     pub fn stopped(why: Why) -> Self
-        ensures { result ≡ stopped_answer why }
+        ensures kind { result.kind ≡ Kind.Stopped why }
+        ensures ticks { result.ticks ≡ 0 }
     {
         Done {
             kind: Kind::Stopped(why),

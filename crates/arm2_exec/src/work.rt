@@ -1,4 +1,4 @@
-ghost use Rattle.std.specs.Prelude.{◌≡◌, ◌<◌, ◌^◌};
+ghost use Rattle.std.specs.Prelude.{◌≡◌};
 ghost use Rattle.arm2_effect.specs.Modes.{r15_in};
 ghost use Rattle.arm2_transfer.specs.Moved.{IsMoved};
 ghost use Rattle.arm2_exec.specs.Step.{elapsed, fetched, instruction_moved, interrupt_due, interrupt_of};
@@ -59,9 +59,8 @@ fn obey_instruction(
     inputs: &Inputs,
     instr: &Instr,
 ) -> Done
-    ensures moved { IsMoved inputs.now.prices result registers.new bus.new
+    ensures { IsMoved inputs.now.prices result registers.new bus.new
         (instruction_moved instr.now inputs.now.port registers.old bus.old) }
-    ensures bound { result.ticks < 2 ^ 16 }
 {
     if registers.passes(instr.cond) {
         return carry_out(registers, bus, inputs, &instr.operation);
@@ -78,9 +77,8 @@ fn obey_unallocated(
     prices: &Prices,
     unallocated: Unallocated,
 ) -> Done
-    ensures moved { IsMoved prices.now result registers.new bus.now
+    ensures { IsMoved prices.now result registers.new bus.now
         (unallocated_moved unallocated registers.old bus.now) }
-    ensures bound { result.ticks < 2 ^ 16 }
 {
     if registers.passes(unallocated.cond) {
         return Done::stopped(Why::Unallocated);
@@ -97,9 +95,8 @@ fn obey(
     decoded: &mut Decoded,
     word: Option<u32>,
 ) -> Done
-    ensures obeyed { Obeyed inputs.now.prices word inputs.now.port registers.old bus.old result
+    ensures { Obeyed inputs.now.prices word inputs.now.port registers.old bus.old result
         registers.new bus.new }
-    ensures bound { result.ticks < 2 ^ 16 }
 {
     let Some(word) = word else {
         return registers.take(&inputs.prices, Vector::PrefetchAbort);
@@ -125,7 +122,6 @@ pub(crate) fn work(
     ensures word { result.word
         ≡ word_unless (interrupt_due bus.old (r15_in registers.old))
         (fetched bus.old.memc (r15_in registers.old)) }
-    ensures bound { result.done.ticks < 2 ^ 16 }
 {
     let r15 = registers.get(Reg::R15);
     if let Some(vector) = interrupt_of(&bus.ioc, r15) {

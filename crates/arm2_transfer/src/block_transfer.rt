@@ -1,4 +1,4 @@
-ghost use Rattle.std.specs.Prelude.{◌≡◌, ◌<◌, ◌≤◌, ◌^◌, length};
+ghost use Rattle.std.specs.Prelude.{◌≡◌, ◌<◌, ◌≤◌, length};
 ghost use Rattle.arm2_effect.specs.Effects.{ticks_of};
 ghost use Rattle.arm2_effect.specs.Modes.{r15_in, register_in};
 ghost use Rattle.arm2_decode.specs.Transfers.{is_listed};
@@ -13,7 +13,7 @@ ghost use Rattle.arm2_transfer.specs.Block.{span_of, written_back};
 use crate::addresses::{lowest_of, moved_by};
 use crate::bus::{Bus, put, seen};
 use crate::inputs::Inputs;
-use crate::moved::{Accesses, load_ticks, refuse, store_ticks};
+use crate::moved::{Accesses, end_of_load, end_of_store, refuse};
 use crate::registers::{Loading, enter, given, pass, write_base};
 use crate::run::{load_along, put_along};
 use crate::span::Span;
@@ -170,11 +170,10 @@ fn end_load(registers: &Registers, prices: &Prices, block: PlacedBlock, r15: u32
         ≡ ticks_of prices.now
         (load_accesses (address_of r15) block.span.lowest block.span.words
         (is_listed block.transfer.list Register.R15) (address_of (r15_in registers.now))) }
-    ensures bound { result.ticks < 2 ^ 16 }
 {
     let to = address_of(registers.get(Reg::R15));
     let jumps = block.transfer.is_listed(Register::R15);
-    Done::plain(load_ticks(prices, accesses(block, address_of(r15)), jumps, to))
+    end_of_load(prices, accesses(block, address_of(r15)), jumps, to)
 }
 
 #[tactic(auto, unfolding(crate::specs::Block::block_loads))]
@@ -187,9 +186,8 @@ fn load(
 ) -> Done
     requires fit { AllFit bus.now.memc.shift moves.now }
     requires below { block.span.lowest < SPACE_END }
-    ensures moved { IsMoved inputs.now.prices result registers.new bus.now
+    ensures { IsMoved inputs.now.prices result registers.new bus.now
         (block_loads block.transfer block.span inputs.now.port moves.now registers.old bus.now) }
-    ensures bound { result.ticks < 2 ^ 16 }
 {
     let loading = begin_load(registers, block);
     load_all(registers, bus, inputs.port, loading, moves);
@@ -207,10 +205,9 @@ fn load_run(
 ) -> Done
     requires fitted { AreFitted bus.now.memc.shift place block.transfer.list }
     requires below { block.span.lowest < SPACE_END }
-    ensures moved { IsMoved inputs.now.prices result registers.new bus.now
+    ensures { IsMoved inputs.now.prices result registers.new bus.now
         (block_loads block.transfer block.span inputs.now.port
         (moves_along place (registers_in block.transfer.list)) registers.old bus.now) }
-    ensures bound { result.ticks < 2 ^ 16 }
 {
     let loading = begin_load(registers, block);
     load_along(registers, bus, loading, block.transfer.list, place);
@@ -227,14 +224,13 @@ fn store(
 ) -> Done
     requires fit { AllFit bus.old.memc.shift moves.now }
     requires below { block.span.lowest < SPACE_END }
-    ensures moved { IsMoved prices.now result registers.new bus.new
+    ensures { IsMoved prices.now result registers.new bus.new
         (block_stores block.transfer block.span moves.now registers.old bus.old) }
-    ensures bound { result.ticks < 2 ^ 16 }
 {
     let r15 = registers.get(Reg::R15);
     put_block(registers, bus, block, moves);
     pass(registers);
-    Done::plain(store_ticks(prices, accesses(block, address_of(r15))))
+    end_of_store(prices, accesses(block, address_of(r15)))
 }
 
 // The same, to the words from a place of RAM on.
@@ -249,15 +245,14 @@ fn store_run(
     requires listed { 1 ≤ length (registers_in block.transfer.list) }
     requires fitted { AreFitted bus.old.memc.shift place block.transfer.list }
     requires below { block.span.lowest < SPACE_END }
-    ensures moved { IsMoved prices.now result registers.new bus.new
+    ensures { IsMoved prices.now result registers.new bus.new
         (block_stores block.transfer block.span
         (moves_along place (registers_in block.transfer.list)) registers.old bus.old) }
-    ensures bound { result.ticks < 2 ^ 16 }
 {
     let r15 = registers.get(Reg::R15);
     put_run(registers, bus, block, place);
     pass(registers);
-    Done::plain(store_ticks(prices, accesses(block, address_of(r15))))
+    end_of_store(prices, accesses(block, address_of(r15)))
 }
 
 // A transfer whose words do not lie on one page of RAM, or that is refused: each word is located by itself.
@@ -270,9 +265,8 @@ fn word_by_word(
     block: PlacedBlock,
 ) -> Done
     requires { block.span.lowest < SPACE_END }
-    ensures moved { IsMoved inputs.now.prices result registers.new bus.new
+    ensures { IsMoved inputs.now.prices result registers.new bus.new
         (block_at block.transfer block.span inputs.now.port registers.old bus.old) }
-    ensures bound { result.ticks < 2 ^ 16 }
 {
     let user = mode_of(registers.get(Reg::R15)).is_user();
     match locate_block(&bus.memc, block.transfer, block.span.lowest, user) {
@@ -286,9 +280,8 @@ fn word_by_word(
 #[inline(always)]
 fn block_at(registers: &mut Registers, bus: &mut Bus, inputs: &Inputs, block: PlacedBlock) -> Done
     requires { block.span.words ≡ length (registers_in block.transfer.list) }
-    ensures moved { IsMoved inputs.now.prices result registers.new bus.new
+    ensures { IsMoved inputs.now.prices result registers.new bus.new
         (block_at block.transfer block.span inputs.now.port registers.old bus.old) }
-    ensures bound { result.ticks < 2 ^ 16 }
 {
     let (span, load) = (block.span, block.transfer.load);
     if span.lowest >= SPACE_END {
@@ -310,9 +303,8 @@ pub(crate) fn block(
     inputs: &Inputs,
     transfer: &Block,
 ) -> Done
-    ensures moved { IsMoved inputs.now.prices result registers.new bus.new
+    ensures { IsMoved inputs.now.prices result registers.new bus.new
         (block_moved transfer.now inputs.now.port registers.old bus.old) }
-    ensures bound { result.ticks < 2 ^ 16 }
 {
     let base = registers.read(mode_of(registers.get(Reg::R15)), transfer.rn);
     let span = span_of(transfer, base, count(transfer.list));

@@ -1,4 +1,4 @@
-ghost use Rattle.std.specs.Prelude.{◌≡◌, ◌<◌, ◌≤◌, ◌^◌, ◌%◌};
+ghost use Rattle.std.specs.Prelude.{◌≡◌, ◌<◌, ◌≤◌, ◌%◌};
 ghost use Rattle.bus_ticks.specs.declared.space.TheConstants.{SPACE_END};
 ghost use Rattle.bus_ticks.specs.Prices.{ahead_of, fetch_n};
 ghost use Rattle.arm2_effect.specs.Effects.{ticks_of};
@@ -6,7 +6,7 @@ ghost use Rattle.arm2_transfer.specs.Moved.{IsMoved, faulted, load_accesses, sto
 
 use crate::bus::Bus;
 use crate::words::TransferFault;
-use arm2_effect::{Done, Prices, Registers, Vector, Why};
+use arm2_effect::{Done, Kind, Prices, Registers, Vector, Why};
 use bus_ticks::{ahead_of, fetch_n, transfer};
 
 /// What a transfer does none of whose words is moved.
@@ -18,8 +18,7 @@ pub(crate) fn refuse(
     prices: &Prices,
     fault: TransferFault,
 ) -> Done
-    ensures moved { IsMoved prices.now result registers.new bus.now (faulted fault registers.old bus.now) }
-    ensures bound { result.ticks < 2 ^ 16 }
+    ensures { IsMoved prices.now result registers.new bus.now (faulted fault registers.old bus.now) }
 {
     match fault {
         TransferFault::DataAbort => registers.take(prices, Vector::DataAbort),
@@ -38,9 +37,9 @@ pub struct Accesses {
     pub words: u32,
 }
 
-/// The ticks of a load; where it writes R15 it jumps to `to`.
+/// How a load ends that moves its words; where it writes R15 it jumps to `to`.
 #[inline(always)]
-pub(crate) fn load_ticks(prices: &Prices, accesses: Accesses, jumps: bool, to: u32) -> u32
+pub(crate) fn end_of_load(prices: &Prices, accesses: Accesses, jumps: bool, to: u32) -> Done
     requires from { accesses.from < SPACE_END }
     requires from_aligned { accesses.from % 4 ≡ 0 }
     requires address { accesses.address < SPACE_END }
@@ -48,9 +47,9 @@ pub(crate) fn load_ticks(prices: &Prices, accesses: Accesses, jumps: bool, to: u
     requires few { accesses.words ≤ 16 }
     requires to { to < SPACE_END }
     requires to_aligned { to % 4 ≡ 0 }
-    ensures ticks { result
+    ensures kind { result.kind ≡ Kind.Plain }
+    ensures ticks { result.ticks
         ≡ ticks_of prices.now (load_accesses accesses.from accesses.address accesses.words jumps to) }
-    ensures bound { result < 2 ^ 16 }
 {
     let moved = transfer(
         &prices.profile,
@@ -60,10 +59,10 @@ pub(crate) fn load_ticks(prices: &Prices, accesses: Accesses, jumps: bool, to: u
         prices.rom,
     );
     let ticks = prices.straight(accesses.from) + moved + prices.internal(1);
-    if jumps {
-        ticks + prices.refill(to)
-    } else {
-        ticks
+    let jump = if jumps { prices.refill(to) } else { 0 };
+    Done {
+        kind: Kind::Plain,
+        ticks: ticks + jump,
     }
 }
 
@@ -78,17 +77,17 @@ fn fetch_after(prices: &Prices, from: u32) -> u32
     fetch_n(&prices.profile, ahead_of(from, 8), prices.rom)
 }
 
-/// The ticks of a store.
+/// How a store ends that moves its words.
 #[inline(always)]
-pub(crate) fn store_ticks(prices: &Prices, accesses: Accesses) -> u32
+pub(crate) fn end_of_store(prices: &Prices, accesses: Accesses) -> Done
     requires from { accesses.from < SPACE_END }
     requires from_aligned { accesses.from % 4 ≡ 0 }
     requires address { accesses.address < SPACE_END }
     requires some { 1 ≤ accesses.words }
     requires few { accesses.words ≤ 16 }
-    ensures ticks { result
+    ensures kind { result.kind ≡ Kind.Plain }
+    ensures ticks { result.ticks
         ≡ ticks_of prices.now (store_accesses accesses.from accesses.address accesses.words) }
-    ensures bound { result < 2 ^ 16 }
 {
     let moved = transfer(
         &prices.profile,
@@ -97,5 +96,8 @@ pub(crate) fn store_ticks(prices: &Prices, accesses: Accesses) -> u32
         true,
         prices.rom,
     );
-    fetch_after(prices, accesses.from) + moved
+    Done {
+        kind: Kind::Plain,
+        ticks: fetch_after(prices, accesses.from) + moved,
+    }
 }

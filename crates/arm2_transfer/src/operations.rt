@@ -1,4 +1,4 @@
-ghost use Rattle.std.specs.Prelude.{◌≡◌, true, ◌<◌, ◌^◌};
+ghost use Rattle.std.specs.Prelude.{◌≡◌, true};
 ghost use Rattle.arm2_effect.specs.Effects.{is_stopped};
 ghost use Rattle.arm2_transfer.specs.Moved.{ChangesNothing, IsMoved};
 ghost use Rattle.arm2_transfer.specs.Operations.{operation_moved};
@@ -22,7 +22,6 @@ pub fn carry_out(
 ) -> Done
     ensures moved { IsMoved inputs.now.prices result registers.new bus.new
         (operation_moved operation.now inputs.now.port registers.old bus.old) }
-    ensures bound { result.ticks < 2 ^ 16 }
     ensures stopped { is_stopped result.kind ≡ true
         → ChangesNothing result registers.old registers.new bus.old bus.new }
 {

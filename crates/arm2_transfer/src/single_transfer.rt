@@ -1,4 +1,4 @@
-ghost use Rattle.std.specs.Prelude.{◌≡◌, ◌<◌, ◌^◌};
+ghost use Rattle.std.specs.Prelude.{◌≡◌, ◌<◌};
 ghost use Rattle.memc.specs.Memory.{Fits};
 ghost use Rattle.arm2_transfer.specs.Moved.{IsMoved};
 ghost use Rattle.arm2_transfer.specs.Single.{address_for, single_loaded, single_loads, single_stores};
@@ -7,7 +7,7 @@ ghost use Rattle.arm2_transfer.specs.Single.{of_register};
 
 use crate::bus::{Bus, made_of, put_single, seen};
 use crate::inputs::Inputs;
-use crate::moved::{Accesses, load_ticks, refuse, store_ticks};
+use crate::moved::{Accesses, end_of_load, end_of_store, refuse};
 use crate::registers::{Loading, enter, given};
 use crate::single_fields::Single;
 use crate::words::locate_word;
@@ -66,15 +66,14 @@ fn load(
 ) -> Done
     requires fits { Fits bus.now.memc.shift spot }
     requires below { address_for single.transfer single.base < SPACE_END }
-    ensures moved { IsMoved inputs.now.prices result registers.new bus.now
+    ensures { IsMoved inputs.now.prices result registers.new bus.now
         (single_loads single.transfer single.base inputs.now.port spot registers.old bus.now) }
-    ensures bound { result.ticks < 2 ^ 16 }
 {
     let r15 = registers.get(Reg::R15);
     load_word(registers, bus, inputs.port, single, spot);
     let to = address_of(registers.get(Reg::R15));
     let jumps = single.transfer.rd.is_pc();
-    Done::plain(load_ticks(&inputs.prices, accesses(single, address_of(r15)), jumps, to))
+    end_of_load(&inputs.prices, accesses(single, address_of(r15)), jumps, to)
 }
 
 #[tactic(auto, unfolding(crate::specs::Single::single_stores))]
@@ -88,16 +87,15 @@ fn store(
 ) -> Done
     requires fits { Fits bus.old.memc.shift spot }
     requires below { address_for single.transfer single.base < SPACE_END }
-    ensures moved { IsMoved prices.now result registers.new bus.new
+    ensures { IsMoved prices.now result registers.new bus.new
         (single_stores single.transfer single.base spot registers.old bus.old) }
-    ensures bound { result.ticks < 2 ^ 16 }
 {
     let (transfer, base) = (single.transfer, single.base);
     let r15 = registers.get(Reg::R15);
     let value = given(registers, mode_of(r15), transfer.rd);
     put_single(bus, transfer.byte, spot, transfer.address(base), value);
     transfer.write_base(registers, base);
-    Done::plain(store_ticks(prices, accesses(single, address_of(r15))))
+    end_of_store(prices, accesses(single, address_of(r15)))
 }
 
 #[tactic(auto, unfolding(crate::specs::Single::single_at, crate::specs::Single::single_by))]
@@ -108,9 +106,8 @@ fn single_at(
     inputs: &Inputs,
     single: PlacedSingle,
 ) -> Done
-    ensures moved { IsMoved inputs.now.prices result registers.new bus.new
+    ensures { IsMoved inputs.now.prices result registers.new bus.new
         (single_at single.transfer single.base inputs.now.port registers.old bus.old) }
-    ensures bound { result.ticks < 2 ^ 16 }
 {
     let transfer = single.transfer;
     let address = transfer.address(single.base);
@@ -127,9 +124,8 @@ fn single_at(
 
 #[inline(always)]
 fn single(registers: &mut Registers, bus: &mut Bus, inputs: &Inputs, transfer: Single) -> Done
-    ensures moved { IsMoved inputs.now.prices result registers.new bus.new
+    ensures { IsMoved inputs.now.prices result registers.new bus.new
         (single_moved transfer inputs.now.port registers.old bus.old) }
-    ensures bound { result.ticks < 2 ^ 16 }
 {
     let base = registers.first(transfer.rn, 8);
     single_at(registers, bus, inputs, PlacedSingle { transfer, base })
@@ -158,9 +154,8 @@ pub(crate) fn single_immediate(
     inputs: &Inputs,
     fields: &SingleImmediate,
 ) -> Done
-    ensures moved { IsMoved inputs.now.prices result registers.new bus.new
+    ensures { IsMoved inputs.now.prices result registers.new bus.new
         (single_moved (of_immediate fields.now) inputs.now.port registers.old bus.old) }
-    ensures bound { result.ticks < 2 ^ 16 }
 {
     single(registers, bus, inputs, with_offset!(fields, fields.offset))
 }
@@ -172,9 +167,8 @@ pub(crate) fn single_register(
     inputs: &Inputs,
     fields: &SingleRegister,
 ) -> Done
-    ensures moved { IsMoved inputs.now.prices result registers.new bus.new
+    ensures { IsMoved inputs.now.prices result registers.new bus.new
         (single_moved (of_register fields.now registers.old) inputs.now.port registers.old bus.old) }
-    ensures bound { result.ticks < 2 ^ 16 }
 {
     let offset = registers.shifted_by_amount(fields.shift, fields.amount, fields.rm);
     single(registers, bus, inputs, with_offset!(fields, offset.value))

@@ -1,4 +1,4 @@
-use Rattle.std.proofs.Common.{◌≡◌, ◌∙◌, None, Some, ap, refl, rules, sym}
+use Rattle.std.proofs.Common.{◌≡◌, ◌∙◌, None, Some, ap, refl, sym}
 use Rattle.arm2_effect.specs.Modes.{r15_in}
 use Rattle.arm2_exec.specs.Step.{fetched, interrupt_due}
 use Rattle.arm2_exec.proofs.WorkLemmas.{worked_interrupt, worked_word}
@@ -11,7 +11,6 @@ returns-in-Some c =
     record {
       worked = worked_interrupt c.args.inputs.now.prices c.args.inputs.now.port c.args.registers.now c.args.bus.now c.take-done.result c.take-done.new.self _ c.in-Some.vector due c.take-done.ensures.effect;
       word = rw due refl;
-      bound = search rules;
     }
 
 pub returns : goal.returns
@@ -21,7 +20,6 @@ returns c =
     let word : c.fetched-word.result ≡ fetched c.args.bus.now.memc (r15_in c.args.registers.now) =
     c.fetched-word.ensures ∙ ap (fetched c.args.bus.now.memc) c.get-r15.ensures.word in
     record {
-      worked = worked_word c.args.inputs.now.prices c.args.inputs.now.port c.args.registers.now c.args.bus.now c.obey-done.result c.obey-done.new.registers _ c.fetched-word.result c.obey-done.new.bus none word c.obey-done.ensures.obeyed;
+      worked = worked_word c.args.inputs.now.prices c.args.inputs.now.port c.args.registers.now c.args.bus.now c.obey-done.result c.obey-done.new.registers _ c.fetched-word.result c.obey-done.new.bus none word c.obey-done.ensures;
       word = rw none word;
-      bound = c.obey-done.ensures.bound;
     }

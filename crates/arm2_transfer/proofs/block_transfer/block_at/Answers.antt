@@ -3,14 +3,14 @@ use Rattle.arm2_transfer.proofs.Chosen.{block_at-moves}
 use Rattle.arm2_transfer.proofs.RunLemmas.{run_verdict}
 use Rattle.arm2_transfer.proofs.block_transfer.block_at.Goals as goal
 
-pub returns-in-Some-clause-moved : goal.returns-in-Some-clause-moved
-returns-in-Some-clause-moved c =
+pub returns-in-Some : goal.returns-in-Some
+returns-in-Some c =
     rw
     (block_at-moves c.args.block.transfer c.args.block.span c.args.inputs.now.port c.is_user-user.result _ c.mode_of.result c.get.result _ c.args.registers.now c.args.bus.now c.get.ensures.word c.mode_of.ensures c.is_user-user.ensures c.if-span-ge-SPACE_END.false c.if-load.true (run_verdict c.args.bus.now.memc c.is_user-user.result _ c.args.block.span.lowest c.args.block.span.words c.in-Some.place (registers_in c.args.block.transfer.list) c.requires c.in-Some.ensures.run))
-    c.load_run.ensures.moved
+    c.load_run.ensures
 
-pub returns-in-Some-2-clause-moved : goal.returns-in-Some-2-clause-moved
-returns-in-Some-2-clause-moved c =
+pub returns-in-Some-2 : goal.returns-in-Some-2
+returns-in-Some-2 c =
     rw
     (block_at-moves c.args.block.transfer c.args.block.span c.args.inputs.now.port c.is_user-user.result _ c.mode_of.result c.get.result _ c.args.registers.now c.args.bus.now c.get.ensures.word c.mode_of.ensures c.is_user-user.ensures c.if-span-ge-SPACE_END.false c.if-load.false (run_verdict c.args.bus.now.memc c.is_user-user.result _ c.args.block.span.lowest c.args.block.span.words c.in-Some.place (registers_in c.args.block.transfer.list) c.requires c.in-Some.ensures.run))
-    c.store_run.ensures.moved
+    c.store_run.ensures

@@ -3,10 +3,10 @@ use Rattle.arm2_transfer.proofs.MovedCases.{changes_nothing}
 use Rattle.arm2_transfer.proofs.operations.carry_out.Goals as goal
 
 pub returns-in-SingleImmediate-clause-stopped : goal.returns-in-SingleImmediate-clause-stopped
-returns-in-SingleImmediate-clause-stopped c = changes_nothing _ _ (row.SingleImmediate c.in-SingleImmediate.fields) _ _ _ _ _ c.single_immediate.ensures.moved
+returns-in-SingleImmediate-clause-stopped c = changes_nothing _ _ (row.SingleImmediate c.in-SingleImmediate.fields) _ _ _ _ _ c.single_immediate.ensures
 
 pub returns-in-SingleRegister-clause-stopped : goal.returns-in-SingleRegister-clause-stopped
-returns-in-SingleRegister-clause-stopped c = changes_nothing _ _ (row.SingleRegister c.in-SingleRegister.fields) _ _ _ _ _ c.single_register.ensures.moved
+returns-in-SingleRegister-clause-stopped c = changes_nothing _ _ (row.SingleRegister c.in-SingleRegister.fields) _ _ _ _ _ c.single_register.ensures
 
 pub returns-in-Block-clause-stopped : goal.returns-in-Block-clause-stopped
-returns-in-Block-clause-stopped c = changes_nothing _ _ (row.Block c.in-Block.transfer) _ _ _ _ _ c.block.ensures.moved
+returns-in-Block-clause-stopped c = changes_nothing _ _ (row.Block c.in-Block.transfer) _ _ _ _ _ c.block.ensures

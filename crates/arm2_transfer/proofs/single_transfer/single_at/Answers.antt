@@ -1,14 +1,14 @@
 use Rattle.arm2_transfer.proofs.Chosen.{single_at-moves}
 use Rattle.arm2_transfer.proofs.single_transfer.single_at.Goals as goal
 
-pub returns-in-Ok-clause-moved : goal.returns-in-Ok-clause-moved
-returns-in-Ok-clause-moved c =
+pub returns-in-Ok : goal.returns-in-Ok
+returns-in-Ok c =
     rw
     (single_at-moves c.args.single.transfer c.args.single.base c.args.inputs.now.port c.address-address.result c.has_user_rights-user.result _ c.mode_of.result c.get.result c.locate_word.result c.in-Ok.spot c.args.registers.now c.args.bus.now c.get.ensures.word c.mode_of.ensures c.has_user_rights-user.ensures c.address-address.ensures c.if-address-ge-SPACE_END.false c.if-transfer.true c.locate_word.ensures.met c.in-Ok.is)
-    c.load.ensures.moved
+    c.load.ensures
 
-pub returns-in-Ok-2-clause-moved : goal.returns-in-Ok-2-clause-moved
-returns-in-Ok-2-clause-moved c =
+pub returns-in-Ok-2 : goal.returns-in-Ok-2
+returns-in-Ok-2 c =
     rw
     (single_at-moves c.args.single.transfer c.args.single.base c.args.inputs.now.port c.address-address.result c.has_user_rights-user.result _ c.mode_of.result c.get.result c.locate_word.result c.in-Ok.spot c.args.registers.now c.args.bus.now c.get.ensures.word c.mode_of.ensures c.has_user_rights-user.ensures c.address-address.ensures c.if-address-ge-SPACE_END.false c.if-transfer.false c.locate_word.ensures.met c.in-Ok.is)
-    c.store.ensures.moved
+    c.store.ensures

@@ -1,7 +1,7 @@
 use Rattle.std.proofs.Common.{refl}
 use Rattle.bus_ticks.specs.Prices.{ahead_of}
 use Rattle.arm2_transfer.proofs.Ticks.{store_ticks-are}
-use Rattle.arm2_transfer.proofs.moved.store_ticks.Goals as goal
+use Rattle.arm2_transfer.proofs.moved.end_of_store.Goals as goal
 
 pub returns-clause-ticks : goal.returns-clause-ticks
 returns-clause-ticks c =
