@@ -1,6 +1,5 @@
 ghost use Rattle.std.specs.Prelude.{◌≡◌, ◌≤◌, ◌<◌, IfOk, length, map};
 ghost use Rattle.std.specs.List.{range_with_len};
-ghost use Rattle.arm2_decode.specs.Allowed.{bit_of};
 ghost use Rattle.arm2_effect.specs.Modes.{reg_number};
 ghost use Rattle.memc.specs.Memory.{IsStart, shift_of_size};
 ghost use Rattle.machine_file.specs.Started.{IsController, IsResetMap, IsStarted, psr_number, r15_in};
@@ -17,23 +16,16 @@ use bus_ticks::Profile;
 use memc::{Memc, PHYSICAL_PAGES};
 use std::alloc::Global;
 
-fn bit_of(set: bool) -> u32
-    ensures number { result ≡ bit_of set }
-    ensures bound { result ≤ 1 }
-{
-    if set { 1 } else { 0 }
-}
-
 fn psr_number(flags: PsrFlags) -> u32
     ensures number { result ≡ psr_number flags }
     ensures bound { result < 64 }
 {
-    bit_of(flags.negative) * 32
-        + bit_of(flags.zero) * 16
-        + bit_of(flags.carry) * 8
-        + bit_of(flags.overflow) * 4
-        + bit_of(flags.irq_masked) * 2
-        + bit_of(flags.fiq_masked)
+    u32::from(flags.negative) * 32
+        + u32::from(flags.zero) * 16
+        + u32::from(flags.carry) * 8
+        + u32::from(flags.overflow) * 4
+        + u32::from(flags.irq_masked) * 2
+        + u32::from(flags.fiq_masked)
 }
 
 fn r15_in(processor: &Processor) -> u32
