@@ -12,7 +12,7 @@ use Rattle.bus_ticks.specs.Ranges.{greatest}
 use Rattle.bus_ticks.specs.Prices.{class_at, by_class, choice, rom_price, io_price, word_price, word_address}
 use Rattle.bus_ticks.specs.Prices.{transfer}
 use Rattle.bus_ticks.specs.Worst.{AtTimes, IsBlockOf, IsGreatest, transfer_price, worst_rom, worst_io}
-use Rattle.bus_ticks.specs.Worst.{worst_block}
+use Rattle.bus_ticks.specs.Worst.{worst_transfer}
 use Rattle.bus_ticks.specs.Dearest.{AreDearest, IsDearestBlock}
 
 -- one of four is at most the greatest
@@ -160,7 +160,7 @@ split_quad : (p : Profile) → p.quad ≡ p.s + (p.quad - p.s)
 split_quad p = omega (arith, p.s_first)
 
 ram_above : (p : Profile) (store : Bool) (k : ℕ) (b : AtTimes) → IsBlockOf Ram (suc k) b
-    → transfer_price p (suc k) store b ≤ worst_block p Ram (suc k) store
+    → transfer_price p (suc k) store b ≤ worst_transfer p Ram (suc k) store
 ram_above p store k b h =
     let first = b.address / 4 in
     above_sum p.n p.s (p.quad - p.s) k (suc k - 1) ((first + k) / 4 - first / 4) ((suc k + 2) / 4) _
@@ -187,12 +187,12 @@ rom_word_le p rom true first x e = omega (arith, word_at p rom true first x Rom 
 rom_word_le p rom false first x e = omega (arith, word_at p rom false first x Rom e, rom_le p rom x)
 
 rom_fold : (p : Profile) (store : Bool) (k : ℕ)
-    → k * cond store p.control (worst_rom p) ≡ worst_block p Rom k store
+    → k * cond store p.control (worst_rom p) ≡ worst_transfer p Rom k store
 rom_fold p true k = refl
 rom_fold p false k = refl
 
 rom_above : (p : Profile) (store : Bool) (k : ℕ) (b : AtTimes) → IsBlockOf Rom k b
-    → transfer_price p k store b ≤ worst_block p Rom k store
+    → transfer_price p k store b ≤ worst_transfer p Rom k store
 rom_above p store k b h =
     let top : ℕ = cond store p.control (worst_rom p) in
     let each : (i : ℕ) → i < k → (first : Bool)
@@ -304,28 +304,28 @@ dearest_block p Any k store few =
     (best.0, any_block p (suc k) store best.0 best.1)
 
 above : (p : Profile) (class : Class) (k : ℕ) (store : Bool) (b : AtTimes) → IsBlockOf class (suc k) b
-    → transfer_price p (suc k) store b ≤ worst_block p class (suc k) store
+    → transfer_price p (suc k) store b ≤ worst_transfer p class (suc k) store
 above p Ram k store b h = ram_above p store k b h
 above p Rom k store b h = rom_above p store (suc k) b h
 above p Io k store b h = io_above p store (suc k) b
 above p Any k store b h = io_above p store (suc k) b
 
 pub worst_block_greatest : (p : Profile) (class : Class) (k : ℕ) (store : Bool) → suc k ≤ 16
-    → IsGreatest (IsBlockOf class (suc k)) (transfer_price p (suc k) store) (worst_block p class (suc k) store)
+    → IsGreatest (IsBlockOf class (suc k)) (transfer_price p (suc k) store) (worst_transfer p class (suc k) store)
 worst_block_greatest p class k store few =
     let best = dearest_block p class k store few in
     record { none_above = above p class k store; reached = (best.0, best.1.of_class, best.1.price) }
 
 -- the same, as a call has it
 pub worst_transfer_greatest : (p : Profile) (class : Class) (words : ℕ) (store : Bool) (top : ℕ) → 1 ≤ words
-    → words ≤ 16 → top ≡ worst_block p class words store
+    → words ≤ 16 → top ≡ worst_transfer p class words store
     → IsGreatest (IsBlockOf class words) (transfer_price p words store) top
 worst_transfer_greatest p class zero store top some few e = absurd (omega arith)
 worst_transfer_greatest p class (suc k) store top some few e = rw e (worst_block_greatest p class k store few)
 
 -- and no word of it costs more than 255 ticks
 pub worst_block_small : (p : Profile) (class : Class) (words : ℕ) (store : Bool) (top : ℕ) → 1 ≤ words
-    → words ≤ 16 → top ≡ worst_block p class words store → top ≤ 255 * words
+    → words ≤ 16 → top ≡ worst_transfer p class words store → top ≤ 255 * words
 worst_block_small p class words store top some few e =
     let best = (worst_transfer_greatest p class words store top some few e).reached in
     let b = best.0 in

@@ -7,7 +7,7 @@ use Rattle.bus_ticks.specs.declared.profile.Class.{Class}
 use Rattle.bus_ticks.specs.Prices.{choice, rom_price}
 use Rattle.bus_ticks.specs.Ranges.{greatest}
 use Rattle.bus_ticks.specs.Worst.{AtTimes, IsOf, IsBlockOf, transfer_price, leave_price}
-use Rattle.bus_ticks.specs.Worst.{worst_rom, worst_block, worst_leave_of}
+use Rattle.bus_ticks.specs.Worst.{worst_rom, worst_transfer, worst_leave}
 
 -- i is the place, counted from 0, of the first of four numbers that is the greatest
 pub record IsDearestOf (a b c d : ℕ) (i : ℕ) : Type 0 where
@@ -23,7 +23,7 @@ AreDearest p rom = (x : ℕ) → rom_price p rom x ≡ worst_rom p
 pub record IsDearestBlock (p : Profile) (class : Class) (words : ℕ) (store : Bool)
     (b : AtTimes) : Type 0 where
   pub of_class : IsBlockOf class words b
-  pub price : transfer_price p words store b ≡ worst_block p class words store
+  pub price : transfer_price p words store b ≡ worst_transfer p class words store
 
 -- a multiple of 4 in the class: with Rom's time fields at their dearest, no jump into the class costs more
 -- than one to it
@@ -32,4 +32,4 @@ pub record IsDearestLeave (p : Profile) (class : Class) (address : ℕ) : Type 0
   pub below : address < SPACE_END
   pub is_of : IsOf class address
   pub price : (rom : RomTimes) → AreDearest p rom
-      → leave_price p (record { address = address; rom = rom }) ≡ worst_leave_of p class
+      → leave_price p (record { address = address; rom = rom }) ≡ worst_leave p class

@@ -63,18 +63,18 @@ worst_fetch_s p x = by_class (class_at x) (ram_price p x) (worst_rom p) p.unfitt
 
 -- the greatest price of a transfer of k words: in Ram at most (k + 2) / 4 words after the first are at
 -- multiples of 16
-abbrev pub worst_block : Profile → Class → ℕ → Bool → ℕ
-worst_block p Ram k store = p.n + (k - 1) * p.s + (k + 2) / 4 * (p.quad - p.s)
-worst_block p Rom k store = if store then k * p.control else k * worst_rom p
-worst_block p Io k store = k * worst_io p
-worst_block p Any k store = k * worst_io p
+abbrev pub worst_transfer : Profile → Class → ℕ → Bool → ℕ
+worst_transfer p Ram k store = p.n + (k - 1) * p.s + (k + 2) / 4 * (p.quad - p.s)
+worst_transfer p Rom k store = if store then k * p.control else k * worst_rom p
+worst_transfer p Io k store = k * worst_io p
+worst_transfer p Any k store = k * worst_io p
 
 -- the greatest price of the two fetches at a target: the second may be of the class that follows
-abbrev pub worst_leave_of : Profile → Class → ℕ
-worst_leave_of p Ram = p.n + max p.quad p.unfitted
-worst_leave_of p Rom = worst_rom p + max (worst_rom p) p.quad
-worst_leave_of p Io = p.unfitted + max p.unfitted (worst_rom p)
-worst_leave_of p Any =
+abbrev pub worst_leave : Profile → Class → ℕ
+worst_leave p Ram = p.n + max p.quad p.unfitted
+worst_leave p Rom = worst_rom p + max (worst_rom p) p.quad
+worst_leave p Io = p.unfitted + max p.unfitted (worst_rom p)
+worst_leave p Any =
     max (max (p.n + max p.quad p.unfitted) (worst_rom p + max (worst_rom p) p.quad))
     (p.unfitted + max p.unfitted (worst_rom p))
 

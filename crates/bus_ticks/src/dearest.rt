@@ -7,7 +7,7 @@ ghost use Rattle.bus_ticks.specs.Dearest.{AreDearest, IsDearestBlock, IsDearestL
 
 use crate::profile::{Class, Profile, RomTimes};
 use crate::space::{IO_START, ROM_START, SPACE_END};
-use crate::worst::{greatest, worst_leave_of, worst_rom};
+use crate::worst::{greatest, worst_leave, worst_rom};
 
 // Where the last word before a multiple of 16 is, in bytes after the multiple before it: the word that
 // follows costs quad.
@@ -119,11 +119,11 @@ fn dearest_leave_to_io(profile: &Profile) -> u32
 fn dearest_leave_to_any(profile: &Profile) -> u32
     ensures { IsDearestLeave profile.now Class.Any result }
 {
-    let top = worst_leave_of(profile, Class::Any);
-    if worst_leave_of(profile, Class::Ram) == top {
+    let top = worst_leave(profile, Class::Any);
+    if worst_leave(profile, Class::Ram) == top {
         return dearest_leave_to_ram(profile);
     }
-    if worst_leave_of(profile, Class::Rom) == top {
+    if worst_leave(profile, Class::Rom) == top {
         return dearest_leave_to_rom(profile);
     }
     dearest_leave_to_io(profile)

@@ -1,7 +1,7 @@
 ghost use Rattle.std.specs.Prelude.{◌≡◌, ◌<◌, ◌≤◌, ◌*◌};
 ghost use Rattle.bus_ticks.specs.Prices.{by_class, class_at, fetch_n, fetch_s};
 ghost use Rattle.bus_ticks.specs.Ranges.{greatest};
-ghost use Rattle.bus_ticks.specs.Worst.{worst_block, worst_io, worst_leave_of, worst_rom};
+ghost use Rattle.bus_ticks.specs.Worst.{worst_transfer, worst_io, worst_leave, worst_rom};
 ghost use Rattle.bus_ticks.specs.Worst.{worst_fetch_n, worst_fetch_s};
 ghost use Rattle.bus_ticks.specs.Worst.{IsAnyTimes, IsGreatest, IsBlockOf, IsTargetOf, transfer_price};
 ghost use Rattle.bus_ticks.specs.Worst.{fiq_entry, fiq_entry_price, leave_price};
@@ -70,10 +70,10 @@ pub fn worst_fetch_s(profile: &Profile, address: u32) -> u32
 }
 
 // The greatest price as a number.
-fn worst_block(profile: &Profile, class: Class, words: u32, store: bool) -> u32
+fn worst_transfer_ticks(profile: &Profile, class: Class, words: u32, store: bool) -> u32
     requires some { 1 ≤ words }
     requires few { words ≤ 16 }
-    ensures { result ≡ worst_block profile.now class words store }
+    ensures { result ≡ worst_transfer profile.now class words store }
 {
     match class {
         Class::Ram => {
@@ -97,16 +97,16 @@ fn worst_block(profile: &Profile, class: Class, words: u32, store: bool) -> u32
 pub fn worst_transfer(profile: &Profile, class: Class, words: u32, store: bool) -> u32
     requires some { 1 ≤ words }
     requires few { words ≤ 16 }
-    ensures number { result ≡ worst_block profile.now class words store }
+    ensures number { result ≡ worst_transfer profile.now class words store }
     ensures greatest { IsGreatest (IsBlockOf class words) (transfer_price profile.now words store) result }
     ensures small { result ≤ 255 * words }
 {
-    worst_block(profile, class, words, store)
+    worst_transfer_ticks(profile, class, words, store)
 }
 
-/// The greatest price of leaving to an address of the class, as a number.
-pub(crate) fn worst_leave_of(profile: &Profile, class: Class) -> u32
-    ensures { result ≡ worst_leave_of profile.now class }
+// The greatest price of leaving to an address of the class, as a number.
+fn worst_leave_ticks(profile: &Profile, class: Class) -> u32
+    ensures { result ≡ worst_leave profile.now class }
 {
     let worst_rom = worst_rom(profile);
     let ram = profile.n + profile.quad.max(profile.unfitted);
@@ -123,11 +123,11 @@ pub(crate) fn worst_leave_of(profile: &Profile, class: Class) -> u32
 /// The greatest ticks of the first two fetches after a jump to an address of the class, over all
 /// addresses and time fields of ROM.
 pub fn worst_leave(profile: &Profile, class: Class) -> u32
-    ensures number { result ≡ worst_leave_of profile.now class }
+    ensures number { result ≡ worst_leave profile.now class }
     ensures greatest { IsGreatest (IsTargetOf class) (leave_price profile.now) result }
     ensures small { result < 512 }
 {
-    worst_leave_of(profile, class)
+    worst_leave_ticks(profile, class)
 }
 
 // The greatest price as a number.

@@ -12,7 +12,7 @@ use Rattle.bus_ticks.proofs.WorstLemmas.{worst_block_small}
 use Rattle.arm2_effect.specs.ProgramCounter.{branch_target}
 use Rattle.bus_ticks.specs.Prices.{ahead_of, by_class, class_at}
 use Rattle.bus_ticks.specs.Ranges.{IsPrice}
-use Rattle.bus_ticks.specs.Worst.{worst_block, worst_fetch_n, worst_fetch_s, worst_rom, worst_leave_of}
+use Rattle.bus_ticks.specs.Worst.{worst_transfer, worst_fetch_n, worst_fetch_s, worst_rom, worst_leave}
 use Rattle.bus_ticks.specs.declared.profile.Class.{Class}
 use Rattle.bus_ticks.specs.declared.profile.Class.TheVariants.{Any, Ram, Rom, Io}
 use Rattle.bus_ticks.specs.declared.profile.Profile.{Profile}
@@ -90,7 +90,7 @@ s_is_price p x =
     (rom_is_price p)
     p.unfitted_price
 
-leave_small : (p : Profile) (c : Class) → worst_leave_of p c < 512
+leave_small : (p : Profile) (c : Class) → worst_leave p c < 512
 leave_small p Ram = omega (arith, p.n_price, p.quad_price, p.unfitted_price)
 leave_small p Rom = omega (arith, rom_is_price p, p.quad_price)
 leave_small p Io = omega (arith, rom_is_price p, p.unfitted_price)
@@ -115,8 +115,8 @@ fetching_is_price p address (Store words) = n_is_price p (ahead_of address 8)
 
 working_small : (p : Profile) (c : Class) (w : Work) → IsWork w → work_ticks p c w < 4400
 working_small p c (Internal cycles) few = omega (arith, mul-le cycles p.internal 16 255 few (omega (arith, p.internal_price)))
-working_small p c (Load words) fits = omega (arith, worst_block_small p c words false (worst_block p c words false) fits.0 fits.1 refl, fits.1, p.internal_price)
-working_small p c (Store words) fits = omega (arith, worst_block_small p c words true (worst_block p c words true) fits.0 fits.1 refl, fits.1)
+working_small p c (Load words) fits = omega (arith, worst_block_small p c words false (worst_transfer p c words false) fits.0 fits.1 refl, fits.1, p.internal_price)
+working_small p c (Store words) fits = omega (arith, worst_block_small p c words true (worst_transfer p c words true) fits.0 fits.1 refl, fits.1)
 
 -- ## Places are in range
 

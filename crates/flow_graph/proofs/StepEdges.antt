@@ -12,7 +12,7 @@ use Rattle.bus_ticks.specs.declared.profile.Class.TheVariants.{Any, Ram, Rom, Io
 use Rattle.bus_ticks.specs.declared.profile.Profile.{Profile}
 use Rattle.bus_ticks.specs.declared.profile.RomTimes.{RomTimes}
 use Rattle.bus_ticks.specs.Prices.{ahead_of, class_at, fetch_n, fetch_s}
-use Rattle.bus_ticks.specs.Worst.{IsOf, worst_leave_of, worst_fetch_n, worst_fetch_s}
+use Rattle.bus_ticks.specs.Worst.{IsOf, worst_leave, worst_fetch_n, worst_fetch_s}
 use Rattle.bus_ticks.proofs.LeaveLemmas.{worst_leave_greatest}
 use Rattle.arm2_decode.specs.Conditions.{condition_holds}
 use Rattle.arm2_decode.specs.declared.flags.Flags.{Flags}
@@ -195,7 +195,7 @@ jump_arrives st p rom class a (At calls x) t small e =
     subst (λ y. fetch_n p rom y + fetch_s p rom (ahead_of y 4) ≤ worst_fetch_n p x + worst_fetch_s p (ahead_of x 4)) e
     (omega (arith, n_most p rom class a x, s_most p rom class a (ahead_of x 4)))
 jump_arrives st p rom class a Exit t small is =
-    (worst_leave_greatest p st.leave (worst_leave_of p st.leave) refl).none_above (record { address = t; rom = rom }) (record { below = small; is_of = is })
+    (worst_leave_greatest p st.leave (worst_leave p st.leave) refl).none_above (record { address = t; rom = rom }) (record { below = small; is_of = is })
 
 pub arrives : (st : Stated) (p : Profile) (rom : RomTimes) (class : Class) (a : ℕ) (k : Kind) (to : Place) (t : ℕ) → t < 2 ^ 26 → IsPlaceOf st.leave t to → jump_price p rom class a k t ≤ arrival_ticks p st.leave k to
 arrives st p rom class a kind.Plain to t small is = omega arith

@@ -8,7 +8,7 @@ use Rattle.bus_ticks.specs.declared.profile.Class.{Class}
 use Rattle.bus_ticks.specs.declared.profile.Profile.{Profile}
 use Rattle.bus_ticks.specs.declared.profile.RomTimes.{RomTimes}
 use Rattle.bus_ticks.specs.Prices.{ahead_of, transfer, fetch_n, fetch_s, word_address}
-use Rattle.bus_ticks.specs.Worst.{IsBlockOf, worst_block, worst_fetch_n, worst_fetch_s}
+use Rattle.bus_ticks.specs.Worst.{IsBlockOf, worst_transfer, worst_fetch_n, worst_fetch_s}
 use Rattle.bus_ticks.proofs.FetchLemmas.{n_greatest, s_greatest}
 use Rattle.bus_ticks.proofs.WorstLemmas.{worst_transfer_greatest}
 use Rattle.arm2_effect.specs.declared.prices.Prices.{Prices}
@@ -108,8 +108,8 @@ module _ (p : Profile) (rom : RomTimes) (class : Class) (a : ℕ) where
         omega (arith, all, product, before);
   }
 
-  block_most : (address k : ℕ) (store : Bool) → 1 ≤ k → k ≤ 16 → IsBlockOf class k (record { address = address; rom = rom }) → transfer p rom store address k ≤ worst_block p class k store
-  block_most address k store some few of_class = (worst_transfer_greatest p class k store (worst_block p class k store) some few refl).none_above (record { address = address; rom = rom }) of_class
+  block_most : (address k : ℕ) (store : Bool) → 1 ≤ k → k ≤ 16 → IsBlockOf class k (record { address = address; rom = rom }) → transfer p rom store address k ≤ worst_transfer p class k store
+  block_most address k store some few of_class = (worst_transfer_greatest p class k store (worst_transfer p class k store) some few refl).none_above (record { address = address; rom = rom }) of_class
 
   pub load_costs : (address k : ℕ) (jumps : Bool) (t : ℕ) → 1 ≤ k → k ≤ 16 → IsBlockOf class k (record { address = address; rom = rom }) → (jumps ≡ false → t ≡ ahead_of a 4) → Costs (writer_if jumps) (work.Load k) (load_accesses a address k jumps t) t
   load_costs address k true t some few of_class to = record {

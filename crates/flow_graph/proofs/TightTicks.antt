@@ -8,7 +8,7 @@ use Rattle.bus_ticks.specs.declared.profile.Class.{Class}
 use Rattle.bus_ticks.specs.declared.profile.Profile.{Profile}
 use Rattle.bus_ticks.specs.declared.profile.RomTimes.{RomTimes}
 use Rattle.bus_ticks.specs.Prices.{ahead_of, transfer, by_class, class_at, fetch_n, ram_price, fetch_s, word_address}
-use Rattle.bus_ticks.specs.Worst.{IsOf, worst_block, worst_fetch_n, worst_fetch_s}
+use Rattle.bus_ticks.specs.Worst.{IsOf, worst_transfer, worst_fetch_n, worst_fetch_s}
 use Rattle.arm2_effect.specs.declared.prices.Prices.{Prices}
 use Rattle.arm2_effect.specs.Effects.{Access, FetchN, FetchS, Internal, Word, straight, refill, onward}
 use Rattle.arm2_effect.specs.Effects.{ticks_of}
@@ -122,13 +122,13 @@ module _ (p : Profile) (rom : RomTimes) (class : Class) (a : ℕ) (dear : AreDea
   load_pays x k true t block = record {
     in_class = load_in class a x k true t block.of_class.each;
     exact =
-        let price : transfer p rom false x k ≡ worst_block p class k false = block.price in
+        let price : transfer p rom false x k ≡ worst_transfer p class k false = block.price in
         omega (arith, load_ticks-jumps prices a x k t, s_worst (ahead_of a 8), price);
   }
   load_pays x k false t block = record {
     in_class = load_in class a x k false t block.of_class.each;
     exact =
-        let price : transfer p rom false x k ≡ worst_block p class k false = block.price in
+        let price : transfer p rom false x k ≡ worst_transfer p class k false = block.price in
         omega (arith, load_ticks-passes prices a x k t, s_worst (ahead_of a 8), price);
   }
 
@@ -140,7 +140,7 @@ module _ (p : Profile) (rom : RomTimes) (class : Class) (a : ℕ) (dear : AreDea
         (All-from_recursion (IsIn class) (FetchN (ahead_of a 8) ∷ []) (tt, tt))
         (words_in class true x k block.of_class.each);
     exact =
-        let price : transfer p rom true x k ≡ worst_block p class k true = block.price in
+        let price : transfer p rom true x k ≡ worst_transfer p class k true = block.price in
         let all = ticks_of-append prices (FetchN (ahead_of a 8) ∷ []) (words_at true x k) in
         omega (arith, all, ticks_of-words_at prices true x k, n_worst (ahead_of a 8), price);
   }

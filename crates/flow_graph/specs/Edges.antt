@@ -5,7 +5,7 @@ use Rattle.std.specs.Prelude.{◌≡◌, ℕ, ◌+◌, ◌-◌, ◌*◌, true, f
 use Rattle.std.specs.Prelude.{◌∷◌, ◌++◌, length, take, map, slice_index, Option, Some, None, Contains}
 use Rattle.arm2_decode.specs.Names.{is_always, is_never}
 use Rattle.arm2_effect.specs.ProgramCounter.{branch_target}
-use Rattle.bus_ticks.specs.Worst.{worst_fetch_n, worst_fetch_s, worst_block, worst_leave_of}
+use Rattle.bus_ticks.specs.Worst.{worst_fetch_n, worst_fetch_s, worst_transfer, worst_leave}
 use Rattle.bus_ticks.specs.declared.profile.Class.{Class}
 use Rattle.bus_ticks.specs.declared.profile.Profile.{Profile}
 use Rattle.bus_ticks.specs.Prices.{ahead_of}
@@ -78,13 +78,13 @@ fetch_ticks profile address (Store words) = worst_fetch_n profile (ahead_of addr
 -- besides its fetches: internal cycles, and words of the stated class
 abbrev pub work_ticks : Profile → Class → Work → ℕ
 work_ticks profile class (Internal cycles) = cycles * profile.internal
-work_ticks profile class (Load words) = worst_block profile class words false + profile.internal
-work_ticks profile class (Store words) = worst_block profile class words true
+work_ticks profile class (Load words) = worst_transfer profile class words false + profile.internal
+work_ticks profile class (Store words) = worst_transfer profile class words true
 
 -- a jump fetches the word at its target, and the next; out of the handler, at any address of the stated class
 abbrev pub jump_ticks : Profile → Class → Place → ℕ
 jump_ticks profile leave (At calls t) = worst_fetch_n profile t + worst_fetch_s profile (ahead_of t 4)
-jump_ticks profile leave Exit = worst_leave_of profile leave
+jump_ticks profile leave Exit = worst_leave profile leave
 
 -- which words jump
 abbrev pub arrival_ticks : Profile → Class → Kind → Place → ℕ

@@ -10,7 +10,7 @@ use Rattle.arm2_decode.specs.declared.names.Cond.{Cond}
 use Rattle.bus_ticks.specs.declared.profile.Class.{Class}
 use Rattle.bus_ticks.specs.declared.profile.Class.TheVariants.{Any, Io, Ram, Rom}
 use Rattle.bus_ticks.specs.declared.profile.Profile.{Profile}
-use Rattle.bus_ticks.specs.Worst.{worst_leave_of}
+use Rattle.bus_ticks.specs.Worst.{worst_leave}
 use Rattle.flow_graph.specs.declared.kinds.Action.{Action}
 use Rattle.flow_graph.specs.declared.kinds.Work.{Work}
 use Rattle.flow_graph.specs.declared.places.Place.{Place}
@@ -204,7 +204,7 @@ pub leave_gains : (st : Stated) (profile : Profile) (g : Gain) (change : ClassCh
     → jump_ticks profile (with_leave st change.better).leave Exit + g.ticks ≡ jump_ticks profile st.leave Exit
 leave_gains st profile g change gain is =
     let of_any = unstated_leave profile st.leave g gain in
-    falls (leave_prices profile) (worst_leave_of profile) refl refl refl g change of_any.1 is ∙ ap (worst_leave_of profile) (sym of_any.0)
+    falls (leave_prices profile) (worst_leave profile) refl refl refl g change of_any.1 is ∙ ap (worst_leave profile) (sym of_any.0)
 
 -- ## Which class is next
 
@@ -216,8 +216,8 @@ next_access profile class work g change gain is =
     subst (λ (c : Class). IsDearestBelow (λ k. work_ticks profile k work) (work_ticks profile c work) change.better) (sym of_any.0) found
 
 pub next_leave : (profile : Profile) (class : Class) (g : Gain) (change : ClassChange) → leave_gain profile class ≡ Some g → g.refinement ≡ Addresses change
-    → IsDearestBelow (worst_leave_of profile) (worst_leave_of profile class) change.better
+    → IsDearestBelow (worst_leave profile) (worst_leave profile class) change.better
 next_leave profile class g change gain is =
     let of_any = unstated_leave profile class g gain in
-    let found = dearest (leave_prices profile) (worst_leave_of profile) refl refl refl g change of_any.1 is in
-    subst (λ (c : Class). IsDearestBelow (worst_leave_of profile) (worst_leave_of profile c) change.better) (sym of_any.0) found
+    let found = dearest (leave_prices profile) (worst_leave profile) refl refl refl g change of_any.1 is in
+    subst (λ (c : Class). IsDearestBelow (worst_leave profile) (worst_leave profile c) change.better) (sym of_any.0) found

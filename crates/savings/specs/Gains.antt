@@ -6,7 +6,7 @@ use Rattle.arm2_decode.specs.declared.instr.Operation.TheVariants as operation
 use Rattle.bus_ticks.specs.declared.profile.Class.{Class}
 use Rattle.bus_ticks.specs.declared.profile.Class.TheVariants.{Any, Ram, Rom, Io}
 use Rattle.bus_ticks.specs.declared.profile.Profile.{Profile}
-use Rattle.bus_ticks.specs.Worst.{worst_leave_of}
+use Rattle.bus_ticks.specs.Worst.{worst_leave}
 use Rattle.shifter.specs.declared.shifts.TheConstants.{MOST_MULTIPLY_CYCLES}
 use Rattle.flow_graph.specs.Edges.{work_ticks}
 use Rattle.flow_graph.specs.Kinds.{transfer_work}
@@ -93,10 +93,10 @@ operation_gain p class (operation.Coprocessor x) = None
 abbrev pub leave_prices : Profile → ClassPrices
 leave_prices p =
     record {
-      present = worst_leave_of p Any;
-      ram = worst_leave_of p Ram;
-      rom = worst_leave_of p Rom;
-      io = worst_leave_of p Io;
+      present = worst_leave p Any;
+      ram = worst_leave p Ram;
+      rom = worst_leave p Rom;
+      io = worst_leave p Io;
     }
 
 abbrev pub leave_gain : Profile → Class → Option Gain

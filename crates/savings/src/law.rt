@@ -1,6 +1,6 @@
 ghost use Rattle.std.specs.Prelude.{◌≡◌, ◌+◌, ◌<◌, ◌^◌, ℕ, List, Some, count_by};
 ghost use Rattle.arm2_decode.specs.declared.instr.Instr.{Instr};
-ghost use Rattle.bus_ticks.specs.Worst.{worst_leave_of};
+ghost use Rattle.bus_ticks.specs.Worst.{worst_leave};
 ghost use Rattle.bus_ticks.specs.declared.profile.Class.{Class};
 ghost use Rattle.bus_ticks.specs.declared.profile.Profile.{Profile};
 ghost use Rattle.flow_graph.specs.declared.kinds.Work.{Work};
@@ -52,5 +52,5 @@ pub fn next_class_is_the_dearest_below()
         → IsDearestBelow (λ c. work_ticks profile c work) (work_ticks profile class work) change.better }
     ensures leave { (profile : Profile) (class : Class) (gain : Gain) (change : ClassChange)
         → leave_gain profile class ≡ Some gain → gain.refinement ≡ Addresses change
-        → IsDearestBelow (worst_leave_of profile) (worst_leave_of profile class) change.better }
+        → IsDearestBelow (worst_leave profile) (worst_leave profile class) change.better }
 {}
