@@ -1,13 +1,13 @@
 ghost use Rattle.std.specs.Prelude.{◌≡◌, ◌/◌, ◌%◌, length};
 ghost use Rattle.std.specs.Result.{ForErr, ForOk};
 ghost use Rattle.arm2_decode.specs.Table.{IsUnallocated, Means};
-ghost use Rattle.arm2_exec.specs.declared.decoded.TheConstants.{PLACES};
+ghost use Rattle.arm2_exec.specs.declared.decoded.TheConstants.{KEPT_WORDS};
 
 use arm2_decode::{Instr, Unallocated, decode};
 use std::alloc::{AllocError, Global};
 
-// How many rows there are: one for each word of 4 KB.
-const PLACES: u32 = 1024;
+// How many words are kept: those of 4 KB.
+const KEPT_WORDS: u32 = 1024;
 
 /// A word and its instruction, or why it has none.
 #[derive(Clone, Copy)]
@@ -22,7 +22,7 @@ pub(crate) struct Row {
 #[derive(Drop)]
 pub(crate) struct Decoded {
     rows: Vec<Row>,
-    ghost whole: { length rows.items ≡ PLACES },
+    ghost whole: { length rows.items ≡ KEPT_WORDS },
 }
 
 fn row_of(word: u32) -> Row
@@ -37,9 +37,9 @@ fn row_of(word: u32) -> Row
 // The place of an address.
 #[inline(always)]
 fn place_of(address: u32) -> usize
-    ensures { result ≡ address / 4 % PLACES }
+    ensures { result ≡ address / 4 % KEPT_WORDS }
 {
-    (address / 4 % PLACES) as usize
+    (address / 4 % KEPT_WORDS) as usize
 }
 
 impl Decoded {
@@ -48,7 +48,7 @@ impl Decoded {
 
     /// The word 0 at each place.
     pub(crate) fn new(alloc: Global) -> Result<Decoded, AllocError> {
-        let rows = vec![in alloc; row_of(0); PLACES as usize]?;
+        let rows = vec![in alloc; row_of(0); KEPT_WORDS as usize]?;
         Ok(Decoded { rows })
     }
 
@@ -56,7 +56,7 @@ impl Decoded {
     #[inline(always)]
     pub(crate) fn keep(&mut self, address: u32, word: u32)
         ensures { (other : Row)
-            → (slice_index_or self.new.rows.items (address / 4 % PLACES) other).word ≡ word }
+            → (slice_index_or self.new.rows.items (address / 4 % KEPT_WORDS) other).word ≡ word }
     {
         if self.rows[place_of(address)].word != word {
             self.decode_at(address, word);
@@ -66,7 +66,7 @@ impl Decoded {
     #[inline(never)]
     fn decode_at(&mut self, address: u32, word: u32)
         ensures { (other : Row)
-            → (slice_index_or self.new.rows.items (address / 4 % PLACES) other).word ≡ word }
+            → (slice_index_or self.new.rows.items (address / 4 % KEPT_WORDS) other).word ≡ word }
     {
         self.rows[place_of(address)] = row_of(word);
     }
@@ -74,7 +74,7 @@ impl Decoded {
     /// The row for the address.
     #[inline(always)]
     pub(crate) fn row(&self, address: u32) -> &Row
-        ensures { (other : Row) → result.now ≡ slice_index_or self.now.rows.items (address / 4 % PLACES) other }
+        ensures { (other : Row) → result.now ≡ slice_index_or self.now.rows.items (address / 4 % KEPT_WORDS) other }
     {
         &self.rows[place_of(address)]
     }
