@@ -1,7 +1,6 @@
 -- What each instruction does that is no load or store (VL86C010 data sheet, instruction set, but for C,
 -- which a multiply keeps).
-use Rattle.std.specs.Prelude.{ℕ, ◌+◌, ◌*◌, ◌%◌, ◌^◌, nat_lt, zero, suc, ◌-◌, Bool, true}
-use Rattle.std.specs.Prelude.{if◌then◌else◌, List, [], ◌∷◌}
+use Rattle.std.specs.Prelude.{ℕ, ◌+◌, ◌*◌, ◌%◌, ◌^◌, Bool, true, if◌then◌else◌, List, [], ◌∷◌}
 use Rattle.bus_ticks.specs.Prices.{ahead_of}
 use Rattle.arm2_decode.specs.Names.{is_compare, is_pc, register_number}
 use Rattle.arm2_decode.specs.declared.names.Opcode.{Opcode}
@@ -13,6 +12,7 @@ use Rattle.arm2_decode.specs.declared.instr.DataRegisterShift.{DataRegisterShift
 use Rattle.arm2_decode.specs.declared.instr.DataImmediate.{DataImmediate}
 use Rattle.arm2_decode.specs.declared.instr.Multiply.{Multiply}
 use Rattle.arm2_decode.specs.declared.instr.Branch.{Branch}
+use Rattle.shifter.specs.Shifts.{multiply_cycles}
 use Rattle.shifter.specs.declared.shifts.Shifted.{Shifted}
 use Rattle.arm2_effect.specs.declared.outcomes.Outcome.{Outcome}
 use Rattle.arm2_effect.specs.declared.exceptions.Vector.TheVariants as vector
@@ -99,16 +99,6 @@ data_register_shift_effect x regs =
     delayed 1
     (processed x.opcode x.sets_flags x.rn x.rd 12 (shifted_by_register x.shift x.rs x.rm regs) regs)
 
--- the least m from the given one on with number < 2 ^ (2 * m - 1), or the last one
-unfoldable pub cycles_from : ℕ → ℕ → ℕ → ℕ
-cycles_from zero m number = m
-cycles_from (suc left) m number =
-    if nat_lt number (2 ^ (2 * m - 1)) then m else cycles_from left (m + 1) number
-
--- the cycles of a multiply by a number: 1 for 0 and 1, 2 up to 7, 3 up to 31, and so on up to 16
-abbrev pub cycles_of : ℕ → ℕ
-cycles_of number = cycles_from 15 1 number
-
 -- the low 32 bits of the product; C and V stay (C by choice)
 abbrev pub product_of : Multiply → List ℕ → Outcome
 product_of x regs =
@@ -122,7 +112,7 @@ product_of x regs =
 
 unfoldable pub multiply_effect : Multiply → List ℕ → Effect
 multiply_effect x regs =
-    delayed (cycles_of (current_in x.rs regs)) (entered x.sets_flags x.rd (product_of x regs) regs)
+    delayed (multiply_cycles (current_in x.rs regs)) (entered x.sets_flags x.rd (product_of x regs) regs)
 
 -- with a link R14 keeps the PSR, the mode and the return address
 unfoldable pub branch_effect : Branch → List ℕ → Effect

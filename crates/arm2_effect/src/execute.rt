@@ -1,11 +1,10 @@
-ghost use Rattle.std.specs.Prelude.{◌≡◌, ◌≤◌, false};
+ghost use Rattle.std.specs.Prelude.{◌≡◌, false};
 ghost use Rattle.arm2_decode.specs.Conditions.{condition_holds};
 ghost use Rattle.arm2_decode.specs.Writers.{is_transfer};
 ghost use Rattle.arm2_effect.specs.Modes.{r15_in};
 ghost use Rattle.arm2_effect.specs.ProgramCounter.{flags_of};
 ghost use Rattle.arm2_effect.specs.Effects.{IsEffect, is_stopped};
-ghost use Rattle.arm2_effect.specs.Operations.{branch_effect, cycles_of};
-ghost use Rattle.arm2_effect.specs.Operations.{multiply_effect, operation_effect, product_of};
+ghost use Rattle.arm2_effect.specs.Operations.{branch_effect, multiply_effect, operation_effect, product_of};
 
 use crate::exceptions::Vector;
 use crate::modes::Reg;
@@ -18,14 +17,6 @@ use crate::registers::Registers;
 use crate::step_end::Done;
 use arm2_decode::{Branch, Cond, Multiply, Operation, Register, holds};
 use shifter::multiply_cycles;
-
-#[tactic(auto, using(crate::proofs::Cycles::cycles_are))]
-fn cycles_of(multiplier: u32) -> u32
-    ensures cycles { result ≡ cycles_of multiplier }
-    ensures few { result ≤ 16 }
-{
-    multiply_cycles(multiplier)
-}
 
 impl Registers {
     fn product(&self, multiply: &Multiply) -> Outcome
@@ -58,7 +49,7 @@ impl Registers {
         let multiplier = self.read(mode_of(self.get(Reg::R15)), multiply.rs);
         let outcome = self.product(multiply);
         let done = self.enter(prices, multiply.sets_flags, multiply.rd, outcome);
-        done.delayed(prices.internal(cycles_of(multiplier)))
+        done.delayed(prices.internal(multiply_cycles(multiplier)))
     }
 
     // B and BL.

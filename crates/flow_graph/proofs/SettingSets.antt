@@ -11,7 +11,8 @@ use Rattle.memc.specs.Memory.{located, word_at}
 use Rattle.memc.specs.declared.spots.Spot.{Spot}
 use Rattle.memc.specs.declared.spots.Spot.TheVariants as spot
 use Rattle.shifter.specs.declared.shifts.Shifted.{Shifted}
-use Rattle.shifter.specs.Shifts.{Has, by_register, moved}
+use Rattle.shifter.specs.Shifts.{Has, by_register, moved, multiply_cycles}
+use Rattle.shifter.proofs.ShiftLemmas.{greatest_cycles}
 use Rattle.shifter.specs.Word.{word_bits}
 use Rattle.arm2_decode.specs.Allowed.{bit_of}
 use Rattle.arm2_decode.specs.Names.{is_lsl, is_mov, is_pc, register_number}
@@ -34,7 +35,6 @@ use Rattle.arm2_decode.specs.declared.names.Shift.TheVariants.{Ror}
 use Rattle.arm2_effect.specs.declared.modes.Mode.TheVariants.{Svc}
 use Rattle.arm2_effect.specs.Modes.{r15_in, register_in}
 use Rattle.arm2_effect.specs.Operands.{current_in, first_of, operand_of, shifted_by_amount, shifted_of}
-use Rattle.arm2_effect.specs.Operations.{cycles_from, cycles_of}
 use Rattle.arm2_effect.specs.Outcomes.{outcome_of}
 use Rattle.arm2_effect.specs.ProgramCounter.{address_of, flags_of, mode_of}
 use Rattle.arm2_effect.proofs.Words.{shifted_is}
@@ -285,11 +285,6 @@ register_passes aim x h = record { register_other = tt; word_apart = tt; set = �
 pub immediate_passes : (aim : Aim) (x : DataImmediate) → data_writes_pc x.opcode x.rd ≡ false → Sets aim (operation.DataImmediate x) (record { register = None; port = 0; word = None })
 immediate_passes aim x h = record { register_other = tt; word_apart = tt; set = λ st to s i class_is target has written. absurd (both_ways (data_writes_pc x.opcode x.rd) h written) }
 
--- the most cycles
-most : cycles_of 0xFFFFFFFF ≡ 16
-unfolding cycles_from
-most = refl
-
 fourth : (a b c d e : Bool) → (a || b || c || d || e) ≡ false → d ≡ false
 fourth a b c false e h = refl
 fourth true b c true e h = absurd (cc)
@@ -306,7 +301,7 @@ pub multiply_sets : (aim : Aim) (x : Multiply) → Sets aim (operation.Multiply 
 multiply_sets aim x = record {
   register_other = rs_other x;
   word_apart = tt;
-  set = λ st to s i class_is target has. ap cycles_of has.register ∙ most;
+  set = λ st to s i class_is target has. ap multiply_cycles has.register ∙ greatest_cycles;
 }
 
 -- ## Sums and differences

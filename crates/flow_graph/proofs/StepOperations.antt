@@ -24,7 +24,7 @@ use Rattle.arm2_effect.specs.declared.step_end.Why.{Why}
 use Rattle.arm2_effect.specs.Effects.{Effect, onward, skipped, stopped}
 use Rattle.arm2_effect.specs.Exceptions.{taken}
 use Rattle.arm2_effect.specs.Modes.{r15_in, register_in, with_r15, with_register, is_user}
-use Rattle.arm2_effect.specs.Operations.{branch_effect, compared, cycles_from, cycles_of, data_immediate_effect, data_register_effect, data_register_shift_effect, entered, jumped, multiply_effect, next_r15, operation_effect, placed, product_of}
+use Rattle.arm2_effect.specs.Operations.{branch_effect, compared, data_immediate_effect, data_register_effect, data_register_shift_effect, entered, jumped, multiply_effect, next_r15, operation_effect, placed, product_of}
 use Rattle.arm2_effect.specs.Outcomes as effect
 use Rattle.arm2_effect.specs.ProgramCounter.{address_of, branch_target, r15_jumped, mode_of, psr_of, psr_with, r15_ahead, r15_of, r15_restored}
 use Rattle.arm2_transfer.specs.declared.bus.Bus.{Bus}
@@ -48,16 +48,9 @@ use Rattle.flow_graph.specs.declared.kinds.Work.TheVariants as work
 use Rattle.flow_graph.proofs.StepRegisters.{IsWordAddress, address_ahead, address_jumped, address_put, address_restored, base_stays, goes, loaded_stays, long_based, long_with, passed_goes, word_address_ahead, word_address_of}
 use Rattle.flow_graph.proofs.StepTicks.{Costs, branch_costs, call_costs, delayed_costs, jump_costs, load_block, load_costs, store_block, store_costs, straight_costs}
 use Rattle.arm2_transfer.proofs.Listed.{words_are}
+use Rattle.shifter.specs.Shifts.{multiply_cycles}
+use Rattle.shifter.proofs.ShiftLemmas.{most_cycles}
 use Rattle.flow_graph.proofs.StepWords.{AllMoveOther, all_stay, verdict_others}
-
-cycles_few : (left m number : ℕ) → cycles_from left m number ≤ m + left
-unfolding cycles_from
-cycles_few zero m number = omega arith
-cycles_few (suc left) m number = by_test (cycles_few left (m + 1) number) (ltb number (2 ^ (2 * m - 1)))
-  where
-    by_test : cycles_from left (m + 1) number ≤ m + 1 + left → (b : Bool) → cond b m (cycles_from left (m + 1) number) ≤ m + suc left
-    by_test rest true = omega arith
-    by_test rest false = omega arith
 
 -- ## What the words of the table rule out
 
@@ -149,8 +142,7 @@ module _ (p : Profile) (rom : RomTimes) (class : Class) (regs : List ℕ) (long 
   unfolding multiply_effect
   multiply_costs x =
       let number : ℕ = register_in (mode_of (r15_in regs)) (register_number x.rs) regs in
-      let few : cycles_from 15 1 number ≤ 1 + 15 = cycles_few 15 1 number in
-      delayed_costs p rom class (address_of (r15_in regs)) (cycles_of number) 16 kind.Plain _ _ (omega arith) (entered_costs x.sets_flags x.rd (product_of x regs))
+      delayed_costs p rom class (address_of (r15_in regs)) (multiply_cycles number) 16 kind.Plain _ _ (most_cycles number) (entered_costs x.sets_flags x.rd (product_of x regs))
 
   -- ## Branches
 

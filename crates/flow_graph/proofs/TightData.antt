@@ -12,10 +12,11 @@ use Rattle.arm2_decode.specs.declared.instr.Branch.{Branch}
 use Rattle.arm2_decode.specs.declared.instr.Multiply.{Multiply}
 use Rattle.arm2_decode.specs.declared.names.Opcode.{Opcode}
 use Rattle.arm2_decode.specs.declared.names.Register.{Register}
+use Rattle.shifter.specs.Shifts.{multiply_cycles}
 use Rattle.arm2_effect.specs.declared.step_end.Kind.TheVariants as ended
 use Rattle.arm2_effect.specs.Effects.{Effect, onward, skipped, straight}
 use Rattle.arm2_effect.specs.Modes.{r15_in, register_in}
-use Rattle.arm2_effect.specs.Operations.{branch_effect, compared, cycles_of, delayed, entered, jumped}
+use Rattle.arm2_effect.specs.Operations.{branch_effect, compared, delayed, entered, jumped}
 use Rattle.arm2_effect.specs.Operations.{multiply_effect, placed, product_of}
 use Rattle.arm2_effect.specs.Outcomes.{outcome_of}
 use Rattle.arm2_effect.specs.ProgramCounter.{address_of}
@@ -127,7 +128,7 @@ module _ (c : Setting) where
     lands = h.lands;
   }
 
-  pub multiply_pays : (x : Multiply) → cycles_of (register_in (mode c) (register_number x.rs) c.regs) ≡ 16
+  pub multiply_pays : (x : Multiply) → multiply_cycles (register_in (mode c) (register_number x.rs) c.regs) ≡ 16
       → EffectPays c kind.Plain (work.Internal 16) (multiply_effect x c.regs)
   unfolding multiply_effect
   multiply_pays x all =

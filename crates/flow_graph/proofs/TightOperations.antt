@@ -21,7 +21,8 @@ use Rattle.arm2_effect.specs.declared.modes.Mode.{Mode}
 use Rattle.arm2_effect.specs.declared.modes.Mode.TheVariants.{Svc}
 use Rattle.arm2_effect.specs.Modes.{register_in, is_user}
 use Rattle.arm2_effect.specs.Operands.{first_of}
-use Rattle.arm2_effect.specs.Operations.{cycles_of, data_immediate_effect, data_register_effect}
+use Rattle.shifter.specs.Shifts.{multiply_cycles}
+use Rattle.arm2_effect.specs.Operations.{data_immediate_effect, data_register_effect}
 use Rattle.arm2_effect.specs.Operations.{data_register_shift_effect, operation_effect}
 use Rattle.arm2_effect.specs.ProgramCounter.{address_of}
 use Rattle.arm2_transfer.specs.declared.span.Span.{Span}
@@ -149,7 +150,7 @@ module _ (st : Stated) (profile : Profile) (address : ℕ) (to : Place) (s : Sta
         → OperationPays o
     unfolding operation_effect data_register_effect data_register_shift_effect data_immediate_effect
     operation_set (operation.Multiply x) calls a lands h =
-        multiply_pays setting x (ap (λ m. cycles_of (register_in m (register_number x.rs) s.regs)) svc ∙ h)
+        multiply_pays setting x (ap (λ m. multiply_cycles (register_in m (register_number x.rs) s.regs)) svc ∙ h)
     operation_set (operation.DataRegister x) calls a lands h =
         placed_pays setting x.opcode x.sets_flags x.rd _ _ _ h
     operation_set (operation.DataRegisterShift x) calls a lands h =

@@ -25,7 +25,7 @@ use Rattle.arm2_decode.specs.declared.names.Register.TheVariants.{R15}
 use Rattle.arm2_effect.specs.declared.modes.Mode.TheVariants.{Svc}
 use Rattle.arm2_effect.specs.Modes.{r15_in, register_in}
 use Rattle.arm2_effect.specs.Operands.{first_of, rotated_byte, shifted_by_amount}
-use Rattle.arm2_effect.specs.Operations.{cycles_of}
+use Rattle.shifter.specs.Shifts.{multiply_cycles}
 use Rattle.arm2_effect.specs.Outcomes.{outcome_of}
 use Rattle.arm2_effect.specs.ProgramCounter.{address_of, flags_of, psr_with, r15_of}
 use Rattle.arm2_transfer.specs.Block.{lowest_of}
@@ -94,7 +94,7 @@ module _ (st : Stated) (profile : Profile) (address : ℕ) (to : Place) (s : Sta
   -- the registers and memory are such that the operation costs the most, and leads to the place
   abbrev pub IsSetFor : Operation → Type 0
   IsSetFor (operation.Multiply x) =
-      cycles_of (register_in Svc (register_number x.rs) s.regs) ≡ MOST_MULTIPLY_CYCLES
+      multiply_cycles (register_in Svc (register_number x.rs) s.regs) ≡ MOST_MULTIPLY_CYCLES
   IsSetFor (operation.DataRegister x) =
       WritesTarget (data_writes_pc x.opcode x.rd)
       (outcome_of x.opcode (first_of 8 x.rn s.regs) (shifted_by_amount x.shift x.amount x.rm s.regs)

@@ -1,5 +1,5 @@
 -- Each shift of the code against the shift of the list.
-use Rattle.std.proofs.Common.{ℕ, zero, suc, ◌+◌, ◌-◌, ◌*◌, ◌/◌, ◌%◌, ◌^◌, ◌≤◌, ◌<◌, ◌≡◌, Bool, true, false, refl, ap, sym, subst, ◌∙◌, arith, eqb, min, List, [], ◌∷◌, ◌++◌, length, take, drop, get_or}
+use Rattle.std.proofs.Common.{ℕ, zero, suc, ◌+◌, ◌-◌, ◌*◌, ◌/◌, ◌%◌, ◌^◌, ◌≤◌, ◌<◌, ◌≡◌, Bool, true, false, cond, ltb, ◌⊎◌, inl, inr, refl, ap, sym, subst, ◌∙◌, arith, eqb, min, List, [], ◌∷◌, ◌++◌, length, take, drop, get_or}
 use Rattle.std.proofs.Math.ListN.{replicate}
 use mir.Val.{bool_byte}
 use Rattle.std.proofs.Math.Pow.{pow_mono}
@@ -14,7 +14,8 @@ use Rattle.arm2_decode.specs.declared.names.Shift.TheVariants.{Lsr, Asr}
 use Rattle.shifter.specs.declared.shifts.Shifted.{Shifted}
 use Rattle.arm2_decode.specs.Bits.{bit_of_word}
 use Rattle.shifter.specs.Word.{bits_from, fill_word, word_bits}
-use Rattle.shifter.specs.Shifts.{Has, TakesCycles, by_immediate, by_register, left, right}
+use Rattle.shifter.specs.Shifts.{Has, by_immediate, by_register, cycles_from, left, multiply_cycles, right}
+use Rattle.std.proofs.lemmas.Bool.{cases_lt, ltb-false, ltb-true}
 use Rattle.shifter.proofs.BitLists.{length-bits_from, get_or-bits_from, same_bits, bits_from-cat, bits_from-zero, drop-bits_from, take-bits_from, rest_below}
 
 take_more_front : (n m k : ℕ) (xs ys : List Bool) → length xs ≡ n → m ≡ n + k → take m (xs ++ ys) ≡ xs ++ take k ys
@@ -168,34 +169,56 @@ asr_has k n w fill carry r e f g h =
     let top : fill ≡ get_or (word_bits w) 31 false = g ∙ sym (get_or-bits_from 32 31 w (omega arith)) in
     rw (e, f) (subst (λ b. Has r (right n b (word_bits w))) top h)
 
--- the cycles, by the number of significant bits
-pub cycles_of : (number m r : ℕ) → m ≤ 32 → number < 2 ^ m → 2 ^ m ≤ 2 * number + 1 → r ≡ min (m / 2 + 1) 16 → TakesCycles number r
-cycles_of number m r few fits tight e = record {
-  some = omega arith;
-  few = omega arith;
-  enough = λ h.
-      let room : m ≤ 2 * r - 1 = omega arith in
-      let above : 2 ^ m ≤ 2 ^ (2 * r - 1) = pow_mono room in
-      omega arith;
-  least = λ h.
-      let room : suc (2 * r - 3) ≤ m = omega arith in
-      let below : 2 ^ suc (2 * r - 3) ≤ 2 ^ m = pow_mono room in
-      omega (arith, pow-suc 2 (2 * r - 3));
-}
+-- which m are enough for a number, by its significant bits
+enough : (number bits m : ℕ) → 1 ≤ m → 2 ^ bits ≤ 2 * number + 1 → number < 2 ^ (2 * m - 1) → bits < 2 * m
+enough number bits m some tight low = by_order (cases_lt bits (2 * m))
+  where
+    by_order : (bits < 2 * m) ⊎ (2 * m ≤ bits) → bits < 2 * m
+    by_order (inl h) = h
+    by_order (inr h) =
+        let grows : 2 ^ suc (2 * m - 1) ≤ 2 ^ bits = pow_mono (omega arith) in
+        absurd (omega (arith, pow-suc 2 (2 * m - 1)))
 
-pub cycles : (number r : ℕ) → number < 2 ^ 32 → r ≡ min ((32 - count_leading_zeros 32 number) / 2 + 1) 16 → TakesCycles number r
+too_few : (number bits m : ℕ) → number < 2 ^ bits → 2 ^ (2 * m - 1) ≤ number → 2 * m ≤ bits
+too_few number bits m fits high = by_order (cases_lt bits (2 * m))
+  where
+    by_order : (bits < 2 * m) ⊎ (2 * m ≤ bits) → 2 * m ≤ bits
+    by_order (inl h) =
+        let grows : 2 ^ bits ≤ 2 ^ (2 * m - 1) = pow_mono (omega arith) in
+        absurd (omega arith)
+    by_order (inr h) = h
+
+cycles_by : (left first number bits r : ℕ) → number < 2 ^ bits → 2 ^ bits ≤ 2 * number + 1 → r ≡ min (bits / 2 + 1) 16 → left + first ≡ 16 → 1 ≤ first → first ≤ r → r ≡ cycles_from left first number
+unfolding cycles_from
+cycles_by zero first number bits r fits tight e all some least = omega arith
+cycles_by (suc left) first number bits r fits tight e all some least =
+    test (λ more. cycles_by left (first + 1) number bits r fits tight e (omega arith) (omega arith) more) (ltb number (2 ^ (2 * first - 1))) refl
+  where
+    test : (first + 1 ≤ r → r ≡ cycles_from left (first + 1) number) → (b : Bool) → ltb number (2 ^ (2 * first - 1)) ≡ b → r ≡ cond b first (cycles_from left (first + 1) number)
+    test rest true is = omega (arith, enough number bits first some tight (ltb-true number _ is))
+    test rest false is = rest (omega (arith, too_few number bits first fits (ltb-false number _ is)))
+
+pub cycles : (number r : ℕ) → number < 2 ^ 32 → r ≡ min ((32 - count_leading_zeros 32 number) / 2 + 1) 16 → r ≡ multiply_cycles number
 cycles number r below e =
     let long = leading_length 32 number below in
     let same : long.0 ≡ 32 - count_leading_zeros 32 number = omega (arith, long.1) in
-    cycles_of number long.0 r (omega (arith, long.1)) long.2 long.3 (rw (← same) at e)
+    cycles_by 15 1 number long.0 r long.2 long.3 (rw (← same) at e) refl (omega arith) (omega arith)
 
-pub greatest_cycles : TakesCycles 0xFFFFFFFF 16
-greatest_cycles = record {
-  some = omega arith;
-  few = omega arith;
-  enough = λ h. absurd (omega arith);
-  least = λ h. omega arith;
-}
+few_from : (left m number : ℕ) → cycles_from left m number ≤ m + left
+unfolding cycles_from
+few_from zero m number = omega arith
+few_from (suc left) m number = by_test (few_from left (m + 1) number) (ltb number (2 ^ (2 * m - 1)))
+  where
+    by_test : cycles_from left (m + 1) number ≤ m + 1 + left → (b : Bool) → cond b m (cycles_from left (m + 1) number) ≤ m + suc left
+    by_test rest true = omega arith
+    by_test rest false = omega arith
+
+pub most_cycles : (number : ℕ) → multiply_cycles number ≤ 16
+most_cycles number = few_from 15 1 number
+
+pub greatest_cycles : multiply_cycles 0xFFFFFFFF ≡ 16
+unfolding cycles_from
+greatest_cycles = refl
 
 pub lsr_zero : (k : Kind) (n : ℕ) (bits : List Bool) (carry : Bool) (r : Shifted) → k ≡ Lsr → n ≡ 0 → Has r (by_register Lsr 32 bits carry) → Has r (by_immediate k n bits carry)
 lsr_zero k n bits carry r e z h = rw (e, z) h

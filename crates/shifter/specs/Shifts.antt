@@ -1,7 +1,7 @@
 -- Shifts of a list of 32 bits, the lowest first (VL86C010 data sheet, barrel shifter), and the cycles of a
 -- multiply.
-use Rattle.std.specs.Prelude.{ℕ, ◌-◌, ◌*◌, ◌%◌, ◌^◌, ◌≡◌, ◌==◌, ◌<◌, ◌≤◌, Bool, false, if◌then◌else◌, List}
-use Rattle.std.specs.Prelude.{[], ◌∷◌, ◌++◌, take, drop, replicate, slice_index_or}
+use Rattle.std.specs.Prelude.{ℕ, zero, suc, ◌+◌, ◌-◌, ◌*◌, ◌%◌, ◌^◌, ◌≡◌, ◌==◌, nat_lt, Bool, false}
+use Rattle.std.specs.Prelude.{if◌then◌else◌, List, [], ◌∷◌, ◌++◌, take, drop, replicate, slice_index_or}
 use Rattle.arm2_decode.specs.declared.names.Shift.{Shift as Kind}
 use Rattle.arm2_decode.specs.declared.names.Shift.TheVariants.{Lsl, Lsr, Asr, Ror}
 use Rattle.shifter.specs.declared.shifts.Shifted.{Shifted}
@@ -62,10 +62,13 @@ pub record Has (result : Shifted) (wanted : BitsAndCarry) : Type 0 where
   pub value : word_bits result.value ≡ wanted.bits
   pub carry : result.carry ≡ wanted.carry
 
--- A multiply by this number takes m cycles: 1 for 0 and 1; m for 2 ^ (2 * m - 3) up to 2 ^ (2 * m - 1) - 1;
--- and 16 from 2 ^ 29 on.
-pub record TakesCycles (number m : ℕ) : Type 0 where
-  pub some : 1 ≤ m
-  pub few : m ≤ 16
-  pub enough : m < 16 → number < 2 ^ (2 * m - 1)
-  pub least : 2 ≤ m → 2 ^ (2 * m - 3) ≤ number
+-- the least m from the given one on with number < 2 ^ (2 * m - 1), or the last one
+unfoldable pub cycles_from : (left m number : ℕ) → ℕ
+cycles_from zero m number = m
+cycles_from (suc left) m number =
+    if nat_lt number (2 ^ (2 * m - 1)) then m else cycles_from left (m + 1) number
+
+-- the cycles of a multiply by a number: 1 for 0 and 1; m for 2 ^ (2 * m - 3) up to 2 ^ (2 * m - 1) - 1; and 16
+-- from 2 ^ 29 on
+abbrev pub multiply_cycles : ℕ → ℕ
+multiply_cycles number = cycles_from 15 1 number

@@ -1,6 +1,6 @@
 ghost use Rattle.std.specs.Prelude.{◌≡◌, ℕ, ◌≤◌, ◌<◌, ◌*◌, ◌++◌, drop, take};
 ghost use Rattle.shifter.specs.Shifts.{by_immediate, by_register, extended, left, right, rotated, Has};
-ghost use Rattle.shifter.specs.Shifts.{TakesCycles};
+ghost use Rattle.shifter.specs.Shifts.{multiply_cycles};
 ghost use Rattle.arm2_decode.specs.Bits.{bit_of_word};
 ghost use Rattle.shifter.specs.Word.{fill_word, word_bits};
 
@@ -142,7 +142,8 @@ pub fn rotate_imm(imm8: u32, rotation: u32, carry: bool) -> Shifted
 /// The cycles that a multiply takes with this multiplier, from 1 to [`MOST_MULTIPLY_CYCLES`]: two bits of it
 /// in each.
 pub fn multiply_cycles(number: u32) -> u32
-    ensures { TakesCycles number result }
+    ensures cycles { result ≡ multiply_cycles number }
+    ensures few { result ≤ MOST_MULTIPLY_CYCLES }
 {
     let significant = 32 - number.leading_zeros();
     (significant / 2 + 1).min(MOST_MULTIPLY_CYCLES)
@@ -151,6 +152,6 @@ pub fn multiply_cycles(number: u32) -> u32
 /// States that a multiply takes at most [`MOST_MULTIPLY_CYCLES`], and by the greatest word so many. It does
 /// nothing.
 pub fn multiply_limit()
-    ensures most { (number m : ℕ) → TakesCycles number m → m ≤ MOST_MULTIPLY_CYCLES }
-    ensures reached { TakesCycles 0xFFFFFFFF MOST_MULTIPLY_CYCLES }
+    ensures most { (number : ℕ) → multiply_cycles number ≤ MOST_MULTIPLY_CYCLES }
+    ensures reached { multiply_cycles 0xFFFFFFFF ≡ MOST_MULTIPLY_CYCLES }
 {}
