@@ -1,9 +1,10 @@
 //! The barrel shifter of the ARM2, and the cycles of its multiply.
 #![tactic(auto)]
 
+mod law;
 mod shifts;
 
+pub use law::multiply_limit;
 pub use shifts::{
-    MOST_MULTIPLY_CYCLES, Shifted, multiply_cycles, multiply_limit, rotate_imm, shift_imm,
-    shift_reg,
+    MOST_MULTIPLY_CYCLES, Shifted, multiply_cycles, rotate_imm, shift_imm, shift_reg,
 };

@@ -148,10 +148,3 @@ pub fn multiply_cycles(number: u32) -> u32
     let significant = 32 - number.leading_zeros();
     (significant / 2 + 1).min(MOST_MULTIPLY_CYCLES)
 }
-
-/// States that a multiply takes at most [`MOST_MULTIPLY_CYCLES`], and by the greatest word so many. It does
-/// nothing.
-pub fn multiply_limit()
-    ensures most { (number : ℕ) → multiply_cycles number ≤ MOST_MULTIPLY_CYCLES }
-    ensures reached { multiply_cycles 0xFFFFFFFF ≡ MOST_MULTIPLY_CYCLES }
-{}
