@@ -7,3 +7,4 @@ pub mod WordLemmas
 pub mod OnlyLemmas
 pub mod Unique
 pub mod LowestLemmas
+pub mod Listed

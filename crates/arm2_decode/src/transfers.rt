@@ -1,4 +1,4 @@
-ghost use Rattle.std.specs.Prelude.{◌≡◌};
+ghost use Rattle.std.specs.Prelude.{◌≡◌, ◌≤◌};
 ghost use Rattle.arm2_decode.specs.Transfers.{asks_for_user, writes_base};
 
 use crate::field::bit_of_word;
@@ -22,7 +22,7 @@ pub fn asks_for_user(before: bool, write_back: bool) -> bool
 }
 
 impl Block {
-    ghost use Rattle.arm2_decode.specs.Transfers.{is_listed};
+    ghost use Rattle.arm2_decode.specs.Transfers.{is_listed, word_count};
 
     /// Whether the list has a register.
     #[inline(always)]
@@ -30,5 +30,15 @@ impl Block {
         ensures { result ≡ is_listed self.list register }
     {
         bit_of_word(self.list, register.number())
+    }
+
+    /// How many words are moved: one for each register of the list, from 1 to 16.
+    #[inline(always)]
+    pub fn word_count(self) -> u32
+        ensures count { result ≡ word_count self.list }
+        ensures some { 1 ≤ result }
+        ensures few { result ≤ 16 }
+    {
+        self.list.count_ones()
     }
 }

@@ -1,21 +1,17 @@
 -- The number of a word's bits is the word.
 use Rattle.std.proofs.Common.{◌≡◌, ℕ, zero, suc, ◌/◌, ◌%◌, ◌^◌, ◌<◌, ◌==◌, refl, sym, ◌∙◌, ap, arith}
 use Rattle.arm2_decode.specs.Allowed.{bit_of}
+use Rattle.arm2_decode.proofs.FieldLemmas.{bit_again}
 use Rattle.shifter.specs.declared.shifts.Shifted.{Shifted}
 use Rattle.shifter.specs.Shifts.{BitsAndCarry, Has}
 use Rattle.shifter.specs.Word.{bits_from}
 use Rattle.arm2_effect.specs.Operands.{word_of, shifted_of}
 
-pub low_bit : (n : ℕ) → n < 2 → bit_of (n == 1) ≡ n
-low_bit zero h = refl
-low_bit (suc zero) h = refl
-low_bit (suc (suc n)) h = absurd (omega arith)
-
 word_of-bits_from : (k x : ℕ) → x < 2 ^ k → word_of (bits_from k x) ≡ x
 unfolding word_of bits_from
 word_of-bits_from zero x h = omega arith
 word_of-bits_from (suc k) x h =
-    let low : bit_of (x % 2 == 1) ≡ x % 2 = low_bit (x % 2) (omega arith) in
+    let low : bit_of (x % 2 == 1) ≡ x % 2 = bit_again (x % 2) (omega arith) in
     let high : word_of (bits_from k (x / 2)) ≡ x / 2 = word_of-bits_from k (x / 2) (omega arith) in
     rw (low, high) (omega arith)
 

@@ -12,7 +12,7 @@ use Rattle.arm2_decode.specs.declared.instr.Block.{Block}
 use Rattle.arm2_decode.specs.declared.names.Register.{Register}
 use Rattle.arm2_decode.specs.Allowed.{block_clash}
 use Rattle.arm2_decode.specs.Names.{register_number}
-use Rattle.arm2_decode.specs.Transfers.{is_listed, writes_base}
+use Rattle.arm2_decode.specs.Transfers.{is_listed, registers_in, word_count, writes_base}
 use Rattle.arm2_effect.specs.declared.step_end.Kind.TheVariants.{Plain}
 use Rattle.arm2_effect.specs.declared.exceptions.Vector.{Vector}
 use Rattle.arm2_effect.specs.declared.exceptions.Vector.TheVariants as vector
@@ -27,13 +27,13 @@ use Rattle.arm2_transfer.specs.declared.span.Span.{Span}
 use Rattle.arm2_transfer.specs.declared.words.Move.{Move}
 use Rattle.arm2_transfer.specs.declared.words.TransferFault.{TransferFault}
 use Rattle.arm2_transfer.specs.declared.words.TransferFault.TheVariants as fault
-use Rattle.arm2_transfer.specs.Bases.{address_at, base_moved, BlockBase, Stores, is_base, is_own_base, IsSpot, IsWordSpot, loads_base, lowest_at, PutsWords, SingleBase, words_in}
+use Rattle.arm2_transfer.specs.Bases.{address_at, base_moved, BlockBase, Stores, is_base, is_own_base, IsSpot, IsWordSpot, loads_base, lowest_at, PutsWords, SingleBase}
 use Rattle.arm2_transfer.specs.Block.{all_loaded, all_put, block_at, block_by, block_carried_out, block_loads, block_moved, block_put, block_stores, mode_for, span_of}
 use Rattle.arm2_transfer.specs.Bus.{made_of, put, put_single, seen}
 use Rattle.arm2_transfer.specs.Moved.{on_bus, out_of_space, faulted}
 use Rattle.arm2_transfer.specs.Registers.{given, moved_by, passed, with_base, with_loaded}
 use Rattle.arm2_transfer.specs.Single.{base_after, has_user_rights, single_at, single_by, single_carried_out, single_loaded, single_loads, single_moved, single_stores}
-use Rattle.arm2_transfer.specs.Words.{Word, is_abort, is_unsupported, or_fault, moves_of, registers_in, verdict_of, words_from}
+use Rattle.arm2_transfer.specs.Words.{Word, is_abort, is_unsupported, or_fault, moves_of, verdict_of, words_from}
 use Rattle.arm2_transfer.proofs.Slots.{AtMostOne, base_slot, based_kept, based_long, based_written, given_apart, given_here, loaded_apart, loaded_here, loaded_long, one_listed, other_stands, passed_base, passed_long, place, same_stands, stands_at}
 
 -- ## Where the words of a block are
@@ -255,7 +255,7 @@ base_not_r15 rn list none last =
 
 module _ (x : Block) (port : ℕ) (regs : List ℕ) (bus : Bus) where
   abbrev span : Span
-  span = span_of x (current_in x.rn regs) (words_in x)
+  span = span_of x (current_in x.rn regs) (word_count x.list)
 
   abbrev moves_base : Bool
   moves_base = list_any (is_base x regs) (registers_in x.list)

@@ -12,7 +12,8 @@ use Rattle.arm2_transfer.specs.declared.single_fields.Single.{Single}
 use Rattle.arm2_transfer.specs.declared.span.Span.{Span}
 use Rattle.arm2_transfer.specs.declared.words.Move.{Move}
 use Rattle.arm2_transfer.specs.declared.words.TransferFault.{TransferFault}
-use Rattle.arm2_transfer.specs.Words.{or_fault, registers_in, words_from, verdict_of}
+use Rattle.arm2_decode.specs.Transfers.{registers_in}
+use Rattle.arm2_transfer.specs.Words.{or_fault, words_from, verdict_of}
 use Rattle.arm2_transfer.specs.Moved.{out_of_space}
 use Rattle.arm2_transfer.specs.Single.{address_for, has_user_rights, single_loads, single_stores, single_carried_out, single_by, single_at}
 use Rattle.arm2_transfer.specs.Block.{block_loads, block_stores, block_carried_out, block_by, block_at}

@@ -1,6 +1,5 @@
 pub mod Ticks
 pub mod Verdict
-pub mod Listed
 pub mod Lowest
 pub mod RunLemmas
 pub mod Chosen

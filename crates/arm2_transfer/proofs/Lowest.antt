@@ -6,10 +6,9 @@ use Rattle.std.proofs.lemmas.Nat.{and_le_l}
 use Rattle.std.proofs.lemmas.Nat.Bits.{bit_at-trailing_zeros, bit_at_above, bit_at_clear_same, bit_at_clear_other}
 use Rattle.arm2_decode.proofs.NameLemmas.{same_register}
 use Rattle.arm2_decode.specs.Names.{register_number}
-use Rattle.arm2_decode.specs.Transfers.{is_listed}
+use Rattle.arm2_decode.specs.Transfers.{all_registers, is_listed, registers_in, word_count}
 use Rattle.arm2_decode.specs.declared.names.Register.{Register}
-use Rattle.arm2_transfer.specs.Words.{all_registers, registers_in}
-use Rattle.arm2_transfer.proofs.Listed.{Counted, all_counted, sixteen}
+use Rattle.arm2_decode.proofs.Listed.{Counted, all_counted, sixteen}
 
 -- two lists that differ in one bit, their lowest
 pub record IsSplit (list rest lowest : ℕ) : Type 0 where
@@ -82,6 +81,6 @@ pub none_listed : registers_in 0 ≡ []
 unfolding all_registers
 none_listed = refl
 
-pub some_bits : (list : ℕ) → 1 ≤ length (registers_in list) → 1 ≤ list
+pub some_bits : (list : ℕ) → 1 ≤ word_count list → 1 ≤ list
 some_bits zero some = absurd (omega (arith, some, ap (λ (rs : List Register). length rs) none_listed))
 some_bits (suc list) some = omega arith

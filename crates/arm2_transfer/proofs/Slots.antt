@@ -12,7 +12,7 @@ use Rattle.arm2_effect.specs.declared.modes.Mode.{Mode}
 use Rattle.arm2_effect.specs.declared.modes.Mode.TheVariants.{User}
 use Rattle.arm2_effect.specs.Modes.{r15_in, slot_of, with_r15}
 use Rattle.arm2_effect.specs.ProgramCounter.{r15_ahead}
-use Rattle.arm2_transfer.specs.Words.{all_registers}
+use Rattle.arm2_decode.specs.Transfers.{all_registers}
 use Rattle.arm2_transfer.specs.Registers.{given, loaded_r15, passed, with_base, with_loaded}
 
 -- ## Where a register is

@@ -1,7 +1,7 @@
 -- What a load or a store that is carried out leaves in its base register, and the word that a store writes
 -- for it (VL86C010 data sheet, single data transfer and block data transfer; it is silent on two rules: a
 -- single store writes the old base, and only the register of the base's own bank counts as a block's base).
-use Rattle.std.specs.Prelude.{◌≡◌, ℕ, ◌+◌, ◌*◌, ◌==◌, Bool, true, false, not, ◌&&◌, List, [], ◌∷◌, length, Ok}
+use Rattle.std.specs.Prelude.{◌≡◌, ℕ, ◌+◌, ◌*◌, ◌==◌, Bool, true, false, not, ◌&&◌, List, [], ◌∷◌, Ok}
 use Rattle.std.specs.List.{list_any, position_or_len}
 use Rattle.bus_ticks.specs.Prices.{word_address}
 use Rattle.memc.specs.Memory.{located}
@@ -9,12 +9,11 @@ use Rattle.memc.specs.declared.spots.Spot.{Spot}
 use Rattle.arm2_decode.specs.declared.instr.Block.{Block}
 use Rattle.arm2_decode.specs.declared.names.Register.{Register}
 use Rattle.arm2_decode.specs.Names.{register_number}
-use Rattle.arm2_decode.specs.Transfers.{writes_base}
+use Rattle.arm2_decode.specs.Transfers.{registers_in, word_count, writes_base}
 use Rattle.arm2_effect.specs.Modes.{register_in, slot_of, is_user}
 use Rattle.arm2_transfer.specs.declared.bus.Bus.{Bus}
 use Rattle.arm2_transfer.specs.declared.single_fields.Single.{Single}
 use Rattle.arm2_transfer.specs.Bus.{made_of, put, put_single, seen}
-use Rattle.arm2_transfer.specs.Words.{registers_in}
 use Rattle.arm2_transfer.specs.Registers.{given, moved_by}
 use Rattle.arm2_transfer.specs.Moved.{Moved}
 use Rattle.arm2_transfer.specs.Single.{address_for, has_user_rights}
@@ -66,15 +65,12 @@ pub record SingleBase (x : Single) (port : ℕ) (regs : List ℕ) (bus : Bus) (m
 
 -- ## Blocks
 
--- the number of registers in the list, and the base moved by as many words
-abbrev pub words_in : Block → ℕ
-words_in x = length (registers_in x.list)
-
+-- the base moved by as many words as there are
 abbrev pub base_moved : Block → List ℕ → ℕ
-base_moved x regs = moved_by x.up (current_in x.rn regs) (4 * words_in x)
+base_moved x regs = moved_by x.up (current_in x.rn regs) (4 * word_count x.list)
 
 abbrev pub lowest_at : Block → List ℕ → ℕ
-lowest_at x regs = lowest_of x (current_in x.rn regs) (words_in x)
+lowest_at x regs = lowest_of x (current_in x.rn regs) (word_count x.list)
 
 -- where word number i goes or comes from, by the memory controller as it is before the first is moved
 abbrev pub IsWordSpot : Block → List ℕ → Bus → (i : ℕ) → Spot → Type 0

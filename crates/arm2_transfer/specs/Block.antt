@@ -1,11 +1,11 @@
 -- Block transfers (VL86C010 data sheet, block data transfer, where it speaks).
 use Rattle.std.specs.Prelude.{ℕ, ◌+◌, ◌-◌, ◌*◌, ◌/◌, ◌%◌, ◌^◌, Bool, not, ◌&&◌, nat_lt, if◌then◌else◌, List}
-use Rattle.std.specs.Prelude.{[], ◌∷◌, length, Result, Ok, Err}
+use Rattle.std.specs.Prelude.{[], ◌∷◌, Result, Ok, Err}
 use Rattle.bus_ticks.specs.declared.space.TheConstants.{SPACE_END}
 use Rattle.arm2_decode.specs.declared.instr.Block.{Block}
 use Rattle.arm2_decode.specs.declared.names.Register.TheVariants.{R15}
 use Rattle.arm2_decode.specs.Names.{register_number}
-use Rattle.arm2_decode.specs.Transfers.{is_listed}
+use Rattle.arm2_decode.specs.Transfers.{is_listed, registers_in, word_count}
 use Rattle.arm2_effect.specs.declared.modes.Mode.{Mode}
 use Rattle.arm2_effect.specs.declared.modes.Mode.TheVariants.{User}
 use Rattle.arm2_effect.specs.declared.step_end.Kind.TheVariants.{Plain}
@@ -16,7 +16,7 @@ use Rattle.arm2_transfer.specs.declared.words.Move.{Move}
 use Rattle.arm2_transfer.specs.declared.words.TransferFault.{TransferFault}
 use Rattle.arm2_transfer.specs.declared.span.Span.{Span}
 use Rattle.arm2_transfer.specs.Bus.{put, seen}
-use Rattle.arm2_transfer.specs.Words.{registers_in, words_from, verdict_of}
+use Rattle.arm2_transfer.specs.Words.{words_from, verdict_of}
 use Rattle.arm2_transfer.specs.Registers.{moved_by, given, with_loaded, with_base, passed}
 use Rattle.arm2_transfer.specs.Moved.{Moved, out_of_space, faulted, load_accesses, store_accesses}
 use Rattle.arm2_effect.specs.Operands.{current_mode}
@@ -114,4 +114,4 @@ block_at x span port regs bus =
 unfoldable pub block_moved : Block → (port : ℕ) → List ℕ → Bus → Moved
 block_moved x port regs bus =
     let base = register_in (current_mode regs) (register_number x.rn) regs in
-    block_at x (span_of x base (length (registers_in x.list))) port regs bus
+    block_at x (span_of x base (word_count x.list)) port regs bus

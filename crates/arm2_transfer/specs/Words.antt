@@ -2,12 +2,10 @@
 -- together (VL86C010 data sheet, block data transfer; it is silent on three rules: all words are located
 -- before the first is moved, an abort comes before an unsupported write, and the addresses wrap at 2^26).
 use Rattle.std.specs.Prelude.{ℕ, ◌+◌, ◌*◌, ◌^◌, ◌≤◌, Bool, true, false, if◌then◌else◌, List, [], ◌∷◌}
-use Rattle.std.specs.Prelude.{length, filter, All, Result, Ok, Err}
+use Rattle.std.specs.Prelude.{All, Result, Ok, Err}
 use Rattle.std.specs.List.{list_any}
 use Rattle.arm2_decode.specs.declared.names.Register.{Register}
-use Rattle.arm2_decode.specs.declared.names.Register.TheVariants.{R0, R1, R2, R3, R4, R5, R6, R7, R8, R9, R10}
-use Rattle.arm2_decode.specs.declared.names.Register.TheVariants.{R11, R12, R13, R14, R15}
-use Rattle.arm2_decode.specs.Transfers.{is_listed}
+use Rattle.arm2_decode.specs.Transfers.{word_count}
 use Rattle.bus_ticks.specs.Prices.{word_address}
 use Rattle.memc.specs.Memory.{Memory, located, Fits}
 use Rattle.memc.specs.Paged.{fitted_bytes}
@@ -18,13 +16,6 @@ use Rattle.memc.specs.declared.spots.Refused.TheVariants.{NoPage, Protected, Uns
 use Rattle.arm2_transfer.specs.declared.words.Move.{Move}
 use Rattle.arm2_transfer.specs.declared.words.TransferFault.{TransferFault}
 use Rattle.arm2_transfer.specs.declared.words.TransferFault.TheVariants as fault
-
-unfoldable pub all_registers : List Register
-all_registers = R0 ∷ R1 ∷ R2 ∷ R3 ∷ R4 ∷ R5 ∷ R6 ∷ R7 ∷ R8 ∷ R9 ∷ R10 ∷ R11 ∷ R12 ∷ R13 ∷ R14 ∷ R15 ∷ []
-
--- the registers of a list, the lowest first
-abbrev pub registers_in : ℕ → List Register
-registers_in list = filter (is_listed list) all_registers
 
 -- A word of a transfer: its register, and what the memory controller says of its address.
 abbrev pub Word : Type 0
@@ -78,8 +69,8 @@ or_fault (Err UnsupportedWrite) = Err fault.UnsupportedWrite
 -- the words of a list's registers, from a place on: all are in the fitted RAM of a memory with pages of
 -- 2 ^ shift bytes, and no RAM has more than 2 ^ 22 bytes
 pub record AreFitted (shift place list : ℕ) : Type 0 where
-  pub fit : place + 4 * length (registers_in list) ≤ fitted_bytes shift
-  pub room : place + 4 * length (registers_in list) ≤ 2 ^ 22
+  pub fit : place + 4 * word_count list ≤ fitted_bytes shift
+  pub room : place + 4 * word_count list ≤ 2 ^ 22
 
 -- each move goes to a spot of a memory with pages of 2 ^ shift bytes
 abbrev pub AllFit : ℕ → List Move → Type 0

@@ -1,8 +1,8 @@
-ghost use Rattle.std.specs.Prelude.{◌≡◌, ◌<◌, ◌≤◌, length};
+ghost use Rattle.std.specs.Prelude.{◌≡◌, ◌<◌, ◌≤◌};
 ghost use Rattle.arm2_effect.specs.Effects.{ticks_of};
 ghost use Rattle.arm2_effect.specs.Modes.{r15_in, register_in};
-ghost use Rattle.arm2_decode.specs.Transfers.{is_listed};
-ghost use Rattle.arm2_transfer.specs.Words.{AllFit, AreFitted, registers_in, moves_along};
+ghost use Rattle.arm2_decode.specs.Transfers.{is_listed, registers_in, word_count};
+ghost use Rattle.arm2_transfer.specs.Words.{AllFit, AreFitted, moves_along};
 ghost use Rattle.arm2_transfer.specs.Moved.{IsMoved, load_accesses};
 ghost use Rattle.arm2_effect.specs.ProgramCounter.{address_of, mode_of};
 ghost use Rattle.arm2_transfer.specs.Registers.{passed, with_base};
@@ -17,7 +17,7 @@ use crate::moved::{Accesses, end_of_load, end_of_store, refuse};
 use crate::registers::{Loading, enter, given, pass, write_base};
 use crate::run::{load_along, put_along};
 use crate::span::Span;
-use crate::words::{Move, count, locate_block, split_lowest};
+use crate::words::{Move, locate_block, split_lowest};
 use arm2_decode::{Block, Register};
 use arm2_effect::{Done, Kind, Mode, Prices, Reg, Registers, Vector, address_of, mode_of};
 use bus_ticks::SPACE_END;
@@ -113,7 +113,7 @@ fn put_block(registers: &mut Registers, bus: &mut Bus, block: PlacedBlock, moves
 #[tactic(auto, unfolding(crate::specs::Block::block_put))]
 #[inline(always)]
 fn put_run(registers: &mut Registers, bus: &mut Bus, block: PlacedBlock, place: u32)
-    requires some { 1 ≤ length (registers_in block.transfer.list) }
+    requires some { 1 ≤ word_count block.transfer.list }
     requires fitted { AreFitted bus.old.memc.shift place block.transfer.list }
     ensures bus { bus.new
         ≡ block_put (block_mode block.transfer registers.old) registers.old
@@ -242,7 +242,7 @@ fn store_run(
     block: PlacedBlock,
     place: u32,
 ) -> Done
-    requires listed { 1 ≤ length (registers_in block.transfer.list) }
+    requires listed { 1 ≤ word_count block.transfer.list }
     requires fitted { AreFitted bus.old.memc.shift place block.transfer.list }
     requires below { block.span.lowest < SPACE_END }
     ensures { IsMoved prices.now result registers.new bus.new
@@ -279,7 +279,7 @@ fn word_by_word(
 #[tactic(auto, unfolding(crate::specs::Block::block_at, crate::specs::Block::block_by))]
 #[inline(always)]
 fn block_at(registers: &mut Registers, bus: &mut Bus, inputs: &Inputs, block: PlacedBlock) -> Done
-    requires { block.span.words ≡ length (registers_in block.transfer.list) }
+    requires { block.span.words ≡ word_count block.transfer.list }
     ensures { IsMoved inputs.now.prices result registers.new bus.new
         (block_at block.transfer block.span inputs.now.port registers.old bus.old) }
 {
@@ -307,7 +307,7 @@ pub(crate) fn block(
         (block_moved transfer.now inputs.now.port registers.old bus.old) }
 {
     let base = registers.read(mode_of(registers.get(Reg::R15)), transfer.rn);
-    let span = span_of(transfer, base, count(transfer.list));
+    let span = span_of(transfer, base, transfer.word_count());
     let block = PlacedBlock {
         transfer: *transfer,
         span,

@@ -1,7 +1,8 @@
 //! Blocks whose words lie one after another in RAM, at places that MEMC located at once.
 
 ghost use Rattle.std.specs.Prelude.{◌≡◌, ℕ, ◌<◌, ◌^◌};
-ghost use Rattle.arm2_transfer.specs.Words.{AreFitted, registers_in, moves_along};
+ghost use Rattle.arm2_decode.specs.Transfers.{registers_in};
+ghost use Rattle.arm2_transfer.specs.Words.{AreFitted, moves_along};
 ghost use Rattle.arm2_transfer.specs.Block.{all_loaded, all_put};
 
 use crate::bus::{Bus, put};

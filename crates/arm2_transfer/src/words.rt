@@ -1,8 +1,8 @@
-ghost use Rattle.std.specs.Prelude.{◌≡◌, ◌<◌, ◌≤◌, ◌^◌, ◌∷◌, not, length, Ok, Err, IfOk, MatchResult};
+ghost use Rattle.std.specs.Prelude.{◌≡◌, ◌<◌, ◌≤◌, ◌^◌, ◌∷◌, not, Ok, Err, IfOk, MatchResult};
 ghost use Rattle.bus_ticks.specs.declared.space.TheConstants.{SPACE_END};
 ghost use Rattle.memc.specs.Memory.{Fits, located};
-ghost use Rattle.arm2_transfer.specs.Words.{all_registers, registers_in, or_fault, words_from};
-ghost use Rattle.arm2_transfer.specs.Words.{verdict_of, AllFit};
+ghost use Rattle.arm2_decode.specs.Transfers.{all_registers, registers_in};
+ghost use Rattle.arm2_transfer.specs.Words.{or_fault, words_from, verdict_of, AllFit};
 
 use arm2_decode::{Block, Register};
 use arrayvec::ArrayVec;
@@ -35,7 +35,7 @@ impl Default for Move {
     }
 }
 
-#[tactic(auto, unfolding(crate::specs::Words::all_registers))]
+#[tactic(auto, unfolding(arm2_decode::specs::Transfers::all_registers))]
 fn all_registers() -> [Register; 16]
     ensures { result ≡ all_registers }
 {
@@ -43,16 +43,6 @@ fn all_registers() -> [Register; 16]
     [
         R0, R1, R2, R3, R4, R5, R6, R7, R8, R9, R10, R11, R12, R13, R14, R15,
     ]
-}
-
-/// How many registers a list has.
-#[tactic(auto, using(crate::proofs::Listed::words_are, crate::proofs::Listed::few_ones))]
-pub(crate) fn count(list: u32) -> u32
-    requires { list < 2 ^ 16 }
-    ensures count { result ≡ length (registers_in list) }
-    ensures few { result ≤ 16 }
-{
-    list.count_ones()
 }
 
 /// The lowest register of a list that has some, and the list of the others.

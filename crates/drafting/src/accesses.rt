@@ -39,7 +39,7 @@ fn block_class(known: &Constants, at: u32, x: &Block) -> Class {
     let Some(base) = known.get(x.rn, at) else {
         return Class::Any;
     };
-    let bytes = 4 * x.list.count_ones();
+    let bytes = 4 * x.word_count();
     if x.up {
         class_from(base, base.wrapping_add(bytes))
     } else {

@@ -1,5 +1,5 @@
 -- A machine that has what is chosen for an operation is set for it.
-use Rattle.std.proofs.Common.{◌≡◌, ℕ, ◌+◌, ◌*◌, ◌-◌, ◌%◌, ◌^◌, ◌<◌, ◌≤◌, ◌==◌, ◌&&◌, ◌||◌, Bool, true, false, cond, not, Ok, None, IsTrue, count_ones, length, refl, sym, ap, subst, ◌∙◌, arith}
+use Rattle.std.proofs.Common.{◌≡◌, ℕ, ◌+◌, ◌*◌, ◌-◌, ◌%◌, ◌^◌, ◌<◌, ◌≤◌, ◌==◌, ◌&&◌, ◌||◌, Bool, true, false, cond, not, Ok, None, IsTrue, refl, sym, ap, subst, ◌∙◌, arith}
 use Rattle.std.specs.Prelude.{IfSome}
 use Rattle.std.proofs.lemmas.Bool.{both_ways, eqb-true, false≢true, not-true}
 use Rattle.bus_ticks.specs.declared.profile.Class.{Class}
@@ -11,12 +11,13 @@ use Rattle.memc.specs.Memory.{located, word_at}
 use Rattle.memc.specs.declared.spots.Spot.{Spot}
 use Rattle.memc.specs.declared.spots.Spot.TheVariants as spot
 use Rattle.shifter.specs.declared.shifts.Shifted.{Shifted}
+use Rattle.arm2_decode.proofs.Listed.{some_words}
 use Rattle.shifter.specs.Shifts.{Has, by_register, moved, multiply_cycles}
 use Rattle.shifter.proofs.ShiftLemmas.{greatest_cycles}
 use Rattle.shifter.specs.Word.{word_bits}
 use Rattle.arm2_decode.specs.Allowed.{bit_of}
 use Rattle.arm2_decode.specs.Names.{is_lsl, is_mov, is_pc, register_number}
-use Rattle.arm2_decode.specs.Transfers.{asks_for_user, is_listed}
+use Rattle.arm2_decode.specs.Transfers.{asks_for_user, is_listed, word_count}
 use Rattle.arm2_decode.specs.Writers.{data_writes_pc}
 use Rattle.arm2_decode.specs.declared.flags.Flags.{Flags}
 use Rattle.arm2_decode.specs.declared.instr.Block.{Block}
@@ -38,11 +39,9 @@ use Rattle.arm2_effect.specs.Operands.{current_in, first_of, operand_of, shifted
 use Rattle.arm2_effect.specs.Outcomes.{outcome_of}
 use Rattle.arm2_effect.specs.ProgramCounter.{address_of, flags_of, mode_of}
 use Rattle.arm2_effect.proofs.Words.{shifted_is}
-use Rattle.arm2_transfer.proofs.Listed.{some_listed, words_are}
 use Rattle.arm2_transfer.specs.Block.{lowest_of}
 use Rattle.arm2_transfer.specs.Bus.{seen}
 use Rattle.arm2_transfer.specs.Single.{address_for, of_immediate}
-use Rattle.arm2_transfer.specs.Words.{registers_in}
 use Rattle.arm2_exec.specs.State.{State}
 use Rattle.arm2_exec.specs.Step.{with_lines}
 use Rattle.arm2_exec.specs.declared.machine.Input.{Input}
@@ -186,29 +185,23 @@ single_sets_at aim x lowest base free may at =
     subst (λ n. Sets aim (operation.SingleImmediate x) (transfer_setting aim (record { register = x.rn; word = base }) (x.load && is_pc x.rd) n)) first
     (single_sets aim x lowest base (not-true (is_pc x.rn) (both _ _ free).0) (not-true (asks_for_user x.before x.write_back) (both _ _ free).1) may at)
 
-pub some_words : (x : Block) → 1 ≤ count_ones x.list
-some_words x =
-    let some : 1 ≤ length (registers_in x.list) = some_listed (register_number x.rn) x.list x.allocated x.list_fits in
-    let words : length (registers_in x.list) ≡ count_ones x.list = words_are x.list x.list_fits in
-    omega (arith, some, words)
-
 no_clash : (b : Bool) (m n : ℕ) → 1 ≤ m → ◌≡◌ {A = ℕ} (cond b m n) 0 → b ≡ false
 no_clash true m n some e = absurd (omega (arith, e, some))
 no_clash false m n some e = refl
 
-pub block_sets : (aim : Aim) (x : Block) (lowest base : ℕ) → MayStart aim x.load (count_ones x.list) lowest → lowest_of x base (count_ones x.list) ≡ lowest
-    → Sets aim (operation.Block x) (transfer_setting aim (record { register = x.rn; word = base }) (x.load && is_listed x.list R15) (word_address lowest (count_ones x.list - 1)))
+pub block_sets : (aim : Aim) (x : Block) (lowest base : ℕ) → MayStart aim x.load (word_count x.list) lowest → lowest_of x base (word_count x.list) ≡ lowest
+    → Sets aim (operation.Block x) (transfer_setting aim (record { register = x.rn; word = base }) (x.load && is_listed x.list R15) (word_address lowest (word_count x.list - 1)))
 block_sets aim x lowest base may at =
     let held : Held = record { register = x.rn; word = base } in
-    let last : ℕ = word_address lowest (count_ones x.list - 1) in
+    let last : ℕ = word_address lowest (word_count x.list - 1) in
     record {
-      register_other = other aim (count_ones x.list) lowest held (some_words x) (x.load && is_listed x.list R15) last (no_clash (is_pc x.rn) 7 _ (omega arith) x.allocated);
-      word_apart = apart aim (count_ones x.list) lowest held (some_words x) x.load (is_listed x.list R15) may;
+      register_other = other aim (word_count x.list) lowest held (some_words x) (x.load && is_listed x.list R15) last (no_clash (is_pc x.rn) 7 _ (omega arith) x.allocated);
+      word_apart = apart aim (word_count x.list) lowest held (some_words x) x.load (is_listed x.list R15) may;
       set = λ st to s i class_is target has.
-          subst (λ r. TransfersDearest st aim.profile aim.address to s i x.load (is_listed x.list R15) (count_ones x.list) (lowest_of x r (count_ones x.list)))
+          subst (λ r. TransfersDearest st aim.profile aim.address to s i x.load (is_listed x.list R15) (word_count x.list) (lowest_of x r (word_count x.list)))
           (sym (has_base aim s i held last (x.load && is_listed x.list R15) has))
-          (subst (TransfersDearest st aim.profile aim.address to s i x.load (is_listed x.list R15) (count_ones x.list)) (sym at)
-          (transfers aim st to s i class_is target x.load (is_listed x.list R15) (count_ones x.list) lowest held (some_words x) may has));
+          (subst (TransfersDearest st aim.profile aim.address to s i x.load (is_listed x.list R15) (word_count x.list)) (sym at)
+          (transfers aim st to s i class_is target x.load (is_listed x.list R15) (word_count x.list) lowest held (some_words x) may has));
     }
 
 -- ## Data processing, and multiplies

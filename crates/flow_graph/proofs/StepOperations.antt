@@ -1,5 +1,5 @@
 -- What each instruction does, against the kind and the work of its word.
-use Rattle.std.proofs.Common.{◌≡◌, ℕ, zero, suc, ◌+◌, ◌*◌, ◌-◌, ◌^◌, ◌<◌, ◌≤◌, ◌==◌, ◌&&◌, not, nat_lt, ltb, Bool, true, false, cond, List, length, Result, Ok, Err, count_ones, refl, sym, ap, subst, ◌∙◌, arith}
+use Rattle.std.proofs.Common.{◌≡◌, ℕ, suc, ◌+◌, ◌*◌, ◌^◌, ◌<◌, ◌≤◌, ◌==◌, ◌&&◌, not, nat_lt, Bool, true, false, cond, List, length, Result, Ok, Err, refl, sym, ap, subst, ◌∙◌, arith}
 use Rattle.std.proofs.lemmas.Bool.{ltb-true}
 use Rattle.bus_ticks.specs.declared.profile.Class.{Class}
 use Rattle.bus_ticks.specs.declared.profile.Profile.{Profile}
@@ -7,7 +7,7 @@ use Rattle.bus_ticks.specs.declared.profile.RomTimes.{RomTimes}
 use Rattle.bus_ticks.specs.Prices.{ahead_of}
 use Rattle.arm2_decode.specs.Allowed.{bit_of, single_clash, is_bad_base}
 use Rattle.arm2_decode.specs.Names.{is_compare, is_pc, register_number}
-use Rattle.arm2_decode.specs.Transfers.{is_listed, writes_base}
+use Rattle.arm2_decode.specs.Transfers.{is_listed, word_count, writes_base}
 use Rattle.arm2_decode.specs.Writers.{data_writes_pc}
 use Rattle.arm2_decode.specs.declared.instr.Block.{Block}
 use Rattle.arm2_decode.specs.declared.instr.Branch.{Branch}
@@ -18,6 +18,8 @@ use Rattle.arm2_decode.specs.declared.names.Opcode.{Opcode}
 use Rattle.arm2_decode.specs.declared.names.Register.{Register}
 use Rattle.arm2_decode.specs.declared.names.Register.TheVariants.{R15}
 use Rattle.memc.specs.declared.spots.Spot.{Spot}
+use Rattle.shifter.specs.Shifts.{multiply_cycles}
+use Rattle.shifter.proofs.ShiftLemmas.{most_cycles}
 use Rattle.arm2_effect.specs.declared.step_end.Kind.TheVariants as ended
 use Rattle.arm2_effect.specs.declared.exceptions.Vector.{Vector}
 use Rattle.arm2_effect.specs.declared.step_end.Why.{Why}
@@ -38,7 +40,6 @@ use Rattle.arm2_transfer.specs.Moved.{Moved, on_bus, faulted}
 use Rattle.arm2_transfer.specs.Operations.{operation_moved}
 use Rattle.arm2_transfer.specs.Registers.{moved_by, passed, with_base}
 use Rattle.arm2_transfer.specs.Single.{address_for, base_after, of_immediate, of_register, single_at, single_by, single_carried_out, single_loaded, single_loads, single_stores}
-use Rattle.arm2_transfer.specs.Words.{registers_in}
 use Rattle.flow_graph.specs.Kinds.{IsWork, kind_of, transfer_work, work_of, writer_if}
 use Rattle.flow_graph.specs.StepLaw.{TransfersIn}
 use Rattle.flow_graph.specs.declared.kinds.Kind.{Kind}
@@ -47,9 +48,6 @@ use Rattle.flow_graph.specs.declared.kinds.Work.{Work}
 use Rattle.flow_graph.specs.declared.kinds.Work.TheVariants as work
 use Rattle.flow_graph.proofs.StepRegisters.{IsWordAddress, address_ahead, address_jumped, address_put, address_restored, base_stays, goes, loaded_stays, long_based, long_with, passed_goes, word_address_ahead, word_address_of}
 use Rattle.flow_graph.proofs.StepTicks.{Costs, branch_costs, call_costs, delayed_costs, jump_costs, load_block, load_costs, store_block, store_costs, straight_costs}
-use Rattle.arm2_transfer.proofs.Listed.{words_are}
-use Rattle.shifter.specs.Shifts.{multiply_cycles}
-use Rattle.shifter.proofs.ShiftLemmas.{most_cycles}
 use Rattle.flow_graph.proofs.StepWords.{AllMoveOther, all_stay, verdict_others}
 
 -- ## What the words of the table rule out
@@ -271,16 +269,13 @@ module _ (p : Profile) (rom : RomTimes) (class : Class) (regs : List ℕ) (long 
       (λ moves e none. verdict_others bus.memc (is_user (mode_of (r15_in regs))) (not x.load) span.lowest x.list moves e none))
       (taken_costs _ _ _ bus)
 
-  block_done : (x : Block) (port : ℕ) (bus : Bus) → IsWork (transfer_work x.load (count_ones x.list)) → MovedCosts (writer_if (x.load && is_listed x.list R15)) (transfer_work x.load (count_ones x.list)) (block_moved x port regs bus)
+  block_done : (x : Block) (port : ℕ) (bus : Bus) → IsWork (transfer_work x.load (word_count x.list)) → MovedCosts (writer_if (x.load && is_listed x.list R15)) (transfer_work x.load (word_count x.list)) (block_moved x port regs bus)
   unfolding block_moved
   block_done x port bus fits =
-      let words : length (registers_in x.list) ≡ count_ones x.list = words_are x.list x.list_fits in
-      let fit = words_fit x.load (count_ones x.list) fits in
+      let fit = words_fit x.load (word_count x.list) fits in
       let other : is_pc x.rn ≡ false = refused_not (is_pc x.rn) 6 _ x.allocated in
       let base : ℕ = register_in (mode_of (r15_in regs)) (register_number x.rn) regs in
-      let moved : Moved = block_at x (span_of x base (length (registers_in x.list))) port regs bus in
-      subst (λ n. MovedCosts (writer_if (x.load && is_listed x.list R15)) (transfer_work x.load n) moved) words
-      (block_costs x (span_of x base (length (registers_in x.list))) port bus other (omega (arith, words, fit.0)) (omega (arith, words, fit.1)))
+      block_costs x (span_of x base (word_count x.list)) port bus other fit.0 fit.1
 
   -- ## Any instruction
 

@@ -2,7 +2,7 @@
 use Rattle.std.proofs.Common.{◌≡◌, ℕ, ◌+◌, Bool, true, false, cond, List, [], ◌∷◌, filter, Result, Ok, Err, refl, sym, subst, ◌∙◌}
 use Rattle.std.proofs.lemmas.Bool.{false≢true}
 use Rattle.arm2_decode.specs.Names.{is_pc}
-use Rattle.arm2_decode.specs.Transfers.{is_listed}
+use Rattle.arm2_decode.specs.Transfers.{all_registers, is_listed, registers_in}
 use Rattle.arm2_decode.specs.declared.names.Register.{Register}
 use Rattle.arm2_decode.specs.declared.names.Register.TheVariants.{R0, R1, R2, R3, R4, R5, R6, R7, R8, R9, R10, R11, R12, R13, R14, R15}
 use Rattle.memc.specs.Memory.{Memory}
@@ -19,7 +19,7 @@ use Rattle.arm2_transfer.specs.declared.words.TransferFault.TheVariants as fault
 use Rattle.arm2_transfer.specs.Block.{all_loaded}
 use Rattle.arm2_transfer.specs.Bus.{seen}
 use Rattle.arm2_transfer.specs.Registers.{with_loaded}
-use Rattle.arm2_transfer.specs.Words.{Word, all_registers, is_abort, is_unsupported, moves_of, registers_in, verdict_of, words_from}
+use Rattle.arm2_transfer.specs.Words.{Word, is_abort, is_unsupported, moves_of, verdict_of, words_from}
 use Rattle.std.specs.List.{list_any}
 use Rattle.flow_graph.proofs.StepRegisters.{loaded_stays}
 

@@ -1,15 +1,14 @@
 -- Any instruction for which a machine in SVC mode is set.
 use Rattle.std.proofs.Common.{◌≡◌, ℕ, ◌<◌, ◌==◌, ◌&&◌, ◌||◌, not, Bool, true, false, List, length}
-use Rattle.std.proofs.Common.{count_ones, refl, sym, ap, subst, ◌∙◌, arith}
+use Rattle.std.proofs.Common.{refl, sym, ap, subst, ◌∙◌, arith}
 use Rattle.std.specs.Prelude.{Contains}
 use Rattle.std.proofs.lemmas.Bool.{and_parts, cond-false, false≢true}
-use Rattle.arm2_transfer.specs.Bases.{words_in}
 use Rattle.bus_ticks.specs.Dearest.{AreDearest}
 use Rattle.bus_ticks.specs.declared.profile.Profile.{Profile}
 use Rattle.bus_ticks.specs.Prices.{word_address}
 use Rattle.arm2_decode.specs.Allowed.{bit_of, is_bad_base, is_bad_byte, is_bad_load}
 use Rattle.arm2_decode.specs.Names.{is_pc, register_number}
-use Rattle.arm2_decode.specs.Transfers.{asks_for_user, is_listed}
+use Rattle.arm2_decode.specs.Transfers.{asks_for_user, is_listed, word_count}
 use Rattle.arm2_decode.specs.Writers.{data_writes_pc}
 use Rattle.arm2_decode.specs.declared.instr.Block.{Block}
 use Rattle.arm2_decode.specs.declared.instr.Operation.{Operation}
@@ -17,11 +16,11 @@ use Rattle.arm2_decode.specs.declared.instr.Operation.TheVariants as operation
 use Rattle.arm2_decode.specs.declared.instr.SingleImmediate.{SingleImmediate}
 use Rattle.arm2_decode.specs.declared.names.Register.TheVariants.{R15}
 use Rattle.memc.specs.Memory.{located}
+use Rattle.shifter.specs.Shifts.{multiply_cycles}
 use Rattle.arm2_effect.specs.declared.modes.Mode.{Mode}
 use Rattle.arm2_effect.specs.declared.modes.Mode.TheVariants.{Svc}
 use Rattle.arm2_effect.specs.Modes.{register_in, is_user}
 use Rattle.arm2_effect.specs.Operands.{first_of}
-use Rattle.shifter.specs.Shifts.{multiply_cycles}
 use Rattle.arm2_effect.specs.Operations.{data_immediate_effect, data_register_effect}
 use Rattle.arm2_effect.specs.Operations.{data_register_shift_effect, operation_effect}
 use Rattle.arm2_effect.specs.ProgramCounter.{address_of}
@@ -30,7 +29,6 @@ use Rattle.arm2_transfer.specs.Block.{block_moved, lowest_of, span_of}
 use Rattle.arm2_transfer.specs.Bus.{made_of, seen}
 use Rattle.arm2_transfer.specs.Operations.{operation_moved}
 use Rattle.arm2_transfer.specs.Single.{address_for, has_user_rights, of_immediate, single_at}
-use Rattle.arm2_transfer.proofs.Listed.{words_are}
 use Rattle.arm2_exec.specs.State.{State}
 use Rattle.arm2_exec.specs.Step.{with_lines}
 use Rattle.arm2_exec.specs.declared.machine.Input.{Input}
@@ -124,11 +122,11 @@ module _ (st : Stated) (profile : Profile) (address : ℕ) (to : Place) (s : Sta
         MovedPays setting (writer_if (x.load && last)) (transfer_work x.load words)
         (block_moved x i.port s.regs (with_lines i.lines.0 s.bus))
 
-    block_set : (x : Block) → BlockSet x (mode setting) (is_listed x.list R15) (words_in x)
-        → BlockDone x (is_listed x.list R15) (words_in x)
+    block_set : (x : Block) → BlockSet x (mode setting) (is_listed x.list R15) (word_count x.list)
+        → BlockDone x (is_listed x.list R15) (word_count x.list)
     unfolding block_moved
     block_set x h =
-        let span : Span = span_of x (register_in (mode setting) (register_number x.rn) s.regs) (words_in x) in
+        let span : Span = span_of x (register_in (mode setting) (register_number x.rn) s.regs) (word_count x.list) in
         let privileged : (j : ℕ)
         → located s.bus.memc (word_address span.lowest j) (is_user (mode setting)) (not x.load)
         ≡ located s.bus.memc (word_address span.lowest j) false (not x.load) =
@@ -136,13 +134,12 @@ module _ (st : Stated) (profile : Profile) (address : ℕ) (to : Place) (s : Sta
         block_pays setting x span h.spot (λ j less. privileged j ∙ h.transfer.spots j less) h.transfer.block
         h.target
 
-    block_done : (x : Block) → BlockSet x Svc (is_listed x.list R15) (count_ones x.list)
+    block_done : (x : Block) → BlockSet x Svc (is_listed x.list R15) (word_count x.list)
         → OperationPays (operation.Block x)
     block_done x =
-        let all = words_in x in
+        let all = word_count x.list in
         let last = is_listed x.list R15 in
-        subst (λ n. BlockSet x Svc last n → BlockDone x last n) (words_are x.list x.list_fits)
-        (subst (λ m. BlockSet x m last all → BlockDone x last all) svc (block_set x))
+        subst (λ m. BlockSet x m last all → BlockDone x last all) svc (block_set x)
 
     -- a trap leads to no place
     pub operation_set : (o : Operation) (calls : List ℕ) (a : ℕ)

@@ -5,7 +5,7 @@ use Rattle.std.proofs.lemmas.Bool.{cond-true, false≢true, lt-ltb}
 use Rattle.std.proofs.lemmas.List.{length-append}
 use Rattle.bus_ticks.specs.Prices.{word_address}
 use Rattle.arm2_decode.specs.Names.{is_pc}
-use Rattle.arm2_decode.specs.Transfers.{is_listed, writes_base}
+use Rattle.arm2_decode.specs.Transfers.{is_listed, registers_in, word_count, writes_base}
 use Rattle.arm2_decode.specs.declared.instr.Block.{Block}
 use Rattle.arm2_decode.specs.declared.names.Register.{Register}
 use Rattle.arm2_decode.specs.declared.names.Register.TheVariants.{R15}
@@ -23,7 +23,7 @@ use Rattle.arm2_transfer.specs.Moved.{Moved}
 use Rattle.arm2_transfer.specs.Registers.{moved_by, passed, with_base}
 use Rattle.arm2_transfer.specs.Single.{address_for, base_after, has_user_rights, single_at, single_by}
 use Rattle.arm2_transfer.specs.Single.{single_carried_out, single_loaded, single_loads, single_stores}
-use Rattle.arm2_transfer.specs.Words.{moves_of, or_fault, registers_in, verdict_of}
+use Rattle.arm2_transfer.specs.Words.{moves_of, or_fault, verdict_of}
 use Rattle.flow_graph.specs.Kinds.{is_writer, transfer_work, writer_if}
 use Rattle.flow_graph.specs.TightWork.{IsDearestTarget}
 use Rattle.flow_graph.specs.declared.kinds.Kind.TheVariants as kind
@@ -116,11 +116,11 @@ module _ (c : Setting) where
 
     -- the last word that a load sees
     abbrev last : ℕ
-    last = seen c.bus c.port (spot (length (registers_in x.list) - 1))
+    last = seen c.bus c.port (spot (word_count x.list - 1))
 
     abbrev AreFound : Type 0
     AreFound =
-        (j : ℕ) → j < length (registers_in x.list)
+        (j : ℕ) → j < word_count x.list
         → located c.bus.memc (word_address span.lowest j) (is_user (mode c)) (not x.load) ≡ Ok (spot j)
 
     block_is : span.lowest < 2 ^ 26 → AreFound
@@ -146,7 +146,7 @@ module _ (c : Setting) where
     last_goes listed regs long =
         let split = last_is_r15 x.list listed in
         let count = length-append (others_in x.list) (R15 ∷ []) in
-        let before : 0 + length (others_in x.list) ≡ length (registers_in x.list) - 1 =
+        let before : 0 + length (others_in x.list) ≡ word_count x.list - 1 =
         omega (arith, ap (λ rs. length rs) split, count) in
         ap (λ rs. address_of (r15_in (loaded (moves_of (words_to spot 0 rs)) regs))) split
         ∙ last_loaded x.user (mode_for x (mode c)) (r15_in c.regs) c.bus c.port spot 0 (others_in x.list) regs

@@ -7,7 +7,7 @@ use Rattle.std.specs.List.{list_any}
 use Rattle.std.proofs.lemmas.Bool.{cond-false, cond-true}
 use Rattle.std.proofs.lemmas.List.Elements.{filter-append}
 use Rattle.std.proofs.lemmas.Nat.{or_mod}
-use Rattle.arm2_decode.specs.Transfers.{is_listed}
+use Rattle.arm2_decode.specs.Transfers.{all_registers, is_listed, registers_in}
 use Rattle.arm2_decode.specs.declared.names.Register.{Register}
 use Rattle.arm2_decode.specs.declared.names.Register.TheVariants.{R0, R1, R2, R3, R4, R5, R6, R7, R8, R9, R10}
 use Rattle.arm2_decode.specs.declared.names.Register.TheVariants.{R11, R12, R13, R14, R15}
@@ -21,8 +21,8 @@ use Rattle.arm2_transfer.specs.declared.bus.Bus.{Bus}
 use Rattle.arm2_transfer.specs.Block.{all_loaded}
 use Rattle.arm2_transfer.specs.Bus.{made_of, seen, turned}
 use Rattle.arm2_transfer.specs.Registers.{with_loaded}
-use Rattle.arm2_transfer.specs.Words.{Word, all_registers, is_abort, is_unsupported, moves_of}
-use Rattle.arm2_transfer.specs.Words.{registers_in, verdict_of, words_from}
+use Rattle.arm2_transfer.specs.Words.{Word, is_abort, is_unsupported, moves_of}
+use Rattle.arm2_transfer.specs.Words.{verdict_of, words_from}
 use Rattle.flow_graph.proofs.StepRegisters.{loaded_goes, long_loaded}
 
 -- ## The one word of a single transfer

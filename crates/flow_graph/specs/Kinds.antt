@@ -1,7 +1,8 @@
 -- What a word does: to the flow of control, and besides its fetches (VL86C010 data sheet, by the table of
 -- instruction words, but for the cycles, of which a multiply has its most).
-use Rattle.std.specs.Prelude.{◌≡◌, ℕ, ◌≤◌, Bool, true, false, count_ones}
+use Rattle.std.specs.Prelude.{◌≡◌, ℕ, ◌≤◌, Bool, true, false}
 use Rattle.std.specs.Prelude.{if◌then◌else◌, ◌⊎◌}
+use Rattle.arm2_decode.specs.Transfers.{word_count}
 use Rattle.arm2_decode.specs.Table.{Means, IsUnallocated}
 use Rattle.arm2_decode.specs.Writers.{writes_pc}
 use Rattle.arm2_decode.specs.declared.instr.Instr.{Instr}
@@ -52,7 +53,7 @@ work_of (operation.DataRegisterShift x) = work.Internal 1
 work_of (operation.DataImmediate x) = work.Internal 0
 work_of (operation.SingleImmediate x) = transfer_work x.load 1
 work_of (operation.SingleRegister x) = transfer_work x.load 1
-work_of (operation.Block x) = transfer_work x.load (count_ones x.list)
+work_of (operation.Block x) = transfer_work x.load (word_count x.list)
 work_of (operation.Branch x) = work.Internal 0
 work_of (operation.Swi x) = work.Internal 0
 work_of (operation.UndefinedTransfer x) = work.Internal 0

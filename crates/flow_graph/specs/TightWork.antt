@@ -1,7 +1,7 @@
 -- How a machine is set so that its one step pays an edge's price (VL86C010 data sheet for what each
 -- instruction does).
 use Rattle.std.specs.Prelude.{◌≡◌, ◌⊎◌, ◌<◌, ◌%◌, ◌-◌, ℕ, Bool, false, not, ◌&&◌, IsTrue}
-use Rattle.std.specs.Prelude.{List, Some, Ok, count_ones, length}
+use Rattle.std.specs.Prelude.{List, Some, Ok, length}
 use Rattle.bus_ticks.specs.declared.space.TheConstants.{SPACE_END}
 use Rattle.bus_ticks.specs.declared.profile.Class.{Class}
 use Rattle.bus_ticks.specs.declared.profile.Profile.{Profile}
@@ -15,17 +15,17 @@ use Rattle.memc.specs.declared.spots.Spot.{Spot}
 use Rattle.shifter.specs.declared.shifts.TheConstants.{MOST_MULTIPLY_CYCLES}
 use Rattle.arm2_decode.specs.Names.{is_pc, register_number}
 use Rattle.arm2_decode.specs.Table.{Means}
-use Rattle.arm2_decode.specs.Transfers.{asks_for_user, is_listed}
+use Rattle.arm2_decode.specs.Transfers.{asks_for_user, is_listed, word_count}
 use Rattle.arm2_decode.specs.Writers.{data_writes_pc}
 use Rattle.arm2_decode.specs.declared.flags.Flags.{Flags}
 use Rattle.arm2_decode.specs.declared.instr.Instr.{Instr}
 use Rattle.arm2_decode.specs.declared.instr.Operation.{Operation}
 use Rattle.arm2_decode.specs.declared.instr.Operation.TheVariants as operation
 use Rattle.arm2_decode.specs.declared.names.Register.TheVariants.{R15}
+use Rattle.shifter.specs.Shifts.{multiply_cycles}
 use Rattle.arm2_effect.specs.declared.modes.Mode.TheVariants.{Svc}
 use Rattle.arm2_effect.specs.Modes.{r15_in, register_in}
 use Rattle.arm2_effect.specs.Operands.{first_of, rotated_byte, shifted_by_amount}
-use Rattle.shifter.specs.Shifts.{multiply_cycles}
 use Rattle.arm2_effect.specs.Outcomes.{outcome_of}
 use Rattle.arm2_effect.specs.ProgramCounter.{address_of, flags_of, psr_with, r15_of}
 use Rattle.arm2_transfer.specs.Block.{lowest_of}
@@ -110,8 +110,8 @@ module _ (st : Stated) (profile : Profile) (address : ℕ) (to : Place) (s : Sta
       (address_for (of_immediate x) (register_in Svc (register_number x.rn) s.regs))
   IsSetFor (operation.SingleRegister x) = ⊥
   IsSetFor (operation.Block x) =
-      TransfersDearest x.load (is_listed x.list R15) (count_ones x.list)
-      (lowest_of x (register_in Svc (register_number x.rn) s.regs) (count_ones x.list))
+      TransfersDearest x.load (is_listed x.list R15) (word_count x.list)
+      (lowest_of x (register_in Svc (register_number x.rn) s.regs) (word_count x.list))
   IsSetFor _ = Unit {0}
 
 module _ (words : Words) (st : Stated) (profile : Profile) where

@@ -85,7 +85,7 @@ fn work_of(operation: &Operation) -> Work
         Operation::DataRegisterShift(_) => Work::Internal(1),
         Operation::SingleImmediate(x) => transfer_work(x.load, 1),
         Operation::SingleRegister(x) => transfer_work(x.load, 1),
-        Operation::Block(x) => transfer_work(x.load, x.list.count_ones()),
+        Operation::Block(x) => transfer_work(x.load, x.word_count()),
         Operation::DataRegister(_)
         | Operation::DataImmediate(_)
         | Operation::Branch(_)

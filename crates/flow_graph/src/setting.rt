@@ -147,7 +147,7 @@ fn of_block(aim: &Aim, x: &Block) -> Setting
     requires spare { aim.now.spare < PHYSICAL_PAGES }
     ensures { Sets aim.now (Operation.Block x.now) result }
 {
-    let words = x.list.count_ones();
+    let words = x.word_count();
     let first = start(aim, x.load, words);
     let base = Held {
         register: x.rn,

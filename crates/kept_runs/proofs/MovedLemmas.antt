@@ -9,7 +9,7 @@ use Rattle.bus_ticks.specs.Prices.{ahead_of, word_address}
 use Rattle.bus_ticks.specs.Worst.{IsOf}
 use Rattle.bus_ticks.specs.declared.profile.Class.{Class}
 use Rattle.arm2_decode.specs.Names.{is_compare, is_pc, register_number}
-use Rattle.arm2_decode.specs.Transfers.{is_listed}
+use Rattle.arm2_decode.specs.Transfers.{is_listed, word_count}
 use Rattle.arm2_decode.specs.declared.instr.Block.{Block}
 use Rattle.arm2_decode.specs.declared.instr.Branch.{Branch}
 use Rattle.arm2_decode.specs.declared.instr.Instr.{Instr}
@@ -43,8 +43,6 @@ use Rattle.arm2_transfer.specs.Moved.{Moved, faulted, load_accesses, on_bus, sto
 use Rattle.arm2_transfer.specs.Operations.{operation_moved}
 use Rattle.arm2_transfer.specs.Registers.{passed, with_base, with_loaded}
 use Rattle.arm2_transfer.specs.Single.{address_for, base_after, of_immediate, of_register, single_at, single_by, single_carried_out, single_loaded, single_loads, single_stores}
-use Rattle.arm2_transfer.specs.Words.{registers_in}
-use Rattle.arm2_transfer.proofs.Listed.{words_are}
 use Rattle.arm2_exec.specs.Step.{Obeys, instruction_moved, unallocated_moved}
 use Rattle.flow_graph.specs.StepLaw.{TransfersIn, holds_in}
 use Rattle.flow_graph.proofs.StepTicks.{words_there}
@@ -361,10 +359,7 @@ module _ (class : Class) (regs : List ℕ) (bus : Bus) where
   unfolding block_moved
   block_moves x port =
       let base : ℕ = register_in (mode_of (r15_in regs)) (register_number x.rn) regs in
-      let k : ℕ = length (registers_in x.list) in
-      subst (λ (n : ℕ). IsMoved (Some (record { address = lowest_of x base n; words = n; store = not x.load })) (block_at x (span_of x base k) port regs bus))
-      (words_are x.list x.list_fits)
-      (block_at_moves x (span_of x base k) port)
+      block_at_moves x (span_of x base (word_count x.list)) port
 
   -- ## Any word
 

@@ -1,7 +1,6 @@
 -- The words that an instruction transfers where it is carried out, by the registers before it (VL86C010 data
 -- sheet, single and block data transfer).
-use Rattle.std.specs.Prelude.{◌≡◌, ℕ, ◌<◌, Bool, not, count_ones}
-use Rattle.std.specs.Prelude.{List, Option, Some, None}
+use Rattle.std.specs.Prelude.{◌≡◌, ℕ, ◌<◌, Bool, not, List, Option, Some, None}
 use Rattle.bus_ticks.specs.declared.space.TheConstants.{SPACE_END}
 use Rattle.bus_ticks.specs.Prices.{word_address}
 use Rattle.bus_ticks.specs.Worst.{IsOf}
@@ -9,6 +8,7 @@ use Rattle.bus_ticks.specs.declared.profile.Class.{Class}
 use Rattle.arm2_decode.specs.declared.instr.Block.{Block}
 use Rattle.arm2_decode.specs.declared.instr.Operation.{Operation}
 use Rattle.arm2_decode.specs.declared.instr.Operation.TheVariants as operation
+use Rattle.arm2_decode.specs.Transfers.{word_count}
 use Rattle.arm2_effect.specs.Operands.{current_in, first_of, shifted_by_amount}
 use Rattle.arm2_transfer.specs.Block.{lowest_of}
 use Rattle.arm2_transfer.specs.Registers.{address_by}
@@ -21,8 +21,8 @@ one_word load address = record { address = address; words = 1; store = not load 
 abbrev pub block_words : Block → List ℕ → Transfer
 block_words x regs =
     record {
-      address = lowest_of x (current_in x.rn regs) (count_ones x.list);
-      words = count_ones x.list;
+      address = lowest_of x (current_in x.rn regs) (word_count x.list);
+      words = word_count x.list;
       store = not x.load;
     }
 

@@ -48,7 +48,7 @@ pub(crate) fn words_of(registers: &Registers, operation: &Operation) -> Option<T
             })
         }
         Operation::Block(x) => {
-            let words = x.list.count_ones();
+            let words = x.word_count();
             let mode = mode_of(registers.get(Reg::R15));
             Some(Transfer {
                 address: lowest_of(x, registers.read(mode, x.rn), words),

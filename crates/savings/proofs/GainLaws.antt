@@ -1,8 +1,9 @@
 -- What a gain is: the difference of two prices.
-use Rattle.std.proofs.Common.{◌≡◌, ◌≢◌, ◌∙◌, ℕ, ◌+◌, ◌-◌, ◌<◌, ◌≤◌, max, Bool, true, false, count_ones, eqb, Some, None, ◌⊎◌, inl, inr, ⊎_elim, refl, sym, ap, subst, arith}
+use Rattle.std.proofs.Common.{◌≡◌, ◌≢◌, ◌∙◌, ℕ, ◌+◌, ◌-◌, ◌<◌, ◌≤◌, max, Bool, true, false, eqb, Some, None, ◌⊎◌, inl, inr, ⊎_elim, refl, sym, ap, subst, arith}
 use Rattle.std.specs.Prelude.{if◌then◌else◌, unwrap_or}
 use Rattle.std.specs.Map.{lookup}
 use Rattle.std.proofs.lemmas.Bool.{cases_Bool, cases_lt, eq-eqb, eqb-true, le-ltb, lt-ltb}
+use Rattle.arm2_decode.specs.Transfers.{word_count}
 use Rattle.arm2_decode.specs.declared.instr.Instr.{Instr}
 use Rattle.arm2_decode.specs.declared.instr.Operation.{Operation}
 use Rattle.arm2_decode.specs.declared.instr.Operation.TheVariants as operation
@@ -188,7 +189,7 @@ module _ (st : Stated) (profile : Profile) (a : ℕ) (c : Cond) (to : Place) (g 
   of_operation (operation.DataImmediate x) gain = absurd (not_none g gain)
   of_operation (operation.SingleImmediate x) gain = by_work st profile a (action c (kind_of (operation.SingleImmediate x)) (transfer_work x.load 1)) to g change gain is
   of_operation (operation.SingleRegister x) gain = by_work st profile a (action c (kind_of (operation.SingleRegister x)) (transfer_work x.load 1)) to g change gain is
-  of_operation (operation.Block x) gain = by_work st profile a (action c (kind_of (operation.Block x)) (transfer_work x.load (count_ones x.list))) to g change gain is
+  of_operation (operation.Block x) gain = by_work st profile a (action c (kind_of (operation.Block x)) (transfer_work x.load (word_count x.list))) to g change gain is
   of_operation (operation.Branch x) gain = absurd (not_none g gain)
   of_operation (operation.Swi x) gain = absurd (not_none g gain)
   of_operation (operation.UndefinedTransfer x) gain = absurd (not_none g gain)

@@ -1,6 +1,7 @@
 -- What the next better entry of a statement takes off a price, in ticks.
-use Rattle.std.specs.Prelude.{◌≢◌, ℕ, ◌-◌, ◌*◌, ◌<◌, ◌≤◌, ◌==◌, max, nat_lt, count_ones, if◌then◌else◌}
+use Rattle.std.specs.Prelude.{◌≢◌, ℕ, ◌-◌, ◌*◌, ◌<◌, ◌≤◌, ◌==◌, max, nat_lt, if◌then◌else◌}
 use Rattle.std.specs.Prelude.{Option, Some, None}
+use Rattle.arm2_decode.specs.Transfers.{word_count}
 use Rattle.arm2_decode.specs.declared.instr.Operation.{Operation}
 use Rattle.arm2_decode.specs.declared.instr.Operation.TheVariants as operation
 use Rattle.bus_ticks.specs.declared.profile.Class.{Class}
@@ -82,7 +83,7 @@ operation_gain p class (operation.DataRegisterShift x) = None
 operation_gain p class (operation.DataImmediate x) = None
 operation_gain p class (operation.SingleImmediate x) = transfer_gain p class (transfer_work x.load 1)
 operation_gain p class (operation.SingleRegister x) = transfer_gain p class (transfer_work x.load 1)
-operation_gain p class (operation.Block x) = transfer_gain p class (transfer_work x.load (count_ones x.list))
+operation_gain p class (operation.Block x) = transfer_gain p class (transfer_work x.load (word_count x.list))
 operation_gain p class (operation.Branch x) = None
 operation_gain p class (operation.Swi x) = None
 operation_gain p class (operation.UndefinedTransfer x) = None

@@ -53,11 +53,7 @@ pub(crate) fn operation_gain(profile: &Profile, class: Class, operation: &Operat
         }),
         Operation::SingleImmediate(x) => transfer_gain(profile, class, transfer_work(x.load, 1)),
         Operation::SingleRegister(x) => transfer_gain(profile, class, transfer_work(x.load, 1)),
-        Operation::Block(x) => transfer_gain(
-            profile,
-            class,
-            transfer_work(x.load, x.list.count_ones()),
-        ),
+        Operation::Block(x) => transfer_gain(profile, class, transfer_work(x.load, x.word_count())),
         _ => None,
     }
 }

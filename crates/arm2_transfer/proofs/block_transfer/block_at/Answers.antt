@@ -1,4 +1,4 @@
-use Rattle.arm2_transfer.specs.Words.{registers_in}
+use Rattle.arm2_decode.specs.Transfers.{registers_in}
 use Rattle.arm2_transfer.proofs.Chosen.{block_at-moves}
 use Rattle.arm2_transfer.proofs.RunLemmas.{run_verdict}
 use Rattle.arm2_transfer.proofs.block_transfer.block_at.Goals as goal

@@ -1,5 +1,5 @@
 use Rattle.std.proofs.Common.{◌≡◌, [], ap, ◌∙◌}
-use Rattle.arm2_transfer.specs.Words.{registers_in}
+use Rattle.arm2_decode.specs.Transfers.{registers_in}
 use Rattle.arm2_transfer.proofs.Lowest.{none_listed}
 use Rattle.arm2_transfer.proofs.run.put_along.Goals as goal
 

@@ -1,5 +1,6 @@
 use Rattle.std.proofs.Common.{◌≡◌, ◌^◌, ◌<◌}
-use Rattle.arm2_transfer.specs.Words.{AreFitted, registers_in, moves_along}
+use Rattle.arm2_decode.specs.Transfers.{registers_in}
+use Rattle.arm2_transfer.specs.Words.{AreFitted, moves_along}
 use Rattle.arm2_transfer.specs.Block.{all_put}
 use Rattle.arm2_transfer.proofs.run.put_along.Given as goal
 

@@ -1,5 +1,6 @@
 use Rattle.std.proofs.Common.{◌≡◌, ◌≤◌, not, length, drop}
-use Rattle.arm2_transfer.specs.Words.{registers_in, words_from, verdict_of, AllFit}
+use Rattle.arm2_decode.specs.Transfers.{registers_in}
+use Rattle.arm2_transfer.specs.Words.{words_from, verdict_of, AllFit}
 use Rattle.arm2_transfer.proofs.Verdict.{verdict_after, words_among}
 use Rattle.arm2_transfer.proofs.words.locate_block.Given as goal
 
