@@ -74,7 +74,8 @@ impl Decoded {
     /// The row for the address.
     #[inline(always)]
     pub(crate) fn row(&self, address: u32) -> &Row
-        ensures { (other : Row) → result.now ≡ slice_index_or self.now.rows.items (address / 4 % KEPT_WORDS) other }
+        ensures { (other : Row)
+            → result.now ≡ slice_index_or self.now.rows.items (address / 4 % KEPT_WORDS) other }
     {
         &self.rows[place_of(address)]
     }

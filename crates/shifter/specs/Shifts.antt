@@ -68,7 +68,7 @@ cycles_from zero m number = m
 cycles_from (suc left) m number =
     if nat_lt number (2 ^ (2 * m - 1)) then m else cycles_from left (m + 1) number
 
--- the cycles of a multiply by a number: 1 for 0 and 1; m for 2 ^ (2 * m - 3) up to 2 ^ (2 * m - 1) - 1; and 16
--- from 2 ^ 29 on
+-- the cycles of a multiply by a number: 1 for 0 and 1; m for 2 ^ (2 * m - 3) up to 2 ^ (2 * m - 1) - 1; and
+-- 16 from 2 ^ 29 on
 abbrev pub multiply_cycles : ℕ → ℕ
 multiply_cycles number = cycles_from 15 1 number
