@@ -1,7 +1,8 @@
 -- What the report of a handler that FIQ interrupts prints, and when it is refused.
-use Rattle.std.specs.Prelude.{◌≡◌, ◌≢◌, ◌⊎◌, ◌≤◌, ◌<◌, ◌^◌, ◌++◌, ℕ, List, Option, Result, Ok, codes, decimal}
+use Rattle.std.specs.Prelude.{◌≡◌, ◌≢◌, ◌⊎◌, ◌≤◌, ◌<◌, ◌++◌, ℕ, List, Option, Result, Ok, codes, decimal}
 use Rattle.bus_ticks.specs.declared.profile.Profile.{Profile}
 use Rattle.bus_ticks.specs.declared.space.TheConstants.{FIQ_VECTOR}
+use Rattle.walks.specs.declared.limits.TheConstants.{COST_LIMIT}
 use Rattle.bus_ticks.specs.Worst.{fiq_entry}
 use Rattle.loader.specs.Image.{Words}
 use Rattle.statement.specs.Stated.{Stated}
@@ -64,7 +65,7 @@ module _ (source irq fiq : List ℕ) (k : ℕ) (profile : Profile) where
   -- the total.
   pub record IsVisitsReport (text : List ℕ) : Type 0 where
     pub both : HaveReports source irq fiq profile
-    pub small : total_of both < 2 ^ 63
+    pub small : total_of both < COST_LIMIT
     pub runs : BoundsVisitedRuns both.irq_is.bounded.accepted.loops.graph.words
         both.fiq_is.bounded.accepted.stated profile both.fiq_is.bounded.accepted.flow
         both.irq_is.bounded.accepted.stated both.irq_is.bounded.accepted.flow k (total_of both)
@@ -73,7 +74,7 @@ module _ (source irq fiq : List ℕ) (k : ℕ) (profile : Profile) where
 
   -- what has a report
   abbrev pub AreAccepted : Type 0
-  AreAccepted = (both : HaveReports source irq fiq profile) × (total_of both < 2 ^ 63)
+  AreAccepted = (both : HaveReports source irq fiq profile) × (total_of both < COST_LIMIT)
 
 -- When each refusal of FIQ's handler is answered: that of its entry after those of its statement's text, and
 -- before those of its graph.
@@ -90,7 +91,7 @@ AreRefused source irq fiq k profile fault =
     IsRefused source irq profile fault
     ⊎ ((IsAccepted source irq profile × IsFiqRefused source fiq profile fault)
     ⊎ ((fault ≡ report_fault.Walk walk_fault.BoundTooLarge)
-    × ((both : HaveReports source irq fiq profile) × (2 ^ 63 ≤ total_of source irq fiq k profile both))))
+    × ((both : HaveReports source irq fiq profile) × (COST_LIMIT ≤ total_of source irq fiq k profile both))))
 
 -- the answer to a source, two statements and a number of visits: their report
 abbrev pub ReportsVisits : {O T : Type 0} → (O → Option (List ℕ)) → (O → ℕ) → List ℕ → List ℕ → List ℕ → ℕ

@@ -1,5 +1,6 @@
-ghost use Rattle.std.specs.Prelude.{◌≡◌, ◌⊎◌, ◌++◌, ◌≤◌, ◌<◌, ◌^◌, List, ℕ, IfErr, IfOk};
+ghost use Rattle.std.specs.Prelude.{◌≡◌, ◌⊎◌, ◌++◌, ◌≤◌, ◌<◌, List, ℕ, IfErr, IfOk};
 ghost use Rattle.std.specs.Prelude.{OnOk, option_map};
+ghost use Rattle.walks.specs.declared.limits.TheConstants.{COST_LIMIT};
 ghost use Rattle.longest_walk.specs.Visits.{visits_bound};
 ghost use Rattle.report_input.specs.Priced.{Priced};
 ghost use Rattle.report_input.specs.Report.{BeforeOutput, IsHandlerOf, IsRefused};
@@ -86,10 +87,10 @@ fn joined_text(
 ) -> Result<Vec<u8>, ReportFault>
     ensures text { IfOk result (λ v. v.items ≡ summary profile.now irq.now.bound fiq.now.bound visits
         ++ (irq.now.text.items ++ fiq.now.text.items)) }
-    ensures small { OnOk result (visits_bound profile.now irq.now.bound fiq.now.bound visits < 2 ^ 63) }
+    ensures small { OnOk result (visits_bound profile.now irq.now.bound fiq.now.bound visits < COST_LIMIT) }
     ensures fault { IfErr result (λ e. (e ≡ ReportFault.Memory)
         ⊎ ((e ≡ ReportFault.Walk WalkFault.BoundTooLarge)
-        × (2 ^ 63 ≤ visits_bound profile.now irq.now.bound fiq.now.bound visits))) }
+        × (COST_LIMIT ≤ visits_bound profile.now irq.now.bound fiq.now.bound visits))) }
 {
     let total = visits_bound(profile, irq.bound, fiq.bound, visits)?;
     let entry = fiq_entry(profile);

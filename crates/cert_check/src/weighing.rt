@@ -11,6 +11,7 @@ ghost use Rattle.cert_check.specs.Weighing.{CanWeigh, NumberFits, NumberHolds, N
 use crate::index::Index;
 use numbered_walks::{NumberedEdge, Span, Tables};
 use walk_counts::holds;
+use walks::COST_LIMIT;
 
 /// What a row is tested for.
 #[derive(Clone, Copy)]
@@ -134,7 +135,7 @@ fn row_fits(weighing: Weighing<'_>, edge: &NumberedEdge) -> bool
         None => true,
         Some(_) => match needed_at(weighing.spans, weighing.index, weighing.tables, edge) {
             None => false,
-            Some(needed) => needed < 1 << 63,
+            Some(needed) => needed < COST_LIMIT,
         },
     }
 }

@@ -1,8 +1,9 @@
 -- The lines of a certificate, and its text.
-use Rattle.std.specs.Prelude.{ℕ, ◌<◌, ◌^◌, ◌==◌, List, [], ◌∷◌, ◌++◌, map, if◌then◌else◌}
+use Rattle.std.specs.Prelude.{ℕ, ◌<◌, ◌==◌, List, [], ◌∷◌, ◌++◌, map, if◌then◌else◌}
 use Rattle.std.specs.Cmp.Lexicographic.{pointwise}
 use Rattle.std.specs.List.{AllByRecursion}
 use Rattle.std.specs.List.Sorted.{IsStrictlySortedBy}
+use Rattle.walks.specs.declared.limits.TheConstants.{COST_LIMIT}
 use Rattle.bus_ticks.specs.Numbers.{numbers_of, profile_one}
 use Rattle.flow_graph.specs.Places.{place_cmp}
 use Rattle.longest_walk.specs.declared.folded.Longest.{Longest}
@@ -65,7 +66,7 @@ cert_text c = text_of (cert_lines c)
 
 pub record CanSpell (c : Said) : Type 0 where
   pub profile : IsProfile c.numbers
-  pub bound : c.bound < 2 ^ 63
+  pub bound : c.bound < COST_LIMIT
   pub steps : AllByRecursion WalkFits c.walk
   pub nested : AreNested c.walk
   pub places : AllByRecursion PlaceFits c.places

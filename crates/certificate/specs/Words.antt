@@ -1,10 +1,11 @@
 -- How the lines of a certificate are spelled.
-use Rattle.std.specs.Prelude.{◌≡◌, ◌≢◌, ℕ, ◌<◌, ◌≤◌, ◌^◌, List, [], ◌∷◌, ◌++◌, length, map, codes}
+use Rattle.std.specs.Prelude.{◌≡◌, ◌≢◌, ℕ, ◌<◌, ◌≤◌, List, [], ◌∷◌, ◌++◌, length, map, codes}
 use Rattle.std.specs.Prelude.{All, ⊤}
 use Rattle.std.specs.Coded.{Unit-prop, le_prop}
 use Rattle.std.specs.Fmt.{decimal}
 use Rattle.std.specs.List.{flat_map, join_with_byte}
 use Rattle.bus_ticks.specs.declared.space.TheConstants.{SPACE_END}
+use Rattle.walks.specs.declared.limits.TheConstants.{COST_LIMIT}
 use Rattle.asm_text.specs.Hex.{hex}
 use Rattle.bus_ticks.specs.Numbers.{profile_one}
 use Rattle.bus_ticks.specs.Ranges.{AreInRange, AreOrdered}
@@ -104,7 +105,7 @@ pub record StepFits (s : StepLine) : Type 0 where
   pub address : s.address < SPACE_END
   pub to : ToFits s.to
   pub some : 0 < s.cost
-  pub cost : s.cost < 2 ^ 63
+  pub cost : s.cost < COST_LIMIT
 
 abbrev pub WalkFits : WalkLine → Type 0
 WalkFits (w.Step s) = StepFits s
@@ -113,12 +114,12 @@ WalkFits w.End = ⊤
 
 pub record PlaceFits (r : PlaceRow) : Type 0 where
   pub place : IsInRange r.list r.address
-  pub distance : r.distance < 2 ^ 63
+  pub distance : r.distance < COST_LIMIT
 
 pub record InstanceFits (r : InstanceRow) : Type 0 where
   pub header : IsInRange r.list r.header
-  pub arrival : r.arrival < 2 ^ 63
-  pub round : r.round < 2 ^ 63
+  pub arrival : r.arrival < COST_LIMIT
+  pub round : r.round < COST_LIMIT
 
 -- the numbers of a cycle profile
 pub record IsProfile (numbers : List ℕ) : Type 0 where
@@ -129,7 +130,7 @@ pub record IsProfile (numbers : List ℕ) : Type 0 where
 abbrev pub LineFits : Line → Type 0
 LineFits (l.Title v) = ⊤
 LineFits (l.Profile numbers) = IsProfile numbers × (numbers ≢ profile_one)
-LineFits (l.Bound n) = n < 2 ^ 63
+LineFits (l.Bound n) = n < COST_LIMIT
 LineFits (l.Walk w) = WalkFits w
 LineFits l.Close = ⊤
 LineFits (l.Place r) = PlaceFits r

@@ -1,6 +1,7 @@
-ghost use Rattle.std.specs.Prelude.{◌≡◌, ◌<◌, ◌^◌, ◌∷◌, ◌++◌, ℕ, List, MatchOption};
+ghost use Rattle.std.specs.Prelude.{◌≡◌, ◌<◌, ◌∷◌, ◌++◌, ℕ, List, MatchOption};
 ghost use Rattle.std.specs.Fmt.{decimal};
 ghost use Rattle.bus_ticks.specs.declared.space.TheConstants.{SPACE_END};
+ghost use Rattle.walks.specs.declared.limits.TheConstants.{COST_LIMIT};
 ghost use Rattle.asm_text.specs.Hex.{hex};
 ghost use Rattle.certificate.specs.Words.{AreCalls, ToFits, label_words, list_words, to_words};
 ghost use Rattle.certificate.specs.declared.walk.To.{To};
@@ -24,8 +25,8 @@ pub(crate) fn address_first(words: &[u8]) -> Option<(u32, &[u8])>
 /// The number that the words begin with, and the words after its blank.
 pub(crate) fn number_first(words: &[u8]) -> Option<(u64, &[u8])>
     ensures { MatchOption result
-        ((n : ℕ) (rest : List ℕ) → n < 2 ^ 63 → words.now ≡ decimal n ++ 32 ∷ rest → ⊥)
-        (λ p. (p.0 < 2 ^ 63) × (words.now ≡ decimal p.0 ++ 32 ∷ p.1.now)) }
+        ((n : ℕ) (rest : List ℕ) → n < COST_LIMIT → words.now ≡ decimal n ++ 32 ∷ rest → ⊥)
+        (λ p. (p.0 < COST_LIMIT) × (words.now ≡ decimal p.0 ++ 32 ∷ p.1.now)) }
 {
     let (word, rest) = cut_at(b' ', words)?;
     Some((decimal_at(word)?, rest))

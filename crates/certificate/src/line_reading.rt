@@ -1,7 +1,8 @@
-ghost use Rattle.std.specs.Prelude.{◌≡◌, ◌≢◌, ◌<◌, ◌≤◌, ◌^◌, ◌++◌, ℕ, List, length, map, codes, All};
+ghost use Rattle.std.specs.Prelude.{◌≡◌, ◌≢◌, ◌<◌, ◌≤◌, ◌++◌, ℕ, List, length, map, codes, All};
 ghost use Rattle.std.specs.Prelude.{MatchOption};
 ghost use Rattle.std.specs.List.{join_with_byte};
 ghost use Rattle.std.specs.Fmt.{decimal};
+ghost use Rattle.walks.specs.declared.limits.TheConstants.{COST_LIMIT};
 ghost use Rattle.certificate.specs.Words.{InstanceFits, IsProfile, LineFits, PlaceFits, StepFits, WalkFits};
 ghost use Rattle.certificate.specs.Words.{instance_words, line_words, place_words, profile_words, step_words};
 ghost use Rattle.certificate.specs.Words.{title_words, walk_words};
@@ -37,8 +38,8 @@ fn title_at(words: &[u8]) -> Option<Version>
 }
 
 fn bound_at(words: &[u8]) -> Option<u64>
-    ensures { MatchOption result ((n : ℕ) → n < 2 ^ 63 → words.now ≡ codes "bound " ++ decimal n → ⊥)
-        (λ n. (n < 2 ^ 63) × (words.now ≡ codes "bound " ++ decimal n)) }
+    ensures { MatchOption result ((n : ℕ) → n < COST_LIMIT → words.now ≡ codes "bound " ++ decimal n → ⊥)
+        (λ n. (n < COST_LIMIT) × (words.now ≡ codes "bound " ++ decimal n)) }
 {
     decimal_at(after_front(words, b"bound ")?)
 }
@@ -194,7 +195,7 @@ fn head_at(words: &[u8]) -> Option<Line>
     ensures { MatchOption result
         (((v : Version) → words.now ≡ title_words v → ⊥)
         × ((ns : List ℕ) → IsProfile ns → ns ≢ profile_one → words.now ≡ profile_words ns → ⊥)
-        × ((n : ℕ) → n < 2 ^ 63 → words.now ≡ codes "bound " ++ decimal n → ⊥))
+        × ((n : ℕ) → n < COST_LIMIT → words.now ≡ codes "bound " ++ decimal n → ⊥))
         (λ l. LineFits l × (words.now ≡ line_words l)) }
 {
     if let Some(version) = title_at(words) {

@@ -1,12 +1,14 @@
-ghost use Rattle.std.specs.Prelude.{◌≡◌, ◌<◌, ◌^◌, ℕ, MatchOption};
+ghost use Rattle.std.specs.Prelude.{◌≡◌, ◌<◌, ℕ, MatchOption};
 ghost use Rattle.std.specs.Fmt.{decimal};
 ghost use Rattle.bus_ticks.specs.declared.space.TheConstants.{SPACE_END};
 ghost use Rattle.asm_text.specs.Hex.{hex, hex_digit};
 
+use walks::COST_LIMIT;
+
 /// The number below 2^63 that the bytes spell in decimal.
 pub(crate) fn decimal_at(word: &[u8]) -> Option<u64>
-    ensures { MatchOption result ((n : ℕ) → n < 2 ^ 63 → word.now ≡ decimal n → ⊥)
-        (λ n. (n < 2 ^ 63) × (word.now ≡ decimal n)) }
+    ensures { MatchOption result ((n : ℕ) → n < COST_LIMIT → word.now ≡ decimal n → ⊥)
+        (λ n. (n < COST_LIMIT) × (word.now ≡ decimal n)) }
 {
     let mut number: u64 = 0;
     for byte in word {
@@ -17,7 +19,7 @@ pub(crate) fn decimal_at(word: &[u8]) -> Option<u64>
         let digit = char::from(*byte).to_digit(10)?;
         number = number * 10 + u64::from(digit);
     }
-    if number >= 1 << 63 {
+    if number >= COST_LIMIT {
         return None;
     }
     // A leading zero is no part of the one spelling.

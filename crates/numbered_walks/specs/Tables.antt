@@ -1,6 +1,7 @@
 -- Potentials as tables by number, and as far as a pass over the numbers has found them.
-use Rattle.std.specs.Prelude.{◌≡◌, ◌≢◌, ℕ, ◌+◌, ◌^◌, ◌<◌, ◌≤◌, Bool, true, false, cond, nat_eq, ◌⊎◌, List, []}
+use Rattle.std.specs.Prelude.{◌≡◌, ◌≢◌, ℕ, ◌+◌, ◌<◌, ◌≤◌, Bool, true, false, cond, nat_eq, ◌⊎◌, List, []}
 use Rattle.std.specs.Prelude.{◌∷◌, length, All, Contains, slice_index, sum_by}
+use Rattle.walks.specs.declared.limits.TheConstants.{COST_LIMIT}
 use Rattle.walks.specs.Rows.{Potentials}
 use Rattle.walks.specs.Rows as R
 use Rattle.numbered_walks.specs.declared.span.NumberedEdge.{NumberedEdge}
@@ -79,11 +80,11 @@ pub record IsPassed (edges : List NumberedEdge) (spans : List Span) (k q : ℕ) 
   pub header_distance : (p : ℕ) → is_header_in spans p ≡ true → distance_of c p ≡ 0
   pub later_round : (n : ℕ) → k ≤ n → n < length spans → round_of c (span_at spans n) ≡ 0
   pub rows : (e : NumberedEdge) → Contains edges e → e.from < e.to → e.to < q
-      → (needed spans c e ≤ number_of spans c e.to) × (needed spans c e < 2 ^ 63)
+      → (needed spans c e ≤ number_of spans c e.to) × (needed spans c e < COST_LIMIT)
   pub round_rows : (n : ℕ) → n < k → 0 < (span_at spans n).bound → (e : NumberedEdge) → Contains edges e
       → e.to ≡ (span_at spans n).header → e.to ≤ e.from
       → (e.from ≤ (span_at spans n).last) × (needed spans c e ≤ round_of c (span_at spans n))
-      × (needed spans c e < 2 ^ 63)
+      × (needed spans c e < COST_LIMIT)
   pub round_zero : (n : ℕ) → n < k → (span_at spans n).bound ≡ 0 → round_of c (span_at spans n) ≡ 0
   pub attained : (p : ℕ) → p < q → ((p ≡ 0) × (number_of spans c p ≡ 0)) ⊎ EntersBy edges spans c p
   pub round_attained : (n : ℕ) → n < k
@@ -115,9 +116,9 @@ pub record HasRoom (size : ℕ) (c : Tables) : Type 0 where
 
 -- the number is the most that one of these edges needs, and 0 with no edge
 pub record IsHeaviest (spans : List Span) (c : Tables) (edges : List NumberedEdge) (n : ℕ) : Type 0 where
-  pub most : All (λ e. (needed spans c e ≤ n) × (needed spans c e < 2 ^ 63)) edges
+  pub most : All (λ e. (needed spans c e ≤ n) × (needed spans c e < COST_LIMIT)) edges
   pub attained : ((n ≡ 0) × (edges ≡ [])) ⊎ ((e : NumberedEdge) × Contains edges e × (n ≡ needed spans c e))
 
 -- one of the edges needs too much
 abbrev pub IsNotFit : List Span → Tables → List NumberedEdge → Type 0
-IsNotFit spans c edges = (e : NumberedEdge) × Contains edges e × (2 ^ 63 ≤ needed spans c e)
+IsNotFit spans c edges = (e : NumberedEdge) × Contains edges e × (COST_LIMIT ≤ needed spans c e)

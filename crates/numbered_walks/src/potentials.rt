@@ -13,6 +13,7 @@ use crate::row::needed_in;
 use crate::span::NumberedEdge;
 use crate::tables::{Tables, empty_tables};
 use std::alloc::Global;
+use walks::COST_LIMIT;
 
 fn is_exit_reached(edges: &[NumberedEdge], exit: usize) -> bool
     ensures { IsTrue result ↔ (e : NumberedEdge) × Contains edges.now e × (e.to ≡ exit) }
@@ -40,21 +41,21 @@ fn total(graph: NumberedGraph<'_>, tables: &Tables, place: usize) -> Option<u64>
 fn total_fits(graph: NumberedGraph<'_>, tables: &Tables, place: usize) -> bool
     requires graph { IsNumberedGraph graph }
     requires known { place ≤ graph.exit }
-    ensures { IsTrue result ↔ total_of graph.entry.spans.now tables.now place < 2 ^ 63 }
+    ensures { IsTrue result ↔ total_of graph.entry.spans.now tables.now place < COST_LIMIT }
 {
     match total(graph, tables, place) {
         None => false,
-        Some(total) => total < 1 << 63,
+        Some(total) => total < COST_LIMIT,
     }
 }
 
 fn totals_fit(graph: NumberedGraph<'_>, tables: &Tables) -> bool
     requires graph { IsNumberedGraph graph }
     ensures yes { IsTrue result → (p : ℕ) → p < graph.entry.exit + 1
-        → total_of graph.entry.spans.now tables.now p < 2 ^ 63 }
+        → total_of graph.entry.spans.now tables.now p < COST_LIMIT }
     ensures no { result ≡ false
         → (p : ℕ) × (p < graph.entry.exit + 1)
-        × (2 ^ 63 ≤ total_of graph.entry.spans.now tables.now p) }
+        × (COST_LIMIT ≤ total_of graph.entry.spans.now tables.now p) }
 {
     for place in 0..graph.index.holders.len() {
         if !total_fits(graph, tables, place) {

@@ -6,6 +6,7 @@ ghost use Rattle.numbered_walks.specs.Tables.{IsHeaviest, IsNotFit, needed, stay
 use crate::graph::NumberedGraph;
 use crate::span::{NumberedEdge, Span};
 use crate::tables::{Tables, arrival_of, distance_of, round_of};
+use walks::COST_LIMIT;
 
 // Whether the number is that of a member.
 fn holds(span: &Span, number: usize) -> bool
@@ -65,7 +66,7 @@ pub(crate) fn heaviest(graph: NumberedGraph<'_>, tables: &Tables, group: &[usize
     let mut best = 0u64;
     for number in group {
         let needed = needed_in(graph, tables, &graph.edges[*number])?;
-        if needed >= 1 << 63 {
+        if needed >= COST_LIMIT {
             return None;
         }
         best = best.max(needed);

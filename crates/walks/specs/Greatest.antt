@@ -1,5 +1,6 @@
 -- Walks that keep the bounds of loops, and the greatest cost of a complete one.
-use Rattle.std.specs.Prelude.{◌≡◌, ℕ, ◌^◌, ◌≤◌, Bool, ◌&&◌, List}
+use Rattle.std.specs.Prelude.{◌≡◌, ℕ, ◌≤◌, Bool, ◌&&◌, List}
+use Rattle.walks.specs.declared.limits.TheConstants.{COST_LIMIT}
 use Rattle.walks.specs.Walk.{Shape, Leads, cost_of}
 use Rattle.walks.specs.Stretch.{Keeps}
 
@@ -50,4 +51,4 @@ module _ {P E : Type 0} (shape : Shape P E) (is_edge : E → Type 0) (keeps : Li
     pub walk : List E
     pub leads : Leads shape is_edge entry walk place
     pub kept : keeps walk
-    pub costs : 2 ^ 63 ≤ cost_of shape walk
+    pub costs : COST_LIMIT ≤ cost_of shape walk

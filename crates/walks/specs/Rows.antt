@@ -1,7 +1,8 @@
 -- The rows of a certificate: what each edge asks of the numbers at its ends.
-use Rattle.std.specs.Prelude.{◌≡◌, ℕ, ◌+◌, ◌*◌, ◌^◌, ◌<◌, ◌≤◌, Bool, false, cond, nat_eq, not, ◌&&◌, List}
+use Rattle.std.specs.Prelude.{◌≡◌, ℕ, ◌+◌, ◌*◌, ◌<◌, ◌≤◌, Bool, false, cond, nat_eq, not, ◌&&◌, List}
 use Rattle.std.specs.Prelude.{sum_by, Contains, Option, Some, None, IfSome}
 use Rattle.std.specs.List.{find}
+use Rattle.walks.specs.declared.limits.TheConstants.{COST_LIMIT}
 use Rattle.walks.specs.Walk.{Shape}
 use Rattle.walks.specs.Greatest.{Loops}
 
@@ -51,7 +52,7 @@ module _ {P E I : Type 0} (shape : Shape P E) (loops : Loops P I) where
 
       -- what the row asks for is below 2^63, if there is a row
       abbrev pub RowFits : E → Type 0
-      RowFits e = IfSome (limit_of e) (λ _. needed e < 2 ^ 63)
+      RowFits e = IfSome (limit_of e) (λ _. needed e < COST_LIMIT)
 
       abbrev pub RowsHold : (E → Type 0) → Type 0
       RowsHold is_edge = (e : E) → is_edge e → RowHolds e

@@ -26,10 +26,10 @@ loop-byte-preserved c =
       value = omega (arith, digits_value_more 10 c.args.word.now c.loop-byte.byte-index c.loop-byte-test.true, c.loop-byte.invariant.value, is, c.from-in-loop-byte.ensures);
     }
 
-pub returns-then-number-2 : goal.returns-then-number-2
-returns-then-number-2 c = λ n small is.
+pub returns-then-number-ge-COST_LIMIT : goal.returns-then-number-ge-COST_LIMIT
+returns-then-number-ge-COST_LIMIT c = λ n small is.
     let whole : digits_value 10 (take c.loop-byte.byte-index c.args.word.now) ≡ digits_value 10 c.args.word.now = ap (digits_value 10) (take_all c.loop-byte.byte-index c.args.word.now c.loop-byte-test.false) in
-    omega (arith, whole, value c.args.word.now n small is, c.loop-byte.invariant.value, c.if-number-2.true)
+    omega (arith, whole, value c.args.word.now n small is, c.loop-byte.invariant.value, c.if-number-ge-COST_LIMIT.true)
 
 pub returns-in-empty : goal.returns-in-empty
 returns-in-empty c = λ n small is. omega (arith, some c.args.word.now n small is, c.in-empty.len_below)
@@ -39,16 +39,16 @@ returns-in-48 c = λ n small is. omega (arith, begins c.args.word.now n small is
 
 pub returns-in_default : goal.returns-in_default
 returns-in_default c = (
-  c.if-number-2.false,
+  c.if-number-ge-COST_LIMIT.false,
   subst (λ (m : ℕ). c.args.word.now ≡ decimal m) (sym c.loop-byte.invariant.value)
       (spelled c.args.word.now c.loop-byte.byte-index c.loop-byte-test.false c.loop-byte.invariant.digits c.in_default.len_at_least (λ z. omega (arith, c.in_default.len_at_least, c.in_default.len_below))
-      (omega (arith, c.loop-byte.invariant.value, c.if-number-2.false))),
+      (omega (arith, c.loop-byte.invariant.value, c.if-number-ge-COST_LIMIT.false))),
 )
 
 pub returns-in_default-2 : goal.returns-in_default-2
 returns-in_default-2 c = (
-  c.if-number-2.false,
+  c.if-number-ge-COST_LIMIT.false,
   subst (λ (m : ℕ). c.args.word.now ≡ decimal m) (sym c.loop-byte.invariant.value)
       (spelled c.args.word.now c.loop-byte.byte-index c.loop-byte-test.false c.loop-byte.invariant.digits (omega (arith, c.in_default.len_at_least)) (λ z. absurd (search (rules, z)))
-      (omega (arith, c.loop-byte.invariant.value, c.if-number-2.false))),
+      (omega (arith, c.loop-byte.invariant.value, c.if-number-ge-COST_LIMIT.false))),
 )
