@@ -78,7 +78,7 @@ pub record HasKeys (exit : ℕ) (extents : List Extent) (nesting : Nesting) : Ty
 abbrev pub HasPlainCycle : List NumberedEdge → List Extent → Type 0
 HasPlainCycle edges extents = Cycle number_shape (λ e. Contains edges e × (IsBack extents e → ⊥))
 
--- why they are not nested, and that nothing earlier stands in the way
+-- why they are not nested, and that no fault comes before this one
 abbrev pub IsNestingFault : ℕ → List NumberedEdge → ℕ → List Extent → NestFault → Type 0
 IsNestingFault exit edges entry extents Memory = Unit {0}
 IsNestingFault exit edges entry extents LoopsCross = HaveCrossing extents

@@ -116,7 +116,7 @@ module _ {O : Type 0} (taken : O → Option (List ℕ)) (failures : O → ℕ) w
       → Adds taken failures a p b q ys
   adds_same a b p q xs ys e adds = subst (λ t. Adds taken failures a p b q t) e adds
 
-  -- a page that is made when the output stands so has nothing on its way
+  -- a page that is made of this output has nothing on its way
   pub on_from_start : (out : O) (page : Held) → page.bytes ≡ [] → page.failed ≡ false → On out out page []
   on_from_start out page empty goes =
       going_on out out page [] goes (record { sent = []; took = Appends-nil (taken out); whole = sym empty }, refl)
