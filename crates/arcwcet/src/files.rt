@@ -188,6 +188,7 @@ impl TwoFiles {
         }
     }
 
+    /// The texts of the files.
     pub(crate) fn texts(&self) -> TwoTexts<'_>
         ensures { lent_two result ≡ kept_two self.now }
     {
@@ -275,6 +276,7 @@ pub(crate) struct ThreeTexts<'a> {
 }
 
 impl ThreeFiles {
+    /// The texts of the files.
     pub(crate) fn texts(&self) -> ThreeTexts<'_>
         ensures { lent_three result ≡ kept_three self.now }
     {

@@ -34,6 +34,7 @@ pub(crate) enum SourceReport<'a> {
 }
 
 impl<'a> SourceReport<'a> {
+    /// The name of its file.
     pub(crate) fn name(self) -> &'a str
         ensures { result.now ∷ [] ≡ files_of (source_asked self.entry) }
     {
@@ -74,6 +75,7 @@ pub(crate) enum PairReport<'a> {
 }
 
 impl<'a> PairReport<'a> {
+    /// The names of its files.
     pub(crate) fn names(self) -> Names<'a>
         ensures { two_of (names_of result) ≡ files_of (pair_asked self.entry) }
     {
@@ -134,6 +136,7 @@ pub(crate) enum TripleReport<'a> {
 }
 
 impl<'a> TripleReport<'a> {
+    /// The names of its files.
     pub(crate) fn names(self) -> ThreeNames<'a>
         ensures { three_of (names_of result.handler) result.third.now ≡ files_of (triple_asked self.entry) }
     {

@@ -141,6 +141,7 @@ fn is_user(suffix: Suffix) -> bool
     matches!(suffix, Suffix::T | Suffix::Bt)
 }
 
+/// A target, to which a word with this condition refers in this way.
 pub(crate) fn refers<'a>(cond: Cond, how: Use, tokens: &[Token<'a>]) -> Option<Statement<'a>>
     ensures { option_map said result ≡ refers cond how (map piece_of tokens.now) }
 {
@@ -225,6 +226,7 @@ fn code_said<'a>(
     Some(Statement::Code(Code { cond, action }))
 }
 
+/// What the operands of a word of this head, condition and suffix say.
 pub(crate) fn plain_said<'a>(
     head: Head,
     cond: Cond,

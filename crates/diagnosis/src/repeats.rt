@@ -49,6 +49,7 @@ pub(crate) struct Taken {
 }
 
 impl Taken {
+    /// Of no value yet.
     pub(crate) fn new(alloc: Global) -> Taken
         ensures { (labels : NamedAddresses) → AreTaken labels [] result }
     {

@@ -56,6 +56,7 @@ pub(crate) struct Setting {
     pub(crate) word: Option<(u32, u32)>,
 }
 
+/// No register or word is set, and the port is 0.
 pub(crate) const NOTHING: Setting = Setting {
     register: None,
     port: 0,

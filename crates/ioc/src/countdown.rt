@@ -30,6 +30,7 @@ impl Model for Countdown {
 }
 
 impl Countdown {
+    /// These timers, with no tick passed yet.
     pub(crate) fn new(timers: Timers) -> Countdown
         requires { timers.phase < 4 }
         ensures { result ≡ timers }

@@ -9,7 +9,7 @@ use crate::image::Image;
 use memc::PHYSICAL_PAGES;
 use std::alloc::{AllocError, Global};
 
-// Logical pages of 32 KB are numbered below this, and the page of this number plus p is the physical page p.
+/// Logical pages of 32 KB are numbered below this, and the page of this number plus p is the physical page p.
 pub(crate) const LOGICAL_PAGES: u32 = 1024;
 
 /// A logical page on a physical page, both of 32 KB and by number: below 1,024 and below 128.

@@ -18,7 +18,7 @@ use std::alloc::Global;
 use std::collections::VecDeque;
 use thiserror::Error;
 
-// The bytes with which every image begins.
+/// The bytes with which every image begins.
 pub(crate) const MAGIC: [u8; 8] = *b"ARC2IMG1";
 
 /// Why bytes are no image.

@@ -86,6 +86,7 @@ impl Entry<(), MachineFileFault> for MappedPage {
     }
 }
 
+/// Whether pages of this size can be mapped so, each.
 pub(crate) fn are_mappable(size: PageSize, pages: &[MappedPage]) -> bool
     ensures { result ≡ list_all (is_mappable (shift_of_size size)) pages.now }
 {
@@ -108,6 +109,7 @@ fn have_own_physical(alloc: Global, pages: &[MappedPage]) -> Result<bool, AllocE
     are_all_distinct(alloc, &numbers)
 }
 
+/// Whether no logical and no physical page is in the list twice.
 pub(crate) fn are_single(alloc: Global, pages: &[MappedPage]) -> Result<bool, AllocError>
     ensures { IfOk result (λ test. test ≡ are_single pages.now) }
 {

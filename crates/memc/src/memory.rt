@@ -15,9 +15,10 @@ use std::alloc::Global;
 use std::collections::BTreeMap;
 use std::marker::Model;
 
-// Where, for stores, the DMA and control range and the translator begin.
+/// Where, for stores, the DMA and control range begins.
 pub(crate) const DMA_AND_CONTROL: u32 = 0x360_0000;
 
+/// Where, for stores, the translator begins.
 pub(crate) const TRANSLATOR: u32 = 0x380_0000;
 
 // What a store to the control range sets, but the page size. The fields of the video and sound DMA have no
