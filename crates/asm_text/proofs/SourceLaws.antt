@@ -3,15 +3,15 @@ use Rattle.std.proofs.Common.{◌≡◌, ℕ, suc, ◌+◌, ◌-◌, ◌<◌, Bo
 use Rattle.std.specs.List.{list_all, onto_first}
 use Rattle.std.proofs.lemmas.List.{take-append-drop, take_all, drop_more}
 use Rattle.std.proofs.lemmas.Bool.{and_parts, cases_Bool}
-use Rattle.asm_text.specs.Source.{feed_len, lines_of, no_return, starts_feed}
+use Rattle.asm_text.specs.Source.{feed_len, lines_of, without_return, starts_feed}
 use Rattle.asm_text.proofs.PieceLaws.{first_passes, prefix_all, prefix_stop}
 
 pub line_none : lines_of [] ≡ []
 unfolding lines_of
 line_none = refl
 
-pub return_none : no_return [] ≡ []
-unfolding no_return
+pub return_none : without_return [] ≡ []
+unfolding without_return
 return_none = refl
 
 abbrev no_feed : ℕ → Bool
@@ -46,20 +46,20 @@ one_line b (c ∷ bs) h =
     let m = and_parts (no_feed c) (list_all no_feed bs) k.1 in
     plain_step b (c ∷ bs) k.0 (no_end b (c ∷ bs) (other c m.0)) ∙ ap (onto_first b) (one_line c bs k.1)
 
-return_one : (b : ℕ) (t : Bool) → (b == 13) ≡ t → no_return (b ∷ []) ≡ cond t [] (b ∷ [])
-unfolding no_return
+return_one : (b : ℕ) (t : Bool) → (b == 13) ≡ t → without_return (b ∷ []) ≡ cond t [] (b ∷ [])
+unfolding without_return
 return_one b t e = rw e refl
 
-return_more : (b c : ℕ) (rest : List ℕ) → no_return (b ∷ c ∷ rest) ≡ b ∷ no_return (c ∷ rest)
-unfolding no_return
+return_more : (b c : ℕ) (rest : List ℕ) → without_return (b ∷ c ∷ rest) ≡ b ∷ without_return (c ∷ rest)
+unfolding without_return
 return_more b c rest = refl
 
-ends_one : (b : ℕ) (rest : List ℕ) (t : Bool) → no_feed b ≡ true → (b == 13) ≡ t → lines_of (b ∷ 10 ∷ rest) ≡ no_return (b ∷ []) ∷ lines_of rest
+ends_one : (b : ℕ) (rest : List ℕ) (t : Bool) → no_feed b ≡ true → (b == 13) ≡ t → lines_of (b ∷ 10 ∷ rest) ≡ without_return (b ∷ []) ∷ lines_of rest
 ends_one b rest true h e = line_step b (10 ∷ rest) ∙ rw (other b h, e) (feed_step rest ∙ ap (λ (l : List ℕ). l ∷ lines_of rest) (sym (return_one b true e)))
 ends_one b rest false h e = line_step b (10 ∷ rest) ∙ rw (other b h, e) (ap (onto_first b) (feed_step rest) ∙ ap (λ (l : List ℕ). l ∷ lines_of rest) (sym (return_one b false e)))
 
 -- in front of an LF a line ends
-ended : (text rest : List ℕ) → list_all no_feed text ≡ true → lines_of (text ++ 10 ∷ rest) ≡ no_return text ∷ lines_of rest
+ended : (text rest : List ℕ) → list_all no_feed text ≡ true → lines_of (text ++ 10 ∷ rest) ≡ without_return text ∷ lines_of rest
 ended [] rest h = feed_step rest ∙ ap (λ (l : List ℕ). l ∷ lines_of rest) (sym return_none)
 ended (b ∷ []) rest h =
     let k = and_parts (no_feed b) true h in
@@ -73,7 +73,7 @@ ended (b ∷ c ∷ bs) rest h =
 passes_at : (p : ℕ → Bool) (text : List ℕ) (n : ℕ) → n < length text → first_passes p (drop n text) ≡ p (get_or text n 0)
 passes_at p text n lt = rw (drop_more text n 0 lt) refl
 
-pub line_more : (text : List ℕ) (n : ℕ) → n ≡ feed_len text → n < length text → lines_of text ≡ no_return (take n text) ∷ lines_of (drop (n + 1) text)
+pub line_more : (text : List ℕ) (n : ℕ) → n ≡ feed_len text → n < length text → lines_of text ≡ without_return (take n text) ∷ lines_of (drop (n + 1) text)
 line_more text n is lt =
     let front : list_all no_feed (take n text) ≡ true = rw is (prefix_all no_feed text) in
     let stops : first_passes no_feed (drop n text) ≡ false = rw is (prefix_stop no_feed text) in
@@ -94,8 +94,8 @@ line_last (b ∷ bs) n is all some =
     drop_all (x ∷ xs) = drop_all xs
 
 -- the CR by its place
-pub return_at : (line : List ℕ) → 0 < length line → no_return line ≡ cond (get_or line (length line - 1) 0 == 13) (take (length line - 1) line) line
-unfolding no_return
+pub return_at : (line : List ℕ) → 0 < length line → without_return line ≡ cond (get_or line (length line - 1) 0 == 13) (take (length line - 1) line) line
+unfolding without_return
 return_at [] some = absurd (omega arith)
 return_at (b ∷ []) some = refl
 return_at (b ∷ c ∷ rest) some =
@@ -107,7 +107,7 @@ return_at (b ∷ c ∷ rest) some =
     inside true = refl
     inside false = refl
 
-pub return_empty : (line : List ℕ) → length line ≡ 0 → line ≡ no_return line
+pub return_empty : (line : List ℕ) → length line ≡ 0 → line ≡ without_return line
 return_empty [] e = sym return_none
 return_empty (b ∷ bs) e = absurd (omega arith)
 

@@ -9,7 +9,7 @@ use Rattle.std.proofs.lemmas.Bool.Decides.{nat_tests}
 use Rattle.arm2_decode.specs.declared.names.Register.{Register}
 use Rattle.arm2_decode.specs.Names.{register_number}
 use Rattle.asm_text.specs.Pieces.{Piece, Run, Comma, Sign}
-use Rattle.asm_text.specs.Numbers.{first_hex, number_by, run_number, with_rest}
+use Rattle.asm_text.specs.Numbers.{first_hex, number_by, read_number, with_rest}
 use Rattle.asm_text.specs.Registers.{first_register, register_of}
 use Rattle.asm_text.specs.Operands.{after_step, block, block_based, block_of, braced, caret_of, list_from, list_by, run_bits, with_bits}
 use Rattle.asm_text.specs.Statements.{is_label, only_target, run_target, target_by, values_in}
@@ -232,7 +232,7 @@ block_again load s x ps h =
 letter_is : (c : ℕ) → (is_ascii_alphabetic c || c == 95) ≡ true → is_digit c 10 ≡ false
 letter_is c h = grind (arith, nat_tests)
 
-label_no_number : (d : List ℕ) → is_label d ≡ true → run_number d ≡ None
+label_no_number : (d : List ℕ) → is_label d ≡ true → read_number d ≡ None
 label_no_number [] h = absurd cc
 label_no_number (c ∷ cs) h =
     let letter = (and_parts (is_ascii_alphabetic c || c == 95) _ h).0 in
@@ -242,7 +242,7 @@ label_no_number (c ∷ cs) h =
       | inr e ↦ let some : nat_lt 0 (length (c ∷ cs)) ≡ true = grind (arith, nat_tests) in rw (e, some, other) refl
     ]
 
-target_by_is : (o : Option ℕ) (d : List ℕ) (t : Target) → run_number d ≡ o → target_by o d ≡ Some t → SpellsTarget t (Run d ∷ [])
+target_by_is : (o : Option ℕ) (d : List ℕ) (t : Target) → read_number d ≡ o → target_by o d ≡ Some t → SpellsTarget t (Run d ∷ [])
 target_by_is (Some n) d t is e = subst (λ x. SpellsTarget x (Run d ∷ [])) (same_Some (Number n) t e) (inl (d, refl, number_is d n is))
 target_by_is None d t is e =
     elim (chosen (is_label d) (Some (Label d)) None (Some t) e) [
@@ -251,7 +251,7 @@ target_by_is None d t is e =
     ]
 
 run_target_is : (d : List ℕ) (t : Target) → run_target d ≡ Some t → SpellsTarget t (Run d ∷ [])
-run_target_is d t e = target_by_is (run_number d) d t refl e
+run_target_is d t e = target_by_is (read_number d) d t refl e
 
 pub target_is : (ps : List Piece) (t : Target) → only_target ps ≡ Some t → SpellsTarget t ps
 target_is (Run d ∷ ps) t e =

@@ -12,7 +12,7 @@ use Rattle.std.proofs.lemmas.Option.{none-some, same_Some}
 use Rattle.arm2_decode.specs.declared.names.Register.{Register}
 use Rattle.arm2_decode.specs.declared.names.Shift.{Shift}
 use Rattle.asm_text.specs.Pieces.{Piece, Run, Comma, Sign}
-use Rattle.asm_text.specs.Numbers.{after_zero, digits_of, fits, number_by, first_number, run_number, with_rest}
+use Rattle.asm_text.specs.Numbers.{after_zero, digits_of, fits, number_by, first_number, read_number, with_rest}
 use Rattle.asm_text.specs.Operands.{alone, all_read}
 use Rattle.asm_text.specs.Registers.{in_both_cases, named_in, is_rrx, first_register_comma, first_register, register_names, register_of, shift_names, shift_of}
 use Rattle.asm_text.specs.SpelledOperands.{IsDigits, IsNumber, IsRegister, IsRrx, IsShift, SpellsNumber}
@@ -74,7 +74,7 @@ zero_is (c ∷ d) n e =
       | inr h ↦ inl (digits_is 10 (48 ∷ c ∷ d) n h.1)
     ]
 
-pub number_is : (text : List ℕ) (n : ℕ) → run_number text ≡ Some n → IsNumber text n
+pub number_is : (text : List ℕ) (n : ℕ) → read_number text ≡ Some n → IsNumber text n
 number_is [] n e = absurd (none-some n e)
 number_is (c ∷ d) n e =
     elim (chosen (c == 48) (after_zero d) (number_by 10 (c ∷ d)) (Some n) e) [
@@ -93,7 +93,7 @@ zero_again (c ∷ d) n h =
       | inr e ↦ rw e (digits_again 10 (48 ∷ c ∷ d) n h)
     ]
 
-decimal_again : (text : List ℕ) (n : ℕ) → IsDigits 10 text n → run_number text ≡ Some n
+decimal_again : (text : List ℕ) (n : ℕ) → IsDigits 10 text n → read_number text ≡ Some n
 decimal_again [] n h = absurd (omega (arith, h.some))
 decimal_again (c ∷ d) n h =
     elim (cases_Bool (c == 48)) [
@@ -101,14 +101,14 @@ decimal_again (c ∷ d) n h =
       | inr e ↦ rw e (digits_again 10 (c ∷ d) n h)
     ]
 
-pub number_again : (text : List ℕ) (n : ℕ) → IsNumber text n → run_number text ≡ Some n
-number_again text n h = elim h [ inl d ↦ decimal_again text n d | inr d ↦ ap run_number d.1 ∙ digits_again 16 d.0 n d.2 ]
+pub number_again : (text : List ℕ) (n : ℕ) → IsNumber text n → read_number text ≡ Some n
+number_again text n h = elim h [ inl d ↦ decimal_again text n d | inr d ↦ ap read_number d.1 ∙ digits_again 16 d.0 n d.2 ]
 
 -- ## A number at the front
 
 pub number_front : (ps : List Piece) (f : ℕ × List Piece) → first_number ps ≡ Some f → (a : List Piece) × (ps ≡ a ++ f.1) × SpellsNumber f.0 a
 number_front (Run d ∷ ps) f e =
-    let k = with_rest_is ps (run_number d) f e in
+    let k = with_rest_is ps (read_number d) f e in
     (Run d ∷ [], ap (λ (qs : List Piece). Run d ∷ qs) k.1, inl (d, refl, number_is d f.0 k.0))
 number_front (Sign Ampersand ∷ Run d ∷ ps) f e =
     let k = with_rest_is ps (number_by 16 d) f e in

@@ -30,9 +30,9 @@ after_zero [] = number_by 10 (48 ∷ [])
 after_zero (c ∷ d) = if c == 120 then number_by 16 d else number_by 10 (48 ∷ c ∷ d)
 
 -- after `0x` hexadecimal, else decimal
-abbrev pub run_number : List ℕ → Option ℕ
-run_number [] = None
-run_number (c ∷ d) = if c == 48 then after_zero d else number_by 10 (c ∷ d)
+abbrev pub read_number : List ℕ → Option ℕ
+read_number [] = None
+read_number (c ∷ d) = if c == 48 then after_zero d else number_by 10 (c ∷ d)
 
 -- what was read, and the pieces after it
 abbrev pub with_rest : {A : Type 0} → List Piece → Option A → Option (A × List Piece)
@@ -45,6 +45,6 @@ first_hex _ = None
 
 -- a number at the front
 abbrev pub first_number : List Piece → Option (ℕ × List Piece)
-first_number (Run d ∷ ps) = with_rest ps (run_number d)
+first_number (Run d ∷ ps) = with_rest ps (read_number d)
 first_number (Sign Ampersand ∷ ps) = first_hex ps
 first_number _ = None

@@ -28,7 +28,7 @@ abbrev pub feed_len : List ℕ → ℕ
 feed_len text = prefix_len (λ b. not (b == 10)) text
 
 -- a line without the CR at its end
-unfoldable pub no_return : List ℕ → List ℕ
-no_return [] = []
-no_return (b ∷ []) = if b == 13 then [] else b ∷ []
-no_return (b ∷ c ∷ rest) = b ∷ no_return (c ∷ rest)
+unfoldable pub without_return : List ℕ → List ℕ
+without_return [] = []
+without_return (b ∷ []) = if b == 13 then [] else b ∷ []
+without_return (b ∷ c ∷ rest) = b ∷ without_return (c ∷ rest)

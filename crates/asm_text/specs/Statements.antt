@@ -7,7 +7,7 @@ use Rattle.std.specs.List.{cons_option, list_all, prefix_len}
 use Rattle.arm2_decode.specs.declared.names.Cond.{Cond}
 use Rattle.arm2_decode.specs.declared.names.Register.{Register}
 use Rattle.asm_text.specs.Pieces.{Piece, Run, Comma, Sign, Gap, is_blank, is_name, pieces}
-use Rattle.asm_text.specs.Numbers.{first_hex, number_by, first_number, run_number, with_rest}
+use Rattle.asm_text.specs.Numbers.{first_hex, number_by, first_number, read_number, with_rest}
 use Rattle.asm_text.specs.Registers.{first_register_comma}
 use Rattle.asm_text.specs.Words.{spelled_word_of}
 use Rattle.asm_text.specs.Said.{Target, Number, Label, Said, Codes, Refers, Orgs, Lists}
@@ -40,7 +40,7 @@ target_by None d = if is_label d then Some (Label d) else None
 
 -- a number or a label
 abbrev pub run_target : List ℕ → Option Target
-run_target d = target_by (run_number d) d
+run_target d = target_by (read_number d) d
 
 abbrev pub first_target : List Piece → Option (Target × List Piece)
 first_target (Run d ∷ ps) = with_rest ps (run_target d)
@@ -185,8 +185,8 @@ abbrev pub is_text_line : List ℕ → Bool
 is_text_line line = list_all is_text (body line) && list_all is_comment_text (drop (body_len line) line)
 
 -- a text without the bytes of a sort that it begins with
-abbrev pub past : (ℕ → Bool) → List ℕ → List ℕ
-past sort text = drop (prefix_len sort text) text
+abbrev pub drop_while : (ℕ → Bool) → List ℕ → List ℕ
+drop_while sort text = drop (prefix_len sort text) text
 
 abbrev pub begins_blank_or_ends : List ℕ → Bool
 begins_blank_or_ends [] = true
@@ -195,7 +195,7 @@ begins_blank_or_ends (b ∷ bs) = is_blank b
 -- a word ends at a blank or with the line: what follows label, blanks and word, each of which may be
 -- missing, begins with a blank or is nothing
 abbrev pub word_ends : List ℕ → Bool
-word_ends text = begins_blank_or_ends (past is_name (past is_blank (past is_name text)))
+word_ends text = begins_blank_or_ends (drop_while is_name (drop_while is_blank (drop_while is_name text)))
 
 -- what a line without its comment says
 abbrev pub body_says : List ℕ → Result Parsed TextFault

@@ -18,7 +18,7 @@
 #![tactic(auto)]
 
 mod address;
-mod hex;
+mod hexadecimal;
 mod law;
 mod lines;
 mod list;
@@ -33,10 +33,10 @@ mod table;
 mod token;
 mod word;
 
-pub use hex::{hex_text, hex8};
+pub use hexadecimal::{hex, hex8};
 pub use law::lines_are_spelled;
 pub use lines::{Line, first_line, read_line};
-pub use names::{Head, Suffix, cond_letters, opcode_letters};
+pub use names::{Head, Suffix, cond_name, opcode_name};
 pub use number::{read_hex, read_number};
 pub use printed_lines::{Shown, WORD_LINE_ROOM, read_shown};
 pub use statement::TextFault;

@@ -5,7 +5,7 @@ ghost use Rattle.asm_text.specs.Pieces.{piece_of};
 ghost use Rattle.asm_text.specs.Statements.{after_label, body};
 ghost use Rattle.asm_text.specs.Statements.{is_comment_text, is_text, is_text_line, line_of};
 ghost use Rattle.asm_text.specs.Statements.{parsed};
-ghost use Rattle.asm_text.specs.Source.{feed_len, line_view, lines_of, no_return};
+ghost use Rattle.asm_text.specs.Source.{feed_len, line_view, lines_of, without_return};
 
 use crate::statement::{TextFault, is_label, read_statement};
 use crate::syntax::Statement;
@@ -172,7 +172,7 @@ fn after(text: &[u8], start: usize) -> &[u8]
 // A line without the CR at its end.
 #[tactic(auto, using(crate::proofs::SourceLaws::return_at, crate::proofs::SourceLaws::return_empty))]
 fn without_return(line: &[u8]) -> &[u8]
-    ensures { result.now ≡ no_return line.now }
+    ensures { result.now ≡ without_return line.now }
 {
     let len = line.len();
     if len == 0 {

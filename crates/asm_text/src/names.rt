@@ -121,7 +121,7 @@ const SUFFIXES: [(&[u8], Suffix); 14] = [
 ];
 
 /// The two letters of a condition, in upper case.
-pub fn cond_letters(cond: Cond) -> &'static [u8]
+pub fn cond_name(cond: Cond) -> &'static [u8]
     ensures letters { result.now ≡ cond_name cond }
     ensures two { length result.now ≡ 2 }
 {
@@ -129,7 +129,7 @@ pub fn cond_letters(cond: Cond) -> &'static [u8]
 }
 
 /// The three letters of a data processing word, in upper case.
-pub fn opcode_letters(opcode: Opcode) -> &'static [u8]
+pub fn opcode_name(opcode: Opcode) -> &'static [u8]
     ensures letters { result.now ≡ opcode_name opcode }
     ensures three { length result.now ≡ 3 }
 {

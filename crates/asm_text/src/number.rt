@@ -1,6 +1,6 @@
 ghost use Rattle.std.specs.Prelude.{◌≡◌, ◌≤◌, ◌⊎◌, map, option_map};
 ghost use Rattle.asm_text.specs.Pieces.{in_pieces, piece_of};
-ghost use Rattle.asm_text.specs.Numbers.{capped, digits_of, first_hex, number_by, first_number, run_number};
+ghost use Rattle.asm_text.specs.Numbers.{capped, digits_of, first_hex, number_by, first_number, read_number};
 
 use crate::token::{Mark, Token};
 
@@ -38,7 +38,7 @@ fn number_by(radix: u32, text: &[u8]) -> Option<u32>
 
 /// The number that a run of letters and digits spells: decimal, or hexadecimal after `0x`, below 2^32.
 pub fn read_number(text: &[u8]) -> Option<u32>
-    ensures { result ≡ run_number text.now }
+    ensures { result ≡ read_number text.now }
 {
     match text {
         [b'0', b'x', hex @ ..] => read_hex(hex),

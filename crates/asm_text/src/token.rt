@@ -3,7 +3,7 @@ ghost use Rattle.std.specs.Prelude.{[], List, false};
 ghost use Rattle.std.specs.List.{prefix_len};
 ghost use Rattle.asm_text.specs.Pieces.{is_blank, is_name, mark_of, pieces, piece_of, Piece, first_blank};
 ghost use Rattle.asm_text.specs.Lines.{Written, WellSpaced};
-ghost use Rattle.asm_text.specs.Statements.{begins_blank_or_ends, past};
+ghost use Rattle.asm_text.specs.Statements.{begins_blank_or_ends, drop_while};
 ghost use Rattle.asm_text.specs.Statements.{word_ends};
 
 use std::alloc::{AllocError, Global};
@@ -111,7 +111,7 @@ pub fn after_blanks(text: &[u8]) -> &[u8]
 }
 
 fn after_name(text: &[u8]) -> &[u8]
-    ensures { result.now ≡ past is_name text.now }
+    ensures { result.now ≡ drop_while is_name text.now }
 {
     &text[name_len(text)..]
 }

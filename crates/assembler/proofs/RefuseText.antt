@@ -12,13 +12,13 @@ use Rattle.asm_text.specs.Names.{head_of}
 use Rattle.asm_text.specs.Pieces.{Piece, Run, Comma, Sign, Gap, gap_before, is_blank, is_name, pieces}
 use Rattle.asm_text.specs.Said.{Said}
 use Rattle.asm_text.specs.Spelling.{Spells}
-use Rattle.asm_text.specs.Statements.{Parsed, begins_blank_or_ends, after_label, after_word, body, body_len, is_comment_text, is_in_body, is_label, is_text, is_text_line, line_of, operands_of, or_bad, parsed, past, statement_of, with_label, with_word, word_ends}
+use Rattle.asm_text.specs.Statements.{Parsed, begins_blank_or_ends, after_label, after_word, body, body_len, is_comment_text, is_in_body, is_label, is_text, is_text_line, line_of, operands_of, or_bad, parsed, drop_while, statement_of, with_label, with_word, word_ends}
 use Rattle.asm_text.specs.Words.{IsSpelling, spelled_word_of, word_of}
 use Rattle.asm_text.specs.declared.word.Word.{Word}
 use Rattle.asm_text.specs.declared.statement.TextFault.{TextFault}
 use Rattle.asm_text.specs.declared.statement.TextFault.TheVariants as text_fault
 use Rattle.asm_text.proofs.PieceLaws.{first_name, first_no_run, first_passes, pieces-blanks, pieces-gap, pieces-run, pieces_spaced, pieces_written, prefix_all}
-use Rattle.asm_text.proofs.WordEnds.{WordAfter, blank_no_name, blanks_no_name, gap_no_name, name_no_gap, past_front, blanks_alone}
+use Rattle.asm_text.proofs.WordEnds.{WordAfter, blank_no_name, blanks_no_name, gap_no_name, name_no_gap, drop_while_front, blanks_alone}
 use Rattle.asm_text.proofs.WordLaws.{false_true, spelled_again, spelled_is}
 use Rattle.assembler.specs.Faults.{number}
 use Rattle.assembler.specs.Refusals.{BeginsLine, BeginsStatement, HasStrayByte, IsUnreadable}
@@ -215,11 +215,11 @@ begins_pieces text h =
 statement_ends : (text : List ℕ) → BeginsStatement text → WordAfter text
 statement_ends text b =
     let stops = name_no_gap b.name b.rest (word_some b.name b.word b.word-is) b.letters in
-    let first : past is_blank text ≡ b.name ++ b.rest =
-    ap (past is_blank) b.parts ∙ past_front is_blank b.blanks (b.name ++ b.rest) b.blank stops in
-    let second : past is_name (b.name ++ b.rest) ≡ b.rest =
-    past_front is_name b.name b.rest b.letters (ends_no_name b.rest b.ends) in
-    ap begins_blank_or_ends (ap (past is_name) first ∙ second) ∙ b.ends
+    let first : drop_while is_blank text ≡ b.name ++ b.rest =
+    ap (drop_while is_blank) b.parts ∙ drop_while_front is_blank b.blanks (b.name ++ b.rest) b.blank stops in
+    let second : drop_while is_name (b.name ++ b.rest) ≡ b.rest =
+    drop_while_front is_name b.name b.rest b.letters (ends_no_name b.rest b.ends) in
+    ap begins_blank_or_ends (ap (drop_while is_name) first ∙ second) ∙ b.ends
 
 after_label_ends : (text : List ℕ) → IsBlanks text ⊎ BeginsStatement text
     → (first_passes is_name text ≡ false) × WordAfter text
@@ -238,9 +238,9 @@ begins_end text h =
     let letters : list_all is_name h.label ≡ true =
     elim h.label-is [ inl e ↦ rw e refl | inr e ↦ (label_letters h.label e).0 ] in
     let k = after_label_ends h.after h.statement in
-    let first : past is_name text ≡ h.after =
-    ap (past is_name) h.parts ∙ past_front is_name h.label h.after letters k.0 in
-    ap (λ (t : List ℕ). begins_blank_or_ends (past is_name (past is_blank t))) first ∙ k.1
+    let first : drop_while is_name text ≡ h.after =
+    ap (drop_while is_name) h.parts ∙ drop_while_front is_name h.label h.after letters k.0 in
+    ap (λ (t : List ℕ). begins_blank_or_ends (drop_while is_name (drop_while is_blank t))) first ∙ k.1
 
 -- ## And pieces that begin well are those of such a line
 
@@ -264,11 +264,11 @@ statement_from (Run name ∷ ps) text (gap, after, is, some, blanks, (rest, more
     (word, spelled) ends =
     let stops =
     subst (λ t. first_passes is_blank t ≡ false) (sym more) (name_no_gap name rest letter letters) in
-    let first : past is_blank text ≡ after =
-    ap (past is_blank) is ∙ past_front is_blank gap after blanks stops in
-    let second : past is_name after ≡ rest =
-    ap (past is_name) more
-    ∙ past_front is_name name rest letters (written_no_name ps rest w spaced.0) in
+    let first : drop_while is_blank text ≡ after =
+    ap (drop_while is_blank) is ∙ drop_while_front is_blank gap after blanks stops in
+    let second : drop_while is_name after ≡ rest =
+    ap (drop_while is_name) more
+    ∙ drop_while_front is_name name rest letters (written_no_name ps rest w spaced.0) in
     record {
       blanks = gap;
       name = name;
@@ -279,7 +279,7 @@ statement_from (Run name ∷ ps) text (gap, after, is, some, blanks, (rest, more
       letters = letters;
       word = word;
       word-is = spelled_is name word spelled;
-      ends = ap begins_blank_or_ends (sym (ap (past is_name) first ∙ second)) ∙ ends;
+      ends = ap begins_blank_or_ends (sym (ap (drop_while is_name) first ∙ second)) ∙ ends;
     }
 statement_from ps text w spaced h ends = absurd h
 
@@ -291,9 +291,10 @@ pieces_begin [] text w spaced ends h =
 pieces_begin (Gap ∷ ps) text w spaced ends h =
     let (gap, after, is, some, blanks, more) = w in
     let stops = subst (λ t. first_passes is_name t ≡ false) (sym is) (gap_no_name gap after some blanks) in
-    let none : past is_name text ≡ text = past_front is_name [] text refl stops in
+    let none : drop_while is_name text ≡ text = drop_while_front is_name [] text refl stops in
     let word : WordAfter text =
-    ap (λ (t : List ℕ). begins_blank_or_ends (past is_name (past is_blank t))) (sym none) ∙ ends in
+    ap (λ (t : List ℕ). begins_blank_or_ends (drop_while is_name (drop_while is_blank t))) (sym none)
+    ∙ ends in
     record {
       label =
           [];
@@ -309,10 +310,11 @@ pieces_begin (Run label ∷ []) text (after, is, some, letters, blanks) spaced e
 pieces_begin (Run label ∷ Gap ∷ ps) text (after, is, some, letters, w) spaced ends h =
     let (gap, rest, more, one, blanks, v) = w in
     let stops = subst (λ t. first_passes is_name t ≡ false) (sym more) (gap_no_name gap rest one blanks) in
-    let front : past is_name text ≡ after =
-    ap (past is_name) is ∙ past_front is_name label after letters stops in
+    let front : drop_while is_name text ≡ after =
+    ap (drop_while is_name) is ∙ drop_while_front is_name label after letters stops in
     let word : WordAfter after =
-    ap (λ (t : List ℕ). begins_blank_or_ends (past is_name (past is_blank t))) (sym front) ∙ ends in
+    ap (λ (t : List ℕ). begins_blank_or_ends (drop_while is_name (drop_while is_blank t))) (sym front)
+    ∙ ends in
     record {
       label =
           label;

@@ -18,7 +18,7 @@ use arm2_decode::{
     Block, Branch, Cond, DataImmediate, DataRegister, DataRegisterShift, Instr, Multiply, Opcode,
     Operation, Register, Shift, SingleImmediate, SingleRegister, Swi, asks_for_user, bit_of_word,
 };
-use asm_text::{WORD_LINE_ROOM, cond_letters, opcode_letters};
+use asm_text::{WORD_LINE_ROOM, cond_name, opcode_name};
 use bus_ticks::SPACE_END;
 
 fn cond_bytes(cond: Cond) -> &'static [u8]
@@ -27,7 +27,7 @@ fn cond_bytes(cond: Cond) -> &'static [u8]
 {
     match cond {
         Cond::Al => b"",
-        _ => cond_letters(cond),
+        _ => cond_name(cond),
     }
 }
 
@@ -246,7 +246,7 @@ impl Line {
         ensures text { self.new ≡ self.old ++ compare_front cond opcode rn rd }
         ensures room { length self.new ≤ length self.old + 16 }
     {
-        self.push_word(opcode_letters(opcode), cond, compare_bytes(rd));
+        self.push_word(opcode_name(opcode), cond, compare_bytes(rd));
         self.push_register(rn);
         self.put_all(b",");
     }
@@ -256,7 +256,7 @@ impl Line {
         ensures text { self.new ≡ self.old ++ move_front cond opcode sets_flags rd }
         ensures room { length self.new ≤ length self.old + 16 }
     {
-        self.push_word(opcode_letters(opcode), cond, flags_bytes(sets_flags));
+        self.push_word(opcode_name(opcode), cond, flags_bytes(sets_flags));
         self.push_register(rd);
         self.put_all(b",");
     }
@@ -266,7 +266,7 @@ impl Line {
         ensures text { self.new ≡ self.old ++ three_front cond x.opcode x.sets_flags x.rn x.rd }
         ensures room { length self.new ≤ length self.old + 16 }
     {
-        self.push_word(opcode_letters(x.opcode), cond, flags_bytes(x.sets_flags));
+        self.push_word(opcode_name(x.opcode), cond, flags_bytes(x.sets_flags));
         self.push_register(x.rd);
         self.push_comma_register(x.rn);
         self.put_all(b",");

@@ -2,7 +2,7 @@ ghost use Rattle.std.specs.Prelude.{◌≡◌, ◌+◌, ◌<◌, ◌≤◌, ◌+
 ghost use Rattle.asm_text.specs.Hex.{hex};
 
 use arrayvec::ArrayVec;
-use asm_text::{WORD_LINE_ROOM, hex_text};
+use asm_text::{WORD_LINE_ROOM, hex};
 use itoa::Buffer;
 use std::marker::Model;
 
@@ -79,6 +79,6 @@ impl Line {
         requires { length self.old + length (hex n) ≤ WORD_LINE_ROOM }
         ensures { self.new ≡ self.old ++ hex n }
     {
-        self.put_all(hex_text(n).as_slice());
+        self.put_all(hex(n).as_slice());
     }
 }

@@ -1,7 +1,7 @@
 -- What has to be stated of a handler.
 use Rattle.std.specs.Prelude.{◌≡◌, ℕ, if◌then◌else◌, List, Option, Some, None, Ok}
 use Rattle.std.specs.Prelude.{option_and_then}
-use Rattle.asm_text.specs.Numbers.{run_number}
+use Rattle.asm_text.specs.Numbers.{read_number}
 use Rattle.bus_ticks.specs.Prices.{is_word_address}
 use Rattle.drafting.specs.Draft.{IsDraft}
 use Rattle.loader.specs.Image.{Words}
@@ -16,7 +16,7 @@ if_word n = if is_word_address n then Some n else None
 
 -- decimal, or hexadecimal after `0x`
 abbrev pub address_in : List ℕ → Option ℕ
-address_in text = option_and_then if_word (run_number text)
+address_in text = option_and_then if_word (read_number text)
 
 abbrev pub or_address : List ℕ → Option ℕ → Option ℕ
 or_address text (Some a) = Some a

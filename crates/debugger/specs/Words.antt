@@ -1,6 +1,6 @@
 -- The words of a command line and its numbers, which are those of the assembler's source.
 use Rattle.std.specs.Prelude.{◌==◌, ℕ, not, Bool, true, false, List, [], ◌∷◌, Option, if◌then◌else◌}
-use Rattle.asm_text.specs.Numbers.{number_by, run_number}
+use Rattle.asm_text.specs.Numbers.{number_by, read_number}
 use Rattle.asm_text.specs.Pieces.{is_blank}
 
 abbrev pub starts_word : List ℕ → Bool
@@ -20,5 +20,5 @@ words_of (b ∷ bs) = if is_blank b then words_of bs else joined b (starts_word 
 
 -- decimal, or hexadecimal after `&` or `0x`, below 2^32
 abbrev pub number_of : List ℕ → Option ℕ
-number_of [] = run_number []
-number_of (c ∷ d) = if c == 38 then number_by 16 d else run_number (c ∷ d)
+number_of [] = read_number []
+number_of (c ∷ d) = if c == 38 then number_by 16 d else read_number (c ∷ d)

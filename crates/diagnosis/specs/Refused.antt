@@ -12,7 +12,7 @@ use Rattle.std.specs.Ordering.{nat_cmp}
 use Rattle.std.specs.Str.{bytes_eq}
 use Rattle.walks.specs.declared.limits.TheConstants.{MOST_ROUNDS}
 use Rattle.bus_ticks.specs.Prices.{is_word_address}
-use Rattle.asm_text.specs.Numbers.{run_number}
+use Rattle.asm_text.specs.Numbers.{read_number}
 use Rattle.loader.specs.Labels.{NamedAddresses, address_of}
 use Rattle.toml.specs.Parse.{parse_document}
 use Rattle.toml_reading.specs.Documents.{is_one_of}
@@ -134,7 +134,7 @@ fits_key key value =
 
 -- a label's address, or the number that is written in decimal or after `0x`
 abbrev pub address_at : NamedAddresses → Value → Option ℕ
-address_at names (Bare w) = run_number w
+address_at names (Bare w) = read_number w
 address_at names (Quoted quote w) = address_of names w
 
 -- a text in the place of an address that is no label

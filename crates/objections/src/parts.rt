@@ -5,7 +5,7 @@ ghost use Rattle.asm_text.specs.Hex.{hex};
 ghost use Rattle.certificate.specs.Words.{label_words, list_words};
 ghost use Rattle.objections.specs.Texts.{edge_lines, place_line, place_name};
 
-use asm_text::hex_text;
+use asm_text::hex;
 use flow_graph::{Calls, Edge, Label, Place};
 use std::alloc::AllocError;
 use text_rows::{put, put_decimal};
@@ -14,7 +14,7 @@ use text_rows::{put, put_decimal};
 fn put_hex(out: &mut Vec<u8>, number: u32) -> Result<(), AllocError>
     ensures { OnOk result (out.new.items ≡ out.old.items ++ hex number) }
 {
-    put(out, hex_text(u64::from(number)).as_slice())
+    put(out, hex(u64::from(number)).as_slice())
 }
 
 // Adds addresses of calls, as a certificate has them.

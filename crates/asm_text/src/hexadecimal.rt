@@ -13,7 +13,7 @@ fn hex_digit(n: u32) -> u8
 }
 
 /// A number in upper-case hexadecimal, without leading zeros.
-pub fn hex_text(number: u64) -> ArrayVec<u8, 16>
+pub fn hex(number: u64) -> ArrayVec<u8, 16>
     ensures { result.items ≡ hex number }
 {
     if number < 16 {
@@ -21,7 +21,7 @@ pub fn hex_text(number: u64) -> ArrayVec<u8, 16>
         text.push(hex_digit(number as u32));
         return text;
     }
-    let mut text = hex_text(number / 16);
+    let mut text = hex(number / 16);
     text.push(hex_digit((number % 16) as u32));
     text
 }
