@@ -28,7 +28,7 @@ use Rattle.asm_text.specs.Words.{branch_name}
 use Rattle.asm_text.specs.Hex.{hex}
 use Rattle.arm2_decode.specs.Bits.{bit_of_word}
 use Rattle.arm2_decode.specs.Transfers.{asks_for_user}
-use Rattle.assembler.specs.ShownLines.{amount_text, block_name, block_suffix, block_text, closed, comma_register, compare_front, compare_text, cond_text, data_front, factors_text, flags_text, follows, is_plain, list_operand, list_text, listed, listed_below, load_name, mark_if, move_front, multiply_text, numbered, offset_text, opened, operation_text, register_text, run_first, run_last, shift_text, shifted_text, shown_line, sign_of, single_immediate_text, single_register_text, shown_target, three_front, transfer_front, transfer_suffix, word_text}
+use Rattle.assembler.specs.ShownLines.{amount_text, block_name, block_suffix, block_text, address_end, comma_register, compare_front, compare_text, cond_text, data_front, factors_text, flags_text, follows, is_plain, list_operand, list_text, listed, listed_below, load_name, mark_if, move_front, multiply_text, numbered, offset_text, base_end, operation_text, register_text, run_first, run_last, shift_text, shifted_text, shown_line, sign_text, single_immediate_text, single_register_text, shown_target, three_front, transfer_front, transfer_suffix, word_text}
 
 is_spelled : ℕ → Bool
 is_spelled b = is_shown b && not (is_ascii_lowercase b)
@@ -186,18 +186,18 @@ transfer_spelled c load byte user rd rn =
     (word_spelled (load_name load) (transfer_suffix byte user) c (load_spelled load) (suffix_spelled byte user))
     (both (register_text rd) (codes ",[" ++ register_text rn) (register_spelled rd) (both (codes ",[") (register_text rn) refl (register_spelled rn)))
 
-opened_spelled : (before : Bool) → Spelled (opened before)
+base_end_spelled : (before : Bool) → Spelled (base_end before)
 unfolding is_spelled
-opened_spelled true = refl
-opened_spelled false = refl
+base_end_spelled true = refl
+base_end_spelled false = refl
 
-closed_spelled : (before write_back : Bool) → Spelled (closed before write_back)
+address_end_spelled : (before write_back : Bool) → Spelled (address_end before write_back)
 unfolding is_spelled
-closed_spelled false write_back = refl
-closed_spelled true true = refl
-closed_spelled true false = refl
+address_end_spelled false write_back = refl
+address_end_spelled true true = refl
+address_end_spelled true false = refl
 
-sign_spelled : (up : Bool) → Spelled (sign_of up)
+sign_spelled : (up : Bool) → Spelled (sign_text up)
 unfolding is_spelled
 sign_spelled true = refl
 sign_spelled false = refl
@@ -205,24 +205,24 @@ sign_spelled false = refl
 offset_spelled : (before up : Bool) (n : ℕ) → Spelled (offset_text before up n)
 unfolding is_spelled
 offset_spelled before up n =
-    both (opened before) (codes "#" ++ (sign_of up ++ decimal n)) (opened_spelled before)
-    (both (codes "#") (sign_of up ++ decimal n) refl (both (sign_of up) (decimal n) (sign_spelled up) (decimal_spelled n)))
+    both (base_end before) (codes "#" ++ (sign_text up ++ decimal n)) (base_end_spelled before)
+    (both (codes "#") (sign_text up ++ decimal n) refl (both (sign_text up) (decimal n) (sign_spelled up) (decimal_spelled n)))
 
 single_immediate_spelled : (c : Cond) (x : SingleImmediate) → Spelled (single_immediate_text c x)
 single_immediate_spelled c x =
-    both (transfer_front c x.load x.byte (asks_for_user x.before x.write_back) x.rd x.rn) (cond (is_plain x) [] (offset_text x.before x.up x.offset) ++ closed x.before x.write_back)
+    both (transfer_front c x.load x.byte (asks_for_user x.before x.write_back) x.rd x.rn) (cond (is_plain x) [] (offset_text x.before x.up x.offset) ++ address_end x.before x.write_back)
     (transfer_spelled c x.load x.byte (asks_for_user x.before x.write_back) x.rd x.rn)
-    (both (cond (is_plain x) [] (offset_text x.before x.up x.offset)) (closed x.before x.write_back)
-    (one_of (is_plain x) [] (offset_text x.before x.up x.offset) refl (offset_spelled x.before x.up x.offset)) (closed_spelled x.before x.write_back))
+    (both (cond (is_plain x) [] (offset_text x.before x.up x.offset)) (address_end x.before x.write_back)
+    (one_of (is_plain x) [] (offset_text x.before x.up x.offset) refl (offset_spelled x.before x.up x.offset)) (address_end_spelled x.before x.write_back))
 
 single_register_spelled : (c : Cond) (x : SingleRegister) → Spelled (single_register_text c x)
 single_register_spelled c x =
-    let end = both (shifted_text x.shift x.amount) (closed x.before x.write_back) (shifted_spelled x.shift x.amount) (closed_spelled x.before x.write_back) in
-    let operand = both (register_text x.rm) (shifted_text x.shift x.amount ++ closed x.before x.write_back) (register_spelled x.rm) end in
-    let signed = both (sign_of x.up) (register_text x.rm ++ (shifted_text x.shift x.amount ++ closed x.before x.write_back)) (sign_spelled x.up) operand in
-    both (transfer_front c x.load x.byte (asks_for_user x.before x.write_back) x.rd x.rn) (opened x.before ++ (sign_of x.up ++ (register_text x.rm ++ (shifted_text x.shift x.amount ++ closed x.before x.write_back))))
+    let end = both (shifted_text x.shift x.amount) (address_end x.before x.write_back) (shifted_spelled x.shift x.amount) (address_end_spelled x.before x.write_back) in
+    let operand = both (register_text x.rm) (shifted_text x.shift x.amount ++ address_end x.before x.write_back) (register_spelled x.rm) end in
+    let signed = both (sign_text x.up) (register_text x.rm ++ (shifted_text x.shift x.amount ++ address_end x.before x.write_back)) (sign_spelled x.up) operand in
+    both (transfer_front c x.load x.byte (asks_for_user x.before x.write_back) x.rd x.rn) (base_end x.before ++ (sign_text x.up ++ (register_text x.rm ++ (shifted_text x.shift x.amount ++ address_end x.before x.write_back))))
     (transfer_spelled c x.load x.byte (asks_for_user x.before x.write_back) x.rd x.rn)
-    (both (opened x.before) (sign_of x.up ++ (register_text x.rm ++ (shifted_text x.shift x.amount ++ closed x.before x.write_back))) (opened_spelled x.before) signed)
+    (both (base_end x.before) (sign_text x.up ++ (register_text x.rm ++ (shifted_text x.shift x.amount ++ address_end x.before x.write_back))) (base_end_spelled x.before) signed)
 
 -- ## Blocks
 

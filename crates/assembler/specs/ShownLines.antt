@@ -158,22 +158,22 @@ transfer_front c load byte user rd rn =
     ++ (register_text rd ++ (codes ",[" ++ register_text rn))
 
 -- the bracket closes in front of an offset that is added after the access
-abbrev pub opened : Bool → List ℕ
-opened true = codes ","
-opened false = codes "],"
+abbrev pub base_end : Bool → List ℕ
+base_end true = codes ","
+base_end false = codes "],"
 
 -- or after one that is added before it, with a mark where it is written back
-abbrev pub closed : Bool → Bool → List ℕ
-closed false write_back = []
-closed true true = codes "]!"
-closed true false = codes "]"
+abbrev pub address_end : Bool → Bool → List ℕ
+address_end false write_back = []
+address_end true true = codes "]!"
+address_end true false = codes "]"
 
-abbrev pub sign_of : Bool → List ℕ
-sign_of true = []
-sign_of false = codes "-"
+abbrev pub sign_text : Bool → List ℕ
+sign_text true = []
+sign_text false = codes "-"
 
 abbrev pub offset_text : Bool → Bool → ℕ → List ℕ
-offset_text before up n = opened before ++ (codes "#" ++ (sign_of up ++ decimal n))
+offset_text before up n = base_end before ++ (codes "#" ++ (sign_text up ++ decimal n))
 
 -- 0, added before the access and not written back, is not written
 abbrev pub is_plain : SingleImmediate → Bool
@@ -182,16 +182,16 @@ is_plain x = (x.offset == 0 && x.up) && (x.before && not x.write_back)
 abbrev pub single_immediate_text : Cond → SingleImmediate → List ℕ
 single_immediate_text c x =
     transfer_front c x.load x.byte (asks_for_user x.before x.write_back) x.rd x.rn
-    ++ ((if is_plain x then [] else offset_text x.before x.up x.offset) ++ closed x.before x.write_back)
+    ++ ((if is_plain x then [] else offset_text x.before x.up x.offset) ++ address_end x.before x.write_back)
 
 abbrev pub single_register_text : Cond → SingleRegister → List ℕ
 single_register_text c x =
     transfer_front c x.load x.byte (asks_for_user x.before x.write_back) x.rd x.rn
     ++
-    (opened x.before
+    (base_end x.before
     ++
-    (sign_of x.up
-    ++ (register_text x.rm ++ (shifted_text x.shift x.amount ++ closed x.before x.write_back))))
+    (sign_text x.up
+    ++ (register_text x.rm ++ (shifted_text x.shift x.amount ++ address_end x.before x.write_back))))
 
 -- ## Blocks
 

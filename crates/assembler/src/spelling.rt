@@ -2,13 +2,13 @@ ghost use Rattle.std.specs.Prelude.{◌≡◌, ◌+◌, ◌*◌, ◌<◌, ◌≤
 ghost use Rattle.std.specs.Prelude.{decimal, length, if◌then◌else◌};
 ghost use Rattle.arm2_decode.specs.Bits.{bit_of_word};
 ghost use Rattle.asm_text.specs.Words.{branch_name};
-ghost use Rattle.assembler.specs.ShownLines.{amount_text, block_name, block_suffix, block_text, branch_text};
-ghost use Rattle.assembler.specs.ShownLines.{closed, comma_register, compare_front, cond_text, data_front};
+ghost use Rattle.assembler.specs.ShownLines.{address_end, amount_text, base_end, block_name, block_suffix, block_text, branch_text};
+ghost use Rattle.assembler.specs.ShownLines.{comma_register, compare_front, cond_text, data_front};
 ghost use Rattle.assembler.specs.ShownLines.{data_immediate_text, data_register_shift_text};
 ghost use Rattle.assembler.specs.ShownLines.{data_register_text, factors_text, flags_text, list_operand};
 ghost use Rattle.assembler.specs.ShownLines.{list_text, listed, listed_below, load_name, mark_if, move_front};
-ghost use Rattle.assembler.specs.ShownLines.{multiply_text, numbered, offset_text, opened, register_text};
-ghost use Rattle.assembler.specs.ShownLines.{shift_text, shifted_text, shown_line, sign_of};
+ghost use Rattle.assembler.specs.ShownLines.{multiply_text, numbered, offset_text, register_text};
+ghost use Rattle.assembler.specs.ShownLines.{shift_text, shifted_text, shown_line, sign_text};
 ghost use Rattle.assembler.specs.ShownLines.{single_immediate_text, single_register_text, shown_target};
 ghost use Rattle.assembler.specs.ShownLines.{three_front, transfer_front, transfer_suffix, is_plain};
 ghost use Rattle.assembler.specs.ShownLines.{word_text, compare_text, run_first, run_last, follows, swi_text};
@@ -21,7 +21,7 @@ use arm2_decode::{
 use asm_text::{WORD_LINE_ROOM, cond_name, opcode_name};
 use bus_ticks::SPACE_END;
 
-fn cond_bytes(cond: Cond) -> &'static [u8]
+fn cond_text(cond: Cond) -> &'static [u8]
     ensures text { result.now ≡ cond_text cond }
     ensures room { length result.now ≤ 2 }
 {
@@ -31,7 +31,7 @@ fn cond_bytes(cond: Cond) -> &'static [u8]
     }
 }
 
-fn shift_bytes(shift: Shift) -> &'static [u8]
+fn shift_text(shift: Shift) -> &'static [u8]
     ensures text { result.now ≡ shift_text shift }
     ensures room { length result.now ≤ 5 }
 {
@@ -43,21 +43,21 @@ fn shift_bytes(shift: Shift) -> &'static [u8]
     }
 }
 
-fn flags_bytes(sets_flags: bool) -> &'static [u8]
+fn flags_text(sets_flags: bool) -> &'static [u8]
     ensures text { result.now ≡ flags_text sets_flags }
     ensures room { length result.now ≤ 1 }
 {
     if sets_flags { b"S" } else { b"" }
 }
 
-fn compare_bytes(rd: Register) -> &'static [u8]
+fn compare_text(rd: Register) -> &'static [u8]
     ensures text { result.now ≡ compare_text rd }
     ensures room { length result.now ≤ 1 }
 {
     if rd.is_pc() { b"P" } else { b"" }
 }
 
-fn transfer_bytes(byte: bool, user: bool) -> &'static [u8]
+fn transfer_suffix(byte: bool, user: bool) -> &'static [u8]
     ensures text { result.now ≡ transfer_suffix byte user }
     ensures room { length result.now ≤ 2 }
 {
@@ -69,21 +69,21 @@ fn transfer_bytes(byte: bool, user: bool) -> &'static [u8]
     }
 }
 
-fn load_bytes(load: bool) -> &'static [u8]
+fn load_name(load: bool) -> &'static [u8]
     ensures text { result.now ≡ load_name load }
     ensures room { length result.now ≤ 3 }
 {
     if load { b"LDR" } else { b"STR" }
 }
 
-fn block_bytes(load: bool) -> &'static [u8]
+fn block_name(load: bool) -> &'static [u8]
     ensures text { result.now ≡ block_name load }
     ensures room { length result.now ≤ 3 }
 {
     if load { b"LDM" } else { b"STM" }
 }
 
-fn block_suffix_bytes(before: bool, up: bool) -> &'static [u8]
+fn block_suffix(before: bool, up: bool) -> &'static [u8]
     ensures text { result.now ≡ block_suffix before up }
     ensures room { length result.now ≤ 2 }
 {
@@ -95,22 +95,22 @@ fn block_suffix_bytes(before: bool, up: bool) -> &'static [u8]
     }
 }
 
-fn branch_bytes(link: bool) -> &'static [u8]
+fn branch_name(link: bool) -> &'static [u8]
     ensures text { result.now ≡ branch_name link }
     ensures room { length result.now ≤ 2 }
 {
     if link { b"BL" } else { b"B" }
 }
 
-fn open_bytes(before: bool) -> &'static [u8]
-    ensures text { result.now ≡ opened before }
+fn base_end(before: bool) -> &'static [u8]
+    ensures text { result.now ≡ base_end before }
     ensures room { length result.now ≤ 2 }
 {
     if before { b"," } else { b"]," }
 }
 
-fn close_bytes(before: bool, write_back: bool) -> &'static [u8]
-    ensures text { result.now ≡ closed before write_back }
+fn address_end(before: bool, write_back: bool) -> &'static [u8]
+    ensures text { result.now ≡ address_end before write_back }
     ensures room { length result.now ≤ 2 }
 {
     match (before, write_back) {
@@ -120,8 +120,8 @@ fn close_bytes(before: bool, write_back: bool) -> &'static [u8]
     }
 }
 
-fn sign_bytes(up: bool) -> &'static [u8]
-    ensures text { result.now ≡ sign_of up }
+fn sign_text(up: bool) -> &'static [u8]
+    ensures text { result.now ≡ sign_text up }
     ensures room { length result.now ≤ 1 }
 {
     if up { b"" } else { b"-" }
@@ -200,7 +200,7 @@ impl Line {
         ensures room { length self.new ≤ length self.old + (length name.now + length suffix.now + 3) }
     {
         self.put_all(name);
-        self.put_all(cond_bytes(cond));
+        self.put_all(cond_text(cond));
         self.put_all(suffix);
         self.put_all(b" ");
     }
@@ -210,7 +210,7 @@ impl Line {
         ensures text { self.new ≡ self.old ++ amount_text shift amount }
         ensures room { length self.new ≤ length self.old + 16 }
     {
-        self.put_all(shift_bytes(shift));
+        self.put_all(shift_text(shift));
         self.push_number(amount);
     }
 
@@ -246,7 +246,7 @@ impl Line {
         ensures text { self.new ≡ self.old ++ compare_front cond opcode rn rd }
         ensures room { length self.new ≤ length self.old + 16 }
     {
-        self.push_word(opcode_name(opcode), cond, compare_bytes(rd));
+        self.push_word(opcode_name(opcode), cond, compare_text(rd));
         self.push_register(rn);
         self.put_all(b",");
     }
@@ -256,7 +256,7 @@ impl Line {
         ensures text { self.new ≡ self.old ++ move_front cond opcode sets_flags rd }
         ensures room { length self.new ≤ length self.old + 16 }
     {
-        self.push_word(opcode_name(opcode), cond, flags_bytes(sets_flags));
+        self.push_word(opcode_name(opcode), cond, flags_text(sets_flags));
         self.push_register(rd);
         self.put_all(b",");
     }
@@ -266,7 +266,7 @@ impl Line {
         ensures text { self.new ≡ self.old ++ three_front cond x.opcode x.sets_flags x.rn x.rd }
         ensures room { length self.new ≤ length self.old + 16 }
     {
-        self.push_word(opcode_name(x.opcode), cond, flags_bytes(x.sets_flags));
+        self.push_word(opcode_name(x.opcode), cond, flags_text(x.sets_flags));
         self.push_register(x.rd);
         self.push_comma_register(x.rn);
         self.put_all(b",");
@@ -293,7 +293,7 @@ impl Line {
         ensures text { self.new ≡ self.old ++ transfer_front cond x.load x.byte x.user x.rd x.rn }
         ensures room { length self.new ≤ length self.old + 16 }
     {
-        self.push_word(load_bytes(x.load), cond, transfer_bytes(x.byte, x.user));
+        self.push_word(load_name(x.load), cond, transfer_suffix(x.byte, x.user));
         self.push_register(x.rd);
         self.put_all(b",[");
         self.push_register(x.rn);
@@ -304,9 +304,9 @@ impl Line {
         ensures text { self.new ≡ self.old ++ offset_text before up offset }
         ensures room { length self.new ≤ length self.old + 14 }
     {
-        self.put_all(open_bytes(before));
+        self.put_all(base_end(before));
         self.put_all(b"#");
-        self.put_all(sign_bytes(up));
+        self.put_all(sign_text(up));
         self.push_decimal(offset);
     }
 
@@ -449,12 +449,12 @@ fn multiply_text(cond: Cond, x: Multiply) -> Line
 {
     let mut line = Line::new();
     if x.accumulate {
-        line.push_word(b"MLA", cond, flags_bytes(x.sets_flags));
+        line.push_word(b"MLA", cond, flags_text(x.sets_flags));
         line.push_factors(x);
         line.push_comma_register(x.rn);
         line
     } else {
-        line.push_word(b"MUL", cond, flags_bytes(x.sets_flags));
+        line.push_word(b"MUL", cond, flags_text(x.sets_flags));
         line.push_factors(x);
         line
     }
@@ -488,7 +488,7 @@ fn data_register_shift_text(cond: Cond, x: DataRegisterShift) -> Line
     };
     line.push_data(cond, front);
     line.push_register(x.rm);
-    line.put_all(shift_bytes(x.shift));
+    line.put_all(shift_text(x.shift));
     line.push_register(x.rs);
     line
 }
@@ -521,7 +521,7 @@ fn single_immediate_text(cond: Cond, x: SingleImmediate) -> Line
     let mut line = Line::new();
     line.push_transfer(cond, front);
     line.push_offset_of(x);
-    line.put_all(close_bytes(x.before, x.write_back));
+    line.put_all(address_end(x.before, x.write_back));
     line
 }
 
@@ -537,11 +537,11 @@ fn single_register_text(cond: Cond, x: SingleRegister) -> Line
     };
     let mut line = Line::new();
     line.push_transfer(cond, front);
-    line.put_all(open_bytes(x.before));
-    line.put_all(sign_bytes(x.up));
+    line.put_all(base_end(x.before));
+    line.put_all(sign_text(x.up));
     line.push_register(x.rm);
     line.push_shift(x.shift, x.amount);
-    line.put_all(close_bytes(x.before, x.write_back));
+    line.put_all(address_end(x.before, x.write_back));
     line
 }
 
@@ -549,11 +549,7 @@ fn block_text(cond: Cond, x: Block) -> Line
     ensures { result ≡ block_text cond x }
 {
     let mut line = Line::new();
-    line.push_word(
-        block_bytes(x.load),
-        cond,
-        block_suffix_bytes(x.before, x.up),
-    );
+    line.push_word(block_name(x.load), cond, block_suffix(x.before, x.up));
     line.push_register(x.rn);
     line.push_mark(x.write_back, b'!');
     line.push_last_operand(x.list, x.user);
@@ -579,7 +575,7 @@ fn branch_text(cond: Cond, x: Branch, at: u32) -> Line
     ensures { result ≡ branch_text cond x at }
 {
     let mut line = Line::new();
-    line.push_word(branch_bytes(x.link), cond, b"");
+    line.push_word(branch_name(x.link), cond, b"");
     line.put_all(b"&");
     line.push_hex(shown_target(at, x.offset));
     line
