@@ -11,8 +11,8 @@ use Rattle.memc.specs.declared.spots.PageSize.{PageSize}
 use Rattle.memc.specs.declared.spots.PageSize.TheVariants.{K4}
 use Rattle.toml_reading.specs.Documents.{are_distinct, has_only_keys, tables_at}
 use Rattle.toml_reading.specs.Lowest.{AtKey, AtKeyOr, IsListOf, IsNamed, IsNumber, KeysFault, ListFault, NameFault, entries_at}
-use Rattle.toml_reading.specs.Readings.{both, seen}
-use Rattle.toml_reading.proofs.LowestLemmas.{Judges, and_then_judged, joint, judged_as, judged_one, optional_judged, required_judged, seen_judged, two_tests}
+use Rattle.toml_reading.specs.Readings.{pair, reading_map}
+use Rattle.toml_reading.proofs.LowestLemmas.{Judges, and_then_judged, joint, judged_as, judged_one, optional_judged, required_judged, map_judged, two_tests}
 use Rattle.toml_reading.proofs.LowestParts.{entries_state, keys_judged, named_judged, number_or_judged, number_read, numbers_read, some_weaker, tables_judged}
 use Rattle.machine_file.specs.MachineFaults.{machine_faults, number_of}
 use Rattle.machine_file.specs.MachineFile.{Read, are_single, controller_in, controller_of, event_at, events_in, flags_at, flags_in, is_mappable, machine_in, mapped, mode_at, mode_in, page_at, pages_in, pc_at, pc_in, processor_in, processor_of, registers_at, registers_in, schedule_in, schedule_of, set_flags, size_at, size_in, stated_of, put_words_in}
@@ -103,7 +103,7 @@ module _ (ms : Members) where
 
   processor_judged : Judges machine_faults ProcessorStates ProcessorFault (processor_in ms)
   processor_judged =
-      seen_judged
+      map_judged
       machine_faults
       _
       ProcessorStates
@@ -306,7 +306,7 @@ module _ (ms : Members) where
 
   controller_judged : Judges machine_faults ControllerStates ControllerFault (controller_in ms)
   controller_judged =
-      seen_judged
+      map_judged
       machine_faults
       _
       ControllerStates
@@ -364,7 +364,7 @@ module _ (ms : Members) where
 
   schedule_judged : Judges machine_faults ScheduleStates ScheduleFault (schedule_in ms)
   schedule_judged =
-      seen_judged
+      map_judged
       machine_faults
       _
       ScheduleStates
@@ -389,15 +389,15 @@ FileFault ms f =
 
 abbrev parts_in : Members → Read (Processor × (Controller × (Schedule × List (ℕ × ℕ))))
 parts_in ms =
-    both
+    pair
     machine_faults
     (processor_in ms)
-    (both machine_faults (controller_in ms) (both machine_faults (schedule_in ms) (put_words_in ms)))
+    (pair machine_faults (controller_in ms) (pair machine_faults (schedule_in ms) (put_words_in ms)))
 
 file_judged : (ms : Members)
-    → Judges machine_faults (FileStates ms) (FileFault ms) (seen stated_of (parts_in ms))
+    → Judges machine_faults (FileStates ms) (FileFault ms) (reading_map stated_of (parts_in ms))
 file_judged ms =
-    seen_judged
+    map_judged
     machine_faults
     _
     (FileStates ms)
@@ -512,4 +512,4 @@ machine_judged ms =
     (λ s. (to_machine ms s, from_machine ms s))
     (λ f. (λ h. to_faults h, λ h. from_faults h))
     (machine_in ms)
-    (keys_judged machine_faults file_keys FileStates FileFault (λ t. seen stated_of (parts_in t)) file_judged ms)
+    (keys_judged machine_faults file_keys FileStates FileFault (λ t. reading_map stated_of (parts_in t)) file_judged ms)

@@ -9,9 +9,9 @@ use Rattle.memc.specs.declared.spots.PageSize.TheVariants.{K4, K8, K16, K32}
 use Rattle.bus_ticks.specs.Prices.{is_word_address}
 use Rattle.toml_reading.specs.Lowest.{AtKey, AtKeyOr, IsListOf, IsNamed, IsNoAddress, IsNumber, KeysFault, ListFault, NameFault, TableFault}
 use Rattle.toml_reading.specs.Documents.{in_space, items_at, number_in, number_or}
-use Rattle.toml_reading.specs.Readings.{all, both, seen}
+use Rattle.toml_reading.specs.Readings.{all, pair, reading_map}
 use Rattle.toml_reading.proofs.AddressLemmas.{integer_judged}
-use Rattle.toml_reading.proofs.LowestLemmas.{AnswersBy, Judges, joint, judged_as, one_by_rank, optional_judged, required_judged, seen_judged, two_tests}
+use Rattle.toml_reading.proofs.LowestLemmas.{AnswersBy, Judges, joint, judged_as, one_by_rank, optional_judged, required_judged, map_judged, two_tests}
 use Rattle.toml_reading.proofs.LowestParts.{all_judged, list_judged, named_judged, not_whole, number_in_judged, number_judged, number_or_judged, table_judged, whole_same}
 use Rattle.machine_file.specs.MachineFaults.{machine_faults, number_of}
 use Rattle.machine_file.specs.MachineFile.{Read, event_at, event_of, flags_at, is_letter, is_single, lettered, line_at, lines_at, lines_in, page_at, page_of, pc_at, port_at, port_in, register_in, registers_at, set_flags, size_at, size_of, union}
@@ -151,7 +151,7 @@ lines_of d (Some l) t = (t.0, t.1, ap (λ (x : Lines). Some x) t.2)
 
 lines_judged : (d : Data) → Judges machine_faults (λ o. IsSomeAnd o (AreLines d)) (LinesFault d) (lines_at d)
 lines_judged d =
-    seen_judged
+    map_judged
     machine_faults
     (IsListOf (IsNamed line_named) d)
     (λ o. IsSomeAnd o (AreLines d))
@@ -168,7 +168,7 @@ port_of d (Some n) t = (n, t, refl)
 
 port_judged : (d : Data) → Judges machine_faults (λ o. IsSomeAnd o (IsWord d)) (WordFault d) (port_at d)
 port_judged d =
-    seen_judged
+    map_judged
     machine_faults
     (IsWord d)
     (λ o. IsSomeAnd o (IsWord d))
@@ -226,9 +226,9 @@ three_back (inr (inr x)) = inr x
 
 abbrev numbers_of_page : Members → Read ((ℕ × ℕ) × ℕ)
 numbers_of_page ms =
-    both
+    pair
     machine_faults
-    (both machine_faults (word_in machine_faults (codes "logical") ms) (word_in machine_faults (codes "physical") ms))
+    (pair machine_faults (word_in machine_faults (codes "logical") ms) (word_in machine_faults (codes "physical") ms))
     (word_in machine_faults (codes "level") ms)
 
 page_numbers_judged : (ms : Members)
@@ -246,9 +246,9 @@ page_numbers_judged ms =
     (joint (joint (word ms (codes "logical")) (word ms (codes "physical"))) (word ms (codes "level")))
 
 page_answers : (ms : Members)
-    → Judges machine_faults (PageStates ms) (PageFaults ms) (seen page_of (numbers_of_page ms))
+    → Judges machine_faults (PageStates ms) (PageFaults ms) (reading_map page_of (numbers_of_page ms))
 page_answers ms =
-    seen_judged
+    map_judged
     machine_faults
     (λ (p : (ℕ × ℕ) × ℕ). PageStates ms (page_of p))
     (PageStates ms)
@@ -266,7 +266,7 @@ page_judged d =
     map_keys
     PageStates
     PageFaults
-    (λ ms. seen page_of (numbers_of_page ms))
+    (λ ms. reading_map page_of (numbers_of_page ms))
     page_answers
     d
 
@@ -279,10 +279,10 @@ EventStates ms event =
 
 abbrev event_parts : Members → Read (ℕ × (ℕ × (Option Lines × Option ℕ)))
 event_parts ms =
-    both
+    pair
     machine_faults
     (number_in machine_faults (codes "step") 65535 ms)
-    (both machine_faults (number_or machine_faults (codes "bursts") 65535 0 ms) (both machine_faults (lines_in ms) (port_in ms)))
+    (pair machine_faults (number_or machine_faults (codes "bursts") 65535 0 ms) (pair machine_faults (lines_in ms) (port_in ms)))
 
 lines_in_judged : (ms : Members)
     → Judges machine_faults (λ o. AtKeyOr (codes "lines") ms (o ≡ None) (λ e. IsSomeAnd o (AreLines e))) (λ f. AtKey (codes "lines") ms (λ e. LinesFault e f)) (lines_in ms)
@@ -309,9 +309,9 @@ port_in_judged ms =
     (get_member (codes "port") ms)
 
 event_answers : (ms : Members)
-    → Judges machine_faults (EventStates ms) (EventFaults ms) (seen event_of (event_parts ms))
+    → Judges machine_faults (EventStates ms) (EventFaults ms) (reading_map event_of (event_parts ms))
 event_answers ms =
-    seen_judged
+    map_judged
     machine_faults
     _
     (EventStates ms)
@@ -329,7 +329,7 @@ event_judged d =
     event_keys
     EventStates
     EventFaults
-    (λ ms. seen event_of (event_parts ms))
+    (λ ms. reading_map event_of (event_parts ms))
     event_answers
     d
 

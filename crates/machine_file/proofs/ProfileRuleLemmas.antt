@@ -8,8 +8,8 @@ use Rattle.toml.specs.Data.{Data, Members, as_integer, get_member}
 use Rattle.bus_ticks.specs.Ranges.{AreInRange, AreOrdered, IsPrice, device_number, rom_number}
 use Rattle.toml_reading.specs.Documents.{has_only_keys, items_at}
 use Rattle.toml_reading.specs.Lowest.{AtKey, AtKeyOr, IsListOf, IsOutside, KeysFault}
-use Rattle.toml_reading.specs.Readings.{both}
-use Rattle.toml_reading.proofs.LowestLemmas.{AnswersBy, Judges, both_judged, judged_as, one_by_rank, required_judged, seen_judged}
+use Rattle.toml_reading.specs.Readings.{pair}
+use Rattle.toml_reading.proofs.LowestLemmas.{AnswersBy, Judges, pair_judged, judged_as, one_by_rank, required_judged, map_judged}
 use Rattle.toml_reading.proofs.LowestParts.{OneOf, any_one_of, keys_judged, number_in_judged, number_judged}
 use Rattle.machine_file.specs.ProfileFaults.{number_of, profile_faults}
 use Rattle.machine_file.specs.ProfileFile.{Four, IsPriced, Parts, Read, four_at, four_in, four_of, joined, numbers_in, parts_in, profile_keys}
@@ -73,8 +73,8 @@ module _ (f : ProfileFileFault) where
 -- two parts
 joint : {A B : Type 0} {S : A → Type 0} {T : B → Type 0} {H K : ProfileFileFault → Type 0} {a : Read A} {b : Read B}
     → Judges profile_faults S H a → Judges profile_faults T K b
-    → Judges profile_faults (λ p. S p.0 × T p.1) (λ f. H f ⊎ K f) (both profile_faults a b)
-joint {S = S} {T = T} {H = H} {K = K} {a = a} {b = b} h k = both_judged profile_faults S T H K a b h k
+    → Judges profile_faults (λ p. S p.0 × T p.1) (λ f. H f ⊎ K f) (pair profile_faults a b)
+joint {S = S} {T = T} {H = H} {K = K} {a = a} {b = b} h k = pair_judged profile_faults S T H K a b h k
 
 -- ## Lists of four
 
@@ -255,7 +255,7 @@ parts_of ms _ t = absurd t.1
 numbers_judged : (ms : Members)
     → Judges profile_faults (λ ns. Known ms × StatesNumbers ms ns) (KeysFault profile_faults profile_keys PriceFault ms) (numbers_in ms)
 numbers_judged ms =
-    seen_judged
+    map_judged
     profile_faults
     (λ p. Known ms × StatesNumbers ms (joined p))
     (λ ns. Known ms × StatesNumbers ms ns)

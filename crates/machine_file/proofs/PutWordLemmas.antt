@@ -8,7 +8,7 @@ use Rattle.toml.specs.Data.{Data, Members, as_integer, as_table, get_member}
 use Rattle.loader.specs.Image.{may_hold}
 use Rattle.toml_reading.specs.Documents.{are_distinct, tables_at}
 use Rattle.toml_reading.specs.Lowest.{AtKey, AtKeyOr, IsListOf, ListFault, entries_at}
-use Rattle.toml_reading.specs.Readings.{both}
+use Rattle.toml_reading.specs.Readings.{pair}
 use Rattle.toml_reading.proofs.AddressLemmas.{tested_judged}
 use Rattle.toml_reading.proofs.LowestLemmas.{Judges, joint, judged_value, required_judged}
 use Rattle.toml_reading.proofs.LowestParts.{entries_state, number_read, some_weaker, table_judged, tables_judged}
@@ -67,7 +67,7 @@ put_word_judged d =
     word_keys
     PutWordStates
     PutWordFaults
-    (λ ms. both machine_faults (put_address_in ms) (word_in machine_faults (codes "value") ms))
+    (λ ms. pair machine_faults (put_address_in ms) (word_in machine_faults (codes "value") ms))
     (λ ms. joint (put_address_in_judged ms) (word ms (codes "value")))
     d
 

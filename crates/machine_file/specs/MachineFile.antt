@@ -17,7 +17,7 @@ use Rattle.memc.specs.declared.spots.PageSize.{PageSize}
 use Rattle.memc.specs.declared.spots.PageSize.TheVariants.{K4, K8, K16, K32}
 use Rattle.toml_reading.specs.Documents.{IsAnswer, are_distinct, in_space, list_at, name_at}
 use Rattle.toml_reading.specs.Documents.{number_in, number_or, of_keys, once, tables_at}
-use Rattle.toml_reading.specs.Readings.{Reading, all, and_then, both, optional, required, seen}
+use Rattle.toml_reading.specs.Readings.{Reading, all, and_then, pair, optional, required, reading_map}
 use Rattle.ioc.specs.LineNames.{line_named}
 use Rattle.machine_file.specs.MachineFaults.{machine_faults}
 use Rattle.machine_file.specs.Names.{event_keys, file_keys, map_keys, name_of, named_mode}
@@ -107,8 +107,8 @@ processor_of p = record { pc = p.0.0; mode = p.0.1.0; flags = p.0.1.1; registers
 
 abbrev pub processor_in : Members → Read Processor
 processor_in ms =
-    seen processor_of
-    (both machine_faults (both machine_faults (pc_in ms) (both machine_faults (mode_in ms) (flags_in ms)))
+    reading_map processor_of
+    (pair machine_faults (pair machine_faults (pc_in ms) (pair machine_faults (mode_in ms) (flags_in ms)))
     (registers_in ms))
 
 -- ## The memory controller
@@ -136,9 +136,9 @@ page_in ms =
     machine_faults
     map_keys
     ms
-    (seen page_of
-    (both machine_faults
-    (both machine_faults (word_in machine_faults (codes "logical") ms)
+    (reading_map page_of
+    (pair machine_faults
+    (pair machine_faults (word_in machine_faults (codes "logical") ms)
     (word_in machine_faults (codes "physical") ms))
     (word_in machine_faults (codes "level") ms)))
 
@@ -161,20 +161,20 @@ mapped p =
 abbrev pub pages_in : Members → Read (PageSize × List MappedPage)
 pages_in ms =
     and_then
-    (both machine_faults (size_in ms)
+    (pair machine_faults (size_in ms)
     (tables_at machine_faults page_at (get_member (codes "map") ms))) mapped
 
 -- the time fields of low and high ROM
 abbrev pub rom_in : Members → Read (ℕ × ℕ)
 rom_in ms =
-    both machine_faults (number_or machine_faults (codes "low_rom") 3 0 ms)
+    pair machine_faults (number_or machine_faults (codes "low_rom") 3 0 ms)
     (number_or machine_faults (codes "high_rom") 3 0 ms)
 
 abbrev pub controller_of : (ℕ × ℕ) × (PageSize × List MappedPage) → Controller
 controller_of p = record { size = p.1.0; low_rom = p.0.0; high_rom = p.0.1; pages = p.1.1 }
 
 abbrev pub controller_in : Members → Read Controller
-controller_in ms = seen controller_of (both machine_faults (rom_in ms) (pages_in ms))
+controller_in ms = reading_map controller_of (pair machine_faults (rom_in ms) (pages_in ms))
 
 -- ## Events
 
@@ -186,13 +186,13 @@ abbrev pub line_at : Data → Read Lines
 line_at d = name_at machine_faults line_named d
 
 abbrev pub lines_at : Data → Read (Option Lines)
-lines_at d = seen (λ ls. Some (union ls)) (list_at machine_faults line_at d)
+lines_at d = reading_map (λ ls. Some (union ls)) (list_at machine_faults line_at d)
 
 abbrev pub lines_in : Members → Read (Option Lines)
 lines_in ms = optional None (get_member (codes "lines") ms) lines_at
 
 abbrev pub port_at : Data → Read (Option ℕ)
-port_at d = seen (λ word. Some word) (word_at machine_faults d)
+port_at d = reading_map (λ word. Some word) (word_at machine_faults d)
 
 abbrev pub port_in : Members → Read (Option ℕ)
 port_in ms = optional None (get_member (codes "port") ms) port_at
@@ -207,10 +207,10 @@ event_in ms =
     machine_faults
     event_keys
     ms
-    (seen event_of
-    (both machine_faults (number_in machine_faults (codes "step") 65535 ms)
-    (both machine_faults (number_or machine_faults (codes "bursts") 65535 0 ms)
-    (both machine_faults (lines_in ms) (port_in ms)))))
+    (reading_map event_of
+    (pair machine_faults (number_in machine_faults (codes "step") 65535 ms)
+    (pair machine_faults (number_or machine_faults (codes "bursts") 65535 0 ms)
+    (pair machine_faults (lines_in ms) (port_in ms)))))
 
 abbrev pub event_at : Data → Read (ℕ × Event)
 event_at d = required machine_faults (as_table d) event_in
@@ -222,14 +222,14 @@ events_in ms =
 
 abbrev pub counts_in : Members → Read (ℕ × ℕ)
 counts_in ms =
-    both machine_faults (number_or machine_faults (codes "steps") 65536 65536 ms)
+    pair machine_faults (number_or machine_faults (codes "steps") 65536 65536 ms)
     (word_or machine_faults (codes "port") 0 ms)
 
 abbrev pub schedule_of : (ℕ × ℕ) × List (ℕ × Event) → Schedule
 schedule_of p = record { steps = p.0.0; port = p.0.1; events = p.1 }
 
 abbrev pub schedule_in : Members → Read Schedule
-schedule_in ms = seen schedule_of (both machine_faults (counts_in ms) (events_in ms))
+schedule_in ms = reading_map schedule_of (pair machine_faults (counts_in ms) (events_in ms))
 
 -- ## Words put into memory
 
@@ -251,7 +251,7 @@ put_word_in ms =
     machine_faults
     word_keys
     ms
-    (both machine_faults (put_address_in ms) (word_in machine_faults (codes "value") ms))
+    (pair machine_faults (put_address_in ms) (word_in machine_faults (codes "value") ms))
 
 abbrev pub put_word_at : Data → Read (ℕ × ℕ)
 put_word_at d = required machine_faults (as_table d) put_word_in
@@ -272,9 +272,9 @@ machine_in ms =
     machine_faults
     file_keys
     ms
-    (seen stated_of
-    (both machine_faults (processor_in ms)
-    (both machine_faults (controller_in ms) (both machine_faults (schedule_in ms) (put_words_in ms)))))
+    (reading_map stated_of
+    (pair machine_faults (processor_in ms)
+    (pair machine_faults (controller_in ms) (pair machine_faults (schedule_in ms) (put_words_in ms)))))
 
 -- the answer to a text, but for lack of memory
 abbrev pub IsMachineFile : List ℕ → Read Stated → Type 0

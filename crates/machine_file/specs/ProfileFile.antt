@@ -4,7 +4,7 @@ use Rattle.std.specs.Prelude.{◌≡◌, ◌⊎◌, ℕ, List, [], ◌∷◌, co
 use Rattle.toml.specs.Data.{Data, Members, get_member}
 use Rattle.bus_ticks.specs.Ranges.{AreInRange, AreOrdered}
 use Rattle.toml_reading.specs.Documents.{IsDocument, IsNoDocument, items_at, of_keys}
-use Rattle.toml_reading.specs.Readings.{Reading, both, required, seen}
+use Rattle.toml_reading.specs.Readings.{Reading, pair, required, reading_map}
 use Rattle.machine_file.specs.ProfileFaults.{profile_faults}
 use Rattle.machine_file.specs.Words.{word_at, word_in}
 use Rattle.machine_file.specs.declared.profile_faults.ProfileFileFault.{ProfileFileFault}
@@ -26,8 +26,8 @@ Four = (ℕ × ℕ) × (ℕ × ℕ)
 
 abbrev pub four_of : List Data → Read Four
 four_of (a ∷ b ∷ c ∷ d ∷ []) =
-    both profile_faults (both profile_faults (word_at profile_faults a) (word_at profile_faults b))
-    (both profile_faults (word_at profile_faults c) (word_at profile_faults d))
+    pair profile_faults (pair profile_faults (word_at profile_faults a) (word_at profile_faults b))
+    (pair profile_faults (word_at profile_faults c) (word_at profile_faults d))
 four_of _ = Err WrongKind
 
 abbrev pub four_at : Data → Read Four
@@ -39,16 +39,16 @@ four_in key ms = required profile_faults (get_member key ms) four_at
 
 abbrev pub ram_prices_in : Members → Read (ℕ × (ℕ × ℕ))
 ram_prices_in ms =
-    both profile_faults (word_in profile_faults (codes "n") ms)
-    (both profile_faults (word_in profile_faults (codes "s") ms) (word_in profile_faults (codes "quad") ms))
+    pair profile_faults (word_in profile_faults (codes "n") ms)
+    (pair profile_faults (word_in profile_faults (codes "s") ms) (word_in profile_faults (codes "quad") ms))
 
 abbrev pub other_prices_in : Members → Read Four
 other_prices_in ms =
-    both
+    pair
     profile_faults
-    (both profile_faults (word_in profile_faults (codes "control") ms)
+    (pair profile_faults (word_in profile_faults (codes "control") ms)
     (word_in profile_faults (codes "unfitted") ms))
-    (both profile_faults (word_in profile_faults (codes "internal") ms)
+    (pair profile_faults (word_in profile_faults (codes "internal") ms)
     (word_in profile_faults (codes "burst") ms))
 
 -- ## The fifteen numbers
@@ -58,10 +58,10 @@ Parts = ((ℕ × (ℕ × ℕ)) × (Four × Four)) × Four
 
 abbrev pub parts_in : Members → Read Parts
 parts_in ms =
-    both
+    pair
     profile_faults
-    (both profile_faults (ram_prices_in ms)
-    (both profile_faults (four_in (codes "rom") ms) (four_in (codes "io") ms)))
+    (pair profile_faults (ram_prices_in ms)
+    (pair profile_faults (four_in (codes "rom") ms) (four_in (codes "io") ms)))
     (other_prices_in ms)
 
 abbrev pub listed_after : Four → List ℕ → List ℕ
@@ -73,7 +73,7 @@ abbrev pub joined : Parts → List ℕ
 joined p = p.0.0.0 ∷ p.0.0.1.0 ∷ p.0.0.1.1 ∷ listed_after p.0.1.0 (listed_after p.0.1.1 (listed_after p.1 []))
 
 abbrev pub numbers_in : Members → Read (List ℕ)
-numbers_in ms = seen joined (of_keys profile_faults profile_keys ms (parts_in ms))
+numbers_in ms = reading_map joined (of_keys profile_faults profile_keys ms (parts_in ms))
 
 -- ## The profile
 

@@ -1,6 +1,6 @@
 ghost use Rattle.std.specs.Prelude.{◌≡◌, IfOk, codes};
 ghost use Rattle.std.specs.Map.{keys_of};
-ghost use Rattle.toml_reading.specs.Readings.{seen};
+ghost use Rattle.toml_reading.specs.Readings.{reading_map};
 ghost use Rattle.toml.specs.View.{table_view, view};
 ghost use Rattle.toml_reading.specs.Documents.{number_at, number_or, once};
 ghost use Rattle.machine_file.specs.MachineFaults.{machine_faults};
@@ -18,8 +18,7 @@ use std::alloc::{AllocError, Global};
 use std::marker::Model;
 use toml::{Table, Value};
 use toml_reading::{
-    Entry, by_number, list, number, of_keys, optional_number, pair, required, required_number,
-    tables, value_at,
+    Entry, by_number, list, number, number_in, number_or, of_keys, pair, required, tables, value_at,
 };
 
 /// How many steps a machine file asks for at most, and how many where it says nothing.
@@ -134,7 +133,7 @@ fn event_in(alloc: Global, table: &Table) -> Result<Read<(u32, Event)>, AllocErr
 {
     let held = pair(lines_in(alloc, table)?, port_in(table));
     let rest = pair(bursts(table), held);
-    let event = pair(required_number(table, "step", 65535), rest).map(event_of);
+    let event = pair(number_in(table, "step", 65535), rest).map(event_of);
     Ok(of_keys(EVENT_KEYS, table, event))
 }
 
@@ -173,8 +172,8 @@ fn counts_in(table: &Table) -> Read<(u32, u32)>
     ensures { result ≡ counts_in (table_view table.now) }
 {
     pair(
-        optional_number(table, "steps", MOST_STEPS, MOST_STEPS),
-        optional_number(table, "port", u32::MAX, 0),
+        number_or(table, "steps", MOST_STEPS, MOST_STEPS),
+        number_or(table, "port", u32::MAX, 0),
     )
 }
 
@@ -183,7 +182,8 @@ fn each_once(
     events: Vec<(u32, Event)>,
 ) -> Result<Read<IndexMap<u32, Event>>, AllocError>
     ensures { IfOk result
-        (λ reading. seen (λ m. m.entries) reading ≡ once MachineFileFault.Twice keys_of events.items) }
+        (λ reading. reading_map (λ m. m.entries) reading
+        ≡ once MachineFileFault.Twice keys_of events.items) }
 {
     match by_number(alloc, events)? {
         Some(events) => Ok(Ok(events)),
@@ -192,7 +192,8 @@ fn each_once(
 }
 
 fn events_in(alloc: Global, table: &Table) -> Result<Read<IndexMap<u32, Event>>, AllocError>
-    ensures { IfOk result (λ reading. seen (λ m. m.entries) reading ≡ events_in (table_view table.now)) }
+    ensures { IfOk result
+        (λ reading. reading_map (λ m. m.entries) reading ≡ events_in (table_view table.now)) }
 {
     match tables(alloc, &(), value_at(table, "event"))? {
         Ok(events) => each_once(alloc, events),

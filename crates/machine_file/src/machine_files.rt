@@ -4,7 +4,7 @@ ghost use Rattle.bus_ticks.specs.declared.space.TheConstants.{SPACE_END};
 ghost use Rattle.loader.specs.Image.{may_hold};
 ghost use Rattle.toml.specs.View.{table_view};
 ghost use Rattle.toml_reading.specs.Documents.{are_distinct};
-ghost use Rattle.toml_reading.specs.Readings.{both, seen};
+ghost use Rattle.toml_reading.specs.Readings.{pair, reading_map};
 ghost use Rattle.machine_file.specs.MachineFaults.{machine_faults};
 ghost use Rattle.machine_file.specs.MachineFile.{IsMachineFile, controller_in, machine_in, processor_in};
 ghost use Rattle.machine_file.specs.MachineFile.{schedule_in, stated_of, put_words_in};
@@ -159,7 +159,7 @@ type Parts = (Processor, (Controller, Given));
 fn given(alloc: Global, table: &Table) -> Result<Read<Given>, AllocError>
     ensures { IfOk result
         (λ parts. parts
-        ≡ both machine_faults (schedule_in (table_view table.now)) (put_words_in (table_view table.now))) }
+        ≡ pair machine_faults (schedule_in (table_view table.now)) (put_words_in (table_view table.now))) }
 {
     let schedule = schedule_in(alloc, table)?;
     Ok(pair(schedule, put_words_in(alloc, table)?))
@@ -169,8 +169,8 @@ fn given(alloc: Global, table: &Table) -> Result<Read<Given>, AllocError>
 fn surroundings(alloc: Global, table: &Table) -> Result<Read<(Controller, Given)>, AllocError>
     ensures { IfOk result
         (λ parts. parts
-        ≡ both machine_faults (controller_in (table_view table.now))
-        (both machine_faults (schedule_in (table_view table.now)) (put_words_in (table_view table.now)))) }
+        ≡ pair machine_faults (controller_in (table_view table.now))
+        (pair machine_faults (schedule_in (table_view table.now)) (put_words_in (table_view table.now)))) }
 {
     let controller = controller_in(alloc, table)?;
     Ok(pair(controller, given(alloc, table)?))
@@ -179,16 +179,16 @@ fn surroundings(alloc: Global, table: &Table) -> Result<Read<(Controller, Given)
 fn parts(alloc: Global, table: &Table) -> Result<Read<Parts>, AllocError>
     ensures { IfOk result
         (λ parts. parts
-        ≡ both machine_faults (processor_in (table_view table.now))
-        (both machine_faults (controller_in (table_view table.now))
-        (both machine_faults (schedule_in (table_view table.now)) (put_words_in (table_view table.now))))) }
+        ≡ pair machine_faults (processor_in (table_view table.now))
+        (pair machine_faults (controller_in (table_view table.now))
+        (pair machine_faults (schedule_in (table_view table.now)) (put_words_in (table_view table.now))))) }
 {
     let processor = processor_in(alloc, table)?;
     Ok(pair(processor, surroundings(alloc, table)?))
 }
 
 fn stated(parts: Read<Parts>) -> Read<MachineFile>
-    ensures { result ≡ seen stated_of parts }
+    ensures { result ≡ reading_map stated_of parts }
 {
     parts.map(|(processor, (controller, (schedule, words)))| MachineFile {
         processor,

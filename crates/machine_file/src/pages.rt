@@ -3,7 +3,7 @@ ghost use Rattle.std.specs.List.{list_all};
 ghost use Rattle.toml.specs.View.{table_view, view};
 ghost use Rattle.memc.specs.Memory.{shift_of_size};
 ghost use Rattle.toml_reading.specs.Documents.{are_distinct};
-ghost use Rattle.toml_reading.specs.Readings.{seen};
+ghost use Rattle.toml_reading.specs.Readings.{reading_map};
 ghost use Rattle.machine_file.specs.MachineFile.{are_single, controller_in, is_mappable, mapped, page_at};
 ghost use Rattle.machine_file.specs.MachineFile.{page_in, page_of, pages_in, rom_in, size_at, size_in};
 ghost use Rattle.machine_file.specs.MachineFile.{size_of};
@@ -14,8 +14,7 @@ use std::alloc::{AllocError, Global};
 use std::marker::Model;
 use toml::{Table, Value};
 use toml_reading::{
-    Entry, are_all_distinct, of_keys, optional_number, pair, required, required_number, tables,
-    value_at,
+    Entry, are_all_distinct, number_in, number_or, of_keys, pair, required, tables, value_at,
 };
 
 // The keys of a mapped page's table.
@@ -71,10 +70,10 @@ fn page_in(table: &Table) -> Read<MappedPage>
     ensures { result ≡ page_in (table_view table.now) }
 {
     let ends = pair(
-        required_number(table, "logical", u32::MAX),
-        required_number(table, "physical", u32::MAX),
+        number_in(table, "logical", u32::MAX),
+        number_in(table, "physical", u32::MAX),
     );
-    let numbers = pair(ends, required_number(table, "level", u32::MAX));
+    let numbers = pair(ends, number_in(table, "level", u32::MAX));
     of_keys(MAP_KEYS, table, numbers.map(page_of))
 }
 
@@ -190,8 +189,8 @@ fn rom_in(table: &Table) -> Read<RomFields>
     ensures { result ≡ rom_in (table_view table.now) }
 {
     let fields = pair(
-        optional_number(table, "low_rom", 3, 0),
-        optional_number(table, "high_rom", 3, 0),
+        number_or(table, "low_rom", 3, 0),
+        number_or(table, "high_rom", 3, 0),
     );
     match fields {
         Ok((low, high)) => Ok(RomFields { low, high }),

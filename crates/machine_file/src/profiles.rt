@@ -1,7 +1,7 @@
 ghost use Rattle.std.specs.Prelude.{◌≡◌, ◌≢◌, Err, map, option_map};
 ghost use Rattle.bus_ticks.specs.Numbers.{numbers_of};
 ghost use Rattle.toml.specs.View.{table_view, view};
-ghost use Rattle.toml_reading.specs.Readings.{required, seen};
+ghost use Rattle.toml_reading.specs.Readings.{required, reading_map};
 ghost use Rattle.machine_file.specs.ProfileFaults.{profile_faults};
 ghost use Rattle.machine_file.specs.ProfileFile.{IsPriced, IsProfileFile, four_at, four_in, four_of, joined};
 ghost use Rattle.machine_file.specs.ProfileFile.{numbers_in, other_prices_in, parts_in, ram_prices_in};
@@ -12,7 +12,7 @@ use bus_ticks::{NumbersFault, Profile};
 use std::alloc::Global;
 use toml::{Table, Value};
 use toml_reading::{
-    Reading, document, number, of_keys, pair, required, required_number, value_at, values_of,
+    Reading, document, number, number_in, of_keys, pair, required, value_at, values_of,
 };
 
 type Read<T> = Reading<T, ProfileFileFault>;
@@ -29,7 +29,7 @@ const KEYS: &[&str] = &[
 fn word_in(table: &Table, key: &str) -> Read<u32>
     ensures { result ≡ word_in profile_faults key.now (table_view table.now) }
 {
-    required_number(table, key, u32::MAX)
+    number_in(table, key, u32::MAX)
 }
 
 fn four_of(values: &[Value]) -> Read<Four>
@@ -116,7 +116,7 @@ fn numbers_in(table: &Table) -> Read<[u32; 15]>
 
 // The profile of the numbers that were read.
 fn priced(numbers: Read<[u32; 15]>) -> Read<Profile>
-    ensures { IsPriced numbers (seen numbers_of result) }
+    ensures { IsPriced numbers (reading_map numbers_of result) }
 {
     let numbers = match numbers {
         Ok(numbers) => numbers,
@@ -138,7 +138,7 @@ fn priced(numbers: Read<[u32; 15]>) -> Read<Profile>
 /// Of several faults over the whole text the first is answered, in the order of [`ProfileFileFault`];
 /// `Memory` only where an allocation failed.
 pub fn read_profile(alloc: Global, text: &[u8]) -> Result<Profile, ProfileFileFault>
-    ensures { result ≢ Err ProfileFileFault.Memory → IsProfileFile text.now (seen numbers_of result) }
+    ensures { result ≢ Err ProfileFileFault.Memory → IsProfileFile text.now (reading_map numbers_of result) }
 {
     match document(alloc, text)? {
         Some(table) => priced(numbers_in(&table)),

@@ -10,7 +10,7 @@ use arm2_effect::Reg;
 use std::alloc::{AllocError, Global};
 use std::marker::Model;
 use toml::{Table, Value};
-use toml_reading::{append, of_keys, optional_number, value_at};
+use toml_reading::{append, number_or, of_keys, value_at};
 
 /// The registers that a file may name, in their order: all but R15.
 pub(crate) const REGISTERS: [Reg; 26] = [
@@ -74,7 +74,7 @@ fn words(alloc: Global, table: &Table, names: &[&str]) -> Result<Read<Vec<u32>>,
 {
     let mut list = Ok(Vec::new(alloc));
     for name in names {
-        let word = optional_number(table, name, u32::MAX, 0);
+        let word = number_or(table, name, u32::MAX, 0);
         list = append(list, word)?;
     }
     Ok(list)

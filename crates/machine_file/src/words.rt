@@ -11,9 +11,7 @@ use loader::may_hold;
 use std::alloc::{AllocError, Global};
 use std::marker::Model;
 use toml::{Table, Value};
-use toml_reading::{
-    Entry, are_all_distinct, of_keys, pair, required, required_number, tables, value_at,
-};
+use toml_reading::{Entry, are_all_distinct, number_in, of_keys, pair, required, tables, value_at};
 
 // The keys of the table of a word that is put into memory.
 const WORD_KEYS: &[&str] = &["at", "value"];
@@ -42,10 +40,7 @@ fn put_address_in(table: &Table) -> Read<u32>
 fn put_word_in(table: &Table) -> Read<(u32, u32)>
     ensures { result ≡ put_word_in (table_view table.now) }
 {
-    let word = pair(
-        put_address_in(table),
-        required_number(table, "value", u32::MAX),
-    );
+    let word = pair(put_address_in(table), number_in(table, "value", u32::MAX));
     of_keys(WORD_KEYS, table, word)
 }
 

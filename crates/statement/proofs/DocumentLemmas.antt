@@ -11,7 +11,7 @@ use Rattle.toml_reading.specs.Lists.{IsListUpTo, ListUpToFault}
 use Rattle.toml_reading.specs.Lowest.{AtKey, AtKeyOr, IsLowest, IsNamed, IsTable, NameFault}
 use Rattle.toml_reading.specs.Readings.{and_then}
 use Rattle.toml_reading.proofs.Following.{stated_or_faulty, tables_up_to_judged, test_judged, then_judged, widened_judged}
-use Rattle.toml_reading.proofs.LowestLemmas.{Judges, both_judged, judged_as, judged_fault, judged_value, one_by_rank, optional_judged}
+use Rattle.toml_reading.proofs.LowestLemmas.{Judges, pair_judged, judged_as, judged_fault, judged_value, one_by_rank, optional_judged}
 use Rattle.toml_reading.proofs.LowestParts.{keys_judged, named_judged, some_weaker}
 use Rattle.toml_reading.proofs.TwiceLemmas.{keys_not_distinct}
 use Rattle.statement.specs.StatementRules.{AccessFault, AddressFault, HasAccess, HasFault, HasParts, HasTarget, HasTwo, IsAddress, IsAt, IsSingle, LoopFault, PartsFault, RequiredFault, States, StatesAccess, StatesLoop, StatesTarget, TargetFault}
@@ -119,7 +119,7 @@ module _ (names : Names) where
 
   each_judged : (ms : Members) → Judges statement_faults (HasEach ms) (EachFault ms) (parts_of names ms)
   each_judged ms =
-      both_judged
+      pair_judged
       statement_faults
       (λ p. (AtKey (codes "entry") ms (λ d. IsAddress names d p.0.0) × AtKeyOr (codes "leave") ms (p.0.1 ≡ Any) (λ d. IsNamed named_class d p.0.1)) × AtKeyOr (codes "loop") ms (p.1 ≡ []) (λ d. IsListUpTo 256 (StatesLoop names) d p.1))
       (λ p. AtKeyOr (codes "target") ms (p.0 ≡ []) (λ d. IsListUpTo 1024 (StatesTarget names) d p.0) × AtKeyOr (codes "access") ms (p.1 ≡ []) (λ d. IsListUpTo 4096 (StatesAccess names) d p.1))
@@ -127,8 +127,8 @@ module _ (names : Names) where
       _
       _
       _
-      (both_judged statement_faults (λ p. AtKey (codes "entry") ms (λ d. IsAddress names d p.0) × AtKeyOr (codes "leave") ms (p.1 ≡ Any) (λ d. IsNamed named_class d p.1)) _ _ _ _ _ (both_judged statement_faults _ _ _ _ _ _ (address_in_judged names (codes "entry") ms) (leave_judged ms)) (tables_up_to_judged statement_faults 256 (StatesLoop names) (LoopFault names) (loop_at names) (loop_judged names) (get_member (codes "loop") ms)))
-      (both_judged statement_faults _ _ _ _ _ _ (tables_up_to_judged statement_faults 1024 (StatesTarget names) (TargetFault names) (target_at names) (target_judged names) (get_member (codes "target") ms)) (tables_up_to_judged statement_faults 4096 (StatesAccess names) (AccessFault names) (access_at names) (access_judged names) (get_member (codes "access") ms)))
+      (pair_judged statement_faults (λ p. AtKey (codes "entry") ms (λ d. IsAddress names d p.0) × AtKeyOr (codes "leave") ms (p.1 ≡ Any) (λ d. IsNamed named_class d p.1)) _ _ _ _ _ (pair_judged statement_faults _ _ _ _ _ _ (address_in_judged names (codes "entry") ms) (leave_judged ms)) (tables_up_to_judged statement_faults 256 (StatesLoop names) (LoopFault names) (loop_at names) (loop_judged names) (get_member (codes "loop") ms)))
+      (pair_judged statement_faults _ _ _ _ _ _ (tables_up_to_judged statement_faults 1024 (StatesTarget names) (TargetFault names) (target_at names) (target_judged names) (get_member (codes "target") ms)) (tables_up_to_judged statement_faults 4096 (StatesAccess names) (AccessFault names) (access_at names) (access_judged names) (get_member (codes "access") ms)))
 
   -- ## The whole
 

@@ -8,8 +8,8 @@ use Rattle.toml.specs.Data.{Data, Members, as_integer, as_str, as_table, get_mem
 use Rattle.bus_ticks.specs.declared.profile.Class.{Class}
 use Rattle.walks.specs.declared.limits.TheConstants.{MOST_ROUNDS}
 use Rattle.toml_reading.specs.Documents.{are_distinct, items_at, listed_up_to, number_in, once}
-use Rattle.toml_reading.specs.Readings.{and_then, both, items_in, required, seen}
-use Rattle.toml_reading.proofs.ReadingLemmas.{also_holds, and_then_holds, both_hold, checked_holds, first_holds, follows_holds, implied, in_space_holds, listed_up_to_holds, number_in_holds, required_holds, second_holds, seen_both, seen_second, tables_few, tables_up_to_hold, test_holds}
+use Rattle.toml_reading.specs.Readings.{and_then, pair, items_in, required, reading_map}
+use Rattle.toml_reading.proofs.ReadingLemmas.{also_holds, and_then_holds, pair_holds, check_holds, first_holds, follows_holds, implied, in_space_holds, listed_up_to_holds, number_in_holds, required_holds, second_holds, map_pair, map_second, tables_few, tables_up_to_hold, test_holds}
 use Rattle.statement.specs.ReadingParts.{parts_in}
 use Rattle.statement.specs.Stated.{IsLoop, IsStated, IsTarget, Target}
 use Rattle.loader.specs.Labels.{Names}
@@ -64,15 +64,15 @@ placed_is_loop p h =
 
 loop_parts_hold : (names : Names) (ms : Members) → IfOk (loop_parts names ms) AreEnds
 loop_parts_hold names ms =
-    let ends = both statement_faults (address_in names (codes "first") ms) (address_in names (codes "last") ms) in
-    let rest = both statement_faults (address_in names (codes "header") ms) (number_in statement_faults (codes "bound") MOST_ROUNDS ms) in
-    both_hold statement_faults (λ e. IsSmall e.0 × IsSmall e.1) (λ e. IsSmall e.0 × IsBound e.1) ends rest
-    (both_hold statement_faults IsSmall IsSmall (address_in names (codes "first") ms) (address_in names (codes "last") ms) (address_in_small names (codes "first") ms) (address_in_small names (codes "last") ms))
-    (both_hold statement_faults IsSmall IsBound (address_in names (codes "header") ms) (number_in statement_faults (codes "bound") MOST_ROUNDS ms) (address_in_small names (codes "header") ms) (number_in_holds statement_faults MOST_ROUNDS (codes "bound") ms))
+    let ends = pair statement_faults (address_in names (codes "first") ms) (address_in names (codes "last") ms) in
+    let rest = pair statement_faults (address_in names (codes "header") ms) (number_in statement_faults (codes "bound") MOST_ROUNDS ms) in
+    pair_holds statement_faults (λ e. IsSmall e.0 × IsSmall e.1) (λ e. IsSmall e.0 × IsBound e.1) ends rest
+    (pair_holds statement_faults IsSmall IsSmall (address_in names (codes "first") ms) (address_in names (codes "last") ms) (address_in_small names (codes "first") ms) (address_in_small names (codes "last") ms))
+    (pair_holds statement_faults IsSmall IsBound (address_in names (codes "header") ms) (number_in statement_faults (codes "bound") MOST_ROUNDS ms) (address_in_small names (codes "header") ms) (number_in_holds statement_faults MOST_ROUNDS (codes "bound") ms))
 
 loop_in_holds : (names : Names) (ms : Members) → IfOk (loop_in names ms) IsLoop
 loop_in_holds names ms =
-    checked_holds statement_faults IsLoop _ _ (and_then (loop_parts names ms) placed_loop)
+    check_holds statement_faults IsLoop _ _ (and_then (loop_parts names ms) placed_loop)
     (follows_holds statement_faults IsLoop AreEnds (loop_parts names ms) placed_loop (loop_parts_hold names ms) placed_is_loop)
 
 loop_holds : (names : Names) (d : Data) → IfOk (loop_at names d) IsLoop
@@ -141,13 +141,13 @@ directed_small names o k = of_list (destinations names o k) (destinations_small 
     of_list :
         (r : Read (List ℕ))
         → IfOk r AllSmall
-        → IfOk (seen (λ to. record { kind = k; to = to }) r) IsTarget
+        → IfOk (reading_map (λ to. record { kind = k; to = to }) r) IsTarget
     of_list (Ok to) h = h
     of_list (Err f) h = tt
 
 target_in_holds : (names : Names) (ms : Members) → IfOk (target_in names ms) IsStatedTarget
 target_in_holds names ms =
-    checked_holds statement_faults IsStatedTarget _ _ _
+    check_holds statement_faults IsStatedTarget _ _ _
     (second_holds statement_faults IsTarget (address_in names (codes "at") ms) _
     (and_then_holds statement_faults IsTarget (kind_in ms) (directed names (get_member (codes "to") ms)) (directed_small names (get_member (codes "to") ms))))
 
@@ -182,15 +182,15 @@ targets_hold names ms =
 pub parts_hold : (names : Names) (ms : Members) → IfOk (parts_of names ms) (λ p. IsStated (stated_by p))
 parts_hold names ms =
     let ends = ends_in names ms in
-    let few = both statement_faults ends (loops_in names ms) in
-    let rest = both statement_faults (targets_in names ms) (accesses_in names ms) in
+    let few = pair statement_faults ends (loops_in names ms) in
+    let rest = pair statement_faults (targets_in names ms) (accesses_in names ms) in
     implied
     (λ (p : Parts). (IsSmall p.0.0.0 × AreLoops p.0.1) × AreTargets p.1.0)
     (λ p. IsStated (stated_by p))
     (parts_of names ms)
     (λ p h. record { entry_small = h.0.0; within = h.0.1.0; few = h.0.1.1; destinations = h.1 })
-    (both_hold statement_faults (λ p. IsSmall p.0.0 × AreLoops p.1) (λ p. AreTargets p.0) few rest
-    (both_hold statement_faults (λ p. IsSmall p.0) AreLoops ends (loops_in names ms)
+    (pair_holds statement_faults (λ p. IsSmall p.0.0 × AreLoops p.1) (λ p. AreTargets p.0) few rest
+    (pair_holds statement_faults (λ p. IsSmall p.0) AreLoops ends (loops_in names ms)
     (first_holds statement_faults IsSmall (address_in names (codes "entry") ms) (leave_in ms) (address_in_small names (codes "entry") ms))
     (loops_hold names ms))
     (first_holds statement_faults AreTargets (targets_in names ms) (accesses_in names ms) (targets_hold names ms)))
@@ -199,12 +199,12 @@ parts_hold names ms =
 
 pub stored :
     (e : Read (ℕ × Class)) (l : Read (Vec Loop Global)) (t : Read (Vec (ℕ × Target) Global)) (a : Read (Vec (ℕ × Class) Global))
-    → seen parts_in (both statement_faults (both statement_faults e l) (both statement_faults t a)) ≡ both statement_faults (both statement_faults e (items_in l)) (both statement_faults (items_in t) (items_in a))
+    → reading_map parts_in (pair statement_faults (pair statement_faults e l) (pair statement_faults t a)) ≡ pair statement_faults (pair statement_faults e (items_in l)) (pair statement_faults (items_in t) (items_in a))
 stored e l t a =
-    seen_both
+    map_pair
     statement_faults
     (λ p. (p.0, p.1.items))
     (λ p. (p.0.items, p.1.items))
-    (both statement_faults e l)
-    (both statement_faults t a)
-    ∙ (λ i. both statement_faults (seen_second statement_faults (λ v. v.items) e l i) (seen_both statement_faults (λ v. v.items) (λ v. v.items) t a i))
+    (pair statement_faults e l)
+    (pair statement_faults t a)
+    ∙ (λ i. pair statement_faults (map_second statement_faults (λ v. v.items) e l i) (map_pair statement_faults (λ v. v.items) (λ v. v.items) t a i))

@@ -12,9 +12,9 @@ use Rattle.walks.specs.declared.limits.TheConstants.{MOST_ROUNDS}
 use Rattle.toml_reading.specs.Documents.{are_distinct, items_at, listed_up_to, number_in, once}
 use Rattle.toml_reading.specs.Lists.{HasRepeat}
 use Rattle.toml_reading.specs.Lowest.{AtKey, IsNamed, IsNumber, IsOutside, NameFault, NumberFault}
-use Rattle.toml_reading.specs.Readings.{Reading, and_then, both, required}
+use Rattle.toml_reading.specs.Readings.{Reading, and_then, pair, required}
 use Rattle.toml_reading.proofs.Following.{few_judged, stated_or_faulty, test_judged, then_judged, widened_judged}
-use Rattle.toml_reading.proofs.LowestLemmas.{Judges, both_judged, judged_as, required_judged, seen_judged}
+use Rattle.toml_reading.proofs.LowestLemmas.{Judges, pair_judged, judged_as, required_judged, map_judged}
 use Rattle.toml_reading.proofs.LowestParts.{any_none, number_in_judged, table_judged}
 use Rattle.toml_reading.proofs.TwiceLemmas.{not_distinct}
 use Rattle.statement.specs.StatementRules.{AccessFault, AccessKeysFault, AddressFault, AreDestinations, DestinationsFault, GoesTo, HasAccess, HasLoop, HasTarget, IsAddress, IsMisplaced, IsPlaced, LoopFault, LoopKeysFault, RequiredFault, StatesAccess, StatesLoop, StatesTarget, TargetFault, TargetKeysFault, ToFault}
@@ -122,7 +122,7 @@ module _ (names : Names) where
 
   ends_judged : (ms : Members) → Judges statement_faults (HasEnds ms) (EndsFault ms) (loop_parts names ms)
   ends_judged ms =
-      both_judged
+      pair_judged
       statement_faults
       (λ p. AtKey (codes "first") ms (λ d. IsAddress names d p.0) × AtKey (codes "last") ms (λ d. IsAddress names d p.1))
       (λ p. AtKey (codes "header") ms (λ d. IsAddress names d p.0) × AtKey (codes "bound") ms (λ d. IsNumber MOST_ROUNDS d p.1))
@@ -130,8 +130,8 @@ module _ (names : Names) where
       _
       _
       _
-      (both_judged statement_faults _ _ _ _ _ _ (address_in_judged names (codes "first") ms) (address_in_judged names (codes "last") ms))
-      (both_judged statement_faults _ _ _ _ _ _ (address_in_judged names (codes "header") ms) (number_in_judged statement_faults MOST_ROUNDS (codes "bound") ms))
+      (pair_judged statement_faults _ _ _ _ _ _ (address_in_judged names (codes "first") ms) (address_in_judged names (codes "last") ms))
+      (pair_judged statement_faults _ _ _ _ _ _ (address_in_judged names (codes "header") ms) (number_in_judged statement_faults MOST_ROUNDS (codes "bound") ms))
 
   is_placed : (l : Loop) → (leb l.first l.header && leb l.header l.last) ≡ true ↔ IsPlaced names l
   is_placed l = (
@@ -414,7 +414,7 @@ module _ (names : Names) where
       (ToFault names k o)
       (directed names o k)
   directed_judged k o =
-      seen_judged
+      map_judged
       statement_faults
       (GoesTo names k o)
       (λ t. (t.kind ≡ k) × GoesTo names k o t.to)
@@ -457,7 +457,7 @@ module _ (names : Names) where
 
   abbrev target_parts : Members → Reading StatementFault (ℕ × Target)
   target_parts ms =
-      both
+      pair
       statement_faults
       (address_in names (codes "at") ms)
       (and_then (kind_in ms) (directed names (get_member (codes "to") ms)))
@@ -486,7 +486,7 @@ module _ (names : Names) where
       ))
       (λ f. (λ y. y, λ y. y))
       (target_parts ms)
-      (both_judged statement_faults _ _ _ _ _ _ (address_in_judged names (codes "at") ms) (direction_judged ms))
+      (pair_judged statement_faults _ _ _ _ _ _ (address_in_judged names (codes "at") ms) (direction_judged ms))
 
   pub target_judged :
       (d : Data)
@@ -497,7 +497,7 @@ module _ (names : Names) where
   -- ## Accesses
 
   abbrev access_parts : Members → Reading StatementFault (ℕ × Class)
-  access_parts ms = both statement_faults (address_in names (codes "at") ms) (class_in ms)
+  access_parts ms = pair statement_faults (address_in names (codes "at") ms) (class_in ms)
 
   access_keys_judged :
       (ms : Members)
@@ -516,7 +516,7 @@ module _ (names : Names) where
       (λ a. (λ h. record { address = h.0; class = h.1 }, λ h. (h.address, h.class)))
       (λ f. (λ y. y, λ y. y))
       (access_parts ms)
-      (both_judged statement_faults _ _ _ _ _ _ (address_in_judged names (codes "at") ms) (word_in_judged named_class (codes "class") ms))
+      (pair_judged statement_faults _ _ _ _ _ _ (address_in_judged names (codes "at") ms) (word_in_judged named_class (codes "class") ms))
 
   pub access_judged :
       (d : Data)

@@ -11,7 +11,7 @@ use Rattle.loader.specs.Labels.{Names}
 use Rattle.walks.specs.declared.limits.TheConstants.{MOST_ROUNDS}
 use Rattle.toml_reading.specs.Documents.{IsAnswer, are_distinct, in_space, items_at, listed_up_to, name_at}
 use Rattle.toml_reading.specs.Documents.{number_in, of_keys, once, tables_up_to}
-use Rattle.toml_reading.specs.Readings.{Reading, and_then, both, optional, required, seen}
+use Rattle.toml_reading.specs.Readings.{Reading, and_then, pair, optional, required, reading_map}
 use Rattle.statement.specs.Stated.{Stated, Target}
 use Rattle.statement.specs.StatementFaults.{statement_faults}
 use Rattle.statement.specs.declared.faults.StatementFault.{StatementFault}
@@ -113,10 +113,10 @@ module _ (names : Names) where
   -- first and last, header and bound: at most 1,048,576 rounds
   abbrev pub loop_parts : Members → Read ((ℕ × ℕ) × (ℕ × ℕ))
   loop_parts ms =
-      both
+      pair
       statement_faults
-      (both statement_faults (address_in (codes "first") ms) (address_in (codes "last") ms))
-      (both statement_faults (address_in (codes "header") ms)
+      (pair statement_faults (address_in (codes "first") ms) (address_in (codes "last") ms))
+      (pair statement_faults (address_in (codes "header") ms)
       (number_in statement_faults (codes "bound") MOST_ROUNDS ms))
 
   abbrev pub loop_in : Members → Read Loop
@@ -144,7 +144,7 @@ module _ (names : Names) where
   destinations to Leave = if is_none to then Ok [] else Err WrongKind
 
   abbrev pub directed : Option Data → TargetKind → Read Target
-  directed to kind = seen (λ addresses. record { kind = kind; to = addresses }) (destinations to kind)
+  directed to kind = reading_map (λ addresses. record { kind = kind; to = addresses }) (destinations to kind)
 
   abbrev pub target_in : Members → Read (ℕ × Target)
   target_in ms =
@@ -152,7 +152,7 @@ module _ (names : Names) where
       statement_faults
       target_keys
       ms
-      (both statement_faults (address_in (codes "at") ms)
+      (pair statement_faults (address_in (codes "at") ms)
       (and_then (kind_in ms) (directed (get_member (codes "to") ms))))
 
   abbrev pub target_at : Data → Read (ℕ × Target)
@@ -163,7 +163,7 @@ module _ (names : Names) where
   abbrev pub access_in : Members → Read (ℕ × Class)
   access_in ms =
       of_keys statement_faults access_keys ms
-      (both statement_faults (address_in (codes "at") ms) (class_in ms))
+      (pair statement_faults (address_in (codes "at") ms) (class_in ms))
 
   abbrev pub access_at : Data → Read (ℕ × Class)
   access_at d = required statement_faults (as_table d) access_in
@@ -171,7 +171,7 @@ module _ (names : Names) where
   -- ## The statement
 
   abbrev pub ends_in : Members → Read (ℕ × Class)
-  ends_in ms = both statement_faults (address_in (codes "entry") ms) (leave_in ms)
+  ends_in ms = pair statement_faults (address_in (codes "entry") ms) (leave_in ms)
 
   abbrev pub loops_in : Members → Read (List Loop)
   loops_in ms = tables_up_to statement_faults 256 loop_at (get_member (codes "loop") ms)
@@ -184,10 +184,10 @@ module _ (names : Names) where
 
   abbrev pub parts_of : Members → Read Parts
   parts_of ms =
-      both
+      pair
       statement_faults
-      (both statement_faults (ends_in ms) (loops_in ms))
-      (both statement_faults (targets_in ms) (accesses_in ms))
+      (pair statement_faults (ends_in ms) (loops_in ms))
+      (pair statement_faults (targets_in ms) (accesses_in ms))
 
   abbrev pub statement_of : Members → Read Stated
   statement_of ms = of_keys statement_faults statement_keys ms (and_then (parts_of ms) stated_once)

@@ -15,7 +15,7 @@ use loader::Labels;
 use std::alloc::{AllocError, Global};
 use toml::{Table, Value};
 use toml_reading::{
-    Entry, are_all_distinct, in_space, of_keys, pair, read_list_up_to, required, required_number,
+    Entry, are_all_distinct, in_space, number_in, of_keys, pair, read_list_up_to, required,
     value_at, values_of,
 };
 use walks::MOST_ROUNDS;
@@ -84,7 +84,7 @@ fn loop_parts(labels: &Labels, table: &Table) -> Read<((u32, u32), (u32, u32))>
     );
     let rest = pair(
         address_in(labels, table, "header"),
-        required_number(table, "bound", MOST_ROUNDS),
+        number_in(table, "bound", MOST_ROUNDS),
     );
     pair(ends, rest)
 }

@@ -1,7 +1,7 @@
 ghost use Rattle.std.specs.Prelude.{◌≡◌, ◌≢◌, Err, IfOk};
 ghost use Rattle.toml.specs.View.{table_view};
 ghost use Rattle.loader.specs.Labels.{address_of};
-ghost use Rattle.toml_reading.specs.Readings.{and_then, seen};
+ghost use Rattle.toml_reading.specs.Readings.{and_then, reading_map};
 ghost use Rattle.statement.specs.ReadingParts.{parts_in};
 ghost use Rattle.statement.specs.Stated.{IsStated};
 ghost use Rattle.statement.specs.Statement.{IsStatement, ends_in, leave_in, parts_of, stated_by, stated_once};
@@ -49,8 +49,8 @@ type Parts = (
 
 // The statement of its parts.
 fn stated_once(alloc: Global, parts: Read<Parts>) -> Result<Read<Statement>, AllocError>
-    requires { IfOk (seen parts_in parts) (λ p. IsStated (stated_by p)) }
-    ensures { IfOk result (λ reading. reading ≡ and_then (seen parts_in parts) stated_once) }
+    requires { IfOk (reading_map parts_in parts) (λ p. IsStated (stated_by p)) }
+    ensures { IfOk result (λ reading. reading ≡ and_then (reading_map parts_in parts) stated_once) }
 {
     let (((entry, leave), loops), (targets, accesses)) = match parts {
         Ok(parts) => parts,
@@ -74,7 +74,7 @@ fn stated_once(alloc: Global, parts: Read<Parts>) -> Result<Read<Statement>, All
 // The parts that the table states.
 fn parts_of(alloc: Global, labels: &Labels, table: &Table) -> Result<Read<Parts>, AllocError>
     ensures { IfOk result
-        (λ parts. seen parts_in parts ≡ parts_of (address_of labels.now) (table_view table.now)) }
+        (λ parts. reading_map parts_in parts ≡ parts_of (address_of labels.now) (table_view table.now)) }
 {
     let loops = tables_up_to(alloc, labels, value_at(table, "loop"), MOST_LOOPS)?;
     let targets = tables_up_to(alloc, labels, value_at(table, "target"), MOST_TARGETS)?;

@@ -6,7 +6,7 @@ use Rattle.toml.specs.Data.{Data}
 use Rattle.toml_reading.specs.Documents.{items_at, list_up_to, listed, listed_up_to, tables_up_to}
 use Rattle.toml_reading.specs.Lists.{IsListUpTo, ListUpToFault}
 use Rattle.toml_reading.specs.Readings.{Faults, Reading, and_then}
-use Rattle.toml_reading.proofs.LowestLemmas.{AnswersBy, Judges, checked_judged, judged_as, optional_judged, required_judged}
+use Rattle.toml_reading.proofs.LowestLemmas.{AnswersBy, Judges, check_judged, judged_as, optional_judged, required_judged}
 use Rattle.toml_reading.proofs.LowestParts.{all_judged}
 
 -- ## A fault for certain, and a test
@@ -131,7 +131,7 @@ module _ {F A : Type 0} (fs : Faults F) (limit : ℕ) (S : Data → A → Type 0
         λ y. elim y [ inl h ↦ inl (lt-leb (length ds) limit h.0, h.1) | inr z ↦ inr z ],
       ))
       (listed_up_to fs limit reads ds)
-      (checked_judged fs (AllZip S ds) (λ f. Any (λ e. H e f) ds) (leb (length ds) limit) fs.out_of_range (listed fs reads ds) (all_judged fs S H reads each ds))
+      (check_judged fs (AllZip S ds) (λ f. Any (λ e. H e f) ds) (leb (length ds) limit) fs.out_of_range (listed fs reads ds) (all_judged fs S H reads each ds))
 
   pub list_up_to_judged :
       (d : Data)

@@ -3,7 +3,7 @@ use Rattle.std.proofs.Common.{◌≡◌, ℕ, ◌≤◌, ◌⊎◌, ◌↔◌, B
 use Rattle.std.proofs.lemmas.Bool.{leb-true, leb-false, true≢false, false≢true}
 use Rattle.std.specs.Result.{is_ok}
 use Rattle.toml_reading.specs.Lowest.{IsLowest, IsOnly}
-use Rattle.toml_reading.specs.Readings.{Faults, Reading, and_then, both, checked, lower, optional, required, seen}
+use Rattle.toml_reading.specs.Readings.{Faults, Reading, and_then, pair, check, lower, optional, required, reading_map}
 
 -- what a reading reports: all that is stated and no fault, or that nothing is stated and the lowest fault
 abbrev pub AnswersBy : {F A : Type 0} → Faults F → (A → Type 0) → (F → Type 0) → Reading F A → Type 0
@@ -71,14 +71,14 @@ module _ {F A : Type 0} (fs : Faults F) (S : A → Type 0) (H : F → Type 0) wh
 
 module _ {F A B : Type 0} (fs : Faults F) (S : A → Type 0) (T : B → Type 0) (H : F → Type 0) (f : A → B)
     (to : (a : A) → S a → T (f a)) (back : (b : B) → T b → (a : A) × S a × (b ≡ f a)) where
-  seen_answers : (r : Reading F A) → AnswersBy fs S H r → AnswersBy fs T H (seen f r)
-  seen_answers (Ok a) h =
+  map_answers : (r : Reading F A) → AnswersBy fs S H r → AnswersBy fs T H (reading_map f r)
+  map_answers (Ok a) h =
       (record { stated = to a h.0.stated; only = λ b t. let p = back b t in p.2 ∙ ap f (h.0.only p.0 p.1) }, h.1)
-  seen_answers (Err g) h = (λ b t. let p = back b t in h.0 p.0 p.1, h.1)
+  map_answers (Err g) h = (λ b t. let p = back b t in h.0 p.0 p.1, h.1)
 
-  -- a value that is seen otherwise
-  pub seen_judged : (r : Reading F A) → Judges fs S H r → Judges fs T H (seen f r)
-  seen_judged r h = record { answers = seen_answers r h.answers }
+  -- a function of the value
+  pub map_judged : (r : Reading F A) → Judges fs S H r → Judges fs T H (reading_map f r)
+  map_judged r h = record { answers = map_answers r h.answers }
 
 module _ {F A : Type 0} (fs : Faults F) (S T : A → Type 0) (H K : F → Type 0) (values : (a : A) → S a ↔ T a)
     (faults : (f : F) → H f ↔ K f) where
@@ -184,54 +184,54 @@ module _ {F : Type 0} (fs : Faults F) (H K : F → Type 0) (f g : F) (h : IsLowe
   lower_lowest = by_order (leb (fs.rank f) (fs.rank g)) refl
 
 module _ {F A : Type 0} (fs : Faults F) (S : A → Type 0) (H : F → Type 0) where
-  checked_answers : (b : Bool) (x : F) (r : Reading F A) → AnswersBy fs S H r
-      → AnswersBy fs (λ a. (b ≡ true) × S a) (λ f. ((b ≡ false) × (f ≡ x)) ⊎ H f) (checked fs b x r)
-  checked_answers true x (Ok a) h = (
+  check_answers : (b : Bool) (x : F) (r : Reading F A) → AnswersBy fs S H r
+      → AnswersBy fs (λ a. (b ≡ true) × S a) (λ f. ((b ≡ false) × (f ≡ x)) ⊎ H f) (check fs b x r)
+  check_answers true x (Ok a) h = (
     record { stated = (refl, h.0.stated); only = λ c s. h.0.only c s.1 },
     λ f y. elim y [ inl e ↦ true≢false e.0 | inr z ↦ h.1 f z ],
   )
-  checked_answers true x (Err g) h = (
+  check_answers true x (Err g) h = (
     λ a s. h.0 a s.1,
     record { has = inr h.1.has; least = λ o y. elim y [ inl e ↦ absurd (true≢false e.0) | inr z ↦ h.1.least o z ] },
   )
-  checked_answers false x (Ok a) h = (
+  check_answers false x (Ok a) h = (
     λ c s. false≢true s.0,
     record { has = inl (refl, refl); least = λ o y. elim y [ inl e ↦ le_of_eq (ap fs.rank (sym e.1)) | inr z ↦ absurd (h.1 o z) ] },
   )
-  checked_answers false x (Err g) h = (
+  check_answers false x (Err g) h = (
     λ c s. false≢true s.0,
     lower_lowest fs (λ f. (false ≡ false) × (f ≡ x)) H x g (record { has = (refl, refl); least = λ o e. le_of_eq (ap fs.rank (sym e.1)) }) h.1,
   )
 
-  pub checked_judged : (b : Bool) (x : F) (r : Reading F A) → Judges fs S H r
-      → Judges fs (λ a. (b ≡ true) × S a) (λ f. ((b ≡ false) × (f ≡ x)) ⊎ H f) (checked fs b x r)
-  checked_judged b x r h = record { answers = checked_answers b x r h.answers }
+  pub check_judged : (b : Bool) (x : F) (r : Reading F A) → Judges fs S H r
+      → Judges fs (λ a. (b ≡ true) × S a) (λ f. ((b ≡ false) × (f ≡ x)) ⊎ H f) (check fs b x r)
+  check_judged b x r h = record { answers = check_answers b x r h.answers }
 
 module _ {F A B : Type 0} (fs : Faults F) (S : A → Type 0) (T : B → Type 0) (H K : F → Type 0) where
-  both_answers : (a : Reading F A) (b : Reading F B) → AnswersBy fs S H a → AnswersBy fs T K b
-      → AnswersBy fs (λ p. S p.0 × T p.1) (λ f. H f ⊎ K f) (both fs a b)
-  both_answers (Ok a) (Ok b) h k = (
+  pair_answers : (a : Reading F A) (b : Reading F B) → AnswersBy fs S H a → AnswersBy fs T K b
+      → AnswersBy fs (λ p. S p.0 × T p.1) (λ f. H f ⊎ K f) (pair fs a b)
+  pair_answers (Ok a) (Ok b) h k = (
     record { stated = (h.0.stated, k.0.stated); only = λ p s. λ i. (h.0.only p.0 s.0 i, k.0.only p.1 s.1 i) },
     λ f x. elim x [ inl y ↦ h.1 f y | inr z ↦ k.1 f z ],
   )
-  both_answers (Ok a) (Err g) h k = (
+  pair_answers (Ok a) (Err g) h k = (
     λ p s. k.0 p.1 s.1,
     record { has = inr k.1.has; least = λ o x. elim x [ inl y ↦ absurd (h.1 o y) | inr z ↦ k.1.least o z ] },
   )
-  both_answers (Err f) (Ok b) h k = (
+  pair_answers (Err f) (Ok b) h k = (
     λ p s. h.0 p.0 s.0,
     record { has = inl h.1.has; least = λ o x. elim x [ inl y ↦ h.1.least o y | inr z ↦ absurd (k.1 o z) ] },
   )
-  both_answers (Err f) (Err g) h k = (λ p s. h.0 p.0 s.0, lower_lowest fs H K f g h.1 k.1)
+  pair_answers (Err f) (Err g) h k = (λ p s. h.0 p.0 s.0, lower_lowest fs H K f g h.1 k.1)
 
-  pub both_judged : (a : Reading F A) (b : Reading F B) → Judges fs S H a → Judges fs T K b
-      → Judges fs (λ p. S p.0 × T p.1) (λ f. H f ⊎ K f) (both fs a b)
-  both_judged a b h k = record { answers = both_answers a b h.answers k.answers }
+  pub pair_judged : (a : Reading F A) (b : Reading F B) → Judges fs S H a → Judges fs T K b
+      → Judges fs (λ p. S p.0 × T p.1) (λ f. H f ⊎ K f) (pair fs a b)
+  pair_judged a b h k = record { answers = pair_answers a b h.answers k.answers }
 
 -- two parts, of which all is known
 pub joint : {F A B : Type 0} {fs : Faults F} {S : A → Type 0} {T : B → Type 0} {H K : F → Type 0} {a : Reading F A} {b : Reading F B}
-    → Judges fs S H a → Judges fs T K b → Judges fs (λ p. S p.0 × T p.1) (λ f. H f ⊎ K f) (both fs a b)
-joint {fs = fs} {S = S} {T = T} {H = H} {K = K} {a = a} {b = b} h k = both_judged fs S T H K a b h k
+    → Judges fs S H a → Judges fs T K b → Judges fs (λ p. S p.0 × T p.1) (λ f. H f ⊎ K f) (pair fs a b)
+joint {fs = fs} {S = S} {T = T} {H = H} {K = K} {a = a} {b = b} h k = pair_judged fs S T H K a b h k
 
 -- ## What is read from a value that was read
 

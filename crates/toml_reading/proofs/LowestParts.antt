@@ -6,8 +6,8 @@ use Rattle.std.proofs.lemmas.Option.{none-some, same_Some}
 use Rattle.toml.specs.Data.{Data, Members, as_integer, as_str, as_table, get_member}
 use Rattle.toml_reading.specs.Documents.{has_only_keys, items_at, list_at, listed, name_at, number_at, number_in, number_or, of_keys, tables_at}
 use Rattle.toml_reading.specs.Lowest.{AtKey, AtKeyOr, IsListOf, IsNamed, IsNumber, IsOutside, IsTable, KeysFault, ListFault, NameFault, NumberFault, TableFault, entries_at, natural, number_of_entry, numbers_at}
-use Rattle.toml_reading.specs.Readings.{Faults, Reading, after, all, both, required, seen, up_to}
-use Rattle.toml_reading.proofs.LowestLemmas.{AnswersBy, Judges, both_judged, checked_judged, judged_as, optional_judged, required_judged, seen_judged}
+use Rattle.toml_reading.specs.Readings.{Faults, Reading, after, all, pair, required, reading_map, up_to}
+use Rattle.toml_reading.proofs.LowestLemmas.{AnswersBy, Judges, pair_judged, check_judged, judged_as, optional_judged, required_judged, map_judged}
 
 -- ## Numbers
 
@@ -108,7 +108,7 @@ module _ {F A : Type 0} (fs : Faults F) (keys : List (List ℕ)) (S : Members �
     (each : (ms : Members) → Judges fs (S ms) (H ms) (reads ms)) where
   pub keys_judged : (ms : Members)
       → Judges fs (λ a. (has_only_keys keys ms ≡ true) × S ms a) (KeysFault fs keys H ms) (of_keys fs keys ms (reads ms))
-  keys_judged ms = checked_judged fs (S ms) (H ms) (has_only_keys keys ms) fs.unknown_key (reads ms) (each ms)
+  keys_judged ms = check_judged fs (S ms) (H ms) (has_only_keys keys ms) fs.unknown_key (reads ms) (each ms)
 
   pub table_judged : (d : Data)
       → Judges fs (λ a. IsTable keys (λ ms. S ms a) d) (TableFault fs keys H d) (required fs (as_table d) (λ ms. of_keys fs keys ms (reads ms)))
@@ -163,17 +163,17 @@ module _ {F A : Type 0} (fs : Faults F) (S : List A → Type 0) (T : A → Type 
   abbrev Longer : List A → Type 0
   Longer xs = (ys : List A) × (z : A) × S ys × T z × (xs ≡ ys ++ z ∷ [])
 
-  after_both : (list : Reading F (List A)) (r : Reading F A)
-      → after fs list r ≡ seen (λ p. p.0 ++ p.1 ∷ []) (both fs list r)
-  after_both (Ok xs) (Ok a) = refl
-  after_both (Ok xs) (Err g) = refl
-  after_both (Err f) (Ok a) = refl
-  after_both (Err f) (Err g) = refl
+  after_pair : (list : Reading F (List A)) (r : Reading F A)
+      → after fs list r ≡ reading_map (λ p. p.0 ++ p.1 ∷ []) (pair fs list r)
+  after_pair (Ok xs) (Ok a) = refl
+  after_pair (Ok xs) (Err g) = refl
+  after_pair (Err f) (Ok a) = refl
+  after_pair (Err f) (Err g) = refl
 
   after_judged : (list : Reading F (List A)) (r : Reading F A) → Judges fs S H list → Judges fs T K r
       → Judges fs Longer (λ f. H f ⊎ K f) (after fs list r)
   after_judged list r h k =
-      rw (after_both list r) (seen_judged fs (λ p. S p.0 × T p.1) Longer (λ f. H f ⊎ K f) (λ p. p.0 ++ p.1 ∷ []) (λ p s. (p.0, p.1, s.0, s.1, refl)) (λ xs l. ((l.0, l.1), (l.2, l.3), l.4)) (both fs list r) (both_judged fs S T H K list r h k))
+      rw (after_pair list r) (map_judged fs (λ p. S p.0 × T p.1) Longer (λ f. H f ⊎ K f) (λ p. p.0 ++ p.1 ∷ []) (λ p s. (p.0, p.1, s.0, s.1, refl)) (λ xs l. ((l.0, l.1), (l.2, l.3), l.4)) (pair fs list r) (pair_judged fs S T H K list r h k))
 
 module _ {F A X : Type 0} (fs : Faults F) (T : X → A → Type 0) (K : X → F → Type 0)
     (reads : X → Reading F A) (each : (x : X) → Judges fs (T x) (K x) (reads x)) where

@@ -6,7 +6,7 @@ use Rattle.std.proofs.lemmas.List.Elements.{All-nil, All-push}
 use Rattle.toml.specs.Data.{Data, Members, as_integer, get_member}
 use Rattle.toml.specs.View.{items_of}
 use Rattle.toml_reading.specs.Documents.{in_space, items_at, list_of, listed, listed_up_to, number_at, number_in, number_or, tables_at, tables_up_to}
-use Rattle.toml_reading.specs.Readings.{Faults, Reading, after, all, and_then, both, checked, optional, required, seen, up_to}
+use Rattle.toml_reading.specs.Readings.{Faults, Reading, after, all, and_then, pair, check, optional, required, reading_map, up_to}
 
 pub list_of-items_of : (ds : List Data) → list_of (items_of ds) ≡ ds
 list_of-items_of [] = refl
@@ -15,10 +15,10 @@ list_of-items_of (d ∷ ds) = ap (λ xs. d ∷ xs) (list_of-items_of ds)
 -- ## A fact of what is read
 
 module _ {F A : Type 0} (fs : Faults F) (P : A → Type 0) where
-  pub checked_holds : (b : Bool) (f : F) (r : Reading F A) → IfOk r P → IfOk (checked fs b f r) P
-  checked_holds true f r h = h
-  checked_holds false f (Ok a) h = tt
-  checked_holds false f (Err g) h = tt
+  pub check_holds : (b : Bool) (f : F) (r : Reading F A) → IfOk r P → IfOk (check fs b f r) P
+  check_holds true f r h = h
+  check_holds false f (Ok a) h = tt
+  check_holds false f (Err g) h = tt
 
   pub and_then_holds : {B : Type 0} (r : Reading F B) (f : B → Reading F A) → ((b : B) → IfOk (f b) P) → IfOk (and_then r f) P
   and_then_holds (Ok b) f h = h b
@@ -66,7 +66,7 @@ module _ {F A : Type 0} (fs : Faults F) (P : A → Type 0) where
   pub listed_up_to_holds : (reads : Data → Reading F A) → ((d : Data) → IfOk (reads d) P) → (limit : ℕ) (ds : List Data) → IfOk (listed_up_to fs limit reads ds) (All P)
   listed_up_to_holds reads each limit ds = of_listed (nat_le (length ds) limit) (listed fs reads ds) (listed_holds reads each ds)
     where
-      of_listed : (b : Bool) (r : Reading F (List A)) → IfOk r (All P) → IfOk (checked fs b fs.out_of_range r) (All P)
+      of_listed : (b : Bool) (r : Reading F (List A)) → IfOk r (All P) → IfOk (check fs b fs.out_of_range r) (All P)
       of_listed true r h = h
       of_listed false (Ok a) h = tt
       of_listed false (Err g) h = tt
@@ -79,20 +79,20 @@ module _ {F A : Type 0} (fs : Faults F) (P : A → Type 0) where
       of_list None = tt
       of_list (Some ds) = listed_up_to_holds reads each limit ds
 
-pub both_hold : {F A B : Type 0} (fs : Faults F) (P : A → Type 0) (Q : B → Type 0) (a : Reading F A) (b : Reading F B) → IfOk a P → IfOk b Q → IfOk (both fs a b) (λ p. P p.0 × Q p.1)
-both_hold fs P Q (Ok a) (Ok b) h k = (h, k)
-both_hold fs P Q (Ok a) (Err g) h k = tt
-both_hold fs P Q (Err f) (Ok b) h k = tt
-both_hold fs P Q (Err f) (Err g) h k = tt
+pub pair_holds : {F A B : Type 0} (fs : Faults F) (P : A → Type 0) (Q : B → Type 0) (a : Reading F A) (b : Reading F B) → IfOk a P → IfOk b Q → IfOk (pair fs a b) (λ p. P p.0 × Q p.1)
+pair_holds fs P Q (Ok a) (Ok b) h k = (h, k)
+pair_holds fs P Q (Ok a) (Err g) h k = tt
+pair_holds fs P Q (Err f) (Ok b) h k = tt
+pair_holds fs P Q (Err f) (Err g) h k = tt
 
 module _ {F A B : Type 0} (fs : Faults F) where
-  pub first_holds : (P : A → Type 0) (a : Reading F A) (b : Reading F B) → IfOk a P → IfOk (both fs a b) (λ p. P p.0)
+  pub first_holds : (P : A → Type 0) (a : Reading F A) (b : Reading F B) → IfOk a P → IfOk (pair fs a b) (λ p. P p.0)
   first_holds P (Ok a) (Ok b) h = h
   first_holds P (Ok a) (Err g) h = tt
   first_holds P (Err f) (Ok b) h = tt
   first_holds P (Err f) (Err g) h = tt
 
-  pub second_holds : (Q : B → Type 0) (a : Reading F A) (b : Reading F B) → IfOk b Q → IfOk (both fs a b) (λ p. Q p.1)
+  pub second_holds : (Q : B → Type 0) (a : Reading F A) (b : Reading F B) → IfOk b Q → IfOk (pair fs a b) (λ p. Q p.1)
   second_holds Q (Ok a) (Ok b) k = k
   second_holds Q (Ok a) (Err g) k = tt
   second_holds Q (Err f) (Ok b) k = tt
@@ -107,20 +107,20 @@ module _ {F A : Type 0} (P Q : A → Type 0) where
   also_holds (Ok a) h k = (h, k)
   also_holds (Err g) h k = tt
 
--- ## Two parts, seen otherwise
+-- ## A function of each of two parts
 
 module _ {F A B C D : Type 0} (fs : Faults F) (f : A → C) (g : B → D) where
-  pub seen_both : (a : Reading F A) (b : Reading F B) → seen (λ (p : A × B). (f p.0, g p.1)) (both fs a b) ≡ both fs (seen f a) (seen g b)
-  seen_both (Ok a) (Ok b) = refl
-  seen_both (Ok a) (Err h) = refl
-  seen_both (Err e) (Ok b) = refl
-  seen_both (Err e) (Err h) = refl
+  pub map_pair : (a : Reading F A) (b : Reading F B) → reading_map (λ (p : A × B). (f p.0, g p.1)) (pair fs a b) ≡ pair fs (reading_map f a) (reading_map g b)
+  map_pair (Ok a) (Ok b) = refl
+  map_pair (Ok a) (Err h) = refl
+  map_pair (Err e) (Ok b) = refl
+  map_pair (Err e) (Err h) = refl
 
-pub seen_second : {F A B D : Type 0} (fs : Faults F) (g : B → D) (a : Reading F A) (b : Reading F B) → seen (λ (p : A × B). (p.0, g p.1)) (both fs a b) ≡ both fs a (seen g b)
-seen_second fs g (Ok a) (Ok b) = refl
-seen_second fs g (Ok a) (Err h) = refl
-seen_second fs g (Err f) (Ok b) = refl
-seen_second fs g (Err f) (Err h) = refl
+pub map_second : {F A B D : Type 0} (fs : Faults F) (g : B → D) (a : Reading F A) (b : Reading F B) → reading_map (λ (p : A × B). (p.0, g p.1)) (pair fs a b) ≡ pair fs a (reading_map g b)
+map_second fs g (Ok a) (Ok b) = refl
+map_second fs g (Ok a) (Err h) = refl
+map_second fs g (Err f) (Ok b) = refl
+map_second fs g (Err f) (Err h) = refl
 
 -- ## Numbers
 
@@ -177,7 +177,7 @@ module _ {F A : Type 0} (fs : Faults F) (reads : Data → Reading F A) (limit : 
   listed_few : (ds : List Data) → IfOk (listed_up_to fs limit reads ds) (λ xs. length xs ≤ limit)
   listed_few ds = few (nat_le (length ds) limit) (listed fs reads ds) refl (all_length fs reads ds)
     where
-      few : (b : Bool) (r : Reading F (List A)) → nat_le (length ds) limit ≡ b → IfOk r (λ xs. length xs ≡ length ds) → IfOk (checked fs b fs.out_of_range r) (λ xs. length xs ≤ limit)
+      few : (b : Bool) (r : Reading F (List A)) → nat_le (length ds) limit ≡ b → IfOk r (λ xs. length xs ≡ length ds) → IfOk (check fs b fs.out_of_range r) (λ xs. length xs ≤ limit)
       few true (Ok xs) e h = let l : length xs ≡ length ds = h in omega (arith, leb-true (length ds) limit e)
       few true (Err f) e h = tt
       few false (Ok xs) e h = tt

@@ -9,7 +9,7 @@ use Rattle.toml.specs.Data.{Data, Items, Members, no_items, item, no_members, me
 use Rattle.toml.specs.Data.{as_integer, as_str}
 use Rattle.toml.specs.Parse.{parse_document}
 use Rattle.bus_ticks.specs.Prices.{is_word_address}
-use Rattle.toml_reading.specs.Readings.{Faults, Reading, all, checked, optional, required, up_to}
+use Rattle.toml_reading.specs.Readings.{Faults, Reading, all, check, optional, required, up_to}
 
 -- ## Keys
 
@@ -23,7 +23,7 @@ has_only_keys keys (member k d ms) = is_one_of keys k && has_only_keys keys ms
 
 -- a table's reading, where it has no other keys
 abbrev pub of_keys : {F A : Type 0} → Faults F → (keys : List (List ℕ)) → Members → Reading F A → Reading F A
-of_keys faults keys ms reading = checked faults (has_only_keys keys ms) faults.unknown_key reading
+of_keys faults keys ms reading = check faults (has_only_keys keys ms) faults.unknown_key reading
 
 -- ## Numbers
 
@@ -75,7 +75,7 @@ tables_at faults reads o = optional [] o (list_at faults reads)
 abbrev pub listed_up_to : {F A : Type 0} → Faults F → ℕ → (Data → Reading F A) → List Data
     → Reading F (List A)
 listed_up_to faults limit reads ds =
-    checked faults (nat_le (length ds) limit) faults.out_of_range (listed faults reads ds)
+    check faults (nat_le (length ds) limit) faults.out_of_range (listed faults reads ds)
 
 abbrev pub list_up_to : {F A : Type 0} → Faults F → ℕ → (Data → Reading F A) → Data → Reading F (List A)
 list_up_to faults limit reads d = required faults (items_at d) (listed_up_to faults limit reads)

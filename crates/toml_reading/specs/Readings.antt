@@ -30,13 +30,13 @@ abbrev pub and_then : {F A B : Type 0} → Reading F A → (A → Reading F B) �
 and_then (Ok a) f = f a
 and_then (Err g) f = Err g
 
--- what is read, seen otherwise
-abbrev pub seen : {F A B : Type 0} → (A → B) → Reading F A → Reading F B
-seen f (Ok a) = Ok (f a)
-seen f (Err g) = Err g
+-- a function of what is read
+abbrev pub reading_map : {F A B : Type 0} → (A → B) → Reading F A → Reading F B
+reading_map f (Ok a) = Ok (f a)
+reading_map f (Err g) = Err g
 
 abbrev pub items_in : {F A : Type 0} → Reading F (Vec A Global) → Reading F (List A)
-items_in list = seen (λ v. v.items) list
+items_in list = reading_map (λ v. v.items) list
 
 abbrev pub lower : {F : Type 0} → Faults F → F → F → F
 lower faults f g = if nat_le (faults.rank f) (faults.rank g) then f else g
@@ -47,10 +47,10 @@ lower_with faults f None = f
 lower_with faults f (Some g) = lower faults f g
 
 -- with one more condition
-abbrev pub checked : {F A : Type 0} → Faults F → Bool → F → Reading F A → Reading F A
-checked faults true f r = r
-checked faults false f (Ok a) = Err f
-checked faults false f (Err g) = Err (lower faults f g)
+abbrev pub check : {F A : Type 0} → Faults F → Bool → F → Reading F A → Reading F A
+check faults true f r = r
+check faults false f (Ok a) = Err f
+check faults false f (Err g) = Err (lower faults f g)
 
 -- what is read from a value that must be there
 abbrev pub required : {F A B : Type 0} → Faults F → Option A → (A → Reading F B) → Reading F B
@@ -63,11 +63,11 @@ optional missing None f = Ok missing
 optional missing (Some a) f = f a
 
 -- two parts
-abbrev pub both : {F A B : Type 0} → Faults F → Reading F A → Reading F B → Reading F (A × B)
-both faults (Ok a) (Ok b) = Ok (a, b)
-both faults (Ok a) (Err g) = Err g
-both faults (Err f) (Ok b) = Err f
-both faults (Err f) (Err g) = Err (lower faults f g)
+abbrev pub pair : {F A B : Type 0} → Faults F → Reading F A → Reading F B → Reading F (A × B)
+pair faults (Ok a) (Ok b) = Ok (a, b)
+pair faults (Ok a) (Err g) = Err g
+pair faults (Err f) (Ok b) = Err f
+pair faults (Err f) (Err g) = Err (lower faults f g)
 
 -- a list of parts
 abbrev pub after : {F A : Type 0} → Faults F → Reading F (List A) → Reading F A → Reading F (List A)

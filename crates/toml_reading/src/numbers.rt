@@ -33,19 +33,14 @@ pub fn number<F: Fault>(value: &Value, limit: u32) -> Reading<u32, F>
 }
 
 /// The number from 0 to the limit at a key that must be there.
-pub fn required_number<F: Fault>(table: &Table, key: &str, limit: u32) -> Reading<u32, F>
+pub fn number_in<F: Fault>(table: &Table, key: &str, limit: u32) -> Reading<u32, F>
     ensures { result ≡ number_in F.faults key.now limit (table_view table.now) }
 {
     required(value_at(table, key), |value| number(value, limit))
 }
 
 /// The number from 0 to the limit at a key, or another one where the key is missing.
-pub fn optional_number<F: Fault>(
-    table: &Table,
-    key: &str,
-    limit: u32,
-    missing: u32,
-) -> Reading<u32, F>
+pub fn number_or<F: Fault>(table: &Table, key: &str, limit: u32, missing: u32) -> Reading<u32, F>
     ensures { result ≡ number_or F.faults key.now limit missing (table_view table.now) }
 {
     match value_at(table, key) {

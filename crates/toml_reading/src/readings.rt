@@ -1,6 +1,6 @@
 ghost use Rattle.std.specs.Prelude.{◌≡◌, Err, IfOk, MatchOption};
 ghost use Rattle.std.specs.Option.{ForSome};
-ghost use Rattle.toml_reading.specs.Readings.{Faults, after, both, checked, items_in, lower, lower_with};
+ghost use Rattle.toml_reading.specs.Readings.{Faults, after, pair, check, items_in, lower, lower_with};
 ghost use Rattle.toml_reading.specs.Readings.{out_of_range_of, rank_of, unknown_key_of, wrong_kind_of};
 
 use std::alloc::AllocError;
@@ -65,7 +65,7 @@ pub fn required<T, U, F: Fault, R: FnOnce(T) -> Reading<U, F>>(
 
 /// The reading, with one more condition.
 pub fn check<T: Drop, F: Fault>(holds: bool, fault: F, reading: Reading<T, F>) -> Reading<T, F>
-    ensures { result ≡ checked F.faults holds fault reading }
+    ensures { result ≡ check F.faults holds fault reading }
 {
     if holds {
         return reading;
@@ -78,7 +78,7 @@ pub fn pair<T: Drop, U: Drop, F: Fault>(
     first: Reading<T, F>,
     second: Reading<U, F>,
 ) -> Reading<(T, U), F>
-    ensures { result ≡ both F.faults first second }
+    ensures { result ≡ pair F.faults first second }
 {
     let a = match first {
         Ok(a) => a,
