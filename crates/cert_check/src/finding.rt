@@ -9,7 +9,7 @@ use flow_graph::{Place, order_of_places};
 use std::cmp::Ordering;
 
 // How the place that a row is about compares with another.
-fn compare_place<R: AboutPlace>(row: &R, place: &Place) -> Ordering
+fn place_cmp<R: AboutPlace>(row: &R, place: &Place) -> Ordering
     ensures { result ≡ place_cmp (Place.At (R.calls row.now) (R.address row.now)) place.now }
 {
     order_of_places();
@@ -22,7 +22,7 @@ pub(crate) fn row_about<R: AboutPlace + Copy>(rows: &[R], place: &Place) -> Opti
         (map (λ r. Place.At (R.calls r) (R.address r)) rows.now) }
     ensures { result ≡ find (λ r. is_at (R.calls r) (R.address r) place.now) rows.now }
 {
-    match rows.binary_search_by(|row| compare_place(row, place)) {
+    match rows.binary_search_by(|row| place_cmp(row, place)) {
         Ok(index) => Some(rows[index]),
         Err(_) => None,
     }

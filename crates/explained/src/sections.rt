@@ -40,7 +40,7 @@ struct PlacedSource<'a> {
 }
 
 // The text above the rows of words of which that is assumed.
-fn heading(what: Assumption) -> &'static [u8]
+fn heading_of(what: Assumption) -> &'static [u8]
     ensures { result.now ≡ heading_of what }
 {
     match what {
@@ -94,7 +94,7 @@ fn source_assumed(
         handler.entry.graph.now what) text.items) }
 {
     let named = assumed(alloc, handler.image, handler.statement, handler.graph, what)?;
-    source_section(alloc, heading(what), lines, &named)
+    source_section(alloc, heading_of(what), lines, &named)
 }
 
 // The section of the words that return by a lost R14, by the lines of a source.
@@ -124,7 +124,7 @@ fn image_assumed(
         handler.entry.graph.now what) text.items) }
 {
     let named = assumed(alloc, handler.image, handler.statement, handler.graph, what)?;
-    image_section(alloc, heading(what), handler.image, &named)
+    image_section(alloc, heading_of(what), handler.image, &named)
 }
 
 // The section of the words that return by a lost R14, by the words of an image.
