@@ -23,7 +23,7 @@ pub(crate) fn put(out: &mut Vec<u8>, text: &[u8])
 }
 
 /// Adds a word in eight upper-case hexadecimal digits.
-pub(crate) fn put_hex(out: &mut Vec<u8>, word: u32)
+pub(crate) fn put_hex8(out: &mut Vec<u8>, word: u32)
     requires { length out.old.items + 8 ≤ vec_capacity out.old }
     ensures text { out.new.items ≡ out.old.items ++ hex8 word }
     ensures len { length out.new.items ≡ length out.old.items + 8 }

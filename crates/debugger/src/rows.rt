@@ -3,7 +3,7 @@ ghost use Rattle.bus_ticks.specs.declared.space.TheConstants.{SPACE_END};
 ghost use Rattle.asm_text.specs.Appended.{Appends};
 ghost use Rattle.debugger.specs.Answers.{IsRowOf, Rows, breaks_text};
 
-use crate::printed::{put, put_hex, put_shown};
+use crate::printed::{put, put_hex8, put_shown};
 
 /// The most bytes of a row: an address, a word and its line.
 pub(crate) const ROW_ROOM: usize = 83;
@@ -23,9 +23,9 @@ fn put_row(out: &mut Vec<u8>, row: Row, address: u32, word: u32)
     ensures len { length out.new.items ≤ length out.old.items + ROW_ROOM }
     ensures room { vec_capacity out.old ≤ vec_capacity out.new }
 {
-    put_hex(out, address);
+    put_hex8(out, address);
     put(out, b" ");
-    put_hex(out, word);
+    put_hex8(out, word);
     match row {
         Row::Word => {}
         Row::Line => {
@@ -55,7 +55,7 @@ pub(crate) fn put_breaks(out: &mut Vec<u8>, breaks: &[u32])
     ensures { out.new.items ≡ out.old.items ++ breaks_text breaks.now }
 {
     for address in breaks {
-        put_hex(out, *address);
+        put_hex8(out, *address);
         put(out, b"\n");
     }
 }

@@ -7,8 +7,8 @@ use Rattle.bus_ticks.specs.declared.profile.Class.TheVariants.{Any, Ram, Rom, Io
 use Rattle.loader.specs.Labels.{NamedAddresses, address_of}
 
 -- a number of TOML
-abbrev pub number_text : ℕ → List ℕ
-number_text at = codes "0x" ++ hex8 at
+abbrev pub toml_number : ℕ → List ℕ
+toml_number at = codes "0x" ++ hex8 at
 
 -- a label in quotes
 abbrev pub quoted : List ℕ → List ℕ
@@ -20,11 +20,11 @@ IsNamed names at label = (label ≡ []) ⊎ (address_of names label ≡ Some at)
 
 -- by its label, or where it has none by its number
 abbrev pub labelled : List ℕ → ℕ → List ℕ
-labelled label at = if length label == 0 then number_text at else quoted label
+labelled label at = if length label == 0 then toml_number at else quoted label
 
 -- by its line's label, or by its number where it has no line or the line no label
 abbrev pub name_text : Option (List ℕ) → ℕ → List ℕ
-name_text None at = number_text at
+name_text None at = toml_number at
 name_text (Some label) at = labelled label at
 
 abbrev pub class_name : Class → List ℕ

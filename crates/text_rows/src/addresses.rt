@@ -1,5 +1,5 @@
 ghost use Rattle.std.specs.Prelude.{◌≡◌, ◌++◌, OnOk};
-ghost use Rattle.text_rows.specs.Addresses.{class_name, labelled, number_text, quoted};
+ghost use Rattle.text_rows.specs.Addresses.{class_name, labelled, toml_number, quoted};
 
 use crate::columns::put;
 use asm_text::hex8;
@@ -16,8 +16,8 @@ fn put_quoted(out: &mut Vec<u8>, name: &[u8]) -> Result<(), AllocError>
 }
 
 // Adds an address as a number of TOML.
-fn put_hex(out: &mut Vec<u8>, at: u32) -> Result<(), AllocError>
-    ensures { OnOk result (out.new.items ≡ out.old.items ++ number_text at) }
+fn put_toml_number(out: &mut Vec<u8>, at: u32) -> Result<(), AllocError>
+    ensures { OnOk result (out.new.items ≡ out.old.items ++ toml_number at) }
 {
     put(out, b"0x")?;
     put(out, &hex8(at))
@@ -32,7 +32,7 @@ pub fn put_labelled(out: &mut Vec<u8>, label: &[u8], at: u32) -> Result<(), Allo
     ensures { OnOk result (out.new.items ≡ out.old.items ++ labelled label.now at) }
 {
     if label.is_empty() {
-        return put_hex(out, at);
+        return put_toml_number(out, at);
     }
     put_quoted(out, label)
 }

@@ -9,9 +9,9 @@ returns-clause-row c =
     let address = hex8 c.args.address in
     let word = hex8 c.args.word in
     let old = c.args.out.now.items in
-    let both : c.put_hex-2.new.out.items ≡ old ++ address ++ codes " " ++ word =
-    c.put_hex-2.ensures.text ∙ ap (λ (t : List ℕ). t ++ word)
-    (c.put.ensures.text ∙ ap (λ (t : List ℕ). t ++ codes " ") c.put_hex.ensures.text) in
+    let both : c.put_hex8-2.new.out.items ≡ old ++ address ++ codes " " ++ word =
+    c.put_hex8-2.ensures.text ∙ ap (λ (t : List ℕ). t ++ word)
+    (c.put.ensures.text ∙ ap (λ (t : List ℕ). t ++ codes " ") c.put_hex8.ensures.text) in
     let end : (v : Vec ℕ Global) → c.match-row.out ≡ v → c.put-2.new.out.items ≡ v.items ++ codes "\n" =
     λ v is. c.put-2.ensures.text ∙ ap (λ (v : Vec ℕ Global). v.items ++ codes "\n") is in
     elim c.match-row.branch [
