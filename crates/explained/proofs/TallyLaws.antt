@@ -15,7 +15,7 @@ use Rattle.flow_graph.proofs.Firsts.{no_edge}
 use Rattle.longest_walk.specs.Built.{step_at}
 use Rattle.walk_counts.specs.Counts.{capped, occurrences}
 use Rattle.walk_counts.proofs.SumLemmas.{capped_times, range_push}
-use Rattle.explained.specs.Taken.{Adds, HasAdded, Starts, cost_at, costs_from, in_all, is_at, is_reached, is_taken_from, more, nothing, pass_at, range_of, taken_by, taken_of, widened}
+use Rattle.explained.specs.Taken.{Adds, HasAdded, Starts, cost_at, costs_from, in_all, is_at, is_reached, is_taken_from, with_edge, nothing, pass_at, range_of, taken_by, taken_of, widened}
 use Rattle.explained.proofs.RangeLaws.{range_kept, range_left}
 use Rattle.explained.specs.declared.tally.Costs.{Costs}
 use Rattle.explained.specs.declared.tally.Taken.{Taken}
@@ -55,8 +55,8 @@ reached places p a has at = list_any_at (is_at a) places has.0 p has.1 (ap (is_a
 
 module _ (edges walk : List Edge) (i : ℕ) (e : Edge) (count : ℕ) (e_is : e ≡ step_at edges i) (count_is : count ≡ capped (occurrences edges walk i)) where
   -- an edge that leaves the address
-  leaving : (a : ℕ) → is_at a e.from ≡ true → more (taken_of edges walk i a) e count ≡ taken_of edges walk (i + 1) a
-  leaving a at = same_taken (more (taken_of edges walk i a) e count) (taken_of edges walk (i + 1) a) passes ticks costs
+  leaving : (a : ℕ) → is_at a e.from ≡ true → with_edge (taken_of edges walk i a) e count ≡ taken_of edges walk (i + 1) a
+  leaving a at = same_taken (with_edge (taken_of edges walk i a) e count) (taken_of edges walk (i + 1) a) passes ticks costs
     where
       n : ℕ
       n = occurrences edges walk i
@@ -123,12 +123,12 @@ one_added flow walk i e count old new well lt at count_is h adds = λ a. ⊎_eli
         let known : is_reached flow.places a ≡ true = reached flow.places e.from a (well.starts e (i, lt, sym at)) here in
         let before : get nat_cmp old.by_address a ≡ Some (taken_of flow.edges walk i a) =
         h a ∙ ap (λ b. if b then Some (taken_of flow.edges walk i a) else None) known in
-        adds a ∙ ap (λ b. if b then Some (more (unwrap_or (get nat_cmp old.by_address a) nothing) e count) else get nat_cmp old.by_address a) here
-        ∙ ap (λ o. Some (more (unwrap_or o nothing) e count)) before
+        adds a ∙ ap (λ b. if b then Some (with_edge (unwrap_or (get nat_cmp old.by_address a) nothing) e count) else get nat_cmp old.by_address a) here
+        ∙ ap (λ o. Some (with_edge (unwrap_or o nothing) e count)) before
         ∙ ap (λ (t : Taken). Some t) (leaving flow.edges walk i e count e_is count_is a here)
         ∙ ap (λ b. if b then Some (taken_of flow.edges walk (i + 1) a) else None) (sym known)
 
     left : (a : ℕ) → is_at a e.from ≡ false → get nat_cmp new.by_address a ≡ taken_by flow walk (i + 1) a
     left a apart =
-        adds a ∙ ap (λ b. if b then Some (more (unwrap_or (get nat_cmp old.by_address a) nothing) e count) else get nat_cmp old.by_address a) apart
+        adds a ∙ ap (λ b. if b then Some (with_edge (unwrap_or (get nat_cmp old.by_address a) nothing) e count) else get nat_cmp old.by_address a) apart
         ∙ h a ∙ ap (λ (t : Taken). if is_reached flow.places a then Some t else None) (passing flow.edges walk i e count e_is count_is a apart)

@@ -106,8 +106,8 @@ Puts place taken old new =
     → get nat_cmp new.by_address a ≡ (if is_at a place then Some taken else get nat_cmp old.by_address a)
 
 -- an edge more, taken so many times
-abbrev pub more : Taken → Edge → ℕ → Taken
-more t e count =
+abbrev pub with_edge : Taken → Edge → ℕ → Taken
+with_edge t e count =
     record {
       passes = capped (t.passes + count);
       ticks = capped (t.ticks + capped (count * e.cost));
@@ -123,7 +123,7 @@ Starts places t =
 abbrev pub Adds : Edge → ℕ → (old new : Tally) → Type 0
 Adds e count old new =
     (a : ℕ) → get nat_cmp new.by_address a
-    ≡ (if is_at a e.from then Some (more (unwrap_or (get nat_cmp old.by_address a) nothing) e count)
+    ≡ (if is_at a e.from then Some (with_edge (unwrap_or (get nat_cmp old.by_address a) nothing) e count)
     else get nat_cmp old.by_address a)
 
 -- the first edges are added

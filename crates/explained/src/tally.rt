@@ -2,7 +2,7 @@ ghost use Rattle.std.specs.Prelude.{◌≡◌, ℕ, IfOk, OnOk};
 ghost use Rattle.std.specs.BTreeMap.{get};
 ghost use Rattle.std.specs.Ordering.{nat_cmp};
 ghost use Rattle.longest_walk.specs.Folded.{unfolded};
-ghost use Rattle.explained.specs.Taken.{Adds, IsTally, Puts, Starts, more, widened};
+ghost use Rattle.explained.specs.Taken.{Adds, IsTally, Puts, Starts, with_edge, widened};
 
 use flow_graph::{Edge, Graph, Place};
 use longest_walk::FoldedWalk;
@@ -57,7 +57,7 @@ impl Taken {
 
     // The costs with an edge's, if that is taken.
     fn costs_with(self, edge: &Edge, count: u64) -> Option<Costs>
-        ensures { result ≡ (more self edge.now count).costs }
+        ensures { result ≡ (with_edge self edge.now count).costs }
     {
         if count == 0 {
             return self.costs;
