@@ -9,7 +9,7 @@ use Rattle.loader.specs.Image.{lies_in_memory, may_hold}
 use Rattle.loader.proofs.PlaceLemmas.{Lies, lies_in, lies_more, lies_one, may_parts}
 use Rattle.asm_text.proofs.WordLaws.{false_true}
 use Rattle.assembler.specs.Assembles.{addresses_from}
-use Rattle.assembler.specs.Sweeps.{Pending, State, closed_with, moved, open_has, overlaps, placed}
+use Rattle.assembler.specs.Sweeps.{Pending, State, closed_with, org_state, open_has, overlaps, placed}
 use Rattle.assembler.proofs.AssembleSteps.{InSegments, put_all}
 use Rattle.loader.proofs.WordLemmas.{all_push}
 use Rattle.std.proofs.lemmas.List.{append-nil}
@@ -117,9 +117,10 @@ unfolding StartEven
 closed_spans None to closed h all = all
 closed_spans (Some from) to closed h all = all_push (λ p. (p.0 % 4 ≡ 0) × (p.0 < p.1)) closed (from, to) all (h.0, h.1)
 
-pub exact_moved : (s : State) (n : ℕ) (taken : List ℕ) → n % 4 ≡ 0 → Exact s taken → Exact (moved s n) taken
+pub exact_org : (s : State) (n : ℕ) (taken : List ℕ) → n % 4 ≡ 0 → Exact s taken
+    → Exact (org_state s n) taken
 unfolding InSegments StartEven
-exact_moved s n taken four h = record {
+exact_org s n taken four h = record {
   within = λ a e held. elim held [ inl k ↦ h.within a e (closed_parts s.start s.at a s.closed k) | inr k ↦ false_true k ];
   even = four;
   start = tt;

@@ -13,26 +13,26 @@ use Rattle.assembler.specs.Assembles.{AreWords, IsFree, addresses_from, word_cou
 use Rattle.assembler.specs.Codes.{action_word, encoded, refer, use_action, use_fault}
 use Rattle.assembler.specs.Faults.{lower}
 use Rattle.loader.specs.Labels.{Names}
-use Rattle.assembler.specs.Sweeps.{Pending, Fixed, Waits, State, around_fault, is_17th, label_fault, labelled, moved, open_has, org_fault, overlaps, place_fault, placed, said_step, unless, value_pending}
+use Rattle.assembler.specs.Sweeps.{Pending, Fixed, Waits, State, around_fault, lacks_segment, label_fault, labelled, org_state, open_has, org_fault, overlaps, place_fault, placed, said_step, unless, value_pending}
 use Rattle.assembler.specs.declared.fault.LineFault.{LineFault}
 use Rattle.assembler.proofs.AssembleSteps.{InSegments, put_all, segments_in, values_put}
-use Rattle.assembler.proofs.AssembleBack.{Apart, Exact, StartEven, exact_moved, exact_put, in_memory_all, may_four, no_overlap, not_in}
+use Rattle.assembler.proofs.AssembleBack.{Apart, Exact, StartEven, exact_org, exact_put, in_memory_all, may_four, no_overlap, not_in}
 use Rattle.assembler.proofs.AssembleBasics.{count_map, labelled_at}
 use Rattle.std.proofs.lemmas.List.{append-nil}
 
 -- ## Places
 
 place_ok : (s : State) (taken : List ℕ) (m : ℕ) → Exact s taken → AllByRecursion (λ a. may_hold a ≡ true) (addresses_from s.at (suc m)) → Apart taken (addresses_from s.at (suc m))
-    → length taken + suc m ≤ 65536 → is_17th s ≡ false → place_fault s (suc m) ≡ None
+    → length taken + suc m ≤ 65536 → lacks_segment s ≡ false → place_fault s (suc m) ≡ None
 place_ok s taken m h held apart few room =
     let inside = in_memory_all m s.at held in
     let alone = no_overlap s taken (suc m) h apart (omega arith) in
     let small : nat_lt 65536 (s.words + suc m) ≡ false = let w = h.words in grind (arith, nat_tests, w, few) in
     rw (inside, alone, small, room) refl
 
-no_17th : (s : State) (n : ℕ) → (n == 0) ≡ false → segments_in s + (if is_some s.start || n == 0 then 0 else 1) ≤ 16 → is_17th s ≡ false
+segment_left : (s : State) (n : ℕ) → (n == 0) ≡ false → segments_in s + (if is_some s.start || n == 0 then 0 else 1) ≤ 16 → lacks_segment s ≡ false
 unfolding segments_in
-no_17th s n some h =
+segment_left s n some h =
     elim (cases_Bool (is_some s.start)) [
       | inl e ↦ rw e refl
       | inr e ↦
@@ -73,7 +73,7 @@ words_ok : (s : State) (label : Option (List ℕ)) (said : Option Said) (names :
     → (unless (around_fault s label (word_count said)) (put_all (labelled s label) k ps) ≡ Ok (put_all (labelled s label) k ps)) × Exact (put_all (labelled s label) k ps) (taken ++ addresses_from s.at (word_count said))
 words_ok s label said names words taken k m ps h n-is count =
     let some : (word_count said == 0) ≡ false = rw n-is (grind (arith, nat_tests)) in
-    let room = no_17th s (word_count said) some h.few_segments in
+    let room = segment_left s (word_count said) some h.few_segments in
     let place : place_fault s (word_count said) ≡ None =
     rw n-is (place_ok s taken m h.exact (subst (λ n. AllByRecursion (λ a. may_hold a ≡ true) (addresses_from s.at n)) n-is h.held) (subst (λ n. Apart taken (addresses_from s.at n)) n-is h.apart) (subst (λ n. length taken + n ≤ 65536) n-is h.few) room) in
     let around : around_fault s label (word_count said) ≡ None = rw (h.fresh, place) refl in
@@ -129,9 +129,9 @@ said_ok s k label (Some (Refers r (Label name))) names words taken h =
 said_ok s k label (Some (Orgs n)) names words taken h =
     let u = labelled s label in
     let faults : lower (label_fault s label) (org_fault s n) ≡ None = rw (h.fresh, org_ok s n taken h.exact h.free) refl in (
-      moved u n,
-      unless_ok (lower (label_fault s label) (org_fault s n)) (moved u n) faults,
-      subst (Exact (moved u n)) (sym (append-nil taken)) (exact_moved u n taken (may_four n h.free.0) (exact_labelled s label taken h.exact)),
+      org_state u n,
+      unless_ok (lower (label_fault s label) (org_fault s n)) (org_state u n) faults,
+      subst (Exact (org_state u n)) (sym (append-nil taken)) (exact_org u n taken (may_four n h.free.0) (exact_labelled s label taken h.exact)),
     )
 said_ok s k label (Some (Lists [])) names words taken h = absurd h.some
 said_ok s k label (Some (Lists (v ∷ vs))) names words taken h =

@@ -10,7 +10,7 @@ use Rattle.asm_text.specs.Said.{Target, Number, Label, Said, Codes, Refers, Orgs
 use Rattle.assembler.specs.Assembles.{IsFree, address_after, is_open, addresses_from, word_count}
 use Rattle.assembler.specs.Codes.{encoded, refer, use_fault}
 use Rattle.assembler.specs.Faults.{lower}
-use Rattle.assembler.specs.Sweeps.{Pending, Fixed, Waits, Item, State, all_placed, around_fault, closed_with, is_17th, label_fault, labelled, moved, open_has, org_fault, overlaps, pending_step, place_fault, placed, said_step, unless, value_pending, word_pending}
+use Rattle.assembler.specs.Sweeps.{Pending, Fixed, Waits, Item, State, all_placed, around_fault, closed_with, lacks_segment, label_fault, labelled, org_state, open_has, org_fault, overlaps, pending_step, place_fault, placed, said_step, unless, value_pending, word_pending}
 use Rattle.assembler.specs.declared.fault.LineFault.{LineFault}
 use Rattle.assembler.specs.declared.fault.LineFault.TheVariants.{OutOfRange, TooLong}
 use Rattle.loader.proofs.WordLemmas.{all_push}
@@ -133,7 +133,7 @@ put_open s k (p ∷ ps) = put_open (placed s k p) k ps ∙ or_all (is_some s.sta
 unfoldable pub segments_in : State → ℕ
 segments_in s = length s.closed + (if is_some s.start then 1 else 0)
 
-room : (s : State) → is_17th s ≡ false → segments_in s ≤ 16 → length s.closed + 1 ≤ 16
+room : (s : State) → lacks_segment s ≡ false → segments_in s ≤ 16 → length s.closed + 1 ≤ 16
 unfolding segments_in
 room s h few =
     elim (cases_Bool (is_some s.start)) [
@@ -142,7 +142,7 @@ room s h few =
     ]
 
 -- what the words of a line add
-put_segments : (s : State) (k : ℕ) (ps : List Pending) → is_17th s ≡ false → segments_in s ≤ 16
+put_segments : (s : State) (k : ℕ) (ps : List Pending) → lacks_segment s ≡ false → segments_in s ≤ 16
     → (segments_in (put_all s k ps) ≡ segments_in s + (if is_some s.start || length ps == 0 then 0 else 1)) × (segments_in (put_all s k ps) ≤ 16)
 unfolding segments_in
 put_segments s k ps h few =
@@ -177,10 +177,10 @@ closed_keeps (Some from) to a closed h =
           any_last (λ s. nat_lt s.0 (a + 1) && nat_lt a s.1) closed (from, to) (rw (lt, k.1) refl)
     ]
 
-covers_moved : (s : State) (n : ℕ) (taken : List ℕ) → Covers s taken → Covers (moved s n) taken
+covers_org : (s : State) (n : ℕ) (taken : List ℕ) → Covers s taken → Covers (org_state s n) taken
 unfolding InSegments StartBelow
-covers_moved s n taken h = record {
-  covered = all_map (InSegments s) (InSegments (moved s n)) taken (λ a held. inl (closed_keeps s.start s.at a s.closed held)) h.covered;
+covers_org s n taken h = record {
+  covered = all_map (InSegments s) (InSegments (org_state s n)) taken (λ a held. inl (closed_keeps s.start s.at a s.closed held)) h.covered;
   below = tt;
 }
 
@@ -188,9 +188,9 @@ closed_count : (o : Option ℕ) (to : ℕ) (closed : List (ℕ × ℕ)) → leng
 closed_count None to closed = omega arith
 closed_count (Some from) to closed = omega (arith, length-append closed ((from, to) ∷ []))
 
-moved_segments : (s : State) (n : ℕ) → segments_in (moved s n) ≡ segments_in s
+org_segments : (s : State) (n : ℕ) → segments_in (org_state s n) ≡ segments_in s
 unfolding segments_in
-moved_segments s n = omega (arith, closed_count s.start s.at s.closed)
+org_segments s n = omega (arith, closed_count s.start s.at s.closed)
 
 org_is : (s : State) (n : ℕ) → org_fault s n ≡ None → (may_hold n ≡ true) × (overlaps s.closed n (n + 1) ≡ false) × (open_has s.start s.at n ≡ false)
 org_is s n e =
@@ -256,7 +256,7 @@ stays s k = record {
 
 -- a line with words
 words_moves : (s : State) (said : Option Said) (k : ℕ) (ps : List Pending) → Pends said s.at ps → length ps ≡ word_count said → address_after s.at said ≡ s.at + 4 * word_count said
-    → ((taken : List ℕ) → IsFree taken said) → is_open (is_some s.start) said ≡ (is_some s.start || not (word_count said == 0)) → is_17th s ≡ false → Moves s k said (put_all s k ps)
+    → ((taken : List ℕ) → IsFree taken said) → is_open (is_some s.start) said ≡ (is_some s.start || not (word_count said == 0)) → lacks_segment s ≡ false → Moves s k said (put_all s k ps)
 words_moves s said k ps pends count at free opens room = record {
   new = ps;
   items = put_items s k ps;
@@ -270,7 +270,7 @@ words_moves s said k ps pends count at free opens room = record {
 }
 
 -- an ORG
-org_moves : (s : State) (k n : ℕ) → org_fault s n ≡ None → Moves s k (Some (Orgs n)) (moved s n)
+org_moves : (s : State) (k n : ℕ) → org_fault s n ≡ None → Moves s k (Some (Orgs n)) (org_state s n)
 unfolding Pends items_at
 org_moves s k n e = record {
   new = [];
@@ -278,10 +278,10 @@ org_moves s k n e = record {
   pends = refl;
   count = refl;
   at = refl;
-  covers = λ taken h. subst (Covers (moved s n)) (sym (append-nil taken)) (covers_moved s n taken h);
+  covers = λ taken h. subst (Covers (org_state s n)) (sym (append-nil taken)) (covers_org s n taken h);
   free = λ taken h. org_free s n taken e h;
   opened = refl;
-  segments = λ few. (moved_segments s n ∙ none_more (is_some s.start) (segments_in s), omega (arith, moved_segments s n));
+  segments = λ few. (org_segments s n ∙ none_more (is_some s.start) (segments_in s), omega (arith, org_segments s n));
 }
 
 -- ## After a label
@@ -304,21 +304,21 @@ moves_of : (s : State) (label : Option (List ℕ)) (k : ℕ) (said : Option Said
 moves_of s None k said t m = m
 moves_of s (Some name) k said t m = relabel s name k said t m
 
-labelled_17th : (s : State) (label : Option (List ℕ)) → is_17th (labelled s label) ≡ is_17th s
-labelled_17th s None = refl
-labelled_17th s (Some name) = refl
+labelled_lacks : (s : State) (label : Option (List ℕ)) → lacks_segment (labelled s label) ≡ lacks_segment s
+labelled_lacks s None = refl
+labelled_lacks s (Some name) = refl
 
 labelled_org : (s : State) (label : Option (List ℕ)) (n : ℕ) → org_fault (labelled s label) n ≡ org_fault s n
 labelled_org s None n = refl
 labelled_org s (Some name) n = refl
 
-place_room : (s : State) (n : ℕ) → place_fault s n ≡ None → is_17th s ≡ false
+place_room : (s : State) (n : ℕ) → place_fault s n ≡ None → lacks_segment s ≡ false
 place_room s n e =
     elim (chosen (not (lies_in_memory s.at (s.at + 4 * n)) || overlaps s.closed s.at (s.at + 4 * n)) (Some OutOfRange) _ None e) [
       | inl h ↦ let k = h.1 in absurd cc
-      | inr h ↦ elim (chosen (nat_lt 65536 (s.words + n) || is_17th s) (Some TooLong) None None h.1) [
+      | inr h ↦ elim (chosen (nat_lt 65536 (s.words + n) || lacks_segment s) (Some TooLong) None None h.1) [
         | inl g ↦ let k = g.1 in absurd cc
-        | inr g ↦ (or_parts (nat_lt 65536 (s.words + n)) (is_17th s) g.0).1
+        | inr g ↦ (or_parts (nat_lt 65536 (s.words + n)) (lacks_segment s) g.0).1
       ]
     ]
 
@@ -337,7 +337,7 @@ words_step s label said k ps t pends count at free opens e =
     let here = labelled_at s label in
     let moves : Moves u k said (put_all u k ps) =
     words_moves u said k ps (subst (λ (a : ℕ). Pends said a ps) (sym here) pends) count
-    (subst (λ (a : ℕ). address_after a said ≡ a + 4 * word_count said) (sym here) at) free (opens (is_some u.start)) (labelled_17th s label ∙ place_room s (word_count said) faults.1) in
+    (subst (λ (a : ℕ). address_after a said ≡ a + 4 * word_count said) (sym here) at) free (opens (is_some u.start)) (labelled_lacks s label ∙ place_room s (word_count said) faults.1) in
     subst (Step s k label said) done.1 (record { moves = moves_of s label k said (put_all u k ps) moves; names = put_names u k ps; fresh = faults.0 })
 
 -- ## What a statement waits for
@@ -375,9 +375,9 @@ said_is s k label (Some (Refers r (Label name))) t e =
     words_step s label (Some (Refers r (Label name))) k (p.0 ∷ []) t (ap (λ q. q ∷ []) (sym (unless_is (use_fault r.how) (Waits r name) p.0 p.1).1)) refl refl (λ taken. tt) (λ b. refl) p.2
 said_is s k label (Some (Orgs n)) t e =
     let u = labelled s label in
-    let done = unless_is (lower (label_fault s label) (org_fault s n)) (moved u n) t e in
+    let done = unless_is (lower (label_fault s label) (org_fault s n)) (org_state u n) t e in
     let faults = lower_none (label_fault s label) (org_fault s n) done.0 in
-    subst (Step s k label (Some (Orgs n))) done.1 (record { moves = moves_of s label k (Some (Orgs n)) (moved u n) (org_moves u k n (labelled_org s label n ∙ faults.1)); names = refl; fresh = faults.0 })
+    subst (Step s k label (Some (Orgs n))) done.1 (record { moves = moves_of s label k (Some (Orgs n)) (org_state u n) (org_moves u k n (labelled_org s label n ∙ faults.1)); names = refl; fresh = faults.0 })
 said_is s k label (Some (Lists vs)) t e =
     words_step s label (Some (Lists vs)) k (map value_pending vs) t refl (count_map vs) refl (λ taken. tt) (λ b. refl)
     (ap (unless (around_fault s label (length vs))) (sym (values_put (labelled s label) k vs)) ∙ e)

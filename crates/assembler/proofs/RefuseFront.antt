@@ -14,10 +14,10 @@ use Rattle.assembler.specs.Assembles.{Laid, Once, address_after, is_open, label_
 use Rattle.assembler.specs.Codes.{encoded, refer, use_fault}
 use Rattle.assembler.specs.Faults.{lower}
 use Rattle.assembler.specs.Refusals.{AreTooLong, Clashes, HasCodeFault, IsMisplaced, IsRepeated, IsWrong, address_after_all, address_of_next, asked}
-use Rattle.assembler.specs.Sweeps.{Waits, Item, Pending, State, all_placed, around_fault, is_17th, label_fault, labelled, moved, org_fault, pending_step, place_fault, placed, said_step, unless, value_pending, word_pending}
+use Rattle.assembler.specs.Sweeps.{Waits, Item, Pending, State, all_placed, around_fault, lacks_segment, label_fault, labelled, org_state, org_fault, pending_step, place_fault, placed, said_step, unless, value_pending, word_pending}
 use Rattle.assembler.specs.declared.fault.LineFault.{LineFault}
 use Rattle.assembler.specs.declared.fault.LineFault.TheVariants.{LabelTwice, OutOfRange, TooLong}
-use Rattle.assembler.proofs.AssembleBack.{Exact, exact_moved, exact_put, may_four}
+use Rattle.assembler.proofs.AssembleBack.{Exact, exact_org, exact_put, may_four}
 use Rattle.assembler.proofs.AssembleBasics.{count_map, count_places, labelled_at}
 use Rattle.assembler.proofs.AssembleReady.{NotEmpty, exact_labelled}
 use Rattle.assembler.proofs.AssembleSteps.{Covers, Pends, items_at, none_more, pending_is, put_all, segments_in, unless_is, values_put}
@@ -176,8 +176,8 @@ label_least s k before (Some name) h =
 -- ## Too many words or segments
 
 seventeenth : (s : State) (n g : ℕ) → (n == 0) ≡ false → segments_in s ≡ g → g ≤ 16
-    → (is_17th s ≡ true → 16 < g + (if is_some s.start || n == 0 then 0 else 1))
-    × (16 < g + (if is_some s.start || n == 0 then 0 else 1) → is_17th s ≡ true)
+    → (lacks_segment s ≡ true → 16 < g + (if is_some s.start || n == 0 then 0 else 1))
+    × (16 < g + (if is_some s.start || n == 0 then 0 else 1) → lacks_segment s ≡ true)
 unfolding segments_in
 seventeenth s n g some is few =
     elim (cases_Bool (is_some s.start)) [
@@ -216,10 +216,10 @@ counts s k before p h =
 
 long_there : (s : State) (k : ℕ) (before : List Parsed) (p : Parsed) → Front s k before
     → (word_count p.said == 0) ≡ false
-    → (nat_lt 65536 (s.words + word_count p.said) || is_17th s) ≡ true → AreTooLong (before ++ p ∷ [])
+    → (nat_lt 65536 (s.words + word_count p.said) || lacks_segment s) ≡ true → AreTooLong (before ++ p ∷ [])
 long_there s k before p h some e =
     let c = counts s k before p h in
-    elim (or_cases (nat_lt 65536 (s.words + word_count p.said)) (is_17th s) e) [
+    elim (or_cases (nat_lt 65536 (s.words + word_count p.said)) (lacks_segment s) e) [
       | inl x ↦ let lt : 65536 < s.words + word_count p.said =
           grind (arith, nat_tests, x) in inl (omega (arith, c.words, lt))
       | inr x ↦
@@ -230,14 +230,15 @@ long_there s k before p h some e =
 
 long_again : (s : State) (k : ℕ) (before : List Parsed) (p : Parsed) → Front s k before
     → (word_count p.said == 0) ≡ false
-    → AreTooLong (before ++ p ∷ []) → (nat_lt 65536 (s.words + word_count p.said) || is_17th s) ≡ true
+    → AreTooLong (before ++ p ∷ []) → (nat_lt 65536 (s.words + word_count p.said) || lacks_segment s) ≡ true
 long_again s k before p h some e =
     let c = counts s k before p h in
     elim e [
       | inl x ↦
           let lt : 65536 < s.words + word_count p.said = omega (arith, c.words, x) in
-          or_left (nat_lt 65536 (s.words + word_count p.said)) (is_17th s) (grind (arith, nat_tests, lt))
-      | inr x ↦ or_right (nat_lt 65536 (s.words + word_count p.said)) (is_17th s)
+          or_left (nat_lt 65536 (s.words + word_count p.said)) (lacks_segment s)
+          (grind (arith, nat_tests, lt))
+      | inr x ↦ or_right (nat_lt 65536 (s.words + word_count p.said)) (lacks_segment s)
           ((seventeenth s (word_count p.said)
           (segments false (laid before)) some h.segment_count h.few_segments).1
           (subst (λ n. 16 < n) c.segment_count x))
@@ -313,8 +314,8 @@ words_clash s k before p m h n-is asks =
     let Long = AreTooLong (before ++ p ∷ []) in
     let place = place_least s (taken_by before) m Long h.exact h.covers
     (λ e. long_there s k before p h some
-    (subst (λ n. (nat_lt 65536 (s.words + n) || is_17th s) ≡ true) (sym n-is) e))
-    (λ e. subst (λ n. (nat_lt 65536 (s.words + n) || is_17th s) ≡ true) n-is
+    (subst (λ n. (nat_lt 65536 (s.words + n) || lacks_segment s) ≡ true) (sym n-is) e))
+    (λ e. subst (λ n. (nat_lt 65536 (s.words + n) || lacks_segment s) ≡ true) n-is
     (long_again s k before p h some e)) in
     clash_least s k before p (place_fault s (word_count p.said)) h
     (subst (λ o. IsLeast (λ f. ((f ≡ OutOfRange) × IsMisplaced before p.said) ⊎ ((f ≡ TooLong) × Long)) o)
@@ -408,7 +409,7 @@ said_least s k before label (Some (Orgs n)) h some =
     let p : Parsed = record { label = label; said = Some (Orgs n) } in
     let clash = lower (label_fault s label) (org_fault s n) in
     joined before p None clash _ least_none (org_clash s k before label n h)
-    (sym (failed_unless clash (moved (labelled s label) n)))
+    (sym (failed_unless clash (org_state (labelled s label) n)))
 said_least s k before label (Some (Lists [])) h some = absurd some
 said_least s k before label (Some (Lists (v ∷ vs))) h some =
     let p : Parsed = record { label = label; said = Some (Lists (v ∷ vs)) } in
@@ -445,10 +446,10 @@ exact_said s k label (Some (Refers r (Label name))) t taken org e h =
     one_exact s k label (unless (use_fault r.how) (Waits r name)) t taken e h
 exact_said s k label (Some (Orgs n)) t taken org e h =
     let u = labelled s label in
-    let done = unless_is (lower (label_fault s label) (org_fault s n)) (moved u n) t e in
+    let done = unless_is (lower (label_fault s label) (org_fault s n)) (org_state u n) t e in
     subst (λ v. Exact v (taken ++ [])) done.1
-    (subst (Exact (moved u n)) (sym (append-nil taken))
-    (exact_moved u n taken (may_four n (org n refl)) (exact_labelled s label taken h)))
+    (subst (Exact (org_state u n)) (sym (append-nil taken))
+    (exact_org u n taken (may_four n (org n refl)) (exact_labelled s label taken h)))
 exact_said s k label (Some (Lists vs)) t taken org e h =
     let u = labelled s label in
     let done = unless_is (around_fault s label (length vs)) (all_placed u k vs) t e in

@@ -9,7 +9,7 @@ use Rattle.loader.proofs.PlaceLemmas.{may_within}
 use Rattle.asm_text.proofs.WordLaws.{false_true}
 use Rattle.assembler.specs.Assembles.{addresses_from}
 use Rattle.assembler.specs.Faults.{lower}
-use Rattle.assembler.specs.Sweeps.{State, is_17th, open_has, org_fault, overlaps, place_fault}
+use Rattle.assembler.specs.Sweeps.{State, lacks_segment, open_has, org_fault, overlaps, place_fault}
 use Rattle.assembler.specs.declared.fault.LineFault.TheVariants.{OutOfRange, TooLong}
 use Rattle.assembler.proofs.AssembleBack.{Apart, Exact, In, in_memory_all, may_four, no_overlap}
 use Rattle.assembler.proofs.AssembleSteps.{Covers, InSegments}
@@ -185,13 +185,13 @@ guards false false = refl
 
 -- the faults of some words' places
 pub place_least : (s : State) (taken : List ℕ) (m : ℕ) (Long : Type 0) → Exact s taken → Covers s taken
-    → ((nat_lt 65536 (s.words + suc m) || is_17th s) ≡ true → Long)
-    → (Long → (nat_lt 65536 (s.words + suc m) || is_17th s) ≡ true)
+    → ((nat_lt 65536 (s.words + suc m) || lacks_segment s) ≡ true → Long)
+    → (Long → (nat_lt 65536 (s.words + suc m) || lacks_segment s) ≡ true)
     → IsLeast (λ f. ((f ≡ OutOfRange) × Bad taken (addresses_from s.at (suc m))) ⊎ ((f ≡ TooLong) × Long))
     (place_fault s (suc m))
 place_least s taken m Long exact covers there again =
     let out = outside s (suc m) in
-    let long = nat_lt 65536 (s.words + suc m) || is_17th s in
+    let long = nat_lt 65536 (s.words + suc m) || lacks_segment s in
     let B = Bad taken (addresses_from s.at (suc m)) in
     subst (IsLeast (λ f. ((f ≡ OutOfRange) × B) ⊎ ((f ≡ TooLong) × Long))) (guards out long)
     (least_both (λ f. (f ≡ OutOfRange) × B) (λ f. (f ≡ TooLong) × Long) (guard out OutOfRange)

@@ -57,15 +57,15 @@ at_first = record { at = FIRST_ADDRESS; start = None; closed = []; words = 0; na
 abbrev pub overlaps : List (ℕ × ℕ) → ℕ → ℕ → Bool
 overlaps closed from to = list_any (λ s. nat_lt s.0 to && nat_lt from s.1) closed
 
--- the 17th segment begins with the next word
-abbrev pub is_17th : State → Bool
-is_17th s = not (is_some s.start) && nat_le MOST_SEGMENTS (length s.closed)
+-- the next word has to begin a segment, and there may be no more
+abbrev pub lacks_segment : State → Bool
+lacks_segment s = not (is_some s.start) && nat_le MOST_SEGMENTS (length s.closed)
 
 -- why so many words cannot come next
 abbrev pub place_fault : State → ℕ → Option LineFault
 place_fault s n =
     if not (lies_in_memory s.at (s.at + 4 * n)) || overlaps s.closed s.at (s.at + 4 * n) then Some OutOfRange
-    else (if nat_lt MOST_WORDS (s.words + n) || is_17th s then Some TooLong else None)
+    else (if nat_lt MOST_WORDS (s.words + n) || lacks_segment s then Some TooLong else None)
 
 -- the segment of the words before, closed
 abbrev pub closed_with : Option ℕ → ℕ → List (ℕ × ℕ) → List (ℕ × ℕ)
@@ -110,8 +110,8 @@ placed s k p =
 abbrev pub closed_state : State → State
 closed_state s = record s { closed = closed_with s.start s.at s.closed }
 
-abbrev pub moved : State → ℕ → State
-moved s n = record (closed_state s) { at = n; start = None }
+abbrev pub org_state : State → ℕ → State
+org_state s n = record (closed_state s) { at = n; start = None }
 
 abbrev pub value_pending : Target → Pending
 value_pending (Number n) = Fixed n
@@ -144,7 +144,7 @@ pending_step s k label (Ok p) = unless (around_fault s label 1) (placed (labelle
 pending_step s k label (Err fault) = unless (lower (Some fault) (around_fault s label 1)) s
 
 abbrev pub org_step : State → Option (List ℕ) → ℕ → Result State LineFault
-org_step s label n = unless (lower (label_fault s label) (org_fault s n)) (moved (labelled s label) n)
+org_step s label n = unless (lower (label_fault s label) (org_fault s n)) (org_state (labelled s label) n)
 
 abbrev pub list_step : State → ℕ → Option (List ℕ) → List Target → Result State LineFault
 list_step s k label vs = unless (around_fault s label (length vs)) (all_placed (labelled s label) k vs)
