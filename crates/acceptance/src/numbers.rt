@@ -1,11 +1,13 @@
 //! Numbers that look like random ones, the same in each run.
 
+/// What the next number is made from.
 #[derive(Drop)]
 pub(crate) struct Numbers {
     state: u64,
 }
 
 impl Numbers {
+    /// The numbers that follow a seed.
     pub(crate) fn new(seed: u64) -> Numbers {
         Numbers { state: seed }
     }

@@ -7,6 +7,7 @@ use loader::Image;
 use std::alloc::Global;
 use std::test::Fail;
 
+/// A handler's image and its statement.
 #[derive(Drop)]
 pub(crate) struct Handler {
     pub(crate) image: Image,
@@ -17,6 +18,7 @@ fn statement_of(alloc: Global, said: &Assembly, statement: &[u8]) -> Result<Stat
     Ok(read_statement(alloc, statement, &said.labels)?)
 }
 
+/// The handler of a source and a statement.
 pub(crate) fn stated(alloc: Global, source: &[u8], statement: &[u8]) -> Result<Handler, Fail> {
     let said = assemble(alloc, source)?;
     match statement_of(alloc, &said, statement) {

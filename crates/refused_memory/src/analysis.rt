@@ -218,6 +218,7 @@ fn cost_of(item: &Item) -> Option<u32> {
 }
 
 impl PushItems {
+    /// What there is before the call.
     pub(crate) fn new(alloc: Global) -> PushItems {
         PushItems {
             walk: FoldedWalk::new(alloc),

@@ -46,6 +46,7 @@ impl HandlerCall for Assumed {
 }
 
 impl Assumed {
+    /// Makes the call, and answers what it did.
     pub(crate) fn made(self, alloc: Global) -> Result<Answer, ReportFault> {
         on_handler(alloc, SOURCE, STATEMENT, self)
     }

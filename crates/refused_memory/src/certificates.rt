@@ -86,6 +86,7 @@ impl HandlerCall for CertificateCall {
 }
 
 impl CertificateCall {
+    /// Makes the call, and answers what it did.
     pub(crate) fn made(self, alloc: Global) -> Result<Answer, ReportFault> {
         match self {
             CertificateCall::Read => Ok(read(alloc)),

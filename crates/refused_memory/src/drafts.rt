@@ -47,6 +47,7 @@ fn answered(alloc: Global, said: &Assembly) -> Result<Answer, ReportFault> {
 }
 
 impl Drafted {
+    /// Makes the call, and answers what it did.
     pub(crate) fn made(self, alloc: Global) -> Result<Answer, ReportFault> {
         let said = assemble(alloc, SOURCE)?;
         let answer = answered(alloc, &said);

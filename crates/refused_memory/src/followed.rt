@@ -114,6 +114,7 @@ impl HandlerCall for Follow {
 
 // Each call compares the machine that it was refused.
 impl Follow {
+    /// Makes the call, and answers what it did.
     pub(crate) fn made(self, alloc: Global) -> Result<Answer, ReportFault> {
         on_handler(alloc, SOURCE, STATEMENT, self)
     }

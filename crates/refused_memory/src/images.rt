@@ -97,6 +97,7 @@ fn planned(alloc: Global) -> Result<Answer, ReportFault> {
 }
 
 impl ImageCall {
+    /// Makes the call, and answers what it did.
     pub(crate) fn made(self, alloc: Global) -> Result<Answer, ReportFault> {
         match self {
             ImageCall::Read => Ok(read(alloc)),
@@ -115,6 +116,7 @@ pub(crate) struct Load {
 }
 
 impl Load {
+    /// What there is before the call.
     pub(crate) fn new(alloc: Global) -> Result<Load, ReportFault> {
         let machine = Machine::new(alloc, PageSize::K4, Profile::one())?;
         Ok(Load {
@@ -160,6 +162,7 @@ fn address_of(n: u32) -> u32 {
 }
 
 impl PutWords {
+    /// What there is before the call.
     pub(crate) fn new(alloc: Global) -> PutWords {
         PutWords {
             image: Image::new(alloc),
@@ -209,6 +212,7 @@ fn name_of(n: u8) -> [u8; 2] {
 }
 
 impl PutLabels {
+    /// What there is before the call.
     pub(crate) fn new(alloc: Global) -> PutLabels {
         PutLabels {
             labels: Labels::new(alloc),

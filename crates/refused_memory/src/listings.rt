@@ -77,6 +77,7 @@ impl ListingCall {
         answer
     }
 
+    /// Makes the call, and answers what it did.
     pub(crate) fn made(self, alloc: Global) -> Result<Answer, ReportFault> {
         match self {
             ListingCall::Places => Ok(placed(alloc)),

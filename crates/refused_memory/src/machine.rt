@@ -64,6 +64,7 @@ fn new_machine(alloc: Global) -> Answer {
 }
 
 impl NewCall {
+    /// Makes the call, and answers what it did.
     pub(crate) fn made(self, alloc: Global) -> Answer {
         match self {
             NewCall::Memc => new_memc(alloc),
@@ -85,6 +86,7 @@ fn memc_with_rom(alloc: Global) -> Result<Memc, MachineFault> {
 }
 
 impl AddRom {
+    /// What there is before the call.
     pub(crate) fn new(alloc: Global) -> Result<AddRom, ReportFault> {
         Ok(AddRom {
             memc: memc_with_rom(alloc)?,

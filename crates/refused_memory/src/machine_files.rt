@@ -191,6 +191,7 @@ fn inputs(alloc: Global) -> Result<Answer, ReportFault> {
 }
 
 impl MachineFileCall {
+    /// Makes the call, and answers what it did.
     pub(crate) fn made(self, alloc: Global) -> Result<Answer, ReportFault> {
         match self {
             MachineFileCall::Read => Ok(read(alloc)),

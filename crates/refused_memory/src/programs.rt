@@ -91,6 +91,7 @@ fn words(alloc: Global, line: Line) -> Result<Vec<String>, AllocError> {
 }
 
 impl Started {
+    /// What there is before the call.
     pub(crate) fn new(alloc: Global, line: Line) -> Result<Started, ReportFault> {
         let out = MemoryOutput::with_room(alloc, ROOM)?;
         Ok(Started {

@@ -278,6 +278,7 @@ pub(crate) struct Written {
 }
 
 impl Written {
+    /// What there is before the call.
     pub(crate) fn new(alloc: Global, report: Report, room: usize) -> Result<Written, ReportFault> {
         Ok(Written {
             report,
@@ -324,6 +325,7 @@ fn takes_hundred(out: &mut MemoryOutput) -> bool {
 }
 
 impl NewOutput {
+    /// Makes the call, and answers what it did.
     pub(crate) fn made(self, alloc: Global) -> Result<Answer, ReportFault> {
         match MemoryOutput::with_room(alloc, 100) {
             Ok(mut out) => Ok(Answer::of(takes_hundred(&mut out))),

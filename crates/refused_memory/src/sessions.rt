@@ -125,6 +125,7 @@ fn machine(alloc: Global) -> Result<Machine, ReportFault> {
 }
 
 impl Obeyed {
+    /// What there is before the call.
     pub(crate) fn new(alloc: Global, command: Command) -> Result<Obeyed, ReportFault> {
         let session = Session::new(machine(alloc)?);
         let mut obeyed = Obeyed { session, command };

@@ -55,6 +55,7 @@ fn stated(alloc: Global) -> Result<Answer, ReportFault> {
 }
 
 impl SourceCall {
+    /// Makes the call, and answers what it did.
     pub(crate) fn made(self, alloc: Global) -> Result<Answer, ReportFault> {
         match self {
             SourceCall::Assemble => Ok(assembled(alloc)),

@@ -16,6 +16,7 @@ pub(crate) struct Tally {
 }
 
 impl Tally {
+    /// Of no outcome yet.
     pub(crate) fn new() -> Tally {
         Tally {
             has_any: false,
@@ -24,6 +25,7 @@ impl Tally {
         }
     }
 
+    /// Counts an outcome.
     pub(crate) fn add(&mut self, outcome: Outcome) {
         self.has_any = true;
         if outcome.is_wrong() {

@@ -80,6 +80,7 @@ pub(crate) enum Outcome {
 }
 
 impl Outcome {
+    /// Whether it is none of the outcomes that a call may have.
     pub(crate) fn is_wrong(self) -> bool {
         match self {
             Outcome::Right | Outcome::RightAgain | Outcome::Unmade(ReportFault::Memory) => false,

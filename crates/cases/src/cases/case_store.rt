@@ -11,6 +11,7 @@ pub(crate) struct CaseStore<'a, R: Files + AllocGlobal> {
 }
 
 impl<'a, R: Files + AllocGlobal> CaseStore<'a, R> {
+    /// The files of a case's folder.
     pub(crate) fn new(rt: &'a R, folder: &'a str) -> Self {
         CaseStore {
             rt,

@@ -68,6 +68,7 @@ pub(crate) struct FullDisc<'a> {
 }
 
 impl<'a> FullDisc<'a> {
+    /// A disc of this host.
     pub(crate) fn new(rt: &'a HostRuntime) -> Self {
         FullDisc { rt }
     }
