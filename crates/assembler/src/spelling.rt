@@ -2,7 +2,8 @@ ghost use Rattle.std.specs.Prelude.{◌≡◌, ◌+◌, ◌*◌, ◌<◌, ◌≤
 ghost use Rattle.std.specs.Prelude.{decimal, length, if◌then◌else◌};
 ghost use Rattle.arm2_decode.specs.Bits.{bit_of_word};
 ghost use Rattle.asm_text.specs.Words.{branch_name};
-ghost use Rattle.assembler.specs.ShownLines.{address_end, amount_text, base_end, block_name, block_suffix, block_text, branch_text};
+ghost use Rattle.assembler.specs.ShownLines.{address_end, amount_text, base_end, block_name, block_suffix};
+ghost use Rattle.assembler.specs.ShownLines.{block_text, branch_text};
 ghost use Rattle.assembler.specs.ShownLines.{comma_register, compare_front, cond_text, data_front};
 ghost use Rattle.assembler.specs.ShownLines.{data_immediate_text, data_register_shift_text};
 ghost use Rattle.assembler.specs.ShownLines.{data_register_text, factors_text, flags_text, list_operand};
