@@ -8,7 +8,7 @@ use Rattle.asm_text.specs.Hex.{hex}
 use Rattle.assembler.specs.Placed.{ArePlaced}
 use Rattle.assembler.specs.declared.placed_line.PlacedLine.{PlacedLine}
 use Rattle.statement.specs.Stated.{Stated, class_of}
-use Rattle.text_rows.specs.Addresses.{class_name}
+use Rattle.statement.specs.Statement.{class_name}
 use Rattle.text_rows.specs.ByAddress.{line_of}
 use Rattle.trace_text.specs.TraceText.{exception_name, why_name}
 use Rattle.kept_runs.specs.declared.following.Unkept.{Unkept}

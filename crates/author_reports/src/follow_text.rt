@@ -13,8 +13,9 @@ use flow_graph::Statement;
 use kept_runs::{Access, Stray, Unkept};
 use loader::is_image;
 use report_output::ReportFault;
+use statement::class_name;
 use std::alloc::{AllocError, Global};
-use text_rows::{class_name, lines_by_address};
+use text_rows::lines_by_address;
 use trace_text::{exception_name, why_name};
 
 // How much less than the bound the ticks are.

@@ -3,7 +3,7 @@
 use Rattle.std.specs.Prelude.{◌≡◌, ◌≤◌, ◌⊎◌, ◌==◌, ◌&&◌, ◌||◌, ◌+◌, not, nat_lt}
 use Rattle.std.specs.Prelude.{zero, suc, Bool, true, false, ℕ}
 use Rattle.std.specs.Prelude.{List, [], ◌∷◌, ◌++◌, length, take, drop, codes, decimal, count_by}
-use Rattle.std.specs.Prelude.{Option, Some, None, IsSome, IsUtf8, is_none, option_map, if◌then◌else◌}
+use Rattle.std.specs.Prelude.{Option, Some, None, IsSome, IsUtf8, is_none, is_some, option_map, if◌then◌else◌}
 use Rattle.std.specs.BTreeSet.{contains}
 use Rattle.std.specs.Char.{is_digit}
 use Rattle.std.specs.List.{list_any}
@@ -12,17 +12,21 @@ use Rattle.std.specs.Ordering.{nat_cmp}
 use Rattle.std.specs.Str.{bytes_eq}
 use Rattle.walks.specs.declared.limits.TheConstants.{MOST_ROUNDS}
 use Rattle.bus_ticks.specs.Prices.{is_word_address}
+use Rattle.bus_ticks.specs.declared.profile.Class.{Class}
 use Rattle.asm_text.specs.Numbers.{read_number}
 use Rattle.loader.specs.Labels.{NamedAddresses, address_of}
 use Rattle.toml.specs.Parse.{parse_document}
 use Rattle.toml_reading.specs.Documents.{is_one_of}
 use Rattle.text_rows.specs.LineLabels.{is_at}
-use Rattle.statement.specs.Statement.{access_keys, loop_keys, statement_keys, target_keys}
+use Rattle.statement.specs.Statement.{access_keys, loop_keys, named_class, named_kind, statement_keys}
+use Rattle.statement.specs.Statement.{target_keys}
 use Rattle.statement.specs.declared.entries.TheConstants.{MOST_DESTINATIONS}
 use Rattle.statement.specs.declared.faults.StatementFault.{StatementFault}
 use Rattle.statement.specs.declared.faults.StatementFault.TheVariants.{NotToml, UnknownKey, WrongKind}
 use Rattle.statement.specs.declared.faults.StatementFault.TheVariants.{UnknownLabel, OutOfRange, Twice}
 use Rattle.statement.specs.declared.reading.TheConstants.{MOST_ACCESSES, MOST_LOOPS, MOST_TARGETS}
+use Rattle.statement.specs.declared.stated.TargetKind.{TargetKind}
+use Rattle.statement.specs.declared.stated.TargetKind.TheVariants.{Jump, Call, Return, Leave}
 use Rattle.diagnosis.specs.Outline.{Bare, Begins, Ends, Item, KeyValue, Quoted, States, Table, Value}
 use Rattle.diagnosis.specs.Outline.{items_of}
 use Rattle.diagnosis.specs.declared.repeats.Taken.{Taken}
@@ -113,24 +117,22 @@ abbrev pub is_text : Value → Bool
 is_text (Bare w) = false
 is_text (Quoted quote w) = true
 
--- one of the words, in quotes
-abbrev pub is_word_of : List (List ℕ) → Value → Bool
-is_word_of words (Bare w) = false
-is_word_of words (Quoted quote w) = is_one_of words w
+-- the class, and the kind, that a word in quotes names
+abbrev pub quoted_class : Value → Option Class
+quoted_class (Bare w) = None
+quoted_class (Quoted quote w) = named_class w
 
-abbrev pub class_words : List (List ℕ)
-class_words = codes "any" ∷ codes "ram" ∷ codes "rom" ∷ codes "io" ∷ []
-
-abbrev pub kind_words : List (List ℕ)
-kind_words = codes "jump" ∷ codes "call" ∷ codes "return" ∷ codes "leave" ∷ []
+abbrev pub quoted_kind : Value → Option TargetKind
+quoted_kind (Bare w) = None
+quoted_kind (Quoted quote w) = named_kind w
 
 -- what the key takes: a number or a label, a number, the word of a class, or the word of a kind
 abbrev pub fits_key : List ℕ → Value → Bool
 fits_key key value =
     if takes_address key then is_text value || is_number value
     else (if bytes_eq key (codes "bound") then is_number value
-    else (if bytes_eq key (codes "leave") || bytes_eq key (codes "class") then is_word_of class_words value
-    else (if bytes_eq key (codes "kind") then is_word_of kind_words value else true)))
+    else (if bytes_eq key (codes "leave") || bytes_eq key (codes "class") then is_some (quoted_class value)
+    else (if bytes_eq key (codes "kind") then is_some (quoted_kind value) else true)))
 
 -- a label's address, or the number that is written in decimal or after `0x`
 abbrev pub address_at : NamedAddresses → Value → Option ℕ
@@ -194,20 +196,19 @@ abbrev pub missing_rows : Table → List Item → List (List ℕ) → List Row
 missing_rows t items [] = []
 missing_rows t items (key ∷ keys) = missing_row t items key ++ missing_rows t items keys
 
-abbrev pub is_kind_of : List (List ℕ) → Option Value → Bool
-is_kind_of kinds None = false
-is_kind_of kinds (Some kind) = is_word_of kinds kind
+abbrev pub kind_in : List Item → Option TargetKind
+kind_in items = option_and_then quoted_kind (value_at (codes "kind") items)
 
 -- a jump or a call has destinations, a return or a leave has none
+abbrev pub destination_rows : Table → (has_to : Bool) → Option TargetKind → List Row
+destination_rows t has_to (Some Jump) = row_if (not has_to) (table_row t (codes " has no to") [])
+destination_rows t has_to (Some Call) = row_if (not has_to) (table_row t (codes " has no to") [])
+destination_rows t has_to (Some Return) = row_if has_to (table_row t (codes " may have no to") [])
+destination_rows t has_to (Some Leave) = row_if has_to (table_row t (codes " may have no to") [])
+destination_rows t has_to None = []
+
 abbrev pub target_rows : Table → List Item → List Row
-target_rows t items =
-    let kind = value_at (codes "kind") items in
-    if is_none (value_at (codes "to") items)
-    then row_if (is_kind_of (codes "jump" ∷ codes "call" ∷ []) kind) (table_row t (codes " has no to") [])
-    else
-    row_if
-    (is_kind_of (codes "return" ∷ codes "leave" ∷ []) kind)
-    (table_row t (codes " may have no to") [])
+target_rows t items = destination_rows t (is_some (value_at (codes "to") items)) (kind_in items)
 
 -- what the table lacks, or that it is in single brackets
 abbrev pub kind_rows : Table → List Item → List Row

@@ -10,19 +10,19 @@ ghost use Rattle.diagnosis.specs.Refused.{row_if, rows, shown, tables_in, twice_
 ghost use Rattle.diagnosis.specs.Refused.{item_rows, keys_of, kind_rows, lies_outside, missing_row};
 ghost use Rattle.diagnosis.specs.Refused.{missing_rows, name_text, needed_keys, no_entry_rows};
 ghost use Rattle.diagnosis.specs.Refused.{row_text, table_row};
-ghost use Rattle.diagnosis.specs.Refused.{is_kind_of, table_rows, target_rows, toml_row, toml_row_at};
+ghost use Rattle.diagnosis.specs.Refused.{kind_in, table_rows, target_rows, toml_row, toml_row_at};
 ghost use Rattle.diagnosis.specs.Refused.{value_at, value_row, value_text};
 
 use crate::outline::{Item, KeyValue, Table, items_of};
 use crate::repeats::Taken;
 use crate::rows::{MOST_LINES, around_number};
 use crate::tokens::Value;
-use crate::values::{address_at, fits_key, is_out_of_range, is_unknown_label, is_word_of};
+use crate::values::{address_at, fits_key, is_out_of_range, is_unknown_label, quoted_kind};
 use flow_graph::StatementFault;
 use loader::Labels;
 use statement::{
     ACCESS_KEYS, LOOP_KEYS, MOST_ACCESSES, MOST_DESTINATIONS, MOST_LOOPS, MOST_TARGETS,
-    STATEMENT_KEYS, TARGET_KEYS,
+    STATEMENT_KEYS, TARGET_KEYS, TargetKind,
 };
 use std::alloc::{AllocError, Global};
 use text_rows::{put, put_decimal};
@@ -234,13 +234,13 @@ pub(crate) struct Asked<'a> {
     fault: StatementFault,
 }
 
-// Whether a kind is stated, and one of these.
-fn is_kind_of(kinds: &[&str], kind: Option<Value<'_>>) -> bool
-    ensures { result ≡ is_kind_of (map (λ k. k.now) kinds.now) (option_map value_of kind.entry) }
+// The kind of target that is stated before the next table.
+fn kind_in(rest: &[Item<'_>]) -> Option<TargetKind>
+    ensures { result ≡ kind_in (map item_of rest.now) }
 {
-    match kind {
-        Some(kind) => is_word_of(kinds, kind),
-        None => false,
+    match value_at(rest, b"kind") {
+        Some(value) => quoted_kind(value),
+        None => None,
     }
 }
 
@@ -414,22 +414,15 @@ impl Report {
             (Adds (target_rows (table_of opened.now.table.now) (map item_of opened.now.rest.now))
             self.old self.new) }
     {
-        const WITH_TO: &[&str] = &["jump", "call"];
-        const WITHOUT_TO: &[&str] = &["return", "leave"];
-        let kind = value_at(opened.rest, b"kind");
-        match value_at(opened.rest, b"to") {
-            None => self.put_if(
-                alloc,
-                is_kind_of(WITH_TO, kind),
-                opened.table,
-                b" has no to",
-            ),
-            Some(_) => self.put_if(
-                alloc,
-                is_kind_of(WITHOUT_TO, kind),
-                opened.table,
-                b" may have no to",
-            ),
+        let has_to = value_at(opened.rest, b"to").is_some();
+        match kind_in(opened.rest) {
+            Some(TargetKind::Jump | TargetKind::Call) => {
+                self.put_if(alloc, !has_to, opened.table, b" has no to")
+            }
+            Some(TargetKind::Return | TargetKind::Leave) => {
+                self.put_if(alloc, has_to, opened.table, b" may have no to")
+            }
+            None => Ok(()),
         }
     }
 

@@ -1,16 +1,16 @@
-ghost use Rattle.std.specs.Prelude.{◌≡◌, map};
+ghost use Rattle.std.specs.Prelude.{◌≡◌};
 ghost use Rattle.diagnosis.specs.Outline.{key_value_of, value_of};
-ghost use Rattle.diagnosis.specs.Refused.{address_at, class_words, fits_key, is_negative};
+ghost use Rattle.diagnosis.specs.Refused.{address_at, fits_key, is_negative};
 ghost use Rattle.diagnosis.specs.Refused.{is_number, is_number_outside, is_out_of_range, is_outside, is_text};
-ghost use Rattle.diagnosis.specs.Refused.{is_unknown_label, is_word_of, kind_words, starts_digit};
+ghost use Rattle.diagnosis.specs.Refused.{is_unknown_label, quoted_class, quoted_kind, starts_digit};
 ghost use Rattle.diagnosis.specs.Refused.{starts_number, takes_address};
 
 use crate::outline::KeyValue;
 use crate::tokens::Value;
 use asm_text::read_number;
-use bus_ticks::is_word_address;
+use bus_ticks::{Class, is_word_address};
 use loader::Labels;
-use statement::MOST_ROUNDS;
+use statement::{MOST_ROUNDS, TargetKind, named_class, named_kind};
 use toml_reading::is_one_of;
 
 fn starts_digit(text: &[u8]) -> bool
@@ -64,16 +64,6 @@ fn is_text(value: Value<'_>) -> bool
     }
 }
 
-/// Whether the value is one of these words in quotes.
-pub(crate) fn is_word_of(words: &[&str], value: Value<'_>) -> bool
-    ensures { result ≡ is_word_of (map (λ w. w.now) words.now) (value_of value.entry) }
-{
-    match value {
-        Value::Bare(_) => false,
-        Value::Quoted(_, text) => is_one_of(words, text),
-    }
-}
-
 // Whether the values of the key are addresses.
 fn takes_address(key: &[u8]) -> bool
     ensures { result ≡ takes_address key.now }
@@ -82,20 +72,23 @@ fn takes_address(key: &[u8]) -> bool
     is_one_of(KEYS, key)
 }
 
-// Whether the value is a class.
-fn is_class(value: Value<'_>) -> bool
-    ensures { result ≡ is_word_of class_words (value_of value.entry) }
+fn quoted_class(value: Value<'_>) -> Option<Class>
+    ensures { result ≡ quoted_class (value_of value.entry) }
 {
-    const CLASSES: &[&str] = &["any", "ram", "rom", "io"];
-    is_word_of(CLASSES, value)
+    match value {
+        Value::Bare(_) => None,
+        Value::Quoted(_, text) => named_class(text),
+    }
 }
 
-// Whether the value is a kind of target.
-fn is_kind(value: Value<'_>) -> bool
-    ensures { result ≡ is_word_of kind_words (value_of value.entry) }
+/// The kind of target that a word in quotes names.
+pub(crate) fn quoted_kind(value: Value<'_>) -> Option<TargetKind>
+    ensures { result ≡ quoted_kind (value_of value.entry) }
 {
-    const KINDS: &[&str] = &["jump", "call", "return", "leave"];
-    is_word_of(KINDS, value)
+    match value {
+        Value::Bare(_) => None,
+        Value::Quoted(_, text) => named_kind(text),
+    }
 }
 
 /// Whether the value is of a kind that the key takes.
@@ -109,10 +102,10 @@ pub(crate) fn fits_key(key: &[u8], value: Value<'_>) -> bool
         return is_number(value);
     }
     if key == b"leave".as_slice() || key == b"class".as_slice() {
-        return is_class(value);
+        return quoted_class(value).is_some();
     }
     if key == b"kind".as_slice() {
-        return is_kind(value);
+        return quoted_kind(value).is_some();
     }
     true
 }

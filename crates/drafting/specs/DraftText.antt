@@ -8,7 +8,8 @@ use Rattle.std.specs.Ordering.{nat_cmp}
 use Rattle.asm_text.specs.Hex.{hex8}
 use Rattle.bus_ticks.specs.declared.profile.Class.{Class}
 use Rattle.bus_ticks.specs.Prices.{ahead_of}
-use Rattle.text_rows.specs.Addresses.{class_name, name_text}
+use Rattle.statement.specs.Statement.{class_name}
+use Rattle.text_rows.specs.Addresses.{name_text}
 use Rattle.text_rows.specs.declared.line_labels.SourceLine.{SourceLine}
 use Rattle.drafting.specs.Rows.{line_label, row}
 use Rattle.drafting.specs.declared.ends.End.{End}

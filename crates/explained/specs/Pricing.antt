@@ -8,7 +8,7 @@ use Rattle.bus_ticks.specs.declared.profile.Class.{Class}
 use Rattle.flow_graph.specs.Flow.{Flow}
 use Rattle.loader.specs.Image.{Words}
 use Rattle.statement.specs.Stated.{Stated, class_of}
-use Rattle.text_rows.specs.Addresses.{class_name}
+use Rattle.statement.specs.Statement.{class_name}
 use Rattle.word_shapes.specs.Words.{HasInstr}
 use Rattle.explained.specs.Leaving.{is_left_on}
 use Rattle.explained.specs.Taken.{is_reached}

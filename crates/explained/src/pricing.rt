@@ -13,9 +13,10 @@ use arm2_decode::{Instr, Operation};
 use bus_ticks::Class;
 use flow_graph::{Place, Statement};
 use loader::Image;
+use statement::class_name;
 use std::alloc::{AllocError, Global};
 use std::collections::{BTreeMap, BTreeSet};
-use text_rows::{class_name, put, put_right};
+use text_rows::{put, put_right};
 use word_shapes::instr_at;
 
 /// What the price of an instruction takes for granted of what it does besides its fetches.

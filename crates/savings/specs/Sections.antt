@@ -3,7 +3,7 @@ use Rattle.std.specs.Prelude.{◌≡◌, ℕ, List, ◌++◌, codes, decimal, le
 use Rattle.assembler.specs.declared.placed_line.PlacedLine.{PlacedLine}
 use Rattle.text_rows.specs.ByAddress.{line_of}
 use Rattle.text_rows.specs.Columns.{in_columns}
-use Rattle.text_rows.specs.Addresses.{class_name}
+use Rattle.statement.specs.Statement.{class_name}
 use Rattle.text_rows.specs.Rows.{IsShownRow, address_row, named_row, section}
 use Rattle.flow_graph.specs.Flow.{Flow}
 use Rattle.flow_graph.specs.declared.edges.Edge.{Edge}

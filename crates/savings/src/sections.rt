@@ -13,11 +13,12 @@ use crate::gains::Refinement;
 use assembler::PlacedLine;
 use explained::StatedGraph;
 use longest_walk::Longest;
+use statement::class_name;
 use std::alloc::{AllocError, Global};
 use std::collections::BTreeMap;
 use text_rows::{
-    NumberedLine, class_name, lines_by_address, put, put_address_row, put_named_row, put_number,
-    put_right, put_shown_row, section,
+    NumberedLine, lines_by_address, put, put_address_row, put_named_row, put_number, put_right,
+    put_shown_row, section,
 };
 
 const HEADING: &[u8] = b"\nWhat would save most, in ticks at most (state only what is true):\n";

@@ -40,9 +40,18 @@ access_keys = codes "at" ∷ codes "class" ∷ []
 
 -- ## Words
 
+abbrev pub class_name : Class → List ℕ
+class_name Any = codes "any"
+class_name Ram = codes "ram"
+class_name Rom = codes "rom"
+class_name Io = codes "io"
+
 abbrev pub named_class : List ℕ → Option Class
-named_class w = if bytes_eq w (codes "any") then Some Any else (if bytes_eq w (codes "ram") then Some Ram
-    else (if bytes_eq w (codes "rom") then Some Rom else (if bytes_eq w (codes "io") then Some Io else None)))
+named_class w =
+    if bytes_eq w (class_name Any) then Some Any
+    else (if bytes_eq w (class_name Ram) then Some Ram
+    else (if bytes_eq w (class_name Rom) then Some Rom
+    else (if bytes_eq w (class_name Io) then Some Io else None)))
 
 abbrev pub named_kind : List ℕ → Option TargetKind
 named_kind w = if bytes_eq w (codes "jump") then Some Jump else (if bytes_eq w (codes "call") then Some Call

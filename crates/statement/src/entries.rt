@@ -4,6 +4,7 @@ ghost use Rattle.loader.specs.Labels.{address_of};
 ghost use Rattle.toml_reading.specs.Documents.{once};
 ghost use Rattle.toml_reading.specs.Readings.{and_then, items_in};
 ghost use Rattle.statement.specs.Statement.{access_at, access_in, address_at, address_in, class_at, class_in};
+ghost use Rattle.statement.specs.Statement.{class_name};
 ghost use Rattle.statement.specs.Statement.{destinations, destinations_at, directed, kind_at, kind_in};
 ghost use Rattle.statement.specs.Statement.{labelled, loop_at, loop_in, loop_parts, named_class, named_kind};
 ghost use Rattle.statement.specs.Statement.{placed_loop, some_destinations, target_at, target_in};
@@ -113,23 +114,43 @@ impl Entry<Labels, StatementFault> for u32 {
     }
 }
 
-fn named_class(word: &str) -> Option<Class>
+/// The name of a class of addresses in a statement.
+pub fn class_name(class: Class) -> &'static str
+    ensures { result.now ≡ class_name class }
+{
+    match class {
+        Class::Any => "any",
+        Class::Ram => "ram",
+        Class::Rom => "rom",
+        Class::Io => "io",
+    }
+}
+
+/// The class that a word names in a statement.
+pub fn named_class(word: &[u8]) -> Option<Class>
     ensures { result ≡ named_class word.now }
 {
-    match word {
-        "any" => Some(Class::Any),
-        "ram" => Some(Class::Ram),
-        "rom" => Some(Class::Rom),
-        "io" => Some(Class::Io),
-        _ => None,
+    if word == class_name(Class::Any).as_bytes() {
+        return Some(Class::Any);
     }
+    if word == class_name(Class::Ram).as_bytes() {
+        return Some(Class::Ram);
+    }
+    if word == class_name(Class::Rom).as_bytes() {
+        return Some(Class::Rom);
+    }
+    if word == class_name(Class::Io).as_bytes() {
+        return Some(Class::Io);
+    }
+    None
 }
 
 /// A class's word.
 pub(crate) fn class_at(value: &Value) -> Read<Class>
     ensures { result ≡ class_at (view value.now) }
 {
-    required(value.as_str().and_then(named_class), Ok)
+    let word = value.as_str().map(str::as_bytes);
+    required(word.and_then(named_class), Ok)
 }
 
 fn class_in(table: &Table) -> Read<Class>
@@ -157,22 +178,30 @@ impl Entry<Labels, StatementFault> for (u32, Class) {
     }
 }
 
-fn named_kind(word: &str) -> Option<TargetKind>
+/// The kind of target that a word names in a statement.
+pub fn named_kind(word: &[u8]) -> Option<TargetKind>
     ensures { result ≡ named_kind word.now }
 {
-    match word {
-        "jump" => Some(TargetKind::Jump),
-        "call" => Some(TargetKind::Call),
-        "return" => Some(TargetKind::Return),
-        "leave" => Some(TargetKind::Leave),
-        _ => None,
+    if word == b"jump".as_slice() {
+        return Some(TargetKind::Jump);
     }
+    if word == b"call".as_slice() {
+        return Some(TargetKind::Call);
+    }
+    if word == b"return".as_slice() {
+        return Some(TargetKind::Return);
+    }
+    if word == b"leave".as_slice() {
+        return Some(TargetKind::Leave);
+    }
+    None
 }
 
 fn kind_at(value: &Value) -> Read<TargetKind>
     ensures { result ≡ kind_at (view value.now) }
 {
-    required(value.as_str().and_then(named_kind), Ok)
+    let word = value.as_str().map(str::as_bytes);
+    required(word.and_then(named_kind), Ok)
 }
 
 fn kind_in(table: &Table) -> Read<TargetKind>

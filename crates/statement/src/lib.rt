@@ -8,7 +8,9 @@ mod law;
 mod reading;
 mod stated;
 
-pub use entries::{ACCESS_KEYS, LOOP_KEYS, MOST_DESTINATIONS, TARGET_KEYS};
+pub use entries::{
+    ACCESS_KEYS, LOOP_KEYS, MOST_DESTINATIONS, TARGET_KEYS, class_name, named_class, named_kind,
+};
 pub use faults::StatementFault;
 pub use law::statements_are_read;
 pub use reading::{MOST_ACCESSES, MOST_LOOPS, MOST_TARGETS, STATEMENT_KEYS, read_statement};

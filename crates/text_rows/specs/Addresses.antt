@@ -1,9 +1,7 @@
--- Addresses and their classes as a statement has them.
+-- Addresses as a statement has them.
 use Rattle.std.specs.Prelude.{◌≡◌, ◌⊎◌, ℕ, ◌==◌, if◌then◌else◌, List, [], ◌∷◌, ◌++◌, length, codes}
 use Rattle.std.specs.Prelude.{Option, Some, None}
 use Rattle.asm_text.specs.Hex.{hex8}
-use Rattle.bus_ticks.specs.declared.profile.Class.{Class}
-use Rattle.bus_ticks.specs.declared.profile.Class.TheVariants.{Any, Ram, Rom, Io}
 use Rattle.loader.specs.Labels.{NamedAddresses, address_of}
 
 -- a number of TOML
@@ -26,9 +24,3 @@ labelled label at = if length label == 0 then toml_number at else quoted label
 abbrev pub name_text : Option (List ℕ) → ℕ → List ℕ
 name_text None at = toml_number at
 name_text (Some label) at = labelled label at
-
-abbrev pub class_name : Class → List ℕ
-class_name Any = codes "any"
-class_name Ram = codes "ram"
-class_name Rom = codes "rom"
-class_name Io = codes "io"

@@ -1,9 +1,8 @@
 ghost use Rattle.std.specs.Prelude.{◌≡◌, ◌++◌, OnOk};
-ghost use Rattle.text_rows.specs.Addresses.{class_name, labelled, toml_number, quoted};
+ghost use Rattle.text_rows.specs.Addresses.{labelled, toml_number, quoted};
 
 use crate::columns::put;
 use asm_text::hex8;
-use bus_ticks::Class;
 use std::alloc::AllocError;
 
 // Adds a name in double quotes. An error says that an allocation failed.
@@ -35,16 +34,4 @@ pub fn put_labelled(out: &mut Vec<u8>, label: &[u8], at: u32) -> Result<(), Allo
         return put_toml_number(out, at);
     }
     put_quoted(out, label)
-}
-
-/// The name of a class of addresses as a statement has it.
-pub fn class_name(class: Class) -> &'static str
-    ensures { result.now ≡ class_name class }
-{
-    match class {
-        Class::Any => "any",
-        Class::Ram => "ram",
-        Class::Rom => "rom",
-        Class::Io => "io",
-    }
 }

@@ -8,7 +8,7 @@ mod line_labels;
 mod lines;
 mod rows;
 
-pub use addresses::{class_name, put_labelled};
+pub use addresses::put_labelled;
 pub use by_address::lines_by_address;
 pub use columns::{
     ROW_COLUMNS, WIDEST_COLUMN, put, put_cut_row, put_decimal, put_number, put_right,
