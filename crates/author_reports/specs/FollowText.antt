@@ -2,12 +2,12 @@
 use Rattle.std.specs.Prelude.{◌≡◌, ℕ, ◌+◌, ◌-◌, Bool, true, false, if◌then◌else◌}
 use Rattle.std.specs.Prelude.{nat_eq, List, [], ◌++◌, codes, decimal}
 use Rattle.std.specs.Prelude.{Option, Some, None, option_map}
-use Rattle.bus_ticks.specs.Prices.{class_at}
+use Rattle.bus_ticks.specs.Prices.{class_of}
 use Rattle.bus_ticks.specs.declared.profile.Class.{Class}
 use Rattle.asm_text.specs.Hex.{hex}
 use Rattle.assembler.specs.Placed.{ArePlaced}
 use Rattle.assembler.specs.declared.placed_line.PlacedLine.{PlacedLine}
-use Rattle.statement.specs.Stated.{Stated, class_of}
+use Rattle.statement.specs.Stated.{Stated, class_at}
 use Rattle.statement.specs.Statement.{class_name}
 use Rattle.text_rows.specs.ByAddress.{line_of}
 use Rattle.trace_text.specs.TraceText.{exception_name, why_name}
@@ -41,7 +41,7 @@ access_text stated a =
     access_name a.store
     ++ (hex a.address
     ++ (codes ", "
-    ++ (class_name (class_at a.address) ++ (codes "; " ++ (class_name stated ++ codes " is stated")))))
+    ++ (class_name (class_of a.address) ++ (codes "; " ++ (class_name stated ++ codes " is stated")))))
 
 -- of a word for which this class is stated
 abbrev pub stray_text : Class → Stray → List ℕ
@@ -61,7 +61,7 @@ turned_text bound =
 -- of the step at the address
 abbrev pub why_text : Stated → (at : ℕ) → Unkept → List ℕ
 why_text st at unkept.NotAtEntry = codes "not the entry, which is " ++ hex st.entry
-why_text st at (unkept.Stray stray) = stray_text (class_of st at) stray
+why_text st at (unkept.Stray stray) = stray_text (class_at st at) stray
 why_text st at (unkept.TurnedBack span) = turned_text span.bound
 why_text st at unkept.Unfinished = codes "the steps end inside the handler"
 

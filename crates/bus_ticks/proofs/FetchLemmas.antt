@@ -3,7 +3,7 @@ use Rattle.std.proofs.Common.{ℕ, ◌%◌, ◌≤◌, ◌≡◌, ap, arith, eqb
 use Rattle.bus_ticks.specs.declared.profile.Profile.{Profile}
 use Rattle.bus_ticks.specs.declared.profile.Class.{Class}
 use Rattle.bus_ticks.specs.declared.profile.Class.TheVariants.{Ram, Rom, Io, Any}
-use Rattle.bus_ticks.specs.Prices.{class_at, by_class, rom_price, fetch_n, fetch_s}
+use Rattle.bus_ticks.specs.Prices.{class_of, by_class, rom_price, fetch_n, fetch_s}
 use Rattle.bus_ticks.specs.Worst.{IsAnyTimes, IsGreatest, worst_rom, worst_fetch_n, worst_fetch_s}
 use Rattle.bus_ticks.proofs.WorstLemmas.{dearest_times, rom_le}
 
@@ -14,14 +14,14 @@ by_class_rises Io ram rom top io h = omega arith
 by_class_rises Any ram rom top io h = omega arith
 
 -- a price that differs in Rom alone
-dearest : (p : Profile) (x ram io top : ℕ) → top ≡ by_class (class_at x) ram (worst_rom p) io
-    → IsGreatest IsAnyTimes (λ rom. by_class (class_at x) ram (rom_price p rom x) io) top
+dearest : (p : Profile) (x ram io top : ℕ) → top ≡ by_class (class_of x) ram (worst_rom p) io
+    → IsGreatest IsAnyTimes (λ rom. by_class (class_of x) ram (rom_price p rom x) io) top
 dearest p x ram io top e =
     let best = dearest_times p in
     rw e (record {
       none_above =
-          λ rom any. by_class_rises (class_at x) ram (rom_price p rom x) (worst_rom p) io (rom_le p rom x);
-      reached = (best.0, tt, ap (λ r. by_class (class_at x) ram r io) (best.1 x));
+          λ rom any. by_class_rises (class_of x) ram (rom_price p rom x) (worst_rom p) io (rom_le p rom x);
+      reached = (best.0, tt, ap (λ r. by_class (class_of x) ram r io) (best.1 x));
     })
 
 pub n_greatest : (p : Profile) (x top : ℕ) → top ≡ worst_fetch_n p x

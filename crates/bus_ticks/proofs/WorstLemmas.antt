@@ -9,7 +9,7 @@ use Rattle.bus_ticks.specs.declared.profile.RomTimes.{RomTimes}
 use Rattle.bus_ticks.specs.declared.profile.Class.{Class}
 use Rattle.bus_ticks.specs.declared.profile.Class.TheVariants.{Ram, Rom, Io, Any}
 use Rattle.bus_ticks.specs.Ranges.{greatest}
-use Rattle.bus_ticks.specs.Prices.{class_at, by_class, choice, rom_price, io_price, word_price, word_address}
+use Rattle.bus_ticks.specs.Prices.{class_of, by_class, choice, rom_price, io_price, word_price, word_address}
 use Rattle.bus_ticks.specs.Prices.{transfer}
 use Rattle.bus_ticks.specs.Worst.{AtTimes, IsBlockOf, IsGreatest, transfer_price, worst_rom, worst_io}
 use Rattle.bus_ticks.specs.Worst.{worst_transfer}
@@ -58,7 +58,7 @@ cond_same false x = refl
 pub word_le : (p : Profile) (rom : RomTimes) (store first : Bool) (x : ℕ)
     → word_price p rom store first x ≤ worst_io p
 word_le p rom store first x =
-    by_class_le (class_at x) _ _ _ _
+    by_class_le (class_of x) _ _ _ _
     (cond_le first _ _ _ p.n_below (cond_le (eqb (x % 16) 0) _ _ _
     (omega (arith, p.n_below, p.quad_second))
     (omega (arith, p.n_below, p.quad_second, p.s_first))))
@@ -90,7 +90,7 @@ block_is p rom store a top (suc k) each =
     omega (arith, before, each k (omega arith) (eqb k 0))
 
 -- the price of a word, by its class
-pub word_at : (p : Profile) (rom : RomTimes) (store first : Bool) (x : ℕ) (c : Class) → class_at x ≡ c
+pub word_at : (p : Profile) (rom : RomTimes) (store first : Bool) (x : ℕ) (c : Class) → class_of x ≡ c
     → word_price p rom store first x ≡ by_class c (cond first p.n (cond (eqb (x % 16) 0) p.quad p.s))
     (cond store p.control (rom_price p rom x)) (io_price p x)
 word_at p rom store first x c e =
@@ -107,7 +107,7 @@ plain_step n k s m d before word e f = omega arith
 
 -- a block in Ram: n for the first word, s for each other, and what quad has more at each multiple of 16
 pub ram_block : (p : Profile) (rom : RomTimes) (store : Bool) (a k d : ℕ) → p.quad ≡ p.s + d
-    → ((i : ℕ) → i < suc k → class_at (word_address a i) ≡ Ram)
+    → ((i : ℕ) → i < suc k → class_of (word_address a i) ≡ Ram)
     → transfer p rom store a (suc k) ≡ p.n + k * p.s + ((a / 4 + k) / 4 - a / 4 / 4) * d
 unfolding transfer
 ram_block p rom store a zero d e each =
@@ -135,13 +135,13 @@ ram_block p rom store a (suc k) d e each =
           rw same (plain_step p.n k p.s ((a / 4 + k) / 4 - a / 4 / 4) d _ _ before here)
     ]
 
-pub class_ram : (x : ℕ) → x < 0x3000000 → class_at x ≡ Ram
+pub class_ram : (x : ℕ) → x < 0x3000000 → class_of x ≡ Ram
 class_ram x h = grind (arith, nat_tests)
 
-pub class_io : (x : ℕ) → 0x3000000 ≤ x → x < 0x3400000 → class_at x ≡ Io
+pub class_io : (x : ℕ) → 0x3000000 ≤ x → x < 0x3400000 → class_of x ≡ Io
 class_io x l h = grind (arith, nat_tests)
 
-pub class_rom : (x : ℕ) → 0x3400000 ≤ x → class_at x ≡ Rom
+pub class_rom : (x : ℕ) → 0x3400000 ≤ x → class_of x ≡ Rom
 class_rom x l = grind (arith, nat_tests)
 
 -- the same field in both halves
@@ -171,7 +171,7 @@ pub ram_block_at : (p : Profile) (base k : ℕ) (store : Bool) (rom : RomTimes) 
     → base + 12 + 4 * suc k ≤ 0x3000000
     → IsDearestBlock p Ram (suc k) store (record { address = base + 12; rom = rom })
 ram_block_at p base k store rom whole room =
-    let each : (i : ℕ) → i < suc k → class_at (word_address (base + 12) i) ≡ Ram =
+    let each : (i : ℕ) → i < suc k → class_of (word_address (base + 12) i) ≡ Ram =
     λ i h. class_ram (word_address (base + 12) i) (omega arith) in
     let first = (base + 12) / 4 in
     record {
@@ -181,7 +181,7 @@ ram_block_at p base k store rom whole room =
           (ram_block p rom store (base + 12) k (p.quad - p.s) (split_quad p) each) (omega arith) (omega arith);
     }
 
-rom_word_le : (p : Profile) (rom : RomTimes) (store first : Bool) (x : ℕ) → class_at x ≡ Rom
+rom_word_le : (p : Profile) (rom : RomTimes) (store first : Bool) (x : ℕ) → class_of x ≡ Rom
     → word_price p rom store first x ≤ cond store p.control (worst_rom p)
 rom_word_le p rom true first x e = omega (arith, word_at p rom true first x Rom e)
 rom_word_le p rom false first x e = omega (arith, word_at p rom false first x Rom e, rom_le p rom x)
@@ -248,10 +248,10 @@ abbrev page : ℕ → ℕ
 page f = 0x3000000 + 0x80000 * f
 
 from_io : (f k : ℕ) → f < 4 → k ≤ 16 → (i : ℕ) → i < k
-    → (class_at (word_address (page f) i) ≡ Io) × (word_address (page f) i / 0x80000 % 4 ≡ f)
+    → (class_of (word_address (page f) i) ≡ Io) × (word_address (page f) i / 0x80000 % 4 ≡ f)
 from_io f k g few i h = (class_io (word_address (page f) i) (omega arith) (omega arith), omega arith)
 
-io_word_is : (p : Profile) (rom : RomTimes) (store first : Bool) (x f : ℕ) → class_at x ≡ Io
+io_word_is : (p : Profile) (rom : RomTimes) (store first : Bool) (x f : ℕ) → class_of x ≡ Io
     → x / 0x80000 % 4 ≡ f → choice f p.slow p.medium p.fast p.synchronous ≡ worst_io p
     → word_price p rom store first x ≡ worst_io p
 io_word_is p rom store first x f e g best =

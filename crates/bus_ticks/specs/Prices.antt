@@ -8,8 +8,8 @@ use Rattle.bus_ticks.specs.declared.profile.Class.{Class}
 use Rattle.bus_ticks.specs.declared.profile.Class.TheVariants.{Ram, Rom, Io, Any}
 
 -- Ram 0000000 to 2FFFFFF; Io 3000000 to 33FFFFF; Rom 3400000 to 3FFFFFF
-abbrev pub class_at : ℕ → Class
-class_at x = if nat_lt x IO_START then Ram else (if nat_lt x ROM_START then Io else Rom)
+abbrev pub class_of : ℕ → Class
+class_of x = if nat_lt x IO_START then Ram else (if nat_lt x ROM_START then Io else Rom)
 
 -- a choice by the class of an address, which is never Any
 abbrev pub by_class : {A : Type 0} → Class → A → A → A → A
@@ -37,18 +37,18 @@ ram_price p x = if x % 16 == 0 then p.quad else p.s
 
 -- a fetch that does not follow the access before it
 abbrev pub fetch_n : Profile → RomTimes → ℕ → ℕ
-fetch_n p rom x = by_class (class_at x) p.n (rom_price p rom x) p.unfitted
+fetch_n p rom x = by_class (class_of x) p.n (rom_price p rom x) p.unfitted
 
 -- a fetch that follows the access before it
 abbrev pub fetch_s : Profile → RomTimes → ℕ → ℕ
-fetch_s p rom x = by_class (class_at x) (ram_price p x) (rom_price p rom x) p.unfitted
+fetch_s p rom x = by_class (class_of x) (ram_price p x) (rom_price p rom x) p.unfitted
 
 -- one word of a transfer: in Ram the first word costs n, and each other follows; a store in Rom goes to a
 -- control register
 abbrev pub word_price : Profile → RomTimes → Bool → Bool → ℕ → ℕ
 word_price p rom store first x =
     by_class
-    (class_at x)
+    (class_of x)
     (if first then p.n else ram_price p x)
     (if store then p.control else rom_price p rom x)
     (io_price p x)

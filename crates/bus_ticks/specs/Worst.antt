@@ -5,16 +5,16 @@ use Rattle.bus_ticks.specs.declared.profile.Profile.{Profile}
 use Rattle.bus_ticks.specs.declared.profile.RomTimes.{RomTimes}
 use Rattle.bus_ticks.specs.declared.profile.Class.{Class}
 use Rattle.bus_ticks.specs.declared.profile.Class.TheVariants.{Ram, Rom, Io, Any}
-use Rattle.bus_ticks.specs.Prices.{ahead_of, class_at, by_class, fetch_n, ram_price, fetch_s, transfer}
+use Rattle.bus_ticks.specs.Prices.{ahead_of, class_of, by_class, fetch_n, ram_price, fetch_s, transfer}
 use Rattle.bus_ticks.specs.Prices.{word_address}
 use Rattle.bus_ticks.specs.Ranges.{greatest}
 
 -- an address of the class; each is of Any
 abbrev pub IsOf : Class → ℕ → Type 0
 IsOf Any x = Unit {0}
-IsOf Ram x = class_at x ≡ Ram
-IsOf Rom x = class_at x ≡ Rom
-IsOf Io x = class_at x ≡ Io
+IsOf Ram x = class_of x ≡ Ram
+IsOf Rom x = class_of x ≡ Rom
+IsOf Io x = class_of x ≡ Io
 
 -- where an access begins, and the time fields while it lasts
 pub record AtTimes : Type 0 where
@@ -56,10 +56,10 @@ worst_io p = greatest p.slow p.medium p.fast p.synchronous
 
 -- the fetches at an address, with Rom at its dearest field
 abbrev pub worst_fetch_n : Profile → ℕ → ℕ
-worst_fetch_n p x = by_class (class_at x) p.n (worst_rom p) p.unfitted
+worst_fetch_n p x = by_class (class_of x) p.n (worst_rom p) p.unfitted
 
 abbrev pub worst_fetch_s : Profile → ℕ → ℕ
-worst_fetch_s p x = by_class (class_at x) (ram_price p x) (worst_rom p) p.unfitted
+worst_fetch_s p x = by_class (class_of x) (ram_price p x) (worst_rom p) p.unfitted
 
 -- the greatest price of a transfer of k words: in Ram at most (k + 2) / 4 words after the first are at
 -- multiples of 16

@@ -1,7 +1,7 @@
 //! Which time fields and which addresses make an access cost the most.
 
 ghost use Rattle.std.specs.Prelude.{◌≡◌, ◌+◌, ◌<◌, ◌≤◌, ◌*◌, ◌/◌, ◌%◌, Bool, ℕ};
-ghost use Rattle.bus_ticks.specs.Prices.{class_at, fetch_n, fetch_s};
+ghost use Rattle.bus_ticks.specs.Prices.{class_of, fetch_n, fetch_s};
 ghost use Rattle.bus_ticks.specs.Worst.{worst_fetch_n, worst_fetch_s};
 ghost use Rattle.bus_ticks.specs.Dearest.{AreDearest, IsDearestBlock, IsDearestLeave, IsDearestOf};
 
@@ -52,7 +52,7 @@ pub fn dearest_device(profile: &Profile) -> u32
     ensures page { result % 0x80000 ≡ 0 }
     ensures from { IO_START ≤ result }
     ensures below { result < 0x3200000 }
-    ensures class { class_at result ≡ Class.Io }
+    ensures class { class_of result ≡ Class.Io }
     ensures lowest { IsDearestOf profile.now.slow profile.now.medium profile.now.fast profile.now.synchronous
         (result / 0x80000 % 4) }
     ensures block { (words : ℕ) → words ≤ 16 → (store : Bool) → (rom : RomTimes)

@@ -1,5 +1,5 @@
 ghost use Rattle.std.specs.Prelude.{◌≡◌, ◌↔◌, ◌<◌, ◌≤◌, ◌*◌, IsTrue, nat_lt};
-ghost use Rattle.bus_ticks.specs.Prices.{class_at, rom_price, io_price, fetch_n, ram_price, fetch_s};
+ghost use Rattle.bus_ticks.specs.Prices.{class_of, rom_price, io_price, fetch_n, ram_price, fetch_s};
 ghost use Rattle.bus_ticks.specs.Prices.{word_price, transfer};
 
 use crate::profile::{Class, Profile, RomTimes};
@@ -24,7 +24,7 @@ fn is_io(address: u32) -> bool
 /// The class of an address: Ram below 3000000, Io from there and Rom from 3400000 on, never `Any`.
 #[inline(always)]
 pub fn class_of(address: u32) -> Class
-    ensures { result ≡ class_at address }
+    ensures { result ≡ class_of address }
 {
     if is_ram(address) {
         Class::Ram

@@ -1,5 +1,5 @@
 ghost use Rattle.std.specs.Prelude.{◌≡◌, ◌<◌, ◌≤◌, ◌*◌};
-ghost use Rattle.bus_ticks.specs.Prices.{by_class, class_at, fetch_n, fetch_s};
+ghost use Rattle.bus_ticks.specs.Prices.{by_class, class_of, fetch_n, fetch_s};
 ghost use Rattle.bus_ticks.specs.Ranges.{greatest};
 ghost use Rattle.bus_ticks.specs.Worst.{worst_transfer, worst_io, worst_leave, worst_rom};
 ghost use Rattle.bus_ticks.specs.Worst.{worst_fetch_n, worst_fetch_s};
@@ -39,7 +39,7 @@ fn worst_io(profile: &Profile) -> u32
 // The greatest price of a fetch, as a number, by the price that it has where the address is one of RAM.
 fn worst_fetch(profile: &Profile, address: u32, ram: u32) -> u32
     requires { address < SPACE_END }
-    ensures { result ≡ by_class (class_at address) ram (worst_rom profile.now) profile.now.unfitted }
+    ensures { result ≡ by_class (class_of address) ram (worst_rom profile.now) profile.now.unfitted }
 {
     match class_of(address) {
         Class::Ram => ram,

@@ -13,7 +13,7 @@ use Rattle.assembler.specs.declared.placed_line.PlacedLine.{PlacedLine}
 use Rattle.bus_ticks.specs.declared.profile.Class.TheVariants.{Any}
 use Rattle.flow_graph.specs.Flow.{Flow}
 use Rattle.loader.specs.Image.{Words}
-use Rattle.statement.specs.Stated.{Stated, class_of, target_of}
+use Rattle.statement.specs.Stated.{Stated, class_at, target_of}
 use Rattle.word_shapes.specs.Shapes.{is_odd_writer}
 use Rattle.word_shapes.specs.Words.{HasInstr, HasShape}
 use Rattle.flow_graph.specs.declared.places.Place.{Place}
@@ -29,7 +29,7 @@ use Rattle.explained.specs.declared.assumptions.Assumption.TheVariants.{LooseTra
 -- a load or a store that may be to any address, as far as the statement says
 pub record IsLooseTransfer (image : Words) (st : Stated) (a : ℕ) : Type 0 where
   pub transfers : HasShape is_transfer image a
-  pub loose : class_of st a ≡ Any
+  pub loose : class_at st a ≡ Any
 
 -- it may be carried out, and writes R15 as no branch, call or return does
 abbrev pub may_write_oddly : Instr → Bool

@@ -7,7 +7,7 @@ use Rattle.arm2_decode.specs.declared.instr.Operation.TheVariants as operation
 use Rattle.bus_ticks.specs.declared.profile.Class.{Class}
 use Rattle.flow_graph.specs.Flow.{Flow}
 use Rattle.loader.specs.Image.{Words}
-use Rattle.statement.specs.Stated.{Stated, class_of}
+use Rattle.statement.specs.Stated.{Stated, class_at}
 use Rattle.statement.specs.Statement.{class_name}
 use Rattle.word_shapes.specs.Words.{HasInstr}
 use Rattle.explained.specs.Leaving.{is_left_on}
@@ -40,7 +40,7 @@ instr_granted class i = if is_never i.cond then Nothing else operation_granted c
 
 -- for what the word at an address does besides its fetches
 pub record IsGranted (words : Words) (st : Stated) (a : ℕ) (g : Granted) : Type 0 where
-  pub of_instr : (i : Instr) → HasInstr words a i → g ≡ instr_granted (class_of st a) i
+  pub of_instr : (i : Instr) → HasInstr words a i → g ≡ instr_granted (class_at st a) i
   pub of_none : ((i : Instr) → HasInstr words a i → ⊥) → g ≡ Nothing
 
 -- and where the handler leaves from there, the class of the addresses to which it leaves

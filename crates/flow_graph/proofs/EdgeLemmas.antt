@@ -10,7 +10,7 @@ use Rattle.arm2_decode.specs.Names.{is_always, is_never}
 use Rattle.arm2_decode.proofs.Unique.{one_instr, never_both, one_unallocated}
 use Rattle.bus_ticks.proofs.WorstLemmas.{worst_block_small}
 use Rattle.arm2_effect.specs.ProgramCounter.{branch_target}
-use Rattle.bus_ticks.specs.Prices.{ahead_of, by_class, class_at}
+use Rattle.bus_ticks.specs.Prices.{ahead_of, by_class, class_of}
 use Rattle.bus_ticks.specs.Ranges.{IsPrice}
 use Rattle.bus_ticks.specs.Worst.{worst_transfer, worst_fetch_n, worst_fetch_s, worst_rom, worst_leave}
 use Rattle.bus_ticks.specs.declared.profile.Class.{Class}
@@ -20,7 +20,7 @@ use Rattle.loader.specs.Image.{Words}
 use Rattle.flow_graph.specs.Edges.{AreEdgesOf, HasAction, IsEdge, arrival_ticks, call_places, do_edge, landing_edges, do_edges, fetch_ticks, places_at, jump_ticks, landings, return_place, skip_edge, skip_edges, stated_landings, word_edges, work_ticks, writer_landings}
 use Rattle.flow_graph.specs.Kinds.{IsAction, IsWork, instr_action, unallocated_action}
 use Rattle.flow_graph.specs.Places.{IsInRange}
-use Rattle.statement.specs.Stated.{IsStated, IsTarget, Stated, Target, class_of, target_of}
+use Rattle.statement.specs.Stated.{IsStated, IsTarget, Stated, Target, class_at, target_of}
 use Rattle.flow_graph.specs.declared.edges.Edge.{Edge}
 use Rattle.flow_graph.specs.declared.kinds.Action.{Action}
 use Rattle.flow_graph.specs.declared.kinds.Kind.{Kind}
@@ -76,13 +76,13 @@ rom_is_price : (p : Profile) → IsPrice (worst_rom p)
 rom_is_price p = (omega (arith, p.rom_0_price), omega (arith, p.rom_0_price, p.rom_1_price, p.rom_2_price, p.rom_3_price))
 
 n_is_price : (p : Profile) (x : ℕ) → IsPrice (worst_fetch_n p x)
-n_is_price p x = by_class_all IsPrice (class_at x) p.n (worst_rom p) p.unfitted p.n_price (rom_is_price p) p.unfitted_price
+n_is_price p x = by_class_all IsPrice (class_of x) p.n (worst_rom p) p.unfitted p.n_price (rom_is_price p) p.unfitted_price
 
 s_is_price : (p : Profile) (x : ℕ) → IsPrice (worst_fetch_s p x)
 s_is_price p x =
     by_class_all
     IsPrice
-    (class_at x)
+    (class_of x)
     (cond (eqb (x % 16) 0) p.quad p.s)
     (worst_rom p)
     p.unfitted
@@ -207,7 +207,7 @@ module _ (st : Stated) (profile : Profile) (calls : List ℕ) (address : ℕ) wh
   do_leaves a fits to ends = record {
     from = refl;
     some = omega (arith, (fetching_is_price profile address a.work).0);
-    small = omega (arith, (fetching_is_price profile address a.work).1, working_small profile (class_of st address) a.work fits, arriving_small st.leave profile a.kind to);
+    small = omega (arith, (fetching_is_price profile address a.work).1, working_small profile (class_at st address) a.work fits, arriving_small st.leave profile a.kind to);
     ends = ends;
   }
 

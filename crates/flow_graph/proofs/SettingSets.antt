@@ -52,7 +52,7 @@ use Rattle.flow_graph.specs.declared.places.Place.{Place}
 use Rattle.flow_graph.specs.declared.setting.Aim.{Aim}
 use Rattle.flow_graph.specs.declared.setting.Held.{Held}
 use Rattle.flow_graph.specs.declared.setting.Setting.{Setting}
-use Rattle.statement.specs.Stated.{Stated, class_of}
+use Rattle.statement.specs.Stated.{Stated, class_at}
 use Rattle.flow_graph.proofs.SettingLemmas.{next_word}
 
 -- ## Tests
@@ -111,7 +111,7 @@ module _ (aim : Aim) (s : State) (i : Input) (base : Held) (last : ℕ) where
       of_class Io h = h.register
       of_class Any h = h.register
 
-module _ (aim : Aim) (st : Stated) (to : Place) (s : State) (i : Input) (class_is : aim.class ≡ class_of st aim.address) (target : IsDearestTarget st aim.profile to aim.target) where
+module _ (aim : Aim) (st : Stated) (to : Place) (s : State) (i : Input) (class_is : aim.class ≡ class_at st aim.address) (target : IsDearestTarget st aim.profile to aim.target) where
   gives_target : (load loads_pc : Bool) (words lowest : ℕ) (base : Held) → 1 ≤ words → (may : MayStart aim load words lowest)
       → HasSetting aim.profile (transfer_setting aim base (load && loads_pc) (word_address lowest (words - 1))) s i → IsTrue (load && loads_pc)
       → seen (with_lines i.lines.0 s.bus) i.port (may.spots (words - 1)) ≡ aim.target

@@ -11,7 +11,7 @@ use Rattle.bus_ticks.specs.declared.profile.Class.{Class}
 use Rattle.bus_ticks.specs.declared.profile.Class.TheVariants.{Any, Ram, Rom, Io}
 use Rattle.bus_ticks.specs.declared.profile.Profile.{Profile}
 use Rattle.bus_ticks.specs.declared.profile.RomTimes.{RomTimes}
-use Rattle.bus_ticks.specs.Prices.{ahead_of, class_at, fetch_n, fetch_s}
+use Rattle.bus_ticks.specs.Prices.{ahead_of, class_of, fetch_n, fetch_s}
 use Rattle.bus_ticks.specs.Worst.{IsOf, worst_leave, worst_fetch_n, worst_fetch_s}
 use Rattle.bus_ticks.proofs.LeaveLemmas.{worst_leave_greatest}
 use Rattle.arm2_decode.specs.Conditions.{condition_holds}
@@ -148,9 +148,9 @@ same_class _ _ = inr (λ e. cc)
 
 of_class_or : (c : Class) (t : ℕ) → IsOf c t ⊎ (IsOf c t → ⊥)
 of_class_or Any t = inl tt
-of_class_or Ram t = same_class (class_at t) Ram
-of_class_or Rom t = same_class (class_at t) Rom
-of_class_or Io t = same_class (class_at t) Io
+of_class_or Ram t = same_class (class_of t) Ram
+of_class_or Rom t = same_class (class_of t) Rom
+of_class_or Io t = same_class (class_of t) Io
 
 place_or : (st : Stated) (t : ℕ) (p : Place) → IsPlaceOf st.leave t p ⊎ (IsPlaceOf st.leave t p → ⊥)
 place_or st t (At calls a) = elim (eqb_tells a t) [ inl e ↦ inl e.1 | inr e ↦ inr e.1 ]

@@ -44,7 +44,7 @@ use Rattle.flow_graph.specs.declared.kinds.Work.{Work}
 use Rattle.flow_graph.specs.declared.kinds.Work.TheVariants as work
 use Rattle.flow_graph.specs.declared.places.Place.{Place}
 use Rattle.flow_graph.specs.declared.places.Place.TheVariants.{At}
-use Rattle.statement.specs.Stated.{Stated, class_of, target_of}
+use Rattle.statement.specs.Stated.{Stated, class_at, target_of}
 use Rattle.flow_graph.proofs.EdgeLemmas.{among_edges, one_action}
 use Rattle.flow_graph.proofs.StepEdges.{Lands, Which, always_holds, arrives, do_among, lands, never_holds, skip_among, which_edge}
 use Rattle.flow_graph.proofs.StepOperations.{MovedCosts, either_done, operation_costs, skipped_costs, stopped_costs}
@@ -133,7 +133,7 @@ which_taken words st profile calls action s stepped has e taken =
 module _ (words : Words) (st : Stated) (profile : Profile) (calls : List ℕ) (action : Action) (s : State) (i : Input) (stepped : Stepped) (after : State) (h : Executes words st profile action s i stepped after) where
   -- what the step costs, and where it goes
   abbrev StepCosts : Bool → Type 0
-  StepCosts holds = Costs profile s.bus.memc.control.rom_times (class_of st (address_in s.regs)) (address_in s.regs) (kind_by holds action) (work_by holds action) h.step.moved.accesses stepped.to
+  StepCosts holds = Costs profile s.bus.memc.control.rom_times (class_at st (address_in s.regs)) (address_in s.regs) (kind_by holds action) (work_by holds action) h.step.moved.accesses stepped.to
 
   plain_is : IsPlainStep s h.step.moved stepped
   plain_is = plain_step s h.step.moved stepped h.step.stepped_is h.plain
@@ -150,8 +150,8 @@ module _ (words : Words) (st : Stated) (profile : Profile) (calls : List ℕ) (a
       let obeyed : ObeysFetched (fetched bus.memc (r15_in s.regs)) i.port s.regs bus h.step.moved = works_plain (interrupt_due bus (r15_in s.regs)) i.port s.regs bus h.step.moved h.step.works (plain_is.kind) in
       let fetches : fetched s.bus.memc (r15_in s.regs) ≡ Some h.has.word = h.fetches ∙ h.has.word_is in
       let obeys : Obeys h.has.word i.port s.regs bus h.step.moved = subst (λ o. ObeysFetched o i.port s.regs bus h.step.moved) fetches obeyed in
-      subst (λ t. Costs profile s.bus.memc.control.rom_times (class_of st (address_in s.regs)) (address_in s.regs) (kind_by (holds_in s.regs action.cond) action) (work_by (holds_in s.regs action.cond) action) h.step.moved.accesses t) (sym plain_is.to)
-      (obeys_costs profile s.bus.memc.control.rom_times (class_of st (address_in s.regs)) s.regs (let n : length s.regs ≡ 27 = h.registers in omega arith)
+      subst (λ t. Costs profile s.bus.memc.control.rom_times (class_at st (address_in s.regs)) (address_in s.regs) (kind_by (holds_in s.regs action.cond) action) (work_by (holds_in s.regs action.cond) action) h.step.moved.accesses t) (sym plain_is.to)
+      (obeys_costs profile s.bus.memc.control.rom_times (class_at st (address_in s.regs)) s.regs (let n : length s.regs ≡ 27 = h.registers in omega arith)
       h.has.word action i.port bus h.step.moved h.has.is obeys h.transfers (plain_is.kind))
 
   -- ## Each edge of the step
@@ -174,7 +174,7 @@ module _ (words : Words) (st : Stated) (profile : Profile) (calls : List ℕ) (a
   cost_by : (holds : Bool) → StepCosts holds → (e : Edge) → IsOne e → e.label ≡ cond holds Do Skip → IsPlaceOf st.leave stepped.to e.to → stepped.ticks ≤ e.cost
   cost_by true costs e (inl skip) label to = absurd (no_label (skip_edge profile calls (address_in s.regs)) e refl label skip)
   cost_by true costs e (inr (p, among, is)) label to =
-      let jump = arrives st profile s.bus.memc.control.rom_times (class_of st (address_in s.regs)) (address_in s.regs) action.kind p stepped.to small (ends_at p e is to) in
+      let jump = arrives st profile s.bus.memc.control.rom_times (class_at st (address_in s.regs)) (address_in s.regs) action.kind p stepped.to small (ends_at p e is to) in
       let cost : do_ticks st profile (address_in s.regs) action p ≡ e.cost = ap (λ (x : Edge). x.cost) is in
       omega (arith, jump, costs.most, ticks, cost)
   cost_by false costs e (inl skip) label to =
@@ -224,7 +224,7 @@ module _ (words : Words) (st : Stated) (profile : Profile) (calls : List ℕ) (a
   law_by : (holds : Bool) → holds_in s.regs action.cond ≡ holds → StepCosts holds → IsAccepted words st profile → IsReached words st profile (At calls (address_in s.regs)) → Conclusion
   law_by true holds costs accepted reached =
       done_by holds
-      (lands st profile s.bus.memc.control.rom_times (class_of st (address_in s.regs)) calls (address_in s.regs) action.kind stepped.to costs.reaches
+      (lands st profile s.bus.memc.control.rom_times (class_at st (address_in s.regs)) calls (address_in s.regs) action.kind stepped.to costs.reaches
       (few_calls accepted reached (never_holds action.cond (flags_of (r15_in s.regs)) holds)))
   law_by false fails costs accepted reached =
       takes (skip_edge profile calls (address_in s.regs)) (record {

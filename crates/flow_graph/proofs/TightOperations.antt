@@ -36,7 +36,7 @@ use Rattle.flow_graph.specs.Edges.{landings}
 use Rattle.flow_graph.specs.Kinds.{kind_of, transfer_work, work_of, writer_if}
 use Rattle.flow_graph.specs.TightWork.{IsDearestTarget, IsSetFor, TransfersDearest}
 use Rattle.flow_graph.specs.declared.places.Place.{Place}
-use Rattle.statement.specs.Stated.{Stated, class_of}
+use Rattle.statement.specs.Stated.{Stated, class_at}
 use Rattle.flow_graph.proofs.SortedLemmas.{no_member}
 use Rattle.flow_graph.proofs.StepOperations.{refused_else, refused_not}
 use Rattle.flow_graph.proofs.TightSetting.{MovedPays, Setting, mode}
@@ -66,7 +66,7 @@ module _ (st : Stated) (profile : Profile) (address : ℕ) (to : Place) (s : Sta
     st = st;
     profile = profile;
     rom = s.bus.memc.control.rom_times;
-    class = class_of st address;
+    class = class_at st address;
     to = to;
     regs = s.regs;
     bus = with_lines i.lines.0 s.bus;

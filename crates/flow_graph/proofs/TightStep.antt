@@ -35,7 +35,7 @@ use Rattle.flow_graph.specs.declared.kinds.Action.{Action}
 use Rattle.flow_graph.specs.declared.kinds.Kind.{Kind}
 use Rattle.flow_graph.specs.declared.places.Place.{Place}
 use Rattle.flow_graph.specs.declared.places.Place.TheVariants.{At}
-use Rattle.statement.specs.Stated.{Stated, class_of}
+use Rattle.statement.specs.Stated.{Stated, class_at}
 use Rattle.flow_graph.proofs.EdgeLemmas.{among_edges, one_action}
 use Rattle.flow_graph.proofs.StepEdges.{Which, not_both, which_edge}
 use Rattle.flow_graph.proofs.StepLemmas.{IsPlainStep, answer_by, plain_step}
@@ -84,7 +84,7 @@ module _ (words : Words) (st : Stated) (profile : Profile) (e : Edge) (s : State
   prices p = record { profile = p; rom = rom }
 
   abbrev class : Class
-  class = class_of st a
+  class = class_at st a
 
   at : a ≡ h.address
   at = at_address profile h.word h.address h.flags s h.begins

@@ -7,7 +7,7 @@ use Rattle.bus_ticks.specs.Dearest.{AreDearest, IsDearestBlock}
 use Rattle.bus_ticks.specs.declared.profile.Class.{Class}
 use Rattle.bus_ticks.specs.declared.profile.Profile.{Profile}
 use Rattle.bus_ticks.specs.declared.profile.RomTimes.{RomTimes}
-use Rattle.bus_ticks.specs.Prices.{ahead_of, transfer, by_class, class_at, fetch_n, ram_price, fetch_s, word_address}
+use Rattle.bus_ticks.specs.Prices.{ahead_of, transfer, by_class, class_of, fetch_n, ram_price, fetch_s, word_address}
 use Rattle.bus_ticks.specs.Worst.{IsOf, worst_transfer, worst_fetch_n, worst_fetch_s}
 use Rattle.arm2_effect.specs.declared.prices.Prices.{Prices}
 use Rattle.arm2_effect.specs.Effects.{Access, FetchN, FetchS, Internal, Word, straight, refill, onward}
@@ -77,10 +77,10 @@ module _ (p : Profile) (rom : RomTimes) (class : Class) (a : ℕ) (dear : AreDea
   prices = record { profile = p; rom = rom }
 
   pub n_worst : (x : ℕ) → fetch_n p rom x ≡ worst_fetch_n p x
-  n_worst x = ap (λ r. by_class (class_at x) p.n r p.unfitted) (dear x)
+  n_worst x = ap (λ r. by_class (class_of x) p.n r p.unfitted) (dear x)
 
   pub s_worst : (x : ℕ) → fetch_s p rom x ≡ worst_fetch_s p x
-  s_worst x = ap (λ r. by_class (class_at x) (ram_price p x) r p.unfitted) (dear x)
+  s_worst x = ap (λ r. by_class (class_of x) (ram_price p x) r p.unfitted) (dear x)
 
   -- accesses of a step that ends at t: their words are of the class, and they cost what the kind and the work
   -- do

@@ -11,7 +11,7 @@ use Rattle.bus_ticks.specs.declared.profile.Profile.{Profile}
 use Rattle.bus_ticks.specs.Prices.{ahead_of}
 use Rattle.loader.specs.Image.{Words, word_of}
 use Rattle.flow_graph.specs.Kinds.{IsAction}
-use Rattle.statement.specs.Stated.{Stated, Target, class_of, target_of}
+use Rattle.statement.specs.Stated.{Stated, Target, class_at, target_of}
 use Rattle.flow_graph.specs.declared.call_list.TheConstants.{MOST_CALLS}
 use Rattle.flow_graph.specs.declared.edges.Edge.{Edge}
 use Rattle.flow_graph.specs.declared.edges.Label.TheVariants.{Skip, Do}
@@ -98,7 +98,7 @@ arrival_ticks profile leave Unallocated to = 0
 -- what a word costs where its condition holds
 abbrev pub do_ticks : Stated → Profile → ℕ → Action → Place → ℕ
 do_ticks st profile address action to =
-    fetch_ticks profile address action.work + work_ticks profile (class_of st address) action.work
+    fetch_ticks profile address action.work + work_ticks profile (class_at st address) action.work
     + arrival_ticks profile st.leave action.kind to
 
 -- ## Edges

@@ -33,7 +33,7 @@ use Rattle.flow_graph.specs.declared.places.Place.{Place}
 use Rattle.flow_graph.specs.declared.setting.Aim.{Aim}
 use Rattle.flow_graph.specs.declared.setting.Held.{Held}
 use Rattle.flow_graph.specs.declared.setting.Setting.{Setting}
-use Rattle.statement.specs.Stated.{Stated, class_of}
+use Rattle.statement.specs.Stated.{Stated, class_at}
 
 -- ## Where a transfer's words are
 
@@ -117,6 +117,6 @@ pub record HasSetting (profile : Profile) (setting : Setting) (s : State) (i : I
 pub record Sets (aim : Aim) (o : Operation) (setting : Setting) : Type 0 where
   pub register_other : IfSome setting.register (λ held. is_pc held.register ≡ false)
   pub word_apart : IfSome setting.word (λ e. IsData aim.spare aim.address e.0)
-  pub set : (st : Stated) (to : Place) (s : State) (i : Input) → aim.class ≡ class_of st aim.address
+  pub set : (st : Stated) (to : Place) (s : State) (i : Input) → aim.class ≡ class_at st aim.address
       → IsDearestTarget st aim.profile to aim.target → HasSetting aim.profile setting s i
       → IsSetFor st aim.profile aim.address to s i o

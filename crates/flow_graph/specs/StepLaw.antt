@@ -32,7 +32,7 @@ use Rattle.flow_graph.specs.declared.faults.BuildFault.TheVariants as fault
 use Rattle.flow_graph.specs.declared.kinds.Action.{Action}
 use Rattle.flow_graph.specs.declared.places.Place.{Place}
 use Rattle.flow_graph.specs.declared.places.Place.TheVariants.{At, Exit}
-use Rattle.statement.specs.Stated.{Stated, class_of}
+use Rattle.statement.specs.Stated.{Stated, class_at}
 
 -- whether the condition holds by the flags in R15
 abbrev pub holds_in : List ℕ → Cond → Bool
@@ -72,7 +72,7 @@ module _ (words : Words) (st : Stated) (profile : Profile) where
     pub fetches : fetched s.bus.memc (r15_in s.regs) ≡ word_of words (address_in s.regs)
     pub step : Step s i stepped after
     pub plain : stepped.kind ≡ ended.Plain
-    pub transfers : TransfersIn (class_of st (address_in s.regs)) step.moved.accesses
+    pub transfers : TransfersIn (class_at st (address_in s.regs)) step.moved.accesses
 
   -- the edge leaves the place of the step by the step's label, and ends where the step goes
   pub record IsTaken (calls : List ℕ) (action : Action) (s : State) (stepped : Stepped)

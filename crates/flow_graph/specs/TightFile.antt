@@ -43,7 +43,7 @@ use Rattle.flow_graph.specs.declared.setting.Held.{Held}
 use Rattle.flow_graph.specs.declared.setting.Setting.{Setting}
 use Rattle.flow_graph.specs.declared.tight.SetUp.{SetUp}
 use Rattle.flow_graph.specs.declared.tight.Tight.{Tight}
-use Rattle.statement.specs.Stated.{Stated, class_of}
+use Rattle.statement.specs.Stated.{Stated, class_at}
 
 -- ## What a word needs
 
@@ -74,7 +74,7 @@ module _ (words : Words) (st : Stated) (profile : Profile) (e : Edge) where
     pub setting : IsSettingOf
         (record {
           profile = profile;
-          class = class_of st set_up.address;
+          class = class_at st set_up.address;
           address = set_up.address;
           target = target;
           spare = spare;

@@ -43,7 +43,7 @@ use Rattle.flow_graph.specs.declared.edges.Label.TheVariants.{Skip}
 use Rattle.flow_graph.specs.declared.kinds.Action.{Action}
 use Rattle.flow_graph.specs.declared.places.Place.{Place}
 use Rattle.flow_graph.specs.declared.places.Place.TheVariants.{At}
-use Rattle.statement.specs.Stated.{Stated, class_of}
+use Rattle.statement.specs.Stated.{Stated, class_at}
 
 -- F and I set, the lowest two bits of the PSR
 abbrev pub masked : ℕ
@@ -82,7 +82,7 @@ module _ (st : Stated) (profile : Profile) (address : ℕ) (to : Place) (s : Sta
   -- its words are such, and where it loads R15, the last of them holds a target
   pub record TransfersDearest (load loads_pc : Bool) (words lowest : ℕ) : Type 0 where
     pub spot : ℕ → Spot
-    pub transfer : IsDearestTransfer profile (class_of st address) (not load) words s.bus.memc spot lowest
+    pub transfer : IsDearestTransfer profile (class_at st address) (not load) words s.bus.memc spot lowest
     pub target : IsTrue (load && loads_pc)
         → IsDearestTarget st profile to
         (address_of (seen (with_lines i.lines.0 s.bus) i.port (spot (words - 1))))

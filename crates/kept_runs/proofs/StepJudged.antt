@@ -5,7 +5,7 @@ use Rattle.std.proofs.lemmas.List.Elements.{Contains-get_or}
 use Rattle.std.proofs.lemmas.Option.{same_Some}
 use Rattle.bus_ticks.specs.declared.profile.Class.{Class}
 use Rattle.loader.specs.Image.{Words}
-use Rattle.statement.specs.Stated.{Stated, class_of}
+use Rattle.statement.specs.Stated.{Stated, class_at}
 use Rattle.arm2_effect.specs.declared.exceptions.Vector.{Vector}
 use Rattle.arm2_effect.specs.declared.step_end.Kind.{Kind}
 use Rattle.arm2_effect.specs.declared.step_end.Kind.TheVariants as ended
@@ -74,7 +74,7 @@ after_regs false s a b h k = k
 
 module _ (words : Words) (st : Stated) (flow : Flow) (graph : IsFlowGraph words st flow.profile flow) (place : Place) (s : State) (i : Input) (is_there : IsAtPlace flow place s) where
   abbrev class : Class
-  class = class_of st (address_in s.regs)
+  class = class_at st (address_in s.regs)
 
   abbrev calls : List ℕ
   calls = is_there.at.0

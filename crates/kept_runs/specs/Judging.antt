@@ -1,7 +1,7 @@
 -- One step of the machine against the edges of a place.
 use Rattle.std.specs.Prelude.{◌≡◌, ℕ, ◌<◌, ◌^◌, Bool, if◌then◌else◌, List, ◌∷◌, ◌++◌, length}
 use Rattle.loader.specs.Image.{Words}
-use Rattle.statement.specs.Stated.{Stated, class_of}
+use Rattle.statement.specs.Stated.{Stated, class_at}
 use Rattle.bus_ticks.specs.Worst.{IsOf}
 use Rattle.bus_ticks.specs.declared.profile.Class.{Class}
 use Rattle.arm2_effect.specs.Effects as effect
@@ -81,7 +81,7 @@ module _ (words : Words) (st : Stated) (flow : Flow) (place : Place) (s : State)
   -- the step transfers a word of another class than the one stated, and this is the first
   pub record TransfersOther (after : State) (access : Access) : Type 0 where
     pub ends : Ends after ended.Plain
-    pub is_first : IsFirstOther (class_of st (address_in s.regs)) ends.step.moved.accesses access
+    pub is_first : IsFirstOther (class_at st (address_in s.regs)) ends.step.moved.accesses access
 
   -- the step executes the word as stated, and goes to the address, to which no edge of the place leads
   pub record GoesTo (after : State) (to : ℕ) : Type 0 where

@@ -18,7 +18,7 @@ use Rattle.flow_graph.specs.declared.places.Place.{Place}
 use Rattle.flow_graph.specs.declared.places.Place.TheVariants.{Exit}
 use Rattle.flow_graph.specs.Edges.{arrival_ticks, do_ticks, fetch_ticks, jump_ticks, work_ticks}
 use Rattle.flow_graph.specs.Kinds.{action, instr_action, kind_of, transfer_work, work_of}
-use Rattle.statement.specs.Stated.{Stated, class_of}
+use Rattle.statement.specs.Stated.{Stated, class_at}
 use Rattle.savings.specs.Changed.{with_access, with_leave}
 use Rattle.savings.specs.Gains.{IsDearestBelow, class_gain, if_less, leave_gain, leave_prices, multiply_gain, next_class, next_gain, next_price, operation_gain, transfer_gain, transfer_prices}
 use Rattle.savings.specs.declared.classes.ClassChange.{ClassChange}
@@ -137,7 +137,7 @@ module _ (p : ClassPrices) where
 -- ## Edges
 
 -- the class that comes first is the stated one
-first_class : (st : Stated) (a : ℕ) (class : Class) → class_of (with_access st a class) a ≡ class
+first_class : (st : Stated) (a : ℕ) (class : Class) → class_at (with_access st a class) a ≡ class
 first_class st a class = ap (λ b. unwrap_or (if b then Some class else lookup (eqb a) st.accesses) Any) (eq-eqb a a refl)
 
 not_none : (g : Gain) → None ≡ Some g → ⊥
@@ -159,10 +159,10 @@ unstated_leave profile Rom g gain = absurd (not_none g gain)
 unstated_leave profile Io g gain = absurd (not_none g gain)
 
 by_work : (st : Stated) (profile : Profile) (a : ℕ) (action : Action) (to : Place) (g : Gain) (change : ClassChange)
-    → transfer_gain profile (class_of st a) action.work ≡ Some g → g.refinement ≡ Addresses change
+    → transfer_gain profile (class_at st a) action.work ≡ Some g → g.refinement ≡ Addresses change
     → do_ticks (with_access st a change.better) profile a action to + g.ticks ≡ do_ticks st profile a action to
 by_work st profile a action to g change gain is =
-    let of_any = unstated profile (class_of st a) action.work g gain in
+    let of_any = unstated profile (class_at st a) action.work g gain in
     let less = falls (transfer_prices profile action.work) (λ c. work_ticks profile c action.work) refl refl refl g change of_any.1 is in
     let fetch = fetch_ticks profile a action.work in
     let arrival = arrival_ticks profile st.leave action.kind to in
@@ -182,7 +182,7 @@ module _ (st : Stated) (profile : Profile) (a : ℕ) (c : Cond) (to : Place) (g 
       let both : Multiplier ≡ Addresses change = ap (λ (x : Gain). x.refinement) same ∙ is in
       cc
 
-  of_operation : (o : Operation) → operation_gain profile (class_of st a) o ≡ Some g → Falls o
+  of_operation : (o : Operation) → operation_gain profile (class_at st a) o ≡ Some g → Falls o
   of_operation (operation.Multiply x) gain = absurd (not_multiplier gain)
   of_operation (operation.DataRegister x) gain = absurd (not_none g gain)
   of_operation (operation.DataRegisterShift x) gain = absurd (not_none g gain)
@@ -197,7 +197,7 @@ module _ (st : Stated) (profile : Profile) (a : ℕ) (c : Cond) (to : Place) (g 
   of_operation (operation.Coprocessor x) gain = absurd (not_none g gain)
 
 pub access_gains : (st : Stated) (profile : Profile) (a : ℕ) (i : Instr) (to : Place) (g : Gain) (change : ClassChange)
-    → operation_gain profile (class_of st a) i.operation ≡ Some g → g.refinement ≡ Addresses change
+    → operation_gain profile (class_at st a) i.operation ≡ Some g → g.refinement ≡ Addresses change
     → do_ticks (with_access st a change.better) profile a (instr_action i) to + g.ticks ≡ do_ticks st profile a (instr_action i) to
 access_gains st profile a i to g change gain is = of_operation st profile a i.cond to g change is i.operation gain
 

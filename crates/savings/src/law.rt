@@ -8,7 +8,7 @@ ghost use Rattle.flow_graph.specs.Edges.{do_ticks, jump_ticks, work_ticks};
 ghost use Rattle.flow_graph.specs.Kinds.{instr_action};
 ghost use Rattle.flow_graph.specs.declared.places.Place.{Place};
 ghost use Rattle.flow_graph.specs.declared.places.Place.TheVariants.{Exit};
-ghost use Rattle.statement.specs.Stated.{Stated, class_of};
+ghost use Rattle.statement.specs.Stated.{Stated, class_at};
 ghost use Rattle.savings.specs.Changed.{with_access, with_leave};
 ghost use Rattle.savings.specs.Gains.{IsDearestBelow, leave_gain, operation_gain, transfer_gain};
 ghost use Rattle.savings.specs.declared.classes.ClassChange.{ClassChange};
@@ -34,7 +34,7 @@ pub fn times_are_of_the_walk()
 /// ticks less. It does nothing.
 pub fn gains_are_of_the_prices()
     ensures access { (st : Stated) (profile : Profile) (a : ℕ) (i : Instr) (to : Place) (gain : Gain)
-        (change : ClassChange) → operation_gain profile (class_of st a) i.operation ≡ Some gain
+        (change : ClassChange) → operation_gain profile (class_at st a) i.operation ≡ Some gain
         → gain.refinement ≡ Addresses change
         → do_ticks (with_access st a change.better) profile a (instr_action i) to + gain.ticks
         ≡ do_ticks st profile a (instr_action i) to }

@@ -28,8 +28,8 @@ abbrev pub target_of : Stated → ℕ → Option Target
 target_of st address = lookup (nat_eq address) st.targets
 
 -- the class stated for what the word at an address transfers: any where none is stated
-abbrev pub class_of : Stated → ℕ → Class
-class_of st address = unwrap_or (lookup (nat_eq address) st.accesses) Any
+abbrev pub class_at : Stated → ℕ → Class
+class_at st address = unwrap_or (lookup (nat_eq address) st.accesses) Any
 
 -- what holds of each stated loop
 pub record IsLoop (l : Loop) : Type 0 where

@@ -59,8 +59,8 @@ named_kind w = if bytes_eq w (codes "jump") then Some Jump else (if bytes_eq w (
     (if bytes_eq w (codes "return") then Some Return
     else (if bytes_eq w (codes "leave") then Some Leave else None)))
 
-abbrev pub class_at : Data → Read Class
-class_at d = name_at statement_faults named_class d
+abbrev pub class_word : Data → Read Class
+class_word d = name_at statement_faults named_class d
 
 abbrev pub kind_at : Data → Read TargetKind
 kind_at d = name_at statement_faults named_kind d
@@ -92,11 +92,11 @@ abbrev pub kind_in : Members → Read TargetKind
 kind_in ms = required statement_faults (get_member (codes "kind") ms) kind_at
 
 abbrev pub class_in : Members → Read Class
-class_in ms = required statement_faults (get_member (codes "class") ms) class_at
+class_in ms = required statement_faults (get_member (codes "class") ms) class_word
 
 -- the class to leave to: any where the key is missing
 abbrev pub leave_in : Members → Read Class
-leave_in ms = optional Any (get_member (codes "leave") ms) class_at
+leave_in ms = optional Any (get_member (codes "leave") ms) class_word
 
 -- the entry and the class to leave to, the loops, the targets and the accesses
 abbrev pub Parts : Type 0

@@ -1,6 +1,6 @@
 ghost use Rattle.std.specs.Prelude.{◌≡◌, ◌<◌, ◌≤◌, length, map, All, option_map};
 ghost use Rattle.bus_ticks.specs.declared.space.TheConstants.{SPACE_END};
-ghost use Rattle.statement.specs.Stated.{IsLoop, IsStated, class_of, target_of};
+ghost use Rattle.statement.specs.Stated.{IsLoop, IsStated, class_at, target_of};
 
 use bus_ticks::Class;
 use indexmap::IndexMap;
@@ -135,7 +135,7 @@ impl Statement {
 
     /// The class that is stated for what the word at an address transfers: any where none is stated.
     pub fn class_at(&self, address: u32) -> Class
-        ensures { result ≡ class_of self.now address }
+        ensures { result ≡ class_at self.now address }
     {
         self.accesses.get(&address).copied().unwrap_or(Class::Any)
     }

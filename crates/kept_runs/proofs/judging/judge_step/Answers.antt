@@ -1,7 +1,7 @@
 use Rattle.std.proofs.Common.{◌∙◌, ap, subst}
 use Rattle.std.proofs.lemmas.List.Elements.{Contains-get_or}
 use Rattle.bus_ticks.specs.declared.profile.Class.{Class}
-use Rattle.statement.specs.Stated.{class_of}
+use Rattle.statement.specs.Stated.{class_at}
 use Rattle.flow_graph.specs.Places.{place_at}
 use Rattle.flow_graph.specs.declared.places.Place.TheVariants.{Exit}
 use Rattle.kept_runs.specs.declared.edges.Going.{Going}
@@ -36,7 +36,7 @@ returns-in-Some-other c =
     other_class c.args.handler.image.now c.args.handler.statement.now c.args.handler.graph.now c.requires.graph place c.args.machine.now c.args.input c.requires.is_there
     c.step-stepped.result c.step-stepped.new.self c.step-stepped.ensures.step c.in-Plain.is c.in-Some.word c.in-Some.ensures c.read_word-reading.result c.read_word-reading.ensures.reading
     c.in-Some-other.access
-    (subst (λ (k : Class). HasOther k c.read_word-reading.result.transfer c.in-Some-other.access) (c.class_at.ensures ∙ ap (class_of c.args.handler.statement.now) c.address-address.ensures.address) c.in-Some-other.ensures)
+    (subst (λ (k : Class). HasOther k c.read_word-reading.result.transfer c.in-Some-other.access) (c.class_at.ensures ∙ ap (class_at c.args.handler.statement.now) c.address-address.ensures.address) c.in-Some-other.ensures)
 
 pub edge_taken-requires : goal.edge_taken-requires
 edge_taken-requires c = c.requires.known
@@ -46,7 +46,7 @@ returns-in-Some-edge_taken c =
     let place = place_at c.args.handler.graph.now.places c.args.place in
     takes c.args.handler.image.now c.args.handler.statement.now c.args.handler.graph.now c.requires.graph place c.args.machine.now c.args.input c.requires.is_there
     c.step-stepped.result c.step-stepped.new.self c.step-stepped.ensures.step c.in-Plain.is c.in-Some.word c.in-Some.ensures c.read_word-reading.result c.read_word-reading.ensures.reading
-    (subst (λ (k : Class). HasNoOther k c.read_word-reading.result.transfer) (c.class_at.ensures ∙ ap (class_of c.args.handler.statement.now) c.address-address.ensures.address) c.in_default-other.ensures)
+    (subst (λ (k : Class). HasNoOther k c.read_word-reading.result.transfer) (c.class_at.ensures ∙ ap (class_at c.args.handler.statement.now) c.address-address.ensures.address) c.in_default-other.ensures)
     c.step-stepped.ensures.bound c.in-Some-edge_taken.edge
     (subst (λ (g : Going). IsFound c.args.handler.graph.now place g c.in-Some-edge_taken.edge) (λ j. record { label = c.label_if.ensures j; to = c.step-stepped.result.to; leave = c.leave.ensures j }) c.in-Some-edge_taken.ensures)
 
@@ -55,6 +55,6 @@ returns-in-None c =
     let place = place_at c.args.handler.graph.now.places c.args.place in
     elsewhere c.args.handler.image.now c.args.handler.statement.now c.args.handler.graph.now c.requires.graph place c.args.machine.now c.args.input c.requires.is_there
     c.step-stepped.result c.step-stepped.new.self c.step-stepped.ensures.step c.in-Plain.is c.in-Some.word c.in-Some.ensures c.read_word-reading.result c.read_word-reading.ensures.reading
-    (subst (λ (k : Class). HasNoOther k c.read_word-reading.result.transfer) (c.class_at.ensures ∙ ap (class_of c.args.handler.statement.now) c.address-address.ensures.address) c.in_default-other.ensures)
+    (subst (λ (k : Class). HasNoOther k c.read_word-reading.result.transfer) (c.class_at.ensures ∙ ap (class_at c.args.handler.statement.now) c.address-address.ensures.address) c.in_default-other.ensures)
     (Contains-get_or c.args.handler.graph.now.places c.args.place Exit c.requires.known)
     (subst (λ (g : Going). HasNoEdge c.args.handler.graph.now place g) (λ j. record { label = c.label_if.ensures j; to = c.step-stepped.result.to; leave = c.leave.ensures j }) c.in-None.ensures)

@@ -3,7 +3,7 @@ use Rattle.arm2_decode.specs.declared.instr.Instr.{Instr}
 use Rattle.bus_ticks.specs.declared.profile.Class.{Class}
 use Rattle.flow_graph.proofs.WorkLemmas.{action_fits}
 use Rattle.flow_graph.specs.Kinds.{instr_action}
-use Rattle.statement.specs.Stated.{class_of}
+use Rattle.statement.specs.Stated.{class_at}
 use Rattle.savings.specs.Gains.{operation_gain}
 use Rattle.savings.proofs.found.word_gain.Goals as goal
 
@@ -16,7 +16,7 @@ returns-in-Ok c = record {
       let both : Ok c.in-Ok.instr ≡ Ok i = c.in-Ok.ensures.only i means in
       let same : c.in-Ok.instr ≡ i = cc in
       c.operation_gain.ensures ∙ ap (λ (k : Class). operation_gain c.args.profile.now k c.in-Ok.instr.operation) c.class_at.ensures
-      ∙ ap (λ (j : Instr). operation_gain c.args.profile.now (class_of c.args.statement.now c.args.at) j.operation) same;
+      ∙ ap (λ (j : Instr). operation_gain c.args.profile.now (class_at c.args.statement.now c.args.at) j.operation) same;
   of_none = λ none. absurd (none c.in-Ok.instr c.in-Ok.ensures.found);
 }
 
