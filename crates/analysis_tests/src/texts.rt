@@ -1,5 +1,5 @@
 use bus_ticks::Profile;
-use cert_check::longest_gets_yes;
+use cert_check::{longest_gets_yes, yes_means_greatest};
 use certificate::*;
 use flow_graph::{Calls, Edge, Label, Place};
 use longest_walk::{FoldedWalk, Item, ItemList, Longest, Potentials, WalkFault};
@@ -250,5 +250,6 @@ fn items_and_rows_one_by_one(rt: HostRuntime) -> Result<(), Fail> {
 fn calls_the_laws() {
     one_text_each();
     longest_can_be_spelled();
+    yes_means_greatest();
     longest_gets_yes();
 }

@@ -1,11 +1,13 @@
 ghost use Rattle.bus_ticks.specs.declared.profile.Profile.{Profile};
 ghost use Rattle.loader.specs.Image.{Words};
 ghost use Rattle.statement.specs.Stated.{Stated};
-ghost use Rattle.flow_graph.specs.Flow.{Flow, IsWellFormed};
+ghost use Rattle.flow_graph.specs.declared.places.Place.TheVariants.{Exit};
+ghost use Rattle.flow_graph.specs.Flow.{Flow, HasEdge, IsWellFormed, edge_shape};
 ghost use Rattle.flow_graph.specs.Graph.{IsFlowGraph};
 ghost use Rattle.loop_bounds.specs.Tree.{IsTree, Tree};
+ghost use Rattle.walks.specs.Greatest.{IsGreatest};
 ghost use Rattle.longest_walk.specs.declared.folded.Longest.{Longest};
-ghost use Rattle.longest_walk.specs.Longest.{IsLongest};
+ghost use Rattle.longest_walk.specs.Longest.{IsLongest, KeepsTree};
 ghost use Rattle.certificate.specs.declared.cert.Cert.{Cert};
 ghost use Rattle.certificate.specs.Lines.{said_by, said_of};
 ghost use Rattle.cert_check.specs.declared.verdict.Verdict.TheVariants.{Yes};
@@ -13,6 +15,15 @@ ghost use Rattle.cert_check.specs.declared.failing.FailingRow.{FailingRow};
 ghost use Rattle.cert_check.specs.Failing.{IsFailing, objection_of};
 ghost use Rattle.cert_check.specs.Verdict.{IsVerdict, Passes};
 ghost use Rattle.std.specs.Prelude.{◌≡◌};
+
+/// States that the verdict Yes on a certificate, whoever wrote it, means that its bound is the greatest cost
+/// of a complete walk that keeps the bounds. It does nothing.
+#[tactic(auto, using(crate::proofs::YesLemmas::yes_is_greatest))]
+pub fn yes_means_greatest()
+    ensures { (flow : Flow) (tree : Tree) (cert : Cert) → IsWellFormed flow → IsTree flow tree
+        → IsVerdict flow tree cert Yes
+        → IsGreatest edge_shape (HasEdge flow) (KeepsTree tree) flow.entry Exit cert.bound }
+{}
 
 /// States that the certificate of a greatest walk has the verdict Yes, as it is or once written and read. It
 /// does nothing.

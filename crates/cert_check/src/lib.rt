@@ -28,6 +28,6 @@ pub use checking::check;
 pub use explaining::failing_row;
 pub use failing::{FailingRow, HeavyRow, objection_of, verdict_of};
 pub use fault::CheckFault;
-pub use law::{failing_row_refutes, longest_gets_yes};
+pub use law::{failing_row_refutes, longest_gets_yes, yes_means_greatest};
 pub use verdict::{Objection, Verdict};
 pub use walker::COST_CAP;
