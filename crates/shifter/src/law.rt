@@ -1,4 +1,4 @@
-ghost use Rattle.std.specs.Prelude.{◌≡◌, ℕ, ◌≤◌};
+ghost use Rattle.std.specs.Prelude.{◌≡◌, ℕ, ◌≤◌, ◌<◌, ◌*◌, ◌-◌, ◌^◌};
 ghost use Rattle.shifter.specs.Shifts.{multiply_cycles};
 
 use crate::shifts::MOST_MULTIPLY_CYCLES;
@@ -8,4 +8,13 @@ use crate::shifts::MOST_MULTIPLY_CYCLES;
 pub fn multiply_limit()
     ensures most { (number : ℕ) → multiply_cycles number ≤ MOST_MULTIPLY_CYCLES }
     ensures reached { multiply_cycles 0xFFFFFFFF ≡ MOST_MULTIPLY_CYCLES }
+{}
+
+/// States the table of a multiply's cycles: m below 2 ^ (2m - 1), but for the most; and from 2 ^ (2m - 3) on,
+/// but for one cycle. It does nothing.
+pub fn multiply_table()
+    ensures below { (number : ℕ) → multiply_cycles number < MOST_MULTIPLY_CYCLES
+        → number < 2 ^ (2 * multiply_cycles number - 1) }
+    ensures from { (number : ℕ) → 2 ≤ multiply_cycles number
+        → 2 ^ (2 * multiply_cycles number - 3) ≤ number }
 {}

@@ -4,7 +4,7 @@
 mod law;
 mod shifts;
 
-pub use law::multiply_limit;
+pub use law::{multiply_limit, multiply_table};
 pub use shifts::{
     MOST_MULTIPLY_CYCLES, Shifted, multiply_cycles, rotate_imm, shift_imm, shift_reg,
 };

@@ -1,0 +1,8 @@
+use Rattle.shifter.proofs.ShiftLemmas.{cycles_below, cycles_reach}
+use Rattle.shifter.proofs.law.multiply_table.Goals as goal
+
+pub returns-clause-below : goal.returns-clause-below
+returns-clause-below c = cycles_below
+
+pub returns-clause-from : goal.returns-clause-from
+returns-clause-from c = cycles_reach
