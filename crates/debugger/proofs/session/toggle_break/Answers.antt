@@ -15,7 +15,7 @@ returns-then-is_set c =
       few = omega (arith, ap length same, c.remove.ensures.len, c.below-at.ensures.fits);
       ascending =
           subst Ascending (sym same) (ascending_toggled c.args.address c.args.breaks.now.items c.requires);
-      err = tt;
+      fault = tt;
       unchanged = tt;
     }
 
@@ -40,6 +40,6 @@ returns c =
       ok = same;
       few = omega (arith, longer, c.below-at.ensures.fits, eqb-false _ 16 (sym c.if-is_full.ensures.value));
       ascending = subst Ascending (sym same) (ascending_toggled address breaks c.requires);
-      err = tt;
+      fault = tt;
       unchanged = tt;
     }

@@ -17,7 +17,7 @@ returns-in_default c =
     watched.new.machine (omega (arith, c.requires)) watches none in
     record {
       ok = tt;
-      err = inr (refl, rw (← c.self.view_is) stopped.1);
+      fault = inr (refl, rw (← c.self.view_is) stopped.1);
       unchanged = rw (← c.self.view_is) (ap (session_on s.breaks.items s.next s.ticks s.elapsed) stopped.0);
     }
 

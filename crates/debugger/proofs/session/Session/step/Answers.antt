@@ -13,7 +13,7 @@ returns-then-ran-eq0 c =
     ran.ensures.runs c.if-ran-eq0.true in
     record {
       ok = tt;
-      err = inr (refl, rw (← c.self.view_is) stopped.1);
+      fault = inr (refl, rw (← c.self.view_is) stopped.1);
       unchanged = rw (← c.self.view_is) (ap (session_on s.breaks.items s.next s.ticks s.elapsed) stopped.0);
     }
 
