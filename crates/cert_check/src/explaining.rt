@@ -6,12 +6,12 @@ ghost use Rattle.cert_check.specs.Verdict.{objections};
 
 use crate::columns::tables_of;
 use crate::failing::FailingRow;
+use crate::failing_edge::failing_edge;
+use crate::failing_presence::failing_presence;
+use crate::failing_walk::failing_walk;
 use crate::fault::CheckFault;
-use crate::heavy::failing_edge;
 use crate::index::Index;
 use crate::indexed_tree::IndexedTree;
-use crate::listed::failing_presence;
-use crate::straying::failing_walk;
 use certificate::Cert;
 use flow_graph::Graph;
 use loop_bounds::LoopTree;

@@ -4,7 +4,7 @@ ghost use Rattle.std.specs.List.Sorted.{IsStrictlySortedBy};
 ghost use Rattle.flow_graph.specs.Places.{place_cmp};
 ghost use Rattle.longest_walk.specs.Rows.{is_at};
 
-use crate::about::AboutPlace;
+use crate::about_place::AboutPlace;
 use flow_graph::{Place, order_of_places};
 use std::cmp::Ordering;
 

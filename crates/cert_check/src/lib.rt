@@ -4,21 +4,21 @@
 //! With the crates that find walks it shares types and definitions, and calls no function of theirs.
 #![tactic(auto)]
 
-mod about;
+mod about_place;
 mod checking;
 mod columns;
 mod explaining;
 mod failing;
+mod failing_edge;
+mod failing_presence;
+mod failing_walk;
 mod fault;
 mod finding;
-mod heavy;
 mod index;
 mod indexed_tree;
 mod law;
-mod listed;
 mod presence;
 mod row_tests;
-mod straying;
 mod verdict;
 mod walk_trace;
 mod walker;

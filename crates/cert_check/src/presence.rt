@@ -4,7 +4,7 @@ ghost use Rattle.flow_graph.specs.Places.{place_cmp};
 ghost use Rattle.longest_walk.specs.Rows.{header_of};
 ghost use Rattle.cert_check.specs.Presence.{Lists};
 
-use crate::about::AboutPlace;
+use crate::about_place::AboutPlace;
 use certificate::Cert;
 use flow_graph::{Graph, Place};
 use loop_bounds::LoopTree;

@@ -11,7 +11,7 @@ mod law;
 mod leaving;
 mod lines;
 mod links;
-mod named;
+mod named_words;
 mod pricing;
 mod sections;
 mod source;

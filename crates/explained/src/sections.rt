@@ -10,7 +10,7 @@ ghost use Rattle.text_rows.specs.Rows.{AreRows, section};
 
 use crate::assumptions::{Assumption, assumed};
 use crate::links::lost_links;
-use crate::named::{named_lines, named_words};
+use crate::named_words::{named_lines, named_words};
 use assembler::PlacedLine;
 use flow_graph::{Graph, Statement};
 use loader::Image;

@@ -8,12 +8,12 @@ ghost use Rattle.loop_bounds.specs.Layout.{IsShown, AreShown, AreKeyed, by_keys}
 ghost use Rattle.loop_bounds.specs.Layout.{chain_of, items_of, key_in};
 ghost use Rattle.loop_bounds.specs.Keys.{IsListed};
 
+use crate::compare_pushed::compare_pushed;
 use crate::extents::Extent;
 use crate::loop_instances::LoopInstance;
 use crate::nesting::Nesting;
 use crate::numbering::index_near;
 use crate::parents::innermost;
-use crate::pushed::compare_pushed;
 use flow_graph::Place;
 use numbered_walks::{NumberedEdge, Span};
 use std::alloc::{AllocError, Global};

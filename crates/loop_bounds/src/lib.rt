@@ -13,6 +13,7 @@
 //!   It rises as the rank does and each instance is an interval, as the search for the greatest walk needs.
 #![tactic(auto)]
 
+mod compare_pushed;
 mod crossing;
 mod extents;
 mod fault;
@@ -25,7 +26,6 @@ mod nesting;
 mod numbering;
 mod order;
 mod parents;
-mod pushed;
 mod ranks;
 mod tree;
 

@@ -7,7 +7,7 @@ ghost use Rattle.loop_bounds.specs.Keys.{IsListed, IsPoint, by_key};
 ghost use Rattle.flow_graph.specs.Places.{place_cmp, place_at};
 ghost use Rattle.loop_bounds.specs.Tree.{IsNumbered, NumbersEdge};
 
-use crate::pushed::compare_pushed;
+use crate::compare_pushed::compare_pushed;
 use flow_graph::{Calls, Edge, Graph, Place};
 use numbered_walks::NumberedEdge;
 use std::alloc::{AllocError, Global};

@@ -10,8 +10,8 @@ use Rattle.asm_text.specs.Appended.{Appends}
 use Rattle.text_rows.specs.Rows.{AreRows}
 use Rattle.savings.specs.Savings.{AreFound, IsWordGain, IsWordSaved, leave_saved, saved}
 use Rattle.savings.specs.declared.gains.Gain.{Gain}
-use Rattle.savings.specs.declared.found.Saving.{Saving}
-use Rattle.savings.specs.declared.found.Subject.TheVariants.{Word}
+use Rattle.savings.specs.declared.saving.Saving.{Saving}
+use Rattle.savings.specs.declared.saving.Subject.TheVariants.{Word}
 
 pub word_more : (st : Stated) (profile : Profile) (times : ℕ → ℕ) (at word n : ℕ) (gain : Option Gain) (old new : List Saving)
     → n ≡ times at → IsWordGain st profile at word gain → new ≡ old ++ saved (Word at word) n gain

@@ -12,8 +12,8 @@ use Rattle.asm_text.specs.Appended.{Appends}
 use Rattle.text_rows.specs.Rows.{AreRows}
 use Rattle.savings.specs.Savings.{AreSavings}
 use Rattle.savings.specs.Sections.{AreSourceSavings, IsSavingRow, IsSourceEnd, front_text, heading}
-use Rattle.savings.specs.declared.found.Saving.{Saving}
-use Rattle.savings.specs.declared.found.Subject.{Subject}
+use Rattle.savings.specs.declared.saving.Saving.{Saving}
+use Rattle.savings.specs.declared.saving.Subject.{Subject}
 
 -- the end of a row after so many columns
 pub whole_row : (IsEnd : (used : ℕ) → Subject → List ℕ → Type 0) (s : Saving) (used : ℕ) (old mid new : List ℕ) → mid ≡ old ++ front_text s → used ≡ length mid - length old

@@ -16,9 +16,9 @@ use Rattle.savings.specs.Carried.{times_done}
 use Rattle.savings.specs.Gains.{leave_gain, operation_gain}
 use Rattle.text_rows.specs.Rows.{AreRows}
 use Rattle.savings.specs.declared.gains.Gain.{Gain}
-use Rattle.savings.specs.declared.found.Saving.{Saving}
-use Rattle.savings.specs.declared.found.Subject.{Subject}
-use Rattle.savings.specs.declared.found.Subject.TheVariants.{Leave, Word}
+use Rattle.savings.specs.declared.saving.Saving.{Saving}
+use Rattle.savings.specs.declared.saving.Subject.{Subject}
+use Rattle.savings.specs.declared.saving.Subject.TheVariants.{Leave, Word}
 
 -- what is gained so many times; nothing where that is 0
 abbrev pub saved : Subject → (times : ℕ) → Option Gain → List Saving

@@ -14,9 +14,9 @@ use Rattle.savings.specs.Savings.{AreSavings}
 use Rattle.savings.specs.declared.classes.ClassChange.{ClassChange}
 use Rattle.savings.specs.declared.gains.Refinement.{Refinement}
 use Rattle.savings.specs.declared.gains.Refinement.TheVariants.{Addresses, Multiplier}
-use Rattle.savings.specs.declared.found.Saving.{Saving}
-use Rattle.savings.specs.declared.found.Subject.{Subject}
-use Rattle.savings.specs.declared.found.Subject.TheVariants.{Leave, Word}
+use Rattle.savings.specs.declared.saving.Saving.{Saving}
+use Rattle.savings.specs.declared.saving.Subject.{Subject}
+use Rattle.savings.specs.declared.saving.Subject.TheVariants.{Leave, Word}
 
 -- ## Rows
 

@@ -4,9 +4,9 @@
 
 mod carried;
 mod classes;
-mod found;
 mod gains;
 mod law;
+mod saving;
 mod sections;
 
 pub use law::{gains_are_of_the_prices, next_class_is_the_dearest_below, times_are_of_the_walk};

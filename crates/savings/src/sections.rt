@@ -5,11 +5,11 @@ ghost use Rattle.text_rows.specs.Rows.{AreRows};
 ghost use Rattle.savings.specs.Sections.{AreImageSavings, AreSourceSavings, IsImageEnd, IsSavingRow};
 ghost use Rattle.savings.specs.Sections.{IsSourceEnd};
 ghost use Rattle.savings.specs.Sections.{entry_text, front_text, line_row, refinement_text};
-ghost use Rattle.savings.specs.declared.found.Subject.{Subject};
+ghost use Rattle.savings.specs.declared.saving.Subject.{Subject};
 ghost use Rattle.text_rows.specs.ByAddress.{line_at};
 
-use crate::found::{Saving, Subject, savings};
 use crate::gains::Refinement;
+use crate::saving::{Saving, Subject, savings};
 use assembler::PlacedLine;
 use explained::StatedGraph;
 use longest_walk::Longest;

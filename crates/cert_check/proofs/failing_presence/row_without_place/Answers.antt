@@ -1,0 +1,17 @@
+use Rattle.std.proofs.Common.{◌∙◌, List, ap, map, subst, sym}
+use Rattle.std.specs.List.Sorted.{IsSorted}
+use Rattle.flow_graph.specs.declared.places.Place.{Place}
+use Rattle.flow_graph.specs.Places.{place_cmp}
+use Rattle.loop_bounds.proofs.Positions.{sorted}
+use Rattle.longest_walk.specs.Rows.{place_of_row}
+use Rattle.cert_check.proofs.FailingLemmas.{found_over}
+use Rattle.cert_check.proofs.failing_presence.row_without_place.Goals as goal
+
+pub first_without-requires : goal.first_without-requires
+first_without-requires c =
+    record { ascending = subst (λ (ps : List Place). IsSorted place_cmp ps) (sym c.places.ensures.value) (sorted c.args.graph.now.places c.places.ensures.well_formed.ordered) }
+
+pub returns : goal.returns
+returns c =
+    let wanted = c.deref.ensures.value ∙ c.in_ok-rows.ensures ∙ ap (map place_of_row) c.items.ensures in
+    found_over c.first_without.result c.deref.result.now c.places.result.now (map place_of_row c.args.cert.now.places) c.args.graph.now.places wanted c.places.ensures.value c.first_without.ensures

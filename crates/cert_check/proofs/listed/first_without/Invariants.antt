@@ -1,6 +1,0 @@
-use Rattle.std.proofs.Common.{ℕ, ◌<◌, get_or, Contains}
-use Rattle.flow_graph.specs.declared.places.Place.{Place}
-use Rattle.cert_check.proofs.listed.first_without.Given as goal
-
-abbrev pub invariant-loop-place : goal.invariant-loop-place
-invariant-loop-place l = (k : ℕ) (d : Place) → k < l.place-index → Contains l.given (get_or l.wanted k d)
