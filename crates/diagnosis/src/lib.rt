@@ -13,7 +13,7 @@ mod outline;
 mod repeats;
 mod rows;
 mod search;
-mod shared_header;
+mod shared_headers;
 mod sources;
 mod statements;
 mod texts;
@@ -27,7 +27,7 @@ pub use entries::{MidEntry, mid_entry};
 pub use extents::{Extent, extent_of};
 pub use law::{most_lines, plain_lines_are_seen};
 pub use nested::{DeepPlace, deep_place};
-pub use shared_header::shared_header;
+pub use shared_headers::shared_header;
 pub use sources::{FaultyLine, faulty_lines, faulty_text};
 pub use statements::statement_text;
 pub use texts::{

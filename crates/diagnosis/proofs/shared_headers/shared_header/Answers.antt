@@ -1,7 +1,7 @@
 use Rattle.std.proofs.Common.{ℕ, ◌<◌, length, arith}
 use Rattle.std.proofs.lemmas.List.{get_or_default}
 use Rattle.diagnosis.specs.SharedHeaders.{IsAlone}
-use Rattle.diagnosis.proofs.shared_header.shared_header.Goals as goal
+use Rattle.diagnosis.proofs.shared_headers.shared_header.Goals as goal
 use borrow.Author.Count.{below_more}
 
 pub returns-in-Some-clause-shared : goal.returns-in-Some-clause-shared

@@ -1,6 +1,6 @@
 use Rattle.std.proofs.Common.{ℕ, ◌<◌, length, sym, arith}
 use Rattle.diagnosis.specs.SharedHeaders.{SharesWith}
-use Rattle.diagnosis.proofs.shared_header.sharing.Goals as goal
+use Rattle.diagnosis.proofs.shared_headers.sharing.Goals as goal
 use borrow.Author.Count.{below_more}
 
 pub loop-other-preserved : goal.loop-other-preserved
