@@ -1,6 +1,7 @@
 ghost use Rattle.std.specs.Prelude.{◌≡◌, ◌<◌, ◌≤◌, length, map, All, option_map};
 ghost use Rattle.bus_ticks.specs.declared.space.TheConstants.{SPACE_END};
 ghost use Rattle.statement.specs.Stated.{IsLoop, IsStated, class_at, target_of};
+ghost use Rattle.statement.specs.declared.reading.TheConstants.{MOST_LOOPS};
 
 use bus_ticks::Class;
 use indexmap::IndexMap;
@@ -107,7 +108,7 @@ impl Statement {
     pub fn loops(&self) -> &[Loop]
         ensures value { result.now ≡ self.now.loops }
         ensures within { All IsLoop result.now }
-        ensures few { length result.now ≤ 256 }
+        ensures few { length result.now ≤ MOST_LOOPS }
     {
         &self.loops
     }
