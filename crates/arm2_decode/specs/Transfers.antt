@@ -19,6 +19,7 @@ asks_for_user before write_back = write_back && not before
 abbrev pub is_listed : (list : ℕ) → Register → Bool
 is_listed list register = bit_of_word list (register_number register)
 
+-- the sixteen registers, the lowest first
 unfoldable pub all_registers : List Register
 all_registers = R0 ∷ R1 ∷ R2 ∷ R3 ∷ R4 ∷ R5 ∷ R6 ∷ R7 ∷ R8 ∷ R9 ∷ R10 ∷ R11 ∷ R12 ∷ R13 ∷ R14 ∷ R15 ∷ []
 

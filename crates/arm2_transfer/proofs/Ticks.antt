@@ -26,28 +26,28 @@ ticks_of-words_at prices store address (suc k) =
     omega (arith, split, rounded, ticks_of-words_at prices store address k)
 
 -- what a load costs, where it jumps and where it does not
-pub load_ticks-jumps : (prices : Prices) (a address k t : ℕ) →
+pub end_of_load-jumps : (prices : Prices) (a address k t : ℕ) →
     ticks_of prices (load_accesses a address k true t)
     ≡ ticks_of prices (straight a) + transfer prices.profile prices.rom false address k + (ticks_of prices (Internal 1 ∷ []) + ticks_of prices (refill t))
-load_ticks-jumps prices a address k t =
+end_of_load-jumps prices a address k t =
     let all = ticks_of-append prices (straight a ++ words_at false address k) (Internal 1 ∷ refill t) in
     let first = ticks_of-append prices (straight a) (words_at false address k) in
     let last = ticks_of-append prices (Internal 1 ∷ []) (refill t) in
     omega (arith, all, first, last, ticks_of-words_at prices false address k)
 
-pub load_ticks-passes : (prices : Prices) (a address k t : ℕ) →
+pub end_of_load-passes : (prices : Prices) (a address k t : ℕ) →
     ticks_of prices (load_accesses a address k false t)
     ≡ ticks_of prices (straight a) + transfer prices.profile prices.rom false address k + ticks_of prices (Internal 1 ∷ [])
-load_ticks-passes prices a address k t =
+end_of_load-passes prices a address k t =
     let all = ticks_of-append prices (straight a ++ words_at false address k) (Internal 1 ∷ []) in
     let first = ticks_of-append prices (straight a) (words_at false address k) in
     omega (arith, all, first, ticks_of-words_at prices false address k)
 
 -- what a store costs
-pub store_ticks-are : (prices : Prices) (a next address k fetch words : ℕ) →
+pub end_of_store-are : (prices : Prices) (a next address k fetch words : ℕ) →
     next ≡ ahead_of a 8 → fetch ≡ fetch_n prices.profile prices.rom next → words ≡ transfer prices.profile prices.rom true address k →
     fetch + words ≡ ticks_of prices (store_accesses a address k)
-store_ticks-are prices a next address k fetch words ahead fetched moved =
+end_of_store-are prices a next address k fetch words ahead fetched moved =
     let all = ticks_of-append prices (FetchN (ahead_of a 8) ∷ []) (words_at true address k) in
     let price : fetch ≡ fetch_n prices.profile prices.rom (ahead_of a 8) = fetched ∙ ap (λ (x : ℕ). fetch_n prices.profile prices.rom x) ahead in
     omega (arith, all, price, moved, ticks_of-words_at prices true address k)

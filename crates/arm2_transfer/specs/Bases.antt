@@ -65,7 +65,7 @@ pub record SingleBase (x : Single) (port : ℕ) (regs : List ℕ) (bus : Bus) (m
 
 -- ## Blocks
 
--- the base moved by as many words as there are
+-- the base moved by as many words as the block moves
 abbrev pub base_moved : Block → List ℕ → ℕ
 base_moved x regs = moved_by x.up (current_in x.rn regs) (4 * word_count x.list)
 

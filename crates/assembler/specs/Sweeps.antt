@@ -110,6 +110,7 @@ placed s k p =
 abbrev pub closed_state : State → State
 closed_state s = record s { closed = closed_with s.start s.at s.closed }
 
+-- after ORG: the segment before is closed, and none is begun
 abbrev pub org_state : State → ℕ → State
 org_state s n = record (closed_state s) { at = n; start = None }
 

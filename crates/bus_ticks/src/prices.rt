@@ -5,7 +5,8 @@ ghost use Rattle.bus_ticks.specs.Prices.{word_price, transfer};
 use crate::profile::{Class, Profile, RomTimes};
 use crate::space::{HIGH_ROM_START, IO_START, ROM_START, SPACE_END, word_address};
 
-// Whether an address is in RAM. Prices compare: with a match on the class, a step takes 20 instructions more.
+// Whether an address is in RAM. Prices compare addresses: with a match on the class, a step takes some 20
+// instructions more.
 #[inline(always)]
 fn is_ram(address: u32) -> bool
     ensures { result ≡ nat_lt address IO_START }
@@ -153,7 +154,7 @@ fn word_price(profile: &Profile, address: u32, first: bool, store: bool, rom: Ro
 // A transfer, word by word.
 #[tactic(auto, unfolding(crate::specs::Prices::transfer))]
 #[inline(never)]
-fn word_prices(profile: &Profile, address: u32, words: u32, store: bool, rom: RomTimes) -> u32
+fn transfer_by_words(profile: &Profile, address: u32, words: u32, store: bool, rom: RomTimes) -> u32
     requires in_space { address < SPACE_END }
     requires few { words ≤ 16 }
     ensures price { result ≡ transfer profile.now rom store address words }
@@ -182,5 +183,5 @@ pub fn transfer(profile: &Profile, address: u32, words: u32, store: bool, rom: R
     if words == 1 {
         return word_price(profile, word_address(address, 0), true, store, rom);
     }
-    word_prices(profile, address, words, store, rom)
+    transfer_by_words(profile, address, words, store, rom)
 }

@@ -14,7 +14,7 @@ use Rattle.bus_ticks.proofs.WorstLemmas.{worst_transfer_greatest}
 use Rattle.arm2_effect.specs.declared.prices.Prices.{Prices}
 use Rattle.arm2_effect.specs.Effects.{Access, FetchN, FetchS, Internal, Word, straight, refill, ticks_of}
 use Rattle.arm2_effect.specs.ProgramCounter.{branch_target}
-use Rattle.arm2_transfer.proofs.Ticks.{load_ticks-jumps, load_ticks-passes, ticks_of-append, ticks_of-words_at}
+use Rattle.arm2_transfer.proofs.Ticks.{end_of_load-jumps, end_of_load-passes, ticks_of-append, ticks_of-words_at}
 use Rattle.arm2_transfer.specs.Moved.{load_accesses, store_accesses, words_at}
 use Rattle.flow_graph.specs.Edges.{fetch_ticks, passing_ticks, work_ticks}
 use Rattle.flow_graph.specs.Kinds.{writer_if}
@@ -114,11 +114,11 @@ module _ (p : Profile) (rom : RomTimes) (class : Class) (a : ℕ) where
   pub load_costs : (address k : ℕ) (jumps : Bool) (t : ℕ) → 1 ≤ k → k ≤ 16 → IsBlockOf class k (record { address = address; rom = rom }) → (jumps ≡ false → t ≡ ahead_of a 4) → Costs (writer_if jumps) (work.Load k) (load_accesses a address k jumps t) t
   load_costs address k true t some few of_class to = record {
     reaches = tt;
-    most = omega (arith, load_ticks-jumps prices a address k t, s_most (ahead_of a 8), block_most address k false some few of_class);
+    most = omega (arith, end_of_load-jumps prices a address k t, s_most (ahead_of a 8), block_most address k false some few of_class);
   }
   load_costs address k false t some few of_class to = record {
     reaches = to refl;
-    most = omega (arith, load_ticks-passes prices a address k t, s_most (ahead_of a 8), block_most address k false some few of_class);
+    most = omega (arith, end_of_load-passes prices a address k t, s_most (ahead_of a 8), block_most address k false some few of_class);
   }
 
   pub store_costs : (address k t : ℕ) → 1 ≤ k → k ≤ 16 → IsBlockOf class k (record { address = address; rom = rom }) → t ≡ ahead_of a 4 → Costs kind.Plain (work.Store k) (store_accesses a address k) t

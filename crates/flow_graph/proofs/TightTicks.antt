@@ -12,7 +12,7 @@ use Rattle.bus_ticks.specs.Worst.{IsOf, worst_transfer, worst_fetch_n, worst_fet
 use Rattle.arm2_effect.specs.declared.prices.Prices.{Prices}
 use Rattle.arm2_effect.specs.Effects.{Access, FetchN, FetchS, Internal, Word, straight, refill, onward}
 use Rattle.arm2_effect.specs.Effects.{ticks_of}
-use Rattle.arm2_transfer.proofs.Ticks.{load_ticks-jumps, load_ticks-passes, ticks_of-append}
+use Rattle.arm2_transfer.proofs.Ticks.{end_of_load-jumps, end_of_load-passes, ticks_of-append}
 use Rattle.arm2_transfer.proofs.Ticks.{ticks_of-words_at}
 use Rattle.arm2_transfer.specs.Moved.{load_accesses, store_accesses, words_at}
 use Rattle.flow_graph.specs.Edges.{fetch_ticks, passing_ticks, work_ticks}
@@ -123,13 +123,13 @@ module _ (p : Profile) (rom : RomTimes) (class : Class) (a : ℕ) (dear : AreDea
     in_class = load_in class a x k true t block.of_class.each;
     exact =
         let price : transfer p rom false x k ≡ worst_transfer p class k false = block.price in
-        omega (arith, load_ticks-jumps prices a x k t, s_worst (ahead_of a 8), price);
+        omega (arith, end_of_load-jumps prices a x k t, s_worst (ahead_of a 8), price);
   }
   load_pays x k false t block = record {
     in_class = load_in class a x k false t block.of_class.each;
     exact =
         let price : transfer p rom false x k ≡ worst_transfer p class k false = block.price in
-        omega (arith, load_ticks-passes prices a x k t, s_worst (ahead_of a 8), price);
+        omega (arith, end_of_load-passes prices a x k t, s_worst (ahead_of a 8), price);
   }
 
   pub store_pays : (x k t : ℕ) → AreDear p rom class k x true

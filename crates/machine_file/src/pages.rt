@@ -85,7 +85,7 @@ impl Entry<(), MachineFileFault> for MappedPage {
     }
 }
 
-/// Whether pages of this size can be mapped so, each.
+/// Whether each of these pages, of this size, can be mapped.
 pub(crate) fn are_mappable(size: PageSize, pages: &[MappedPage]) -> bool
     ensures { result ≡ list_all (is_mappable (shift_of_size size)) pages.now }
 {

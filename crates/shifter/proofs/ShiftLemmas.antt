@@ -222,24 +222,28 @@ greatest_cycles = refl
 
 -- m is the table's row for a number
 record IsRow (number m : ℕ) : Type 0 where
+  some : 1 ≤ m
   below : m < 16 → number < 2 ^ (2 * m - 1)
   from : 2 ≤ m → 2 ^ (2 * m - 3) ≤ number
 
 row_by : (left first number : ℕ) → left + first ≡ 16 → 1 ≤ first → (2 ≤ first → 2 ^ (2 * first - 3) ≤ number) → IsRow number (cycles_from left first number)
 unfolding cycles_from
-row_by zero first number all some from = record { below = λ h. absurd (omega arith); from = from }
+row_by zero first number all some from = record { some = some; below = λ h. absurd (omega arith); from = from }
 row_by (suc left) first number all some from =
     test (λ next. row_by left (first + 1) number (omega arith) (omega arith) next) (ltb number (2 ^ (2 * first - 1))) refl
   where
     test : ((2 ≤ first + 1 → 2 ^ (2 * (first + 1) - 3) ≤ number) → IsRow number (cycles_from left (first + 1) number)) → (b : Bool)
         → ltb number (2 ^ (2 * first - 1)) ≡ b → IsRow number (cond b first (cycles_from left (first + 1) number))
-    test rest true is = record { below = λ _. ltb-true number _ is; from = from }
+    test rest true is = record { some = some; below = λ _. ltb-true number _ is; from = from }
     test rest false is =
         let same : 2 * (first + 1) - 3 ≡ 2 * first - 1 = omega arith in
         rest (λ h. rw same (ltb-false number _ is))
 
 row_of : (number : ℕ) → IsRow number (multiply_cycles number)
 row_of number = row_by 15 1 number refl (omega arith) (λ h. absurd (omega arith))
+
+pub some_cycles : (number : ℕ) → 1 ≤ multiply_cycles number
+some_cycles number = (row_of number).some
 
 pub cycles_below : (number : ℕ) → multiply_cycles number < 16 → number < 2 ^ (2 * multiply_cycles number - 1)
 cycles_below number = (row_of number).below

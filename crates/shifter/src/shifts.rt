@@ -143,6 +143,7 @@ pub fn rotate_imm(imm8: u32, rotation: u32, carry: bool) -> Shifted
 /// in each.
 pub fn multiply_cycles(number: u32) -> u32
     ensures cycles { result ≡ multiply_cycles number }
+    ensures some { 1 ≤ result }
     ensures few { result ≤ MOST_MULTIPLY_CYCLES }
 {
     let significant = 32 - number.leading_zeros();

@@ -17,7 +17,7 @@ use Rattle.toml_reading.proofs.TwiceLemmas.{keys_not_distinct}
 use Rattle.statement.specs.StatementRules.{AccessFault, AddressFault, HasAccess, HasFault, HasParts, HasTarget, HasTwo, IsAddress, IsAt, IsSingle, LoopFault, PartsFault, RequiredFault, States, StatesAccess, StatesLoop, StatesTarget, TargetFault}
 use Rattle.statement.specs.Stated.{Stated}
 use Rattle.loader.specs.Labels.{Names}
-use Rattle.statement.specs.Statement.{Parts, access_at, access_keys, class_word, leave_in, loop_at, named_class, parts_of, statement_keys, statement_of, target_at, target_keys, stated_once}
+use Rattle.statement.specs.Statement.{Parts, access_at, access_keys, class_named_at, leave_in, loop_at, named_class, parts_of, statement_keys, statement_of, target_at, target_keys, stated_once}
 use Rattle.statement.specs.StatementFaults.{number_of, statement_faults}
 use Rattle.statement.specs.declared.faults.StatementFault.{StatementFault}
 use Rattle.statement.specs.declared.faults.StatementFault.TheVariants.{Memory, NotToml, UnknownKey, WrongKind, UnknownLabel, OutOfRange, Twice}
@@ -46,7 +46,7 @@ leave_judged ms =
     statement_faults
     (IsNamed named_class)
     (NameFault statement_faults named_class)
-    class_word
+    class_named_at
     (named_judged statement_faults named_class)
     Any
     (get_member (codes "leave") ms)

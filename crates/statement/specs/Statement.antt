@@ -59,8 +59,9 @@ named_kind w = if bytes_eq w (codes "jump") then Some Jump else (if bytes_eq w (
     (if bytes_eq w (codes "return") then Some Return
     else (if bytes_eq w (codes "leave") then Some Leave else None)))
 
-abbrev pub class_word : Data → Read Class
-class_word d = name_at statement_faults named_class d
+-- the class that a value names
+abbrev pub class_named_at : Data → Read Class
+class_named_at d = name_at statement_faults named_class d
 
 abbrev pub kind_at : Data → Read TargetKind
 kind_at d = name_at statement_faults named_kind d
@@ -92,16 +93,17 @@ abbrev pub kind_in : Members → Read TargetKind
 kind_in ms = required statement_faults (get_member (codes "kind") ms) kind_at
 
 abbrev pub class_in : Members → Read Class
-class_in ms = required statement_faults (get_member (codes "class") ms) class_word
+class_in ms = required statement_faults (get_member (codes "class") ms) class_named_at
 
 -- the class to leave to: any where the key is missing
 abbrev pub leave_in : Members → Read Class
-leave_in ms = optional Any (get_member (codes "leave") ms) class_word
+leave_in ms = optional Any (get_member (codes "leave") ms) class_named_at
 
 -- the entry and the class to leave to, the loops, the targets and the accesses
 abbrev pub Parts : Type 0
 Parts = ((ℕ × Class) × List Loop) × (List (ℕ × Target) × List (ℕ × Class))
 
+-- what the parts state
 abbrev pub stated_by : Parts → Stated
 stated_by p =
     record { entry = p.0.0.0; leave = p.0.0.1; loops = p.0.1; targets = p.1.0; accesses = p.1.1 }

@@ -3,7 +3,7 @@ ghost use Rattle.toml.specs.View.{table_view, view};
 ghost use Rattle.loader.specs.Labels.{address_of};
 ghost use Rattle.toml_reading.specs.Documents.{once};
 ghost use Rattle.toml_reading.specs.Readings.{and_then, items_in};
-ghost use Rattle.statement.specs.Statement.{access_at, access_in, address_at, address_in, class_word};
+ghost use Rattle.statement.specs.Statement.{access_at, access_in, address_at, address_in, class_named_at};
 ghost use Rattle.statement.specs.Statement.{class_in, class_name};
 ghost use Rattle.statement.specs.Statement.{destinations, destinations_at, directed, kind_at, kind_in};
 ghost use Rattle.statement.specs.Statement.{labelled, loop_at, loop_in, loop_parts, named_class, named_kind};
@@ -145,9 +145,9 @@ pub fn named_class(word: &[u8]) -> Option<Class>
     None
 }
 
-/// A class's word.
-pub(crate) fn class_word(value: &Value) -> Read<Class>
-    ensures { result ≡ class_word (view value.now) }
+/// The class that a value names.
+pub(crate) fn class_named_at(value: &Value) -> Read<Class>
+    ensures { result ≡ class_named_at (view value.now) }
 {
     let word = value.as_str().map(str::as_bytes);
     required(word.and_then(named_class), Ok)
@@ -156,7 +156,7 @@ pub(crate) fn class_word(value: &Value) -> Read<Class>
 fn class_in(table: &Table) -> Read<Class>
     ensures { result ≡ class_in (table_view table.now) }
 {
-    required(value_at(table, "class"), class_word)
+    required(value_at(table, "class"), class_named_at)
 }
 
 fn access_in(labels: &Labels, table: &Table) -> Read<(u32, Class)>

@@ -7,7 +7,7 @@ ghost use Rattle.statement.specs.Stated.{IsStated};
 ghost use Rattle.statement.specs.Statement.{IsStatement, ends_in, leave_in, parts_of, stated_by, stated_once};
 ghost use Rattle.statement.specs.Statement.{statement_of};
 
-use crate::entries::{address_in, class_word};
+use crate::entries::{address_in, class_named_at};
 use crate::faults::{Read, StatementFault};
 use crate::stated::{Loop, Statement, Target};
 use bus_ticks::Class;
@@ -32,7 +32,7 @@ pub const MOST_ACCESSES: usize = 4096;
 fn leave_in(table: &Table) -> Read<Class>
     ensures { result ≡ leave_in (table_view table.now) }
 {
-    value_at(table, "leave").map_or(Ok(Class::Any), class_word)
+    value_at(table, "leave").map_or(Ok(Class::Any), class_named_at)
 }
 
 // The entry, and the class to leave to.

@@ -30,7 +30,7 @@ abbrev pub and_then : {F A B : Type 0} → Reading F A → (A → Reading F B) �
 and_then (Ok a) f = f a
 and_then (Err g) f = Err g
 
--- a function of what is read
+-- what is read, after a function
 abbrev pub reading_map : {F A B : Type 0} → (A → B) → Reading F A → Reading F B
 reading_map f (Ok a) = Ok (f a)
 reading_map f (Err g) = Err g

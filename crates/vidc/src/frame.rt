@@ -5,11 +5,11 @@ ghost use Rattle.vidc.specs.Frame.{arrivals, position_after};
 ghost use Rattle.vidc.specs.Video.{raster_of};
 
 use crate::PixelRate;
-use crate::timing::TEN_BITS;
+use crate::timing::VALUE_LIMIT;
 
 /// What a raster takes.
 pub(crate) fn raster_of(horizontal_cycle: u32, rate: PixelRate) -> u32
-    requires { horizontal_cycle < TEN_BITS }
+    requires { horizontal_cycle < VALUE_LIMIT }
     ensures raster { result ≡ raster_of horizontal_cycle rate }
     ensures least { 4 ≤ result }
     ensures most { result ≤ 0x3000 }
@@ -26,7 +26,7 @@ pub(crate) fn raster_of(horizontal_cycle: u32, rate: PixelRate) -> u32
 /// What so many rasters take.
 pub(crate) fn rasters(raster: u32, count: u32) -> u32
     requires raster { raster ≤ 0x3000 }
-    requires count { count ≤ TEN_BITS }
+    requires count { count ≤ VALUE_LIMIT }
     ensures product { result ≡ raster * count }
     ensures below { result < 2 ^ 26 }
 {

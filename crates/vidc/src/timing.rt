@@ -1,12 +1,12 @@
 ghost use Rattle.std.specs.Prelude.{◌≡◌, ◌≤◌, ◌<◌, ◌+◌, ◌*◌, ◌^◌};
 ghost use Rattle.vidc.specs.Video.{raster_of};
-ghost use Rattle.vidc.specs.declared.timing.TheConstants.{TEN_BITS};
+ghost use Rattle.vidc.specs.declared.timing.TheConstants.{VALUE_LIMIT};
 
 use crate::PixelRate;
 use crate::frame::{raster_of, rasters};
 
 /// A register's value of ten bits is below it.
-pub(crate) const TEN_BITS: u32 = 0x400;
+pub(crate) const VALUE_LIMIT: u32 = 0x400;
 
 /// The registers that make the frame, and the times that follow from them, which each step asks for: in
 /// sixths of a tick.
@@ -22,9 +22,9 @@ pub struct Timing {
     pub(crate) frame: u32,
     // Where flyback rises.
     pub(crate) flyback: u32,
-    ghost horizontal_below: { horizontal_cycle < TEN_BITS },
-    ghost vertical_below: { vertical_cycle < TEN_BITS },
-    ghost display_end_below: { display_end < TEN_BITS },
+    ghost horizontal_below: { horizontal_cycle < VALUE_LIMIT },
+    ghost vertical_below: { vertical_cycle < VALUE_LIMIT },
+    ghost display_end_below: { display_end < VALUE_LIMIT },
     ghost raster_is: { raster ≡ raster_of horizontal_cycle rate },
     ghost some: { 4 ≤ raster },
     ghost frame_is: { frame ≡ raster * (vertical_cycle + 1) },
@@ -40,9 +40,9 @@ impl Timing {
         display_end: u32,
         rate: PixelRate,
     ) -> Timing
-        requires horizontal { horizontal_cycle < TEN_BITS }
-        requires vertical { vertical_cycle < TEN_BITS }
-        requires display { display_end < TEN_BITS }
+        requires horizontal { horizontal_cycle < VALUE_LIMIT }
+        requires vertical { vertical_cycle < VALUE_LIMIT }
+        requires display { display_end < VALUE_LIMIT }
         ensures horizontal { result.horizontal_cycle ≡ horizontal_cycle }
         ensures vertical { result.vertical_cycle ≡ vertical_cycle }
         ensures display { result.display_end ≡ display_end }

@@ -7,5 +7,5 @@
 mod law;
 mod limits;
 
-pub use law::loop_limits;
+pub use law::walk_limits;
 pub use limits::{COST_LIMIT, MOST_INSTANCES, MOST_ROUNDS};

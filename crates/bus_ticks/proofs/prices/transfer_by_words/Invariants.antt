@@ -1,6 +1,6 @@
 use Rattle.std.proofs.Common.{◌≡◌, ◌*◌, ◌≤◌}
 use Rattle.bus_ticks.specs.Prices.{transfer}
-use Rattle.bus_ticks.proofs.prices.word_prices.Given as goal
+use Rattle.bus_ticks.proofs.prices.transfer_by_words.Given as goal
 
 abbrev pub invariant-loop-i : goal.invariant-loop-i
 invariant-loop-i l = (l.ticks ≡ transfer l.fn.profile l.rom l.store l.address l.i) × (l.ticks ≤ 255 * l.i)

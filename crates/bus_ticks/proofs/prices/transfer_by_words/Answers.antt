@@ -1,6 +1,6 @@
 use Rattle.std.proofs.Common.{◌≡◌, suc, ◌+◌, refl, arith}
 use Rattle.bus_ticks.specs.Prices.{transfer}
-use Rattle.bus_ticks.proofs.prices.word_prices.Goals as goal
+use Rattle.bus_ticks.proofs.prices.transfer_by_words.Goals as goal
 
 -- src/prices.rt:126:5
 pub loop-i-preserved : goal.loop-i-preserved
