@@ -10,8 +10,8 @@ pub fn multiply_limit()
     ensures reached { multiply_cycles 0xFFFFFFFF ≡ MOST_MULTIPLY_CYCLES }
 {}
 
-/// States the table of a multiply's cycles: m of them, at least 1, for a number below 2 ^ (2m - 1), if they are
-/// not the most, and from 2 ^ (2m - 3) on, if they are 2 or more. It does nothing.
+/// States the table of a multiply's cycles: m of them, at least 1, for a number below 2 ^ (2m - 1), if they
+/// are not the most, and from 2 ^ (2m - 3) on, if they are 2 or more. It does nothing.
 pub fn multiply_table()
     ensures some { (number : ℕ) → 1 ≤ multiply_cycles number }
     ensures below { (number : ℕ) → multiply_cycles number < MOST_MULTIPLY_CYCLES
