@@ -8,7 +8,7 @@ use Rattle.arm2_exec.specs.declared.machine.Ran.{Ran}
 use Rattle.arm2_exec.specs.declared.machine.Stepped.{Stepped}
 use Rattle.arm2_exec.specs.State.{State}
 use Rattle.arm2_exec.specs.Step.{Step}
-use Rattle.arm2_exec.specs.Run.{Ends, Runs, at_rest, counted, further, why_stopped}
+use Rattle.arm2_exec.specs.Run.{Ends, Runs, at_rest, counted, with_one_step, why_stopped}
 use Rattle.arm2_exec.proofs.StepLemmas.{stopped_same, stops}
 
 -- what has run, before what is left
@@ -58,7 +58,7 @@ at_stop start inputs ran now after left rest i stepped w so_far next step is =
 -- the step at hand went on
 pub more_steps : (start : State) (inputs : List Input) (ran : Ran) (now next : State) (left rest : List Input) (i : Input) (stepped : Stepped) → SoFar start inputs ran now left → left ≡ i ∷ rest
     → Step now i stepped next → ((w : Why) → stepped.kind ≡ Stopped w → ⊥)
-    → SoFar start inputs (further now.profile.burst i stepped ran) next rest
+    → SoFar start inputs (with_one_step now.profile.burst i stepped ran) next rest
 more_steps start inputs ran now next left rest i stepped so_far at_hand step not_stopped = λ more after runs.
     let here : Runs now (i ∷ rest) (counted now.profile.burst i stepped more) after =
     (stepped, next, step, ends_none stepped.kind now after (counted now.profile.burst i stepped more) ((m : Ran) × Runs next rest m after × (counted now.profile.burst i stepped more ≡ counted now.profile.burst i stepped m)) not_stopped (more, runs, refl)) in

@@ -30,8 +30,8 @@ counted burst i stepped rest =
     }
 
 -- one step after others: its ticks, and those that pass with its bursts
-abbrev pub further : (burst : ℕ) → Input → Stepped → Ran → Ran
-further burst i stepped ran =
+abbrev pub with_one_step : (burst : ℕ) → Input → Stepped → Ran → Ran
+with_one_step burst i stepped ran =
     record {
       steps = ran.steps + 1;
       ticks = ran.ticks + stepped.ticks;

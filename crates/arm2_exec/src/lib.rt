@@ -8,7 +8,7 @@
 mod decoded;
 mod law;
 mod machine;
-mod work;
+mod step_work;
 
 pub use arm2_effect::{Kind, Reg, Vector, Why};
 pub use law::{exceptions_keep_the_rest, fiq_costs_its_entry};

@@ -4,13 +4,13 @@ ghost use Rattle.memc.specs.Memory.{shift_of_size};
 ghost use Rattle.arm2_effect.specs.Modes.{r15_in};
 ghost use Rattle.arm2_exec.specs.State.{IsReset, register_of, reset_r15, with_register_of};
 ghost use Rattle.arm2_exec.specs.Step.{Step, address_in, fetched, traced_word};
-ghost use Rattle.arm2_exec.specs.Run.{IsWithin, Runs, at_rest, further};
+ghost use Rattle.arm2_exec.specs.Run.{IsWithin, Runs, at_rest, with_one_step};
 ghost use Rattle.arm2_exec.specs.Lent.{LendsIoc, LendsMemc, LendsVidc};
 ghost use Rattle.arm2_effect.specs.declared.modes.Reg.TheVariants.{R15};
 ghost use Rattle.arm2_exec.specs.declared.machine.MachineFault.TheVariants.{Memory};
 
 use crate::decoded::Decoded;
-use crate::work::{elapse, fetched, work};
+use crate::step_work::{elapse, fetched, work};
 use arm2_effect::{Kind, Mode, Prices, Reg, Registers, Why, address_of, r15_of};
 use arm2_transfer::{Bus, Inputs};
 use bus_ticks::{Profile, SPACE_END};
@@ -107,7 +107,7 @@ impl Ran {
     pub fn count(&mut self, profile: &Profile, input: Input, stepped: Stepped)
         requires within { IsWithin (2 ^ 63) self.old }
         requires small { stepped.ticks < 2 ^ 16 }
-        ensures step { self.new ≡ further profile.now.burst input stepped self.old }
+        ensures step { self.new ≡ with_one_step profile.now.burst input stepped self.old }
         ensures bound { (made : ℕ) → IsWithin made self.old → IsWithin (made + 1) self.new }
     {
         let ticks = u128::from(stepped.ticks);

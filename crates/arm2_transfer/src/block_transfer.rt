@@ -13,7 +13,7 @@ ghost use Rattle.arm2_transfer.specs.Block.{span_of, written_back};
 use crate::addresses::{lowest_of, moved_by};
 use crate::bus::{Bus, put, seen};
 use crate::inputs::Inputs;
-use crate::moved::{Accesses, end_of_load, end_of_store, refuse};
+use crate::transfer_ends::{Accesses, end_of_load, end_of_store, refuse};
 use crate::registers::{Loading, enter, given, pass, write_base};
 use crate::run::{load_along, put_along};
 use crate::span::Span;

@@ -12,7 +12,7 @@ mod block_transfer;
 mod bus;
 mod inputs;
 mod law;
-mod moved;
+mod transfer_ends;
 mod operations;
 mod registers;
 mod run;

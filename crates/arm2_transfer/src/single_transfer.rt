@@ -7,7 +7,7 @@ ghost use Rattle.arm2_transfer.specs.Single.{of_register};
 
 use crate::bus::{Bus, made_of, put_single, seen};
 use crate::inputs::Inputs;
-use crate::moved::{Accesses, end_of_load, end_of_store, refuse};
+use crate::transfer_ends::{Accesses, end_of_load, end_of_store, refuse};
 use crate::registers::{Loading, enter, given};
 use crate::single_fields::Single;
 use crate::words::locate_word;

@@ -4,7 +4,7 @@ use Rattle.arm2_effect.specs.declared.step_end.Kind.TheVariants.{Stopped}
 use Rattle.arm2_effect.specs.declared.step_end.Why.{Why}
 use Rattle.arm2_exec.specs.declared.machine.Input.{Input}
 use Rattle.arm2_exec.specs.declared.machine.Ran.{Ran}
-use Rattle.arm2_exec.specs.Run.{further}
+use Rattle.arm2_exec.specs.Run.{with_one_step}
 use Rattle.arm2_exec.specs.State.{State}
 use Rattle.arm2_exec.specs.Step.{Step}
 use Rattle.arm2_exec.specs.declared.machine.Traced.{Traced}
@@ -24,4 +24,4 @@ Stops s i ran sum after =
 abbrev pub Counts : State → Input → (ran : Ran) → Traced → (sum : Ran) → State → Type 0
 Counts s i ran traced sum next =
     Makes s i traced next × ((why : Why) → traced.stepped.kind ≢ Stopped why)
-    × (sum ≡ further s.profile.burst i traced.stepped ran)
+    × (sum ≡ with_one_step s.profile.burst i traced.stepped ran)

@@ -2,7 +2,7 @@
 //! to it.
 
 ghost use Rattle.std.specs.Prelude.{◌≡◌, ◌+◌, ◌<◌, ◌^◌, ℕ, None, Some};
-ghost use Rattle.arm2_exec.specs.Run.{IsWithin, at_rest, further};
+ghost use Rattle.arm2_exec.specs.Run.{IsWithin, at_rest, with_one_step};
 
 use arm2_exec::{Input, Machine, Ran, Stepped, Why};
 use std::marker::Model;
@@ -71,7 +71,7 @@ impl Tally {
     pub(crate) fn count(&mut self, machine: &Machine, input: Input, stepped: Stepped)
         requires within { IsWithin (2 ^ 32) self.old }
         requires small { stepped.ticks < 2 ^ 16 }
-        ensures step { self.new ≡ further machine.now.profile.burst input stepped self.old }
+        ensures step { self.new ≡ with_one_step machine.now.profile.burst input stepped self.old }
         ensures bound { (made : ℕ) → IsWithin made self.old → IsWithin (made + 1) self.new }
     {
         self.steps += 1;

@@ -12,7 +12,7 @@ use Rattle.memc.specs.Memory.{Memory, located}
 use Rattle.memc.specs.declared.spots.Spot.TheVariants as spot
 use Rattle.ioc.specs.Registers.{is_register}
 use Rattle.flow_graph.specs.Setting.{IsDataOf, IsSource, MayStart}
-use Rattle.flow_graph.specs.declared.setting.Aim.{Aim}
+use Rattle.flow_graph.specs.declared.tight_setting.Aim.{Aim}
 
 -- ## Where accesses of a privileged mode go
 

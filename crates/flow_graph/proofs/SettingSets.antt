@@ -12,7 +12,7 @@ use Rattle.memc.specs.declared.spots.Spot.{Spot}
 use Rattle.memc.specs.declared.spots.Spot.TheVariants as spot
 use Rattle.shifter.specs.declared.shifts.Shifted.{Shifted}
 use Rattle.arm2_decode.proofs.Listed.{some_words}
-use Rattle.shifter.specs.Shifts.{Has, by_register, moved, multiply_cycles}
+use Rattle.shifter.specs.Shifts.{Has, by_register, by_nonzero, multiply_cycles}
 use Rattle.shifter.proofs.ShiftLemmas.{greatest_cycles}
 use Rattle.shifter.specs.Word.{word_bits}
 use Rattle.arm2_decode.specs.Allowed.{bit_of}
@@ -49,9 +49,9 @@ use Rattle.flow_graph.specs.Free.{adds_an_immediate, copies_a_register, is_add_o
 use Rattle.flow_graph.specs.Setting.{HasSetting, IsData, IsDataOf, IsMemory, IsPort, IsSource, MayStart, Sets, of_register, rotated, transfer_setting, with_source}
 use Rattle.flow_graph.specs.TightWork.{IsDearestTarget, TransfersDearest}
 use Rattle.flow_graph.specs.declared.places.Place.{Place}
-use Rattle.flow_graph.specs.declared.setting.Aim.{Aim}
-use Rattle.flow_graph.specs.declared.setting.Held.{Held}
-use Rattle.flow_graph.specs.declared.setting.Setting.{Setting}
+use Rattle.flow_graph.specs.declared.tight_setting.Aim.{Aim}
+use Rattle.flow_graph.specs.declared.tight_setting.Held.{Held}
+use Rattle.flow_graph.specs.declared.tight_setting.Setting.{Setting}
 use Rattle.statement.specs.Stated.{Stated, class_at}
 use Rattle.flow_graph.proofs.SettingLemmas.{next_word}
 
@@ -303,8 +303,8 @@ multiply_sets aim x = record {
 value_same : (x : DataImmediate) (c d : Bool) → (rotated x c).value ≡ (rotated x d).value
 value_same x c d = by_amount (2 * x.rotation == 0)
   where
-    by_amount : (b : Bool) → (shifted_of (cond b (record { bits = word_bits x.value; carry = c }) (moved Ror (2 * x.rotation) (word_bits x.value)))).value
-        ≡ (shifted_of (cond b (record { bits = word_bits x.value; carry = d }) (moved Ror (2 * x.rotation) (word_bits x.value)))).value
+    by_amount : (b : Bool) → (shifted_of (cond b (record { bits = word_bits x.value; carry = c }) (by_nonzero Ror (2 * x.rotation) (word_bits x.value)))).value
+        ≡ (shifted_of (cond b (record { bits = word_bits x.value; carry = d }) (by_nonzero Ror (2 * x.rotation) (word_bits x.value)))).value
     by_amount true = refl
     by_amount false = refl
 

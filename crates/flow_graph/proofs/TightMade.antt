@@ -48,7 +48,7 @@ use Rattle.flow_graph.specs.TightWork.{FetchesAt, masked}
 use Rattle.flow_graph.specs.declared.edges.Edge.{Edge}
 use Rattle.flow_graph.specs.declared.places.Place.{Place}
 use Rattle.flow_graph.specs.declared.places.Place.TheVariants.{At, Exit}
-use Rattle.flow_graph.specs.declared.setting.Held.{Held}
+use Rattle.flow_graph.specs.declared.tight_setting.Held.{Held}
 use Rattle.flow_graph.specs.declared.tight.SetUp.{SetUp}
 use Rattle.flow_graph.specs.declared.tight.TightFault.{TightFault}
 use Rattle.flow_graph.specs.declared.tight.TightFault.TheVariants.{Memory, NotFree}

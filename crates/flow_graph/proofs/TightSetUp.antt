@@ -30,8 +30,8 @@ use Rattle.flow_graph.specs.declared.edges.Label.{Label}
 use Rattle.flow_graph.specs.declared.edges.Label.TheVariants.{Skip, Do}
 use Rattle.flow_graph.specs.declared.kinds.Action.{Action}
 use Rattle.flow_graph.specs.declared.places.Place.TheVariants.{At, Exit}
-use Rattle.flow_graph.specs.declared.setting.Aim.{Aim}
-use Rattle.flow_graph.specs.declared.setting.Setting.{Setting}
+use Rattle.flow_graph.specs.declared.tight_setting.Aim.{Aim}
+use Rattle.flow_graph.specs.declared.tight_setting.Setting.{Setting}
 use Rattle.flow_graph.specs.Places.{place_address}
 use Rattle.statement.specs.Stated.{Stated}
 use Rattle.flow_graph.proofs.EdgeLemmas.{one_action}

@@ -30,9 +30,9 @@ use Rattle.arm2_exec.specs.declared.machine.Input.{Input}
 use Rattle.loader.specs.PagePlan.{page_of, physical_page}
 use Rattle.flow_graph.specs.TightWork.{IsDearestTarget, IsSetFor}
 use Rattle.flow_graph.specs.declared.places.Place.{Place}
-use Rattle.flow_graph.specs.declared.setting.Aim.{Aim}
-use Rattle.flow_graph.specs.declared.setting.Held.{Held}
-use Rattle.flow_graph.specs.declared.setting.Setting.{Setting}
+use Rattle.flow_graph.specs.declared.tight_setting.Aim.{Aim}
+use Rattle.flow_graph.specs.declared.tight_setting.Held.{Held}
+use Rattle.flow_graph.specs.declared.tight_setting.Setting.{Setting}
 use Rattle.statement.specs.Stated.{Stated, class_at}
 
 -- ## Where a transfer's words are

@@ -38,9 +38,9 @@ use Rattle.flow_graph.specs.declared.edges.Label.TheVariants.{Skip}
 use Rattle.flow_graph.specs.declared.kinds.Action.{Action}
 use Rattle.flow_graph.specs.declared.places.Place.{Place}
 use Rattle.flow_graph.specs.declared.places.Place.TheVariants.{At, Exit}
-use Rattle.flow_graph.specs.declared.setting.Aim.{Aim}
-use Rattle.flow_graph.specs.declared.setting.Held.{Held}
-use Rattle.flow_graph.specs.declared.setting.Setting.{Setting}
+use Rattle.flow_graph.specs.declared.tight_setting.Aim.{Aim}
+use Rattle.flow_graph.specs.declared.tight_setting.Held.{Held}
+use Rattle.flow_graph.specs.declared.tight_setting.Setting.{Setting}
 use Rattle.flow_graph.specs.declared.tight.SetUp.{SetUp}
 use Rattle.flow_graph.specs.declared.tight.Tight.{Tight}
 use Rattle.statement.specs.Stated.{Stated, class_at}

@@ -15,7 +15,7 @@ mod law;
 mod places;
 mod pushing;
 mod search;
-mod setting;
+mod tight_setting;
 mod strays;
 mod ticks;
 mod tight;

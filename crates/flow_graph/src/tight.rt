@@ -26,7 +26,7 @@ use crate::flow::Graph;
 use crate::free::is_free;
 use crate::kinds::action_of;
 use crate::places::Place;
-use crate::setting::{Aim, Held, NOTHING, Setting, setting_for};
+use crate::tight_setting::{Aim, Held, NOTHING, Setting, setting_for};
 use arm2_decode::{Flags, decode};
 use arm2_effect::{Mode, slot_of};
 use arm2_exec::{Input, Machine, MachineFault};

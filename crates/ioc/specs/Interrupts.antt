@@ -17,8 +17,8 @@ pub record Controller : Type 0 where
   pub mask_f : ℕ
   pub timers : Timers
 
-abbrev pub still : Timer
-still = record { count = 0; latch = 0; output = 0; request = false }
+abbrev pub fresh_timer : Timer
+fresh_timer = record { count = 0; latch = 0; output = 0; request = false }
 
 -- as IOC starts
 abbrev pub fresh : Controller
@@ -30,7 +30,7 @@ fresh =
       mask_a = 0;
       mask_b = 0;
       mask_f = 0;
-      timers = record { phase = 0; timer_0 = still; timer_1 = still };
+      timers = record { phase = 0; timer_0 = fresh_timer; timer_1 = fresh_timer };
     }
 
 -- whether the lines have this bit

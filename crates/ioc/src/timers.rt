@@ -2,7 +2,7 @@
 
 ghost use Rattle.std.specs.Prelude.{◌≡◌, ◌<◌, ◌≤◌, ℕ};
 ghost use Rattle.ioc.specs.Timers.{after_decrements, ticked};
-ghost use Rattle.ioc.specs.Interrupts.{still};
+ghost use Rattle.ioc.specs.Interrupts.{fresh_timer};
 ghost use Rattle.ioc.specs.Registers.{with_low, with_high, started, sampled, cleared};
 
 // How many counts a timer of 16 bits makes from a latch of 0 until it raises its request.
@@ -46,7 +46,7 @@ impl Timers {
 impl Timer {
     /// All 0, and no request.
     pub(crate) fn new() -> Timer
-        ensures { result ≡ still }
+        ensures { result ≡ fresh_timer }
     {
         Timer {
             count: 0,

@@ -10,7 +10,7 @@ ghost use Rattle.loader.specs.Planned.{AreOf, IsFitted};
 ghost use Rattle.loader.specs.Image.{is_past_ram, may_hold, put_fault, runs_of, with_word, word_of};
 ghost use Rattle.loader.specs.declared.image.ImageFault.TheVariants.{Memory};
 
-use crate::gap::{
+use crate::gap_buffer::{
     Entry, first, is_above, is_below, last, move_down, move_up, nth_above, nth_below, word_above,
     word_below, word_if,
 };

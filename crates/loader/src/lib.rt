@@ -1,7 +1,7 @@
 //! Images: the words of a program by their addresses, and the labels of its source.
 #![tactic(auto)]
 
-mod gap;
+mod gap_buffer;
 mod image;
 mod labels;
 mod law;

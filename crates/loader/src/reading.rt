@@ -9,7 +9,7 @@ ghost use Rattle.loader.specs.ImageBytes.{image_bytes, image_read, is_image, is_
 ghost use Rattle.loader.specs.ImageBytes.{numbers, overlaps, segment_fault, segments_read, with_words};
 ghost use Rattle.loader.specs.Spelling.{Spell};
 
-use crate::gap::Entry;
+use crate::gap_buffer::Entry;
 use crate::image::{Image, ImageFault};
 use crate::places::{MOST_SEGMENTS, MOST_WORDS, lies_in_memory, may_hold};
 use bus_ticks::SPACE_END;

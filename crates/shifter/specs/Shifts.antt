@@ -29,26 +29,26 @@ right n fill bits =
     }
 
 -- the bits that go out below come in above; the carry is the top bit afterwards
-abbrev pub turned : ℕ → List Bool → List Bool
-turned n bits = drop (n % 32) bits ++ take (n % 32) bits
+abbrev pub rotated_bits : ℕ → List Bool → List Bool
+rotated_bits n bits = drop (n % 32) bits ++ take (n % 32) bits
 
 abbrev pub rotated : ℕ → List Bool → BitsAndCarry
-rotated n bits = record { bits = turned n bits; carry = slice_index_or (turned n bits) 31 false }
+rotated n bits = record { bits = rotated_bits n bits; carry = slice_index_or (rotated_bits n bits) 31 false }
 
 -- a rotation by one through the carry
 abbrev pub extended : List Bool → Bool → BitsAndCarry
 extended bits carry = record { bits = drop 1 bits ++ carry ∷ []; carry = slice_index_or bits 0 false }
 
 -- by an amount that is not 0
-abbrev pub moved : Kind → ℕ → List Bool → BitsAndCarry
-moved Lsl n bits = left n bits
-moved Lsr n bits = right n false bits
-moved Asr n bits = right n (slice_index_or bits 31 false) bits
-moved Ror n bits = rotated n bits
+abbrev pub by_nonzero : Kind → ℕ → List Bool → BitsAndCarry
+by_nonzero Lsl n bits = left n bits
+by_nonzero Lsr n bits = right n false bits
+by_nonzero Asr n bits = right n (slice_index_or bits 31 false) bits
+by_nonzero Ror n bits = rotated n bits
 
 -- by an amount in a register: 0 keeps value and carry
 abbrev pub by_register : Kind → ℕ → List Bool → Bool → BitsAndCarry
-by_register kind n bits carry = if n == 0 then record { bits = bits; carry = carry } else moved kind n bits
+by_register kind n bits carry = if n == 0 then record { bits = bits; carry = carry } else by_nonzero kind n bits
 
 -- by an amount in the word: LSR 0 and ASR 0 mean 32, and ROR 0 goes through the carry
 abbrev pub by_immediate : Kind → ℕ → List Bool → Bool → BitsAndCarry

@@ -95,7 +95,7 @@ fn extend(value: u32, carry: bool) -> Shifted
     }
 }
 
-macro_rules! moved {
+macro_rules! by_nonzero {
     ($kind:expr, $amount:expr, $value:expr) => {
         match $kind {
             Shift::Lsl => shift_left($amount, $value),
@@ -114,7 +114,7 @@ pub fn shift_reg(kind: Shift, amount: u32, value: u32, carry: bool) -> Shifted
     if amount == 0 {
         return Shifted { value, carry };
     }
-    moved!(kind, amount, value)
+    by_nonzero!(kind, amount, value)
 }
 
 /// A shift by an amount in the word, from 0 to 31: LSR 0 and ASR 0 stand for 32, and ROR 0 for RRX.

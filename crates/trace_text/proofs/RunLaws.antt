@@ -9,7 +9,7 @@ use Rattle.arm2_exec.specs.declared.machine.Input.{Input}
 use Rattle.arm2_exec.specs.declared.machine.Ran.{Ran}
 use Rattle.arm2_exec.specs.State.{State}
 use Rattle.arm2_exec.specs.Step.{Step}
-use Rattle.arm2_exec.specs.Run.{Runs, further, why_stopped}
+use Rattle.arm2_exec.specs.Run.{Runs, with_one_step, why_stopped}
 use Rattle.arm2_exec.proofs.RunLemmas.{SoFar, ends_with, goes, more_steps, why_of}
 use Rattle.arm2_exec.specs.declared.machine.Traced.{Traced}
 use Rattle.asm_text.specs.Appended.{Appends}
@@ -104,13 +104,13 @@ module _ (start : State) (inputs : List Input) (n : ℕ) (now next : State) (i :
       sym (append_assoc (take n inputs) (i ∷ []) tail) ∙ ap (λ (front : List Input). front ++ tail) (sym here)
 
   pub front_runs : (ran : Ran) → FrontRuns start inputs n ran now
-      → FrontRuns start inputs (n + 1) (further now.profile.burst i traced.stepped ran) next
+      → FrontRuns start inputs (n + 1) (with_one_step now.profile.burst i traced.stepped ran) next
   front_runs ran so_far = λ tail.
       let all = take n inputs ++ i ∷ tail in
       let goes =
       more_steps start all ran now next (i ∷ tail) tail i traced.stepped
       (so_far (i ∷ tail)) refl step not_stopped in
-      subst (λ (all : List Input). SoFar start all (further now.profile.burst i traced.stepped ran) next tail) (longer tail) goes
+      subst (λ (all : List Input). SoFar start all (with_one_step now.profile.burst i traced.stepped ran) next tail) (longer tail) goes
 
   pub front_printed : (old mid new : List ℕ) → traced.word ≡ traced_word now i
       → Appends (FrontPrinted start inputs n now) old mid → Appends (IsTraceLine traced) mid new
