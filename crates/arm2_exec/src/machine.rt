@@ -12,7 +12,7 @@ ghost use Rattle.arm2_exec.specs.declared.machine.MachineFault.TheVariants.{Memo
 use crate::decoded::Decoded;
 use crate::step_work::{elapse, fetched, work};
 use arm2_effect::{Kind, Mode, Prices, Reg, Registers, Why, address_of, r15_of};
-use arm2_transfer::{Bus, Inputs};
+use arm2_transfer::{Bus, Processor};
 use bus_ticks::{Profile, SPACE_END};
 use ioc::{Ioc, Lines};
 use memc::{Memc, MemcFault, PageSize};
@@ -120,10 +120,8 @@ impl Ran {
 /// The machine: processor, memory, devices, and the prices of their accesses.
 #[derive(Drop)]
 pub struct Machine {
-    registers: Registers,
-    bus: Bus,
     // The port and the time fields of ROM are those of the last step.
-    inputs: Inputs,
+    processor: Processor,
     decoded: Decoded,
 }
 
@@ -132,7 +130,11 @@ impl Model for Machine {
 
     ghost Value = { State };
 
-    ghost view = { λ m. record { regs = m.registers; bus = m.bus; profile = m.inputs.prices.profile } };
+    ghost view = { λ m. record {
+        regs = m.processor.registers;
+        bus = m.processor.bus;
+        profile = m.processor.prices.profile;
+    } };
 }
 
 impl Machine {
@@ -152,13 +154,16 @@ impl Machine {
             rom: memc.rom_times(),
         };
         let mut machine = Machine {
-            registers: Registers::new(),
-            bus: Bus {
-                memc,
-                ioc: Ioc::new(),
-                vidc: Vidc::new(),
+            processor: Processor {
+                registers: Registers::new(),
+                bus: Bus {
+                    memc,
+                    ioc: Ioc::new(),
+                    vidc: Vidc::new(),
+                },
+                port: 0,
+                prices,
             },
-            inputs: Inputs { port: 0, prices },
             decoded: Decoded::new(alloc)?,
         };
         machine.reset();
@@ -177,21 +182,21 @@ impl Machine {
     pub fn get(&self, register: Reg) -> u32
         ensures { result ≡ register_of register self.now }
     {
-        self.registers.get(register)
+        self.processor.registers.get(register)
     }
 
     /// Puts a word into a register.
     pub fn set(&mut self, register: Reg, word: u32)
         ensures { self.new ≡ with_register_of register word self.old }
     {
-        self.registers.set(register, word);
+        self.processor.registers.set(register, word);
     }
 
     /// All registers.
     pub fn registers(&self) -> &Registers
         ensures { result.now ≡ self.now.regs }
     {
-        &self.registers
+        &self.processor.registers
     }
 
     /// The address in R15, in bytes: a multiple of 4 below 2^26.
@@ -208,7 +213,7 @@ impl Machine {
     pub fn memc(&self) -> &Memc
         ensures { result.now ≡ self.now.bus.memc }
     {
-        &self.bus.memc
+        &self.processor.bus.memc
     }
 
     /// The memory controller, to be changed.
@@ -216,14 +221,14 @@ impl Machine {
         ensures* writes_back { sem 𝓛 (LendsMemc self.entry result) }
         ensures value { result.now ≡ self.old.bus.memc }
     {
-        &mut self.bus.memc
+        &mut self.processor.bus.memc
     }
 
     /// IOC.
     pub fn ioc(&self) -> &Ioc
         ensures { result.now ≡ self.now.bus.ioc }
     {
-        &self.bus.ioc
+        &self.processor.bus.ioc
     }
 
     /// IOC, to be changed.
@@ -231,14 +236,14 @@ impl Machine {
         ensures* writes_back { sem 𝓛 (LendsIoc self.entry result) }
         ensures value { result.now ≡ self.old.bus.ioc }
     {
-        &mut self.bus.ioc
+        &mut self.processor.bus.ioc
     }
 
     /// VIDC.
     pub fn vidc(&self) -> &Vidc
         ensures { result.now ≡ self.now.bus.vidc }
     {
-        &self.bus.vidc
+        &self.processor.bus.vidc
     }
 
     /// VIDC, to be changed.
@@ -246,21 +251,21 @@ impl Machine {
         ensures* writes_back { sem 𝓛 (LendsVidc self.entry result) }
         ensures value { result.now ≡ self.old.bus.vidc }
     {
-        &mut self.bus.vidc
+        &mut self.processor.bus.vidc
     }
 
     /// The prices of accesses.
     pub fn profile(&self) -> Profile
         ensures { result ≡ self.now.profile }
     {
-        self.inputs.prices.profile
+        self.processor.prices.profile
     }
 
     /// The word at the address in R15; none where the mode may not fetch there, and among the devices.
     pub fn fetched(&self) -> Option<u32>
         ensures { result ≡ fetched self.now.bus.memc (r15_in self.now.regs) }
     {
-        fetched(&self.bus.memc, self.registers.get(Reg::R15))
+        fetched(&self.processor.bus.memc, self.processor.registers.get(Reg::R15))
     }
 
     /// One step: an interrupt is taken, or the instruction at the address in R15 is carried out or passed
@@ -281,17 +286,12 @@ impl Machine {
         ensures word { result.word ≡ traced_word self.old input }
         ensures bound { result.stepped.ticks < 2 ^ 16 }
     {
-        let from = address_of(self.registers.get(Reg::R15));
-        self.inputs.port = input.port;
-        self.inputs.prices.rom = self.bus.memc.rom_times();
-        let lines = self.bus.ioc.line_state();
-        self.bus.ioc.lines(input.lines);
-        let made = work(
-            &mut self.registers,
-            &mut self.bus,
-            &self.inputs,
-            &mut self.decoded,
-        );
+        let from = address_of(self.processor.registers.get(Reg::R15));
+        self.processor.port = input.port;
+        self.processor.prices.rom = self.processor.bus.memc.rom_times();
+        let lines = self.processor.bus.ioc.line_state();
+        self.processor.bus.ioc.lines(input.lines);
+        let made = work(&mut self.processor, &mut self.decoded);
         let mut stepped = Stepped {
             kind: made.done.kind,
             ticks: 0,
@@ -300,13 +300,13 @@ impl Machine {
         };
         let word = made.word;
         if let Kind::Stopped(_) = made.done.kind {
-            self.bus.ioc.set_line_state(lines);
+            self.processor.bus.ioc.set_line_state(lines);
             return Traced { stepped, word };
         }
-        let stretched = self.inputs.prices.profile.burst_ticks(input.bursts);
+        let stretched = self.processor.prices.profile.burst_ticks(input.bursts);
         elapse(&mut self.bus, made.done.ticks + stretched);
         stepped.ticks = made.done.ticks;
-        stepped.to = address_of(self.registers.get(Reg::R15));
+        stepped.to = address_of(self.processor.registers.get(Reg::R15));
         Traced { stepped, word }
     }
 
@@ -321,7 +321,7 @@ impl Machine {
                 ran.stopped = Some(why);
                 return ran;
             }
-            ran.count(&self.inputs.prices.profile, *input, stepped);
+            ran.count(&self.processor.prices.profile, *input, stepped);
         }
         ran
     }

@@ -7,10 +7,8 @@ ghost use Rattle.arm2_exec.specs.Work.{Obeyed, Worked};
 
 use crate::decoded::Decoded;
 use arm2_decode::{Instr, Unallocated};
-use arm2_effect::{
-    Done, Prices, Reg, Registers, Vector, Why, address_of, is_fiq_masked, is_irq_masked, mode_of,
-};
-use arm2_transfer::{Bus, Inputs, carry_out};
+use arm2_effect::{Done, Reg, Vector, Why, address_of, is_fiq_masked, is_irq_masked, mode_of};
+use arm2_transfer::{Bus, Processor};
 use ioc::Ioc;
 use memc::{Memc, Spot};
 
@@ -53,83 +51,61 @@ pub(crate) fn fetched(memc: &Memc, r15: u32) -> Option<u32>
 
 // Carries out an instruction, or passes over it where its condition fails.
 #[inline(always)]
-fn obey_instruction(
-    registers: &mut Registers,
-    bus: &mut Bus,
-    inputs: &Inputs,
-    instr: &Instr,
-) -> Done
-    ensures { IsMoved inputs.now.prices result registers.new bus.new
-        (instruction_moved instr.now inputs.now.port registers.old bus.old) }
+fn obey_instruction(processor: &mut Processor, instr: &Instr) -> Done
+    ensures { IsMoved processor.old result processor.new
+        (instruction_moved instr.now processor.old.port processor.old.registers processor.old.bus) }
 {
-    if registers.passes(instr.cond) {
-        return carry_out(registers, bus, inputs, &instr.operation);
+    if processor.registers.passes(instr.cond) {
+        return processor.carry_out(&instr.operation);
     }
-    registers.skip(&inputs.prices)
+    processor.registers.skip(&processor.prices)
 }
 
 // Stops at a word that is no instruction, or passes over it where its condition fails.
 #[tactic(auto, unfolding(arm2_effect::specs::Effects::stopped))]
 #[inline(never)]
-fn obey_unallocated(
-    registers: &mut Registers,
-    bus: &Bus,
-    prices: &Prices,
-    unallocated: Unallocated,
-) -> Done
-    ensures { IsMoved prices.now result registers.new bus.now
-        (unallocated_moved unallocated registers.old bus.now) }
+fn obey_unallocated(processor: &mut Processor, unallocated: Unallocated) -> Done
+    ensures { IsMoved processor.old result processor.new
+        (unallocated_moved unallocated processor.old.registers processor.old.bus) }
 {
-    if registers.passes(unallocated.cond) {
+    if processor.registers.passes(unallocated.cond) {
         return Done::stopped(Why::Unallocated);
     }
-    registers.skip(prices)
+    processor.registers.skip(&processor.prices)
 }
 
 // Does what a word says, or takes the prefetch abort where there is none.
 #[inline(always)]
-fn obey(
-    registers: &mut Registers,
-    bus: &mut Bus,
-    inputs: &Inputs,
-    decoded: &mut Decoded,
-    word: Option<u32>,
-) -> Done
-    ensures { Obeyed inputs.now.prices word inputs.now.port registers.old bus.old result
-        registers.new bus.new }
+fn obey(processor: &mut Processor, decoded: &mut Decoded, word: Option<u32>) -> Done
+    ensures { Obeyed word processor.old result processor.new }
 {
     let Some(word) = word else {
-        return registers.take(&inputs.prices, Vector::PrefetchAbort);
+        return processor.registers.take(&processor.prices, Vector::PrefetchAbort);
     };
-    let address = address_of(registers.get(Reg::R15));
+    let address = address_of(processor.registers.get(Reg::R15));
     decoded.keep(address, word);
     match &decoded.row(address).instr {
-        Ok(instr) => obey_instruction(registers, bus, inputs, instr),
-        Err(unallocated) => obey_unallocated(registers, bus, &inputs.prices, *unallocated),
+        Ok(instr) => obey_instruction(processor, instr),
+        Err(unallocated) => obey_unallocated(processor, *unallocated),
     }
 }
 
 /// What a step does before time passes: an interrupt, or the word at the address.
 #[inline(always)]
-pub(crate) fn work(
-    registers: &mut Registers,
-    bus: &mut Bus,
-    inputs: &Inputs,
-    decoded: &mut Decoded,
-) -> Made
-    ensures worked { Worked inputs.now.prices (interrupt_due bus.old (r15_in registers.old)) inputs.now.port
-        registers.old bus.old result.done registers.new bus.new }
+pub(crate) fn work(processor: &mut Processor, decoded: &mut Decoded) -> Made
+    ensures worked { Worked (interrupt_due processor.old.bus (r15_in processor.old.registers)) processor.old
+        result.done processor.new }
     ensures word { result.word
-        ≡ word_unless (interrupt_due bus.old (r15_in registers.old))
-        (fetched bus.old.memc (r15_in registers.old)) }
+        ≡ word_unless (interrupt_due processor.old.bus (r15_in processor.old.registers))
+        (fetched processor.old.bus.memc (r15_in processor.old.registers)) }
 {
-    let r15 = registers.get(Reg::R15);
-    if let Some(vector) = interrupt_of(&bus.ioc, r15) {
-        let done = registers.take(&inputs.prices, vector);
+    let r15 = processor.registers.get(Reg::R15);
+    if let Some(vector) = interrupt_of(&processor.bus.ioc, r15) {
+        let done = processor.registers.take(&processor.prices, vector);
         return Made { done, word: None };
     }
-    let word = fetched(&bus.memc, r15);
-    let done = obey(registers, bus, inputs, decoded, word);
+    let word = fetched(&processor.bus.memc, r15);
+    let done = obey(processor, decoded, word);
     Made { done, word }
 }
 

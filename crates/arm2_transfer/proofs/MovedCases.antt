@@ -11,7 +11,6 @@ use Rattle.memc.specs.Memory.{located}
 use Rattle.memc.specs.declared.spots.Spot.{Spot}
 use Rattle.arm2_effect.specs.declared.exceptions.Vector.{Vector}
 use Rattle.arm2_effect.specs.declared.exceptions.Vector.TheVariants as vector
-use Rattle.arm2_effect.specs.declared.prices.Prices.{Prices}
 use Rattle.arm2_effect.specs.declared.step_end.Done.{Done}
 use Rattle.arm2_effect.specs.declared.step_end.Kind.TheVariants.{Plain}
 use Rattle.arm2_effect.specs.declared.step_end.Why.{Why}
@@ -22,6 +21,7 @@ use Rattle.arm2_effect.specs.Effects.{Effect, is_stopped, skipped, stopped, tick
 use Rattle.arm2_effect.specs.Exceptions.{taken}
 use Rattle.arm2_effect.specs.Operations.{operation_effect, placed, compared, jumped, entered, data_immediate_effect, data_register_effect, data_register_shift_effect, multiply_effect, branch_effect, untouched}
 use Rattle.arm2_transfer.specs.declared.bus.Bus.{Bus}
+use Rattle.arm2_transfer.specs.declared.processor.Processor.{Processor}
 use Rattle.arm2_transfer.specs.declared.single_fields.Single.{Single}
 use Rattle.arm2_transfer.specs.declared.span.Span.{Span}
 use Rattle.arm2_transfer.specs.declared.words.Move.{Move}
@@ -119,8 +119,8 @@ module _ (regs : List ℕ) (bus : Bus) where
     stops = λ w stops. (refl, refl, refl);
   }
 
-  pub changes_nothing : (o : Operation) (port : ℕ) (prices : Prices) (done : Done) (new : List ℕ) (now : Bus)
-      → IsMoved prices done new now (operation_moved o port regs bus) → is_stopped done.kind ≡ true → ChangesNothing done regs new bus now
-  changes_nothing o port prices done new now is stops =
-      let still = moved_has regs bus IsStill all_still o port (ap is_stopped (sym is.kind) ∙ stops) in
-      record { ticks = is.ticks ∙ ap (ticks_of prices) still.0; regs = is.regs ∙ still.1; bus = is.bus ∙ still.2 }
+pub changes_nothing : (o : Operation) (before : Processor) (done : Done) (after : Processor)
+    → IsMoved before done after (operation_moved o before.port before.registers before.bus) → is_stopped done.kind ≡ true → ChangesNothing before done after
+changes_nothing o before done after is stops =
+    let still = moved_has before.registers before.bus (IsStill before.registers before.bus) (all_still before.registers before.bus) o before.port (ap is_stopped (sym is.kind) ∙ stops) in
+    record { ticks = is.ticks ∙ ap (ticks_of before.prices) still.0; same = is.state ∙ rw (still.1, still.2) refl }

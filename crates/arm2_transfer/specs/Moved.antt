@@ -2,7 +2,6 @@
 -- prices, what an aborted transfer leaves and costs, and what stops the machine).
 use Rattle.std.specs.Prelude.{◌≡◌, ℕ, zero, suc, ◌==◌, Bool, true, false, if◌then◌else◌, List, [], ◌∷◌, ◌++◌}
 use Rattle.bus_ticks.specs.Prices.{ahead_of, word_address}
-use Rattle.arm2_effect.specs.declared.prices.Prices.{Prices}
 use Rattle.arm2_effect.specs.declared.step_end.Kind.{Kind}
 use Rattle.arm2_effect.specs.declared.step_end.Why.TheVariants.{UnsupportedWrite}
 use Rattle.arm2_effect.specs.declared.step_end.Done.{Done}
@@ -11,6 +10,7 @@ use Rattle.arm2_effect.specs.Effects.{Access, FetchN, Word, Internal, ticks_of, 
 use Rattle.arm2_effect.specs.Effects.{stopped}
 use Rattle.arm2_effect.specs.Exceptions.{taken}
 use Rattle.arm2_transfer.specs.declared.bus.Bus.{Bus}
+use Rattle.arm2_transfer.specs.declared.processor.Processor.{Processor}
 use Rattle.arm2_transfer.specs.declared.words.TransferFault.{TransferFault}
 use Rattle.arm2_transfer.specs.declared.words.TransferFault.TheVariants as fault
 
@@ -21,12 +21,15 @@ pub record Moved : Type 0 where
   pub regs : List ℕ
   pub bus : Bus
 
--- the code's answer, and the registers and the bus after it, are those of a transfer
-pub record IsMoved (prices : Prices) (done : Done) (new : List ℕ) (now : Bus) (m : Moved) : Type 0 where
+-- a processor with other registers and another bus; port and prices stay
+abbrev pub with_state : List ℕ → Bus → Processor → Processor
+with_state regs bus p = record p { registers = regs; bus = bus }
+
+-- the code's answer, and the processor after it, are those of a transfer
+pub record IsMoved (before : Processor) (done : Done) (after : Processor) (m : Moved) : Type 0 where
   pub kind : done.kind ≡ m.kind
-  pub ticks : done.ticks ≡ ticks_of prices m.accesses
-  pub regs : new ≡ m.regs
-  pub bus : now ≡ m.bus
+  pub ticks : done.ticks ≡ ticks_of before.prices m.accesses
+  pub state : after ≡ with_state m.regs m.bus before
 
 -- what the registers alone do, with the bus as it was
 abbrev pub on_bus : Bus → Effect → Moved
@@ -56,7 +59,6 @@ abbrev pub store_accesses : (a address k : ℕ) → List Access
 store_accesses a address k = FetchN (ahead_of a 8) ∷ words_at true address k
 
 -- nothing is changed, and no ticks pass
-pub record ChangesNothing (done : Done) (old new : List ℕ) (before after : Bus) : Type 0 where
+pub record ChangesNothing (before : Processor) (done : Done) (after : Processor) : Type 0 where
   pub ticks : done.ticks ≡ 0
-  pub regs : new ≡ old
-  pub bus : after ≡ before
+  pub same : after ≡ before

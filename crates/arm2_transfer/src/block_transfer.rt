@@ -3,7 +3,7 @@ ghost use Rattle.arm2_effect.specs.Effects.{ticks_of};
 ghost use Rattle.arm2_effect.specs.Modes.{r15_in, register_in};
 ghost use Rattle.arm2_decode.specs.Transfers.{is_listed, registers_in, word_count};
 ghost use Rattle.arm2_transfer.specs.Words.{AllFit, AreFitted, moves_along};
-ghost use Rattle.arm2_transfer.specs.Moved.{IsMoved, load_accesses};
+ghost use Rattle.arm2_transfer.specs.Moved.{IsMoved, load_accesses, with_state};
 ghost use Rattle.arm2_effect.specs.ProgramCounter.{address_of, mode_of};
 ghost use Rattle.arm2_transfer.specs.Registers.{passed, with_base};
 ghost use Rattle.arm2_transfer.specs.Block.{all_loaded, all_put, block_at, block_loads, block_mode};
@@ -12,11 +12,11 @@ ghost use Rattle.arm2_transfer.specs.Block.{span_of, written_back};
 
 use crate::addresses::{lowest_of, moved_by};
 use crate::bus::{Bus, put, seen};
-use crate::inputs::Inputs;
-use crate::transfer_ends::{Accesses, end_of_load, end_of_store, refuse};
+use crate::processor::Processor;
 use crate::registers::{Loading, enter, given, pass, write_base};
 use crate::run::{load_along, put_along};
 use crate::span::Span;
+use crate::transfer_ends::{Accesses, end_of_load, end_of_store};
 use crate::words::{Move, locate_block, split_lowest};
 use arm2_decode::{Block, Register};
 use arm2_effect::{Done, Kind, Mode, Prices, Reg, Registers, Vector, address_of, mode_of};
@@ -86,50 +86,6 @@ fn accesses(block: PlacedBlock, from: u32) -> Accesses
     }
 }
 
-// The words are stored and the base is written back: after the first word, which is that of the registers as
-// they were.
-#[tactic(auto, unfolding(crate::specs::Block::block_put))]
-fn put_block(registers: &mut Registers, bus: &mut Bus, block: PlacedBlock, moves: &[Move])
-    requires { AllFit bus.old.memc.shift moves.now }
-    ensures bus { bus.new
-        ≡ block_put (block_mode block.transfer registers.old) registers.old
-        (written_back block.transfer block.span registers.old) moves.now bus.old }
-    ensures registers { registers.new ≡ written_back block.transfer block.span registers.old }
-{
-    let (transfer, base) = (block.transfer, block.span.base);
-    let own = mode_of(registers.get(Reg::R15));
-    let mode = mode_for(transfer, own);
-    match moves {
-        [] => write_base(registers, transfer.write_back, own, transfer.rn, base),
-        [first, rest @ ..] => {
-            put(bus, first.spot, given(registers, mode, first.register));
-            write_base(registers, transfer.write_back, own, transfer.rn, base);
-            put_all(registers, bus, mode, rest);
-        }
-    }
-}
-
-// The same, at the words from a place of RAM on.
-#[tactic(auto, unfolding(crate::specs::Block::block_put))]
-#[inline(always)]
-fn put_run(registers: &mut Registers, bus: &mut Bus, block: PlacedBlock, place: u32)
-    requires some { 1 ≤ word_count block.transfer.list }
-    requires fitted { AreFitted bus.old.memc.shift place block.transfer.list }
-    ensures bus { bus.new
-        ≡ block_put (block_mode block.transfer registers.old) registers.old
-        (written_back block.transfer block.span registers.old)
-        (moves_along place (registers_in block.transfer.list)) bus.old }
-    ensures registers { registers.new ≡ written_back block.transfer block.span registers.old }
-{
-    let (transfer, base) = (block.transfer, block.span.base);
-    let own = mode_of(registers.get(Reg::R15));
-    let mode = mode_for(transfer, own);
-    let (register, rest) = split_lowest(transfer.list);
-    put(bus, Spot::Ram(place), given(registers, mode, register));
-    write_base(registers, transfer.write_back, own, transfer.rn, base);
-    put_along(registers, bus, mode, rest, place + 4);
-}
-
 // R15 goes on and the base is written back, before any word is loaded.
 #[inline(always)]
 fn begin_load(registers: &mut Registers, block: PlacedBlock) -> Loading
@@ -176,141 +132,155 @@ fn end_load(registers: &Registers, prices: &Prices, block: PlacedBlock, r15: u32
     end_of_load(prices, accesses(block, address_of(r15)), jumps, to)
 }
 
-#[tactic(auto, unfolding(crate::specs::Block::block_loads))]
-fn load(
-    registers: &mut Registers,
-    bus: &Bus,
-    inputs: &Inputs,
-    block: PlacedBlock,
-    moves: &[Move],
-) -> Done
-    requires fit { AllFit bus.now.memc.shift moves.now }
-    requires below { block.span.lowest < SPACE_END }
-    ensures { IsMoved inputs.now.prices result registers.new bus.now
-        (block_loads block.transfer block.span inputs.now.port moves.now registers.old bus.now) }
-{
-    let loading = begin_load(registers, block);
-    load_all(registers, bus, inputs.port, loading, moves);
-    end_load(registers, &inputs.prices, block, loading.r15)
-}
-
-// The same, of the words from a place of RAM on.
-#[tactic(auto, unfolding(crate::specs::Block::block_loads))]
-fn load_run(
-    registers: &mut Registers,
-    bus: &Bus,
-    inputs: &Inputs,
-    block: PlacedBlock,
-    place: u32,
-) -> Done
-    requires fitted { AreFitted bus.now.memc.shift place block.transfer.list }
-    requires below { block.span.lowest < SPACE_END }
-    ensures { IsMoved inputs.now.prices result registers.new bus.now
-        (block_loads block.transfer block.span inputs.now.port
-        (moves_along place (registers_in block.transfer.list)) registers.old bus.now) }
-{
-    let loading = begin_load(registers, block);
-    load_along(registers, bus, loading, block.transfer.list, place);
-    end_load(registers, &inputs.prices, block, loading.r15)
-}
-
-#[tactic(auto, unfolding(crate::specs::Block::block_stores))]
-fn store(
-    registers: &mut Registers,
-    bus: &mut Bus,
-    prices: &Prices,
-    block: PlacedBlock,
-    moves: &[Move],
-) -> Done
-    requires fit { AllFit bus.old.memc.shift moves.now }
-    requires below { block.span.lowest < SPACE_END }
-    ensures { IsMoved prices.now result registers.new bus.new
-        (block_stores block.transfer block.span moves.now registers.old bus.old) }
-{
-    let r15 = registers.get(Reg::R15);
-    put_block(registers, bus, block, moves);
-    pass(registers);
-    end_of_store(prices, accesses(block, address_of(r15)))
-}
-
-// The same, to the words from a place of RAM on.
-#[tactic(auto, unfolding(crate::specs::Block::block_stores))]
-fn store_run(
-    registers: &mut Registers,
-    bus: &mut Bus,
-    prices: &Prices,
-    block: PlacedBlock,
-    place: u32,
-) -> Done
-    requires listed { 1 ≤ word_count block.transfer.list }
-    requires fitted { AreFitted bus.old.memc.shift place block.transfer.list }
-    requires below { block.span.lowest < SPACE_END }
-    ensures { IsMoved prices.now result registers.new bus.new
-        (block_stores block.transfer block.span
-        (moves_along place (registers_in block.transfer.list)) registers.old bus.old) }
-{
-    let r15 = registers.get(Reg::R15);
-    put_run(registers, bus, block, place);
-    pass(registers);
-    end_of_store(prices, accesses(block, address_of(r15)))
-}
-
-// A transfer whose words do not lie on one page of RAM, or that is refused: each word is located by itself.
-#[tactic(auto, unfolding(crate::specs::Block::block_at, crate::specs::Block::block_by))]
-#[inline(never)]
-fn word_by_word(
-    registers: &mut Registers,
-    bus: &mut Bus,
-    inputs: &Inputs,
-    block: PlacedBlock,
-) -> Done
-    requires { block.span.lowest < SPACE_END }
-    ensures { IsMoved inputs.now.prices result registers.new bus.new
-        (block_at block.transfer block.span inputs.now.port registers.old bus.old) }
-{
-    let user = mode_of(registers.get(Reg::R15)).is_user();
-    match locate_block(&bus.memc, block.transfer, block.span.lowest, user) {
-        Err(fault) => refuse(registers, bus, &inputs.prices, fault),
-        Ok(moves) if block.transfer.load => load(registers, bus, inputs, block, moves.as_slice()),
-        Ok(moves) => store(registers, bus, &inputs.prices, block, moves.as_slice()),
+impl Processor {
+    // The words are stored and the base is written back: after the first word, which is that of the registers
+    // as they were.
+    #[tactic(auto, unfolding(crate::specs::Block::block_put))]
+    fn put_block(&mut self, block: PlacedBlock, moves: &[Move])
+        requires { AllFit self.old.bus.memc.shift moves.now }
+        ensures { self.new
+            ≡ with_state (written_back block.transfer block.span self.old.registers)
+            (block_put (block_mode block.transfer self.old.registers) self.old.registers
+            (written_back block.transfer block.span self.old.registers) moves.now self.old.bus) self.old }
+    {
+        let (transfer, base) = (block.transfer, block.span.base);
+        let own = mode_of(self.registers.get(Reg::R15));
+        let mode = mode_for(transfer, own);
+        let registers = &mut self.registers;
+        match moves {
+            [] => write_base(registers, transfer.write_back, own, transfer.rn, base),
+            [first, rest @ ..] => {
+                put(&mut self.bus, first.spot, given(registers, mode, first.register));
+                write_base(registers, transfer.write_back, own, transfer.rn, base);
+                put_all(registers, &mut self.bus, mode, rest);
+            }
+        }
     }
-}
 
-#[tactic(auto, unfolding(crate::specs::Block::block_at, crate::specs::Block::block_by))]
-#[inline(always)]
-fn block_at(registers: &mut Registers, bus: &mut Bus, inputs: &Inputs, block: PlacedBlock) -> Done
-    requires { block.span.words ≡ word_count block.transfer.list }
-    ensures { IsMoved inputs.now.prices result registers.new bus.new
-        (block_at block.transfer block.span inputs.now.port registers.old bus.old) }
-{
-    let (span, load) = (block.span, block.transfer.load);
-    if span.lowest >= SPACE_END {
-        return registers.take(&inputs.prices, Vector::AddressException);
+    // The same, at the words from a place of RAM on.
+    #[tactic(auto, unfolding(crate::specs::Block::block_put))]
+    #[inline(always)]
+    fn put_run(&mut self, block: PlacedBlock, place: u32)
+        requires some { 1 ≤ word_count block.transfer.list }
+        requires fitted { AreFitted self.old.bus.memc.shift place block.transfer.list }
+        ensures { self.new
+            ≡ with_state (written_back block.transfer block.span self.old.registers)
+            (block_put (block_mode block.transfer self.old.registers) self.old.registers
+            (written_back block.transfer block.span self.old.registers)
+            (moves_along place (registers_in block.transfer.list)) self.old.bus) self.old }
+    {
+        let (transfer, base) = (block.transfer, block.span.base);
+        let own = mode_of(self.registers.get(Reg::R15));
+        let mode = mode_for(transfer, own);
+        let (register, rest) = split_lowest(transfer.list);
+        let registers = &mut self.registers;
+        put(&mut self.bus, Spot::Ram(place), given(registers, mode, register));
+        write_base(registers, transfer.write_back, own, transfer.rn, base);
+        put_along(registers, &mut self.bus, mode, rest, place + 4);
     }
-    let user = mode_of(registers.get(Reg::R15)).is_user();
-    match bus.memc.locate_run(span.lowest, span.words, user, !load) {
-        Some(place) if load => load_run(registers, bus, inputs, block, place),
-        Some(place) => store_run(registers, bus, &inputs.prices, block, place),
-        None => word_by_word(registers, bus, inputs, block),
-    }
-}
 
-/// A load or store of the registers of a list.
-#[tactic(auto, unfolding(crate::specs::Block::block_moved))]
-pub(crate) fn block(
-    registers: &mut Registers,
-    bus: &mut Bus,
-    inputs: &Inputs,
-    transfer: &Block,
-) -> Done
-    ensures { IsMoved inputs.now.prices result registers.new bus.new
-        (block_moved transfer.now inputs.now.port registers.old bus.old) }
-{
-    let base = registers.read(mode_of(registers.get(Reg::R15)), transfer.rn);
-    let span = span_of(transfer, base, transfer.word_count());
-    let block = PlacedBlock {
-        transfer: *transfer,
-        span,
-    };
-    block_at(registers, bus, inputs, block)
+    #[tactic(auto, unfolding(crate::specs::Block::block_loads))]
+    fn block_loads(&mut self, block: PlacedBlock, moves: &[Move]) -> Done
+        requires fit { AllFit self.old.bus.memc.shift moves.now }
+        requires below { block.span.lowest < SPACE_END }
+        ensures { IsMoved self.old result self.new
+            (block_loads block.transfer block.span self.old.port moves.now self.old.registers self.old.bus) }
+    {
+        let loading = begin_load(&mut self.registers, block);
+        load_all(&mut self.registers, &self.bus, self.port, loading, moves);
+        end_load(&self.registers, &self.prices, block, loading.r15)
+    }
+
+    // The same, of the words from a place of RAM on.
+    #[tactic(auto, unfolding(crate::specs::Block::block_loads))]
+    fn load_run(&mut self, block: PlacedBlock, place: u32) -> Done
+        requires fitted { AreFitted self.old.bus.memc.shift place block.transfer.list }
+        requires below { block.span.lowest < SPACE_END }
+        ensures { IsMoved self.old result self.new
+            (block_loads block.transfer block.span self.old.port
+            (moves_along place (registers_in block.transfer.list)) self.old.registers self.old.bus) }
+    {
+        let loading = begin_load(&mut self.registers, block);
+        load_along(&mut self.registers, &self.bus, loading, block.transfer.list, place);
+        end_load(&self.registers, &self.prices, block, loading.r15)
+    }
+
+    #[tactic(auto, unfolding(crate::specs::Block::block_stores))]
+    fn block_stores(&mut self, block: PlacedBlock, moves: &[Move]) -> Done
+        requires fit { AllFit self.old.bus.memc.shift moves.now }
+        requires below { block.span.lowest < SPACE_END }
+        ensures { IsMoved self.old result self.new
+            (block_stores block.transfer block.span moves.now self.old.registers self.old.bus) }
+    {
+        let r15 = self.registers.get(Reg::R15);
+        self.put_block(block, moves);
+        pass(&mut self.registers);
+        end_of_store(&self.prices, accesses(block, address_of(r15)))
+    }
+
+    // The same, to the words from a place of RAM on.
+    #[tactic(auto, unfolding(crate::specs::Block::block_stores))]
+    fn store_run(&mut self, block: PlacedBlock, place: u32) -> Done
+        requires listed { 1 ≤ word_count block.transfer.list }
+        requires fitted { AreFitted self.old.bus.memc.shift place block.transfer.list }
+        requires below { block.span.lowest < SPACE_END }
+        ensures { IsMoved self.old result self.new
+            (block_stores block.transfer block.span
+            (moves_along place (registers_in block.transfer.list)) self.old.registers self.old.bus) }
+    {
+        let r15 = self.registers.get(Reg::R15);
+        self.put_run(block, place);
+        pass(&mut self.registers);
+        end_of_store(&self.prices, accesses(block, address_of(r15)))
+    }
+
+    // A transfer whose words do not lie on one page of RAM, or that is refused: each word is located by itself.
+    #[tactic(auto, unfolding(crate::specs::Block::block_at, crate::specs::Block::block_by))]
+    #[inline(never)]
+    fn word_by_word(&mut self, block: PlacedBlock) -> Done
+        requires { block.span.lowest < SPACE_END }
+        ensures { IsMoved self.old result self.new
+            (block_at block.transfer block.span self.old.port self.old.registers self.old.bus) }
+    {
+        let user = mode_of(self.registers.get(Reg::R15)).is_user();
+        match locate_block(&self.bus.memc, block.transfer, block.span.lowest, user) {
+            Err(fault) => self.refuse(fault),
+            Ok(moves) if block.transfer.load => self.block_loads(block, moves.as_slice()),
+            Ok(moves) => self.block_stores(block, moves.as_slice()),
+        }
+    }
+
+    #[tactic(auto, unfolding(crate::specs::Block::block_at, crate::specs::Block::block_by))]
+    #[inline(always)]
+    fn block_at(&mut self, block: PlacedBlock) -> Done
+        requires { block.span.words ≡ word_count block.transfer.list }
+        ensures { IsMoved self.old result self.new
+            (block_at block.transfer block.span self.old.port self.old.registers self.old.bus) }
+    {
+        let (span, load) = (block.span, block.transfer.load);
+        if span.lowest >= SPACE_END {
+            return self.registers.take(&self.prices, Vector::AddressException);
+        }
+        let user = mode_of(self.registers.get(Reg::R15)).is_user();
+        match self.bus.memc.locate_run(span.lowest, span.words, user, !load) {
+            Some(place) if load => self.load_run(block, place),
+            Some(place) => self.store_run(block, place),
+            None => self.word_by_word(block),
+        }
+    }
+
+    /// A load or store of the registers of a list.
+    #[tactic(auto, unfolding(crate::specs::Block::block_moved))]
+    pub(crate) fn block_moved(&mut self, transfer: &Block) -> Done
+        ensures { IsMoved self.old result self.new
+            (block_moved transfer.now self.old.port self.old.registers self.old.bus) }
+    {
+        let mode = mode_of(self.registers.get(Reg::R15));
+        let base = self.registers.read(mode, transfer.rn);
+        let span = span_of(transfer, base, transfer.word_count());
+        self.block_at(PlacedBlock {
+            transfer: *transfer,
+            span,
+        })
+    }
 }

@@ -10,19 +10,18 @@
 mod addresses;
 mod block_transfer;
 mod bus;
-mod inputs;
 mod law;
-mod transfer_ends;
 mod operations;
+mod processor;
 mod registers;
 mod run;
 mod single_fields;
 mod single_transfer;
 mod span;
+mod transfer_ends;
 mod words;
 
 pub use addresses::{address_by, lowest_of};
 pub use bus::Bus;
-pub use inputs::Inputs;
 pub use law::bases_after_transfers;
-pub use operations::carry_out;
+pub use processor::Processor;

@@ -4,25 +4,22 @@ ghost use Rattle.bus_ticks.specs.Prices.{ahead_of, fetch_n};
 ghost use Rattle.arm2_effect.specs.Effects.{ticks_of};
 ghost use Rattle.arm2_transfer.specs.Moved.{IsMoved, faulted, load_accesses, store_accesses};
 
-use crate::bus::Bus;
+use crate::processor::Processor;
 use crate::words::TransferFault;
-use arm2_effect::{Done, Kind, Prices, Registers, Vector, Why};
+use arm2_effect::{Done, Kind, Prices, Vector, Why};
 use bus_ticks::{ahead_of, fetch_n, transfer};
 
-/// What a transfer does none of whose words is moved.
-#[tactic(auto, unfolding(arm2_effect::specs::Effects::stopped))]
-#[inline(never)]
-pub(crate) fn refuse(
-    registers: &mut Registers,
-    bus: &Bus,
-    prices: &Prices,
-    fault: TransferFault,
-) -> Done
-    ensures { IsMoved prices.now result registers.new bus.now (faulted fault registers.old bus.now) }
-{
-    match fault {
-        TransferFault::DataAbort => registers.take(prices, Vector::DataAbort),
-        TransferFault::UnsupportedWrite => Done::stopped(Why::UnsupportedWrite),
+impl Processor {
+    /// What a transfer does none of whose words is moved.
+    #[tactic(auto, unfolding(arm2_effect::specs::Effects::stopped))]
+    #[inline(never)]
+    pub(crate) fn refuse(&mut self, fault: TransferFault) -> Done
+        ensures { IsMoved self.old result self.new (faulted fault self.old.registers self.old.bus) }
+    {
+        match fault {
+            TransferFault::DataAbort => self.registers.take(&self.prices, Vector::DataAbort),
+            TransferFault::UnsupportedWrite => Done::stopped(Why::UnsupportedWrite),
+        }
     }
 }
 
