@@ -17,6 +17,7 @@ use Rattle.arm2_effect.specs.Effects.{is_stopped}
 use Rattle.arm2_effect.specs.Exceptions.{taken}
 use Rattle.arm2_effect.specs.Modes.{r15_in}
 use Rattle.arm2_transfer.specs.declared.bus.Bus.{Bus}
+use Rattle.arm2_transfer.specs.declared.processor.Processor.{Processor}
 use Rattle.arm2_transfer.specs.Moved.{Moved, on_bus}
 use Rattle.arm2_exec.specs.declared.machine.Input.{Input}
 use Rattle.arm2_exec.specs.declared.machine.Stepped.{Stepped}
@@ -43,33 +44,36 @@ module _ (s : State) (i : Input) where
   unlined : (now : Bus) → now ≡ with_lines i.lines.0 s.bus → record s { bus = record { memc = now.memc; ioc = unlined_ioc now.ioc; vidc = now.vidc } } ≡ s
   unlined now same = ap (λ (b : Bus). let t : State = record { regs = s.regs; bus = record { memc = b.memc; ioc = unlined_ioc b.ioc; vidc = b.vidc }; profile = s.profile } in t) same
 
-  pub stopped_step : (done : Done) (new : List ℕ) (now : Bus)
-      → Worked (prices_in s) (interrupt_due (with_lines i.lines.0 s.bus) (r15_in s.regs)) i.port s.regs (with_lines i.lines.0 s.bus) done new now
-      → is_stopped done.kind ≡ true
-      → Step s i (record { kind = done.kind; ticks = 0; from = address_in s.regs; to = address_in s.regs }) (record { regs = new; bus = record { memc = now.memc; ioc = record now.ioc { lines = s.bus.ioc.lines; a2_rose = s.bus.ioc.a2_rose }; vidc = now.vidc }; profile = s.profile })
+  -- the processor as the step's work begins
+  abbrev pub starting : Processor
+  starting = record { registers = s.regs; bus = with_lines i.lines.0 s.bus; port = i.port; prices = prices_in s }
+
+  abbrev pub DoesWork : Done → Processor → Type 0
+  DoesWork done after = Worked (interrupt_due starting.bus (r15_in s.regs)) starting done after
+
+  pub stopped_step : (done : Done) (after : Processor) → DoesWork done after → is_stopped done.kind ≡ true
+      → Step s i (record { kind = done.kind; ticks = 0; from = address_in s.regs; to = address_in s.regs }) (record { regs = after.registers; bus = record { memc = after.bus.memc; ioc = record after.bus.ioc { lines = s.bus.ioc.lines; a2_rose = s.bus.ioc.a2_rose }; vidc = after.bus.vidc }; profile = after.prices.profile })
   unfolding answer_of state_after
-  stopped_step done new now w stopped =
+  stopped_step done after w stopped =
       let kind : is_stopped w.moved.kind ≡ true = ap is_stopped (sym w.is.kind) ∙ stopped in
-      let still = works_still s.regs (with_lines i.lines.0 s.bus) (interrupt_due (with_lines i.lines.0 s.bus) (r15_in s.regs)) i.port w.moved w.works kind in
+      let still = works_still s.regs starting.bus (interrupt_due starting.bus (r15_in s.regs)) i.port w.moved w.works kind in
       record {
         moved = w.moved;
         works = w.works;
         stepped_is = rw kind (ap (λ (k : Kind). let t : Stepped = record { kind = k; ticks = 0; from = address_in s.regs; to = address_in s.regs } in t) w.is.kind);
-        after_is = rw (kind, w.is.regs ∙ still.1) (unlined now (w.is.bus ∙ still.2));
+        after_is = rw (kind, w.is.state, still.1) (unlined w.moved.bus still.2);
       }
 
-  pub going_step : (done : Done) (new : List ℕ) (now : Bus)
-      → Worked (prices_in s) (interrupt_due (with_lines i.lines.0 s.bus) (r15_in s.regs)) i.port s.regs (with_lines i.lines.0 s.bus) done new now
-      → is_stopped done.kind ≡ false
-      → Step s i (record { kind = done.kind; ticks = done.ticks; from = address_in s.regs; to = address_in new }) (record { regs = new; bus = elapsed (done.ticks + s.profile.burst * i.bursts) now; profile = s.profile })
+  pub going_step : (done : Done) (after : Processor) → DoesWork done after → is_stopped done.kind ≡ false
+      → Step s i (record { kind = done.kind; ticks = done.ticks; from = address_in s.regs; to = address_in after.registers }) (record { regs = after.registers; bus = elapsed (done.ticks + after.prices.profile.burst * i.bursts) after.bus; profile = after.prices.profile })
   unfolding answer_of state_after
-  going_step done new now w goes =
+  going_step done after w goes =
       let kind : is_stopped w.moved.kind ≡ false = ap is_stopped (sym w.is.kind) ∙ goes in
       record {
         moved = w.moved;
         works = w.works;
-        stepped_is = rw (kind, w.is.kind, w.is.ticks, w.is.regs) refl;
-        after_is = rw (kind, w.is.ticks, w.is.regs, w.is.bus) refl;
+        stepped_is = rw (kind, w.is.kind, w.is.ticks, w.is.state) refl;
+        after_is = rw (kind, w.is.ticks, w.is.state) refl;
       }
 
   pub stopped_same : (stepped : Stepped) (after : State) → Step s i stepped after → is_stopped stepped.kind ≡ true → after ≡ s

@@ -1,28 +1,27 @@
 -- What a step does before time passes.
-use Rattle.std.proofs.Common.{◌≡◌, ℕ, List, Option, Some, None, refl, subst}
+use Rattle.std.proofs.Common.{◌≡◌, List, ℕ, Option, Some, None, refl, subst}
 use Rattle.arm2_effect.specs.declared.exceptions.Vector.{Vector}
 use Rattle.arm2_effect.specs.declared.exceptions.Vector.TheVariants as vector
-use Rattle.arm2_effect.specs.declared.prices.Prices.{Prices}
 use Rattle.arm2_effect.specs.declared.step_end.Done.{Done}
 use Rattle.arm2_effect.specs.Effects.{Effect, IsEffect}
 use Rattle.arm2_effect.specs.Exceptions.{taken}
 use Rattle.arm2_effect.specs.Modes.{r15_in}
-use Rattle.arm2_transfer.specs.declared.bus.Bus.{Bus}
-use Rattle.arm2_transfer.specs.Moved.{IsMoved, on_bus}
+use Rattle.arm2_transfer.specs.declared.processor.Processor.{Processor}
+use Rattle.arm2_transfer.specs.Moved.{IsMoved, on_bus, with_state}
 use Rattle.arm2_exec.specs.Step.{ObeysFetched, fetched}
 use Rattle.arm2_exec.specs.Work.{Obeyed, Worked}
 
-module _ (prices : Prices) (port : ℕ) (old : List ℕ) (bus : Bus) (done : Done) (new : List ℕ) where
+module _ (before : Processor) (done : Done) (new : List ℕ) where
   -- the registers' effect, with the bus as it was
-  pub effect_moved : (e : Effect) → IsEffect prices done new e → IsMoved prices done new bus (on_bus bus e)
-  effect_moved e is = record { kind = is.kind; ticks = is.ticks; regs = is.regs; bus = refl }
+  effect_moved : (e : Effect) → IsEffect before.prices done new e → IsMoved before done (with_state new before.bus before) (on_bus before.bus e)
+  effect_moved e is = record { kind = is.kind; ticks = is.ticks; state = rw is.regs refl }
 
-  pub obeyed_none : (word : Option ℕ) → word ≡ None → IsEffect prices done new (taken vector.PrefetchAbort old) → Obeyed prices word port old bus done new bus
-  obeyed_none word none is = rw none (record { moved = on_bus bus (taken vector.PrefetchAbort old); obeys = refl; is = effect_moved (taken vector.PrefetchAbort old) is })
+  pub obeyed_none : (word : Option ℕ) → word ≡ None → IsEffect before.prices done new (taken vector.PrefetchAbort before.registers) → Obeyed word before done (with_state new before.bus before)
+  obeyed_none word none is = rw none (record { moved = on_bus before.bus (taken vector.PrefetchAbort before.registers); obeys = refl; is = effect_moved (taken vector.PrefetchAbort before.registers) is })
 
-  pub worked_interrupt : (interrupt : Option Vector) (v : Vector) → interrupt ≡ Some v → IsEffect prices done new (taken v old) → Worked prices interrupt port old bus done new bus
-  worked_interrupt interrupt v some is = rw some (record { moved = on_bus bus (taken v old); works = refl; is = effect_moved (taken v old) is })
+  pub worked_interrupt : (interrupt : Option Vector) (v : Vector) → interrupt ≡ Some v → IsEffect before.prices done new (taken v before.registers) → Worked interrupt before done (with_state new before.bus before)
+  worked_interrupt interrupt v some is = rw some (record { moved = on_bus before.bus (taken v before.registers); works = refl; is = effect_moved (taken v before.registers) is })
 
-  pub worked_word : (interrupt : Option Vector) (word : Option ℕ) (now : Bus) → interrupt ≡ None → word ≡ fetched bus.memc (r15_in old) → Obeyed prices word port old bus done new now
-      → Worked prices interrupt port old bus done new now
-  worked_word interrupt word now none is o = rw none (record { moved = o.moved; works = subst (λ (w : Option ℕ). ObeysFetched w port old bus o.moved) is o.obeys; is = o.is })
+module _ (before : Processor) (done : Done) (after : Processor) where
+  pub worked_word : (interrupt : Option Vector) (word : Option ℕ) → interrupt ≡ None → word ≡ fetched before.bus.memc (r15_in before.registers) → Obeyed word before done after → Worked interrupt before done after
+  worked_word interrupt word none is o = rw none (record { moved = o.moved; works = subst (λ (w : Option ℕ). ObeysFetched w before.port before.registers before.bus o.moved) is o.obeys; is = o.is })

@@ -131,9 +131,9 @@ impl Model for Machine {
     ghost Value = { State };
 
     ghost view = { λ m. record {
-        regs = m.processor.registers;
-        bus = m.processor.bus;
-        profile = m.processor.prices.profile;
+      regs = m.processor.registers;
+      bus = m.processor.bus;
+      profile = m.processor.prices.profile;
     } };
 }
 
@@ -265,7 +265,10 @@ impl Machine {
     pub fn fetched(&self) -> Option<u32>
         ensures { result ≡ fetched self.now.bus.memc (r15_in self.now.regs) }
     {
-        fetched(&self.processor.bus.memc, self.processor.registers.get(Reg::R15))
+        fetched(
+            &self.processor.bus.memc,
+            self.processor.registers.get(Reg::R15),
+        )
     }
 
     /// One step: an interrupt is taken, or the instruction at the address in R15 is carried out or passed
@@ -304,7 +307,7 @@ impl Machine {
             return Traced { stepped, word };
         }
         let stretched = self.processor.prices.profile.burst_ticks(input.bursts);
-        elapse(&mut self.bus, made.done.ticks + stretched);
+        elapse(&mut self.processor.bus, made.done.ticks + stretched);
         stepped.ticks = made.done.ticks;
         stepped.to = address_of(self.processor.registers.get(Reg::R15));
         Traced { stepped, word }

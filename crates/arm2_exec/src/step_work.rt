@@ -80,7 +80,9 @@ fn obey(processor: &mut Processor, decoded: &mut Decoded, word: Option<u32>) -> 
     ensures { Obeyed word processor.old result processor.new }
 {
     let Some(word) = word else {
-        return processor.registers.take(&processor.prices, Vector::PrefetchAbort);
+        return processor
+            .registers
+            .take(&processor.prices, Vector::PrefetchAbort);
     };
     let address = address_of(processor.registers.get(Reg::R15));
     decoded.keep(address, word);

@@ -150,7 +150,11 @@ impl Processor {
         match moves {
             [] => write_base(registers, transfer.write_back, own, transfer.rn, base),
             [first, rest @ ..] => {
-                put(&mut self.bus, first.spot, given(registers, mode, first.register));
+                put(
+                    &mut self.bus,
+                    first.spot,
+                    given(registers, mode, first.register),
+                );
                 write_base(registers, transfer.write_back, own, transfer.rn, base);
                 put_all(registers, &mut self.bus, mode, rest);
             }
@@ -174,7 +178,11 @@ impl Processor {
         let mode = mode_for(transfer, own);
         let (register, rest) = split_lowest(transfer.list);
         let registers = &mut self.registers;
-        put(&mut self.bus, Spot::Ram(place), given(registers, mode, register));
+        put(
+            &mut self.bus,
+            Spot::Ram(place),
+            given(registers, mode, register),
+        );
         write_base(registers, transfer.write_back, own, transfer.rn, base);
         put_along(registers, &mut self.bus, mode, rest, place + 4);
     }
@@ -201,7 +209,13 @@ impl Processor {
             (moves_along place (registers_in block.transfer.list)) self.old.registers self.old.bus) }
     {
         let loading = begin_load(&mut self.registers, block);
-        load_along(&mut self.registers, &self.bus, loading, block.transfer.list, place);
+        load_along(
+            &mut self.registers,
+            &self.bus,
+            loading,
+            block.transfer.list,
+            place,
+        );
         end_load(&self.registers, &self.prices, block, loading.r15)
     }
 
@@ -262,7 +276,11 @@ impl Processor {
             return self.registers.take(&self.prices, Vector::AddressException);
         }
         let user = mode_of(self.registers.get(Reg::R15)).is_user();
-        match self.bus.memc.locate_run(span.lowest, span.words, user, !load) {
+        match self
+            .bus
+            .memc
+            .locate_run(span.lowest, span.words, user, !load)
+        {
             Some(place) if load => self.load_run(block, place),
             Some(place) => self.store_run(block, place),
             None => self.word_by_word(block),

@@ -101,7 +101,13 @@ impl Processor {
         let (transfer, base) = (single.transfer, single.base);
         let r15 = self.registers.get(Reg::R15);
         let value = given(&self.registers, mode_of(r15), transfer.rd);
-        put_single(&mut self.bus, transfer.byte, spot, transfer.address(base), value);
+        put_single(
+            &mut self.bus,
+            transfer.byte,
+            spot,
+            transfer.address(base),
+            value,
+        );
         transfer.write_base(&mut self.registers, base);
         end_of_store(&self.prices, accesses(single, address_of(r15)))
     }
@@ -148,7 +154,9 @@ impl Processor {
             (single_moved (of_register fields.now self.old.registers) self.old.port self.old.registers
             self.old.bus) }
     {
-        let offset = self.registers.shifted_by_amount(fields.shift, fields.amount, fields.rm);
+        let offset = self
+            .registers
+            .shifted_by_amount(fields.shift, fields.amount, fields.rm);
         self.single_moved(with_offset!(fields, offset.value))
     }
 }

@@ -28,7 +28,7 @@ loop-input-preserved c =
     let index = c.loop-input.input-index in
     let input : Input = slice_index_or inputs index (record { bursts = 0; lines = record { 0 = 0 }; port = 0 }) in
     let step = c.step-stepped.ensures.step in
-    let price : c.self.inside.inputs.prices.profile ≡ s.profile = ap (λ (x : State). x.profile) c.self.view_is ∙ same_profile s input stepped next step in
+    let price : c.self.inside.processor.prices.profile ≡ s.profile = ap (λ (x : State). x.profile) c.self.view_is ∙ same_profile s input stepped next step in
     let counted : c.count.new.self ≡ with_one_step s.profile.burst input stepped ran = c.count.ensures.step ∙ ap (λ (p : Profile). with_one_step p.burst input stepped ran) price in
     let goes = more_steps start inputs ran s next (drop index inputs) (drop (index + 1) inputs) input stepped c.loop-input.invariant.0 (drop_more inputs index _ c.loop-input-test.true) step c.in_default.not-Stopped in
     (subst (λ (r : Ran). SoFar start inputs r next (drop (index + 1) inputs)) (sym counted) goes, ap (λ (r : Ran). r.stopped) counted ∙ c.loop-input.invariant.1, c.count.ensures.bound index c.loop-input.invariant.2)
