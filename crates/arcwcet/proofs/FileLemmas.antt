@@ -12,18 +12,6 @@ module _ {S : Type 0} (reads : Reading S) where
   front_read None (Some f) names files a b c h k = absurd h
   front_read (Some n) None names files a b c h k = absurd h
 
-  pub front_fails : (n : Option (List ℕ)) (names : Texts) (e : StoreFault) (a b : S) → FailsToRead reads a (cons_option n []) e b → FailsToRead reads a (cons_option n names) e b
-  front_fails None names e a b h = absurd h
-  front_fails (Some n) names e a b (inl h) = inl h
-  front_fails (Some n) names e a b (inr h) = absurd h.3
-
-  pub later_fails : (n f : Option (List ℕ)) (names : Texts) (e : StoreFault) (a b c : S) → ReadsAll reads a (cons_option n []) (cons_option f []) b → FailsToRead reads b names e c
-      → FailsToRead reads a (cons_option n names) e c
-  later_fails None None names e a b c h k = subst (λ (s : S). FailsToRead reads s names e c) h k
-  later_fails (Some n) (Some f) names e a b c (between, read, same) k = inr (between, f, read, subst (λ (s : S). FailsToRead reads s names e c) same k)
-  later_fails None (Some f) names e a b c h k = absurd h
-  later_fails (Some n) None names e a b c h k = absurd h
-
   -- the last of three files could not be read
   pub third_fails : (n f : Option (List ℕ)) (x y z p q : List ℕ) (e : StoreFault) (a b c : S) → ReadsAll reads a (cons_option n (x ∷ y ∷ [])) (cons_option f (p ∷ q ∷ [])) b → reads b z (Err e) c
       → FailsToRead reads a (cons_option n (x ∷ y ∷ z ∷ [])) e c

@@ -18,9 +18,9 @@ entry = 0x3800000
 words : Words
 words = (entry, one.word) ∷ []
 
-stands : word_of words entry ≡ Some one.word
+word_there : word_of words entry ≡ Some one.word
 unfolding words
-stands = refl
+word_there = refl
 
 -- as the machine is made, but for one word in ROM
 bus : Bus
@@ -45,23 +45,23 @@ module _ (profile : Profile) where
   pub kept : HasKeptRun profile
   kept = record {
     words = words;
-    stated = one.stated words entry stands profile;
-    flow = one.flow words entry stands profile;
-    graph_is = one.graph_is words entry stands profile;
+    stated = one.stated words entry word_there profile;
+    flow = one.flow words entry word_there profile;
+    graph_is = one.graph_is words entry word_there profile;
     s = start;
     inputs = quiet ∷ [];
     keeps = record {
-      walk = one.edge words entry stands profile ∷ [];
-      complete = one.complete words entry stands profile;
-      kept = one.keeps_bounds words entry stands profile;
-      follows = one.follows words entry stands profile start quiet ready;
+      walk = one.edge words entry word_there profile ∷ [];
+      complete = one.complete words entry word_there profile;
+      kept = one.keeps_bounds words entry word_there profile;
+      follows = one.follows words entry word_there profile start quiet ready;
     };
-    ran = counted start.profile.burst quiet (one.stepped words entry stands profile start quiet ready) (at_rest None);
-    after = one.after words entry stands profile start quiet ready;
+    ran = counted start.profile.burst quiet (one.stepped words entry word_there profile start quiet ready) (at_rest None);
+    after = one.after words entry word_there profile start quiet ready;
     runs =
-        goes_before start quiet [] (one.stepped words entry stands profile start quiet ready)
-        (one.after words entry stands profile start quiet ready) (at_rest None)
-        (one.after words entry stands profile start quiet ready)
-        (one.step words entry stands profile start quiet ready)
-        (ap why_stopped (one.plain words entry stands profile start quiet ready)) (refl, refl);
+        goes_before start quiet [] (one.stepped words entry word_there profile start quiet ready)
+        (one.after words entry word_there profile start quiet ready) (at_rest None)
+        (one.after words entry word_there profile start quiet ready)
+        (one.step words entry word_there profile start quiet ready)
+        (ap why_stopped (one.plain words entry word_there profile start quiet ready)) (refl, refl);
   }

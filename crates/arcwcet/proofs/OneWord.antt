@@ -64,7 +64,7 @@ abbrev pub quiet : Input
 quiet = record { bursts = 0; lines = record { 0 = 0 }; port = 0 }
 
 -- the image has the word at the entry
-module _ (words : Words) (entry : ℕ) (stands : word_of words entry ≡ Some word) (profile : Profile) where
+module _ (words : Words) (entry : ℕ) (word_there : word_of words entry ≡ Some word) (profile : Profile) where
   abbrev pub stated : Stated
   stated = record { entry = entry; leave = Any; loops = []; targets = []; accesses = [] }
 
@@ -75,7 +75,7 @@ module _ (words : Words) (entry : ℕ) (stands : word_of words entry ≡ Some wo
   flow = record { entry = At [] entry; places = At [] entry ∷ []; edges = edge ∷ []; firsts = 0 ∷ 1 ∷ []; profile = profile }
 
   has : HasAction words entry (instr_action instr)
-  has = record { word = word; word_is = stands; is = inl (instr, means, refl) }
+  has = record { word = word; word_is = word_there; is = inl (instr, means, refl) }
 
   is_edge : IsEdge words stated profile edge
   unfolding edge instr
@@ -86,7 +86,7 @@ module _ (words : Words) (entry : ℕ) (stands : word_of words entry ≡ Some wo
   -- the word does nothing else
   one_action : (a : Action) → HasAction words entry a → a ≡ instr_action instr
   one_action a h =
-      let word_is : word ≡ h.word = same_Some word h.word (sym stands ∙ h.word_is) in
+      let word_is : word ≡ h.word = same_Some word h.word (sym word_there ∙ h.word_is) in
       ⊎_elim
       (λ m. m.2 ∙ ap instr_action (sym (one_instr word instr m.0 means (subst (λ (w : ℕ). Means w m.0) (sym word_is) m.1))))
       (λ u. absurd (never_both word instr u.0 means (subst (λ (w : ℕ). IsUnallocated w u.0) (sym word_is) u.1)))
@@ -159,7 +159,7 @@ module _ (words : Words) (entry : ℕ) (stands : word_of words entry ≡ Some wo
       registers = ready.registers;
       prices = ready.prices;
       has = subst (λ (a : ℕ). HasAction words a (instr_action instr)) (sym ready.at) has;
-      fetches = ready.fetches ∙ sym stands ∙ ap (word_of words) (sym ready.at);
+      fetches = ready.fetches ∙ sym word_there ∙ ap (word_of words) (sym ready.at);
       step = step;
       plain = plain;
       transfers = λ store first address is. tt;

@@ -139,24 +139,12 @@ module _ {S O : Type 0} (reads : Reading S) (taken : O → Option (List ℕ)) (f
 -- ## Of a command by the names of its files
 
 module _ {S O : Type 0} (reads : Reading S) (taken : O → Option (List ℕ)) (failures : O → ℕ) (asked : Asked) (names : Texts) (named : names ≡ files_of asked) (old new : S) where
-  pub unread_of : (out : O) (fault : StoreFault) → FailsToRead reads old names fault new → (status : ℕ) → status ≡ store_status fault → RunsOf reads taken failures asked old new out out status
-  unread_of out fault fails status is =
-      subst (λ (s : ℕ). RunsOf reads taken failures asked old new out out s) (sym is)
-      (unread reads taken failures (text_of asked) (fault_of asked) (files_of asked) old new out out fault (subst (λ (n : Texts). FailsToRead reads old n fault new) named fails) refl)
 
   pub ran_of : (before after : O) (kept lent : Texts) → lent ≡ kept → ReadsAll reads old names kept new → (result : Result Bool ReportFault) → PrintsOrRefusesOf taken failures asked lent before after result
       → (status : ℕ) → status ≡ answer_status result → RunsOf reads taken failures asked old new before after status
   ran_of before after kept lent same read result printed =
       answered_ran reads taken failures (text_of asked) (fault_of asked) (files_of asked) old new before after kept (subst (λ (n : Texts). ReadsAll reads old n kept new) named read)
       result (subst (λ (files : Texts). PrintsOrRefusesOf taken failures asked files before after result) same printed)
-
--- what is refused has another status than 0
-pub refused_status : (fault : ReportFault) (status : ℕ) → status ≡ report_status fault → status ≡ 0 → ⊥
-refused_status fault status is zero = elim (exit_of fault) [
-  | of_memory m ↦ let three : status ≡ 3 = is ∙ ap report_status m in absurd (omega (arith, three, zero))
-  | of_device d ↦ let four : status ≡ 4 = is ∙ ap report_status d in absurd (omega (arith, four, zero))
-  | of_other memory other one ↦ let here : status ≡ 1 = is ∙ one in absurd (omega (arith, here, zero))
-]
 
 -- ## `asm`
 
@@ -334,16 +322,6 @@ module _ {O : Type 0} (taken : O → Option (List ℕ)) (failures : O → ℕ) (
 -- ## `debug`
 
 module _ {S I O : Type 0} (reads : Reading S) (remaining : I → Option (List ℕ)) (taken : O → Option (List ℕ)) (failures : O → ℕ) (names : FileNames) (old new : S) (input_old input_new : I) (before after : O) where
-  -- a file could not be read
-  pub debug_file_refused : (fault : StoreFault) → FailsToRead reads old (two_of names) fault new → input_new ≡ input_old → after ≡ before → (status : ℕ) → status ≡ store_status fault
-      → RunsDebug reads remaining taken failures names old new input_old input_new before after status
-  debug_file_refused fault fails input_unread same status is = inr (inl (record { fault = fault; fails = fails; status_is = is; input_unread = input_unread }), same)
-
-  -- standard input could not
-  pub debug_input_refused : (files : Texts) (fault : StoreFault) → ReadsAll reads old (two_of names) files new
-      → (fault ≡ store_fault.InputTooLong → (front : List ℕ) × (length front ≡ 16777217) × Consumes (remaining input_old) (remaining input_new) front) → after ≡ before → (status : ℕ) → status ≡ store_status fault
-      → RunsDebug reads remaining taken failures names old new input_old input_new before after status
-  debug_input_refused files fault read too_long same status is = inr (inr (inl (record { files = files; read = read; fault = fault; status_is = is; too_long = too_long })), same)
 
   module _ (commands : List ℕ) (consumed : Consumes (remaining input_old) (remaining input_new) commands) (at_end : IsAtEnd (remaining input_new)) (few : length commands ≤ 16777216)
       (kept lent : Texts) (same : lent ≡ kept) (read : ReadsAll reads old (two_of names) kept new) where

@@ -144,7 +144,7 @@ impl Registers {
     {
         let operand = self.rotated_byte(fields.value, fields.rotation);
         let flags = flags_of(self.get(Reg::R15));
-        let outcome = outcome_of(fields.opcode, self.first(fields.rn, 8), operand, flags);
+        let outcome = outcome_of(fields.opcode, self.first_of(fields.rn, 8), operand, flags);
         self.place(prices, destination!(fields), outcome)
     }
 
@@ -157,7 +157,7 @@ impl Registers {
     {
         let operand = self.shifted_by_amount(fields.shift, fields.amount, fields.rm);
         let flags = flags_of(self.get(Reg::R15));
-        let outcome = outcome_of(fields.opcode, self.first(fields.rn, 8), operand, flags);
+        let outcome = outcome_of(fields.opcode, self.first_of(fields.rn, 8), operand, flags);
         self.place(prices, destination!(fields), outcome)
     }
 
@@ -175,7 +175,7 @@ impl Registers {
     {
         let operand = self.shifted_by_register(fields.shift, fields.rs, fields.rm);
         let flags = flags_of(self.get(Reg::R15));
-        let outcome = outcome_of(fields.opcode, self.first(fields.rn, 12), operand, flags);
+        let outcome = outcome_of(fields.opcode, self.first_of(fields.rn, 12), operand, flags);
         let done = self.place(prices, destination!(fields), outcome);
         done.delayed(prices.internal(1))
     }

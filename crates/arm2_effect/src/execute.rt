@@ -19,7 +19,7 @@ use arm2_decode::{Branch, Cond, Multiply, Operation, Register, holds};
 use shifter::multiply_cycles;
 
 impl Registers {
-    fn product(&self, multiply: &Multiply) -> Outcome
+    fn product_of(&self, multiply: &Multiply) -> Outcome
         ensures { result ≡ product_of multiply.now self.now }
     {
         let r15 = self.get(Reg::R15);
@@ -47,7 +47,7 @@ impl Registers {
         ensures goes_on { is_stopped result.kind ≡ false }
     {
         let multiplier = self.read(mode_of(self.get(Reg::R15)), multiply.rs);
-        let outcome = self.product(multiply);
+        let outcome = self.product_of(multiply);
         let done = self.enter(prices, multiply.sets_flags, multiply.rd, outcome);
         done.delayed(prices.internal(multiply_cycles(multiplier)))
     }

@@ -13,7 +13,7 @@ use shifter::{Shifted, rotate_imm, shift_imm, shift_reg};
 impl Registers {
     /// A register as the first operand, or as a base: of R15 the address bits alone, so many bytes ahead.
     #[inline(always)]
-    pub fn first(&self, register: Register, bytes: u32) -> u32
+    pub fn first_of(&self, register: Register, bytes: u32) -> u32
         requires words { bytes % 4 ≡ 0 }
         requires small { bytes < 16 }
         ensures { result ≡ first_of bytes register self.now }
@@ -27,7 +27,7 @@ impl Registers {
 
     // A register where it is shifted: of R15 all bits, with the address so many bytes ahead.
     #[inline(always)]
-    fn operand(&self, register: Register, bytes: u32) -> u32
+    fn operand_of(&self, register: Register, bytes: u32) -> u32
         requires words { bytes % 4 ≡ 0 }
         requires small { bytes < 16 }
         ensures { result ≡ operand_of bytes register self.now }
@@ -49,7 +49,7 @@ impl Registers {
         ensures { result ≡ shifted_by_amount shift amount rm self.now }
     {
         let carry = flags_of(self.get(Reg::R15)).carry;
-        shift_imm(shift, amount, self.operand(rm, 8), carry)
+        shift_imm(shift, amount, self.operand_of(rm, 8), carry)
     }
 
     /// A register that is shifted by the low byte of another.
@@ -59,7 +59,7 @@ impl Registers {
     {
         let r15 = self.get(Reg::R15);
         let amount = self.read(mode_of(r15), rs) % 256;
-        shift_reg(shift, amount, self.operand(rm, 12), flags_of(r15).carry)
+        shift_reg(shift, amount, self.operand_of(rm, 12), flags_of(r15).carry)
     }
 
     /// A byte that is rotated right by twice the rotation, which is from 0 to 15.

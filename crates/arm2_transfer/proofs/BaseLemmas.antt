@@ -28,7 +28,7 @@ use Rattle.arm2_transfer.specs.declared.words.Move.{Move}
 use Rattle.arm2_transfer.specs.declared.words.TransferFault.{TransferFault}
 use Rattle.arm2_transfer.specs.declared.words.TransferFault.TheVariants as fault
 use Rattle.arm2_transfer.specs.Bases.{address_at, base_moved, BlockBase, Stores, is_base, is_own_base, IsSpot, IsWordSpot, loads_base, lowest_at, PutsWords, SingleBase}
-use Rattle.arm2_transfer.specs.Block.{all_loaded, all_put, block_at, block_by, block_carried_out, block_loads, block_moved, block_put, block_stores, mode_for, span_of}
+use Rattle.arm2_transfer.specs.Block.{load_all, put_all, block_at, block_by, block_carried_out, block_loads, block_moved, block_put, block_stores, mode_for, span_of}
 use Rattle.arm2_transfer.specs.Bus.{made_of, put, put_single, seen}
 use Rattle.arm2_transfer.specs.Moved.{on_bus, out_of_space, faulted}
 use Rattle.arm2_transfer.specs.Registers.{given, moved_by, passed, with_base, with_loaded}
@@ -109,7 +109,7 @@ module _ (x : Block) (regs : List ℕ) (bus : Bus) (port : ℕ) (psr : Bool) (mo
 
   none_loaded : (i : ℕ) (registers : List Register) (moves : List Move) (now : List ℕ)
       → Placed x regs bus i registers moves → list_any here registers ≡ false
-      → slice_index (all_loaded psr mode r bus port moves now) s ≡ slice_index now s
+      → slice_index (load_all psr mode r bus port moves now) s ≡ slice_index now s
   none_loaded i [] [] now placed none = refl
   none_loaded i [] (move ∷ moves) now placed none = absurd placed
   none_loaded i (a ∷ rest) [] now placed none = absurd placed
@@ -128,7 +128,7 @@ module _ (x : Block) (regs : List ℕ) (bus : Bus) (port : ℕ) (psr : Bool) (mo
   one_loaded : (i : ℕ) (registers : List Register) (moves : List Move) (now : List ℕ)
       → Placed x regs bus i registers moves → 26 < length now → AtMostOne mode s registers
       → list_any here registers ≡ true
-      → IsWordOf i registers (slice_index (all_loaded psr mode r bus port moves now) s)
+      → IsWordOf i registers (slice_index (load_all psr mode r bus port moves now) s)
   one_loaded i [] moves now placed long one some = absurd (false≢true some)
   one_loaded i (a ∷ rest) [] now placed long one some = absurd placed
   one_loaded i (a ∷ rest) (move ∷ moves) now placed long one some =
@@ -194,7 +194,7 @@ module _ (x : Block) (regs : List ℕ) (bus : Bus) (low : place (current_mode re
 
   later_put : (i : ℕ) (registers : List Register) (moves : List Move) (old : Bus)
       → Placed x regs bus i registers moves → (i == 0) ≡ false
-      → PutsWords x regs bus i registers old (all_put (mode_for x (current_mode regs)) after moves old)
+      → PutsWords x regs bus i registers old (put_all (mode_for x (current_mode regs)) after moves old)
   later_put i [] [] old placed later = refl
   later_put i [] (move ∷ moves) old placed later = absurd placed
   later_put i (a ∷ rest) [] old placed later = absurd placed
@@ -210,7 +210,7 @@ module _ (x : Block) (regs : List ℕ) (bus : Bus) (low : place (current_mode re
         subst
             (λ (q : Register).
             PutsWords x regs bus (i + 1) rest (put move.spot word old)
-            (all_put mode after moves (put move.spot (value_in q after) old)))
+            (put_all mode after moves (put move.spot (value_in q after) old)))
             (sym placed.0) more,
       )
 
@@ -231,7 +231,7 @@ module _ (x : Block) (regs : List ℕ) (bus : Bus) (low : place (current_mode re
         subst
             (λ (q : Register).
             PutsWords x regs bus 1 rest (put move.spot word bus)
-            (all_put mode after moves (put move.spot (value_in q regs) bus)))
+            (put_all mode after moves (put move.spot (value_in q regs) bus)))
             (sym placed.0) more,
       )
 

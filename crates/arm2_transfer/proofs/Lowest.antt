@@ -1,12 +1,12 @@
 -- The lowest register of a list, and the list of the others.
-use Rattle.std.proofs.Common.{◌≡◌, ◌≢◌, ℕ, zero, suc, ◌+◌, ◌*◌, ◌%◌, ◌^◌, ◌<◌, ◌≤◌, ◌⊎◌, ◌==◌, true, false, cond, List, [], ◌∷◌, length, filter, bit_and, inl, inr, refl, sym, ap, ◌∙◌, arith}
+use Rattle.std.proofs.Common.{◌≡◌, ◌≢◌, ℕ, suc, ◌+◌, ◌*◌, ◌%◌, ◌^◌, ◌<◌, ◌≤◌, ◌⊎◌, ◌==◌, true, false, cond, List, [], ◌∷◌, length, filter, bit_and, inl, inr, refl, sym, ap, ◌∙◌, arith}
 use Rattle.std.specs.Int.{bit_at, bit_not, trailing_zeros, w32}
 use Rattle.std.proofs.lemmas.Bool.{cases_lt}
 use Rattle.std.proofs.lemmas.Nat.{and_le_l}
 use Rattle.std.proofs.lemmas.Nat.Bits.{bit_at-trailing_zeros, bit_at_above, bit_at_clear_same, bit_at_clear_other}
 use Rattle.arm2_decode.proofs.NameLemmas.{same_register}
 use Rattle.arm2_decode.specs.Names.{register_number}
-use Rattle.arm2_decode.specs.Transfers.{all_registers, is_listed, registers_in, word_count}
+use Rattle.arm2_decode.specs.Transfers.{all_registers, is_listed, registers_in}
 use Rattle.arm2_decode.specs.declared.names.Register.{Register}
 use Rattle.arm2_decode.proofs.Listed.{Counted, all_counted, sixteen}
 
@@ -80,7 +80,3 @@ split_registers list rest lowest register split named =
 pub none_listed : registers_in 0 ≡ []
 unfolding all_registers
 none_listed = refl
-
-pub some_bits : (list : ℕ) → 1 ≤ word_count list → 1 ≤ list
-some_bits zero some = absurd (omega (arith, some, ap (λ (rs : List Register). length rs) none_listed))
-some_bits (suc list) some = omega arith

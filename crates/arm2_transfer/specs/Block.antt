@@ -46,30 +46,30 @@ abbrev pub written_back : Block → Span → List ℕ → List ℕ
 written_back x span regs = with_base x.write_back (current_mode regs) x.rn span.base regs
 
 -- the words of some moves, from the registers of a mode
-abbrev pub all_put : Mode → List ℕ → List Move → Bus → Bus
-all_put mode regs [] bus = bus
-all_put mode regs (move ∷ rest) bus =
-    all_put mode regs rest (put move.spot (given mode move.register regs) bus)
+abbrev pub put_all : Mode → List ℕ → List Move → Bus → Bus
+put_all mode regs [] bus = bus
+put_all mode regs (move ∷ rest) bus =
+    put_all mode regs rest (put move.spot (given mode move.register regs) bus)
 
 -- the words of a store: the registers before the base is written back have the first of them, and those after
 -- it the others. So a base that is the lowest is stored as it was, and a later one as it becomes
 unfoldable pub block_put : Mode → (before after : List ℕ) → List Move → Bus → Bus
 block_put mode before after [] bus = bus
 block_put mode before after (move ∷ rest) bus =
-    all_put mode after rest (put move.spot (given mode move.register before) bus)
+    put_all mode after rest (put move.spot (given mode move.register before) bus)
 
 -- the words of some moves in the registers of a mode
-abbrev pub all_loaded : (psr : Bool) → Mode → (r : ℕ) → Bus → (port : ℕ) → List Move → List ℕ → List ℕ
-all_loaded psr mode r bus port [] regs = regs
-all_loaded psr mode r bus port (move ∷ rest) regs =
-    all_loaded psr mode r bus port rest (with_loaded psr mode r move.register (seen bus port move.spot) regs)
+abbrev pub load_all : (psr : Bool) → Mode → (r : ℕ) → Bus → (port : ℕ) → List Move → List ℕ → List ℕ
+load_all psr mode r bus port [] regs = regs
+load_all psr mode r bus port (move ∷ rest) regs =
+    load_all psr mode r bus port rest (with_loaded psr mode r move.register (seen bus port move.spot) regs)
 
 -- a load: the words come after the base is written back, so that a loaded base stays
 unfoldable pub block_loads : Block → Span → (port : ℕ) → List Move → List ℕ → Bus → Moved
 block_loads x span port moves regs bus =
     let r = r15_in regs in
     let written = with_base x.write_back (mode_of r) x.rn span.base (passed regs) in
-    let after = all_loaded x.user (block_mode x regs) r bus port moves written in
+    let after = load_all x.user (block_mode x regs) r bus port moves written in
     record {
       kind = Plain;
       accesses =

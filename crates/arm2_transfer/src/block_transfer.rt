@@ -1,12 +1,12 @@
 ghost use Rattle.std.specs.Prelude.{◌≡◌, ◌<◌, ◌≤◌};
 ghost use Rattle.arm2_effect.specs.Effects.{ticks_of};
-ghost use Rattle.arm2_effect.specs.Modes.{r15_in, register_in};
+ghost use Rattle.arm2_effect.specs.Modes.{r15_in};
 ghost use Rattle.arm2_decode.specs.Transfers.{is_listed, registers_in, word_count};
 ghost use Rattle.arm2_transfer.specs.Words.{AllFit, AreFitted, moves_along};
 ghost use Rattle.arm2_transfer.specs.Moved.{IsMoved, load_accesses, with_state};
 ghost use Rattle.arm2_effect.specs.ProgramCounter.{address_of, mode_of};
 ghost use Rattle.arm2_transfer.specs.Registers.{passed, with_base};
-ghost use Rattle.arm2_transfer.specs.Block.{all_loaded, all_put, block_at, block_loads, block_mode};
+ghost use Rattle.arm2_transfer.specs.Block.{load_all, put_all, block_at, block_loads, block_mode};
 ghost use Rattle.arm2_transfer.specs.Block.{block_moved, block_put, block_stores, mode_for};
 ghost use Rattle.arm2_transfer.specs.Block.{span_of, written_back};
 
@@ -47,7 +47,7 @@ fn mode_for(transfer: Block, mode: Mode) -> Mode
 
 fn put_all(registers: &Registers, bus: &mut Bus, mode: Mode, moves: &[Move])
     requires { AllFit bus.old.memc.shift moves.now }
-    ensures put { bus.new ≡ all_put mode registers.now moves.now bus.old }
+    ensures put { bus.new ≡ put_all mode registers.now moves.now bus.old }
 {
     for one in moves {
         put(bus, one.spot, given(registers, mode, one.register));
@@ -57,7 +57,7 @@ fn put_all(registers: &Registers, bus: &mut Bus, mode: Mode, moves: &[Move])
 fn load_all(registers: &mut Registers, bus: &Bus, port: u32, loading: Loading, moves: &[Move])
     requires { AllFit bus.now.memc.shift moves.now }
     ensures { registers.new
-        ≡ all_loaded loading.psr loading.mode loading.r15 bus.now port moves.now registers.old }
+        ≡ load_all loading.psr loading.mode loading.r15 bus.now port moves.now registers.old }
 {
     for one in moves {
         let word = seen(bus, port, one.spot);
@@ -209,13 +209,8 @@ impl Processor {
             (moves_along place (registers_in block.transfer.list)) self.old.registers self.old.bus) }
     {
         let loading = begin_load(&mut self.registers, block);
-        load_along(
-            &mut self.registers,
-            &self.bus,
-            loading,
-            block.transfer.list,
-            place,
-        );
+        let list = block.transfer.list;
+        load_along(&mut self.registers, &self.bus, loading, list, place);
         end_load(&self.registers, &self.prices, block, loading.r15)
     }
 

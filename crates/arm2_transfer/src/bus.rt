@@ -1,6 +1,6 @@
 ghost use Rattle.std.specs.Prelude.{◌≡◌, ◌<◌};
 ghost use Rattle.memc.specs.Memory.{Fits};
-ghost use Rattle.arm2_transfer.specs.Bus.{put, put_byte, put_single, seen, with_byte, byte_in, made_of};
+ghost use Rattle.arm2_transfer.specs.Bus.{put, put_byte, put_single, seen, with_byte, made_of};
 
 use ioc::Ioc;
 use memc::{Memc, Spot};

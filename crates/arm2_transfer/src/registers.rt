@@ -1,4 +1,4 @@
-ghost use Rattle.std.specs.Prelude.{◌≡◌, ◌<◌};
+ghost use Rattle.std.specs.Prelude.{◌≡◌};
 ghost use Rattle.arm2_transfer.specs.Registers.{given, with_loaded, with_base};
 ghost use Rattle.arm2_transfer.specs.Registers.{passed, loaded_r15};
 

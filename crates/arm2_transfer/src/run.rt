@@ -3,7 +3,7 @@
 ghost use Rattle.std.specs.Prelude.{◌≡◌, ℕ, ◌<◌, ◌^◌};
 ghost use Rattle.arm2_decode.specs.Transfers.{registers_in};
 ghost use Rattle.arm2_transfer.specs.Words.{AreFitted, moves_along};
-ghost use Rattle.arm2_transfer.specs.Block.{all_loaded, all_put};
+ghost use Rattle.arm2_transfer.specs.Block.{load_all, put_all};
 
 use crate::bus::{Bus, put};
 use crate::registers::{Loading, enter, given};
@@ -24,7 +24,7 @@ pub(crate) fn load_along(
     requires fitted { AreFitted bus.now.memc.shift place list }
     ensures { (port : ℕ)
         → registers.new
-        ≡ all_loaded loading.psr loading.mode loading.r15 bus.now port
+        ≡ load_all loading.psr loading.mode loading.r15 bus.now port
         (moves_along place (registers_in list)) registers.old }
 {
     let (mut left, mut next) = (list, place);
@@ -42,7 +42,7 @@ pub(crate) fn load_along(
 pub(crate) fn put_along(registers: &Registers, bus: &mut Bus, mode: Mode, list: u32, place: u32)
     requires list { list < 2 ^ 16 }
     requires fitted { AreFitted bus.old.memc.shift place list }
-    ensures { bus.new ≡ all_put mode registers.now (moves_along place (registers_in list)) bus.old }
+    ensures { bus.new ≡ put_all mode registers.now (moves_along place (registers_in list)) bus.old }
 {
     let (mut left, mut next) = (list, place);
     while left != 0 {

@@ -136,7 +136,7 @@ impl Processor {
         ensures { IsMoved self.old result self.new
             (single_moved transfer self.old.port self.old.registers self.old.bus) }
     {
-        let base = self.registers.first(transfer.rn, 8);
+        let base = self.registers.first_of(transfer.rn, 8);
         self.single_at(PlacedSingle { transfer, base })
     }
 

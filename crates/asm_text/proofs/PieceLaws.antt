@@ -31,9 +31,6 @@ at_name b ps h = let k = name_no_blank b h in rw (k, h) refl
 pub at_sign : (b : ℕ) (ps : List Piece) → is_blank b ≡ false → is_name b ≡ false → (b == 44) ≡ false → byte_before b ps ≡ Sign (mark_of b) ∷ ps
 at_sign b ps h k l = rw (h, k, l) refl
 
-pub at_comma : (ps : List Piece) → byte_before 44 ps ≡ Comma ∷ without_gap ps
-at_comma ps = refl
-
 -- ## What comes first
 
 pub first_no_gap : (bs : List ℕ) → first_blank bs ≡ false → starts_gap (pieces bs) ≡ false
@@ -210,9 +207,6 @@ pieces_again (Gap ∷ ps) text w s =
     ap pieces w.2 ∙ pieces-gap w.0 w.1 w.4 w.3 ∙ ap gap_before rest-is ∙ before_solid ps s.0
 
 -- ## And each text is written with its pieces
-
-no_blanks : IsBlanks []
-no_blanks = refl
 
 more_blanks : (b : ℕ) (bs : List ℕ) → is_blank b ≡ true → IsBlanks bs → IsBlanks (b ∷ bs)
 more_blanks b bs h k = rw (h, k) refl

@@ -87,10 +87,6 @@ by_is : (on : ℕ → Place → Option (ℕ × List Piece)) (ps : List Piece) (o
 by_is on ps None f e = absurd (none-some f e)
 by_is on ps (Some s) f e = (s, refl, e)
 
--- the same, of a list that goes on
-on_with : (ℕ → Place → Option (ℕ × List Piece)) → List Piece → Step → Option (ℕ × List Piece)
-on_with on ps s = list_by on ps (Some s)
-
 ended_is : (list : ℕ) (p : Piece) (ps : List Piece) (f : ℕ × List Piece)
     → ((m : ℕ) → list_from m place.Start ps ≡ Some f → Runs m f ps)
     → list_by (λ more next. list_from more next ps) ps (after_step list p) ≡ Some f → Ended list f (p ∷ ps)

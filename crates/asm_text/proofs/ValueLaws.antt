@@ -21,7 +21,3 @@ pub values_turn : (done : List Target) (expects : Expects) (tokens : List Token)
     → value_step expects (piece_of (get_or tokens i d)) ≡ Some (v, next)
     → option_map (λ vs. done ++ vs) (values_in expects (map piece_of (drop i tokens))) ≡ option_map (λ vs. (done ++ cons_option v []) ++ vs) (values_in next (map piece_of (drop (i + 1) tokens)))
 values_turn done expects tokens i d lt v next e = rw (drop_more tokens i d lt, e) (added_all done v (values_in next (map piece_of (drop (i + 1) tokens))))
-
-pub values_stop : (expects : Expects) (tokens : List Token) (i : ℕ) (d : Token) → i < length tokens
-    → value_step expects (piece_of (get_or tokens i d)) ≡ None → values_in expects (map piece_of (drop i tokens)) ≡ None
-values_stop expects tokens i d lt e = rw (drop_more tokens i d lt, e) refl

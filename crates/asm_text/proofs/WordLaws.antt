@@ -51,11 +51,6 @@ unfolding cond_of
 cond_again Eq rest = refl
 cond_again _ rest = refl
 
-whole_again : (c : Cond) → whole_cond (cond_name c) ≡ Some c
-unfolding cond_of
-whole_again Eq = refl
-whole_again _ = refl
-
 after_cond : (c : Cond) (rest : List ℕ) → drop 2 (cond_name c ++ rest) ≡ rest
 after_cond Eq rest = refl
 after_cond _ rest = refl

@@ -1,4 +1,4 @@
-ghost use Rattle.std.specs.Prelude.{◌≡◌, ◌≤◌, ◌⊎◌, map, option_map};
+ghost use Rattle.std.specs.Prelude.{◌≡◌, ◌⊎◌, map, option_map};
 ghost use Rattle.asm_text.specs.Pieces.{in_pieces, piece_of};
 ghost use Rattle.asm_text.specs.Numbers.{capped, digits_of, first_hex, number_by, first_number, read_number};
 

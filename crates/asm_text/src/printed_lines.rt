@@ -1,4 +1,4 @@
-ghost use Rattle.std.specs.Prelude.{◌≡◌, ◌++◌, ◌∷◌, ◌≤◌, [], None, Some, Ok, IfSome, IsNone, MatchOption};
+ghost use Rattle.std.specs.Prelude.{◌≡◌, ◌∷◌, ◌≤◌, None, Some, Ok, IfSome};
 ghost use Rattle.std.specs.Prelude.{length, map, true};
 ghost use Rattle.std.specs.List.{list_all};
 ghost use Rattle.asm_text.specs.Pieces.{piece_of, pieces, without_gap};

@@ -1,4 +1,4 @@
-ghost use Rattle.std.specs.Prelude.{◌≡◌, ◌++◌, ◌∷◌, ◌<◌, ◌≤◌, ℕ, length, map, take, drop, MatchOption, IfOk};
+ghost use Rattle.std.specs.Prelude.{◌≡◌, ◌∷◌, ◌<◌, ◌≤◌, length, map, drop, MatchOption, IfOk};
 ghost use Rattle.std.specs.Prelude.{[], List, false};
 ghost use Rattle.std.specs.List.{prefix_len};
 ghost use Rattle.asm_text.specs.Pieces.{is_blank, is_name, mark_of, pieces, piece_of, Piece, first_blank};

@@ -1,5 +1,5 @@
-ghost use Rattle.std.specs.Prelude.{◌≡◌, ◌==◌, ℕ, List, Some, IfSome, IfOk};
-ghost use Rattle.asm_text.specs.Words.{IsSpelling, IsWord, branch_of, plain_of, spelled_word_of, whole_cond};
+ghost use Rattle.std.specs.Prelude.{◌≡◌, ◌==◌, Some, IfSome, IfOk};
+ghost use Rattle.asm_text.specs.Words.{IsSpelling, branch_of, plain_of, spelled_word_of, whole_cond};
 ghost use Rattle.asm_text.specs.Words.{with_suffix, word_of};
 ghost use Rattle.asm_text.specs.Names.{suffix_of};
 ghost use Rattle.std.specs.Char.{to_ascii_lowercase, to_ascii_uppercase};

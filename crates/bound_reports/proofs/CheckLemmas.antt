@@ -30,13 +30,6 @@ use Rattle.report_input.proofs.ReportLemmas.{tree_is_greatest}
 
 -- ## Refusals
 
--- what refuses a source and a statement up to the loops refuses a check
-pub check_refusal : (source statement text : List ℕ) (profile : Profile) (e : ReportFault) → IsHandlerRefused source statement profile e → BeforeOutput (IsCheckRefused source statement text profile) e
-check_refusal source statement text profile Memory h = (λ e. cc e, tt)
-check_refusal source statement text profile Device h = absurd h
-check_refusal source statement text profile (report_fault.Cert f) h = absurd h
-check_refusal source statement text profile e h = (λ e. cc e, h)
-
 -- .. but not where the three texts can be checked
 pub checkable_refusal : (source statement text : List ℕ) (profile : Profile) (e : ReportFault) → IsHandlerRefused source statement profile e → IsCheckable source statement text profile → e ≡ Memory
 checkable_refusal source statement text profile e h a = handler_refusals source statement profile a.stated a.flow e a.loops h

@@ -3,8 +3,6 @@
 ghost use Rattle.std.specs.Prelude.{◌≡◌, List, ℕ, Option, IfErr, IfOk};
 ghost use Rattle.bus_ticks.specs.declared.profile.Profile.{Profile};
 ghost use Rattle.cert_check.specs.Columns.{Ascends};
-ghost use Rattle.cert_check.specs.Failing.{IsFirstFailing};
-ghost use Rattle.cert_check.specs.Verdict.{objections};
 ghost use Rattle.loop_bounds.specs.Tree.{IsTree};
 ghost use Rattle.bound_reports.specs.Check.{IsCheckRefused, IsCheckable};
 ghost use Rattle.bound_reports.specs.Found.{Finds, FindsRow, FindsVerdict, IsFound};

@@ -1,4 +1,4 @@
-ghost use Rattle.std.specs.Prelude.{◌≡◌, ◌↔◌, All, IsOk, IfOk, IsTrue, take, ◌*◌, ◌<◌, ◌≤◌, ◌^◌, ℕ};
+ghost use Rattle.std.specs.Prelude.{◌≡◌, ◌↔◌, All, IsOk, IfOk, IsTrue, ◌*◌, ◌<◌, ◌≤◌, ◌^◌};
 ghost use Rattle.bus_ticks.specs.Ranges.{AreInRange, AreOrdered, IsPrice, greatest};
 
 use crate::worst::greatest;

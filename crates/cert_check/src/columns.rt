@@ -3,7 +3,7 @@ ghost use Rattle.std.specs.List.Sorted.{IsStrictlySortedBy};
 ghost use Rattle.flow_graph.specs.Places.{place_cmp};
 ghost use Rattle.loop_bounds.specs.Tree.{IsTree};
 ghost use Rattle.longest_walk.specs.Rows.{distance_in, header_of_row, place_of_row};
-ghost use Rattle.cert_check.specs.Columns.{AreTablesOf, Ascends, IsColumn, arrival_in, by_number, round_in};
+ghost use Rattle.cert_check.specs.Columns.{AreTablesOf, Ascends, arrival_in, round_in};
 
 use crate::finding::row_about;
 use certificate::{Cert, InstanceRow, PlaceRow};

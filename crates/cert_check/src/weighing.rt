@@ -1,8 +1,8 @@
-ghost use Rattle.std.specs.Prelude.{◌≡◌, ◌≢◌, ◌↔◌, ◌<◌, ◌≤◌, ◌^◌, ℕ, IsTrue, AllPairs, MatchOption, length};
+ghost use Rattle.std.specs.Prelude.{◌≡◌, ◌≢◌, ◌↔◌, ◌<◌, ◌≤◌, ◌^◌, IsTrue, AllPairs, MatchOption, length};
 ghost use Rattle.std.specs.Prelude.{nat_eq, not};
 ghost use Rattle.std.specs.List.{find, list_any};
 ghost use Rattle.walks.specs.Rows.{limit_of};
-ghost use Rattle.numbered_walks.specs.Index.{AreHeaders, is_up};
+ghost use Rattle.numbered_walks.specs.Index.{AreHeaders};
 ghost use Rattle.numbered_walks.specs.Ordered.{is_in, number_shape, span_loops};
 ghost use Rattle.numbered_walks.specs.Tables.{arrival_of, distance_of, is_exit, needed, potentials_of};
 ghost use Rattle.numbered_walks.specs.Tables.{round_of, stay_of};

@@ -1,5 +1,5 @@
 -- A list of numbers that is spelled word by word.
-use Rattle.std.proofs.Common.{◌≡◌, ◌≢◌, ◌∙◌, ℕ, ◌<◌, ◌≤◌, ◌^◌, List, [], ◌∷◌, ◌++◌, length, map, codes, All, suc, ◌+◌, refl, sym, ap, subst, arith, append_assoc, append-nil, length-append, Option, Some, None, IfSome, IsNone, MatchOption, ◌↔◌, true≢false}
+use Rattle.std.proofs.Common.{◌≡◌, ◌≢◌, ◌∙◌, ℕ, ◌<◌, ◌≤◌, ◌^◌, List, [], ◌∷◌, ◌++◌, length, map, All, suc, ◌+◌, refl, sym, ap, subst, arith, append_assoc, append-nil, length-append, Option, Some, None, IfSome, IsNone, MatchOption, ◌↔◌, true≢false}
 use Rattle.std.specs.List.{AllByRecursion, join_with_byte}
 use Rattle.std.proofs.lemmas.List.Elements.{All-push, recursion_from_All}
 use Rattle.std.proofs.lemmas.List.{map_push}
@@ -49,10 +49,6 @@ module _ (mark : ℕ) (spell : ℕ → List ℕ) where
       by (x ∷ left) is e f = absurd (cc f)
 
 -- ## Calls
-
-pub calls_start : (word calls : List ℕ) → word ≢ codes "-" → word ≡ list_words calls → Ahead 47 hex calls [] word
-calls_start word [] some e = absurd (some e)
-calls_start word (a ∷ calls) some e = record { first = a; left = calls; all_are = refl; words_are = e }
 
 pub calls_end : (calls : List ℕ) (a : ℕ) → list_words (calls ++ a ∷ []) ≡ marked 47 (map hex calls) ++ hex a
 calls_end [] a = joined_end 47 hex [] a

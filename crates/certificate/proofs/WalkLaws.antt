@@ -1,5 +1,5 @@
 -- The lines of a walk, as it grows by a line.
-use Rattle.std.proofs.Common.{◌≡◌, ◌∙◌, Bool, true, ℕ, suc, List, [], ◌∷◌, ◌++◌, length, Vec, Some, None, refl, sym, ap, arith, append_assoc, append-nil, length-append, if◌then◌else◌}
+use Rattle.std.proofs.Common.{◌≡◌, ◌∙◌, Bool, true, ℕ, suc, List, [], ◌∷◌, ◌++◌, length, Vec, Some, None, refl, sym, ap, arith, append_assoc, length-append, if◌then◌else◌}
 use Rattle.std.specs.List.{flat_map}
 use Rattle.std.specs.declared.alloc.Global.{Global}
 use Rattle.std.proofs.lemmas.List.{flat_map_more}
@@ -26,16 +26,6 @@ lines-repeat k body =
     ∙ ap (repeated_lines k) (flat_map-map (λ x. x) cert_item_lines body.items)
 
 -- ## A front that grows
-
-pub front-step : (os : List OpenRepeat) (items : List CertItem) (s : StepLine) → front_lines os (items ++ Step s ∷ []) ≡ front_lines os items ++ w.Step s ∷ []
-front-step os items s =
-    ap (λ (ls : List WalkLine). flat_map open_lines os ++ ls) (sym (flat_map_more cert_item_lines [] items (Step s)) ∙ ap (λ (ls : List WalkLine). cert_walk_lines items ++ ls) (lines-step s))
-    ∙ sym (append_assoc (flat_map open_lines os) (cert_walk_lines items) (w.Step s ∷ []))
-
-pub front-repeat : (os : List OpenRepeat) (o : OpenRepeat) → front_lines (os ++ o ∷ []) [] ≡ front_lines os o.before.items ++ w.Repeat o.count ∷ []
-front-repeat os o =
-    append-nil (flat_map open_lines (os ++ o ∷ [])) ∙ sym (flat_map_more open_lines [] os o)
-    ∙ sym (append_assoc (flat_map open_lines os) (cert_walk_lines o.before.items) (w.Repeat o.count ∷ []))
 
 pub front-end : (os : List OpenRepeat) (o : OpenRepeat) (body : Vec CertItem Global)
     → front_lines os (o.before.items ++ Repeat o.count body ∷ []) ≡ front_lines (os ++ o ∷ []) body.items ++ w.End ∷ []

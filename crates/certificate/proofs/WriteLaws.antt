@@ -25,16 +25,13 @@ use Rattle.certificate.specs.declared.line.Line.TheVariants as l
 use Rattle.certificate.specs.Lines.{Said, cert_text, head_lines}
 use Rattle.certificate.specs.Walk.{item_lines, item_step, repeated_lines, step_of, walk_lines}
 use Rattle.asm_text.specs.Hex.{hex}
-use Rattle.certificate.specs.Words.{ended, instance_words, line_words, list_words, place_words, step_words, text_of, walk_words}
+use Rattle.certificate.specs.Words.{ended, instance_words, line_words, list_words, place_words, text_of, walk_words}
 use Rattle.certificate.specs.Written.{head_text, instances_text, places_text, walk_text}
 
 -- ## The walk
 
 pub lines-step : (e : Edge) → item_lines (Step e) ≡ w.Step (step_of e) ∷ []
 lines-step e = ap (fold-Item (List WalkLine) item_step) (sym (rolls-Step e)) ∙ fold-roll-Item (List WalkLine) item_step (Item-F.Step e)
-
-pub text-step : (e : Edge) → walk_text (item_lines (Step e)) ≡ ended (step_words (step_of e))
-text-step e = ap walk_text (lines-step e) ∙ append-nil (ended (step_words (step_of e)))
 
 pub text-repeat : (k : ℕ) (body : Rc (Vec Item Global) Global) → walk_text (item_lines (Repeat k body)) ≡ ended (codes "repeat " ++ decimal k) ++ (walk_text (walk_lines body.value.items) ++ codes "end\n")
 text-repeat k body =

@@ -22,10 +22,6 @@ abbrev pub RowsSoFar : Row → (address : ℕ) → (words : List ℕ) → (at : 
 RowsSoFar row address words at left text =
     (more : List ℕ) → Rows (IsRowOf row) at left more → Rows (IsRowOf row) address words (text ++ more)
 
-pub rows_start : (row : Row) (address : ℕ) (words old : List ℕ)
-    → Appends (RowsSoFar row address words address words) old old
-rows_start row address words old = ([], (λ more rows. rows), sym (append-nil old))
-
 pub rows_end : (row : Row) (address : ℕ) (words : List ℕ) (at : ℕ) (left old new : List ℕ)
     → Appends (RowsSoFar row address words at left) old new → left ≡ []
     → Appends (Rows (IsRowOf row) address words) old new

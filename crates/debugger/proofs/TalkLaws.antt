@@ -10,9 +10,6 @@ abbrev pub TalkSoFar : SessionState → List (List ℕ) → SessionState → Lis
 TalkSoFar start lines now left text =
     (more : List ℕ) → Converses now left more → Converses start lines (text ++ more)
 
-pub talk_starts : (start : SessionState) (lines : List (List ℕ)) → TalkSoFar start lines start lines []
-talk_starts start lines more stepped = stepped
-
 answered_end : (start : SessionState) (lines : List (List ℕ)) (now : SessionState) (left : List (List ℕ))
     (text : List ℕ) → TalkSoFar start lines now left text → Converses now left [] → Converses start lines text
 answered_end start lines now left text so_far rest =

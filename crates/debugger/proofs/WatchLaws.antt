@@ -9,7 +9,7 @@ use Rattle.arm2_exec.specs.declared.machine.Ran.{Ran}
 use Rattle.arm2_exec.specs.declared.machine.Stepped.{Stepped}
 use Rattle.arm2_exec.specs.State.{State}
 use Rattle.arm2_exec.specs.Step.{Step}
-use Rattle.arm2_exec.specs.Run.{Ends, IsWithin, Runs, at_rest, counted, why_stopped}
+use Rattle.arm2_exec.specs.Run.{Ends, Runs, at_rest, counted, why_stopped}
 use Rattle.arm2_exec.proofs.StepLemmas.{stopped_same, stops}
 use Rattle.arm2_exec.proofs.RunLemmas.{added, goes, plus_none, why_of}
 use Rattle.arm2_exec.specs.declared.machine.Traced.{Traced}
@@ -33,9 +33,6 @@ at_hand i steps made less =
 
 pub none_left : (i : Input) (steps made : ℕ) → steps ≤ made → inputs_of i (steps - made) ≡ []
 none_left i steps made all = let none : steps - made ≡ 0 = omega (arith, all) in ap (inputs_of i) none
-
-pub nothing_is_within : IsWithin 0 (at_rest None)
-nothing_is_within = (omega arith, omega arith, omega arith)
 
 -- ## What has run, whatever follows
 

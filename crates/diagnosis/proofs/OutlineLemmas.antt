@@ -16,6 +16,3 @@ pub more_tokens : (line : ℕ) (r : Reading) (last k : ℕ) (text : List ℕ) (f
 more_tokens line r last k text found inside is =
     let next : last - k ≡ suc (last - (k + 1)) = omega (arith, inside) in
     ap (λ n. all_taken line r (tokens n text)) next ∙ (one_token line r (last - (k + 1)) text ∙ ap (after_first line r (last - (k + 1))) (sym is))
-
-pub no_token : (line : ℕ) (r : Reading) (last k : ℕ) (text : List ℕ) → k < last → first_token text ≡ None → all_taken line r (tokens (last - k) text) ≡ r
-no_token line r last k text inside is = more_tokens line r last k text None inside (sym is)

@@ -1,12 +1,11 @@
 -- The search for a cycle, step by step.
-use Rattle.std.proofs.Common.{◌≡◌, ◌⊎◌, ℕ, ◌+◌, ◌<◌, ◌≤◌, List, [], ◌∷◌, ◌++◌, length, get_or, set, replicate, sum_by, refl, sym, ap, ◌∙◌, subst, inl, inr, ⊎_elim, Result, arith}
+use Rattle.std.proofs.Common.{◌≡◌, ◌⊎◌, ℕ, ◌+◌, ◌<◌, ◌≤◌, List, [], ◌∷◌, ◌++◌, length, get_or, set, replicate, refl, sym, ap, ◌∙◌, subst, inl, inr, ⊎_elim, Result, arith}
 use Rattle.std.specs.Prelude.{Contains}
 use Rattle.std.specs.List.Sorted.{IsBinarySearchResult, IsSearchInRange, IsStrictlySortedBy}
 use Rattle.std.specs.Result.{result_unwrap_or}
 use Rattle.std.proofs.lemmas.Bool.{cases_eq, cases_lt}
 use Rattle.std.proofs.lemmas.List.{get_or-set_same, get_or-set_other, length-set, get_or-replicate, length-replicate, get_or_past}
 use Rattle.std.proofs.lemmas.List.Elements.{Contains-append_left, Contains-append_right, Contains-append_cases}
-use Rattle.std.proofs.lemmas.List.Sums.{sum_by-set}
 use Rattle.walks.proofs.Leading.{Leads-append}
 use Rattle.flow_graph.specs.declared.places.Place.{Place}
 use Rattle.flow_graph.specs.declared.places.Place.TheVariants.{Exit}
@@ -23,10 +22,6 @@ use Rattle.diagnosis.specs.Cycles.{AreMarks, IsCleared, IsClosed, IsIdle, IsOn, 
 use Rattle.diagnosis.specs.declared.search.Search.{Search}
 
 -- ## Sums of marks
-
--- a lower mark
-pub lowered : (marks : List ℕ) (v m : ℕ) → v < length marks → sum_by (λ m. m) (set marks v m) + get_or marks v 0 ≡ sum_by (λ m. m) marks + m
-lowered marks v m lt = sum_by-set (λ (m : ℕ). m) marks v m 0 lt
 
 abbrev begun_marks : ℕ → List ℕ
 begun_marks n = replicate (n + 1) 2

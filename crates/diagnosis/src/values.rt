@@ -1,7 +1,7 @@
 ghost use Rattle.std.specs.Prelude.{◌≡◌};
 ghost use Rattle.diagnosis.specs.Outline.{key_value_of, value_of};
 ghost use Rattle.diagnosis.specs.Refused.{address_at, fits_key, is_negative};
-ghost use Rattle.diagnosis.specs.Refused.{is_number, is_number_outside, is_out_of_range, is_outside, is_text};
+ghost use Rattle.diagnosis.specs.Refused.{is_number, is_out_of_range, is_outside, is_text};
 ghost use Rattle.diagnosis.specs.Refused.{is_unknown_label, quoted_class, quoted_kind, starts_digit};
 ghost use Rattle.diagnosis.specs.Refused.{starts_number, takes_address};
 

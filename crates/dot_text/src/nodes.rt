@@ -1,4 +1,4 @@
-ghost use Rattle.std.specs.Prelude.{◌≡◌, ◌<◌, ◌≤◌, ◌+◌, ◌++◌, OnOk, length, slice_index};
+ghost use Rattle.std.specs.Prelude.{◌≡◌, ◌<◌, ◌≤◌, ◌+◌, ◌++◌, OnOk, length};
 ghost use Rattle.std.specs.List.{flat_map, slice_get};
 ghost use Rattle.dot_text.specs.Stretches.{CanDraw, between};
 ghost use Rattle.dot_text.specs.Parts.{drawn_node, drawn_row, drawn_stretch};

@@ -16,7 +16,7 @@ use Rattle.arm2_transfer.specs.declared.bus.Bus.{Bus}
 use Rattle.arm2_transfer.specs.declared.words.Move.{Move}
 use Rattle.arm2_transfer.specs.declared.words.TransferFault.{TransferFault}
 use Rattle.arm2_transfer.specs.declared.words.TransferFault.TheVariants as fault
-use Rattle.arm2_transfer.specs.Block.{all_loaded}
+use Rattle.arm2_transfer.specs.Block.{load_all}
 use Rattle.arm2_transfer.specs.Bus.{seen}
 use Rattle.arm2_transfer.specs.Registers.{with_loaded}
 use Rattle.arm2_transfer.specs.Words.{Word, is_abort, is_unsupported, moves_of, verdict_of, words_from}
@@ -79,7 +79,7 @@ verdict_others m user store lowest list moves e none =
     (by_verdict (list_any (λ (word : Word). is_abort word.1) words) (list_any (λ (word : Word). is_unsupported word.1) words) (moves_of words) moves e)
     (moves_others m user store lowest 0 (registers_in list) (kept_others (is_listed list) (other_register list none) all_registers))
 
-pub all_stay : (psr : Bool) (mode : Mode) (r : ℕ) (bus : Bus) (port : ℕ) (moves : List Move) (regs : List ℕ) → AllMoveOther moves → r15_in (all_loaded psr mode r bus port moves regs) ≡ r15_in regs
+pub all_stay : (psr : Bool) (mode : Mode) (r : ℕ) (bus : Bus) (port : ℕ) (moves : List Move) (regs : List ℕ) → AllMoveOther moves → r15_in (load_all psr mode r bus port moves regs) ≡ r15_in regs
 all_stay psr mode r bus port [] regs h = refl
 all_stay psr mode r bus port (move ∷ rest) regs h =
     all_stay psr mode r bus port rest (with_loaded psr mode r move.register (seen bus port move.spot) regs) h.1

@@ -16,7 +16,7 @@ use Rattle.arm2_effect.specs.ProgramCounter.{address_of, r15_ahead}
 use Rattle.arm2_transfer.specs.declared.single_fields.Single.{Single}
 use Rattle.arm2_transfer.specs.declared.span.Span.{Span}
 use Rattle.arm2_transfer.specs.declared.words.Move.{Move}
-use Rattle.arm2_transfer.specs.Block.{all_loaded, block_at, block_by, block_carried_out, block_loads}
+use Rattle.arm2_transfer.specs.Block.{load_all, block_at, block_by, block_carried_out, block_loads}
 use Rattle.arm2_transfer.specs.Block.{block_stores, mode_for}
 use Rattle.arm2_transfer.specs.Bus.{made_of, seen}
 use Rattle.arm2_transfer.specs.Moved.{Moved}
@@ -137,7 +137,7 @@ module _ (c : Setting) where
 
     -- a load's registers, by those once the base was written back
     abbrev loaded : List Move → List ℕ → List ℕ
-    loaded ms regs = all_loaded x.user (mode_for x (mode c)) (r15_in c.regs) c.bus c.port ms regs
+    loaded ms regs = load_all x.user (mode_for x (mode c)) (r15_in c.regs) c.bus c.port ms regs
 
     -- R15 is loaded from the last word
     last_goes : is_listed x.list R15 ≡ true → (regs : List ℕ) → 26 < length regs

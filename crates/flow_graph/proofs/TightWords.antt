@@ -18,7 +18,7 @@ use Rattle.arm2_effect.specs.declared.modes.Mode.{Mode}
 use Rattle.arm2_effect.specs.Modes.{r15_in}
 use Rattle.arm2_effect.specs.ProgramCounter.{address_of}
 use Rattle.arm2_transfer.specs.declared.bus.Bus.{Bus}
-use Rattle.arm2_transfer.specs.Block.{all_loaded}
+use Rattle.arm2_transfer.specs.Block.{load_all}
 use Rattle.arm2_transfer.specs.Bus.{made_of, seen, turned}
 use Rattle.arm2_transfer.specs.Registers.{with_loaded}
 use Rattle.arm2_transfer.specs.Words.{Word, is_abort, is_unsupported, moves_of}
@@ -103,7 +103,7 @@ last_is_r15 list listed =
 
 module _ (psr : Bool) (mode : Mode) (r : ℕ) (bus : Bus) (port : ℕ) (spot : ℕ → Spot) where
   abbrev pub loaded : ℕ → List Register → List ℕ → List ℕ
-  loaded i rs regs = all_loaded psr mode r bus port (moves_of (words_to spot i rs)) regs
+  loaded i rs regs = load_all psr mode r bus port (moves_of (words_to spot i rs)) regs
 
   pub last_loaded : (i : ℕ) (rs : List Register) (regs : List ℕ) → 26 < length regs
       → address_of (r15_in (loaded i (rs ++ R15 ∷ []) regs))

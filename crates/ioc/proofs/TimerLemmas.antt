@@ -12,13 +12,9 @@ use Rattle.ioc.specs.Law.{TicksAddUp}
 use Rattle.ioc.specs.Timers.{decremented, after_decrements, tick, ticked}
 
 -- a timer that does not move
-pub stands : (n : ℕ) (t : Timer) → (t.count == 0 || t.latch == 0) ≡ true → after_decrements n t ≡ t
-stands zero t h = refl
-stands (suc n) t h = ap decremented (stands n t h) ∙ grind (arith, nat_tests)
-
--- one decrement, by the count
-pub decremented_more : (t : Timer) (k : ℕ) → 0 < t.latch → t.count ≡ k + 2 → decremented t ≡ record t { count = k + 1 }
-decremented_more t k l c = grind (arith, nat_tests)
+pub stays : (n : ℕ) (t : Timer) → (t.count == 0 || t.latch == 0) ≡ true → after_decrements n t ≡ t
+stays zero t h = refl
+stays (suc n) t h = ap decremented (stays n t h) ∙ grind (arith, nat_tests)
 
 pub decremented_last : (t : Timer) → 0 < t.latch → t.count ≡ 1 → decremented t ≡ record t { count = t.latch; request = true }
 decremented_last t l c = grind (arith, nat_tests)
@@ -107,10 +103,6 @@ same_requests s counts ticks phase below first second =
       first = ap (λ (t : Timers). t.timer_0.request) is ∙ first ((s.phase + ticks) / 4) few;
       second = ap (λ (t : Timers). t.timer_1.request) is ∙ second ((s.phase + ticks) / 4) few;
     }
-
--- ticks keep the phase below 4
-pub phase_below : (n : ℕ) (s : Timers) → s.phase < 4 → (ticked n s).phase < 4
-phase_below n s h = omega (arith, ap (λ (t : Timers). t.phase) (by_decrements n s h))
 
 -- the law
 pub ticked-add : (a b : ℕ) (s : Timers) → ticked (a + b) s ≡ ticked b (ticked a s)

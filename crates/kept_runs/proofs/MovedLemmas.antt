@@ -38,7 +38,7 @@ use Rattle.arm2_transfer.specs.declared.span.Span.{Span}
 use Rattle.arm2_transfer.specs.declared.words.Move.{Move}
 use Rattle.arm2_transfer.specs.declared.words.TransferFault.{TransferFault}
 use Rattle.arm2_transfer.specs.declared.words.TransferFault.TheVariants as fault
-use Rattle.arm2_transfer.specs.Block.{all_loaded, block_at, block_by, block_carried_out, block_loads, block_moved, block_stores, lowest_of, mode_for, span_of}
+use Rattle.arm2_transfer.specs.Block.{load_all, block_at, block_by, block_carried_out, block_loads, block_moved, block_stores, lowest_of, mode_for, span_of}
 use Rattle.arm2_transfer.specs.Moved.{Moved, faulted, load_accesses, on_bus, store_accesses, words_at}
 use Rattle.arm2_transfer.specs.Operations.{operation_moved}
 use Rattle.arm2_transfer.specs.Registers.{passed, with_base, with_loaded}
@@ -120,7 +120,7 @@ module _ (regs : List ℕ) where
   loaded_long : (psr : Bool) (mode : Mode) (r : ℕ) (register : Register) (word : ℕ) → length (with_loaded psr mode r register word regs) ≡ length regs
   loaded_long psr mode r register word = either_long (is_pc register) (with_r15 _ regs) (with_register mode (register_number register) word regs) (length regs) (r15_long _) (with_long mode (register_number register) word)
 
-all_loaded_long : (psr : Bool) (mode : Mode) (r : ℕ) (bus : Bus) (port : ℕ) (moves : List Move) (regs : List ℕ) → length (all_loaded psr mode r bus port moves regs) ≡ length regs
+all_loaded_long : (psr : Bool) (mode : Mode) (r : ℕ) (bus : Bus) (port : ℕ) (moves : List Move) (regs : List ℕ) → length (load_all psr mode r bus port moves regs) ≡ length regs
 all_loaded_long psr mode r bus port [] regs = refl
 all_loaded_long psr mode r bus port (move ∷ rest) regs =
     all_loaded_long psr mode r bus port rest (with_loaded psr mode r move.register _ regs) ∙ loaded_long regs psr mode r move.register _

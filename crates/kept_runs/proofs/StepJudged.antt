@@ -82,9 +82,6 @@ module _ (words : Words) (st : Stated) (flow : Flow) (graph : IsFlowGraph words 
   abbrev bus : Bus
   bus = with_lines i.lines.0 s.bus
 
-  abbrev IsStepOf : Stepped → State → Edge → Type 0
-  IsStepOf stepped after e = IsEdgeOf words st flow.profile s i stepped after e
-
   there : {stepped : Stepped} {after : State} {e : Edge} → (h : IsEdgeOf words st flow.profile s i stepped after e) → FetchesWord words s h.executes.has.word
   there h = record { word_is = h.executes.has.word_is; fetches = h.executes.fetches ∙ h.executes.has.word_is }
 

@@ -1,7 +1,6 @@
 //! What the word at the machine's address is to do.
 
 ghost use Rattle.std.specs.Prelude.{◌≡◌, ◌≤◌, IfSome, MatchOption};
-ghost use Rattle.arm2_effect.specs.Modes.{r15_in};
 ghost use Rattle.arm2_exec.specs.Step.{fetched};
 ghost use Rattle.kept_runs.specs.Reading.{HasNoWord, IsReading, FetchesWord, transfer_if};
 

@@ -1,6 +1,6 @@
 //! The words that an instruction transfers, by the registers before it.
 
-ghost use Rattle.std.specs.Prelude.{◌≡◌, ◌≤◌, ◌<◌, ℕ, IfSome, MatchOption};
+ghost use Rattle.std.specs.Prelude.{◌≡◌, ◌≤◌, ◌<◌, IfSome, MatchOption};
 ghost use Rattle.kept_runs.specs.Transfers.{AllOf, HasNoOther, HasOther, HasOtherOf, words_of};
 
 use arm2_decode::Operation;
@@ -35,14 +35,14 @@ pub(crate) fn words_of(registers: &Registers, operation: &Operation) -> Option<T
 {
     match operation {
         Operation::SingleImmediate(x) => Some(Transfer {
-            address: address_by(x.before, x.up, registers.first(x.rn, 8), x.offset),
+            address: address_by(x.before, x.up, registers.first_of(x.rn, 8), x.offset),
             words: 1,
             store: !x.load,
         }),
         Operation::SingleRegister(x) => {
             let offset = registers.shifted_by_amount(x.shift, x.amount, x.rm).value;
             Some(Transfer {
-                address: address_by(x.before, x.up, registers.first(x.rn, 8), offset),
+                address: address_by(x.before, x.up, registers.first_of(x.rn, 8), offset),
                 words: 1,
                 store: !x.load,
             })

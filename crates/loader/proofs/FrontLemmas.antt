@@ -24,14 +24,14 @@ use Rattle.loader.proofs.WrittenLemmas.{no_fault}
 
 -- a segment whose head and words are whole
 record IsWhole (left : ℕ) (before words : Words) (bytes : List ℕ) : Type 0 where
-  stands : segment_fault before (head_address bytes) (head_count bytes) ≡ None
+  no_fault : segment_fault before (head_address bytes) (head_count bytes) ≡ None
   long : 8 + 4 * head_count bytes ≤ length bytes
   later : segments_read left (with_words before (head_address bytes) (numbers (head_count bytes) (drop 8 bytes))) (drop (8 + 4 * head_count bytes) bytes) ≡ Ok words
 
 is_whole : (left : ℕ) (before words : Words) (bytes : List ℕ) → segments_read (suc left) before bytes ≡ Ok words → IsWhole left before words bytes
 is_whole left before words bytes e =
     let p = ok_parts (segment_fault before (head_address bytes) (head_count bytes)) (nat_lt (length bytes) (8 + 4 * head_count bytes)) _ _ words (whole_part (nat_lt (length bytes) 4) (cut_fault before left bytes) _ words e) in
-    record { stands = p.0; long = ltb-false (length bytes) (8 + 4 * head_count bytes) p.1; later = p.2 }
+    record { no_fault = p.0; long = ltb-false (length bytes) (8 + 4 * head_count bytes) p.1; later = p.2 }
 
 length_words : (words : Words) (a : ℕ) (ws : List ℕ) → length (with_words words a ws) ≡ length words + length ws
 length_words words a [] = omega arith
@@ -51,7 +51,7 @@ few_to_come : (left : ℕ) (before words : Words) (bytes : List ℕ) → length 
 few_to_come zero before words bytes few e = omega (arith, few)
 few_to_come (suc left) before words bytes few e =
     let whole = is_whole left before words bytes e in
-    let can = can_stand before (head_address bytes) (head_count bytes) whole.stands in
+    let can = can_stand before (head_address bytes) (head_count bytes) whole.no_fault in
     let some = can.some in
     let most = can.few in
     let len = length_read before (head_address bytes) (head_count bytes) (drop 8 bytes) in
@@ -232,7 +232,7 @@ front_read (suc left) before words bytes more some few e =
     let whole = is_whole left before words (bytes ++ more) e in
     let a = head_address (bytes ++ more) in
     let n = head_count (bytes ++ more) in
-    let can = can_stand before a n whole.stands in
+    let can = can_stand before a n whole.no_fault in
     let long = whole.long in
     let positive = can.some in
     let most = can.few in
@@ -256,7 +256,7 @@ front_read (suc left) before words bytes more some few e =
                 let new = with_words before a (numbers n (drop 8 (bytes ++ more))) in
                 let ns : numbers n (drop 8 bytes) ≡ numbers n (drop 8 (bytes ++ more)) =
                 sym (ap (λ (bs : List ℕ). numbers n bs) (drop-append-le 8 bytes more (omega (arith, enough))) ∙ numbers_front n (drop 8 bytes) more (let l = length-drop 8 bytes in omega (arith, l, enough, here))) in
-                let none : segment_fault before a n ≡ None = whole.stands in
+                let none : segment_fault before a n ≡ None = whole.no_fault in
                 let rest : drop (8 + 4 * n) (bytes ++ more) ≡ drop (8 + 4 * n) bytes ++ more = drop-append-le (8 + 4 * n) bytes more (omega (arith, enough, here)) in
                 read_step left before new bytes (drop (8 + 4 * n) bytes) a n same here none (omega (arith, enough, here)) (ap (λ (ws : List ℕ). with_words before a ws) ns) refl
                 ∙ front_read left new words (drop (8 + 4 * n) bytes) more some (omega (arith, len_new, most)) (ap (λ (bs : List ℕ). segments_read left new bs) (sym rest) ∙ whole.later)

@@ -215,12 +215,6 @@ searched (e ∷ rest) a (suc i) o is low high up =
 
 -- ## Words that move
 
-pub moved_up : (xs ys new : Words) (e : ℕ × ℕ) → xs ≡ new ++ e ∷ [] → new ++ (e ∷ ys) ≡ xs ++ ys
-moved_up xs ys new e is = sym (append_assoc new (e ∷ []) ys) ∙ ap (λ (zs : Words). zs ++ ys) (sym is)
-
-pub moved_down : (xs ys new : Words) (e : ℕ × ℕ) → ys ≡ e ∷ new → (xs ++ e ∷ []) ++ new ≡ xs ++ ys
-moved_down xs ys new e is = append_assoc xs (e ∷ []) new ∙ ap (λ (zs : Words). xs ++ zs) (sym is)
-
 pub Below-push : (xs : Words) (a : ℕ) (e : ℕ × ℕ) → Below a xs → e.0 < a → Below a (xs ++ e ∷ [])
 Below-push [] a e all lt = (lt, tt)
 Below-push (x ∷ xs) a e all lt = (all.0, Below-push xs a e all.1 lt)

@@ -8,8 +8,8 @@ use Rattle.std.specs.declared.cmp.Ordering.TheVariants.{Less}
 use Rattle.std.proofs.lemmas.Bool.{cases_lt, false_from_ne_true}
 use Rattle.std.proofs.lemmas.Bool.Decides.{nat_tests}
 use Rattle.std.proofs.lemmas.Cmp.{nat_eq_equiv}
-use Rattle.std.proofs.lemmas.List.{get_or-map, get_or-take, get_or_default, length-map, length-take}
-use Rattle.std.proofs.lemmas.List.Elements.{All-cons, All-contains, All-contains_itself, All-filter, All-from_get_or, All-from_recursion, All-get_or, All-head, All-map, All-nil, All-tail, Contains-get_or, filter_passes}
+use Rattle.std.proofs.lemmas.List.{get_or-take, get_or_default, length-take}
+use Rattle.std.proofs.lemmas.List.Elements.{All-cons, All-contains, All-contains_itself, All-filter, All-from_get_or, All-from_recursion, All-get_or, All-head, All-nil, All-tail, Contains-get_or, filter_passes}
 use Rattle.std.proofs.lemmas.List.Filters.{length-filter_both}
 use Rattle.std.proofs.lemmas.List.FromFn.{get_or-range_with_len, length-range_with_len}
 use Rattle.std.proofs.lemmas.List.Kept.{IsStrictlySortedBy-filter}
@@ -17,7 +17,6 @@ use Rattle.std.proofs.lemmas.List.Sorted.{searched}
 use Rattle.std.proofs.lemmas.List.Sums.{count_by-le-length, length-filter}
 use Rattle.std.proofs.lemmas.Map.Keys.{below_from_sorted, non_decreasing_from_sorted}
 use Rattle.std.proofs.lemmas.Map.Made.{length-le_from_is_member}
-use Rattle.std.proofs.lemmas.Map.Steps.{length-le_from_distinct_below}
 use Rattle.std.proofs.lemmas.Map.Views.{Contains-from_any, exact_unsigned_eq, list_any-from_Contains}
 use Rattle.loader.specs.Image.{Words}
 use Rattle.loader.specs.PagePlan.{AreHeld, Ascend, HasWordOn, IsFree, IsPagePlan, free_pages, is_logical, is_unnamed, placed}
@@ -253,20 +252,5 @@ plan_is words held free pages n spare are frees on is last =
 
 -- ## What users of a plan want
 
-pub logical_below : (words : Words) (pages : List PlacedPage) (spare : ℕ) → IsPagePlan words pages spare → All (λ (p : PlacedPage). p.logical < 1024) pages
-logical_below words pages spare plan = λ i d lt.
-    let at = get_or-map (λ (p : PlacedPage). p.logical) pages i d d.logical lt in
-    let names = map (λ (p : PlacedPage). p.logical) pages in
-    let within : i < length names = (let long = length-map pages (λ (p : PlacedPage). p.logical) in omega (arith, lt, long)) in
-    ((plan.logical (get_or pages i d).logical).0 (subst (λ (x : ℕ). Contains names x) at (Contains-get_or names i d.logical within))).0
-
 pub physical_below : (words : Words) (pages : List PlacedPage) (spare : ℕ) → IsPagePlan words pages spare → All (λ (p : PlacedPage). p.physical < 128) pages
 physical_below words pages spare plan = λ i d lt. (plan.free i d lt).below
-
-pub few_pages : (words : Words) (pages : List PlacedPage) (spare : ℕ) → IsPagePlan words pages spare → length pages ≤ 128
-few_pages words pages spare plan =
-    let places = map (λ (p : PlacedPage). p.physical) pages in
-    let all = All-map (λ (x : ℕ). x < 128) (λ (p : PlacedPage). p.physical) pages (physical_below words pages spare plan) in
-    let most = length-le_from_distinct_below places 128 (distinct places plan.physical_ascend) (λ q h. All-contains (λ (x : ℕ). x < 128) places q all (Contains-from_any exact_unsigned_eq q places h)) in
-    let long = length-map pages (λ (p : PlacedPage). p.physical) in
-    omega (arith, most, long)

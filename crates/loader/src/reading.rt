@@ -1,5 +1,5 @@
-ghost use Rattle.std.specs.Prelude.{suc, [], ◌∷◌, ◌++◌, ◌≡◌, ◌⊎◌, ◌+◌, ◌*◌, ◌<◌, ◌≤◌, ℕ, List, Ok, Err, Some};
-ghost use Rattle.std.specs.Prelude.{None, IsTrue, IfOk, IfErr, OnOk, OnErr, drop, length, replicate};
+ghost use Rattle.std.specs.Prelude.{suc, [], ◌∷◌, ◌++◌, ◌≡◌, ◌⊎◌, ◌+◌, ◌*◌, ◌<◌, ◌≤◌, List, Ok, Err, Some};
+ghost use Rattle.std.specs.Prelude.{None, IfOk, IfErr, OnOk, length, replicate};
 ghost use Rattle.std.specs.Prelude.{◌&&◌, nat_le, nat_lt};
 ghost use Rattle.std.specs.List.{list_any};
 ghost use Rattle.byteorder.specs.Endian.{little_number};
@@ -57,7 +57,7 @@ pub fn is_image(bytes: &[u8]) -> bool
 }
 
 // The number in four bytes, the lowest first; those that are missing count as 0.
-fn number_of(bytes: &[u8]) -> u32
+fn little_number(bytes: &[u8]) -> u32
     ensures { result ≡ little_number 4 bytes.now }
 {
     let mut padded = [0; 4];
@@ -99,9 +99,9 @@ impl Head {
         ensures count { result.count ≡ head_count bytes.now }
     {
         let after = &bytes[bytes.len().min(4)..];
-        let count = number_of(after);
+        let count = little_number(after);
         Head {
-            address: number_of(bytes),
+            address: little_number(bytes),
             count: if count == 0 {
                 least_count(after.len())
             } else {

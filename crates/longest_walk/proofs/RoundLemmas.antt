@@ -85,9 +85,6 @@ module _ (flow : Flow) (tree : Tree) (index : Index) (c : Tables) (g : AreSearch
   pub header_inside : (n : ℕ) → n < length tree.spans → (span_at tree.spans n).header < exit + 1
   header_inside n lt = let shape = g.tree_is.ordered.shape (span_at tree.spans n) (Contains-get_or tree.spans n _ lt) in omega (arith, shape.0, shape.1)
 
-  pub rounds_first : (table : List (Option Rounds)) → length table ≡ exit + 1 → ((p : ℕ) → rounds_at table p ≡ None) → AreRounds flow tree c 0 table
-  rounds_first table whole none = record { whole = whole; known = λ n low inside. absurd (omega arith); plain = λ p no_header. none p }
-
   pub rounds_more : (done : ℕ) (table : List (Option Rounds)) (entry : Option Rounds) → done < length tree.spans → AreRounds flow tree c done table → IsRounds flow tree c (span_at tree.spans done) entry → AreRounds flow tree c (done + 1) (set table (span_at tree.spans done).header entry)
   rounds_more done table entry lt all one =
       let s = span_at tree.spans done in

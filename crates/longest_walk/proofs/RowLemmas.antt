@@ -8,7 +8,7 @@ use Rattle.std.specs.Ordering.{is_lt, ordering_reverse}
 use Rattle.std.specs.List.Sorted.{IsPermutation, IsSortedByKey, IsStrictlySortedBy}
 use Rattle.std.proofs.lemmas.Bool.{cases_lt, eqb-true, eq-eqb}
 use Rattle.std.proofs.lemmas.List.{get_or_default, length-map, map-append, take_more, take_all, get_or-map}
-use Rattle.std.proofs.lemmas.List.Elements.{All-nil, All-push, Contains-get_or, recursion_from_All}
+use Rattle.std.proofs.lemmas.List.Elements.{All-push, Contains-get_or, recursion_from_All}
 use Rattle.std.proofs.lemmas.List.Sorted.{All-permutation, Contains-permutation, IsPermutation-map, IsPermutation-sym, ranks_by, sorted_far}
 use Rattle.flow_graph.specs.declared.places.Place.{Place}
 use Rattle.flow_graph.specs.declared.places.Place.TheVariants.{At, Exit}
@@ -37,13 +37,6 @@ module _ (flow : Flow) (tree : Tree) (t : IsTree flow tree) where
   abbrev exit : ℕ
   exit = length flow.places
 
-  pub order_inside : (k : ℕ) → k < length tree.order → get_or tree.order k 0 < length tree.order
-  order_inside k lt = ⊎_elim
-      (λ place. omega (arith, t.inside k place, t.whole))
-      (λ last. let is : k ≡ exit = omega (arith, t.whole) in
-      let at : get_or tree.order k 0 ≡ exit = ap (λ (n : ℕ). get_or tree.order n 0) is ∙ t.exit_last in omega (arith, t.whole))
-      (cases_lt k exit)
-
   -- what was read as the number of the place at an index
   pub number_read : (numbers : List ℕ) → AreNumbers tree.order numbers (length tree.order) → (index number : ℕ) → index < exit → number ≡ get_or numbers index number → (number < exit) × (place_in flow tree number ≡ place_at flow.places index)
   number_read numbers all index number lt read =
@@ -71,9 +64,6 @@ pub record ArePlaceRowsTo (flow : Flow) (tree : Tree) (c : Tables) (limit : ℕ)
   pub places_are : map place_of_row rows ≡ take limit flow.places
   pub each : All (IsPlaceRowAt flow tree c) rows
 
-pub place_rows_none : (flow : Flow) (tree : Tree) (c : Tables) → ArePlaceRowsTo flow tree c 0 []
-place_rows_none flow tree c = record { places_are = refl; each = All-nil (IsPlaceRowAt flow tree c) }
-
 pub place_rows_more : (flow : Flow) (tree : Tree) (c : Tables) (limit : ℕ) (rows : List PlaceRow) (r : PlaceRow) → limit < length flow.places → ArePlaceRowsTo flow tree c limit rows → place_of_row r ≡ place_at flow.places limit → IsPlaceRowAt flow tree c r → ArePlaceRowsTo flow tree c (limit + 1) (rows ++ r ∷ [])
 place_rows_more flow tree c limit rows r lt so_far is row = record {
   places_are = map-append place_of_row rows (r ∷ []) ∙ ap (λ (ps : List Place). ps ++ place_of_row r ∷ []) so_far.places_are ∙ ap (λ (p : Place). take limit flow.places ++ p ∷ []) is ∙ sym (take_more flow.places limit Exit lt);
@@ -89,9 +79,6 @@ place_rows_all flow tree c limit rows ended all = record { places_are = all.plac
 pub record AreInstanceRowsTo (tree : Tree) (c : Tables) (limit : ℕ) (rows : List InstanceRow) : Type 0 where
   pub headers_are : map header_of_row rows ≡ take limit (map header_of tree.instances)
   pub each : All (IsInstanceRowAt tree c) rows
-
-pub instance_rows_none : (tree : Tree) (c : Tables) → AreInstanceRowsTo tree c 0 []
-instance_rows_none tree c = record { headers_are = refl; each = All-nil (IsInstanceRowAt tree c) }
 
 pub instance_rows_more : (tree : Tree) (c : Tables) (limit : ℕ) (rows : List InstanceRow) (r : InstanceRow) (i : Instance) (s : Span) → limit < length tree.instances → limit < length tree.spans → AreInstanceRowsTo tree c limit rows
     → i ≡ get_or tree.instances limit i → s ≡ get_or tree.spans limit s → header_of_row r ≡ header_of i → r.arrival ≡ arrival_of c s → r.round ≡ round_of c s → AreInstanceRowsTo tree c (limit + 1) (rows ++ r ∷ [])

@@ -225,13 +225,6 @@ parent_below : (extents : List Extent) (k : ℕ) (o : Option ℕ) → IsParent e
 parent_below extents k None up = tt
 parent_below extents k (Some d) up = up.opened.0
 
-pub parent_within : (extents : List Extent) (parents : List (Option ℕ)) (k n : ℕ) → AreParents extents parents (length extents) → k < length extents → n ≡ k → IfSome (parent_at parents k) (λ d. d < n)
-parent_within extents parents k n known inside is = subst (λ (m : ℕ). IfSome (parent_at parents k) (λ d. d < m)) (sym is) (parent_below extents k (parent_at parents k) (known k inside))
-
-pub inner_within : (extents : List Extent) (p n : ℕ) (o : Option ℕ) → n ≡ length extents → IsInnermost extents p o → IfSome o (λ k. k < n)
-inner_within extents p n None is here = tt
-inner_within extents p n (Some k) is here = subst (λ (m : ℕ). k < m) (sym is) here.0
-
 pub items_append : (chains : List (Vec ℕ Global)) (chain : Vec ℕ Global) → items_of (chains ++ chain ∷ []) ≡ items_of chains ++ chain.items ∷ []
 items_append [] chain = refl
 items_append (c ∷ chains) chain = λ i. c.items ∷ items_append chains chain i

@@ -48,12 +48,6 @@ back_some extents k e b apart lt is tested = (
       tested.1 (in_from (extent_at extents k) e.from (subst (λ (s : Extent). is_within s e.from ≡ true) same parts.1))),
 )
 
-pub back_none : (extents : List Extent) (e : NumberedEdge) → IsHeaderOf extents (length extents) e.to None → IsBack extents e → ⊥
-back_none extents e none back =
-    let parts = and_parts (eqb e.to (back.0).header) (is_within back.0 e.from) back.2 in
-    let at : extent_at extents (back.1).0 ≡ back.0 = get_or_default extents (back.1).0 _ back.0 (back.1).1 ∙ (back.1).2 in
-    none (back.1).0 (back.1).1 (ap (λ (s : Extent). s.header) at ∙ sym (eqb-true e.to (back.0).header parts.0))
-
 -- ## Plain edges
 
 take_cases : (edges : List NumberedEdge) (i : ℕ) (e d : NumberedEdge) → i < length edges → Contains (take (i + 1) edges) e → Contains (take i edges) e ⊎ (get_or edges i d ≡ e)

@@ -1,4 +1,4 @@
-ghost use Rattle.std.specs.Prelude.{◌≡◌, ◌↔◌, ℕ, ◌+◌, ◌<◌, ◌≤◌, IfOk, IsTrue, length, All, Contains};
+ghost use Rattle.std.specs.Prelude.{◌≡◌, ◌↔◌, ◌+◌, ◌<◌, IfOk, IsTrue, All, Contains};
 ghost use Rattle.statement.specs.Stated.{IsLoop};
 ghost use Rattle.flow_graph.specs.declared.places.Place.TheVariants.{At};
 ghost use Rattle.loop_bounds.specs.Keys.{AreByKey};

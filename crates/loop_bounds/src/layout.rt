@@ -1,9 +1,9 @@
-ghost use Rattle.std.specs.Prelude.{◌≡◌, ℕ, ◌+◌, ◌<◌, ◌≤◌, IfOk, IfErr, IfSome, All, Contains, EachIndex};
-ghost use Rattle.std.specs.Prelude.{MatchOption, length, slice_index, slice_index_or};
-ghost use Rattle.std.specs.List.Sorted.{IsPermutation, IsStrictlySortedBy};
-ghost use Rattle.flow_graph.specs.Places.{place_cmp, place_at};
+ghost use Rattle.std.specs.Prelude.{◌≡◌, ℕ, ◌+◌, ◌<◌, ◌≤◌, IfOk, IfSome, All, Contains, EachIndex};
+ghost use Rattle.std.specs.Prelude.{MatchOption, length, slice_index};
+ghost use Rattle.std.specs.List.Sorted.{IsStrictlySortedBy};
+ghost use Rattle.flow_graph.specs.Places.{place_cmp};
 ghost use Rattle.loop_bounds.specs.InPositions.{HasKeys};
-ghost use Rattle.loop_bounds.specs.Layout.{AreNumbers, IsLaidOut, ArePlaced, AreMoved, Moves};
+ghost use Rattle.loop_bounds.specs.Layout.{AreNumbers, IsLaidOut, ArePlaced, AreMoved};
 ghost use Rattle.loop_bounds.specs.Layout.{IsShown, AreShown, AreKeyed, by_keys};
 ghost use Rattle.loop_bounds.specs.Layout.{chain_of, items_of, key_in};
 ghost use Rattle.loop_bounds.specs.Keys.{IsListed};

@@ -1,4 +1,4 @@
-ghost use Rattle.std.specs.Prelude.{◌≡◌, ◌≢◌, ◌↔◌, All, AllPairs, length, ◌<◌, ◌≤◌, ◌⊎◌, OnOk, IfOk, IfErr};
+ghost use Rattle.std.specs.Prelude.{◌≡◌, ◌≢◌, ◌↔◌, All, AllPairs, length, ◌<◌, ◌≤◌, ◌⊎◌, OnOk, IfOk};
 ghost use Rattle.std.specs.Prelude.{[], ◌∷◌, Contains, map, true, false};
 ghost use Rattle.std.specs.List.Sorted.{IsNonDecreasingBy, IsPermutation};
 ghost use Rattle.statement.specs.declared.stated.Loop.{Loop};

@@ -1,6 +1,6 @@
-ghost use Rattle.std.specs.Prelude.{◌≡◌, ℕ, ◌<◌, ◌≤◌, ◌++◌, [], ◌∷◌, IfOk, IfErr, IfSome, length, All};
+ghost use Rattle.std.specs.Prelude.{◌≡◌, ◌<◌, ◌++◌, [], ◌∷◌, IfOk, IfErr, IfSome, length, All};
 ghost use Rattle.std.specs.Prelude.{slice_index, MatchBool};
-ghost use Rattle.loop_bounds.specs.Extents.{AreNested, extent_at};
+ghost use Rattle.loop_bounds.specs.Extents.{AreNested};
 ghost use Rattle.loop_bounds.specs.Layout.{AreChains, IsChainFault, AreShallow, chain_of, items_of};
 ghost use Rattle.loop_bounds.specs.InPositions.{EnterRight, EnterWrong, IsNesting, IsNestingFault, IsSound};
 

@@ -1,4 +1,4 @@
-ghost use Rattle.std.specs.Prelude.{◌≡◌, ℕ, ◌<◌, ◌≤◌, length, Option, IfSome, MatchBool, MatchOption, IfOk};
+ghost use Rattle.std.specs.Prelude.{ℕ, ◌<◌, ◌≤◌, length, Option, IfSome, MatchBool, MatchOption, IfOk};
 ghost use Rattle.loop_bounds.specs.Extents.{AreExtents, AreNested, AreParents, EntersRight, EntersWrong};
 ghost use Rattle.loop_bounds.specs.Extents.{HaveCrossing, Holds, IsInnermost, IsOpen, IsOver, extent_at};
 

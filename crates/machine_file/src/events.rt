@@ -18,7 +18,7 @@ use std::alloc::{AllocError, Global};
 use std::marker::Model;
 use toml::{Table, Value};
 use toml_reading::{
-    Entry, by_number, list, number, number_in, number_or, of_keys, pair, required, tables, value_at,
+    Entry, by_number, list, number_at, number_in, number_or, of_keys, pair, required, tables, value_at,
 };
 
 /// How many steps a machine file asks for at most, and how many where it says nothing.
@@ -89,7 +89,7 @@ fn lines_in(alloc: Global, table: &Table) -> Result<Read<Option<Lines>>, AllocEr
 fn port_at(value: &Value) -> Read<Option<u32>>
     ensures { result ≡ port_at (view value.now) }
 {
-    number(value, u32::MAX).map(Some)
+    number_at(value, u32::MAX).map(Some)
 }
 
 fn port_in(table: &Table) -> Read<Option<u32>>

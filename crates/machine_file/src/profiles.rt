@@ -12,7 +12,7 @@ use bus_ticks::{NumbersFault, Profile};
 use std::alloc::Global;
 use toml::{Table, Value};
 use toml_reading::{
-    Reading, document, number, number_in, of_keys, pair, required, value_at, values_of,
+    Reading, document, number_at, number_in, of_keys, pair, required, value_at, values_of,
 };
 
 type Read<T> = Reading<T, ProfileFileFault>;
@@ -37,8 +37,8 @@ fn four_of(values: &[Value]) -> Read<Four>
 {
     match values {
         [a, b, c, d] => pair(
-            pair(number(a, u32::MAX), number(b, u32::MAX)),
-            pair(number(c, u32::MAX), number(d, u32::MAX)),
+            pair(number_at(a, u32::MAX), number_at(b, u32::MAX)),
+            pair(number_at(c, u32::MAX), number_at(d, u32::MAX)),
         ),
         _ => Err(ProfileFileFault::WrongKind),
     }

@@ -1,4 +1,4 @@
-ghost use Rattle.std.specs.Prelude.{◌≡◌, ◌≢◌, List, ℕ, Ok, IfErr, IfOk};
+ghost use Rattle.std.specs.Prelude.{◌≢◌, List, ℕ, Ok, IfErr, IfOk};
 ghost use Rattle.loader.specs.Labels.{address_of};
 ghost use Rattle.flow_graph.specs.Graph.{IsBuildFault, IsFlowGraph};
 ghost use Rattle.flow_graph.specs.declared.faults.BuildFault.{BuildFault};

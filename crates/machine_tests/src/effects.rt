@@ -29,8 +29,8 @@ fn operands(registers: &mut Registers) -> [u32; 3] {
         registers
             .shifted_by_amount(Shift::Ror, 0, Register::R8)
             .value,
-        registers.first(Register::R15, 8),
-        registers.first(Register::R8, 8),
+        registers.first_of(Register::R15, 8),
+        registers.first_of(Register::R8, 8),
     ]
 }
 

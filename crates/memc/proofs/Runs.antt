@@ -33,10 +33,10 @@ word_within_page size quarter count address i quarters some whole below within =
     let q_below : q < count = div_below address size count some (omega (arith, whole)) in
     let most : q * size + (r / 4 * 4 + 4 * i) < size * count = mul-add-lt q size (r / 4 * 4 + 4 * i) count q_below within in
     let all : size * count ≡ 2 ^ 25 = mul_comm size count ∙ whole in
-    let stands : word_address address i ≡ q * size + (r / 4 * 4 + 4 * i) = omega arith in
+    let lies : word_address address i ≡ q * size + (r / 4 * 4 + 4 * i) = omega arith in
     record {
-      page = ap (λ (a : ℕ). a / size) stands ∙ div-mul-add q size (r / 4 * 4 + 4 * i) within;
-      place = ap (λ (a : ℕ). a % size / 4 * 4) stands ∙ ap (λ (a : ℕ). a / 4 * 4) (mod-mul-add q size (r / 4 * 4 + 4 * i) within) ∙ omega arith;
+      page = ap (λ (a : ℕ). a / size) lies ∙ div-mul-add q size (r / 4 * 4 + 4 * i) within;
+      place = ap (λ (a : ℕ). a % size / 4 * 4) lies ∙ ap (λ (a : ℕ). a / 4 * 4) (mod-mul-add q size (r / 4 * 4 + 4 * i) within) ∙ omega arith;
       below = omega arith;
     }
 

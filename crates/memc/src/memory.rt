@@ -6,7 +6,7 @@ ghost use Rattle.memc.specs.Paged.{fitted_bytes, page_at, place_of, IsWhole};
 ghost use Rattle.memc.specs.Memory.{located, logical_at, physical_at, written_at, shift_of_size, IsStart};
 ghost use Rattle.memc.specs.Memory.{IsMemorySpot, IsRamSpot, Fits, word_at, stored, with_map};
 ghost use Rattle.memc.specs.Memory.{without_page, translated, with_control, with_rom, rom_word, last_word};
-ghost use Rattle.memc.specs.Memory.{can_map, control_of, allowed, HasNoRun, IsOnOnePage, IsRun};
+ghost use Rattle.memc.specs.Memory.{can_map, control_of, allowed, HasNoRun, IsRun};
 
 use crate::pages::{Entry, PHYSICAL_PAGES, Pages};
 use crate::spots::{MapFault, MemcFault, PageSize, Refused, Spot, can_map};
@@ -80,9 +80,9 @@ impl Memc {
         ensures fitted { IfOk result (Fits self.now.shift) }
         ensures whole { IsWhole self.now.shift self.now.paged }
     {
-        let _limit = self.limit();
+        let _limit = self.fitted_bytes();
         if address < PHYSICAL_START {
-            return self.logical(address, user, store);
+            return self.logical_at(address, user, store);
         }
         self.beyond(address, user, store)
     }
@@ -106,7 +106,7 @@ impl Memc {
         if address % size / 4 * 4 + 4 * words > size {
             return None;
         }
-        match self.logical(address, user, store) {
+        match self.logical_at(address, user, store) {
             Ok(Spot::Ram(place)) => Some(place),
             _ => None,
         }
@@ -120,7 +120,7 @@ impl Memc {
         ensures located { result ≡ located self.now address user store }
         ensures fitted { IfOk result (Fits self.now.shift) }
     {
-        let limit = self.limit();
+        let limit = self.fitted_bytes();
         if address < IO_START {
             return physical_at(address - PHYSICAL_START, limit, user);
         }
@@ -131,7 +131,7 @@ impl Memc {
             return Ok(Spot::Io(address));
         }
         if store {
-            return self.written(address);
+            return self.written_at(address);
         }
         Ok(Spot::Rom(address))
     }
@@ -249,16 +249,16 @@ impl Memc {
     }
 
     #[inline(always)]
-    fn logical(&self, address: u32, user: bool, store: bool) -> Result<Spot, Refused>
+    fn logical_at(&self, address: u32, user: bool, store: bool) -> Result<Spot, Refused>
         requires { address < PHYSICAL_START }
         ensures located { result ≡ logical_at self.now address user store }
         ensures fitted { IfOk result (Fits self.now.shift) }
     {
-        match self.page(address) {
+        match self.page_at(address) {
             None => Err(Refused::NoPage),
             Some(entry) => {
                 if self.allowed(entry.level, user, store) {
-                    Ok(Spot::Ram(self.place(entry.physical, address)))
+                    Ok(Spot::Ram(self.place_of(entry.physical, address)))
                 } else {
                     Err(Refused::Protected)
                 }
@@ -267,7 +267,7 @@ impl Memc {
     }
 
     // What a store from 3400000 on reaches.
-    fn written(&self, address: u32) -> Result<Spot, Refused>
+    fn written_at(&self, address: u32) -> Result<Spot, Refused>
         ensures located { result ≡ written_at self.now.shift address }
         ensures fitted { IfOk result (Fits self.now.shift) }
     {
@@ -304,11 +304,11 @@ impl Memc {
         self.pages.shift()
     }
 
-    fn limit(&self) -> u32
+    fn fitted_bytes(&self) -> u32
         ensures bytes { result ≡ fitted_bytes self.now.shift }
         ensures whole { IsWhole self.now.shift self.now.paged }
     {
-        self.pages.limit()
+        self.pages.fitted_bytes()
     }
 
     #[inline(always)]
@@ -321,21 +321,21 @@ impl Memc {
     }
 
     #[inline(always)]
-    fn page(&self, address: u32) -> Option<Entry>
+    fn page_at(&self, address: u32) -> Option<Entry>
         requires { address < PHYSICAL_START }
         ensures page { result ≡ page_at self.now.paged (address / 2 ^ self.now.shift) }
         ensures fitted { IfSome result (λ e. e.physical < PHYSICAL_PAGES) }
     {
-        self.pages.page(address)
+        self.pages.page_at(address)
     }
 
     #[inline(always)]
-    fn place(&self, physical: u8, address: u32) -> u32
+    fn place_of(&self, physical: u8, address: u32) -> u32
         requires { physical < PHYSICAL_PAGES }
         ensures place { result ≡ place_of self.now.shift physical address }
         ensures fitted { result < fitted_bytes self.now.shift }
     {
-        self.pages.place(physical, address)
+        self.pages.place_of(physical, address)
     }
 
     // Whether a level of protection lets an access pass.

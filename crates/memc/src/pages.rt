@@ -80,7 +80,7 @@ impl Pages {
     }
 
     /// The bytes of the fitted RAM.
-    pub fn limit(&self) -> u32
+    pub fn fitted_bytes(&self) -> u32
         ensures bytes { result ≡ fitted_bytes self.now.shift }
         ensures whole { IsWhole self.now.shift self.now.paged }
     {
@@ -110,7 +110,7 @@ impl Pages {
 
     /// The page of a logical address, which is below 2^25.
     #[inline(always)]
-    pub fn page(&self, address: u32) -> Option<Entry>
+    pub fn page_at(&self, address: u32) -> Option<Entry>
         requires { address < PHYSICAL_START }
         ensures page { result ≡ page_at self.now.paged (address / 2 ^ self.now.shift) }
         ensures fitted { IfSome result (λ e. e.physical < PHYSICAL_PAGES) }
@@ -130,7 +130,7 @@ impl Pages {
 
     /// The place of the word that a logical address names, on a physical page.
     #[inline(always)]
-    pub fn place(&self, physical: u8, address: u32) -> u32
+    pub fn place_of(&self, physical: u8, address: u32) -> u32
         requires { physical < PHYSICAL_PAGES }
         ensures place { result ≡ place_of self.now.shift physical address }
         ensures fitted { result < fitted_bytes self.now.shift }

@@ -1,10 +1,9 @@
 -- Spans put down at the places that they hold.
-use Rattle.std.proofs.Common.{◌≡◌, ◌≢◌, ℕ, ◌+◌, ◌<◌, ◌≤◌, Bool, true, false, cond, leb, ltb, ◌&&◌, List, [], ◌∷◌, ◌++◌, ⊎_elim, length, get_or, set, take, All, Vec, refl, sym, ap, ◌∙◌, subst, arith, append_assoc, append-nil}
+use Rattle.std.proofs.Common.{◌≡◌, ◌≢◌, ℕ, ◌+◌, ◌<◌, ◌≤◌, Bool, true, false, cond, leb, ltb, ◌&&◌, List, [], ◌∷◌, ◌++◌, ⊎_elim, length, get_or, take, All, Vec, refl, sym, ap, ◌∙◌, subst, arith, append-nil}
 use Rattle.std.specs.Global.{Global}
 use Rattle.std.specs.List.{filter}
-use Rattle.std.proofs.lemmas.Bool.{cases_eq, cases_lt, le-leb, lt-ltb, le-ltb, lt-leb, and_right}
-use Rattle.std.proofs.lemmas.List.{get_or-set_same, get_or-set_other, take_more, take_all}
-use Rattle.std.proofs.Math.ListN.{length-set}
+use Rattle.std.proofs.lemmas.Bool.{cases_lt, le-leb, lt-ltb, le-ltb, lt-leb, and_right}
+use Rattle.std.proofs.lemmas.List.{take_more, take_all}
 use Rattle.numbered_walks.specs.declared.span.Span.{Span}
 use Rattle.numbered_walks.specs.Ordered.{is_in}
 use Rattle.numbered_walks.specs.Index.{AreHolders, AreHeldTo}
@@ -17,18 +16,6 @@ same_side p q other = ⊎_elim
     (λ less. lt-ltb p q less ∙ sym (lt-ltb p (q + 1) (omega arith)))
     (λ more. le-ltb p q more ∙ sym (le-ltb p (q + 1) (omega arith)))
     (cases_lt p q)
-
-pub hold_more : (seen : List Span) (i : Span) (q : ℕ) (held : List (Vec Span Global)) (old new : Vec Span Global) → q < length held → old ≡ get_or held q old → new.items ≡ old.items ++ i ∷ [] → i.header ≤ q → AreHeldTo seen i q held → AreHeldTo seen i (q + 1) (set held q new)
-hold_more seen i q held old new inside at_old grown low all = λ p d small. ⊎_elim
-    (λ same. subst (λ (x : ℕ). (get_or (set held q new) x d).items ≡ filter (λ j. is_in j x) seen ++ cond (leb i.header x && ltb x (q + 1)) (i ∷ []) []) (sym same)
-    (ap (λ (v : Vec Span Global). v.items) (get_or-set_same held q new d inside) ∙ grown
-    ∙ ap (λ (l : List Span). l ++ i ∷ []) (ap (λ (v : Vec Span Global). v.items) at_old ∙ all q old inside)
-    ∙ append_assoc (filter (λ j. is_in j q) seen) (cond (leb i.header q && ltb q q) (i ∷ []) []) (i ∷ []) ∙ ap (λ (l : List Span). filter (λ j. is_in j q) seen ++ l) (last_here i.header q i low)))
-    (λ other.
-    let small_old : p < length held = omega (arith, length-set {A = Vec Span Global}) in
-    ap (λ (v : Vec Span Global). v.items) (get_or-set_other held q p new d other) ∙ all p d small_old
-    ∙ ap (λ (b : Bool). filter (λ j. is_in j p) seen ++ cond (leb i.header p && b) (i ∷ []) []) (same_side p q other))
-    (cases_eq p q)
 
 nothing_yet : (h p : ℕ) (i : Span) → cond {A = List Span} (leb h p && ltb p h) (i ∷ []) [] ≡ []
 nothing_yet h p i = ⊎_elim

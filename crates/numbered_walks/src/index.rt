@@ -1,4 +1,4 @@
-ghost use Rattle.std.specs.Prelude.{◌≡◌, ◌+◌, ◌<◌, ◌^◌, IfOk, All, length, Option, slice_index_or};
+ghost use Rattle.std.specs.Prelude.{◌≡◌, ◌+◌, ◌<◌, ◌^◌, IfOk, All, length, Option};
 ghost use Rattle.numbered_walks.specs.Ordered.{IsOrdered};
 ghost use Rattle.numbered_walks.specs.Index.{IsIndex, AreHeaders};
 ghost use Rattle.numbered_walks.specs.Tables.{is_header_in};

@@ -1,4 +1,4 @@
-ghost use Rattle.std.specs.Prelude.{◌≡◌, ◌≢◌, ◌↔◌, IsTrue, ◌<◌, ◌≤◌, ◌+◌, All, Contains, MatchOption, length};
+ghost use Rattle.std.specs.Prelude.{◌≡◌, ◌≢◌, ◌↔◌, IsTrue, ◌<◌, ◌≤◌, All, Contains, MatchOption, length};
 ghost use Rattle.numbered_walks.specs.Index.{AreHeaders, IsNumberedGraph, edge_at};
 ghost use Rattle.numbered_walks.specs.Tables.{needed, number_of, round_of};
 ghost use Rattle.numbered_walks.specs.Found.{AreFound, IsEntering, IsTurning};

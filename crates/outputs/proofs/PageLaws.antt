@@ -42,20 +42,6 @@ module _ {O : Type 0} (taken : O → Option (List ℕ)) (failures : O → ℕ) w
     stopped = λ s. is;
   }
 
-  -- bytes are held back after those that are
-  pub adds_held : (out : O) (before after : Held) (bytes : List ℕ) → before.failed ≡ false → after.failed ≡ false
-      → after.bytes ≡ before.bytes ++ bytes → Adds taken failures out before out after bytes
-  adds_held out before after bytes goes went held start text on =
-      let was = on.going goes in
-      going_on start out after (text ++ bytes) went (
-        record {
-          sent = was.0.sent;
-          took = was.0.took;
-          whole = ap (λ t. t ++ bytes) was.0.whole ∙ append_assoc was.0.sent before.bytes bytes ∙ ap (λ t. was.0.sent ++ t) (sym held);
-        },
-        was.1,
-      )
-
   -- nothing is done after a failure
   pub adds_none : (out : O) (before after : Held) (bytes : List ℕ) → before.failed ≡ true → after.failed ≡ true
       → Adds taken failures out before out after bytes

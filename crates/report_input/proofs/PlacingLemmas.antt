@@ -25,7 +25,7 @@ use Rattle.machine_file.specs.declared.pages.MappedPage.{MappedPage}
 use Rattle.report_output.specs.Faults.{of_load, of_machine_file}
 use Rattle.report_input.specs.Placing.{IsFileRefused, IsRunRefused, IsRunnable, IsStated, LacksPage}
 use Rattle.report_input.specs.Report.{BeforeOutput}
-use Rattle.report_input.specs.Source.{IsSourceFault, Said, source_of}
+use Rattle.report_input.specs.Source.{Said, source_of}
 use Rattle.loader.specs.Labels.{Names}
 use Rattle.report_output.specs.declared.fault.ReportFault.{ReportFault}
 use Rattle.report_output.specs.declared.fault.ReportFault.TheVariants.{Memory as OfMemory, Source, Image, MachineFile, Load, Device}
@@ -130,12 +130,6 @@ module _ (source machine : List ℕ) (profile : Profile) where
 
   abbrev pub Refused : ReportFault → Type 0
   Refused = BeforeOutput (IsRunRefused source machine profile)
-
-  pub source_refuses : (e : ReportFault) → IsSourceFault source e → Refused e
-  source_refuses OfMemory h = (λ e. cc e, tt)
-  source_refuses (Source f) h = (λ e. cc e, h)
-  source_refuses (Image f) h = (λ e. cc e, h)
-  source_refuses e h = absurd h
 
   module _ (words : Words) (names : Names) (said : source_of source ≡ Ok (words, names)) where
     unread : (f : MachineFileFault) → f ≢ machine_fault.Memory → IsMachineFile machine (Err f) → IsFileRefused source machine f

@@ -1,5 +1,5 @@
 -- The three ways in which a report ends.
-use Rattle.std.proofs.Common.{◌≡◌, ◌≢◌, ◌⊎◌, ℕ, List, Option, Result, Ok, Err, refl, sym, subst, inl, inr}
+use Rattle.std.proofs.Common.{◌≡◌, ◌≢◌, ◌⊎◌, ℕ, List, Option, Result, Ok, Err, refl, sym, subst, inr}
 use Rattle.std.specs.Prelude.{IfOk, IfErr}
 use Rattle.std.specs.Result.{IsErrAnd}
 use Rattle.std.specs.Io.KnownBytes.{Appends}
@@ -20,9 +20,6 @@ module _ {O T : Type 0} (taken : O → Option (List ℕ)) (failures : O → ℕ)
     quiet = λ other. refl;
     device = λ d. absurd (h.0 (cc d));
   }
-
-  pub ends_refused : (old : O) (e : ReportFault) → (e ≢ Device) × IsFault e → (IsFine → e ≡ Memory) → Ends old old (Err e)
-  ends_refused old e h only = record { output = refused old e h; accepted = tt; only = λ a. inl (only a) }
 
   -- by a `?` before anything was written
   pub ends_early : (old : O) (r : Result T ReportFault) (e : ReportFault) → IsErrAnd r (λ x. x ≡ e) → (e ≢ Device) × IsFault e

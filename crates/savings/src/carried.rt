@@ -1,7 +1,6 @@
-ghost use Rattle.std.specs.Prelude.{◌≡◌, ◌+◌, IfOk, OnOk};
+ghost use Rattle.std.specs.Prelude.{◌≡◌, IfOk, OnOk};
 ghost use Rattle.longest_walk.specs.Folded.{unfolded};
 ghost use Rattle.savings.specs.Carried.{Adds, AreTimes, times_in};
-ghost use Rattle.walk_counts.specs.Counts.{capped};
 
 use flow_graph::{Edge, Graph, Label, Place};
 use longest_walk::FoldedWalk;

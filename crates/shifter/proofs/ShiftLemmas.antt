@@ -58,9 +58,6 @@ pub left_carry : (n w : ℕ) → 1 ≤ n → n ≤ 32 → bit_of_word w (32 - n)
 left_carry n w some h =
     sym (get_or-append_right (replicate n false) (bits_from 32 w) n 32 false (length-replicate n false) h ∙ get_or-bits_from 32 (32 - n) w (omega arith))
 
-pub left_short : (n w : ℕ) → 1 ≤ n → n < 32 → Has (record { value = w * 2 ^ n % 2 ^ 32; carry = bit_of_word w (32 - n) }) (left n (word_bits w))
-left_short n w some h = record { value = left_value n w (omega arith); carry = left_carry n w some (omega arith) }
-
 pub left_long_value : (n w : ℕ) → 32 ≤ n → bits_from 32 0 ≡ take 32 (replicate n false ++ bits_from 32 w)
 left_long_value n w h =
     bits_from-zero 32 ∙ sym (take-append-le 32 (replicate n false) (bits_from 32 w) (omega (arith, length-replicate n false)) ∙ take-replicate 32 n false h)

@@ -1,4 +1,4 @@
-ghost use Rattle.std.specs.Prelude.{◌≡◌, ℕ, ◌≤◌, ◌<◌, ◌*◌, ◌++◌, drop, take};
+ghost use Rattle.std.specs.Prelude.{◌≡◌, ◌≤◌, ◌<◌, ◌*◌, ◌++◌, drop, take};
 ghost use Rattle.shifter.specs.Shifts.{by_immediate, by_register, extended, left, right, rotated, Has};
 ghost use Rattle.shifter.specs.Shifts.{multiply_cycles};
 ghost use Rattle.arm2_decode.specs.Bits.{bit_of_word};

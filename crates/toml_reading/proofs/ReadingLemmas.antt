@@ -5,7 +5,7 @@ use Rattle.std.proofs.lemmas.Bool.{and_parts, leb-true, ltb-true}
 use Rattle.std.proofs.lemmas.List.Elements.{All-nil, All-push}
 use Rattle.toml.specs.Data.{Data, Members, as_integer, get_member}
 use Rattle.toml.specs.View.{items_of}
-use Rattle.toml_reading.specs.Documents.{in_space, items_at, list_of, listed, listed_up_to, number_at, number_in, number_or, tables_at, tables_up_to}
+use Rattle.toml_reading.specs.Documents.{in_space, items_at, list_of, listed, listed_up_to, number_at, number_in, tables_up_to}
 use Rattle.toml_reading.specs.Readings.{Faults, Reading, after, all, and_then, pair, check, optional, required, reading_map, up_to}
 
 pub list_of-items_of : (ds : List Data) → list_of (items_of ds) ≡ ds
@@ -53,14 +53,6 @@ module _ {F A : Type 0} (fs : Faults F) (P : A → Type 0) where
 
   pub listed_holds : (reads : Data → Reading F A) → ((d : Data) → IfOk (reads d) P) → (ds : List Data) → IfOk (listed fs reads ds) (All P)
   listed_holds reads each ds = gathered_holds reads each ds (Ok []) (All-nil P)
-
-  pub tables_hold : (reads : Data → Reading F A) → ((d : Data) → IfOk (reads d) P) → (o : Option Data) → IfOk (tables_at fs reads o) (All P)
-  tables_hold reads each None = All-nil P
-  tables_hold reads each (Some d) = of_list (items_at d)
-    where
-      of_list : (o : Option (List Data)) → IfOk (required fs o (listed fs reads)) (All P)
-      of_list None = tt
-      of_list (Some ds) = listed_holds reads each ds
 
   -- the same of at most so many
   pub listed_up_to_holds : (reads : Data → Reading F A) → ((d : Data) → IfOk (reads d) P) → (limit : ℕ) (ds : List Data) → IfOk (listed_up_to fs limit reads ds) (All P)
@@ -134,9 +126,6 @@ module _ {F : Type 0} (fs : Faults F) (limit : ℕ) where
 
   pub number_in_holds : (key : List ℕ) (ms : Members) → IfOk (number_in fs key limit ms) (λ n. n ≤ limit)
   number_in_holds key ms = required_holds fs (λ (m : ℕ). m ≤ limit) (get_member key ms) (number_at fs limit) number_at_holds
-
-  pub number_or_holds : (key : List ℕ) (missing : ℕ) (ms : Members) → missing ≤ limit → IfOk (number_or fs key limit missing ms) (λ n. n ≤ limit)
-  number_or_holds key missing ms h = optional_holds fs (λ (m : ℕ). m ≤ limit) missing (get_member key ms) (number_at fs limit) h number_at_holds
 
 pub in_space_holds : {F : Type 0} (fs : Faults F) (z : ℤ) → IfOk (in_space fs z) (λ n. n < 2 ^ 26)
 in_space_holds fs (pos n) =

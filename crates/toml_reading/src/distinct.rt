@@ -1,4 +1,4 @@
-ghost use Rattle.std.specs.Prelude.{◌≡◌, true, false, IfOk, IfSome, IsNone, None, Some, MatchOption};
+ghost use Rattle.std.specs.Prelude.{◌≡◌, true, false, IfOk, None, Some, MatchOption};
 ghost use Rattle.std.specs.Map.{keys_of};
 ghost use Rattle.toml_reading.specs.Documents.{are_distinct};
 

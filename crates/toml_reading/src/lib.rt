@@ -18,5 +18,5 @@ pub use documents::document;
 pub use keys::{is_one_of, of_keys, value_at};
 pub use limits::{read_list_up_to, tables_up_to};
 pub use lists::{Entry, list, tables, values_of};
-pub use numbers::{in_space, number, number_in, number_or};
+pub use numbers::{in_space, number_at, number_in, number_or};
 pub use readings::{Fault, Reading, append, check, pair, required};

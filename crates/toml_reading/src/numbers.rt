@@ -1,4 +1,4 @@
-ghost use Rattle.std.specs.Prelude.{◌≡◌, ◌≤◌, IfOk, IsTrue};
+ghost use Rattle.std.specs.Prelude.{◌≡◌, IfOk, IsTrue};
 ghost use Rattle.toml.specs.View.{table_view, view};
 ghost use Rattle.toml_reading.specs.Documents.{in_space, number_at, number_in, number_or};
 ghost use Rattle.bus_ticks.specs.Prices.{is_word_address};
@@ -26,7 +26,7 @@ fn up_to<F: Fault>(number: i64, limit: u32) -> Reading<u32, F>
 }
 
 /// A value that is a number from 0 to the limit.
-pub fn number<F: Fault>(value: &Value, limit: u32) -> Reading<u32, F>
+pub fn number_at<F: Fault>(value: &Value, limit: u32) -> Reading<u32, F>
     ensures { result ≡ number_at F.faults limit (view value.now) }
 {
     required(value.as_integer(), |number| up_to(number, limit))
@@ -36,7 +36,7 @@ pub fn number<F: Fault>(value: &Value, limit: u32) -> Reading<u32, F>
 pub fn number_in<F: Fault>(table: &Table, key: &str, limit: u32) -> Reading<u32, F>
     ensures { result ≡ number_in F.faults key.now limit (table_view table.now) }
 {
-    required(value_at(table, key), |value| number(value, limit))
+    required(value_at(table, key), |value| number_at(value, limit))
 }
 
 /// The number from 0 to the limit at a key, or another one where the key is missing.
@@ -44,7 +44,7 @@ pub fn number_or<F: Fault>(table: &Table, key: &str, limit: u32, missing: u32) -
     ensures { result ≡ number_or F.faults key.now limit missing (table_view table.now) }
 {
     match value_at(table, key) {
-        Some(value) => number(value, limit),
+        Some(value) => number_at(value, limit),
         None => Ok(missing),
     }
 }

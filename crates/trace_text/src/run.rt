@@ -1,4 +1,4 @@
-ghost use Rattle.std.specs.Prelude.{◌≡◌, IfOk, OnErr, OnOk, string_bytes};
+ghost use Rattle.std.specs.Prelude.{IfOk, OnErr, OnOk, string_bytes};
 ghost use Rattle.arm2_exec.specs.Run.{Runs};
 ghost use Rattle.asm_text.specs.Appended.{Appends};
 ghost use Rattle.trace_text.specs.TraceText.{RefusedRun, TracesRun};

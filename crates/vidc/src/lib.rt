@@ -11,7 +11,7 @@ mod timing;
 
 ghost use Rattle.std.specs.Prelude.{◌≡◌, ◌≤◌, ◌<◌, true};
 ghost use Rattle.vidc.specs.Video.{Video, fresh, rate_of, value_of};
-ghost use Rattle.vidc.specs.Video.{flyback, runs, written, advanced};
+ghost use Rattle.vidc.specs.Video.{runs, written, advanced};
 ghost use Rattle.vidc.specs.Video.{flybacks};
 
 pub use law::ticks_add_up;

@@ -1,9 +1,9 @@
 -- What counting an edge, items and rounds does, and when the counts are exact.
-use Rattle.std.proofs.Common.{◌≡◌, ◌∙◌, ℕ, ◌+◌, ◌-◌, ◌*◌, ◌^◌, ◌<◌, ◌≤◌, cond, eqb, List, [], ◌∷◌, ◌++◌, append-nil, length, get_or, drop, take, map, flat_map, replicate, ⊎_elim, refl, sym, ap, subst, Vec, arith, get_or-set_other, get_or-set_same}
+use Rattle.std.proofs.Common.{◌≡◌, ◌∙◌, ℕ, ◌+◌, ◌-◌, ◌*◌, ◌^◌, ◌<◌, ◌≤◌, cond, eqb, List, [], ◌∷◌, ◌++◌, append-nil, length, get_or, drop, take, map, flat_map, replicate, refl, sym, ap, subst, Vec, arith, get_or-set_same}
 use Rattle.std.specs.Prelude.{All, sum_by}
-use Rattle.std.proofs.Math.ListN.{set, length-set}
+use Rattle.std.proofs.Math.ListN.{set}
 use Rattle.std.proofs.Math.Seq.{take-append_seam}
-use Rattle.std.proofs.lemmas.Bool.{cases_lt, eq-eqb, ne_eqb}
+use Rattle.std.proofs.lemmas.Bool.{eq-eqb}
 use Rattle.std.proofs.lemmas.List.{get_or-replicate, length-replicate, map-append, take_more, take_all}
 use Rattle.std.proofs.lemmas.List.Concat.{flat_map-append}
 use Rattle.std.proofs.lemmas.List.Elements.{All-head, All-tail, All-weaker, All-nil, All-cons}
@@ -59,34 +59,6 @@ module _ (edges : List Edge) (times : ℕ) where
         omega arith ∙ ap (λ m. times * m) (sym (count-repeated (λ e. eqb (number_of edges e) k) n walk)) in
         h.each k lt ∙ capped_times (2 ^ 64 - 1) (get_or old k 0) (times * n) x ∙ ap (λ m. capped (get_or old k 0 + m)) all;
   }
-
-  -- an edge that is none of the list
-  pub counts_nowhere : (e : Edge) (old : List ℕ) → AreSmall old → length edges ≤ number_of edges e → Counts edges (e ∷ []) times old old
-  counts_nowhere e old small past = record {
-    whole = refl;
-    each = λ k lt.
-        let s : get_or old k 0 < 2 ^ 64 = small k in
-        let none : occurrences edges (e ∷ []) k ≡ 0 = ap (λ b. 0 + cond b 1 0) (ne_eqb (number_of edges e) k (λ is. absurd (omega arith))) in
-        let same : get_or old k 0 ≡ capped (get_or old k 0 + times * 0) = omega arith in
-        same ∙ ap (λ n. capped (get_or old k 0 + times * n)) (sym none);
-  }
-
-  pub counts_here : (e : Edge) (j count : ℕ) (old : List ℕ) → AreSmall old → length old ≡ length edges → j ≡ number_of edges e → j < length edges → count ≡ capped (get_or old j 0 + times) → Counts edges (e ∷ []) times old (set old j count)
-  counts_here e j count old small whole is inside count_is = record {
-    whole = length-set old j count;
-    each = λ k lt. ⊎_elim
-        (λ (less : k < j). other k (λ same. absurd (omega arith)))
-        (λ (le : j ≤ k). ⊎_elim (λ (more : j < k). other k (λ same. absurd (omega arith))) (λ (ge : k ≤ j). here k (omega arith)) (cases_lt j k))
-        (cases_lt k j);
-  }
-    where
-      other : (k : ℕ) → (j ≡ k → ⊥) → get_or (set old j count) k 0 ≡ capped (get_or old k 0 + times * occurrences edges (e ∷ []) k)
-      other k differ =
-          let s : get_or old k 0 < 2 ^ 64 = small k in
-          let none : occurrences edges (e ∷ []) k ≡ 0 = ap (λ b. 0 + cond b 1 0) (ne_eqb (number_of edges e) k (λ same. differ (is ∙ same))) in
-          let kept : get_or (set old j count) k 0 ≡ get_or old k 0 = get_or-set_other old j k count 0 (λ same. differ (sym same)) in
-          let same : get_or old k 0 ≡ capped (get_or old k 0 + times * 0) = omega arith in
-          kept ∙ same ∙ ap (λ n. capped (get_or old k 0 + times * n)) (sym none)
 
       here : (k : ℕ) → j ≡ k → get_or (set old j count) k 0 ≡ capped (get_or old k 0 + times * occurrences edges (e ∷ []) k)
       here k same =

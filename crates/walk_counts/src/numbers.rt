@@ -1,5 +1,5 @@
 ghost use Rattle.std.specs.Prelude.{◌≡◌, ◌<◌, ◌≤◌, MatchOption, length};
-ghost use Rattle.flow_graph.specs.Places.{place_at, place_cmp};
+ghost use Rattle.flow_graph.specs.Places.{place_at};
 ghost use Rattle.walk_counts.specs.Counts.{is_same_edge, is_same_label, number_of};
 
 use flow_graph::{Edge, Graph, Label};

@@ -11,7 +11,7 @@ pub returns-in-len4 : goal.returns-in-len4
 returns-in-len4 c =
     c.pair-in-len4-2.ensures
     ∙ (λ i. pair profile_faults (c.pair.ensures i) (c.pair-in-len4.ensures i))
-    ∙ (λ i. pair profile_faults (pair profile_faults (c.number.ensures i) (c.number-in-len4.ensures i)) (pair profile_faults (c.number-in-len4-2.ensures i) (c.number-in-len4-3.ensures i)))
+    ∙ (λ i. pair profile_faults (pair profile_faults (c.number_at.ensures i) (c.number_at-in-len4.ensures i)) (pair profile_faults (c.number_at-in-len4-2.ensures i) (c.number_at-in-len4-3.ensures i)))
     ∙ sym (ap (λ vs. four_of (map view vs)) (has_four c.args.values.now c.a-item.result c.b-item.result c.c-item.result c.d-item.result c.in-len4.len_at_least c.in-len4.len_below c.a-item.is c.b-item.is c.c-item.is c.d-item.is))
 
 pub returns-in_default : goal.returns-in_default

@@ -6,7 +6,7 @@ use Rattle.std.proofs.Math.ListN.{drop_of_length-le}
 use Rattle.bus_ticks.specs.declared.profile.Profile.{Profile}
 use Rattle.arm2_exec.specs.declared.machine.Input.{Input}
 use Rattle.arm2_exec.specs.declared.machine.Ran.{Ran}
-use Rattle.arm2_exec.specs.Run.{further}
+use Rattle.arm2_exec.specs.Run.{with_one_step}
 use Rattle.arm2_exec.proofs.RunLemmas.{SoFar, at_end, at_stop, more_steps}
 use Rattle.asm_text.specs.Appended.{Appends}
 use Rattle.trace_text.specs.TraceText.{IsTraceLine}
@@ -61,9 +61,9 @@ loop-input-preserved c =
     (string_bytes c.args.out.now) (string_bytes c.loop-input.out)
     (string_bytes c.put_trace.new.out) traced.ensures.word c.in_default.not-Stopped
     c.loop-input.invariant.1 line in
-    let counted : c.count.new.self ≡ further now.profile.burst input traced.result.stepped c.loop-input.ran =
+    let counted : c.count.new.self ≡ with_one_step now.profile.burst input traced.result.stepped c.loop-input.ran =
     c.count.ensures.step
-    ∙ ap (λ (p : Profile). further p.burst input traced.result.stepped c.loop-input.ran)
+    ∙ ap (λ (p : Profile). with_one_step p.burst input traced.result.stepped c.loop-input.ran)
     c.profile-profile.ensures in
     let here = take_more inputs index _ c.loop-input-test.true in
     let front =

@@ -2,7 +2,7 @@ use Rattle.std.proofs.Common.{ℕ, ◌*◌, ◌/◌, ◌^◌, ◌<◌, length, N
 use Rattle.std.proofs.lemmas.Nat.{div_below, pow_pos}
 use Rattle.std.proofs.lemmas.List.{get_or_read}
 use Rattle.memc.proofs.Places.{fitted_at}
-use Rattle.memc.proofs.pages.Pages.page.Goals as goal
+use Rattle.memc.proofs.pages.Pages.page_at.Goals as goal
 
 pub returns-clause-fitted : goal.returns-clause-fitted
 returns-clause-fitted c =

@@ -1,5 +1,5 @@
 use Rattle.memc.proofs.Places.{limit_is, whole}
-use Rattle.memc.proofs.pages.Pages.limit.Goals as goal
+use Rattle.memc.proofs.pages.Pages.fitted_bytes.Goals as goal
 
 pub returns-clause-bytes : goal.returns-clause-bytes
 returns-clause-bytes c = rw (← c.self.view_is) (limit_is c.self.inside.shift c.self.invariant.shift_most)
