@@ -70,8 +70,8 @@ compared rd out regs =
     }
 
 -- what data processing does with its outcome
-unfoldable pub placed : Opcode → Bool → Register → Outcome → List ℕ → Effect
-placed opcode sets_flags rd out regs =
+unfoldable pub outcome_effect : Opcode → Bool → Register → Outcome → List ℕ → Effect
+outcome_effect opcode sets_flags rd out regs =
     if is_compare opcode then compared rd out regs
     else (if is_pc rd then jumped sets_flags out regs else entered sets_flags rd out regs)
 
@@ -82,7 +82,7 @@ delayed cycles e = record { kind = e.kind; accesses = Internal cycles ∷ e.acce
 -- data processing with an operand; as its other operand R15 is so many bytes ahead
 abbrev pub processed : Opcode → Bool → (rn rd : Register) → (by : ℕ) → Shifted → List ℕ → Effect
 processed opcode sets_flags rn rd by operand regs =
-    placed opcode sets_flags rd
+    outcome_effect opcode sets_flags rd
     (outcome_of opcode (first_of by rn regs) operand (flags_of (r15_in regs))) regs
 
 unfoldable pub data_immediate_effect : DataImmediate → List ℕ → Effect

@@ -2,7 +2,7 @@ ghost use Rattle.std.specs.Prelude.{◌≡◌, ◌<◌, ◌^◌, false};
 ghost use Rattle.arm2_effect.specs.Effects.{IsEffect, is_stopped};
 ghost use Rattle.arm2_effect.specs.Operations.{compared, data_immediate_effect, data_register_effect};
 ghost use Rattle.arm2_effect.specs.Operations.{data_register_shift_effect, entered, jumped};
-ghost use Rattle.arm2_effect.specs.Operations.{next_r15, placed};
+ghost use Rattle.arm2_effect.specs.Operations.{next_r15, outcome_effect};
 ghost use Rattle.arm2_effect.specs.ProgramCounter.{psr_with};
 
 use crate::modes::Reg;
@@ -118,11 +118,11 @@ impl Registers {
         Done::plain(prices.straight(address_of(r15)))
     }
 
-    #[tactic(auto, unfolding(crate::specs::Operations::placed))]
+    #[tactic(auto, unfolding(crate::specs::Operations::outcome_effect))]
     #[inline(always)]
     fn place(&mut self, prices: &Prices, to: Destination, outcome: Outcome) -> Done
         ensures effect { IsEffect prices.now result self.new
-            (placed to.opcode to.sets_flags to.rd outcome self.old) }
+            (outcome_effect to.opcode to.sets_flags to.rd outcome self.old) }
         ensures goes_on { is_stopped result.kind ≡ false }
         ensures bound { result.ticks < 2 ^ 10 }
     {

@@ -19,7 +19,7 @@ use Rattle.arm2_effect.specs.Modes.{r15_in}
 use Rattle.arm2_effect.specs.ProgramCounter.{mode_of}
 use Rattle.arm2_effect.specs.Effects.{Effect, is_stopped, skipped, stopped, ticks_of}
 use Rattle.arm2_effect.specs.Exceptions.{taken}
-use Rattle.arm2_effect.specs.Operations.{operation_effect, placed, compared, jumped, entered, data_immediate_effect, data_register_effect, data_register_shift_effect, multiply_effect, branch_effect, untouched}
+use Rattle.arm2_effect.specs.Operations.{operation_effect, outcome_effect, compared, jumped, entered, data_immediate_effect, data_register_effect, data_register_shift_effect, multiply_effect, branch_effect, untouched}
 use Rattle.arm2_transfer.specs.declared.bus.Bus.{Bus}
 use Rattle.arm2_transfer.specs.declared.processor.Processor.{Processor}
 use Rattle.arm2_transfer.specs.declared.single_fields.Single.{Single}
@@ -53,7 +53,7 @@ module _ (regs : List ℕ) (bus : Bus) (P : Moved → Type 0) (all : HasAll regs
   -- ## Instructions
 
   effect_has : (o : Operation) → P (on_bus bus (operation_effect o regs))
-  unfolding operation_effect multiply_effect data_immediate_effect data_register_effect data_register_shift_effect branch_effect untouched placed compared jumped entered
+  unfolding operation_effect multiply_effect data_immediate_effect data_register_effect data_register_shift_effect branch_effect untouched outcome_effect compared jumped entered
   effect_has (row.Swi x) = all.takes vector.Swi
   effect_has (row.UndefinedTransfer x) = all.takes vector.Undefined
   effect_has (row.CoprocessorTransfer x) = all.takes vector.Undefined

@@ -6,8 +6,8 @@ use Rattle.asm_text.proofs.WordLaws.{map_is}
 use Rattle.asm_text.specs.Pieces.{Piece, Run, Comma, Sign}
 use Rattle.asm_text.specs.Numbers.{first_number}
 use Rattle.asm_text.specs.Registers.{first_register}
-use Rattle.asm_text.specs.Operands.{Offset, address, address_of, after_of, bang_of, based, before_of, by_amount, closed_of, number_offset, first_offset, unoffset_of, register_offset, first_shifting, signed_offset, all_read}
-use Rattle.asm_text.specs.SpelledOperands.{IsRegister, SpellsAddress, SpellsAfter, SpellsBase, SpellsBefore, SpellsNumber, SpellsOffset, SpellsShifting, marked}
+use Rattle.asm_text.specs.Operands.{Offset, address, address_of, after_of, bang_of, after_base, before_of, by_amount, closed_of, number_offset, first_offset, unoffset_of, register_offset, first_shifting, signed_offset, all_read}
+use Rattle.asm_text.specs.SpelledOperands.{IsRegister, SpellsAddress, SpellsAfter, SpellsBase, SpellsBefore, SpellsNumber, SpellsOffset, SpellsShifting, mark_if}
 use Rattle.asm_text.specs.declared.token.Mark.TheVariants.{Hash, Minus, Bang, CloseBracket}
 use Rattle.asm_text.specs.declared.syntax.Amount.{Amount}
 use Rattle.asm_text.specs.declared.syntax.Shifting.{Shifting}
@@ -26,11 +26,11 @@ abbrev FrontOffset : List Piece → Offset × List Piece → Type 0
 FrontOffset ps f = (a : List Piece) × (ps ≡ a ++ f.1) × SpellsOffset f.0.0 f.0.1 a
 
 -- a number, with its sign in front
-signed_is : (up : Bool) (ps : List Piece) (f : Offset × List Piece) → signed_offset up ps ≡ Some f → FrontOffset (Sign Hash ∷ (marked (not up) Minus ++ ps)) f
+signed_is : (up : Bool) (ps : List Piece) (f : Offset × List Piece) → signed_offset up ps ≡ Some f → FrontOffset (Sign Hash ∷ (mark_if (not up) Minus ++ ps)) f
 signed_is up ps f e =
     let k = map_is (λ g. ((up, distance.Number g.0), g.1)) (first_number ps) f e in
     let n = number_front ps k.0 k.1 in
-    let signed = marked (not up) Minus in
+    let signed = mark_if (not up) Minus in
     subst (FrontOffset (Sign Hash ∷ (signed ++ ps))) k.2
     (Sign Hash ∷ (signed ++ n.0), ap (λ (qs : List Piece). Sign Hash ∷ qs) (ap (λ (qs : List Piece). signed ++ qs) n.1 ∙ sym (append_assoc signed n.0 k.0.1)), (n.0, refl, n.2))
 
@@ -43,14 +43,14 @@ amount_is up m (shifting.Amount a) qs f e = (a, refl, same_Some ((up, distance.R
 amount_is up m (shifting.Register s r) qs f e = absurd (none-some f e)
 
 -- a register, with its sign in front
-register_offset_is : (up : Bool) (ps : List Piece) (f : Offset × List Piece) → register_offset up ps ≡ Some f → FrontOffset (marked (not up) Minus ++ ps) f
+register_offset_is : (up : Bool) (ps : List Piece) (f : Offset × List Piece) → register_offset up ps ≡ Some f → FrontOffset (mark_if (not up) Minus ++ ps) f
 register_offset_is up ps f e =
     let r = and_then_is (λ g. option_and_then (by_amount up g.0) (first_shifting g.1)) (first_register ps) f e in
     let s = and_then_is (by_amount up r.0.0) (first_shifting r.0.1) f r.2 in
     let a = amount_is up r.0.0 s.0.0 s.0.1 f s.2 in
     let t = register_front ps r.0 r.1 in
     let g = shifting_front r.0.1 s.0 s.1 in
-    let signed = marked (not up) Minus in
+    let signed = mark_if (not up) Minus in
     let whole-is : Run t.0 ∷ r.0.1 ≡ (Run t.0 ∷ g.0) ++ s.0.1 = ap (λ (qs : List Piece). Run t.0 ∷ qs) g.1 in
     let all : signed ++ ps ≡ (signed ++ (Run t.0 ∷ g.0)) ++ s.0.1 = ap (λ (qs : List Piece). signed ++ qs) (t.1 ∙ whole-is) ∙ sym (append_assoc signed (Run t.0 ∷ g.0) s.0.1) in
     subst (FrontOffset (signed ++ ps)) a.2 (signed ++ (Run t.0 ∷ g.0), all, (t.0, g.0, refl, t.2, subst (λ x. SpellsShifting x g.0) a.1 g.2))
@@ -82,17 +82,17 @@ whole_offset up d ps h = ap (λ (qs : List Piece). all_read (first_offset qs)) (
 
 -- ## The end
 
-bang_is : (ps : List Piece) (w : Bool) → bang_of ps ≡ Some w → ps ≡ marked w Bang
-bang_is [] w e = ap (λ b. marked b Bang) (same_Some false w e)
-bang_is (Sign Bang ∷ []) w e = ap (λ b. marked b Bang) (same_Some true w e)
+bang_is : (ps : List Piece) (w : Bool) → bang_of ps ≡ Some w → ps ≡ mark_if w Bang
+bang_is [] w e = ap (λ b. mark_if b Bang) (same_Some false w e)
+bang_is (Sign Bang ∷ []) w e = ap (λ b. mark_if b Bang) (same_Some true w e)
 bang_is (Sign Bang ∷ p ∷ ps) w e = absurd (none-some w e)
 bang_is _ w e = absurd (none-some w e)
 
-bang_again : (w : Bool) → bang_of (marked w Bang) ≡ Some w
+bang_again : (w : Bool) → bang_of (mark_if w Bang) ≡ Some w
 bang_again true = refl
 bang_again false = refl
 
-closed_is : (ps : List Piece) (w : Bool) → closed_of ps ≡ Some w → ps ≡ Sign CloseBracket ∷ marked w Bang
+closed_is : (ps : List Piece) (w : Bool) → closed_of ps ≡ Some w → ps ≡ Sign CloseBracket ∷ mark_if w Bang
 closed_is (Sign CloseBracket ∷ ps) w e = ap (λ (qs : List Piece). Sign CloseBracket ∷ qs) (bang_is ps w e)
 closed_is _ w e = absurd (none-some w e)
 
@@ -130,24 +130,24 @@ comma_after : (user : Bool) (t : List ℕ) (n : Register) (ps : List Piece) (x :
 comma_after true t n ps x r e = absurd (none-some x e)
 comma_after false t n ps x r e = inr (inl (refl, before_is t n ps x r e))
 
-based_is : (user : Bool) (t : List ℕ) (n : Register) (ps : List Piece) (x : Address) → IsRegister t n → based user n ps ≡ Some x → SpellsAddress user x (Run t ∷ ps)
+based_is : (user : Bool) (t : List ℕ) (n : Register) (ps : List Piece) (x : Address) → IsRegister t n → after_base user n ps ≡ Some x → SpellsAddress user x (Run t ∷ ps)
 based_is user t n (Sign CloseBracket ∷ ps) x r e = closed_after user t n ps x r e
 based_is user t n (Comma ∷ ps) x r e = comma_after user t n ps x r e
 based_is user t n _ x r e = absurd (none-some x e)
 
 pub address_is : (user : Bool) (ps : List Piece) (x : Address) → address_of user ps ≡ Some x → SpellsAddress user x ps
 address_is user ps x e =
-    let f = and_then_is (λ f. based user f.0 f.1) (first_register ps) x e in
+    let f = and_then_is (λ f. after_base user f.0 f.1) (first_register ps) x e in
     let t = register_front ps f.0 f.1 in
     subst (SpellsAddress user x) (sym t.1) (based_is user t.0 f.0.0 f.0.1 x t.2 f.2)
 
-base_again : (w : Bool) (n : Register) → after_of false n (marked w Bang) ≡ Some (record { rn = n; before = true; up = true; write_back = w; distance = distance.Number 0 })
+base_again : (w : Bool) (n : Register) → after_of false n (mark_if w Bang) ≡ Some (record { rn = n; before = true; up = true; write_back = w; distance = distance.Number 0 })
 base_again true n = refl
 base_again false n = refl
 
 before_again : (x : Address) (ps : List Piece) → SpellsBefore x ps → address_of false ps ≡ Some x
 before_again x ps b =
-    let close : List Piece = Sign CloseBracket ∷ marked x.write_back Bang in
+    let close : List Piece = Sign CloseBracket ∷ mark_if x.write_back Bang in
     let read : address_of false ps ≡ Some (address x.rn true x.write_back (x.up, x.distance)) =
     rw (b.spelled, front_register b.n x.rn (Comma ∷ (b.offset ++ close)) b.n-is, front_offset x.up x.distance b.offset close b.offset-is refl, bang_again x.write_back) refl in
     read ∙ ap (λ (y : Bool). Some (address x.rn y x.write_back (x.up, x.distance))) (sym b.before)
@@ -162,7 +162,7 @@ pub address_again : (user : Bool) (x : Address) (ps : List Piece) → SpellsAddr
 address_again user x ps h =
     elim h [
       | inl k ↦ let b = k.1 in
-          rw (k.0, b.spelled, b.means, front_register b.n b.rn (Sign CloseBracket ∷ marked b.write_back Bang) b.n-is) (base_again b.write_back b.rn)
+          rw (k.0, b.spelled, b.means, front_register b.n b.rn (Sign CloseBracket ∷ mark_if b.write_back Bang) b.n-is) (base_again b.write_back b.rn)
       | inr g ↦ elim g [
         | inl k ↦ rw k.0 (before_again x ps k.1)
         | inr b ↦ after_again user x ps b

@@ -14,7 +14,7 @@ use Rattle.asm_text.specs.Registers.{first_register, register_of}
 use Rattle.asm_text.specs.Operands.{after_step, block, block_based, block_of, braced, caret_of, list_from, list_by, run_bits, with_bits}
 use Rattle.asm_text.specs.Statements.{is_label, only_target, run_target, target_by, values_in}
 use Rattle.asm_text.specs.Said.{Target, Number, Label}
-use Rattle.asm_text.specs.SpelledOperands.{IsDigits, IsRegister, Listed, SpellsBlock, SpellsNumber, SpellsRun, all_bits, bits_of, marked}
+use Rattle.asm_text.specs.SpelledOperands.{IsDigits, IsRegister, Listed, SpellsBlock, SpellsNumber, SpellsRun, all_bits, bits_of, mark_if}
 use Rattle.asm_text.specs.Spelling.{SpellsTarget}
 use Rattle.asm_text.specs.declared.token.Mark.TheVariants.{Minus, Bang, Caret, Ampersand, OpenBrace, CloseBrace}
 use Rattle.asm_text.specs.declared.names.Suffix.{Suffix}
@@ -166,24 +166,24 @@ list_again (run ∷ next ∷ runs) a rest list h =
 
 -- ## Blocks
 
-caret_is : (ps : List Piece) (w : Bool) → caret_of ps ≡ Some w → ps ≡ marked w Caret
-caret_is [] w e = ap (λ b. marked b Caret) (same_Some false w e)
-caret_is (Sign Caret ∷ []) w e = ap (λ b. marked b Caret) (same_Some true w e)
+caret_is : (ps : List Piece) (w : Bool) → caret_of ps ≡ Some w → ps ≡ mark_if w Caret
+caret_is [] w e = ap (λ b. mark_if b Caret) (same_Some false w e)
+caret_is (Sign Caret ∷ []) w e = ap (λ b. mark_if b Caret) (same_Some true w e)
 caret_is (Sign Caret ∷ p ∷ ps) w e = absurd (none-some w e)
 caret_is _ w e = absurd (none-some w e)
 
-caret_again : (w : Bool) → caret_of (marked w Caret) ≡ Some w
+caret_again : (w : Bool) → caret_of (mark_if w Caret) ≡ Some w
 caret_again true = refl
 caret_again false = refl
 
-braced_is : (load : Bool) (s : Suffix) (t : List ℕ) (n : Register) (w : Bool) (ps : List Piece) (x : BlockTransfer) → IsRegister t n → braced load s n w ps ≡ Some x → SpellsBlock load s x (Run t ∷ (marked w Bang ++ ps))
+braced_is : (load : Bool) (s : Suffix) (t : List ℕ) (n : Register) (w : Bool) (ps : List Piece) (x : BlockTransfer) → IsRegister t n → braced load s n w ps ≡ Some x → SpellsBlock load s x (Run t ∷ (mark_if w Bang ++ ps))
 unfolding Left Runs
 braced_is load s t n w (Comma ∷ Sign OpenBrace ∷ ps) x r e =
     let f = and_then_is (λ f. option_map (block load s n w f.0) (caret_of f.1)) (list_from 0 place.Start ps) x e in
     let c = map_is (block load s n w f.0.0) (caret_of f.0.1) x f.2 in
     let k = left_is ps place.Start 0 f.0 f.1 in
-    let tail : ps ≡ k.1 ++ (Sign CloseBrace ∷ marked c.0 Caret) = k.2 ∙ ap (λ (qs : List Piece). k.1 ++ (Sign CloseBrace ∷ qs)) (caret_is f.0.1 c.0 c.1) in
-    subst (λ y. SpellsBlock load s y (Run t ∷ (marked w Bang ++ (Comma ∷ Sign OpenBrace ∷ ps)))) c.2
+    let tail : ps ≡ k.1 ++ (Sign CloseBrace ∷ mark_if c.0 Caret) = k.2 ∙ ap (λ (qs : List Piece). k.1 ++ (Sign CloseBrace ∷ qs)) (caret_is f.0.1 c.0 c.1) in
+    subst (λ y. SpellsBlock load s y (Run t ∷ (mark_if w Bang ++ (Comma ∷ Sign OpenBrace ∷ ps)))) c.2
     (record {
       loads = refl;
       before = refl;
@@ -191,7 +191,7 @@ braced_is load s t n w (Comma ∷ Sign OpenBrace ∷ ps) x r e =
       n = t;
       runs = k.0;
       listed = k.1;
-      spelled = ap (λ (qs : List Piece). Run t ∷ (marked w Bang ++ (Comma ∷ Sign OpenBrace ∷ qs))) tail;
+      spelled = ap (λ (qs : List Piece). Run t ∷ (mark_if w Bang ++ (Comma ∷ Sign OpenBrace ∷ qs))) tail;
       n-is = r;
       runs-are = k.3;
       list = k.4;
@@ -208,17 +208,17 @@ block_is load s ps x e =
     let t = register_front ps f.0 f.1 in
     subst (SpellsBlock load s x) (sym t.1) (block_based_is load s t.0 f.0.0 f.0.1 x t.2 f.2)
 
-marked_again : (load : Bool) (s : Suffix) (n : Register) (w : Bool) (ps : List Piece) → block_based load s n (marked w Bang ++ (Comma ∷ Sign OpenBrace ∷ ps)) ≡ braced load s n w (Comma ∷ Sign OpenBrace ∷ ps)
+marked_again : (load : Bool) (s : Suffix) (n : Register) (w : Bool) (ps : List Piece) → block_based load s n (mark_if w Bang ++ (Comma ∷ Sign OpenBrace ∷ ps)) ≡ braced load s n w (Comma ∷ Sign OpenBrace ∷ ps)
 marked_again load s n true ps = refl
 marked_again load s n false ps = refl
 
 pub block_again : (load : Bool) (s : Suffix) (x : BlockTransfer) (ps : List Piece) → SpellsBlock load s x ps → block_of load s ps ≡ Some x
 block_again load s x ps h =
-    let tail : List Piece = h.listed ++ (Sign CloseBrace ∷ marked x.user Caret) in
-    let front : List Piece = marked x.write_back Bang ++ (Comma ∷ Sign OpenBrace ∷ tail) in
+    let tail : List Piece = h.listed ++ (Sign CloseBrace ∷ mark_if x.user Caret) in
+    let front : List Piece = mark_if x.write_back Bang ++ (Comma ∷ Sign OpenBrace ∷ tail) in
     let base : block_of load s ps ≡ block_based load s x.rn front = ap (block_of load s) h.spelled ∙ rw (front_register h.n x.rn front h.n-is) refl in
     let inside : braced load s x.rn x.write_back (Comma ∷ Sign OpenBrace ∷ tail) ≡ Some (block load s x.rn x.write_back (all_bits h.runs) x.user) =
-    rw (list_again h.runs h.listed (marked x.user Caret) 0 h.runs-are, caret_again x.user) refl in
+    rw (list_again h.runs h.listed (mark_if x.user Caret) 0 h.runs-are, caret_again x.user) refl in
     base ∙ marked_again load s x.rn x.write_back tail ∙ inside
     ∙ ap (λ (n : ℕ). Some (block load s x.rn x.write_back n x.user)) (sym h.list)
     ∙ rw (← h.before, ← h.up, ← h.loads) refl

@@ -17,7 +17,7 @@ use Rattle.asm_text.specs.declared.names.Suffix.TheVariants.{Bare}
 use Rattle.asm_text.specs.declared.word.Word.{Word}
 use Rattle.asm_text.specs.declared.word.Word.TheVariants.{Plain, Branch, Org, Dcd}
 use Rattle.asm_text.specs.Names.{cond_name, head_name, suffix_name, conds, heads, suffixes, named, cond_of, head_of, suffix_of, may_have}
-use Rattle.asm_text.specs.Words.{IsCond, branch_name, IsWord, IsSpelling, is_one_case, upper, spelled_word_of, whole_cond, linked, branch_rest, branch_of, with_suffix, head_cond, head_rest, plain_of, plain_unless, word_of}
+use Rattle.asm_text.specs.Words.{IsCond, branch_name, IsWord, IsSpelling, is_one_case, upper, spelled_word_of, whole_cond, branch_link, branch_rest, branch_of, with_suffix, head_cond, head_rest, plain_of, plain_unless, word_of}
 
 pub chosen : {A : Type 0} (b : Bool) (x y z : A) → cond b x y ≡ z → ((b ≡ true) × (x ≡ z)) ⊎ ((b ≡ false) × (y ≡ z))
 chosen true x y z e = inl (refl, e)
@@ -120,7 +120,7 @@ pub map_is : {A B : Type 0} (f : A → B) (o : Option A) (b : B) → option_map 
 map_is f None b e = absurd (none-some b e)
 map_is f (Some a) b e = (a, refl, same_Some (f a) b e)
 
-linked_is : (text : List ℕ) (w : Word) → linked text ≡ Some w → (rest : List ℕ) × (c : Cond) × (text ≡ codes "L" ++ rest) × IsCond rest c × (w ≡ Branch true c)
+linked_is : (text : List ℕ) (w : Word) → branch_link text ≡ Some w → (rest : List ℕ) × (c : Cond) × (text ≡ codes "L" ++ rest) × IsCond rest c × (w ≡ Branch true c)
 linked_is [] w e = absurd cc
 linked_is (b ∷ rest) w e =
     elim (chosen (bytes_eq (b ∷ []) (codes "L")) (option_map (Branch true) (whole_cond rest)) None (Some w) e) [

@@ -195,14 +195,14 @@ abbrev pub after_of : Bool → Register → List Piece → Option Address
 after_of user n (Comma ∷ ps) = option_map (address n false user) (all_read (first_offset ps))
 after_of user n ps = if user then None else unoffset_of n ps
 
-abbrev pub based : Bool → Register → List Piece → Option Address
-based user n (Sign CloseBracket ∷ ps) = after_of user n ps
-based user n (Comma ∷ ps) = if user then None else before_of n ps
-based user n _ = None
+abbrev pub after_base : Bool → Register → List Piece → Option Address
+after_base user n (Sign CloseBracket ∷ ps) = after_of user n ps
+after_base user n (Comma ∷ ps) = if user then None else before_of n ps
+after_base user n _ = None
 
 -- after [
 abbrev pub address_of : Bool → List Piece → Option Address
-address_of user ps = option_and_then (λ f. based user f.0 f.1) (first_register ps)
+address_of user ps = option_and_then (λ f. after_base user f.0 f.1) (first_register ps)
 
 abbrev pub is_byte : Suffix → Bool
 is_byte B = true

@@ -62,9 +62,9 @@ abbrev pub IsRrx : List ℕ → Type 0
 IsRrx text = (text ≡ codes "RRX") ⊎ (text ≡ codes "rrx")
 
 -- a mark, where it stands for yes
-abbrev pub marked : Bool → Mark → List Piece
-marked true m = Sign m ∷ []
-marked false m = []
+abbrev pub mark_if : Bool → Mark → List Piece
+mark_if true m = Sign m ∷ []
+mark_if false m = []
 
 -- ## Shifts
 
@@ -179,9 +179,9 @@ SpellsMultiply true s x ps = SpellsSum s x ps
 -- #n; #-n; Rm; -Rm; with a shift by a number; whether it is added
 abbrev pub SpellsOffset : Bool → Distance → List Piece → Type 0
 SpellsOffset up (distance.Number n) ps =
-    (number : List Piece) × (ps ≡ Sign Hash ∷ (marked (not up) Minus ++ number)) × SpellsNumber n number
+    (number : List Piece) × (ps ≡ Sign Hash ∷ (mark_if (not up) Minus ++ number)) × SpellsNumber n number
 SpellsOffset up (distance.Register m a) ps =
-    (register : List ℕ) × (shift : List Piece) × (ps ≡ marked (not up) Minus ++ (Run register ∷ shift))
+    (register : List ℕ) × (shift : List Piece) × (ps ≡ mark_if (not up) Minus ++ (Run register ∷ shift))
     × IsRegister register m × SpellsShifting (shifting.Amount a) shift
 
 -- what follows the bracket where there is no offset: Rn] or Rn]!, of offset 0
@@ -191,7 +191,7 @@ pub record SpellsBase (x : Address) (ps : List Piece) : Type 0 where
   pub means : x
       ≡ record { rn = rn; before = true; up = true; write_back = write_back; distance = distance.Number 0 }
   pub n : List ℕ
-  pub spelled : ps ≡ Run n ∷ Sign CloseBracket ∷ marked write_back Bang
+  pub spelled : ps ≡ Run n ∷ Sign CloseBracket ∷ mark_if write_back Bang
   pub n-is : IsRegister n rn
 
 -- Rn,offset] and Rn,offset]!
@@ -199,7 +199,7 @@ pub record SpellsBefore (x : Address) (ps : List Piece) : Type 0 where
   pub before : x.before ≡ true
   pub n : List ℕ
   pub offset : List Piece
-  pub spelled : ps ≡ Run n ∷ Comma ∷ (offset ++ (Sign CloseBracket ∷ marked x.write_back Bang))
+  pub spelled : ps ≡ Run n ∷ Comma ∷ (offset ++ (Sign CloseBracket ∷ mark_if x.write_back Bang))
   pub n-is : IsRegister n x.rn
   pub offset-is : SpellsOffset x.up x.distance offset
 
@@ -256,8 +256,8 @@ pub record SpellsBlock (load : Bool) (s : Suffix) (x : BlockTransfer) (ps : List
   pub spelled : ps
       ≡ Run n
       ∷
-      (marked x.write_back Bang
-      ++ (Comma ∷ Sign OpenBrace ∷ (listed ++ (Sign CloseBrace ∷ marked x.user Caret))))
+      (mark_if x.write_back Bang
+      ++ (Comma ∷ Sign OpenBrace ∷ (listed ++ (Sign CloseBrace ∷ mark_if x.user Caret))))
   pub n-is : IsRegister n x.rn
   pub runs-are : Listed SpellsRun runs listed
   pub list : x.list ≡ all_bits runs

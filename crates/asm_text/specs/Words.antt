@@ -47,14 +47,14 @@ abbrev pub whole_cond : List ℕ → Option Cond
 whole_cond [] = Some Al
 whole_cond (c ∷ cs) = cond_of (c ∷ cs)
 
-abbrev pub linked : List ℕ → Option Word
-linked [] = None
-linked (c ∷ rest) =
+abbrev pub branch_link : List ℕ → Option Word
+branch_link [] = None
+branch_link (c ∷ rest) =
     if bytes_eq (c ∷ []) (codes "L") then option_map (Branch true) (whole_cond rest) else None
 
 abbrev pub branch_rest : Option Cond → List ℕ → Option Word
 branch_rest (Some c) rest = Some (Branch false c)
-branch_rest None rest = linked rest
+branch_rest None rest = branch_link rest
 
 abbrev pub branch_of : List ℕ → Option Word
 branch_of [] = None

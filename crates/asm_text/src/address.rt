@@ -1,6 +1,6 @@
 ghost use Rattle.std.specs.Prelude.{◌≡◌, map, option_map};
 ghost use Rattle.asm_text.specs.Pieces.{in_pieces, piece_of};
-ghost use Rattle.asm_text.specs.Operands.{address_of, after_of, bang_of, based, before_of};
+ghost use Rattle.asm_text.specs.Operands.{address_of, after_of, bang_of, after_base, before_of};
 ghost use Rattle.asm_text.specs.Operands.{address, closed_of, unoffset_of};
 ghost use Rattle.asm_text.specs.Operands.{signed_offset};
 ghost use Rattle.asm_text.specs.Operands.{number_offset, first_offset};
@@ -116,8 +116,8 @@ fn after_of(user: bool, rn: Register, tokens: &[Token<'_>]) -> Option<Address>
     }
 }
 
-fn based(user: bool, rn: Register, tokens: &[Token<'_>]) -> Option<Address>
-    ensures { result ≡ based user rn (map piece_of tokens.now) }
+fn after_base(user: bool, rn: Register, tokens: &[Token<'_>]) -> Option<Address>
+    ensures { result ≡ after_base user rn (map piece_of tokens.now) }
 {
     match tokens {
         [Token::Sign(Mark::CloseBracket), rest @ ..] => after_of(user, rn, rest),
@@ -131,5 +131,5 @@ pub(crate) fn address_of(user: bool, tokens: &[Token<'_>]) -> Option<Address>
     ensures { result ≡ address_of user (map piece_of tokens.now) }
 {
     let (rn, rest) = first_register(tokens)?;
-    based(user, rn, rest)
+    after_base(user, rn, rest)
 }

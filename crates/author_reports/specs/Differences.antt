@@ -116,12 +116,12 @@ abbrev pub capped_at : Flow → List Pass → List Edge → ℕ → Compared
 capped_at flow passes walk a =
     record { run = capped_run_at flow passes a; bound = numbers_of (taken_at flow walk a) }
 
-abbrev pub none : Numbers
-none = record { passes = 0; ticks = 0 }
+abbrev pub no_numbers : Numbers
+no_numbers = record { passes = 0; ticks = 0 }
 
 -- what the tally has at an address
 abbrev pub tallied : RunTally → ℕ → Numbers
-tallied t a = unwrap_or (get nat_cmp t.by_address a) none
+tallied t a = unwrap_or (get nat_cmp t.by_address a) no_numbers
 
 abbrev pub compared_in : RunTally → Tally → ℕ → Compared
 compared_in run walk a = record { run = tallied run a; bound = numbers_of (get nat_cmp walk.by_address a) }

@@ -18,8 +18,8 @@ use Rattle.command_line.specs.declared.line.ExplainNames.{ExplainNames}
 use Rattle.command_line.specs.declared.line.Names.{Names}
 
 -- an argument that has to be there, in its place
-abbrev pub wanted : Text → Rule
-wanted id = record (new_rule id) { required = true }
+abbrev pub required_rule : Text → Rule
+required_rule id = record (new_rule id) { required = true }
 
 -- `--profile FILE`
 abbrev pub profile_rule : Rule
@@ -27,21 +27,21 @@ profile_rule = record (new_rule (codes "profile")) { long = Some (codes "profile
 
 -- `asm SOURCE IMAGE`
 abbrev pub asm_command : App
-asm_command = with_rule (with_rule (new_app (codes "asm")) (wanted (codes "source"))) (wanted (codes "image"))
+asm_command = with_rule (with_rule (new_app (codes "asm")) (required_rule (codes "source"))) (required_rule (codes "image"))
 
 -- `list SOURCE`
 abbrev pub list_command : App
-list_command = with_rule (new_app (codes "list")) (wanted (codes "source"))
+list_command = with_rule (new_app (codes "list")) (required_rule (codes "source"))
 
 -- `draft SOURCE ENTRY`
 abbrev pub draft_command : App
 draft_command =
-    with_rule (with_rule (new_app (codes "draft")) (wanted (codes "source"))) (wanted (codes "entry"))
+    with_rule (with_rule (new_app (codes "draft")) (required_rule (codes "source"))) (required_rule (codes "entry"))
 
 -- `NAME SOURCE SECOND`, with a cycle profile
 abbrev pub priced_command : Text → Text → App
 priced_command name second =
-    with_rule (with_rule (with_rule (new_app name) profile_rule) (wanted (codes "source"))) (wanted second)
+    with_rule (with_rule (with_rule (new_app name) profile_rule) (required_rule (codes "source"))) (required_rule second)
 
 abbrev pub run_command : App
 run_command = priced_command (codes "run") (codes "machine")
@@ -97,22 +97,22 @@ explain_command =
 
 -- `check SOURCE STATEMENT CERT`, with a cycle profile
 abbrev pub check_command : App
-check_command = with_rule (priced_command (codes "check") (codes "statement")) (wanted (codes "cert"))
+check_command = with_rule (priced_command (codes "check") (codes "statement")) (required_rule (codes "cert"))
 
 -- a whole number of visits, in its place
 abbrev pub visits_rule : Rule
-visits_rule = numbered (wanted (codes "visits"))
+visits_rule = numbered (required_rule (codes "visits"))
 
 -- `visits SOURCE STATEMENT FIQSTATEMENT K`, with a cycle profile
 abbrev pub visits_command : App
 visits_command =
     with_rule
-    (with_rule (priced_command (codes "visits") (codes "statement")) (wanted (codes "fiq_statement")))
+    (with_rule (priced_command (codes "visits") (codes "statement")) (required_rule (codes "fiq_statement")))
     visits_rule
 
 -- `follow SOURCE STATEMENT MACHINE`, with a cycle profile
 abbrev pub follow_command : App
-follow_command = with_rule (priced_command (codes "follow") (codes "statement")) (wanted (codes "machine"))
+follow_command = with_rule (priced_command (codes "follow") (codes "statement")) (required_rule (codes "machine"))
 
 -- `graph SOURCE STATEMENT`, with a cycle profile
 abbrev pub graph_command : App

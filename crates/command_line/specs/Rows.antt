@@ -6,7 +6,7 @@ use Rattle.clap.specs.Walk.{Row, Rule, Text}
 use Rattle.clap.specs.Simple.{App, new_app, new_rule, with_rule, with_subcommand}
 use Rattle.command_line.specs.Line.{Asked, asked_asm, asked_bound, asked_check, asked_draft}
 use Rattle.command_line.specs.Line.{asked_explain, asked_follow, asked_list, asked_visits}
-use Rattle.command_line.specs.Line.{debug, graph, names_in, numbered, run, trace, wanted}
+use Rattle.command_line.specs.Line.{debug, graph, names_in, numbered, run, trace, required_rule}
 use Rattle.command_line.specs.declared.rows.ArgumentRow.{ArgumentRow}
 use Rattle.command_line.specs.declared.rows.CommandRow.{CommandRow}
 use Rattle.command_line.specs.declared.rows.Form.{Form}
@@ -15,8 +15,8 @@ use Rattle.command_line.specs.declared.rows.Kind.{Kind}
 use Rattle.command_line.specs.declared.rows.Kind.TheVariants as kind
 
 abbrev pub rule_as : Form → Text → Rule
-rule_as form.Placed id = wanted id
-rule_as form.Counted id = numbered (wanted id)
+rule_as form.Placed id = required_rule id
+rule_as form.Counted id = numbered (required_rule id)
 rule_as form.Named id = record (new_rule id) { long = Some id; value_names = 1 }
 rule_as form.Numbered id = numbered (record (new_rule id) { long = Some id })
 

@@ -24,8 +24,8 @@ begun machine port = record {
 }
 
 -- the greatest sum is 2^128 - 1
-abbrev pub capped_sum : ℕ → ℕ → ℕ
-capped_sum a b = min (a + b) (2 ^ 128 - 1)
+abbrev pub capped_ticks : ℕ → ℕ → ℕ
+capped_ticks a b = min (a + b) (2 ^ 128 - 1)
 
 -- bursts stretch one step alone; lines and port stay
 abbrev pub without_bursts : Input → Input
@@ -37,8 +37,8 @@ moved_on s ran machine = record {
   machine = machine;
   breaks = s.breaks;
   next = without_bursts s.next;
-  ticks = capped_sum s.ticks ran.ticks;
-  elapsed = capped_sum s.elapsed ran.elapsed;
+  ticks = capped_ticks s.ticks ran.ticks;
+  elapsed = capped_ticks s.elapsed ran.elapsed;
 }
 
 -- a breakpoint that is set is removed, any other is added at its place

@@ -8,7 +8,7 @@ use Rattle.std.proofs.lemmas.List.{length-append}
 use Rattle.std.proofs.lemmas.List.Folds.{list_all-append}
 use Rattle.asm_text.specs.Pieces.{is_blank}
 use Rattle.asm_text.specs.Source.{lines_of}
-use Rattle.diagnosis.specs.Outline.{Bare, Begins, Gap, Key, Token, Quoted, Reading, KeyValue, States, Table, OfValue, Value, all_taken, bare_at, begun, first_token, header_of, is_bare, is_gap, is_quote, keyed, line_read, lines_read, past_blanks, token_at, tokens, quoted_len, taken, key_or_value, valued, word_at}
+use Rattle.diagnosis.specs.Outline.{Bare, Begins, Gap, Key, Token, Quoted, Reading, KeyValue, States, Table, OfValue, Value, all_taken, bare_at, begun, first_token, header_of, is_bare, is_gap, is_quote, with_key, line_read, lines_read, past_blanks, token_at, tokens, quoted_len, taken, key_or_value, with_value, word_at}
 use Rattle.diagnosis.specs.PlainLines.{ArePlain, Heading, IsPlainValue, PlainLine, Setting, is_plain, is_quotable, items_from, line_text, lines_text}
 use Rattle.diagnosis.specs.Refused.{value_text}
 use Rattle.diagnosis.proofs.OutlineLemmas.{after_first, one_token}
@@ -134,14 +134,14 @@ value_token (Quoted quote w) h =
     )
 
 set_line : (line : ℕ) (r : Reading) (n b : ℕ) (key : List ℕ) (value : Value) → list_all is_plain (b ∷ key) ≡ true → IsPlainValue value
-    → all_taken line r (tokens (suc (suc (suc (suc (suc n))))) ((b ∷ key) ++ (codes " = " ++ value_text value))) ≡ valued line (keyed r (b ∷ key)) value
+    → all_taken line r (tokens (suc (suc (suc (suc (suc n))))) ((b ∷ key) ++ (codes " = " ++ value_text value))) ≡ with_value line (with_key r (b ∷ key)) value
 set_line line r n b key value is_key is_value =
-    let s = keyed r (b ∷ key) in
+    let s = with_key r (b ∷ key) in
     let text = value_text value in
     next line r (suc (suc (suc (suc n)))) _ (Key (b ∷ key)) (codes " = " ++ text) (word_token b key (codes " = " ++ text) is_key refl)
     ∙ (next line s (suc (suc (suc n))) _ Gap (codes "= " ++ text) refl
     ∙ (next line s (suc (suc n)) _ Gap (codes " " ++ text) refl
-    ∙ (next line s (suc n) _ Gap text refl ∙ (next line s n _ (OfValue value) [] (value_token value is_value) ∙ no_tokens line (valued line s value) n))))
+    ∙ (next line s (suc n) _ Gap text refl ∙ (next line s n _ (OfValue value) [] (value_token value is_value) ∙ no_tokens line (with_value line s value) n))))
 
 heading : (line : ℕ) (b : ℕ) (name : List ℕ) → list_all is_plain (b ∷ name) ≡ true
     → header_of line (line_text (Heading (b ∷ name))) ≡ Some (record { line = line; name = b ∷ name; is_listed = true })
@@ -160,7 +160,7 @@ some_text (Bare (b ∷ w)) h = omega arith
 some_text (Quoted quote w) h = omega arith
 
 set_read : (line : ℕ) (r : Reading) (b : ℕ) (key : List ℕ) (value : Value) → list_all is_plain (b ∷ key) ≡ true → IsPlainValue value
-    → line_read line r (line_text (Setting (b ∷ key) value)) (header_of line (line_text (Setting (b ∷ key) value))) ≡ valued line (keyed r (b ∷ key)) value
+    → line_read line r (line_text (Setting (b ∷ key) value)) (header_of line (line_text (Setting (b ∷ key) value))) ≡ with_value line (with_key r (b ∷ key)) value
 set_read line r b key value is_key is_value =
     let text = line_text (Setting (b ∷ key) value) in
     let after = codes " = " ++ value_text value in
@@ -232,4 +232,4 @@ lines_state n r (Setting (b ∷ key) value ∷ lines) h =
     let p : KeyValue = record { line = n; list = (r.at).list; key = b ∷ key; value = value } in
     let ends = both_go_on (b ∷ key) (codes " = " ++ value_text value) (plain_goes_on (b ∷ key) h.0.0) (value_goes_on value h.0.1) in
     ap (λ (s : Reading). s.items) (one_line n r text rest ends ∙ ap (λ s. lines_read (n + 1) s (lines_of rest)) (set_read n r b key value h.0.0 h.0.1))
-    ∙ (lines_state (n + 1) (valued n (keyed r (b ∷ key)) value) lines h.1 ∙ append_assoc r.items (States p ∷ []) (items_from (n + 1) (r.at).list lines))
+    ∙ (lines_state (n + 1) (with_value n (with_key r (b ∷ key)) value) lines h.1 ∙ append_assoc r.items (States p ∷ []) (items_from (n + 1) (r.at).list lines))

@@ -137,31 +137,31 @@ abbrev pub item : Reading → Item → Reading
 item r i = record { at = r.at; around = r.around; items = r.items ++ (i ∷ []) }
 
 -- the list of a table in braces is that of its key
-abbrev pub opened : ℕ → Reading → Reading
-opened line r =
+abbrev pub with_list : ℕ → Reading → Reading
+with_list line r =
     record {
       at = in_list (r.at).key;
       around = r.at;
       items = r.items ++ (Begins (record { line = line; name = (r.at).key; is_listed = true }) ∷ []);
     }
 
-abbrev pub closed : Reading → Reading
-closed r = record { at = r.around; around = r.around; items = r.items ++ (Ends ∷ []) }
+abbrev pub without_list : Reading → Reading
+without_list r = record { at = r.around; around = r.around; items = r.items ++ (Ends ∷ []) }
 
-abbrev pub keyed : Reading → List ℕ → Reading
-keyed r key =
+abbrev pub with_key : Reading → List ℕ → Reading
+with_key r key =
     record { at = record { list = (r.at).list; key = key }; around = r.around; items = r.items }
 
-abbrev pub valued : ℕ → Reading → Value → Reading
-valued line r value =
+abbrev pub with_value : ℕ → Reading → Value → Reading
+with_value line r value =
     item r (States (record { line = line; list = (r.at).list; key = (r.at).key; value = value }))
 
 abbrev pub taken : ℕ → Reading → Token → Reading
 taken line r Gap = r
-taken line r Opens = opened line r
-taken line r Closes = closed r
-taken line r (Key key) = keyed r key
-taken line r (OfValue value) = valued line r value
+taken line r Opens = with_list line r
+taken line r Closes = without_list r
+taken line r (Key key) = with_key r key
+taken line r (OfValue value) = with_value line r value
 
 unfoldable pub all_taken : ℕ → Reading → List Token → Reading
 all_taken line r [] = r

@@ -26,7 +26,7 @@ use Rattle.arm2_effect.specs.declared.step_end.Why.{Why}
 use Rattle.arm2_effect.specs.Effects.{Effect, onward, skipped, stopped}
 use Rattle.arm2_effect.specs.Exceptions.{taken}
 use Rattle.arm2_effect.specs.Modes.{r15_in, register_in, with_r15, with_register, is_user}
-use Rattle.arm2_effect.specs.Operations.{branch_effect, compared, data_immediate_effect, data_register_effect, data_register_shift_effect, entered, jumped, multiply_effect, next_r15, operation_effect, placed, product_of}
+use Rattle.arm2_effect.specs.Operations.{branch_effect, compared, data_immediate_effect, data_register_effect, data_register_shift_effect, entered, jumped, multiply_effect, next_r15, operation_effect, outcome_effect, product_of}
 use Rattle.arm2_effect.specs.Outcomes as effect
 use Rattle.arm2_effect.specs.ProgramCounter.{address_of, branch_target, r15_jumped, mode_of, psr_of, psr_with, r15_ahead, r15_of, r15_restored}
 use Rattle.arm2_transfer.specs.declared.bus.Bus.{Bus}
@@ -130,8 +130,8 @@ module _ (p : Profile) (rom : RomTimes) (class : Class) (regs : List ℕ) (long 
   placed_by false true c j e hc hj he = hj
   placed_by false false c j e hc hj he = he
 
-  placed_costs : (o : Opcode) (sets_flags : Bool) (rd : Register) (out : _) → EffectCosts (writer_if (data_writes_pc o rd)) (work.Internal 0) (placed o sets_flags rd out regs)
-  unfolding placed
+  placed_costs : (o : Opcode) (sets_flags : Bool) (rd : Register) (out : _) → EffectCosts (writer_if (data_writes_pc o rd)) (work.Internal 0) (outcome_effect o sets_flags rd out regs)
+  unfolding outcome_effect
   placed_costs o sets_flags rd out =
       placed_by (is_compare o) (is_pc rd) (compared rd out regs) (jumped sets_flags out regs) (entered sets_flags rd out regs)
       (compared_costs rd out) (jumped_costs sets_flags out) (entered_costs sets_flags rd out)

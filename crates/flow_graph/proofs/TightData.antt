@@ -17,7 +17,7 @@ use Rattle.arm2_effect.specs.declared.step_end.Kind.TheVariants as ended
 use Rattle.arm2_effect.specs.Effects.{Effect, onward, skipped, straight}
 use Rattle.arm2_effect.specs.Modes.{r15_in, register_in}
 use Rattle.arm2_effect.specs.Operations.{branch_effect, compared, delayed, entered, jumped}
-use Rattle.arm2_effect.specs.Operations.{multiply_effect, placed, product_of}
+use Rattle.arm2_effect.specs.Operations.{multiply_effect, outcome_effect, product_of}
 use Rattle.arm2_effect.specs.Outcomes.{outcome_of}
 use Rattle.arm2_effect.specs.ProgramCounter.{address_of}
 use Rattle.flow_graph.specs.Kinds.{is_writer, writer_if}
@@ -113,8 +113,8 @@ module _ (c : Setting) where
   pub placed_pays : (o : Opcode) (sets_flags : Bool) (rd : Register) (x : ℕ) (y : _) (f : Flags)
       → (data_writes_pc o rd ≡ true → IsTarget c (outcome_of o x y f).value)
       → EffectPays c (writer_if (data_writes_pc o rd)) (work.Internal 0)
-      (placed o sets_flags rd (outcome_of o x y f) c.regs)
-  unfolding placed
+      (outcome_effect o sets_flags rd (outcome_of o x y f) c.regs)
+  unfolding outcome_effect
   placed_pays o sets_flags rd x y f target =
       let out = outcome_of o x y f in
       placed_by (is_compare o) (is_pc rd) (IsTarget c out.value) _ _ _

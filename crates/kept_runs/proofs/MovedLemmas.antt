@@ -30,7 +30,7 @@ use Rattle.arm2_effect.specs.Effects as effect
 use Rattle.arm2_effect.specs.Effects.{Effect, FetchN, Internal, Word, onward, skipped, stopped, straight}
 use Rattle.arm2_effect.specs.Exceptions.{taken}
 use Rattle.arm2_effect.specs.Modes.{r15_in, register_in, slot_of, with_r15, with_register}
-use Rattle.arm2_effect.specs.Operations.{branch_effect, compared, data_immediate_effect, data_register_effect, data_register_shift_effect, delayed, entered, jumped, multiply_effect, operation_effect, placed, product_of}
+use Rattle.arm2_effect.specs.Operations.{branch_effect, compared, data_immediate_effect, data_register_effect, data_register_shift_effect, delayed, entered, jumped, multiply_effect, operation_effect, outcome_effect, product_of}
 use Rattle.arm2_effect.specs.ProgramCounter.{address_of, mode_of, r15_ahead}
 use Rattle.arm2_transfer.specs.declared.bus.Bus.{Bus}
 use Rattle.arm2_transfer.specs.declared.single_fields.Single.{Single}
@@ -199,8 +199,8 @@ module _ (class : Class) (regs : List ℕ) (bus : Bus) where
   placed_by false true c j e hc hj he = hj
   placed_by false false c j e hc hj he = he
 
-  placed_moves : (o : Opcode) (sets_flags : Bool) (rd : Register) (out : _) → IsMoved None (on_bus bus (placed o sets_flags rd out regs))
-  unfolding placed
+  placed_moves : (o : Opcode) (sets_flags : Bool) (rd : Register) (out : _) → IsMoved None (on_bus bus (outcome_effect o sets_flags rd out regs))
+  unfolding outcome_effect
   placed_moves o sets_flags rd out =
       placed_by (is_compare o) (is_pc rd) (compared rd out regs) (jumped sets_flags out regs) (entered sets_flags rd out regs)
       (compared_moves rd out) (jumped_moves sets_flags out) (entered_moves sets_flags rd out)
