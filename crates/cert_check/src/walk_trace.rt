@@ -12,7 +12,7 @@ use certificate::{CertItem, StepLine, To};
 use flow_graph::{Edge, Graph, MOST_ROUNDS, Place};
 use loop_bounds::{LoopTree, edge_range_in};
 use numbered_walks::Span;
-use walk_counts::{holds, is_same_label};
+use walk_counts::{is_in, is_same_label};
 
 fn leads_to(place: &Place, named: To) -> bool
     ensures { result ≡ leads_to place.now named }
@@ -77,7 +77,7 @@ fn follow_step(
         return false;
     };
     let edge = indexed.tree.edges()[number];
-    if !holds(within, edge.to) {
+    if !is_in(within, edge.to) {
         return false;
     }
     walker.take(&indexed.index.headers, &edge);

@@ -3,7 +3,7 @@ ghost use Rattle.walk_counts.specs.Spans.{header_at};
 ghost use Rattle.cert_check.specs.Walking.{Arrives, broken_by, capped_cost, gained, turns_after};
 
 use numbered_walks::{NumberedEdge, Span};
-use walk_counts::holds;
+use walk_counts::is_in;
 
 /// The costs of walks, in ticks, and their numbers of back edges are capped here, at 2^64: above each bound.
 pub const COST_CAP: u128 = 1 << 64;
@@ -80,7 +80,7 @@ impl Walker {
     {
         match headers[edge.to] {
             Some(span) => {
-                if holds(&span, edge.from) {
+                if is_in(&span, edge.from) {
                     capped_cost_sum(self.turns[edge.to], 1)
                 } else {
                     0

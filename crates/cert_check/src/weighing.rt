@@ -10,7 +10,7 @@ ghost use Rattle.cert_check.specs.Weighing.{CanWeigh, NumberFits, NumberHolds, N
 
 use crate::index::Index;
 use numbered_walks::{NumberedEdge, Span, Tables};
-use walk_counts::holds;
+use walk_counts::is_in;
 use walks::COST_LIMIT;
 
 /// What a row is tested for.
@@ -70,7 +70,7 @@ fn needed_with(spans: &[Span], tables: &Tables, edge: &NumberedEdge) -> Option<u
 {
     let mut sum = distance_of(tables, edge.from).checked_add(u64::from(edge.cost))?;
     for span in spans {
-        if holds(span, edge.from) && !holds(span, edge.to) {
+        if is_in(span, edge.from) && !is_in(span, edge.to) {
             sum = sum.checked_add(stay(tables, span)?)?;
         }
     }
@@ -106,7 +106,7 @@ fn limit_of(weighing: Weighing<'_>, edge: &NumberedEdge) -> Option<u64>
     let tables = weighing.tables;
     match span_at(weighing.spans, &weighing.index.headers, edge.to) {
         Some(span) => {
-            if holds(&span, edge.from) {
+            if is_in(&span, edge.from) {
                 if span.bound == 0 {
                     None
                 } else {
@@ -173,7 +173,7 @@ pub(crate) fn weight(weighing: Weighing<'_>, edge: &NumberedEdge) -> (u64, u64)
 fn is_outside(spans: &[Span], number: usize) -> bool
     ensures { result ≡ list_any (λ s. not (is_in s number)) spans.now }
 {
-    spans.iter().any(|span| !holds(span, number))
+    spans.iter().any(|span| !is_in(span, number))
 }
 
 // Whether the edge leaves an instance.

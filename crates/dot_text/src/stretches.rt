@@ -8,7 +8,7 @@ use crate::tables::Drawn;
 use flow_graph::{Calls, Place};
 use loop_bounds::{edge_range_in, place_in};
 use numbered_walks::Span;
-use walk_counts::{capped_product, capped_sum, holds};
+use walk_counts::{capped_product, capped_sum, is_in};
 
 /// A straight stretch, by its first and its last number.
 #[derive(Clone, Copy)]
@@ -40,7 +40,7 @@ fn all_hold(loops: &[Span], number: usize) -> bool
     ensures { result ≡ list_all (λ s. is_in s number) loops.now }
 {
     for span in loops {
-        if !holds(span, number) {
+        if !is_in(span, number) {
             return false;
         }
     }

@@ -4,7 +4,7 @@ ghost use Rattle.std.specs.Prelude.{◌≡◌, ◌+◌, ◌<◌, ◌≤◌, Matc
 ghost use Rattle.kept_runs.specs.Stays.{IsOver, Turns};
 
 use numbered_walks::{NumberedEdge, Span};
-use walk_counts::holds;
+use walk_counts::is_in;
 
 // One back edge more, where the bound allows that.
 fn one_more(span: &Span, turns: u32) -> Option<u32>
@@ -35,7 +35,7 @@ pub(crate) fn turn(
     let Some(span) = headers[to] else {
         return None;
     };
-    if !holds(&span, edge.from) {
+    if !is_in(&span, edge.from) {
         turns[to] = 0;
         return None;
     }

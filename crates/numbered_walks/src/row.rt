@@ -9,7 +9,7 @@ use crate::tables::{Tables, arrival_of, distance_of, round_of};
 use walks::COST_LIMIT;
 
 // Whether the number is that of a member.
-fn holds(span: &Span, number: usize) -> bool
+fn is_in(span: &Span, number: usize) -> bool
     ensures { result ≡ is_in span.now number }
 {
     span.header <= number && number <= span.last
@@ -32,7 +32,7 @@ fn needed_with(spans: &[Span], tables: &Tables, edge: &NumberedEdge) -> Option<u
 {
     let mut sum = 0u64;
     for span in spans {
-        if holds(span, edge.from) && !holds(span, edge.to) {
+        if is_in(span, edge.from) && !is_in(span, edge.to) {
             sum = sum.checked_add(stay(tables, span)?)?;
         }
     }

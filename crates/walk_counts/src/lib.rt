@@ -8,4 +8,4 @@ mod spans;
 
 pub use counting::{capped_product, capped_sum, edge_counts};
 pub use numbers::is_same_label;
-pub use spans::{headers, holds};
+pub use spans::{headers, is_in};

@@ -7,7 +7,7 @@ use numbered_walks::Span;
 use std::alloc::{AllocError, Global};
 
 /// Whether the number is that of a member of the instance.
-pub fn holds(span: &Span, number: usize) -> bool
+pub fn is_in(span: &Span, number: usize) -> bool
     ensures { result ≡ is_in span.now number }
 {
     span.header <= number && number <= span.last
