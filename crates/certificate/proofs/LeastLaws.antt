@@ -1,6 +1,6 @@
 -- The least numbers that meet rows which ask for less than 2^63 are below it themselves.
 use Rattle.std.proofs.Common.{◌≡◌, ◌∙◌, ◌*◌, ◌<◌, ◌≤◌, ◌^◌, Bool, true, false, ℕ, List, [], ◌∷◌, Option, Some, None, cond, map, refl, sym, ap, subst, arith}
-use Rattle.std.specs.Prelude.{min, sum_by, find, nat_eq, IfSome, Contains}
+use Rattle.std.specs.Prelude.{min, find, nat_eq, IfSome, Contains}
 use Rattle.std.specs.List.{AllByRecursion}
 use Rattle.std.specs.List.Sorted.{IsStrictlySortedBy}
 use Rattle.std.specs.Cmp.{tied_itself}

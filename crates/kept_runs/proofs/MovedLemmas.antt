@@ -38,7 +38,7 @@ use Rattle.arm2_transfer.specs.declared.span.Span.{Span}
 use Rattle.arm2_transfer.specs.declared.words.Move.{Move}
 use Rattle.arm2_transfer.specs.declared.words.TransferFault.{TransferFault}
 use Rattle.arm2_transfer.specs.declared.words.TransferFault.TheVariants as fault
-use Rattle.arm2_transfer.specs.Block.{load_all, block_at, block_by, block_carried_out, block_loads, block_moved, block_stores, lowest_of, mode_for, span_of}
+use Rattle.arm2_transfer.specs.Block.{load_all, block_at, block_by, block_carried_out, block_loads, block_moved, block_stores, mode_for, span_of}
 use Rattle.arm2_transfer.specs.Moved.{Moved, faulted, load_accesses, on_bus, store_accesses, words_at}
 use Rattle.arm2_transfer.specs.Operations.{operation_moved}
 use Rattle.arm2_transfer.specs.Registers.{passed, with_base, with_loaded}

@@ -32,7 +32,7 @@ use Rattle.numbered_walks.specs.declared.span.NumberedEdge.{NumberedEdge}
 use Rattle.numbered_walks.specs.declared.span.Span.{Span}
 use Rattle.numbered_walks.specs.Index.{edge_at, edges_of}
 use Rattle.numbered_walks.specs.Ordered as O
-use Rattle.numbered_walks.specs.Ordered.{ends_at_header, is_in, is_inside, number_shape}
+use Rattle.numbered_walks.specs.Ordered.{ends_at_header, is_inside, number_shape}
 use Rattle.numbered_walks.specs.Reach.{most_in}
 use Rattle.loop_bounds.specs.Bounds.{IsCompleteWalk}
 use Rattle.loop_bounds.specs.Instance.{place_loops}

@@ -6,7 +6,7 @@ use Rattle.std.proofs.lemmas.List.{get_or_default}
 use Rattle.std.proofs.Math.Nat.{mul-le-mul_left}
 use Rattle.std.proofs.lemmas.Bool.{true≢false, cases_Bool, cases_lt, cases_eq, cases_order, both_ways, eqb-true, eq-eqb, ne_eqb}
 use Rattle.std.proofs.lemmas.List.Elements.{Contains-get_or}
-use Rattle.walks.specs.Rows.{Potentials, RowHolds, limit_at, IsAtMost}
+use Rattle.walks.specs.Rows.{Potentials, limit_at, IsAtMost}
 use Rattle.walks.specs.Rows as W
 use Rattle.walks.proofs.SumLe.{sum_by-le_all}
 use Rattle.walks.proofs.RowLemmas.{find_some, back_row, enter_row}

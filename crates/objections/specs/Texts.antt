@@ -1,5 +1,5 @@
 -- What is printed of what fails in a certificate.
-use Rattle.std.specs.Prelude.{ℕ, ◌∷◌, ◌++◌, List, codes, cond, decimal, nat_lt}
+use Rattle.std.specs.Prelude.{ℕ, ◌++◌, List, codes, cond, decimal, nat_lt}
 use Rattle.asm_text.specs.Hex.{hex}
 use Rattle.flow_graph.specs.declared.edges.Edge.{Edge}
 use Rattle.flow_graph.specs.declared.places.Place.{Place}
