@@ -1,14 +1,16 @@
 //! Two passes, in each of which it counts down from 3.
 
+/// The source: its outer loop makes two passes, and in each its inner loop counts R0 down from 3 to 0.
 pub const SOURCE: &[u8] =
     b"start MOV R1,#2\nouter MOV R0,#3\ninner SUBS R0,R0,#1\nturn BNE inner\n \
     SUBS R1,R1,#1\nback BNE outer\n SUBS PC,R14,#4\n";
 
-/// By labels.
+/// Its statement, by labels: the outer loop turns back once, the inner one twice in each pass.
 pub const STATEMENT: &[u8] = b"entry = \"start\"\n\
     [[loop]]\nheader = \"outer\"\nfirst = \"outer\"\nlast = \"back\"\nbound = 1\n\
     [[loop]]\nheader = \"inner\"\nfirst = \"inner\"\nlast = \"turn\"\nbound = 2\n";
 
+/// Its certificate: both passes with all their turns, 50 ticks.
 pub const CERTIFICATE: &[u8] = b"arcwcet certificate 1
 bound 50
 step 8000 do 8004 1
