@@ -24,6 +24,9 @@ use toml_reading::{
 /// How many steps a machine file asks for at most, and how many where it says nothing.
 pub(crate) const MOST_STEPS: u32 = 65_536;
 
+/// The last step that an event can be at: steps are counted from 0.
+const LAST_STEP: u32 = MOST_STEPS - 1;
+
 // The keys of an event's table.
 const EVENT_KEYS: &[&str] = &["step", "bursts", "lines", "port"];
 
@@ -99,7 +102,7 @@ fn port_in(table: &Table) -> Read<Option<u32>>
 }
 
 fn bursts_of(value: &Value) -> Read<u16>
-    ensures { result ≡ number_at machine_faults 65535 (view value.now) }
+    ensures { result ≡ number_at machine_faults u16.MAX (view value.now) }
 {
     match value.as_integer() {
         Some(number) => match u16::try_from(number) {
@@ -111,7 +114,7 @@ fn bursts_of(value: &Value) -> Read<u16>
 }
 
 fn bursts(table: &Table) -> Read<u16>
-    ensures { result ≡ number_or machine_faults (codes "bursts") 65535 0 (table_view table.now) }
+    ensures { result ≡ number_or machine_faults (codes "bursts") u16.MAX 0 (table_view table.now) }
 {
     value_at(table, "bursts").map_or(Ok(0), bursts_of)
 }
@@ -133,7 +136,7 @@ fn event_in(alloc: Global, table: &Table) -> Result<Read<(u32, Event)>, AllocErr
 {
     let held = pair(lines_in(alloc, table)?, port_in(table));
     let rest = pair(bursts(table), held);
-    let event = pair(number_in(table, "step", 65535), rest).map(event_of);
+    let event = pair(number_in(table, "step", LAST_STEP), rest).map(event_of);
     Ok(of_keys(EVENT_KEYS, table, event))
 }
 
