@@ -12,7 +12,7 @@ use Rattle.toml_reading.proofs.LowestLemmas.{Judges, judged_as, required_judged}
 use Rattle.toml_reading.proofs.LowestParts.{named_judged, whole_same}
 use Rattle.statement.specs.StatementRules.{AddressFault, IsAddress, RequiredFault}
 use Rattle.loader.specs.Labels.{Names}
-use Rattle.statement.specs.Statement.{address_at, address_in, labelled}
+use Rattle.statement.specs.Statement.{address_at, address_in, label_address}
 use Rattle.statement.specs.StatementFaults.{number_of, statement_faults}
 use Rattle.statement.specs.declared.faults.StatementFault.TheVariants.{OutOfRange, UnknownLabel, WrongKind}
 
@@ -24,7 +24,7 @@ label_judged :
     statement_faults
     (λ a. (o ≡ Some a) × IsTrue (is_word_address a))
     (λ f. MatchOption o (f ≡ UnknownLabel) (λ a. (¬ IsTrue (is_word_address a)) × (f ≡ OutOfRange)))
-    (labelled o)
+    (label_address o)
 label_judged None =
     record
     { answers = (λ a s. none-some a s.0, record { has = refl; least = λ o e. le_of_eq (ap number_of (sym e)) }) }
@@ -40,7 +40,7 @@ label_judged (Some n) =
       λ s. (subst (λ m. IsTrue (is_word_address m)) (sym (same_Some n a s.0)) s.1, sym (same_Some n a s.0)),
     ))
     (λ f. (λ h. h, λ h. h))
-    (labelled (Some n))
+    (label_address (Some n))
     (natural_judged statement_faults n)
 
 pub address_judged :

@@ -13,7 +13,7 @@ use Rattle.toml_reading.proofs.ReadingLemmas.{also_holds, and_then_holds, pair_h
 use Rattle.statement.specs.ReadingParts.{parts_in}
 use Rattle.statement.specs.Stated.{IsLoop, IsStated, IsTarget, Target}
 use Rattle.loader.specs.Labels.{Names}
-use Rattle.statement.specs.Statement.{Parts, Read, accesses_in, address_at, address_in, destinations, destinations_at, directed, ends_in, kind_in, labelled, leave_in, loop_at, loop_in, loop_parts, loops_in, number_or_name, parts_of, placed_loop, some_destinations, stated_by, target_at, target_in, targets_in}
+use Rattle.statement.specs.Statement.{Parts, Read, accesses_in, address_at, address_in, destinations, destinations_at, directed, ends_in, kind_in, label_address, leave_in, loop_at, loop_in, loop_parts, loops_in, number_or_name, parts_of, placed_loop, some_destinations, stated_by, target_at, target_in, targets_in}
 use Rattle.statement.specs.StatementFaults.{statement_faults}
 use Rattle.statement.specs.declared.faults.StatementFault.TheVariants.{OutOfRange, WrongKind, Twice}
 use Rattle.statement.specs.declared.stated.Loop.{Loop}
@@ -25,15 +25,15 @@ use Rattle.statement.specs.declared.stated.TargetKind.TheVariants.{Jump, Call, R
 abbrev pub IsSmall : ℕ → Type 0
 IsSmall a = a < 2 ^ 26
 
-labelled_small : (o : Option ℕ) → IfOk (labelled o) IsSmall
-labelled_small (Some n) = in_space_holds statement_faults (pos n)
-labelled_small None = tt
+label_address_small : (o : Option ℕ) → IfOk (label_address o) IsSmall
+label_address_small (Some n) = in_space_holds statement_faults (pos n)
+label_address_small None = tt
 
 number_or_name_small :
     (names : Names) (o : Option ℤ) (name : Option (List ℕ))
     → IfOk (number_or_name names o name) IsSmall
 number_or_name_small names (Some z) name = in_space_holds statement_faults z
-number_or_name_small names None (Some name) = labelled_small (names name)
+number_or_name_small names None (Some name) = label_address_small (names name)
 number_or_name_small names None None = tt
 
 address_small : (names : Names) (d : Data) → IfOk (address_at names d) IsSmall

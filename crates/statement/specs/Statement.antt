@@ -68,14 +68,14 @@ kind_at d = name_at statement_faults named_kind d
 
 -- ## Addresses
 
-abbrev pub labelled : Option ℕ → Read ℕ
-labelled (Some n) = in_space statement_faults (pos n)
-labelled None = Err UnknownLabel
+abbrev pub label_address : Option ℕ → Read ℕ
+label_address (Some n) = in_space statement_faults (pos n)
+label_address None = Err UnknownLabel
 
 -- an integer, or a text that names a label
 abbrev pub number_or_name : Names → Option ℤ → Option (List ℕ) → Read ℕ
 number_or_name names (Some z) name = in_space statement_faults z
-number_or_name names None (Some name) = labelled (names name)
+number_or_name names None (Some name) = label_address (names name)
 number_or_name names None None = Err WrongKind
 
 abbrev pub address_at : Names → Data → Read ℕ

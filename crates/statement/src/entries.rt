@@ -6,7 +6,7 @@ ghost use Rattle.toml_reading.specs.Readings.{and_then, items_in};
 ghost use Rattle.statement.specs.Statement.{access_at, access_in, address_at, address_in, class_named_at};
 ghost use Rattle.statement.specs.Statement.{class_in, class_name};
 ghost use Rattle.statement.specs.Statement.{destinations, destinations_at, directed, kind_at, kind_in};
-ghost use Rattle.statement.specs.Statement.{labelled, loop_at, loop_in, loop_parts, named_class, named_kind};
+ghost use Rattle.statement.specs.Statement.{label_address, loop_at, loop_in, loop_parts, named_class, named_kind};
 ghost use Rattle.statement.specs.Statement.{placed_loop, some_destinations, target_at, target_in};
 
 use crate::faults::{Read, StatementFault};
@@ -33,8 +33,8 @@ pub const ACCESS_KEYS: &[&str] = &["at", "class"];
 /// The most destinations of a target.
 pub const MOST_DESTINATIONS: usize = 64;
 
-fn labelled(address: Option<u32>) -> Read<u32>
-    ensures { result ≡ labelled address }
+fn label_address(address: Option<u32>) -> Read<u32>
+    ensures { result ≡ label_address address }
 {
     match address {
         Some(address) => in_space(i64::from(address)),
@@ -49,7 +49,10 @@ fn address_at(labels: &Labels, value: &Value) -> Read<u32>
     if let Some(number) = value.as_integer() {
         return in_space(number);
     }
-    required(value.as_str(), |name| labelled(labels.get(name.as_bytes())))
+    required(
+        value.as_str(),
+        |name| label_address(labels.get(name.as_bytes())),
+    )
 }
 
 /// The address at a key that must be there.
