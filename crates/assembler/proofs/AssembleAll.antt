@@ -10,7 +10,7 @@ use Rattle.loader.specs.Image.{may_hold}
 use Rattle.asm_text.specs.Statements.{Parsed, line_of}
 use Rattle.assembler.specs.Assembles.{AreFree, AreWords, Laid, Once, address_after, label_at, labels_of, laid_from, places, addresses_from, segments, word_count}
 use Rattle.loader.specs.Labels.{Names}
-use Rattle.assembler.specs.Sweeps.{State, label_fault, labelled, swept, with_name}
+use Rattle.assembler.specs.Sweeps.{State, label_fault, labelled_state, swept, with_name}
 use Rattle.assembler.proofs.AssembleSteps.{Step, said_is, segments_in}
 use Rattle.assembler.proofs.AssembleBack.{Apart, Exact, In}
 use Rattle.assembler.proofs.AssembleReady.{NotEmpty, Passes, Ready, said_ok}
@@ -63,7 +63,7 @@ still_none name at old other free differs =
     ]
 
 free_after : (s : State) (label : Option (List ℕ)) (labels : List (List ℕ × ℕ)) → AllByRecursion (λ e. s.names e.0 ≡ None) (label_at s.at label ++ labels) → Once (map (λ e. e.0) (label_at s.at label ++ labels))
-    → AllByRecursion (λ e. (labelled s label).names e.0 ≡ None) labels × Once (map (λ e. e.0) labels)
+    → AllByRecursion (λ e. (labelled_state s label).names e.0 ≡ None) labels × Once (map (λ e. e.0) labels)
 free_after s None labels h once = (h, once)
 free_after s (Some name) labels h once =
     (all_both (λ e. s.names e.0 ≡ None) (λ e. name ≢ e.0) (λ e. with_name name s.at s.names e.0 ≡ None) labels (λ e free differs. still_none name s.at s.names e.0 free differs) h.1 (names_all (λ other. name ≢ other) labels once.0), once.1)

@@ -3,7 +3,7 @@ use Rattle.std.proofs.Common.{◌≡◌, ◌+◌, ℕ, zero, suc, List, [], ◌�
 use Rattle.std.specs.List.{AllByRecursion}
 use Rattle.asm_text.specs.Said.{Target}
 use Rattle.assembler.specs.Assembles.{addresses_from}
-use Rattle.assembler.specs.Sweeps.{State, labelled, value_pending}
+use Rattle.assembler.specs.Sweeps.{State, labelled_state, value_pending}
 
 pub all_map : {A : Type 0} (P Q : A → Type 0) (xs : List A) → ((x : A) → P x → Q x) → AllByRecursion P xs → AllByRecursion Q xs
 all_map P Q [] f h = tt
@@ -25,6 +25,6 @@ pub count_map : (vs : List Target) → length (map value_pending vs) ≡ length 
 count_map [] = refl
 count_map (v ∷ vs) = ap suc (count_map vs)
 
-pub labelled_at : (s : State) (label : Option (List ℕ)) → (labelled s label).at ≡ s.at
+pub labelled_at : (s : State) (label : Option (List ℕ)) → (labelled_state s label).at ≡ s.at
 labelled_at s None = refl
 labelled_at s (Some name) = refl

@@ -13,7 +13,7 @@ use Rattle.assembler.specs.Assembles.{AreWords, IsFree, addresses_from, word_cou
 use Rattle.assembler.specs.Codes.{action_word, encoded, refer, use_action, use_fault}
 use Rattle.assembler.specs.Faults.{lower}
 use Rattle.loader.specs.Labels.{Names}
-use Rattle.assembler.specs.Sweeps.{Pending, Fixed, Waits, State, around_fault, lacks_segment, label_fault, labelled, org_state, open_has, org_fault, overlaps, place_fault, placed, said_step, unless, value_pending}
+use Rattle.assembler.specs.Sweeps.{Pending, Fixed, Waits, State, around_fault, lacks_segment, label_fault, labelled_state, org_state, open_has, org_fault, overlaps, place_fault, placed, said_step, unless, value_pending}
 use Rattle.assembler.specs.declared.fault.LineFault.{LineFault}
 use Rattle.assembler.proofs.AssembleSteps.{InSegments, put_all, segments_in, values_put}
 use Rattle.assembler.proofs.AssembleBack.{Apart, Exact, StartEven, exact_org, exact_put, in_memory_all, may_four, no_overlap, not_in}
@@ -43,7 +43,7 @@ segment_left s n some h =
 
 -- ## A label
 
-pub exact_labelled : (s : State) (label : Option (List ℕ)) (taken : List ℕ) → Exact s taken → Exact (labelled s label) taken
+pub exact_labelled : (s : State) (label : Option (List ℕ)) (taken : List ℕ) → Exact s taken → Exact (labelled_state s label) taken
 unfolding InSegments StartEven
 exact_labelled s None taken h = h
 exact_labelled s (Some name) taken h = record { within = λ a four held. h.within a four held; even = h.even; start = h.start; spans = h.spans; words = h.words }
@@ -70,14 +70,14 @@ pub record Ready (s : State) (label : Option (List ℕ)) (said : Option Said) (n
 
 words_ok : (s : State) (label : Option (List ℕ)) (said : Option Said) (names : Names) (words taken : List ℕ) (k m : ℕ) (ps : List Pending) → Ready s label said names words taken
     → word_count said ≡ suc m → length ps ≡ word_count said
-    → (unless (around_fault s label (word_count said)) (put_all (labelled s label) k ps) ≡ Ok (put_all (labelled s label) k ps)) × Exact (put_all (labelled s label) k ps) (taken ++ addresses_from s.at (word_count said))
+    → (unless (around_fault s label (word_count said)) (put_all (labelled_state s label) k ps) ≡ Ok (put_all (labelled_state s label) k ps)) × Exact (put_all (labelled_state s label) k ps) (taken ++ addresses_from s.at (word_count said))
 words_ok s label said names words taken k m ps h n-is count =
     let some : (word_count said == 0) ≡ false = rw n-is (grind (arith, nat_tests)) in
     let room = segment_left s (word_count said) some h.few_segments in
     let place : place_fault s (word_count said) ≡ None =
     rw n-is (place_ok s taken m h.exact (subst (λ n. AllByRecursion (λ a. may_hold a ≡ true) (addresses_from s.at n)) n-is h.held) (subst (λ n. Apart taken (addresses_from s.at n)) n-is h.apart) (subst (λ n. length taken + n ≤ 65536) n-is h.few) room) in
     let around : around_fault s label (word_count said) ≡ None = rw (h.fresh, place) refl in
-    let u = labelled s label in (
+    let u = labelled_state s label in (
       unless_ok (around_fault s label (word_count said)) (put_all u k ps) around,
       subst (λ a. Exact (put_all u k ps) (taken ++ addresses_from a (word_count said))) (labelled_at s label)
           (subst (λ n. Exact (put_all u k ps) (taken ++ addresses_from u.at n)) count (exact_put u k ps taken (exact_labelled s label taken h.exact))),
@@ -112,22 +112,22 @@ Passes s k label said taken = (t : State) × (said_step s k label said ≡ Ok t)
 pub said_ok : (s : State) (k : ℕ) (label : Option (List ℕ)) (said : Option Said) (names : Names) (words taken : List ℕ) → Ready s label said names words taken → Passes s k label said taken
 unfolding Passes NotEmpty put_all
 said_ok s k label None names words taken h =
-    (labelled s label, unless_ok (label_fault s label) (labelled s label) h.fresh, subst (Exact (labelled s label)) (sym (append-nil taken)) (exact_labelled s label taken h.exact))
+    (labelled_state s label, unless_ok (label_fault s label) (labelled_state s label) h.fresh, subst (Exact (labelled_state s label)) (sym (append-nil taken)) (exact_labelled s label taken h.exact))
 said_ok s k label (Some (Codes c)) names words taken h =
     let w = h.coded.0 in
     let k-is = words_ok s label (Some (Codes c)) names words taken k 0 (Fixed w ∷ []) h refl refl in
-    (placed (labelled s label) k (Fixed w), rw h.coded.2 k-is.0, k-is.1)
+    (placed (labelled_state s label) k (Fixed w), rw h.coded.2 k-is.0, k-is.1)
 said_ok s k label (Some (Refers r (Number n))) names words taken h =
     let w = h.coded.0 in
     let code : encoded (refer r s.at n) s.at ≡ Ok w = subst (λ t. encoded (refer r s.at t) s.at ≡ Ok w) h.coded.3 h.coded.4 in
     let k-is = words_ok s label (Some (Refers r (Number n))) names words taken k 0 (Fixed w ∷ []) h refl refl in
-    (placed (labelled s label) k (Fixed w), rw code k-is.0, k-is.1)
+    (placed (labelled_state s label) k (Fixed w), rw code k-is.0, k-is.1)
 said_ok s k label (Some (Refers r (Label name))) names words taken h =
     let none = use_ok r.how _ s.at h.coded.1 h.coded.0 h.coded.4 in
     let k-is = words_ok s label (Some (Refers r (Label name))) names words taken k 0 (Waits r name ∷ []) h refl refl in
-    (placed (labelled s label) k (Waits r name), rw none k-is.0, k-is.1)
+    (placed (labelled_state s label) k (Waits r name), rw none k-is.0, k-is.1)
 said_ok s k label (Some (Orgs n)) names words taken h =
-    let u = labelled s label in
+    let u = labelled_state s label in
     let faults : lower (label_fault s label) (org_fault s n) ≡ None = rw (h.fresh, org_ok s n taken h.exact h.free) refl in (
       org_state u n,
       unless_ok (lower (label_fault s label) (org_fault s n)) (org_state u n) faults,
@@ -137,7 +137,7 @@ said_ok s k label (Some (Lists [])) names words taken h = absurd h.some
 said_ok s k label (Some (Lists (v ∷ vs))) names words taken h =
     let all = v ∷ vs in
     let k-is = words_ok s label (Some (Lists (v ∷ vs))) names words taken k (length vs) (map value_pending (v ∷ vs)) h refl (count_map (v ∷ vs)) in (
-      put_all (labelled s label) k (map value_pending (v ∷ vs)),
-      ap (unless (around_fault s label (length (v ∷ vs)))) (values_put (labelled s label) k (v ∷ vs)) ∙ k-is.0,
+      put_all (labelled_state s label) k (map value_pending (v ∷ vs)),
+      ap (unless (around_fault s label (length (v ∷ vs)))) (values_put (labelled_state s label) k (v ∷ vs)) ∙ k-is.0,
       k-is.1,
     )

@@ -10,7 +10,7 @@ use Rattle.asm_text.specs.Said.{Target, Number, Label, Said, Codes, Refers, Orgs
 use Rattle.assembler.specs.Assembles.{IsFree, address_after, is_open, addresses_from, word_count}
 use Rattle.assembler.specs.Codes.{encoded, refer, use_fault}
 use Rattle.assembler.specs.Faults.{lower}
-use Rattle.assembler.specs.Sweeps.{Pending, Fixed, Waits, Item, State, all_placed, around_fault, closed_with, lacks_segment, label_fault, labelled, org_state, open_has, org_fault, overlaps, pending_step, place_fault, placed, said_step, unless, value_pending, word_pending}
+use Rattle.assembler.specs.Sweeps.{Pending, Fixed, Waits, Item, State, all_placed, around_fault, closed_with, lacks_segment, label_fault, labelled_state, org_state, open_has, org_fault, overlaps, pending_step, place_fault, placed, said_step, unless, value_pending, word_pending}
 use Rattle.assembler.specs.declared.fault.LineFault.{LineFault}
 use Rattle.assembler.specs.declared.fault.LineFault.TheVariants.{OutOfRange, TooLong}
 use Rattle.loader.proofs.WordLemmas.{all_push}
@@ -286,7 +286,7 @@ org_moves s k n e = record {
 
 -- ## After a label
 
-relabel : (s : State) (name : List ℕ) (k : ℕ) (said : Option Said) (t : State) → Moves (labelled s (Some name)) k said t → Moves s k said t
+relabel : (s : State) (name : List ℕ) (k : ℕ) (said : Option Said) (t : State) → Moves (labelled_state s (Some name)) k said t → Moves s k said t
 unfolding InSegments StartBelow segments_in
 relabel s name k said t m = record {
   new = m.new;
@@ -300,15 +300,15 @@ relabel s name k said t m = record {
   segments = m.segments;
 }
 
-moves_of : (s : State) (label : Option (List ℕ)) (k : ℕ) (said : Option Said) (t : State) → Moves (labelled s label) k said t → Moves s k said t
+moves_of : (s : State) (label : Option (List ℕ)) (k : ℕ) (said : Option Said) (t : State) → Moves (labelled_state s label) k said t → Moves s k said t
 moves_of s None k said t m = m
 moves_of s (Some name) k said t m = relabel s name k said t m
 
-labelled_lacks : (s : State) (label : Option (List ℕ)) → lacks_segment (labelled s label) ≡ lacks_segment s
+labelled_lacks : (s : State) (label : Option (List ℕ)) → lacks_segment (labelled_state s label) ≡ lacks_segment s
 labelled_lacks s None = refl
 labelled_lacks s (Some name) = refl
 
-labelled_org : (s : State) (label : Option (List ℕ)) (n : ℕ) → org_fault (labelled s label) n ≡ org_fault s n
+labelled_org : (s : State) (label : Option (List ℕ)) (n : ℕ) → org_fault (labelled_state s label) n ≡ org_fault s n
 labelled_org s None n = refl
 labelled_org s (Some name) n = refl
 
@@ -324,14 +324,14 @@ place_room s n e =
 
 pub record Step (s : State) (k : ℕ) (label : Option (List ℕ)) (said : Option Said) (t : State) : Type 0 where
   pub moves : Moves s k said t
-  pub names : t.names ≡ (labelled s label).names
+  pub names : t.names ≡ (labelled_state s label).names
   pub fresh : label_fault s label ≡ None
 
 words_step : (s : State) (label : Option (List ℕ)) (said : Option Said) (k : ℕ) (ps : List Pending) (t : State) → Pends said s.at ps → length ps ≡ word_count said
     → address_after s.at said ≡ s.at + 4 * word_count said
-    → ((taken : List ℕ) → IsFree taken said) → ((b : Bool) → is_open b said ≡ (b || not (word_count said == 0))) → unless (around_fault s label (word_count said)) (put_all (labelled s label) k ps) ≡ Ok t → Step s k label said t
+    → ((taken : List ℕ) → IsFree taken said) → ((b : Bool) → is_open b said ≡ (b || not (word_count said == 0))) → unless (around_fault s label (word_count said)) (put_all (labelled_state s label) k ps) ≡ Ok t → Step s k label said t
 words_step s label said k ps t pends count at free opens e =
-    let u = labelled s label in
+    let u = labelled_state s label in
     let done = unless_is (around_fault s label (word_count said)) (put_all u k ps) t e in
     let faults = lower_none (label_fault s label) (place_fault s (word_count said)) done.0 in
     let here = labelled_at s label in
@@ -347,7 +347,7 @@ word_is (Ok w) p e = (w, cc, refl)
 word_is (Err fault) p e = absurd cc
 
 pub pending_is : (s : State) (k : ℕ) (label : Option (List ℕ)) (r : Result Pending LineFault) (t : State) → pending_step s k label r ≡ Ok t
-    → (p : Pending) × (r ≡ Ok p) × (unless (around_fault s label 1) (placed (labelled s label) k p) ≡ Ok t)
+    → (p : Pending) × (r ≡ Ok p) × (unless (around_fault s label 1) (placed (labelled_state s label) k p) ≡ Ok t)
 pending_is s k label (Ok p) t e = (p, refl, e)
 pending_is s k label (Err fault) t e = blocked (lower (Some fault) (around_fault s label 1)) (some_lower fault (around_fault s label 1)) e
   where
@@ -360,8 +360,8 @@ pending_is s k label (Err fault) t e = blocked (lower (Some fault) (around_fault
 pub said_is : (s : State) (k : ℕ) (label : Option (List ℕ)) (said : Option Said) (t : State) → said_step s k label said ≡ Ok t → Step s k label said t
 unfolding Pends put_all
 said_is s k label None t e =
-    let done = unless_is (label_fault s label) (labelled s label) t e in
-    subst (Step s k label None) done.1 (record { moves = moves_of s label k None (labelled s label) (stays (labelled s label) k); names = refl; fresh = done.0 })
+    let done = unless_is (label_fault s label) (labelled_state s label) t e in
+    subst (Step s k label None) done.1 (record { moves = moves_of s label k None (labelled_state s label) (stays (labelled_state s label) k); names = refl; fresh = done.0 })
 said_is s k label (Some (Codes c)) t e =
     let p = pending_is s k label (word_pending (encoded c s.at)) t e in
     let w = word_is (encoded c s.at) p.0 p.1 in
@@ -374,10 +374,10 @@ said_is s k label (Some (Refers r (Label name))) t e =
     let p = pending_is s k label (unless (use_fault r.how) (Waits r name)) t e in
     words_step s label (Some (Refers r (Label name))) k (p.0 ∷ []) t (ap (λ q. q ∷ []) (sym (unless_is (use_fault r.how) (Waits r name) p.0 p.1).1)) refl refl (λ taken. tt) (λ b. refl) p.2
 said_is s k label (Some (Orgs n)) t e =
-    let u = labelled s label in
+    let u = labelled_state s label in
     let done = unless_is (lower (label_fault s label) (org_fault s n)) (org_state u n) t e in
     let faults = lower_none (label_fault s label) (org_fault s n) done.0 in
     subst (Step s k label (Some (Orgs n))) done.1 (record { moves = moves_of s label k (Some (Orgs n)) (org_state u n) (org_moves u k n (labelled_org s label n ∙ faults.1)); names = refl; fresh = faults.0 })
 said_is s k label (Some (Lists vs)) t e =
     words_step s label (Some (Lists vs)) k (map value_pending vs) t refl (count_map vs) refl (λ taken. tt) (λ b. refl)
-    (ap (unless (around_fault s label (length vs))) (sym (values_put (labelled s label) k vs)) ∙ e)
+    (ap (unless (around_fault s label (length vs))) (sym (values_put (labelled_state s label) k vs)) ∙ e)

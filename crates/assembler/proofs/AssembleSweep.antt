@@ -8,7 +8,7 @@ use Rattle.asm_text.specs.Statements.{Parsed, line_of}
 use Rattle.asm_text.specs.declared.statement.TextFault.{TextFault}
 use Rattle.assembler.specs.Assembles.{AreFree, Laid, Once, address_after, is_open, label_at, labels_of, laid_from, segments, word_count}
 use Rattle.loader.specs.Labels.{Names}
-use Rattle.assembler.specs.Sweeps.{Item, Pending, State, label_fault, labelled, line_step, swept, after_line, with_name}
+use Rattle.assembler.specs.Sweeps.{Item, Pending, State, label_fault, labelled_state, line_step, swept, after_line, with_name}
 use Rattle.assembler.specs.declared.fault.LineFault.{LineFault}
 use Rattle.assembler.specs.declared.fault.LineFault.TheVariants.{LabelTwice}
 use Rattle.assembler.proofs.AssembleSteps.{Covers, Pends, Step, items_at, said_is, segments_in}
@@ -83,7 +83,7 @@ one_label old new name at labels free h = record {
   );
 }
 
-pub label_names : (s : State) (label : Option (List ℕ)) (new : Names) (labels : List (List ℕ × ℕ)) → label_fault s label ≡ None → NamesOf (labelled s label).names new labels → NamesOf s.names new (label_at s.at label ++ labels)
+pub label_names : (s : State) (label : Option (List ℕ)) (new : Names) (labels : List (List ℕ × ℕ)) → label_fault s label ≡ None → NamesOf (labelled_state s label).names new labels → NamesOf s.names new (label_at s.at label ++ labels)
 label_names s None new labels free h = h
 label_names s (Some name) new labels free h = one_label s.names new name s.at labels (go (s.names name) free) h
   where

@@ -14,7 +14,7 @@ use Rattle.assembler.specs.Assembles.{Laid, Once, address_after, is_open, label_
 use Rattle.assembler.specs.Codes.{encoded, refer, use_fault}
 use Rattle.assembler.specs.Faults.{lower}
 use Rattle.assembler.specs.Refusals.{AreTooLong, Clashes, HasCodeFault, IsMisplaced, IsRepeated, IsWrong, address_after_all, address_of_next, asked}
-use Rattle.assembler.specs.Sweeps.{Waits, Item, Pending, State, all_placed, around_fault, lacks_segment, label_fault, labelled, org_state, org_fault, pending_step, place_fault, placed, said_step, unless, value_pending, word_pending}
+use Rattle.assembler.specs.Sweeps.{Waits, Item, Pending, State, all_placed, around_fault, lacks_segment, label_fault, labelled_state, org_state, org_fault, pending_step, place_fault, placed, said_step, unless, value_pending, word_pending}
 use Rattle.assembler.specs.declared.fault.LineFault.{LineFault}
 use Rattle.assembler.specs.declared.fault.LineFault.TheVariants.{LabelTwice, OutOfRange, TooLong}
 use Rattle.assembler.proofs.AssembleBack.{Exact, exact_org, exact_put, may_four}
@@ -351,7 +351,7 @@ failed_unless (Some f) s = refl
 
 failed_pending : (s : State) (k : ℕ) (label : Option (List ℕ)) (r : Result Pending LineFault)
     → result_err (pending_step s k label r) ≡ lower (result_err r) (around_fault s label 1)
-failed_pending s k label (Ok p) = failed_unless (around_fault s label 1) (placed (labelled s label) k p)
+failed_pending s k label (Ok p) = failed_unless (around_fault s label 1) (placed (labelled_state s label) k p)
 failed_pending s k label (Err f) = failed_unless (lower (Some f) (around_fault s label 1)) s
 
 failed_word : (r : Result ℕ LineFault) → result_err (word_pending r) ≡ result_err r
@@ -378,7 +378,7 @@ said_least s k before label None h some =
     let p : Parsed = record { label = label; said = None } in
     joined before p None (lower (label_fault s label) None) _ least_none
     (none_clash s k before p h refl (no_asked before))
-    (lower_alone (label_fault s label) ∙ sym (failed_unless (label_fault s label) (labelled s label)))
+    (lower_alone (label_fault s label) ∙ sym (failed_unless (label_fault s label) (labelled_state s label)))
   where
     lower_alone : (o : Option LineFault) → lower None (lower o None) ≡ o
     lower_alone None = refl
@@ -409,13 +409,13 @@ said_least s k before label (Some (Orgs n)) h some =
     let p : Parsed = record { label = label; said = Some (Orgs n) } in
     let clash = lower (label_fault s label) (org_fault s n) in
     joined before p None clash _ least_none (org_clash s k before label n h)
-    (sym (failed_unless clash (org_state (labelled s label) n)))
+    (sym (failed_unless clash (org_state (labelled_state s label) n)))
 said_least s k before label (Some (Lists [])) h some = absurd some
 said_least s k before label (Some (Lists (v ∷ vs))) h some =
     let p : Parsed = record { label = label; said = Some (Lists (v ∷ vs)) } in
     let clash = around_fault s label (length (v ∷ vs)) in
     joined before p None clash _ least_none (words_clash s k before p (length vs) h refl refl)
-    (sym (failed_unless clash (all_placed (labelled s label) k (v ∷ vs))))
+    (sym (failed_unless clash (all_placed (labelled_state s label) k (v ∷ vs))))
 
 -- ## A line more without a fault
 
@@ -423,7 +423,7 @@ one_exact : (s : State) (k : ℕ) (label : Option (List ℕ)) (r : Result Pendin
     (taken : List ℕ) → pending_step s k label r ≡ Ok t → Exact s taken → Exact t (taken ++ s.at ∷ [])
 unfolding put_all
 one_exact s k label r t taken e h =
-    let u = labelled s label in
+    let u = labelled_state s label in
     let p = pending_is s k label r t e in
     let done = unless_is (around_fault s label 1) (placed u k p.0) t p.2 in
     subst (λ v. Exact v (taken ++ s.at ∷ [])) done.1
@@ -435,9 +435,9 @@ pub exact_said : (s : State) (k : ℕ) (label : Option (List ℕ)) (said : Optio
     → said_step s k label said ≡ Ok t → Exact s taken → Exact t (taken ++ addresses_from s.at (word_count said))
 unfolding put_all
 exact_said s k label None t taken org e h =
-    let done = unless_is (label_fault s label) (labelled s label) t e in
+    let done = unless_is (label_fault s label) (labelled_state s label) t e in
     subst (λ u. Exact u (taken ++ [])) done.1
-    (subst (Exact (labelled s label)) (sym (append-nil taken)) (exact_labelled s label taken h))
+    (subst (Exact (labelled_state s label)) (sym (append-nil taken)) (exact_labelled s label taken h))
 exact_said s k label (Some (Codes c)) t taken org e h =
     one_exact s k label (word_pending (encoded c s.at)) t taken e h
 exact_said s k label (Some (Refers r (Number n))) t taken org e h =
@@ -445,13 +445,13 @@ exact_said s k label (Some (Refers r (Number n))) t taken org e h =
 exact_said s k label (Some (Refers r (Label name))) t taken org e h =
     one_exact s k label (unless (use_fault r.how) (Waits r name)) t taken e h
 exact_said s k label (Some (Orgs n)) t taken org e h =
-    let u = labelled s label in
+    let u = labelled_state s label in
     let done = unless_is (lower (label_fault s label) (org_fault s n)) (org_state u n) t e in
     subst (λ v. Exact v (taken ++ [])) done.1
     (subst (Exact (org_state u n)) (sym (append-nil taken))
     (exact_org u n taken (may_four n (org n refl)) (exact_labelled s label taken h)))
 exact_said s k label (Some (Lists vs)) t taken org e h =
-    let u = labelled s label in
+    let u = labelled_state s label in
     let done = unless_is (around_fault s label (length vs)) (all_placed u k vs) t e in
     subst (λ v. Exact v (taken ++ addresses_from s.at (length vs))) (sym (values_put u k vs) ∙ done.1)
     (subst (λ n. Exact (put_all u k (map value_pending vs)) (taken ++ addresses_from s.at n)) (count_map vs)

@@ -17,7 +17,7 @@ use Rattle.asm_text.proofs.WordLaws.{all_join, same_Ok}
 use Rattle.assembler.specs.Assembles.{Laid, Once, address_after, is_open, label_at, labels_of, laid, addresses_from, segments, word_count}
 use Rattle.assembler.specs.Refusals.{ArePassed, HasFault, IsLowest, IsUnreadable, IsWrong, address_of_next, asked}
 use Rattle.loader.specs.Labels.{Names}
-use Rattle.assembler.specs.Sweeps.{State, at_first, label_fault, labelled, line_step, said_step, swept, after_line}
+use Rattle.assembler.specs.Sweeps.{State, at_first, label_fault, labelled_state, line_step, said_step, swept, after_line}
 use Rattle.assembler.specs.declared.fault.LineFault.{LineFault}
 use Rattle.assembler.specs.declared.fault.LineFault.TheVariants.{OutOfRange, TooLong}
 use Rattle.assembler.proofs.AssembleBack.{Apart, Exact, In}
@@ -67,13 +67,13 @@ org_may taken at said h n is =
 names_next : (s : State) (k : ℕ) (before : List Parsed) (label : Option (List ℕ)) (said : Option Said)
     → Front s k before → label_fault s label ≡ None
     → (name : List ℕ) → (a : ℕ)
-    → ((labelled s label).names name ≡ Some a)
+    → ((labelled_state s label).names name ≡ Some a)
     ↔ Contains (labels_of (laid (before ++ record { label = label; said = said } ∷ []))) (name, a)
 names_next s k before label said h fresh name a =
     let here = label_at (address_of_next before) label in
     let old = labels_of (laid before) in
-    let n : NamesOf s.names (labelled s label).names (label_at s.at label ++ []) =
-    label_names s label (labelled s label).names [] fresh (no_labels (labelled s label).names) in
+    let n : NamesOf s.names (labelled_state s label).names (label_at s.at label ++ []) =
+    label_names s label (labelled_state s label).names [] fresh (no_labels (labelled_state s label).names) in
     let same : label_at s.at label ++ [] ≡ here =
     append-nil (label_at s.at label) ∙ ap (λ b. label_at b label) h.at in
     let all : labels_of (laid (before ++ record { label = label; said = said } ∷ [])) ≡ old ++ here =

@@ -89,9 +89,9 @@ abbrev pub label_fault : State → Option (List ℕ) → Option LineFault
 label_fault s None = None
 label_fault s (Some name) = if is_some (s.names name) then Some LabelTwice else None
 
-abbrev pub labelled : State → Option (List ℕ) → State
-labelled s None = s
-labelled s (Some name) = record s { names = with_name name s.at s.names }
+abbrev pub labelled_state : State → Option (List ℕ) → State
+labelled_state s None = s
+labelled_state s (Some name) = record s { names = with_name name s.at s.names }
 
 -- where the segment of a word begins
 abbrev pub started : State → Option ℕ
@@ -141,17 +141,17 @@ abbrev pub around_fault : State → Option (List ℕ) → ℕ → Option LineFau
 around_fault s label n = lower (label_fault s label) (place_fault s n)
 
 abbrev pub pending_step : State → ℕ → Option (List ℕ) → Result Pending LineFault → Result State LineFault
-pending_step s k label (Ok p) = unless (around_fault s label 1) (placed (labelled s label) k p)
+pending_step s k label (Ok p) = unless (around_fault s label 1) (placed (labelled_state s label) k p)
 pending_step s k label (Err fault) = unless (lower (Some fault) (around_fault s label 1)) s
 
 abbrev pub org_step : State → Option (List ℕ) → ℕ → Result State LineFault
-org_step s label n = unless (lower (label_fault s label) (org_fault s n)) (org_state (labelled s label) n)
+org_step s label n = unless (lower (label_fault s label) (org_fault s n)) (org_state (labelled_state s label) n)
 
 abbrev pub list_step : State → ℕ → Option (List ℕ) → List Target → Result State LineFault
-list_step s k label vs = unless (around_fault s label (length vs)) (all_placed (labelled s label) k vs)
+list_step s k label vs = unless (around_fault s label (length vs)) (all_placed (labelled_state s label) k vs)
 
 abbrev pub said_step : State → ℕ → Option (List ℕ) → Option Said → Result State LineFault
-said_step s k label None = unless (label_fault s label) (labelled s label)
+said_step s k label None = unless (label_fault s label) (labelled_state s label)
 said_step s k label (Some (Codes c)) = pending_step s k label (word_pending (encoded c s.at))
 said_step s k label (Some (Refers r t)) = pending_step s k label (target_pending r s.at t)
 said_step s k label (Some (Orgs n)) = org_step s label n

@@ -8,7 +8,7 @@ ghost use Rattle.asm_text.specs.Said.{target_of};
 ghost use Rattle.asm_text.specs.Source.{line_view};
 ghost use Rattle.asm_text.specs.Statements.{line_of};
 ghost use Rattle.assembler.specs.Sweeps.{all_placed, at_first, closed_state, label_fault};
-ghost use Rattle.assembler.specs.Sweeps.{labelled, line_step, list_step, org_fault, open_has};
+ghost use Rattle.assembler.specs.Sweeps.{labelled_state, line_step, list_step, org_fault, open_has};
 ghost use Rattle.assembler.specs.Sweeps.{org_step, overlaps, pending_step, place_fault, placed, said_step};
 ghost use Rattle.assembler.specs.Sweeps.{target_pending, value_pending, word_pending, line_fault};
 ghost use Rattle.assembler.specs.Codes.{encoded};
@@ -184,7 +184,7 @@ impl<'a> Sweep<'a> {
     #[tactic(auto, using(crate::proofs::SweepLaws::named_more))]
     fn put_label(&mut self, alloc: Global, label: Option<&[u8]>) -> Result<(), AsmFault>
         ensures ok { OnOk result
-            (state_of self.new ≡ labelled (state_of self.old) (option_copied label.entry)) }
+            (state_of self.new ≡ labelled_state (state_of self.old) (option_copied label.entry)) }
         ensures at { OnOk result (self.new.at ≡ self.old.at) }
         ensures words { OnOk result (self.new.words ≡ self.old.words) }
         ensures memory { IfErr result (λ fault. fault ≡ AsmFault.Memory) }
