@@ -17,10 +17,10 @@ abbrev pub IsNamed : NamedAddresses → ℕ → List ℕ → Type 0
 IsNamed names at label = (label ≡ []) ⊎ (address_of names label ≡ Some at)
 
 -- by its label, or where it has none by its number
-abbrev pub labelled : List ℕ → ℕ → List ℕ
-labelled label at = if length label == 0 then toml_number at else quoted label
+abbrev pub label_or_number : List ℕ → ℕ → List ℕ
+label_or_number label at = if length label == 0 then toml_number at else quoted label
 
 -- by its line's label, or by its number where it has no line or the line no label
 abbrev pub name_text : Option (List ℕ) → ℕ → List ℕ
 name_text None at = toml_number at
-name_text (Some label) at = labelled label at
+name_text (Some label) at = label_or_number label at

@@ -1,5 +1,5 @@
 ghost use Rattle.std.specs.Prelude.{◌≡◌, ◌++◌, OnOk};
-ghost use Rattle.text_rows.specs.Addresses.{labelled, toml_number, quoted};
+ghost use Rattle.text_rows.specs.Addresses.{label_or_number, toml_number, quoted};
 
 use crate::columns::put;
 use asm_text::hex8;
@@ -28,7 +28,7 @@ fn put_toml_number(out: &mut Vec<u8>, at: u32) -> Result<(), AllocError>
 ///
 /// An allocation failed.
 pub fn put_labelled(out: &mut Vec<u8>, label: &[u8], at: u32) -> Result<(), AllocError>
-    ensures { OnOk result (out.new.items ≡ out.old.items ++ labelled label.now at) }
+    ensures { OnOk result (out.new.items ≡ out.old.items ++ label_or_number label.now at) }
 {
     if label.is_empty() {
         return put_toml_number(out, at);
