@@ -145,7 +145,8 @@ pending_step s k label (Ok p) = unless (around_fault s label 1) (placed (labelle
 pending_step s k label (Err fault) = unless (lower (Some fault) (around_fault s label 1)) s
 
 abbrev pub org_step : State → Option (List ℕ) → ℕ → Result State LineFault
-org_step s label n = unless (lower (label_fault s label) (org_fault s n)) (org_state (labelled_state s label) n)
+org_step s label n =
+    unless (lower (label_fault s label) (org_fault s n)) (org_state (labelled_state s label) n)
 
 abbrev pub list_step : State → ℕ → Option (List ℕ) → List Target → Result State LineFault
 list_step s k label vs = unless (around_fault s label (length vs)) (all_placed (labelled_state s label) k vs)

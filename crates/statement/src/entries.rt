@@ -6,8 +6,8 @@ ghost use Rattle.toml_reading.specs.Readings.{and_then, items_in};
 ghost use Rattle.statement.specs.Statement.{access_at, access_in, address_at, address_in, class_named_at};
 ghost use Rattle.statement.specs.Statement.{class_in, class_name};
 ghost use Rattle.statement.specs.Statement.{destinations, destinations_at, directed, kind_at, kind_in};
-ghost use Rattle.statement.specs.Statement.{label_address, loop_at, loop_in, loop_parts, named_class, named_kind};
-ghost use Rattle.statement.specs.Statement.{placed_loop, some_destinations, target_at, target_in};
+ghost use Rattle.statement.specs.Statement.{label_address, loop_at, loop_in, loop_parts, named_class};
+ghost use Rattle.statement.specs.Statement.{named_kind, placed_loop, some_destinations, target_at, target_in};
 
 use crate::faults::{Read, StatementFault};
 use crate::stated::{Loop, Target, TargetKind};
