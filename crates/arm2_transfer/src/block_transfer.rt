@@ -243,7 +243,8 @@ impl Processor {
         end_of_store(&self.prices, accesses(block, address_of(r15)))
     }
 
-    // A transfer whose words do not lie on one page of RAM, or that is refused: each word is located by itself.
+    // A transfer whose words do not lie on one page of RAM, or that is refused: each word is located by
+    // itself.
     #[tactic(auto, unfolding(crate::specs::Block::block_at, crate::specs::Block::block_by))]
     #[inline(never)]
     fn word_by_word(&mut self, block: PlacedBlock) -> Done

@@ -9,7 +9,7 @@ use Rattle.loader.specs.Image.{lies_in_memory, may_hold}
 use Rattle.loader.proofs.PlaceLemmas.{Lies, lies_in, lies_more, lies_one, may_parts}
 use Rattle.asm_text.proofs.WordLaws.{false_true}
 use Rattle.assembler.specs.Assembles.{addresses_from}
-use Rattle.assembler.specs.Sweeps.{Pending, State, closed_with, org_state, open_has, overlaps, placed}
+use Rattle.assembler.specs.Sweeps.{Pending, State, closed_with, org_state, is_open_at, overlaps, placed}
 use Rattle.assembler.proofs.AssembleSteps.{InSegments, put_all}
 use Rattle.loader.proofs.WordLemmas.{all_push}
 use Rattle.std.proofs.lemmas.List.{append-nil}
@@ -54,7 +54,7 @@ start_four None at e h = (e, omega arith)
 start_four (Some from) at e h = (h.0, omega (arith, h.1))
 
 -- a multiple of 4 in the open segment with a word more
-open_parts : (o : Option ℕ) (at a : ℕ) → at % 4 ≡ 0 → a % 4 ≡ 0 → open_has (Some (unwrap_or o at)) (at + 4) a ≡ true → (open_has o at a ≡ true) ⊎ (at ≡ a)
+open_parts : (o : Option ℕ) (at a : ℕ) → at % 4 ≡ 0 → a % 4 ≡ 0 → is_open_at (Some (unwrap_or o at)) (at + 4) a ≡ true → (is_open_at o at a ≡ true) ⊎ (at ≡ a)
 open_parts None at a e k h =
     let p = and_parts (nat_le at a) (nat_lt a (at + 4)) h in
     let low : at ≤ a = grind (arith, nat_tests, p.0) in
@@ -101,7 +101,7 @@ any_split p (y ∷ xs) x h =
           elim (any_split p xs x k) [ inl m ↦ inl (rw e m) | inr m ↦ inr m ]
     ]
 
-closed_parts : (o : Option ℕ) (to a : ℕ) (closed : List (ℕ × ℕ)) → overlaps (closed_with o to closed) a (a + 1) ≡ true → (overlaps closed a (a + 1) ≡ true) ⊎ (open_has o to a ≡ true)
+closed_parts : (o : Option ℕ) (to a : ℕ) (closed : List (ℕ × ℕ)) → overlaps (closed_with o to closed) a (a + 1) ≡ true → (overlaps closed a (a + 1) ≡ true) ⊎ (is_open_at o to a ≡ true)
 closed_parts None to a closed h = inl h
 closed_parts (Some from) to a closed h =
     elim (any_split (λ s. nat_lt s.0 (a + 1) && nat_lt a s.1) closed (from, to) h) [

@@ -13,7 +13,7 @@ use Rattle.assembler.specs.Assembles.{AreWords, IsFree, addresses_from, word_cou
 use Rattle.assembler.specs.Codes.{action_word, encoded, refer, use_action, use_fault}
 use Rattle.assembler.specs.Faults.{lower}
 use Rattle.loader.specs.Labels.{Names}
-use Rattle.assembler.specs.Sweeps.{Pending, Fixed, Waits, State, around_fault, lacks_segment, label_fault, labelled_state, org_state, open_has, org_fault, overlaps, place_fault, placed, said_step, unless, value_pending}
+use Rattle.assembler.specs.Sweeps.{Pending, Fixed, Waits, State, around_fault, lacks_segment, label_fault, labelled_state, org_state, is_open_at, org_fault, overlaps, place_fault, placed, said_step, unless, value_pending}
 use Rattle.assembler.specs.declared.fault.LineFault.{LineFault}
 use Rattle.assembler.proofs.AssembleSteps.{InSegments, put_all, segments_in, values_put}
 use Rattle.assembler.proofs.AssembleBack.{Apart, Exact, StartEven, exact_org, exact_put, in_memory_all, may_four, no_overlap, not_in}
@@ -100,7 +100,7 @@ org_ok s n taken h free =
     let none : InSegments s n → ⊥ = λ held. not_in taken n free.1 (h.within n four held) in
     elim (cases_Bool (overlaps s.closed n (n + 1))) [
       | inl e ↦ absurd (none (inl e))
-      | inr e ↦ elim (cases_Bool (open_has s.start s.at n)) [
+      | inr e ↦ elim (cases_Bool (is_open_at s.start s.at n)) [
         | inl g ↦ absurd (none (inr g))
         | inr g ↦ rw (free.0, e, g) refl
       ]

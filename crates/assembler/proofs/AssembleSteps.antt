@@ -10,7 +10,7 @@ use Rattle.asm_text.specs.Said.{Target, Number, Label, Said, Codes, Refers, Orgs
 use Rattle.assembler.specs.Assembles.{IsFree, address_after, is_open, addresses_from, word_count}
 use Rattle.assembler.specs.Codes.{encoded, refer, use_fault}
 use Rattle.assembler.specs.Faults.{lower}
-use Rattle.assembler.specs.Sweeps.{Pending, Fixed, Waits, Item, State, all_placed, around_fault, closed_with, lacks_segment, label_fault, labelled_state, org_state, open_has, org_fault, overlaps, pending_step, place_fault, placed, said_step, unless, value_pending, word_pending}
+use Rattle.assembler.specs.Sweeps.{Pending, Fixed, Waits, Item, State, all_placed, around_fault, closed_with, lacks_segment, label_fault, labelled_state, org_state, is_open_at, org_fault, overlaps, pending_step, place_fault, placed, said_step, unless, value_pending, word_pending}
 use Rattle.assembler.specs.declared.fault.LineFault.{LineFault}
 use Rattle.assembler.specs.declared.fault.LineFault.TheVariants.{OutOfRange, TooLong}
 use Rattle.loader.proofs.WordLemmas.{all_push}
@@ -50,20 +50,20 @@ StartBelow None at = Unit {0}
 StartBelow (Some from) at = from ≤ at
 
 unfoldable pub InSegments : State → ℕ → Type 0
-InSegments s a = (overlaps s.closed a (a + 1) ≡ true) ⊎ (open_has s.start s.at a ≡ true)
+InSegments s a = (overlaps s.closed a (a + 1) ≡ true) ⊎ (is_open_at s.start s.at a ≡ true)
 
 pub record Covers (s : State) (taken : List ℕ) : Type 0 where
   pub covered : AllByRecursion (InSegments s) taken
   pub below : StartBelow s.start s.at
 
-open_longer : (o : Option ℕ) (at a : ℕ) → open_has o at a ≡ true → open_has (Some (unwrap_or o at)) (at + 4) a ≡ true
+open_longer : (o : Option ℕ) (at a : ℕ) → is_open_at o at a ≡ true → is_open_at (Some (unwrap_or o at)) (at + 4) a ≡ true
 open_longer None at a h = false_true h
 open_longer (Some from) at a h =
     let k = and_parts (nat_le from a) (nat_lt a at) h in
     let lt : nat_lt a (at + 4) ≡ true = grind (arith, nat_tests, k.1) in
     rw (k.0, lt) refl
 
-open_new : (o : Option ℕ) (at : ℕ) → StartBelow o at → open_has (Some (unwrap_or o at)) (at + 4) at ≡ true
+open_new : (o : Option ℕ) (at : ℕ) → StartBelow o at → is_open_at (Some (unwrap_or o at)) (at + 4) at ≡ true
 unfolding StartBelow
 open_new None at h =
     let le : nat_le at at ≡ true = grind (arith, nat_tests) in
@@ -166,7 +166,7 @@ any_last : (p : ℕ × ℕ → Bool) (xs : List (ℕ × ℕ)) (x : ℕ × ℕ) �
 any_last p [] x h = rw h refl
 any_last p (y ∷ xs) x h = elim (cases_Bool (p y)) [ inl e ↦ rw e refl | inr e ↦ rw e (any_last p xs x h) ]
 
-closed_keeps : (o : Option ℕ) (to a : ℕ) (closed : List (ℕ × ℕ)) → (overlaps closed a (a + 1) ≡ true) ⊎ (open_has o to a ≡ true) → overlaps (closed_with o to closed) a (a + 1) ≡ true
+closed_keeps : (o : Option ℕ) (to a : ℕ) (closed : List (ℕ × ℕ)) → (overlaps closed a (a + 1) ≡ true) ⊎ (is_open_at o to a ≡ true) → overlaps (closed_with o to closed) a (a + 1) ≡ true
 closed_keeps None to a closed h = elim h [ inl e ↦ e | inr e ↦ false_true e ]
 closed_keeps (Some from) to a closed h =
     elim h [
@@ -192,13 +192,13 @@ org_segments : (s : State) (n : ℕ) → segments_in (org_state s n) ≡ segment
 unfolding segments_in
 org_segments s n = omega (arith, closed_count s.start s.at s.closed)
 
-org_is : (s : State) (n : ℕ) → org_fault s n ≡ None → (may_hold n ≡ true) × (overlaps s.closed n (n + 1) ≡ false) × (open_has s.start s.at n ≡ false)
+org_is : (s : State) (n : ℕ) → org_fault s n ≡ None → (may_hold n ≡ true) × (overlaps s.closed n (n + 1) ≡ false) × (is_open_at s.start s.at n ≡ false)
 org_is s n e =
-    elim (chosen (not (may_hold n) || (overlaps s.closed n (n + 1) || open_has s.start s.at n)) (Some OutOfRange) None None e) [
+    elim (chosen (not (may_hold n) || (overlaps s.closed n (n + 1) || is_open_at s.start s.at n)) (Some OutOfRange) None None e) [
       | inl h ↦ let k = h.1 in absurd cc
       | inr h ↦
-          let both = or_parts (not (may_hold n)) (overlaps s.closed n (n + 1) || open_has s.start s.at n) h.0 in
-          let closed = or_parts (overlaps s.closed n (n + 1)) (open_has s.start s.at n) both.1 in
+          let both = or_parts (not (may_hold n)) (overlaps s.closed n (n + 1) || is_open_at s.start s.at n) h.0 in
+          let closed = or_parts (overlaps s.closed n (n + 1)) (is_open_at s.start s.at n) both.1 in
           (not-false (may_hold n) both.0, closed.0, closed.1)
     ]
 
@@ -210,7 +210,7 @@ org_free s n taken e h =
       all_map (InSegments s) (λ a. a ≢ n) taken
           (λ a held same. elim held [
             | inl x ↦ false_true (sym k.1 ∙ ap (λ b. overlaps s.closed b (b + 1)) (sym same) ∙ x)
-            | inr x ↦ false_true (sym k.2 ∙ ap (open_has s.start s.at) (sym same) ∙ x)
+            | inr x ↦ false_true (sym k.2 ∙ ap (is_open_at s.start s.at) (sym same) ∙ x)
           ]) h.covered,
     )
 

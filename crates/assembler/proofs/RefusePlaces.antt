@@ -9,7 +9,7 @@ use Rattle.loader.proofs.PlaceLemmas.{may_within}
 use Rattle.asm_text.proofs.WordLaws.{false_true}
 use Rattle.assembler.specs.Assembles.{addresses_from}
 use Rattle.assembler.specs.Faults.{lower}
-use Rattle.assembler.specs.Sweeps.{State, lacks_segment, open_has, org_fault, overlaps, place_fault}
+use Rattle.assembler.specs.Sweeps.{State, lacks_segment, is_open_at, org_fault, overlaps, place_fault}
 use Rattle.assembler.specs.declared.fault.LineFault.TheVariants.{OutOfRange, TooLong}
 use Rattle.assembler.proofs.AssembleBack.{Apart, Exact, In, in_memory_all, may_four, no_overlap}
 use Rattle.assembler.proofs.AssembleSteps.{Covers, InSegments}
@@ -129,7 +129,7 @@ wider (s ∷ closed) from to a low high h =
           (wider closed from to a low high k)
     ]
 
-not_after : (o : Option ℕ) (at a : ℕ) → at ≤ a → open_has o at a ≡ true → ⊥
+not_after : (o : Option ℕ) (at a : ℕ) → at ≤ a → is_open_at o at a ≡ true → ⊥
 not_after None at a le h = false_true h
 not_after (Some from) at a le h =
     let k = (and_parts (nat_le from a) (nat_lt a at) h).1 in let lt : a < at =
@@ -202,7 +202,7 @@ place_least s taken m Long exact covers there again =
 -- ## An ORG
 
 abbrev org_bad : State → ℕ → Bool
-org_bad s n = not (may_hold n) || (overlaps s.closed n (n + 1) || open_has s.start s.at n)
+org_bad s n = not (may_hold n) || (overlaps s.closed n (n + 1) || is_open_at s.start s.at n)
 
 one_of : (n a : ℕ) → Contains (n ∷ []) a → n ≡ a
 one_of n a (zero, lt, is) = is
@@ -215,8 +215,8 @@ bad_org s n taken covers (a, there, why) =
     elim (cases_Bool (org_bad s n)) [
       | inl e ↦ e
       | inr e ↦
-          let k = or_parts (not (may_hold n)) (overlaps s.closed n (n + 1) || open_has s.start s.at n) e in
-          let l = or_parts (overlaps s.closed n (n + 1)) (open_has s.start s.at n) k.1 in
+          let k = or_parts (not (may_hold n)) (overlaps s.closed n (n + 1) || is_open_at s.start s.at n) e in
+          let l = or_parts (overlaps s.closed n (n + 1)) (is_open_at s.start s.at n) k.1 in
           elim why [
             | inl not-may ↦ false_true (sym not-may ∙ ap may_hold (sym same) ∙ not-false (may_hold n) k.0)
             | inr c ↦
@@ -235,12 +235,12 @@ org_is_bad s n taken exact h =
       | inr e ↦ (n, (0, omega arith, refl), inl e)
       | inl e ↦
           let four = may_four n e in
-          let k : (overlaps s.closed n (n + 1) || open_has s.start s.at n) ≡ true = rw e at h in
+          let k : (overlaps s.closed n (n + 1) || is_open_at s.start s.at n) ≡ true = rw e at h in
           elim (cases_Bool (overlaps s.closed n (n + 1))) [
             | inl held ↦
                 (n, (0, omega arith, refl), inr (in_contains taken n (exact.within n four (inl held))))
             | inr other ↦
-                let held : open_has s.start s.at n ≡ true = rw other at k in
+                let held : is_open_at s.start s.at n ≡ true = rw other at k in
                 (n, (0, omega arith, refl), inr (in_contains taken n (exact.within n four (inr held))))
           ]
     ]

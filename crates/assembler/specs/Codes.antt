@@ -147,7 +147,7 @@ transfer_word c t (distance.Register m a) = register_transfer c t m a
 
 abbrev pub block_word : ℕ → BlockTransfer → Result ℕ LineFault
 block_word c b =
-    in_range (nat_lt b.list 65536) (allowed (block_clash (register_number b.rn) b.list)
+    in_range (nat_lt b.list (2 ^ 16)) (allowed (block_clash (register_number b.rn) b.list)
     (word_in block_row
     (c ∷ bit_of b.before ∷ bit_of b.up ∷ bit_of b.user ∷ bit_of b.write_back ∷ bit_of b.load
     ∷ register_number b.rn ∷ b.list ∷ [])))
@@ -156,7 +156,7 @@ block_word c b =
 
 -- the target is less than -2^25 or more than 2^25 - 4 bytes from the address two words on
 abbrev pub is_far : ℕ → ℕ → Bool
-is_far at target = nat_lt (at + 8 + 33554428) target || nat_lt (target + 33554432) (at + 8)
+is_far at target = nat_lt (at + 8 + (2 ^ 25 - 4)) target || nat_lt (target + 2 ^ 25) (at + 8)
 
 -- the words from the address two words on to the target, as 24 bits of two's complement
 abbrev pub branch_offset : ℕ → ℕ → ℕ
@@ -169,7 +169,7 @@ branch_word c at link target =
     (Ok (word_in branch_row (c ∷ bit_of link ∷ branch_offset at target ∷ [])))
 
 abbrev pub swi_word : ℕ → ℕ → Result ℕ LineFault
-swi_word c n = in_range (nat_lt n 16777216) (Ok (word_in swi_row (c ∷ n ∷ [])))
+swi_word c n = in_range (nat_lt n (2 ^ 24)) (Ok (word_in swi_row (c ∷ n ∷ [])))
 
 -- ## Any
 

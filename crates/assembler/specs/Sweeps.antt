@@ -73,14 +73,14 @@ closed_with None to closed = closed
 closed_with (Some from) to closed = closed ++ (from, to) ∷ []
 
 -- the segment of the words before has the address
-abbrev pub open_has : Option ℕ → ℕ → ℕ → Bool
-open_has None to n = false
-open_has (Some from) to n = nat_le from n && nat_lt n to
+abbrev pub is_open_at : Option ℕ → ℕ → ℕ → Bool
+is_open_at None to n = false
+is_open_at (Some from) to n = nat_le from n && nat_lt n to
 
 -- why an ORG cannot have an address: no word may be there, or one is
 abbrev pub org_fault : State → ℕ → Option LineFault
 org_fault s n =
-    if not (may_hold n) || (overlaps s.closed n (n + 1) || open_has s.start s.at n) then Some OutOfRange
+    if not (may_hold n) || (overlaps s.closed n (n + 1) || is_open_at s.start s.at n) then Some OutOfRange
     else None
 
 -- ## The first sweep: what needs no label's address

@@ -69,7 +69,7 @@ impl<T: Drop> From<AllocFailed<T>> for AsmFault {
 }
 
 impl LineFault {
-    fn order(self) -> u32
+    fn number(self) -> u32
         ensures { result ≡ number self }
     {
         self as u32
@@ -85,7 +85,7 @@ pub(crate) fn lower(one: Option<LineFault>, other: Option<LineFault>) -> Option<
         None => other,
         Some(a) => match other {
             None => one,
-            Some(b) => { if b.order() < a.order() { other } else { one } }
+            Some(b) => { if b.number() < a.number() { other } else { one } }
         },
     }
 }
@@ -96,6 +96,6 @@ pub(crate) fn lowest(fault: LineFault, other: Option<LineFault>) -> LineFault
 {
     match other {
         None => fault,
-        Some(b) => { if b.order() < fault.order() { b } else { fault } }
+        Some(b) => { if b.number() < fault.number() { b } else { fault } }
     }
 }

@@ -8,7 +8,7 @@ ghost use Rattle.asm_text.specs.Said.{target_of};
 ghost use Rattle.asm_text.specs.Source.{line_view};
 ghost use Rattle.asm_text.specs.Statements.{line_of};
 ghost use Rattle.assembler.specs.Sweeps.{all_placed, at_first, closed_state, label_fault};
-ghost use Rattle.assembler.specs.Sweeps.{labelled_state, line_step, list_step, org_fault, open_has};
+ghost use Rattle.assembler.specs.Sweeps.{labelled_state, line_step, list_step, org_fault, is_open_at};
 ghost use Rattle.assembler.specs.Sweeps.{org_step, overlaps, pending_step, place_fault, placed, said_step};
 ghost use Rattle.assembler.specs.Sweeps.{target_pending, value_pending, word_pending, line_fault};
 ghost use Rattle.assembler.specs.Codes.{encoded};
@@ -154,7 +154,7 @@ impl<'a> Sweep<'a> {
     }
 
     fn is_open_at(&self, address: u32) -> bool
-        ensures { result ≡ open_has self.now.start self.now.at address }
+        ensures { result ≡ is_open_at self.now.start self.now.at address }
     {
         match self.start {
             None => false,

@@ -27,7 +27,9 @@ profile_rule = record (new_rule (codes "profile")) { long = Some (codes "profile
 
 -- `asm SOURCE IMAGE`
 abbrev pub asm_command : App
-asm_command = with_rule (with_rule (new_app (codes "asm")) (required_rule (codes "source"))) (required_rule (codes "image"))
+asm_command =
+    with_rule (with_rule (new_app (codes "asm")) (required_rule (codes "source")))
+    (required_rule (codes "image"))
 
 -- `list SOURCE`
 abbrev pub list_command : App
@@ -36,12 +38,14 @@ list_command = with_rule (new_app (codes "list")) (required_rule (codes "source"
 -- `draft SOURCE ENTRY`
 abbrev pub draft_command : App
 draft_command =
-    with_rule (with_rule (new_app (codes "draft")) (required_rule (codes "source"))) (required_rule (codes "entry"))
+    with_rule (with_rule (new_app (codes "draft")) (required_rule (codes "source")))
+    (required_rule (codes "entry"))
 
 -- `NAME SOURCE SECOND`, with a cycle profile
 abbrev pub priced_command : Text → Text → App
 priced_command name second =
-    with_rule (with_rule (with_rule (new_app name) profile_rule) (required_rule (codes "source"))) (required_rule second)
+    with_rule (with_rule (with_rule (new_app name) profile_rule) (required_rule (codes "source")))
+    (required_rule second)
 
 abbrev pub run_command : App
 run_command = priced_command (codes "run") (codes "machine")
@@ -112,7 +116,8 @@ visits_command =
 
 -- `follow SOURCE STATEMENT MACHINE`, with a cycle profile
 abbrev pub follow_command : App
-follow_command = with_rule (priced_command (codes "follow") (codes "statement")) (required_rule (codes "machine"))
+follow_command =
+    with_rule (priced_command (codes "follow") (codes "statement")) (required_rule (codes "machine"))
 
 -- `graph SOURCE STATEMENT`, with a cycle profile
 abbrev pub graph_command : App

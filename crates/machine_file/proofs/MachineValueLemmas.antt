@@ -14,7 +14,7 @@ use Rattle.toml_reading.proofs.AddressLemmas.{integer_judged}
 use Rattle.toml_reading.proofs.LowestLemmas.{AnswersBy, Judges, joint, judged_as, one_by_rank, optional_judged, required_judged, map_judged, two_tests}
 use Rattle.toml_reading.proofs.LowestParts.{all_judged, list_judged, named_judged, not_whole, number_in_judged, number_judged, number_or_judged, table_judged, whole_same}
 use Rattle.machine_file.specs.MachineFaults.{machine_faults, number_of}
-use Rattle.machine_file.specs.MachineFile.{Read, event_at, event_of, flags_at, is_letter, is_single, lettered, line_at, lines_at, lines_in, page_at, page_of, pc_at, port_at, port_in, register_in, registers_at, set_flags, size_at, size_of, union}
+use Rattle.machine_file.specs.MachineFile.{Read, event_at, event_of, flags_at, is_letter, is_single, flags_of_letters, line_at, lines_at, lines_in, page_at, page_of, pc_at, port_at, port_in, register_in, registers_at, set_flags, size_at, size_of, union}
 use Rattle.ioc.specs.LineNames.{line_named}
 use Rattle.machine_file.specs.MachineRules.{AreFlags, AreLines, AreRegisters, IsAddress, IsEvent, IsPage, IsSize, kilobytes}
 use Rattle.machine_file.specs.Words.{IsWord, word_in}
@@ -117,7 +117,7 @@ pub same_test : (b : Bool) → b ≡ false ↔ (b ≡ false)
 same_test b = (λ e. e, λ e. e)
 
 letters_judged : (text : List ℕ)
-    → Judges machine_faults (λ flags. (flags ≡ set_flags text) × (list_all is_letter text ≡ true) × (is_single text ≡ true)) (λ f. ((list_all is_letter text ≡ false) × (f ≡ WrongKind)) ⊎ ((is_single text ≡ false) × (f ≡ Twice))) (lettered text)
+    → Judges machine_faults (λ flags. (flags ≡ set_flags text) × (list_all is_letter text ≡ true) × (is_single text ≡ true)) (λ f. ((list_all is_letter text ≡ false) × (f ≡ WrongKind)) ⊎ ((is_single text ≡ false) × (f ≡ Twice))) (flags_of_letters text)
 letters_judged text =
     two_tests
     machine_faults
@@ -138,7 +138,7 @@ flags_judged d =
     machine_faults
     (λ text flags. (flags ≡ set_flags text) × (list_all is_letter text ≡ true) × (is_single text ≡ true))
     (λ text f. ((list_all is_letter text ≡ false) × (f ≡ WrongKind)) ⊎ ((is_single text ≡ false) × (f ≡ Twice)))
-    lettered
+    flags_of_letters
     letters_judged
     (as_str d)
 

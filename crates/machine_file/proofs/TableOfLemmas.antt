@@ -12,7 +12,7 @@ use Rattle.toml.specs.Data.{Data, Members, depth, get_member, member, members_de
 use Rattle.toml.specs.View.{members_view, view}
 use Rattle.toml.specs.declared.value.Value.{Value}
 use Rattle.toml_reading.specs.Documents.{has_only_keys, is_one_of}
-use Rattle.machine_file.specs.Written.{Row, register_row, table_of, tabled, unless_zero, with_key, with_optional, with_rows}
+use Rattle.machine_file.specs.Written.{Row, register_row, table_of, table_value, unless_zero, with_key, with_optional, with_rows}
 
 -- ## What the code's map holds
 
@@ -247,6 +247,6 @@ rows_next names ws d i start m n known lt before set =
 -- ## Values that are left out
 
 pub tabled_full : (es : List Entry) (b : Bool) → IsTrue b ↔ (length es ≡ 0) → b ≡ false
-    → tabled (members_view es) ≡ Some (table (members_view es))
+    → table_value (members_view es) ≡ Some (table (members_view es))
 tabled_full [] b same h = absurd (false≢true (sym h ∙ same.1 refl))
 tabled_full (e ∷ es) b same h = refl

@@ -23,7 +23,7 @@ use Rattle.machine_file.specs.Words.{IsWord}
 use Rattle.machine_file.specs.Names.{file_keys, map_keys, name_of, named_mode, named_registers, register_keys, word_keys}
 use Rattle.machine_file.specs.Parts.{AreWords, IsInRange, HasNoneTwice}
 use Rattle.machine_file.specs.Stated.{Stated}
-use Rattle.machine_file.specs.Written.{Row, controller_rows, document_of, file_rows, letters_of, listed, mode_name, number, page_data, page_rows, register_row, register_table, schedule_rows, table_of, tabled, unless_zero, word_data, word_list_rows, word_rows}
+use Rattle.machine_file.specs.Written.{Row, controller_rows, document_of, file_rows, letters_of, list_value, mode_name, number, page_data, page_rows, register_row, register_table, schedule_rows, table_of, table_value, unless_zero, word_data, word_list_rows, word_rows}
 use Rattle.machine_file.specs.declared.flags.PsrFlags.{PsrFlags}
 use Rattle.machine_file.specs.declared.pages.MappedPage.{MappedPage}
 use Rattle.machine_file.proofs.KeyTableLemmas.{machine_stated}
@@ -165,14 +165,14 @@ module _ (ws : List ℕ) (count : length ws ≡ 26) (small : All (λ w. w < 2 ^ 
 
   -- a table with a register, or none where all are 0
   tabled_stated : (t : Members) → t ≡ register_table ws → (ms : Members)
-      → get_member (codes "registers") ms ≡ tabled t
+      → get_member (codes "registers") ms ≡ table_value t
       → AtKeyOr (codes "registers") ms (ws ≡ replicate 26 0) (λ d. AreRegisters d ws)
   tabled_stated no_members same ms there =
       rw there (all_zero named_registers ws (subst (λ t. AllZip (λ r n. AtKeyOr (name_of r) t (n ≡ 0) (λ e. IsWord e n)) named_registers ws) (sym same) words_stated))
   tabled_stated (member k d t) same ms there =
       rw there (subst (λ u. AreRegisters (table u) ws) (sym same) (known_in_table register_keys the_rows (ap (list_all (is_one_of register_keys)) the_keys ∙ refl), words_stated))
 
-  registers_stated : (ms : Members) → get_member (codes "registers") ms ≡ tabled (register_table ws)
+  registers_stated : (ms : Members) → get_member (codes "registers") ms ≡ table_value (register_table ws)
       → AtKeyOr (codes "registers") ms (ws ≡ replicate 26 0) (λ d. AreRegisters d ws)
   registers_stated ms there = tabled_stated (register_table ws) refl ms there
 
@@ -232,7 +232,7 @@ put_words_stated (w ∷ ws) held small = (
 )
 
 module _ {A : Type 0} (States : Data → A → Type 0) (data_of : A → Data) (key : List ℕ) (ms : Members) where
-  listed_stated : (xs : List A) → get_member key ms ≡ listed (map data_of xs) → AllZip States (map data_of xs) xs
+  listed_stated : (xs : List A) → get_member key ms ≡ list_value (map data_of xs) → AllZip States (map data_of xs) xs
       → AtKeyOr key ms (xs ≡ []) (λ d. IsListOf States d xs)
   listed_stated [] there h = rw there refl
   listed_stated (x ∷ xs) there h =
@@ -297,7 +297,7 @@ register_depths [] ws = tt
 register_depths (k ∷ ks) [] = tt
 register_depths (k ∷ ks) (w ∷ ws) = (zero_depth w, register_depths ks ws)
 
-tabled_depth : (n : ℕ) (t : Members) → members_depth t ≤ n → optional_depth (tabled t) ≤ n + 1
+tabled_depth : (n : ℕ) (t : Members) → members_depth t ≤ n → optional_depth (table_value t) ≤ n + 1
 tabled_depth n no_members h = omega arith
 tabled_depth n (member k d t) h = omega (arith, h)
 
@@ -307,7 +307,7 @@ items_low data_of each [] = omega arith
 items_low data_of each (x ∷ xs) = omega (arith, each x, items_low data_of each xs)
 
 listed_depth : {A : Type 0} (data_of : A → Data) → ((a : A) → depth (data_of a) ≤ 1) → (xs : List A)
-    → optional_depth (listed (map data_of xs)) ≤ 2
+    → optional_depth (list_value (map data_of xs)) ≤ 2
 listed_depth data_of each [] = omega arith
 listed_depth data_of each (x ∷ xs) =
     omega (arith, each x, items_low data_of each xs)
@@ -325,7 +325,7 @@ word_depth w =
 document_depth : (s : Stated) → members_depth (document_of s) ≤ 2
 document_depth s =
     let none : 0 ≤ 2 = omega arith in
-    let registers : optional_depth (tabled (register_table s.processor.registers)) ≤ 2 = omega (arith, tabled_depth 0 (register_table s.processor.registers) (depth_of_table 0 _ (register_depths register_keys s.processor.registers))) in
+    let registers : optional_depth (table_value (register_table s.processor.registers)) ≤ 2 = omega (arith, tabled_depth 0 (register_table s.processor.registers) (depth_of_table 0 _ (register_depths register_keys s.processor.registers))) in
     depth_of_table 2 (file_rows s) (none, (none, (none, (registers, (none, (none, (none, (listed_depth page_data page_depth s.controller.pages, (none, (none, (listed_depth word_data word_depth s.words, tt)))))))))))
 
 -- ## The text

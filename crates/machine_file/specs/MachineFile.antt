@@ -62,13 +62,13 @@ set_flags text =
       fiq_masked = has text 70;
     }
 
-abbrev pub lettered : List ℕ → Read PsrFlags
-lettered text =
+abbrev pub flags_of_letters : List ℕ → Read PsrFlags
+flags_of_letters text =
     if list_all is_letter text then (if is_single text then Ok (set_flags text) else Err Twice)
     else Err WrongKind
 
 abbrev pub flags_at : Data → Read PsrFlags
-flags_at d = required machine_faults (as_str d) lettered
+flags_at d = required machine_faults (as_str d) flags_of_letters
 
 -- IRQ and FIQ are masked where the key is missing
 abbrev pub flags_in : Members → Read PsrFlags

@@ -49,14 +49,14 @@ abbrev pub unless_zero : ℕ → Option Data
 unless_zero n = if n == 0 then None else Some (number n)
 
 -- a list, left out where it is empty
-abbrev pub listed : List Data → Option Data
-listed [] = None
-listed (d ∷ ds) = Some (array (items_of (d ∷ ds)))
+abbrev pub list_value : List Data → Option Data
+list_value [] = None
+list_value (d ∷ ds) = Some (array (items_of (d ∷ ds)))
 
 -- a table, left out where it is empty
-abbrev pub tabled : Members → Option Data
-tabled no_members = None
-tabled (member k d ms) = Some (table (member k d ms))
+abbrev pub table_value : Members → Option Data
+table_value no_members = None
+table_value (member k d ms) = Some (table (member k d ms))
 
 abbrev pub mode_name : Mode → List ℕ
 mode_name User = codes "user"
@@ -106,7 +106,7 @@ processor_rows p =
     (codes "pc", Some (number p.pc))
     ∷ (codes "mode", Some (string (mode_name p.mode)))
     ∷ (codes "flags", Some (string (letters_of p.flags)))
-    ∷ (codes "registers", tabled (register_table p.registers))
+    ∷ (codes "registers", table_value (register_table p.registers))
     ∷ []
 
 abbrev pub controller_rows : Controller → List Row
@@ -114,14 +114,14 @@ controller_rows c =
     (codes "pages", Some (number (kilobytes c.size)))
     ∷ (codes "low_rom", Some (number c.low_rom))
     ∷ (codes "high_rom", Some (number c.high_rom))
-    ∷ (codes "map", listed (map page_data c.pages))
+    ∷ (codes "map", list_value (map page_data c.pages))
     ∷ []
 
 abbrev pub schedule_rows : Schedule → List Row
 schedule_rows s = (codes "steps", Some (number s.steps)) ∷ (codes "port", Some (number s.port)) ∷ []
 
 abbrev pub word_list_rows : List (ℕ × ℕ) → List Row
-word_list_rows words = (codes "word", listed (map word_data words)) ∷ []
+word_list_rows words = (codes "word", list_value (map word_data words)) ∷ []
 
 abbrev pub file_rows : Stated → List Row
 file_rows s =

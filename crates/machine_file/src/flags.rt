@@ -1,7 +1,8 @@
 ghost use Rattle.std.specs.Prelude.{◌≡◌};
 ghost use Rattle.std.specs.List.{list_all};
 ghost use Rattle.toml.specs.View.{table_view, view};
-ghost use Rattle.machine_file.specs.MachineFile.{flags_at, flags_in, has, is_letter, is_single, lettered};
+ghost use Rattle.machine_file.specs.MachineFile.{flags_at, flags_in, flags_of_letters, has};
+ghost use Rattle.machine_file.specs.MachineFile.{is_letter, is_single};
 ghost use Rattle.machine_file.specs.MachineFile.{set_flags, times};
 
 use crate::machine_faults::{MachineFileFault, Read};
@@ -65,8 +66,8 @@ fn set_flags(text: &[u8]) -> PsrFlags
     }
 }
 
-fn lettered(text: &[u8]) -> Read<PsrFlags>
-    ensures { result ≡ lettered text.now }
+fn flags_of_letters(text: &[u8]) -> Read<PsrFlags>
+    ensures { result ≡ flags_of_letters text.now }
 {
     if !are_letters(text) {
         return Err(MachineFileFault::WrongKind);
@@ -80,7 +81,7 @@ fn lettered(text: &[u8]) -> Read<PsrFlags>
 fn flags_at(value: &Value) -> Read<PsrFlags>
     ensures { result ≡ flags_at (view value.now) }
 {
-    required(value.as_str(), |text| lettered(text.as_bytes()))
+    required(value.as_str(), |text| flags_of_letters(text.as_bytes()))
 }
 
 /// The flags that the file's table states: both interrupts masked where it states none.

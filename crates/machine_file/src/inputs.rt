@@ -9,7 +9,7 @@ use ioc::Lines;
 use std::alloc::{AllocError, Global};
 
 impl Schedule {
-    fn bursts_at(&self, step: u32) -> u16
+    fn bursts_of_step(&self, step: u32) -> u16
         ensures { result ≡ bursts_of_step self.now step }
     {
         match self.events.get(&step) {
@@ -18,7 +18,7 @@ impl Schedule {
         }
     }
 
-    fn lines_at(&self, step: u32) -> Option<Lines>
+    fn lines_of_step(&self, step: u32) -> Option<Lines>
         ensures { result ≡ lines_of_step self.now step }
     {
         match self.events.get(&step) {
@@ -27,7 +27,7 @@ impl Schedule {
         }
     }
 
-    fn port_at(&self, step: u32) -> Option<u32>
+    fn port_of_step(&self, step: u32) -> Option<u32>
         ensures { result ≡ port_of_step self.now step }
     {
         match self.events.get(&step) {
@@ -44,10 +44,10 @@ impl Schedule {
         let mut lines = Lines::empty();
         let mut port = self.port;
         for step in 0..self.steps {
-            lines = self.lines_at(step).unwrap_or(lines);
-            port = self.port_at(step).unwrap_or(port);
+            lines = self.lines_of_step(step).unwrap_or(lines);
+            port = self.port_of_step(step).unwrap_or(port);
             inputs.push(Input {
-                bursts: self.bursts_at(step),
+                bursts: self.bursts_of_step(step),
                 lines,
                 port,
             })?;

@@ -1,7 +1,8 @@
 ghost use Rattle.std.specs.Prelude.{◌≡◌, IfOk, map, option_map};
 ghost use Rattle.toml.specs.Data.{string};
 ghost use Rattle.toml.specs.View.{table_view, view};
-ghost use Rattle.machine_file.specs.Written.{listed, number, tabled, unless_zero, with_key, with_optional};
+ghost use Rattle.machine_file.specs.Written.{list_value, number, table_value};
+ghost use Rattle.machine_file.specs.Written.{unless_zero, with_key, with_optional};
 
 use std::alloc::{AllocError, Global};
 use toml::{Table, Value};
@@ -75,8 +76,8 @@ pub(crate) fn unless_zero(value: u32) -> Option<Value>
 }
 
 /// A list, but for an empty one.
-pub(crate) fn listed(values: Vec<Value>) -> Option<Value>
-    ensures { option_map view result ≡ listed (map view values.items) }
+pub(crate) fn list_value(values: Vec<Value>) -> Option<Value>
+    ensures { option_map view result ≡ list_value (map view values.items) }
 {
     if values.is_empty() {
         return None;
@@ -85,8 +86,8 @@ pub(crate) fn listed(values: Vec<Value>) -> Option<Value>
 }
 
 /// A table, but for an empty one.
-pub(crate) fn tabled(inner: Table) -> Option<Value>
-    ensures { option_map view result ≡ tabled (table_view inner) }
+pub(crate) fn table_value(inner: Table) -> Option<Value>
+    ensures { option_map view result ≡ table_value (table_view inner) }
 {
     if inner.is_empty() {
         return None;

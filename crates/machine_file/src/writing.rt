@@ -12,7 +12,7 @@ ghost use Rattle.machine_file.specs.Written.{schedule_rows, with_key, with_rows,
 
 use crate::events::Schedule;
 use crate::flags::PsrFlags;
-use crate::keys::{listed, set, set_number, set_optional, set_text, tabled, unless_zero};
+use crate::keys::{list_value, set, set_number, set_optional, set_text, table_value, unless_zero};
 use crate::machine_files::MachineFile;
 use crate::pages::{Controller, MappedPage};
 use crate::processor::Processor;
@@ -104,7 +104,7 @@ fn set_processor(alloc: Global, table: &mut Table, processor: &Processor) -> Res
     set_text(alloc, table, "mode", mode_name(processor.mode))?;
     set_flags(alloc, table, processor.flags)?;
     let registers = register_table(alloc, &processor.registers.words)?;
-    set_optional(alloc, table, "registers", tabled(registers))
+    set_optional(alloc, table, "registers", table_value(registers))
 }
 
 // ## The memory controller
@@ -153,7 +153,7 @@ fn set_controller(
     set_number(alloc, table, "low_rom", controller.rom.low)?;
     set_number(alloc, table, "high_rom", controller.rom.high)?;
     let pages = page_values(alloc, &controller.pages.pages)?;
-    set_optional(alloc, table, "map", listed(pages))
+    set_optional(alloc, table, "map", list_value(pages))
 }
 
 // ## The steps, and the words that are put into memory
@@ -195,7 +195,7 @@ fn set_put_words(alloc: Global, table: &mut Table, words: &[(u32, u32)]) -> Resu
     ensures bound { IfOk result (λ _. All (λ w. w.1 < 2 ^ 32) words.now) }
 {
     let values = word_values(alloc, words)?;
-    set_optional(alloc, table, "word", listed(values))
+    set_optional(alloc, table, "word", list_value(values))
 }
 
 // ## The file

@@ -48,7 +48,8 @@ by_nonzero Ror n bits = rotated n bits
 
 -- by an amount in a register: 0 keeps value and carry
 abbrev pub by_register : Kind → ℕ → List Bool → Bool → BitsAndCarry
-by_register kind n bits carry = if n == 0 then record { bits = bits; carry = carry } else by_nonzero kind n bits
+by_register kind n bits carry =
+    if n == 0 then record { bits = bits; carry = carry } else by_nonzero kind n bits
 
 -- by an amount in the word: LSR 0 and ASR 0 mean 32, and ROR 0 goes through the carry
 abbrev pub by_immediate : Kind → ℕ → List Bool → Bool → BitsAndCarry

@@ -16,13 +16,13 @@ loop-step-preserved c =
     c.unwrap_or-lines.result
     c.loop-step.port
     c.unwrap_or-port.result
-    c.bursts_at.result
+    c.bursts_of_step.result
     c.loop-step.inputs.items
     c.push.new.self.items
     c.loop-step.invariant
-    (c.unwrap_or-lines.ensures ∙ ap (λ o. unwrap_or o c.loop-step.lines) c.lines_at.ensures)
-    (c.unwrap_or-port.ensures ∙ ap (λ o. unwrap_or o c.loop-step.port) c.port_at.ensures)
-    c.bursts_at.ensures
+    (c.unwrap_or-lines.ensures ∙ ap (λ o. unwrap_or o c.loop-step.lines) c.lines_of_step.ensures)
+    (c.unwrap_or-port.ensures ∙ ap (λ o. unwrap_or o c.loop-step.port) c.port_of_step.ensures)
+    c.bursts_of_step.ensures
     c.in_ok-push.ensures.items
 
 pub returns : goal.returns
