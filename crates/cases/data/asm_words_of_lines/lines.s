@@ -1,4 +1,4 @@
-; Lines whose words do not depend on where they stand; x itself stands at 8000.
+; Lines whose words do not depend on their addresses; x itself is at 8000.
 x  DCD x , 0
  MOV R0,#3
  SUBS R0,R0,#1

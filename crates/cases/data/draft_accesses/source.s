@@ -1,4 +1,4 @@
-; A device's byte, to the stack; then as it stands to the next table's branches.
+; A device's byte is stored on the stack, and then chooses one of the branches after the jump.
 start    MOV    R1,#&3200000
 read     LDRB   R0,[R1]
 save     STR    R0,[R13]

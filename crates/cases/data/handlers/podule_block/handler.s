@@ -1,5 +1,5 @@
-; A sector from an expansion card, by IRQ. The card has a buffer of one sector behind a port of 16 bits: each word read
-; from 33C0000 to 33C001C gives the next half word in its low half. A pass of the loop takes eight of them and makes four
+; A sector from an expansion card, by IRQ. The card has a buffer of one sector with a port of 16 bits: each word read
+; from 33C0000 to 33C001C has the next half word in its low half. A pass of the loop takes eight of them and makes four
 ; words. The card's other registers are at 33C0040 (status, bit 0: a sector is there) and at 33C0060 (any write: taken).
 
          ORG    &18
