@@ -1,7 +1,6 @@
-ghost use Rattle.std.specs.Prelude.{◌≡◌, ◌≢◌, [], OnOk, IfErr, IfOk};
+ghost use Rattle.std.specs.Prelude.{◌≡◌, ◌≢◌, OnOk, IfErr, IfOk};
 ghost use Rattle.flow_graph.specs.Graph.{ArePlaces, IsBuildFault, IsFlowGraph, start_of};
-ghost use Rattle.flow_graph.specs.Search.{AddsEdges, AreInTurn, IsAllowed, IsEdgeFault, IsFound};
-ghost use Rattle.flow_graph.specs.Search.{IsSearch, IsSound, IsTurnFault, places_in};
+ghost use Rattle.flow_graph.specs.Search.{AreInTurn, IsAllowed, IsFound, IsSearch, IsTurnFault, places_in};
 ghost use Rattle.statement.specs.Stated.{IsStated};
 ghost use Rattle.flow_graph.specs.declared.faults.BuildFault.{BuildFault};
 
@@ -9,8 +8,8 @@ use crate::call_list::Calls;
 use crate::edges::Edge;
 use crate::faults::BuildFault;
 use crate::flow::Graph;
+use crate::graph_inputs::GraphInputs;
 use crate::places::Place;
-use crate::pushing::push_edges;
 use crate::search::{add, add_ends, sorted};
 use crate::strays::stray_target;
 use bus_ticks::Profile;
@@ -28,46 +27,26 @@ pub(crate) fn start_of(statement: &Statement) -> Place
     Place::At(Calls::new(), statement.entry())
 }
 
-/// The edges of the place.
-pub(crate) fn edges_at(
-    alloc: Global,
-    image: &Image,
-    statement: &Statement,
-    profile: &Profile,
-    place: &Place,
-) -> Result<Vec<Edge>, BuildFault>
-    ensures adds { IfOk result
-        (λ edges. AddsEdges image.now statement.now profile.now place.now [] edges.items) }
-    ensures sound { OnOk result (IsSound image.now statement.now place.now) }
-    ensures fault { IfErr result (IsEdgeFault image.now statement.now place.now) }
-{
-    let mut edges = Vec::new(alloc);
-    push_edges(&mut edges, image, statement, profile, place)?;
-    Ok(edges)
-}
-
 // Finds the places. The list grows at its end while its next place is visited, so each is visited once.
-fn explore(
-    alloc: Global,
-    image: &Image,
-    statement: &Statement,
-    profile: &Profile,
-) -> Result<BTreeSet<Reverse<Place>>, BuildFault>
+fn explore(alloc: Global, inputs: &GraphInputs) -> Result<BTreeSet<Reverse<Place>>, BuildFault>
     ensures places { IfOk result
-        (λ seen. ArePlaces image.now statement.now profile.now (places_in seen)) }
+        (λ seen. ArePlaces inputs.now.image.now inputs.now.statement.now inputs.now.profile.now
+        (places_in seen)) }
     ensures allowed { IfOk result
-        (λ seen. IsAllowed image.now statement.now profile.now (places_in seen)) }
-    ensures fault { IfErr result (IsBuildFault image.now statement.now profile.now) }
+        (λ seen. IsAllowed inputs.now.image.now inputs.now.statement.now inputs.now.profile.now
+        (places_in seen)) }
+    ensures fault { IfErr result
+        (IsBuildFault inputs.now.image.now inputs.now.statement.now inputs.now.profile.now) }
 {
     let mut seen = BTreeSet::new(alloc);
     let mut order = Vec::new(alloc);
     let mut edges = Vec::new(alloc);
-    add(&mut seen, &mut order, &start_of(statement))?;
+    add(&mut seen, &mut order, &start_of(inputs.statement))?;
     let mut next = 0;
     while next < order.len() {
         let place = order[next];
         edges.clear();
-        push_edges(&mut edges, image, statement, profile, &place)?;
+        inputs.push_edges(&mut edges, &place)?;
         add_ends(&mut seen, &mut order, &edges)?;
         next += 1;
     }
@@ -77,20 +56,20 @@ fn explore(
 // The edges of each place in turn, and where those of each begin.
 fn edges_in_turn(
     alloc: Global,
-    image: &Image,
-    statement: &Statement,
-    profile: &Profile,
+    inputs: &GraphInputs,
     places: &[Place],
 ) -> Result<(Vec<Edge>, Vec<usize>), BuildFault>
     ensures turn { IfOk result
-        (λ made. AreInTurn image.now statement.now profile.now places.now made.0.items made.1.items) }
-    ensures fault { IfErr result (IsTurnFault image.now statement.now places.now) }
+        (λ made. AreInTurn inputs.now.image.now inputs.now.statement.now inputs.now.profile.now
+        places.now made.0.items made.1.items) }
+    ensures fault { IfErr result
+        (IsTurnFault inputs.now.image.now inputs.now.statement.now places.now) }
 {
     let mut edges = Vec::new(alloc);
     let mut firsts = Vec::new(alloc);
     for place in places {
         firsts.push(edges.len())?;
-        push_edges(&mut edges, image, statement, profile, place)?;
+        inputs.push_edges(&mut edges, place)?;
     }
     firsts.push(edges.len())?;
     Ok((edges, firsts))
@@ -117,9 +96,14 @@ pub fn build(
     if let Some(address) = stray_target(image, statement) {
         return Err(BuildFault::TargetNotWriter(address));
     }
-    let seen = explore(alloc, image, statement, profile)?;
+    let inputs = GraphInputs {
+        image,
+        statement,
+        profile,
+    };
+    let seen = explore(alloc, &inputs)?;
     let places = sorted(alloc, &seen)?;
-    let (edges, firsts) = edges_in_turn(alloc, image, statement, profile, &places)?;
+    let (edges, firsts) = edges_in_turn(alloc, &inputs, &places)?;
     Ok(Graph {
         entry: start_of(statement),
         places,

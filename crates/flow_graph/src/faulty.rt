@@ -3,9 +3,10 @@ ghost use Rattle.flow_graph.specs.Faulty.{AreSound, IsFaultyPlace};
 ghost use Rattle.flow_graph.specs.Graph.{IsCrowd};
 ghost use Rattle.flow_graph.specs.Search.{EndsOne};
 
-use crate::building::{edges_at, start_of};
+use crate::building::start_of;
 use crate::edges::Edge;
 use crate::faults::BuildFault;
+use crate::graph_inputs::GraphInputs;
 use crate::places::Place;
 use crate::search::{add, add_ends};
 use bus_ticks::Profile;
@@ -65,6 +66,11 @@ pub fn faulty_place(
         (λ fault. (fault ≡ BuildFault.Memory)
         ⊎ ((fault ≡ BuildFault.TooManyPlaces) × IsCrowd image.now statement.now profile.now)) }
 {
+    let inputs = GraphInputs {
+        image,
+        statement,
+        profile,
+    };
     let mut seen = BTreeSet::new(alloc);
     let mut order = Vec::new(alloc);
     // the edges of the places that were visited
@@ -73,7 +79,7 @@ pub fn faulty_place(
     let mut next = 0;
     while next < order.len() {
         let place = order[next];
-        let edges = match edges_at(alloc, image, statement, profile, &place) {
+        let edges = match inputs.edges_at(alloc, &place) {
             Ok(edges) => edges,
             Err(fault) => {
                 if is_memory(fault) {

@@ -10,15 +10,17 @@ mod faulty;
 mod flags;
 mod flow;
 mod free;
+mod graph_inputs;
 mod kinds;
 mod law;
 mod places;
 mod pushing;
 mod search;
-mod tight_setting;
+mod sites;
 mod strays;
 mod ticks;
 mod tight;
+mod tight_setting;
 
 pub use building::build;
 pub use call_list::{Calls, MOST_CALLS};

@@ -1,4 +1,4 @@
-ghost use Rattle.std.specs.Prelude.{◌≡◌, ◌++◌, ◌∷◌, [], map, All, IfErr, OnOk, Some, None, ◌<◌};
+ghost use Rattle.std.specs.Prelude.{◌≡◌, ◌++◌, ◌∷◌, [], map, All, IfErr, IfOk, OnOk, Some, None, ◌<◌};
 ghost use Rattle.bus_ticks.specs.declared.space.TheConstants.{SPACE_END};
 ghost use Rattle.flow_graph.specs.Edges.{call_places, places_at, return_place, skip_edge};
 ghost use Rattle.flow_graph.specs.Kinds.{IsWork};
@@ -10,23 +10,15 @@ ghost use Rattle.flow_graph.specs.Sites.{site_writer_fault, writer_places};
 use crate::call_list::Calls;
 use crate::edges::{Edge, Label};
 use crate::faults::BuildFault;
-use crate::kinds::{Action, Kind, action_of};
+use crate::graph_inputs::GraphInputs;
+use crate::kinds::{Kind, action_of};
 use crate::places::Place;
+use crate::sites::Site;
 use crate::ticks::{do_ticks, passing_ticks};
 use arm2_effect::branch_target;
-use bus_ticks::{Profile, ahead_of};
-use loader::Image;
-use statement::{Statement, TargetKind};
-
-// A word of the image at a place, what it does, what is stated of it, and what it is priced by.
-#[derive(Clone, Copy)]
-struct Site<'a> {
-    statement: &'a Statement,
-    profile: &'a Profile,
-    calls: Calls,
-    address: u32,
-    action: Action,
-}
+use bus_ticks::ahead_of;
+use statement::TargetKind;
+use std::alloc::Global;
 
 // Where a word goes: to those addresses, inside the calls.
 #[derive(Clone, Copy)]
@@ -39,14 +31,14 @@ struct Landing<'a> {
 fn push_skip(out: &mut Vec<Edge>, site: &Site) -> Result<(), BuildFault>
     ensures ok { OnOk result
         (out.new.items
-        ≡ out.old.items ++ skip_edge site.now.profile.now site.now.calls site.now.address ∷ []) }
+        ≡ out.old.items ++ skip_edge site.now.inputs.profile.now site.now.calls site.now.address ∷ []) }
     ensures fault { IfErr result (λ fault. fault ≡ BuildFault.Memory) }
 {
     out.push(Edge {
         from: Place::At(site.calls, site.address),
         label: Label::Skip,
         to: Place::At(site.calls, ahead_of(site.address, 4)),
-        cost: passing_ticks(site.profile, site.address),
+        cost: passing_ticks(site.inputs.profile, site.address),
     })?;
     Ok(())
 }
@@ -63,7 +55,7 @@ fn push_do(out: &mut Vec<Edge>, site: &Site, to: Place) -> Result<(), BuildFault
         from: Place::At(site.calls, site.address),
         label: Label::Do,
         to,
-        cost: do_ticks(site.statement, site.profile, site.address, site.action, &to),
+        cost: do_ticks(site, &to),
     })?;
     Ok(())
 }
@@ -120,7 +112,7 @@ fn push_writer(out: &mut Vec<Edge>, site: &Site) -> Result<(), BuildFault>
     ensures sound { OnOk result (site_writer_fault site.now ≡ None) }
     ensures fault { IfErr result (IsMemoryOr (site_writer_fault site.now)) }
 {
-    let Some(target) = site.statement.target_at(site.address) else {
+    let Some(target) = site.inputs.statement.target_at(site.address) else {
         return push_do(out, site, return_place(&site.calls));
     };
     match target.kind() {
@@ -178,32 +170,43 @@ fn push_word(out: &mut Vec<Edge>, site: &Site) -> Result<(), BuildFault>
     Ok(())
 }
 
-/// Adds the edges of a place.
-pub(crate) fn push_edges(
-    out: &mut Vec<Edge>,
-    image: &Image,
-    statement: &Statement,
-    profile: &Profile,
-    place: &Place,
-) -> Result<(), BuildFault>
-    ensures adds { OnOk result
-        (AddsEdges image.now statement.now profile.now place.now out.old.items out.new.items) }
-    ensures sound { OnOk result (IsSound image.now statement.now place.now) }
-    ensures fault { IfErr result (IsEdgeFault image.now statement.now place.now) }
-{
-    let (calls, address) = match place {
-        Place::Exit => return Ok(()),
-        Place::At(calls, address) => (calls, *address),
-    };
-    let Some(word) = image.word_at(address) else {
-        return Err(BuildFault::OutsideImage(address));
-    };
-    let site = Site {
-        statement,
-        profile,
-        calls: *calls,
-        address,
-        action: action_of(word),
-    };
-    push_word(out, &site)
+impl GraphInputs<'_> {
+    /// Adds the edges of a place.
+    pub(crate) fn push_edges(&self, out: &mut Vec<Edge>, place: &Place) -> Result<(), BuildFault>
+        ensures adds { OnOk result
+            (AddsEdges self.now.image.now self.now.statement.now self.now.profile.now place.now
+            out.old.items out.new.items) }
+        ensures sound { OnOk result (IsSound self.now.image.now self.now.statement.now place.now) }
+        ensures fault { IfErr result
+            (IsEdgeFault self.now.image.now self.now.statement.now place.now) }
+    {
+        let (calls, address) = match place {
+            Place::Exit => return Ok(()),
+            Place::At(calls, address) => (calls, *address),
+        };
+        let Some(word) = self.image.word_at(address) else {
+            return Err(BuildFault::OutsideImage(address));
+        };
+        let site = Site {
+            inputs: *self,
+            calls: *calls,
+            address,
+            action: action_of(word),
+        };
+        push_word(out, &site)
+    }
+
+    /// The edges of a place.
+    pub(crate) fn edges_at(&self, alloc: Global, place: &Place) -> Result<Vec<Edge>, BuildFault>
+        ensures adds { IfOk result
+            (λ edges. AddsEdges self.now.image.now self.now.statement.now self.now.profile.now
+            place.now [] edges.items) }
+        ensures sound { OnOk result (IsSound self.now.image.now self.now.statement.now place.now) }
+        ensures fault { IfErr result
+            (IsEdgeFault self.now.image.now self.now.statement.now place.now) }
+    {
+        let mut edges = Vec::new(alloc);
+        self.push_edges(&mut edges, place)?;
+        Ok(edges)
+    }
 }

@@ -4,12 +4,12 @@ ghost use Rattle.flow_graph.specs.Edges.{passing_ticks, work_ticks};
 ghost use Rattle.flow_graph.specs.Kinds.{IsWork};
 ghost use Rattle.flow_graph.specs.Places.{IsInSpace};
 
-use crate::kinds::{Action, Kind, Work};
+use crate::kinds::{Kind, Work};
 use crate::places::Place;
+use crate::sites::Site;
 use bus_ticks::{
     Class, Profile, ahead_of, worst_fetch_n, worst_fetch_s, worst_leave, worst_transfer,
 };
-use statement::Statement;
 
 /// What a word costs that is passed over: the fetch of the word after the next.
 pub(crate) fn passing_ticks(profile: &Profile, address: u32) -> u32
@@ -69,18 +69,15 @@ fn arrival_ticks(profile: &Profile, leave: Class, kind: Kind, to: &Place) -> u32
 }
 
 /// What a word costs that is done, and so goes to that place.
-pub(crate) fn do_ticks(
-    statement: &Statement,
-    profile: &Profile,
-    address: u32,
-    action: Action,
-    to: &Place,
-) -> u32
-    requires work { IsWork action.work }
+pub(crate) fn do_ticks(site: &Site, to: &Place) -> u32
+    requires work { IsWork site.now.action.work }
     requires to { IsInSpace to.now }
-    ensures { result ≡ do_ticks statement.now profile.now address action to.now }
+    ensures { result ≡ do_ticks site.now.inputs.statement.now site.now.inputs.profile.now
+        site.now.address site.now.action to.now }
 {
-    fetch_ticks(profile, address, action.work)
-        + work_ticks(profile, statement.class_at(address), action.work)
-        + arrival_ticks(profile, statement.leave(), action.kind, to)
+    let (statement, profile) = (site.inputs.statement, site.inputs.profile);
+    let work = site.action.work;
+    fetch_ticks(profile, site.address, work)
+        + work_ticks(profile, statement.class_at(site.address), work)
+        + arrival_ticks(profile, statement.leave(), site.action.kind, to)
 }

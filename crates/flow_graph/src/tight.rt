@@ -17,13 +17,13 @@ ghost use Rattle.flow_graph.specs.TightFile.{IsSettingOf, IsSetUp, IsTightAt, Is
 ghost use Rattle.flow_graph.specs.TightFile.{file_of, masked_flags};
 ghost use Rattle.flow_graph.specs.TightFile.{open_page, registers_with};
 ghost use Rattle.flow_graph.specs.TightWork.{IsDearestTarget};
-ghost use Rattle.statement.specs.Stated.{Stated};
 ghost use Rattle.flow_graph.specs.declared.tight.TightFault.TheVariants.{Memory};
 
 use crate::edges::{Edge, Label};
 use crate::flags::flags_for;
 use crate::flow::Graph;
 use crate::free::is_free;
+use crate::graph_inputs::GraphInputs;
 use crate::kinds::action_of;
 use crate::places::Place;
 use crate::tight_setting::{Aim, Held, NOTHING, Setting, setting_for};
@@ -31,7 +31,7 @@ use arm2_decode::{Flags, decode};
 use arm2_effect::{Mode, slot_of};
 use arm2_exec::{Input, Machine, MachineFault};
 use bitflags::Flags as _;
-use bus_ticks::{Class, Profile, RomTimes, dearest_leave, dearest_rom_times};
+use bus_ticks::{Profile, RomTimes, dearest_leave, dearest_rom_times};
 use ioc::Lines;
 use loader::{Image, LoadFault, PagePlan, page_plan, put_words};
 use machine_file::{
@@ -80,17 +80,17 @@ pub(crate) struct SetUp {
 }
 
 // An address that is the place's, to which a jump costs the most.
-fn target(image: &Image, profile: &Profile, leave: Class, to: &Place) -> Option<u32>
+fn target(inputs: &GraphInputs, to: &Place) -> Option<u32>
     ensures leads { IfSome result
-        (λ t. (st : Stated) → leave ≡ st.leave → IsDearestTarget st profile.now to.now t) }
-    ensures none { IsNone result → HasWordAt image.now to.now → ⊥ }
+        (IsDearestTarget inputs.now.statement.now inputs.now.profile.now to.now) }
+    ensures none { IsNone result → HasWordAt inputs.now.image.now to.now → ⊥ }
 {
     match to {
         Place::At(_, address) => {
-            let _word = image.word_at(*address)?;
+            let _word = inputs.image.word_at(*address)?;
             Some(*address)
         }
-        Place::Exit => Some(dearest_leave(profile, leave)),
+        Place::Exit => Some(dearest_leave(inputs.profile, inputs.statement.leave())),
     }
 }
 
@@ -108,33 +108,29 @@ fn setting_at(aim: &Aim, word: u32, label: Label) -> Setting
 }
 
 // How a machine is set that takes the edge at its price; none where the edge is not free.
-fn set_up_for(
-    image: &Image,
-    statement: &Statement,
-    profile: &Profile,
-    edge: &Edge,
-    spare: u32,
-) -> Option<SetUp>
-    requires is_edge { IsEdge image.now statement.now profile.now edge.now }
-    requires lands { HasWordAt image.now edge.now.to }
+fn set_up_for(inputs: &GraphInputs, edge: &Edge, spare: u32) -> Option<SetUp>
+    requires is_edge { IsEdge inputs.now.image.now inputs.now.statement.now inputs.now.profile.now
+        edge.now }
+    requires lands { HasWordAt inputs.now.image.now edge.now.to }
     requires spare { spare < PHYSICAL_PAGES }
-    ensures is_set_up { IfSome result (IsSetUp image.now statement.now profile.now edge.now spare) }
-    ensures free { IfSome result (λ _. IsFree image.now edge.now) }
-    ensures none { IsNone result → IsFree image.now edge.now → ⊥ }
+    ensures is_set_up { IfSome result
+        (IsSetUp inputs.now.image.now inputs.now.statement.now inputs.now.profile.now edge.now spare) }
+    ensures free { IfSome result (λ _. IsFree inputs.now.image.now edge.now) }
+    ensures none { IsNone result → IsFree inputs.now.image.now edge.now → ⊥ }
 {
-    if !is_free(image, edge) {
+    if !is_free(inputs.image, edge) {
         return None;
     }
     let Place::At(_, address) = edge.from else {
         return None;
     };
-    let word = image.word_at(address)?;
+    let word = inputs.image.word_at(address)?;
     let flags = flags_for(action_of(word).cond, edge.label)?;
     let aim = Aim {
-        profile: *profile,
-        class: statement.class_at(address),
+        profile: *inputs.profile,
+        class: inputs.statement.class_at(address),
         address,
-        target: target(image, profile, statement.leave(), &edge.to)?,
+        target: target(inputs, &edge.to)?,
         spare,
     };
     Some(SetUp {
@@ -246,22 +242,18 @@ fn file(
 }
 
 // The same, of a free edge of a graph.
-fn edge_file(
-    alloc: Global,
-    image: &Image,
-    statement: &Statement,
-    profile: &Profile,
-    edge: &Edge,
-) -> Result<MachineFile, TightFault>
-    requires is_edge { IsEdge image.now statement.now profile.now edge.now }
-    requires lands { HasWordAt image.now edge.now.to }
-    requires free { IsFree image.now edge.now }
-    ensures tight { IfOk result (IsTightFile image.now statement.now profile.now edge.now) }
+fn edge_file(alloc: Global, inputs: &GraphInputs, edge: &Edge) -> Result<MachineFile, TightFault>
+    requires is_edge { IsEdge inputs.now.image.now inputs.now.statement.now inputs.now.profile.now
+        edge.now }
+    requires lands { HasWordAt inputs.now.image.now edge.now.to }
+    requires free { IsFree inputs.now.image.now edge.now }
+    ensures tight { IfOk result
+        (IsTightFile inputs.now.image.now inputs.now.statement.now inputs.now.profile.now edge.now) }
     ensures fault { IfErr result (λ fault. fault ≡ TightFault.Memory) }
 {
-    let plan = page_plan(alloc, image)?;
-    match set_up_for(image, statement, profile, edge, plan.spare) {
-        Some(set_up) => file(alloc, &set_up, &plan, dearest_rom_times(profile)),
+    let plan = page_plan(alloc, inputs.image)?;
+    match set_up_for(inputs, edge, plan.spare) {
+        Some(set_up) => file(alloc, &set_up, &plan, dearest_rom_times(inputs.profile)),
         None => unreachable!(),
     }
 }
@@ -357,24 +349,20 @@ fn place_word(image: &Image, place: &Place) -> Option<(u32, u32)>
 }
 
 // A machine that takes a free edge of a graph.
-fn tight_edge(
-    alloc: Global,
-    image: &Image,
-    statement: &Statement,
-    profile: &Profile,
-    edge: &Edge,
-) -> Result<Tight, TightFault>
-    requires is_edge { IsEdge image.now statement.now profile.now edge.now }
-    requires lands { HasWordAt image.now edge.now.to }
-    requires free { IsFree image.now edge.now }
-    ensures tight { IfOk result (λ t. IsTightAt image.now statement.now profile.now edge.now t) }
+fn tight_edge(alloc: Global, inputs: &GraphInputs, edge: &Edge) -> Result<Tight, TightFault>
+    requires is_edge { IsEdge inputs.now.image.now inputs.now.statement.now inputs.now.profile.now
+        edge.now }
+    requires lands { HasWordAt inputs.now.image.now edge.now.to }
+    requires free { IsFree inputs.now.image.now edge.now }
+    ensures tight { IfOk result
+        (IsTightAt inputs.now.image.now inputs.now.statement.now inputs.now.profile.now edge.now) }
     ensures fault { IfErr result (λ fault. fault ≡ TightFault.Memory) }
 {
-    let Some(word) = place_word(image, &edge.from) else {
+    let Some(word) = place_word(inputs.image, &edge.from) else {
         unreachable!();
     };
-    let file = edge_file(alloc, image, statement, profile, edge)?;
-    let machine = placed(alloc, profile, &file, word)?;
+    let file = edge_file(alloc, inputs, edge)?;
+    let machine = placed(alloc, inputs.profile, &file, word)?;
     let input = Input {
         bursts: 0,
         lines: Lines::empty(),
@@ -413,5 +401,10 @@ pub fn tight_state(
     if !is_free(image, edge) {
         return Err(TightFault::NotFree);
     }
-    tight_edge(alloc, image, statement, &graph.profile, edge)
+    let inputs = GraphInputs {
+        image,
+        statement,
+        profile: &graph.profile,
+    };
+    tight_edge(alloc, &inputs, edge)
 }

@@ -14,4 +14,4 @@ pub loop-place-preserved : goal.loop-place-preserved
 loop-place-preserved c =
     let same : c.loop-place.edges.len ≡ length c.loop-place.edges.items = omega (arith, c.loop-place.edges.ok.0) in
     rw (c.in_ok-push.ensures.items, c.len.ensures, same)
-    (turn_more c.args.image.now c.args.statement.now c.args.profile.now c.args.places.now c.loop-place.place-index c.place-item.result c.loop-place.edges.items c.push_edges.new.out.items _ c.loop-place-test.true c.place-item.is c.loop-place.invariant c.in_ok-push_edges.ensures.adds)
+    (turn_more c.args.inputs.now.image.now c.args.inputs.now.statement.now c.args.inputs.now.profile.now c.args.places.now c.loop-place.place-index c.place-item.result c.loop-place.edges.items c.push_edges.new.out.items _ c.loop-place-test.true c.place-item.is c.loop-place.invariant c.in_ok-push_edges.ensures.adds)

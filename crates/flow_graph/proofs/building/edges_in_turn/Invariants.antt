@@ -3,4 +3,4 @@ use Rattle.flow_graph.specs.Search.{AreInTurn}
 use Rattle.flow_graph.proofs.building.edges_in_turn.Given as goal
 
 abbrev pub invariant-loop-place : goal.invariant-loop-place
-invariant-loop-place l = AreInTurn l.image l.statement l.profile (take l.place-index l.places) l.edges.items (l.firsts.items ++ length l.edges.items ∷ [])
+invariant-loop-place l = AreInTurn l.inputs.image.now l.inputs.statement.now l.inputs.profile.now (take l.place-index l.places) l.edges.items (l.firsts.items ++ length l.edges.items ∷ [])

@@ -4,16 +4,16 @@ use Rattle.flow_graph.proofs.tight.tight_edge.Goals as goal
 
 pub unreachable-requires : goal.unreachable-requires
 unreachable-requires c =
-    c.place_word.ensures.none (search rules) (edge_entry c.args.image.now c.args.statement.now c.args.profile.now c.args.edge.now c.requires.is_edge)
+    c.place_word.ensures.none (search rules) (edge_entry c.args.inputs.now.image.now c.args.inputs.now.statement.now c.args.inputs.now.profile.now c.args.edge.now c.requires.is_edge)
 
 pub placed-requires : goal.placed-requires
 placed-requires c =
-    can_place c.args.image.now c.args.statement.now c.args.profile.now c.args.edge.now c.in_ok-file.file c.in-Some.word c.in_ok-file.ensures.tight c.in-Some.ensures.word c.requires.free
+    can_place c.args.inputs.now.image.now c.args.inputs.now.statement.now c.args.inputs.now.profile.now c.args.edge.now c.in_ok-file.file c.in-Some.word c.in_ok-file.ensures.tight c.in-Some.ensures.word c.requires.free
 
 pub returns-clause-tight : goal.returns-clause-tight
 returns-clause-tight c = record {
   takes =
-      placed_takes c.args.image.now c.args.statement.now c.args.profile.now c.args.edge.now c.in_ok-file.file c.in-Some.word c.in_ok-machine.machine _ c.in_ok-file.ensures.tight c.in-Some.ensures.word c.in_ok-machine.ensures.placed c.port.ensures;
+      placed_takes c.args.inputs.now.image.now c.args.inputs.now.statement.now c.args.inputs.now.profile.now c.args.edge.now c.in_ok-file.file c.in-Some.word c.in_ok-machine.machine _ c.in_ok-file.ensures.tight c.in-Some.ensures.word c.in_ok-machine.ensures.placed c.port.ensures;
   file = c.in_ok-file.ensures.tight;
   word = c.in-Some.word;
   word_is = c.in-Some.ensures.word;
