@@ -1,6 +1,6 @@
 ghost use Rattle.std.specs.Prelude.{◌≡◌, ◌≢◌, OnOk, IfErr, IfOk};
 ghost use Rattle.flow_graph.specs.Graph.{ArePlaces, IsBuildFault, IsFlowGraph, start_of};
-ghost use Rattle.flow_graph.specs.Search.{AreInTurn, IsAllowed, IsFound, IsSearch, IsTurnFault, places_in};
+ghost use Rattle.flow_graph.specs.Search.{AreInTurn, IsAllowed, IsTurnFault, places_in};
 ghost use Rattle.statement.specs.Stated.{IsStated};
 ghost use Rattle.flow_graph.specs.declared.faults.BuildFault.{BuildFault};
 
