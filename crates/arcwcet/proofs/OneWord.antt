@@ -34,7 +34,7 @@ use Rattle.flow_graph.specs.Kinds.{instr_action}
 use Rattle.flow_graph.specs.StepLaw.{Executes, Follows, IsEdgeOf, IsTaken}
 use Rattle.loop_bounds.specs.Bounds.{IsCompleteWalk, KeepsTheBounds}
 use Rattle.flow_graph.specs.declared.edges.Edge.{Edge}
-use Rattle.flow_graph.specs.declared.kinds.Action.{Action}
+use Rattle.flow_graph.specs.declared.actions.Action.{Action}
 use Rattle.flow_graph.specs.declared.places.Place.{Place}
 use Rattle.flow_graph.specs.declared.places.Place.TheVariants.{At, Exit}
 

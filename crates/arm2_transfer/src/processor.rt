@@ -1,7 +1,8 @@
 use crate::bus::Bus;
 use arm2_effect::{Prices, Registers};
 
-/// The processor with what its instructions work on: its registers, the bus, and what accesses cost.
+/// The processor with what its instructions work on: its registers, the bus, the port, and the prices of
+/// accesses.
 #[derive(Drop)]
 pub struct Processor {
     pub registers: Registers,

@@ -130,16 +130,16 @@ comma_after : (user : Bool) (t : List ℕ) (n : Register) (ps : List Piece) (x :
 comma_after true t n ps x r e = absurd (none-some x e)
 comma_after false t n ps x r e = inr (inl (refl, before_is t n ps x r e))
 
-based_is : (user : Bool) (t : List ℕ) (n : Register) (ps : List Piece) (x : Address) → IsRegister t n → after_base user n ps ≡ Some x → SpellsAddress user x (Run t ∷ ps)
-based_is user t n (Sign CloseBracket ∷ ps) x r e = closed_after user t n ps x r e
-based_is user t n (Comma ∷ ps) x r e = comma_after user t n ps x r e
-based_is user t n _ x r e = absurd (none-some x e)
+after_base_is : (user : Bool) (t : List ℕ) (n : Register) (ps : List Piece) (x : Address) → IsRegister t n → after_base user n ps ≡ Some x → SpellsAddress user x (Run t ∷ ps)
+after_base_is user t n (Sign CloseBracket ∷ ps) x r e = closed_after user t n ps x r e
+after_base_is user t n (Comma ∷ ps) x r e = comma_after user t n ps x r e
+after_base_is user t n _ x r e = absurd (none-some x e)
 
 pub address_is : (user : Bool) (ps : List Piece) (x : Address) → address_of user ps ≡ Some x → SpellsAddress user x ps
 address_is user ps x e =
     let f = and_then_is (λ f. after_base user f.0 f.1) (first_register ps) x e in
     let t = register_front ps f.0 f.1 in
-    subst (SpellsAddress user x) (sym t.1) (based_is user t.0 f.0.0 f.0.1 x t.2 f.2)
+    subst (SpellsAddress user x) (sym t.1) (after_base_is user t.0 f.0.0 f.0.1 x t.2 f.2)
 
 base_again : (w : Bool) (n : Register) → after_of false n (mark_if w Bang) ≡ Some (record { rn = n; before = true; up = true; write_back = w; distance = distance.Number 0 })
 base_again true n = refl

@@ -120,9 +120,9 @@ pub map_is : {A B : Type 0} (f : A → B) (o : Option A) (b : B) → option_map 
 map_is f None b e = absurd (none-some b e)
 map_is f (Some a) b e = (a, refl, same_Some (f a) b e)
 
-linked_is : (text : List ℕ) (w : Word) → branch_link text ≡ Some w → (rest : List ℕ) × (c : Cond) × (text ≡ codes "L" ++ rest) × IsCond rest c × (w ≡ Branch true c)
-linked_is [] w e = absurd cc
-linked_is (b ∷ rest) w e =
+branch_link_is : (text : List ℕ) (w : Word) → branch_link text ≡ Some w → (rest : List ℕ) × (c : Cond) × (text ≡ codes "L" ++ rest) × IsCond rest c × (w ≡ Branch true c)
+branch_link_is [] w e = absurd cc
+branch_link_is (b ∷ rest) w e =
     elim (chosen (bytes_eq (b ∷ []) (codes "L")) (option_map (Branch true) (whole_cond rest)) None (Some w) e) [
       | inl h ↦
           let m = map_is (Branch true) (whole_cond rest) w h.1 in
@@ -133,7 +133,7 @@ linked_is (b ∷ rest) w e =
 branch_rest_is : (o : Option Cond) (rest : List ℕ) (w : Word) → whole_cond rest ≡ o → branch_rest o rest ≡ Some w → IsWord (codes "B" ++ rest) w
 branch_rest_is (Some c) rest w is e = subst (IsWord (codes "B" ++ rest)) (same_Some (Branch false c) w e) (rest, whole_is rest c is, refl)
 branch_rest_is None rest w is e =
-    let l = linked_is rest w e in
+    let l = branch_link_is rest w e in
     subst (IsWord (codes "B" ++ rest)) (sym l.4) (l.0, l.3, ap (λ (t : List ℕ). codes "B" ++ t) l.2)
 
 branch_is : (text : List ℕ) (w : Word) → branch_of text ≡ Some w → IsWord text w

@@ -61,7 +61,7 @@ IsShift text s = Contains (in_both_cases shift_names) (text, s)
 abbrev pub IsRrx : List ℕ → Type 0
 IsRrx text = (text ≡ codes "RRX") ⊎ (text ≡ codes "rrx")
 
--- a mark, where it stands for yes
+-- a mark where the value is true, and nothing else
 abbrev pub mark_if : Bool → Mark → List Piece
 mark_if true m = Sign m ∷ []
 mark_if false m = []

@@ -136,17 +136,18 @@ in_list name = record { list = name; key = [] }
 abbrev pub item : Reading → Item → Reading
 item r i = record { at = r.at; around = r.around; items = r.items ++ (i ∷ []) }
 
--- the list of a table in braces is that of its key
-abbrev pub with_list : ℕ → Reading → Reading
-with_list line r =
+-- a table in braces begins: its list is that of its key
+abbrev pub table_begun : ℕ → Reading → Reading
+table_begun line r =
     record {
       at = in_list (r.at).key;
       around = r.at;
       items = r.items ++ (Begins (record { line = line; name = (r.at).key; is_listed = true }) ∷ []);
     }
 
-abbrev pub without_list : Reading → Reading
-without_list r = record { at = r.around; around = r.around; items = r.items ++ (Ends ∷ []) }
+-- it ends: what follows is of the table around it
+abbrev pub table_ended : Reading → Reading
+table_ended r = record { at = r.around; around = r.around; items = r.items ++ (Ends ∷ []) }
 
 abbrev pub with_key : Reading → List ℕ → Reading
 with_key r key =
@@ -158,8 +159,8 @@ with_value line r value =
 
 abbrev pub taken : ℕ → Reading → Token → Reading
 taken line r Gap = r
-taken line r Opens = with_list line r
-taken line r Closes = without_list r
+taken line r Opens = table_begun line r
+taken line r Closes = table_ended r
 taken line r (Key key) = with_key r key
 taken line r (OfValue value) = with_value line r value
 

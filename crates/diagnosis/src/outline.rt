@@ -1,6 +1,6 @@
 ghost use Rattle.std.specs.Prelude.{◌≡◌, IfOk, OnOk, length, map, option_map};
 ghost use Rattle.diagnosis.specs.Outline.{begun, header_of, item_of, items_of, line_read};
-ghost use Rattle.diagnosis.specs.Outline.{all_taken, bare_word, without_list, with_list, reading_of};
+ghost use Rattle.diagnosis.specs.Outline.{all_taken, bare_word, table_ended, table_begun, reading_of};
 ghost use Rattle.diagnosis.specs.Outline.{table_of, taken, token_of, tokens, value_of, with_value};
 
 use crate::tokens::{Token, Value, bare_front, first_token};
@@ -73,7 +73,7 @@ impl<'a> Reading<'a> {
 
     // Begins a table in braces.
     fn open(&mut self, line: usize) -> Result<(), AllocError>
-        ensures { OnOk result (reading_of self.new ≡ with_list line (reading_of self.old)) }
+        ensures { OnOk result (reading_of self.new ≡ table_begun line (reading_of self.old)) }
     {
         let name = self.at.key;
         self.items.push(Item::Begins(Table {
@@ -91,7 +91,7 @@ impl<'a> Reading<'a> {
 
     // Ends a table in braces.
     fn close(&mut self) -> Result<(), AllocError>
-        ensures { OnOk result (reading_of self.new ≡ without_list (reading_of self.old)) }
+        ensures { OnOk result (reading_of self.new ≡ table_ended (reading_of self.old)) }
     {
         self.items.push(Item::Ends)?;
         self.at = self.around;

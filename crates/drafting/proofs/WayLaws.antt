@@ -7,9 +7,9 @@ use Rattle.drafting.specs.Exploring.{Gains}
 use Rattle.arm2_effect.specs.ProgramCounter.{branch_target}
 use Rattle.drafting.specs.Reach.{Calls, HasPlaces, IsBranchAt, IsTablePlace, JumpsIntoTable, LeadsAway, Steps, StepsTo}
 use Rattle.flow_graph.specs.Edges.{HasAction}
-use Rattle.flow_graph.specs.declared.kinds.Action.{Action}
-use Rattle.flow_graph.specs.declared.kinds.Kind.{Kind}
-use Rattle.flow_graph.specs.declared.kinds.Kind.TheVariants as kind
+use Rattle.flow_graph.specs.declared.actions.Action.{Action}
+use Rattle.flow_graph.specs.declared.actions.Kind.{Kind}
+use Rattle.flow_graph.specs.declared.actions.Kind.TheVariants as kind
 use Rattle.loader.specs.Image.{Words}
 use borrow.Author.Count.{below_more, below_none}
 

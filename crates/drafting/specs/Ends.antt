@@ -6,9 +6,9 @@ use Rattle.drafting.specs.Picks.{Picks}
 use Rattle.drafting.specs.declared.ends.End.{End}
 use Rattle.drafting.specs.declared.ends.End.TheVariants as end
 use Rattle.flow_graph.specs.Edges.{HasAction}
-use Rattle.flow_graph.specs.declared.kinds.Action.{Action}
-use Rattle.flow_graph.specs.declared.kinds.Kind.{Kind}
-use Rattle.flow_graph.specs.declared.kinds.Kind.TheVariants as kind
+use Rattle.flow_graph.specs.declared.actions.Action.{Action}
+use Rattle.flow_graph.specs.declared.actions.Kind.{Kind}
+use Rattle.flow_graph.specs.declared.actions.Kind.TheVariants as kind
 use Rattle.loader.specs.Image.{Words, word_of}
 
 -- why control does not come past a word that is carried out

@@ -6,9 +6,9 @@ use Rattle.arm2_effect.specs.ProgramCounter.{branch_target}
 use Rattle.bus_ticks.specs.declared.space.TheConstants.{SPACE_END}
 use Rattle.bus_ticks.specs.Prices.{ahead_of}
 use Rattle.flow_graph.specs.Edges.{HasAction}
-use Rattle.flow_graph.specs.declared.kinds.Action.{Action}
-use Rattle.flow_graph.specs.declared.kinds.Kind.{Kind}
-use Rattle.flow_graph.specs.declared.kinds.Kind.TheVariants as kind
+use Rattle.flow_graph.specs.declared.actions.Action.{Action}
+use Rattle.flow_graph.specs.declared.actions.Kind.{Kind}
+use Rattle.flow_graph.specs.declared.actions.Kind.TheVariants as kind
 use Rattle.flow_graph.specs.declared.search.TheConstants.{MOST_PLACES}
 use Rattle.loader.specs.Image.{Words}
 use Rattle.statement.specs.declared.entries.TheConstants.{MOST_DESTINATIONS}

@@ -3,7 +3,7 @@ ghost use Rattle.arm2_decode.specs.Names.{is_never};
 ghost use Rattle.drafting.specs.Exploring.{Gains};
 ghost use Rattle.drafting.specs.Reach.{CallsTo, ComesBack, GoesOn, HasPlaces, HasReturnAddress, IsBranchAt};
 ghost use Rattle.drafting.specs.Reach.{LeadsAway, StepsTo, before, next_of};
-ghost use Rattle.flow_graph.specs.declared.kinds.Kind.TheVariants.{Writer};
+ghost use Rattle.flow_graph.specs.declared.actions.Kind.TheVariants.{Writer};
 
 use crate::words::action_at;
 use arm2_effect::branch_target;

@@ -1,6 +1,6 @@
 ghost use Rattle.std.specs.Prelude.{◌≡◌, IfNone, IfSome, None, Some};
 ghost use Rattle.flow_graph.specs.Edges.{HasAction};
-ghost use Rattle.flow_graph.specs.declared.kinds.Action.{Action};
+ghost use Rattle.flow_graph.specs.declared.actions.Action.{Action};
 ghost use Rattle.loader.specs.Image.{word_of};
 
 use arm2_decode::{Block, Opcode, Operation, Register, writes_base};

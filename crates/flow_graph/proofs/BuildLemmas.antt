@@ -21,9 +21,9 @@ use Rattle.statement.specs.Stated.{Stated, Target, target_of}
 use Rattle.flow_graph.specs.declared.edges.Edge.{Edge}
 use Rattle.flow_graph.specs.declared.faults.BuildFault.{BuildFault}
 use Rattle.flow_graph.specs.declared.faults.BuildFault.TheVariants as fault
-use Rattle.flow_graph.specs.declared.kinds.Action.{Action}
-use Rattle.flow_graph.specs.declared.kinds.Kind.{Kind}
-use Rattle.flow_graph.specs.declared.kinds.Kind.TheVariants.{Plain, Branch, Call, Writer, Trap, Unallocated}
+use Rattle.flow_graph.specs.declared.actions.Action.{Action}
+use Rattle.flow_graph.specs.declared.actions.Kind.{Kind}
+use Rattle.flow_graph.specs.declared.actions.Kind.TheVariants.{Plain, Branch, Call, Writer, Trap, Unallocated}
 use Rattle.flow_graph.specs.declared.places.Place.{Place}
 use Rattle.flow_graph.specs.declared.places.Place.TheVariants.{At, Exit}
 use Rattle.statement.specs.declared.stated.TargetKind.{TargetKind}

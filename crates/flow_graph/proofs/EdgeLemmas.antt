@@ -22,11 +22,11 @@ use Rattle.flow_graph.specs.Kinds.{IsAction, IsWork, instr_action, unallocated_a
 use Rattle.flow_graph.specs.Places.{IsInRange}
 use Rattle.statement.specs.Stated.{IsStated, IsTarget, Stated, Target, class_at, target_of}
 use Rattle.flow_graph.specs.declared.edges.Edge.{Edge}
-use Rattle.flow_graph.specs.declared.kinds.Action.{Action}
-use Rattle.flow_graph.specs.declared.kinds.Kind.{Kind}
-use Rattle.flow_graph.specs.declared.kinds.Kind.TheVariants.{Plain, Branch, Call, Writer, Trap, Unallocated}
-use Rattle.flow_graph.specs.declared.kinds.Work.{Work}
-use Rattle.flow_graph.specs.declared.kinds.Work.TheVariants.{Internal, Load, Store}
+use Rattle.flow_graph.specs.declared.actions.Action.{Action}
+use Rattle.flow_graph.specs.declared.actions.Kind.{Kind}
+use Rattle.flow_graph.specs.declared.actions.Kind.TheVariants.{Plain, Branch, Call, Writer, Trap, Unallocated}
+use Rattle.flow_graph.specs.declared.actions.Work.{Work}
+use Rattle.flow_graph.specs.declared.actions.Work.TheVariants.{Internal, Load, Store}
 use Rattle.flow_graph.specs.declared.places.Place.{Place}
 use Rattle.flow_graph.specs.declared.places.Place.TheVariants.{At, Exit}
 use Rattle.statement.specs.declared.stated.TargetKind.{TargetKind}

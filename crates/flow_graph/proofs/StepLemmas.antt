@@ -37,11 +37,11 @@ use Rattle.flow_graph.specs.StepLaw.{Executes, Follows, IsAccepted, IsEdgeOf, Is
 use Rattle.flow_graph.specs.declared.edges.Edge.{Edge}
 use Rattle.flow_graph.specs.declared.edges.Label.TheVariants.{Skip, Do}
 use Rattle.flow_graph.specs.declared.faults.BuildFault.TheVariants as fault
-use Rattle.flow_graph.specs.declared.kinds.Action.{Action}
-use Rattle.flow_graph.specs.declared.kinds.Kind.{Kind}
-use Rattle.flow_graph.specs.declared.kinds.Kind.TheVariants as kind
-use Rattle.flow_graph.specs.declared.kinds.Work.{Work}
-use Rattle.flow_graph.specs.declared.kinds.Work.TheVariants as work
+use Rattle.flow_graph.specs.declared.actions.Action.{Action}
+use Rattle.flow_graph.specs.declared.actions.Kind.{Kind}
+use Rattle.flow_graph.specs.declared.actions.Kind.TheVariants as kind
+use Rattle.flow_graph.specs.declared.actions.Work.{Work}
+use Rattle.flow_graph.specs.declared.actions.Work.TheVariants as work
 use Rattle.flow_graph.specs.declared.places.Place.{Place}
 use Rattle.flow_graph.specs.declared.places.Place.TheVariants.{At}
 use Rattle.statement.specs.Stated.{Stated, class_at, target_of}

@@ -19,10 +19,10 @@ use Rattle.arm2_transfer.specs.Moved.{load_accesses, store_accesses, words_at}
 use Rattle.flow_graph.specs.Edges.{fetch_ticks, passing_ticks, work_ticks}
 use Rattle.flow_graph.specs.Kinds.{writer_if}
 use Rattle.flow_graph.specs.StepLaw.{TransfersIn}
-use Rattle.flow_graph.specs.declared.kinds.Kind.{Kind}
-use Rattle.flow_graph.specs.declared.kinds.Kind.TheVariants as kind
-use Rattle.flow_graph.specs.declared.kinds.Work.{Work}
-use Rattle.flow_graph.specs.declared.kinds.Work.TheVariants as work
+use Rattle.flow_graph.specs.declared.actions.Kind.{Kind}
+use Rattle.flow_graph.specs.declared.actions.Kind.TheVariants as kind
+use Rattle.flow_graph.specs.declared.actions.Work.{Work}
+use Rattle.flow_graph.specs.declared.actions.Work.TheVariants as work
 use Rattle.flow_graph.proofs.SortedLemmas.{there}
 
 -- the first words of a transfer are among its accesses

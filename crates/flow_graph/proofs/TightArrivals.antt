@@ -12,8 +12,8 @@ use Rattle.flow_graph.specs.Edges.{arrival_ticks, jump_ticks, landings}
 use Rattle.flow_graph.specs.Kinds.{is_writer}
 use Rattle.flow_graph.specs.StepLaw.{IsPlaceOf}
 use Rattle.flow_graph.specs.TightWork.{IsDearestTarget}
-use Rattle.flow_graph.specs.declared.kinds.Kind.{Kind}
-use Rattle.flow_graph.specs.declared.kinds.Kind.TheVariants as kind
+use Rattle.flow_graph.specs.declared.actions.Kind.{Kind}
+use Rattle.flow_graph.specs.declared.actions.Kind.TheVariants as kind
 use Rattle.flow_graph.specs.declared.places.Place.{Place}
 use Rattle.flow_graph.specs.declared.places.Place.TheVariants.{At}
 use Rattle.statement.specs.Stated.{Stated}

@@ -21,9 +21,9 @@ use Rattle.arm2_effect.specs.Operations.{multiply_effect, outcome_effect, produc
 use Rattle.arm2_effect.specs.Outcomes.{outcome_of}
 use Rattle.arm2_effect.specs.ProgramCounter.{address_of}
 use Rattle.flow_graph.specs.Kinds.{is_writer, writer_if}
-use Rattle.flow_graph.specs.declared.kinds.Kind.{Kind}
-use Rattle.flow_graph.specs.declared.kinds.Kind.TheVariants as kind
-use Rattle.flow_graph.specs.declared.kinds.Work.TheVariants as work
+use Rattle.flow_graph.specs.declared.actions.Kind.{Kind}
+use Rattle.flow_graph.specs.declared.actions.Kind.TheVariants as kind
+use Rattle.flow_graph.specs.declared.actions.Work.TheVariants as work
 use Rattle.flow_graph.specs.TightWork.{IsDearestTarget}
 use Rattle.flow_graph.proofs.StepOperations.{branch_lands, jumped_goes}
 use Rattle.flow_graph.proofs.StepTicks.{jump_price}

@@ -13,8 +13,8 @@ use Rattle.arm2_transfer.specs.declared.bus.Bus.{Bus}
 use Rattle.arm2_transfer.specs.Moved.{Moved, on_bus}
 use Rattle.flow_graph.specs.Kinds.{is_writer}
 use Rattle.flow_graph.specs.TightWork.{IsDearestTarget}
-use Rattle.flow_graph.specs.declared.kinds.Kind.{Kind}
-use Rattle.flow_graph.specs.declared.kinds.Work.{Work}
+use Rattle.flow_graph.specs.declared.actions.Kind.{Kind}
+use Rattle.flow_graph.specs.declared.actions.Work.{Work}
 use Rattle.flow_graph.specs.declared.places.Place.{Place}
 use Rattle.statement.specs.Stated.{Stated}
 use Rattle.flow_graph.proofs.TightTicks.{AreDear, Pays}

@@ -31,8 +31,8 @@ use Rattle.flow_graph.specs.Tight.{IsTight}
 use Rattle.flow_graph.specs.TightWork.{IsSetFor, IsSetForEdge, TightLaw}
 use Rattle.flow_graph.specs.declared.edges.Edge.{Edge}
 use Rattle.flow_graph.specs.declared.edges.Label.TheVariants.{Skip, Do}
-use Rattle.flow_graph.specs.declared.kinds.Action.{Action}
-use Rattle.flow_graph.specs.declared.kinds.Kind.{Kind}
+use Rattle.flow_graph.specs.declared.actions.Action.{Action}
+use Rattle.flow_graph.specs.declared.actions.Kind.{Kind}
 use Rattle.flow_graph.specs.declared.places.Place.{Place}
 use Rattle.flow_graph.specs.declared.places.Place.TheVariants.{At}
 use Rattle.statement.specs.Stated.{Stated, class_at}

@@ -26,8 +26,8 @@ use Rattle.arm2_transfer.specs.Single.{single_carried_out, single_loaded, single
 use Rattle.arm2_transfer.specs.Words.{moves_of, or_fault, verdict_of}
 use Rattle.flow_graph.specs.Kinds.{is_writer, transfer_work, writer_if}
 use Rattle.flow_graph.specs.TightWork.{IsDearestTarget}
-use Rattle.flow_graph.specs.declared.kinds.Kind.TheVariants as kind
-use Rattle.flow_graph.specs.declared.kinds.Work.TheVariants as work
+use Rattle.flow_graph.specs.declared.actions.Kind.TheVariants as kind
+use Rattle.flow_graph.specs.declared.actions.Work.TheVariants as work
 use Rattle.flow_graph.proofs.StepRegisters.{loaded_goes, long_based, long_r15}
 use Rattle.flow_graph.proofs.TightSetting.{IsDear, IsTarget, MovedPays, Setting, mode, start}
 use Rattle.flow_graph.proofs.TightTicks.{load_pays, store_pays}

@@ -5,7 +5,7 @@ use Rattle.arm2_decode.proofs.Listed.{few_words, some_words}
 use Rattle.arm2_decode.specs.declared.instr.Operation.{Operation}
 use Rattle.arm2_decode.specs.declared.instr.Operation.TheVariants as operation
 use Rattle.flow_graph.specs.Kinds.{IsAction, IsWork, transfer_work, work_of}
-use Rattle.flow_graph.specs.declared.kinds.Action.{Action}
+use Rattle.flow_graph.specs.declared.actions.Action.{Action}
 
 transfer_fits : (load : Bool) (words : ℕ) → 1 ≤ words → words ≤ 16 → IsWork (transfer_work load words)
 transfer_fits true words some few = (some, few)

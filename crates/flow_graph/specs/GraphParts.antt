@@ -1,5 +1,5 @@
 -- A flow graph as it is stored.
-use Rattle.flow_graph.specs.declared.flow.Graph.TheInside.{Inside}
+use Rattle.flow_graph.specs.declared.graph.Graph.TheInside.{Inside}
 use Rattle.flow_graph.specs.Flow.{Flow}
 
 abbrev pub flow_of : Inside → Flow

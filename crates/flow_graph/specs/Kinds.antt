@@ -11,11 +11,11 @@ use Rattle.arm2_decode.specs.declared.instr.Operation.{Operation}
 use Rattle.arm2_decode.specs.declared.instr.Operation.TheVariants as operation
 use Rattle.arm2_decode.specs.declared.names.Cond.{Cond}
 use Rattle.shifter.specs.declared.shifts.TheConstants.{MOST_MULTIPLY_CYCLES}
-use Rattle.flow_graph.specs.declared.kinds.Kind.{Kind}
-use Rattle.flow_graph.specs.declared.kinds.Kind.TheVariants as kind
-use Rattle.flow_graph.specs.declared.kinds.Work.{Work}
-use Rattle.flow_graph.specs.declared.kinds.Work.TheVariants as work
-use Rattle.flow_graph.specs.declared.kinds.Action.{Action}
+use Rattle.flow_graph.specs.declared.actions.Kind.{Kind}
+use Rattle.flow_graph.specs.declared.actions.Kind.TheVariants as kind
+use Rattle.flow_graph.specs.declared.actions.Work.{Work}
+use Rattle.flow_graph.specs.declared.actions.Work.TheVariants as work
+use Rattle.flow_graph.specs.declared.actions.Action.{Action}
 
 -- ## The flow of control
 

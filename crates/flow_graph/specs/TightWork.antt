@@ -40,7 +40,7 @@ use Rattle.flow_graph.specs.StepLaw.{IsPlaceOf, label_by}
 use Rattle.flow_graph.specs.Tight.{IsTight}
 use Rattle.flow_graph.specs.declared.edges.Edge.{Edge}
 use Rattle.flow_graph.specs.declared.edges.Label.TheVariants.{Skip}
-use Rattle.flow_graph.specs.declared.kinds.Action.{Action}
+use Rattle.flow_graph.specs.declared.actions.Action.{Action}
 use Rattle.flow_graph.specs.declared.places.Place.{Place}
 use Rattle.flow_graph.specs.declared.places.Place.TheVariants.{At}
 use Rattle.statement.specs.Stated.{Stated, class_at}

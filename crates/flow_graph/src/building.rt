@@ -7,7 +7,7 @@ ghost use Rattle.flow_graph.specs.declared.faults.BuildFault.{BuildFault};
 use crate::call_list::Calls;
 use crate::edges::Edge;
 use crate::faults::BuildFault;
-use crate::flow::Graph;
+use crate::graph::Graph;
 use crate::graph_inputs::GraphInputs;
 use crate::places::Place;
 use crate::search::{add, add_ends, sorted};

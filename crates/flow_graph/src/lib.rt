@@ -2,19 +2,19 @@
 //! statement that it is built from is re-exported as it is.
 #![tactic(auto)]
 
+mod actions;
 mod building;
 mod call_list;
 mod edges;
 mod faults;
 mod faulty;
-mod flags;
-mod flow;
-mod free;
+mod free_edges;
+mod graph;
 mod graph_inputs;
-mod kinds;
+mod label_flags;
 mod law;
+mod place_edges;
 mod places;
-mod pushing;
 mod search;
 mod sites;
 mod strays;
@@ -22,15 +22,15 @@ mod ticks;
 mod tight;
 mod tight_setting;
 
+pub use actions::{Action, Kind, Work, action_of, transfer_work};
 pub use building::build;
 pub use call_list::{Calls, MOST_CALLS};
 pub use edges::{Edge, Label};
 pub use faults::BuildFault;
 pub use faulty::{FaultyPlace, faulty_place};
-pub use flags::flags_for;
-pub use flow::Graph;
-pub use free::is_free;
-pub use kinds::{Action, Kind, Work, action_of, transfer_work};
+pub use free_edges::is_free;
+pub use graph::Graph;
+pub use label_flags::flags_for;
 pub use law::{order_of_places, place_limits, run_law, step_law, tight_law};
 pub use places::Place;
 pub use search::MOST_PLACES;

@@ -1,6 +1,6 @@
+use crate::actions::Action;
 use crate::call_list::Calls;
 use crate::graph_inputs::GraphInputs;
-use crate::kinds::Action;
 
 /// A word of the image at a place, and what it does.
 #[derive(Clone, Copy)]

@@ -1,7 +1,7 @@
 ghost use Rattle.std.specs.Prelude.{◌≡◌, ℕ, true, false, IfSome, IsNone};
 ghost use Rattle.flow_graph.specs.Graph.{IsStray, IsWriterAt};
 
-use crate::kinds::{action_of, is_writer};
+use crate::actions::{action_of, is_writer};
 use loader::Image;
 use statement::Statement;
 

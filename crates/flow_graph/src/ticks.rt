@@ -4,7 +4,7 @@ ghost use Rattle.flow_graph.specs.Edges.{passing_ticks, work_ticks};
 ghost use Rattle.flow_graph.specs.Kinds.{IsWork};
 ghost use Rattle.flow_graph.specs.Places.{IsInSpace};
 
-use crate::kinds::{Kind, Work};
+use crate::actions::{Kind, Work};
 use crate::places::Place;
 use crate::sites::Site;
 use bus_ticks::{

@@ -19,12 +19,12 @@ ghost use Rattle.flow_graph.specs.TightFile.{open_page, registers_with};
 ghost use Rattle.flow_graph.specs.TightWork.{IsDearestTarget};
 ghost use Rattle.flow_graph.specs.declared.tight.TightFault.TheVariants.{Memory};
 
+use crate::actions::action_of;
 use crate::edges::{Edge, Label};
-use crate::flags::flags_for;
-use crate::flow::Graph;
-use crate::free::is_free;
+use crate::free_edges::is_free;
+use crate::graph::Graph;
 use crate::graph_inputs::GraphInputs;
-use crate::kinds::action_of;
+use crate::label_flags::flags_for;
 use crate::places::Place;
 use crate::tight_setting::{Aim, Held, NOTHING, Setting, setting_for};
 use arm2_decode::{Flags, decode};

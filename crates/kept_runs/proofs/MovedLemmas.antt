@@ -120,10 +120,10 @@ module _ (regs : List ℕ) where
   loaded_long : (psr : Bool) (mode : Mode) (r : ℕ) (register : Register) (word : ℕ) → length (with_loaded psr mode r register word regs) ≡ length regs
   loaded_long psr mode r register word = either_long (is_pc register) (with_r15 _ regs) (with_register mode (register_number register) word regs) (length regs) (r15_long _) (with_long mode (register_number register) word)
 
-all_loaded_long : (psr : Bool) (mode : Mode) (r : ℕ) (bus : Bus) (port : ℕ) (moves : List Move) (regs : List ℕ) → length (load_all psr mode r bus port moves regs) ≡ length regs
-all_loaded_long psr mode r bus port [] regs = refl
-all_loaded_long psr mode r bus port (move ∷ rest) regs =
-    all_loaded_long psr mode r bus port rest (with_loaded psr mode r move.register _ regs) ∙ loaded_long regs psr mode r move.register _
+load_all_long : (psr : Bool) (mode : Mode) (r : ℕ) (bus : Bus) (port : ℕ) (moves : List Move) (regs : List ℕ) → length (load_all psr mode r bus port moves regs) ≡ length regs
+load_all_long psr mode r bus port [] regs = refl
+load_all_long psr mode r bus port (move ∷ rest) regs =
+    load_all_long psr mode r bus port rest (with_loaded psr mode r move.register _ regs) ∙ loaded_long regs psr mode r move.register _
 
 -- ## What is done
 
@@ -332,7 +332,7 @@ module _ (class : Class) (regs : List ℕ) (bus : Bus) where
   unfolding block_loads
   block_loads_move x span port moves below =
       loads span.lowest span.words (is_listed x.list R15) _ (block_loads x span port moves regs bus) refl
-      (all_loaded_long x.user (mode_for x (mode_of (r15_in regs))) (r15_in regs) bus port moves (with_base x.write_back (mode_of (r15_in regs)) x.rn span.base (passed regs))
+      (load_all_long x.user (mode_for x (mode_of (r15_in regs))) (r15_in regs) bus port moves (with_base x.write_back (mode_of (r15_in regs)) x.rn span.base (passed regs))
       ∙ based_long (passed regs) x.write_back (mode_of (r15_in regs)) x.rn span.base ∙ r15_long regs _) below
 
   block_stores_move : (x : Block) (span : Span) (moves : List Move) → span.lowest < 2 ^ 26 → IsMoved (Some (record { address = span.lowest; words = span.words; store = true })) (block_stores x span moves regs bus)

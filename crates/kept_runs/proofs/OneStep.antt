@@ -15,7 +15,7 @@ use Rattle.arm2_exec.proofs.StepLemmas.{one_step}
 use Rattle.flow_graph.specs.Kinds.{IsAction}
 use Rattle.flow_graph.specs.StepLaw.{IsEdgeOf, IsTaken}
 use Rattle.flow_graph.specs.declared.edges.Edge.{Edge}
-use Rattle.flow_graph.specs.declared.kinds.Action.{Action}
+use Rattle.flow_graph.specs.declared.actions.Action.{Action}
 use Rattle.flow_graph.proofs.EdgeLemmas.{one_action}
 use Rattle.flow_graph.proofs.StepLemmas.{plain_step}
 use Rattle.flow_graph.proofs.PlaceLemmas.{same_at}

@@ -297,9 +297,9 @@ register_depths [] ws = tt
 register_depths (k ∷ ks) [] = tt
 register_depths (k ∷ ks) (w ∷ ws) = (zero_depth w, register_depths ks ws)
 
-tabled_depth : (n : ℕ) (t : Members) → members_depth t ≤ n → optional_depth (table_value t) ≤ n + 1
-tabled_depth n no_members h = omega arith
-tabled_depth n (member k d t) h = omega (arith, h)
+table_value_depth : (n : ℕ) (t : Members) → members_depth t ≤ n → optional_depth (table_value t) ≤ n + 1
+table_value_depth n no_members h = omega arith
+table_value_depth n (member k d t) h = omega (arith, h)
 
 items_low : {A : Type 0} (data_of : A → Data) → ((a : A) → depth (data_of a) ≤ 1) → (xs : List A)
     → items_depth (items_of (map data_of xs)) ≤ 1
@@ -325,7 +325,7 @@ word_depth w =
 document_depth : (s : Stated) → members_depth (document_of s) ≤ 2
 document_depth s =
     let none : 0 ≤ 2 = omega arith in
-    let registers : optional_depth (table_value (register_table s.processor.registers)) ≤ 2 = omega (arith, tabled_depth 0 (register_table s.processor.registers) (depth_of_table 0 _ (register_depths register_keys s.processor.registers))) in
+    let registers : optional_depth (table_value (register_table s.processor.registers)) ≤ 2 = omega (arith, table_value_depth 0 (register_table s.processor.registers) (depth_of_table 0 _ (register_depths register_keys s.processor.registers))) in
     depth_of_table 2 (file_rows s) (none, (none, (none, (registers, (none, (none, (none, (listed_depth page_data page_depth s.controller.pages, (none, (none, (listed_depth word_data word_depth s.words, tt)))))))))))
 
 -- ## The text

@@ -24,7 +24,7 @@ use toml_reading::{
 /// How many steps a machine file asks for at most, and how many where it says nothing.
 pub(crate) const MOST_STEPS: u32 = 65_536;
 
-/// The last step that an event can be at: steps are counted from 0.
+// The last step that an event can be at: steps are counted from 0.
 const LAST_STEP: u32 = MOST_STEPS - 1;
 
 // The keys of an event's table.

@@ -11,7 +11,7 @@ use Rattle.bus_ticks.specs.Worst.{worst_leave}
 use Rattle.shifter.specs.declared.shifts.TheConstants.{MOST_MULTIPLY_CYCLES}
 use Rattle.flow_graph.specs.Edges.{work_ticks}
 use Rattle.flow_graph.specs.Kinds.{transfer_work}
-use Rattle.flow_graph.specs.declared.kinds.Work.{Work}
+use Rattle.flow_graph.specs.declared.actions.Work.{Work}
 use Rattle.savings.specs.declared.classes.ClassPrices.{ClassPrices}
 use Rattle.savings.specs.declared.gains.Gain.{Gain}
 use Rattle.savings.specs.declared.gains.Refinement.TheVariants.{Addresses, Multiplier}

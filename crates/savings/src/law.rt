@@ -3,7 +3,7 @@ ghost use Rattle.arm2_decode.specs.declared.instr.Instr.{Instr};
 ghost use Rattle.bus_ticks.specs.Worst.{worst_leave};
 ghost use Rattle.bus_ticks.specs.declared.profile.Class.{Class};
 ghost use Rattle.bus_ticks.specs.declared.profile.Profile.{Profile};
-ghost use Rattle.flow_graph.specs.declared.kinds.Work.{Work};
+ghost use Rattle.flow_graph.specs.declared.actions.Work.{Work};
 ghost use Rattle.flow_graph.specs.Edges.{do_ticks, jump_ticks, work_ticks};
 ghost use Rattle.flow_graph.specs.Kinds.{instr_action};
 ghost use Rattle.flow_graph.specs.declared.places.Place.{Place};

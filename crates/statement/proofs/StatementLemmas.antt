@@ -13,7 +13,7 @@ use Rattle.toml_reading.proofs.ReadingLemmas.{also_holds, and_then_holds, pair_h
 use Rattle.statement.specs.ReadingParts.{parts_in}
 use Rattle.statement.specs.Stated.{IsLoop, IsStated, IsTarget, Target}
 use Rattle.loader.specs.Labels.{Names}
-use Rattle.statement.specs.Statement.{Parts, Read, accesses_in, address_at, address_in, destinations, destinations_at, target_with, ends_in, kind_in, label_address, leave_in, loop_at, loop_in, loop_parts, loops_in, number_or_name, parts_of, placed_loop, some_destinations, stated_by, target_at, target_in, targets_in}
+use Rattle.statement.specs.Statement.{Parts, Read, accesses_in, address_at, address_in, destinations, destinations_at, target_of_kind, ends_in, kind_in, label_address, leave_in, loop_at, loop_in, loop_parts, loops_in, number_or_name, parts_of, placed_loop, some_destinations, stated_by, target_at, target_in, targets_in}
 use Rattle.statement.specs.StatementFaults.{statement_faults}
 use Rattle.statement.specs.declared.faults.StatementFault.TheVariants.{OutOfRange, WrongKind, Twice}
 use Rattle.statement.specs.declared.stated.Loop.{Loop}
@@ -135,8 +135,8 @@ read_small names o k r to is same =
 abbrev pub IsStatedTarget : ℕ × Target → Type 0
 IsStatedTarget t = IsTarget t.1
 
-directed_small : (names : Names) (o : Option Data) (k : TargetKind) → IfOk (target_with names o k) IsTarget
-directed_small names o k = of_list (destinations names o k) (destinations_small names o k)
+target_of_kind_small : (names : Names) (o : Option Data) (k : TargetKind) → IfOk (target_of_kind names o k) IsTarget
+target_of_kind_small names o k = of_list (destinations names o k) (destinations_small names o k)
   where
     of_list :
         (r : Read (List ℕ))
@@ -149,7 +149,7 @@ target_in_holds : (names : Names) (ms : Members) → IfOk (target_in names ms) I
 target_in_holds names ms =
     check_holds statement_faults IsStatedTarget _ _ _
     (second_holds statement_faults IsTarget (address_in names (codes "at") ms) _
-    (and_then_holds statement_faults IsTarget (kind_in ms) (target_with names (get_member (codes "to") ms)) (directed_small names (get_member (codes "to") ms))))
+    (and_then_holds statement_faults IsTarget (kind_in ms) (target_of_kind names (get_member (codes "to") ms)) (target_of_kind_small names (get_member (codes "to") ms))))
 
 target_holds : (names : Names) (d : Data) → IfOk (target_at names d) IsStatedTarget
 target_holds names d =

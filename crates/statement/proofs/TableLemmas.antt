@@ -20,7 +20,7 @@ use Rattle.toml_reading.proofs.TwiceLemmas.{not_distinct}
 use Rattle.statement.specs.StatementRules.{AccessFault, AccessKeysFault, AddressFault, AreDestinations, DestinationsFault, GoesTo, HasAccess, HasLoop, HasTarget, IsAddress, IsMisplaced, IsPlaced, LoopFault, LoopKeysFault, RequiredFault, StatesAccess, StatesLoop, StatesTarget, TargetFault, TargetKeysFault, ToFault}
 use Rattle.statement.specs.Stated.{Target}
 use Rattle.loader.specs.Labels.{Names}
-use Rattle.statement.specs.Statement.{access_at, access_keys, address_at, address_in, class_in, destinations, destinations_at, target_with, kind_in, loop_at, loop_keys, loop_parts, named_class, named_kind, placed_loop, some_destinations, target_at, target_keys}
+use Rattle.statement.specs.Statement.{access_at, access_keys, address_at, address_in, class_in, destinations, destinations_at, target_of_kind, kind_in, loop_at, loop_keys, loop_parts, named_class, named_kind, placed_loop, some_destinations, target_at, target_keys}
 use Rattle.statement.specs.StatementFaults.{number_of, statement_faults}
 use Rattle.statement.specs.declared.faults.StatementFault.{StatementFault}
 use Rattle.statement.specs.declared.faults.StatementFault.TheVariants.{Memory, WrongKind, OutOfRange, Twice}
@@ -406,14 +406,14 @@ module _ (names : Names) where
       (λ d. listed_judged (items_at d))
       o
 
-  directed_judged :
+  target_of_kind_judged :
       (k : TargetKind) (o : Option Data)
       → Judges
       statement_faults
       (λ t. (t.kind ≡ k) × GoesTo names k o t.to)
       (ToFault names k o)
-      (target_with names o k)
-  directed_judged k o =
+      (target_of_kind names o k)
+  target_of_kind_judged k o =
       map_judged
       statement_faults
       (GoesTo names k o)
@@ -442,7 +442,7 @@ module _ (names : Names) where
       statement_faults
       (HasDirection ms)
       (DirectionFault ms)
-      (and_then (kind_in ms) (target_with names (get_member (codes "to") ms)))
+      (and_then (kind_in ms) (target_of_kind names (get_member (codes "to") ms)))
   direction_judged ms =
       then_judged
       statement_faults
@@ -450,8 +450,8 @@ module _ (names : Names) where
       (λ k t. (t.kind ≡ k) × GoesTo names k (get_member (codes "to") ms) t.to)
       (RequiredFault (codes "kind") ms (NameFault statement_faults named_kind))
       (λ k f. ToFault names k (get_member (codes "to") ms) f)
-      (target_with names (get_member (codes "to") ms))
-      (λ k s. directed_judged k (get_member (codes "to") ms))
+      (target_of_kind names (get_member (codes "to") ms))
+      (λ k s. target_of_kind_judged k (get_member (codes "to") ms))
       (kind_in ms)
       (word_in_judged named_kind (codes "kind") ms)
 
@@ -460,7 +460,7 @@ module _ (names : Names) where
       pair
       statement_faults
       (address_in names (codes "at") ms)
-      (and_then (kind_in ms) (target_with names (get_member (codes "to") ms)))
+      (and_then (kind_in ms) (target_of_kind names (get_member (codes "to") ms)))
 
   target_keys_judged :
       (ms : Members)

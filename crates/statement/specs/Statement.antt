@@ -154,8 +154,8 @@ module _ (names : Names) where
   destinations to Return = if is_none to then Ok [] else Err WrongKind
   destinations to Leave = if is_none to then Ok [] else Err WrongKind
 
-  abbrev pub target_with : Option Data → TargetKind → Read Target
-  target_with to kind =
+  abbrev pub target_of_kind : Option Data → TargetKind → Read Target
+  target_of_kind to kind =
       reading_map (λ addresses. record { kind = kind; to = addresses }) (destinations to kind)
 
   abbrev pub target_in : Members → Read (ℕ × Target)
@@ -165,7 +165,7 @@ module _ (names : Names) where
       target_keys
       ms
       (pair statement_faults (address_in (codes "at") ms)
-      (and_then (kind_in ms) (target_with (get_member (codes "to") ms))))
+      (and_then (kind_in ms) (target_of_kind (get_member (codes "to") ms))))
 
   abbrev pub target_at : Data → Read (ℕ × Target)
   target_at d = required statement_faults (as_table d) target_in

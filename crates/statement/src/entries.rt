@@ -5,7 +5,7 @@ ghost use Rattle.toml_reading.specs.Documents.{once};
 ghost use Rattle.toml_reading.specs.Readings.{and_then, items_in};
 ghost use Rattle.statement.specs.Statement.{access_at, access_in, address_at, address_in, class_named_at};
 ghost use Rattle.statement.specs.Statement.{class_in, class_name};
-ghost use Rattle.statement.specs.Statement.{destinations, destinations_at, target_with, kind_at, kind_in};
+ghost use Rattle.statement.specs.Statement.{destinations, destinations_at, target_of_kind, kind_at, kind_in};
 ghost use Rattle.statement.specs.Statement.{label_address, loop_at, loop_in, loop_parts, named_class};
 ghost use Rattle.statement.specs.Statement.{named_kind, placed_loop, some_destinations, target_at, target_in};
 
@@ -285,7 +285,7 @@ fn direct(
 ) -> Result<Read<Target>, AllocError>
     ensures { IfOk result
         (λ reading. reading
-        ≡ and_then kind (target_with (address_of labels.now) (option_map (λ v. view v.now) value.entry))) }
+        ≡ and_then kind (target_of_kind (address_of labels.now) (option_map (λ v. view v.now) value.entry))) }
 {
     let kind = match kind {
         Ok(kind) => kind,

@@ -2,7 +2,7 @@ use Rattle.std.proofs.Common.{◌≡◌, ◌∙◌, true, ap, sym, subst}
 use Rattle.arm2_decode.specs.Names.{is_never}
 use Rattle.arm2_effect.specs.ProgramCounter.{branch_target}
 use Rattle.drafting.specs.Reach.{Calls}
-use Rattle.flow_graph.specs.declared.kinds.Action.{Action}
+use Rattle.flow_graph.specs.declared.actions.Action.{Action}
 use Rattle.drafting.proofs.WayLaws.{no_call, same_action}
 use Rattle.drafting.proofs.ways.called.Goals as goal
 

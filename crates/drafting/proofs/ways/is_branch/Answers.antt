@@ -1,6 +1,6 @@
 use Rattle.std.proofs.Common.{◌∙◌, ap}
 use Rattle.arm2_decode.specs.Names.{is_always}
-use Rattle.flow_graph.specs.declared.kinds.Action.{Action}
+use Rattle.flow_graph.specs.declared.actions.Action.{Action}
 use Rattle.drafting.proofs.WayLaws.{same_action}
 use Rattle.drafting.proofs.ways.is_branch.Goals as goal
 

@@ -2,7 +2,7 @@ use Rattle.std.proofs.Common.{◌≡◌, false, sym, subst, ◌∙◌}
 use Rattle.std.proofs.lemmas.Result.{on_ok_weaker}
 use Rattle.arm2_decode.specs.Names.{is_never}
 use Rattle.drafting.specs.Reach.{LeadsAway}
-use Rattle.flow_graph.specs.declared.kinds.Kind.TheVariants as kind
+use Rattle.flow_graph.specs.declared.actions.Kind.TheVariants as kind
 use Rattle.drafting.proofs.WayLaws.{gains_as, gains_none, leads_nowhere}
 use Rattle.drafting.proofs.ways.push_others.Goals as goal
 

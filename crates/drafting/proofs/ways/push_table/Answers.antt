@@ -1,6 +1,6 @@
 use Rattle.std.proofs.Common.{arith}
 use Rattle.drafting.specs.Reach.{LeadsAway}
-use Rattle.flow_graph.specs.declared.kinds.Kind.TheVariants as kind
+use Rattle.flow_graph.specs.declared.actions.Kind.TheVariants as kind
 use Rattle.drafting.proofs.WayLaws.{IsPlaceBelow, gains_as, gains_none, places_lead, places_more}
 use Rattle.drafting.proofs.ways.push_table.Goals as goal
 

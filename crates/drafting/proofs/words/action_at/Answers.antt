@@ -1,5 +1,5 @@
 use Rattle.std.proofs.Common.{Some, ap, sym}
-use Rattle.flow_graph.specs.declared.kinds.Action.{Action}
+use Rattle.flow_graph.specs.declared.actions.Action.{Action}
 use Rattle.flow_graph.proofs.EdgeLemmas.{one_action_at}
 use Rattle.drafting.proofs.words.action_at.Goals as goal
 

@@ -1,7 +1,7 @@
 use Rattle.std.proofs.Common.{IsTrue, sym, ap, ◌∙◌, subst}
 use Rattle.arm2_decode.proofs.Unique.{one_instr}
 use Rattle.flow_graph.specs.Free.{is_free_operation}
-use Rattle.flow_graph.proofs.free.is_free_word.Goals as goal
+use Rattle.flow_graph.proofs.free_edges.is_free_word.Goals as goal
 
 pub returns-in-Ok : goal.returns-in-Ok
 returns-in-Ok c = (

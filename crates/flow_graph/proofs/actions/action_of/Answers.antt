@@ -1,7 +1,7 @@
 use Rattle.std.proofs.Common.{inl}
 use Rattle.flow_graph.specs.Kinds.{action}
 use Rattle.flow_graph.proofs.WorkLemmas.{action_fits}
-use Rattle.flow_graph.proofs.kinds.action_of.Goals as goal
+use Rattle.flow_graph.proofs.actions.action_of.Goals as goal
 
 pub returns-in-Ok-clause-value : goal.returns-in-Ok-clause-value
 returns-in-Ok-clause-value c = inl (c.in-Ok.instr, c.in-Ok.ensures.found, λ i. action c.in-Ok.instr.cond (c.kind_of.ensures i) (c.work_of.ensures i))

@@ -1,6 +1,6 @@
 use Rattle.std.proofs.Common.{◌≡◌, Some, sym, ◌∙◌, subst}
 use Rattle.flow_graph.specs.Free.{IsFreeWord}
-use Rattle.flow_graph.proofs.free.has_free_word.Goals as goal
+use Rattle.flow_graph.proofs.free_edges.has_free_word.Goals as goal
 
 pub returns-in-Some : goal.returns-in-Some
 returns-in-Some c = (

@@ -7,11 +7,11 @@ ghost use Rattle.flow_graph.specs.Search.{AddsEdges, IsEdgeFault, IsSound, call_
 ghost use Rattle.flow_graph.specs.Sites.{IsMemoryOr, all_edges, done_edges, done_fault, edge_to, site_fault};
 ghost use Rattle.flow_graph.specs.Sites.{site_writer_fault, writer_places};
 
+use crate::actions::{Kind, action_of};
 use crate::call_list::Calls;
 use crate::edges::{Edge, Label};
 use crate::faults::BuildFault;
 use crate::graph_inputs::GraphInputs;
-use crate::kinds::{Kind, action_of};
 use crate::places::Place;
 use crate::sites::Site;
 use crate::ticks::{do_ticks, passing_ticks};

@@ -2,7 +2,7 @@ use Rattle.std.proofs.Common.{◌+◌, ℕ, List, get_or, sym, subst}
 use Rattle.flow_graph.specs.Flow.{IsEdgeRange}
 use Rattle.flow_graph.specs.Places.{place_at}
 use Rattle.flow_graph.proofs.Firsts.{range_at}
-use Rattle.flow_graph.proofs.flow.Graph.edge_range.Goals as goal
+use Rattle.flow_graph.proofs.graph.Graph.edge_range.Goals as goal
 
 pub returns-clause-range : goal.returns-clause-range
 returns-clause-range c =
