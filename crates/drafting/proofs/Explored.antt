@@ -1,19 +1,18 @@
 -- The search for addresses goes on.
 use Rattle.std.proofs.Common.{◌≡◌, ℕ, ◌+◌, ◌<◌, ◌≤◌, inl, inr, List, [], ◌∷◌, ◌++◌, length, take, get_or, ⊎_elim, sym, ap, ◌∙◌, subst, arith}
-use Rattle.std.specs.Prelude.{Contains}
+use Rattle.std.specs.Prelude.{Contains, ◌↔◌}
 use Rattle.std.specs.BTreeSet.{BTreeSet}
 use Rattle.std.specs.Cmp.{nat_cmp_total}
 use Rattle.std.proofs.lemmas.List.{get_or_append_left, get_or_read, take_more}
 use Rattle.std.proofs.lemmas.List.Elements.{Contains-append_left, Contains-push, Contains-push_cases, Contains-get_or}
 use Rattle.std.proofs.lemmas.Map.Lookups.{exact_unsigned}
-use Rattle.std.proofs.lemmas.Map.Views.{btree_set_contains_iff}
 use borrow.Author.Count.{below_more}
 use Rattle.drafting.specs.Exploring.{HasRoom, IsFound}
 use Rattle.flow_graph.specs.declared.search.TheConstants.{MOST_PLACES}
 use Rattle.drafting.specs.Reach.{AreReached, LeadsTo, Reaches, begins, leads_on}
 use Rattle.loader.specs.Image.{Words}
 use Rattle.word_shapes.specs.Growing.{Adds, Grows}
-use Rattle.word_shapes.proofs.GrowLaws.{grows_on, grows_one, kept, no_shorter}
+use Rattle.word_shapes.proofs.GrowLaws.{grows_on, grows_one, kept, keys_listed, no_shorter}
 
 -- ## Lists that grow
 
@@ -95,11 +94,13 @@ module _ (words : Words) where
   pub reached_keys : (entry : ℕ) (seen : BTreeSet ℕ) (order addresses : List ℕ) → IsFound seen order
       → AreReached words entry order → addresses ≡ seen.keys → AreReached words entry addresses
   reached_keys entry seen order addresses found r is =
+      let listed : (a : ℕ) → Contains seen.keys a ↔ Contains order a =
+      keys_listed nat_cmp_total exact_unsigned seen order found.members in
       let inside : (a : ℕ) → Contains order a → Contains addresses a = λ a h.
-      subst (λ t. Contains t a) (sym is) ((btree_set_contains_iff nat_cmp_total exact_unsigned seen a).0 ((found.same a).1 h)) in
+      subst (λ t. Contains t a) (sym is) ((listed a).1 h) in
       let back : (a : ℕ) → Contains addresses a → Contains order a = λ a h.
-      (found.same a).0 ((btree_set_contains_iff nat_cmp_total exact_unsigned seen a).1 (subst (λ t. Contains t a) is h)) in
-      let same : length addresses ≡ length order = ap length is ∙ sym found.count in
+      (listed a).0 (subst (λ t. Contains t a) is h) in
+      let same : length addresses ≡ length order = ap length is ∙ sym found.members.count in
       record {
         few = subst (λ n. n ≤ MOST_PLACES) (sym same) r.few;
         begun = inside entry r.begun;

@@ -1,14 +1,14 @@
 -- What the search for addresses does at each step. No part of what a draft is: it is here since clauses
 -- of private functions cite it, and a clause may cite definitions of specs/ alone.
-use Rattle.std.specs.Prelude.{◌≡◌, ◌⊎◌, ◌↔◌, ℕ, ◌<◌, ◌≤◌, List, length, Contains, IsTrue}
-use Rattle.std.specs.BTreeSet.{BTreeSet, contains, btree_set_len}
+use Rattle.std.specs.Prelude.{◌⊎◌, ◌↔◌, ℕ, ◌<◌, ◌≤◌, List, length, Contains}
+use Rattle.std.specs.BTreeSet.{BTreeSet}
 use Rattle.std.specs.Ordering.{nat_cmp}
 use Rattle.flow_graph.specs.declared.search.TheConstants.{MOST_PLACES}
+use Rattle.word_shapes.specs.Growing.{HasSameMembers}
 
 -- the set and the list have the same addresses, each once, and no more than a graph may have places
 pub record IsFound (seen : BTreeSet ℕ) (order : List ℕ) : Type 0 where
-  pub same : (at : ℕ) → (IsTrue (contains nat_cmp seen at)) ↔ Contains order at
-  pub count : length order ≡ btree_set_len seen
+  pub members : HasSameMembers nat_cmp seen order
   pub few : length order ≤ MOST_PLACES
 
 -- there is room for one more

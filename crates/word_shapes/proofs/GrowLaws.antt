@@ -1,8 +1,20 @@
--- Lists that grow.
+-- Lists that grow, and sets of what is in them.
 use Rattle.std.proofs.Common.{◌≡◌, ◌+◌, ◌≤◌, ◌⊎◌, inl, inr, List, [], ◌∷◌, ◌++◌, length, ⊎_elim, sym, ap, ◌∙◌, subst, arith, length-append, append_assoc, append-nil}
 use Rattle.std.specs.Prelude.{Contains, ◌↔◌}
+use Rattle.std.specs.BTreeSet.{BTreeSet}
+use Rattle.std.specs.Cmp.{IsTotalOrder}
+use Rattle.std.specs.declared.cmp.Ordering.{Ordering}
 use Rattle.std.proofs.lemmas.List.Elements.{Contains-append_left, Contains-push, Contains-push_cases}
-use Rattle.word_shapes.specs.Growing.{Adds, Grows}
+use Rattle.std.proofs.lemmas.Map.Lookups.{CmpEqualImpliesEq}
+use Rattle.std.proofs.lemmas.Map.Views.{btree_set_contains_iff}
+use Rattle.word_shapes.specs.Growing.{Adds, Grows, HasSameMembers}
+
+-- the keys of the set are what is in the list
+pub keys_listed : {X : Type 0} {cmp : X → X → Ordering} → IsTotalOrder cmp → CmpEqualImpliesEq cmp → (set : BTreeSet X) (list : List X)
+    → HasSameMembers cmp set list → (x : X) → Contains set.keys x ↔ Contains list x
+keys_listed total exact set list h x =
+    let held = btree_set_contains_iff total exact set x in
+    (λ w. (h.same x).0 (held.1 w), λ w. held.0 ((h.same x).1 w))
 
 module _ {X : Type 0} {HasRoom : List X → Type 0} where
   pub kept : {P : X → Type 0} (xs ys : List X) (x : X) → Grows HasRoom P xs ys → Contains xs x → Contains ys x
