@@ -3,7 +3,6 @@ ghost use Rattle.std.specs.BTreeMap.{get};
 ghost use Rattle.std.specs.List.{flat_map};
 ghost use Rattle.std.specs.Ordering.{nat_cmp};
 ghost use Rattle.drafting.specs.DraftText.{access_list_text, access_text, accesses_text, bound_text};
-ghost use Rattle.drafting.specs.DraftText.{class_text};
 ghost use Rattle.drafting.specs.DraftText.{comment_text, cycle_text, destination_text, destinations_text};
 ghost use Rattle.drafting.specs.DraftText.{element_text, end_text};
 ghost use Rattle.drafting.specs.DraftText.{end_words, head_text, loop_text, place_text, target_text};
@@ -15,6 +14,7 @@ use crate::rows::{end_row, put_address, put_blanks, put_name};
 use crate::source_lines::SourceLines;
 use crate::writers::FoundTarget;
 use bus_ticks::{Class, ahead_of};
+use statement::class_name;
 use std::alloc::AllocError;
 use text_rows::{SourceLine, put, put_decimal};
 
@@ -96,7 +96,14 @@ impl<'a> Sheet<'_, 'a> {
     fn put_access(&self, out: &mut Vec<u8>, at: u32, class: Class) -> Result<(), AllocError>
         ensures { OnOk result (out.new.items ≡ out.old.items ++ access_text self.now.lines.now (at, class)) }
     {
-        self.put_element(out, b"  {at = ", at, class_text(class))
+        let start = out.len();
+        let line = self.line(at);
+        put(out, b"  {at = ")?;
+        put_name(out, line, at)?;
+        put(out, b", class = \"")?;
+        put(out, class_name(class).as_bytes())?;
+        put(out, b"\"},")?;
+        end_row(out, start, line)
     }
 
     fn put_each_access(&self, out: &mut Vec<u8>, accesses: Accesses<'_>) -> Result<(), AllocError>
@@ -281,18 +288,6 @@ impl<'a> Sheet<'_, 'a> {
             out,
             b"# leave = \"ram\"  # where it returns to, if always to one: \"ram\", \"rom\" or \"io\"\n",
         )
-    }
-}
-
-// The end of an access.
-fn class_text(class: Class) -> &'static [u8]
-    ensures { result.now ≡ class_text class }
-{
-    match class {
-        Class::Any => b", class = \"any\"},",
-        Class::Ram => b", class = \"ram\"},",
-        Class::Rom => b", class = \"rom\"},",
-        Class::Io => b", class = \"io\"},",
     }
 }
 
