@@ -81,15 +81,6 @@ bad_or_fine taken (x ∷ xs) =
 pub fine : (taken ats : List ℕ) → (Bad taken ats → ⊥) → Fine taken ats
 fine taken ats h = elim (bad_or_fine taken ats) [ inl b ↦ absurd (h b) | inr f ↦ f ]
 
-fine_not_bad : (taken ats : List ℕ) → Fine taken ats → Bad taken ats → ⊥
-unfolding Apart
-fine_not_bad taken ats f (a, there, why) =
-    let m = contains_in ats a there in
-    elim why [
-      | inl e ↦ false_true (sym e ∙ all_in (λ b. may_hold b ≡ true) ats a f.held m)
-      | inr c ↦ all_in (λ b. In taken b → ⊥) ats a f.apart m (contains_in taken a c)
-    ]
-
 -- ## Words
 
 record Within (at n a : ℕ) : Type 0 where

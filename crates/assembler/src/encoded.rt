@@ -1,10 +1,10 @@
-ghost use Rattle.std.specs.Prelude.{◌≡◌, ◌<◌, ◌≤◌, ◌∷◌, ◌^◌, ◌*◌, [], Ok, Err, IfSome};
+ghost use Rattle.std.specs.Prelude.{◌≡◌, ◌<◌, ◌∷◌, ◌^◌, ◌*◌, Ok, Err, IfSome};
 ghost use Rattle.std.specs.Int.{w32, rotate_left};
-ghost use Rattle.arm2_decode.specs.Names.{cond_number, register_number, shift_number};
-ghost use Rattle.assembler.specs.Codes.{action_word, amount_field, amount_fits, amount_shift, block_word};
+ghost use Rattle.arm2_decode.specs.Names.{cond_number, register_number};
+ghost use Rattle.assembler.specs.Codes.{amount_field, amount_fits, amount_shift, block_word};
 ghost use Rattle.assembler.specs.Codes.{branch_offset, branch_word, encoded, immediate_word, is_far};
 ghost use Rattle.assembler.specs.Codes.{number_transfer, operand_word, product_word};
-ghost use Rattle.assembler.specs.Codes.{register_shift_word, register_transfer, register_word, rotated_word};
+ghost use Rattle.assembler.specs.Codes.{register_shift_word, register_transfer, register_word};
 ghost use Rattle.assembler.specs.Codes.{rotation_of, shifted_word, swi_word, transfer_word};
 ghost use Rattle.arm2_decode.specs.Table.{operands, row_of, word_in};
 

@@ -1,6 +1,5 @@
 ghost use Rattle.std.specs.Prelude.{◌≡◌, nat_lt, ◌&&◌, ◌+◌, ◌*◌, ◌≤◌, ◌<◌};
 ghost use Rattle.std.specs.Prelude.{None, IfNone, IfErr, OnOk, Ok, Err, length, map};
-ghost use Rattle.std.specs.Prelude.{is_some};
 ghost use Rattle.std.specs.List.{list_any};
 ghost use Rattle.std.specs.Option.{option_copied};
 ghost use Rattle.bus_ticks.specs.declared.space.TheConstants.{SPACE_END};

@@ -1,5 +1,5 @@
 -- Which addresses are named.
-use Rattle.std.proofs.Common.{◌≡◌, ◌∙◌, ℕ, ◌+◌, ◌<◌, ◌≤◌, Bool, true, false, ◌||◌, eqb, List, [], length, get_or, take, Result, Ok, Err, Option, Some, None, inl, inr, ⊎_elim, refl, sym, ap, subst, arith}
+use Rattle.std.proofs.Common.{◌≡◌, ◌∙◌, ℕ, ◌+◌, ◌<◌, ◌≤◌, Bool, true, false, ◌||◌, eqb, List, length, get_or, take, Result, Ok, Err, Option, Some, None, inl, inr, ⊎_elim, refl, sym, ap, subst, arith}
 use Rattle.std.specs.Prelude.{◌↔◌, Contains, IsTrue, is_some, not, option_map}
 use Rattle.std.specs.BTreeSet.{BTreeSet, contains}
 use Rattle.std.specs.List.{list_any}
@@ -75,12 +75,6 @@ module _ (Holds : ℕ → Type 0) where
             ((notes a).0 h),
         λ h. (notes a).1 (⊎_elim (λ was. inl ((before a).1 (was, h.1))) (λ here. inr (here, h.1)) (or_cases (is_reached (take k places) a) (is_at a p) (sym step ∙ h.0))),
       )
-
-  pub none_noted : (set : BTreeSet ℕ) (a : ℕ) → set.keys ≡ [] → (contains nat_cmp set a ≡ true) ↔ ((is_reached [] a ≡ true) × Holds a)
-  none_noted set a empty = (
-    λ h. let w = (btree_set_contains_iff nat_cmp_total exact_unsigned set a).0 h in let lt : w.0 < length set.keys = w.1 in let none : length set.keys ≡ 0 = ap length empty in absurd (omega arith),
-    λ h. absurd (false≢true h.0),
-  )
 
 pub both_ok : {T E : Type 0} (r : Result T E) (P Q R : T → Type 0) → ((x : T) → P x → Q x → R x) → IfOk r P → IfOk r Q → IfOk r R
 both_ok (Ok x) P Q R f p q = f x p q

@@ -27,11 +27,11 @@ use Rattle.flow_graph.proofs.SortedLemmas.{here, length_within, no_member, there
 use Rattle.loader.specs.Image.{Words}
 use Rattle.loop_bounds.proofs.Positions.{known}
 use Rattle.flow_graph.proofs.Firsts.{whole_range}
-use Rattle.word_shapes.specs.Growing.{Grows}
+use Rattle.word_shapes.specs.Growing.{Grows, HasSameMembers}
 use Rattle.word_shapes.specs.Words.{HasInstr, HasShape}
-use Rattle.word_shapes.proofs.GrowLaws.{grows_none, grows_on, kept, no_shorter}
+use Rattle.word_shapes.proofs.GrowLaws.{grows_none, grows_on, kept, keys_listed, no_shorter}
 use Rattle.explained.specs.Links.{AreLostLinks, IsLost, KeepsLink, MayReturnByLink, after_call, kept_along, may_return_by_link, place_after, writes_link}
-use Rattle.explained.specs.Losing.{ByEdge, HasRoom, IsAfter, IsFound, IsKeptTo}
+use Rattle.explained.specs.Losing.{ByEdge, HasRoom, IsAfter, IsKeptTo}
 use Rattle.explained.specs.Taken.{is_at, is_reached}
 use borrow.Author.Count.{below_more}
 
@@ -169,8 +169,8 @@ module _ (By : Edge → Place → Type 0) (edges : List Edge) where
 
 -- ## Found places
 
-pub one_found : (seen new : BTreeSet Place) (order : List Place) (p : Place) (is_new : Bool) → IsFound seen order → sets.Updates by_order seen new p true
-    → btree_set_len new ≡ btree_set_len seen + cond is_new 1 0 → is_new ≡ true → IsFound new (order ++ p ∷ [])
+pub one_found : (seen new : BTreeSet Place) (order : List Place) (p : Place) (is_new : Bool) → HasSameMembers by_order seen order → sets.Updates by_order seen new p true
+    → btree_set_len new ≡ btree_set_len seen + cond is_new 1 0 → is_new ≡ true → HasSameMembers by_order new (order ++ p ∷ [])
 one_found seen new order p is_new found updates len is_new_is =
     let one : btree_set_len new ≡ btree_set_len seen + 1 = len ∙ ap (λ b. btree_set_len seen + cond b 1 0) is_new_is in
     let longer : length (order ++ p ∷ []) ≡ length order + 1 = length-append order (p ∷ []) in
@@ -241,11 +241,11 @@ module _ (image : Words) (flow : Flow) where
   )
 
   -- no more are found than the graph has
-  pub few_found : IsWellFormed flow → (seen : BTreeSet Place) (order : List Place) (next : ℕ) → IsFound seen order → sets.IsOrdered by_order seen → IsSearch order next → btree_set_len seen ≤ 16384
+  pub few_found : IsWellFormed flow → (seen : BTreeSet Place) (order : List Place) (next : ℕ) → HasSameMembers by_order seen order → sets.IsOrdered by_order seen → IsSearch order next → btree_set_len seen ≤ 16384
   few_found well seen order next found ordered s =
       let within : length seen.keys ≤ length flow.places =
       length_within place_total seen.keys flow.places (sorted_by_place seen.keys ordered) well.ordered
-      (λ p h. in_graph well p (s.lost p ((found.same p).0 ((btree_set_contains_iff by_order_total by_order_exact seen p).1 h)))) in
+      (λ p h. in_graph well p (s.lost p ((keys_listed by_order_total by_order_exact seen order found p).0 h))) in
       omega (arith, within, well.few)
 
 -- ## Addresses

@@ -1,18 +1,11 @@
 -- What the search for places where R14 is lost does at each step. No part of what is reported: it is here
 -- since clauses of private functions cite it.
-use Rattle.std.specs.Prelude.{◌≡◌, ◌↔◌, List, length, Contains, IsTrue, Some}
-use Rattle.std.specs.BTreeSet.{BTreeSet, contains, btree_set_len}
+use Rattle.std.specs.Prelude.{◌≡◌, List, Contains, Some}
 use Rattle.flow_graph.specs.Flow.{Flow}
-use Rattle.flow_graph.specs.Search.{by_order}
 use Rattle.flow_graph.specs.declared.edges.Edge.{Edge}
 use Rattle.flow_graph.specs.declared.places.Place.{Place}
 use Rattle.loader.specs.Image.{Words}
 use Rattle.explained.specs.Links.{KeepsLink, place_after}
-
--- the set and the list have the same places, each once
-pub record IsFound (seen : BTreeSet Place) (order : List Place) : Type 0 where
-  pub same : (q : Place) → (IsTrue (contains by_order seen q)) ↔ Contains order q
-  pub count : length order ≡ btree_set_len seen
 
 -- there is room for every place
 abbrev pub HasRoom : List Place → Type 0

@@ -2,15 +2,16 @@ ghost use Rattle.std.specs.Prelude.{◌≡◌, ◌↔◌, ◌<◌, ℕ, true, Co
 ghost use Rattle.std.specs.BTreeSet.{contains};
 ghost use Rattle.std.specs.Ordering.{nat_cmp};
 ghost use Rattle.flow_graph.specs.Flow.{HasEdge, IsWellFormed};
+ghost use Rattle.flow_graph.specs.Search.{by_order};
 ghost use Rattle.flow_graph.specs.declared.edges.Edge.{Edge};
 ghost use Rattle.flow_graph.specs.declared.places.Place.{Place};
-ghost use Rattle.word_shapes.specs.Growing.{Adds, Grows};
+ghost use Rattle.word_shapes.specs.Growing.{Adds, Grows, HasSameMembers};
 ghost use Rattle.word_shapes.specs.Words.{HasShape};
 ghost use Rattle.explained.specs.Assumed.{Notes};
 ghost use Rattle.explained.specs.Links.{AreLostLinks, IsLost, KeepsLink, MayReturnByLink, data_writes_link};
 ghost use Rattle.explained.specs.Links.{may_return_by_link, place_after};
 ghost use Rattle.explained.specs.Links.{returns_by_link, single_writes_link, writes_link};
-ghost use Rattle.explained.specs.Losing.{ByEdge, HasRoom, IsAfter, IsFound, IsKeptTo};
+ghost use Rattle.explained.specs.Losing.{ByEdge, HasRoom, IsAfter, IsKeptTo};
 ghost use Rattle.explained.specs.Taken.{is_reached};
 
 use crate::assumptions::sorted;
@@ -157,8 +158,8 @@ struct Lost {
 
 impl Lost {
     fn add(&mut self, place: &Place) -> Result<(), AllocError>
-        requires { IsFound self.old.seen self.old.order.items }
-        ensures found { OnOk result (IsFound self.new.seen self.new.order.items) }
+        requires { HasSameMembers by_order self.old.seen self.old.order.items }
+        ensures found { OnOk result (HasSameMembers by_order self.new.seen self.new.order.items) }
         ensures adds { OnOk result (Adds HasRoom self.old.order.items place.now self.new.order.items) }
     {
         if self.seen.insert(*place)? {
@@ -169,8 +170,8 @@ impl Lost {
 
     // Adds the place after an edge's call, if it calls and the graph has the place.
     fn add_after(&mut self, graph: &Graph, edge: &Edge) -> Result<(), AllocError>
-        requires { IsFound self.old.seen self.old.order.items }
-        ensures found { OnOk result (IsFound self.new.seen self.new.order.items) }
+        requires { HasSameMembers by_order self.old.seen self.old.order.items }
+        ensures found { OnOk result (HasSameMembers by_order self.new.seen self.new.order.items) }
         ensures grows { OnOk result
             (Grows HasRoom (IsAfter graph.now edge.now) self.old.order.items self.new.order.items) }
     {
@@ -185,8 +186,8 @@ impl Lost {
 
     // Adds the places after all calls.
     fn add_calls(&mut self, graph: &Graph) -> Result<(), AllocError>
-        requires { IsFound self.old.seen self.old.order.items }
-        ensures found { OnOk result (IsFound self.new.seen self.new.order.items) }
+        requires { HasSameMembers by_order self.old.seen self.old.order.items }
+        ensures found { OnOk result (HasSameMembers by_order self.new.seen self.new.order.items) }
         ensures grows { OnOk result
             (Grows HasRoom (ByEdge (IsAfter graph.now) graph.now.edges) self.old.order.items
             self.new.order.items) }
@@ -200,8 +201,8 @@ impl Lost {
 
     // Adds the place to which an edge leads, if it keeps R14.
     fn add_kept(&mut self, image: &Image, edge: &Edge) -> Result<(), AllocError>
-        requires { IsFound self.old.seen self.old.order.items }
-        ensures found { OnOk result (IsFound self.new.seen self.new.order.items) }
+        requires { HasSameMembers by_order self.old.seen self.old.order.items }
+        ensures found { OnOk result (HasSameMembers by_order self.new.seen self.new.order.items) }
         ensures grows { OnOk result
             (Grows HasRoom (IsKeptTo image.now edge.now) self.old.order.items self.new.order.items) }
     {
@@ -213,8 +214,8 @@ impl Lost {
 
     // Adds the places to which those of the edges lead that keep R14.
     fn follow(&mut self, image: &Image, edges: &[Edge]) -> Result<(), AllocError>
-        requires { IsFound self.old.seen self.old.order.items }
-        ensures found { OnOk result (IsFound self.new.seen self.new.order.items) }
+        requires { HasSameMembers by_order self.old.seen self.old.order.items }
+        ensures found { OnOk result (HasSameMembers by_order self.new.seen self.new.order.items) }
         ensures grows { OnOk result
             (Grows HasRoom (ByEdge (IsKeptTo image.now) edges.now) self.old.order.items
             self.new.order.items) }

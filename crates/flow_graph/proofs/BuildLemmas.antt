@@ -7,7 +7,7 @@ use Rattle.std.specs.List.{AllZip}
 use Rattle.std.specs.List.Sorted.{IsStrictlySortedBy}
 use Rattle.std.proofs.lemmas.Bool.{ltb-false, le-ltb}
 use Rattle.std.proofs.lemmas.List.{get_or_append_left, get_or_read}
-use Rattle.std.proofs.lemmas.List.Elements.{Contains-append_left, Contains-push, Contains-push_cases}
+use Rattle.std.proofs.lemmas.List.Elements.{Contains-append_left}
 use Rattle.arm2_decode.specs.Names.{is_never}
 use Rattle.bus_ticks.specs.declared.profile.Profile.{Profile}
 use Rattle.loader.specs.Image.{Words}
@@ -89,14 +89,6 @@ module _ (words : Words) (st : Stated) (profile : Profile) where
 
   done_wider : (order more : List Place) (p : Place) → IsDone words st profile order p → IsDone words st profile (order ++ more) p
   done_wider order more p d = record { sound = d.sound; edges = d.edges; are = d.are; closed = λ e h. wider order more e.to (d.closed e h) }
-
-  pub search_none : (order : List Place) → order ≡ start_of st ∷ [] → IsSearch words st profile order 0
-  search_none order is = record {
-    bound = omega arith;
-    entry = rw is (Contains-push [] (start_of st));
-    reached = λ q h. ([], ⊎_elim (λ w. absurd (no_member q w)) (λ e. e) (Contains-push_cases [] (start_of st) q (subst (λ o. Contains o q) is h)));
-    done = λ k d h. absurd (omega arith);
-  }
 
   -- the next place is done
   pub search_more : (order new : List Place) (next : ℕ) (place : Place) → IsSearch words st profile order next → next < length order → place ≡ get_or order next place → IsVisited words st profile order place new → IsSearch words st profile new (next + 1)

@@ -1,14 +1,14 @@
 -- The search for a place without edges.
-use Rattle.std.proofs.Common.{◌≡◌, ℕ, ◌<◌, ◌≤◌, Option, List, [], ◌∷◌, ◌++◌, length, get_or, inl, inr, ⊎_elim, sym, ◌∙◌, subst}
+use Rattle.std.proofs.Common.{◌≡◌, ℕ, ◌<◌, ◌≤◌, Option, List, ◌++◌, length, get_or, inl, inr, ⊎_elim, sym, ◌∙◌, subst}
 use Rattle.std.specs.Prelude.{Contains, IfNone, IfSome, Some, None}
 use Rattle.std.specs.BTreeSet.{BTreeSet}
 use Rattle.std.specs.declared.cmp.Reverse.{Reverse}
-use Rattle.std.proofs.lemmas.List.Elements.{Contains-append_right, Contains-append_cases, Contains-push_cases}
+use Rattle.std.proofs.lemmas.List.Elements.{Contains-append_right, Contains-append_cases}
 use Rattle.bus_ticks.specs.declared.profile.Profile.{Profile}
 use Rattle.loader.specs.Image.{Words}
 use Rattle.flow_graph.specs.Edges.{AreEdgesOf, HasAction}
 use Rattle.flow_graph.specs.Faulty.{AreSound, IsReachedBy, IsReachedEdge, IsWalked}
-use Rattle.flow_graph.specs.Graph.{ArePlaces, IsReached, start_of}
+use Rattle.flow_graph.specs.Graph.{ArePlaces, IsReached}
 use Rattle.flow_graph.specs.Search.{EndsOne, Grows, IsFound, IsPlaceFault, IsSearch, IsSound, action_fault, places_in}
 use Rattle.statement.specs.Stated.{Stated}
 use Rattle.flow_graph.specs.declared.edges.Edge.{Edge}
@@ -18,18 +18,11 @@ use Rattle.flow_graph.specs.declared.places.Place.{Place}
 use Rattle.flow_graph.specs.declared.places.Place.TheVariants.{At, Exit}
 use Rattle.flow_graph.proofs.BuildLemmas.{search_all, search_allowed}
 use Rattle.flow_graph.proofs.EdgeLemmas.{is_edge, leaves, one_action_at}
-use Rattle.flow_graph.proofs.SortedLemmas.{no_member}
 use Rattle.flow_graph.proofs.GrowLemmas.{later}
 
 module _ (words : Words) (st : Stated) (profile : Profile) where
   pub reached_next : (order : List Place) (next : ℕ) (place : Place) → IsSearch words st profile order next → next < length order → place ≡ get_or order next place → IsReached words st profile place
   reached_next order next place s lt is = s.reached place (next, lt, sym is)
-
-  pub walked_none : (order : List Place) (walked : List Edge) → order ≡ start_of st ∷ [] → walked ≡ [] → IsWalked words st profile order walked
-  walked_none order walked is none = record {
-    edges = λ e h. absurd (no_member e (subst (λ es. Contains es e) none h));
-    ends = λ p h. inl (⊎_elim (λ w. absurd (no_member p w)) (λ e. sym e) (Contains-push_cases [] (start_of st) p (subst (λ o. Contains o p) is h)));
-  }
 
   -- an edge of a list that a reached place has
   reached_edge : (p : Place) (edges : List Edge) (e : Edge) → IsReached words st profile p → AreEdgesOf words st profile p edges → Contains edges e → IsReachedEdge words st profile e

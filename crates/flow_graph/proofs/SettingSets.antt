@@ -1,7 +1,7 @@
 -- A machine that has what is chosen for an operation is set for it.
-use Rattle.std.proofs.Common.{◌≡◌, ℕ, ◌+◌, ◌*◌, ◌-◌, ◌%◌, ◌^◌, ◌<◌, ◌≤◌, ◌==◌, ◌&&◌, ◌||◌, Bool, true, false, cond, not, Ok, None, IsTrue, refl, sym, ap, subst, ◌∙◌, arith}
+use Rattle.std.proofs.Common.{◌≡◌, ℕ, ◌+◌, ◌*◌, ◌-◌, ◌%◌, ◌^◌, ◌<◌, ◌≤◌, ◌==◌, ◌&&◌, ◌||◌, Bool, true, false, cond, not, Ok, IsTrue, refl, sym, ap, subst, ◌∙◌, arith}
 use Rattle.std.specs.Prelude.{IfSome}
-use Rattle.std.proofs.lemmas.Bool.{both_ways, eqb-true, false≢true, not-true}
+use Rattle.std.proofs.lemmas.Bool.{eqb-true, false≢true, not-true}
 use Rattle.bus_ticks.specs.declared.profile.Class.{Class}
 use Rattle.bus_ticks.specs.declared.profile.Class.TheVariants.{Any, Ram, Rom, Io}
 use Rattle.bus_ticks.specs.declared.profile.Profile.{Profile}
@@ -270,13 +270,6 @@ sum_sets aim x addend free writes gives =
           ∙ gives (flags_of (r15_in s.regs)) (flags_of (r15_in s.regs)).carry)
           target;
     }
-
--- where R15 is not written, nothing matters
-pub register_passes : (aim : Aim) (x : DataRegister) → data_writes_pc x.opcode x.rd ≡ false → Sets aim (operation.DataRegister x) (record { register = None; port = 0; word = None })
-register_passes aim x h = record { register_other = tt; word_apart = tt; set = λ st to s i class_is target has written. absurd (both_ways (data_writes_pc x.opcode x.rd) h written) }
-
-pub immediate_passes : (aim : Aim) (x : DataImmediate) → data_writes_pc x.opcode x.rd ≡ false → Sets aim (operation.DataImmediate x) (record { register = None; port = 0; word = None })
-immediate_passes aim x h = record { register_other = tt; word_apart = tt; set = λ st to s i class_is target has written. absurd (both_ways (data_writes_pc x.opcode x.rd) h written) }
 
 fourth : (a b c d e : Bool) → (a || b || c || d || e) ≡ false → d ≡ false
 fourth a b c false e h = refl

@@ -1,20 +1,17 @@
 -- The search for a stated target where no word writes R15.
-use Rattle.std.proofs.Common.{◌≡◌, ℕ, List, [], ◌∷◌, ◌⊎◌, inl, inr, ⊎_elim, sym, subst}
+use Rattle.std.proofs.Common.{◌≡◌, ℕ, List, [], ◌∷◌, ◌⊎◌, inl, inr, ⊎_elim, subst}
 use Rattle.std.specs.Prelude.{Contains}
 use Rattle.std.specs.Map.{keys_of}
 use Rattle.loader.specs.Image.{Words}
 use Rattle.flow_graph.specs.Graph.{IsStray, IsWriterAt}
 use Rattle.statement.specs.Stated.{Stated}
-use Rattle.flow_graph.proofs.SortedLemmas.{cons_cases, here, no_member, there}
+use Rattle.flow_graph.proofs.SortedLemmas.{cons_cases, no_member, there}
 
 module _ (words : Words) (st : Stated) where
   -- the addresses that are left; at each other a word writes R15
   pub record IsSought (rest : List ℕ) : Type 0 where
     pub among : (a : ℕ) → Contains rest a → Contains (keys_of st.targets) a
     pub writers : (a : ℕ) → Contains (keys_of st.targets) a → Contains rest a ⊎ IsWriterAt words a
-
-  pub sought_none : (rest : List ℕ) → rest ≡ keys_of st.targets → IsSought rest
-  sought_none rest is = record { among = λ a h. subst (λ (xs : List ℕ). Contains xs a) is h; writers = λ a h. inl (subst (λ (xs : List ℕ). Contains xs a) (sym is) h) }
 
   pub sought_more : (rest next : List ℕ) (a : ℕ) → rest ≡ a ∷ next → IsSought rest → IsWriterAt words a → IsSought next
   sought_more rest next a is s writer =
@@ -26,9 +23,6 @@ module _ (words : Words) (st : Stated) where
             (λ w. inr w)
             (t.writers b h);
       }
-
-  pub sought_stray : (rest next : List ℕ) (a : ℕ) → rest ≡ a ∷ next → IsSought rest → (IsWriterAt words a → ⊥) → IsStray words st a
-  sought_stray rest next a is s none = record { is_stated = s.among a (subst (λ (xs : List ℕ). Contains xs a) (sym is) (here a next)); no_writer = none }
 
   pub sought_all : (rest : List ℕ) → rest ≡ [] → IsSought rest → (address : ℕ) → IsStray words st address → ⊥
   sought_all rest is s address stray =

@@ -1,6 +1,6 @@
 -- The machine of an edge's file takes the edge at its price.
-use Rattle.std.proofs.Common.{◌≡◌, ℕ, ◌+◌, ◌*◌, ◌/◌, ◌%◌, ◌^◌, ◌<◌, ◌≤◌, ◌⊎◌, inl, inr, true, false, Option, Some, None, Result, Ok, Err, List, [], ◌∷◌, ◌++◌, length, get_or, IsTrue, replicate, refl, sym, ap, subst, ◌∙◌, arith}
-use Rattle.std.specs.Prelude.{All, Contains, IfErr, IfSome, IsSome, is_some}
+use Rattle.std.proofs.Common.{◌≡◌, ℕ, ◌+◌, ◌*◌, ◌/◌, ◌%◌, ◌^◌, ◌<◌, ◌≤◌, ◌⊎◌, inl, inr, true, false, Option, Some, None, Result, Ok, List, [], ◌∷◌, ◌++◌, length, get_or, IsTrue, replicate, refl, sym, ap, subst, ◌∙◌, arith}
+use Rattle.std.specs.Prelude.{All, Contains, IfSome, IsSome, is_some}
 use Rattle.std.proofs.lemmas.Bool.{eqb-false, eq-eqb, lt-ltb}
 use Rattle.std.proofs.lemmas.List.{get_or-set_same, get_or_append_left, get_or_push, length-append, length-replicate, length-set}
 use Rattle.std.proofs.lemmas.List.Elements.{All-from_recursion, recursion_from_All}
@@ -50,8 +50,6 @@ use Rattle.flow_graph.specs.declared.places.Place.{Place}
 use Rattle.flow_graph.specs.declared.places.Place.TheVariants.{At, Exit}
 use Rattle.flow_graph.specs.declared.tight_setting.Held.{Held}
 use Rattle.flow_graph.specs.declared.tight.SetUp.{SetUp}
-use Rattle.flow_graph.specs.declared.tight.TightFault.{TightFault}
-use Rattle.flow_graph.specs.declared.tight.TightFault.TheVariants.{Memory, NotFree}
 use Rattle.statement.specs.Stated.{Stated}
 use Rattle.std.proofs.lemmas.List.{get_or_read}
 use Rattle.std.specs.Cmp.Derive.{both_true}
@@ -356,9 +354,3 @@ edge_lands words st profile flow g form e has = by_place e.to (form.ends e has)
     by_place p (inr among) = of_place p (among.0, among.1, sym (get_or_read flow.places among.0 p among.1 (sym among.2) Exit))
 
 -- ## An edge by its number
-
-pub no_not_free : {T : Type 0} (r : Result T TightFault) → IfErr r (λ f. f ≡ Memory) → r ≡ Err NotFree → ⊥
-no_not_free r is e = never (subst (λ x. IfErr x (λ f. f ≡ Memory)) e is)
-  where
-    never : NotFree ≡ Memory → ⊥
-    never same = cc

@@ -5,10 +5,8 @@ use Rattle.std.proofs.lemmas.Bool.{false≢true}
 use Rattle.std.proofs.lemmas.Option.{same_Some}
 use Rattle.std.proofs.lemmas.List.Elements.{Contains-append_cases}
 use Rattle.arm2_decode.specs.Names.{is_always, is_never}
-use Rattle.bus_ticks.specs.declared.profile.Class.{Class}
 use Rattle.bus_ticks.specs.declared.profile.Class.TheVariants.{Any}
 use Rattle.bus_ticks.specs.declared.profile.Profile.{Profile}
-use Rattle.bus_ticks.specs.Dearest.{IsDearestLeave}
 use Rattle.bus_ticks.specs.Prices.{ahead_of}
 use Rattle.loader.specs.Image.{Words, may_hold, word_of}
 use Rattle.loader.proofs.PlaceLemmas.{may_parts}
@@ -29,7 +27,7 @@ use Rattle.flow_graph.specs.declared.edges.Edge.{Edge}
 use Rattle.flow_graph.specs.declared.edges.Label.{Label}
 use Rattle.flow_graph.specs.declared.edges.Label.TheVariants.{Skip, Do}
 use Rattle.flow_graph.specs.declared.actions.Action.{Action}
-use Rattle.flow_graph.specs.declared.places.Place.TheVariants.{At, Exit}
+use Rattle.flow_graph.specs.declared.places.Place.TheVariants.{At}
 use Rattle.flow_graph.specs.declared.tight_setting.Aim.{Aim}
 use Rattle.flow_graph.specs.declared.tight_setting.Setting.{Setting}
 use Rattle.flow_graph.specs.Places.{place_address}
@@ -50,9 +48,6 @@ at_target st profile calls a may =
       is_place = refl;
       price = λ rom dear. rw (n_worst profile rom Any 0 dear a, s_worst profile rom Any 0 dear (ahead_of a 4)) refl;
     }
-
-pub exit_target : (st : Stated) (profile : Profile) (leave : Class) (t : ℕ) → leave ≡ st.leave → IsDearestLeave profile leave t → IsDearestTarget st profile Exit t
-exit_target st profile leave t e h = subst (λ c. IsDearestLeave profile c t → IsDearestTarget st profile Exit t) (sym e) (λ x. record { whole = x.whole; below = x.below; is_place = x.is_of; price = x.price }) h
 
 -- ## The edge's word
 

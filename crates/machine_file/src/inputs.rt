@@ -1,4 +1,4 @@
-ghost use Rattle.std.specs.Prelude.{◌≡◌, IfOk, unwrap_or};
+ghost use Rattle.std.specs.Prelude.{◌≡◌, IfOk};
 ghost use Rattle.machine_file.specs.Inputs.{AreInputs, bursts_of_step, lines_of_step, port_of_step};
 
 use crate::events::Schedule;

@@ -3,7 +3,6 @@ ghost use Rattle.std.specs.List.{list_all};
 ghost use Rattle.toml.specs.View.{table_view, view};
 ghost use Rattle.memc.specs.Memory.{shift_of_size};
 ghost use Rattle.toml_reading.specs.Documents.{are_distinct};
-ghost use Rattle.toml_reading.specs.Readings.{reading_map};
 ghost use Rattle.machine_file.specs.MachineFile.{are_single, controller_in, is_mappable, mapped, page_at};
 ghost use Rattle.machine_file.specs.MachineFile.{page_in, page_of, pages_in, rom_in, size_at, size_in};
 ghost use Rattle.machine_file.specs.MachineFile.{size_of};

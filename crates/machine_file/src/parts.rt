@@ -1,4 +1,4 @@
-ghost use Rattle.std.specs.Prelude.{◌≡◌, ◌≢◌, ◌≤◌, ◌↔◌, All, Err, IfOk, IsTrue};
+ghost use Rattle.std.specs.Prelude.{◌≡◌, ◌≢◌, ◌↔◌, All, Err, IfOk, IsTrue};
 ghost use Rattle.loader.specs.Image.{may_hold};
 ghost use Rattle.bus_ticks.specs.Prices.{is_word_address};
 ghost use Rattle.machine_file.specs.Parts.{IsBuilt, IsInRange, HasNoneTwice, stated_by};

@@ -1,4 +1,4 @@
-ghost use Rattle.std.specs.Prelude.{◌≡◌, ◌<◌, ◌≤◌, length, map, All, option_map};
+ghost use Rattle.std.specs.Prelude.{◌≡◌, ◌<◌, ◌≤◌, length, All, option_map};
 ghost use Rattle.bus_ticks.specs.declared.space.TheConstants.{SPACE_END};
 ghost use Rattle.statement.specs.Stated.{IsLoop, IsStated, class_at, target_of};
 ghost use Rattle.statement.specs.declared.reading.TheConstants.{MOST_LOOPS};

@@ -1,4 +1,4 @@
-ghost use Rattle.std.specs.Prelude.{◌≡◌, ◌+◌, ◌*◌, ◌≤◌, ℕ, IfOk, OnOk};
+ghost use Rattle.std.specs.Prelude.{◌≡◌, ◌+◌, ◌*◌, ℕ, IfOk, OnOk};
 ghost use Rattle.text_rows.specs.ByAddress.{PutsAt, line_at, line_of, numbered};
 
 use crate::rows::NumberedLine;

@@ -1,4 +1,4 @@
-ghost use Rattle.std.specs.Prelude.{◌≡◌, ◌≤◌, ◌+◌, ◌*◌, ◌++◌, ℕ, List, OnOk};
+ghost use Rattle.std.specs.Prelude.{◌≡◌, ◌+◌, ◌*◌, ◌++◌, ℕ, List, OnOk};
 ghost use Rattle.asm_text.specs.Source.{lines_of};
 ghost use Rattle.assembler.specs.declared.placed_line.PlacedLine.{PlacedLine};
 ghost use Rattle.text_rows.specs.Lines.{rows_by_line, rows_by_word};

@@ -1,4 +1,4 @@
-ghost use Rattle.std.specs.Prelude.{◌≡◌, ◌+◌, ◌<◌, ◌++◌, IfOk, OnOk, length};
+ghost use Rattle.std.specs.Prelude.{◌≡◌, ◌+◌, ◌<◌, ◌++◌, IfOk, OnOk};
 ghost use Rattle.asm_text.specs.Appended.{Appends};
 ghost use Rattle.text_rows.specs.Rows.{IsShownRow, address_column, address_row, named_row, section};
 

@@ -1,6 +1,6 @@
 -- Shapes of words (VL86C010 data sheet, by the table of instruction words, but for which shapes are returns,
 -- jumps into tables of branches and kept return addresses).
-use Rattle.std.specs.Prelude.{ℕ, Bool, true, false, not, ◌&&◌, ◌||◌, ◌==◌}
+use Rattle.std.specs.Prelude.{ℕ, Bool, false, not, ◌&&◌, ◌||◌, ◌==◌}
 use Rattle.arm2_decode.specs.Names.{is_add, is_link, is_lsl, is_mov, is_pc, is_stack, is_sub}
 use Rattle.arm2_decode.specs.Writers.{writes_pc}
 use Rattle.arm2_decode.specs.declared.instr.DataRegister.{DataRegister}

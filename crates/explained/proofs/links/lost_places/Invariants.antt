@@ -1,13 +1,14 @@
 use Rattle.std.proofs.Common.{◌-◌}
 use Rattle.flow_graph.specs.Flow.{IsWellFormed}
-use Rattle.explained.specs.Losing.{IsFound}
+use Rattle.flow_graph.specs.Search.{by_order}
+use Rattle.word_shapes.specs.Growing.{HasSameMembers}
 use Rattle.explained.proofs.LinkLaws.{IsSearch}
 use Rattle.explained.proofs.links.lost_places.Given as goal
 
 abbrev pub invariant-loop-next : goal.invariant-loop-next
 invariant-loop-next l = record {
   well : IsWellFormed l.graph;
-  found : IsFound l.lost.seen l.lost.order.items;
+  found : HasSameMembers by_order l.lost.seen l.lost.order.items;
   search : IsSearch l.image l.graph l.lost.order.items l.next;
 }
 
