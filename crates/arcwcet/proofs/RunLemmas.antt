@@ -139,7 +139,6 @@ module _ {S O : Type 0} (reads : Reading S) (taken : O → Option (List ℕ)) (f
 -- ## Of a command by the names of its files
 
 module _ {S O : Type 0} (reads : Reading S) (taken : O → Option (List ℕ)) (failures : O → ℕ) (asked : Asked) (names : Texts) (named : names ≡ files_of asked) (old new : S) where
-
   pub ran_of : (before after : O) (kept lent : Texts) → lent ≡ kept → ReadsAll reads old names kept new → (result : Result Bool ReportFault) → PrintsOrRefusesOf taken failures asked lent before after result
       → (status : ℕ) → status ≡ answer_status result → RunsOf reads taken failures asked old new before after status
   ran_of before after kept lent same read result printed =
@@ -322,7 +321,6 @@ module _ {O : Type 0} (taken : O → Option (List ℕ)) (failures : O → ℕ) (
 -- ## `debug`
 
 module _ {S I O : Type 0} (reads : Reading S) (remaining : I → Option (List ℕ)) (taken : O → Option (List ℕ)) (failures : O → ℕ) (names : FileNames) (old new : S) (input_old input_new : I) (before after : O) where
-
   module _ (commands : List ℕ) (consumed : Consumes (remaining input_old) (remaining input_new) commands) (at_end : IsAtEnd (remaining input_new)) (few : length commands ≤ 16777216)
       (kept lent : Texts) (same : lent ≡ kept) (read : ReadsAll reads old (two_of names) kept new) where
     -- a session of the commands was printed, or refused

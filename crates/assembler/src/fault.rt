@@ -96,6 +96,12 @@ pub(crate) fn lowest(fault: LineFault, other: Option<LineFault>) -> LineFault
 {
     match other {
         None => fault,
-        Some(b) => { if b.number() < fault.number() { b } else { fault } }
+        Some(b) => {
+            if b.number() < fault.number() {
+                b
+            } else {
+                fault
+            }
+        }
     }
 }

@@ -34,7 +34,6 @@ pairs_map R found pairs i j d before inside =
     (subst (λ (x : Instance). R (found_instance (get_or found i e)) x) (sym (get_or-map found_instance found j e d lt)) (pairs i j e before lt))
 
 module _ (flow : Flow) (loops : List Loop) (p : Place) where
-
   pub one_more : (found : List LoopInstance) (f : LoopInstance) → HavePlace flow loops p found → HasPlace flow loops p f → All (λ g. is_around (found_instance g) (found_instance f) ≡ true) found
       → HavePlace flow loops p (found ++ f ∷ [])
   one_more found f have has around = record {

@@ -39,7 +39,6 @@ starts_more n (q ∷ parts) part =
     ap (λ xs. n ∷ xs) (starts_more (n + length q) parts part) ∙ ap (λ (m : ℕ). n ∷ (starts_from (n + length q) parts ++ m ∷ [])) e
 
 module _ (words : Words) (st : Stated) (profile : Profile) where
-
   pub turn_more : (places : List Place) (k : ℕ) (place : Place) (edges new : List Edge) (firsts : List ℕ) → k < length places → place ≡ get_or places k place → AreInTurn words st profile (take k places) edges firsts → AddsEdges words st profile place edges new → AreInTurn words st profile (take (k + 1) places) new (firsts ++ length new ∷ [])
   turn_more places k place edges new firsts lt is turn adds =
       let longer : length new ≡ length edges + length adds.edges = ap length adds.is ∙ length-append edges adds.edges in

@@ -18,7 +18,8 @@ use std::alloc::{AllocError, Global};
 use std::marker::Model;
 use toml::{Table, Value};
 use toml_reading::{
-    Entry, by_number, list, number_at, number_in, number_or, of_keys, pair, required, tables, value_at,
+    Entry, by_number, list, number_at, number_in, number_or, of_keys, pair, required, tables,
+    value_at,
 };
 
 /// How many steps a machine file asks for at most, and how many where it says nothing.

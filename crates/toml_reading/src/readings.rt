@@ -64,7 +64,11 @@ pub fn required<T, U, F: Fault, R: FnOnce(T) -> Reading<U, F>>(
 }
 
 /// The reading, with one more condition.
-pub(crate) fn check<T: Drop, F: Fault>(holds: bool, fault: F, reading: Reading<T, F>) -> Reading<T, F>
+pub(crate) fn check<T: Drop, F: Fault>(
+    holds: bool,
+    fault: F,
+    reading: Reading<T, F>,
+) -> Reading<T, F>
     ensures { result ≡ check F.faults holds fault reading }
 {
     if holds {

@@ -1,9 +1,7 @@
 -- What counting an edge, items and rounds does, and when the counts are exact.
-use Rattle.std.proofs.Common.{◌≡◌, ◌∙◌, ℕ, ◌+◌, ◌-◌, ◌*◌, ◌^◌, ◌<◌, ◌≤◌, cond, eqb, List, [], ◌∷◌, ◌++◌, append-nil, length, get_or, drop, take, map, flat_map, replicate, refl, sym, ap, subst, Vec, arith, get_or-set_same}
+use Rattle.std.proofs.Common.{◌≡◌, ◌∙◌, ℕ, ◌+◌, ◌-◌, ◌*◌, ◌^◌, ◌<◌, ◌≤◌, cond, eqb, List, [], ◌∷◌, ◌++◌, append-nil, length, get_or, drop, take, map, flat_map, replicate, refl, sym, ap, subst, Vec, arith}
 use Rattle.std.specs.Prelude.{All, sum_by}
-use Rattle.std.proofs.Math.ListN.{set}
 use Rattle.std.proofs.Math.Seq.{take-append_seam}
-use Rattle.std.proofs.lemmas.Bool.{eq-eqb}
 use Rattle.std.proofs.lemmas.List.{get_or-replicate, length-replicate, map-append, take_more, take_all}
 use Rattle.std.proofs.lemmas.List.Concat.{flat_map-append}
 use Rattle.std.proofs.lemmas.List.Elements.{All-head, All-tail, All-weaker, All-nil, All-cons}
@@ -59,14 +57,6 @@ module _ (edges : List Edge) (times : ℕ) where
         omega arith ∙ ap (λ m. times * m) (sym (count-repeated (λ e. eqb (number_of edges e) k) n walk)) in
         h.each k lt ∙ capped_times (2 ^ 64 - 1) (get_or old k 0) (times * n) x ∙ ap (λ m. capped (get_or old k 0 + m)) all;
   }
-
-      here : (k : ℕ) → j ≡ k → get_or (set old j count) k 0 ≡ capped (get_or old k 0 + times * occurrences edges (e ∷ []) k)
-      here k same =
-          let one : occurrences edges (e ∷ []) k ≡ 1 = ap (λ b. 0 + cond b 1 0) (eq-eqb (number_of edges e) k (sym is ∙ same)) in
-          let put : get_or (set old j count) j 0 ≡ count = get_or-set_same old j count 0 (omega arith) in
-          let once : capped (get_or old j 0 + times) ≡ capped (get_or old j 0 + times * 1) = ap (λ n. capped (get_or old j 0 + n)) (omega arith) in
-          ap (λ n. get_or (set old j count) n 0) (sym same) ∙ put ∙ count_is ∙ once
-          ∙ ap (λ n. capped (get_or old n 0 + times * 1)) same ∙ ap (λ n. capped (get_or old k 0 + times * n)) (sym one)
 
 -- ## Items
 
