@@ -8,7 +8,7 @@ use thiserror::Error;
 #[derive(Clone, Copy, Debug, PartialEq, Eq, Error)]
 pub enum CheckFault {
     /// An allocation failed.
-    #[error("out of memory")]
+    #[error("Memory")]
     Memory,
 }
 

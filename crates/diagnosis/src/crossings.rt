@@ -1,4 +1,4 @@
-ghost use Rattle.std.specs.Prelude.{◌≡◌, Contains, IfNone, IfSome, false, option_map, true};
+ghost use Rattle.std.specs.Prelude.{◌≡◌, Contains, IfNone, IfSome, option_map};
 ghost use Rattle.std.specs.List.{find};
 ghost use Rattle.loop_bounds.specs.Extents.{found_instance};
 ghost use Rattle.loop_bounds.specs.Instance.{IsInstance};
@@ -8,7 +8,7 @@ ghost use Rattle.diagnosis.specs.Crossings.{AreApart, CrossNone, CrossNoneAt, Is
 ghost use Rattle.diagnosis.specs.Crossings.{is_own, is_shared};
 
 use flow_graph::{Calls, Graph, Loop, Place};
-use loop_bounds::LoopInstance;
+use loop_bounds::{LoopInstance, has_place};
 
 /// Two instances of loops that cross, and places that show it.
 #[derive(Clone, Copy)]
@@ -75,15 +75,6 @@ fn crossing_of(graph: &Graph, one: &LoopInstance, other: &LoopInstance) -> Optio
         one_has: *one_has,
         other_has: *other_has,
     })
-}
-
-/// Whether the graph has the place.
-pub(crate) fn has_place(graph: &Graph, place: &Place) -> bool
-    ensures yes { result ≡ true → Contains graph.now.places place.now }
-    ensures no { result ≡ false → Contains graph.now.places place.now → ⊥ }
-{
-    let places = graph.places();
-    places.binary_search(place).is_ok()
 }
 
 // How the instance crosses another with its list of calls.

@@ -3,9 +3,8 @@ ghost use Rattle.loop_bounds.specs.Extents.{found_instance};
 ghost use Rattle.statement.specs.declared.stated.Loop.{Loop};
 ghost use Rattle.diagnosis.specs.Nested.{AreWanted, HasPlace, HavePlace, IsDeep, is_around};
 
-use crate::crossings::has_place;
 use flow_graph::{Calls, Graph, Loop, Place};
-use loop_bounds::{LoopInstance, MOST_INSTANCES};
+use loop_bounds::{LoopInstance, MOST_INSTANCES, has_place};
 use std::alloc::{AllocError, Global};
 use std::cmp::Reverse;
 

@@ -1,12 +1,11 @@
 -- Where R14 is lost: words, edges, and the search for places step by step.
-use Rattle.std.proofs.Common.{◌≡◌, ◌∙◌, ℕ, ◌+◌, ◌-◌, ◌<◌, ◌≤◌, Bool, true, false, cond, List, [], ◌∷◌, ◌++◌, length, length-append, get_or, take, drop, Result, Ok, Err, Some, None, inl, inr, ⊎_elim, refl, sym, ap, subst, arith}
+use Rattle.std.proofs.Common.{◌≡◌, ◌∙◌, ℕ, ◌+◌, ◌-◌, ◌<◌, ◌≤◌, Bool, true, false, cond, List, [], ◌∷◌, ◌++◌, length, length-append, get_or, take, drop, Ok, Err, Some, None, inl, inr, ⊎_elim, refl, sym, ap, subst, arith}
 use Rattle.std.specs.Prelude.{◌↔◌, Contains, IsTrue, not}
 use Rattle.std.specs.BTreeSet as sets
 use Rattle.std.specs.BTreeSet.{BTreeSet, btree_set_len}
 use Rattle.std.specs.List.{slice_range}
 use Rattle.std.specs.List.Sorted.{IsBinarySearchResult, IsSearchInRange, IsStrictlySortedBy}
 use Rattle.std.specs.Ordering.{nat_cmp}
-use Rattle.std.specs.Result.{is_ok}
 use Rattle.std.proofs.lemmas.Bool.{eq-eqb, eqb-true, false≢true, or_cases}
 use Rattle.std.proofs.lemmas.Cmp.{nat_cmp_total}
 use Rattle.std.proofs.lemmas.List.{get_or-drop, get_or-take, get_or_append_left, get_or_read, length-drop, length-take, take_all, take_more}
@@ -25,7 +24,7 @@ use Rattle.flow_graph.proofs.FoundLemmas.{same_more}
 use Rattle.flow_graph.proofs.PlaceLemmas.{by_order_exact, by_order_total, place_total, sorted_by_place}
 use Rattle.flow_graph.proofs.SortedLemmas.{here, length_within, no_member, there}
 use Rattle.loader.specs.Image.{Words}
-use Rattle.loop_bounds.proofs.Positions.{known}
+use Rattle.loop_bounds.proofs.Positions.{place_known}
 use Rattle.flow_graph.proofs.Firsts.{whole_range}
 use Rattle.word_shapes.specs.Growing.{Grows, HasSameMembers}
 use Rattle.word_shapes.specs.Words.{HasInstr, HasShape}
@@ -86,18 +85,6 @@ module _ (image : Words) (from to : Place) (calls inner : List ℕ) (a b : ℕ) 
       (subst (λ (t : Place). IsTrue s ↔ KeepsLink image (At calls a) t) (sym to_is) (λ e. absurd (false≢true (sym is ∙ e)), λ k. same.1 k.0))
 
 -- ## Edges of a place
-
-pub place_known : (flow : Flow) (places : List Place) (p : Place) (r : Result ℕ ℕ) (b : Bool) → IsWellFormed flow → places ≡ flow.places → IsSearchInRange r (length places)
-    → IsBinarySearchResult (λ y. by_order y p) places r → b ≡ is_ok r → IsTrue b ↔ Contains flow.places p
-place_known flow places p r b well same range found is =
-    let k = known flow.places p r well.ordered (subst (λ ps. IsSearchInRange r (length ps)) same range) (subst (λ ps. IsBinarySearchResult (λ y. by_order y p) ps r) same found) in (
-      λ e. k.0 (sym is ∙ e),
-      λ has. by_case b has (λ none. k.1 (sym is ∙ none) has),
-    )
-  where
-    by_case : (c : Bool) → Contains flow.places p → (c ≡ false → ⊥) → IsTrue c
-    by_case true has some = refl
-    by_case false has some = absurd (some refl)
 
 pub in_range : (es : List Edge) (a b : ℕ) (e : Edge) → Contains (slice_range es a b) e → (k : ℕ) × (a ≤ k) × (k < b) × (k < length es) × (get_or es k e ≡ e)
 in_range es a b e h =

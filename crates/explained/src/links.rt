@@ -19,6 +19,7 @@ use arm2_decode::{Instr, Opcode, Operation, Register, writes_base};
 use bus_ticks::ahead_of;
 use flow_graph::{Calls, Edge, Graph, Place};
 use loader::Image;
+use loop_bounds::has_place;
 use std::alloc::{AllocError, Global};
 use std::collections::BTreeSet;
 use word_shapes::{instr_at, is_return};
@@ -127,12 +128,6 @@ fn keeps_link(image: &Image, edge: &Edge) -> bool
         return false;
     };
     are_same(calls, inner) && !writes_link_at(image, at)
-}
-
-fn has_place(graph: &Graph, place: &Place) -> bool
-    ensures { IsTrue result ↔ Contains graph.now.places place.now }
-{
-    graph.places().binary_search(place).is_ok()
 }
 
 // The edges that leave a place.

@@ -1,6 +1,6 @@
 -- Positions of places in the order of keys: each place of a flow graph has one, and Exit has none.
-use Rattle.std.proofs.Common.{◌≡◌, ℕ, ◌+◌, ◌<◌, ◌≤◌, true, false, List, length, get_or, Ok, Err, Result, ◌⊎◌, ⊎_elim, sym, ap, ◌∙◌, subst, arith}
-use Rattle.std.specs.Prelude.{Contains}
+use Rattle.std.proofs.Common.{◌≡◌, ℕ, ◌+◌, ◌<◌, ◌≤◌, Bool, true, false, List, length, get_or, Ok, Err, Result, ◌⊎◌, ⊎_elim, refl, sym, ap, ◌∙◌, subst, arith}
+use Rattle.std.specs.Prelude.{◌↔◌, Contains, IsTrue}
 use Rattle.std.specs.declared.cmp.Ordering.{Ordering}
 use Rattle.std.specs.declared.cmp.Ordering.TheVariants.{Less, Equal, Greater}
 use Rattle.std.specs.Ordering.{is_lt, ordering_index, ordering_reverse}
@@ -122,3 +122,15 @@ known_at places p (Err i) ordered range found = (
 
 pub known : (places : List Place) (p : Place) (r : Result ℕ ℕ) → IsStrictlySortedBy place_cmp places → IsSearchInRange r (length places) → IsBinarySearchResult (λ y. by_order y p) places r → (is_ok r ≡ true → Contains places p) × (is_ok r ≡ false → Contains places p → ⊥)
 known places p r ordered range found = known_at places p r ordered range (subst (λ R. IsBinarySearchResult (λ y. R y p) places r) by_place found)
+
+pub place_known : (flow : Flow) (places : List Place) (p : Place) (r : Result ℕ ℕ) (b : Bool) → IsWellFormed flow → places ≡ flow.places → IsSearchInRange r (length places)
+    → IsBinarySearchResult (λ y. by_order y p) places r → b ≡ is_ok r → IsTrue b ↔ Contains flow.places p
+place_known flow places p r b well same range found is =
+    let k = known flow.places p r well.ordered (subst (λ ps. IsSearchInRange r (length ps)) same range) (subst (λ ps. IsBinarySearchResult (λ y. by_order y p) ps r) same found) in (
+      λ e. k.0 (sym is ∙ e),
+      λ has. by_case b has (λ none. k.1 (sym is ∙ none) has),
+    )
+  where
+    by_case : (c : Bool) → Contains flow.places p → (c ≡ false → ⊥) → IsTrue c
+    by_case true has some = refl
+    by_case false has some = absurd (some refl)

@@ -33,5 +33,6 @@ pub use fault::NestFault;
 pub use loop_instances::LoopInstance;
 pub use members::is_back_edge_of;
 pub use nested::{Instance, Instances};
+pub use numbering::has_place;
 pub use tree::{LoopTree, edge_range_in, nest, place_in};
 pub use walks::MOST_INSTANCES;

@@ -1,5 +1,5 @@
-ghost use Rattle.std.specs.Prelude.{◌≡◌, ◌≤◌, ◌++◌, [], ◌∷◌, IfOk, length, ◌<◌, ◌⊎◌};
-ghost use Rattle.std.specs.Prelude.{Contains, true};
+ghost use Rattle.std.specs.Prelude.{◌≡◌, ◌≤◌, ◌++◌, [], ◌∷◌, IfOk, length, ◌<◌, ◌⊎◌, ◌↔◌};
+ghost use Rattle.std.specs.Prelude.{Contains, IsTrue, true};
 ghost use Rattle.std.specs.Ordering.{nat_cmp};
 ghost use Rattle.std.specs.Cmp.Lexicographic.{slice_cmp};
 ghost use Rattle.std.specs.List.Sorted.{IsSorted, IsStrictlySortedBy};
@@ -60,6 +60,13 @@ pub(crate) fn point(listed: &[Place], calls: Calls, address: u32) -> usize
 {
     let bound = Place::At(calls, address);
     listed.partition_point(|place| by_key(place, &bound).is_lt())
+}
+
+/// Whether the graph has the place.
+pub fn has_place(graph: &Graph, place: &Place) -> bool
+    ensures { IsTrue result ↔ Contains graph.now.places place.now }
+{
+    graph.places().binary_search(place).is_ok()
 }
 
 // The position of a place among the graph's places.

@@ -1,5 +1,5 @@
-use Rattle.explained.proofs.LinkLaws.{place_known}
-use Rattle.explained.proofs.links.has_place.Goals as goal
+use Rattle.loop_bounds.proofs.Positions.{place_known}
+use Rattle.loop_bounds.proofs.numbering.has_place.Goals as goal
 
 pub returns : goal.returns
 returns c =
