@@ -5,6 +5,7 @@ use Rattle.flow_graph.specs.declared.places.Place.{Place}
 use Rattle.longest_walk.specs.declared.rows.PlaceRow.{PlaceRow}
 use Rattle.longest_walk.specs.declared.rows.InstanceRow.{InstanceRow}
 use Rattle.longest_walk.specs.Rows.{header_of_row, place_of_row}
+use Rattle.certificate.specs.declared.draft.Stage.{Stage}
 use Rattle.certificate.specs.declared.draft.Stage.TheVariants as s
 use Rattle.certificate.specs.declared.line.WalkLine.{WalkLine}
 use Rattle.certificate.specs.declared.line.Line.{Line}
@@ -33,17 +34,18 @@ pub stops : (n : Nest) (lines : List Line) → Ends (at n s.Done) lines → line
 stops n [] ends = refl
 stops n (x ∷ lines) ends = absurd (cc ends.1)
 
+-- a step by a test is one where the test holds
+taken : (n : Nest) (stage : Stage) (lines : List Line) {r : Reached} (b : Bool) → option_and_then (λ t. follow_all follows t lines) (if b then at_stage n stage else None) ≡ Some r
+    → (b ≡ true) × (follow_all follows (at n stage) lines ≡ Some r)
+taken n stage lines true e = (refl, e)
+taken n stage lines false e = absurd (cc e)
+
 instances_in : (n : Nest) (last : Option Place) (lines : List Line) → AllByRecursion LineFits lines → Ends (at n (s.Instances last)) lines → Instances last lines
 instances_in n last [] fits ends = absurd (cc (not_done ends.0 ends.1 ends.2))
 instances_in n last (l.Instance r ∷ lines) fits ends =
-    by (λ e. instances_in n (Some (header_of_row r)) lines fits.1 (ends.0, e, ends.2)) (comes_after last (header_of_row r)) refl ends.1
-  where
-    by : (follow_all follows (at n (s.Instances (Some (header_of_row r)))) lines ≡ Some ends.0 → Instances (Some (header_of_row r)) lines) → (b : Bool) → comes_after last (header_of_row r) ≡ b
-        → option_and_then (λ t. follow_all follows t lines) (if b then at_stage n (s.Instances (Some (header_of_row r))) else None) ≡ Some ends.0 → Instances last (l.Instance r ∷ lines)
-    by again true after e =
-        let rest = again e in
-        record { rows = r ∷ rest.rows; lines_are = ap (λ (xs : List Line). l.Instance r ∷ xs) rest.lines_are; ascend = (after, rest.ascend); fit = (fits.0, rest.fit) }
-    by again false after e = absurd (cc e)
+    let step = taken n _ lines (comes_after last (header_of_row r)) ends.1 in
+    let rest = instances_in n (Some (header_of_row r)) lines fits.1 (ends.0, step.1, ends.2) in
+    record { rows = r ∷ rest.rows; lines_are = ap (λ (xs : List Line). l.Instance r ∷ xs) rest.lines_are; ascend = (step.0, rest.ascend); fit = (fits.0, rest.fit) }
 instances_in n last (l.Stop ∷ lines) fits ends =
     record { rows = []; lines_are = ap (λ (xs : List Line). l.Stop ∷ xs) (stops n lines ends); ascend = tt; fit = tt }
 instances_in n last (x ∷ lines) fits ends = absurd (cc ends.1)
@@ -59,14 +61,9 @@ pub record Rows (last : Option Place) (lines : List Line) : Type 0 where
 rows_in : (n : Nest) (last : Option Place) (lines : List Line) → AllByRecursion LineFits lines → Ends (at n (s.Places last)) lines → Rows last lines
 rows_in n last [] fits ends = absurd (cc (not_done ends.0 ends.1 ends.2))
 rows_in n last (l.Place r ∷ lines) fits ends =
-    by (λ e. rows_in n (Some (place_of_row r)) lines fits.1 (ends.0, e, ends.2)) (comes_after last (place_of_row r)) refl ends.1
-  where
-    by : (follow_all follows (at n (s.Places (Some (place_of_row r)))) lines ≡ Some ends.0 → Rows (Some (place_of_row r)) lines) → (b : Bool) → comes_after last (place_of_row r) ≡ b
-        → option_and_then (λ t. follow_all follows t lines) (if b then at_stage n (s.Places (Some (place_of_row r))) else None) ≡ Some ends.0 → Rows last (l.Place r ∷ lines)
-    by again true after e =
-        let more = again e in
-        record { places = r ∷ more.places; rest = more.rest; instances = more.instances; lines_are = ap (λ (xs : List Line). l.Place r ∷ xs) more.lines_are; ascend = (after, more.ascend); fit = (fits.0, more.fit) }
-    by again false after e = absurd (cc e)
+    let step = taken n _ lines (comes_after last (place_of_row r)) ends.1 in
+    let more = rows_in n (Some (place_of_row r)) lines fits.1 (ends.0, step.1, ends.2) in
+    record { places = r ∷ more.places; rest = more.rest; instances = more.instances; lines_are = ap (λ (xs : List Line). l.Place r ∷ xs) more.lines_are; ascend = (step.0, more.ascend); fit = (fits.0, more.fit) }
 rows_in n last (l.Instance r ∷ lines) fits ends =
     let more = instances_in n (Some (header_of_row r)) lines fits.1 ends in
     record {
