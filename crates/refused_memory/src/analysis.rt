@@ -1,4 +1,5 @@
-use crate::trial::{Answer, IN_TURN, Trial};
+use crate::puts::Puts;
+use crate::trial::Answer;
 use arcwcet::ReportFault;
 use assembler::assemble;
 use bus_ticks::Profile;
@@ -193,13 +194,6 @@ impl HandlerCall for AnalysisCall {
     }
 }
 
-/// Steps put at the end of a walk.
-#[derive(Drop)]
-pub(crate) struct PushItems {
-    walk: FoldedWalk,
-    put: u32,
-}
-
 // A step of so many ticks.
 fn step(cost: u32) -> Item {
     Item::Step(Edge {
@@ -217,41 +211,23 @@ fn cost_of(item: &Item) -> Option<u32> {
     }
 }
 
-impl PushItems {
-    /// What there is before the call.
-    pub(crate) fn new(alloc: Global) -> PushItems {
-        PushItems {
-            walk: FoldedWalk::new(alloc),
-            put: 0,
+impl Puts for FoldedWalk {
+    fn put_nth(&mut self, alloc: Global, n: u8) -> Answer {
+        match self.push(alloc, step(u32::from(n))) {
+            Ok(()) => Answer::Right,
+            Err(WalkFault::Memory) => Answer::Refused,
+            Err(_) => Answer::Wrong,
         }
     }
 
-    // Whether the walk has the steps that were put, and no other.
-    fn is_whole(&self) -> bool {
+    fn has_first(&self, count: u8) -> bool {
         let mut wanted = 0u32;
-        for item in self.walk.items() {
+        for item in self.items() {
             if cost_of(item) != Some(wanted) {
                 return false;
             }
             wanted = wanted.saturating_add(1);
         }
-        wanted == self.put
-    }
-}
-
-impl Trial for PushItems {
-    fn make(&mut self, alloc: Global) -> Result<Answer, ReportFault> {
-        for n in self.put..u32::from(IN_TURN) {
-            match self.walk.push(alloc, step(n)) {
-                Ok(()) => self.put = n.saturating_add(1),
-                Err(WalkFault::Memory) => return Ok(Answer::Refused),
-                Err(_) => return Ok(Answer::Wrong),
-            }
-        }
-        Ok(Answer::of(self.is_whole()))
-    }
-
-    fn is_unchanged(&mut self, _alloc: Global) -> Result<bool, ReportFault> {
-        Ok(self.is_whole())
+        wanted == u32::from(count)
     }
 }

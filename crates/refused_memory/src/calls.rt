@@ -1,19 +1,22 @@
-use crate::analysis::{AnalysisCall, PushItems, on_nested};
+use crate::analysis::{AnalysisCall, on_nested};
 use crate::assumptions::Assumed;
 use crate::certificates::CertificateCall;
 use crate::drafts::Drafted;
 use crate::explanations::ExplainedCall;
 use crate::followed::Follow;
-use crate::images::{ImageCall, Load, PutLabels, PutWords};
+use crate::images::{ImageCall, Load};
 use crate::listings::ListingCall;
 use crate::machine::{AddRom, NewCall};
 use crate::machine_files::MachineFileCall;
 use crate::programs::{Line, Started};
+use crate::puts::PutInTurn;
 use crate::reports::{NewOutput, ROOM, Report, Written};
 use crate::sessions::{Command, Obeyed};
 use crate::sources::SourceCall;
 use crate::trial::{Answer, Outcome, Trial, tried};
 use arcwcet::ReportFault;
+use loader::{Image, Labels};
+use longest_walk::FoldedWalk;
 use std::alloc::Global;
 
 /// A call that takes memory and changes no value.
@@ -222,9 +225,9 @@ fn try_rom(alloc: Global) -> Result<Outcome, ReportFault> {
 // Words, labels or items put in turn.
 fn try_put(alloc: Global, call: Call) -> Result<Outcome, ReportFault> {
     match call {
-        Call::PutWords => tried(alloc, &mut PutWords::new(alloc)),
-        Call::PutLabels => tried(alloc, &mut PutLabels::new(alloc)),
-        _ => tried(alloc, &mut PushItems::new(alloc)),
+        Call::PutWords => tried(alloc, &mut PutInTurn::new(Image::new(alloc))),
+        Call::PutLabels => tried(alloc, &mut PutInTurn::new(Labels::new(alloc))),
+        _ => tried(alloc, &mut PutInTurn::new(FoldedWalk::new(alloc))),
     }
 }
 

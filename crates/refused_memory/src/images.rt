@@ -1,5 +1,6 @@
 use crate::machine::word_in;
-use crate::trial::{Answer, IN_TURN, Trial};
+use crate::puts::{IN_TURN, Puts};
+use crate::trial::{Answer, Trial};
 use arcwcet::ReportFault;
 use arm2_exec::Machine;
 use assembler::assemble;
@@ -149,61 +150,28 @@ impl Trial for Load {
     }
 }
 
-/// Words put into an image side by side.
-#[derive(Drop)]
-pub(crate) struct PutWords {
-    image: Image,
-    put: u32,
-}
-
 // The address of the n-th word or label.
-fn address_of(n: u32) -> u32 {
-    n.wrapping_mul(4).wrapping_add(0x8000)
+fn address_of(n: u8) -> u32 {
+    u32::from(n).wrapping_mul(4).wrapping_add(0x8000)
 }
 
-impl PutWords {
-    /// What there is before the call.
-    pub(crate) fn new(alloc: Global) -> PutWords {
-        PutWords {
-            image: Image::new(alloc),
-            put: 0,
+impl Puts for Image {
+    fn put_nth(&mut self, alloc: Global, n: u8) -> Answer {
+        match self.put(alloc, address_of(n), u32::from(n)) {
+            Ok(()) => Answer::Right,
+            Err(ImageFault::Memory) => Answer::Refused,
+            Err(_) => Answer::Wrong,
         }
     }
 
-    // Whether the image has the words that were put, and no other.
-    fn is_whole(&self) -> bool {
-        for n in 0..self.put {
-            if self.image.word_at(address_of(n)) != Some(n) {
+    fn has_first(&self, count: u8) -> bool {
+        for n in 0..count {
+            if self.word_at(address_of(n)) != Some(u32::from(n)) {
                 return false;
             }
         }
-        let segments = u32::from(self.put > 0);
-        (self.image.words(), self.image.segments()) == (self.put, segments)
+        (self.words(), self.segments()) == (u32::from(count), u32::from(count > 0))
     }
-}
-
-impl Trial for PutWords {
-    fn make(&mut self, alloc: Global) -> Result<Answer, ReportFault> {
-        for n in self.put..u32::from(IN_TURN) {
-            match self.image.put(alloc, address_of(n), n) {
-                Ok(()) => self.put = n.saturating_add(1),
-                Err(ImageFault::Memory) => return Ok(Answer::Refused),
-                Err(_) => return Ok(Answer::Wrong),
-            }
-        }
-        Ok(Answer::of(self.is_whole()))
-    }
-
-    fn is_unchanged(&mut self, _alloc: Global) -> Result<bool, ReportFault> {
-        Ok(self.is_whole())
-    }
-}
-
-/// Labels put beside one another.
-#[derive(Drop)]
-pub(crate) struct PutLabels {
-    labels: Labels,
-    put: u8,
 }
 
 // The name of the n-th label.
@@ -211,47 +179,22 @@ fn name_of(n: u8) -> [u8; 2] {
     [b'l', n]
 }
 
-impl PutLabels {
-    /// What there is before the call.
-    pub(crate) fn new(alloc: Global) -> PutLabels {
-        PutLabels {
-            labels: Labels::new(alloc),
-            put: 0,
+impl Puts for Labels {
+    fn put_nth(&mut self, alloc: Global, n: u8) -> Answer {
+        match self.put(alloc, &name_of(n), address_of(n)) {
+            Ok(()) => Answer::Right,
+            Err(LabelFault::Memory) => Answer::Refused,
+            Err(LabelFault::Twice) => Answer::Wrong,
         }
     }
 
-    // Whether the labels are those that were put.
-    fn is_whole(&self) -> bool {
+    fn has_first(&self, count: u8) -> bool {
         for n in 0..IN_TURN {
-            let address = if n < self.put {
-                Some(address_of(u32::from(n)))
-            } else {
-                None
-            };
-            if self.labels.get(&name_of(n)) != address {
+            let address = if n < count { Some(address_of(n)) } else { None };
+            if self.get(&name_of(n)) != address {
                 return false;
             }
         }
         true
-    }
-}
-
-impl Trial for PutLabels {
-    fn make(&mut self, alloc: Global) -> Result<Answer, ReportFault> {
-        for n in self.put..IN_TURN {
-            match self
-                .labels
-                .put(alloc, &name_of(n), address_of(u32::from(n)))
-            {
-                Ok(()) => self.put = n.saturating_add(1),
-                Err(LabelFault::Memory) => return Ok(Answer::Refused),
-                Err(LabelFault::Twice) => return Ok(Answer::Wrong),
-            }
-        }
-        Ok(Answer::of(self.is_whole()))
-    }
-
-    fn is_unchanged(&mut self, _alloc: Global) -> Result<bool, ReportFault> {
-        Ok(self.is_whole())
     }
 }

@@ -19,6 +19,7 @@ mod listings;
 mod machine;
 mod machine_files;
 mod programs;
+mod puts;
 mod reports;
 mod sessions;
 mod sources;

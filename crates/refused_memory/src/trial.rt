@@ -3,10 +3,6 @@ use std::alloc::{AllocError, Global};
 use std::fmt;
 use std::fmt::Write;
 
-/// How many words, labels or items are put in turn, one by each call. It is more than the first of them takes
-/// memory for.
-pub(crate) const IN_TURN: u8 = 64;
-
 /// What a call answered.
 #[derive(Clone, Copy)]
 pub(crate) enum Answer {
