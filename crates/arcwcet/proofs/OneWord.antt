@@ -14,7 +14,7 @@ use Rattle.arm2_decode.specs.declared.names.Opcode.TheVariants.{Sub}
 use Rattle.arm2_decode.specs.declared.names.Register.TheVariants.{R14, R15}
 use Rattle.arm2_decode.specs.Table.{IsUnallocated, Means}
 use Rattle.arm2_decode.proofs.Unique.{never_both, one_instr}
-use Rattle.arm2_effect.specs.Operations.{data_immediate_effect, jumped, operation_effect, placed}
+use Rattle.arm2_effect.specs.Operations.{data_immediate_effect, jumped, operation_effect, outcome_effect}
 use Rattle.arm2_effect.specs.Modes.{r15_in}
 use Rattle.arm2_effect.specs.declared.step_end.Kind.TheVariants.{Plain}
 use Rattle.arm2_effect.specs.declared.exceptions.Vector.{Vector}
@@ -150,11 +150,11 @@ module _ (words : Words) (entry : ℕ) (word_there : word_of words entry ≡ Som
     step = record { moved = moved; works = works; stepped_is = refl; after_is = refl }
 
     pub plain : stepped.kind ≡ Plain
-    unfolding stepped moved instr answer_of operation_effect data_immediate_effect placed jumped
+    unfolding stepped moved instr answer_of operation_effect data_immediate_effect outcome_effect jumped
     plain = refl
 
     executes : Executes words stated profile (instr_action instr) s i stepped after
-    unfolding step stepped moved instr answer_of operation_effect data_immediate_effect placed jumped
+    unfolding step stepped moved instr answer_of operation_effect data_immediate_effect outcome_effect jumped
     executes = record {
       registers = ready.registers;
       prices = ready.prices;

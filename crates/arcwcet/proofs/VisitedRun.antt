@@ -13,7 +13,7 @@ use Rattle.arm2_effect.specs.declared.exceptions.Vector.TheVariants.{Fiq, Irq}
 use Rattle.arm2_effect.specs.Exceptions.{taken}
 use Rattle.shifter.specs.Word.{bits_from}
 use Rattle.arm2_effect.specs.Operands as operands
-use Rattle.arm2_effect.specs.Operations.{data_immediate_effect, jumped, operation_effect, placed}
+use Rattle.arm2_effect.specs.Operations.{data_immediate_effect, jumped, operation_effect, outcome_effect}
 use Rattle.arm2_transfer.specs.declared.bus.Bus.{Bus}
 use Rattle.arm2_transfer.specs.Moved.{Moved, on_bus}
 use Rattle.arm2_exec.specs.Run.{Runs, at_rest, counted, why_stopped}
@@ -139,7 +139,7 @@ module _ (profile : Profile) where
     second_timers = returned.bus.ioc.timers
 
     returned_is : returned ≡ ready second_timers
-    unfolding second_timers returned one.after one.moved one.instr inside ready bus regs fiq_regs memory state_after operation_effect data_immediate_effect placed jumped operands.word_of bits_from
+    unfolding second_timers returned one.after one.moved one.instr inside ready bus regs fiq_regs memory state_after operation_effect data_immediate_effect outcome_effect jumped operands.word_of bits_from
     returned_is = refl
 
     fiq_keeps : KeepsStatement words (one.stated words vector fiq_stands profile) profile (one.flow words vector fiq_stands profile) (inside timers) (quiet ∷ [])
