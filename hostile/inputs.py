@@ -116,6 +116,11 @@ class Lists(OfSource):
         return None if [it[18:] for it in rows if it[18:]] == numbered else f"other lines: {outcome}"
 
 
+# What a draft leaves open of a target: all places, or what else there may be beside a table's.
+OPEN_TARGET = re.compile(rb'kind = "(?:jump|call)"  # or [^\n]*\nto = "\?"[^\n]*')
+OPEN_PLACE = re.compile(rb'  "\?",  # what else [^\n]*\n')
+
+
 class Drafts(OfSource):
     """A statement that `bound` can read once it is filled in."""
 
@@ -123,7 +128,8 @@ class Drafts(OfSource):
 
     def fault(self, outcome, asm, words):
         filled_in = outcome.out.replace(b'bound = "?"', b"bound = 1")
-        filled_in = filled_in.replace(b'kind = "?"', b'kind = "leave"')
+        filled_in = OPEN_TARGET.sub(b'kind = "leave"', filled_in)
+        filled_in = OPEN_PLACE.sub(b"", filled_in)
         files = {"judged.s": self.source, "draft.toml": filled_in}
         bound = self.bench.ask(["bound", "judged.s", "draft.toml"], files)[0]
         found = refusal(bound)

@@ -216,9 +216,10 @@ def statement_fault(text, known):
     if read is None:
         return "NotToml"
     faults = StatementFaults(known)
-    faults.keys(read, ("entry", "leave", "loop", "target", "access"))
+    faults.keys(read, ("entry", "leave", "returns", "loop", "target", "access"))
     faults.address(read.get("entry"))
     faults.word(read, "leave", CLASSES, "any")
+    faults.word(read, "returns", ("assumed", "stated"), "assumed")
     for it in faults.list_of_tables(read, "loop", ("header", "first", "last", "bound")):
         faults.loop(it)
     targets = faults.list_of_tables(read, "target", ("at", "kind", "to"))

@@ -47,6 +47,11 @@ const DRAFT: &[u8] = b"\
 # turns back: of a loop that runs eight times seven.
 entry = 0x0000001C  # line 2:  SUBS PC,R14,#4
 # leave = \"ram\"  # where it returns to, if always to one: \"ram\", \"rom\" or \"io\"
+returns = \"stated\"
+
+[[target]]
+at = 0x0000001C  # line 2:  SUBS PC,R14,#4
+kind = \"return\"
 ";
 
 const DRAWING: &[u8] = b"digraph handler {

@@ -16,7 +16,7 @@ type End = (u32, usize, u32);
 
 fn shown(edge: &Edge) -> End {
     match edge.to {
-        Place::At(calls, address) => (edge.cost, calls.as_slice().len(), address),
+        Place::At(calls, address) => (edge.cost, calls.items().len(), address),
         Place::Exit => (edge.cost, 0, 0),
     }
 }

@@ -238,14 +238,14 @@ fn sixteen_deep(rt: HostRuntime) -> Result<(), Fail> {
 // inside it.
 fn put_instances(instances: &[Instance], numbers: &mut Vec<u64>) -> Result<(), AllocError> {
     for instance in instances {
-        for call in instance.list().as_slice() {
+        for call in instance.list().items() {
             numbers.push(u64::from(*call))?;
         }
         let (header, bound) = (instance.header(), instance.bound());
         numbers.extend_from_slice(&[u64::from(header), u64::from(bound)])?;
         for place in instance.places() {
             if let Place::At(calls, address) = place {
-                for call in calls.as_slice() {
+                for call in calls.items() {
                     numbers.push(u64::from(*call))?;
                 }
                 numbers.push(u64::from(*address))?;

@@ -38,7 +38,7 @@ fn put_item(numbers: &mut Vec<u64>, item: &CertItem) -> Result<(), AllocError> {
 }
 
 fn put_place(numbers: &mut Vec<u64>, place: &PlaceRow) -> Result<(), AllocError> {
-    for call in place.list.as_slice() {
+    for call in place.list.items() {
         numbers.push(u64::from(*call))?;
     }
     numbers.extend_from_slice(&[u64::from(place.address), place.distance])

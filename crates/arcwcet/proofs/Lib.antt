@@ -2,6 +2,5 @@ pub mod FileLemmas
 pub mod KeptRun
 pub mod OneWord
 pub mod RunLemmas
-pub mod VisitLemmas
 pub mod VisitedRun
 pub mod VisitsReportLemmas

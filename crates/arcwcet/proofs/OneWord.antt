@@ -26,6 +26,7 @@ use Rattle.arm2_exec.specs.Step.{ObeysFetched, Step, Works, address_in, answer_o
 use Rattle.arm2_exec.specs.declared.machine.Input.{Input}
 use Rattle.arm2_exec.specs.declared.machine.Stepped.{Stepped}
 use Rattle.statement.specs.Stated.{Stated}
+use Rattle.statement.specs.declared.stated.Returns.TheVariants.{Assumed}
 use Rattle.flow_graph.specs.Edges.{AreEdgesOf, HasAction, IsEdge, do_edge, word_edges}
 use Rattle.flow_graph.specs.Flow.{Flow, edge_shape}
 use Rattle.flow_graph.specs.Graph.{IsFlowGraph}
@@ -66,7 +67,7 @@ quiet = record { bursts = 0; lines = record { 0 = 0 }; port = 0 }
 -- the image has the word at the entry
 module _ (words : Words) (entry : ℕ) (word_there : word_of words entry ≡ Some word) (profile : Profile) where
   abbrev pub stated : Stated
-  stated = record { entry = entry; leave = Any; loops = []; targets = []; accesses = [] }
+  stated = record { entry = entry; leave = Any; returns = Assumed; loops = []; targets = []; accesses = [] }
 
   pub edge : Edge
   edge = do_edge stated profile [] entry (instr_action instr) Exit

@@ -24,7 +24,8 @@ use Rattle.arm2_exec.specs.declared.machine.Ran.{Ran}
 use Rattle.arm2_exec.specs.declared.machine.Stepped.{Stepped}
 use Rattle.flow_graph.specs.StepLaw.{IsEdgeOf}
 use Rattle.report_input.specs.Keeping.{KeepsStatement}
-use Rattle.arcwcet.specs.Visits.{HasVisitedRun, IsVisit, KeepsVisited, MainStep, Visit, inputs_of}
+use Rattle.kept_runs.specs.Visited.{IsVisit, MainStep, Visit, inputs_of}
+use Rattle.report_input.specs.Visits.{HasVisitedRun, KeepsVisited}
 use Rattle.arcwcet.proofs.OneWord as one
 use Rattle.arcwcet.proofs.OneWord.{goes_before, quiet}
 
@@ -203,7 +204,7 @@ module _ (profile : Profile) where
       goes_before (ready timers) asking (quiet ∷ rest) (stepped_taking timers) (inside (first_timers timers)) (handler_ran (first_timers timers) more) after
       (step_in timers) (ap why_stopped (takes_fiq timers)) (handler_runs (first_timers timers) rest more after runs)
 
-  is_visit : (timers : Timers) → IsVisit words (one.stated words vector fiq_stands profile) profile (one.flow words vector fiq_stands profile) (ready timers) visit (ready (next_timers timers))
+  is_visit : (timers : Timers) → IsVisit (KeepsStatement words (one.stated words vector fiq_stands profile) profile (one.flow words vector fiq_stands profile)) profile (ready timers) visit (ready (next_timers timers))
   unfolding next_timers ready
   is_visit timers =
       let t = first_timers timers in

@@ -17,13 +17,15 @@ use Rattle.numbered_walks.specs.declared.fault.WalkFault.TheVariants as walk_fau
 use Rattle.report_output.specs.Faults.{of_statement}
 use Rattle.report_input.specs.Report.{BeforeOutput, IsBounded, IsRefused}
 use Rattle.report_input.specs.Source.{Said, source_of}
-use Rattle.arcwcet.specs.VisitsReport.{AreAccepted, AreRefused, EntersElsewhere, HasBound, HasFiqBound, HaveReports, IsFiqRefused, IsVisitsReport, summary, total_of}
+use Rattle.arcwcet.specs.VisitsReport.{AreAccepted, AreRefused, HasBound, HasFiqBound, HaveReports, IsVisitsReport, summary, total_of}
 use Rattle.report_output.specs.declared.fault.ReportFault.{ReportFault}
 use Rattle.report_output.specs.declared.fault.ReportFault.TheVariants.{Memory, Walk, Device, NotFiqEntry}
 use Rattle.report_output.specs.declared.fault.ReportFault.TheVariants as report_fault
 use Rattle.report_input.proofs.HandlerLemmas.{one_graph, one_ok, same_statement, statement_refusal}
 use Rattle.report_input.proofs.ReportLemmas.{accepted_refusals, report_refusal}
-use Rattle.arcwcet.proofs.VisitLemmas.{bounds_visited}
+use Rattle.report_input.proofs.FiqLemmas.{fiq_accepted}
+use Rattle.report_input.proofs.VisitLemmas.{bounds_visited}
+use Rattle.report_input.specs.FiqHandler.{IsFiqRefused}
 
 -- ## One bound
 
@@ -42,49 +44,6 @@ one_bound source statement profile r s =
     (subst (λ (st : Stated). IsGreatestCost b.flow st.loops r.longest.bound) same.same_stated
     (subst (λ (flow : Flow). IsGreatestCost flow a.stated.loops r.longest.bound) same.same_flow r.walk.greatest))
     s.walk.greatest
-
--- ## Refusals of FIQ's handler
-
-module _ (source fiq : List ℕ) (profile : Profile) where
-  -- where its entry is right, or not read, the refusals are those of any handler
-  pub fiq_refusal : (e : ReportFault) → (EntersElsewhere source fiq → ⊥) → BeforeOutput (IsRefused source fiq profile) e → BeforeOutput (IsFiqRefused source fiq profile) e
-  fiq_refusal Memory right r = (λ e. cc e, tt)
-  fiq_refusal NotFiqEntry right r = absurd r.1
-  fiq_refusal report_fault.NoSuchEdge right r = absurd r.1
-  fiq_refusal report_fault.NoSuchEntry right r = absurd r.1
-  fiq_refusal (report_fault.NotFree at) right r = absurd r.1
-  fiq_refusal Device right r = absurd (r.0 refl)
-  fiq_refusal e right r = (λ e. cc e, (r.1, right))
-
-  -- the same of an answer
-  pub fiq_answer : {T : Type 0} (r : Result T ReportFault) → (EntersElsewhere source fiq → ⊥) → IfErr r (BeforeOutput (IsRefused source fiq profile))
-      → IfErr r (BeforeOutput (IsFiqRefused source fiq profile))
-  fiq_answer (Ok x) right h = tt
-  fiq_answer (Err e) right h = fiq_refusal e right h
-
-  module _ (words : Words) (names : Names) (said : source_of source ≡ Ok (words, names)) where
-    -- a statement that was read has one entry
-    pub enters_there : (st : Stated) → IsStatement fiq names (Ok st) → st.entry ≡ 0x1C → EntersElsewhere source fiq → ⊥
-    enters_there st is there other =
-        let same_said : (other.words, other.names) ≡ (words, names) = one_ok (other.words, other.names) (words, names) (source_of source) other.source_is said in
-        let ok : Ok other.stated ≡ Ok st = same_statement fiq other.names names (Ok other.stated) (Ok st) (ap (λ (s : Said). s.1) same_said) other.statement_is is in
-        let same : other.stated ≡ st = cc ok in
-        other.elsewhere (ap (λ (s : Stated). s.entry) same ∙ there)
-
-    -- one that cannot be read has none
-    enters_nowhere : (f : StatementFault) → IsStatement fiq names (Err f) → EntersElsewhere source fiq → ⊥
-    enters_nowhere f is other =
-        let same_said : (other.words, other.names) ≡ (words, names) = one_ok (other.words, other.names) (words, names) (source_of source) other.source_is said in
-        let both : Ok other.stated ≡ Err f = same_statement fiq other.names names (Ok other.stated) (Err f) (ap (λ (s : Said). s.1) same_said) other.statement_is is in
-        absurd (cc both)
-
-    refused_reading : (f : StatementFault) → f ≢ statement_fault.Memory → (f ≢ statement_fault.Memory → IsStatement fiq names (Err f)) → BeforeOutput (IsFiqRefused source fiq profile) (of_statement f)
-    refused_reading f other h =
-        fiq_refusal (of_statement f) (enters_nowhere f (h other)) (report_refusal source fiq profile (of_statement f) (statement_refusal source fiq profile words names said f h))
-
-    pub fiq_statement_refusal : (f : StatementFault) → (f ≢ statement_fault.Memory → IsStatement fiq names (Err f)) → BeforeOutput (IsFiqRefused source fiq profile) (of_statement f)
-    fiq_statement_refusal statement_fault.Memory h = (λ e. cc e, tt)
-    fiq_statement_refusal f h = refused_reading f (λ e. cc e) h
 
 -- ## The report
 
@@ -126,19 +85,8 @@ module _ (source irq fiq : List ℕ) (profile : Profile) where
 
   -- ## What accepted statements are refused for
 
-  other_entry : HaveReports source irq fiq profile → EntersElsewhere source fiq → ⊥
-  other_entry both other =
-      let g = both.fiq_is.bounded.accepted.loops.graph in
-      enters_there source fiq profile g.words g.names g.source_is both.fiq_is.bounded.accepted.stated g.statement_is both.entry_is other
-
   fiq_refusals : (e : ReportFault) → HaveReports source irq fiq profile → IsFiqRefused source fiq profile e → (e ≡ Memory) ⊎ (e ≡ Device)
-  fiq_refusals Memory both r = inl refl
-  fiq_refusals NotFiqEntry both r = absurd (other_entry both r)
-  fiq_refusals report_fault.NoSuchEdge both r = absurd r.0
-  fiq_refusals report_fault.NoSuchEntry both r = absurd r.0
-  fiq_refusals (report_fault.NotFree at) both r = absurd r.0
-  fiq_refusals Device both r = inr refl
-  fiq_refusals e both r = accepted_refusals source fiq profile e both.fiq_is.bounded.accepted r.0
+  fiq_refusals e both r = fiq_accepted source fiq profile both.fiq_is.bounded.accepted both.entry_is e r
 
   visits_refusals : (k : ℕ) (e : ReportFault) → AreAccepted source irq fiq k profile → AreRefused source irq fiq k profile e → (e ≡ Memory) ⊎ (e ≡ Device)
   visits_refusals k e a (inl r) = accepted_refusals source irq profile e a.0.irq_is.bounded.accepted r

@@ -2,8 +2,8 @@ pub mod Asked
 pub mod FileTexts
 pub mod Files
 pub mod FileFaults
+pub mod Refusals
 pub mod Run
 pub mod Store
-pub mod Visits
 pub mod VisitsReport
 pub use Rattle.command_line.specs.Line

@@ -1,18 +1,22 @@
 -- What a run of the program does, by its exit status.
-use Rattle.std.specs.Prelude.{◌≡◌, ◌≢◌, ◌⊎◌, ◌+◌, ◌≤◌, ℕ, Bool, true, false, if◌then◌else◌, List, [], ◌∷◌}
-use Rattle.std.specs.Prelude.{length, Option, Some, None, Result, Ok, Err}
+use Rattle.std.specs.Prelude.{◌≡◌, ◌≢◌, ◌⊎◌, ◌≤◌, ℕ, Bool, true, false, if◌then◌else◌, List, [], ◌∷◌}
+use Rattle.std.specs.Prelude.{codes, length, Option, Some, None, Result, Ok, Err}
 use Rattle.std.specs.Io.KnownBytes.{Appends, Consumes, IsAtEnd}
 use Rattle.report_output.specs.Answers.{FailsWithin, OfSome, Prints, PrintsOrRefuses}
+use Rattle.report_output.specs.FaultText.{fault_text}
 use Rattle.machine_reports.specs.Assembly.{IsAsmReport, IsSourceRefused, IsWritten}
 use Rattle.bound_reports.specs.Check.{IsAnswer, IsCheckRefused}
 use Rattle.bound_reports.specs.Verdict.{IsVerdictReport}
 use Rattle.machine_reports.specs.Debug.{IsDebugReport}
-use Rattle.arcwcet.specs.Files.{FailsToRead, ReadsAll, Reading, Texts, Writing, three_of, two_of}
+use Rattle.arcwcet.specs.Files.{FailsToRead, ReadsAll, Reading, StopsReading, Texts, Writing, three_of}
+use Rattle.arcwcet.specs.Files.{four_of, two_of}
 use Rattle.command_line.specs.Line.{Asked, asm, list, draft, run, trace, debug, bound, explain, tight}
-use Rattle.command_line.specs.Line.{ExplainOptions, FileNames, check, explain_verdict, follow, graph, visits}
+use Rattle.command_line.specs.Line.{ExplainOptions, FileNames, check, explain_verdict, follow, follow_visits}
+use Rattle.command_line.specs.Line.{graph, visits}
 use Rattle.author_reports.specs.DraftReport.{IsDraftRefused, IsDraftReport}
 use Rattle.author_reports.specs.ExplainReport.{IsExplainReport}
 use Rattle.author_reports.specs.FollowReport.{IsFollowRefused, IsFollowReport}
+use Rattle.author_reports.specs.FollowVisits.{AreNotFollowed, IsFollowVisitsReport}
 use Rattle.author_reports.specs.GraphReport.{IsGraphReport}
 use Rattle.machine_reports.specs.ListReport.{IsListReport}
 use Rattle.report_input.specs.Placing.{IsRunRefused}
@@ -21,6 +25,7 @@ use Rattle.outputs.specs.Output.{TakesFront, FailsSince}
 use Rattle.report_input.specs.Priced.{ByProfile, PricedFault}
 use Rattle.report_input.specs.Report.{IsRefused, IsReport}
 use Rattle.machine_reports.specs.TightReport.{IsTightRefused, IsTightReport}
+use Rattle.arcwcet.specs.Refusals.{Saying, store_fault_name}
 use Rattle.arcwcet.specs.VisitsReport.{AreRefused, IsVisitsReport}
 use Rattle.bus_ticks.specs.declared.profile.Profile.{Profile}
 use Rattle.explained.specs.declared.bursts.Bursts.{Bursts}
@@ -68,18 +73,21 @@ module _ {S : Type 0} (reads : Reading S) (names : Texts) (old new : S) where
     pub read : ReadsAll reads old names files new
     pub fails : FailsWithin (IsText files) out_old out_new before after
 
-  -- what the files hold is refused
-  pub record HasRefused (IsFault : Texts → ReportFault → Type 0) : Type 0 where
+  -- what the files hold is refused, and standard error says with which fault
+  pub record HasRefused (Says : Saying) (IsFault : Texts → ReportFault → Type 0) : Type 0 where
     pub files : Texts
     pub read : ReadsAll reads old names files new
     pub fault : ReportFault
     pub not_memory : fault ≢ report_fault.Memory
     pub not_device : fault ≢ report_fault.Device
     pub refused : IsFault files fault
+    pub said : Says (Some (fault_text fault))
 
   -- status 1: a file is too long, or what they hold is refused
-  abbrev pub IsRefusedRun : (Texts → ReportFault → Type 0) → Type 0
-  IsRefusedRun IsFault = FailsToRead reads old names store_fault.InputTooLong new ⊎ HasRefused IsFault
+  abbrev pub IsRefusedRun : Saying → (Texts → ReportFault → Type 0) → Type 0
+  IsRefusedRun Says IsFault =
+      (FailsToRead reads old names store_fault.InputTooLong new × Says (Some (codes "InputTooLong")))
+      ⊎ HasRefused Says IsFault
 
   -- status 4: a file could not be read, and nothing was printed, or the output failed
   abbrev pub IsFailedRun : {O : Type 0} → (Texts → List ℕ → Type 0) → (taken : O → Option (List ℕ))
@@ -88,24 +96,27 @@ module _ {S : Type 0} (reads : Reading S) (names : Texts) (old new : S) where
       (FailsToRead reads old names store_fault.Device new × (after ≡ before))
       ⊎ FailsToPrint IsText (taken before) (taken after) (failures before) (failures after)
 
-  -- status 3: unless the store is as it was, a file could not be read for lack of memory, or all were read
+  -- status 3: no file was read, or one could not be read for lack of memory, or all were read
   abbrev pub IsOutOfMemory : Type 0
-  IsOutOfMemory = (new ≡ old → ⊥) → FailsToRead reads old names store_fault.Memory new ⊎ HasRead
+  IsOutOfMemory = (new ≡ old) ⊎ (FailsToRead reads old names store_fault.Memory new ⊎ HasRead)
 
 -- What a command did with the files of these names, by its status. At 0 it printed a text of `true`; at 1 it
 -- printed one of `false`, or the files are refused and nothing is printed; nor is anything for lack of
--- memory.
+-- memory. Standard error says what was refused, and nothing where a text was printed.
 pub record Runs {S O : Type 0} (reads : Reading S) (taken : O → Option (List ℕ)) (failures : O → ℕ)
-    (IsText : Bool → Texts → List ℕ → Type 0) (IsFault : Texts → ReportFault → Type 0) (names : Texts)
+    (Says : Saying) (IsText : Bool → Texts → List ℕ → Type 0) (IsFault : Texts → ReportFault → Type 0) (names : Texts)
     (old new : S) (before after : O) (status : ℕ) : Type 0 where
-  pub done : status ≡ 0 → HasPrinted reads names old new (IsText true) (taken before) (taken after)
+  pub done : status ≡ 0
+      → HasPrinted reads names old new (IsText true) (taken before) (taken after) × Says None
   pub denied : status ≡ 1
-      → HasPrinted reads names old new (IsText false) (taken before) (taken after)
-      ⊎ (IsRefusedRun reads names old new IsFault × (after ≡ before))
+      → (HasPrinted reads names old new (IsText false) (taken before) (taken after) × Says None)
+      ⊎ (IsRefusedRun reads names old new Says IsFault × (after ≡ before))
   pub failed : status ≡ 4
       → IsFailedRun reads names old new
       (λ files. OfSome (λ answer. IsText answer files)) taken failures before after
-  pub out_of_memory : status ≡ 3 → IsOutOfMemory reads names old new × (after ≡ before)
+      × Says (Some (codes "Device"))
+  pub out_of_memory : status ≡ 3
+      → IsOutOfMemory reads names old new × (after ≡ before) × Says (Some (codes "Memory"))
   pub known : (status ≡ 0) ⊎ ((status ≡ 1) ⊎ ((status ≡ 3) ⊎ (status ≡ 4)))
 
 -- ## The files of a command, with a cycle profile's in front, where there is one
@@ -125,8 +136,9 @@ files_of (check n cert) = three_of n cert
 files_of (explain_verdict n cert) = three_of n cert
 files_of (visits n fiq k) = three_of n fiq
 files_of (follow n machine) = three_of n machine
+files_of (follow_visits n fiq machine) = four_of n fiq machine
 
--- ## Of the bytes of one, two or three files, by the profile
+-- ## Of the bytes of one, two, three or four files, by the profile
 
 abbrev pub OfOne : (List ℕ → Type 0) → Texts → Type 0
 OfOne Is (a ∷ []) = Is a
@@ -142,11 +154,19 @@ OfThree Is (a ∷ b ∷ c ∷ []) = Is None a b c
 OfThree Is (profile ∷ a ∷ b ∷ c ∷ []) = Is (Some profile) a b c
 OfThree Is files = ⊥
 
+abbrev pub OfFour : (Option (List ℕ) → List ℕ → List ℕ → List ℕ → List ℕ → Type 0) → Texts → Type 0
+OfFour Is (a ∷ b ∷ c ∷ d ∷ []) = Is None a b c d
+OfFour Is (profile ∷ a ∷ b ∷ c ∷ d ∷ []) = Is (Some profile) a b c d
+OfFour Is files = ⊥
+
 abbrev pub ByTwo : (List ℕ → List ℕ → Profile → Type 0) → Texts → Type 0
 ByTwo Is files = OfTwo (λ file a b. ByProfile file (Is a b)) files
 
 abbrev pub ByThree : (List ℕ → List ℕ → List ℕ → Profile → Type 0) → Texts → Type 0
 ByThree Is files = OfThree (λ file a b c. ByProfile file (Is a b c)) files
+
+abbrev pub ByFour : (List ℕ → List ℕ → List ℕ → List ℕ → Profile → Type 0) → Texts → Type 0
+ByFour Is files = OfFour (λ file a b c d. ByProfile file (Is a b c d)) files
 
 -- ## What is printed, and why not
 
@@ -185,6 +205,8 @@ text_of (explain_verdict n cert) answer files text =
 text_of (visits n fiq k) answer files text =
     ByThree (λ s irq f p. Plain (IsVisitsReport s irq f k p) answer text) files
 text_of (follow n machine) answer files text = ByThree (λ s t m p. IsFollowReport s t m p answer text) files
+text_of (follow_visits n fiq machine) answer files text =
+    ByFour (λ s t f m p. IsFollowVisitsReport s t f m p answer text) files
 
 abbrev pub RefusesTwo : (List ℕ → List ℕ → Profile → ReportFault → Type 0) → Texts → ReportFault → Type 0
 RefusesTwo IsFault files fault = OfTwo (λ file a b. PricedFault file (IsFault a b) fault) files
@@ -192,6 +214,10 @@ RefusesTwo IsFault files fault = OfTwo (λ file a b. PricedFault file (IsFault a
 abbrev pub RefusesThree : (List ℕ → List ℕ → List ℕ → Profile → ReportFault → Type 0) → Texts → ReportFault
     → Type 0
 RefusesThree IsFault files fault = OfThree (λ file a b c. PricedFault file (IsFault a b c) fault) files
+
+abbrev pub RefusesFour : (List ℕ → List ℕ → List ℕ → List ℕ → Profile → ReportFault → Type 0) → Texts
+    → ReportFault → Type 0
+RefusesFour IsFault files fault = OfFour (λ file a b c d. PricedFault file (IsFault a b c d) fault) files
 
 -- why a command refuses its files' bytes
 abbrev pub fault_of : Asked → Texts → ReportFault → Type 0
@@ -209,6 +235,7 @@ fault_of (check n cert) files fault = RefusesThree IsCheckRefused files fault
 fault_of (explain_verdict n cert) files fault = RefusesThree IsCheckRefused files fault
 fault_of (visits n fiq k) files fault = RefusesThree (λ s irq f p e. AreRefused s irq f k p e) files fault
 fault_of (follow n machine) files fault = RefusesThree IsFollowRefused files fault
+fault_of (follow_visits n fiq machine) files fault = RefusesFour AreNotFollowed files fault
 
 -- the answer of a report that is its text alone
 abbrev pub answered : Result (Unit {0}) ReportFault → Result Bool ReportFault
@@ -224,10 +251,11 @@ PrintsOrRefusesOf taken failures asked files before after result =
 
 -- ## Of a command that reads its files and prints its report
 
-abbrev pub RunsOf : {S O : Type 0} → Reading S → (O → Option (List ℕ)) → (O → ℕ) → Asked → S → S → O → O → ℕ
-    → Type 0
-RunsOf reads taken failures asked old new before after status =
-    Runs reads taken failures (text_of asked) (fault_of asked) (files_of asked) old new before after status
+abbrev pub RunsOf : {S O : Type 0} → Reading S → (O → Option (List ℕ)) → (O → ℕ) → Saying → Asked → S → S → O
+    → O → ℕ → Type 0
+RunsOf reads taken failures Says asked old new before after status =
+    Runs reads taken failures Says (text_of asked) (fault_of asked) (files_of asked) old new before after
+    status
 
 -- ## `asm SOURCE IMAGE`
 
@@ -265,18 +293,21 @@ pub record FailsToWrite {S : Type 0} (reads : Reading S) (writes : Writing S) (s
 -- What `asm` did, by its status: the image's file is written before anything is printed, and neither where
 -- the source is refused.
 pub record RunsAsm {S O : Type 0} (reads : Reading S) (writes : Writing S) (taken : O → Option (List ℕ))
-    (failures : O → ℕ)
+    (failures : O → ℕ) (Says : Saying)
     (source image : List ℕ) (old new : S) (before after : O) (status : ℕ) : Type 0 where
-  pub done : status ≡ 0 → HasAssembled reads writes source image old new (taken before) (taken after)
+  pub done : status ≡ 0
+      → HasAssembled reads writes source image old new (taken before) (taken after) × Says None
   pub denied : status ≡ 1
-      → IsRefusedRun reads (source ∷ []) old new (fault_of (asm source image)) × (after ≡ before)
+      → IsRefusedRun reads (source ∷ []) old new Says (fault_of (asm source image)) × (after ≡ before)
   pub failed : status ≡ 4
-      → FailsToReport reads writes source image old new (taken before) (taken after) (failures before)
+      → (FailsToReport reads writes source image old new (taken before) (taken after) (failures before)
       (failures after)
       ⊎ ((FailsToWrite reads writes source image old new
       ⊎ FailsToRead reads old (source ∷ []) store_fault.Device new)
-      × (after ≡ before))
-  pub out_of_memory : status ≡ 3 → IsOutOfMemory reads (source ∷ []) old new × (after ≡ before)
+      × (after ≡ before)))
+      × Says (Some (codes "Device"))
+  pub out_of_memory : status ≡ 3
+      → IsOutOfMemory reads (source ∷ []) old new × (after ≡ before) × Says (Some (codes "Memory"))
   pub known : (status ≡ 0) ⊎ ((status ≡ 1) ⊎ ((status ≡ 3) ⊎ (status ≡ 4)))
 
 -- ## `debug SOURCE MACHINE`
@@ -292,46 +323,47 @@ module _ {S I : Type 0} (reads : Reading S) (remaining : I → Option (List ℕ)
     pub few : length commands ≤ MOST_INPUT_BYTES
 
   -- a file could not be read, and standard input was not
-  pub record FailsBeforeInput (status : ℕ) : Type 0 where
+  pub record FailsBeforeInput (Says : Saying) (status : ℕ) : Type 0 where
     pub fault : StoreFault
     pub fails : FailsToRead reads old names fault new
     pub status_is : status ≡ store_status fault
     pub input_unread : input_new ≡ input_old
+    pub said : Says (Some (store_fault_name fault))
 
-  -- all files were read, and standard input failed, or it is too long and was left after its limit
-  pub record FailsToReadInput (status : ℕ) : Type 0 where
+  -- all files were read, and standard input failed, or is too long, or memory was wanting for it
+  pub record FailsToReadInput (Says : Saying) (status : ℕ) : Type 0 where
     pub files : Texts
     pub read : ReadsAll reads old names files new
     pub fault : StoreFault
     pub status_is : status ≡ store_status fault
-    pub too_long : fault ≡ store_fault.InputTooLong
-        → (front : List ℕ) × (length front ≡ MOST_INPUT_BYTES + 1)
-        × Consumes (remaining input_old) (remaining input_new) front
+    pub stops : StopsReading fault (remaining input_old) (remaining input_new)
+    pub said : Says (Some (store_fault_name fault))
 
 module _ {S I O : Type 0} (reads : Reading S) (remaining : I → Option (List ℕ))
-    (taken : O → Option (List ℕ)) (failures : O → ℕ) where
+    (taken : O → Option (List ℕ)) (failures : O → ℕ) (Says : Saying) where
   -- What `debug` did: the files were read, and then standard input to its end, and the session with these
   -- commands is the report.
   abbrev pub RunsDebug : FileNames → S → S → I → I → O → O → ℕ → Type 0
   RunsDebug n old new input_old input_new before after status =
       ((commands : List ℕ)
       × HasReadInput reads remaining (two_of n) old new input_old input_new commands
-      × Runs reads taken failures (IsSessionOf commands) (RefusesTwo IsRunRefused) (two_of n) old new before
-      after status)
-      ⊎ ((FailsBeforeInput reads remaining (two_of n) old new input_old input_new status
-      ⊎ (FailsToReadInput reads remaining (two_of n) old new input_old input_new status
-      ⊎ ((status ≡ 3) × (new ≡ old) × (input_new ≡ input_old))))
+      × Runs reads taken failures Says (IsSessionOf commands) (RefusesTwo IsRunRefused) (two_of n) old new
+      before after status)
+      ⊎ ((FailsBeforeInput reads remaining (two_of n) old new input_old input_new Says status
+      ⊎ (FailsToReadInput reads remaining (two_of n) old new input_old input_new Says status
+      ⊎ ((status ≡ 3) × (new ≡ old) × (input_new ≡ input_old) × Says (Some (codes "Memory")))))
       × (after ≡ before))
 
 -- ## Any command
 
 module _ {S I O : Type 0} (reads : Reading S) (writes : Writing S) (remaining : I → Option (List ℕ))
-    (taken : O → Option (List ℕ)) (failures : O → ℕ) where
+    (taken : O → Option (List ℕ)) (failures : O → ℕ) (Says : Saying) where
   -- what was asked for was done; no other command than `debug` reads standard input
   abbrev pub RunsAsked : Asked → S → S → I → I → O → O → ℕ → Type 0
   RunsAsked (debug n) old new input_old input_new before after status =
-      RunsDebug reads remaining taken failures n old new input_old input_new before after status
+      RunsDebug reads remaining taken failures Says n old new input_old input_new before after status
   RunsAsked (asm source image) old new input_old input_new before after status =
-      RunsAsm reads writes taken failures source image old new before after status × (input_new ≡ input_old)
+      RunsAsm reads writes taken failures Says source image old new before after status
+      × (input_new ≡ input_old)
   RunsAsked asked old new input_old input_new before after status =
-      RunsOf reads taken failures asked old new before after status × (input_new ≡ input_old)
+      RunsOf reads taken failures Says asked old new before after status × (input_new ≡ input_old)

@@ -1,19 +1,16 @@
 -- What the report of a handler that FIQ interrupts prints, and when it is refused.
-use Rattle.std.specs.Prelude.{◌≡◌, ◌≢◌, ◌⊎◌, ◌≤◌, ◌<◌, ◌++◌, ℕ, List, Option, Result, Ok, codes, decimal}
+use Rattle.std.specs.Prelude.{◌≡◌, ◌⊎◌, ◌≤◌, ◌<◌, ◌++◌, ℕ, List, Option, Result, codes, decimal}
 use Rattle.bus_ticks.specs.declared.profile.Profile.{Profile}
 use Rattle.bus_ticks.specs.declared.space.TheConstants.{FIQ_VECTOR}
 use Rattle.walks.specs.declared.limits.TheConstants.{COST_LIMIT}
 use Rattle.bus_ticks.specs.Worst.{fiq_entry}
-use Rattle.loader.specs.Image.{Words}
 use Rattle.statement.specs.Stated.{Stated}
-use Rattle.loader.specs.Labels.{Names}
-use Rattle.statement.specs.Statement.{IsStatement}
 use Rattle.longest_walk.specs.Visits.{visits_bound}
 use Rattle.numbered_walks.specs.declared.fault.WalkFault.TheVariants as walk_fault
 use Rattle.report_output.specs.Answers.{Answers}
 use Rattle.report_input.specs.Report.{IsAccepted, IsBoundReport, IsRefused, IsReport}
-use Rattle.report_input.specs.Source.{source_of}
-use Rattle.arcwcet.specs.Visits.{BoundsVisitedRuns}
+use Rattle.report_input.specs.FiqHandler.{IsFiqRefused}
+use Rattle.report_input.specs.Visits.{BoundsVisitedRuns}
 use Rattle.report_output.specs.declared.fault.ReportFault.{ReportFault}
 use Rattle.report_output.specs.declared.fault.ReportFault.TheVariants as report_fault
 
@@ -27,15 +24,6 @@ summary profile irq fiq k =
     ++ (decimal fiq ++ (codes "\nentry "
     ++ (decimal (fiq_entry profile) ++ (codes "\ntotal "
     ++ (decimal (visits_bound profile irq fiq k) ++ codes "\n")))))))))
-
--- FIQ's handler does not begin at FIQ's vector
-pub record EntersElsewhere (source fiq : List ℕ) : Type 0 where
-  pub words : Words
-  pub names : Names
-  pub stated : Stated
-  pub source_is : source_of source ≡ Ok (words, names)
-  pub statement_is : IsStatement fiq names (Ok stated)
-  pub elsewhere : stated.entry ≢ FIQ_VECTOR
 
 -- a source and a statement have this bound and this report
 abbrev pub HasBound : List ℕ → List ℕ → Profile → (bound : ℕ) → List ℕ → Type 0
@@ -75,14 +63,6 @@ module _ (source irq fiq : List ℕ) (k : ℕ) (profile : Profile) where
   -- what has a report
   abbrev pub AreAccepted : Type 0
   AreAccepted = (both : HaveReports source irq fiq profile) × (total_of both < COST_LIMIT)
-
--- When each refusal of FIQ's handler is answered: that of its entry after those of its statement's text, and
--- before those of its graph.
-abbrev pub IsFiqRefused : List ℕ → List ℕ → Profile → ReportFault → Type 0
-IsFiqRefused source fiq profile report_fault.Memory = Unit {0}
-IsFiqRefused source fiq profile report_fault.NotFiqEntry = EntersElsewhere source fiq
-IsFiqRefused source fiq profile fault =
-    IsRefused source fiq profile fault × (EntersElsewhere source fiq → ⊥)
 
 -- When each refusal is answered: those of the interrupted handler, then those of FIQ's, and last that the
 -- total is 2^63 ticks or more.

@@ -1,14 +1,16 @@
 ghost use Rattle.std.specs.Prelude.{◌≡◌, ◌≢◌, ◌⊎◌, None, Some};
-ghost use Rattle.command_line.specs.Line.{Asked, asked_in, asked_of, explain, names_of, options_of};
+ghost use Rattle.command_line.specs.Line.{Asked, asked_in, asked_of, asm, debug, explain, follow_visits};
+ghost use Rattle.command_line.specs.Line.{names_of, options_of};
 ghost use Rattle.arcwcet.specs.Asked.{pair_asked, source_asked, triple_asked};
+ghost use Rattle.arcwcet.specs.Refusals.{Says};
 ghost use Rattle.arcwcet.specs.Run.{RunsAsked, RunsAsm, RunsDebug, RunsOf};
 
 use crate::diagnose::explained_status;
-use crate::files::{Store, read_limited, read_three_files, read_two_files};
-use crate::reports::{PairReport, SourceReport, TripleReport, answered};
+use crate::files::{Store, read_four_files, read_limited, read_three_files, read_two_files};
+use crate::reports::{PairReport, SourceReport, TripleReport, answered, print_follow_visits};
 use crate::status::{answer_status, line_status, report_status, store_status, unread_status};
 use author_reports::{Explained, explain_report};
-use command_line::{AsmNames, ExplainNames, Names, Request, request};
+use command_line::{AsmNames, ExplainNames, FollowVisitsNames, Names, Request, request};
 use explained::Bursts;
 use machine_reports::{debug_report, image_written};
 use report_output::{Output, ReportFault, write_whole};
@@ -24,7 +26,8 @@ fn obey<S: Store, I: Read, O: Output, E: Output>(
     err: &mut E,
 ) -> u8
     ensures done { RunsAsked S.read_gives S.write_gives I.remaining O.taken O.failures
-        (asked_of asked.entry) store.old store.new input.old input.new out.old out.new result }
+        (Says E.taken E.failures (asked_of asked.entry) err.old err.new) (asked_of asked.entry)
+        store.old store.new input.old input.new out.old out.new result }
     ensures silent { result ≡ 0 → err.new ≡ err.old }
 {
     match asked {
@@ -43,6 +46,7 @@ fn obey<S: Store, I: Read, O: Output, E: Output>(
         }
         Request::Visits(names) => run_triple(alloc, TripleReport::Visits(names), store, out, err),
         Request::Follow(names) => run_triple(alloc, TripleReport::Follow(names), store, out, err),
+        Request::FollowVisits(names) => run_follow_visits(alloc, names, store, out, err),
         Request::Graph(names) => run_pair(alloc, PairReport::Graph(names), store, out, err),
     }
 }
@@ -70,10 +74,11 @@ pub fn program<S: Store, I: Read, O: Output, E: Output>(
         × (input.new ≡ input.old) }
     ensures no_usage { asked_in words.now ≢ None → result ≢ 2 }
 
-    // What the words ask for was done.
+    // What the words ask for was done, and standard error says what was refused.
     ensures done { (asked : Asked) → asked_in words.now ≡ Some asked
-        → RunsAsked S.read_gives S.write_gives I.remaining O.taken O.failures asked store.old store.new
-        input.old input.new out.old out.new result }
+        → RunsAsked S.read_gives S.write_gives I.remaining O.taken O.failures
+        (Says E.taken E.failures asked err.old err.new) asked store.old store.new input.old input.new
+        out.old out.new result }
 
     // Nothing is printed on standard error at 0.
     ensures silent { result ≡ 0 → err.new ≡ err.old }
@@ -93,8 +98,9 @@ fn run_asm<S: Store, O: Output, E: Output>(
     out: &mut O,
     err: &mut E,
 ) -> u8
-    ensures ran { RunsAsm S.read_gives S.write_gives O.taken O.failures names.entry.source.now
-        names.entry.image.now store.old store.new out.old out.new result }
+    ensures ran { RunsAsm S.read_gives S.write_gives O.taken O.failures
+        (Says E.taken E.failures (asm names.entry.source.now names.entry.image.now) err.old err.new)
+        names.entry.source.now names.entry.image.now store.old store.new out.old out.new result }
     ensures silent { result ≡ 0 → err.new ≡ err.old }
 {
     let source = match store.read(alloc, names.source) {
@@ -122,8 +128,9 @@ fn run_source<S: Store, O: Output, E: Output>(
     out: &mut O,
     err: &mut E,
 ) -> u8
-    ensures ran { RunsOf S.read_gives O.taken O.failures (source_asked report.entry) store.old store.new
-        out.old out.new result }
+    ensures ran { RunsOf S.read_gives O.taken O.failures
+        (Says E.taken E.failures (source_asked report.entry) err.old err.new) (source_asked report.entry)
+        store.old store.new out.old out.new result }
     ensures silent { result ≡ 0 → err.new ≡ err.old }
 {
     let source = match store.read(alloc, report.name()) {
@@ -142,8 +149,9 @@ fn run_pair<S: Store, O: Output, E: Output>(
     out: &mut O,
     err: &mut E,
 ) -> u8
-    ensures ran { RunsOf S.read_gives O.taken O.failures (pair_asked report.entry) store.old store.new out.old
-        out.new result }
+    ensures ran { RunsOf S.read_gives O.taken O.failures
+        (Says E.taken E.failures (pair_asked report.entry) err.old err.new) (pair_asked report.entry)
+        store.old store.new out.old out.new result }
     ensures silent { result ≡ 0 → err.new ≡ err.old }
 {
     let files = match read_two_files(alloc, report.names(), store) {
@@ -163,8 +171,9 @@ fn run_triple<S: Store, O: Output, E: Output>(
     out: &mut O,
     err: &mut E,
 ) -> u8
-    ensures ran { RunsOf S.read_gives O.taken O.failures (triple_asked report.entry) store.old store.new
-        out.old out.new result }
+    ensures ran { RunsOf S.read_gives O.taken O.failures
+        (Says E.taken E.failures (triple_asked report.entry) err.old err.new) (triple_asked report.entry)
+        store.old store.new out.old out.new result }
     ensures silent { result ≡ 0 → err.new ≡ err.old }
 {
     let names = report.names();
@@ -181,6 +190,29 @@ fn run_triple<S: Store, O: Output, E: Output>(
     answer_status(answer, err)
 }
 
+// `follow` with FIQ's statement: reads the files and prints whether the run keeps both statements.
+fn run_follow_visits<S: Store, O: Output, E: Output>(
+    alloc: Global,
+    names: FollowVisitsNames<'_>,
+    store: &mut S,
+    out: &mut O,
+    err: &mut E,
+) -> u8
+    ensures ran { let asked = follow_visits (names_of names.entry.handler) names.entry.fiq_statement.now
+        names.entry.machine.now in
+        RunsOf S.read_gives O.taken O.failures (Says E.taken E.failures asked err.old err.new) asked
+        store.old store.new out.old out.new result }
+    ensures silent { result ≡ 0 → err.new ≡ err.old }
+{
+    let (fiq, machine) = (names.fiq_statement, names.machine);
+    let files = match read_four_files(alloc, names.handler, fiq, machine, store) {
+        Ok(files) => files,
+        Err(unread) => return store_status(unread.fault, err),
+    };
+    let answer = print_follow_visits(alloc, files.texts(), out);
+    answer_status(answer, err)
+}
+
 // `debug`: reads the files, and standard input to its end, and prints the session of these commands.
 fn run_debug<S: Store, I: Read, O: Output, E: Output>(
     alloc: Global,
@@ -190,8 +222,9 @@ fn run_debug<S: Store, I: Read, O: Output, E: Output>(
     out: &mut O,
     err: &mut E,
 ) -> u8
-    ensures ran { RunsDebug S.read_gives I.remaining O.taken O.failures (names_of names.entry) store.old
-        store.new input.old input.new out.old out.new result }
+    ensures ran { RunsDebug S.read_gives I.remaining O.taken O.failures
+        (Says E.taken E.failures (debug (names_of names.entry)) err.old err.new) (names_of names.entry)
+        store.old store.new input.old input.new out.old out.new result }
     ensures silent { result ≡ 0 → err.new ≡ err.old }
 {
     let files = match read_two_files(alloc, names, store) {
@@ -222,9 +255,9 @@ fn run_explain<S: Store, O: Output, E: Output>(
     out: &mut O,
     err: &mut E,
 ) -> u8
-    ensures ran { RunsOf S.read_gives O.taken O.failures
-        (explain (names_of names.entry.handler) (options_of names.entry)) store.old store.new out.old out.new
-        result }
+    ensures ran { let asked = explain (names_of names.entry.handler) (options_of names.entry) in
+        RunsOf S.read_gives O.taken O.failures (Says E.taken E.failures asked err.old err.new) asked
+        store.old store.new out.old out.new result }
     ensures silent { result ≡ 0 → err.new ≡ err.old }
 {
     let files = match read_two_files(alloc, names.handler, store) {

@@ -1,6 +1,8 @@
 //! What the one line of a refusal has no room for.
 
-ghost use Rattle.std.specs.Prelude.{◌≡◌};
+ghost use Rattle.std.specs.Prelude.{◌≡◌, IfErr, OnOk, true};
+ghost use Rattle.report_output.specs.FaultText.{fault_text};
+ghost use Rattle.arcwcet.specs.Refusals.{SaysRefused, TakesSome};
 ghost use Rattle.arcwcet.specs.Run.{answer_status};
 
 use crate::status::{answer_status, report_status};
@@ -218,7 +220,9 @@ fn print_refusal<E: Output>(
     profile: Option<&[u8]>,
     fault: ReportFault,
     err: &mut E,
-) {
+)
+    ensures { TakesSome (E.taken err.old) (E.taken err.new) }
+{
     if let Ok(text) = refusal_text(alloc, explained, profile, fault) {
         let _ = write_whole(err, &text);
     }
@@ -235,6 +239,9 @@ pub(crate) fn explained_status<E: Output>(
 ) -> u8
     ensures status { result ≡ answer_status answer }
     ensures silent { result ≡ 0 → err.new ≡ err.old }
+    ensures quiet { OnOk answer (err.new ≡ err.old) }
+    ensures says { IfErr answer
+        (λ fault. SaysRefused E.taken E.failures true err.old err.new (fault_text fault)) }
 {
     let Err(fault) = answer else {
         return answer_status(answer, err);

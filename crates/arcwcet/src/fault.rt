@@ -1,3 +1,6 @@
+ghost use Rattle.std.specs.Prelude.{◌≡◌};
+ghost use Rattle.arcwcet.specs.Refusals.{file_fault_text, store_fault_name};
+
 use thiserror::Error;
 
 /// Why a store read or wrote no file, or a reader did not return all that it had left.
@@ -12,6 +15,17 @@ pub enum StoreFault {
     /// The file, or what standard input has left, has more than 16,777,216 bytes.
     #[error("InputTooLong")]
     InputTooLong,
+}
+
+/// The name that a refusal's line has.
+pub(crate) fn store_fault_name(fault: StoreFault) -> &'static [u8]
+    ensures { result.now ≡ store_fault_name fault }
+{
+    match fault {
+        StoreFault::Memory => b"Memory",
+        StoreFault::Device => b"Device",
+        StoreFault::InputTooLong => b"InputTooLong",
+    }
 }
 
 /// Why a file cannot be read.
@@ -29,4 +43,16 @@ pub enum FileFault {
     /// Why is not known.
     #[error("cannot be read")]
     Other,
+}
+
+/// The words that say why, after the file's name.
+pub(crate) fn file_fault_text(fault: FileFault) -> &'static [u8]
+    ensures { result.now ≡ file_fault_text fault }
+{
+    match fault {
+        FileFault::NotFound => b"no such file",
+        FileFault::PermissionDenied => b"permission denied",
+        FileFault::IsADirectory => b"is a directory",
+        FileFault::Other => b"cannot be read",
+    }
 }

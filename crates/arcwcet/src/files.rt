@@ -1,11 +1,12 @@
-ghost use Rattle.std.specs.Prelude.{◌≡◌, ◌≤◌, ◌+◌, ℕ, List, [], length, vec_len, option_map};
-ghost use Rattle.std.specs.Prelude.{Result, IfErr, IfOk, IfSome, IsErrOf, OnOk};
+ghost use Rattle.std.specs.Prelude.{◌≡◌, ◌≤◌, [], vec_len, option_map};
+ghost use Rattle.std.specs.Prelude.{Result, IfErr, IfOk, IfSome, OnOk};
 ghost use Rattle.std.specs.Io.KnownBytes.{Consumes, IsAtEnd};
 ghost use Rattle.std.specs.IoError.{error_kind};
 ghost use Rattle.std.specs.List.{cons_option};
 ghost use Rattle.command_line.specs.Line.{names_of};
-ghost use Rattle.arcwcet.specs.Files.{FailsToRead, Reading, ReadsAll, Writing, three_of, two_of};
-ghost use Rattle.arcwcet.specs.FileTexts.{kept_three, kept_two, lent_three, lent_two};
+ghost use Rattle.arcwcet.specs.Files.{FailsToRead, Reading, ReadsAll, StopsReading, Writing};
+ghost use Rattle.arcwcet.specs.Files.{four_of, three_of, two_of};
+ghost use Rattle.arcwcet.specs.FileTexts.{kept_four, kept_three, kept_two, lent_four, lent_three, lent_two};
 ghost use Rattle.arcwcet.specs.FileFaults.{file_fault_of};
 ghost use Rattle.arcwcet.specs.Store.{bytes_read};
 ghost use Rattle.arcwcet.specs.declared.fault.StoreFault.{StoreFault};
@@ -133,15 +134,13 @@ const CHUNK: usize = 4096;
 /// # Errors
 ///
 /// `InputTooLong`: more than 16,777,216 bytes are left, of which 16,777,217 were then read. `Device`: a read
-/// failed. `Memory`: an allocation failed.
+/// failed, after at most 16,777,216 bytes. `Memory`: an allocation failed, after at most 16,777,217.
 pub fn read_limited<R: Read>(alloc: Global, reader: &mut R) -> Result<Vec<u8>, StoreFault>
     ensures limit { IfOk result (λ v. vec_len v ≤ MOST_INPUT_BYTES) }
     ensures consumed { IfOk result (λ v. Consumes (R.remaining reader.old) (R.remaining reader.new) v.items) }
     ensures at_end { OnOk result (IsAtEnd (R.remaining reader.new)) }
     ensures whole { IfOk result (λ v. IfSome (R.remaining reader.old) (λ xs. v.items ≡ xs)) }
-    ensures too_long { IsErrOf result StoreFault.InputTooLong
-        → (front : List ℕ) × (length front ≡ MOST_INPUT_BYTES + 1)
-        × Consumes (R.remaining reader.old) (R.remaining reader.new) front }
+    ensures stops { IfErr result (λ e. StopsReading e (R.remaining reader.old) (R.remaining reader.new)) }
 {
     let mut bytes = Vec::new(alloc);
     let mut chunk = [0u8; CHUNK];
@@ -304,4 +303,50 @@ pub(crate) fn read_three_files<'a, S: Store>(
     let handler = read_two_files(alloc, names, store)?;
     let third = read_named(alloc, third, store)?;
     Ok(ThreeFiles { handler, third })
+}
+
+/// The bytes of three files, of a cycle profile's where one is named, and of a fourth file.
+#[derive(Drop)]
+pub(crate) struct FourFiles {
+    three: ThreeFiles,
+    fourth: Vec<u8>,
+}
+
+/// The same, lent.
+#[derive(Clone, Copy)]
+pub(crate) struct FourTexts<'a> {
+    pub(crate) three: ThreeTexts<'a>,
+    pub(crate) fourth: &'a [u8],
+}
+
+impl FourFiles {
+    /// The texts of the files.
+    pub(crate) fn texts(&self) -> FourTexts<'_>
+        ensures { lent_four result ≡ kept_four self.now }
+    {
+        FourTexts {
+            three: self.three.texts(),
+            fourth: &self.fourth,
+        }
+    }
+}
+
+/// Reads the profile's file first, and then the other four, and says which was not read.
+pub(crate) fn read_four_files<'a, S: Store>(
+    alloc: Global,
+    names: Names<'a>,
+    third: &'a str,
+    fourth: &'a str,
+    store: &mut S,
+) -> Result<FourFiles, Unread<'a>>
+    ensures read { IfOk result
+        (λ f. ReadsAll S.read_gives store.old (four_of (names_of names.entry) third.now fourth.now)
+        (kept_four f) store.new) }
+    ensures fault { IfErr result
+        (λ u. FailsToRead S.read_gives store.old (four_of (names_of names.entry) third.now fourth.now)
+        u.fault store.new) }
+{
+    let three = read_three_files(alloc, names, third, store)?;
+    let fourth = read_named(alloc, fourth, store)?;
+    Ok(FourFiles { three, fourth })
 }

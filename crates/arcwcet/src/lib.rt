@@ -12,7 +12,8 @@ mod status;
 mod visits;
 
 pub use author_reports::{
-    Explained, FollowedRun, draft_report, explain_report, follow_report, graph_report,
+    Explained, FollowedRun, FollowedVisits, draft_report, explain_report, follow_report,
+    follow_visits_report, graph_report,
 };
 pub use bound_reports::{
     CheckInputs, bound_report, certificates_are_accepted, check_report, verdict_report,

@@ -1,15 +1,17 @@
 //! The reports that commands print, by how many files they read.
 
-ghost use Rattle.std.specs.Prelude.{◌≡◌, [], ◌∷◌};
-ghost use Rattle.command_line.specs.Line.{names_of};
+ghost use Rattle.std.specs.Prelude.{◌≡◌, [], ◌∷◌, List, ℕ};
+ghost use Rattle.command_line.specs.Line.{FileNames, follow_visits, names_of};
 ghost use Rattle.arcwcet.specs.Asked.{pair_asked, source_asked, triple_asked};
 ghost use Rattle.arcwcet.specs.Files.{three_of, two_of};
-ghost use Rattle.arcwcet.specs.FileTexts.{lent_three, lent_two};
+ghost use Rattle.arcwcet.specs.FileTexts.{lent_four, lent_three, lent_two};
 ghost use Rattle.arcwcet.specs.Run.{PrintsOrRefusesOf, answered, files_of};
 
-use crate::files::{ThreeTexts, TwoTexts};
+use crate::files::{FourTexts, ThreeTexts, TwoTexts};
 use crate::visits::visits_report;
-use author_reports::{FollowedRun, draft_report, follow_report, graph_report};
+use author_reports::{
+    FollowedRun, FollowedVisits, draft_report, follow_report, follow_visits_report, graph_report,
+};
 use bound_reports::{CheckInputs, bound_report, check_report, verdict_report};
 use command_line::{CheckNames, DraftNames, FollowNames, Names, TightNames, VisitsNames};
 use machine_reports::{ShownRegisters, ShownSteps, list_report, machine_report, tight_report};
@@ -190,4 +192,29 @@ impl<'a> TripleReport<'a> {
             }
         }
     }
+}
+
+/// Prints the report of a run with visits, of the bytes of a source, both statements and a machine file, and
+/// answers whether the run keeps the statements.
+pub(crate) fn print_follow_visits<O: Output>(
+    alloc: Global,
+    texts: FourTexts<'_>,
+    out: &mut O,
+) -> Result<bool, ReportFault>
+    ensures { (n : FileNames) → (fiq : List ℕ) → (machine : List ℕ)
+        → PrintsOrRefusesOf O.taken O.failures (follow_visits n fiq machine) (lent_four texts.entry) out.old
+        out.new result }
+{
+    let TwoTexts {
+        profile,
+        first: source,
+        second: statement,
+    } = texts.three.handler;
+    let run = FollowedVisits {
+        source,
+        statement,
+        fiq_statement: texts.three.third,
+        machine: texts.fourth,
+    };
+    follow_visits_report(alloc, run, profile, out)
 }

@@ -1,10 +1,16 @@
-ghost use Rattle.std.specs.Prelude.{◌≡◌, ◌≢◌, ◌⊎◌};
+ghost use Rattle.std.specs.Prelude.{◌≡◌, ◌≢◌, ◌⊎◌, IfErr, OnOk, codes, true};
+ghost use Rattle.outputs.specs.OnTheWay.{Adds};
+ghost use Rattle.report_output.specs.FaultText.{TakesOrFails, fault_text, refusal_line};
+ghost use Rattle.arcwcet.specs.Refusals.{SaysRefused, TakesSome, store_fault_name, unread_line};
 ghost use Rattle.arcwcet.specs.Run.{answer_status, report_status, store_status};
 
-use crate::fault::StoreFault;
-use crate::files::{MOST_INPUT_BYTES, Store, Unread};
+use crate::fault::{StoreFault, file_fault_text, store_fault_name};
+use crate::files::{Store, Unread};
 use command_line::CommandLineFault;
-use report_output::{Output, ReportFault, write_whole};
+use outputs::Page;
+use report_output::{
+    FaultPlace, Output, ReportFault, fault_name, fault_place, print_refusal_line, write_whole,
+};
 use std::fmt;
 use std::fmt::Write;
 
@@ -23,23 +29,34 @@ impl<O: Output> Write for Text<'_, O> {
     }
 }
 
+// Prints the line of a refusal that has no place.
+fn print_refused<E: Output>(name: &[u8], err: &mut E)
+    ensures { TakesOrFails E.taken E.failures err.old err.new (refusal_line name.now) }
+{
+    print_refusal_line(name, FaultPlace::Nowhere, err);
+}
+
 /// Prints why a line of words asks for nothing, and answers the exit status.
 pub(crate) fn line_status<E: Output>(fault: CommandLineFault, err: &mut E) -> u8
     ensures { ((result ≡ 2) × (fault ≢ CommandLineFault.Memory))
-        ⊎ ((result ≡ 3) × (fault ≡ CommandLineFault.Memory)) }
+        ⊎ ((result ≡ 3) × (fault ≡ CommandLineFault.Memory)
+        × TakesOrFails E.taken E.failures err.old err.new (refusal_line (codes "Memory"))) }
 {
-    let mut text = Text { out: err };
     match fault {
         CommandLineFault::Memory => {
-            let _ = writeln!(text, "refused: Memory");
+            print_refused(b"Memory", err);
             3
         }
         CommandLineFault::Usage(error) => {
-            let _ = write!(text, "{error}");
+            let _ = write!(Text { out: err }, "{error}");
             2
         }
         CommandLineFault::SourceReplaced => {
-            let _ = writeln!(text, "error: the image would be written over its source");
+            let _ = write_whole(err, b"error: the image would be written over its source\n");
+            2
+        }
+        CommandLineFault::OptionBesideCertificate => {
+            let _ = write_whole(err, b"error: --certificate goes with --profile alone\n");
             2
         }
     }
@@ -47,10 +64,10 @@ pub(crate) fn line_status<E: Output>(fault: CommandLineFault, err: &mut E) -> u8
 
 /// Prints why a file was not read or written, and answers the exit status.
 pub(crate) fn store_status<E: Output>(fault: StoreFault, err: &mut E) -> u8
-    ensures { result ≡ store_status fault }
+    ensures status { result ≡ store_status fault }
+    ensures says { TakesOrFails E.taken E.failures err.old err.new (refusal_line (store_fault_name fault)) }
 {
-    let mut text = Text { out: err };
-    let _ = writeln!(text, "refused: {fault}");
+    print_refused(store_fault_name(fault), err);
     match fault {
         StoreFault::Memory => 3,
         StoreFault::Device => 4,
@@ -58,24 +75,43 @@ pub(crate) fn store_status<E: Output>(fault: StoreFault, err: &mut E) -> u8
     }
 }
 
+fn put_unread_line<E: Output>(page: &mut Page, name: &str, why: &[u8], err: &mut E)
+    ensures { Adds E.taken E.failures err.old page.old err.new page.new (unread_line name.now why.now) }
+{
+    page.put(err, name.as_bytes());
+    page.put(err, b": ");
+    page.put(err, why);
+    page.put(err, b"\n");
+}
+
+// Prints a file's name and why it was not read.
+fn print_unread_line<E: Output>(name: &str, why: &[u8], err: &mut E)
+    ensures { TakesOrFails E.taken E.failures err.old err.new (unread_line name.now why.now) }
+{
+    let mut page = Page::new();
+    put_unread_line(&mut page, name, why, err);
+    let _ = page.finish(err);
+}
+
 // Prints the name of a file that was not read, and why it was not.
-fn print_unread<S: Store, E: Output>(name: &str, fault: StoreFault, store: &S, err: &mut E) {
-    let mut text = Text { out: err };
+fn print_unread<S: Store, E: Output>(name: &str, fault: StoreFault, store: &S, err: &mut E)
+    ensures { TakesSome (E.taken err.old) (E.taken err.new) }
+{
     match fault {
         StoreFault::Memory => {}
         StoreFault::Device => {
-            let why = store.file_fault(name);
-            let _ = writeln!(text, "{name}: {why}");
+            let why = file_fault_text(store.file_fault(name));
+            print_unread_line(name, why, err);
         }
-        StoreFault::InputTooLong => {
-            let _ = writeln!(text, "{name}: more than {MOST_INPUT_BYTES} bytes");
-        }
+        StoreFault::InputTooLong => print_unread_line(name, b"more than 16777216 bytes", err),
     }
 }
 
 /// Prints which file was not read and why, and answers the exit status.
 pub(crate) fn unread_status<S: Store, E: Output>(unread: Unread<'_>, store: &S, err: &mut E) -> u8
-    ensures { result ≡ store_status unread.entry.fault }
+    ensures status { result ≡ store_status unread.entry.fault }
+    ensures says { SaysRefused E.taken E.failures true err.old err.new
+        (store_fault_name unread.entry.fault) }
 {
     let status = store_status(unread.fault, err);
     print_unread(unread.name, unread.fault, store, err);
@@ -84,10 +120,10 @@ pub(crate) fn unread_status<S: Store, E: Output>(unread: Unread<'_>, store: &S, 
 
 /// Prints why there is no report, and answers the exit status.
 pub(crate) fn report_status<E: Output>(fault: ReportFault, err: &mut E) -> u8
-    ensures { result ≡ report_status fault }
+    ensures status { result ≡ report_status fault }
+    ensures says { TakesOrFails E.taken E.failures err.old err.new (refusal_line (fault_text fault)) }
 {
-    let mut text = Text { out: err };
-    let _ = writeln!(text, "refused: {fault}");
+    print_refusal_line(fault_name(fault), fault_place(fault), err);
     match fault {
         ReportFault::Memory => 3,
         ReportFault::Device => 4,
@@ -99,6 +135,9 @@ pub(crate) fn report_status<E: Output>(fault: ReportFault, err: &mut E) -> u8
 pub(crate) fn answer_status<E: Output>(answer: Result<bool, ReportFault>, err: &mut E) -> u8
     ensures status { result ≡ answer_status answer }
     ensures silent { result ≡ 0 → err.new ≡ err.old }
+    ensures quiet { OnOk answer (err.new ≡ err.old) }
+    ensures says { IfErr answer
+        (λ fault. TakesOrFails E.taken E.failures err.old err.new (refusal_line (fault_text fault))) }
 {
     match answer {
         Ok(true) => 0,

@@ -3,17 +3,17 @@ ghost use Rattle.std.specs.Prelude.{OnOk, option_map};
 ghost use Rattle.walks.specs.declared.limits.TheConstants.{COST_LIMIT};
 ghost use Rattle.longest_walk.specs.Visits.{visits_bound};
 ghost use Rattle.report_input.specs.Priced.{Priced};
-ghost use Rattle.report_input.specs.Report.{BeforeOutput, IsHandlerOf, IsRefused};
+ghost use Rattle.report_input.specs.FiqHandler.{IsFiqRefused};
+ghost use Rattle.report_input.specs.Report.{BeforeOutput, IsRefused};
 ghost use Rattle.report_input.specs.Source.{Says};
-ghost use Rattle.arcwcet.specs.VisitsReport.{AreRefused, HasBound, HasFiqBound, IsFiqRefused};
+ghost use Rattle.arcwcet.specs.VisitsReport.{AreRefused, HasBound, HasFiqBound};
 ghost use Rattle.arcwcet.specs.VisitsReport.{IsVisitsReport, ReportsVisits, summary};
 
 use assembler::Assembly;
 use bound_reports::{BoundReport, longest_report};
-use bus_ticks::{FIQ_VECTOR, Profile, fiq_entry};
-use flow_graph::read_statement;
+use bus_ticks::{Profile, fiq_entry};
 use longest_walk::{WalkFault, visits_bound};
-use report_input::{Handler, handler_of, profile_of, read_source, stated_handler};
+use report_input::{fiq_handler, handler_of, profile_of, read_source};
 use report_output::{Output, ReportFault, print_answer};
 use std::alloc::Global;
 use std::fmt::Write;
@@ -24,25 +24,6 @@ struct Visited<'a> {
     irq: &'a [u8],
     fiq: &'a [u8],
     visits: u32,
-}
-
-// FIQ's handler, which begins at its vector.
-fn fiq_handler(
-    alloc: Global,
-    said: &Assembly,
-    statement: &[u8],
-    profile: &Profile,
-) -> Result<Handler, ReportFault>
-    ensures is { IfOk result (IsHandlerOf said.now statement.now profile.now) }
-    ensures entry { IfOk result (λ h. h.statement.entry ≡ FIQ_VECTOR) }
-    ensures fault { (source : List ℕ) → Says source said.now
-        → IfErr result (BeforeOutput (IsFiqRefused source statement.now profile.now)) }
-{
-    let statement = read_statement(alloc, statement, &said.labels)?;
-    if statement.entry() != FIQ_VECTOR {
-        return Err(ReportFault::NotFiqEntry);
-    }
-    stated_handler(alloc, said, statement, profile)
 }
 
 // The report of the interrupted handler.

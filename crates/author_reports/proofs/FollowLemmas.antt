@@ -7,6 +7,7 @@ use Rattle.loader.specs.Image.{Words}
 use Rattle.statement.specs.Stated.{Stated}
 use Rattle.loader.specs.Labels.{Names}
 use Rattle.arm2_exec.specs.State.{State}
+use Rattle.arm2_exec.specs.Step.{address_in}
 use Rattle.arm2_exec.specs.declared.machine.Input.{Input}
 use Rattle.flow_graph.specs.Flow.{Flow, IsWellFormed}
 use Rattle.flow_graph.specs.Graph.{IsFlowGraph}
@@ -40,19 +41,20 @@ use Rattle.report_input.proofs.ReportLemmas.{accepted, accepted_refusals, bounde
 
 -- ## The run
 
-module _ (words : Words) (st : Stated) (flow : Flow) (tree : Tree) (of : IsTreeOf flow st.loops tree) (source : List ℕ) (longest : Longest) (s : State) (inputs : List Input) where
+module _ (words : Words) (st : Stated) (flow : Flow) (tree : Tree) (of : IsTreeOf flow st.loops tree) (s : State) where
   -- the bounds of the tree's instances are those of the stated loops
-  abbrev states : (is : List Input) → KeepsTo words st flow tree s is → KeepsStatement words st flow.profile flow s is
+  abbrev pub states : (is : List Input) → KeepsTo words st flow tree s is → KeepsStatement words st flow.profile flow s is
   states is k = record { walk = k.walk; complete = k.complete; kept = kept_here flow st.loops tree of.instances k.walk k.kept; follows = k.follows }
 
-  by_tree : (is : List Input) → KeepsStatement words st flow.profile flow s is → KeepsTo words st flow tree s is
+  pub by_tree : (is : List Input) → KeepsStatement words st flow.profile flow s is → KeepsTo words st flow tree s is
   by_tree is k = record { walk = k.walk; complete = k.complete; kept = kept_there flow st.loops tree of.instances k.walk k.kept; follows = k.follows }
 
+module _ (words : Words) (st : Stated) (flow : Flow) (tree : Tree) (of : IsTreeOf flow st.loops tree) (source : List ℕ) (longest : Longest) (s : State) (inputs : List Input) where
   at_most : RunLaw → IsGreatestCost flow st.loops longest.bound → (steps ticks : ℕ) (by_place : List Passed) (after : State)
       → IsKeptRun words st flow tree s inputs steps ticks by_place after → ticks ≤ longest.bound
   at_most law greatest steps ticks by_place after k =
       let most : TakesAtMost flow.profile longest.bound (take steps inputs) k.ran =
-      bounds_runs words flow.profile st flow longest.bound law greatest s (take steps inputs) k.ran after (states (take steps inputs) k.keeps) k.runs in
+      bounds_runs words flow.profile st flow longest.bound law greatest s (take steps inputs) k.ran after (states words st flow tree of s (take steps inputs) k.keeps) k.runs in
       subst (λ (n : ℕ). n ≤ longest.bound) k.ticks_are most.ticks
 
   abbrev within : RunLaw → IsGreatestCost flow st.loops longest.bound → (steps ticks : ℕ) (by_place : List Passed) (after : State)
@@ -60,7 +62,7 @@ module _ (words : Words) (st : Stated) (flow : Flow) (tree : Tree) (of : IsTreeO
   within law greatest steps ticks by_place after k = record {
     steps = steps;
     few = k.few;
-    keeps = states (take steps inputs) k.keeps;
+    keeps = states words st flow tree of s (take steps inputs) k.keeps;
     ran = k.ran;
     after = after;
     runs = k.runs;
@@ -69,23 +71,27 @@ module _ (words : Words) (st : Stated) (flow : Flow) (tree : Tree) (of : IsTreeO
   }
 
   none_keeps : KeepsNone words st flow tree s inputs → NoneKeeps words st flow.profile flow s inputs
-  none_keeps none steps keeps = none steps (by_tree (take steps inputs) keeps)
+  none_keeps none steps keeps = none steps (by_tree words st flow tree of s (take steps inputs) keeps)
 
   -- what is said of a followed run
   pub run_text : IsWellFormed flow → StepCost → RunLaw → IsLongest flow tree longest → IsGreatestCost flow st.loops longest.bound → (after : State) (followed : Followed) (kept : Bool) (text : List ℕ)
-      → IsFollowed words st flow tree s inputs after followed → IsFollowedText source words st flow longest followed kept text → IsRunText words st flow.profile flow s inputs source tree longest kept text
+      → IsFollowed words st flow tree s inputs after followed → IsFollowedText source words st flow longest (address_in after.regs) followed kept text → IsRunText words st flow.profile flow s inputs source tree longest kept text
   run_text well cost law longest_is greatest after (Kept steps ticks by_place) kept text is said =
       subst (λ (b : Bool). IsRunText words st flow.profile flow s inputs source tree longest b text) (sym said.0)
       (record {
         ticks = ticks;
         keeps = within law greatest steps ticks by_place.items after is;
+        left = said.1.left;
+        left_is = said.1.left_is;
         passes = is.passes;
         passes_are = is.passes_are;
         table = said.1.table;
         table_is =
-            let keeps = states (take steps inputs) is.keeps in
+            let keeps = states words st flow tree of s (take steps inputs) is.keeps in
             table_exact source words st flow tree longest s (take steps inputs) is.keeps.walk is.passes said.1.table well cost longest_is is.keeps.complete is.keeps.follows is.passes_are
             (greatest.upper keeps.walk keeps.complete keeps.kept) (said.1.table_is is.passes is.tally_is);
+        warnings = said.1.warnings;
+        are_warnings = said.1.are_warnings is.passes is.tally_is;
         text_is = said.1.text_is;
       })
   run_text well cost law longest_is greatest after (Strayed steps at why) kept text is said =

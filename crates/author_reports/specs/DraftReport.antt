@@ -1,10 +1,13 @@
 -- What has to be stated of a handler.
-use Rattle.std.specs.Prelude.{◌≡◌, ℕ, if◌then◌else◌, List, Option, Some, None, Ok}
+use Rattle.std.specs.Prelude.{◌≡◌, ℕ, true, false, if◌then◌else◌, List, [], Option, Some, None, Ok}
 use Rattle.std.specs.Prelude.{option_and_then}
 use Rattle.asm_text.specs.Numbers.{read_number}
+use Rattle.assembler.specs.Placed.{ArePlaced}
+use Rattle.assembler.specs.declared.placed_line.PlacedLine.{PlacedLine}
 use Rattle.bus_ticks.specs.Prices.{is_word_address}
 use Rattle.drafting.specs.Draft.{IsDraft}
 use Rattle.loader.specs.Image.{Words}
+use Rattle.loader.specs.ImageBytes.{is_image}
 use Rattle.loader.specs.Labels.{NamedAddresses, Names, address_of}
 use Rattle.report_input.specs.Source.{IsSourceFault, source_of}
 use Rattle.report_output.specs.declared.fault.ReportFault.{ReportFault}
@@ -26,6 +29,18 @@ or_address text None = address_in text
 abbrev pub entry_of : Names → List ℕ → Option ℕ
 entry_of names text = or_address text (names text)
 
+-- where the lines of a source are placed; an image has none
+pub record HasPlacedLines (source : List ℕ) (placed : List PlacedLine) : Type 0 where
+  pub of_image : is_image source ≡ true → placed ≡ []
+  pub of_source : is_image source ≡ false → ArePlaced source placed
+
+-- a draft, with labels and comments of the source's lines where they are placed
+pub record IsSourceDraft (source : List ℕ) (words : Words) (names : NamedAddresses) (at : ℕ) (text : List ℕ)
+    : Type 0 where
+  pub placed : List PlacedLine
+  pub are_placed : HasPlacedLines source placed
+  pub is_draft : IsDraft words names source placed at text
+
 module _ (source entry : List ℕ) where
   -- the source has words and labels, and the entry is an address by them
   pub record IsDraftable : Type 0 where
@@ -40,7 +55,7 @@ module _ (source entry : List ℕ) where
     pub draftable : IsDraftable
     pub list : NamedAddresses
     pub names_are : draftable.names ≡ address_of list
-    pub is_draft : IsDraft draftable.words list draftable.at text
+    pub is_draft : IsSourceDraft source draftable.words list draftable.at text
 
   -- the source has words and labels, and the entry is no address by them
   pub record HasNoEntry : Type 0 where

@@ -19,6 +19,7 @@ use Rattle.explained.specs.Table.{IsImageTable, IsSourceTable, image_ticks, sour
 use Rattle.explained.specs.Taken.{taken_at}
 use Rattle.savings.specs.Sections.{AreImageSavings, AreSourceSavings}
 use Rattle.report_output.specs.Answers.{Answers}
+use Rattle.author_reports.specs.RunTimes.{BeginsWithin, EndsWithin}
 use Rattle.report_input.specs.Report.{IsAccepted, IsBounded, IsRefused}
 use Rattle.report_output.specs.declared.fault.ReportFault.{ReportFault}
 
@@ -78,15 +79,19 @@ pub record IsTotal (source : List ℕ) (words : Words) (flow : Flow) (longest : 
 -- ## The report
 
 -- of an accepted source and statement: the table of a greatest walk, whose cost is the bound, as the ticks
--- of all rows are, with when each word begins at the latest on any walk; what bursts add to the bound; what
--- is taken for granted of the words that are reached; the entries of the statement without effect; and what
+-- of all rows are, with when each word begins at the latest on any walk, and so in any run; what bursts add to
+-- the bound, and so to any run in which they come so often; what is taken for granted of the words that are reached; the entries of the statement without effect; and what
 -- better entries would save
 pub record IsExplanation (source statement : List ℕ) (bursts : Bursts) (profile : Profile) (bound : ℕ)
     (text : List ℕ) : Type 0 where
   pub bounded : IsBounded source statement profile
   pub latest : ℕ → Option ℕ
   pub latest_is : (a : ℕ) → IsLatestStart bounded.accepted.flow bounded.tree a (latest a)
+  pub begins : (a : ℕ) → BeginsWithin bounded.accepted.loops.graph.words bounded.accepted.stated
+      bounded.accepted.flow bounded.tree a (latest a)
   pub bound_is : bounded.longest.bound ≡ bound
+  pub ends : EndsWithin bounded.accepted.loops.graph.words bounded.accepted.stated profile
+      bounded.accepted.flow bounded.longest.bound
   pub explains : IsTextOf source bounded.accepted.loops.graph.words bounded.accepted.stated
       bounded.accepted.flow bounded.longest latest profile.burst bursts text
   pub total : IsTotal source bounded.accepted.loops.graph.words bounded.accepted.flow bounded.longest

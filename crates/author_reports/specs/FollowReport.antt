@@ -5,6 +5,7 @@ use Rattle.loader.specs.Image.{Words}
 use Rattle.statement.specs.Stated.{Stated}
 use Rattle.arm2_exec.specs.Run.{Runs}
 use Rattle.arm2_exec.specs.State.{State}
+use Rattle.arm2_exec.specs.Step.{address_in}
 use Rattle.arm2_exec.specs.declared.machine.Input.{Input}
 use Rattle.arm2_exec.specs.declared.machine.Ran.{Ran}
 use Rattle.flow_graph.specs.Flow.{Flow}
@@ -16,7 +17,8 @@ use Rattle.kept_runs.specs.Passing.{ArePasses, Pass}
 use Rattle.kept_runs.specs.declared.following.Unkept.{Unkept}
 use Rattle.report_output.specs.Answers.{Answers}
 use Rattle.author_reports.specs.Differences.{IsTable, compared_at}
-use Rattle.author_reports.specs.FollowText.{IsLineNumberAt, kept_text, strayed_text, why_text}
+use Rattle.author_reports.specs.FollowText.{AreWarnings, IsLeftText, IsLineNumberAt, kept_text, strayed_text}
+use Rattle.author_reports.specs.FollowText.{why_text}
 use Rattle.report_input.specs.Keeping.{KeepsStatement}
 use Rattle.report_input.specs.Placing.{IsFileRefused, IsLoadRefused, IsLoaded, IsRunnable}
 use Rattle.report_input.specs.Report.{IsAccepted, IsBounded, IsRefused}
@@ -43,15 +45,20 @@ module _ (words : Words) (stated : Stated) (profile : Profile) (flow : Flow) (st
   NoneKeeps = (steps : ℕ) → KeepsStatement words stated profile flow state (take steps inputs) → ⊥
 
   module _ (source : List ℕ) (tree : Tree) (longest : Longest) where
-    -- how many ticks the run takes, and where it and the greatest walk differ
+    -- how many ticks the run takes, whether it goes on at a word of the source, where it and the greatest walk
+    -- differ, and which of the words that it does an explanation warns of
     pub record IsKeptText (text : List ℕ) : Type 0 where
       pub ticks : ℕ
       pub keeps : KeepsWithin longest.bound ticks
+      pub left : List ℕ
+      pub left_is : IsLeftText source words (address_in keeps.after.regs) left
       pub passes : List Pass
       pub passes_are : ArePasses flow state (take keeps.steps inputs) keeps.keeps.walk passes
       pub table : List ℕ
       pub table_is : IsTable source words (compared_at flow passes (unfolded longest.walk)) table
-      pub text_is : text ≡ kept_text ticks longest.bound ++ table
+      pub warnings : List ℕ
+      pub are_warnings : AreWarnings source words stated flow passes warnings
+      pub text_is : text ≡ kept_text ticks longest.bound ++ (left ++ (table ++ warnings))
 
     -- after how many steps, where and why the first one strays
     pub record IsStrayedText (text : List ℕ) : Type 0 where

@@ -1,7 +1,7 @@
 -- What is printed of a run that is judged by a statement.
 use Rattle.std.specs.Prelude.{◌≡◌, ℕ, ◌+◌, ◌-◌, Bool, true, false, if◌then◌else◌}
 use Rattle.std.specs.Prelude.{nat_eq, List, [], ◌++◌, codes, decimal}
-use Rattle.std.specs.Prelude.{Option, Some, None, option_map}
+use Rattle.std.specs.Prelude.{Contains, MatchOption, Option, Some, None, option_map}
 use Rattle.bus_ticks.specs.Prices.{class_of}
 use Rattle.bus_ticks.specs.declared.profile.Class.{Class}
 use Rattle.asm_text.specs.Hex.{hex}
@@ -16,18 +16,26 @@ use Rattle.kept_runs.specs.declared.following.Unkept.TheVariants as unkept
 use Rattle.kept_runs.specs.declared.judging.Stray.{Stray}
 use Rattle.kept_runs.specs.declared.judging.Stray.TheVariants as stray
 use Rattle.kept_runs.specs.declared.transfers.Access.{Access}
+use Rattle.loader.specs.Image.{Words, word_of}
 use Rattle.loader.specs.ImageBytes.{is_image}
+use Rattle.explained.specs.Assumed.{AreImageDone, AreSourceDone}
+use Rattle.explained.specs.Taken.{is_at}
+use Rattle.flow_graph.specs.Flow.{Flow}
+use Rattle.flow_graph.specs.Places.{place_at}
+use Rattle.kept_runs.specs.Passing.{Pass}
 
 -- ## A run that keeps the statement
 
--- how much less than the bound the ticks are
-abbrev pub less_text : (ticks bound : ℕ) → List ℕ
-less_text ticks bound =
-    if nat_eq ticks bound then codes "the bound" else decimal (bound - ticks) ++ codes " less than the bound"
+-- how much less than the most of this name the ticks are
+abbrev pub less_text : (name : List ℕ) → (ticks most : ℕ) → List ℕ
+less_text name ticks most =
+    if nat_eq ticks most then codes "the " ++ name
+    else decimal (most - ticks) ++ (codes " less than the " ++ name)
 
 abbrev pub kept_text : (ticks bound : ℕ) → List ℕ
 kept_text ticks bound =
-    codes "kept: " ++ (decimal ticks ++ (codes " ticks, " ++ (less_text ticks bound ++ codes "\n")))
+    codes "kept: "
+    ++ (decimal ticks ++ (codes " ticks, " ++ (less_text (codes "bound") ticks bound ++ codes "\n")))
 
 -- ## Why a step does not
 
@@ -86,3 +94,29 @@ pub record IsLineNumberAt (source : List ℕ) (address : ℕ) (line : Option ℕ
   pub of_text : is_image source ≡ false
       → (placed : List PlacedLine) × ArePlaced source placed
       × (line ≡ option_map (λ (l : ℕ × List ℕ). l.0) (line_of source placed address))
+
+-- ## What a run that keeps the statement takes for granted
+
+-- some of the steps does the word at the address
+abbrev pub IsDoneAt : Flow → List Pass → ℕ → Type 0
+IsDoneAt flow passes a =
+    (p : Pass) × Contains passes p × (p.done ≡ true) × (is_at a (place_at flow.places p.place) ≡ true)
+
+-- the returns and ways out of which an explanation warns, of the words alone that the steps do
+pub record AreWarnings (source : List ℕ) (words : Words) (st : Stated) (flow : Flow) (passes : List Pass)
+    (text : List ℕ) : Type 0 where
+  pub of_text : is_image source ≡ false
+      → (placed : List PlacedLine) × ArePlaced source placed
+      × AreSourceDone source placed words st flow (IsDoneAt flow passes) text
+  pub of_image : is_image source ≡ true → AreImageDone words st flow (IsDoneAt flow passes) text
+
+-- ## Where a run that keeps the statement goes on
+
+abbrev pub left_line : (at : ℕ) → (line : Option ℕ) → List ℕ
+left_line at line = codes "left to " ++ (hex at ++ (line_text line ++ codes ", a word of the source\n"))
+
+-- a line where the source has a word at the address, and nothing where it has none
+abbrev pub IsLeftText : (source : List ℕ) → Words → (at : ℕ) → (text : List ℕ) → Type 0
+IsLeftText source words at text =
+    MatchOption (word_of words at) (text ≡ [])
+    (λ _. (line : Option ℕ) × IsLineNumberAt source at line × (text ≡ left_line at line))

@@ -1,5 +1,6 @@
 -- What the parts of a report on a followed run leave to each other.
-use Rattle.std.specs.Prelude.{◌≡◌, ℕ, Bool, true, false, List, ◌++◌, length, Option}
+use Rattle.std.specs.Prelude.{◌≡◌, ◌↔◌, ◌⊎◌, ◌<◌, ℕ, Bool, true, false, List, ◌++◌, length, Option}
+use Rattle.std.specs.Prelude.{slice_index_or}
 use Rattle.bus_ticks.specs.declared.profile.Profile.{Profile}
 use Rattle.loader.specs.Image.{Words}
 use Rattle.statement.specs.Stated as statement
@@ -9,7 +10,10 @@ use Rattle.flow_graph.specs.Flow.{Flow}
 use Rattle.loop_bounds.specs.Tree.{Tree}
 use Rattle.longest_walk.specs.Folded.{unfolded}
 use Rattle.longest_walk.specs.declared.folded.Longest.{Longest}
-use Rattle.kept_runs.specs.Passing.{IsTally, Pass}
+use Rattle.kept_runs.specs.Passing.{IsTally, Pass, nothing}
+use Rattle.explained.specs.Taken.{is_at}
+use Rattle.flow_graph.specs.Places.{place_at}
+use Rattle.flow_graph.specs.declared.places.Place.{Place}
 use Rattle.kept_runs.specs.declared.tally.Passed.{Passed}
 use Rattle.kept_runs.specs.declared.following.Followed.{Followed}
 use Rattle.kept_runs.specs.declared.following.Followed.TheVariants.{Kept, Strayed}
@@ -17,30 +21,54 @@ use Rattle.machine_file.specs.Inputs.{AreInputs}
 use Rattle.machine_file.specs.Stated.{Stated}
 use Rattle.author_reports.specs.Differences.{IsTable, capped_at}
 use Rattle.author_reports.specs.FollowReport.{IsFollowRefused, IsFollowReport, IsRunText}
-use Rattle.author_reports.specs.FollowText.{IsLineNumberAt, kept_text, strayed_text, why_text}
+use Rattle.author_reports.specs.FollowText.{AreWarnings, IsLeftText, IsLineNumberAt, kept_text}
+use Rattle.author_reports.specs.FollowText.{strayed_text, why_text}
 use Rattle.author_reports.specs.declared.follow.FollowedRun.{FollowedRun}
 use Rattle.report_output.specs.declared.fault.ReportFault.{ReportFault}
 
--- the answer on a run that is kept: its ticks, and where it and the walk differ, whatever its steps are, by
--- numbers that are counted up to 2^64 - 1
-pub record IsTallyText (source : List ℕ) (words : Words) (flow : Flow) (longest : Longest) (ticks : ℕ)
-    (by_place : List Passed) (text : List ℕ) : Type 0 where
+-- the answer on a run that is kept: its ticks, whether the address after it has a word of the source, and,
+-- whatever its steps are, where it and the walk differ, by numbers that are counted up to 2^64 - 1, and which
+-- of the words that it does are warned of
+pub record IsTallyText (source : List ℕ) (words : Words) (st : statement.Stated) (flow : Flow)
+    (longest : Longest) (at ticks : ℕ) (by_place : List Passed) (text : List ℕ) : Type 0 where
+  pub left : List ℕ
+  pub left_is : IsLeftText source words at left
   pub table : List ℕ
   pub table_is : (passes : List Pass) → IsTally flow passes by_place
       → IsTable source words (capped_at flow passes (unfolded longest.walk)) table
-  pub text_is : text ≡ kept_text ticks longest.bound ++ table
+  pub warnings : List ℕ
+  pub are_warnings : (passes : List Pass) → IsTally flow passes by_place
+      → AreWarnings source words st flow passes warnings
+  pub text_is : text ≡ kept_text ticks longest.bound ++ (left ++ (table ++ warnings))
+
+-- ## Words that a run does
+
+-- the place is at the address, and some of the steps there do its word
+pub record DoesAt (a : ℕ) (place : Place) (p : Passed) : Type 0 where
+  pub here : is_at a place ≡ true
+  pub done : 0 < p.done
+
+-- the set has the place's address too, if some of the steps there do its word
+abbrev pub NotesDone : Place → Passed → (old new : ℕ → Bool) → Type 0
+NotesDone place p old new = (a : ℕ) → (new a ≡ true) ↔ ((old a ≡ true) ⊎ DoesAt a place p)
+
+-- the addresses of those of the first places where some of the steps do the word
+abbrev pub HasDone : List Place → List Passed → (count : ℕ) → (set : ℕ → Bool) → Type 0
+HasDone places by_place count set =
+    (a : ℕ) → (set a ≡ true)
+    ↔ ((k : ℕ) × (k < count) × DoesAt a (place_at places k) (slice_index_or by_place k nothing))
 
 -- what is said of a kept run is said of each place
 abbrev pub HasAllPlaces : Flow → Followed → Type 0
 HasAllPlaces flow (Kept steps ticks by_place) = length by_place.items ≡ length flow.places
 HasAllPlaces flow (Strayed steps at why) = Unit {0}
 
--- the answer on the outcome of a followed run
-abbrev pub IsFollowedText : (source : List ℕ) → Words → statement.Stated → Flow → Longest → Followed → Bool
-    → List ℕ → Type 0
-IsFollowedText source words st flow longest (Kept steps ticks by_place) kept text =
-    (kept ≡ true) × IsTallyText source words flow longest ticks by_place.items text
-IsFollowedText source words st flow longest (Strayed steps at why) kept text =
+-- the answer on the outcome of a followed run, after which the machine is at the address
+abbrev pub IsFollowedText : (source : List ℕ) → Words → statement.Stated → Flow → Longest → (after : ℕ)
+    → Followed → Bool → List ℕ → Type 0
+IsFollowedText source words st flow longest after (Kept steps ticks by_place) kept text =
+    (kept ≡ true) × IsTallyText source words st flow longest after ticks by_place.items text
+IsFollowedText source words st flow longest after (Strayed steps at why) kept text =
     (kept ≡ false)
     × ((line : Option ℕ) × IsLineNumberAt source at line
     × (text ≡ strayed_text steps at line (why_text st at why)))

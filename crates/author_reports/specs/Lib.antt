@@ -5,3 +5,7 @@ pub mod FollowReport
 pub mod FollowText
 pub mod FollowWork
 pub mod GraphReport
+pub mod RunTimes
+pub mod FollowVisits
+pub mod VisitedText
+pub mod VisitedWork

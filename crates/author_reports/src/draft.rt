@@ -3,14 +3,13 @@
 ghost use Rattle.std.specs.Prelude.{◌≡◌, IfErr, IfOk};
 ghost use Rattle.loader.specs.Labels.{address_of};
 ghost use Rattle.report_output.specs.Answers.{Answers};
-ghost use Rattle.author_reports.specs.DraftReport.{IsDraftRefused, IsDraftReport, IsDraftable};
-ghost use Rattle.author_reports.specs.DraftReport.{address_in, entry_of};
+ghost use Rattle.author_reports.specs.DraftReport.{HasPlacedLines, IsDraftRefused, IsDraftReport};
+ghost use Rattle.author_reports.specs.DraftReport.{IsDraftable, IsSourceDraft, address_in, entry_of};
 ghost use Rattle.report_input.specs.Report.{BeforeOutput};
 ghost use Rattle.report_input.specs.Source.{IsSourceFault};
-ghost use Rattle.drafting.specs.Draft.{IsDraft};
 
 use asm_text::read_number;
-use assembler::{Assembly, Program, placed_lines};
+use assembler::{Assembly, PlacedLine, Program, placed_lines};
 use bus_ticks::is_word_address;
 use drafting::draft;
 use loader::{Labels, is_image};
@@ -39,6 +38,18 @@ fn entry_of(labels: &Labels, entry: &[u8]) -> Option<u32>
     }
 }
 
+// Where the lines of a source are placed. An image has none.
+fn placed_in(alloc: Global, source: &[u8]) -> Result<Vec<PlacedLine>, ReportFault>
+    ensures placed { IfOk result (λ placed. HasPlacedLines source.now placed.items) }
+    ensures fault { IfErr result (IsSourceFault source.now) }
+{
+    if is_image(source) {
+        return Ok(Vec::new(alloc));
+    }
+    let placed = placed_lines(alloc, source)?;
+    Ok(placed)
+}
+
 // The draft of a handler in a source that was read.
 fn draft_text(
     alloc: Global,
@@ -46,14 +57,11 @@ fn draft_text(
     said: &Assembly,
     entry: u32,
 ) -> Result<Vec<u8>, ReportFault>
-    ensures draft { IfOk result (λ text. IsDraft said.now.image said.now.labels entry text.items) }
+    ensures draft { IfOk result
+        (λ text. IsSourceDraft source.now said.now.image said.now.labels entry text.items) }
     ensures fault { IfErr result (IsSourceFault source.now) }
 {
-    let placed = if is_image(source) {
-        Vec::new(alloc)
-    } else {
-        placed_lines(alloc, source)?
-    };
+    let placed = placed_in(alloc, source)?;
     let program = Program {
         source,
         placed: &placed,
@@ -78,7 +86,8 @@ fn source_draft(alloc: Global, source: &[u8], entry: &[u8]) -> Result<Vec<u8>, R
 
 /// Writes a statement of the handler that begins at a label or at an address, to be filled in: with all that
 /// the words reached from there show of its loops, of the targets of words that write R15, and of the classes
-/// of its loads and stores. An address is decimal, or hexadecimal after `0x`.
+/// of its loads and stores, and with its labels and lines as comments. An address is decimal, or hexadecimal
+/// after `0x`.
 ///
 /// # Errors
 ///

@@ -18,6 +18,7 @@ use explained::{
     latest_starts_are_of_walks, places_are_listed_once, source_assumptions, source_table,
     totals_are_the_bound,
 };
+use flow_graph::run_law;
 use loader::{Image, is_image};
 use longest_walk::worst_starts;
 use report_input::{Handler, graph_is_well_formed, longest_of, profile_of, said_handler};
@@ -33,7 +34,7 @@ pub struct Explained<'a> {
     /// The text of the statement on it.
     pub statement: &'a [u8],
     /// The most ticks that its bound, without bursts, may have to be enough; for `None` any bound is.
-    pub at_most: Option<u32>,
+    pub at_most: Option<u64>,
     /// The DMA bursts with which its bound is printed too.
     pub bursts: Bursts,
 }
@@ -54,11 +55,11 @@ struct Explanation {
     text: Vec<u8>,
 }
 
-fn is_enough(at_most: Option<u32>, bound: u64) -> bool
+fn is_enough(at_most: Option<u64>, bound: u64) -> bool
     ensures { result ≡ is_enough at_most bound }
 {
     match at_most {
-        Some(most) => bound <= u64::from(most),
+        Some(most) => bound <= most,
         None => true,
     }
 }
@@ -165,6 +166,7 @@ fn explanation_of(
     places_are_listed_once();
     totals_are_the_bound();
     latest_starts_are_of_walks();
+    run_law();
     let stated = StatedGraph {
         image,
         statement: &handler.statement,
@@ -203,12 +205,12 @@ fn source_explanation(
 /// Writes where the ticks of a handler's greatest run time go, by a cycle profile's file or by the first
 /// profile: a table by the lines of the source, or by the words of an image, with how often a greatest walk
 /// passes each, the ticks of a pass and of all, the tick by which it begins at the latest, and what the price
-/// takes for granted, in rows that end at column 80; then the bound, in ticks and in microseconds; then the
+/// takes for granted; then the bound, in ticks and in microseconds; then the
 /// bound with DMA bursts, if any are given; then what is taken for granted: words that count as returns but
-/// do not look like returns, words that return by R14 after a call has overwritten it, and loads and stores
-/// of which no class is stated; then the entries of the statement without effect; and then what better
-/// entries would save. Answers whether the bound is enough: without bursts at most so many ticks as are
-/// wanted.
+/// do not look like returns, words that leave the handler of an interrupt and restore no flags, words that
+/// return by R14 after a call, or an address of the source, has overwritten it, and loads and stores of which
+/// no class is stated; then the entries of the statement without effect; and then what better entries would
+/// save. Answers whether the bound is enough: without bursts at most so many ticks as are wanted.
 ///
 /// # Errors
 ///

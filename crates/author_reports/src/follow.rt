@@ -6,7 +6,7 @@ ghost use Rattle.kept_runs.specs.Judging.{IsMachineFor};
 ghost use Rattle.longest_walk.specs.Longest.{IsLongest};
 ghost use Rattle.loop_bounds.specs.Bounds.{IsGreatestCost};
 ghost use Rattle.author_reports.specs.FollowReport.{FollowsRun};
-ghost use Rattle.author_reports.specs.FollowText.{IsLineNumberAt, strayed_text, why_text};
+ghost use Rattle.author_reports.specs.FollowText.{IsLeftText, IsLineNumberAt, strayed_text, why_text};
 ghost use Rattle.author_reports.specs.FollowWork.{HasAllPlaces, IsJudgedRun, IsRefusalOf, IsReportOn};
 ghost use Rattle.author_reports.specs.FollowWork.{IsFollowedText, IsTallyText};
 ghost use Rattle.report_input.specs.Priced.{Priced};
@@ -14,9 +14,11 @@ ghost use Rattle.report_input.specs.Report.{BeforeOutput, HasItsTree, HasLoops};
 ghost use Rattle.report_input.specs.Source.{IsSourceFault, Says};
 
 use crate::differences::{SourceAndImage, differences};
-use crate::follow_text::{kept_text, line_number_at, strayed_text, why_text};
+use crate::follow_text::{kept_text, left_line, line_number_at, strayed_text, why_text};
+use crate::warnings::warnings;
 use assembler::Assembly;
 use bus_ticks::Profile;
+use explained::StatedGraph;
 use flow_graph::{run_law, step_law};
 use kept_runs::{AcceptedHandler, Followed, Passed, Unkept, follow};
 use loader::Image;
@@ -39,11 +41,11 @@ pub struct FollowedRun<'a> {
     pub machine: &'a [u8],
 }
 
-// Whether a run keeps the statement, and the text that says so.
+/// Whether a run keeps the statement, or both, and the text that says so.
 #[derive(Drop)]
-struct Judged {
-    kept: bool,
-    text: Vec<u8>,
+pub(crate) struct Judged {
+    pub(crate) kept: bool,
+    pub(crate) text: Vec<u8>,
 }
 
 // A handler that was read, with its source and its greatest walk.
@@ -55,28 +57,58 @@ struct Bounded<'a> {
     longest: &'a Longest,
 }
 
-// The text on a run that is kept.
+// The line on a run that has gone on at the address, if the source has a word there.
+fn left_text(alloc: Global, bounded: Bounded<'_>, at: u32) -> Result<Vec<u8>, ReportFault>
+    ensures text { IfOk result
+        (λ text. IsLeftText bounded.entry.source.now bounded.entry.image.now at text.items) }
+    ensures fault { IfErr result (IsSourceFault bounded.entry.source.now) }
+{
+    if bounded.image.word_at(at).is_none() {
+        return Ok(Vec::new(alloc));
+    }
+    let line = line_number_at(alloc, bounded.source, at)?;
+    let text = left_line(alloc, at, line)?;
+    Ok(Vec::from_slice(alloc, text.as_bytes())?)
+}
+
+// The text on a run that is kept, and has gone on at the address.
 fn kept_run(
     alloc: Global,
     bounded: Bounded<'_>,
+    at: u32,
     ticks: u128,
     by_place: &[Passed],
 ) -> Result<Vec<u8>, ReportFault>
     requires { length by_place.now ≡ length bounded.handler.now.graph.places }
     ensures text { IfOk result
         (λ text. IsTallyText bounded.entry.source.now bounded.entry.image.now
-        bounded.entry.handler.now.graph bounded.entry.longest.now ticks by_place.now text.items) }
+        bounded.entry.handler.now.statement bounded.entry.handler.now.graph bounded.entry.longest.now at
+        ticks by_place.now text.items) }
     ensures fault { IfErr result (IsSourceFault bounded.entry.source.now) }
 {
     let program = SourceAndImage {
         source: bounded.source,
         image: bounded.image,
     };
-    let graph = &bounded.handler.graph;
-    let table = differences(alloc, program, graph, by_place, &bounded.longest.walk)?;
+    let stated = StatedGraph {
+        image: bounded.image,
+        statement: &bounded.handler.statement,
+        graph: &bounded.handler.graph,
+    };
+    let warned = warnings(alloc, bounded.source, stated, by_place)?;
+    let table = differences(
+        alloc,
+        program,
+        stated.graph,
+        by_place,
+        &bounded.longest.walk,
+    )?;
+    let mut rest = left_text(alloc, bounded, at)?;
+    rest.extend_from_slice(&table)?;
+    rest.extend_from_slice(&warned)?;
     let line = kept_text(alloc, ticks, bounded.longest.bound)?;
     let mut text = Vec::from_slice(alloc, line.as_bytes())?;
-    text.extend_from_slice(&table)?;
+    text.extend_from_slice(&rest)?;
     Ok(text)
 }
 
@@ -95,21 +127,22 @@ fn strayed_run(
 {
     let line = line_number_at(alloc, bounded.source, at)?;
     let why = why_text(alloc, &bounded.handler.statement, at, why)?;
-    let text = strayed_text(alloc, steps, at, line, why.as_str())?;
+    let text = strayed_text(alloc, u128::from(steps), at, line, why.as_str())?;
     Ok(Vec::from_slice(alloc, text.as_bytes())?)
 }
 
-// The answer on a run that was followed.
+// The answer on a run that was followed, after which the machine is at the address.
 fn judgement(
     alloc: Global,
     bounded: Bounded<'_>,
+    after: u32,
     followed: &Followed,
 ) -> Result<Judged, ReportFault>
     requires { HasAllPlaces bounded.handler.now.graph followed.now }
     ensures text { IfOk result
         (λ j. IsFollowedText bounded.entry.source.now bounded.entry.image.now
         bounded.entry.handler.now.statement bounded.entry.handler.now.graph bounded.entry.longest.now
-        followed.now j.kept j.text.items) }
+        after followed.now j.kept j.text.items) }
     ensures fault { IfErr result (IsSourceFault bounded.entry.source.now) }
 {
     match followed {
@@ -118,7 +151,7 @@ fn judgement(
             by_place,
             ..
         } => {
-            let text = kept_run(alloc, bounded, *ticks, by_place)?;
+            let text = kept_run(alloc, bounded, after, *ticks, by_place)?;
             Ok(Judged { kept: true, text })
         }
         Followed::Strayed { steps, at, why } => {
@@ -158,11 +191,12 @@ fn judged_run(
     step_law();
     graph_is_well_formed(bounded.handler);
     let followed = follow(alloc, handler, &mut placed.machine, &inputs)?;
-    judgement(alloc, bounded, &followed)
+    let after = placed.machine.address();
+    judgement(alloc, bounded, after, &followed)
 }
 
-// A machine file states all registers but R15.
-fn states_registers(file: &MachineFile)
+/// States that a machine file states all registers but R15. It does nothing.
+pub(crate) fn states_registers(file: &MachineFile)
     ensures { length file.now.processor.registers ≡ 26 }
 {
     let _registers = file.registers();
@@ -210,10 +244,12 @@ fn source_run(alloc: Global, run: FollowedRun<'_>, profile: &Profile) -> Result<
 /// `true` exactly where the run keeps the statement: its steps, some number of the file's, are a walk from
 /// the entry to Exit that keeps the loop bounds. Then its ticks are at most the bound of
 /// [`bound_report`](crate::bound_report), and the first line that is written says how many they are, and how
-/// much less. A table follows of the words at which the run and a greatest walk differ, in how often they
-/// pass or in the ticks that they take there, in rows that end at column 80; nothing follows where they
-/// nowhere differ. Else the line says which step is the first that does not keep it, by its number from 0,
-/// its address and its line of the source, and why.
+/// much less; where it goes on at a word of the source, a second line says at which. A table follows of the
+/// words at which the run and a greatest walk differ, in how often they pass or in the ticks that they take
+/// there; nothing follows where they nowhere differ. Then come those words of which
+/// [`explain_report`](crate::explain_report) warns, as they count as returns or leave the handler, and which
+/// the run does. Else the line says which step is the first that does not keep it, by its number from 0, its
+/// address and its line of the source, and why.
 ///
 /// # Errors
 ///

@@ -2,7 +2,7 @@
 
 ghost use Rattle.std.specs.Prelude.{◌≡◌, IfErr, IfOk, string_bytes};
 ghost use Rattle.author_reports.specs.FollowText.{IsLineNumberAt, access_name, access_text, kept_text};
-ghost use Rattle.author_reports.specs.FollowText.{less_text, line_text};
+ghost use Rattle.author_reports.specs.FollowText.{left_line, less_text, line_text};
 ghost use Rattle.author_reports.specs.FollowText.{stray_text, strayed_text, times_text, turned_text};
 ghost use Rattle.author_reports.specs.FollowText.{why_text};
 ghost use Rattle.report_input.specs.Source.{IsSourceFault};
@@ -18,23 +18,27 @@ use std::alloc::{AllocError, Global};
 use text_rows::lines_by_address;
 use trace_text::{exception_name, why_name};
 
-// How much less than the bound the ticks are.
-fn less_text(alloc: Global, ticks: u128, bound: u64) -> Result<String, AllocError>
-    ensures { IfOk result (λ text. string_bytes text ≡ less_text ticks bound) }
+/// How much less than the most of this name the ticks are. `AllocError`: an allocation failed.
+pub(crate) fn less_text(
+    alloc: Global,
+    name: &str,
+    ticks: u128,
+    most: u128,
+) -> Result<String, AllocError>
+    ensures { IfOk result (λ text. string_bytes text ≡ less_text name.now ticks most) }
 {
-    let bound = u128::from(bound);
-    if ticks == bound {
-        return String::from_str(alloc, "the bound");
+    if ticks == most {
+        return format!(in alloc; "the {name}");
     }
-    let less = bound.saturating_sub(ticks);
-    format!(in alloc; "{less} less than the bound")
+    let less = most.saturating_sub(ticks);
+    format!(in alloc; "{less} less than the {name}")
 }
 
 /// The line on a run that keeps the statement: its ticks, and how much less than the bound they are.
 pub(crate) fn kept_text(alloc: Global, ticks: u128, bound: u64) -> Result<String, AllocError>
     ensures { IfOk result (λ text. string_bytes text ≡ kept_text ticks bound) }
 {
-    let less = less_text(alloc, ticks, bound)?;
+    let less = less_text(alloc, "bound", ticks, u128::from(bound))?;
     format!(in alloc; "kept: {ticks} ticks, {less}\n")
 }
 
@@ -117,7 +121,7 @@ fn line_text(alloc: Global, line: Option<u64>) -> Result<String, AllocError>
 /// address and its line, and why.
 pub(crate) fn strayed_text(
     alloc: Global,
-    steps: u64,
+    steps: u128,
     at: u32,
     line: Option<u64>,
     why: &str,
@@ -126,6 +130,14 @@ pub(crate) fn strayed_text(
 {
     let line = line_text(alloc, line)?;
     format!(in alloc; "step {steps}, {at:X}{line}: {why}\n")
+}
+
+/// The line on a run that goes on at a word of the source, by that word's line.
+pub(crate) fn left_line(alloc: Global, at: u32, line: Option<u64>) -> Result<String, AllocError>
+    ensures { IfOk result (λ text. string_bytes text ≡ left_line at line) }
+{
+    let line = line_text(alloc, line)?;
+    format!(in alloc; "left to {at:X}{line}, a word of the source\n")
 }
 
 /// The number of the line of a source that has a word at the address; none of an image.

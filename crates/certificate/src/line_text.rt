@@ -77,7 +77,7 @@ impl LineEnd {
         ensures text { self.new ≡ list_words calls.now ++ self.old }
         ensures len { length self.new ≤ 79 + length self.old }
     {
-        let [first, rest @ ..] = calls.as_slice() else {
+        let [first, rest @ ..] = calls.items() else {
             self.put(b"-");
             return;
         };

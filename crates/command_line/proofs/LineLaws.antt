@@ -1,5 +1,5 @@
 -- From what clap's calls return to what a line asks for.
-use Rattle.std.proofs.Common.{◌≡◌, ◌∙◌, ℕ, Bool, true, false, List, [], ◌∷◌, Option, Some, None, Result, Ok, Err, refl, sym, ap, inl, inr, subst, arith}
+use Rattle.std.proofs.Common.{◌≡◌, ◌∙◌, ℕ, ◌+◌, ◌^◌, ◌≤◌, Bool, true, false, List, [], ◌∷◌, Option, Some, None, Result, Ok, Err, refl, sym, ap, inl, inr, subst, arith}
 use Rattle.std.specs.Prelude.{option_and_then, if◌then◌else◌}
 use Rattle.std.specs.Result.{result_ok}
 use Rattle.std.specs.Str.Parse.{ExplainsUnsignedError, HasUnsignedDigitsIfOk, ParsesUnsigned, digits_value, without_leading_plus}
@@ -16,7 +16,7 @@ use Rattle.clap.specs.declared.error.Error.{Error}
 use Rattle.clap.specs.declared.error.kind.ErrorKind.TheVariants.{OutOfMemory}
 use Rattle.clap.specs.declared.error.kind.ErrorKind.{ErrorKind}
 use Rattle.clap.proofs.ValueTestLemmas.{accepts-Accepts, Accepts-accepts}
-use Rattle.command_line.specs.Line.{Asked, arcwcet_command, asked, asked_by, most_number, number_in, unless_refused}
+use Rattle.command_line.specs.Line.{Asked, arcwcet_command, asked, asked_by, number_to, unless_refused}
 
 shut : (kinds : Kinds) (x : Option Asked) (k : ErrorKind) → IsAmong k kinds → unless_refused kinds x ≡ None
 shut [] x k among = absurd among
@@ -53,29 +53,30 @@ asked_of_error app words e is kinds other =
 number_or_none : Text → Bool → Option ℕ
 number_or_none t fits = if fits then Some (digits_value 10 (without_leading_plus t)) else None
 
--- `u32` reads a text as the number that it writes
-number_parsed : {E : Type 0} (t : Text) (r : Result ℕ E) → ParsesUnsigned 32 10 t r → result_ok r ≡ number_in t
-unfolding number_or_none
-number_parsed t (Ok n) h =
-    let fits = Accepts-accepts false (parser.Unsigned 0 most_number) t (h.0.0, omega (arith, h.0.1), omega arith, omega (arith, h.0.1)) in
-    ap (λ (k : ℕ). Some k) h.1 ∙ sym (ap (number_or_none t) fits)
-number_parsed t (Err e) h = go (is_unsigned_in 0 most_number t) refl
-  where
-    go : (fits : Bool) → is_unsigned_in 0 most_number t ≡ fits → None ≡ number_or_none t fits
-    go false is = refl
-    go true is =
-        let fits = accepts-Accepts false (parser.Unsigned 0 most_number) t is in
-        absurd (h (fits.0, omega (arith, fits.3)))
+module _ (bits most : ℕ) (whole : most + 1 ≡ 2 ^ bits) (few : 2 ^ bits ≤ 2 ^ 64) where
+  -- a type of so many bits, whose greatest number is this, reads a text as the number that it writes
+  number_parsed : {E : Type 0} (t : Text) (r : Result ℕ E) → ParsesUnsigned bits 10 t r → result_ok r ≡ number_to most t
+  unfolding number_or_none
+  number_parsed t (Ok n) h =
+      let fits = Accepts-accepts false (parser.Unsigned 0 most) t (h.0.0, omega (arith, h.0.1), omega arith, omega (arith, h.0.1)) in
+      ap (λ (k : ℕ). Some k) h.1 ∙ sym (ap (number_or_none t) fits)
+  number_parsed t (Err e) h = go (is_unsigned_in 0 most t) refl
+    where
+      go : (fits : Bool) → is_unsigned_in 0 most t ≡ fits → None ≡ number_or_none t fits
+      go false is = refl
+      go true is =
+          let fits = accepts-Accepts false (parser.Unsigned 0 most) t is in
+          absurd (h (fits.0, omega (arith, fits.3)))
 
--- what `u32` says of a text that it reads
-abbrev pub ReadsU32 : Text → Result ℕ ParseIntError → Type 0
-ReadsU32 t r = ParsesUnsigned 32 10 t r × ExplainsUnsignedError 10 t r × HasUnsignedDigitsIfOk t r
+  -- what the type says of a text that it reads
+  abbrev pub Reads : Text → Result ℕ ParseIntError → Type 0
+  Reads t r = ParsesUnsigned bits 10 t r × ExplainsUnsignedError 10 t r × HasUnsignedDigitsIfOk t r
 
--- what `get_one` returns is the number that the text writes
-pub number_read : (o : Option Text) (r : Option ℕ) → (o ≡ None → r ≡ None) → ((t : Text) → o ≡ Some t → ReadsOne ReadsU32 t r)
-    → r ≡ option_and_then number_in o
-number_read None r none value = none refl
-number_read (Some t) (Some n) none value = number_parsed {E = ParseIntError} t (Ok n) (value t refl).0
-number_read (Some t) None none value =
-    let failed = value t refl in
-    number_parsed t (Err failed.0) failed.1.0
+  -- what `get_one` returns is the number that the text writes
+  pub number_read : (o : Option Text) (r : Option ℕ) → (o ≡ None → r ≡ None) → ((t : Text) → o ≡ Some t → ReadsOne Reads t r)
+      → r ≡ option_and_then (number_to most) o
+  number_read None r none value = none refl
+  number_read (Some t) (Some n) none value = number_parsed {E = ParseIntError} t (Ok n) (value t refl).0
+  number_read (Some t) None none value =
+      let failed = value t refl in
+      number_parsed t (Err failed.0) failed.1.0

@@ -1,7 +1,7 @@
 -- What a line of words asks of the program, by clap's function for a simple command. The commands are our
 -- own.
 use Rattle.std.specs.Prelude.{ℕ, pos, true, List, [], ◌∷◌, Option, Some, None, String, codes, map}
-use Rattle.std.specs.Prelude.{option_and_then, option_map, string_bytes, if◌then◌else◌}
+use Rattle.std.specs.Prelude.{option_and_then, option_map, string_bytes, if◌then◌else◌, is_none, ◌&&◌}
 use Rattle.std.specs.Option.{option_zip}
 use Rattle.std.specs.declared.alloc.Global.{Global}
 use Rattle.std.specs.Str.{bytes_eq}
@@ -72,9 +72,13 @@ tight_rule = numbered (record (new_rule (codes "tight")) { long = Some (codes "t
 abbrev pub bound_command : App
 bound_command = with_rule (priced_command (codes "bound") (codes "statement")) tight_rule
 
+-- an argument's value is a number of ticks, of at most 2^63 - 1
+abbrev pub in_ticks : Rule → Rule
+in_ticks rule = record rule { value_names = 1; parser = Some (parser.Unsigned 0 9223372036854775807) }
+
 -- `--at-most N`
 abbrev pub at_most_rule : Rule
-at_most_rule = numbered (record (new_rule (codes "at-most")) { long = Some (codes "at-most") })
+at_most_rule = in_ticks (record (new_rule (codes "at-most")) { long = Some (codes "at-most") })
 
 -- `--bursts N`
 abbrev pub bursts_rule : Rule
@@ -114,10 +118,16 @@ visits_command =
     (with_rule (priced_command (codes "visits") (codes "statement")) (required_rule (codes "fiq_statement")))
     visits_rule
 
--- `follow SOURCE STATEMENT MACHINE`, with a cycle profile
+-- `--fiq FILE`
+abbrev pub fiq_rule : Rule
+fiq_rule = record (new_rule (codes "fiq")) { long = Some (codes "fiq"); value_names = 1 }
+
+-- `follow SOURCE STATEMENT MACHINE`, with a cycle profile, and a statement on FIQ's handler
 abbrev pub follow_command : App
 follow_command =
-    with_rule (priced_command (codes "follow") (codes "statement")) (required_rule (codes "machine"))
+    with_rule
+    (with_rule (priced_command (codes "follow") (codes "statement")) (required_rule (codes "machine")))
+    fiq_rule
 
 -- `graph SOURCE STATEMENT`, with a cycle profile
 abbrev pub graph_command : App
@@ -172,6 +182,7 @@ pub data Asked : Type 0 where
   explain_verdict : FileNames → Text → Asked
   visits : FileNames → Text → ℕ → Asked
   follow : FileNames → Text → Asked
+  follow_visits : FileNames → (fiq machine : Text) → Asked
   graph : FileNames → Asked
 
 abbrev pub names_of : Names → FileNames
@@ -195,6 +206,8 @@ asked_of (request.Check names) = check (names_of names.handler) names.cert.now
 asked_of (request.ExplainVerdict names) = explain_verdict (names_of names.handler) names.cert.now
 asked_of (request.Visits names) = visits (names_of names.handler) names.fiq_statement.now names.visits
 asked_of (request.Follow names) = follow (names_of names.handler) names.machine.now
+asked_of (request.FollowVisits names) =
+    follow_visits (names_of names.handler) names.fiq_statement.now names.machine.now
 asked_of (request.Graph names) = graph (names_of names)
 
 -- the source's name and another argument, where both are given
@@ -215,14 +228,18 @@ handler_and id rows = option_zip (names_in (codes "statement") rows) (first_of i
 abbrev pub asm_of : Text × Text → Option Asked
 asm_of p = if bytes_eq p.0 p.1 then None else Some (asm p.0 p.1)
 
--- the number of 32 bits that a text writes: decimal digits, after any plus
-abbrev pub number_in : Text → Option ℕ
-number_in text =
-    if is_unsigned_in 0 most_number text then Some (digits_value 10 (without_leading_plus text)) else None
+-- the number of at most this that a text writes: decimal digits, after any plus
+abbrev pub number_to : ℕ → Text → Option ℕ
+number_to most text =
+    if is_unsigned_in 0 most text then Some (digits_value 10 (without_leading_plus text)) else None
 
--- the number of an option or an argument, whose word is read as clap's typed getters read it
+-- the number of 32 bits of an option or an argument, whose word is read as clap's typed getters read it
 abbrev pub number_at : Text → List Row → Option ℕ
-number_at id rows = option_and_then number_in (one_of id rows)
+number_at id rows = option_and_then (number_to most_number) (one_of id rows)
+
+-- the number of 64 bits of an option, of which its rule takes those of at most 2^63 - 1
+abbrev pub ticks_at : Text → List Row → Option ℕ
+ticks_at id rows = option_and_then (number_to 18446744073709551615) (one_of id rows)
 
 -- by the values of `asm`
 abbrev pub asked_asm : List Row → Option Asked
@@ -248,29 +265,40 @@ asked_bound rows = option_map (bound_of (number_at (codes "tight") rows)) (names
 abbrev pub options_in : List Row → ExplainOptions
 options_in rows =
     record {
-      at_most = number_at (codes "at-most") rows;
+      at_most = ticks_at (codes "at-most") rows;
       bursts = number_at (codes "bursts") rows;
       burst_every = number_at (codes "burst-every") rows;
     }
 
--- the verdict on a certificate where one is named, else the explanation
-abbrev pub explain_of : (cert : Option Text) → ExplainOptions → FileNames → Asked
-explain_of (Some cert) options names = explain_verdict names cert
-explain_of None options names = explain names options
+-- the verdict on a certificate: nothing where another option of `explain` is given, which would have no effect
+abbrev pub verdict_of : (cert : Text) → ExplainOptions → FileNames → Option Asked
+verdict_of cert options names =
+    if is_none options.at_most && (is_none options.bursts && is_none options.burst_every)
+    then Some (explain_verdict names cert) else None
+
+-- that where a certificate is named, else the explanation
+abbrev pub explain_of : (cert : Option Text) → ExplainOptions → FileNames → Option Asked
+explain_of (Some cert) options names = verdict_of cert options names
+explain_of None options names = Some (explain names options)
 
 -- by the values of `explain`
 abbrev pub asked_explain : List Row → Option Asked
 asked_explain rows =
-    option_map (explain_of (first_of (codes "certificate") rows) (options_in rows))
+    option_and_then (explain_of (first_of (codes "certificate") rows) (options_in rows))
     (names_in (codes "statement") rows)
 
 -- by the values of `check`
 abbrev pub asked_check : List Row → Option Asked
 asked_check rows = option_map (λ p. check p.0 p.1) (handler_and (codes "cert") rows)
 
+-- with FIQ's visits where its statement is named, else without
+abbrev pub follow_of : (fiq : Option Text) → FileNames × Text → Asked
+follow_of (Some fiq) p = follow_visits p.0 fiq p.1
+follow_of None p = follow p.0 p.1
+
 -- by the values of `follow`
 abbrev pub asked_follow : List Row → Option Asked
-asked_follow rows = option_map (λ p. follow p.0 p.1) (handler_and (codes "machine") rows)
+asked_follow rows = option_map (follow_of (first_of (codes "fiq") rows)) (handler_and (codes "machine") rows)
 
 -- by the values of `visits`
 abbrev pub asked_visits : List Row → Option Asked

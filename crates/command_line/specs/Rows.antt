@@ -6,7 +6,7 @@ use Rattle.clap.specs.Walk.{Row, Rule, Text}
 use Rattle.clap.specs.Simple.{App, new_app, new_rule, with_rule, with_subcommand}
 use Rattle.command_line.specs.Line.{Asked, asked_asm, asked_bound, asked_check, asked_draft}
 use Rattle.command_line.specs.Line.{asked_explain, asked_follow, asked_list, asked_visits}
-use Rattle.command_line.specs.Line.{debug, graph, names_in, numbered, run, trace, required_rule}
+use Rattle.command_line.specs.Line.{debug, graph, in_ticks, names_in, numbered, run, trace, required_rule}
 use Rattle.command_line.specs.declared.rows.ArgumentRow.{ArgumentRow}
 use Rattle.command_line.specs.declared.rows.CommandRow.{CommandRow}
 use Rattle.command_line.specs.declared.rows.Form.{Form}
@@ -19,6 +19,7 @@ rule_as form.Placed id = required_rule id
 rule_as form.Counted id = numbered (required_rule id)
 rule_as form.Named id = record (new_rule id) { long = Some id; value_names = 1 }
 rule_as form.Numbered id = numbered (record (new_rule id) { long = Some id })
+rule_as form.Ticks id = in_ticks (record (new_rule id) { long = Some id })
 
 -- a command with the arguments of the rows
 abbrev pub with_arguments : App → List ArgumentRow → App

@@ -26,6 +26,10 @@ fn argument<'a>(alloc: Global, row: &ArgumentRow) -> Arg<'a>
             .long(row.id)
             .value_name("N")
             .value_parser(value_parser!(u32)),
+        Form::Ticks => arg
+            .long(row.id)
+            .value_name("N")
+            .value_parser(value_parser!(u64).range(..=i64::MAX)),
     }
 }
 

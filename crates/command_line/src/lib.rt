@@ -7,7 +7,7 @@ mod rows;
 mod words;
 
 pub use line::{
-    AsmNames, CheckNames, CommandLineFault, DraftNames, ExplainNames, FollowNames, Names, Request,
-    TightNames, VisitsNames,
+    AsmNames, CheckNames, CommandLineFault, DraftNames, ExplainNames, FollowNames,
+    FollowVisitsNames, Names, Request, TightNames, VisitsNames,
 };
 pub use words::request;

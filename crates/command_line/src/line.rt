@@ -52,12 +52,21 @@ pub struct FollowNames<'a> {
     pub machine: &'a str,
 }
 
+/// The names of a handler's files, its source first, of the statement on FIQ's handler, which interrupts it,
+/// and of a machine file.
+#[derive(Clone, Copy)]
+pub struct FollowVisitsNames<'a> {
+    pub handler: Names<'a>,
+    pub fiq_statement: &'a str,
+    pub machine: &'a str,
+}
+
 /// The names of a handler's files, its source first, and the numbers of the options.
 #[derive(Clone, Copy)]
 pub struct ExplainNames<'a> {
     pub handler: Names<'a>,
-    /// The most ticks that are wanted of its bound.
-    pub at_most: Option<u32>,
+    /// The most ticks that are wanted of its bound, to 2^63 - 1.
+    pub at_most: Option<u64>,
     /// So many DMA bursts.
     pub bursts: Option<u32>,
     /// A DMA burst every so many ticks.
@@ -93,6 +102,8 @@ pub enum Request<'a> {
     Visits(VisitsNames<'a>),
     /// Whether a machine's run through that handler keeps the statement.
     Follow(FollowNames<'a>),
+    /// Whether a machine's run through that handler, which FIQ interrupts, keeps the statements of both.
+    FollowVisits(FollowVisitsNames<'a>),
     /// That handler's flow graph, with what its longest run takes of it.
     Graph(Names<'a>),
 }
@@ -106,4 +117,6 @@ pub enum CommandLineFault {
     Usage(Error),
     /// `asm` would write the image over its source.
     SourceReplaced,
+    /// `explain` is given a certificate, and an option that has no effect beside it.
+    OptionBesideCertificate,
 }

@@ -4,12 +4,14 @@
 pub(crate) enum Form {
     /// In its place.
     Placed,
-    /// A whole number, in its place.
+    /// A whole number of 32 bits, in its place.
     Counted,
     /// By an option of its name, with a file's name.
     Named,
-    /// By an option of its name, with a whole number.
+    /// By an option of its name, with a whole number of 32 bits.
     Numbered,
+    /// By an option of its name, with a number of ticks, to 2^63 - 1.
+    Ticks,
 }
 
 /// An argument, and what the help says of it.
@@ -86,7 +88,7 @@ const TIGHT: ArgumentRow = ArgumentRow {
 
 const AT_MOST: ArgumentRow = ArgumentRow {
     id: "at-most",
-    form: Form::Numbered,
+    form: Form::Ticks,
     help: "Status 1 where the bound, without bursts, is more than N ticks",
 };
 
@@ -118,6 +120,12 @@ const FIQ_STATEMENT: ArgumentRow = ArgumentRow {
     id: "fiq_statement",
     form: Form::Placed,
     help: "Statement on FIQ's handler",
+};
+
+const FIQ: ArgumentRow = ArgumentRow {
+    id: "fiq",
+    form: Form::Named,
+    help: "Statement on FIQ's handler, whose visits of the handler are judged too",
 };
 
 const VISITS: ArgumentRow = ArgumentRow {
@@ -189,7 +197,7 @@ pub(crate) const COMMANDS: [CommandRow; 12] = [
     CommandRow {
         name: "follow",
         summary: "Judge a machine's run through a handler by its statement",
-        arguments: &[PROFILE, SOURCE, STATEMENT, MACHINE],
+        arguments: &[PROFILE, SOURCE, STATEMENT, MACHINE, FIQ],
     },
     CommandRow {
         name: "graph",

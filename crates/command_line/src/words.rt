@@ -6,14 +6,15 @@ ghost use Rattle.clap.specs.Walk.{Row, rows_of};
 ghost use Rattle.clap.specs.Words.{kind_of, subcommand_rows_of};
 ghost use Rattle.command_line.specs.Line.{asked_asm, asked_bound, asked_by, asked_check, asked_draft};
 ghost use Rattle.command_line.specs.Line.{asked_explain, asked_follow, asked_in, asked_list, asked_of};
-ghost use Rattle.command_line.specs.Line.{asked_visits, asm_of, handler_and, names_in, names_of, number_at};
-ghost use Rattle.command_line.specs.Line.{source_and};
+ghost use Rattle.command_line.specs.Line.{asked_visits, asm_of, handler_and, names_in, names_of};
+ghost use Rattle.command_line.specs.Line.{number_at};
+ghost use Rattle.command_line.specs.Line.{options_of, source_and, ticks_at, verdict_of};
 ghost use Rattle.command_line.specs.Rows.{asked_as, first_asked};
 
 use crate::commands::arcwcet;
 use crate::line::{
-    AsmNames, CheckNames, CommandLineFault, DraftNames, ExplainNames, FollowNames, Names, Request,
-    TightNames, VisitsNames,
+    AsmNames, CheckNames, CommandLineFault, DraftNames, ExplainNames, FollowNames,
+    FollowVisitsNames, Names, Request, TightNames, VisitsNames,
 };
 use crate::rows::{KINDS, Kind};
 use clap::error::ErrorKind;
@@ -95,6 +96,13 @@ fn number_at(values: &ArgMatches<'_>, id: &str) -> Option<u32>
     values.get_one(id)
 }
 
+// The number of ticks of an option.
+fn ticks_at(values: &ArgMatches<'_>, id: &str) -> Option<u64>
+    ensures { result ≡ ticks_at id.now (rows_of (found_of values.now)) }
+{
+    values.get_one(id)
+}
+
 // What `bound` is asked with.
 fn bound_in<'a>(values: &ArgMatches<'a>) -> Option<Request<'a>>
     ensures { option_map asked_of result ≡ asked_bound (rows_of (found_of values.now)) }
@@ -106,20 +114,32 @@ fn bound_in<'a>(values: &ArgMatches<'a>) -> Option<Request<'a>>
     }
 }
 
+// The request for the verdict on a certificate: none where an option is given that has no effect beside it.
+fn verdict_of<'a>(cert: &'a str, names: ExplainNames<'a>) -> Option<Request<'a>>
+    ensures { option_map asked_of result ≡ verdict_of cert.now (options_of names.entry) (names_of names.entry.handler) }
+{
+    let handler = names.handler;
+    match (names.at_most, names.bursts, names.burst_every) {
+        (None, None, None) => Some(Request::ExplainVerdict(CheckNames { handler, cert })),
+        _ => None,
+    }
+}
+
 // What `explain` is asked with.
 fn explain_in<'a>(values: &ArgMatches<'a>) -> Option<Request<'a>>
     ensures { option_map asked_of result ≡ asked_explain (rows_of (found_of values.now)) }
 {
     let handler = names_in(values, "statement")?;
-    if let Some(cert) = values.get_str("certificate") {
-        return Some(Request::ExplainVerdict(CheckNames { handler, cert }));
-    }
-    Some(Request::Explain(ExplainNames {
+    let names = ExplainNames {
         handler,
-        at_most: number_at(values, "at-most"),
+        at_most: ticks_at(values, "at-most"),
         bursts: number_at(values, "bursts"),
         burst_every: number_at(values, "burst-every"),
-    }))
+    };
+    match values.get_str("certificate") {
+        Some(cert) => verdict_of(cert, names),
+        None => Some(Request::Explain(names)),
+    }
 }
 
 // What `check` is asked with.
@@ -135,7 +155,14 @@ fn follow_in<'a>(values: &ArgMatches<'a>) -> Option<Request<'a>>
     ensures { option_map asked_of result ≡ asked_follow (rows_of (found_of values.now)) }
 {
     let (handler, machine) = handler_and(values, "machine")?;
-    Some(Request::Follow(FollowNames { handler, machine }))
+    match values.get_str("fiq") {
+        Some(fiq_statement) => Some(Request::FollowVisits(FollowVisitsNames {
+            handler,
+            fiq_statement,
+            machine,
+        })),
+        None => Some(Request::Follow(FollowNames { handler, machine })),
+    }
 }
 
 // What `visits` is asked with.
@@ -215,12 +242,21 @@ fn line_fault(error: Error) -> CommandLineFault
     }
 }
 
+// Why words that the command-line crate takes ask for nothing.
+fn unasked(matches: &ArgMatches<'_>) -> CommandLineFault {
+    match matches.subcommand() {
+        Some(("explain", _)) => CommandLineFault::OptionBesideCertificate,
+        _ => CommandLineFault::SourceReplaced,
+    }
+}
+
 /// What the words ask for, the program's name first.
 ///
 /// # Errors
 ///
 /// Where the words ask for nothing: `Usage` with the command-line crate's own refusal, or its help;
-/// `SourceReplaced` where `asm` would write the image over its source. `Memory`: an allocation failed.
+/// `SourceReplaced` where `asm` would write the image over its source; `OptionBesideCertificate` where `explain`
+/// has a certificate and another option but the profile. `Memory`: an allocation failed.
 pub fn request<'a>(alloc: Global, words: &'a [String]) -> Result<Request<'a>, CommandLineFault>
     ensures read { IfOk result (λ q. asked_in words.entry.now ≡ Some (asked_of q)) }
     ensures refused { IfErr result
@@ -233,7 +269,7 @@ pub fn request<'a>(alloc: Global, words: &'a [String]) -> Result<Request<'a>, Co
     match command.try_get_matches_from(words) {
         Ok(matches) => match request_in(&matches) {
             Some(asked) => Ok(asked),
-            None => Err(CommandLineFault::SourceReplaced),
+            None => Err(unasked(&matches)),
         },
         Err(error) => Err(line_fault(error)),
     }

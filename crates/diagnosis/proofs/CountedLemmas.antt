@@ -1,10 +1,10 @@
 -- Tables and values past a limit, which is counted down.
-use Rattle.std.proofs.Common.{◌≡◌, ◌<◌, ◌-◌, ◌+◌, zero, suc, not, false, ℕ, Bool, List, ◌∷◌, length, get_or, drop, map, if◌then◌else◌, sym, ap, ◌∙◌, arith}
+use Rattle.std.proofs.Common.{◌≡◌, ◌<◌, ◌-◌, ◌+◌, zero, suc, not, true, false, ℕ, Bool, List, ◌∷◌, length, get_or, drop, map, if◌then◌else◌, sym, ap, ◌∙◌, arith}
 use Rattle.std.specs.Str.{bytes_eq}
 use Rattle.std.proofs.lemmas.Bool.{not-false}
 use Rattle.std.proofs.lemmas.List.{drop_more}
 use Rattle.diagnosis.specs.Outline.{Begins, Item, KeyValue, States, Table, item_of}
-use Rattle.diagnosis.specs.Refused.{first_after, tables_in, stated_at}
+use Rattle.diagnosis.specs.Refused.{first_after, is_at_key, tables_in, stated_at}
 use Rattle.diagnosis.specs.declared.outline.Item.{Item as CodeItem}
 
 -- the first after one fewer of the rest
@@ -26,6 +26,6 @@ pub listed_table : (list : List ℕ) (t : Table) (items : List Item) → false �
 unfolding tables_in
 listed_table list t items same = ap (λ (b : Bool). if b then t ∷ tables_in list items else tables_in list items) (not-false (bytes_eq t.name list) (sym same))
 
-pub listed_value : (key : List ℕ) (p : KeyValue) (items : List Item) → false ≡ not (bytes_eq p.key key) → stated_at key (States p ∷ items) ≡ p ∷ stated_at key items
+pub listed_value : (depth : ℕ) (key : List ℕ) (p : KeyValue) (items : List Item) → is_at_key depth key p ≡ true → stated_at depth key (States p ∷ items) ≡ p ∷ stated_at depth key items
 unfolding stated_at
-listed_value key p items same = ap (λ (b : Bool). if b then p ∷ stated_at key items else stated_at key items) (not-false (bytes_eq p.key key) (sym same))
+listed_value depth key p items same = ap (λ (b : Bool). if b then p ∷ stated_at depth key items else stated_at depth key items) same

@@ -3,7 +3,9 @@ mod CrossingLemmas
 mod CycleLemmas
 mod EntryLemmas
 mod ExtentLemmas
-mod LineLemmas
+mod IntegerLemmas
+mod JudgedLemmas
+mod LabelRows
 mod NestedLemmas
 mod OutlineLemmas
 mod PlainLemmas

@@ -1,11 +1,13 @@
 -- The search for a cycle, step by step.
-use Rattle.std.proofs.Common.{◌≡◌, ◌⊎◌, ℕ, ◌+◌, ◌<◌, ◌≤◌, List, [], ◌∷◌, ◌++◌, length, get_or, set, replicate, refl, sym, ap, ◌∙◌, subst, inl, inr, ⊎_elim, Result, arith}
-use Rattle.std.specs.Prelude.{Contains}
+use Rattle.std.proofs.Common.{◌≡◌, ◌≢◌, ◌⊎◌, ℕ, zero, suc, ◌+◌, ◌<◌, ◌≤◌, List, [], ◌∷◌, ◌++◌, drop, length, get_or, set, replicate, refl, sym, ap, ◌∙◌, subst, inl, inr, ⊎_elim, Result, arith}
+use Rattle.std.specs.Prelude.{AllPairs, Contains}
 use Rattle.std.specs.List.Sorted.{IsBinarySearchResult, IsSearchInRange, IsStrictlySortedBy}
 use Rattle.std.specs.Result.{result_unwrap_or}
 use Rattle.std.proofs.lemmas.Bool.{cases_eq, cases_lt}
-use Rattle.std.proofs.lemmas.List.{get_or-set_same, get_or-set_other, length-set, get_or-replicate, length-replicate, get_or_past}
-use Rattle.std.proofs.lemmas.List.Elements.{Contains-append_left, Contains-append_right, Contains-append_cases}
+use Rattle.std.proofs.Math.Seq.{get_or-append_seam}
+use Rattle.std.proofs.lemmas.List.{get_or-set_same, get_or-set_other, length-append, length-set, get_or-replicate, length-replicate, get_or_append_left, get_or_past}
+use Rattle.std.proofs.lemmas.List.Elements.{Contains-append_left, Contains-append_right, Contains-append_cases, Contains-get_or}
+use Rattle.std.proofs.lemmas.List.Quantifiers.{all_pairs_push}
 use Rattle.walks.proofs.Leading.{Leads-append}
 use Rattle.flow_graph.specs.declared.places.Place.{Place}
 use Rattle.flow_graph.specs.declared.places.Place.TheVariants.{Exit}
@@ -18,7 +20,7 @@ use Rattle.flow_graph.proofs.StepEdges.{only_one}
 use Rattle.statement.specs.declared.stated.Loop.{Loop}
 use Rattle.loop_bounds.specs.Nest.{HasUnboundedCycle, IsPlainEdge}
 use Rattle.loop_bounds.proofs.Positions.{index_found, index_inside, places_once}
-use Rattle.diagnosis.specs.Cycles.{AreMarks, IsCleared, IsClosed, IsIdle, IsOn, IsOpen, IsPath, IsPathTo, LeadToCleared}
+use Rattle.diagnosis.specs.Cycles.{AreMarks, IsCleared, IsClosed, IsIdle, IsOn, IsOnceRound, IsOpen, IsPath, IsPathTo, LeadToCleared}
 use Rattle.diagnosis.specs.declared.search.Search.{Search}
 
 -- ## Sums of marks
@@ -27,6 +29,26 @@ abbrev begun_marks : ℕ → List ℕ
 begun_marks n = replicate (n + 1) 2
 
 -- ## The parts of a list
+
+-- what holds of all pairs holds of those of a front, and of its elements with the next one
+pub pairs_front : {X : Type 0} (R : X → X → Type 0) (xs ys : List X) → AllPairs R (xs ++ ys) → AllPairs R xs
+pairs_front R xs ys pairs i j d before inside =
+    let first : i < length xs = omega (arith, before, inside) in
+    let within : j < length (xs ++ ys) = omega (arith, inside, length-append xs ys) in
+    subst (λ x. R x (get_or xs j d)) (get_or_append_left xs ys d i first)
+    (subst (λ y. R (get_or (xs ++ ys) i d) y) (get_or_append_left xs ys d j inside) (pairs i j d before within))
+
+pub pairs_drop : {X : Type 0} (R : X → X → Type 0) (k : ℕ) (xs : List X) → AllPairs R xs → AllPairs R (drop k xs)
+pairs_drop R zero xs pairs = pairs
+pairs_drop R (suc k) [] pairs = λ i j d before inside. absurd (omega (arith, inside))
+pairs_drop R (suc k) (x ∷ xs) pairs =
+    pairs_drop R k xs (λ i j d before inside. pairs (suc i) (suc j) d (omega (arith, before)) (omega (arith, inside)))
+
+pub pairs_next : {X : Type 0} (R : X → X → Type 0) (xs : List X) (y : X) → AllPairs R (xs ++ y ∷ []) → (k : ℕ) (d : X) → k < length xs → R (get_or xs k d) y
+pairs_next R xs y pairs k d lt =
+    let within : length xs < length (xs ++ y ∷ []) = omega (arith, length-append xs (y ∷ [])) in
+    subst (λ x. R x y) (get_or_append_left xs (y ∷ []) d k lt)
+    (subst (λ z. R (get_or (xs ++ y ∷ []) k d) z) (get_or-append_seam xs y [] d) (pairs k (length xs) d lt within))
 
 module _ (flow : Flow) (loops : List Loop) where
   split_last : (p q : Place) (path : List Edge) (e : Edge) → IsPath flow loops p (path ++ e ∷ []) q → IsPath flow loops p path e.from × IsPlainEdge flow loops e × (e.to ≡ q)
@@ -113,6 +135,9 @@ module _ (flow : Flow) (loops : List Loop) where
   one_on : (marks : List ℕ) (v u m : ℕ) → (u ≡ v → ⊥) → get_or (set marks v m) u 0 ≡ 1 → get_or marks u 0 ≡ 1
   one_on marks v u m other is = sym (get_or-set_other marks v u m 0 other) ∙ is
 
+  set_one : (marks : List ℕ) (v u : ℕ) → v < length marks → u ≡ v → get_or (set marks v 1) u 0 ≡ 1
+  set_one marks v u lt here = ap (λ (w : ℕ). get_or (set marks v 1) w 0) here ∙ get_or-set_same marks v 1 0 lt
+
   -- ## Steps
 
   -- the search begins at a place
@@ -126,6 +151,12 @@ module _ (flow : Flow) (loops : List Loop) where
         (λ (here : u ≡ v). inl here)
         (λ (other : u ≡ v → ⊥). absurd (none u inside (one_on marks v u 1 other is)))
         (cases_eq u v);
+    marked = λ u inside on. ⊎_elim
+        (λ (here : u ≡ v). set_one marks v u (omega (arith, lt, m.whole)) here)
+        (λ e. absurd (omega (arith, (e.1).1)))
+        on;
+    once = λ i j d before inside. absurd (omega (arith, inside));
+    apart = λ e has. absurd (omega (arith, has.1));
   }
 
   module _ (marks : List ℕ) (path : List Edge) (at : ℕ) (start : Place) (s : IsPathTo flow loops marks path at start) where
@@ -146,9 +177,26 @@ module _ (flow : Flow) (loops : List Loop) where
           absurd (next.marked (ap (λ (v : ℕ). get_or marks v 0) same ∙ s.marks_are.exit)))
           (cases_lt to (length flow.places))
 
+      once_more : IsOnceRound (path ++ e ∷ [])
+      once_more = all_pairs_push (λ (x y : Edge). x.from ≢ y.from) path e s.once
+          (λ k d lt same. s.apart (get_or path k d) (Contains-get_or path k d lt) (same ∙ from))
+
+      -- a place that the longer path leaves lies on the path
+      left_on : IsWellFormed flow → (v : ℕ) → v < length flow.places → (x : Edge) → Contains (path ++ e ∷ []) x → x.from ≡ place_at flow.places v → IsOn flow loops path at v
+      left_on well_formed v lt x has x_from = ⊎_elim
+          (λ (has_x : Contains path x). inr (x, has_x, x_from))
+          (λ (has_x : Contains (e ∷ []) x).
+          let same : e ≡ x = only_one e x has_x in
+          inl (places_once flow.places well_formed.ordered v at Exit lt s.inside (sym (ap (λ (y : Edge). y.from) same ∙ x_from) ∙ from)))
+          (Contains-append_cases path (e ∷ []) x has)
+
+      on_less : IsWellFormed flow → (v : ℕ) → v < length flow.places → (v ≡ to → ⊥) → IsOn flow loops (path ++ e ∷ []) to v → IsOn flow loops path at v
+      on_less well_formed v lt other (inl here) = absurd (other here)
+      on_less well_formed v lt other (inr (x, has, x_from)) = left_on well_formed v lt x has x_from
+
       -- the path is longer
-      pub advanced : IsPathTo flow loops (set marks to 1) (path ++ e ∷ []) to start
-      advanced = record {
+      pub advanced : IsWellFormed flow → get_or marks to 0 ≢ 1 → IsPathTo flow loops (set marks to 1) (path ++ e ∷ []) to start
+      advanced well_formed new = record {
         marks_are = marked marks to to_inside s.marks_are;
         inside = to_inside;
         leads = leads_more;
@@ -156,11 +204,17 @@ module _ (flow : Flow) (loops : List Loop) where
             (λ (here : v ≡ to). inl here)
             (λ (other : v ≡ to → ⊥). on_more e to v from (s.on v inside (one_on marks to v 1 other is)))
             (cases_eq v to);
+        marked = λ v inside on. ⊎_elim
+            (λ (here : v ≡ to). set_one marks to v (omega (arith, to_inside, s.marks_are.whole)) here)
+            (λ (other : v ≡ to → ⊥). get_or-set_other marks to v 1 0 other ∙ s.marked v inside (on_less well_formed v inside other on))
+            (cases_eq v to);
+        once = once_more;
+        apart = λ x has same. new (s.marked to to_inside (left_on well_formed to to_inside x has same));
       }
 
       closing : IsOn flow loops (path ++ e ∷ []) (length flow.places) to → IsClosed flow loops (path ++ e ∷ []) (place_at flow.places to)
       closing (inl here) = let lt = to_inside in absurd (omega (arith, here, lt))
-      closing (inr (x, has, from)) = record { start = start; leads = leads_more; edge = x; has = has; from = from }
+      closing (inr (x, has, from)) = record { start = start; leads = leads_more; edge = x; has = has; from = from; once = once_more }
 
       -- the path is closed
       pub closes : get_or marks to 0 ≡ 1 → IsClosed flow loops (path ++ e ∷ []) (place_at flow.places to)
@@ -193,6 +247,17 @@ module _ (flow : Flow) (loops : List Loop) where
         pub from_place : Contains flow.places last.from
         from_place = well_formed.starts last (shorter.1).has
 
+        once_parts : IsOnceRound (before ++ last ∷ [])
+        once_parts = subst IsOnceRound parts s.once
+
+        on_path : (x : Edge) → Contains (before ++ last ∷ []) x → Contains path x
+        on_path x has = subst (λ (es : List Edge). Contains es x) (sym parts) has
+
+        -- the path leaves each place of the shorter one
+        left_at : (to : ℕ) → place_at flow.places to ≡ last.from → (v : ℕ) → IsOn flow loops before to v → (x : Edge) × Contains path x × (x.from ≡ place_at flow.places v)
+        left_at to number v (inl here) = (last, on_path last (Contains-append_right before (last ∷ []) last (0, omega arith, refl)), sym number ∙ ap (place_at flow.places) (sym here))
+        left_at to number v (inr (x, has, x_from)) = (x, on_path x (Contains-append_left before (last ∷ []) x has), x_from)
+
         -- the path is shorter
         pub retreated : (to : ℕ) → place_at flow.places to ≡ last.from → to < length flow.places → IsPathTo flow loops (set marks at 0) before to start
         retreated to number inside = record {
@@ -213,6 +278,13 @@ module _ (flow : Flow) (loops : List Loop) where
               (Contains-append_cases before (last ∷ []) on.0 (subst (λ (es : List Edge). Contains es on.0) parts on.1)))
               (s.on v lt (one_on marks at v 0 other is)))
               (cases_eq v at);
+          marked = λ v lt on.
+              get_or-set_other marks at v 0 0 (λ (same : v ≡ at). s.apart (left_at to number v on).0 (left_at to number v on).1 ((left_at to number v on).2 ∙ ap (place_at flow.places) same))
+              ∙ s.marked v lt (inr (left_at to number v on));
+          once = pairs_front (λ (x y : Edge). x.from ≢ y.from) before (last ∷ []) once_parts;
+          apart = λ x has same.
+              let next = pairs_next (λ (x y : Edge). x.from ≢ y.from) before last once_parts has.0 x has.1 in
+              next (ap (λ (y : Edge). y.from) has.2 ∙ same ∙ number);
         }
 
   -- what holds of the edges in the range of a place holds of all that leave it

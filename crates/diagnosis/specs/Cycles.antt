@@ -1,6 +1,6 @@
 -- A cycle of a flow graph that no loop bounds.
 use Rattle.std.specs.Prelude.{◌≡◌, ◌≢◌, ◌+◌, ◌*◌, ◌<◌, ◌≤◌, ◌⊎◌, ℕ, Bool, List, [], ◌∷◌}
-use Rattle.std.specs.Prelude.{Contains, length, slice_index, sum_by}
+use Rattle.std.specs.Prelude.{AllPairs, Contains, length, slice_index, sum_by}
 use Rattle.std.specs.List.{list_any}
 use Rattle.walks.specs.Walk.{Leads}
 use Rattle.flow_graph.specs.declared.places.Place.{Place}
@@ -16,6 +16,10 @@ use Rattle.diagnosis.specs.declared.search.Search.{Search}
 pub record IsCycleOf (flow : Flow) (loops : List Loop) (edges : List Edge) : Type 0 where
   pub cycle : HasUnboundedCycle flow loops
   pub edges_are : edges ≡ cycle.first ∷ cycle.rest
+
+-- no two of them leave one place
+abbrev pub IsOnceRound : List Edge → Type 0
+IsOnceRound edges = AllPairs (λ e f. e.from ≢ f.from) edges
 
 -- ## The search, which clauses of private calls speak of
 
@@ -49,23 +53,28 @@ module _ (flow : Flow) (loops : List Loop) where
   abbrev pub IsOn : List Edge → ℕ → ℕ → Type 0
   IsOn path at v = (v ≡ at) ⊎ ((e : Edge) × Contains path e × (e.from ≡ place_at flow.places v))
 
-  -- the path leads to the place at hand, and the places that are marked so lie on it
+  -- The path leads to the place at hand, and comes to no place twice. The places that are marked so are those
+  -- that lie on it.
   pub record IsPathTo (marks : List ℕ) (path : List Edge) (at : ℕ) (start : Place) : Type 0 where
     pub marks_are : AreMarks marks
     pub inside : at < length flow.places
     pub leads : IsPath start path (place_at flow.places at)
     pub on : (v : ℕ) → v < length flow.places → slice_index marks v ≡ 1 → IsOn path at v
+    pub marked : (v : ℕ) → v < length flow.places → IsOn path at v → slice_index marks v ≡ 1
+    pub once : IsOnceRound path
+    pub apart : (e : Edge) → Contains path e → e.from ≢ place_at flow.places at
 
   abbrev pub IsSearching : Search → Type 0
   IsSearching s = IsPathTo s.marks.items s.path.items s.at s.start
 
-  -- the path leads back to a place where one of its edges begins
+  -- the path leads back to a place where one of its edges begins, and comes to no other place twice
   pub record IsClosed (path : List Edge) (end : Place) : Type 0 where
     pub start : Place
     pub leads : IsPath start path end
     pub edge : Edge
     pub has : Contains path edge
     pub from : edge.from ≡ end
+    pub once : IsOnceRound path
 
   -- the path is closed, or the place where it began is cleared
   abbrev pub IsEnded : Search → Type 0

@@ -3,7 +3,8 @@ pub mod Cycles
 pub mod Entries
 pub mod Extents
 pub mod FaultyLines
-pub mod Lines
+pub mod Integers
+pub mod Judged
 pub mod Nested
 pub mod Outline
 pub mod PlainLines

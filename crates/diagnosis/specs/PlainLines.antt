@@ -25,7 +25,8 @@ is_quotable b = not (b == 34 || (b == 92 || (b == 10 || b == 13)))
 -- a word, or a text in double quotes
 abbrev pub IsPlainValue : Value → Type 0
 IsPlainValue (Bare w) = IsWord w
-IsPlainValue (Quoted quote w) = (quote ≡ 34) × (list_all is_quotable w ≡ true)
+IsPlainValue (Quoted quotes w) = (quotes ≡ codes "\"") × (list_all is_quotable w ≡ true)
+IsPlainValue _ = ⊥
 
 abbrev pub IsPlain : PlainLine → Type 0
 IsPlain (Heading name) = IsWord name
@@ -51,4 +52,5 @@ items_from n list [] = []
 items_from n list (Heading name ∷ lines) =
     Begins (record { line = n; name = name; is_listed = true }) ∷ items_from (n + 1) name lines
 items_from n list (Setting key value ∷ lines) =
-    States (record { line = n; list = list; key = key; value = value }) ∷ items_from (n + 1) list lines
+    States (record { line = n; list = list; key = key; depth = 0; value = value })
+    ∷ items_from (n + 1) list lines

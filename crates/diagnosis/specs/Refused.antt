@@ -5,7 +5,6 @@ use Rattle.std.specs.Prelude.{zero, suc, Bool, true, false, ℕ}
 use Rattle.std.specs.Prelude.{List, [], ◌∷◌, ◌++◌, length, take, drop, codes, decimal, count_by}
 use Rattle.std.specs.Prelude.{Option, Some, None, IsSome, IsUtf8, is_none, is_some, option_map, if◌then◌else◌}
 use Rattle.std.specs.BTreeSet.{contains}
-use Rattle.std.specs.Char.{is_digit}
 use Rattle.std.specs.List.{list_any}
 use Rattle.std.specs.Option.{option_and_then}
 use Rattle.std.specs.Ordering.{nat_cmp}
@@ -13,7 +12,7 @@ use Rattle.std.specs.Str.{bytes_eq}
 use Rattle.walks.specs.declared.limits.TheConstants.{MOST_ROUNDS}
 use Rattle.bus_ticks.specs.Prices.{is_word_address}
 use Rattle.bus_ticks.specs.declared.profile.Class.{Class}
-use Rattle.asm_text.specs.Numbers.{read_number}
+use Rattle.asm_text.specs.Numbers.{capped}
 use Rattle.loader.specs.Labels.{NamedAddresses, address_of}
 use Rattle.toml.specs.Parse.{parse_document}
 use Rattle.toml_reading.specs.Documents.{is_one_of}
@@ -27,8 +26,9 @@ use Rattle.statement.specs.declared.faults.StatementFault.TheVariants.{UnknownLa
 use Rattle.statement.specs.declared.reading.TheConstants.{MOST_ACCESSES, MOST_LOOPS, MOST_TARGETS}
 use Rattle.statement.specs.declared.stated.TargetKind.{TargetKind}
 use Rattle.statement.specs.declared.stated.TargetKind.TheVariants.{Jump, Call, Return, Leave}
-use Rattle.diagnosis.specs.Outline.{Bare, Begins, Ends, Item, KeyValue, Quoted, States, Table, Value}
-use Rattle.diagnosis.specs.Outline.{items_of}
+use Rattle.diagnosis.specs.Integers.{has_minus, integer_of, is_integer}
+use Rattle.diagnosis.specs.Outline.{Array, Bare, Begins, Cut, Ends, InlineTable, Item, KeyValue, Quoted}
+use Rattle.diagnosis.specs.Outline.{States, Table, Value, items_of, list_keys}
 use Rattle.diagnosis.specs.declared.repeats.Taken.{Taken}
 use Rattle.diagnosis.specs.declared.statements.Limit as declared
 use Rattle.diagnosis.specs.declared.statements.Report.{Report}
@@ -50,10 +50,13 @@ shown zero rows = []
 shown (suc n) [] = []
 shown (suc n) (row ∷ rows) = row_text row ++ shown n rows
 
--- a value as it is in the text
+-- a value as it is in the text, without what is in an array or a table, and of a text what its line has
 abbrev pub value_text : Value → List ℕ
 value_text (Bare w) = w
-value_text (Quoted quote w) = quote ∷ [] ++ (w ++ quote ∷ [])
+value_text (Quoted quotes w) = quotes ++ (w ++ quotes)
+value_text (Cut quotes w) = quotes ++ w
+value_text (Array is_empty) = if is_empty then codes "[]" else codes "[..]"
+value_text (InlineTable is_empty) = if is_empty then codes "{}" else codes "{..}"
 
 abbrev pub value_row : KeyValue → Row
 value_row p = record { line = p.line; text = p.key ++ (codes " = " ++ value_text p.value) }
@@ -96,52 +99,99 @@ takes_address key = is_one_of address_keys key
 
 -- ## Values
 
--- a digit, or a sign and a digit, comes first
-abbrev pub starts_digit : List ℕ → Bool
-starts_digit [] = false
-starts_digit (b ∷ bs) = is_digit b 10
-
-abbrev pub starts_number : List ℕ → Bool
-starts_number [] = false
-starts_number (b ∷ bs) = if b == 43 || b == 45 then starts_digit bs else is_digit b 10
-
 abbrev pub is_number : Value → Bool
-is_number (Bare w) = starts_number w
-is_number (Quoted quote w) = false
+is_number (Bare w) = is_integer w
+is_number _ = false
+
+-- the integer is 0, if there is one
+abbrev pub is_zero : Option ℕ → Bool
+is_zero None = false
+is_zero (Some n) = n == 0
+
+-- an integer below 0
+abbrev pub is_below_zero : List ℕ → Bool
+is_below_zero w = has_minus w && not (is_zero (integer_of w))
 
 abbrev pub is_negative : Value → Bool
-is_negative (Bare (b ∷ w)) = b == 45
+is_negative (Bare w) = is_below_zero w
 is_negative _ = false
 
 abbrev pub is_text : Value → Bool
-is_text (Bare w) = false
-is_text (Quoted quote w) = true
+is_text (Quoted quotes w) = true
+is_text (Cut quotes w) = true
+is_text _ = false
+
+abbrev pub is_array : (may_be_empty : Bool) → Value → Bool
+is_array may_be_empty (Array is_empty) = may_be_empty || not is_empty
+is_array may_be_empty _ = false
 
 -- the class, and the kind, that a word in quotes names
 abbrev pub quoted_class : Value → Option Class
-quoted_class (Bare w) = None
-quoted_class (Quoted quote w) = named_class w
+quoted_class (Quoted quotes w) = named_class w
+quoted_class _ = None
 
 abbrev pub quoted_kind : Value → Option TargetKind
-quoted_kind (Bare w) = None
-quoted_kind (Quoted quote w) = named_kind w
+quoted_kind (Quoted quotes w) = named_kind w
+quoted_kind _ = None
 
--- what the key takes: a number or a label, a number, the word of a class, or the word of a kind
+-- a word in quotes says whether returns are stated or assumed
+abbrev pub names_returns : Value → Bool
+names_returns (Quoted quotes w) = is_one_of (codes "stated" ∷ codes "assumed" ∷ []) w
+names_returns _ = false
+
+-- A text that goes on after its line. It is not joined with the lines that follow, so what it names is not
+-- known here: where a label or a word may be, such a text has no row, whether it is right or wrong.
+abbrev pub is_cut : Value → Bool
+is_cut (Cut quotes w) = true
+is_cut _ = false
+
+-- the word of a class, of a kind, or of returns
+abbrev pub fits_word : List ℕ → Value → Bool
+fits_word key value =
+    if bytes_eq key (codes "leave") || bytes_eq key (codes "class") then is_some (quoted_class value)
+    else (if bytes_eq key (codes "kind") then is_some (quoted_kind value) else names_returns value)
+
+-- what the key takes: a number or a label, a number, or such a word
 abbrev pub fits_key : List ℕ → Value → Bool
 fits_key key value =
     if takes_address key then is_text value || is_number value
-    else (if bytes_eq key (codes "bound") then is_number value
-    else (if bytes_eq key (codes "leave") || bytes_eq key (codes "class") then is_some (quoted_class value)
-    else (if bytes_eq key (codes "kind") then is_some (quoted_kind value) else true)))
+    else (if bytes_eq key (codes "bound") then is_number value else is_cut value || fits_word key value)
 
--- a label's address, or the number that is written in decimal or after `0x`
+-- in so many arrays: an array, and in it nothing but tables, which are no values
+abbrev pub fits_list : ℕ → Value → Bool
+fits_list depth value = if depth == 0 then is_array true value else depth == 2
+
+-- in so many arrays: an array that is not empty, and in it numbers and labels
+abbrev pub fits_element : ℕ → Value → Bool
+fits_element depth value =
+    if depth == 0 then is_array false value else depth == 2 || (is_text value || is_number value)
+
+-- the key takes the value, or else the array or the table that the value is in is what it does not take
+abbrev pub fits : KeyValue → Bool
+fits p =
+    if is_one_of list_keys p.key then fits_list p.depth p.value
+    else (if bytes_eq p.key (codes "to") then fits_element p.depth p.value
+    else not (p.depth == 0) || fits_key p.key p.value)
+
+-- an integer from 0 up, and 2^32 for a larger one
+abbrev pub number_of : List ℕ → Option ℕ
+number_of w = if is_below_zero w then None else capped (integer_of w)
+
+-- a label's address, or such a number
 abbrev pub address_at : NamedAddresses → Value → Option ℕ
-address_at names (Bare w) = read_number w
-address_at names (Quoted quote w) = address_of names w
+address_at names (Bare w) = number_of w
+address_at names (Quoted quotes w) = address_of names w
+address_at names _ = None
 
--- a text in the place of an address that is no label
+-- a text on one line
+abbrev pub is_whole_text : Value → Bool
+is_whole_text (Quoted quotes w) = true
+is_whole_text _ = false
+
+-- a text on one line in the place of an address that is no label
 abbrev pub is_unknown_label : NamedAddresses → KeyValue → Bool
-is_unknown_label names p = takes_address p.key && (is_text p.value && is_none (address_at names p.value))
+is_unknown_label names p =
+    takes_address p.key && (is_whole_text p.value && is_none (address_at names p.value))
 
 abbrev pub is_outside : List ℕ → ℕ → Bool
 is_outside key n =
@@ -162,23 +212,31 @@ abbrev pub is_unknown_key : Option (List (List ℕ)) → List ℕ → Bool
 is_unknown_key None key = false
 is_unknown_key (Some keys) key = not (is_one_of keys key)
 
+abbrev pub is_known_key : Option (List (List ℕ)) → List ℕ → Bool
+is_known_key None key = false
+is_known_key (Some keys) key = is_one_of keys key
+
 -- the value has the fault
 abbrev pub is_faulty : NamedAddresses → StatementFault → KeyValue → Bool
-is_faulty names UnknownKey p = is_unknown_key (keys_of p.list) p.key
-is_faulty names WrongKind p = not (fits_key p.key p.value)
+is_faulty names UnknownKey p = p.depth == 0 && is_unknown_key (keys_of p.list) p.key
+is_faulty names WrongKind p = is_known_key (keys_of p.list) p.key && not (fits p)
 is_faulty names UnknownLabel p = is_unknown_label names p
 is_faulty names OutOfRange p = is_out_of_range names p
 is_faulty names _ p = false
 
 -- ## Of a table, by the items after its begin
 
--- the values at a key, before the next table
-unfoldable pub stated_at : List ℕ → List Item → List KeyValue
-stated_at key [] = []
-stated_at key (Begins t ∷ items) = []
-stated_at key (States p ∷ items) =
-    if bytes_eq p.key key then p ∷ stated_at key items else stated_at key items
-stated_at key (Ends ∷ items) = []
+-- in so many arrays, at the key
+abbrev pub is_at_key : (depth : ℕ) → (key : List ℕ) → KeyValue → Bool
+is_at_key depth key p = p.depth == depth && bytes_eq p.key key
+
+-- the values so, before the next table
+unfoldable pub stated_at : (depth : ℕ) → (key : List ℕ) → List Item → List KeyValue
+stated_at depth key [] = []
+stated_at depth key (Begins t ∷ items) = []
+stated_at depth key (States p ∷ items) =
+    if is_at_key depth key p then p ∷ stated_at depth key items else stated_at depth key items
+stated_at depth key (Ends ∷ items) = []
 
 -- the first of a list
 abbrev pub first_item : {A : Type 0} → List A → Option A
@@ -187,7 +245,7 @@ first_item (x ∷ xs) = Some x
 
 -- the value at a key, before the next table
 unfoldable pub value_at : List ℕ → List Item → Option Value
-value_at key items = option_map (λ p. p.value) (first_item (stated_at key items))
+value_at key items = option_map (λ p. p.value) (first_item (stated_at 0 key items))
 
 abbrev pub missing_row : Table → List Item → List ℕ → List Row
 missing_row t items key = row_if (is_none (value_at key items)) (table_row t (codes " has no ") key)
@@ -210,14 +268,20 @@ destination_rows t has_to None = []
 abbrev pub target_rows : Table → List Item → List Row
 target_rows t items = destination_rows t (is_some (value_at (codes "to") items)) (kind_in items)
 
--- what the table lacks, or that it is in single brackets
+-- what the table lacks, that it is in single brackets, or that it stands for what is no list
 abbrev pub kind_rows : Table → List Item → List Row
 kind_rows t items =
-    if t.is_listed then missing_rows t items (needed_keys t.name) ++ target_rows t items
-    else table_row t (codes " has to be in double brackets") [] ∷ []
+    if not (is_one_of list_keys t.name) then table_row t (codes " may be no table") [] ∷ []
+    else (if t.is_listed then missing_rows t items (needed_keys t.name) ++ target_rows t items
+    else table_row t (codes " has to be in double brackets") [] ∷ [])
+
+-- the address, if it is one of a word
+abbrev pub if_word : Option ℕ → Option ℕ
+if_word None = None
+if_word (Some n) = if is_word_address n then Some n else None
 
 abbrev pub address_in : NamedAddresses → List ℕ → List Item → Option ℕ
-address_in names key items = option_and_then (address_at names) (value_at key items)
+address_in names key items = if_word (option_and_then (address_at names) (value_at key items))
 
 -- the header's address lies before the first or after the last
 abbrev pub lies_outside : Option ℕ → Option ℕ → Option ℕ → Bool
@@ -248,11 +312,11 @@ extra_destination_row (Some p) =
 abbrev pub range_rows : NamedAddresses → Table → List Item → List Row
 range_rows names t items =
     row_if (is_misplaced names items) (table_row t (codes " has its header outside first to last") [])
-    ++ extra_destination_row (first_after MOST_DESTINATIONS (stated_at (codes "to") items))
+    ++ extra_destination_row (first_after MOST_DESTINATIONS (stated_at 1 (codes "to") items))
 
 abbrev pub table_rows : NamedAddresses → StatementFault → Table → List Item → List Row
 table_rows names UnknownKey t items =
-    row_if (is_none (keys_of t.name)) (table_row t (codes " is no list of statements") [])
+    row_if (not (is_one_of statement_keys t.name)) (table_row t (codes " is no list of statements") [])
 table_rows names WrongKind t items = kind_rows t items
 table_rows names OutOfRange t items = range_rows names t items
 table_rows names _ t items = []
@@ -268,9 +332,9 @@ unfoldable pub rows : NamedAddresses → StatementFault → List Item → List R
 rows names fault [] = []
 rows names fault (i ∷ items) = item_rows names fault i items ++ rows names fault items
 
--- the value is the statement's entry
+-- the value is the statement's entry, or a table stands for it
 abbrev pub is_entry : Item → Bool
-is_entry (Begins t) = false
+is_entry (Begins t) = bytes_eq t.name (codes "entry")
 is_entry (States p) = length p.list == 0 && bytes_eq p.key (codes "entry")
 is_entry Ends = false
 

@@ -6,7 +6,7 @@ use Rattle.flow_graph.specs.declared.places.Place.TheVariants.{At, Exit}
 use Rattle.loader.specs.Image.{Words, word_of}
 use Rattle.text_rows.specs.Rows.{IsShownRow, address_row, named_row}
 use Rattle.text_rows.specs.declared.line_labels.SourceLine.{SourceLine}
-use Rattle.diagnosis.specs.Lines.{line_at}
+use Rattle.text_rows.specs.WordLines.{line_at}
 use Rattle.diagnosis.specs.declared.words.WordLines.{WordLines}
 
 -- ## Rows

@@ -18,7 +18,7 @@ use Rattle.statement.specs.declared.stated.Loop.{Loop}
 use Rattle.text_rows.specs.Rows.{AreRows}
 use Rattle.text_rows.specs.Addresses.{name_text}
 use Rattle.text_rows.specs.declared.line_labels.SourceLine.{SourceLine}
-use Rattle.diagnosis.specs.Lines.{label_at}
+use Rattle.text_rows.specs.WordLines.{label_at}
 use Rattle.diagnosis.specs.Rows.{IsPlaceRow, IsRow}
 use Rattle.diagnosis.specs.declared.crossings.Crossing.{Crossing}
 use Rattle.diagnosis.specs.declared.entries.MidEntry.{MidEntry}

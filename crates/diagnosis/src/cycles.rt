@@ -1,13 +1,14 @@
 ghost use Rattle.std.specs.Prelude.{IfNone, IfOk, IfSome};
 ghost use Rattle.loop_bounds.specs.Nest.{HasUnboundedCycle};
-ghost use Rattle.diagnosis.specs.Cycles.{IsCycleOf};
+ghost use Rattle.diagnosis.specs.Cycles.{IsCycleOf, IsOnceRound};
 
 use crate::search::Search;
 use flow_graph::{Edge, Graph, Loop};
 use std::alloc::{AllocError, Global};
 
 /// The edges of a cycle of the graph that is a back edge of no instance of the loops, in their order from the
-/// place to which the handler comes first, or None where there is none.
+/// place to which the handler comes first, or None where there is none. It goes round once, and so comes to
+/// no other place twice.
 ///
 /// That the cycle begins at that place is tested only.
 ///
@@ -21,6 +22,7 @@ pub fn unbounded_cycle(
 ) -> Result<Option<Vec<Edge>>, AllocError>
     ensures cycle { IfOk result
         (λ found. IfSome found (λ cycle. IsCycleOf graph.now loops.now cycle.items)) }
+    ensures once { IfOk result (λ found. IfSome found (λ cycle. IsOnceRound cycle.items)) }
     ensures none { IfOk result (λ found. IfNone found (HasUnboundedCycle graph.now loops.now → ⊥)) }
 {
     let mut search = Search::new(alloc, graph)?;

@@ -6,6 +6,7 @@ mod crossings;
 mod cycles;
 mod entries;
 mod extents;
+mod integers;
 mod law;
 mod members;
 mod nested;
@@ -25,7 +26,9 @@ pub use crossings::{Crossing, loops_that_cross};
 pub use cycles::unbounded_cycle;
 pub use entries::{MidEntry, mid_entry};
 pub use extents::{Extent, extent_of};
-pub use law::{most_lines, plain_lines_are_seen};
+pub use law::{
+    addresses_are_judged_as_stated, most_lines, plain_lines_are_seen, unknown_labels_have_rows,
+};
 pub use nested::{DeepPlace, deep_place};
 pub use shared_headers::shared_header;
 pub use sources::{FaultyLine, faulty_lines, faulty_text};

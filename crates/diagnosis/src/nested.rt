@@ -1,121 +1,130 @@
-ghost use Rattle.std.specs.Prelude.{◌≡◌, All, Contains, IfOk, IfSome, List, OnOk, true};
+ghost use Rattle.std.specs.Prelude.{◌≡◌, ◌≢◌, ◌↔◌, Contains, IfNone, IfOk, IfSome, IsTrue, List, MatchBool};
+ghost use Rattle.std.specs.Prelude.{OnOk, map};
+ghost use Rattle.std.specs.List.Sorted.{IsNonDecreasingBy, IsPermutation};
 ghost use Rattle.loop_bounds.specs.Extents.{found_instance};
+ghost use Rattle.loop_bounds.specs.Nest.{HasDeepPlace};
 ghost use Rattle.statement.specs.declared.stated.Loop.{Loop};
-ghost use Rattle.diagnosis.specs.Nested.{AreWanted, HasPlace, HavePlace, IsDeep, is_around};
+ghost use Rattle.diagnosis.specs.Nested.{AreInstancesOf, HasAllUpTo, HasAllWith, HasPlace, HavePlace, IsDeep};
+ghost use Rattle.diagnosis.specs.Nested.{KeepsAll, others};
 
 use flow_graph::{Calls, Graph, Loop, Place};
 use loop_bounds::{LoopInstance, MOST_INSTANCES, has_place};
 use std::alloc::{AllocError, Global};
-use std::cmp::Reverse;
 
 /// A place that is in more than sixteen instances of loops, and those.
 #[derive(Drop)]
 pub struct DeepPlace {
     pub place: Place,
-    /// The outermost first.
+    /// All of them, the outermost first.
     pub instances: Vec<LoopInstance>,
 }
 
-// Whether the first and the last address of the inner one are of the outer one, and its header is another.
-fn is_around(outer: &LoopInstance, inner: &LoopInstance) -> bool
-    ensures { result ≡ is_around (found_instance outer.now) (found_instance inner.now) }
+// Whether the two are one instance.
+fn are_same(one: &LoopInstance, other: &LoopInstance) -> bool
+    ensures { MatchBool result (found_instance one.now ≡ found_instance other.now)
+        (found_instance one.now ≢ found_instance other.now) }
 {
-    let list = inner.list;
-    outer.is_member(&Place::At(list, inner.stated.first))
-        && outer.is_member(&Place::At(list, inner.stated.last))
-        && !outer.is_header(&Place::At(list, inner.stated.header))
+    one.list == other.list && one.stated == other.stated
 }
 
-// The loops by their first address, and where that is one, by their last, the highest first.
-fn by_extent(alloc: Global, loops: &[Loop]) -> Result<Vec<Loop>, AllocError>
-    ensures { IfOk result (λ sorted. (l : Loop) → Contains sorted.items l → Contains loops.now l) }
+// Whether the instance is among those.
+fn is_among(found: &[LoopInstance], one: &LoopInstance) -> bool
+    ensures { IsTrue result ↔ Contains (map found_instance found.now) (found_instance one.now) }
 {
-    let mut sorted = Vec::from_slice(alloc, loops)?;
-    sorted.sort_unstable_by_key(|stated| (stated.first, Reverse(stated.last)));
-    Ok(sorted)
-}
-
-// Whether all of them are around the one.
-fn are_around(found: &[LoopInstance], inner: &LoopInstance) -> bool
-    ensures { result ≡ true
-        → All (λ f. is_around (found_instance f) (found_instance inner.now) ≡ true) found.now }
-{
-    found.iter().all(|outer| is_around(outer, inner))
+    for other in found {
+        if are_same(other, one) {
+            return true;
+        }
+    }
+    false
 }
 
 // Whether it is an instance that has the place.
 fn has_member(graph: &Graph, one: &LoopInstance, place: &Place) -> bool
-    ensures { (loops : List Loop) → Contains loops one.now.stated → result ≡ true
-        → HasPlace graph.now loops place.now one.now }
+    ensures { IsTrue result ↔ HasPlace graph.now place.now (found_instance one.now) }
 {
     one.is_member(place) && has_place(graph, &Place::At(one.list, one.stated.header))
-}
-
-// Adds the instance, if it has the place and those before it are around it.
-fn add(
-    found: &mut Vec<LoopInstance>,
-    graph: &Graph,
-    place: &Place,
-    one: &LoopInstance,
-) -> Result<(), AllocError>
-    ensures { (loops : List Loop) → Contains loops one.now.stated
-        → HavePlace graph.now loops place.now found.old.items
-        → OnOk result (HavePlace graph.now loops place.now found.new.items) }
-{
-    if has_member(graph, one, place) && are_around(found, one) {
-        found.push(*one)?;
-    }
-    Ok(())
 }
 
 /// Of which loops instances are looked for, and the place that they are to have.
 #[derive(Clone, Copy)]
 pub(crate) struct Wanted<'a> {
     graph: &'a Graph,
-    sorted: &'a [Loop],
+    loops: &'a [Loop],
     place: &'a Place,
 }
 
 impl Wanted<'_> {
+    // Adds the instance, if it has the place and is not there yet.
+    fn add(&self, found: &mut Vec<LoopInstance>, one: &LoopInstance) -> Result<(), AllocError>
+        ensures have { Contains self.now.loops.now one.now.stated
+            → HavePlace self.now.graph.now self.now.loops.now self.now.place.now found.old.items
+            → OnOk result
+            (HavePlace self.now.graph.now self.now.loops.now self.now.place.now found.new.items) }
+        ensures kept { OnOk result (KeepsAll found.old.items found.new.items) }
+        ensures added { HasPlace self.now.graph.now self.now.place.now (found_instance one.now)
+            → OnOk result (Contains (map found_instance found.new.items) (found_instance one.now)) }
+    {
+        if !has_member(self.graph, one, self.place) {
+            return Ok(());
+        }
+        if is_among(found, one) {
+            return Ok(());
+        }
+        found.push(*one)?;
+        Ok(())
+    }
+
     // Adds the instances with the list of calls.
     fn add_inside(&self, found: &mut Vec<LoopInstance>, list: Calls) -> Result<(), AllocError>
-        ensures { AreWanted self.now found.old.items → OnOk result (AreWanted self.now found.new.items) }
+        ensures have { HavePlace self.now.graph.now self.now.loops.now self.now.place.now found.old.items
+            → OnOk result
+            (HavePlace self.now.graph.now self.now.loops.now self.now.place.now found.new.items) }
+        ensures kept { OnOk result (KeepsAll found.old.items found.new.items) }
+        ensures all { OnOk result
+            (HasAllWith self.now.graph.now self.now.loops.now self.now.place.now list found.new.items) }
     {
-        for stated in self.sorted {
+        for stated in self.loops {
             let one = LoopInstance {
                 list,
                 stated: *stated,
             };
-            add(found, self.graph, self.place, &one)?;
+            self.add(found, &one)?;
         }
         Ok(())
     }
 
-    // Adds the instances with the list or with a front of it, those with fewer calls first.
+    // Adds the instances with the list or with a front of it.
     fn add_up_to(&self, found: &mut Vec<LoopInstance>, list: Calls) -> Result<(), AllocError>
-        ensures { AreWanted self.now found.old.items → OnOk result (AreWanted self.now found.new.items) }
+        ensures have { HavePlace self.now.graph.now self.now.loops.now self.now.place.now found.old.items
+            → OnOk result
+            (HavePlace self.now.graph.now self.now.loops.now self.now.place.now found.new.items) }
+        ensures all { OnOk result
+            (HasAllUpTo self.now.graph.now self.now.loops.now self.now.place.now list found.new.items) }
     {
-        if let Some((shorter, _)) = list.split_last() {
-            self.add_up_to(found, shorter)?;
+        if let Some(parts) = list.split_last() {
+            self.add_up_to(found, parts.0)?;
         }
-        self.add_inside(found, list)
+        self.add_inside(found, list)?;
+        Ok(())
     }
 }
 
-// The instances that have the place, of which each is around those after it.
+// The instances that have the place.
 fn instances_of(
     alloc: Global,
     graph: &Graph,
-    sorted: &[Loop],
+    loops: &[Loop],
     place: &Place,
 ) -> Result<Vec<LoopInstance>, AllocError>
-    ensures { IfOk result (λ found. HavePlace graph.now sorted.now place.now found.items) }
+    ensures { IfOk result
+        (λ found. AreInstancesOf graph.now loops.now place.now (map found_instance found.items)) }
 {
     let mut found = Vec::new(alloc);
     if let Place::At(calls, _) = place {
         let wanted = Wanted {
             graph,
-            sorted,
+            loops,
             place,
         };
         wanted.add_up_to(&mut found, *calls)?;
@@ -123,9 +132,24 @@ fn instances_of(
     Ok(found)
 }
 
-/// A place that is in more than sixteen instances of loops, and those, the outermost first. Passed over is an
-/// instance whose first or last address is not in one found before, so that where loops cross there may be no
-/// answer.
+// How many places of the graph are no members.
+fn others(graph: &Graph, one: &LoopInstance) -> usize
+    ensures { result ≡ others graph.now (found_instance one.now) }
+{
+    let places = graph.places();
+    places.iter().filter(|place| !one.is_member(place)).count()
+}
+
+// Puts the instances with more members first.
+fn put_in_order(graph: &Graph, found: &mut [LoopInstance])
+    ensures moved { IsPermutation found.old found.new }
+    ensures ordered { IsNonDecreasingBy (λ f. others graph.now (found_instance f)) found.new }
+{
+    found.sort_unstable_by_key(|one| others(graph, one));
+}
+
+/// A place that is in more than sixteen instances of loops, and those: all of them, the outermost first where
+/// no loops cross. None where there is no such place.
 ///
 /// # Errors
 ///
@@ -135,12 +159,13 @@ pub fn deep_place(
     graph: &Graph,
     loops: &[Loop],
 ) -> Result<Option<DeepPlace>, AllocError>
-    ensures { IfOk result (λ found. IfSome found (IsDeep graph.now loops.now)) }
+    ensures deep { IfOk result (λ found. IfSome found (IsDeep graph.now loops.now)) }
+    ensures none { IfOk result (λ found. IfNone found (HasDeepPlace graph.now loops.now → ⊥)) }
 {
-    let sorted = by_extent(alloc, loops)?;
     for place in graph.places() {
-        let instances = instances_of(alloc, graph, &sorted, place)?;
+        let mut instances = instances_of(alloc, graph, loops, place)?;
         if instances.len() > MOST_INSTANCES {
+            put_in_order(graph, &mut instances);
             return Ok(Some(DeepPlace {
                 place: *place,
                 instances,

@@ -13,7 +13,7 @@ use std::alloc::{AllocError, Global};
 use std::collections::BTreeSet;
 
 // The address of a value at the key in a table of the list.
-fn address_as(labels: &Labels, list: &[u8], key: &[u8], pair: &KeyValue<'_>) -> Option<u32>
+fn address_as(labels: &Labels, list: &[u8], key: &[u8], pair: &KeyValue<'_>) -> Option<u64>
     ensures { result ≡ address_as labels.now list.now key.now (States (key_value_of pair.now)) }
 {
     if pair.list == list && pair.key == key {
@@ -23,7 +23,7 @@ fn address_as(labels: &Labels, list: &[u8], key: &[u8], pair: &KeyValue<'_>) -> 
 }
 
 // Adds the address, if there is one, and says whether it was there.
-fn add(set: &mut BTreeSet<u32>, address: Option<u32>) -> Result<bool, AllocError>
+fn add(set: &mut BTreeSet<u64>, address: Option<u64>) -> Result<bool, AllocError>
     ensures known { IfOk result (λ known. known ≡ passes (contains nat_cmp set.old) address) }
     ensures added { OnOk result
         ((a : ℕ) → contains nat_cmp set.new a ≡ (is_at address a || contains nat_cmp set.old a)) }
@@ -41,11 +41,11 @@ fn add(set: &mut BTreeSet<u32>, address: Option<u32>) -> Result<bool, AllocError
 #[derive(Drop)]
 pub(crate) struct Taken {
     /// Those of targets.
-    targets: BTreeSet<u32>,
+    targets: BTreeSet<u64>,
     /// Those of accesses.
-    accesses: BTreeSet<u32>,
+    accesses: BTreeSet<u64>,
     /// The destinations of the table at hand.
-    destinations: BTreeSet<u32>,
+    destinations: BTreeSet<u64>,
 }
 
 impl Taken {

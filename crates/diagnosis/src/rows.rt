@@ -1,7 +1,7 @@
 ghost use Rattle.std.specs.Prelude.{◌≡◌, ◌++◌, IfOk, OnOk, decimal};
 ghost use Rattle.text_rows.specs.Addresses.{name_text};
 ghost use Rattle.asm_text.specs.Appended.{Appends};
-ghost use Rattle.diagnosis.specs.Lines.{label_at};
+ghost use Rattle.text_rows.specs.WordLines.{label_at};
 ghost use Rattle.diagnosis.specs.Rows.{IsImageRow, IsPlaceRow, IsRow, source_row};
 
 use crate::words::WordLines;

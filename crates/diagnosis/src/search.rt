@@ -6,7 +6,7 @@ ghost use Rattle.flow_graph.specs.Places.{place_at};
 ghost use Rattle.statement.specs.declared.stated.Loop.{Loop};
 ghost use Rattle.loop_bounds.specs.Nest.{IsPlainEdge};
 ghost use Rattle.diagnosis.specs.Cycles.{EndsCleared, IsCleared, IsClosed, IsCycleOf, IsEnded};
-ghost use Rattle.diagnosis.specs.Cycles.{IsIdle, IsOpen};
+ghost use Rattle.diagnosis.specs.Cycles.{IsIdle, IsOnceRound, IsOpen};
 ghost use Rattle.diagnosis.specs.Cycles.{IsSearching, LeadToCleared, steps_left};
 
 use crate::members::turns_back;
@@ -77,9 +77,10 @@ fn next_of(graph: &Graph, loops: &[Loop], marks: &[u8], at: usize) -> Option<(Ed
 
 // The end of a path that is closed: from where an edge of it begins at the place where it ends.
 fn cycle_of(alloc: Global, path: &[Edge], end: &Place) -> Result<Vec<Edge>, AllocError>
-    ensures { IfOk result
+    ensures cycle { IfOk result
         (λ cycle. (flow : Flow) (loops : List Loop) → IsClosed flow loops path.now end.now
         → IsCycleOf flow loops cycle.items) }
+    ensures once { IfOk result (λ cycle. IsOnceRound path.now → IsOnceRound cycle.items) }
 {
     for (k, edge) in path.iter().enumerate() {
         if edge.from == *end {
@@ -149,6 +150,7 @@ impl Search {
         requires has { Contains graph.now.places root.now }
         ensures cycle { IfOk result
             (λ found. IfSome found (λ cycle. IsCycleOf graph.now loops.now cycle.items)) }
+        ensures once { IfOk result (λ found. IfSome found (λ cycle. IsOnceRound cycle.items)) }
         ensures idle { IfOk result (λ found. IfNone found (IsIdle graph.now loops.now self.new)) }
         ensures cleared { IfOk result (λ found. IfNone found (IsCleared graph.now loops.now root.now)) }
     {

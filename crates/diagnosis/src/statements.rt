@@ -4,7 +4,8 @@ ghost use Rattle.std.specs.List.{list_any};
 ghost use Rattle.diagnosis.specs.Outline.{item_of, items_of, key_value_of, table_of, value_of};
 ghost use Rattle.diagnosis.specs.Refused.{Adds, IsStatementText, IsTomlText, address_in, all_rows};
 ghost use Rattle.diagnosis.specs.Refused.{extra_destination_row, feeds, first_after, is_entry, is_faulty};
-ghost use Rattle.diagnosis.specs.Refused.{is_misplaced, is_unknown_key, item_row_if, limit_of, extra_row};
+ghost use Rattle.diagnosis.specs.Refused.{is_at_key, is_known_key, is_misplaced, is_unknown_key};
+ghost use Rattle.diagnosis.specs.Refused.{extra_row, item_row_if, limit_of};
 ghost use Rattle.diagnosis.specs.Refused.{range_rows};
 ghost use Rattle.diagnosis.specs.Refused.{row_if, rows, shown, tables_in, twice_rows, stated_at, whole_rows};
 ghost use Rattle.diagnosis.specs.Refused.{item_rows, keys_of, kind_rows, lies_outside, missing_row};
@@ -13,11 +14,11 @@ ghost use Rattle.diagnosis.specs.Refused.{row_text, table_row};
 ghost use Rattle.diagnosis.specs.Refused.{kind_in, table_rows, target_rows, toml_row, toml_row_at};
 ghost use Rattle.diagnosis.specs.Refused.{value_at, value_row, value_text};
 
-use crate::outline::{Item, KeyValue, Table, items_of};
+use crate::outline::{Item, KeyValue, LIST_KEYS, Table, items_of};
 use crate::repeats::Taken;
 use crate::rows::{MOST_LINES, around_number};
 use crate::tokens::Value;
-use crate::values::{address_at, fits_key, is_out_of_range, is_unknown_label, quoted_kind};
+use crate::values::{address_at, fits, if_word, is_out_of_range, is_unknown_label, quoted_kind};
 use flow_graph::StatementFault;
 use loader::Labels;
 use statement::{
@@ -86,12 +87,17 @@ fn put_word(out: &mut Vec<u8>, value: Value<'_>) -> Result<(), AllocError>
 {
     match value {
         Value::Bare(text) => put(out, text),
-        Value::Quoted(quote, text) => {
-            out.push(quote)?;
+        Value::Quoted(quotes, text) => {
+            put(out, quotes)?;
             put(out, text)?;
-            out.push(quote)?;
-            Ok(())
+            put(out, quotes)
         }
+        Value::Cut(quotes, text) => {
+            put(out, quotes)?;
+            put(out, text)
+        }
+        Value::Array(is_empty) => put(out, if is_empty { b"[]" } else { b"[..]" }),
+        Value::InlineTable(is_empty) => put(out, if is_empty { b"{}" } else { b"{..}" }),
     }
 }
 
@@ -195,18 +201,25 @@ fn table_after<'a>(most: usize, list: &[u8], items: &[Item<'a>]) -> Option<Table
     None
 }
 
-// The first value at a key after so many, before the next table.
+// Whether the value is at the key, in so many arrays.
+fn is_at_key(depth: u8, key: &[u8], pair: &KeyValue<'_>) -> bool
+    ensures { result ≡ is_at_key depth key.now (key_value_of pair.now) }
+{
+    pair.depth == depth && pair.key == key
+}
+
+// The first such value after so many, before the next table.
 #[tactic(auto, unfolding(crate::specs::Refused::stated_at))]
-fn value_after<'a>(most: usize, key: &[u8], items: &[Item<'a>]) -> Option<KeyValue<'a>>
+fn value_after<'a>(most: usize, depth: u8, key: &[u8], items: &[Item<'a>]) -> Option<KeyValue<'a>>
     ensures { option_map key_value_of result
-        ≡ first_after most (stated_at key.now (map item_of items.now)) }
+        ≡ first_after most (stated_at depth key.now (map item_of items.now)) }
 {
     let mut left = most;
     for item in items {
         let Item::States(pair) = item else {
             return None;
         };
-        if pair.key != key {
+        if !is_at_key(depth, key, pair) {
             continue;
         }
         if left == 0 {
@@ -222,7 +235,7 @@ fn value_after<'a>(most: usize, key: &[u8], items: &[Item<'a>]) -> Option<KeyVal
 fn value_at<'a>(items: &[Item<'a>], key: &[u8]) -> Option<Value<'a>>
     ensures { option_map value_of result ≡ value_at key.now (map item_of items.now) }
 {
-    let pair = value_after(0, key, items)?;
+    let pair = value_after(0, 0, key, items)?;
     Some(pair.value)
 }
 
@@ -244,12 +257,12 @@ fn kind_in(rest: &[Item<'_>]) -> Option<TargetKind>
     }
 }
 
-// The address at a key, before the next table.
+// The address of a word at a key, before the next table.
 fn address_in(labels: &Labels, key: &[u8], rest: &[Item<'_>]) -> Option<u32>
     ensures { result ≡ address_in labels.now key.now (map item_of rest.now) }
 {
     match value_at(rest, key) {
-        Some(value) => address_at(labels, value),
+        Some(value) => if_word(address_at(labels, value)),
         None => None,
     }
 }
@@ -289,12 +302,21 @@ fn is_unknown_key(list: &[u8], key: &[u8]) -> bool
     }
 }
 
+fn is_known_key(list: &[u8], key: &[u8]) -> bool
+    ensures { result ≡ is_known_key (keys_of list.now) key.now }
+{
+    match keys_of(list) {
+        Some(keys) => is_one_of(keys, key),
+        None => false,
+    }
+}
+
 fn is_faulty(asked: &Asked<'_>, pair: &KeyValue<'_>) -> bool
     ensures { result ≡ is_faulty asked.now.labels.now asked.now.fault (key_value_of pair.now) }
 {
     match asked.fault {
-        StatementFault::UnknownKey => is_unknown_key(pair.list, pair.key),
-        StatementFault::WrongKind => !fits_key(pair.key, pair.value),
+        StatementFault::UnknownKey => pair.depth == 0 && is_unknown_key(pair.list, pair.key),
+        StatementFault::WrongKind => is_known_key(pair.list, pair.key) && !fits(pair),
         StatementFault::UnknownLabel => is_unknown_label(asked.labels, pair),
         StatementFault::OutOfRange => is_out_of_range(asked.labels, pair),
         _ => false,
@@ -426,7 +448,7 @@ impl Report {
         }
     }
 
-    // Adds what a table lacks, or that it is in single brackets.
+    // Adds what a table lacks, that it is in single brackets, or that it stands for what is no list.
     #[tactic(auto, using(crate::proofs::RefusedLemmas::adds_both))]
     fn put_kinds(&mut self, alloc: Global, opened: &OpenTable<'_>) -> Result<(), AllocError>
         ensures { OnOk result
@@ -434,6 +456,9 @@ impl Report {
             self.old self.new) }
     {
         let table = opened.table;
+        if !is_one_of(LIST_KEYS, table.name) {
+            return self.put_table(alloc, table, b" may be no table", b"");
+        }
         if !table.is_listed {
             return self.put_table(alloc, table, b" has to be in double brackets", b"");
         }
@@ -445,9 +470,9 @@ impl Report {
     fn put_extra_destination(&mut self, alloc: Global, rest: &[Item<'_>]) -> Result<(), AllocError>
         ensures { OnOk result
             (Adds (extra_destination_row (first_after MOST_DESTINATIONS
-            (stated_at (codes "to") (map item_of rest.now)))) self.old self.new) }
+            (stated_at 1 (codes "to") (map item_of rest.now)))) self.old self.new) }
     {
-        let Some(pair) = value_after(MOST_DESTINATIONS, b"to", rest) else {
+        let Some(pair) = value_after(MOST_DESTINATIONS, 1, b"to", rest) else {
             return Ok(());
         };
         let mut text = value_text(alloc, &pair)?;
@@ -480,7 +505,7 @@ impl Report {
         let alloc = asked.alloc;
         match asked.fault {
             StatementFault::UnknownKey => {
-                let holds = keys_of(opened.table.name).is_none();
+                let holds = !is_one_of(STATEMENT_KEYS, opened.table.name);
                 self.put_if(alloc, holds, opened.table, b" is no list of statements")
             }
             StatementFault::WrongKind => self.put_kinds(alloc, opened),
@@ -606,13 +631,14 @@ impl Report {
     }
 }
 
-// Whether the value is the statement's entry.
+// Whether the value is the statement's entry, or a table stands for it.
 fn is_entry(item: &Item<'_>) -> bool
     ensures { result ≡ is_entry (item_of item.now) }
 {
     match item {
         Item::States(pair) => pair.list.is_empty() && pair.key == b"entry".as_slice(),
-        Item::Begins(_) | Item::Ends => false,
+        Item::Begins(table) => table.name == b"entry".as_slice(),
+        Item::Ends => false,
     }
 }
 

@@ -277,7 +277,7 @@ fn key_of(alloc: Global, place: &Place) -> Result<Vec<u32>, AllocError>
 {
     match place {
         Place::At(calls, address) => {
-            let mut chain = Vec::from_slice(alloc, calls.as_slice())?;
+            let mut chain = Vec::from_slice(alloc, calls.items())?;
             chain.push(*address)?;
             Ok(chain)
         }

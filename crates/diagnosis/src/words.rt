@@ -1,16 +1,12 @@
-ghost use Rattle.std.specs.Prelude.{◌≡◌, ℕ, IfOk, OnOk, nat_eq};
-ghost use Rattle.std.specs.Map.{update_all};
-ghost use Rattle.loader.specs.Labels.{NamedAddresses};
-ghost use Rattle.text_rows.specs.Addresses.{IsNamed};
+ghost use Rattle.std.specs.Prelude.{◌≡◌, IfOk};
 ghost use Rattle.text_rows.specs.LineLabels.{AreNamed};
-ghost use Rattle.diagnosis.specs.Lines.{AreLinesOf, numbered, numbered_at, words_from};
+ghost use Rattle.text_rows.specs.WordLines.{AreLinesOf};
 
-use asm_text::first_line;
-use assembler::{PlacedLine, Program};
+use assembler::Program;
 use loader::Image;
 use std::alloc::{AllocError, Global};
 use std::collections::BTreeMap;
-use text_rows::{SourceLine, label_of};
+use text_rows::{SourceLine, source_lines};
 
 /// The lines of a text by the addresses of their words, and the words of the image, for which there are no
 /// lines where the source is an image.
@@ -18,60 +14,6 @@ use text_rows::{SourceLine, label_of};
 pub struct WordLines<'a> {
     pub lines: BTreeMap<u32, SourceLine<'a>>,
     pub image: &'a Image,
-}
-
-// Adds the line at the addresses of its words, the first of which has the label.
-fn add_words<'a>(
-    lines: &mut BTreeMap<u32, SourceLine<'a>>,
-    placed: PlacedLine,
-    line: SourceLine<'a>,
-) -> Result<(), AllocError>
-    ensures named { OnOk result
-        ((names : NamedAddresses) → IsNamed names placed.at line.entry.label.now → AreNamed names lines.old
-        → AreNamed names lines.new) }
-    ensures words { OnOk result
-        ((at : ℕ) → numbered_at lines.new at ≡ update_all nat_eq (numbered_at lines.old)
-        (words_from placed.at placed.words (numbered line.entry)) at) }
-{
-    let mut at = placed.at;
-    let mut shown = line;
-    for _ in 0..placed.words {
-        lines.insert(at, shown)?;
-        at = at.wrapping_add(4);
-        shown.label = b"";
-    }
-    Ok(())
-}
-
-// The lines by the addresses of their words.
-fn lines_of<'a>(
-    alloc: Global,
-    program: &Program<'a>,
-) -> Result<BTreeMap<u32, SourceLine<'a>>, AllocError>
-    ensures named { IfOk result (AreNamed program.now.labels.now) }
-    ensures words { IfOk result
-        (AreLinesOf program.now.labels.now program.now.source.now program.now.placed.now) }
-{
-    let mut lines = BTreeMap::new(alloc);
-    let mut rest = program.source;
-    let mut before: &[u8] = b"";
-    let mut number = 1;
-    for placed in program.placed {
-        let Some((text, after)) = first_line(rest) else {
-            return Ok(lines);
-        };
-        let label = label_of(program.labels, text, before, placed.at);
-        let line = SourceLine {
-            number,
-            label,
-            text,
-        };
-        add_words(&mut lines, *placed, line)?;
-        before = label;
-        rest = after;
-        number += 1;
-    }
-    Ok(lines)
 }
 
 /// The lines of the words. The label of a word may also be alone in a line before.
@@ -86,7 +28,7 @@ pub fn words_of<'a>(alloc: Global, program: &Program<'a>) -> Result<WordLines<'a
         words.lines) }
     ensures image { IfOk result (λ words. words.image.now ≡ program.now.image.now) }
 {
-    let lines = lines_of(alloc, program)?;
+    let lines = source_lines(alloc, program)?;
     Ok(WordLines {
         lines,
         image: program.image,

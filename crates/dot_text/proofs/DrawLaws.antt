@@ -1,8 +1,9 @@
 -- One piece more of a text, and one number more of a sum.
-use Rattle.std.proofs.Common.{◌≡◌, ◌∙◌, ℕ, suc, ◌+◌, ◌-◌, ◌^◌, ◌<◌, ◌≤◌, List, [], ◌∷◌, ◌++◌, append-nil, append_assoc, length, drop, flat_map, sym, ap, arith}
+use Rattle.std.proofs.Common.{◌≡◌, ◌∙◌, ℕ, suc, ◌+◌, ◌-◌, ◌^◌, ◌<◌, ◌≤◌, List, [], ◌∷◌, ◌++◌, append-nil, append_assoc, length, drop, get_or, flat_map, sym, ap, arith}
 use Rattle.std.specs.Prelude.{sum_by}
 use Rattle.std.specs.List.{range_with_len}
 use Rattle.std.proofs.Math.ListN.{drop_of_length-le}
+use Rattle.std.proofs.lemmas.List.{drop_more}
 use Rattle.std.proofs.lemmas.List.Concat.{flat_map-cons}
 use Rattle.std.proofs.lemmas.List.Sums.{sum_by-cons}
 use Rattle.assembler.proofs.PutLaws.{joined}
@@ -62,3 +63,16 @@ pub sum_end : (f : ℕ → ℕ) (n end sum all : ℕ) → capped (sum + sum_by f
 sum_end f n end sum all h le small =
     let same : sum ≡ capped (sum + 0) = omega arith in
     same ∙ ap (λ ns. capped (sum + sum_by f ns)) (sym (between_none n end le)) ∙ h
+
+-- the same over a list, from an element on
+pub item_sum_more : {X : Type 0} (f : X → ℕ) (xs : List X) (i : ℕ) (d : X) (sum one new all : ℕ) → capped (sum + sum_by f (drop i xs)) ≡ all → i < length xs → one ≡ f (get_or xs i d) → new ≡ capped (sum + one) → capped (new + sum_by f (drop (i + 1) xs)) ≡ all
+item_sum_more f xs i d sum one new all h lt here new_is =
+    let x = get_or xs i d in
+    let rest = sum_by f (drop (i + 1) xs) in
+    let parts : sum_by f (drop i xs) ≡ f x + rest = ap (sum_by f) (drop_more xs i d lt) ∙ sum_by-cons f x (drop (i + 1) xs) in
+    ap (λ m. capped (m + rest)) new_is ∙ capped_more (2 ^ 64 - 1) sum one rest ∙ ap (λ m. capped (sum + (m + rest))) here ∙ ap (λ m. capped (sum + m)) (sym parts) ∙ h
+
+pub item_sum_end : {X : Type 0} (f : X → ℕ) (xs : List X) (i sum all : ℕ) → capped (sum + sum_by f (drop i xs)) ≡ all → length xs ≤ i → sum < 2 ^ 64 → sum ≡ all
+item_sum_end f xs i sum all h le small =
+    let same : sum ≡ capped (sum + 0) = omega arith in
+    same ∙ ap (λ ys. capped (sum + sum_by f ys)) (sym (drop_of_length-le xs le)) ∙ h

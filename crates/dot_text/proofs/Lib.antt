@@ -1,6 +1,9 @@
 mod ArrivalLaws
+mod ChainLaws
 mod DrawLaws
 mod LabelLaws
 mod NodeLaws
+mod StraightLaws
 mod StretchLaws
+mod TogetherLaws
 mod TotalLaws

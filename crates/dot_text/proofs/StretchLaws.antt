@@ -1,5 +1,5 @@
--- One cluster more, one stretch more, one edge more.
-use Rattle.std.proofs.Common.{◌≡◌, ◌∙◌, ℕ, suc, ◌+◌, ◌<◌, ◌≤◌, Bool, true, false, ◌&&◌, if◌then◌else◌, List, [], ◌++◌, Vec, append-nil, append_assoc, length, drop, get_or, sym, ap, arith}
+-- One cluster more, one stretch more.
+use Rattle.std.proofs.Common.{◌≡◌, ◌∙◌, ℕ, ◌+◌, ◌<◌, ◌≤◌, true, false, if◌then◌else◌, List, [], ◌++◌, Vec, append-nil, append_assoc, length, drop, get_or, sym, ap}
 use Rattle.std.specs.Prelude.{max}
 use Rattle.std.specs.Global.{Global}
 use Rattle.std.proofs.Math.ListN.{drop_of_length-le}
@@ -8,13 +8,8 @@ use Rattle.flow_graph.specs.Flow.{Flow}
 use Rattle.loop_bounds.specs.Tree.{Tree}
 use Rattle.numbered_walks.specs.declared.span.Span.{Span}
 use Rattle.dot_text.specs.Clusters.{clusters, depth_in, loop_text, routines}
-use Rattle.dot_text.specs.Stretches.{first_of, goes_on}
-use Rattle.dot_text.specs.Text.{ended, stretch}
-
-pub inside_decides : (a b c d : Bool) → a ≡ true → b ≡ true → d ≡ c → d ≡ (a && (b && c))
-inside_decides true true c d calls loops is = is
-inside_decides true false c d calls loops is = absurd cc
-inside_decides false b c d calls loops is = absurd cc
+use Rattle.dot_text.specs.Stretches.{is_begin, stretch_from}
+use Rattle.dot_text.specs.Text.{begun, stretch}
 
 module _ (flow : Flow) (tree : Tree) where
   -- ## Clusters
@@ -41,32 +36,16 @@ module _ (flow : Flow) (tree : Tree) where
 
   -- ## Stretches
 
-  pub first_kept_suc : (n : ℕ) → goes_on flow tree n ≡ true → first_of flow tree (suc n) ≡ first_of flow tree n
-  first_kept_suc n on = ap (λ b. if b then first_of flow tree n else suc n) on
-
-  pub first_next_suc : (n : ℕ) → goes_on flow tree n ≡ false → first_of flow tree (suc n) ≡ suc n
-  first_next_suc n off = ap (λ b. if b then first_of flow tree n else suc n) off
-
-  pub first_kept : (n : ℕ) → goes_on flow tree n ≡ true → first_of flow tree (n + 1) ≡ first_of flow tree n
-  first_kept n h =
-      let is : n + 1 ≡ suc n = omega arith in
-      ap (first_of flow tree) is ∙ first_kept_suc n h
-
-  pub first_next : (n : ℕ) → goes_on flow tree n ≡ false → first_of flow tree (n + 1) ≡ n + 1
-  first_next n h =
-      let is : n + 1 ≡ suc n = omega arith in
-      ap (first_of flow tree) is ∙ first_next_suc n h ∙ sym is
-
   module _ (counts : List ℕ) (labels : List (Vec ℕ Global)) where
-    abbrev at_end : ℕ → List ℕ
-    at_end = ended flow tree counts labels
+    abbrev at_begin : ℕ → List ℕ
+    at_begin = begun flow tree counts labels
 
-    pub ended_not : (n : ℕ) (text : List ℕ) → goes_on flow tree n ≡ true → text ≡ text ++ at_end n
-    ended_not n text on =
-        let none : at_end n ≡ [] = ap (λ b. if b then [] else stretch flow tree counts labels (first_of flow tree n) n) on in
+    pub begun_not : (n : ℕ) (text : List ℕ) → is_begin flow tree n ≡ false → text ≡ text ++ at_begin n
+    begun_not n text no_begin =
+        let none : at_begin n ≡ [] = ap (λ b. if b then stretch flow tree counts labels (stretch_from flow tree n) else []) no_begin in
         sym (append-nil text) ∙ ap (λ xs. text ++ xs) (sym none)
 
-    pub ended_here : (n first : ℕ) (text new : List ℕ) → goes_on flow tree n ≡ false → first ≡ first_of flow tree n → new ≡ text ++ stretch flow tree counts labels first n → new ≡ text ++ at_end n
-    ended_here n first text new off first_is one =
-        let here : at_end n ≡ stretch flow tree counts labels (first_of flow tree n) n = ap (λ b. if b then [] else stretch flow tree counts labels (first_of flow tree n) n) off in
-        one ∙ ap (λ f. text ++ stretch flow tree counts labels f n) first_is ∙ ap (λ xs. text ++ xs) (sym here)
+    pub begun_here : (n : ℕ) (text new : List ℕ) → is_begin flow tree n ≡ true → new ≡ text ++ stretch flow tree counts labels (stretch_from flow tree n) → new ≡ text ++ at_begin n
+    begun_here n text new is one =
+        let here : at_begin n ≡ stretch flow tree counts labels (stretch_from flow tree n) = ap (λ b. if b then stretch flow tree counts labels (stretch_from flow tree n) else []) is in
+        one ∙ ap (λ xs. text ++ xs) (sym here)

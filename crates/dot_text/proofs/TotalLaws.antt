@@ -1,9 +1,9 @@
 -- The ticks of all nodes are what the walk costs.
-use Rattle.std.proofs.Common.{◌≡◌, ◌∙◌, ℕ, zero, suc, ◌+◌, ◌-◌, ◌*◌, ◌^◌, ◌<◌, ◌≤◌, inl, inr, ⊎_elim, true, false, cond, eqb, if◌then◌else◌, List, [], ◌∷◌, ◌++◌, length, get_or, refl, sym, ap, subst, arith}
+use Rattle.std.proofs.Common.{◌≡◌, ◌∙◌, ℕ, zero, suc, ◌+◌, ◌-◌, ◌*◌, ◌^◌, ◌<◌, ◌≤◌, ⊎_elim, true, false, cond, eqb, if◌then◌else◌, List, [], ◌∷◌, ◌++◌, length, get_or, refl, sym, ap, subst, arith}
 use Rattle.std.specs.Prelude.{count_by, sum_by}
 use Rattle.std.specs.List.{range_with_len}
-use Rattle.std.proofs.lemmas.Bool.{cases_Bool, cases_lt, eq-eqb, ne_eqb}
-use Rattle.std.proofs.lemmas.List.Elements.{All-from_get_or}
+use Rattle.std.proofs.lemmas.Bool.{cases_lt, eq-eqb, ne_eqb}
+use Rattle.std.proofs.lemmas.List.Elements.{All-from_get_or, All-get_or}
 use Rattle.std.proofs.lemmas.List.FromFn.{get_or-range_with_len, length-range_with_len}
 use Rattle.std.proofs.lemmas.List.Sums.{sum_by-append, sum_by-cons, sum_by_push}
 use Rattle.flow_graph.specs.Flow.{Flow, IsWellFormed}
@@ -15,10 +15,10 @@ use Rattle.longest_walk.specs.declared.folded.Item.{Item}
 use Rattle.walk_counts.specs.Counts.{AreCounts, capped, counted_cost}
 use Rattle.walk_counts.proofs.CountLemmas.{total}
 use Rattle.walk_counts.proofs.SumLemmas.{picked, same_sums, sums_by_number}
-use Rattle.dot_text.specs.Nodes.{all_ticks, node_ticks}
-use Rattle.dot_text.specs.Stretches.{between, edge_ticks, first_of, goes_on, leaving, stretch_ticks, ticks}
-use Rattle.dot_text.proofs.NodeLaws.{between_last, between_self, first_le, first_more, past_end}
-use Rattle.dot_text.proofs.StretchLaws.{first_kept_suc, first_next_suc}
+use Rattle.dot_text.specs.Nodes.{all_numbers, all_ticks, node_ticks, numbers_in}
+use Rattle.dot_text.specs.Stretches.{between, edge_ticks, is_begin, leaving, stretch_from, stretch_ticks, ticks}
+use Rattle.dot_text.proofs.ChainLaws.{sum_by-flat_map}
+use Rattle.dot_text.proofs.NodeLaws.{each_once, first_more}
 
 -- ## Ranges
 
@@ -126,38 +126,26 @@ module _ (flow : Flow) (tree : Tree) (counts : List ℕ) where
   of_number n = sum_by of_edge (leaving flow tree n)
 
   abbrev of_node : ℕ → ℕ
-  of_node n = if goes_on flow tree n then 0 else sum_by of_number (between (first_of flow tree n) (n + 1))
+  of_node n = if is_begin flow tree n then sum_by of_number (stretch_from flow tree n) else 0
 
-  sums_far : (n : ℕ) → sum_by of_node (range_with_len 0 n) + sum_by of_number (between (first_of flow tree n) n) ≡ sum_by of_number (range_with_len 0 n)
-  sums_far zero = refl
-  sums_far (suc n) =
-      let first = first_of flow tree n in
-      let is : suc n ≡ n + 1 = omega arith in
-      let last : sum_by of_number (between first (n + 1)) ≡ sum_by of_number (between first n) + of_number n =
-      ap (sum_by of_number) (between_last first n (first_le flow tree n)) ∙ sum_by_push of_number (between first n) n in
-      let more : sum_by of_node (range_with_len 0 (suc n)) ≡ sum_by of_node (range_with_len 0 n) + of_node n =
-      ap (sum_by of_node) (first_more n) ∙ sum_by_push of_node (range_with_len 0 n) n in
-      let whole : sum_by of_number (range_with_len 0 (suc n)) ≡ sum_by of_number (range_with_len 0 n) + of_number n =
-      ap (sum_by of_number) (first_more n) ∙ sum_by_push of_number (range_with_len 0 n) n in
-      elim (cases_Bool (goes_on flow tree n)) [
-        | inl on ↦
-            let none : of_node n ≡ 0 = ap (λ b. if b then 0 else sum_by of_number (between first (n + 1))) on in
-            let rest : sum_by of_number (between (first_of flow tree (suc n)) (suc n)) ≡ sum_by of_number (between first (n + 1)) =
-            λ i. sum_by of_number (between (first_kept_suc flow tree n on i) (is i)) in
-            omega (arith, sums_far n, last, more, whole, none, rest)
-        | inr off ↦
-            let all : of_node n ≡ sum_by of_number (between first (n + 1)) = ap (λ b. if b then 0 else sum_by of_number (between first (n + 1))) off in
-            let rest : sum_by of_number (between (first_of flow tree (suc n)) (suc n)) ≡ 0 =
-            ap (sum_by of_number) (ap (λ a. between a (suc n)) (first_next_suc flow tree n off) ∙ between_self (suc n)) in
-            omega (arith, sums_far n, last, more, whole, all, rest)
-      ]
+  node_is : (n : ℕ) → of_node n ≡ sum_by of_number (numbers_in flow tree n)
+  node_is n = elim (is_begin flow tree n) as (λ b. (if b then sum_by of_number (stretch_from flow tree n) else 0) ≡ sum_by of_number (if b then stretch_from flow tree n else [])) [
+    | true ↦ refl
+    | false ↦ refl
+  ]
 
-  nodes_to : (n : ℕ) → length flow.places ≡ n → sum_by of_node (range_with_len 0 n) ≡ sum_by of_number (range_with_len 0 n)
-  nodes_to zero is = refl
-  nodes_to (suc m) is =
-      let next = first_next_suc flow tree m (past_end flow tree m (omega (arith, is))) in
-      let rest : sum_by of_number (between (first_of flow tree (suc m)) (suc m)) ≡ 0 = ap (sum_by of_number) (ap (λ a. between a (suc m)) next ∙ between_self (suc m)) in
-      omega (arith, sums_far (suc m), rest)
+  -- each number is in one node
+  nodes_sum : IsWellFormed flow → IsTree flow tree → sum_by of_node (range_with_len 0 (length flow.places)) ≡ sum_by of_number (range_with_len 0 (length flow.places))
+  nodes_sum well t =
+      let exit = length flow.places in
+      let each = each_once flow tree well t in
+      let all = all_numbers flow tree in
+      same_sums of_node (λ n. sum_by of_number (numbers_in flow tree n)) exit 0 (λ n low high. node_is n)
+      ∙ sym (sum_by-flat_map of_number (numbers_in flow tree) (range_with_len 0 exit))
+      ∙ sym (sums_by_number (λ n. n) of_number of_number exit all
+      (All-from_get_or (λ k. (k < exit) × (of_number k ≡ of_number k)) all 0 (λ i lt. (All-get_or (λ k. k < exit) all i 0 lt each.others, refl))))
+      ∙ same_sums (λ v. count_by (λ k. eqb k v) all * of_number v) of_number exit 0
+      (λ v low high. ap (λ c. c * of_number v) (each.once v (omega arith)) ∙ omega arith)
 
   -- all edges leave some number
   numbers_sum : IsWellFormed flow → IsTree flow tree → sum_by of_number (range_with_len 0 (length flow.places)) ≡ counted_cost flow.edges counts
@@ -181,19 +169,15 @@ module _ (flow : Flow) (tree : Tree) (counts : List ℕ) where
   agrees_number n =
       agrees_capped (sum_by (edge_ticks flow counts) (leaving flow tree n)) (of_number n) (agrees_sum (edge_ticks flow counts) of_edge agrees_edge (leaving flow tree n))
 
-  agrees_stretch : (first last : ℕ) → AgreesCapped (stretch_ticks flow tree counts first last) (sum_by of_number (between first (last + 1)))
-  agrees_stretch first last =
-      let ns = between first (last + 1) in
-      agrees_capped (sum_by (ticks flow tree counts) ns) (sum_by of_number ns) (agrees_sum (ticks flow tree counts) of_number agrees_number ns)
+  agrees_stretch : (ns : List ℕ) → AgreesCapped (stretch_ticks flow tree counts ns) (sum_by of_number ns)
+  agrees_stretch ns = agrees_capped (sum_by (ticks flow tree counts) ns) (sum_by of_number ns) (agrees_sum (ticks flow tree counts) of_number agrees_number ns)
 
   agrees_node : (n : ℕ) → AgreesCapped (node_ticks flow tree counts n) (of_node n)
   agrees_node n =
-      let first = first_of flow tree n in
-      let s = stretch_ticks flow tree counts first n in
-      let u = sum_by of_number (between first (n + 1)) in
-      elim (goes_on flow tree n) as (λ b. AgreesCapped (if b then 0 else s) (if b then 0 else u)) [
-        | true ↦ (omega arith, refl)
-        | false ↦ agrees_stretch first n
+      let ns = stretch_from flow tree n in
+      elim (is_begin flow tree n) as (λ b. AgreesCapped (if b then stretch_ticks flow tree counts ns else 0) (if b then sum_by of_number ns else 0)) [
+        | true ↦ agrees_stretch ns
+        | false ↦ (omega arith, refl)
       ]
 
 pub ticks_in_all : (flow : Flow) (tree : Tree) (cost : ℕ) (items : List Item) (counts : List ℕ) → IsWellFormed flow → IsTree flow tree → IsWalkOf flow tree cost items → cost < 2 ^ 64
@@ -201,7 +185,7 @@ pub ticks_in_all : (flow : Flow) (tree : Tree) (cost : ℕ) (items : List Item) 
 ticks_in_all flow tree cost items counts well t walk fits are =
     let numbers = range_with_len 0 (length flow.places) in
     let all : sum_by (of_node flow tree counts) numbers ≡ cost =
-    nodes_to flow tree counts (length flow.places) refl ∙ numbers_sum flow tree counts well t ∙ total flow items counts tree cost well are walk fits in
+    nodes_sum flow tree counts well t ∙ numbers_sum flow tree counts well t ∙ total flow items counts tree cost well are walk fits in
     agrees_below_cap (all_ticks flow tree counts) (sum_by (of_node flow tree counts) numbers) (agrees_sum (node_ticks flow tree counts) (of_node flow tree counts) (agrees_node flow tree counts) numbers)
     (subst (λ n. n < 2 ^ 64) (sym all) fits)
     ∙ all

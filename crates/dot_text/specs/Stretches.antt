@@ -1,6 +1,9 @@
--- The straight stretches of a flow graph, and what a walk takes of them.
-use Rattle.std.specs.Prelude.{◌≡◌, ℕ, zero, suc, ◌+◌, ◌-◌, ◌*◌, ◌≤◌, Bool, ◌&&◌, ◌==◌, if◌then◌else◌, nat_lt}
-use Rattle.std.specs.Prelude.{List, length, count_by, sum_by, slice_index}
+-- The straight stretches of a flow graph by numbers, and what a walk takes of them. What a stretch is, by the
+-- graph, is said by `Straight`.
+use Rattle.std.specs.Prelude.{◌≡◌, ℕ, ◌+◌, ◌-◌, ◌*◌, ◌<◌, ◌≤◌, Bool, ◌&&◌, ◌==◌, not, if◌then◌else◌}
+use Rattle.std.specs.Prelude.{List, length, count_by, nat_lt, sum_by, slice_index, slice_index_or}
+use Rattle.std.specs.Prelude.{Option, Some, None, false}
+use Rattle.std.specs.Bool.{beq}
 use Rattle.std.specs.Cmp.Lexicographic.{pointwise}
 use Rattle.std.specs.List.{filter, list_all, range_with_len}
 use Rattle.flow_graph.specs.Flow.{Flow}
@@ -12,6 +15,7 @@ use Rattle.numbered_walks.specs.Ordered.{is_in}
 use Rattle.numbered_walks.specs.declared.index.Index.{Index}
 use Rattle.numbered_walks.specs.declared.span.Span.{Span}
 use Rattle.walk_counts.specs.Counts.{capped}
+use Rattle.dot_text.specs.Chains.{begins, chain}
 use Rattle.dot_text.specs.declared.tables.Drawn.{Drawn}
 
 -- the numbers of the edges from one on, before another
@@ -41,26 +45,38 @@ module _ (flow : Flow) (tree : Tree) where
 
   -- ## Straight stretches
 
-  -- one edge alone leaves a number, and leads to the next as the only one there
-  abbrev pub leads_on : ℕ → Bool
-  leads_on n =
+  -- the number to which the first of the edges leads that leave a number
+  abbrev pub end_of : ℕ → ℕ
+  end_of n = (edge_at tree.edges (first_edge flow tree n)).to
+
+  -- one edge alone leaves a number, and it alone leads to where it leads, neither to Exit nor to the entry
+  abbrev pub is_only_way : ℕ → Bool
+  is_only_way n =
       end_edge flow tree n - first_edge flow tree n == 1
-      && ((edge_at tree.edges (first_edge flow tree n)).to == n + 1 && arrivals (n + 1) == 1)
+      && (arrivals (end_of n) == 1 && (not (end_of n == 0) && nat_lt (end_of n) (length flow.places)))
 
-  -- the next number is inside the same calls and the same loops
-  abbrev pub stays_inside : ℕ → Bool
-  stays_inside n =
-      pointwise ◌==◌ (calls_in n) (calls_in (n + 1))
-      && (length (loops_of n) == length (loops_of (n + 1)) && list_all (λ s. is_in s (n + 1)) (loops_of n))
+  abbrev pub only_way : ℕ → Option ℕ
+  only_way n = if is_only_way n then Some (end_of n) else None
 
-  -- the next number belongs to the same stretch; Exit belongs to none
-  abbrev pub goes_on : ℕ → Bool
-  goes_on n = nat_lt (n + 1) (length flow.places) && (leads_on n && stays_inside n)
+  -- two numbers are inside the same calls and the same instances of loops
+  abbrev pub are_together : (m n : ℕ) → Bool
+  are_together m n =
+      pointwise ◌==◌ (calls_in m) (calls_in n) && list_all (λ s. beq (is_in s m) (is_in s n)) tree.spans
 
-  -- the first number of the stretch that holds one
-  abbrev pub first_of : ℕ → ℕ
-  first_of zero = 0
-  first_of (suc n) = if goes_on n then first_of n else suc n
+  -- the stretch of a number goes on, with the number to which its edge leads
+  abbrev pub leads_on : ℕ → Bool
+  leads_on n = is_only_way n && are_together n (end_of n)
+
+  abbrev pub next_of : ℕ → Option ℕ
+  next_of n = if leads_on n then Some (end_of n) else None
+
+  -- no stretch goes on to a number
+  abbrev pub is_begin : ℕ → Bool
+  is_begin = begins leads_on end_of (length flow.places)
+
+  -- the stretch that begins with a number, whole: no stretch has more numbers than there are places
+  abbrev pub stretch_from : ℕ → List ℕ
+  stretch_from = chain leads_on end_of (length flow.places)
 
   -- ## What a walk takes, by how often it takes each edge
 
@@ -74,8 +90,8 @@ module _ (flow : Flow) (tree : Tree) where
     ticks n = capped (sum_by (edge_ticks flow counts) (leaving n))
 
     -- those of a stretch
-    abbrev pub stretch_ticks : (first last : ℕ) → ℕ
-    stretch_ticks first last = capped (sum_by ticks (between first (last + 1)))
+    abbrev pub stretch_ticks : List ℕ → ℕ
+    stretch_ticks numbers = capped (sum_by ticks numbers)
 
 -- ## Tables
 
@@ -85,6 +101,16 @@ pub record AreTables (flow : Flow) (tree : Tree) (index : Index) (counted : List
   pub all_held : length index.holders.items ≡ length flow.places + 1
   pub all_counted : length counted ≡ length flow.places + 1
   pub are_counted : (n : ℕ) → n ≤ length flow.places → slice_index counted n ≡ arrivals flow tree n
+
+-- numbers of places, one at least
+pub record AreNumbers (flow : Flow) (numbers : List ℕ) : Type 0 where
+  pub some : 0 < length numbers
+  pub inside : (i : ℕ) → i < length numbers → slice_index numbers i < length flow.places
+
+-- whether a stretch begins with each number
+pub record AreBegins (flow : Flow) (tree : Tree) (begins : List Bool) : Type 0 where
+  pub all : length begins ≡ length flow.places
+  pub are : (n : ℕ) → n < length flow.places → slice_index_or begins n false ≡ is_begin flow tree n
 
 -- what each call that draws is handed: the tables of a graph and of its tree, and a count for each edge
 pub record CanDraw (d : Drawn) : Type 0 where

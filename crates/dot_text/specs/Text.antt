@@ -1,5 +1,5 @@
 -- The drawing of a flow graph, with what a greatest walk takes, in the DOT language of Graphviz.
-use Rattle.std.specs.Prelude.{◌≡◌, ℕ, zero, suc, ◌+◌, ◌==◌, ◌&&◌, nat_le, if◌then◌else◌, List, [], ◌∷◌, ◌++◌}
+use Rattle.std.specs.Prelude.{◌≡◌, ℕ, zero, suc, ◌==◌, ◌&&◌, nat_le, if◌then◌else◌, List, [], ◌∷◌, ◌++◌}
 use Rattle.std.specs.Prelude.{length, codes, decimal, Vec, Option, Some, None, slice_index}
 use Rattle.std.specs.Global.{Global}
 use Rattle.std.specs.List.{flat_map, range_with_len, slice_get}
@@ -14,8 +14,9 @@ use Rattle.longest_walk.specs.declared.folded.Longest.{Longest}
 use Rattle.loop_bounds.specs.Tree.{Tree, place_in}
 use Rattle.numbered_walks.specs.Index.{edge_at}
 use Rattle.walk_counts.specs.Counts.{AreCounts}
+use Rattle.dot_text.specs.Chains.{first_in, last_in}
 use Rattle.dot_text.specs.Clusters.{closed, opened}
-use Rattle.dot_text.specs.Stretches.{between, first_of, goes_on, leaving, passes, stretch_ticks}
+use Rattle.dot_text.specs.Stretches.{is_begin, leaving, passes, stretch_from, stretch_ticks}
 
 -- ## Pieces
 
@@ -59,17 +60,18 @@ module _ (flow : Flow) (tree : Tree) (counts : List ℕ) (labels : List (Vec ℕ
       hex8 (place_address (place_in flow tree n))
       ++ (codes "  " ++ (escaped (label_of (slice_get labels (slice_index tree.order n))) ++ codes "\\l"))
 
-  -- those of a stretch, with its ticks in all and how often the walk passes it
-  abbrev pub node : (first last : ℕ) → List ℕ
-  node first last =
-      name first
+  -- those of a stretch, with its ticks in all and how often the walk passes it; the node has the name of its
+  -- first number
+  abbrev pub node : List ℕ → List ℕ
+  node numbers =
+      name (first_in numbers)
       ++ (codes " [label=\""
-      ++ (flat_map row (between first (last + 1))
+      ++ (flat_map row numbers
       ++ (codes "passes "
-      ++ (decimal (passes flow tree counts first)
+      ++ (decimal (passes flow tree counts (first_in numbers))
       ++ (codes ", ticks in all "
-      ++ (decimal (stretch_ticks flow tree counts first last)
-      ++ (codes "\\l" ++ style (passes flow tree counts first))))))))
+      ++ (decimal (stretch_ticks flow tree counts numbers)
+      ++ (codes "\\l" ++ style (passes flow tree counts (first_in numbers)))))))))
 
   -- an edge that leaves the stretch that begins with a number: how often the walk takes it, and its ticks
   abbrev pub edge : (first k : ℕ) → List ℕ
@@ -83,21 +85,22 @@ module _ (flow : Flow) (tree : Tree) (counts : List ℕ) (labels : List (Vec ℕ
       ++ (codes ", ticks each "
       ++ (decimal (step_at flow.edges k).cost ++ (style (slice_index counts k) ++ codes "\n"))))))))
 
-  -- the node, inside its clusters, and the edges that leave it
-  abbrev pub stretch : (first last : ℕ) → List ℕ
-  stretch first last =
-      opened flow tree first
-      ++ (node first last
-      ++ (closed flow tree first ++ (codes "\n" ++ flat_map (edge first) (leaving flow tree last))))
+  -- the node, inside its clusters, and the edges that leave its last number
+  abbrev pub stretch : List ℕ → List ℕ
+  stretch numbers =
+      opened flow tree (first_in numbers)
+      ++ (node numbers
+      ++ (closed flow tree (first_in numbers)
+      ++ (codes "\n" ++ flat_map (edge (first_in numbers)) (leaving flow tree (last_in numbers)))))
 
-  -- the stretch that ends with a number, if one does
-  abbrev pub ended : ℕ → List ℕ
-  ended n = if goes_on flow tree n then [] else stretch (first_of flow tree n) n
+  -- the stretch that begins with a number, if one does
+  abbrev pub begun : ℕ → List ℕ
+  begun n = if is_begin flow tree n then stretch (stretch_from flow tree n) else []
 
   abbrev pub drawing_text : List ℕ
   drawing_text =
       heading
-      ++ (flat_map ended (range_with_len 0 (length flow.places))
+      ++ (flat_map begun (range_with_len 0 (length flow.places))
       ++ (name (length flow.places) ++ codes " [label=\"Exit\", shape=oval];\n}\n"))
 
 -- the drawing of a graph with what a walk takes, in which places have these labels

@@ -48,10 +48,7 @@ fn put_routines(out: &mut Vec<u8>, calls: &[u32], from: usize, to: usize) -> Res
 fn depth_in(drawn: Drawn<'_>, calls: &[u32], span: &Span) -> usize
     ensures { result ≡ depth_in drawn.entry.graph.now drawn.entry.tree.now calls.now span.now }
 {
-    calls_in(drawn, span.header)
-        .as_slice()
-        .len()
-        .min(calls.len())
+    calls_in(drawn, span.header).items().len().min(calls.len())
 }
 
 // Opens the cluster of a loop.
@@ -105,7 +102,7 @@ pub(crate) fn put_opened(
 {
     let mut loops = Vec::from_slice(*out.allocator(), loops_of(drawn, number))?;
     loops.reverse();
-    put_clusters(out, drawn, calls_in(drawn, number).as_slice(), &loops)
+    put_clusters(out, drawn, calls_in(drawn, number).items(), &loops)
 }
 
 // Closes so many clusters.
@@ -128,6 +125,6 @@ pub(crate) fn put_closed(
     ensures { OnOk result
         (out.new.items ≡ out.old.items ++ closed drawn.entry.graph.now drawn.entry.tree.now number) }
 {
-    put_ends(out, calls_in(drawn, number).as_slice().len())?;
+    put_ends(out, calls_in(drawn, number).items().len())?;
     put_ends(out, loops_of(drawn, number).len())
 }

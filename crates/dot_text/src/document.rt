@@ -1,13 +1,13 @@
-ghost use Rattle.std.specs.Prelude.{◌≡◌, ◌<◌, ◌≤◌, ◌+◌, ◌++◌, IfOk, OnOk, length};
+ghost use Rattle.std.specs.Prelude.{◌≡◌, ◌<◌, ◌++◌, IfOk, OnOk, length};
 ghost use Rattle.std.specs.List.{flat_map, range_with_len};
 ghost use Rattle.loop_bounds.specs.Tree.{IsTree};
-ghost use Rattle.dot_text.specs.Stretches.{CanDraw, first_of};
-ghost use Rattle.dot_text.specs.Parts.{drawn_ended, drawn_text};
+ghost use Rattle.dot_text.specs.Stretches.{AreBegins, CanDraw};
+ghost use Rattle.dot_text.specs.Parts.{drawn_begun, drawn_text};
 ghost use Rattle.dot_text.specs.Text.{IsDrawing};
 
 use crate::nodes::put_stretch;
 use crate::pieces::put_name;
-use crate::stretches::{Stretch, goes_on};
+use crate::stretches::{begins, stretch_from};
 use crate::tables::{Drawn, arrivals};
 use flow_graph::Graph;
 use longest_walk::Longest;
@@ -22,56 +22,54 @@ const HEADING: &[u8] = b"digraph handler {\nnode [shape=box, fontname=\"Courier\
 
 const FONTS: &[u8] = b"edge [fontname=\"Courier\"];\ngraph [fontname=\"Courier\"];\n";
 
-// Adds the stretch that ends with a number, if one does, by its first number; the first of the next number's.
-fn put_ended(
+// Adds the stretch that begins with a number, if one does.
+fn put_begun(
+    alloc: Global,
     out: &mut Vec<u8>,
     drawn: Drawn<'_>,
-    first: usize,
+    begins: &[bool],
     number: usize,
-) -> Result<usize, AllocError>
+) -> Result<(), AllocError>
     requires drawn { CanDraw drawn }
+    requires begins { AreBegins drawn.graph.now drawn.tree.now begins.now }
     requires known { number < length drawn.graph.now.places }
-    requires order { first ≤ number }
-    requires first { first ≡ first_of drawn.graph.now drawn.tree.now number }
-    ensures next { IfOk result
-        (λ next. next ≡ first_of drawn.entry.graph.now drawn.entry.tree.now (number + 1)) }
-    ensures order { IfOk result (λ next. next ≤ number + 1) }
-    ensures text { OnOk result
-        (out.new.items ≡ out.old.items ++ drawn_ended drawn.entry number) }
+    ensures { OnOk result (out.new.items ≡ out.old.items ++ drawn_begun drawn.entry number) }
 {
-    if goes_on(drawn, number) {
-        return Ok(first);
+    if !begins[number] {
+        return Ok(());
     }
-    let stretch = Stretch {
-        first,
-        last: number,
-    };
-    put_stretch(out, drawn, stretch)?;
-    Ok(number + 1)
+    let numbers = stretch_from(alloc, drawn, number)?;
+    put_stretch(out, drawn, &numbers)
 }
 
-// Adds all stretches.
-fn put_stretches(out: &mut Vec<u8>, drawn: Drawn<'_>) -> Result<(), AllocError>
+// Adds all stretches, by where stretches begin.
+fn put_stretches(
+    alloc: Global,
+    out: &mut Vec<u8>,
+    drawn: Drawn<'_>,
+    begins: &[bool],
+) -> Result<(), AllocError>
     requires drawn { CanDraw drawn }
+    requires begins { AreBegins drawn.graph.now drawn.tree.now begins.now }
     ensures { OnOk result
         (out.new.items ≡ out.old.items
-        ++ flat_map (drawn_ended drawn.entry) (range_with_len 0 (length drawn.entry.graph.now.places))) }
+        ++ flat_map (drawn_begun drawn.entry) (range_with_len 0 (length drawn.entry.graph.now.places))) }
 {
-    let mut first = 0;
     for number in 0..drawn.graph.places().len() {
-        first = put_ended(out, drawn, first, number)?;
+        put_begun(alloc, out, drawn, begins, number)?;
     }
     Ok(())
 }
 
 // The whole drawing, by its tables.
-fn drawn_text(alloc: Global, drawn: Drawn<'_>) -> Result<Vec<u8>, AllocError>
+fn drawn_text(alloc: Global, drawn: Drawn<'_>, begins: &[bool]) -> Result<Vec<u8>, AllocError>
     requires drawn { CanDraw drawn }
+    requires begins { AreBegins drawn.graph.now drawn.tree.now begins.now }
     ensures { IfOk result (λ text. text.items ≡ drawn_text drawn.entry) }
 {
     let mut out = Vec::from_slice(alloc, HEADING)?;
     put(&mut out, FONTS)?;
-    put_stretches(&mut out, drawn)?;
+    put_stretches(alloc, &mut out, drawn, begins)?;
     put_name(&mut out, drawn.graph.places().len())?;
     put(&mut out, b" [label=\"Exit\", shape=oval];\n}\n")?;
     Ok(out)
@@ -82,6 +80,9 @@ fn drawn_text(alloc: Global, drawn: Drawn<'_>) -> Result<Vec<u8>, AllocError>
 /// passes; the edges between stretches with their ticks and how often the walk takes them; and Exit. Nodes
 /// are in clusters, one for each list of calls and one for each instance of a loop. Bold is what the walk
 /// takes, grey what it does not. Numbers are capped at 2^64 - 1.
+///
+/// A stretch goes on from a place to the next where one edge alone leaves the place, no other leads to the
+/// next, which is not the entry, and both are inside the same calls and loops.
 ///
 /// The tree is the one that `nest` returned for the graph, and the labels are of its places, in their order.
 ///
@@ -109,5 +110,6 @@ pub fn drawing(
         index: &index,
         arrivals: &arrivals,
     };
-    drawn_text(alloc, drawn)
+    let begins = begins(alloc, drawn)?;
+    drawn_text(alloc, drawn, &begins)
 }

@@ -6,7 +6,7 @@ ghost use Rattle.dot_text.specs.Stretches.{CanDraw, leaving};
 ghost use Rattle.dot_text.specs.Parts.{drawn_edge};
 
 use crate::pieces::{put_edge_name, put_name, put_style};
-use crate::stretches::{Stretch, count_of};
+use crate::stretches::count_of;
 use crate::tables::Drawn;
 use flow_graph::Edge;
 use loop_bounds::edge_range_in;
@@ -49,22 +49,23 @@ fn put_edge(
     put(out, b"\n")
 }
 
-/// Adds the edges that leave a stretch.
+/// Adds the edges that leave a stretch, by its first and its last number.
 pub(crate) fn put_edges(
     out: &mut Vec<u8>,
     drawn: Drawn<'_>,
-    stretch: Stretch,
+    first: usize,
+    last: usize,
 ) -> Result<(), AllocError>
     requires drawn { CanDraw drawn }
-    requires known { stretch.last < length drawn.graph.now.places }
+    requires known { last < length drawn.graph.now.places }
     ensures { OnOk result
         (out.new.items ≡ out.old.items
-        ++ flat_map (drawn_edge drawn.entry stretch.first)
-        (leaving drawn.entry.graph.now drawn.entry.tree.now stretch.last)) }
+        ++ flat_map (drawn_edge drawn.entry first)
+        (leaving drawn.entry.graph.now drawn.entry.tree.now last)) }
 {
-    let (begin, end) = edge_range_in(drawn.graph, drawn.tree, stretch.last);
+    let (begin, end) = edge_range_in(drawn.graph, drawn.tree, last);
     for number in begin..end {
-        put_edge(out, drawn, stretch.first, number)?;
+        put_edge(out, drawn, first, number)?;
     }
     Ok(())
 }

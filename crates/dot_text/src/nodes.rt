@@ -1,13 +1,13 @@
-ghost use Rattle.std.specs.Prelude.{◌≡◌, ◌<◌, ◌≤◌, ◌+◌, ◌++◌, OnOk, length};
+ghost use Rattle.std.specs.Prelude.{◌≡◌, ◌<◌, ◌++◌, OnOk, length};
 ghost use Rattle.std.specs.List.{flat_map, slice_get};
-ghost use Rattle.dot_text.specs.Stretches.{CanDraw, between};
+ghost use Rattle.dot_text.specs.Stretches.{AreNumbers, CanDraw};
 ghost use Rattle.dot_text.specs.Parts.{drawn_node, drawn_row, drawn_stretch};
 ghost use Rattle.dot_text.specs.Text.{escaped, label_of};
 
 use crate::clusters::{put_closed, put_opened};
 use crate::edges::put_edges;
 use crate::pieces::{put_address, put_escaped, put_name, put_style};
-use crate::stretches::{Stretch, passes, stretch_ticks};
+use crate::stretches::{passes, stretch_ticks};
 use crate::tables::Drawn;
 use loop_bounds::place_in;
 use std::alloc::AllocError;
@@ -38,54 +38,51 @@ fn put_row(out: &mut Vec<u8>, drawn: Drawn<'_>, number: usize) -> Result<(), All
 }
 
 // Adds the addresses and labels of a stretch.
-fn put_rows(out: &mut Vec<u8>, drawn: Drawn<'_>, stretch: Stretch) -> Result<(), AllocError>
+fn put_rows(out: &mut Vec<u8>, drawn: Drawn<'_>, numbers: &[usize]) -> Result<(), AllocError>
     requires drawn { CanDraw drawn }
-    requires known { stretch.last < length drawn.graph.now.places }
+    requires known { AreNumbers drawn.graph.now numbers.now }
     ensures { OnOk result
-        (out.new.items ≡ out.old.items
-        ++ flat_map (drawn_row drawn.entry) (between stretch.first (stretch.last + 1))) }
+        (out.new.items ≡ out.old.items ++ flat_map (drawn_row drawn.entry) numbers.now) }
 {
-    for number in stretch.first..stretch.last + 1 {
-        put_row(out, drawn, number)?;
+    for number in numbers {
+        put_row(out, drawn, *number)?;
     }
     Ok(())
 }
 
 // Adds the node of a stretch.
-fn put_node(out: &mut Vec<u8>, drawn: Drawn<'_>, stretch: Stretch) -> Result<(), AllocError>
+fn put_node(out: &mut Vec<u8>, drawn: Drawn<'_>, numbers: &[usize]) -> Result<(), AllocError>
     requires drawn { CanDraw drawn }
-    requires order { stretch.first ≤ stretch.last }
-    requires known { stretch.last < length drawn.graph.now.places }
-    ensures { OnOk result
-        (out.new.items ≡ out.old.items ++ drawn_node drawn.entry stretch.first stretch.last) }
+    requires known { AreNumbers drawn.graph.now numbers.now }
+    ensures { OnOk result (out.new.items ≡ out.old.items ++ drawn_node drawn.entry numbers.now) }
 {
-    let passes = passes(drawn, stretch.first);
-    put_name(out, stretch.first)?;
+    let first = numbers[0];
+    let passes = passes(drawn, first);
+    put_name(out, first)?;
     put(out, b" [label=\"")?;
-    put_rows(out, drawn, stretch)?;
+    put_rows(out, drawn, numbers)?;
     put(out, b"passes ")?;
     put_decimal(out, passes)?;
     put(out, b", ticks in all ")?;
-    put_decimal(out, stretch_ticks(drawn, stretch))?;
+    put_decimal(out, stretch_ticks(drawn, numbers))?;
     put(out, b"\\l")?;
     put_style(out, passes)
 }
 
-/// Adds a stretch: its node inside its clusters, and the edges that leave it.
+/// Adds a stretch: its node inside its clusters, and the edges that leave its last number.
 pub(crate) fn put_stretch(
     out: &mut Vec<u8>,
     drawn: Drawn<'_>,
-    whole: Stretch,
+    numbers: &[usize],
 ) -> Result<(), AllocError>
     requires drawn { CanDraw drawn }
-    requires order { whole.first ≤ whole.last }
-    requires known { whole.last < length drawn.graph.now.places }
-    ensures { OnOk result
-        (out.new.items ≡ out.old.items ++ drawn_stretch drawn.entry whole.first whole.last) }
+    requires known { AreNumbers drawn.graph.now numbers.now }
+    ensures { OnOk result (out.new.items ≡ out.old.items ++ drawn_stretch drawn.entry numbers.now) }
 {
-    put_opened(out, drawn, whole.first)?;
-    put_node(out, drawn, whole)?;
-    put_closed(out, drawn, whole.first)?;
+    let first = numbers[0];
+    put_opened(out, drawn, first)?;
+    put_node(out, drawn, numbers)?;
+    put_closed(out, drawn, first)?;
     put(out, b"\n")?;
-    put_edges(out, drawn, whole)
+    put_edges(out, drawn, first, numbers[numbers.len() - 1])
 }

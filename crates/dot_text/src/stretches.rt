@@ -1,21 +1,16 @@
-ghost use Rattle.std.specs.Prelude.{◌≡◌, ◌<◌, ◌≤◌, ◌+◌, length, slice_index};
+ghost use Rattle.std.specs.Prelude.{◌≡◌, ◌<◌, ◌≤◌, IfOk, length, slice_index};
 ghost use Rattle.std.specs.List.{list_all};
 ghost use Rattle.numbered_walks.specs.Ordered.{is_in};
-ghost use Rattle.dot_text.specs.Stretches.{CanDraw, calls_in, edge_ticks, goes_on, leads_on, loops_of};
-ghost use Rattle.dot_text.specs.Stretches.{passes, stays_inside, stretch_ticks, ticks};
+ghost use Rattle.dot_text.specs.Stretches.{AreBegins, AreNumbers, CanDraw, are_together, calls_in};
+ghost use Rattle.dot_text.specs.Stretches.{edge_ticks, loops_of, next_of, only_way, passes, stretch_from};
+ghost use Rattle.dot_text.specs.Stretches.{stretch_ticks, ticks};
 
 use crate::tables::Drawn;
 use flow_graph::{Calls, Place};
 use loop_bounds::{edge_range_in, place_in};
 use numbered_walks::Span;
+use std::alloc::{AllocError, Global};
 use walk_counts::{capped_product, capped_sum, is_in};
-
-/// A straight stretch, by its first and its last number.
-#[derive(Clone, Copy)]
-pub(crate) struct Stretch {
-    pub(crate) first: usize,
-    pub(crate) last: usize,
-}
 
 /// The calls inside of which the place of a number is.
 pub(crate) fn calls_in(drawn: Drawn<'_>, number: usize) -> Calls
@@ -47,45 +42,104 @@ fn all_hold(loops: &[Span], number: usize) -> bool
     true
 }
 
-// Whether one edge alone leaves a number, and leads to the next as the only one there.
-fn leads_on(drawn: Drawn<'_>, number: usize) -> bool
+// Where the edge leads that leaves a number, if it is the only way out of it and into where it leads, which
+// is neither Exit nor the entry.
+fn only_way(drawn: Drawn<'_>, number: usize) -> Option<usize>
     requires drawn { CanDraw drawn }
     requires known { number < length drawn.graph.now.places }
-    ensures { result ≡ leads_on drawn.entry.graph.now drawn.entry.tree.now number }
+    ensures { result ≡ only_way drawn.entry.graph.now drawn.entry.tree.now number }
 {
     let (first, end) = edge_range_in(drawn.graph, drawn.tree, number);
-    end - first == 1
-        && drawn.tree.edges()[first].to == number + 1
-        && drawn.arrivals[number + 1] == 1
+    if end - first != 1 {
+        return None;
+    }
+    let to = drawn.tree.edges()[first].to;
+    if drawn.arrivals[to] == 1 && to != 0 && to < drawn.graph.places().len() {
+        return Some(to);
+    }
+    None
 }
 
-// Whether the next number is inside the same calls and the same loops.
-fn stays_inside(drawn: Drawn<'_>, number: usize) -> bool
+// Whether two numbers are inside the same calls and the same loops.
+fn are_together(drawn: Drawn<'_>, left: usize, right: usize) -> bool
     requires drawn { CanDraw drawn }
-    requires known { number < length drawn.graph.now.places }
-    ensures { result ≡ stays_inside drawn.entry.graph.now drawn.entry.tree.now number }
+    requires left { left < length drawn.graph.now.places }
+    requires right { right < length drawn.graph.now.places }
+    ensures { result ≡ are_together drawn.entry.graph.now drawn.entry.tree.now left right }
 {
-    let loops = loops_of(drawn, number);
-    let same_calls = calls_in(drawn, number) == calls_in(drawn, number + 1);
+    let same_calls = calls_in(drawn, left) == calls_in(drawn, right);
     if !same_calls {
         return false;
     }
-    let as_many = loops.len() == loops_of(drawn, number + 1).len();
+    let loops = loops_of(drawn, left);
+    let as_many = loops.len() == loops_of(drawn, right).len();
     if !as_many {
         return false;
     }
-    all_hold(loops, number + 1)
+    all_hold(loops, right)
 }
 
-/// Whether the next number belongs to the same stretch.
-pub(crate) fn goes_on(drawn: Drawn<'_>, number: usize) -> bool
+/// The number with which the stretch of one goes on, if it does.
+pub(crate) fn next_of(drawn: Drawn<'_>, number: usize) -> Option<usize>
     requires drawn { CanDraw drawn }
     requires known { number < length drawn.graph.now.places }
-    ensures { result ≡ goes_on drawn.entry.graph.now drawn.entry.tree.now number }
+    ensures { result ≡ next_of drawn.entry.graph.now drawn.entry.tree.now number }
 {
-    number + 1 < drawn.graph.places().len()
-        && leads_on(drawn, number)
-        && stays_inside(drawn, number)
+    match only_way(drawn, number) {
+        Some(next) => {
+            if are_together(drawn, number, next) {
+                Some(next)
+            } else {
+                None
+            }
+        }
+        None => None,
+    }
+}
+
+/// The numbers of the stretch that begins with one.
+///
+/// # Errors
+///
+/// An allocation failed.
+pub(crate) fn stretch_from(
+    alloc: Global,
+    drawn: Drawn<'_>,
+    first: usize,
+) -> Result<Vec<usize>, AllocError>
+    requires drawn { CanDraw drawn }
+    requires known { first < length drawn.graph.now.places }
+    ensures { IfOk result
+        (λ numbers. numbers.items ≡ stretch_from drawn.entry.graph.now drawn.entry.tree.now first) }
+{
+    let mut numbers = Vec::new(alloc);
+    let mut number = first;
+    for _ in 0..drawn.graph.places().len() {
+        numbers.push(number)?;
+        match next_of(drawn, number) {
+            Some(next) => number = next,
+            None => return Ok(numbers),
+        }
+    }
+    Ok(numbers)
+}
+
+/// For each number whether no stretch goes on to it.
+///
+/// # Errors
+///
+/// An allocation failed.
+pub(crate) fn begins(alloc: Global, drawn: Drawn<'_>) -> Result<Vec<bool>, AllocError>
+    requires drawn { CanDraw drawn }
+    ensures { IfOk result (λ begins. AreBegins drawn.entry.graph.now drawn.entry.tree.now begins.items) }
+{
+    let mut begins = vec![in alloc; true; drawn.graph.places().len()]?;
+    for number in 0..drawn.graph.places().len() {
+        if let Some(next) = next_of(drawn, number) {
+            begins[next] = false;
+        }
+    }
+    Ok(begins)
 }
 
 /// How often the walk takes an edge.
@@ -135,16 +189,15 @@ fn ticks(drawn: Drawn<'_>, number: usize) -> u64
 }
 
 /// The ticks that the walk takes in a stretch.
-pub(crate) fn stretch_ticks(drawn: Drawn<'_>, stretch: Stretch) -> u64
+pub(crate) fn stretch_ticks(drawn: Drawn<'_>, numbers: &[usize]) -> u64
     requires drawn { CanDraw drawn }
-    requires known { stretch.last < length drawn.graph.now.places }
+    requires known { AreNumbers drawn.graph.now numbers.now }
     ensures { result
-        ≡ stretch_ticks drawn.entry.graph.now drawn.entry.tree.now drawn.entry.counts.now stretch.first
-        stretch.last }
+        ≡ stretch_ticks drawn.entry.graph.now drawn.entry.tree.now drawn.entry.counts.now numbers.now }
 {
     let mut all = 0;
-    for number in stretch.first..stretch.last + 1 {
-        all = capped_sum(all, ticks(drawn, number));
+    for number in numbers {
+        all = capped_sum(all, ticks(drawn, *number));
     }
     all
 }

@@ -1,4 +1,6 @@
+mod CandidateLaws
 mod Explored
 mod FlatLaws
 mod Picked
+mod TargetLaws
 mod WayLaws

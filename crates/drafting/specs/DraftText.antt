@@ -1,5 +1,5 @@
 -- The text of a draft, of what was found.
-use Rattle.std.specs.Prelude.{ℕ, zero, suc, ◌*◌, ◌==◌, if◌then◌else◌, List, [], ◌∷◌, ◌++◌, length}
+use Rattle.std.specs.Prelude.{ℕ, zero, suc, Bool, true, false, ◌*◌, ◌==◌, if◌then◌else◌, List, [], ◌∷◌, ◌++◌, length}
 use Rattle.std.specs.Prelude.{replicate}
 use Rattle.std.specs.Prelude.{codes, decimal, Option, Some, None}
 use Rattle.std.specs.BTreeMap.{BTreeMap, get}
@@ -15,7 +15,10 @@ use Rattle.drafting.specs.Rows.{line_label, row}
 use Rattle.drafting.specs.declared.ends.End.{End}
 use Rattle.drafting.specs.declared.ends.End.TheVariants.{NoWord, Unallocated, Trap}
 use Rattle.drafting.specs.declared.found_loop.FoundLoop.{FoundLoop}
+use Rattle.drafting.specs.Targets.{any_open, leaves_open}
 use Rattle.drafting.specs.declared.writers.FoundTarget.{FoundTarget}
+use Rattle.drafting.specs.declared.writers.Way.{Way}
+use Rattle.drafting.specs.declared.writers.Way.TheVariants.{Call, Jump, Return}
 
 -- the end of an access
 abbrev pub class_text : Class → List ℕ
@@ -27,11 +30,21 @@ end_words NoWord = codes ": reached, and no word is there."
 end_words Unallocated = codes ": reached, and the word is no instruction."
 end_words Trap = codes ": reached, and the word is a SWI or undefined."
 
--- a bound, that many columns in: the number that was counted, or a question mark
-abbrev pub bound_text : ℕ → Option ℕ → List ℕ
-bound_text indent None = replicate indent 32 ++ codes "bound = \"?\"\n"
-bound_text indent (Some turns) =
-    replicate indent 32 ++ (codes "bound = " ++ (decimal turns ++ codes "  # counted\n"))
+-- a bound, that many columns in: a question mark, or the number that was counted. While it is open where a
+-- word leads, the number is a comment alone
+abbrev pub bound_text : ℕ → (open_left : Bool) → Option ℕ → List ℕ
+bound_text indent open_left None = replicate indent 32 ++ codes "bound = \"?\"\n"
+bound_text indent true (Some turns) =
+    replicate indent 32
+    ++ (codes "bound = \"?\"  # " ++ (decimal turns ++ codes ", if no other way leads into the loop\n"))
+bound_text indent false (Some turns) =
+    replicate indent 32
+    ++ (codes "bound = " ++ (decimal turns ++ codes "  # counted, if no [[target]] leads into the loop\n"))
+
+-- what a draft says that looked at as many addresses as it may
+abbrev pub full_text : Bool → List ℕ
+full_text true = codes "# It ends after 16384 addresses: what else is reached is left out.\n"
+full_text false = []
 
 -- so many addresses of words, from one on
 abbrev pub words_from : ℕ → ℕ → List ℕ
@@ -75,12 +88,12 @@ module _ (lines : BTreeMap ℕ SourceLine) where
   accesses_text accesses = if length accesses == 0 then [] else access_list_text accesses
 
   -- a loop, further in by two columns for each loop around it
-  abbrev pub loop_text : FoundLoop → List ℕ
-  loop_text l =
+  abbrev pub loop_text : (open_left : Bool) → FoundLoop → List ℕ
+  loop_text open_left l =
       codes "\n" ++ (replicate (2 * l.depth) 32 ++ (codes "[[loop]]\n"
       ++ (place_text (2 * l.depth) (codes "header") l.header
       ++ (place_text (2 * l.depth) (codes "first") l.first
-      ++ (place_text (2 * l.depth) (codes "last") l.last ++ bound_text (2 * l.depth) l.turns)))))
+      ++ (place_text (2 * l.depth) (codes "last") l.last ++ bound_text (2 * l.depth) open_left l.turns)))))
 
   abbrev pub destination_text : ℕ → List ℕ
   destination_text at = element_text (codes "  ") at (codes ",")
@@ -88,30 +101,52 @@ module _ (lines : BTreeMap ℕ SourceLine) where
   -- the branches of a table, or what to write
   abbrev pub destinations_text : ℕ → ℕ → List ℕ
   destinations_text table branches =
-      if branches == 0 then codes "# to = [\"?\"]  # of a jump or a call: draft from each of them too\n"
-      else codes "to = [\n" ++ (flat_map destination_text (words_from table branches) ++ codes "]\n")
+      if branches == 0 then codes "to = \"?\"  # a list, or nothing for a return: draft from each of them too\n"
+      else codes "to = [\n"
+      ++ (flat_map destination_text (words_from table branches)
+      ++ codes "  \"?\",  # what else it may reach, or nothing\n]\n")
 
-  -- what is to be written of a word that writes R15
-  abbrev pub way_text : ℕ → ℕ → List ℕ
-  way_text at branches =
-      codes "kind = \"?\"  # \"jump\", \"call\", \"return\" or \"leave\"\n"
+  -- what is written of a word that writes R15
+  abbrev pub way_text : Way → ℕ → ℕ → List ℕ
+  way_text Return at branches = codes "kind = \"return\"\n"
+  way_text Jump at branches =
+      codes "kind = \"jump\"  # or \"call\", \"return\", \"leave\"\n"
+      ++ destinations_text (ahead_of at 8) branches
+  way_text Call at branches =
+      codes "kind = \"call\"  # or \"jump\", \"return\", \"leave\"\n"
       ++ destinations_text (ahead_of at 8) branches
 
   abbrev pub target_text : FoundTarget → List ℕ
   target_text t =
-      codes "\n[[target]]\n" ++ (place_text 0 (codes "at") t.at ++ way_text t.at t.branches)
+      codes "\n[[target]]\n" ++ (place_text 0 (codes "at") t.at ++ way_text t.way t.at t.branches)
 
-  -- what to do, the entry, and what may be stated of where the handler leaves to
+  -- what to do, the entry, and what may be stated of where the handler leaves to, and that all else is
   abbrev pub head_text : ℕ → List ℕ
   head_text entry =
       codes "# A draft, of what the words show. Write something for each \"?\". A bound counts\n"
       ++ (codes "# turns back: of a loop that runs eight times seven.\n"
       ++ (place_text 0 (codes "entry") entry
-      ++ codes "# leave = \"ram\"  # where it returns to, if always to one: \"ram\", \"rom\" or \"io\"\n"))
+      ++ codes "# leave = \"ram\"  # where it returns to, if always to one: \"ram\", \"rom\" or \"io\"\nreturns = \"stated\"\n"))
+
+  abbrev pub candidate_text : ℕ → List ℕ
+  candidate_text at = element_text (codes "#   ") at []
+
+  abbrev pub candidate_list_text : List ℕ → List ℕ
+  candidate_list_text candidates =
+      codes "\n# The words name these addresses of the source, to which a \"?\" below may lead:\n"
+      ++ flat_map candidate_text candidates
+
+  -- where words may lead of which it is left open
+  abbrev pub candidates_text : (open_left : Bool) → List ℕ → List ℕ
+  candidates_text true candidates = if length candidates == 0 then [] else candidate_list_text candidates
+  candidates_text false candidates = []
 
   -- the whole text
-  abbrev pub draft_text : ℕ → (ends : List (ℕ × End)) → (cycles : List ℕ) → (accesses : List (ℕ × Class))
-      → (loops : List FoundLoop) → (targets : List FoundTarget) → List ℕ
-  draft_text entry ends cycles accesses loops targets =
-      head_text entry ++ (flat_map end_text ends ++ (flat_map cycle_text cycles
-      ++ (accesses_text accesses ++ (flat_map loop_text loops ++ flat_map target_text targets))))
+  abbrev pub draft_text : ℕ → (full : Bool) → (ends : List (ℕ × End)) → (cycles : List ℕ)
+      → (accesses : List (ℕ × Class)) → (loops : List FoundLoop) → (candidates : List ℕ)
+      → (targets : List FoundTarget) → List ℕ
+  draft_text entry full ends cycles accesses loops candidates targets =
+      head_text entry ++ (full_text full ++ (flat_map end_text ends ++ (flat_map cycle_text cycles
+      ++ (accesses_text accesses
+      ++ (flat_map (loop_text (leaves_open full targets)) loops
+      ++ (candidates_text (any_open targets) candidates ++ flat_map target_text targets))))))

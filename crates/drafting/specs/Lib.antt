@@ -1,3 +1,5 @@
+pub mod Accesses
+pub mod Candidates
 pub mod Draft
 pub mod DraftText
 pub mod Ends

@@ -12,8 +12,8 @@ use Rattle.flow_graph.specs.declared.actions.Kind.TheVariants as kind
 use Rattle.flow_graph.specs.declared.search.TheConstants.{MOST_PLACES}
 use Rattle.loader.specs.Image.{Words}
 use Rattle.statement.specs.declared.entries.TheConstants.{MOST_DESTINATIONS}
-use Rattle.word_shapes.specs.Shapes.{is_odd_writer, is_table_jump, keeps_return_address}
-use Rattle.word_shapes.specs.Words.{HasShape}
+use Rattle.word_shapes.specs.Shapes.{is_table_jump, keeps_return_address}
+use Rattle.word_shapes.specs.Words.{HasShape, MayDo}
 
 -- ## Places
 
@@ -39,9 +39,9 @@ module _ (words : Words) where
   abbrev pub JumpsIntoTable : ℕ → Type 0
   JumpsIntoTable at = HasShape is_table_jump words at
 
-  -- the word before puts the address of the word after this one into R14
+  -- the word before may put the address of the word after this one into R14: it is not under NV
   abbrev pub HasReturnAddress : ℕ → Type 0
-  HasReturnAddress at = HasShape keeps_return_address words (before at)
+  HasReturnAddress at = MayDo keeps_return_address words (before at)
 
   -- a place of the table after a jump, from 0 on: so many words on from the jump's address plus 8, where a
   -- branch with that offset would lead. Up to it all are branches, and a table has no more places than a
@@ -55,16 +55,12 @@ module _ (words : Words) where
   abbrev pub HasPlaces : ℕ → ℕ → Type 0
   HasPlaces at count = (n : ℕ) → (n < count) ↔ IsTablePlace at n
 
-  -- control comes back from where a word leads that writes R15: it does not look like a return, and the word
-  -- before it puts the return address into R14
-  abbrev pub ComesBack : ℕ → Type 0
-  ComesBack at = HasShape is_odd_writer words at × HasReturnAddress at
-
-  -- control reaches the next word past one that is carried out: at once, or back from where that one leads
+  -- control reaches the next word past one that is carried out: at once; or back from where that one leads,
+  -- as it does from any writer of R15 that has the return address in R14, whatever it looks like
   abbrev pub ComesPast : ℕ → Kind → Type 0
   ComesPast at kind.Plain = Unit {0}
   ComesPast at (kind.Call offset) = Unit {0}
-  ComesPast at kind.Writer = ComesBack at
+  ComesPast at kind.Writer = HasReturnAddress at
   ComesPast at _ = ⊥
 
   -- it comes past that, or the word may be passed over

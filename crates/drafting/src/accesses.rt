@@ -1,8 +1,9 @@
-ghost use Rattle.std.specs.Prelude.{IfOk, OnOk};
+ghost use Rattle.std.specs.Prelude.{◌≡◌, true, All, IfOk, OnOk};
 ghost use Rattle.std.specs.Map.{keys_of};
-ghost use Rattle.drafting.specs.Picks.{Keeps, Picks};
+ghost use Rattle.drafting.specs.Accesses.{AreAccesses, RestsOnWord};
+ghost use Rattle.drafting.specs.Picks.{Keeps};
 ghost use Rattle.arm2_decode.specs.Writers.{is_transfer};
-ghost use Rattle.word_shapes.specs.Words.{HasShape};
+ghost use Rattle.word_shapes.specs.Words.{MayDo};
 
 use crate::constants::Constants;
 use crate::reach::Reached;
@@ -12,7 +13,7 @@ use arm2_transfer::address_by;
 use bus_ticks::{Class, SPACE_END, class_of};
 use loader::Image;
 use std::alloc::{AllocError, Global};
-use word_shapes::{instr_at, is_transfer_at};
+use word_shapes::{instr_at, is_by_pc_at, may_transfer_at};
 
 // The class of both addresses, where they are of one.
 fn class_from(first: u32, last: u32) -> Class {
@@ -56,27 +57,37 @@ fn class_shown(known: &Constants, at: u32, operation: &Operation) -> Class {
     }
 }
 
-fn class_at(image: &Image, known: &Constants, at: u32) -> Class {
+// The class of what is transferred at an address, by the words in front too or by the word alone.
+fn class_at(image: &Image, known: &Constants, at: u32, by_word: bool) -> Class
+    ensures { by_word ≡ true → RestsOnWord image.now (at, result) }
+{
+    if by_word && !is_by_pc_at(image, at) {
+        return Class::Any;
+    }
     match instr_at(image, at) {
         Some(instr) => class_shown(known, at, &instr.operation),
         None => Class::Any,
     }
 }
 
-// Takes an address whose word loads or stores.
+// Takes an address whose word loads or stores, and is not under NV.
 fn keep_access(
     found: &mut Vec<(u32, Class)>,
     image: &Image,
     known: &Constants,
     at: u32,
+    by_word: bool,
 ) -> Result<(), AllocError>
-    ensures { OnOk result
-        (Keeps (HasShape is_transfer image.now) at (keys_of found.old.items) (keys_of found.new.items)) }
+    ensures kept { OnOk result
+        (Keeps (MayDo is_transfer image.now) at (keys_of found.old.items) (keys_of found.new.items)) }
+    ensures rest { OnOk result
+        (by_word ≡ true → All (RestsOnWord image.now) found.old.items
+        → All (RestsOnWord image.now) found.new.items) }
 {
-    if !is_transfer_at(image, at) {
+    if !may_transfer_at(image, at) {
         return Ok(());
     }
-    let class = class_at(image, known, at);
+    let class = class_at(image, known, at, by_word);
     found.push((at, class))?;
     Ok(())
 }
@@ -85,21 +96,22 @@ fn keep_access(
 fn passed(image: &Image, known: Constants, at: u32) -> Constants {
     let mut known = known;
     if let Some(instr) = instr_at(image, at) {
-        known.pass(at, &instr);
+        known.pass(image, at, &instr);
     }
     known
 }
 
-/// Those of the addresses whose words load or store, in their order, each with the class of what it
-/// transfers where the words in front of it show it. No clause says that the class is right: that is tested.
+/// Those of the addresses whose words load or store and are not under NV, in their order, each with the class
+/// of what it transfers where the words in front of it show it, or only the word itself. No clause says that
+/// the class is right: that is tested.
 pub(crate) fn find_accesses(
     alloc: Global,
     image: &Image,
     reach: &Reached,
     addresses: &[u32],
+    by_word: bool,
 ) -> Result<Vec<(u32, Class)>, AllocError>
-    ensures { IfOk result
-        (λ found. Picks (HasShape is_transfer image.now) addresses.now (keys_of found.items)) }
+    ensures { IfOk result (λ found. AreAccesses image.now addresses.now by_word found.items) }
 {
     let mut found = Vec::new(alloc);
     let mut known = Constants::none();
@@ -107,7 +119,7 @@ pub(crate) fn find_accesses(
         if !reach.follows_alone(*at, before(*at)) {
             known = Constants::none();
         }
-        keep_access(&mut found, image, &known, *at)?;
+        keep_access(&mut found, image, &known, *at, by_word)?;
         known = passed(image, known, *at);
     }
     Ok(found)

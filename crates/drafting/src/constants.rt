@@ -2,6 +2,7 @@ use crate::counted::immediate;
 use crate::words::changed;
 use arm2_decode::{Cond, DataImmediate, DataRegister, Instr, Opcode, Operation, Register, Shift};
 use bus_ticks::ahead_of;
+use loader::Image;
 
 /// The registers whose words the last words show.
 #[derive(Clone, Copy)]
@@ -71,11 +72,9 @@ impl Constants {
     }
 
     /// Goes past the instruction at an address.
-    pub(crate) fn pass(&mut self, at: u32, instr: &Instr) {
+    pub(crate) fn pass(&mut self, image: &Image, at: u32, instr: &Instr) {
         let known = self.known_after(at, instr);
-        if instr.cond != Cond::Nv {
-            self.forget(changed(&instr.operation));
-        }
+        self.forget(changed(image, at, instr));
         if let Some((register, word)) = known {
             if instr.cond == Cond::Al {
                 self.set(register, Some(word));

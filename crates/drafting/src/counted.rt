@@ -1,3 +1,6 @@
+ghost use Rattle.std.specs.Prelude.{◌≡◌};
+ghost use Rattle.drafting.specs.Candidates.{immediate};
+
 use crate::found_loop::FoundLoop;
 use crate::reach::Reached;
 use crate::ways::before;
@@ -12,7 +15,9 @@ use word_shapes::instr_at;
 const WORDS_BEFORE: u32 = 16;
 
 /// The number of an immediate operand.
-pub(crate) fn immediate(x: &DataImmediate) -> u32 {
+pub(crate) fn immediate(x: &DataImmediate) -> u32
+    ensures { result ≡ immediate x.now }
+{
     x.value.rotate_right(2 * x.rotation)
 }
 
@@ -41,7 +46,7 @@ fn is_branch_if_not_zero(image: &Image, at: u32) -> bool {
 
 fn may_write(image: &Image, at: u32, register: Register) -> bool {
     match instr_at(image, at) {
-        Some(instr) => changed(&instr.operation) >> register.number() & 1 == 1,
+        Some(instr) => changed(image, at, &instr) >> register.number() & 1 == 1,
         None => true,
     }
 }

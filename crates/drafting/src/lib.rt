@@ -2,6 +2,7 @@
 #![tactic(auto)]
 
 mod accesses;
+mod candidates;
 mod constants;
 mod counted;
 mod drafts;
@@ -12,7 +13,6 @@ mod loops;
 mod paths;
 mod reach;
 mod rows;
-mod source_lines;
 mod statement_text;
 mod ways;
 mod words;

@@ -1,7 +1,8 @@
-ghost use Rattle.std.specs.Prelude.{◌≡◌, ◌++◌, ℕ, List, OnOk, length, map, replicate};
+ghost use Rattle.std.specs.Prelude.{◌≡◌, ◌≤◌, ◌++◌, ℕ, List, OnOk, length, map, replicate};
 ghost use Rattle.asm_text.specs.Hex.{hex8};
+ghost use Rattle.asm_text.specs.Statements.{body_len, is_in_body};
 ghost use Rattle.text_rows.specs.Addresses.{name_text};
-ghost use Rattle.drafting.specs.Rows.{line_label, remark, row, shown};
+ghost use Rattle.drafting.specs.Rows.{line_label, remark, row, shown, without_comment};
 
 use asm_text::hex8;
 use std::alloc::AllocError;
@@ -49,6 +50,27 @@ fn put_shown(out: &mut Vec<u8>, text: &[u8]) -> Result<(), AllocError>
     Ok(())
 }
 
+fn is_in_body(byte: u8) -> bool
+    ensures { result ≡ is_in_body byte }
+{
+    byte != b';'
+}
+
+// The bytes of a line in front of its comment.
+fn body_len(line: &[u8]) -> usize
+    ensures len { result ≡ body_len line.now }
+    ensures within { result ≤ length line.now }
+{
+    line.iter().take_while(|b| is_in_body(**b)).count()
+}
+
+// What a line has in front of its comment, without the blanks at its end.
+fn without_comment(line: &[u8]) -> &[u8]
+    ensures { result.now ≡ without_comment line.now }
+{
+    line[..body_len(line)].trim_ascii_end()
+}
+
 // Adds the comment with the number and the text of a line.
 fn put_remark(out: &mut Vec<u8>, line: Option<SourceLine>) -> Result<(), AllocError>
     ensures { OnOk result (out.new.items ≡ out.old.items ++ remark line.entry) }
@@ -59,7 +81,7 @@ fn put_remark(out: &mut Vec<u8>, line: Option<SourceLine>) -> Result<(), AllocEr
     put(out, b"  # line ")?;
     put_decimal(out, line.number as u64)?;
     put(out, b": ")?;
-    put_shown(out, line.text)
+    put_shown(out, without_comment(line.text))
 }
 
 /// Ends a row whose text begins at a place: by a comment with the number and the text of a line, as far as

@@ -1,21 +1,22 @@
-ghost use Rattle.std.specs.Prelude.{◌≡◌, ◌++◌, OnOk};
+ghost use Rattle.std.specs.Prelude.{◌≡◌, ◌++◌, OnOk, decimal};
 ghost use Rattle.std.specs.BTreeMap.{get};
 ghost use Rattle.std.specs.List.{flat_map};
 ghost use Rattle.std.specs.Ordering.{nat_cmp};
 ghost use Rattle.drafting.specs.DraftText.{access_list_text, access_text, accesses_text, bound_text};
+ghost use Rattle.drafting.specs.DraftText.{candidate_list_text, candidate_text, candidates_text};
 ghost use Rattle.drafting.specs.DraftText.{comment_text, cycle_text, destination_text, destinations_text};
 ghost use Rattle.drafting.specs.DraftText.{element_text, end_text};
-ghost use Rattle.drafting.specs.DraftText.{end_words, head_text, loop_text, place_text, target_text};
+ghost use Rattle.drafting.specs.DraftText.{end_words, full_text, head_text, loop_text, place_text, target_text};
 ghost use Rattle.drafting.specs.DraftText.{way_text, words_from};
 
 use crate::ends::End;
 use crate::found_loop::FoundLoop;
 use crate::rows::{end_row, put_address, put_blanks, put_name};
-use crate::source_lines::SourceLines;
-use crate::writers::FoundTarget;
+use crate::writers::{FoundTarget, Way};
 use bus_ticks::{Class, ahead_of};
 use statement::class_name;
 use std::alloc::AllocError;
+use std::collections::BTreeMap;
 use text_rows::{SourceLine, put, put_decimal};
 
 // Loads and stores with their classes.
@@ -31,7 +32,7 @@ struct Table {
 /// What is at the addresses.
 #[derive(Drop)]
 pub struct Sheet<'s, 'a> {
-    pub lines: &'s SourceLines<'a>,
+    pub lines: &'s BTreeMap<u32, SourceLine<'a>>,
 }
 
 impl<'a> Sheet<'_, 'a> {
@@ -143,8 +144,14 @@ impl<'a> Sheet<'_, 'a> {
         self.put_access_list(out, accesses)
     }
 
-    fn put_loop(&self, out: &mut Vec<u8>, found: &FoundLoop) -> Result<(), AllocError>
-        ensures { OnOk result (out.new.items ≡ out.old.items ++ loop_text self.now.lines.now found.now) }
+    fn put_loop(
+        &self,
+        out: &mut Vec<u8>,
+        open_left: bool,
+        found: &FoundLoop,
+    ) -> Result<(), AllocError>
+        ensures { OnOk result
+            (out.new.items ≡ out.old.items ++ loop_text self.now.lines.now open_left found.now) }
     {
         let indent = 2 * found.depth as usize;
         put(out, b"\n")?;
@@ -153,20 +160,26 @@ impl<'a> Sheet<'_, 'a> {
         self.put_place(out, indent, b"header", found.header)?;
         self.put_place(out, indent, b"first", found.first)?;
         self.put_place(out, indent, b"last", found.last)?;
-        put_bound(out, indent, found.turns)
+        put_bound(out, indent, open_left, found.turns)
     }
 
-    /// Adds the loops, each inside those around it.
+    /// Adds the loops, each inside those around it. While it is left open where a word leads, a count is a
+    /// comment alone.
     ///
     /// # Errors
     ///
     /// An allocation failed.
-    pub fn put_loops(&self, out: &mut Vec<u8>, loops: &[FoundLoop]) -> Result<(), AllocError>
+    pub fn put_loops(
+        &self,
+        out: &mut Vec<u8>,
+        open_left: bool,
+        loops: &[FoundLoop],
+    ) -> Result<(), AllocError>
         ensures { OnOk result
-            (out.new.items ≡ out.old.items ++ flat_map (loop_text self.now.lines.now) loops.now) }
+            (out.new.items ≡ out.old.items ++ flat_map (loop_text self.now.lines.now open_left) loops.now) }
     {
         for found in loops {
-            self.put_loop(out, found)?;
+            self.put_loop(out, open_left, found)?;
         }
         Ok(())
     }
@@ -194,24 +207,42 @@ impl<'a> Sheet<'_, 'a> {
         if table.branches == 0 {
             return put(
                 out,
-                b"# to = [\"?\"]  # of a jump or a call: draft from each of them too\n",
+                b"to = \"?\"  # a list, or nothing for a return: draft from each of them too\n",
             );
         }
         put(out, b"to = [\n")?;
         self.put_each_destination(out, table)?;
-        put(out, b"]\n")
+        put(out, b"  \"?\",  # what else it may reach, or nothing\n]\n")
     }
 
-    // Adds what is to be written of a word that writes R15, with its table if it jumps into one.
-    fn put_way(&self, out: &mut Vec<u8>, at: u32, branches: u32) -> Result<(), AllocError>
-        ensures { OnOk result (out.new.items ≡ out.old.items ++ way_text self.now.lines.now at branches) }
+    // Adds what the word shows, with its table if it jumps into one.
+    fn put_way(&self, out: &mut Vec<u8>, target: &FoundTarget) -> Result<(), AllocError>
+        ensures { OnOk result
+            (out.new.items
+            ≡ out.old.items
+            ++ way_text self.now.lines.now target.now.way target.now.at target.now.branches) }
     {
-        let first = ahead_of(at, 8);
-        put(
-            out,
-            b"kind = \"?\"  # \"jump\", \"call\", \"return\" or \"leave\"\n",
-        )?;
-        self.put_destinations(out, Table { first, branches })
+        let table = Table {
+            first: ahead_of(target.at, 8),
+            branches: target.branches,
+        };
+        match target.way {
+            Way::Return => put(out, b"kind = \"return\"\n"),
+            Way::Jump => {
+                put(
+                    out,
+                    b"kind = \"jump\"  # or \"call\", \"return\", \"leave\"\n",
+                )?;
+                self.put_destinations(out, table)
+            }
+            Way::Call => {
+                put(
+                    out,
+                    b"kind = \"call\"  # or \"jump\", \"return\", \"leave\"\n",
+                )?;
+                self.put_destinations(out, table)
+            }
+        }
     }
 
     fn put_target(&self, out: &mut Vec<u8>, target: &FoundTarget) -> Result<(), AllocError>
@@ -219,10 +250,10 @@ impl<'a> Sheet<'_, 'a> {
     {
         put(out, b"\n[[target]]\n")?;
         self.put_place(out, 0, b"at", target.at)?;
-        self.put_way(out, target.at, target.branches)
+        self.put_way(out, target)
     }
 
-    /// Adds the words that write R15, with the branches to which they jump.
+    /// Adds the words that write R15, with what is shown of where they lead.
     ///
     /// # Errors
     ///
@@ -235,6 +266,52 @@ impl<'a> Sheet<'_, 'a> {
             self.put_target(out, target)?;
         }
         Ok(())
+    }
+
+    fn put_each_candidate(&self, out: &mut Vec<u8>, candidates: &[u32]) -> Result<(), AllocError>
+        ensures { OnOk result
+            (out.new.items ≡ out.old.items ++ flat_map (candidate_text self.now.lines.now) candidates.now) }
+    {
+        for at in candidates {
+            self.put_element(out, b"#   ", *at, b"")?;
+        }
+        Ok(())
+    }
+
+    fn put_candidate_list(&self, out: &mut Vec<u8>, candidates: &[u32]) -> Result<(), AllocError>
+        ensures { OnOk result
+            (out.new.items
+            ≡ out.old.items ++ candidate_list_text self.now.lines.now candidates.now) }
+    {
+        put(
+            out,
+            b"\n# The words name these addresses of the source, to which a \"?\" below may lead:\n",
+        )?;
+        self.put_each_candidate(out, candidates)
+    }
+
+    /// Adds a comment with addresses to which words may lead, if any are left open.
+    ///
+    /// # Errors
+    ///
+    /// An allocation failed.
+    pub fn put_candidates(
+        &self,
+        out: &mut Vec<u8>,
+        open_left: bool,
+        candidates: &[u32],
+    ) -> Result<(), AllocError>
+        ensures { OnOk result
+            (out.new.items
+            ≡ out.old.items ++ candidates_text self.now.lines.now open_left candidates.now) }
+    {
+        if !open_left {
+            return Ok(());
+        }
+        if candidates.is_empty() {
+            return Ok(());
+        }
+        self.put_candidate_list(out, candidates)
     }
 
     /// Adds a comment for each address at which the handler cannot go on.
@@ -286,23 +363,59 @@ impl<'a> Sheet<'_, 'a> {
         self.put_place(out, 0, b"entry", entry)?;
         put(
             out,
-            b"# leave = \"ram\"  # where it returns to, if always to one: \"ram\", \"rom\" or \"io\"\n",
+            b"# leave = \"ram\"  # where it returns to, if always to one: \"ram\", \"rom\" or \"io\"\nreturns = \"stated\"\n",
         )
     }
 }
 
-fn put_bound(out: &mut Vec<u8>, indent: usize, turns: Option<u32>) -> Result<(), AllocError>
-    ensures { OnOk result (out.new.items ≡ out.old.items ++ bound_text indent turns) }
+// Adds a number in front of a text.
+fn put_counted(out: &mut Vec<u8>, turns: u32, back: &[u8]) -> Result<(), AllocError>
+    ensures { OnOk result (out.new.items ≡ out.old.items ++ (decimal turns ++ back.now)) }
+{
+    put_decimal(out, u64::from(turns))?;
+    put(out, back)
+}
+
+fn put_bound(
+    out: &mut Vec<u8>,
+    indent: usize,
+    open_left: bool,
+    turns: Option<u32>,
+) -> Result<(), AllocError>
+    ensures { OnOk result (out.new.items ≡ out.old.items ++ bound_text indent open_left turns) }
 {
     put_blanks(out, indent)?;
-    match turns {
-        Some(turns) => {
-            put(out, b"bound = ")?;
-            put_decimal(out, u64::from(turns))?;
-            put(out, b"  # counted\n")
-        }
-        None => put(out, b"bound = \"?\"\n"),
+    let Some(turns) = turns else {
+        return put(out, b"bound = \"?\"\n");
+    };
+    if open_left {
+        put(out, b"bound = \"?\"  # ")?;
+        put_counted(out, turns, b", if no other way leads into the loop\n")
+    } else {
+        put(out, b"bound = ")?;
+        put_counted(
+            out,
+            turns,
+            b"  # counted, if no [[target]] leads into the loop\n",
+        )
     }
+}
+
+/// Adds that as many addresses were looked at as may be, if they were.
+///
+/// # Errors
+///
+/// An allocation failed.
+pub(crate) fn put_full(out: &mut Vec<u8>, full: bool) -> Result<(), AllocError>
+    ensures { OnOk result (out.new.items ≡ out.old.items ++ full_text full) }
+{
+    if full {
+        put(
+            out,
+            b"# It ends after 16384 addresses: what else is reached is left out.\n",
+        )?;
+    }
+    Ok(())
 }
 
 fn end_words(end: End) -> &'static [u8]

@@ -1,7 +1,7 @@
 ghost use Rattle.std.specs.Prelude.{◌≡◌, ◌↔◌, ℕ, true, false, IfSome, IsTrue, Some, OnOk};
 ghost use Rattle.arm2_decode.specs.Names.{is_never};
 ghost use Rattle.drafting.specs.Exploring.{Gains};
-ghost use Rattle.drafting.specs.Reach.{CallsTo, ComesBack, GoesOn, HasPlaces, HasReturnAddress, IsBranchAt};
+ghost use Rattle.drafting.specs.Reach.{CallsTo, GoesOn, HasPlaces, HasReturnAddress, IsBranchAt};
 ghost use Rattle.drafting.specs.Reach.{LeadsAway, StepsTo, before, next_of};
 ghost use Rattle.flow_graph.specs.declared.actions.Kind.TheVariants.{Writer};
 
@@ -12,7 +12,7 @@ use flow_graph::{Action, Kind};
 use loader::Image;
 use statement::MOST_DESTINATIONS;
 use std::alloc::AllocError;
-use word_shapes::{is_odd_writer_at, is_table_jump_at, keeps_return_address_at};
+use word_shapes::{is_table_jump_at, may_keep_return_address_at};
 
 // As many as a target may have destinations.
 const MOST_BRANCHES: u32 = MOST_DESTINATIONS as u32;
@@ -59,22 +59,15 @@ fn push_table(out: &mut Vec<u32>, image: &Image, at: u32) -> Result<(), AllocErr
     Ok(())
 }
 
-// Whether the word before puts the address of the word after this one into R14.
-fn has_return_address(image: &Image, at: u32) -> bool
+/// Whether the word before may put the address of the word after this one into R14.
+pub(crate) fn has_return_address(image: &Image, at: u32) -> bool
     ensures { IsTrue result ↔ HasReturnAddress image.now at }
 {
-    keeps_return_address_at(image, before(at))
+    may_keep_return_address_at(image, before(at))
 }
 
-// Whether control comes back from where a word leads that writes R15: not where it looks like a return, or
-// where the word before it does not put the return address into R14.
-fn comes_back(image: &Image, at: u32) -> bool
-    ensures { IsTrue result ↔ ComesBack image.now at }
-{
-    is_odd_writer_at(image, at) && has_return_address(image, at)
-}
-
-// Whether control may go on at the next word.
+// Whether control may go on at the next word: also where it comes back from where a word leads that writes
+// R15, since the word before puts the return address into R14.
 fn goes_on(image: &Image, at: u32, action: Action) -> bool
     ensures yes { result ≡ true → GoesOn image.now at action }
     ensures no { GoesOn image.now at action → result ≡ true }
@@ -84,7 +77,7 @@ fn goes_on(image: &Image, at: u32, action: Action) -> bool
     }
     match action.kind {
         Kind::Plain | Kind::Call(_) => true,
-        Kind::Writer => comes_back(image, at),
+        Kind::Writer => has_return_address(image, at),
         Kind::Branch(_) | Kind::Trap | Kind::Unallocated => false,
     }
 }

@@ -3,7 +3,8 @@ ghost use Rattle.flow_graph.specs.Edges.{HasAction};
 ghost use Rattle.flow_graph.specs.declared.actions.Action.{Action};
 ghost use Rattle.loader.specs.Image.{word_of};
 
-use arm2_decode::{Block, Opcode, Operation, Register, writes_base};
+use crate::ways::has_return_address;
+use arm2_decode::{Block, Instr, Opcode, Operation, Register, writes_base};
 use flow_graph::{Action, action_of};
 use loader::Image;
 use word_shapes::is_odd_writer;
@@ -71,12 +72,20 @@ fn written(operation: &Operation) -> u32 {
     }
 }
 
-/// The registers that may differ after an operation, as the bits of their numbers: all after a word that
-/// may call a routine by writing R15.
-pub(crate) fn changed(operation: &Operation) -> u32 {
-    if is_odd_writer(operation) {
+// Whether the operation at an address may call a routine by writing R15: it does not look like a return, or
+// the word before puts the return address into R14.
+fn may_call(image: &Image, at: u32, operation: &Operation) -> bool {
+    is_odd_writer(operation) || operation.writes_pc() && has_return_address(image, at)
+}
+
+/// The registers that may differ after the instruction at an address, as the bits of their numbers: none
+/// under NV, and all after a word that may call a routine by writing R15.
+pub(crate) fn changed(image: &Image, at: u32, instr: &Instr) -> u32 {
+    if instr.cond.is_never() {
+        0
+    } else if may_call(image, at, &instr.operation) {
         ALL_REGISTERS
     } else {
-        written(operation)
+        written(&instr.operation)
     }
 }

@@ -1,5 +1,5 @@
 -- Which addresses are named.
-use Rattle.std.proofs.Common.{◌≡◌, ◌∙◌, ℕ, ◌+◌, ◌<◌, ◌≤◌, Bool, true, false, ◌||◌, eqb, List, length, get_or, take, Result, Ok, Err, Option, Some, None, inl, inr, ⊎_elim, refl, sym, ap, subst, arith}
+use Rattle.std.proofs.Common.{◌≡◌, ◌∙◌, ℕ, ◌+◌, ◌<◌, ◌≤◌, Bool, true, false, ◌||◌, ◌⊎◌, eqb, List, length, get_or, take, Result, Ok, Err, Option, Some, None, inl, inr, ⊎_elim, refl, sym, ap, subst, arith}
 use Rattle.std.specs.Prelude.{◌↔◌, Contains, IsTrue, is_some, not, option_map}
 use Rattle.std.specs.BTreeSet.{BTreeSet, contains}
 use Rattle.std.specs.List.{list_any}
@@ -7,7 +7,7 @@ use Rattle.std.specs.List.Sorted.{IsBinarySearchResult, IsStrictlySortedBy}
 use Rattle.std.specs.Ordering.{nat_cmp}
 use Rattle.std.specs.Result.{IfOk, MatchResult, is_ok}
 use Rattle.std.specs.declared.cmp.Ordering.TheVariants.{Less}
-use Rattle.std.proofs.lemmas.Bool.{cases_lt, eq-eqb, false≢true, ne_eqb, or_cases, or_right}
+use Rattle.std.proofs.lemmas.Bool.{cases_lt, eq-eqb, eqb-true, false≢true, ne_eqb, or_cases, or_right}
 use Rattle.std.proofs.lemmas.Bool.Decides.{nat_tests}
 use Rattle.std.proofs.lemmas.Cmp.{nat_cmp_total}
 use Rattle.std.proofs.lemmas.List.{take_all}
@@ -17,47 +17,41 @@ use Rattle.std.proofs.lemmas.List.Sorted.{searched}
 use Rattle.std.proofs.lemmas.Map.Keys.{Less-from_sorted}
 use Rattle.std.proofs.lemmas.Map.Lookups.{exact_unsigned}
 use Rattle.std.proofs.lemmas.Map.Views.{btree_set_contains_iff}
-use Rattle.arm2_decode.specs.declared.instr.Instr.{Instr}
 use Rattle.flow_graph.specs.declared.places.Place.{Place}
+use Rattle.flow_graph.specs.declared.places.Place.TheVariants.{At}
 use Rattle.flow_graph.specs.Flow.{Flow}
 use Rattle.loader.specs.Image.{Words}
-use Rattle.statement.specs.Stated.{Stated, Target, target_of}
-use Rattle.word_shapes.specs.Words.{HasInstr}
-use Rattle.explained.specs.Assumed.{AreAssumed, Assumes, IsTakenForReturn, Notes, may_write_oddly}
+use Rattle.statement.specs.Stated.{Stated}
+use Rattle.explained.specs.Assumed.{AreAssumed, Assumes, Notes}
 use Rattle.explained.specs.Taken.{is_at, is_reached}
 use Rattle.explained.specs.declared.assumptions.Assumption.{Assumption}
 
 -- ## One word
 
-none_found : {A B : Type 0} (f : A → B) (found : Option A) (t : Option B) (r : Bool) → option_map f found ≡ t → is_some found ≡ not r → (r ≡ true) ↔ (t ≡ None)
+pub none_found : {A B : Type 0} (f : A → B) (found : Option A) (t : Option B) (r : Bool) → option_map f found ≡ t → is_some found ≡ not r → (r ≡ true) ↔ (t ≡ None)
 none_found f None t true is some = (λ e. sym is, λ h. refl)
 none_found f None t false is some = absurd (false≢true some)
 none_found f (Some x) t true is some = absurd (false≢true (sym some))
 none_found f (Some x) t false is some = (λ e. absurd (false≢true e), λ h. absurd (let both : Some (f x) ≡ None = is ∙ h in cc))
 
-module _ (image : Words) (st : Stated) (a : ℕ) where
-  pub no_writer : ((i : Instr) → HasInstr image a i → None ≡ Some i) → IsTrue false ↔ IsTakenForReturn image st a
-  no_writer none = (
-    λ e. absurd (false≢true e),
-    λ h. absurd (let both : None ≡ Some h.instr = none h.instr h.there in cc),
+-- ## One place
+
+-- the address of the place, of which that holds, is added; or nothing, where it does not hold
+module _ (Holds : ℕ → Type 0) (place : Place) (calls : List ℕ) (at : ℕ) (is : place ≡ At calls at) where
+  here_is : (a : ℕ) → is_at a place ≡ true → at ≡ a
+  here_is a here = eqb-true at a (sym (ap (is_at a) is) ∙ here)
+
+  pub one_noted : (old new : ℕ → Bool) → Holds at → ((a : ℕ) → (new a ≡ true) ↔ ((old a ≡ true) ⊎ (at ≡ a))) → Notes Holds place old new
+  one_noted old new holds adds a = (
+    λ h. ⊎_elim (λ was. inl was) (λ same. inr (ap (is_at a) is ∙ eq-eqb at a same, subst Holds same holds)) ((adds a).0 h),
+    λ h. (adds a).1 (⊎_elim (λ was. inl was) (λ here. inr (here_is a here.0)) h),
   )
 
-  module _ (i : Instr) (there : HasInstr image a i) (only : (j : Instr) → HasInstr image a j → Some i ≡ Some j) where
-    the_one : (j : Instr) → HasInstr image a j → i ≡ j
-    the_one j h = let both : Some i ≡ Some j = only j h in cc
-
-    pub plain_word : (b : Bool) → b ≡ may_write_oddly i → b ≡ false → IsTrue b ↔ IsTakenForReturn image st a
-    plain_word b is none = (
-      λ e. absurd (false≢true (sym none ∙ e)),
-      λ h. absurd (false≢true (sym none ∙ is ∙ ap may_write_oddly (the_one h.instr h.there) ∙ h.odd)),
-    )
-
-    pub writer_decides : {A : Type 0} (f : A → Target) (found : Option A) (b r : Bool) → b ≡ may_write_oddly i → b ≡ true → option_map f found ≡ target_of st a → is_some found ≡ not r → IsTrue r ↔ IsTakenForReturn image st a
-    writer_decides f found b r is does target some =
-        let decides = none_found f found (target_of st a) r target some in (
-          λ e. record { instr = i; there = there; odd = sym is ∙ does; unstated = decides.0 e },
-          λ h. decides.1 h.unstated,
-        )
+  pub none_noted : (old : ℕ → Bool) → (Holds at → ⊥) → Notes Holds place old old
+  none_noted old none a = (
+    λ h. inl h,
+    λ h. ⊎_elim (λ was. was) (λ here. absurd (none (subst Holds (sym (here_is a here.0)) here.1))) h,
+  )
 
 -- ## All places
 
@@ -81,7 +75,7 @@ both_ok (Ok x) P Q R f p q = f x p q
 both_ok (Err e) P Q R f p q = tt
 
 pub are_assumed : (image : Words) (st : Stated) (flow : Flow) (what : Assumption) (places : List Place) (k : ℕ) (set : BTreeSet ℕ) (items : List ℕ) → places ≡ flow.places → length places ≤ k
-    → ((a : ℕ) → (contains nat_cmp set a ≡ true) ↔ ((is_reached (take k places) a ≡ true) × Assumes image st what a)) → items ≡ set.keys → IsStrictlySortedBy nat_cmp items → AreAssumed image st flow what items
+    → ((a : ℕ) → (contains nat_cmp set a ≡ true) ↔ ((is_reached (take k places) a ≡ true) × Assumes image st flow what a)) → items ≡ set.keys → IsStrictlySortedBy nat_cmp items → AreAssumed image st flow what items
 are_assumed image st flow what places k set items are le known is ascending = record {
   ascending = ascending;
   each = λ a.

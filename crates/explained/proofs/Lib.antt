@@ -2,6 +2,7 @@ mod AnyLaws
 pub mod AssumedLaws
 mod BurstLaws
 mod ColumnLaws
+mod DoneLaws
 mod IdleLaws
 mod ImageLaws
 mod LinkLaws
@@ -13,4 +14,5 @@ mod StartLaws
 mod SumLaws
 mod TableLaws
 pub mod TallyLaws
+mod ToldLaws
 pub mod TotalLaws

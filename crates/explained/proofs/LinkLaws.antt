@@ -29,8 +29,12 @@ use Rattle.flow_graph.proofs.Firsts.{whole_range}
 use Rattle.word_shapes.specs.Growing.{Grows, HasSameMembers}
 use Rattle.word_shapes.specs.Words.{HasInstr, HasShape}
 use Rattle.word_shapes.proofs.GrowLaws.{grows_none, grows_on, kept, keys_listed, no_shorter}
-use Rattle.explained.specs.Links.{AreLostLinks, IsLost, KeepsLink, MayReturnByLink, after_call, kept_along, may_return_by_link, place_after, writes_link}
-use Rattle.explained.specs.Losing.{ByEdge, HasRoom, IsAfter, IsKeptTo}
+use Rattle.statement.specs.Stated.{Stated}
+use Rattle.explained.specs.Links.{AreLostLinks, Does, DoesTo, IsLost, MayReturnByLink, kept_along, overwritten}
+use Rattle.explained.specs.Losing.{ByEdge, HasRoom, LeadsTo}
+use Rattle.explained.specs.declared.links.LinkStep.{LinkStep}
+use Rattle.explained.specs.declared.links.LinkStep.TheVariants.{Overwrites, Keeps}
+use Rattle.explained.specs.declared.links.Overwrite.{Overwrite}
 use Rattle.explained.specs.Taken.{is_at, is_reached}
 use borrow.Author.Count.{below_more}
 
@@ -52,37 +56,15 @@ module _ (is : Instr → Bool) (image : Words) (a : ℕ) where
     λ h. absurd (let both : None ≡ Some h.0 = none h.0 h.1 in cc),
   )
 
-pub returns_decides : (image : Words) (a : ℕ) (b : Bool) → IsTrue b ↔ IsShaped may_return_by_link image a → IsTrue b ↔ MayReturnByLink image a
-returns_decides image a b shaped = (
-  λ e. let w = shaped.0 e in record { instr = w.0; there = w.1; returns = w.2 },
-  λ h. shaped.1 (h.instr, h.there, h.returns),
-)
-
 -- ## Edges
 
-pub after_one : (flow : Flow) (e : Edge) (q : Place) → Some q ≡ place_after e.from e.to → Contains flow.places q → (p : Place) → IsAfter flow e p ↔ (q ≡ p)
-after_one flow e q is has p = (
-  λ w. let both : Some q ≡ Some p = is ∙ w.0 in cc,
-  λ same. subst (IsAfter flow e) same (sym is, has),
-)
+pub led_one : (image : Words) (step : LinkStep) (e : Edge) → Does image step e.from e.to → (p : Place) → LeadsTo image step e p ↔ (e.to ≡ p)
+led_one image step e does p = (λ w. w.1, λ same. (does, same))
 
-pub kept_one : (image : Words) (e : Edge) → KeepsLink image e.from e.to → (p : Place) → IsKeptTo image e p ↔ (e.to ≡ p)
-kept_one image e keeps p = (λ w. w.1, λ same. (keeps, same))
-
-module _ (image : Words) (from to : Place) (calls inner : List ℕ) (a b : ℕ) (from_is : from ≡ At calls a) (to_is : to ≡ At inner b) where
-  pub keeps_decides : (s w : Bool) → IsTrue s ↔ (calls ≡ inner) → s ≡ true → IsTrue w ↔ HasShape writes_link image a → IsTrue (not w) ↔ KeepsLink image from to
-  keeps_decides s w same is writes =
-      subst (λ (f : Place). IsTrue (not w) ↔ KeepsLink image f to) (sym from_is)
-      (subst (λ (t : Place). IsTrue (not w) ↔ KeepsLink image (At calls a) t) (sym to_is) (by_case w writes))
-    where
-      by_case : (v : Bool) → IsTrue v ↔ HasShape writes_link image a → IsTrue (not v) ↔ ((calls ≡ inner) × (HasShape writes_link image a → ⊥))
-      by_case true h = (λ e. absurd (false≢true e), λ k. absurd (k.1 (h.0 refl)))
-      by_case false h = (λ e. (same.0 is, λ shape. false≢true (h.1 shape)), λ k. refl)
-
-  pub leaves_decides : (s : Bool) → IsTrue s ↔ (calls ≡ inner) → s ≡ false → IsTrue s ↔ KeepsLink image from to
-  leaves_decides s same is =
-      subst (λ (f : Place). IsTrue s ↔ KeepsLink image f to) (sym from_is)
-      (subst (λ (t : Place). IsTrue s ↔ KeepsLink image (At calls a) t) (sym to_is) (λ e. absurd (false≢true (sym is ∙ e)), λ k. same.1 k.0))
+pub does_decides : (image : Words) (step : LinkStep) (from to : Place) (calls inner : List ℕ) (a b : ℕ) (r : Bool) → from ≡ At calls a → to ≡ At inner b → IsTrue r ↔ DoesTo image step calls inner a
+    → IsTrue r ↔ Does image step from to
+does_decides image step from to calls inner a b r from_is to_is is =
+    subst (λ (f : Place). IsTrue r ↔ Does image step f to) (sym from_is) (subst (λ (t : Place). IsTrue r ↔ Does image step (At calls a) t) (sym to_is) is)
 
 -- ## Edges of a place
 
@@ -134,25 +116,25 @@ module _ (flow : Flow) (well : IsWellFormed flow) where
 
 -- ## Lists that grow
 
-module _ (By : Edge → Place → Type 0) (edges : List Edge) where
-  pub grows_begun : (order : List Place) → Grows HasRoom (ByEdge By (take 0 edges)) order order
-  grows_begun order = grows_none (ByEdge By (take 0 edges)) order (λ p w. no_member w.0 w.1)
+module _ (image : Words) (step : LinkStep) (edges : List Edge) where
+  pub grows_begun : (order : List Place) → Grows HasRoom (ByEdge image step (take 0 edges)) order order
+  grows_begun order = grows_none (ByEdge image step (take 0 edges)) order (λ p w. no_member w.0 w.1)
 
-  pub grows_more : (i : ℕ) (e : Edge) (old mid new : List Place) → i < length edges → e ≡ get_or edges i e → Grows HasRoom (ByEdge By (take i edges)) old mid → Grows HasRoom (By e) mid new
-      → Grows HasRoom (ByEdge By (take (i + 1) edges)) old new
+  pub grows_more : (i : ℕ) (e : Edge) (old mid new : List Place) → i < length edges → e ≡ get_or edges i e → Grows HasRoom (ByEdge image step (take i edges)) old mid → Grows HasRoom (LeadsTo image step e) mid new
+      → Grows HasRoom (ByEdge image step (take (i + 1) edges)) old new
   grows_more i e old mid new lt is g h =
       let more : take (i + 1) edges ≡ take i edges ++ e ∷ [] = take_more edges i e lt ∙ ap (λ (x : Edge). take i edges ++ x ∷ []) (sym is) in
-      grows_on (ByEdge By (take i edges)) (By e) (ByEdge By (take (i + 1) edges)) old mid new
+      grows_on (ByEdge image step (take i edges)) (LeadsTo image step e) (ByEdge image step (take (i + 1) edges)) old mid new
       (λ p. (
-        λ w. ⊎_elim (λ before. inl (w.0, before, w.2)) (λ same. inr (subst (λ (x : Edge). By x p) (sym same) w.2)) (Contains-push_cases (take i edges) e w.0 (subst (λ t. Contains t w.0) more w.1)),
+        λ w. ⊎_elim (λ before. inl (w.0, before, w.2)) (λ same. inr (subst (λ (x : Edge). LeadsTo image step x p) (sym same) w.2)) (Contains-push_cases (take i edges) e w.0 (subst (λ t. Contains t w.0) more w.1)),
         λ w. ⊎_elim
             (λ v. (v.0, subst (λ t. Contains t v.0) (sym more) (Contains-append_left (take i edges) (e ∷ []) v.0 v.1), v.2))
             (λ by. (e, subst (λ t. Contains t e) (sym more) (Contains-push (take i edges) e), by)) w,
       ))
       (λ longer room. room) g h
 
-  pub grows_all : (i : ℕ) (old new : List Place) → length edges ≤ i → Grows HasRoom (ByEdge By (take i edges)) old new → Grows HasRoom (ByEdge By edges) old new
-  grows_all i old new le g = subst (λ (t : List Edge). Grows HasRoom (ByEdge By t) old new) (take_all i edges le) g
+  pub grows_all : (i : ℕ) (old new : List Place) → length edges ≤ i → Grows HasRoom (ByEdge image step (take i edges)) old new → Grows HasRoom (ByEdge image step edges) old new
+  grows_all i old new le g = subst (λ (t : List Edge). Grows HasRoom (ByEdge image step t) old new) (take_all i edges le) g
 
 -- ## Found places
 
@@ -166,62 +148,66 @@ one_found seen new order p is_new found updates len is_new_is =
 
 -- ## The search
 
-module _ (image : Words) (flow : Flow) where
+module _ (image : Words) (flow : Flow) (by : Overwrite) where
   -- from the place those edges that keep R14 lead to known places
   abbrev pub IsFollowed : List Place → Place → Type 0
-  IsFollowed order p = (e : Edge) → HasEdge flow e → e.from ≡ p → KeepsLink image e.from e.to → Contains order e.to
+  IsFollowed order p = (e : Edge) → HasEdge flow e → e.from ≡ p → Does image Keeps e.from e.to → Contains order e.to
 
   pub record IsSearch (order : List Place) (next : ℕ) : Type 0 where
-    pub after : (e : Edge) (p : Place) → HasEdge flow e → IsAfter flow e p → Contains order p
-    pub lost : (p : Place) → Contains order p → IsLost image flow p
+    pub after : (e : Edge) → HasEdge flow e → Does image (Overwrites by) e.from e.to → Contains order e.to
+    pub lost : (p : Place) → Contains order p → IsLost image flow by p
     pub bound : next ≤ length order
     pub followed : (k : ℕ) (d : Place) → k < next → IsFollowed order (get_or order k d)
 
-  inside : (from to : Place) → KeepsLink image from to → to ≡ Exit → ⊥
-  inside (At calls a) (At inner b) keeps out = cc
-  inside (At calls a) Exit keeps out = keeps
-  inside Exit to keeps out = keeps
+  inside : (step : LinkStep) (from to : Place) → Does image step from to → to ≡ Exit → ⊥
+  inside step (At calls a) (At inner b) does out = cc
+  inside step (At calls a) Exit does out = does
+  inside step Exit to does out = does
 
-  in_graph : IsWellFormed flow → (p : Place) → IsLost image flow p → Contains flow.places p
-  in_graph well p (after_call e q has is known_one) = known_one
-  in_graph well p (kept_along e has lost keeps) = ⊎_elim (λ out. absurd (inside e.from e.to keeps out)) (λ known_one. known_one) (well.ends e has)
+  led_into : (step : LinkStep) (e : Edge) → IsWellFormed flow → HasEdge flow e → Does image step e.from e.to → Contains flow.places e.to
+  led_into step e well has does = ⊎_elim (λ out. absurd (inside step e.from e.to does out)) (λ known_one. known_one) (well.ends e has)
 
-  pub search_begun : (old order : List Place) → old ≡ [] → Grows HasRoom (ByEdge (IsAfter flow) flow.edges) old order → IsSearch order 0
-  search_begun old order empty g = record {
-    after = λ e p has is. g.to tt p (e, has, is);
-    lost = λ p h. ⊎_elim (λ w. absurd (no_member p (subst (λ t. Contains t p) empty w))) (λ w. after_call w.0 p w.1 w.2.0 w.2.1) (g.from p h);
+  in_graph : IsWellFormed flow → (p : Place) → IsLost image flow by p → Contains flow.places p
+  in_graph well p (overwritten e has does) = led_into (Overwrites by) e well has does
+  in_graph well p (kept_along e has lost keeps) = led_into Keeps e well has keeps
+
+  pub search_begun : (old order : List Place) (edges : List Edge) → old ≡ [] → edges ≡ flow.edges → Grows HasRoom (ByEdge image (Overwrites by) edges) old order → IsSearch order 0
+  search_begun old order edges empty same g = record {
+    after = λ e has does. g.to tt e.to (e, subst (λ (es : List Edge). Contains es e) (sym same) has, (does, refl));
+    lost = λ p h. ⊎_elim (λ w. absurd (no_member p (subst (λ t. Contains t p) empty w)))
+        (λ w. subst (IsLost image flow by) w.2.1 (overwritten w.0 (subst (λ (es : List Edge). Contains es w.0) same w.1) w.2.0)) (g.from p h);
     bound = omega arith;
     followed = λ k d lt. absurd (omega (arith, lt));
   }
 
   pub search_more : (order new : List Place) (next : ℕ) (p : Place) (edges : List Edge) → IsSearch order next → next < length order → p ≡ get_or order next p
-      → ((e : Edge) → Contains edges e ↔ (HasEdge flow e × (e.from ≡ p))) → Grows HasRoom (ByEdge (IsKeptTo image) edges) order new → IsSearch new (next + 1)
+      → ((e : Edge) → Contains edges e ↔ (HasEdge flow e × (e.from ≡ p))) → Grows HasRoom (ByEdge image Keeps edges) order new → IsSearch new (next + 1)
   search_more order new next p edges s lt is leave g =
       let longer = no_shorter order new g in
-      let here : IsLost image flow p = s.lost p (subst (Contains order) (sym is) (Contains-get_or order next p lt)) in
+      let here : IsLost image flow by p = s.lost p (subst (Contains order) (sym is) (Contains-get_or order next p lt)) in
       let each : (k : ℕ) → k < next + 1 → (d : Place) → IsFollowed new (get_or order k d) =
       below_more (λ (j : ℕ). (d : Place) → IsFollowed new (get_or order j d)) next
       (λ j l d. λ e has from keeps. kept order new e.to g (s.followed j d l e has from keeps))
       (λ d. subst (IsFollowed new) (get_or_read order next p lt is d) (λ e has from keeps. g.to tt e.to (e, (leave e).1 (has, from), (keeps, refl)))) in
       record {
-        after = λ e q has is_after. kept order new q g (s.after e q has is_after);
+        after = λ e has does. kept order new e.to g (s.after e has does);
         lost = λ q h. ⊎_elim (λ w. s.lost q w)
             (λ w.
             let edge = (leave w.0).0 w.1 in
-            subst (IsLost image flow) w.2.1 (kept_along w.0 edge.0 (subst (IsLost image flow) (sym edge.1) here) w.2.0))
+            subst (IsLost image flow by) w.2.1 (kept_along w.0 edge.0 (subst (IsLost image flow by) (sym edge.1) here) w.2.0))
             (g.from q h);
         bound = omega (arith, longer, lt);
         followed = λ k d l. subst (IsFollowed new)
             (sym (ap (λ t. get_or t k d) g.more.1 ∙ get_or_append_left order g.more.0 d k (omega (arith, l, lt)))) (each k l d);
       }
 
-  -- what holds the places after calls, and with a place all to which R14 is kept from it, holds all
-  closed : (order : List Place) → ((e : Edge) (p : Place) → HasEdge flow e → IsAfter flow e p → Contains order p)
-      → ((e : Edge) → HasEdge flow e → Contains order e.from → KeepsLink image e.from e.to → Contains order e.to) → (p : Place) → IsLost image flow p → Contains order p
-  closed order after next p (after_call e q has is known_one) = after e q has (is, known_one)
+  -- what holds the places after overwriting edges, and with a place all to which R14 is kept from it, holds all
+  closed : (order : List Place) → ((e : Edge) → HasEdge flow e → Does image (Overwrites by) e.from e.to → Contains order e.to)
+      → ((e : Edge) → HasEdge flow e → Contains order e.from → Does image Keeps e.from e.to → Contains order e.to) → (p : Place) → IsLost image flow by p → Contains order p
+  closed order after next p (overwritten e has does) = after e has does
   closed order after next p (kept_along e has lost keeps) = next e has (closed order after next e.from lost) keeps
 
-  pub search_done : (order : List Place) (next : ℕ) → IsSearch order next → length order ≤ next → (p : Place) → Contains order p ↔ IsLost image flow p
+  pub search_done : (order : List Place) (next : ℕ) → IsSearch order next → length order ≤ next → (p : Place) → Contains order p ↔ IsLost image flow by p
   search_done order next s all p = (
     s.lost p,
     closed order s.after (λ e has at keeps. s.followed at.0 e.from (let lt : at.0 < length order = at.1 in omega (arith, lt, all)) e has (sym at.2) keeps) p,
@@ -254,10 +240,10 @@ place_at_it (p ∷ ps) a h = ⊎_elim
 reached_by : (places : List Place) (a : ℕ) (calls : List ℕ) → Contains places (At calls a) → is_reached places a ≡ true
 reached_by places a calls h = list_any_at (is_at a) places h.0 (At calls a) h.1 (is_there calls a (get_or places h.0 (At calls a)) h.2)
 
-pub are_lost : (image : Words) (flow : Flow) (places given : List Place) (set : BTreeSet ℕ) (items : List ℕ) → given ≡ places → ((p : Place) → Contains places p ↔ IsLost image flow p)
-    → ((a : ℕ) → (sets.contains nat_cmp set a ≡ true) ↔ ((is_reached given a ≡ true) × MayReturnByLink image a)) → items ≡ set.keys → IsStrictlySortedBy nat_cmp items
-    → AreLostLinks image flow items
-are_lost image flow places given set items same lost named is ascending = record {
+pub are_lost : (image : Words) (flow : Flow) (by : Overwrite) (st : Stated) (places given : List Place) (set : BTreeSet ℕ) (items : List ℕ) → given ≡ places → ((p : Place) → Contains places p ↔ IsLost image flow by p)
+    → ((a : ℕ) → (sets.contains nat_cmp set a ≡ true) ↔ ((is_reached given a ≡ true) × MayReturnByLink image st a)) → items ≡ set.keys → IsStrictlySortedBy nat_cmp items
+    → AreLostLinks image flow by st items
+are_lost image flow by st places given set items same lost named is ascending = record {
   ascending = ascending;
   each = λ a.
       let iff = btree_set_contains_iff nat_cmp_total exact_unsigned set a in

@@ -20,7 +20,7 @@ use Rattle.walk_counts.specs.Counts.{capped, number_of, occurrences}
 use Rattle.walk_counts.proofs.CountLemmas.{along}
 use Rattle.walk_counts.proofs.NumberLemmas.{known_edge}
 use Rattle.walk_counts.proofs.SumLemmas.{sum_none, sums_by_number}
-use Rattle.explained.specs.Table.{costs_of, image_ticks, is_any_reached, line_taken, passes_of, source_ticks, ticks_in, ticks_of, words_of}
+use Rattle.explained.specs.Table.{costs_of, image_ticks, is_any_reached, line_taken, passes_of, source_ticks, ticks_in, ticks_of, told_at, words_of}
 use Rattle.explained.specs.Taken.{AreCostsAt, IsCostAt, AreListedOnce, cost_at, costs_from, in_all, is_at, is_reached, is_taken_from, pass_at, range_of, taken_at, taken_of}
 use Rattle.explained.specs.declared.tally.Costs.{Costs}
 use Rattle.explained.specs.declared.tally.Taken.{Taken}
@@ -198,7 +198,7 @@ unreached flow walk line = (
     taken = taken_at flow walk
 
     found : Taken
-    found = record { passes = passes_of (taken line.at); ticks = ticks_in taken line.at line.words; costs = costs_of (taken line.at) }
+    found = record { passes = passes_of (taken (told_at taken line)); ticks = ticks_in taken line.at line.words; costs = costs_of (taken (told_at taken line)) }
 
     not_any : line_taken taken line ≡ None → is_any_reached taken line.at line.words ≡ false
     not_any none = ⊎_elim

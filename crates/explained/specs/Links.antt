@@ -1,26 +1,37 @@
--- Returns by an R14 that a call has overwritten. What writes R14 is the VL86C010 data sheet's.
-use Rattle.std.specs.Prelude.{◌≡◌, ◌↔◌, ℕ, Bool, true, false, not, ◌&&◌, ◌||◌, nat_lt}
-use Rattle.std.specs.Prelude.{if◌then◌else◌, List, length, Contains, Option, Some, None}
+-- Returns by an R14 that no longer has the return address: a call, or an address of the source, has overwritten
+-- it. What writes R14 is the VL86C010 data sheet's.
+use Rattle.std.specs.Prelude.{◌≡◌, ◌↔◌, ℕ, ◌+◌, ◌-◌, ◌<◌, Bool, true, false, not, ◌&&◌, ◌||◌}
+use Rattle.std.specs.Prelude.{if◌then◌else◌, List, length, Contains, Option, Some, None, is_some}
 use Rattle.std.specs.List.Sorted.{IsStrictlySortedBy}
 use Rattle.std.specs.Ordering.{nat_cmp}
 use Rattle.bus_ticks.specs.Prices.{ahead_of}
-use Rattle.arm2_decode.specs.Names.{is_compare, is_link, is_never}
+use Rattle.bus_ticks.specs.declared.space.TheConstants.{SPACE_END}
+use Rattle.arm2_decode.specs.Names.{is_compare, is_link, is_never, is_pc}
 use Rattle.arm2_decode.specs.Transfers.{is_listed, writes_base}
 use Rattle.arm2_decode.specs.Writers.{writes_pc}
 use Rattle.arm2_decode.specs.declared.instr.Instr.{Instr}
 use Rattle.arm2_decode.specs.declared.instr.Operation.{Operation}
 use Rattle.arm2_decode.specs.declared.instr.Operation.TheVariants as operation
+use Rattle.arm2_decode.specs.declared.instr.SingleImmediate.{SingleImmediate}
 use Rattle.arm2_decode.specs.declared.names.Opcode.{Opcode}
 use Rattle.arm2_decode.specs.declared.names.Register.{Register}
 use Rattle.arm2_decode.specs.declared.names.Register.TheVariants.{R14}
 use Rattle.arm2_decode.specs.Writers.{is_transfer}
+use Rattle.arm2_effect.specs.ProgramCounter.{address_of}
 use Rattle.flow_graph.specs.Flow.{Flow, HasEdge}
 use Rattle.flow_graph.specs.declared.edges.Edge.{Edge}
 use Rattle.flow_graph.specs.declared.places.Place.{Place}
 use Rattle.flow_graph.specs.declared.places.Place.TheVariants.{At, Exit}
-use Rattle.loader.specs.Image.{Words}
-use Rattle.word_shapes.specs.Shapes.{is_return}
-use Rattle.word_shapes.specs.Words.{HasInstr, HasShape}
+use Rattle.loader.specs.Image.{Words, word_of}
+use Rattle.statement.specs.Stated.{Stated, Target, target_of}
+use Rattle.statement.specs.declared.stated.TargetKind.{TargetKind}
+use Rattle.statement.specs.declared.stated.TargetKind.TheVariants.{Jump, Call, Return, Leave}
+use Rattle.word_shapes.specs.Shapes.{is_return, makes_address}
+use Rattle.word_shapes.specs.Words.{HasInstr, MayDo}
+use Rattle.explained.specs.declared.links.LinkStep.{LinkStep}
+use Rattle.explained.specs.declared.links.LinkStep.TheVariants.{Overwrites, Keeps}
+use Rattle.explained.specs.declared.links.Overwrite.{Overwrite}
+use Rattle.explained.specs.declared.links.Overwrite.TheVariants.{ByCall, ByAddress}
 
 -- ## Words
 
@@ -49,51 +60,90 @@ writes_link (operation.UndefinedTransfer x) = false
 writes_link (operation.CoprocessorTransfer x) = false
 writes_link (operation.Coprocessor x) = false
 
--- it writes R15 as returns do, and not from memory: MOV or SUB from R14
+-- it writes R15 as returns do, and not from memory: MOV of R14, or SUB of a number from it
 abbrev pub returns_by_link : Operation → Bool
 returns_by_link o = writes_pc o && (is_return o && not (is_transfer o))
 
--- and it may be carried out
-abbrev pub may_return_by_link : Instr → Bool
-may_return_by_link i = not (is_never i.cond) && returns_by_link i.operation
+-- a word of which a jump or a call is stated does not return; one that leaves the handler does
+abbrev pub is_return_kind : TargetKind → Bool
+is_return_kind Jump = false
+is_return_kind Call = false
+is_return_kind Return = true
+is_return_kind Leave = true
+
+-- so does one of which nothing is stated
+abbrev pub counts_as_return : Option Target → Bool
+counts_as_return None = true
+counts_as_return (Some t) = is_return_kind t.kind
+
+-- the word at the address may return by R14
+pub record MayReturnByLink (image : Words) (st : Stated) (a : ℕ) : Type 0 where
+  pub returns : MayDo returns_by_link image a
+  pub counts : counts_as_return (target_of st a) ≡ true
+
+-- ## Addresses
+
+-- so many bytes after PC, or before it, in 26 bits
+abbrev pub distance : (up : Bool) → (offset : ℕ) → ℕ
+distance up offset = if up then offset else SPACE_END - offset
+
+-- a load of one word into R14, by PC and a number
+abbrev pub loads_link_by_pc : SingleImmediate → Bool
+loads_link_by_pc x = x.load && not x.byte && is_link x.rd && is_pc x.rn
+
+-- at the address it reads the word at this one
+abbrev pub literal_at : ℕ → SingleImmediate → ℕ
+literal_at a x = ahead_of a (8 + distance x.up x.offset)
+
+-- the word, if there is one, holds the address of a word
+abbrev pub holds_address : Words → Option ℕ → Bool
+holds_address image None = false
+holds_address image (Some word) = is_some (word_of image (address_of word))
+
+-- at the address the operation loads R14 with a word of the source that holds the address of one
+abbrev pub loads_address : Words → ℕ → Operation → Bool
+loads_address image a (operation.SingleImmediate x) =
+    loads_link_by_pc x && holds_address image (word_of image (literal_at a x))
+loads_address image a _ = false
+
+-- at the address the instruction may put an address of the source into R14
+abbrev pub may_put_address : Words → ℕ → Instr → Bool
+may_put_address image a i =
+    not (is_never i.cond) && (makes_address i.operation || loads_address image a i.operation)
 
 -- such an instruction is at the address
-pub record MayReturnByLink (image : Words) (a : ℕ) : Type 0 where
-  pub instr : Instr
-  pub there : HasInstr image a instr
-  pub returns : may_return_by_link instr ≡ true
+abbrev pub PutsAddress : Words → ℕ → Type 0
+PutsAddress image a = (i : Instr) × HasInstr image a i × (may_put_address image a i ≡ true)
 
 -- ## Edges
 
--- an edge calls where it leads into one call more: the place after that, to which the routine comes back;
--- None of an edge that calls nothing
-abbrev pub place_after : (from to : Place) → Option Place
-place_after (At calls b) (At inner to) =
-    if nat_lt (length calls) (length inner) then Some (At calls (ahead_of b 4)) else None
-place_after (At calls b) Exit = None
-place_after Exit to = None
+-- what an edge does from an address inside some calls to a place inside others: a call that comes back along
+-- it has overwritten R14; the word, inside the same calls, overwrites R14 with an address; or it does not
+-- write R14, whatever its condition, but for NV
+abbrev pub DoesTo : Words → LinkStep → (calls inner : List ℕ) → ℕ → Type 0
+DoesTo image (Overwrites ByCall) calls inner a = length inner < length calls
+DoesTo image (Overwrites ByAddress) calls inner a = (calls ≡ inner) × PutsAddress image a
+DoesTo image Keeps calls inner a = (calls ≡ inner) × (MayDo writes_link image a → ⊥)
 
--- an edge keeps R14 where it stays inside the same calls and its word, whatever the condition, does not
--- write R14
-abbrev pub KeepsLink : Words → (from to : Place) → Type 0
-KeepsLink image (At calls a) (At inner b) = (calls ≡ inner) × (HasShape writes_link image a → ⊥)
-KeepsLink image (At calls a) Exit = ⊥
-KeepsLink image Exit to = ⊥
+-- nothing of that where it leaves the handler
+abbrev pub Does : Words → LinkStep → (from to : Place) → Type 0
+Does image step (At calls a) (At inner b) = DoesTo image step calls inner a
+Does image step (At calls a) Exit = ⊥
+Does image step Exit to = ⊥
 
 -- ## Places
 
-module _ (image : Words) (flow : Flow) where
-  -- on some way a call has overwritten R14, and no word of the same routine has written it since
+module _ (image : Words) (flow : Flow) (by : Overwrite) where
+  -- on some way R14 has been overwritten so, and no word of the same routine has written it since
   pub data IsLost : Place → Type 0 where
-    after_call : (e : Edge) (p : Place) → HasEdge flow e → place_after e.from e.to ≡ Some p
-        → Contains flow.places p → IsLost p
-    kept_along : (e : Edge) → HasEdge flow e → IsLost e.from → KeepsLink image e.from e.to → IsLost e.to
+    overwritten : (e : Edge) → HasEdge flow e → Does image (Overwrites by) e.from e.to → IsLost e.to
+    kept_along : (e : Edge) → HasEdge flow e → IsLost e.from → Does image Keeps e.from e.to → IsLost e.to
 
   -- at a place where R14 is lost the word may return by it
-  abbrev pub ReturnsByLost : ℕ → Type 0
-  ReturnsByLost a = (calls : List ℕ) × IsLost (At calls a) × MayReturnByLink image a
+  abbrev pub ReturnsByLost : Stated → ℕ → Type 0
+  ReturnsByLost st a = (calls : List ℕ) × IsLost (At calls a) × MayReturnByLink image st a
 
   -- exactly those addresses, ascending
-  pub record AreLostLinks (named : List ℕ) : Type 0 where
+  pub record AreLostLinks (st : Stated) (named : List ℕ) : Type 0 where
     pub ascending : IsStrictlySortedBy nat_cmp named
-    pub each : (a : ℕ) → Contains named a ↔ ReturnsByLost a
+    pub each : (a : ℕ) → Contains named a ↔ ReturnsByLost st a

@@ -1,6 +1,6 @@
 -- The table of a bound.
 use Rattle.std.specs.Prelude.{◌≡◌, ℕ, Bool, ◌==◌, if◌then◌else◌, List, [], ◌++◌, codes}
-use Rattle.std.specs.Prelude.{decimal, sum_by, Option, Some, None, is_some}
+use Rattle.std.specs.Prelude.{decimal, find, nat_lt, sum_by, unwrap_or, Option, Some, None, is_some}
 use Rattle.std.specs.List.{list_any}
 use Rattle.asm_text.specs.Source.{lines_of}
 use Rattle.assembler.specs.Assembles.{addresses_from}
@@ -44,19 +44,30 @@ module _ (taken : ℕ → Option Taken) where
   abbrev pub is_any_reached : (from count : ℕ) → Bool
   is_any_reached from count = list_any (λ a. is_some (taken a)) (addresses_from from count)
 
+  -- the walk passes the address
+  abbrev pub is_passed : ℕ → Bool
+  is_passed a = nat_lt 0 (passes_of (taken a))
+
+  -- the word of which the row of a line tells: the first of its words that the walk passes; if it passes none,
+  -- the first at which a place is; and if no place is on the line, the first
+  abbrev pub told_at : PlacedLine → ℕ
+  told_at line =
+      unwrap_or (find is_passed (words_of line))
+      (unwrap_or (find (λ a. is_some (taken a)) (words_of line)) line.at)
+
   -- the ticks at the words
   abbrev pub ticks_in : (from count : ℕ) → ℕ
   ticks_in from count = capped (sum_by (λ a. ticks_of (taken a)) (addresses_from from count))
 
-  -- the passes of the first word and the ticks of each, and the ticks of all words; None where no place is on
-  -- the line
+  -- the passes of the word that is told of and the ticks of each, and the ticks of all words; None where no
+  -- place is on the line
   abbrev pub line_taken : PlacedLine → Option Taken
   line_taken line =
       if is_any_reached line.at line.words
       then Some (record {
-        passes = passes_of (taken line.at);
+        passes = passes_of (taken (told_at line));
         ticks = ticks_in line.at line.words;
-        costs = costs_of (taken line.at);
+        costs = costs_of (taken (told_at line));
       }) else None
 
   -- the ticks of all lines
@@ -120,11 +131,13 @@ table_end total bound = total_row total bound ++ bound_line bound
 
 -- what is taken at each address, when the word there begins at the latest, and its price; and the bound
 module _ (taken : ℕ → Option Taken) (latest : ℕ → Option ℕ) (priced : ℕ → Option Pricing) (bound : ℕ) where
-  -- the row of a line, if it has words; the latest start and the price are those of its first word
+  -- with the latest start and the price of the word that is told of
+  abbrev pub told_row : (at : ℕ) → ℕ → List ℕ → PlacedLine → List ℕ
+  told_row at n text p = line_row bound (line_taken taken p) (latest at) (priced at) n text
+
+  -- the row of a line, if it has words
   abbrev pub line_rows : ℕ → List ℕ → PlacedLine → List ℕ
-  line_rows n text p =
-      if p.words == 0 then []
-      else line_row bound (line_taken taken p) (latest p.at) (priced p.at) n text
+  line_rows n text p = if p.words == 0 then [] else told_row (told_at taken p) n text p
 
   -- those of all lines, with numbers from one on
   abbrev pub source_rows : ℕ → List (List ℕ) → List PlacedLine → List ℕ

@@ -1,18 +1,24 @@
-ghost use Rattle.std.specs.Prelude.{◌≡◌, ◌↔◌, IfOk, IsTrue, OnOk};
+ghost use Rattle.std.specs.Prelude.{◌≡◌, ◌↔◌, ◌⊎◌, ℕ, true, IfOk, IsTrue, OnOk};
 ghost use Rattle.std.specs.BTreeSet.{contains};
 ghost use Rattle.std.specs.List.Sorted.{IsStrictlySortedBy};
 ghost use Rattle.std.specs.Ordering.{nat_cmp};
 ghost use Rattle.bus_ticks.specs.declared.profile.Class.{Class};
-ghost use Rattle.explained.specs.Assumed.{AreAssumed, Assumes, IsLooseTransfer, IsTakenForReturn, Notes};
-ghost use Rattle.explained.specs.Assumed.{may_write_oddly};
+ghost use Rattle.explained.specs.Assumed.{AreAssumed, Assumes, IsLeftWithFlags, IsLooseTransfer};
+ghost use Rattle.explained.specs.Assumed.{IsTakenForReturn, Notes, is_interrupt_vector};
+ghost use Rattle.explained.specs.Leaving.{is_left_on};
+ghost use Rattle.explained.specs.declared.leaving.EdgeKind.TheVariants.{LeadsOut};
 
-use arm2_decode::Instr;
-use bus_ticks::Class;
-use flow_graph::{Graph, Place, Statement};
+use crate::leaving::{EdgeKind, addresses_left};
+use crate::sections::StatedGraph;
+use bus_ticks::{Class, FIQ_VECTOR};
+use flow_graph::{Place, Statement};
 use loader::Image;
 use std::alloc::{AllocError, Global};
 use std::collections::BTreeSet;
-use word_shapes::{instr_at, is_odd_writer, is_transfer_at};
+use word_shapes::{leaves_flags_at, may_transfer_at, may_write_oddly_at};
+
+// Where the processor goes on when it takes IRQ.
+const IRQ_VECTOR: u32 = 0x18;
 
 /// What a bound takes for granted of a word that its handler reaches.
 #[derive(Clone, Copy)]
@@ -22,6 +28,8 @@ pub(crate) enum Assumption {
     /// That a word that may write R15 returns, although it does not look like that, since no target is
     /// stated.
     TakenForReturn,
+    /// That a word leaves the handler of IRQ or FIQ, although it does not restore the flags.
+    LeavesFlags,
 }
 
 fn is_any(class: Class) -> bool
@@ -33,52 +41,78 @@ fn is_any(class: Class) -> bool
 fn is_loose_transfer(image: &Image, statement: &Statement, at: u32) -> bool
     ensures { IsTrue result ↔ IsLooseTransfer image.now statement.now at }
 {
-    is_transfer_at(image, at) && is_any(statement.class_at(at))
-}
-
-fn may_write_oddly(instr: &Instr) -> bool
-    ensures { result ≡ may_write_oddly instr.now }
-{
-    !instr.cond.is_never() && is_odd_writer(&instr.operation)
+    may_transfer_at(image, at) && is_any(statement.class_at(at))
 }
 
 fn is_taken_for_return(image: &Image, statement: &Statement, at: u32) -> bool
     ensures { IsTrue result ↔ IsTakenForReturn image.now statement.now at }
 {
-    match instr_at(image, at) {
-        Some(instr) => may_write_oddly(&instr) && statement.target_at(at).is_none(),
-        None => false,
-    }
+    may_write_oddly_at(image, at) && statement.target_at(at).is_none()
 }
 
-// Whether that is assumed of the word at the address.
-fn is_assumed(image: &Image, statement: &Statement, what: Assumption, at: u32) -> bool
-    ensures { IsTrue result ↔ Assumes image.now statement.now what at }
+fn is_interrupt_vector(address: u32) -> bool
+    ensures { result ≡ is_interrupt_vector address }
+{
+    address == IRQ_VECTOR || address == FIQ_VECTOR
+}
+
+// Whether a word leaves a handler of IRQ or FIQ, by the addresses that are left, and restores no flags.
+fn is_left_with_flags(handler: StatedGraph<'_>, left: &BTreeSet<u32>, at: u32) -> bool
+    requires { (a : ℕ) → contains nat_cmp left.now a ≡ is_left_on LeadsOut handler.graph.now.edges a }
+    ensures { IsTrue result
+        ↔ IsLeftWithFlags handler.entry.image.now handler.entry.statement.now handler.entry.graph.now at }
+{
+    if !is_interrupt_vector(handler.statement.entry()) {
+        return false;
+    }
+    if !left.contains(&at) {
+        return false;
+    }
+    leaves_flags_at(handler.image, at)
+}
+
+// Whether that is assumed of the word at the address, by the addresses that are left.
+fn is_assumed(handler: StatedGraph<'_>, left: &BTreeSet<u32>, what: Assumption, at: u32) -> bool
+    requires { (a : ℕ) → contains nat_cmp left.now a ≡ is_left_on LeadsOut handler.graph.now.edges a }
+    ensures { IsTrue result
+        ↔ Assumes handler.entry.image.now handler.entry.statement.now handler.entry.graph.now what at }
 {
     match what {
-        Assumption::LooseTransfer => is_loose_transfer(image, statement, at),
-        Assumption::TakenForReturn => is_taken_for_return(image, statement, at),
+        Assumption::LooseTransfer => is_loose_transfer(handler.image, handler.statement, at),
+        Assumption::TakenForReturn => is_taken_for_return(handler.image, handler.statement, at),
+        Assumption::LeavesFlags => is_left_with_flags(handler, left, at),
     }
 }
 
-// Adds the address of the place, if that is assumed of the word there.
+// Adds the address of the place, if that is assumed of the word there, by the addresses that are left.
 fn note(
     named: &mut BTreeSet<u32>,
     place: &Place,
-    image: &Image,
-    statement: &Statement,
+    handler: StatedGraph<'_>,
+    left: &BTreeSet<u32>,
     what: Assumption,
 ) -> Result<(), AllocError>
+    requires { (a : ℕ) → contains nat_cmp left.now a ≡ is_left_on LeadsOut handler.graph.now.edges a }
     ensures { OnOk result
-        (Notes (Assumes image.now statement.now what) place.now (contains nat_cmp named.old)
-        (contains nat_cmp named.new)) }
+        (Notes (Assumes handler.entry.image.now handler.entry.statement.now handler.entry.graph.now what)
+        place.now (contains nat_cmp named.old) (contains nat_cmp named.new)) }
 {
     let Place::At(_, address) = place else {
         return Ok(());
     };
-    if is_assumed(image, statement, what, *address) {
+    if is_assumed(handler, left, what, *address) {
         named.insert(*address)?;
     }
+    Ok(())
+}
+
+/// Adds an address. `AllocError`: an allocation failed.
+pub(crate) fn add(named: &mut BTreeSet<u32>, at: u32) -> Result<(), AllocError>
+    ensures { OnOk result
+        ((a : ℕ) → (contains nat_cmp named.new a ≡ true)
+        ↔ ((contains nat_cmp named.old a ≡ true) ⊎ (at ≡ a))) }
+{
+    named.insert(at)?;
     Ok(())
 }
 
@@ -97,17 +131,17 @@ pub(crate) fn sorted(alloc: Global, named: &BTreeSet<u32>) -> Result<Vec<u32>, A
 /// An allocation failed.
 pub(crate) fn assumed(
     alloc: Global,
-    image: &Image,
-    statement: &Statement,
-    graph: &Graph,
+    handler: StatedGraph<'_>,
     what: Assumption,
 ) -> Result<Vec<u32>, AllocError>
     ensures { IfOk result
-        (λ named. AreAssumed image.now statement.now graph.now what named.items) }
+        (λ named. AreAssumed handler.entry.image.now handler.entry.statement.now handler.entry.graph.now what
+        named.items) }
 {
+    let left = addresses_left(alloc, handler.graph, EdgeKind::LeadsOut)?;
     let mut named = BTreeSet::new(alloc);
-    for place in graph.places() {
-        note(&mut named, place, image, statement, what)?;
+    for place in handler.graph.places() {
+        note(&mut named, place, handler, &left, what)?;
     }
     sorted(alloc, &named)
 }

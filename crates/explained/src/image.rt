@@ -70,8 +70,8 @@ fn image_ticks(tally: &Tally, words: &[(u32, u32)]) -> u64
 /// passes it, the ticks of a pass (from the least to the greatest, where they differ), all ticks there, what
 /// part of the bound those are, the tick by which it begins at the latest (the greatest of the starts of the
 /// places there), what its price takes for granted, the address, and the line that [`disassemble`] shows;
-/// then the ticks of all rows, and the bound in ticks and in microseconds. A row ends at column 80, and a
-/// longer line is cut there.
+/// then the ticks of all rows, and the bound in ticks and in microseconds. A line is cut where it would go
+/// past column 80; columns grow with their numbers.
 ///
 /// Where the graph has no place at a word, the row says so in place of the numbers.
 ///

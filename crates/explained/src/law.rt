@@ -19,7 +19,8 @@ ghost use Rattle.longest_walk.specs.declared.folded.Item.{Item};
 ghost use Rattle.explained.specs.Bursts.{AreFewest, IsBurstTime, with_bursts};
 ghost use Rattle.longest_walk.specs.Starts.{AreWorstStarts};
 ghost use Rattle.explained.specs.Starts.{IsLatestStart, latest_at};
-ghost use Rattle.explained.specs.Table.{image_ticks, line_taken, source_ticks, words_of};
+ghost use Rattle.explained.specs.Table.{image_ticks, line_taken, passes_of, source_ticks};
+ghost use Rattle.explained.specs.Table.{ticks_in, told_at, words_of};
 ghost use Rattle.explained.specs.Taken.{AreCostsAt, AreOnWords, AreListedOnce, cost_at, is_reached, pass_at};
 ghost use Rattle.explained.specs.Taken.{taken_at};
 ghost use Rattle.explained.specs.declared.tally.Costs.{Costs};
@@ -81,6 +82,14 @@ pub fn places_are_listed_once()
 pub fn latest_starts_are_of_walks()
     ensures { (flow : Flow) (tree : Tree) (starts : List ℕ) (a : ℕ) → IsWellFormed flow
         → AreWorstStarts flow tree starts → IsLatestStart flow tree a (latest_at flow.places starts a) }
+{}
+
+/// States that a line's row has no ticks without passes: where the walk takes ticks at the words of a line, it
+/// passes the word of which the row tells. It does nothing.
+pub fn rows_with_ticks_have_passes()
+    ensures { (flow : Flow) (walk : List Edge) (line : PlacedLine)
+        → 0 < ticks_in (taken_at flow walk) line.at line.words
+        → 0 < passes_of (taken_at flow walk (told_at (taken_at flow walk) line)) }
 {}
 
 /// States which lines a table says nothing can ever reach: those at whose words the graph has no place. It

@@ -5,6 +5,7 @@
 mod assumptions;
 mod bursts;
 mod columns;
+mod done_returns;
 mod idle;
 mod image;
 mod law;
@@ -19,13 +20,15 @@ mod starts;
 mod tally;
 
 pub use bursts::{Bursts, burst_lines};
+pub use done_returns::{image_done_returns, source_done_returns};
 pub use idle::idle_entries;
 pub use image::image_table;
 pub use law::{
     burst_time_is_the_least, latest_starts_are_of_walks, numbers_are_of_the_walk,
-    places_are_listed_once, totals_are_the_bound, unreached_lines_have_no_place,
+    places_are_listed_once, rows_with_ticks_have_passes, totals_are_the_bound,
+    unreached_lines_have_no_place,
 };
-pub use links::lost_links;
+pub use links::{Overwrite, lost_links};
 pub use sections::{StatedGraph, image_assumptions, source_assumptions};
 pub use source::source_table;
 pub use starts::TimedWalk;

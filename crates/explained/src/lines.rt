@@ -1,11 +1,14 @@
-ghost use Rattle.std.specs.Prelude.{◌≡◌, ◌+◌, ◌*◌, ◌≤◌, ◌++◌, IfOk, OnOk, codes, string_bytes};
+ghost use Rattle.std.specs.Prelude.{◌≡◌, ◌+◌, ◌*◌, ◌≤◌, ◌++◌, IfOk, OnOk, codes, find, is_some};
+ghost use Rattle.std.specs.Prelude.{string_bytes};
 ghost use Rattle.std.specs.BTreeMap.{get};
 ghost use Rattle.std.specs.Ordering.{nat_cmp};
+ghost use Rattle.assembler.specs.Assembles.{addresses_from};
 ghost use Rattle.bus_ticks.specs.declared.space.TheConstants.{SPACE_END};
 ghost use Rattle.text_rows.specs.Columns.{in_columns};
 ghost use Rattle.explained.specs.Costing.{IsCosting};
 ghost use Rattle.explained.specs.Table.{columns_text, costs_of, each_text, is_any_reached, latest_text};
-ghost use Rattle.explained.specs.Table.{line_taken, passes_of, taken_text, ticks_in, ticks_of};
+ghost use Rattle.explained.specs.Table.{is_passed, line_taken, passes_of, taken_text, ticks_in, ticks_of};
+ghost use Rattle.explained.specs.Table.{told_at};
 
 use crate::columns::put_ticks;
 use crate::pricing::{Pricing, priced, put_pricing};
@@ -80,21 +83,6 @@ impl Costing {
     }
 }
 
-// Whether the graph has a place at one of so many words from an address on.
-fn is_any_reached(tally: &Tally, from: u32, count: usize) -> bool
-    requires { from + 4 * count ≤ SPACE_END }
-    ensures { result ≡ is_any_reached (get nat_cmp tally.now.by_address) from count }
-{
-    let mut at = from;
-    for _ in 0..count {
-        if tally.at(at).is_some() {
-            return true;
-        }
-        at += 4;
-    }
-    false
-}
-
 /// The ticks that the walk takes at an address.
 pub(crate) fn ticks_of(tally: &Tally, at: u32) -> u64
     ensures { result ≡ ticks_of (get nat_cmp tally.now.by_address at) }
@@ -137,18 +125,76 @@ pub(crate) fn ticks_in(tally: &Tally, from: u32, count: usize) -> u64
     ticks
 }
 
-/// What the walk takes on a line: it passes the line as often as its first word. None where the graph has no
-/// place on the line.
+// Whether the walk passes an address.
+fn is_passed(tally: &Tally, at: u32) -> bool
+    ensures { result ≡ is_passed (get nat_cmp tally.now.by_address) at }
+{
+    passes_of(tally, at) > 0
+}
+
+// The first of so many words from an address on that the walk passes.
+fn first_passed(tally: &Tally, from: u32, count: usize) -> Option<u32>
+    requires { from + 4 * count ≤ SPACE_END }
+    ensures { result ≡ find (is_passed (get nat_cmp tally.now.by_address)) (addresses_from from count) }
+{
+    let mut at = from;
+    for _ in 0..count {
+        if is_passed(tally, at) {
+            return Some(at);
+        }
+        at += 4;
+    }
+    None
+}
+
+// The first of so many words from an address on at which the graph has a place.
+fn first_reached(tally: &Tally, from: u32, count: usize) -> Option<u32>
+    requires { from + 4 * count ≤ SPACE_END }
+    ensures { result
+        ≡ find (λ a. is_some (get nat_cmp tally.now.by_address a)) (addresses_from from count) }
+{
+    let mut at = from;
+    for _ in 0..count {
+        if tally.at(at).is_some() {
+            return Some(at);
+        }
+        at += 4;
+    }
+    None
+}
+
+// Whether the graph has a place at one of so many words from an address on.
+fn is_any_reached(tally: &Tally, from: u32, count: usize) -> bool
+    requires { from + 4 * count ≤ SPACE_END }
+    ensures { result ≡ is_any_reached (get nat_cmp tally.now.by_address) from count }
+{
+    first_reached(tally, from, count).is_some()
+}
+
+/// The address of the word of which a line's row tells: the first of its words that the walk passes; if it
+/// passes none, the first at which the graph has a place; and if it has none there, the first.
+pub(crate) fn told_at(tally: &Tally, line: PlacedLine) -> u32
+    ensures { result ≡ told_at (get nat_cmp tally.now.by_address) line }
+{
+    if let Some(passed) = first_passed(tally, line.at, line.words) {
+        return passed;
+    }
+    first_reached(tally, line.at, line.words).unwrap_or(line.at)
+}
+
+/// What the walk takes on a line: it passes the line as often as the word that is told of. None where the
+/// graph has no place on the line.
 pub(crate) fn line_taken(tally: &Tally, line: PlacedLine) -> Option<Taken>
     ensures { result ≡ line_taken (get nat_cmp tally.now.by_address) line }
 {
     if !is_any_reached(tally, line.at, line.words) {
         return None;
     }
+    let told = told_at(tally, line);
     Some(Taken {
-        passes: passes_of(tally, line.at),
+        passes: passes_of(tally, told),
         ticks: ticks_in(tally, line.at, line.words),
-        costs: costs_of(tally, line.at),
+        costs: costs_of(tally, told),
     })
 }
 

@@ -9,7 +9,7 @@ ghost use Rattle.explained.specs.Links.{AreLostLinks};
 ghost use Rattle.text_rows.specs.Rows.{AreRows, section};
 
 use crate::assumptions::{Assumption, assumed};
-use crate::links::lost_links;
+use crate::links::{Overwrite, lost_links};
 use crate::named_words::{named_lines, named_words};
 use assembler::PlacedLine;
 use flow_graph::{Graph, Statement};
@@ -20,7 +20,13 @@ use text_rows::{put, section};
 const RETURNS: &[u8] =
     b"\nWARNING: these count as returns but do not look like returns (see [[target]]):\n";
 
-const LOST: &[u8] = b"\nWARNING: these return by R14 after a call has overwritten it:\n";
+const FLAGS: &[u8] =
+    b"\nWARNING: these leave the handler of an interrupt and restore no flags (no S, no ^):\n";
+
+const CALLED: &[u8] = b"\nWARNING: these return by R14 after a call has overwritten it:\n";
+
+const ADDRESSED: &[u8] =
+    b"\nWARNING: these return by R14 after an address of the source was put into it:\n";
 
 const TRANSFERS: &[u8] = b"\nLoads and stores that may be anywhere (see [[access]]):\n";
 
@@ -32,24 +38,36 @@ pub struct StatedGraph<'a> {
     pub graph: &'a Graph,
 }
 
-// A source, and where its lines are.
+/// A source, and where its lines are.
 #[derive(Clone, Copy)]
-struct PlacedSource<'a> {
-    source: &'a [u8],
-    placed: &'a [PlacedLine],
+pub(crate) struct PlacedSource<'a> {
+    pub(crate) source: &'a [u8],
+    pub(crate) placed: &'a [PlacedLine],
 }
 
-// The text above the rows of words of which that is assumed.
-fn heading_of(what: Assumption) -> &'static [u8]
+/// The text above the rows of words of which that is assumed.
+pub(crate) fn heading_of(what: Assumption) -> &'static [u8]
     ensures { result.now ≡ heading_of what }
 {
     match what {
         Assumption::TakenForReturn => RETURNS,
+        Assumption::LeavesFlags => FLAGS,
         Assumption::LooseTransfer => TRANSFERS,
     }
 }
 
-fn source_section(
+/// The text above the rows of words that return by an R14 that was overwritten so.
+pub(crate) fn lost_heading(by: Overwrite) -> &'static [u8]
+    ensures { result.now ≡ lost_heading by }
+{
+    match by {
+        Overwrite::ByCall => CALLED,
+        Overwrite::ByAddress => ADDRESSED,
+    }
+}
+
+/// The rows of the named words by the lines of a source, under a heading. `AllocError`: an allocation failed.
+pub(crate) fn source_section(
     alloc: Global,
     heading: &[u8],
     lines: PlacedSource<'_>,
@@ -65,7 +83,8 @@ fn source_section(
     section(alloc, heading, &rows)
 }
 
-fn image_section(
+/// The rows of the named words of an image, under a heading. `AllocError`: an allocation failed.
+pub(crate) fn image_section(
     alloc: Global,
     heading: &[u8],
     image: &Image,
@@ -93,23 +112,25 @@ fn source_assumed(
         (heading_of what) (AreAssumed handler.entry.image.now handler.entry.statement.now
         handler.entry.graph.now what) text.items) }
 {
-    let named = assumed(alloc, handler.image, handler.statement, handler.graph, what)?;
+    let named = assumed(alloc, handler, what)?;
     source_section(alloc, heading_of(what), lines, &named)
 }
 
-// The section of the words that return by a lost R14, by the lines of a source.
+// The section of the words that return by an R14 that was overwritten so, by the lines of a source.
 fn source_lost(
     alloc: Global,
     handler: StatedGraph<'_>,
     lines: PlacedSource<'_>,
+    by: Overwrite,
 ) -> Result<Vec<u8>, AllocError>
     ensures { IfOk result
         (λ text. IsSection
         (λ named rows. rows ≡ named_rows named 1 (lines_of lines.entry.source.now) lines.entry.placed.now)
-        lost_heading (AreLostLinks handler.entry.image.now handler.entry.graph.now) text.items) }
+        (lost_heading by) (AreLostLinks handler.entry.image.now handler.entry.graph.now by
+        handler.entry.statement.now) text.items) }
 {
-    let named = lost_links(alloc, handler.image, handler.graph)?;
-    source_section(alloc, LOST, lines, &named)
+    let named = lost_links(alloc, handler, by)?;
+    source_section(alloc, lost_heading(by), lines, &named)
 }
 
 // The section of the words of which that is assumed, by the words of an image.
@@ -123,24 +144,25 @@ fn image_assumed(
         (heading_of what) (AreAssumed handler.entry.image.now handler.entry.statement.now
         handler.entry.graph.now what) text.items) }
 {
-    let named = assumed(alloc, handler.image, handler.statement, handler.graph, what)?;
+    let named = assumed(alloc, handler, what)?;
     image_section(alloc, heading_of(what), handler.image, &named)
 }
 
-// The section of the words that return by a lost R14, by the words of an image.
-fn image_lost(alloc: Global, handler: StatedGraph<'_>) -> Result<Vec<u8>, AllocError>
+// The section of the words that return by an R14 that was overwritten so, by the words of an image.
+fn image_lost(alloc: Global, handler: StatedGraph<'_>, by: Overwrite) -> Result<Vec<u8>, AllocError>
     ensures { IfOk result
         (λ text. IsSection (λ named. AreRows (IsNamedRow named) handler.entry.image.now)
-        lost_heading (AreLostLinks handler.entry.image.now handler.entry.graph.now) text.items) }
+        (lost_heading by) (AreLostLinks handler.entry.image.now handler.entry.graph.now by
+        handler.entry.statement.now) text.items) }
 {
-    let named = lost_links(alloc, handler.image, handler.graph)?;
-    image_section(alloc, LOST, handler.image, &named)
+    let named = lost_links(alloc, handler, by)?;
+    image_section(alloc, lost_heading(by), handler.image, &named)
 }
 
 /// What a bound takes for granted of the words that its handler reaches, by the lines of its source: those
-/// that count as returns but do not look like returns, those that return by R14 after a call has overwritten
-/// it, and then the loads and stores of which no class is stated. Neither has any text where there are
-/// none.
+/// that count as returns but do not look like returns, those that leave the handler of an interrupt and
+/// restore no flags, those that return by R14 after a call, or an address of the source, has overwritten it,
+/// and then the loads and stores of which no class is stated. None has any text where there are none.
 ///
 /// `placed` says where the lines are, in their order.
 ///
@@ -159,16 +181,21 @@ pub fn source_assumptions(
 {
     let lines = PlacedSource { source, placed };
     let mut text = source_assumed(alloc, handler, lines, Assumption::TakenForReturn)?;
-    let lost = source_lost(alloc, handler, lines)?;
-    put(&mut text, &lost)?;
+    let flags = source_assumed(alloc, handler, lines, Assumption::LeavesFlags)?;
+    put(&mut text, &flags)?;
+    let called = source_lost(alloc, handler, lines, Overwrite::ByCall)?;
+    put(&mut text, &called)?;
+    let addressed = source_lost(alloc, handler, lines, Overwrite::ByAddress)?;
+    put(&mut text, &addressed)?;
     let transfers = source_assumed(alloc, handler, lines, Assumption::LooseTransfer)?;
     put(&mut text, &transfers)?;
     Ok(text)
 }
 
 /// What a bound takes for granted of the words that its handler reaches, by an image's words: those that
-/// count as returns but do not look like returns, those that return by R14 after a call has overwritten it,
-/// and then the loads and stores of which no class is stated. Neither has any text where there are none.
+/// count as returns but do not look like returns, those that leave the handler of an interrupt and restore no
+/// flags, those that return by R14 after a call, or an address of the source, has overwritten it, and then
+/// the loads and stores of which no class is stated. None has any text where there are none.
 ///
 /// # Errors
 ///
@@ -179,8 +206,12 @@ pub fn image_assumptions(alloc: Global, handler: StatedGraph<'_>) -> Result<Vec<
         handler.entry.graph.now text.items) }
 {
     let mut text = image_assumed(alloc, handler, Assumption::TakenForReturn)?;
-    let lost = image_lost(alloc, handler)?;
-    put(&mut text, &lost)?;
+    let flags = image_assumed(alloc, handler, Assumption::LeavesFlags)?;
+    put(&mut text, &flags)?;
+    let called = image_lost(alloc, handler, Overwrite::ByCall)?;
+    put(&mut text, &called)?;
+    let addressed = image_lost(alloc, handler, Overwrite::ByAddress)?;
+    put(&mut text, &addressed)?;
     let transfers = image_assumed(alloc, handler, Assumption::LooseTransfer)?;
     put(&mut text, &transfers)?;
     Ok(text)

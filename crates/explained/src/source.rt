@@ -6,7 +6,7 @@ ghost use Rattle.explained.specs.Starts.{latest_at};
 ghost use Rattle.explained.specs.Table.{IsSourceTable, line_row, line_rows, source_ticks};
 
 use crate::columns::{HEADING, put_end};
-use crate::lines::{Columns, Costing, line_taken, put_columns, ticks_in};
+use crate::lines::{Columns, Costing, line_taken, put_columns, ticks_in, told_at};
 use crate::sections::StatedGraph;
 use crate::starts::TimedWalk;
 use crate::tally::Tally;
@@ -47,7 +47,10 @@ impl LineRows for Costing {
         }
         put_line(
             out,
-            self.columns(line_taken(&self.tally, placed), placed.at),
+            self.columns(
+                line_taken(&self.tally, placed),
+                told_at(&self.tally, placed),
+            ),
             line,
         )
     }
@@ -65,13 +68,14 @@ fn source_ticks(tally: &Tally, placed: &[PlacedLine]) -> u64
 }
 
 /// Where the ticks of a greatest walk go: a row for each line of the source that has words, with how often
-/// the walk passes the line's first word, the ticks of such a pass (from the least to the greatest, where
-/// they differ), the ticks at its words, what part of the bound those are, the tick by which its first word
-/// begins at the latest, what the price of that word takes for granted, the number of the line and its text;
-/// then the ticks of all rows, and the bound in ticks and in microseconds.
+/// the walk passes the line's word, the ticks of such a pass (from the least to the greatest, where they
+/// differ), the ticks at its words, what part of the bound those are, the tick by which its word begins at
+/// the latest, what the price of that word takes for granted, the number of the line and its text; then the
+/// ticks of all rows, and the bound in ticks and in microseconds. Of a line of several words that word is the
+/// first that the walk passes, or, where it passes none, the first at which the graph has a place.
 ///
-/// A row ends at column 80, and a longer text is cut there: the source has all of it. A byte counts as a
-/// column.
+/// A text is cut where it would go past column 80: the source has all of it. A byte counts as a column, and
+/// columns grow with their numbers.
 ///
 /// The latest tick is the greatest of the starts of the places at the word's address, counted from the
 /// handler's beginning.

@@ -14,9 +14,9 @@ use Rattle.loader.specs.Image.{Words}
 use Rattle.walks.specs.Walk.{Leads}
 use Rattle.flow_graph.specs.Edges.{AreEdgesOf, HasAction, IsEdge}
 use Rattle.flow_graph.specs.Flow.{edge_shape}
-use Rattle.flow_graph.specs.Graph.{ArePlaces, IsBuildFault, IsCrowd, IsFlowGraph, IsReached, IsStray, MayDo, is_call, makes_call, start_of, states_call}
+use Rattle.flow_graph.specs.Graph.{ArePlaces, IsBuildFault, IsCrowd, IsFlowGraph, IsReached, IsStray, IsUnstated, MayDo, is_call, makes_call, start_of, states_call}
 use Rattle.flow_graph.specs.Places.{place_cmp}
-use Rattle.flow_graph.specs.Search.{AddsEdges, AreInTurn, EndsOne, Grows, IsAllowed, IsCrowded, IsCrowdedBy, IsDone, IsEdgeFault, IsFound, IsIn, IsPlaceFault, IsSearch, IsSound, IsTurnFault, IsVisited, IsVisitFault, places_in, action_fault, call_fault, kind_fault, stated_fault, writer_fault}
+use Rattle.flow_graph.specs.Search.{AddsEdges, AreInTurn, EndsOne, Grows, IsAllowed, IsCrowded, IsCrowdedBy, IsDone, IsEdgeFault, IsFound, IsIn, IsPlaceFault, IsSearch, IsSound, IsTurnFault, IsVisited, IsVisitFault, places_in, action_fault, call_fault, kind_fault, stated_fault, unstated_fault, writer_fault}
 use Rattle.statement.specs.Stated.{Stated, Target, target_of}
 use Rattle.flow_graph.specs.declared.edges.Edge.{Edge}
 use Rattle.flow_graph.specs.declared.faults.BuildFault.{BuildFault}
@@ -26,6 +26,8 @@ use Rattle.flow_graph.specs.declared.actions.Kind.{Kind}
 use Rattle.flow_graph.specs.declared.actions.Kind.TheVariants.{Plain, Branch, Call, Writer, Trap, Unallocated}
 use Rattle.flow_graph.specs.declared.places.Place.{Place}
 use Rattle.flow_graph.specs.declared.places.Place.TheVariants.{At, Exit}
+use Rattle.statement.specs.declared.stated.Returns.{Returns}
+use Rattle.statement.specs.declared.stated.Returns.TheVariants as returns
 use Rattle.statement.specs.declared.stated.TargetKind.{TargetKind}
 use Rattle.statement.specs.declared.stated.TargetKind.TheVariants as stated
 use Rattle.flow_graph.proofs.EdgeLemmas.{among_edges, is_edge, leaves, no_edge_at_exit, one_action_at}
@@ -120,9 +122,11 @@ module _ (words : Words) (st : Stated) (profile : Profile) where
   stated_calls calls stated.Return f h = cc
   stated_calls calls stated.Leave f h = cc
 
-  writer_calls : (calls : List ℕ) (t : Option Target) (f : BuildFault) → writer_fault calls t ≡ Some f → (call_fault calls ≡ Some f) × (states_call t ≡ true)
-  writer_calls calls None f h = cc
-  writer_calls calls (Some t) f h = stated_calls calls t.kind f h
+  -- a writer of R15 that is refused has no stated target, though it must, or a target that calls
+  writer_refused : (asked : Returns) (calls : List ℕ) (address : ℕ) (t : Option Target) (f : BuildFault) → writer_fault asked calls address t ≡ Some f → ((asked ≡ returns.Stated) × (t ≡ None) × (fault.UnstatedTarget address ≡ f)) ⊎ ((call_fault calls ≡ Some f) × (states_call t ≡ true))
+  writer_refused returns.Assumed calls address None f h = cc
+  writer_refused returns.Stated calls address None f h = inl (refl, refl, cc)
+  writer_refused asked calls address (Some t) f h = inr (stated_calls calls t.kind f h)
 
   too_deep : (calls : List ℕ) (address : ℕ) (f : BuildFault) → IsReached words st profile (At calls address) → (a : Action) → HasAction words address a → is_never a.cond ≡ false → makes_call a.kind (target_of st address) ≡ true → call_fault calls ≡ Some f → IsBuildFault words st profile f
   too_deep calls address f r a has may call h =
@@ -145,8 +149,10 @@ module _ (words : Words) (st : Stated) (profile : Profile) where
   action_refused calls address f (Call offset) false r a has is never h =
       too_deep calls address f r a has never (subst (λ x. makes_call x (target_of st address) ≡ true) (sym is) refl) h
   action_refused calls address f Writer false r a has is never h =
-      let w = writer_calls calls (target_of st address) f h in
-      too_deep calls address f r a has never (subst (λ x. makes_call x (target_of st address) ≡ true) (sym is) w.1) w.0
+      ⊎_elim
+      (λ u. subst (IsBuildFault words st profile) u.2 ((calls, r), record { asked = u.0; writer = (a, has, is, never); none = u.1 }))
+      (λ w. too_deep calls address f r a has never (subst (λ x. makes_call x (target_of st address) ≡ true) (sym is) w.1) w.0)
+      (writer_refused st.returns calls address (target_of st address) f h)
   action_refused calls address f Trap false r a has is never h =
       let e : fault.TrapInHandler address ≡ f = cc in
       subst (IsBuildFault words st profile) e ((calls, r), (a, has, is, never))
@@ -258,17 +264,21 @@ module _ (words : Words) (st : Stated) (profile : Profile) where
   stated_deep calls stated.Return call full = cc
   stated_deep calls stated.Leave call full = cc
 
-  writer_deep : (calls : List ℕ) (t : Option Target) → states_call t ≡ true → 8 ≤ length calls → writer_fault calls t ≡ Some fault.TooDeep
-  writer_deep calls None call full = cc
-  writer_deep calls (Some t) call full = stated_deep calls t.kind call full
+  writer_deep : (asked : Returns) (calls : List ℕ) (address : ℕ) (t : Option Target) → states_call t ≡ true → 8 ≤ length calls → writer_fault asked calls address t ≡ Some fault.TooDeep
+  writer_deep asked calls address None call full = cc
+  writer_deep asked calls address (Some t) call full = stated_deep calls t.kind call full
 
   kind_deep : (calls : List ℕ) (address : ℕ) (k : Kind) → makes_call k (target_of st address) ≡ true → 8 ≤ length calls → kind_fault st calls address k ≡ Some fault.TooDeep
   kind_deep calls address Plain call full = cc
   kind_deep calls address (Branch offset) call full = cc
   kind_deep calls address (Call offset) call full = deep_fault calls full
-  kind_deep calls address Writer call full = writer_deep calls (target_of st address) call full
+  kind_deep calls address Writer call full = writer_deep st.returns calls address (target_of st address) call full
   kind_deep calls address Trap call full = cc
   kind_deep calls address Unallocated call full = cc
+
+  unstated_refused : (calls : List ℕ) (address : ℕ) → IsUnstated words st profile address → kind_fault st calls address Writer ≡ Some (fault.UnstatedTarget address)
+  unstated_refused calls address h =
+      ap (writer_fault st.returns calls address) h.none ∙ ap (λ asked. unstated_fault asked address) h.asked
 
   pub none_refused : (places : List Place) → IsStrictlySortedBy place_cmp places → ArePlaces words st profile places → IsAllowed words st profile places → ((address : ℕ) → IsStray words st address → ⊥) → (f : BuildFault) → (f ≡ fault.Memory → ⊥) → IsBuildFault words st profile f → ⊥
   none_refused places ordered are allowed strays fault.Memory other h = other refl
@@ -287,6 +297,8 @@ module _ (words : Words) (st : Stated) (profile : Profile) where
       (λ p w. (are p).1 (h.reached p w, λ e. h.no_exit (subst (Contains h.places) e w))) in
       absurd (omega (arith, h.many, allowed.few))
   none_refused places ordered are allowed strays (fault.TargetNotWriter address) other h = strays address h
+  none_refused places ordered are allowed strays (fault.UnstatedTarget address) other h =
+      at_allowed places (h.0).0 address Writer (fault.UnstatedTarget address) are allowed (unstated_refused (h.0).0 address h.1) (h.0).1 h.1.writer
 
   pub turn_refused : (seen places : List Place) (f : BuildFault) → places ≡ seen → ArePlaces words st profile seen → IsTurnFault words st places f → IsBuildFault words st profile f
   turn_refused seen places f same are h =

@@ -81,7 +81,8 @@ module _ (words : Words) (st : Stated) (profile : Profile) (flow : Flow) (g : Is
   reached_in : (p : Place) → IsReached words st profile p → (p ≡ Exit) ⊎ Contains flow.places p
   reached_in p r = ⊎_elim (λ e. inl e) (λ other. inr ((g.exact p).1 (r, other))) (exit_or p)
 
-  ends_in : (e : Edge) → HasEdge flow e → (e.to ≡ Exit) ⊎ Contains flow.places e.to
+  -- an edge of the graph ends at Exit or at a place of the graph
+  pub ends_in : (e : Edge) → HasEdge flow e → (e.to ≡ Exit) ⊎ Contains flow.places e.to
   ends_in e h = reached_in e.to (reached_push words st profile e.from e ((g.exact e.from).0 (starts_in e h)).0 (has_edge_is_edge e h) refl)
 
   first_is : (v d : ℕ) → v ≤ length flow.places → get_or flow.firsts v d ≡ before g.parts v

@@ -33,3 +33,8 @@ mod SettingSets
 mod TightSetUp
 mod TightPages
 mod TightMade
+mod TightChoice
+mod TightHeld
+mod TightPlan
+mod TightStart
+mod TightFree

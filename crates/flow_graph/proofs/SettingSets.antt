@@ -1,6 +1,8 @@
 -- A machine that has what is chosen for an operation is set for it.
-use Rattle.std.proofs.Common.{◌≡◌, ℕ, ◌+◌, ◌*◌, ◌-◌, ◌%◌, ◌^◌, ◌<◌, ◌≤◌, ◌==◌, ◌&&◌, ◌||◌, Bool, true, false, cond, not, Ok, IsTrue, refl, sym, ap, subst, ◌∙◌, arith}
+use Rattle.std.proofs.Common.{◌≡◌, ℕ, suc, ◌+◌, ◌*◌, ◌-◌, ◌%◌, ◌^◌, ◌<◌, ◌≤◌, ◌==◌, ◌&&◌, ◌||◌, Bool, true, false, cond, not, List, [], ◌∷◌, ◌++◌, take, drop, length, Ok, IsTrue, refl, sym, ap, subst, ◌∙◌, arith}
 use Rattle.std.specs.Prelude.{IfSome}
+use Rattle.std.proofs.Math.Nat.{pow-suc}
+use Rattle.std.proofs.lemmas.List.{length-append, length-drop, length-take-le}
 use Rattle.std.proofs.lemmas.Bool.{eqb-true, false≢true, not-true}
 use Rattle.bus_ticks.specs.declared.profile.Class.{Class}
 use Rattle.bus_ticks.specs.declared.profile.Class.TheVariants.{Any, Ram, Rom, Io}
@@ -12,7 +14,9 @@ use Rattle.memc.specs.declared.spots.Spot.{Spot}
 use Rattle.memc.specs.declared.spots.Spot.TheVariants as spot
 use Rattle.shifter.specs.declared.shifts.Shifted.{Shifted}
 use Rattle.arm2_decode.proofs.Listed.{some_words}
-use Rattle.shifter.specs.Shifts.{Has, by_register, by_nonzero, multiply_cycles}
+use Rattle.arm2_decode.proofs.WordLemmas.{bit_fits}
+use Rattle.shifter.specs.Shifts.{Has, by_register, by_nonzero, multiply_cycles, rotated_bits}
+use Rattle.shifter.proofs.BitLists.{length-bits_from}
 use Rattle.shifter.proofs.ShiftLemmas.{greatest_cycles}
 use Rattle.shifter.specs.Word.{word_bits}
 use Rattle.arm2_decode.specs.Allowed.{bit_of}
@@ -35,7 +39,7 @@ use Rattle.arm2_decode.specs.declared.names.Shift.TheVariants as shift
 use Rattle.arm2_decode.specs.declared.names.Shift.TheVariants.{Ror}
 use Rattle.arm2_effect.specs.declared.modes.Mode.TheVariants.{Svc}
 use Rattle.arm2_effect.specs.Modes.{r15_in, register_in}
-use Rattle.arm2_effect.specs.Operands.{current_in, first_of, operand_of, shifted_by_amount, shifted_of}
+use Rattle.arm2_effect.specs.Operands.{current_in, first_of, operand_of, shifted_by_amount, shifted_of, word_of}
 use Rattle.arm2_effect.specs.Outcomes.{outcome_of}
 use Rattle.arm2_effect.specs.ProgramCounter.{address_of, flags_of, mode_of}
 use Rattle.arm2_effect.proofs.Words.{shifted_is}
@@ -57,7 +61,7 @@ use Rattle.flow_graph.proofs.SettingLemmas.{next_word}
 
 -- ## Tests
 
-both : (a b : Bool) → a && b ≡ true → (a ≡ true) × (b ≡ true)
+pub both : (a b : Bool) → a && b ≡ true → (a ≡ true) × (b ≡ true)
 both true true h = (refl, refl)
 both true false h = absurd (cc)
 both false b h = absurd (cc)
@@ -207,7 +211,7 @@ block_sets aim x lowest base may at =
 -- ## Data processing, and multiplies
 
 -- what a free operation that writes R15 is
-either : (writes other : Bool) → IsTrue (not writes || other) → writes ≡ true → other ≡ true
+pub either : (writes other : Bool) → IsTrue (not writes || other) → writes ≡ true → other ≡ true
 either true true h w = refl
 either true false h w = absurd (false≢true h)
 either false other h w = absurd (cc)
@@ -324,3 +328,45 @@ pub subtracted : (x : DataImmediate) (target : ℕ) (operand : Shifted) → targ
     → (flags : Flags) (carry : Bool) → (outcome_of x.opcode ((target + operand.value) % 2 ^ 32) (rotated x carry) flags).value ≡ target
 subtracted x target operand below small has adds not_add flags carry =
     rw (is_sub x.opcode (both _ _ adds).0 not_add, operand_value x operand carry small has) (omega (arith, below, small))
+
+-- ## Some addend
+
+-- bits are fewer than their numbers
+bits_below : (bits : List Bool) → word_of bits < 2 ^ length bits
+unfolding word_of
+bits_below [] = omega arith
+bits_below (bit ∷ bits) =
+    let more = bits_below bits in
+    let one = bit_fits bit in
+    let double : 2 ^ suc (length bits) ≡ 2 ^ length bits * 2 = pow-suc 2 (length bits) in
+    omega (arith, more, one, double)
+
+-- a rotated word has 32 bits
+rotated_long : (n : ℕ) (bits : List Bool) → length bits ≡ 32 → length (drop (n % 32) bits ++ take (n % 32) bits) ≡ 32
+rotated_long n bits long =
+    let both = length-append (drop (n % 32) bits) (take (n % 32) bits) in
+    let back = length-drop (n % 32) bits in
+    let front = length-take-le (n % 32) bits (omega (arith, long)) in
+    omega (arith, long, both, back, front)
+
+below_by_length : (bits : List Bool) → length bits ≡ 32 → word_of bits < 2 ^ 32
+below_by_length bits long = subst (λ (n : ℕ). word_of bits < 2 ^ n) long (bits_below bits)
+
+rotated_below : (x : DataImmediate) → (rotated x false).value < 2 ^ 32
+rotated_below x = by_amount (2 * x.rotation == 0)
+  where
+    by_amount : (b : Bool) → (shifted_of (cond b (record { bits = word_bits x.value; carry = false }) (by_nonzero Ror (2 * x.rotation) (word_bits x.value)))).value < 2 ^ 32
+    by_amount true = below_by_length (word_bits x.value) (length-bits_from 32 x.value)
+    by_amount false = below_by_length (rotated_bits (2 * x.rotation) (word_bits x.value)) (rotated_long (2 * x.rotation) (word_bits x.value) (length-bits_from 32 x.value))
+
+-- by an operand that is known
+addend_by : (x : DataImmediate) (target operand : ℕ) → target < 2 ^ 32 → operand < 2 ^ 32 → ((carry : Bool) → (rotated x carry).value ≡ operand) → (o : Opcode) → is_add_or_sub o ≡ true
+    → (addend : ℕ) × (addend < 2 ^ 32) × ((flags : Flags) (carry : Bool) → (outcome_of o addend (rotated x carry) flags).value ≡ target)
+addend_by x target operand below small is opcode.Add h = ((target + (2 ^ 32 - operand)) % 2 ^ 32, omega arith, λ flags carry. rw (is carry) (omega (arith, below, small)))
+addend_by x target operand below small is opcode.Sub h = ((target + operand) % 2 ^ 32, omega arith, λ flags carry. rw (is carry) (omega (arith, below, small)))
+addend_by x target operand below small is _ h = absurd (cc)
+
+-- a word in Rn by which the sum or the difference is the target
+pub some_addend : (x : DataImmediate) (target : ℕ) → target < 2 ^ 32 → adds_an_immediate x ≡ true
+    → (addend : ℕ) × (addend < 2 ^ 32) × ((flags : Flags) (carry : Bool) → (outcome_of x.opcode addend (rotated x carry) flags).value ≡ target)
+some_addend x target below adds = addend_by x target (rotated x false).value below (rotated_below x) (λ carry. value_same x carry false) x.opcode (both _ _ adds).0

@@ -37,14 +37,14 @@ use Rattle.machine_file.specs.Parts.{IsInRange, HasNoneTwice}
 use Rattle.machine_file.specs.Started.{IsStarted, psr_number}
 use Rattle.machine_file.specs.Started as started
 use Rattle.flow_graph.specs.Edges.{AreEdgesOf, IsEdge}
-use Rattle.flow_graph.specs.Flow.{Flow, HasEdge, IsWellFormed}
+use Rattle.flow_graph.specs.Flow.{Flow, HasEdge}
 use Rattle.flow_graph.specs.Graph.{IsFlowGraph}
 use Rattle.flow_graph.specs.Places.{place_address, place_at}
 use Rattle.flow_graph.specs.Free.{IsFree}
 use Rattle.flow_graph.specs.Setting.{HasSetting, IsData}
 use Rattle.flow_graph.specs.Tight.{IsTight}
 use Rattle.flow_graph.specs.TightFile.{CanPlace, HasOwnWord, HasPlaceWord, HasWordAt, IsPlaceWord, IsPlaced, IsSetUp, IsTightFile, file_of, masked_flags, registers_with}
-use Rattle.flow_graph.specs.TightWork.{FetchesAt, masked}
+use Rattle.flow_graph.specs.TightWork.{FetchesAt, IsSetForEdge, masked}
 use Rattle.flow_graph.specs.declared.edges.Edge.{Edge}
 use Rattle.flow_graph.specs.declared.places.Place.{Place}
 use Rattle.flow_graph.specs.declared.places.Place.TheVariants.{At, Exit}
@@ -53,7 +53,7 @@ use Rattle.flow_graph.specs.declared.tight.SetUp.{SetUp}
 use Rattle.statement.specs.Stated.{Stated}
 use Rattle.std.proofs.lemmas.List.{get_or_read}
 use Rattle.std.specs.Cmp.Derive.{both_true}
-use Rattle.flow_graph.proofs.FlowLemmas.{part_of}
+use Rattle.flow_graph.proofs.FlowLemmas.{ends_in, part_of}
 use Rattle.flow_graph.proofs.SortedLemmas.{here, no_member}
 use Rattle.flow_graph.proofs.StepRegisters.{address_put}
 use Rattle.flow_graph.proofs.TightPages.{all_mappable, all_single, is_mapped}
@@ -61,7 +61,7 @@ use Rattle.flow_graph.proofs.TightStep as step
 
 -- ## Registers
 
-length_with : (o : Option Held) → length (registers_with o) ≡ 26
+pub length_with : (o : Option Held) → length (registers_with o) ≡ 26
 length_with None = length-replicate {A = ℕ} 26 0
 length_with (Some held) = length-set (replicate 26 0) (slot_of Svc (register_number held.register)) held.word ∙ length-replicate {A = ℕ} 26 0
 
@@ -211,8 +211,8 @@ module _ (words : Words) (st : Stated) (profile : Profile) (e : Edge) (spare : �
             (here x [])) at_spot
 
     -- the machine is set for the edge
-    is_tight : IsTight words st profile e s i
-    is_tight = step.law words st profile e s i (record {
+    pub is_set : IsSetForEdge words st profile e s i
+    is_set = record {
       calls = h.calls;
       address = set_up.address;
       word = h.word;
@@ -228,7 +228,10 @@ module _ (words : Words) (st : Stated) (profile : Profile) (e : Edge) (spare : �
         | inl skip ↦ inl skip
         | inr (x, means, sets) ↦ inr (x, means, sets.set st e.to s i refl h.leads setting)
       ];
-    })
+    }
+
+    is_tight : IsTight words st profile e s i
+    is_tight = step.law words st profile e s i is_set
 
   image_has_places : (some : Words) (start : State) → AreOf words some → IsStarted (file_of set_up pages rom) profile start → All (λ x. IsFitted x.0) some → lacks_page start.bus.memc some ≡ false
   image_has_places some start of begun fit =
@@ -304,10 +307,10 @@ none_twice words pages spare set_up rom plan = record { pages_once = all_single 
 
 -- ## The machine with the word at the edge's place
 
-one_word : (words : Words) (x : ℕ × ℕ) → word_of words x.0 ≡ Some x.1 → AreOf words (x ∷ [])
+pub one_word : (words : Words) (x : ℕ × ℕ) → word_of words x.0 ≡ Some x.1 → AreOf words (x ∷ [])
 one_word words x has = All-from_recursion (λ y. word_of words y.0 ≡ Some y.1) (x ∷ []) (has, tt)
 
-same_pair : (words : Words) (from : Place) (x : ℕ × ℕ) → IsPlaceWord words from x → HasPlaceWord words from (x ∷ [])
+pub same_pair : (words : Words) (from : Place) (x : ℕ × ℕ) → IsPlaceWord words from x → HasPlaceWord words from (x ∷ [])
 same_pair words from x h calls address word at has =
     let here_at : x.0 ≡ address = ap place_address (sym h.is ∙ at) in
     let same : x.1 ≡ word = same_Some _ _ (sym h.has ∙ ap (word_of words) here_at ∙ has) in
@@ -338,8 +341,8 @@ edge_entry words st profile e is = by_place e.from is.0 is.1 is.2
     by_place Exit edges are among = absurd (no_member e (subst (λ es. Contains es e) are among))
 
 -- and so has the place to which it leads, unless that is Exit
-pub edge_lands : (words : Words) (st : Stated) (profile : Profile) (flow : Flow) → IsFlowGraph words st profile flow → IsWellFormed flow → (e : Edge) → HasEdge flow e → HasWordAt words e.to
-edge_lands words st profile flow g form e has = by_place e.to (form.ends e has)
+pub edge_lands : (words : Words) (st : Stated) (profile : Profile) (flow : Flow) → IsFlowGraph words st profile flow → (e : Edge) → HasEdge flow e → HasWordAt words e.to
+edge_lands words st profile flow g e has = by_place e.to (ends_in words st profile flow g e has)
   where
     edges_entry : (address : ℕ) (calls : List ℕ) (edges : List Edge) → AreEdgesOf words st profile (At calls address) edges → HasWordAt words (At calls address)
     edges_entry address calls edges are = (are.1.word, are.1.word_is)
@@ -352,5 +355,3 @@ edge_lands words st profile flow g form e has = by_place e.to (form.ends e has)
     by_place : (p : Place) → (p ≡ Exit) ⊎ Contains flow.places p → HasWordAt words p
     by_place p (inl exit) = subst (HasWordAt words) (sym exit) tt
     by_place p (inr among) = of_place p (among.0, among.1, sym (get_or_read flow.places among.0 p among.1 (sym among.2) Exit))
-
--- ## An edge by its number

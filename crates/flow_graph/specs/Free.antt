@@ -1,6 +1,7 @@
--- Free edges: for each of them `tight_state` returns a machine and an input whose one step takes the edge at
--- exactly its price. The rule is coarse: whole kinds of instructions are not free of which some have too
--- little choice of the address to which they transfer or jump, and no edge is from where no RAM is fitted.
+-- Free edges: for each of them there are a machine and an input whose one step takes the edge at exactly its
+-- price (`FreeEdgesAreTight`). The rule is coarse: whole kinds of instructions are not free of which some
+-- have too little choice of the address to which they transfer or jump, and no edge is from where no RAM is
+-- fitted.
 use Rattle.std.specs.Prelude.{◌≡◌, ℕ, Bool, true, false, not, ◌&&◌, ◌||◌, ◌==◌, IsTrue, List}
 use Rattle.std.specs.Prelude.{Some, ◌⊎◌}
 use Rattle.loader.specs.Image.{Words, is_past_ram, word_of}

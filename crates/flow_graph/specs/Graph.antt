@@ -23,6 +23,7 @@ use Rattle.flow_graph.specs.declared.actions.Kind.TheVariants as kind
 use Rattle.flow_graph.specs.declared.places.Place.{Place}
 use Rattle.flow_graph.specs.declared.places.Place.TheVariants.{At, Exit}
 use Rattle.flow_graph.specs.declared.search.TheConstants.{MOST_PLACES}
+use Rattle.statement.specs.declared.stated.Returns.TheVariants as returns
 use Rattle.statement.specs.declared.stated.TargetKind.{TargetKind}
 use Rattle.statement.specs.declared.stated.TargetKind.TheVariants as stated
 
@@ -98,6 +99,12 @@ module _ (words : Words) (st : Stated) (profile : Profile) where
   abbrev pub MayDo : ℕ → Kind → Type 0
   MayDo address k = (a : Action) × HasAction words address a × (a.kind ≡ k) × (is_never a.cond ≡ false)
 
+  -- returns have to be stated, and the word at the address may be done, writes R15 and has no stated target
+  pub record IsUnstated (address : ℕ) : Type 0 where
+    pub asked : st.returns ≡ returns.Stated
+    pub writer : MayDo address kind.Writer
+    pub none : target_of st address ≡ None
+
   -- a call that may be done, from a reached place with the most calls
   pub record IsTooDeep : Type 0 where
     pub calls : List ℕ
@@ -126,3 +133,4 @@ module _ (words : Words) (st : Stated) (profile : Profile) where
   IsBuildFault fault.TooDeep = IsTooDeep
   IsBuildFault fault.TooManyPlaces = IsCrowd
   IsBuildFault (fault.TargetNotWriter address) = IsStray words st address
+  IsBuildFault (fault.UnstatedTarget address) = IsReachedAddress address × IsUnstated address

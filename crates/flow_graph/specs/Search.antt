@@ -25,6 +25,8 @@ use Rattle.flow_graph.specs.declared.actions.Kind.TheVariants as kind
 use Rattle.flow_graph.specs.declared.places.Place.{Place}
 use Rattle.flow_graph.specs.declared.places.Place.TheVariants.{At, Exit}
 use Rattle.flow_graph.specs.declared.search.TheConstants.{MOST_PLACES}
+use Rattle.statement.specs.declared.stated.Returns.{Returns}
+use Rattle.statement.specs.declared.stated.Returns.TheVariants as returns
 use Rattle.statement.specs.declared.stated.TargetKind.{TargetKind}
 use Rattle.statement.specs.declared.stated.TargetKind.TheVariants as stated
 
@@ -102,16 +104,21 @@ stated_fault calls stated.Call = call_fault calls
 stated_fault calls stated.Return = None
 stated_fault calls stated.Leave = None
 
-abbrev pub writer_fault : List ℕ → Option Target → Option BuildFault
-writer_fault calls None = None
-writer_fault calls (Some t) = stated_fault calls t.kind
+-- where no target is stated
+abbrev pub unstated_fault : Returns → ℕ → Option BuildFault
+unstated_fault returns.Assumed address = None
+unstated_fault returns.Stated address = Some (fault.UnstatedTarget address)
+
+abbrev pub writer_fault : Returns → List ℕ → ℕ → Option Target → Option BuildFault
+writer_fault asked calls address None = unstated_fault asked address
+writer_fault asked calls address (Some t) = stated_fault calls t.kind
 
 -- why a word that is done is refused
 abbrev pub kind_fault : Stated → List ℕ → ℕ → Kind → Option BuildFault
 kind_fault st calls address kind.Plain = None
 kind_fault st calls address (kind.Branch offset) = None
 kind_fault st calls address (kind.Call offset) = call_fault calls
-kind_fault st calls address kind.Writer = writer_fault calls (target_of st address)
+kind_fault st calls address kind.Writer = writer_fault st.returns calls address (target_of st address)
 kind_fault st calls address kind.Trap = Some (fault.TrapInHandler address)
 kind_fault st calls address kind.Unallocated = Some (fault.UnallocatedWord address)
 

@@ -21,7 +21,12 @@ module _ (site : Site) where
   writer_places = writer_landings site.calls site.address (target_of site.inputs.statement.now site.address)
 
   abbrev pub site_writer_fault : Option BuildFault
-  site_writer_fault = writer_fault site.calls (target_of site.inputs.statement.now site.address)
+  site_writer_fault =
+      writer_fault
+      site.inputs.statement.now.returns
+      site.calls
+      site.address
+      (target_of site.inputs.statement.now site.address)
 
   -- the do edges of the word, and why it is refused where its condition holds
   abbrev pub done_edges : List Edge

@@ -1,7 +1,7 @@
 -- The machine file of a machine that takes an edge at its price. Of such machines we choose this: SVC mode,
 -- pages of 32 KB, both interrupts masked, one register and at most one word in memory that is put after the
 -- image's.
-use Rattle.std.specs.Prelude.{◌≡◌, ◌<◌, ◌⊎◌, ℕ, true, false, [], ◌∷◌, replicate, slice_set, map, All}
+use Rattle.std.specs.Prelude.{◌≡◌, ◌<◌, ◌^◌, ◌⊎◌, ℕ, true, false, [], ◌∷◌, replicate, slice_set, map, All}
 use Rattle.std.specs.Prelude.{List, Option, Contains}
 use Rattle.std.specs.Prelude.{Some, None, IfSome}
 use Rattle.std.specs.Option.{option_to_list}
@@ -17,21 +17,26 @@ use Rattle.arm2_effect.specs.declared.modes.Mode.TheVariants.{Svc}
 use Rattle.arm2_effect.specs.Modes.{slot_of}
 use Rattle.loader.specs.Image.{Words, word_of}
 use Rattle.loader.specs.declared.plan.PlacedPage.{PlacedPage}
+use Rattle.loader.specs.Inside.{AreWhole}
 use Rattle.loader.specs.Loading.{lacks_page, put_words}
 use Rattle.loader.specs.Planned.{AreOf, IsFitted}
 use Rattle.loader.specs.PagePlan.{IsPagePlan}
 use Rattle.arm2_exec.specs.State.{State}
 use Rattle.arm2_exec.specs.declared.machine.Input.{Input}
+use Rattle.machine_file.specs.Parts.{AreWords, HasNoneTwice, IsInRange}
 use Rattle.machine_file.specs.Stated as file
 use Rattle.machine_file.specs.Started.{IsStarted}
 use Rattle.machine_file.specs.declared.flags.PsrFlags.{PsrFlags}
 use Rattle.machine_file.specs.declared.pages.MappedPage.{MappedPage}
 use Rattle.flow_graph.specs.Edges.{IsEdge}
+use Rattle.flow_graph.specs.Flow.{Flow, HasEdge}
+use Rattle.flow_graph.specs.Free.{IsFree}
+use Rattle.flow_graph.specs.Graph.{IsFlowGraph}
 use Rattle.flow_graph.specs.Kinds.{IsAction}
 use Rattle.flow_graph.specs.Setting.{IsData, Sets}
 use Rattle.flow_graph.specs.StepLaw.{label_by}
 use Rattle.flow_graph.specs.Tight.{IsTight}
-use Rattle.flow_graph.specs.TightWork.{IsDearestTarget}
+use Rattle.flow_graph.specs.TightWork.{IsDearestTarget, IsSetForEdge}
 use Rattle.flow_graph.specs.declared.edges.Edge.{Edge}
 use Rattle.flow_graph.specs.declared.edges.Label.{Label}
 use Rattle.flow_graph.specs.declared.edges.Label.TheVariants.{Skip}
@@ -187,3 +192,23 @@ pub record IsTightAt (words : Words) (st : Stated) (profile : Profile) (e : Edge
   pub quiet : t.input.bursts ≡ 0
   pub no_lines : t.input.lines.0 ≡ 0
   pub port : t.input.port ≡ t.file.schedule.port
+
+-- ## Each free edge has them
+
+-- such a file, machine and input: the machine is set for the edge, and the file is one that parts can state,
+-- all of whose words are of 32 bits
+pub record HasTight (words : Words) (st : Stated) (profile : Profile) (e : Edge) : Type 0 where
+  pub tight : Tight
+  pub at : IsTightAt words st profile e tight
+  pub is_set : IsSetForEdge words st profile e tight.machine tight.input
+  pub in_range : IsInRange tight.file
+  pub once : HasNoneTwice tight.file
+  pub are_words : AreWords tight.file
+  pub words_small : All (λ e. e.1 < 2 ^ 32) tight.file.words
+
+-- Each free edge of an image's flow graph has them, whether or not memory is found for them.
+abbrev pub FreeEdgesAreTight : Type 0
+FreeEdgesAreTight =
+    (words : Words) (st : Stated) (profile : Profile) (flow : Flow) (e : Edge) →
+    AreWhole words → IsFlowGraph words st profile flow → HasEdge flow e → IsFree words e
+    → HasTight words st profile e

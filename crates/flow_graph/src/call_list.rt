@@ -86,7 +86,7 @@ impl Calls {
     }
 
     /// The addresses, the outermost call's first.
-    pub fn as_slice(&self) -> &[u32]
+    pub fn items(&self) -> &[u32]
         ensures value { result.now ≡ self.now }
         ensures few { length self.now ≤ MOST_CALLS }
     {
@@ -100,7 +100,7 @@ impl PartialEq for Calls {
     ghost laws = { Prim.search (comparing, rules) };
 
     fn eq(&self, other: &Calls) -> bool {
-        self.as_slice() == other.as_slice()
+        self.items() == other.items()
     }
 }
 
@@ -124,7 +124,7 @@ impl Ord for Calls {
                 return Ordering::Equal;
             }
         }
-        self.as_slice().cmp(other.as_slice())
+        self.items().cmp(other.items())
     }
 }
 

@@ -28,6 +28,10 @@ pub enum BuildFault {
     /// A target is stated for that address, where the image has no word that writes R15.
     #[error("TargetNotWriter at {0:X}")]
     TargetNotWriter(u32),
+    /// The statement asks for stated returns, and the word there writes R15 and has no stated target. Its
+    /// condition is not NV.
+    #[error("UnstatedTarget at {0:X}")]
+    UnstatedTarget(u32),
 }
 
 impl From<AllocError> for BuildFault {

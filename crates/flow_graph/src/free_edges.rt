@@ -56,8 +56,9 @@ fn has_free_word(image: &Image, address: u32) -> bool
 /// It leaves an address outside of 2400000 to 2FFFFFF, and passes over the word there, or does an instruction
 /// other than these: a single transfer whose base is R15, whose offset is in a register or which asks for
 /// User rights; and data processing that writes R15, but for MOV of a register, not shifted, and ADD and SUB
-/// of an immediate, where that register is not R15. Of each free edge [`tight_state`](crate::tight_state)
-/// returns a machine that takes it at exactly its price.
+/// of an immediate, where that register is not R15. Of each free edge there is a machine that takes it at
+/// exactly its price ([`free_edges_are_tight`](crate::free_edges_are_tight)), and
+/// [`tight_state`](crate::tight_state) returns it.
 pub fn is_free(image: &Image, edge: &Edge) -> bool
     ensures { IsTrue result ↔ IsFree image.now edge.now }
 {

@@ -1,6 +1,7 @@
 ghost use Rattle.std.specs.Prelude.{◌≡◌};
 ghost use Rattle.flow_graph.specs.Places.{place_cmp};
 ghost use Rattle.flow_graph.specs.StepLaw.{RunLaw, StepCost, StepLaw};
+ghost use Rattle.flow_graph.specs.TightFile.{FreeEdgesAreTight};
 ghost use Rattle.flow_graph.specs.TightWork.{TightLaw};
 
 use crate::call_list::MOST_CALLS;
@@ -38,4 +39,12 @@ pub fn run_law()
 /// nothing.
 pub fn tight_law()
     ensures { TightLaw }
+{}
+
+/// Each free edge ([`is_free`](crate::is_free)) of the flow graph of an image has a machine and an input whose
+/// one step takes it at exactly its price, in ticks, and a machine file that states them, such as
+/// [`tight_state`](crate::tight_state) returns where memory is found. The machine is set for the edge as
+/// [`tight_law`] asks. The call does nothing.
+pub fn free_edges_are_tight()
+    ensures { FreeEdgesAreTight }
 {}

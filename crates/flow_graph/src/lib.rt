@@ -31,7 +31,7 @@ pub use faulty::{FaultyPlace, faulty_place};
 pub use free_edges::is_free;
 pub use graph::Graph;
 pub use label_flags::flags_for;
-pub use law::{order_of_places, place_limits, run_law, step_law, tight_law};
+pub use law::{free_edges_are_tight, order_of_places, place_limits, run_law, step_law, tight_law};
 pub use places::Place;
 pub use search::MOST_PLACES;
 pub use statement::{Loop, MOST_ROUNDS, Statement, StatementFault, read_statement};

@@ -3,7 +3,7 @@ ghost use Rattle.bus_ticks.specs.declared.space.TheConstants.{SPACE_END};
 ghost use Rattle.flow_graph.specs.Edges.{call_places, places_at, return_place, skip_edge};
 ghost use Rattle.flow_graph.specs.Kinds.{IsWork};
 ghost use Rattle.flow_graph.specs.Places.{IsInSpace};
-ghost use Rattle.flow_graph.specs.Search.{AddsEdges, IsEdgeFault, IsSound, call_fault};
+ghost use Rattle.flow_graph.specs.Search.{AddsEdges, IsEdgeFault, IsSound, call_fault, unstated_fault};
 ghost use Rattle.flow_graph.specs.Sites.{IsMemoryOr, all_edges, done_edges, done_fault, edge_to, site_fault};
 ghost use Rattle.flow_graph.specs.Sites.{site_writer_fault, writer_places};
 
@@ -17,7 +17,7 @@ use crate::sites::Site;
 use crate::ticks::{do_ticks, passing_ticks};
 use arm2_effect::branch_target;
 use bus_ticks::ahead_of;
-use statement::TargetKind;
+use statement::{Returns, TargetKind};
 use std::alloc::Global;
 
 // Where a word goes: to those addresses, inside the calls.
@@ -103,6 +103,22 @@ fn return_place(calls: &Calls) -> Place
     }
 }
 
+// The edge of a word that writes R15 and has no stated target: a return.
+fn push_unstated(out: &mut Vec<Edge>, site: &Site) -> Result<(), BuildFault>
+    requires work { IsWork site.now.action.work }
+    ensures ok { OnOk result
+        (out.new.items ≡ out.old.items ++ edge_to site.now (return_place site.now.calls) ∷ []) }
+    ensures sound { OnOk result
+        (unstated_fault site.now.inputs.statement.now.returns site.now.address ≡ None) }
+    ensures fault { IfErr result
+        (IsMemoryOr (unstated_fault site.now.inputs.statement.now.returns site.now.address)) }
+{
+    match site.inputs.statement.returns() {
+        Returns::Assumed => push_do(out, site, return_place(&site.calls)),
+        Returns::Stated => Err(BuildFault::UnstatedTarget(site.address)),
+    }
+}
+
 // The edges of a word that writes R15, by what is stated of it.
 fn push_writer(out: &mut Vec<Edge>, site: &Site) -> Result<(), BuildFault>
     requires address { site.now.address < SPACE_END }
@@ -113,7 +129,7 @@ fn push_writer(out: &mut Vec<Edge>, site: &Site) -> Result<(), BuildFault>
     ensures fault { IfErr result (IsMemoryOr (site_writer_fault site.now)) }
 {
     let Some(target) = site.inputs.statement.target_at(site.address) else {
-        return push_do(out, site, return_place(&site.calls));
+        return push_unstated(out, site);
     };
     match target.kind() {
         TargetKind::Jump => {

@@ -4,6 +4,7 @@
 //! call takes constant time.
 #![tactic(auto)]
 
+mod banks;
 mod countdown;
 mod law;
 mod lines;
@@ -12,9 +13,10 @@ mod timers;
 ghost use Rattle.std.specs.Prelude.{◌≡◌, ◌≤◌, ◌<◌};
 ghost use Rattle.ioc.specs.Interrupts.{Controller, fresh, bit_where, status_a};
 ghost use Rattle.ioc.specs.Interrupts.{status_b, status_f, fiq_of, irq_of};
-ghost use Rattle.ioc.specs.Interrupts.{shares, with_lines, with_flyback, advanced};
+ghost use Rattle.ioc.specs.Interrupts.{with_lines, with_flyback, advanced};
 ghost use Rattle.ioc.specs.Registers.{byte_of, is_register, offset_of, read_at, read_of, write_at, write_of};
 
+pub use banks::{FiqBank, IrqA, IrqB};
 use bitflags::Flags;
 use countdown::Countdown;
 pub use law::ticks_add_up;
@@ -22,26 +24,15 @@ pub use lines::Lines;
 use std::marker::Model;
 use timers::{Timer, Timers};
 
-// Bits of IRQ A's status, beside those of the lines A0 and A1; the highest bit of FIQ's is set too.
-const A2: u8 = 0x04;
-
-const FLYBACK: u8 = 0x08;
-
-const TIMER_0: u8 = 0x20;
-
-const TIMER_1: u8 = 0x40;
-
-const ALWAYS: u8 = 0x80;
-
 /// IOC: what its registers hold, and the lines that come in.
 #[derive(Drop)]
 pub struct Ioc {
     lines: Lines,
     a2_rose: bool,
     flyback_rose: bool,
-    mask_a: u8,
-    mask_b: u8,
-    mask_f: u8,
+    mask_a: IrqA,
+    mask_b: IrqB,
+    mask_f: FiqBank,
     timers: Countdown,
 }
 
@@ -52,9 +43,9 @@ impl Model for Ioc {
       lines = i.lines.0;
       a2_rose = i.a2_rose;
       flyback_rose = i.flyback_rose;
-      mask_a = i.mask_a;
-      mask_b = i.mask_b;
-      mask_f = i.mask_f;
+      mask_a = i.mask_a.0;
+      mask_b = i.mask_b.0;
+      mask_f = i.mask_f.0;
       timers = i.timers;
     } };
 }
@@ -83,9 +74,9 @@ impl Ioc {
             lines: Lines::empty(),
             a2_rose: false,
             flyback_rose: false,
-            mask_a: 0,
-            mask_b: 0,
-            mask_f: 0,
+            mask_a: IrqA::empty(),
+            mask_b: IrqB::empty(),
+            mask_f: FiqBank::empty(),
             timers: Countdown::new(Timers {
                 phase: 0,
                 timer_0: Timer::new(),
@@ -160,7 +151,7 @@ impl Ioc {
     pub fn asserts_fiq(&self) -> bool
         ensures { result ≡ fiq_of self.now }
     {
-        shares(self.status_f(), self.mask_f)
+        self.status_f().intersects(self.mask_f)
     }
 
     /// Whether IRQ is asserted, by one of its two banks.
@@ -168,8 +159,8 @@ impl Ioc {
     pub fn asserts_irq(&self) -> bool
         ensures { result ≡ irq_of self.now }
     {
-        let a = shares(self.status_a(), self.mask_a);
-        let b = shares(self.status_b(), self.mask_b);
+        let a = self.status_a().intersects(self.mask_a);
+        let b = self.status_b().intersects(self.mask_b);
         a || b
     }
 
@@ -191,15 +182,15 @@ impl Ioc {
             return 0;
         }
         match offset_of(address) {
-            0x10 => u32::from(self.status_a()),
-            0x14 => u32::from(self.status_a() & self.mask_a),
-            0x18 => u32::from(self.mask_a),
-            0x20 => u32::from(self.status_b()),
-            0x24 => u32::from(self.status_b() & self.mask_b),
-            0x28 => u32::from(self.mask_b),
-            0x30 => u32::from(self.status_f()),
-            0x34 => u32::from(self.status_f() & self.mask_f),
-            0x38 => u32::from(self.mask_f),
+            0x10 => u32::from(self.status_a().bits()),
+            0x14 => u32::from(self.status_a().intersection(self.mask_a).bits()),
+            0x18 => u32::from(self.mask_a.bits()),
+            0x20 => u32::from(self.status_b().bits()),
+            0x24 => u32::from(self.status_b().intersection(self.mask_b).bits()),
+            0x28 => u32::from(self.mask_b.bits()),
+            0x30 => u32::from(self.status_f().bits()),
+            0x34 => u32::from(self.status_f().intersection(self.mask_f).bits()),
+            0x38 => u32::from(self.mask_f.bits()),
             0x40 => self.timers.current().timer_0.output as u32 % 0x100,
             0x44 => self.timers.current().timer_0.output as u32 / 0x100,
             0x50 => self.timers.current().timer_1.output as u32 % 0x100,
@@ -232,9 +223,9 @@ impl Ioc {
                     ..timers
                 });
             }
-            0x18 => self.mask_a = byte,
-            0x28 => self.mask_b = byte,
-            0x38 => self.mask_f = byte,
+            0x18 => self.mask_a = IrqA::from_bits_retain(byte),
+            0x28 => self.mask_b = IrqB::from_bits_retain(byte),
+            0x38 => self.mask_f = FiqBank::from_bits_retain(byte),
             0x40 => self.set_timer_0(timer_0.with_low(byte)),
             0x44 => self.set_timer_0(timer_0.with_high(byte)),
             0x48 => self.set_timer_0(timer_0.started()),
@@ -261,28 +252,30 @@ impl Ioc {
         self.timers.set(Timers { timer_1, ..timers });
     }
 
-    fn status_a(&self) -> u8
-        ensures { result ≡ status_a self.now }
+    fn status_a(&self) -> IrqA
+        ensures { result.0 ≡ status_a self.now }
     {
         let lines = (self.lines.bits() % 4) as u8;
-        let a2 = bit_where(self.a2_rose, A2);
-        let flyback = bit_where(self.flyback_rose, FLYBACK);
-        let timer_0 = bit_where(self.timers.requests_0(), TIMER_0);
-        let timer_1 = bit_where(self.timers.requests_1(), TIMER_1);
-        lines + a2 + flyback + timer_0 + timer_1 + ALWAYS
+        let a2 = bit_where(self.a2_rose, IrqA::A2.bits());
+        let flyback = bit_where(self.flyback_rose, IrqA::FLYBACK.bits());
+        let timer_0 = bit_where(self.timers.requests_0(), IrqA::TIMER_0.bits());
+        let timer_1 = bit_where(self.timers.requests_1(), IrqA::TIMER_1.bits());
+        let always = IrqA::ALWAYS.bits();
+        IrqA::from_bits_retain(lines + a2 + flyback + timer_0 + timer_1 + always)
     }
 
-    fn status_b(&self) -> u8
-        ensures { result ≡ status_b self.now }
+    fn status_b(&self) -> IrqB
+        ensures { result.0 ≡ status_b self.now }
     {
-        (self.lines.bits() / 0x100 % 0x100) as u8
+        IrqB::from_bits_retain((self.lines.bits() / 0x100 % 0x100) as u8)
     }
 
-    fn status_f(&self) -> u8
-        ensures { result ≡ status_f self.now }
+    fn status_f(&self) -> FiqBank
+        ensures { result.0 ≡ status_f self.now }
     {
         let lines = self.lines.bits();
-        (lines / 0x1_0000 % 0x40 + lines / 0x100 % 2 * 0x40) as u8 + ALWAYS
+        let levels = (lines / 0x1_0000 % 0x40 + lines / 0x100 % 2 * 0x40) as u8;
+        FiqBank::from_bits_retain(levels + FiqBank::ALWAYS.bits())
     }
 }
 
@@ -306,11 +299,4 @@ fn byte_of(word: u32) -> u8
     ensures { result ≡ byte_of word }
 {
     (word / 0x1_0000 % 0x100) as u8
-}
-
-// Whether a status and its mask share a bit.
-fn shares(status: u8, mask: u8) -> bool
-    ensures { result ≡ shares status mask }
-{
-    status & mask != 0
 }

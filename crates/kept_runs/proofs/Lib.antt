@@ -1,4 +1,6 @@
+pub mod ArrivalLemmas
 pub mod MovedLemmas
+pub mod FitLemmas
 pub mod EdgeChoice
 pub mod StepJudged
 pub mod PlaceEdges
@@ -7,3 +9,9 @@ pub mod OneStep
 pub mod StepTaken
 pub mod PassLemmas
 pub mod SoFar
+pub mod OneFront
+pub mod KeptOnce
+pub mod Walked
+pub mod VisitLists
+pub mod SoFarBoth
+pub mod VisitSteps

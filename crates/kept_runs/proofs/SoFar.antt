@@ -24,6 +24,7 @@ use Rattle.walks.proofs.Leading.{Leads-append}
 use Rattle.flow_graph.specs.Flow.{Flow, HasEdge, IsWellFormed, edge_shape}
 use Rattle.flow_graph.specs.StepLaw.{Follows, IsEdgeOf, IsPlaceOf}
 use Rattle.flow_graph.specs.declared.edges.Edge.{Edge}
+use Rattle.flow_graph.specs.declared.edges.Label.TheVariants.{Do}
 use Rattle.flow_graph.specs.declared.places.Place.{Place}
 use Rattle.flow_graph.specs.declared.places.Place.TheVariants.{At, Exit}
 use Rattle.flow_graph.proofs.Firsts.{no_edge}
@@ -39,6 +40,7 @@ use Rattle.loop_bounds.specs.Instance.{place_loops}
 use Rattle.loop_bounds.specs.Tree.{IsTree, Tree, place_in}
 use Rattle.longest_walk.specs.Built.{step_at, steps_of}
 use Rattle.longest_walk.specs.Longest.{KeepsTree}
+use Rattle.walk_counts.specs.Counts.{is_same_label}
 use Rattle.longest_walk.proofs.CarryWalks.{AreNumbersOf, edge_same, exit_is, exit_place, keeps_down, keeps_up, leads_up}
 use Rattle.kept_runs.specs.declared.following.Follower.{Follower}
 use Rattle.kept_runs.specs.declared.following.Unkept.{Unkept}
@@ -55,12 +57,12 @@ use Rattle.kept_runs.proofs.StepTaken.{index_in, leaves_number, leaves_place, pl
 
 -- ## Lists
 
-map_append : {X Y : Type 0} (f : X → Y) (xs ys : List X) → map f (xs ++ ys) ≡ map f xs ++ map f ys
+pub map_append : {X Y : Type 0} (f : X → Y) (xs ys : List X) → map f (xs ++ ys) ≡ map f xs ++ map f ys
 map_append f [] ys = refl
 map_append f (x ∷ xs) ys = ap (λ rest. f x ∷ rest) (map_append f xs ys)
 
 -- one more in front of what follows
-next_to : {X : Type 0} (xs : List X) (x : X) (rest : List X) → (xs ++ x ∷ []) ++ rest ≡ xs ++ x ∷ rest
+pub next_to : {X : Type 0} (xs : List X) (x : X) (rest : List X) → (xs ++ x ∷ []) ++ rest ≡ xs ++ x ∷ rest
 next_to xs x rest = append_assoc xs (x ∷ []) rest
 
 drop_none : {X : Type 0} (xs : List X) → drop 0 xs ≡ xs
@@ -68,11 +70,11 @@ drop_none [] = refl
 drop_none (x ∷ xs) = refl
 
 -- a walk's front keeps a bound that the walk keeps
-front_keeps : {E : Type 0} (inside turns : E → _) (b : ℕ) (v w : List E) → Keeps inside turns b (v ++ w) → Keeps inside turns b v
+pub front_keeps : {E : Type 0} (inside turns : E → _) (b : ℕ) (v w : List E) → Keeps inside turns b (v ++ w) → Keeps inside turns b v
 front_keeps inside turns b v w keeps before stretch after is pass =
     keeps before stretch (after ++ w) (ap (λ u. u ++ w) is ∙ append_assoc (before ++ stretch) after w) pass
 
-no_exit : (p : Place) (c : List ℕ) (a : ℕ) → p ≡ At c a → p ≡ Exit → ⊥
+pub no_exit : (p : Place) (c : List ℕ) (a : ℕ) → p ≡ At c a → p ≡ Exit → ⊥
 no_exit p c a at exit = let both : At c a ≡ Exit = sym at ∙ exit in cc
 
 module _ (words : Words) (st : Stated) (flow : Flow) (tree : Tree) where
@@ -353,7 +355,7 @@ module _ (words : Words) (st : Stated) (flow : Flow) (tree : Tree) (well : IsWel
 
       -- the step, by the place where it begins
       abbrev pass : Pass
-      pass = record { place = get_or tree.order x.number 0; ticks = goes.stepped.ticks }
+      pass = record { place = get_or tree.order x.number 0; done = is_same_label (step_at flow.edges goes.edge).label Do; ticks = goes.stepped.ticks }
 
       place_known : get_or tree.order x.number 0 < length flow.places
       place_known = index_in words st flow tree well t x now can
@@ -362,6 +364,7 @@ module _ (words : Words) (st : Stated) (flow : Flow) (tree : Tree) (well : IsWel
       is_pass = record {
         known = place_known;
         begins = sym (leaves_place words st flow tree well t x now can goes.edge goes.next.known goes.next.from ∙ place_is words st flow tree well t x now can);
+        done_is = refl;
         ticks_are = refl;
       }
 
@@ -409,7 +412,7 @@ module _ (words : Words) (st : Stated) (flow : Flow) (tree : Tree) (well : IsWel
             (so_far.passed (i ∷ rest) (step_at flow.edges goes.edge ∷ more) (pass ∷ later)
             (goes.stepped, after, goes.next.is_edge_of.executes.step, (pass, later, is_pass, are, refl)))));
         tally_is =
-            one_passed flow x.by_place.items y.by_place.items (get_or tree.order x.number 0) goes.stepped.ticks can.tally.whole place_known goes.tally_is so_far.passes so_far.tally_is;
+            one_passed flow x.by_place.items y.by_place.items (get_or tree.order x.number 0) (is_same_label (step_at flow.edges goes.edge).label Do) goes.stepped.ticks can.tally.whole place_known goes.tally_is so_far.passes so_far.tally_is;
         ran = record { steps = so_far.ran.steps + 1; ticks = so_far.ran.ticks + goes.stepped.ticks; elapsed = so_far.ran.elapsed + (goes.stepped.ticks + now.profile.burst * i.bursts); stopped = so_far.ran.stopped };
         runs = λ rest.
             subst (λ (is : List Input). R.SoFar start is (record { steps = so_far.ran.steps + 1; ticks = so_far.ran.ticks + goes.stepped.ticks; elapsed = so_far.ran.elapsed + (goes.stepped.ticks + now.profile.burst * i.bursts); stopped = so_far.ran.stopped }) after rest) (sym (more_is rest))
@@ -438,7 +441,7 @@ module _ (words : Words) (st : Stated) (flow : Flow) (tree : Tree) (well : IsWel
             at = subst (λ (p : Place). IsPlaceFor p after) ends
                 (at_place (step_at flow.edges goes.edge).to refl goes.next.is_edge_of.taken.to (λ exit. inner (sym ends ∙ exit)));
             room = goes.room;
-            tally = tally_more flow x y (get_or tree.order x.number 0) goes.stepped.ticks place_known can.tally goes.tally_is goes.steps_are goes.ticks_are;
+            tally = tally_more flow x y (get_or tree.order x.number 0) (is_same_label (step_at flow.edges goes.edge).label Do) goes.stepped.ticks place_known can.tally goes.tally_is goes.steps_are goes.ticks_are;
           }
 
   -- ## The end

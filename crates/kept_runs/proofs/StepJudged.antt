@@ -41,7 +41,9 @@ use Rattle.walk_counts.specs.Counts.{is_same_label}
 use Rattle.walk_counts.proofs.NumberLemmas.{one_label, own_label}
 use Rattle.kept_runs.specs.Edges.{HasNoEdge, IsFound, IsMet}
 use Rattle.kept_runs.specs.declared.judging.Stray.TheVariants as stray
-use Rattle.kept_runs.specs.Judging.{IsAtPlace, Strays, Takes, TakesNone, label_if}
+use Rattle.kept_runs.specs.declared.judging.Stray.{Stray}
+use Rattle.kept_runs.specs.declared.judging.StrayStep.{StrayStep}
+use Rattle.kept_runs.specs.Judging.{IsAtPlace, Strays, StraysBy, Takes, TakesNone, label_if, made}
 use Rattle.kept_runs.specs.Reading.{HasNoWord, IsReading, FetchesWord}
 use Rattle.kept_runs.specs.Transfers.{HasNoOther, HasOther}
 use Rattle.kept_runs.proofs.MovedLemmas.{Moves, word_moves}
@@ -68,7 +70,7 @@ pub has_read : (word : ℕ) (regs : List ℕ) (r : Reading) → IsReading word r
 has_read word regs r (inl (i, means, is)) = record { action = instr_action i; is = inl (i, means, refl); holds = ap (λ (x : Reading). x.holds) is }
 has_read word regs r (inr (u, none, is)) = record { action = unallocated_action u; is = inr (u, none, refl); holds = ap (λ (x : Reading). x.holds) is }
 
-after_regs : (stops : Bool) (s a b : State) → length a.regs ≡ length s.regs → length b.regs ≡ length s.regs → length (cond stops a b).regs ≡ length s.regs
+pub after_regs : (stops : Bool) (s a b : State) → length a.regs ≡ length s.regs → length b.regs ≡ length s.regs → length (cond stops a b).regs ≡ length s.regs
 after_regs true s a b h k = h
 after_regs false s a b h k = k
 
@@ -231,3 +233,9 @@ module _ (words : Words) (st : Stated) (flow : Flow) (graph : IsFlowGraph words 
             machine = record { registers = long; prices = same_profile s i stepped after step ∙ is_there.machine.prices };
             small = small;
           }
+
+-- with what the step did
+pub made_by : (words : Words) (st : Stated) (flow : Flow) (place : Place) (s : State) (i : Input) (after : State) (why : Stray) (stepped : Stepped) (by : StrayStep) → by ≡ made why stepped
+    → Step s i stepped after → stepped.ticks < 65536 → Strays words st flow place s i after why → StraysBy words st flow place s i after by
+made_by words st flow place s i after why stepped by is step small strays =
+    subst (λ (x : StrayStep). StraysBy words st flow place s i after x) (sym is) (record { strays = strays; step = (step, small) })

@@ -12,6 +12,7 @@ use Rattle.arm2_exec.specs.declared.machine.Stepped.{Stepped}
 use Rattle.flow_graph.specs.Flow.{Flow, IsWellFormed}
 use Rattle.flow_graph.specs.Places.{place_at}
 use Rattle.flow_graph.specs.declared.edges.Edge.{Edge}
+use Rattle.flow_graph.specs.declared.edges.Label.TheVariants.{Do}
 use Rattle.flow_graph.specs.declared.places.Place.{Place}
 use Rattle.numbered_walks.specs.declared.span.NumberedEdge.{NumberedEdge}
 use Rattle.numbered_walks.specs.declared.span.Span.{Span}
@@ -28,6 +29,7 @@ use Rattle.kept_runs.specs.declared.judging.Stray.{Stray}
 use Rattle.kept_runs.specs.Following.{AreHeadersOf, CanGo, CannotGo, Goes, IsNext, Keeps, Halts}
 use Rattle.kept_runs.specs.Judging.{IsAtPlace, Strays, Takes, TakesNone}
 use Rattle.kept_runs.specs.Passing.{counted}
+use Rattle.walk_counts.specs.Counts.{is_same_label}
 use Rattle.walk_counts.specs.Spans.{header_at}
 use Rattle.kept_runs.specs.Stays.{IsOver, AreTurnsAfter, Turns, turned}
 use Rattle.kept_runs.proofs.OneStep.{one_edge_of}
@@ -127,7 +129,7 @@ module _ (words : Words) (st : Stated) (flow : Flow) (tree : Tree) (well : IsWel
           record { cannot = over_goes span is_over; is = (taken.stepped, taken.edge, next, known.0, sym known.1) }
 
       pub goes : (new : Follower) → Turns headers (edge_at tree.edges taken.edge) x.turns.items new.turns.items → new.number ≡ (edge_at tree.edges taken.edge).to → new.steps ≡ x.steps + 1 → new.ticks ≡ x.ticks + taken.stepped.ticks
-          → new.by_place.items ≡ counted x.by_place.items (get_or tree.order x.number 0) taken.stepped.ticks → Goes words st flow tree x new s i after
+          → new.by_place.items ≡ counted x.by_place.items (get_or tree.order x.number 0) (is_same_label (step_at flow.edges taken.edge).label Do) taken.stepped.ticks → Goes words st flow tree x new s i after
       goes new turns number steps ticks tally = record {
         edge = taken.edge;
         stepped = taken.stepped;

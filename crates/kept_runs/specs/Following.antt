@@ -7,6 +7,7 @@ use Rattle.arm2_exec.specs.State.{State}
 use Rattle.arm2_exec.specs.declared.machine.Input.{Input}
 use Rattle.arm2_exec.specs.declared.machine.Stepped.{Stepped}
 use Rattle.flow_graph.specs.Flow.{Flow}
+use Rattle.flow_graph.specs.declared.edges.Label.TheVariants.{Do}
 use Rattle.flow_graph.specs.StepLaw.{IsEdgeOf}
 use Rattle.numbered_walks.specs.declared.span.NumberedEdge.{NumberedEdge}
 use Rattle.numbered_walks.specs.declared.span.Span.{Span}
@@ -14,11 +15,13 @@ use Rattle.numbered_walks.specs.Index.{AreHeaders, edge_at}
 use Rattle.numbered_walks.specs.Reach.{most_in}
 use Rattle.loop_bounds.specs.Tree.{Tree, place_in}
 use Rattle.longest_walk.specs.Built.{step_at}
+use Rattle.walk_counts.specs.Counts.{is_same_label}
 use Rattle.kept_runs.specs.declared.following.Follower.{Follower}
+use Rattle.kept_runs.specs.declared.following.Halt.{Halt}
 use Rattle.kept_runs.specs.declared.following.Unkept.{Unkept}
 use Rattle.kept_runs.specs.declared.following.Unkept.TheVariants as unkept
 use Rattle.kept_runs.specs.declared.following.Unkept.TheVariants.{NotAtEntry, TurnedBack, Unfinished}
-use Rattle.kept_runs.specs.Judging.{IsMachineFor, IsPlaceFor, Strays}
+use Rattle.kept_runs.specs.Judging.{IsMachineFor, IsMade, IsPlaceFor, Strays}
 use Rattle.kept_runs.specs.Passing.{counted, nothing}
 use Rattle.kept_runs.specs.Stays.{AreTurnsAfter}
 
@@ -40,6 +43,8 @@ pub record IsTallyOf (flow : Flow) (x : Follower) : Type 0 where
   pub whole : length x.by_place.items ≡ length flow.places
   pub passes : (place : ℕ) → place < length flow.places
       → (slice_index_or x.by_place.items place nothing).passes ≤ x.steps
+  pub done : (place : ℕ) → place < length flow.places
+      → (slice_index_or x.by_place.items place nothing).done ≤ x.steps
   pub ticks : (place : ℕ) → place < length flow.places
       → (slice_index_or x.by_place.items place nothing).ticks ≤ x.ticks
 
@@ -72,7 +77,8 @@ module _ (words : Words) (st : Stated) (flow : Flow) (tree : Tree) where
     pub steps_are : new.steps ≡ old.steps + 1
     pub ticks_are : new.ticks ≡ old.ticks + stepped.ticks
     pub tally_is : new.by_place.items
-        ≡ counted old.by_place.items (slice_index tree.order old.number) stepped.ticks
+        ≡ counted old.by_place.items (slice_index tree.order old.number)
+        (is_same_label (step_at flow.edges edge).label Do) stepped.ticks
     pub small : stepped.ticks < 2 ^ 16
     pub machine : IsMachineFor flow after
     pub room : length new.turns.items ≡ length flow.places + 1
@@ -99,3 +105,14 @@ module _ (words : Words) (st : Stated) (flow : Flow) (tree : Tree) where
   pub record Halts (x : Follower) (s : State) (i : Input) (after : State) (why : Unkept) : Type 0 where
     pub cannot : CannotGo x s i
     pub is : IsWhy x s i after why
+
+  -- a run that strays changes nothing of what is followed
+  abbrev pub Stays : Follower → Follower → Unkept → Type 0
+  Stays old new (unkept.Stray stray) = new ≡ old
+  Stays old new other = Unit {0}
+
+  -- the same, with what the step did, if one was made
+  pub record HaltsBy (old new : Follower) (s : State) (i : Input) (after : State) (halt : Halt) : Type 0 where
+    pub halts : Halts old s i after halt.why
+    pub step : IsMade s i after halt.stepped
+    pub stays : Stays old new halt.why

@@ -1,5 +1,6 @@
 -- One step of the machine against the edges of a place.
 use Rattle.std.specs.Prelude.{◌≡◌, ℕ, ◌<◌, ◌^◌, Bool, if◌then◌else◌, List, ◌∷◌, ◌++◌, length}
+use Rattle.std.specs.Prelude.{Option, Some, None}
 use Rattle.loader.specs.Image.{Words}
 use Rattle.statement.specs.Stated.{Stated, class_at}
 use Rattle.bus_ticks.specs.Worst.{IsOf}
@@ -24,6 +25,7 @@ use Rattle.longest_walk.specs.Built.{step_at}
 use Rattle.kept_runs.specs.declared.judging.Stray.{Stray}
 use Rattle.kept_runs.specs.declared.judging.Stray.TheVariants as stray
 use Rattle.kept_runs.specs.declared.judging.EdgeTaken.{EdgeTaken}
+use Rattle.kept_runs.specs.declared.judging.StrayStep.{StrayStep}
 use Rattle.kept_runs.specs.declared.transfers.Access.{Access}
 use Rattle.kept_runs.specs.Reading.{HasNoWord, FetchesWord}
 
@@ -52,6 +54,14 @@ pub record IsFirstOther (class : Class) (accesses : List effect.Access) (access 
   pub accesses_are : accesses ≡ before ++ Word access.store first access.address ∷ after
   pub before_in : TransfersIn class before
   pub other : IsOf class access.address → ⊥
+
+abbrev pub made : Stray → Stepped → StrayStep
+made stray stepped = record { stray = stray; stepped = Some stepped }
+
+-- the step, or that none was made
+abbrev pub IsMade : State → Input → State → Option Stepped → Type 0
+IsMade s i after None = after ≡ s
+IsMade s i after (Some stepped) = Step s i stepped after × (stepped.ticks < 2 ^ 16)
 
 module _ (words : Words) (st : Stated) (flow : Flow) (place : Place) (s : State) (i : Input) where
   -- the step is along the edge of this number, which leaves the place
@@ -104,3 +114,8 @@ module _ (words : Words) (st : Stated) (flow : Flow) (place : Place) (s : State)
   pub record Strays (after : State) (stray : Stray) : Type 0 where
     pub none : TakesNone
     pub is : IsStray after stray
+
+  -- the same, with what the step did, if one was made
+  pub record StraysBy (after : State) (by : StrayStep) : Type 0 where
+    pub strays : Strays after by.stray
+    pub step : IsMade s i after by.stepped

@@ -5,4 +5,8 @@ pub mod Judging
 pub mod Stays
 pub mod Following
 pub mod Keeping
+pub mod Whole
 pub mod Passing
+pub mod Arriving
+pub mod Visited
+pub mod Visiting

@@ -1,17 +1,19 @@
 ghost use Rattle.std.specs.Prelude.{◌≡◌, ◌+◌, ◌<◌, ◌^◌, IfErr, IfOk, MatchOption, length};
 ghost use Rattle.flow_graph.specs.Flow.{IsWellFormed};
-ghost use Rattle.kept_runs.specs.Following.{AreHeadersOf, CanGo, Goes, IsFresh, Halts};
+ghost use Rattle.kept_runs.specs.Following.{AreHeadersOf, CanGo, Goes, HaltsBy, IsFresh};
 ghost use Rattle.kept_runs.specs.Judging.{IsMachineFor};
 ghost use Rattle.kept_runs.specs.Keeping.{IsFollowed, IsHandler};
+ghost use Rattle.kept_runs.specs.Whole.{IsStraying, Leaves};
 
 use crate::handler::AcceptedHandler;
-use crate::judging::{Stray, judge_step};
+use crate::judging::{Stray, judge};
 use crate::stays::turn;
 use crate::tally::{Passed, count};
-use arm2_exec::{Input, Machine};
+use arm2_exec::{Input, Machine, Stepped};
+use flow_graph::Label;
 use numbered_walks::Span;
 use std::alloc::{AllocError, Global};
-use walk_counts::headers;
+use walk_counts::{headers, is_same_label};
 
 /// How a run does not keep the statement of its handler.
 #[derive(Clone, Copy, Debug, PartialEq, Eq)]
@@ -63,7 +65,7 @@ pub(crate) struct Follower {
 }
 
 // At the entry, before a run.
-fn start(alloc: Global, exit: usize) -> Result<Follower, AllocError>
+pub(crate) fn start(alloc: Global, exit: usize) -> Result<Follower, AllocError>
     requires { exit < 2 ^ 32 }
     ensures { IfOk result (IsFresh exit) }
 {
@@ -76,14 +78,22 @@ fn start(alloc: Global, exit: usize) -> Result<Follower, AllocError>
     })
 }
 
+/// How a step does not keep the statement.
+#[derive(Clone, Copy)]
+pub(crate) struct Halt {
+    pub(crate) why: Unkept,
+    /// What it did. None where the machine does not fetch the image's word, as no step is made then.
+    pub(crate) stepped: Option<Stepped>,
+}
+
 // One step from where the run is, or how it does not keep the statement.
-fn take_step(
+pub(crate) fn take_step(
     handler: AcceptedHandler<'_>,
     headers: &[Option<Span>],
     follower: &mut Follower,
     machine: &mut Machine,
     input: Input,
-) -> Option<Unkept>
+) -> Option<Halt>
     requires handler { IsHandler handler.image.now handler.statement.now handler.graph.now handler.tree.now }
     requires headers { AreHeadersOf handler.graph.now handler.tree.now headers.now }
     requires can { CanGo handler.graph.now handler.tree.now follower.old machine.old }
@@ -93,26 +103,91 @@ fn take_step(
     ensures { MatchOption result
         (Goes handler.entry.image.now handler.entry.statement.now handler.entry.graph.now
         handler.entry.tree.now follower.old follower.new machine.old input machine.new)
-        (Halts handler.entry.image.now handler.entry.statement.now handler.entry.graph.now
-        handler.entry.tree.now follower.old machine.old input machine.new) }
+        (HaltsBy handler.entry.image.now handler.entry.statement.now handler.entry.graph.now
+        handler.entry.tree.now follower.old follower.new machine.old input machine.new) }
 {
     let place = handler.tree.order()[follower.number];
-    let taken = match judge_step(handler, machine, place, input) {
+    let taken = match judge(handler, machine, place, input) {
         Ok(taken) => taken,
-        Err(stray) => return Some(Unkept::Stray(stray)),
+        Err(step) => {
+            return Some(Halt {
+                why: Unkept::Stray(step.stray),
+                stepped: step.stepped,
+            });
+        }
     };
     let edge = handler.tree.edges()[taken.edge];
     if let Some(span) = turn(headers, &mut follower.turns, &edge) {
-        return Some(Unkept::TurnedBack(span));
+        return Some(Halt {
+            why: Unkept::TurnedBack(span),
+            stepped: Some(taken.stepped),
+        });
     }
     follower.number = edge.to;
     follower.steps += 1;
     follower.ticks += u128::from(taken.stepped.ticks);
-    count(&mut follower.by_place, place, taken.stepped.ticks);
+    let done = is_same_label(handler.graph.edges()[taken.edge].label, Label::Do);
+    count(&mut follower.by_place, place, done, taken.stepped.ticks);
     None
 }
 
-// A run that has left the handler.
+/// Where a run does not keep the statement, and why.
+#[derive(Clone, Copy)]
+pub(crate) struct Straying {
+    pub(crate) steps: u64,
+    pub(crate) at: u32,
+    pub(crate) why: Unkept,
+}
+
+/// Steps, one for each input, from the handler's entry until it is left, or where the run does not keep the
+/// statement.
+pub(crate) fn follow_whole(
+    handler: AcceptedHandler<'_>,
+    headers: &[Option<Span>],
+    follower: &mut Follower,
+    machine: &mut Machine,
+    inputs: &[Input],
+) -> Option<Straying>
+    requires handler { IsHandler handler.image.now handler.statement.now handler.graph.now handler.tree.now }
+    requires headers { AreHeadersOf handler.graph.now handler.tree.now headers.now }
+    requires fresh { IsFresh (length handler.graph.now.places) follower.old }
+    requires machine { IsMachineFor handler.graph.now machine.old }
+    ensures { MatchOption result
+        (Leaves handler.entry.image.now handler.entry.statement.now handler.entry.graph.now
+        handler.entry.tree.now machine.old inputs.now machine.new follower.new)
+        (IsStraying handler.entry.image.now handler.entry.statement.now handler.entry.graph.now
+        handler.entry.tree.now machine.old inputs.now machine.new) }
+{
+    let exit = handler.graph.places().len();
+    let at = machine.address();
+    if at != handler.statement.entry() {
+        return Some(Straying {
+            steps: 0,
+            at,
+            why: Unkept::NotAtEntry,
+        });
+    }
+    for input in inputs {
+        let (steps, here) = (follower.steps, machine.address());
+        if let Some(halt) = take_step(handler, headers, follower, machine, *input) {
+            return Some(Straying {
+                steps,
+                at: here,
+                why: halt.why,
+            });
+        }
+        if follower.number == exit {
+            return None;
+        }
+    }
+    Some(Straying {
+        steps: follower.steps,
+        at: machine.address(),
+        why: Unkept::Unfinished,
+    })
+}
+
+// What is found of a run that left the handler.
 fn kept(follower: Follower) -> Followed
     ensures { result ≡ Followed.Kept follower.steps follower.ticks follower.by_place }
 {
@@ -126,38 +201,6 @@ fn kept(follower: Follower) -> Followed
         steps,
         ticks,
         by_place,
-    }
-}
-
-// Steps, one for each input, until the handler is left.
-fn follow_from(
-    handler: AcceptedHandler<'_>,
-    headers: &[Option<Span>],
-    mut follower: Follower,
-    machine: &mut Machine,
-    inputs: &[Input],
-) -> Followed
-    requires handler { IsHandler handler.image.now handler.statement.now handler.graph.now handler.tree.now }
-    requires headers { AreHeadersOf handler.graph.now handler.tree.now headers.now }
-    requires fresh { IsFresh (length handler.graph.now.places) follower }
-    requires can { CanGo handler.graph.now handler.tree.now follower machine.old }
-    ensures { IsFollowed handler.entry.image.now handler.entry.statement.now handler.entry.graph.now
-        handler.entry.tree.now machine.old inputs.now machine.new result }
-{
-    let exit = handler.graph.places().len();
-    for input in inputs {
-        let (steps, at) = (follower.steps, machine.address());
-        if let Some(why) = take_step(handler, headers, &mut follower, machine, *input) {
-            return Followed::Strayed { steps, at, why };
-        }
-        if follower.number == exit {
-            return kept(follower);
-        }
-    }
-    Followed::Strayed {
-        steps: follower.steps,
-        at: machine.address(),
-        why: Unkept::Unfinished,
     }
 }
 
@@ -189,14 +232,9 @@ pub fn follow(
 {
     let exit = handler.graph.places().len();
     let headers = headers(alloc, handler.tree.spans(), exit)?;
-    let follower = start(alloc, exit)?;
-    let at = machine.address();
-    if at != handler.statement.entry() {
-        return Ok(Followed::Strayed {
-            steps: 0,
-            at,
-            why: Unkept::NotAtEntry,
-        });
+    let mut follower = start(alloc, exit)?;
+    match follow_whole(handler, &headers, &mut follower, machine, inputs) {
+        None => Ok(kept(follower)),
+        Some(Straying { steps, at, why }) => Ok(Followed::Strayed { steps, at, why }),
     }
-    Ok(follow_from(handler, &headers, follower, machine, inputs))
 }

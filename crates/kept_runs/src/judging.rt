@@ -1,7 +1,7 @@
 ghost use Rattle.std.specs.Prelude.{◌≡◌, ◌<◌, length, MatchResult};
 ghost use Rattle.flow_graph.specs.Graph.{IsFlowGraph};
 ghost use Rattle.flow_graph.specs.Places.{place_at};
-ghost use Rattle.kept_runs.specs.Judging.{IsAtPlace, Strays, Takes, label_if};
+ghost use Rattle.kept_runs.specs.Judging.{IsAtPlace, Strays, StraysBy, Takes, label_if, made};
 
 use crate::edges::{Going, edge_taken};
 use crate::handler::AcceptedHandler;
@@ -39,6 +39,69 @@ fn label_if(holds: bool) -> Label
     if holds { Label::Do } else { Label::Skip }
 }
 
+/// A step that is along no edge of its place.
+#[derive(Clone, Copy)]
+pub(crate) struct StrayStep {
+    pub(crate) stray: Stray,
+    /// None where the machine does not fetch the image's word, as no step is made then.
+    pub(crate) stepped: Option<Stepped>,
+}
+
+fn made(stray: Stray, stepped: Stepped) -> StrayStep
+    ensures { result ≡ made stray stepped }
+{
+    StrayStep {
+        stray,
+        stepped: Some(stepped),
+    }
+}
+
+// The same as `judge_step`, with the step that strays.
+pub(crate) fn judge(
+    handler: AcceptedHandler<'_>,
+    machine: &mut Machine,
+    place: usize,
+    input: Input,
+) -> Result<EdgeTaken, StrayStep>
+    requires graph { IsFlowGraph handler.image.now handler.statement.now handler.graph.now.profile
+        handler.graph.now }
+    requires known { place < length handler.graph.now.places }
+    requires is_there { IsAtPlace handler.graph.now (place_at handler.graph.now.places place) machine.old }
+    ensures { MatchResult result
+        (Takes handler.entry.image.now handler.entry.statement.now handler.entry.graph.now
+        (place_at handler.entry.graph.now.places place) machine.old input machine.new)
+        (StraysBy handler.entry.image.now handler.entry.statement.now handler.entry.graph.now
+        (place_at handler.entry.graph.now.places place) machine.old input machine.new) }
+{
+    let Some(word) = own_word(handler.image, machine) else {
+        return Err(StrayStep {
+            stray: Stray::OtherWord,
+            stepped: None,
+        });
+    };
+    let address = machine.address();
+    let reading = read_word(machine, word);
+    let other = other_of(handler.statement.class_at(address), reading.transfer);
+    let stepped = machine.step(input);
+    match stepped.kind {
+        Kind::Taken(vector) => return Err(made(Stray::Exception(vector), stepped)),
+        Kind::Stopped(why) => return Err(made(Stray::Stopped(why), stepped)),
+        Kind::Plain => {}
+    }
+    if let Some(access) = other {
+        return Err(made(Stray::OtherClass(access), stepped));
+    }
+    let going = Going {
+        label: label_if(reading.holds),
+        to: stepped.to,
+        leave: handler.statement.leave(),
+    };
+    match edge_taken(handler.graph, place, going) {
+        Some(edge) => Ok(EdgeTaken { edge, stepped }),
+        None => Err(made(Stray::Elsewhere(stepped.to), stepped)),
+    }
+}
+
 /// Makes one step of a machine that is at a place of the graph, named by its index: along which edge of
 /// the place it is, by the statement.
 ///
@@ -64,28 +127,8 @@ pub fn judge_step(
         (Strays handler.entry.image.now handler.entry.statement.now handler.entry.graph.now
         (place_at handler.entry.graph.now.places place) machine.old input machine.new) }
 {
-    let Some(word) = own_word(handler.image, machine) else {
-        return Err(Stray::OtherWord);
-    };
-    let address = machine.address();
-    let reading = read_word(machine, word);
-    let other = other_of(handler.statement.class_at(address), reading.transfer);
-    let stepped = machine.step(input);
-    match stepped.kind {
-        Kind::Taken(vector) => return Err(Stray::Exception(vector)),
-        Kind::Stopped(why) => return Err(Stray::Stopped(why)),
-        Kind::Plain => {}
-    }
-    if let Some(access) = other {
-        return Err(Stray::OtherClass(access));
-    }
-    let going = Going {
-        label: label_if(reading.holds),
-        to: stepped.to,
-        leave: handler.statement.leave(),
-    };
-    match edge_taken(handler.graph, place, going) {
-        Some(edge) => Ok(EdgeTaken { edge, stepped }),
-        None => Err(Stray::Elsewhere(stepped.to)),
+    match judge(handler, machine, place, input) {
+        Ok(taken) => Ok(taken),
+        Err(step) => Err(step.stray),
     }
 }

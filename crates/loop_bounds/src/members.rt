@@ -34,12 +34,7 @@ impl LoopInstance {
     {
         match place {
             Place::At(calls, address) => {
-                holds(
-                    &self.stated,
-                    self.list.as_slice(),
-                    calls.as_slice(),
-                    *address,
-                )
+                holds(&self.stated, self.list.items(), calls.items(), *address)
             }
             Place::Exit => false,
         }

@@ -33,7 +33,7 @@ pub(crate) fn by_key(left: &Place, right: &Place) -> Ordering
     match left {
         Place::At(calls, address) => match right {
             Place::At(others, other) => {
-                compare_keys(calls.as_slice(), *address, others.as_slice(), *other)
+                compare_keys(calls.items(), *address, others.items(), *other)
             }
             Place::Exit => Ordering::Greater,
         },

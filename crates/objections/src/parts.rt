@@ -21,7 +21,7 @@ fn put_hex(out: &mut Vec<u8>, number: u32) -> Result<(), AllocError>
 fn put_calls(out: &mut Vec<u8>, calls: &Calls) -> Result<(), AllocError>
     ensures { OnOk result (out.new.items ≡ out.old.items ++ list_words calls.now) }
 {
-    let [first, rest @ ..] = calls.as_slice() else {
+    let [first, rest @ ..] = calls.items() else {
         return put(out, b"-");
     };
     put_hex(out, *first)?;

@@ -9,7 +9,7 @@ use flow_graph::{
 };
 use loader::Image;
 use longest_walk::{FoldedWalk, Item, Longest, WalkFault, longest};
-use loop_bounds::{LoopTree, NestFault, nest};
+use loop_bounds::{Instances, LoopTree, NestFault, nest};
 use samples::nested_countdown::{SOURCE, STATEMENT};
 use std::alloc::Global;
 
@@ -22,6 +22,7 @@ pub(crate) enum AnalysisCall {
     Build,
     Tight,
     Nest,
+    Nested,
     Longest,
 }
 
@@ -131,6 +132,31 @@ fn nest_of(alloc: Global, handler: &Stated, graph: &Graph) -> Answer {
     }
 }
 
+// The inner instance is inside of the outer one, which has all places between the first and the last.
+fn is_nested_view(outermost: &Instances) -> bool {
+    match outermost.items() {
+        [outer] => match outer.inner() {
+            [inner] => {
+                let headers = [outer.header(), inner.header()];
+                let sizes = [outer.places().len(), inner.places().len()];
+                headers == [0x8004, 0x8008] && sizes == [5, 2]
+            }
+            _ => false,
+        },
+        _ => false,
+    }
+}
+
+fn nested_of(alloc: Global, handler: &Stated, graph: &Graph) -> Result<Answer, ReportFault> {
+    let tree = nest(alloc, graph, &handler.statement)?;
+    let answer = match tree.nested(alloc, graph) {
+        Ok(outermost) => Answer::of_value(is_nested_view(&outermost), outermost),
+        Err(_) => Answer::Refused,
+    };
+    drop(tree);
+    Ok(answer)
+}
+
 fn is_nested_walk(found: &Longest) -> bool {
     let distances = [0, 0, 0, 2, 16, 17, 40];
     let rows = found.potentials.places.items();
@@ -177,6 +203,7 @@ impl AnalysisCall {
         let graph = graph_of(alloc, handler)?;
         let answer = match self {
             AnalysisCall::Longest => longest_of(alloc, handler, &graph),
+            AnalysisCall::Nested => nested_of(alloc, handler, &graph),
             _ => Ok(nest_of(alloc, handler, &graph)),
         };
         drop(graph);
@@ -189,7 +216,9 @@ impl HandlerCall for AnalysisCall {
         match self {
             AnalysisCall::Build => Ok(built(alloc, handler)),
             AnalysisCall::Tight => tight(alloc, handler),
-            AnalysisCall::Nest | AnalysisCall::Longest => self.on_graph(alloc, handler),
+            AnalysisCall::Nest | AnalysisCall::Nested | AnalysisCall::Longest => {
+                self.on_graph(alloc, handler)
+            }
         }
     }
 }

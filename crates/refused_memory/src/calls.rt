@@ -131,6 +131,10 @@ pub(crate) const CALLS: &[(&str, Call)] = &[
         Call::Pure(Pure::Analysis(AnalysisCall::Tight)),
     ),
     ("nest", Call::Pure(Pure::Analysis(AnalysisCall::Nest))),
+    (
+        "LoopTree::nested",
+        Call::Pure(Pure::Analysis(AnalysisCall::Nested)),
+    ),
     ("longest", Call::Pure(Pure::Analysis(AnalysisCall::Longest))),
     ("FoldedWalk::push", Call::PushItems),
     (

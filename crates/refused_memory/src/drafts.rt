@@ -13,22 +13,23 @@ const DRAFT: &[u8] = b"\
 # turns back: of a loop that runs eight times seven.
 entry = \"start\"  # line 1: start MOV R1,#&3200000
 # leave = \"ram\"  # where it returns to, if always to one: \"ram\", \"rom\" or \"io\"
+returns = \"stated\"
 
 # What loads and stores reach: \"any\", \"ram\", \"rom\" or \"io\".
 access = [
-  {at = \"read\", class = \"io\"},  # line 2: read LDRB R0,[R1]
+  {at = \"read\", class = \"any\"},  # line 2: read LDRB R0,[R1]
 ]
 
 [[loop]]
 header = \"again\"  # line 4: again SUBS R2,R2,#1
 first = \"again\"  # line 4: again SUBS R2,R2,#1
 last = \"turn\"  # line 5: turn BNE again
-bound = 2  # counted
+bound = \"?\"  # 2, if no other way leads into the loop
 
 [[target]]
 at = \"jump\"  # line 6: jump ADD PC,PC,R0,LSL #2
-kind = \"?\"  # \"jump\", \"call\", \"return\" or \"leave\"
-# to = [\"?\"]  # of a jump or a call: draft from each of them too
+kind = \"jump\"  # or \"call\", \"return\", \"leave\"
+to = \"?\"  # a list, or nothing for a return: draft from each of them too
 ";
 
 /// The draft of a handler. It changes no value.

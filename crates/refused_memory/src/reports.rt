@@ -34,12 +34,17 @@ const DRAFTED: &[u8] = b"\
 # turns back: of a loop that runs eight times seven.
 entry = \"start\"  # line 1: start MOV R0,#3
 # leave = \"ram\"  # where it returns to, if always to one: \"ram\", \"rom\" or \"io\"
+returns = \"stated\"
 
 [[loop]]
 header = \"again\"  # line 2: again SUBS R0,R0,#1
 first = \"again\"  # line 2: again SUBS R0,R0,#1
 last = \"turn\"  # line 3: turn BNE again
-bound = 2  # counted
+bound = 2  # counted, if no [[target]] leads into the loop
+
+[[target]]
+at = 0x0000800C  # line 4:  SUBS PC,R14,#4
+kind = \"return\"
 ";
 
 const DRAWN: &[u8] = b"digraph handler {

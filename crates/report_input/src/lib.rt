@@ -2,9 +2,11 @@
 //! greatest walk, and a machine with the source's words in its memory.
 #![tactic(auto)]
 
+mod fiq;
 mod handler;
 mod placing;
 
+pub use fiq::fiq_handler;
 pub use handler::{
     Handler, SaidHandler, graph_is_well_formed, handler_of, longest_of, profile_of, read_handler,
     read_source, said_handler, stated_handler,

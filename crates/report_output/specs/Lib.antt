@@ -1,3 +1,5 @@
 pub mod Answers
+pub mod FaultNames
+pub mod FaultText
 pub mod Faults
 pub mod Sent

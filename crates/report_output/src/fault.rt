@@ -53,10 +53,10 @@ pub enum ReportFault {
     /// The flow graph has no edge of the number.
     #[error("NoSuchEdge")]
     NoSuchEdge,
-    /// The word is no label of the source, and no address.
-    #[error("NoSuchEntry")]
-    NoSuchEntry,
     /// The edge is not free; it leaves the address, in bytes.
     #[error("NotFree at {0:X}")]
     NotFree(u32),
+    /// The word is no label of the source, and no address.
+    #[error("NoSuchEntry")]
+    NoSuchEntry,
 }

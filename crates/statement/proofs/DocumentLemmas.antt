@@ -17,12 +17,13 @@ use Rattle.toml_reading.proofs.TwiceLemmas.{keys_not_distinct}
 use Rattle.statement.specs.StatementRules.{AccessFault, AddressFault, HasAccess, HasFault, HasParts, HasTarget, HasTwo, IsAddress, IsAt, IsSingle, LoopFault, PartsFault, RequiredFault, States, StatesAccess, StatesLoop, StatesTarget, TargetFault}
 use Rattle.statement.specs.Stated.{Stated}
 use Rattle.loader.specs.Labels.{Names}
-use Rattle.statement.specs.Statement.{Parts, access_at, access_keys, class_named_at, leave_in, loop_at, named_class, parts_of, statement_keys, statement_of, target_at, target_keys, stated_once}
+use Rattle.statement.specs.Statement.{Parts, access_at, access_keys, class_named_at, leave_in, loop_at, named_class, named_returns, parts_of, returns_in, returns_named_at, statement_keys, statement_of, target_at, target_keys, stated_once}
 use Rattle.statement.specs.StatementFaults.{number_of, statement_faults}
 use Rattle.statement.specs.declared.faults.StatementFault.{StatementFault}
+use Rattle.statement.specs.declared.stated.Returns.TheVariants.{Assumed}
 use Rattle.statement.specs.declared.faults.StatementFault.TheVariants.{Memory, NotToml, UnknownKey, WrongKind, UnknownLabel, OutOfRange, Twice}
 use Rattle.statement.proofs.RuleLemmas.{address_in_judged, one_address}
-use Rattle.statement.proofs.TableLemmas.{access_judged, loop_judged, six_in_line, target_judged, twice_last}
+use Rattle.statement.proofs.TableLemmas.{access_judged, loop_judged, seven_in_line, target_judged, twice_last}
 
 -- ## Faults differ in their numbers
 
@@ -50,6 +51,23 @@ leave_judged ms =
     (named_judged statement_faults named_class)
     Any
     (get_member (codes "leave") ms)
+
+returns_judged :
+    (ms : Members)
+    → Judges
+    statement_faults
+    (λ r. AtKeyOr (codes "returns") ms (r ≡ Assumed) (λ d. IsNamed named_returns d r))
+    (λ f. AtKey (codes "returns") ms (λ d. NameFault statement_faults named_returns d f))
+    (returns_in ms)
+returns_judged ms =
+    optional_judged
+    statement_faults
+    (IsNamed named_returns)
+    (NameFault statement_faults named_returns)
+    returns_named_at
+    (named_judged statement_faults named_returns)
+    Assumed
+    (get_member (codes "returns") ms)
 
 one_some :
     {X : Type 0} (P : X → ℕ → Type 0)
@@ -96,15 +114,17 @@ module _ (names : Names) where
   -- ## Parts
 
   abbrev made_of : Parts → Stated
-  made_of p = record { entry = p.0.0.0; leave = p.0.0.1; loops = p.0.1; targets = p.1.0; accesses = p.1.1 }
+  made_of p =
+      record { entry = p.0.0.0; leave = p.0.0.1.0; returns = p.0.0.1.1; loops = p.0.1; targets = p.1.0; accesses = p.1.1 }
 
   abbrev split : Stated → Parts
-  split st = (((st.entry, st.leave), st.loops), (st.targets, st.accesses))
+  split st = (((st.entry, (st.leave, st.returns)), st.loops), (st.targets, st.accesses))
 
   abbrev HasEach : Members → Parts → Type 0
   HasEach ms p =
       ((AtKey (codes "entry") ms (λ d. IsAddress names d p.0.0.0)
-      × AtKeyOr (codes "leave") ms (p.0.0.1 ≡ Any) (λ d. IsNamed named_class d p.0.0.1))
+      × (AtKeyOr (codes "leave") ms (p.0.0.1.0 ≡ Any) (λ d. IsNamed named_class d p.0.0.1.0)
+      × AtKeyOr (codes "returns") ms (p.0.0.1.1 ≡ Assumed) (λ d. IsNamed named_returns d p.0.0.1.1)))
       × AtKeyOr (codes "loop") ms (p.0.1 ≡ []) (λ d. IsListUpTo 256 (StatesLoop names) d p.0.1))
       × (AtKeyOr (codes "target") ms (p.1.0 ≡ []) (λ d. IsListUpTo 1024 (StatesTarget names) d p.1.0)
       × AtKeyOr (codes "access") ms (p.1.1 ≡ []) (λ d. IsListUpTo 4096 (StatesAccess names) d p.1.1))
@@ -112,7 +132,8 @@ module _ (names : Names) where
   abbrev EachFault : Members → StatementFault → Type 0
   EachFault ms f =
       ((RequiredFault (codes "entry") ms (AddressFault names) f
-      ⊎ AtKey (codes "leave") ms (λ d. NameFault statement_faults named_class d f))
+      ⊎ (AtKey (codes "leave") ms (λ d. NameFault statement_faults named_class d f)
+      ⊎ AtKey (codes "returns") ms (λ d. NameFault statement_faults named_returns d f)))
       ⊎ AtKey (codes "loop") ms (λ d. ListUpToFault statement_faults 256 (LoopFault names) d f))
       ⊎ (AtKey (codes "target") ms (λ d. ListUpToFault statement_faults 1024 (TargetFault names) d f)
       ⊎ AtKey (codes "access") ms (λ d. ListUpToFault statement_faults 4096 (AccessFault names) d f))
@@ -121,13 +142,13 @@ module _ (names : Names) where
   each_judged ms =
       pair_judged
       statement_faults
-      (λ p. (AtKey (codes "entry") ms (λ d. IsAddress names d p.0.0) × AtKeyOr (codes "leave") ms (p.0.1 ≡ Any) (λ d. IsNamed named_class d p.0.1)) × AtKeyOr (codes "loop") ms (p.1 ≡ []) (λ d. IsListUpTo 256 (StatesLoop names) d p.1))
+      (λ p. (AtKey (codes "entry") ms (λ d. IsAddress names d p.0.0) × (AtKeyOr (codes "leave") ms (p.0.1.0 ≡ Any) (λ d. IsNamed named_class d p.0.1.0) × AtKeyOr (codes "returns") ms (p.0.1.1 ≡ Assumed) (λ d. IsNamed named_returns d p.0.1.1))) × AtKeyOr (codes "loop") ms (p.1 ≡ []) (λ d. IsListUpTo 256 (StatesLoop names) d p.1))
       (λ p. AtKeyOr (codes "target") ms (p.0 ≡ []) (λ d. IsListUpTo 1024 (StatesTarget names) d p.0) × AtKeyOr (codes "access") ms (p.1 ≡ []) (λ d. IsListUpTo 4096 (StatesAccess names) d p.1))
       _
       _
       _
       _
-      (pair_judged statement_faults (λ p. AtKey (codes "entry") ms (λ d. IsAddress names d p.0) × AtKeyOr (codes "leave") ms (p.1 ≡ Any) (λ d. IsNamed named_class d p.1)) _ _ _ _ _ (pair_judged statement_faults _ _ _ _ _ _ (address_in_judged names (codes "entry") ms) (leave_judged ms)) (tables_up_to_judged statement_faults 256 (StatesLoop names) (LoopFault names) (loop_at names) (loop_judged names) (get_member (codes "loop") ms)))
+      (pair_judged statement_faults (λ p. AtKey (codes "entry") ms (λ d. IsAddress names d p.0) × (AtKeyOr (codes "leave") ms (p.1.0 ≡ Any) (λ d. IsNamed named_class d p.1.0) × AtKeyOr (codes "returns") ms (p.1.1 ≡ Assumed) (λ d. IsNamed named_returns d p.1.1))) _ _ _ _ _ (pair_judged statement_faults _ _ _ _ _ _ (address_in_judged names (codes "entry") ms) (pair_judged statement_faults _ _ _ _ _ _ (leave_judged ms) (returns_judged ms))) (tables_up_to_judged statement_faults 256 (StatesLoop names) (LoopFault names) (loop_at names) (loop_judged names) (get_member (codes "loop") ms)))
       (pair_judged statement_faults _ _ _ _ _ _ (tables_up_to_judged statement_faults 1024 (StatesTarget names) (TargetFault names) (target_at names) (target_judged names) (get_member (codes "target") ms)) (tables_up_to_judged statement_faults 4096 (StatesAccess names) (AccessFault names) (access_at names) (access_judged names) (get_member (codes "access") ms)))
 
   -- ## The whole
@@ -240,16 +261,16 @@ module _ (names : Names) where
         λ u. subst (λ (s : Stated). HasParts names ms s × IsSingle names s) (sym u.2.1) (of_each u.0 u.1, u.2.0),
         λ h. (split st, each_of st h.0, (h.1, refl)),
       ))
-      (λ f. six_in_line)
+      (λ f. seven_in_line)
       (and_then (parts_of names ms) stated_once)
       (widened_judged statement_faults _ (EachFault ms) (SingleFault ms) (TwoFault ms) (two_of ms) (two_under ms) (and_then (parts_of names ms) stated_once) (single_judged ms))
     where
       of_each : (p : Parts) → HasEach ms p → HasParts names ms (made_of p)
       of_each p s =
-          record { entry = s.0.0.0; leave = s.0.0.1; loops = s.0.1; targets = s.1.0; accesses = s.1.1 }
+          record { entry = s.0.0.0; leave = s.0.0.1.0; returns = s.0.0.1.1; loops = s.0.1; targets = s.1.0; accesses = s.1.1 }
 
       each_of : (st : Stated) → HasParts names ms st → HasEach ms (split st)
-      each_of st h = (((h.entry, h.leave), h.loops), (h.targets, h.accesses))
+      each_of st h = (((h.entry, (h.leave, h.returns)), h.loops), (h.targets, h.accesses))
 
   document_judged :
       (ms : Members)

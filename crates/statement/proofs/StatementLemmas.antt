@@ -13,10 +13,11 @@ use Rattle.toml_reading.proofs.ReadingLemmas.{also_holds, and_then_holds, pair_h
 use Rattle.statement.specs.ReadingParts.{parts_in}
 use Rattle.statement.specs.Stated.{IsLoop, IsStated, IsTarget, Target}
 use Rattle.loader.specs.Labels.{Names}
-use Rattle.statement.specs.Statement.{Parts, Read, accesses_in, address_at, address_in, destinations, destinations_at, target_of_kind, ends_in, kind_in, label_address, leave_in, loop_at, loop_in, loop_parts, loops_in, number_or_name, parts_of, placed_loop, some_destinations, stated_by, target_at, target_in, targets_in}
+use Rattle.statement.specs.Statement.{Parts, Read, accesses_in, address_at, address_in, destinations, destinations_at, target_of_kind, ends_in, kind_in, label_address, leaving_in, loop_at, loop_in, loop_parts, loops_in, number_or_name, parts_of, placed_loop, some_destinations, stated_by, target_at, target_in, targets_in}
 use Rattle.statement.specs.StatementFaults.{statement_faults}
 use Rattle.statement.specs.declared.faults.StatementFault.TheVariants.{OutOfRange, WrongKind, Twice}
 use Rattle.statement.specs.declared.stated.Loop.{Loop}
+use Rattle.statement.specs.declared.stated.Returns.{Returns}
 use Rattle.statement.specs.declared.stated.TargetKind.{TargetKind}
 use Rattle.statement.specs.declared.stated.TargetKind.TheVariants.{Jump, Call, Return, Leave}
 
@@ -191,14 +192,14 @@ parts_hold names ms =
     (λ p h. record { entry_small = h.0.0; within = h.0.1.0; few = h.0.1.1; destinations = h.1 })
     (pair_holds statement_faults (λ p. IsSmall p.0.0 × AreLoops p.1) (λ p. AreTargets p.0) few rest
     (pair_holds statement_faults (λ p. IsSmall p.0) AreLoops ends (loops_in names ms)
-    (first_holds statement_faults IsSmall (address_in names (codes "entry") ms) (leave_in ms) (address_in_small names (codes "entry") ms))
+    (first_holds statement_faults IsSmall (address_in names (codes "entry") ms) (leaving_in ms) (address_in_small names (codes "entry") ms))
     (loops_hold names ms))
     (first_holds statement_faults AreTargets (targets_in names ms) (accesses_in names ms) (targets_hold names ms)))
 
 -- ## As they are stored
 
 pub stored :
-    (e : Read (ℕ × Class)) (l : Read (Vec Loop Global)) (t : Read (Vec (ℕ × Target) Global)) (a : Read (Vec (ℕ × Class) Global))
+    (e : Read (ℕ × (Class × Returns))) (l : Read (Vec Loop Global)) (t : Read (Vec (ℕ × Target) Global)) (a : Read (Vec (ℕ × Class) Global))
     → reading_map parts_in (pair statement_faults (pair statement_faults e l) (pair statement_faults t a)) ≡ pair statement_faults (pair statement_faults e (items_in l)) (pair statement_faults (items_in t) (items_in a))
 stored e l t a =
     map_pair

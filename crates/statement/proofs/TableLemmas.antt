@@ -76,28 +76,37 @@ module _ {A B C D E : Type 0} where
     ],
   )
 
-module _ {A B C D E F : Type 0} where
-  pub six_in_line : ((((A ⊎ B) ⊎ C) ⊎ (D ⊎ E)) ⊎ F) ↔ (A ⊎ B ⊎ C ⊎ D ⊎ E ⊎ F)
-  six_in_line = (
+module _ {A B X C D E F : Type 0} where
+  pub seven_in_line : ((((A ⊎ (B ⊎ X)) ⊎ C) ⊎ (D ⊎ E)) ⊎ F) ↔ (A ⊎ B ⊎ X ⊎ C ⊎ D ⊎ E ⊎ F)
+  seven_in_line = (
     λ x. elim x [
       | inl y ↦ elim y [
         | inl abc ↦ elim abc [
-          | inl ab ↦ elim ab [ inl a ↦ inl a | inr b ↦ inr (inl b) ]
-          | inr c ↦ inr (inr (inl c))
+          | inl ab ↦ elim ab [
+            | inl a ↦ inl a
+            | inr bx ↦ elim bx [ inl b ↦ inr (inl b) | inr x ↦ inr (inr (inl x)) ]
+          ]
+          | inr c ↦ inr (inr (inr (inl c)))
         ]
-        | inr de ↦ elim de [ inl d ↦ inr (inr (inr (inl d))) | inr e ↦ inr (inr (inr (inr (inl e)))) ]
+        | inr de ↦ elim de [
+          | inl d ↦ inr (inr (inr (inr (inl d))))
+          | inr e ↦ inr (inr (inr (inr (inr (inl e)))))
+        ]
       ]
-      | inr f ↦ inr (inr (inr (inr (inr f))))
+      | inr f ↦ inr (inr (inr (inr (inr (inr f)))))
     ],
     λ x. elim x [
       | inl a ↦ inl (inl (inl (inl a)))
       | inr bs ↦ elim bs [
-        | inl b ↦ inl (inl (inl (inr b)))
-        | inr cs ↦ elim cs [
-          | inl c ↦ inl (inl (inr c))
-          | inr ds ↦ elim ds [
-            | inl d ↦ inl (inr (inl d))
-            | inr es ↦ elim es [ inl e ↦ inl (inr (inr e)) | inr f ↦ inr f ]
+        | inl b ↦ inl (inl (inl (inr (inl b))))
+        | inr xs ↦ elim xs [
+          | inl x ↦ inl (inl (inl (inr (inr x))))
+          | inr cs ↦ elim cs [
+            | inl c ↦ inl (inl (inr c))
+            | inr ds ↦ elim ds [
+              | inl d ↦ inl (inr (inl d))
+              | inr es ↦ elim es [ inl e ↦ inl (inr (inr e)) | inr f ↦ inr f ]
+            ]
           ]
         ]
       ]

@@ -6,6 +6,7 @@ use Rattle.bus_ticks.specs.declared.profile.Class.{Class}
 use Rattle.bus_ticks.specs.declared.profile.Class.TheVariants.{Any}
 use Rattle.walks.specs.declared.limits.TheConstants.{MOST_ROUNDS}
 use Rattle.statement.specs.declared.stated.Loop.{Loop}
+use Rattle.statement.specs.declared.stated.Returns.{Returns}
 use Rattle.statement.specs.declared.stated.TargetKind.{TargetKind}
 
 -- what a word that writes R15 does; the destinations of a jump or a call, in the text's order
@@ -13,12 +14,13 @@ pub record Target : Type 0 where
   pub kind : TargetKind
   pub to : List ℕ
 
--- the entry's address, the class of the addresses to which the handler leaves, the loops, the targets of the
--- words at some addresses, and the classes of the addresses that the words at some addresses transfer, in the
+-- the entry's address, the class of the addresses to which the handler leaves, whether a word that writes R15
+-- and has no target returns or must have one, the loops, the targets of the words at some addresses, and the classes of the addresses that the words at some addresses transfer, in the
 -- text's order
 pub record Stated : Type 0 where
   pub entry : ℕ
   pub leave : Class
+  pub returns : Returns
   pub loops : List Loop
   pub targets : List (ℕ × Target)
   pub accesses : List (ℕ × Class)

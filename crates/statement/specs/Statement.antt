@@ -18,6 +18,8 @@ use Rattle.statement.specs.declared.faults.StatementFault.{StatementFault}
 use Rattle.statement.specs.declared.faults.StatementFault.TheVariants.{NotToml, WrongKind, UnknownLabel}
 use Rattle.statement.specs.declared.faults.StatementFault.TheVariants.{OutOfRange, Twice}
 use Rattle.statement.specs.declared.stated.Loop.{Loop}
+use Rattle.statement.specs.declared.stated.Returns.{Returns}
+use Rattle.statement.specs.declared.stated.Returns.TheVariants as returns
 use Rattle.statement.specs.declared.stated.TargetKind.{TargetKind}
 use Rattle.statement.specs.declared.stated.TargetKind.TheVariants.{Jump, Call, Return, Leave}
 
@@ -27,7 +29,8 @@ Read A = Reading StatementFault A
 -- ## The keys of the statement and of the tables of its lists
 
 abbrev pub statement_keys : List (List ℕ)
-statement_keys = codes "entry" ∷ codes "leave" ∷ codes "loop" ∷ codes "target" ∷ codes "access" ∷ []
+statement_keys =
+    codes "entry" ∷ codes "leave" ∷ codes "returns" ∷ codes "loop" ∷ codes "target" ∷ codes "access" ∷ []
 
 abbrev pub loop_keys : List (List ℕ)
 loop_keys = codes "header" ∷ codes "first" ∷ codes "last" ∷ codes "bound" ∷ []
@@ -59,9 +62,17 @@ named_kind w = if bytes_eq w (codes "jump") then Some Jump else (if bytes_eq w (
     (if bytes_eq w (codes "return") then Some Return
     else (if bytes_eq w (codes "leave") then Some Leave else None)))
 
+-- whether a word that writes R15 and has no stated target returns, or must have one
+abbrev pub named_returns : List ℕ → Option Returns
+named_returns w = if bytes_eq w (codes "assumed") then Some returns.Assumed
+    else (if bytes_eq w (codes "stated") then Some returns.Stated else None)
+
 -- the class that a value names
 abbrev pub class_named_at : Data → Read Class
 class_named_at d = name_at statement_faults named_class d
+
+abbrev pub returns_named_at : Data → Read Returns
+returns_named_at d = name_at statement_faults named_returns d
 
 abbrev pub kind_at : Data → Read TargetKind
 kind_at d = name_at statement_faults named_kind d
@@ -99,14 +110,29 @@ class_in ms = required statement_faults (get_member (codes "class") ms) class_na
 abbrev pub leave_in : Members → Read Class
 leave_in ms = optional Any (get_member (codes "leave") ms) class_named_at
 
--- the entry and the class to leave to, the loops, the targets and the accesses
+-- what such a word does: it returns where the key is missing
+abbrev pub returns_in : Members → Read Returns
+returns_in ms = optional returns.Assumed (get_member (codes "returns") ms) returns_named_at
+
+-- how the handler leaves
+abbrev pub leaving_in : Members → Read (Class × Returns)
+leaving_in ms = pair statement_faults (leave_in ms) (returns_in ms)
+
+-- the entry and how the handler leaves, the loops, the targets and the accesses
 abbrev pub Parts : Type 0
-Parts = ((ℕ × Class) × List Loop) × (List (ℕ × Target) × List (ℕ × Class))
+Parts = ((ℕ × (Class × Returns)) × List Loop) × (List (ℕ × Target) × List (ℕ × Class))
 
 -- what the parts state
 abbrev pub stated_by : Parts → Stated
 stated_by p =
-    record { entry = p.0.0.0; leave = p.0.0.1; loops = p.0.1; targets = p.1.0; accesses = p.1.1 }
+    record {
+      entry = p.0.0.0;
+      leave = p.0.0.1.0;
+      returns = p.0.0.1.1;
+      loops = p.0.1;
+      targets = p.1.0;
+      accesses = p.1.1;
+    }
 
 -- one target and one access at most for an address
 abbrev pub stated_once : Parts → Read Stated
@@ -182,8 +208,8 @@ module _ (names : Names) where
 
   -- ## The statement
 
-  abbrev pub ends_in : Members → Read (ℕ × Class)
-  ends_in ms = pair statement_faults (address_in (codes "entry") ms) (leave_in ms)
+  abbrev pub ends_in : Members → Read (ℕ × (Class × Returns))
+  ends_in ms = pair statement_faults (address_in (codes "entry") ms) (leaving_in ms)
 
   abbrev pub loops_in : Members → Read (List Loop)
   loops_in ms = tables_up_to statement_faults 256 loop_at (get_member (codes "loop") ms)

@@ -6,6 +6,7 @@ abbrev pub stated_of : Inside → Stated
 stated_of statement = record {
   entry = statement.entry;
   leave = statement.leave;
+  returns = statement.returns;
   loops = statement.loops.items;
   targets = statement.targets.entries;
   accesses = statement.accesses.entries;

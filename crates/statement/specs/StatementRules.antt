@@ -13,13 +13,14 @@ use Rattle.toml_reading.specs.Lowest.{AtKey, AtKeyOr, IsNamed, IsNoAddress, IsNu
 use Rattle.toml_reading.specs.Lowest.{KeysFault, NameFault, NumberFault, TableFault}
 use Rattle.statement.specs.Stated.{Stated, Target}
 use Rattle.loader.specs.Labels.{Names}
-use Rattle.statement.specs.Statement.{access_keys, loop_keys, named_class, named_kind, statement_keys}
-use Rattle.statement.specs.Statement.{target_keys}
+use Rattle.statement.specs.Statement.{access_keys, loop_keys, named_class, named_kind, named_returns}
+use Rattle.statement.specs.Statement.{statement_keys, target_keys}
 use Rattle.statement.specs.StatementFaults.{statement_faults}
 use Rattle.statement.specs.declared.faults.StatementFault.{StatementFault}
 use Rattle.statement.specs.declared.faults.StatementFault.TheVariants.{WrongKind, UnknownLabel, OutOfRange}
 use Rattle.statement.specs.declared.faults.StatementFault.TheVariants.{Twice}
 use Rattle.statement.specs.declared.stated.Loop.{Loop}
+use Rattle.statement.specs.declared.stated.Returns.TheVariants.{Assumed}
 use Rattle.statement.specs.declared.stated.TargetKind.{TargetKind}
 use Rattle.statement.specs.declared.stated.TargetKind.TheVariants.{Jump, Call, Return, Leave}
 
@@ -151,11 +152,14 @@ module _ (names : Names) where
 
   -- ## The statement
 
-  -- what is at the document's keys. The class to leave to is any where it is missing, and there are no
-  -- loops, targets or accesses where their list is
+  -- what is at the document's keys. The class to leave to is any where it is missing, a word that writes R15
+  -- and has no target returns where nothing is said, and there are no loops, targets or accesses where their
+  -- list is missing
   pub record HasParts (ms : Members) (st : Stated) : Type 0 where
     pub entry : AtKey (codes "entry") ms (λ d. IsAddress names d st.entry)
     pub leave : AtKeyOr (codes "leave") ms (st.leave ≡ Any) (λ d. IsNamed named_class d st.leave)
+    pub returns : AtKeyOr (codes "returns") ms (st.returns ≡ Assumed)
+        (λ d. IsNamed named_returns d st.returns)
     pub loops : AtKeyOr (codes "loop") ms (st.loops ≡ []) (λ d. IsListUpTo 256 StatesLoop d st.loops)
     pub targets : AtKeyOr (codes "target") ms (st.targets ≡ [])
         (λ d. IsListUpTo 1024 StatesTarget d st.targets)
@@ -185,6 +189,7 @@ module _ (names : Names) where
   PartsFault ms fault =
       RequiredFault (codes "entry") ms (AddressFault names) fault
       ⊎ AtKey (codes "leave") ms (λ d. NameFault statement_faults named_class d fault)
+      ⊎ AtKey (codes "returns") ms (λ d. NameFault statement_faults named_returns d fault)
       ⊎ AtKey (codes "loop") ms (λ d. ListUpToFault statement_faults 256 LoopFault d fault)
       ⊎ AtKey (codes "target") ms (λ d. ListUpToFault statement_faults 1024 TargetFault d fault)
       ⊎ AtKey (codes "access") ms (λ d. ListUpToFault statement_faults 4096 AccessFault d fault)

@@ -7,10 +7,11 @@ ghost use Rattle.statement.specs.Statement.{access_at, access_in, address_at, ad
 ghost use Rattle.statement.specs.Statement.{class_in, class_name};
 ghost use Rattle.statement.specs.Statement.{destinations, destinations_at, target_of_kind, kind_at, kind_in};
 ghost use Rattle.statement.specs.Statement.{label_address, loop_at, loop_in, loop_parts, named_class};
-ghost use Rattle.statement.specs.Statement.{named_kind, placed_loop, some_destinations, target_at, target_in};
+ghost use Rattle.statement.specs.Statement.{named_kind, named_returns, placed_loop, returns_named_at};
+ghost use Rattle.statement.specs.Statement.{some_destinations, target_at, target_in};
 
 use crate::faults::{Read, StatementFault};
-use crate::stated::{Loop, Target, TargetKind};
+use crate::stated::{Loop, Returns, Target, TargetKind};
 use bus_ticks::Class;
 use loader::Labels;
 use std::alloc::{AllocError, Global};
@@ -154,6 +155,27 @@ pub(crate) fn class_named_at(value: &Value) -> Read<Class>
 {
     let word = value.as_str().map(str::as_bytes);
     required(word.and_then(named_class), Ok)
+}
+
+/// What a word at the key `returns` says of words that write R15 and have no stated target.
+pub fn named_returns(word: &[u8]) -> Option<Returns>
+    ensures { result ≡ named_returns word.now }
+{
+    if word == b"assumed".as_slice() {
+        return Some(Returns::Assumed);
+    }
+    if word == b"stated".as_slice() {
+        return Some(Returns::Stated);
+    }
+    None
+}
+
+/// What a value says of such words.
+pub(crate) fn returns_named_at(value: &Value) -> Read<Returns>
+    ensures { result ≡ returns_named_at (view value.now) }
+{
+    let word = value.as_str().map(str::as_bytes);
+    required(word.and_then(named_returns), Ok)
 }
 
 fn class_in(table: &Table) -> Read<Class>

@@ -1,5 +1,5 @@
 //! What an author states of a handler, read from TOML: the entry, the class of the addresses to which it
-//! leaves, the loops, the targets of words that write R15, and the classes of transfers.
+//! leaves, whether returns are stated, the loops, the targets of words that write R15, and the classes of transfers.
 #![tactic(auto)]
 
 mod entries;
@@ -10,9 +10,10 @@ mod stated;
 
 pub use entries::{
     ACCESS_KEYS, LOOP_KEYS, MOST_DESTINATIONS, TARGET_KEYS, class_name, named_class, named_kind,
+    named_returns,
 };
 pub use faults::StatementFault;
 pub use law::statements_are_read;
 pub use reading::{MOST_ACCESSES, MOST_LOOPS, MOST_TARGETS, STATEMENT_KEYS, read_statement};
-pub use stated::{Loop, Statement, Target, TargetKind};
+pub use stated::{Loop, Returns, Statement, Target, TargetKind};
 pub use walks::MOST_ROUNDS;

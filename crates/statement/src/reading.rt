@@ -4,12 +4,12 @@ ghost use Rattle.loader.specs.Labels.{address_of};
 ghost use Rattle.toml_reading.specs.Readings.{and_then, reading_map};
 ghost use Rattle.statement.specs.ReadingParts.{parts_in};
 ghost use Rattle.statement.specs.Stated.{IsStated};
-ghost use Rattle.statement.specs.Statement.{IsStatement, ends_in, leave_in, parts_of, stated_by, stated_once};
-ghost use Rattle.statement.specs.Statement.{statement_of};
+ghost use Rattle.statement.specs.Statement.{IsStatement, ends_in, leave_in, leaving_in, parts_of, returns_in};
+ghost use Rattle.statement.specs.Statement.{stated_by, stated_once, statement_of};
 
-use crate::entries::{address_in, class_named_at};
+use crate::entries::{address_in, class_named_at, returns_named_at};
 use crate::faults::{Read, StatementFault};
-use crate::stated::{Loop, Statement, Target};
+use crate::stated::{Loop, Returns, Statement, Target};
 use bus_ticks::Class;
 use loader::Labels;
 use std::alloc::{AllocError, Global};
@@ -17,7 +17,7 @@ use toml::Table;
 use toml_reading::{by_number, document, of_keys, pair, tables_up_to, value_at};
 
 /// The keys of a statement.
-pub const STATEMENT_KEYS: &[&str] = &["entry", "leave", "loop", "target", "access"];
+pub const STATEMENT_KEYS: &[&str] = &["entry", "leave", "returns", "loop", "target", "access"];
 
 /// The most loops of a statement.
 pub const MOST_LOOPS: usize = 256;
@@ -35,15 +35,29 @@ fn leave_in(table: &Table) -> Read<Class>
     value_at(table, "leave").map_or(Ok(Class::Any), class_named_at)
 }
 
-// The entry, and the class to leave to.
-fn ends_in(labels: &Labels, table: &Table) -> Read<(u32, Class)>
+// What a word does that writes R15 and has no stated target.
+fn returns_in(table: &Table) -> Read<Returns>
+    ensures { result ≡ returns_in (table_view table.now) }
+{
+    value_at(table, "returns").map_or(Ok(Returns::Assumed), returns_named_at)
+}
+
+// How the handler leaves: the class to leave to, and whether returns are stated.
+fn leaving_in(table: &Table) -> Read<(Class, Returns)>
+    ensures { result ≡ leaving_in (table_view table.now) }
+{
+    pair(leave_in(table), returns_in(table))
+}
+
+// The entry, and how the handler leaves.
+fn ends_in(labels: &Labels, table: &Table) -> Read<(u32, (Class, Returns))>
     ensures { result ≡ ends_in (address_of labels.now) (table_view table.now) }
 {
-    pair(address_in(labels, table, "entry"), leave_in(table))
+    pair(address_in(labels, table, "entry"), leaving_in(table))
 }
 
 type Parts = (
-    ((u32, Class), Vec<Loop>),
+    ((u32, (Class, Returns)), Vec<Loop>),
     (Vec<(u32, Target)>, Vec<(u32, Class)>),
 );
 
@@ -52,7 +66,7 @@ fn stated_once(alloc: Global, parts: Read<Parts>) -> Result<Read<Statement>, All
     requires { IfOk (reading_map parts_in parts) (λ p. IsStated (stated_by p)) }
     ensures { IfOk result (λ reading. reading ≡ and_then (reading_map parts_in parts) stated_once) }
 {
-    let (((entry, leave), loops), (targets, accesses)) = match parts {
+    let (((entry, (leave, returns)), loops), (targets, accesses)) = match parts {
         Ok(parts) => parts,
         Err(fault) => return Ok(Err(fault)),
     };
@@ -65,6 +79,7 @@ fn stated_once(alloc: Global, parts: Read<Parts>) -> Result<Read<Statement>, All
     Ok(Ok(Statement {
         entry,
         leave,
+        returns,
         loops,
         targets,
         accesses,

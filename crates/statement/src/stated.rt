@@ -30,6 +30,15 @@ pub enum TargetKind {
     Leave,
 }
 
+/// What a word that writes R15 does where no target is stated for it.
+#[derive(Clone, Copy, Debug, PartialEq, Eq)]
+pub enum Returns {
+    /// It returns.
+    Assumed,
+    /// It may not be: each such word has a stated target, or the handler is refused.
+    Stated,
+}
+
 /// What a word that writes R15 is stated to do. A return and a leave have no destinations.
 #[derive(Drop)]
 pub struct Target {
@@ -71,6 +80,7 @@ impl Target {
 pub struct Statement {
     pub(crate) entry: u32,
     pub(crate) leave: Class,
+    pub(crate) returns: Returns,
     pub(crate) loops: Vec<Loop>,
     pub(crate) targets: IndexMap<u32, Target>,
     pub(crate) accesses: IndexMap<u32, Class>,
@@ -102,6 +112,13 @@ impl Statement {
         ensures { result ≡ self.now.leave }
     {
         self.leave
+    }
+
+    /// Whether a word that writes R15 and has no stated target returns, or must have one.
+    pub fn returns(&self) -> Returns
+        ensures { result ≡ self.now.returns }
+    {
+        self.returns
     }
 
     /// The loops, in the order of the text.

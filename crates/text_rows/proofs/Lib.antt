@@ -2,3 +2,4 @@ mod AddressLaws
 pub mod ColumnLaws
 pub mod LineLaws
 pub mod RowLaws
+mod WordLineLaws

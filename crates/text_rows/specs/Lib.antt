@@ -4,3 +4,4 @@ pub mod ByAddress
 pub mod LineLabels
 pub mod Lines
 pub mod Rows
+pub mod WordLines

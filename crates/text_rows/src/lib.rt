@@ -7,6 +7,7 @@ mod columns;
 mod line_labels;
 mod lines;
 mod rows;
+mod word_lines;
 
 pub use addresses::put_labelled;
 pub use by_address::lines_by_address;
@@ -16,3 +17,4 @@ pub use columns::{
 pub use line_labels::{SourceLine, first_word, label_of};
 pub use lines::{LineRows, WordRows, put_line_rows, put_word_rows};
 pub use rows::{NumberedLine, put_address, put_address_row, put_named_row, put_shown_row, section};
+pub use word_lines::source_lines;

@@ -13,7 +13,7 @@ pub struct SourceLine<'a> {
     pub number: usize,
     /// The label of the word, empty where there is none.
     pub label: &'a [u8],
-    /// Its text, with or without its comment.
+    /// Its text, with its comment.
     pub text: &'a [u8],
 }
 

@@ -49,18 +49,19 @@ pub(crate) struct Judgement {
     bound: Bounded,
     run: Run,
     followed: Followed,
+    before: u64,
     edges: Edges,
     dearer: Edges,
 }
 
 impl Judgement {
-    /// Whether each certificate was accepted, the run kept the bound, `follow` printed its ticks or that it
-    /// starts elsewhere than at the entry, and each free edge takes its cost.
+    /// Whether each certificate was accepted, the run kept the bound, `follow` printed its ticks from the
+    /// entry on, and each free edge takes its cost.
     pub(crate) fn holds(&self) -> bool {
         self.bound.accepted
             && self.run.finished
             && self.run.ticks <= self.bound.ticks
-            && self.followed.fits(self.run.ticks, self.bound.ticks)
+            && self.followed.fits(self.run.ticks.saturating_sub(self.before), self.bound.ticks)
             && self.edges.exact
             && self.dearer.exact
     }
@@ -204,18 +205,23 @@ pub(crate) fn judge<S: Store>(
     sample: Sample,
 ) -> Result<Judgement, HandlerFault> {
     let files = read_files(alloc, store, sample.folder)?;
-    let bound = match sample.visits {
-        None => bounded_alone(alloc, &files)?,
+    let (bound, followed) = match sample.visits {
+        None => (
+            bounded_alone(alloc, &files)?,
+            follow_run(alloc, &files, None)?,
+        ),
         Some(visits) => {
             let fiq = read_file(alloc, store, sample.folder, "fiq.toml")?;
-            bounded_with_visits(alloc, &files, &fiq, visits)?
+            let bound = bounded_with_visits(alloc, &files, &fiq, visits)?;
+            (bound, follow_run(alloc, &files, Some(&fiq))?)
         }
     };
     let profile = store.read(alloc, "dearer.toml")?;
     Ok(Judgement {
         bound,
         run: run_of(alloc, &files)?,
-        followed: follow_run(alloc, &files)?,
+        followed,
+        before: sample.before,
         edges: edges_of(alloc, &files, None)?,
         dearer: edges_of(alloc, &files, Some(&profile))?,
     })

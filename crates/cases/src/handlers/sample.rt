@@ -5,12 +5,15 @@ pub(crate) struct Sample {
     pub(crate) folder: &'static str,
     /// For a handler that FIQ interrupts, how often it does so in the run; `fiq.toml` is FIQ's statement.
     pub(crate) visits: Option<u32>,
+    /// The ticks of the steps with which the machine file's run comes to the entry.
+    pub(crate) before: u64,
 }
 
 fn alone(folder: &'static str) -> Sample {
     Sample {
         folder,
         visits: None,
+        before: 0,
     }
 }
 
@@ -29,6 +32,7 @@ pub(crate) fn samples() -> [Sample; 10] {
         Sample {
             folder: "podule_and_floppy",
             visits: Some(2),
+            before: 16,
         },
     ]
 }

@@ -1,5 +1,5 @@
 use Rattle.std.proofs.lemmas.Result.{IfOk-weaker}
-use Rattle.arcwcet.proofs.VisitsReportLemmas.{enters_there, fiq_answer}
+use Rattle.report_input.proofs.FiqLemmas.{enters_there, fiq_answer}
 use Rattle.arcwcet.proofs.visits.fiq_report.Goals as goal
 
 pub returns-clause-report : goal.returns-clause-report

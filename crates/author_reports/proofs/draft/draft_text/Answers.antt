@@ -1,7 +1,8 @@
-use Rattle.std.proofs.Common.{rules}
-use Rattle.report_input.proofs.SourceLemmas.{text_refused}
 use Rattle.author_reports.proofs.draft.draft_text.Goals as goal
 
-pub returns-in_err-placed-clause-fault : goal.returns-in_err-placed-clause-fault
-returns-in_err-placed-clause-fault c =
-    text_refused c.args.source.now c.in_err-placed.field-0.0 c.from_residual.result c.from_residual.ensures.1 (search rules) c.in_err-placed.ensures.fault
+pub returns-clause-draft : goal.returns-clause-draft
+returns-clause-draft c = record {
+  placed = c.in_ok-placed.placed.items;
+  are_placed = c.in_ok-placed.ensures.placed;
+  is_draft = rw c.deref.ensures.value at c.in_ok-text.ensures;
+}

@@ -57,6 +57,6 @@ returns-clause-explains c = λ names said loops.
           (text_was_assembled source words loops.graph.names is loops.graph.source_is) stand on);
     } in
     let starts = subst (AreWorstStarts h.graph h.tree) (sym c.deref.ensures.value) c.in_ok-starts.ensures.starts in
-    explained source statement profile c.args.image.now names said h.statement h.graph h.tree loops c.requires
+    explained source statement profile c.args.image.now names said h.statement h.graph h.tree loops c.requires c.run_law.ensures formed
     c.args.explained.bursts found (latest_at h.graph.places c.deref.result.now) c.in_ok-text.text.items c.in_ok-found.ensures.longest
     (λ a. c.latest_starts_are_of_walks.ensures h.graph h.tree c.deref.result.now a formed starts) c.in_ok-found.ensures.allowed c.in_ok-text.ensures.text total

@@ -1,7 +1,8 @@
-use Rattle.std.proofs.Common.{List, subst}
+use Rattle.std.proofs.Common.{ℕ, List, subst}
 use Rattle.std.proofs.lemmas.Result.{IfOk-weaker}
 use Rattle.arm2_exec.specs.declared.machine.Input.{Input}
 use Rattle.kept_runs.specs.Keeping.{IsFollowed}
+use Rattle.author_reports.specs.FollowWork.{IsFollowedText}
 use Rattle.author_reports.proofs.FollowLemmas.{all_places, run_text}
 use Rattle.author_reports.proofs.follow.judged_run.Goals as goal
 
@@ -28,6 +29,6 @@ returns-clause-judged c =
     (λ j text. record {
       inputs = inputs;
       inputs_are = c.in_ok-inputs.ensures;
-      is_text = run_text b.image.now h.statement h.graph h.tree c.requires.tree b.source.now b.longest.now start inputs c.graph_is_well_formed.ensures c.step_law.ensures.cost c.run_law.ensures c.requires.longest c.requires.greatest after f j.kept j.text.items is text;
+      is_text = run_text b.image.now h.statement h.graph h.tree c.requires.tree b.source.now b.longest.now start inputs c.graph_is_well_formed.ensures c.step_law.ensures.cost c.run_law.ensures c.requires.longest c.requires.greatest after f j.kept j.text.items is (subst (λ (at : ℕ). IsFollowedText b.source.now b.image.now h.statement h.graph b.longest.now at f j.kept j.text.items) c.address-after.ensures.address text);
     })
     c.judgement.ensures.text

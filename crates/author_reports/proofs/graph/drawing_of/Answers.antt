@@ -27,5 +27,5 @@ returns-clause-draws c = λ statement profile names said loops.
     drawn c.args.source.now statement profile c.args.image.now names said h.statement h.graph h.tree loops c.requires
     found c.deref.result.now c.in_ok-text.text.items is c.in_ok-found.ensures.allowed
     (subst (λ (ls : List (Vec ℕ Global)). AreLabelsOf c.args.source.now c.args.image.now h.graph.places ls) (sym c.deref.ensures.value) c.in_ok-labels.ensures.labels)
-    (c.places_are_drawn_once.ensures.places h.graph h.tree) (c.places_are_drawn_once.ensures.edges h.graph h.tree c.graph_is_well_formed.ensures c.requires.tree_is) d
+    (c.places_are_drawn_once.ensures.places h.graph h.tree c.graph_is_well_formed.ensures c.requires.tree_is) (c.places_are_drawn_once.ensures.edges h.graph h.tree c.graph_is_well_formed.ensures c.requires.tree_is) d
     (c.node_ticks_are_the_bound.ensures h.graph h.tree found.bound found.walk d.counts c.graph_is_well_formed.ensures c.requires.tree_is is.walk_is (bound_fits h.graph h.tree found is) d.are_counts)

@@ -1,4 +1,4 @@
-use Rattle.std.proofs.Common.{◌∙◌, arith}
+use Rattle.std.proofs.Common.{◌∙◌, sym, arith}
 use Rattle.diagnosis.specs.Outline.{key_value_of}
 use Rattle.diagnosis.specs.Refused.{stated_at}
 use Rattle.diagnosis.proofs.CountedLemmas.{counted, listed_value}
@@ -6,6 +6,6 @@ use Rattle.diagnosis.proofs.statements.value_after.Goals as goal
 
 pub loop-item-preserved : goal.loop-item-preserved
 loop-item-preserved c =
-    counted (stated_at c.args.key.now) c.args.items.now c.loop-item.item-index c.loop-item.left _ _ _ c.loop-item-test.true c.in-States.is
-    (λ items. listed_value c.args.key.now (key_value_of c.in-States.pair) items c.if-ne.ensures) (omega (arith, c.if-left-eq0.false))
+    counted (stated_at c.args.depth c.args.key.now) c.args.items.now c.loop-item.item-index c.loop-item.left _ _ _ c.loop-item-test.true c.in-States.is
+    (λ items. listed_value c.args.depth c.args.key.now (key_value_of c.in-States.pair) items (sym c.is_at_key.ensures ∙ c.if-not-is_at_key.false)) (omega (arith, c.if-left-eq0.false))
     ∙ c.loop-item.invariant

@@ -5,5 +5,5 @@ use Rattle.diagnosis.proofs.statements.value_after.Given as goal
 
 abbrev pub invariant-loop-item : goal.invariant-loop-item
 invariant-loop-item l =
-    first_after l.left (stated_at l.key (map item_of (drop l.item-index l.items)))
-    ≡ first_after l.most (stated_at l.key (map item_of l.items))
+    first_after l.left (stated_at l.depth l.key (map item_of (drop l.item-index l.items)))
+    ≡ first_after l.most (stated_at l.depth l.key (map item_of l.items))

@@ -1,7 +1,7 @@
 use Rattle.std.proofs.Common.{◌∙◌, ◌++◌, ap, codes, flat_map, length}
 use Rattle.std.specs.List.{range_with_len}
 use Rattle.assembler.proofs.PutLaws.{three}
-use Rattle.dot_text.specs.Parts.{drawn_ended}
+use Rattle.dot_text.specs.Parts.{drawn_begun}
 use Rattle.dot_text.specs.Text.{name}
 use Rattle.dot_text.proofs.document.drawn_text.Goals as goal
 
@@ -9,7 +9,7 @@ pub returns : goal.returns
 returns c =
     let d = c.args.drawn in
     let exit = length d.graph.now.places in
-    let all = flat_map (drawn_ended d) (range_with_len 0 exit) in
+    let all = flat_map (drawn_begun d) (range_with_len 0 exit) in
     let last = codes " [label=\"Exit\", shape=oval];\n}\n" in
     let fonts = codes "edge [fontname=\"Courier\"];\ngraph [fontname=\"Courier\"];\n" in
     three c.put.new.out.items all (name exit) last c.in_ok-put_stretches.ensures

@@ -1,6 +1,7 @@
-use Rattle.std.proofs.Common.{◌∙◌, ◌+◌, ◌++◌, ap, codes, decimal, flat_map}
+use Rattle.std.proofs.Common.{◌∙◌, ◌++◌, ap, codes, decimal, flat_map}
 use Rattle.std.proofs.lemmas.Result.{on_ok_weaker}
-use Rattle.dot_text.specs.Stretches.{between, passes, stretch_ticks}
+use Rattle.dot_text.specs.Chains.{first_in}
+use Rattle.dot_text.specs.Stretches.{passes, stretch_ticks}
 use Rattle.dot_text.specs.Parts.{drawn_row}
 use Rattle.dot_text.specs.Text.{name, style}
 use Rattle.dot_text.proofs.DrawLaws.{nine}
@@ -9,12 +10,12 @@ use Rattle.dot_text.proofs.nodes.put_node.Goals as goal
 pub returns : goal.returns
 returns c =
     let d = c.args.drawn in
-    let first = c.args.stretch.first in
-    let last = c.args.stretch.last in
+    let numbers = c.args.numbers.now in
+    let first = first_in numbers in
     let passed = passes d.graph.now d.tree.now d.counts.now first in
     on_ok_weaker c.put_style.result
-    (λ style_is. nine c.args.out.now.items (name first) (codes " [label=\"") (flat_map (drawn_row d) (between first (last + 1)))
-    (codes "passes ") (decimal passed) (codes ", ticks in all ") (decimal (stretch_ticks d.graph.now d.tree.now d.counts.now first last)) (codes "\\l") (style passed)
+    (λ style_is. nine c.args.out.now.items (name first) (codes " [label=\"") (flat_map (drawn_row d) numbers)
+    (codes "passes ") (decimal passed) (codes ", ticks in all ") (decimal (stretch_ticks d.graph.now d.tree.now d.counts.now numbers)) (codes "\\l") (style passed)
     c.in_ok-put_name.ensures c.in_ok-put.ensures c.in_ok-put_rows.ensures c.in_ok-put-2.ensures
     (c.in_ok-put_decimal.ensures ∙ ap (λ n. c.put-2.new.out.items ++ decimal n) c.passes-passes.ensures) c.in_ok-put-3.ensures
     (c.in_ok-put_decimal-2.ensures ∙ ap (λ n. c.put-3.new.out.items ++ decimal n) c.stretch_ticks.ensures) c.in_ok-put-4.ensures

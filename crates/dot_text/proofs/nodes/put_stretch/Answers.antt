@@ -1,6 +1,7 @@
 use Rattle.std.proofs.Common.{codes, flat_map}
 use Rattle.std.proofs.lemmas.Result.{on_ok_weaker}
 use Rattle.text_rows.proofs.ColumnLaws.{five_parts}
+use Rattle.dot_text.specs.Chains.{first_in, last_in}
 use Rattle.dot_text.specs.Clusters.{closed, opened}
 use Rattle.dot_text.specs.Stretches.{leaving}
 use Rattle.dot_text.specs.Parts.{drawn_edge, drawn_node}
@@ -9,8 +10,10 @@ use Rattle.dot_text.proofs.nodes.put_stretch.Goals as goal
 pub returns : goal.returns
 returns c =
     let d = c.args.drawn in
+    let numbers = c.args.numbers.now in
+    let first = first_in numbers in
     on_ok_weaker c.put_edges.result
-    (five_parts c.args.out.now.items (opened d.graph.now d.tree.now c.args.whole.first) (drawn_node d c.args.whole.first c.args.whole.last)
-    (closed d.graph.now d.tree.now c.args.whole.first) (codes "\n") (flat_map (drawn_edge d c.args.whole.first) (leaving d.graph.now d.tree.now c.args.whole.last))
+    (five_parts c.args.out.now.items (opened d.graph.now d.tree.now first) (drawn_node d numbers)
+    (closed d.graph.now d.tree.now first) (codes "\n") (flat_map (drawn_edge d first) (leaving d.graph.now d.tree.now (last_in numbers)))
     _ _ _ _ _ c.in_ok-put_opened.ensures c.in_ok-put_node.ensures c.in_ok-put_closed.ensures c.in_ok-put.ensures)
     c.put_edges.ensures

@@ -12,11 +12,11 @@ use Rattle.explained.proofs.links.returning.Goals as goal
 
 pub loop-place-preserved : goal.loop-place-preserved
 loop-place-preserved c =
-    noted (MayReturnByLink c.args.image.now) c.args.places.now c.loop-place.place-index c.place-item.result (contains nat_cmp c.loop-place.named)
+    noted (MayReturnByLink c.args.image.now c.args.statement.now) c.args.places.now c.loop-place.place-index c.place-item.result (contains nat_cmp c.loop-place.named)
     (contains nat_cmp c.note.new.named) c.loop-place-test.true c.loop-place.invariant
-    (subst (λ (p : Place). Notes (MayReturnByLink c.args.image.now) p (contains nat_cmp c.loop-place.named) (contains nat_cmp c.note.new.named)) c.place-item.is c.in_ok-note.ensures)
+    (subst (λ (p : Place). Notes (MayReturnByLink c.args.image.now c.args.statement.now) p (contains nat_cmp c.loop-place.named) (contains nat_cmp c.note.new.named)) c.place-item.is c.in_ok-note.ensures)
 
 pub returns : goal.returns
 returns c = λ a.
-    subst (λ (ps : List Place). (contains nat_cmp c.loop-place.named a ≡ true) ↔ ((is_reached ps a ≡ true) × MayReturnByLink c.args.image.now a))
+    subst (λ (ps : List Place). (contains nat_cmp c.loop-place.named a ≡ true) ↔ ((is_reached ps a ≡ true) × MayReturnByLink c.args.image.now c.args.statement.now a))
     (take_all c.loop-place.place-index c.args.places.now c.loop-place-test.false) (c.loop-place.invariant a)

@@ -8,4 +8,4 @@ use Rattle.explained.proofs.links.returning.Given as goal
 
 abbrev pub invariant-loop-place : goal.invariant-loop-place
 invariant-loop-place l =
-    (a : ℕ) → (contains nat_cmp l.named a ≡ true) ↔ ((is_reached (take l.place-index l.places) a ≡ true) × MayReturnByLink l.image a)
+    (a : ℕ) → (contains nat_cmp l.named a ≡ true) ↔ ((is_reached (take l.place-index l.places) a ≡ true) × MayReturnByLink l.image l.statement a)

@@ -1,7 +1,7 @@
 use Rattle.std.proofs.Common.{ap, rules, subst, sym}
 use Rattle.bus_ticks.specs.declared.profile.Profile.{Profile}
 use Rattle.flow_graph.specs.Edges.{IsEdge}
-use Rattle.flow_graph.specs.Flow.{Flow, HasEdge, IsWellFormed}
+use Rattle.flow_graph.specs.Flow.{Flow, HasEdge}
 use Rattle.flow_graph.proofs.TightMade.{edge_lands}
 use Rattle.flow_graph.proofs.FlowLemmas.{has_edge_is_edge}
 use Rattle.flow_graph.proofs.tight.tight_state.Goals as goal
@@ -15,4 +15,4 @@ tight_edge-requires-clause-is_edge c =
 pub tight_edge-requires-clause-lands : goal.tight_edge-requires-clause-lands
 tight_edge-requires-clause-lands c =
     let has : HasEdge c.args.graph.now c.index-edge.result.now = (c.args.edge, c.requires.edge, search rules) in
-    edge_lands c.args.image.now c.args.statement.now c.args.graph.now.profile c.args.graph.now c.requires.graph (subst IsWellFormed c.graph.view_is c.graph.invariant) c.index-edge.result.now has
+    edge_lands c.args.image.now c.args.statement.now c.args.graph.now.profile c.args.graph.now c.requires.graph c.index-edge.result.now has

@@ -1,5 +1,10 @@
-use Rattle.std.proofs.Common.{◌+◌, ◌^◌, ◌∙◌, ◌<◌, ℕ, List, ap, arith, get_or, length, refl, subst, sym}
+use Rattle.std.proofs.Common.{◌+◌, ◌^◌, ◌∙◌, ◌<◌, ℕ, Bool, List, ap, arith, get_or, length, refl, subst, sym}
+use Rattle.std.proofs.lemmas.List.{get_or_default}
+use Rattle.flow_graph.proofs.Firsts.{no_edge}
 use Rattle.flow_graph.specs.Places.{place_at}
+use Rattle.flow_graph.specs.declared.edges.Edge.{Edge}
+use Rattle.flow_graph.specs.declared.edges.Label.TheVariants.{Do}
+use Rattle.walk_counts.specs.Counts.{is_same_label}
 use Rattle.numbered_walks.specs.Index.{edge_at}
 use Rattle.numbered_walks.specs.declared.span.NumberedEdge.{NumberedEdge}
 use Rattle.kept_runs.specs.Judging.{IsAtPlace, Strays, Takes}
@@ -14,24 +19,28 @@ bounds-order-follower c =
     let known = c.requires.can.known in
     omega (arith, ap length c.order.ensures, whole, known)
 
-pub judge_step-requires-clause-graph : goal.judge_step-requires-clause-graph
-judge_step-requires-clause-graph c = c.requires.handler.graph_is
+pub judge-requires-clause-graph : goal.judge-requires-clause-graph
+judge-requires-clause-graph c = c.requires.handler.graph_is
 
-pub judge_step-requires-clause-known : goal.judge_step-requires-clause-known
-judge_step-requires-clause-known c =
+pub judge-requires-clause-known : goal.judge-requires-clause-known
+judge-requires-clause-known c =
     subst (λ (xs : List ℕ). get_or xs c.args.follower.now.number 0 < length c.args.handler.graph.now.places) (sym c.order.ensures)
     (index_in c.args.handler.image.now c.args.handler.statement.now c.args.handler.graph.now c.args.handler.tree.now c.requires.well_formed c.requires.handler.tree_is c.args.follower.now c.args.machine.now c.requires.can)
 
-pub judge_step-requires-clause-is_there : goal.judge_step-requires-clause-is_there
-judge_step-requires-clause-is_there c =
+pub judge-requires-clause-is_there : goal.judge-requires-clause-is_there
+judge-requires-clause-is_there c =
     subst (λ (xs : List ℕ). IsAtPlace c.args.handler.graph.now (place_at c.args.handler.graph.now.places (get_or xs c.args.follower.now.number 0)) c.args.machine.now) (sym c.order.ensures)
     (is_there c.args.handler.image.now c.args.handler.statement.now c.args.handler.graph.now c.args.handler.tree.now c.requires.well_formed c.requires.handler.tree_is c.args.follower.now c.args.machine.now c.requires.can)
 
 pub returns-in-Err : goal.returns-in-Err
-returns-in-Err c =
-    strays c.args.handler.image.now c.args.handler.statement.now c.args.handler.graph.now c.args.handler.tree.now c.requires.well_formed c.requires.handler.tree_is c.args.follower.now c.args.machine.now c.requires.can c.args.input
-    c.judge_step.new.machine c.in-Err.stray
-    (subst (λ (xs : List ℕ). Strays c.args.handler.image.now c.args.handler.statement.now c.args.handler.graph.now (place_at c.args.handler.graph.now.places (get_or xs c.args.follower.now.number 0)) c.args.machine.now c.args.input c.judge_step.new.machine c.in-Err.stray) c.order.ensures c.in-Err.ensures)
+returns-in-Err c = record {
+  halts =
+      strays c.args.handler.image.now c.args.handler.statement.now c.args.handler.graph.now c.args.handler.tree.now c.requires.well_formed c.requires.handler.tree_is c.args.follower.now c.args.machine.now c.requires.can c.args.input
+      c.judge.new.machine c.in-Err.step.stray
+      (subst (λ (xs : List ℕ). Strays c.args.handler.image.now c.args.handler.statement.now c.args.handler.graph.now (place_at c.args.handler.graph.now.places (get_or xs c.args.follower.now.number 0)) c.args.machine.now c.args.input c.judge.new.machine c.in-Err.step.stray) c.order.ensures c.in-Err.ensures.strays);
+  step = c.in-Err.ensures.step;
+  stays = refl;
+}
 
 pub bounds-edges-taken : goal.bounds-edges-taken
 bounds-edges-taken c =
@@ -43,24 +52,27 @@ pub turn-requires-clause-known : goal.turn-requires-clause-known
 turn-requires-clause-known c =
     let whole = c.requires.headers.whole in
     let most = to_in c.args.handler.image.now c.args.handler.statement.now c.args.handler.graph.now c.args.handler.tree.now c.requires.well_formed c.requires.handler.tree_is c.args.follower.now c.args.machine.now c.requires.can c.args.input
-    c.args.headers.now c.requires.headers c.judge_step.new.machine c.in-Ok.taken
-    (subst (λ (xs : List ℕ). Takes c.args.handler.image.now c.args.handler.statement.now c.args.handler.graph.now (place_at c.args.handler.graph.now.places (get_or xs c.args.follower.now.number 0)) c.args.machine.now c.args.input c.judge_step.new.machine c.in-Ok.taken) c.order.ensures c.in-Ok.ensures) in
+    c.args.headers.now c.requires.headers c.judge.new.machine c.in-Ok.taken
+    (subst (λ (xs : List ℕ). Takes c.args.handler.image.now c.args.handler.statement.now c.args.handler.graph.now (place_at c.args.handler.graph.now.places (get_or xs c.args.follower.now.number 0)) c.args.machine.now c.args.input c.judge.new.machine c.in-Ok.taken) c.order.ensures c.in-Ok.ensures) in
     subst (λ (es : List NumberedEdge). (edge_at es c.in-Ok.taken.edge).to < length c.args.headers.now) (sym c.edges.ensures) (omega (arith, whole, most))
 
 pub turn-requires-clause-room : goal.turn-requires-clause-room
 turn-requires-clause-room c =
     subst (λ (es : List NumberedEdge). (edge_at es c.in-Ok.taken.edge).to < length c.args.follower.now.turns.items) (sym c.edges.ensures)
     (room c.args.handler.image.now c.args.handler.statement.now c.args.handler.graph.now c.args.handler.tree.now c.requires.well_formed c.requires.handler.tree_is c.args.follower.now c.args.machine.now c.requires.can c.args.input
-    c.args.headers.now c.requires.headers c.judge_step.new.machine c.in-Ok.taken
-    (subst (λ (xs : List ℕ). Takes c.args.handler.image.now c.args.handler.statement.now c.args.handler.graph.now (place_at c.args.handler.graph.now.places (get_or xs c.args.follower.now.number 0)) c.args.machine.now c.args.input c.judge_step.new.machine c.in-Ok.taken) c.order.ensures c.in-Ok.ensures))
+    c.args.headers.now c.requires.headers c.judge.new.machine c.in-Ok.taken
+    (subst (λ (xs : List ℕ). Takes c.args.handler.image.now c.args.handler.statement.now c.args.handler.graph.now (place_at c.args.handler.graph.now.places (get_or xs c.args.follower.now.number 0)) c.args.machine.now c.args.input c.judge.new.machine c.in-Ok.taken) c.order.ensures c.in-Ok.ensures))
 
 pub returns-in-Some : goal.returns-in-Some
-returns-in-Some c =
-    turns_back c.args.handler.image.now c.args.handler.statement.now c.args.handler.graph.now c.args.handler.tree.now c.requires.well_formed c.requires.handler.tree_is c.args.follower.now c.args.machine.now c.requires.can c.args.input
-    c.args.headers.now c.requires.headers c.judge_step.new.machine c.in-Ok.taken
-    (subst (λ (xs : List ℕ). Takes c.args.handler.image.now c.args.handler.statement.now c.args.handler.graph.now (place_at c.args.handler.graph.now.places (get_or xs c.args.follower.now.number 0)) c.args.machine.now c.args.input c.judge_step.new.machine c.in-Ok.taken) c.order.ensures c.in-Ok.ensures)
-    c.in-Some.span
-    (subst (λ (es : List NumberedEdge). IsOver c.args.headers.now (edge_at es c.in-Ok.taken.edge) c.args.follower.now.turns.items c.in-Some.span) c.edges.ensures c.in-Some.ensures)
+returns-in-Some c = record {
+  halts = turns_back c.args.handler.image.now c.args.handler.statement.now c.args.handler.graph.now c.args.handler.tree.now c.requires.well_formed c.requires.handler.tree_is c.args.follower.now c.args.machine.now c.requires.can c.args.input
+      c.args.headers.now c.requires.headers c.judge.new.machine c.in-Ok.taken
+      (subst (λ (xs : List ℕ). Takes c.args.handler.image.now c.args.handler.statement.now c.args.handler.graph.now (place_at c.args.handler.graph.now.places (get_or xs c.args.follower.now.number 0)) c.args.machine.now c.args.input c.judge.new.machine c.in-Ok.taken) c.order.ensures c.in-Ok.ensures)
+      c.in-Some.span
+      (subst (λ (es : List NumberedEdge). IsOver c.args.headers.now (edge_at es c.in-Ok.taken.edge) c.args.follower.now.turns.items c.in-Some.span) c.edges.ensures c.in-Some.ensures);
+  step = (c.in-Ok.ensures.is_edge_of.executes.step, c.in-Ok.ensures.small);
+  stays = tt;
+}
 
 pub count-requires-clause-known : goal.count-requires-clause-known
 count-requires-clause-known c =
@@ -73,7 +85,10 @@ count-requires-clause-few c =
     let inside = index_in c.args.handler.image.now c.args.handler.statement.now c.args.handler.graph.now c.args.handler.tree.now c.requires.well_formed c.requires.handler.tree_is c.args.follower.now c.args.machine.now c.requires.can in
     let most = c.requires.can.tally.passes (get_or c.args.handler.tree.now.order c.args.follower.now.number 0) inside in
     let few = c.requires.few in
-    subst (λ (xs : List ℕ). (get_or c.args.follower.now.by_place.items (get_or xs c.args.follower.now.number 0) nothing).passes + 1 < 2 ^ 64) (sym c.order.ensures) (omega (arith, most, few))
+    let more = c.requires.can.tally.done (get_or c.args.handler.tree.now.order c.args.follower.now.number 0) inside in (
+      subst (λ (xs : List ℕ). (get_or c.args.follower.now.by_place.items (get_or xs c.args.follower.now.number 0) nothing).passes + 1 < 2 ^ 64) (sym c.order.ensures) (omega (arith, most, few)),
+      subst (λ (xs : List ℕ). (get_or c.args.follower.now.by_place.items (get_or xs c.args.follower.now.number 0) nothing).done + 1 < 2 ^ 64) (sym c.order.ensures) (omega (arith, more, few)),
+    )
 
 pub count-requires-clause-small : goal.count-requires-clause-small
 count-requires-clause-small c =
@@ -87,11 +102,15 @@ pub returns : goal.returns
 returns c =
     let k = c.in-Ok.taken.edge in
     goes c.args.handler.image.now c.args.handler.statement.now c.args.handler.graph.now c.args.handler.tree.now c.requires.well_formed c.requires.handler.tree_is c.args.follower.now c.args.machine.now c.requires.can c.args.input
-    c.args.headers.now c.requires.headers c.judge_step.new.machine c.in-Ok.taken
-    (subst (λ (xs : List ℕ). Takes c.args.handler.image.now c.args.handler.statement.now c.args.handler.graph.now (place_at c.args.handler.graph.now.places (get_or xs c.args.follower.now.number 0)) c.args.machine.now c.args.input c.judge_step.new.machine c.in-Ok.taken) c.order.ensures c.in-Ok.ensures)
+    c.args.headers.now c.requires.headers c.judge.new.machine c.in-Ok.taken
+    (subst (λ (xs : List ℕ). Takes c.args.handler.image.now c.args.handler.statement.now c.args.handler.graph.now (place_at c.args.handler.graph.now.places (get_or xs c.args.follower.now.number 0)) c.args.machine.now c.args.input c.judge.new.machine c.in-Ok.taken) c.order.ensures c.in-Ok.ensures)
     _
     (subst (λ (es : List NumberedEdge). Turns c.args.headers.now (edge_at es c.in-Ok.taken.edge) c.args.follower.now.turns.items c.turn.new.turns.items) c.edges.ensures c.in_default.ensures)
     (ap (λ (es : List NumberedEdge). (edge_at es c.in-Ok.taken.edge).to) c.edges.ensures)
     refl
     (ap (λ (n : ℕ). c.args.follower.now.ticks + n) c.from.ensures)
-    (c.count.ensures ∙ ap (λ (xs : List ℕ). counted c.args.follower.now.by_place.items (get_or xs c.args.follower.now.number 0) c.in-Ok.taken.stepped.ticks) c.order.ensures)
+    (c.count.ensures
+    ∙ ap (λ (xs : List ℕ). counted c.args.follower.now.by_place.items (get_or xs c.args.follower.now.number 0) c.is_same_label-done.result c.in-Ok.taken.stepped.ticks) c.order.ensures
+    ∙ ap (λ (b : Bool). counted c.args.follower.now.by_place.items (get_or c.args.handler.tree.now.order c.args.follower.now.number 0) b c.in-Ok.taken.stepped.ticks) c.is_same_label-done.ensures
+    ∙ ap (λ (e : Edge). counted c.args.follower.now.by_place.items (get_or c.args.handler.tree.now.order c.args.follower.now.number 0) (is_same_label e.label Do) c.in-Ok.taken.stepped.ticks)
+    (ap (λ (es : List Edge). get_or es k c.index-edges-taken.result) c.edges-2.ensures.value ∙ get_or_default c.args.handler.graph.now.edges k c.index-edges-taken.result no_edge c.in-Ok.ensures.known))

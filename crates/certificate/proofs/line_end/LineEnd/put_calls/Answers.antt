@@ -7,10 +7,10 @@ use Rattle.certificate.proofs.line_end.LineEnd.put_calls.Goals as goal
 
 pub returns-clause-text : goal.returns-clause-text
 returns-clause-text c =
-    let slice = c.as_slice.result.now in
+    let slice = c.items.result.now in
     let old = c.args.self.now in
     let first = hex (get_or slice 0 0) in
     let inner = flat_map (λ (c : ℕ). 47 ∷ hex c) (after_first slice) in
     let put : c.put_hex.new.self ≡ first ++ (inner ++ old) = search rules in
     put ∙ sym (append_assoc first inner old)
-    ∙ ap (λ (t : List ℕ). t ++ old) (sym (listed slice (omega (arith, c.in-len1-up.len_at_least))) ∙ ap list_words c.as_slice.ensures.value)
+    ∙ ap (λ (t : List ℕ). t ++ old) (sym (listed slice (omega (arith, c.in-len1-up.len_at_least))) ∙ ap list_words c.items.ensures.value)

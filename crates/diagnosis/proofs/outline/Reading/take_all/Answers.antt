@@ -1,4 +1,4 @@
-use Rattle.std.proofs.Common.{◌≡◌, ◌-◌, ◌+◌, Some, refl, sym, ap, ◌∙◌, length, rules}
+use Rattle.std.proofs.Common.{◌≡◌, ◌-◌, ◌+◌, Some, None, refl, sym, ap, ◌∙◌, length, rules}
 use Rattle.diagnosis.specs.Outline.{all_taken, first_token, in_tokens, token_of, tokens, reading_of, taken}
 use Rattle.diagnosis.proofs.OutlineLemmas.{more_tokens}
 use Rattle.diagnosis.proofs.outline.Reading.take_all.Goals as goal
@@ -14,3 +14,9 @@ loop-preserved c =
           ∙ (sym (more_tokens c.args.line (reading_of c.loop.self) (length c.args.text.now) c.loop.counter c.loop.rest.now (Some (in_tokens (c.in-Some.token, c.in-Some.after))) c.loop-test.true found)
           ∙ c.loop.invariant.same);
     }
+
+pub returns-in_default : goal.returns-in_default
+returns-in_default c =
+    let found : None ≡ first_token c.loop.rest.now = search rules in
+    sym (more_tokens c.args.line (reading_of c.loop.self) (length c.args.text.now) c.loop.counter c.loop.rest.now None c.loop-test.true found)
+    ∙ c.loop.invariant.same

@@ -1,4 +1,4 @@
-use Rattle.std.proofs.Common.{◌≡◌, ◌∙◌, ℕ, List, get_or, inl, inr, sym, subst, arith}
+use Rattle.std.proofs.Common.{◌≡◌, ◌≢◌, ◌∙◌, ℕ, List, get_or, inl, inr, sym, subst, arith}
 use Rattle.std.proofs.lemmas.List.{get_or_default, nil_from_length}
 use Rattle.flow_graph.specs.declared.edges.Edge.{Edge}
 use Rattle.flow_graph.specs.Places.{place_at}
@@ -26,8 +26,10 @@ returns-in-Some-clause-state c =
     let s = c.args.self.now in
     let next = c.in-Some.ensures {u = tt} in
     let opened = subst (λ (ms : List ℕ). IsOpen c.args.graph.now c.args.loops.now ms c.in-Some.edge c.in-Some.to) c.deref.ensures.value next.open in
+    let new : get_or s.marks.items c.in-Some.to 0 ≢ 1 =
+    λ is. c.if-index-eq1.false (c.index.ensures ∙ get_or_default s.marks.items c.in-Some.to c.index.result.now 0 (omega (arith, opened.most, c.requires.marks_are.whole)) ∙ is) in
     rw (c.in_ok-push.ensures {u = tt}).items
-    (advanced c.args.graph.now c.args.loops.now s.marks.items s.path.items s.at s.start c.requires c.in-Some.edge c.in-Some.to next.from opened)
+    (advanced c.args.graph.now c.args.loops.now s.marks.items s.path.items s.at s.start c.requires c.in-Some.edge c.in-Some.to next.from opened c.next_of.ensures.well_formed new)
 
 pub returns-in_default-pop-clause-state : goal.returns-in_default-pop-clause-state
 returns-in_default-pop-clause-state c =

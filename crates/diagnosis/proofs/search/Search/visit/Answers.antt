@@ -6,7 +6,7 @@ use Rattle.flow_graph.specs.declared.edges.Edge.{Edge}
 use Rattle.flow_graph.specs.declared.places.Place.{Place}
 use Rattle.flow_graph.specs.declared.places.Place.TheVariants.{Exit}
 use Rattle.flow_graph.specs.Places.{place_at}
-use Rattle.diagnosis.specs.Cycles.{IsClosed, IsEnded, IsSearching}
+use Rattle.diagnosis.specs.Cycles.{IsClosed, IsEnded, IsOnceRound, IsSearching}
 use Rattle.diagnosis.proofs.search.Search.visit.Goals as goal
 
 pub returns-clause-cycle : goal.returns-clause-cycle
@@ -19,8 +19,23 @@ returns-clause-cycle c =
     (λ (closed : (s.at < length flow.places) × IsClosed flow loops s.path.items (place_at flow.places s.at)).
     let here = subst (λ (ps : List Place). c.index-places-self.result ≡ get_or ps s.at c.index-places-self.result) c.places.ensures.value c.index-places-self.is in
     let end : place_at flow.places s.at ≡ c.index-places-self.result = sym (here ∙ get_or_default flow.places s.at c.index-places-self.result Exit closed.0) in
-    c.in_ok-cycle.ensures {u = tt} flow loops
+    (c.in_ok-cycle.ensures {u = tt}).cycle flow loops
     (subst (λ (es : List Edge). IsClosed flow loops es c.index-places-self.result) (sym c.deref.ensures.value) (subst (IsClosed flow loops s.path.items) end closed.1)))
+    (λ idle.
+    let long : length s.path.items ≡ 0 = ap length (idle.0).empty in
+    let size : vec_len s.path ≡ 0 = omega (arith, long, s.path.ok) in
+    absurd (eqb-false (vec_len s.path) 0 (sym c.is_empty.ensures ∙ c.if-is_empty.false) size))
+    ended
+
+pub returns-clause-once : goal.returns-clause-once
+returns-clause-once c =
+    let flow = c.args.graph.now in
+    let loops = c.args.loops.now in
+    let s = c.loop-goes_on.self in
+    let ended : IsEnded flow loops s = subst (λ b. MatchBool b (IsSearching flow loops s) (IsEnded flow loops s)) c.loop-goes_on-test.false c.loop-goes_on.invariant.state in
+    ⊎_elim
+    (λ (closed : (s.at < length flow.places) × IsClosed flow loops s.path.items (place_at flow.places s.at)).
+    (c.in_ok-cycle.ensures {u = tt}).once (subst IsOnceRound (sym c.deref.ensures.value) (closed.1).once))
     (λ idle.
     let long : length s.path.items ≡ 0 = ap length (idle.0).empty in
     let size : vec_len s.path ≡ 0 = omega (arith, long, s.path.ok) in

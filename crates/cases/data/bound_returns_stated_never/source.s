@@ -1,0 +1,2 @@
+start    MOVNV  PC,R5
+         SUBS   PC,R14,#4

@@ -1,0 +1,2 @@
+start    SUBS   PC,R14,#4
+         MOV    PC,R5

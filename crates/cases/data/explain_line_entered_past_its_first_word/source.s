@@ -1,0 +1,1 @@
+words    DCD    0xE3A00003,0xE25EF004
