@@ -1,6 +1,6 @@
 -- Which addresses are named.
 use Rattle.std.proofs.Common.{◌≡◌, ◌∙◌, ℕ, ◌+◌, ◌<◌, ◌≤◌, Bool, true, false, ◌||◌, ◌⊎◌, eqb, List, length, get_or, take, Result, Ok, Err, Option, Some, None, inl, inr, ⊎_elim, refl, sym, ap, subst, arith}
-use Rattle.std.specs.Prelude.{◌↔◌, Contains, IsTrue, is_some, not, option_map}
+use Rattle.std.specs.Prelude.{◌↔◌, Contains, is_some, not, option_map}
 use Rattle.std.specs.BTreeSet.{BTreeSet, contains}
 use Rattle.std.specs.List.{list_any}
 use Rattle.std.specs.List.Sorted.{IsBinarySearchResult, IsStrictlySortedBy}

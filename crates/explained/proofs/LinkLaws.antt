@@ -1,6 +1,6 @@
 -- Where R14 is lost: words, edges, and the search for places step by step.
 use Rattle.std.proofs.Common.{◌≡◌, ◌∙◌, ℕ, ◌+◌, ◌-◌, ◌<◌, ◌≤◌, Bool, true, false, cond, List, [], ◌∷◌, ◌++◌, length, length-append, get_or, take, drop, Ok, Err, Some, None, inl, inr, ⊎_elim, refl, sym, ap, subst, arith}
-use Rattle.std.specs.Prelude.{◌↔◌, Contains, IsTrue, not}
+use Rattle.std.specs.Prelude.{◌↔◌, Contains, IsTrue}
 use Rattle.std.specs.BTreeSet as sets
 use Rattle.std.specs.BTreeSet.{BTreeSet, btree_set_len}
 use Rattle.std.specs.List.{slice_range}
@@ -27,7 +27,7 @@ use Rattle.loader.specs.Image.{Words}
 use Rattle.loop_bounds.proofs.Positions.{place_known}
 use Rattle.flow_graph.proofs.Firsts.{whole_range}
 use Rattle.word_shapes.specs.Growing.{Grows, HasSameMembers}
-use Rattle.word_shapes.specs.Words.{HasInstr, HasShape}
+use Rattle.word_shapes.specs.Words.{HasInstr}
 use Rattle.word_shapes.proofs.GrowLaws.{grows_none, grows_on, kept, keys_listed, no_shorter}
 use Rattle.statement.specs.Stated.{Stated}
 use Rattle.explained.specs.Links.{AreLostLinks, Does, DoesTo, IsLost, MayReturnByLink, kept_along, overwritten}

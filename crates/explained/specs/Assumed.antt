@@ -23,6 +23,8 @@ use Rattle.explained.specs.Taken.{is_at, is_reached}
 use Rattle.explained.specs.declared.assumptions.Assumption.{Assumption}
 use Rattle.explained.specs.declared.assumptions.Assumption.TheVariants.{LeavesFlags, LooseTransfer}
 use Rattle.explained.specs.declared.assumptions.Assumption.TheVariants.{TakenForReturn}
+use Rattle.explained.specs.declared.caveats.Caveat.{Caveat}
+use Rattle.explained.specs.declared.caveats.Caveat.TheVariants.{Assumed, LinkLost}
 use Rattle.explained.specs.declared.leaving.EdgeKind.TheVariants.{LeadsOut}
 use Rattle.explained.specs.declared.links.Overwrite.{Overwrite}
 use Rattle.explained.specs.declared.links.Overwrite.TheVariants.{ByAddress, ByCall}
@@ -62,6 +64,11 @@ pub record AreAssumed (image : Words) (st : Stated) (flow : Flow) (what : Assump
   pub each : (a : ℕ) → Contains named a
       ↔ ((is_reached flow.places a ≡ true) × Assumes image st flow what a)
 
+-- exactly the words with that caveat
+abbrev pub AreSubjectTo : Words → Stated → Flow → Caveat → List ℕ → Type 0
+AreSubjectTo image st flow (Assumed what) = AreAssumed image st flow what
+AreSubjectTo image st flow (LinkLost by) = AreLostLinks image flow by st
+
 -- ## Finding them
 
 -- the set has one of the place's address too, if that is assumed of it
@@ -97,6 +104,11 @@ abbrev pub lost_heading : Overwrite → List ℕ
 lost_heading ByCall = codes "\nWARNING: these return by R14 after a call has overwritten it:\n"
 lost_heading ByAddress =
     codes "\nWARNING: these return by R14 after an address of the source was put into it:\n"
+
+-- above the rows of the words with that caveat
+abbrev pub caveat_heading : Caveat → List ℕ
+caveat_heading (Assumed what) = heading_of what
+caveat_heading (LinkLost by) = lost_heading by
 
 -- under a heading the rows of exactly the words that are named so, the rows of named words being such
 pub record IsSection (AreRowsOf : (named rows : List ℕ) → Type 0) (heading : List ℕ)

@@ -4,6 +4,7 @@
 
 mod assumptions;
 mod bursts;
+mod caveats;
 mod columns;
 mod done_returns;
 mod idle;

@@ -2,33 +2,20 @@ ghost use Rattle.std.specs.Prelude.{◌≡◌, ℕ, List, IfOk};
 ghost use Rattle.std.specs.List.Sorted.{IsStrictlySortedBy};
 ghost use Rattle.std.specs.Ordering.{nat_cmp};
 ghost use Rattle.asm_text.specs.Source.{lines_of};
-ghost use Rattle.explained.specs.Assumed.{AreAssumed, AreImageAssumptions, AreSourceAssumptions};
-ghost use Rattle.explained.specs.Assumed.{IsNamedRow};
-ghost use Rattle.explained.specs.Assumed.{IsSection, heading_of, lost_heading, named_rows};
-ghost use Rattle.explained.specs.Links.{AreLostLinks};
+ghost use Rattle.explained.specs.Assumed.{AreImageAssumptions, AreSourceAssumptions, AreSubjectTo};
+ghost use Rattle.explained.specs.Assumed.{IsNamedRow, IsSection, caveat_heading, named_rows};
 ghost use Rattle.text_rows.specs.Rows.{AreRows, section};
 
-use crate::assumptions::{Assumption, assumed};
-use crate::links::{Overwrite, lost_links};
+use crate::assumptions::Assumption::{LeavesFlags, LooseTransfer, TakenForReturn};
+use crate::caveats::Caveat;
+use crate::caveats::Caveat::{Assumed, LinkLost};
+use crate::links::Overwrite::{ByAddress, ByCall};
 use crate::named_words::{named_lines, named_words};
 use assembler::PlacedLine;
 use flow_graph::{Graph, Statement};
 use loader::Image;
 use std::alloc::{AllocError, Global};
 use text_rows::{put, section};
-
-const RETURNS: &[u8] =
-    b"\nWARNING: these count as returns but do not look like returns (see [[target]]):\n";
-
-const FLAGS: &[u8] =
-    b"\nWARNING: these leave the handler of an interrupt and restore no flags (no S, no ^):\n";
-
-const CALLED: &[u8] = b"\nWARNING: these return by R14 after a call has overwritten it:\n";
-
-const ADDRESSED: &[u8] =
-    b"\nWARNING: these return by R14 after an address of the source was put into it:\n";
-
-const TRANSFERS: &[u8] = b"\nLoads and stores that may be anywhere (see [[access]]):\n";
 
 /// The flow graph of an image's words by a statement.
 #[derive(Clone, Copy)]
@@ -45,118 +32,71 @@ pub(crate) struct PlacedSource<'a> {
     pub(crate) placed: &'a [PlacedLine],
 }
 
-/// The text above the rows of words of which that is assumed.
-pub(crate) fn heading_of(what: Assumption) -> &'static [u8]
-    ensures { result.now ≡ heading_of what }
-{
-    match what {
-        Assumption::TakenForReturn => RETURNS,
-        Assumption::LeavesFlags => FLAGS,
-        Assumption::LooseTransfer => TRANSFERS,
-    }
-}
-
-/// The text above the rows of words that return by an R14 that was overwritten so.
-pub(crate) fn lost_heading(by: Overwrite) -> &'static [u8]
-    ensures { result.now ≡ lost_heading by }
-{
-    match by {
-        Overwrite::ByCall => CALLED,
-        Overwrite::ByAddress => ADDRESSED,
-    }
-}
-
-/// The rows of the named words by the lines of a source, under a heading. `AllocError`: an allocation failed.
+/// The rows of the named words by the lines of a source, under the heading of their caveat. `AllocError`: an
+/// allocation failed.
 pub(crate) fn source_section(
     alloc: Global,
-    heading: &[u8],
+    caveat: Caveat,
     lines: PlacedSource<'_>,
     named: &[u32],
 ) -> Result<Vec<u8>, AllocError>
     requires { IsStrictlySortedBy nat_cmp named.now }
     ensures { IfOk result
         (λ text. text.items
-        ≡ section heading.now
+        ≡ section (caveat_heading caveat)
         (named_rows named.now 1 (lines_of lines.entry.source.now) lines.entry.placed.now)) }
 {
     let rows = named_lines(alloc, lines.source, lines.placed, named)?;
-    section(alloc, heading, &rows)
+    section(alloc, caveat.heading(), &rows)
 }
 
-/// The rows of the named words of an image, under a heading. `AllocError`: an allocation failed.
+/// The rows of the named words of an image, under the heading of their caveat. `AllocError`: an allocation
+/// failed.
 pub(crate) fn image_section(
     alloc: Global,
-    heading: &[u8],
+    caveat: Caveat,
     image: &Image,
     named: &[u32],
 ) -> Result<Vec<u8>, AllocError>
     requires { IsStrictlySortedBy nat_cmp named.now }
     ensures { IfOk result
         (λ text. (rows : List ℕ) × AreRows (IsNamedRow named.now) image.now rows
-        × (text.items ≡ section heading.now rows)) }
+        × (text.items ≡ section (caveat_heading caveat) rows)) }
 {
     let rows = named_words(alloc, image, named)?;
-    section(alloc, heading, &rows)
+    section(alloc, caveat.heading(), &rows)
 }
 
-// The section of the words of which that is assumed, by the lines of a source.
-fn source_assumed(
+// The section of the words with that caveat, by the lines of a source.
+fn source_caveat(
     alloc: Global,
     handler: StatedGraph<'_>,
     lines: PlacedSource<'_>,
-    what: Assumption,
+    caveat: Caveat,
 ) -> Result<Vec<u8>, AllocError>
     ensures { IfOk result
         (λ text. IsSection
         (λ named rows. rows ≡ named_rows named 1 (lines_of lines.entry.source.now) lines.entry.placed.now)
-        (heading_of what) (AreAssumed handler.entry.image.now handler.entry.statement.now
-        handler.entry.graph.now what) text.items) }
+        (caveat_heading caveat) (AreSubjectTo handler.entry.image.now handler.entry.statement.now
+        handler.entry.graph.now caveat) text.items) }
 {
-    let named = assumed(alloc, handler, what)?;
-    source_section(alloc, heading_of(what), lines, &named)
+    let named = caveat.words(alloc, handler)?;
+    source_section(alloc, caveat, lines, &named)
 }
 
-// The section of the words that return by an R14 that was overwritten so, by the lines of a source.
-fn source_lost(
+// The section of the words with that caveat, by the words of an image.
+fn image_caveat(
     alloc: Global,
     handler: StatedGraph<'_>,
-    lines: PlacedSource<'_>,
-    by: Overwrite,
-) -> Result<Vec<u8>, AllocError>
-    ensures { IfOk result
-        (λ text. IsSection
-        (λ named rows. rows ≡ named_rows named 1 (lines_of lines.entry.source.now) lines.entry.placed.now)
-        (lost_heading by) (AreLostLinks handler.entry.image.now handler.entry.graph.now by
-        handler.entry.statement.now) text.items) }
-{
-    let named = lost_links(alloc, handler, by)?;
-    source_section(alloc, lost_heading(by), lines, &named)
-}
-
-// The section of the words of which that is assumed, by the words of an image.
-fn image_assumed(
-    alloc: Global,
-    handler: StatedGraph<'_>,
-    what: Assumption,
+    caveat: Caveat,
 ) -> Result<Vec<u8>, AllocError>
     ensures { IfOk result
         (λ text. IsSection (λ named. AreRows (IsNamedRow named) handler.entry.image.now)
-        (heading_of what) (AreAssumed handler.entry.image.now handler.entry.statement.now
-        handler.entry.graph.now what) text.items) }
+        (caveat_heading caveat) (AreSubjectTo handler.entry.image.now handler.entry.statement.now
+        handler.entry.graph.now caveat) text.items) }
 {
-    let named = assumed(alloc, handler, what)?;
-    image_section(alloc, heading_of(what), handler.image, &named)
-}
-
-// The section of the words that return by an R14 that was overwritten so, by the words of an image.
-fn image_lost(alloc: Global, handler: StatedGraph<'_>, by: Overwrite) -> Result<Vec<u8>, AllocError>
-    ensures { IfOk result
-        (λ text. IsSection (λ named. AreRows (IsNamedRow named) handler.entry.image.now)
-        (lost_heading by) (AreLostLinks handler.entry.image.now handler.entry.graph.now by
-        handler.entry.statement.now) text.items) }
-{
-    let named = lost_links(alloc, handler, by)?;
-    image_section(alloc, lost_heading(by), handler.image, &named)
+    let named = caveat.words(alloc, handler)?;
+    image_section(alloc, caveat, handler.image, &named)
 }
 
 /// What a bound takes for granted of the words that its handler reaches, by the lines of its source: those
@@ -180,14 +120,14 @@ pub fn source_assumptions(
         handler.entry.statement.now handler.entry.graph.now text.items) }
 {
     let lines = PlacedSource { source, placed };
-    let mut text = source_assumed(alloc, handler, lines, Assumption::TakenForReturn)?;
-    let flags = source_assumed(alloc, handler, lines, Assumption::LeavesFlags)?;
+    let mut text = source_caveat(alloc, handler, lines, Assumed(TakenForReturn))?;
+    let flags = source_caveat(alloc, handler, lines, Assumed(LeavesFlags))?;
     put(&mut text, &flags)?;
-    let called = source_lost(alloc, handler, lines, Overwrite::ByCall)?;
+    let called = source_caveat(alloc, handler, lines, LinkLost(ByCall))?;
     put(&mut text, &called)?;
-    let addressed = source_lost(alloc, handler, lines, Overwrite::ByAddress)?;
+    let addressed = source_caveat(alloc, handler, lines, LinkLost(ByAddress))?;
     put(&mut text, &addressed)?;
-    let transfers = source_assumed(alloc, handler, lines, Assumption::LooseTransfer)?;
+    let transfers = source_caveat(alloc, handler, lines, Assumed(LooseTransfer))?;
     put(&mut text, &transfers)?;
     Ok(text)
 }
@@ -205,14 +145,14 @@ pub fn image_assumptions(alloc: Global, handler: StatedGraph<'_>) -> Result<Vec<
         (λ text. AreImageAssumptions handler.entry.image.now handler.entry.statement.now
         handler.entry.graph.now text.items) }
 {
-    let mut text = image_assumed(alloc, handler, Assumption::TakenForReturn)?;
-    let flags = image_assumed(alloc, handler, Assumption::LeavesFlags)?;
+    let mut text = image_caveat(alloc, handler, Assumed(TakenForReturn))?;
+    let flags = image_caveat(alloc, handler, Assumed(LeavesFlags))?;
     put(&mut text, &flags)?;
-    let called = image_lost(alloc, handler, Overwrite::ByCall)?;
+    let called = image_caveat(alloc, handler, LinkLost(ByCall))?;
     put(&mut text, &called)?;
-    let addressed = image_lost(alloc, handler, Overwrite::ByAddress)?;
+    let addressed = image_caveat(alloc, handler, LinkLost(ByAddress))?;
     put(&mut text, &addressed)?;
-    let transfers = image_assumed(alloc, handler, Assumption::LooseTransfer)?;
+    let transfers = image_caveat(alloc, handler, Assumed(LooseTransfer))?;
     put(&mut text, &transfers)?;
     Ok(text)
 }
