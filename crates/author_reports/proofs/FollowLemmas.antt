@@ -34,7 +34,6 @@ use Rattle.report_input.specs.Report.{BeforeOutput, HasLoops, IsAccepted, IsRefu
 use Rattle.report_input.specs.Source.{source_of}
 use Rattle.report_output.specs.declared.fault.ReportFault.{ReportFault}
 use Rattle.report_output.specs.declared.fault.ReportFault.TheVariants.{Memory, Source, Image, MachineFile, Load, Device}
-use Rattle.report_output.specs.declared.fault.ReportFault.TheVariants as report_fault
 use Rattle.author_reports.proofs.ExactLemmas.{table_exact}
 use Rattle.report_input.proofs.PlacingLemmas.{runnable_refusals}
 use Rattle.report_input.proofs.ReportLemmas.{accepted, accepted_refusals, bounded, bounds_runs, kept_here, kept_there}

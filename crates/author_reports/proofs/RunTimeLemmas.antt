@@ -8,8 +8,6 @@ use Rattle.std.proofs.lemmas.List.Elements.{All-head, All-tail}
 use Rattle.bus_ticks.specs.declared.profile.Profile.{Profile}
 use Rattle.loader.specs.Image.{Words}
 use Rattle.statement.specs.Stated.{Stated}
-use Rattle.arm2_exec.specs.declared.machine.Input.{Input}
-use Rattle.arm2_exec.specs.declared.machine.Ran.{Ran}
 use Rattle.walks.specs.Walk.{Leads, cost_of}
 use Rattle.flow_graph.specs.Flow.{Flow, HasEdge, IsWellFormed, edge_shape}
 use Rattle.flow_graph.specs.Graph.{IsFlowGraph, start_of}
@@ -17,14 +15,14 @@ use Rattle.flow_graph.specs.StepLaw.{RunLaw, bursts_of}
 use Rattle.loop_bounds.specs.Bounds.{IsGreatestCost}
 use Rattle.flow_graph.specs.declared.edges.Edge.{Edge}
 use Rattle.flow_graph.specs.declared.places.Place.{Place}
-use Rattle.flow_graph.specs.declared.places.Place.TheVariants.{At, Exit}
+use Rattle.flow_graph.specs.declared.places.Place.TheVariants.{Exit}
 use Rattle.loop_bounds.specs.Tree.{Tree}
 use Rattle.longest_walk.specs.Folded.{unfolded}
 use Rattle.longest_walk.specs.Longest.{IsLongest}
 use Rattle.longest_walk.specs.declared.folded.Longest.{Longest}
 use Rattle.explained.specs.Bursts.{AreEnough, with_bursts}
 use Rattle.explained.specs.Starts.{IsLatestStart, ReachesAt}
-use Rattle.author_reports.specs.RunTimes.{AreApart, AreApartAfter, BeginsWithin, ComeEvery, EndsWithin}
+use Rattle.author_reports.specs.RunTimes.{AreApart, AreApartAfter, BeginsWithin, EndsWithin}
 use Rattle.report_input.proofs.ReportLemmas.{bounds_runs}
 
 -- ## When a word begins

@@ -1,6 +1,6 @@
 -- A report on a run with visits, from what is found of a source, two statements and a machine file.
-use Rattle.std.proofs.Common.{◌≡◌, ◌≢◌, ◌∙◌, ◌⊎◌, ℕ, ◌≤◌, ◌<◌, ◌^◌, Bool, true, false, List, [], ◌∷◌, length, take, drop, Result, Ok, Err, refl, sym, ap, subst, inl, inr, arith}
-use Rattle.std.specs.Prelude.{IfErr, IfOk}
+use Rattle.std.proofs.Common.{◌≡◌, ◌∙◌, ◌⊎◌, ℕ, ◌≤◌, ◌<◌, ◌^◌, Bool, List, [], ◌∷◌, drop, Result, Ok, Err, refl, sym, subst, inl, inr, arith}
+use Rattle.std.specs.Prelude.{IfErr}
 use Rattle.bus_ticks.specs.declared.profile.Profile.{Profile}
 use Rattle.bus_ticks.specs.Worst.{fiq_entry}
 use Rattle.bus_ticks.proofs.EntryLemmas.{fiq_entry_greatest}
@@ -9,30 +9,25 @@ use Rattle.loader.specs.Labels.{Names}
 use Rattle.statement.specs.Stated.{Stated}
 use Rattle.arm2_exec.specs.Run.{Runs}
 use Rattle.arm2_exec.specs.State.{State}
+use Rattle.arm2_exec.specs.Step.{address_in}
 use Rattle.arm2_exec.specs.declared.machine.Input.{Input}
-use Rattle.arm2_exec.specs.declared.machine.Ran.{Ran}
 use Rattle.flow_graph.specs.Flow.{Flow}
-use Rattle.flow_graph.specs.Graph.{IsFlowGraph}
 use Rattle.flow_graph.specs.declared.edges.Edge.{Edge}
 use Rattle.loop_bounds.specs.Bounds.{IsGreatestCost}
 use Rattle.loop_bounds.specs.Tree.{Tree}
-use Rattle.longest_walk.specs.Longest.{IsLongest, IsWalkFault}
 use Rattle.longest_walk.specs.Visits.{visits_bound}
-use Rattle.longest_walk.specs.declared.folded.Longest.{Longest}
-use Rattle.numbered_walks.specs.declared.fault.WalkFault.{WalkFault}
-use Rattle.numbered_walks.specs.declared.fault.WalkFault.TheVariants as walk_fault
 use Rattle.machine_file.specs.Stated as machine_file
 use Rattle.kept_runs.specs.Keeping.{IsHandler, KeepsTo}
 use Rattle.kept_runs.specs.Visited.{AreVisits, FollowsVisited, Handled, IsKeptVisited, IsStrayedVisited, IsVisit, IsVisitedRun, KeepsBoth, MainStep, Visit, inputs_of, visits_of}
 use Rattle.kept_runs.specs.declared.visited.VisitedRun.{VisitedRun}
 use Rattle.kept_runs.specs.declared.visited.VisitedRun.TheVariants.{Kept, Strayed}
-use Rattle.author_reports.specs.FollowVisits.{AreBothAccepted, AreFollowable, AreNotFollowed, BoundHandler, IsArrivalText, IsFiqAccepted, IsFollowVisitsReport, IsVisitsText, KeepsWithinTotal, NoneKeepsStatements}
+use Rattle.author_reports.specs.FollowVisits.{AreBothAccepted, AreFollowable, AreNotFollowed, BoundHandler, IsArrivalText, IsFollowVisitsReport, IsVisitsText, KeepsWithinTotal, NoneKeepsStatements}
 use Rattle.author_reports.specs.VisitedWork.{IsArrivedRun, IsBoundOf, IsRunElsewhere, IsRunText, IsVisitsJudged, handled_by}
 use Rattle.author_reports.specs.declared.follow_visits.BoundedHandler.{BoundedHandler}
 use Rattle.report_input.specs.FiqHandler.{IsFiqRefused}
 use Rattle.report_input.specs.Keeping.{KeepsStatement, TakesAtMost}
-use Rattle.report_input.specs.Placing.{IsPlaced, IsRunRefused, IsRunnable}
-use Rattle.report_input.specs.Report.{BeforeOutput, HasLoops, IsAccepted, IsBounded, IsRefused, IsTreeOf}
+use Rattle.report_input.specs.Placing.{IsPlaced, IsRunRefused}
+use Rattle.report_input.specs.Report.{BeforeOutput, IsAccepted, IsRefused, IsTreeOf}
 use Rattle.report_input.specs.Source.{source_of}
 use Rattle.report_input.specs.Visits.{KeepsVisited}
 use Rattle.report_output.specs.declared.fault.ReportFault.{ReportFault}
@@ -189,15 +184,18 @@ module _ (source statement fiq machine : List ℕ) (profile : Profile) (words : 
   fiq_side w n = record { handled = handled_by w other.handler; bound = n }
 
   visits_said : (before : ℕ) (s : State) (inputs : List Input) (run : VisitedRun) (after : State) (kept : Bool) (text : List ℕ)
-      → IsVisitedRun (handled_by words irq.handler) (handled_by words other.handler) s inputs after run → IsRunText source flow.profile irq other before run kept text
+      → IsVisitedRun (handled_by words irq.handler) (handled_by words other.handler) s inputs after run → IsRunText source words flow.profile irq other before (address_in after.regs) run kept text
       → IsVisitsText (side words irq.bound) (fiq_side words other.bound) flow.profile s inputs source before kept text
+  unfolding within_total
   visits_said before s inputs (Kept steps ticks visits) after kept text is it =
       subst (λ (b : Bool). IsVisitsText (side words irq.bound) (fiq_side words other.bound) flow.profile s inputs source before b text) (sym it.0)
       (record {
         visits = visits;
         ticks = ticks;
         keeps = within_total words st flow irq.handler.tree first.tree fiq_st fiq_flow other.handler.tree second.tree same_prices irq.bound other.bound greatest fiq_greatest s inputs steps ticks visits after is;
-        text_is = it.1;
+        left = it.1.0;
+        left_is = it.1.1;
+        text_is = it.1.2;
       })
   visits_said before s inputs (Strayed steps at why) after kept text is it =
       subst (λ (b : Bool). IsVisitsText (side words irq.bound) (fiq_side words other.bound) flow.profile s inputs source before b text) (sym it.0)

@@ -79,9 +79,9 @@ pub record IsTotal (source : List ℕ) (words : Words) (flow : Flow) (longest : 
 -- ## The report
 
 -- of an accepted source and statement: the table of a greatest walk, whose cost is the bound, as the ticks
--- of all rows are, with when each word begins at the latest on any walk, and so in any run; what bursts add to
--- the bound, and so to any run in which they come so often; what is taken for granted of the words that are reached; the entries of the statement without effect; and what
--- better entries would save
+-- of all rows are, with when each word begins at the latest on any walk, and so in any run; what bursts add
+-- to the bound, and so to any run in which they come so often; what is taken for granted of the words that
+-- are reached; the entries of the statement without effect; and what better entries would save
 pub record IsExplanation (source statement : List ℕ) (bursts : Bursts) (profile : Profile) (bound : ℕ)
     (text : List ℕ) : Type 0 where
   pub bounded : IsBounded source statement profile

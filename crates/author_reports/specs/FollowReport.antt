@@ -45,8 +45,8 @@ module _ (words : Words) (stated : Stated) (profile : Profile) (flow : Flow) (st
   NoneKeeps = (steps : ℕ) → KeepsStatement words stated profile flow state (take steps inputs) → ⊥
 
   module _ (source : List ℕ) (tree : Tree) (longest : Longest) where
-    -- how many ticks the run takes, whether it goes on at a word of the source, where it and the greatest walk
-    -- differ, and which of the words that it does an explanation warns of
+    -- how many ticks the run takes, whether it goes on at a word of the source, where it and the greatest
+    -- walk differ, and which of the words that it does an explanation warns of
     pub record IsKeptText (text : List ℕ) : Type 0 where
       pub ticks : ℕ
       pub keeps : KeepsWithin longest.bound ticks

@@ -97,7 +97,7 @@ pub record IsLineNumberAt (source : List ℕ) (address : ℕ) (line : Option ℕ
 
 -- ## What a run that keeps the statement takes for granted
 
--- some of the steps does the word at the address
+-- one of the steps does the word at the address
 abbrev pub IsDoneAt : Flow → List Pass → ℕ → Type 0
 IsDoneAt flow passes a =
     (p : Pass) × Contains passes p × (p.done ≡ true) × (is_at a (place_at flow.places p.place) ≡ true)

@@ -1,16 +1,18 @@
 -- Whether a machine's run keeps the statements of a handler and of FIQ's, which interrupts it.
-use Rattle.std.specs.Prelude.{◌≡◌, ◌⊎◌, ℕ, ◌+◌, ◌≤◌, Bool, true, false, List, length, take, drop, Option, Result}
+use Rattle.std.specs.Prelude.{◌≡◌, ◌⊎◌, ℕ, ◌+◌, ◌≤◌, Bool, true, false, List, ◌++◌, length, take, drop}
+use Rattle.std.specs.Prelude.{Option, Result}
 use Rattle.bus_ticks.specs.declared.profile.Profile.{Profile}
 use Rattle.bus_ticks.specs.declared.space.TheConstants.{FIQ_VECTOR}
 use Rattle.arm2_exec.specs.Run.{Runs}
 use Rattle.arm2_exec.specs.State.{State}
+use Rattle.arm2_exec.specs.Step.{address_in}
 use Rattle.arm2_exec.specs.declared.machine.Input.{Input}
 use Rattle.arm2_exec.specs.declared.machine.Ran.{Ran}
 use Rattle.longest_walk.specs.Visits.{visits_bound}
 use Rattle.kept_runs.specs.Arriving.{ArrivesAfter, NeverArrives}
 use Rattle.kept_runs.specs.Visited.{Handled, IsStrayedVisited, MainStep, inputs_of, visits_of}
 use Rattle.kept_runs.specs.declared.visited.VisitUnkept.{VisitUnkept}
-use Rattle.author_reports.specs.FollowText.{IsLineNumberAt, strayed_text}
+use Rattle.author_reports.specs.FollowText.{IsLeftText, IsLineNumberAt, strayed_text}
 use Rattle.author_reports.specs.VisitedText.{kept_visits_text, never_text, visit_why_text}
 use Rattle.report_input.specs.FiqHandler.{IsFiqRefused}
 use Rattle.report_input.specs.Placing.{IsLoaded, IsRunRefused, IsRunnable}
@@ -25,8 +27,8 @@ pub record BoundHandler : Type 0 where
   pub bound : ℕ
 
 -- that of a source and a statement
-abbrev pub bound_handler : {source statement : List ℕ} {profile : Profile} → IsBounded source statement profile
-    → BoundHandler
+abbrev pub bound_handler : {source statement : List ℕ} {profile : Profile}
+    → IsBounded source statement profile → BoundHandler
 bound_handler b = record {
   handled = record {
     words = b.accepted.loops.graph.words;
@@ -63,15 +65,19 @@ module _ (irq fiq : BoundHandler) (profile : Profile) (s : State) (inputs : List
 
   -- no number of the inputs does
   abbrev pub NoneKeepsStatements : Type 0
-  NoneKeepsStatements = (n : ℕ) (main : List MainStep) → inputs_of main ≡ take n inputs → KeepsStatements main → ⊥
+  NoneKeepsStatements =
+      (n : ℕ) (main : List MainStep) → inputs_of main ≡ take n inputs → KeepsStatements main → ⊥
 
   module _ (source : List ℕ) (before : ℕ) where
-    -- how many ticks the run takes, and with how many visits
+    -- how many ticks the run takes, with how many visits, and whether it goes on at a word of the source
     pub record IsKeptVisitsText (text : List ℕ) : Type 0 where
       pub visits : ℕ
       pub ticks : ℕ
       pub keeps : KeepsWithinTotal visits ticks
-      pub text_is : text ≡ kept_visits_text ticks visits (visits_bound profile irq.bound fiq.bound visits)
+      pub left : List ℕ
+      pub left_is : IsLeftText source irq.handled.words (address_in keeps.after.regs) left
+      pub text_is : text
+          ≡ kept_visits_text ticks visits (visits_bound profile irq.bound fiq.bound visits) ++ left
 
     -- after how many steps, with those before the entry, where and why the first one strays
     pub record IsStrayedVisitsText (text : List ℕ) : Type 0 where
@@ -94,7 +100,8 @@ module _ (irq fiq : BoundHandler) (profile : Profile) (s : State) (inputs : List
 
 -- ## From any state: the run is judged from where it first comes to the entry
 
-module _ (irq fiq : BoundHandler) (profile : Profile) (s : State) (inputs : List Input) (source : List ℕ) where
+module _ (irq fiq : BoundHandler) (profile : Profile) (s : State) (inputs : List Input)
+    (source : List ℕ) where
   -- it comes there after so many steps
   pub record IsArrivedText (kept : Bool) (text : List ℕ) : Type 0 where
     pub before : ℕ
@@ -113,7 +120,8 @@ module _ (irq fiq : BoundHandler) (profile : Profile) (s : State) (inputs : List
 
 -- ## The report
 
--- the answer on the run of a machine through an accepted handler that FIQ's, which is accepted too, interrupts
+-- the answer on the run of a machine through an accepted handler that FIQ's, which is accepted too,
+-- interrupts
 pub record IsFollowVisitsReport (source statement fiq machine : List ℕ) (profile : Profile) (kept : Bool)
     (text : List ℕ) : Type 0 where
   pub bounded : IsBounded source statement profile

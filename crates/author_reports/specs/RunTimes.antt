@@ -21,8 +21,8 @@ use Rattle.report_input.specs.Keeping.{KeepsStatement, TakesAtMost}
 -- ## When a word begins
 
 -- Each run that so far keeps the statement, whether or not it ever ends, and is at the address with its next
--- step has taken at most so many ticks, and with those of DMA bursts at most their price more. None where no
--- such run comes there.
+-- step has taken at most so many ticks, and with those of DMA bursts at most their price more. Where it is
+-- None, no such run comes there.
 abbrev pub BeginsWithin : Words → Stated → Flow → Tree → ℕ → Option ℕ → Type 0
 BeginsWithin words stated flow tree a latest =
     (s : State) (inputs : List Input) (steps : ℕ) (place : Place) (now : State)
@@ -31,7 +31,7 @@ BeginsWithin words stated flow tree a latest =
 
 -- ## When a run ends
 
--- each time at least so many ticks after the one before it, of which this is the first one's
+-- each time is at least so many ticks after the one before it, and the first that many after this one
 abbrev pub AreApartAfter : (every before : ℕ) → List ℕ → Type 0
 AreApartAfter every before [] = Unit {0}
 AreApartAfter every before (t ∷ times) = (before + every ≤ t) × AreApartAfter every t times
@@ -40,8 +40,8 @@ abbrev pub AreApart : (every : ℕ) → List ℕ → Type 0
 AreApart every [] = Unit {0}
 AreApart every (t ∷ times) = AreApartAfter every t times
 
--- Bursts come at most once in so many ticks: those of the run begin at these times, in ticks that passed since
--- it began. Each holds up a step, so the run goes on after it.
+-- Bursts come at most once in so many ticks: those of the run begin at these times, in ticks that passed
+-- since it began. Each holds up a step, so the run goes on after it.
 pub record ComeEvery (price every : ℕ) (inputs : List Input) (ran : Ran) : Type 0 where
   pub times : List ℕ
   pub each : length times ≡ bursts_of inputs

@@ -1,8 +1,9 @@
 -- What the parts of a report on a run with visits leave to each other.
-use Rattle.std.specs.Prelude.{◌≡◌, ◌≢◌, ◌⊎◌, ℕ, ◌+◌, Bool, true, false, List, Option, drop}
+use Rattle.std.specs.Prelude.{◌≡◌, ◌≢◌, ◌⊎◌, ℕ, ◌+◌, Bool, true, false, List, ◌++◌, Option, drop}
 use Rattle.bus_ticks.specs.declared.profile.Profile.{Profile}
 use Rattle.loader.specs.Image.{Words}
 use Rattle.arm2_exec.specs.State.{State}
+use Rattle.arm2_exec.specs.Step.{address_in}
 use Rattle.arm2_exec.specs.declared.machine.Input.{Input}
 use Rattle.longest_walk.specs.Longest.{IsLongest, IsWalkFault}
 use Rattle.longest_walk.specs.Visits.{visits_bound}
@@ -15,7 +16,7 @@ use Rattle.kept_runs.specs.Arriving.{ArrivesAfter, NeverArrives}
 use Rattle.kept_runs.specs.Visited.{Handled, IsVisitedRun}
 use Rattle.kept_runs.specs.declared.visited.VisitedRun.{VisitedRun}
 use Rattle.kept_runs.specs.declared.visited.VisitedRun.TheVariants.{Kept, Strayed}
-use Rattle.author_reports.specs.FollowText.{IsLineNumberAt, strayed_text}
+use Rattle.author_reports.specs.FollowText.{IsLeftText, IsLineNumberAt, strayed_text}
 use Rattle.author_reports.specs.FollowVisits.{AreNotFollowed, IsFollowVisitsReport}
 use Rattle.author_reports.specs.VisitedText.{kept_visits_text, never_text, visit_why_text}
 use Rattle.author_reports.specs.declared.follow_visits.BoundedHandler.{BoundedHandler}
@@ -38,16 +39,19 @@ pub record IsBoundOf (source statement : List ℕ) (profile : Profile) (b : Boun
 abbrev pub handled_by : Words → Handler → Handled
 handled_by words h = record { words = words; stated = h.statement; flow = h.graph; tree = h.tree }
 
--- the answer on a judged run, after so many steps before the entry
-abbrev pub IsRunText : (source : List ℕ) → Profile → (irq fiq : BoundedHandler) → (before : ℕ) → VisitedRun
-    → Bool → List ℕ → Type 0
-IsRunText source profile irq fiq before (Kept steps ticks visits) kept text =
-    (kept ≡ true) × (text ≡ kept_visits_text ticks visits (visits_bound profile irq.bound fiq.bound visits))
-IsRunText source profile irq fiq before (Strayed steps at why) kept text =
+-- the answer on a judged run: so many steps come before the entry, and the machine is at the address after it
+abbrev pub IsRunText : (source : List ℕ) → Words → Profile → (irq fiq : BoundedHandler) → (before after : ℕ)
+    → VisitedRun → Bool → List ℕ → Type 0
+IsRunText source words profile irq fiq before after (Kept steps ticks visits) kept text =
+    (kept ≡ true)
+    × ((left : List ℕ) × IsLeftText source words after left
+    × (text ≡ kept_visits_text ticks visits (visits_bound profile irq.bound fiq.bound visits) ++ left))
+IsRunText source words profile irq fiq before after (Strayed steps at why) kept text =
     (kept ≡ false)
     × ((line : Option ℕ) × IsLineNumberAt source at line
     × (text
-    ≡ strayed_text (before + steps) at line (visit_why_text irq.handler.statement fiq.handler.statement at why)))
+    ≡ strayed_text (before + steps) at line
+    (visit_why_text irq.handler.statement fiq.handler.statement at why)))
 
 -- and what was judged
 pub record IsArrivedRun (source : List ℕ) (words : Words) (profile : Profile) (irq fiq : BoundedHandler)
@@ -59,7 +63,7 @@ pub record IsArrivedRun (source : List ℕ) (words : Words) (profile : Profile) 
   pub run : VisitedRun
   pub judged : IsVisitedRun (handled_by words irq.handler) (handled_by words fiq.handler) now
       (drop before inputs) after run
-  pub is_text : IsRunText source profile irq fiq before run kept text
+  pub is_text : IsRunText source words profile irq fiq before (address_in after.regs) run kept text
 
 -- it never comes to the entry
 pub record IsRunElsewhere (irq : BoundedHandler) (s : State) (inputs : List Input) (kept : Bool)

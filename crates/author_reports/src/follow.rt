@@ -6,7 +6,7 @@ ghost use Rattle.kept_runs.specs.Judging.{IsMachineFor};
 ghost use Rattle.longest_walk.specs.Longest.{IsLongest};
 ghost use Rattle.loop_bounds.specs.Bounds.{IsGreatestCost};
 ghost use Rattle.author_reports.specs.FollowReport.{FollowsRun};
-ghost use Rattle.author_reports.specs.FollowText.{IsLeftText, IsLineNumberAt, strayed_text, why_text};
+ghost use Rattle.author_reports.specs.FollowText.{IsLineNumberAt, strayed_text, why_text};
 ghost use Rattle.author_reports.specs.FollowWork.{HasAllPlaces, IsJudgedRun, IsRefusalOf, IsReportOn};
 ghost use Rattle.author_reports.specs.FollowWork.{IsFollowedText, IsTallyText};
 ghost use Rattle.report_input.specs.Priced.{Priced};
@@ -14,7 +14,7 @@ ghost use Rattle.report_input.specs.Report.{BeforeOutput, HasItsTree, HasLoops};
 ghost use Rattle.report_input.specs.Source.{IsSourceFault, Says};
 
 use crate::differences::{SourceAndImage, differences};
-use crate::follow_text::{kept_text, left_line, line_number_at, strayed_text, why_text};
+use crate::follow_text::{kept_text, left_text, line_number_at, strayed_text, why_text};
 use crate::warnings::warnings;
 use assembler::Assembly;
 use bus_ticks::Profile;
@@ -57,20 +57,6 @@ struct Bounded<'a> {
     longest: &'a Longest,
 }
 
-// The line on a run that has gone on at the address, if the source has a word there.
-fn left_text(alloc: Global, bounded: Bounded<'_>, at: u32) -> Result<Vec<u8>, ReportFault>
-    ensures text { IfOk result
-        (λ text. IsLeftText bounded.entry.source.now bounded.entry.image.now at text.items) }
-    ensures fault { IfErr result (IsSourceFault bounded.entry.source.now) }
-{
-    if bounded.image.word_at(at).is_none() {
-        return Ok(Vec::new(alloc));
-    }
-    let line = line_number_at(alloc, bounded.source, at)?;
-    let text = left_line(alloc, at, line)?;
-    Ok(Vec::from_slice(alloc, text.as_bytes())?)
-}
-
 // The text on a run that is kept, and has gone on at the address.
 fn kept_run(
     alloc: Global,
@@ -103,7 +89,7 @@ fn kept_run(
         by_place,
         &bounded.longest.walk,
     )?;
-    let mut rest = left_text(alloc, bounded, at)?;
+    let mut rest = left_text(alloc, bounded.source, bounded.image, at)?;
     rest.extend_from_slice(&table)?;
     rest.extend_from_slice(&warned)?;
     let line = kept_text(alloc, ticks, bounded.longest.bound)?;

@@ -1,8 +1,8 @@
 //! What is printed of a run that is judged by a statement.
 
 ghost use Rattle.std.specs.Prelude.{◌≡◌, IfErr, IfOk, string_bytes};
-ghost use Rattle.author_reports.specs.FollowText.{IsLineNumberAt, access_name, access_text, kept_text};
-ghost use Rattle.author_reports.specs.FollowText.{left_line, less_text, line_text};
+ghost use Rattle.author_reports.specs.FollowText.{IsLeftText, IsLineNumberAt, access_name, access_text};
+ghost use Rattle.author_reports.specs.FollowText.{kept_text, left_line, less_text, line_text};
 ghost use Rattle.author_reports.specs.FollowText.{stray_text, strayed_text, times_text, turned_text};
 ghost use Rattle.author_reports.specs.FollowText.{why_text};
 ghost use Rattle.report_input.specs.Source.{IsSourceFault};
@@ -11,7 +11,7 @@ use assembler::placed_lines;
 use bus_ticks::{Class, class_of};
 use flow_graph::Statement;
 use kept_runs::{Access, Stray, Unkept};
-use loader::is_image;
+use loader::{Image, is_image};
 use report_output::ReportFault;
 use statement::class_name;
 use std::alloc::{AllocError, Global};
@@ -132,8 +132,8 @@ pub(crate) fn strayed_text(
     format!(in alloc; "step {steps}, {at:X}{line}: {why}\n")
 }
 
-/// The line on a run that goes on at a word of the source, by that word's line.
-pub(crate) fn left_line(alloc: Global, at: u32, line: Option<u64>) -> Result<String, AllocError>
+// The line on a run that goes on at a word of the source, by that word's line.
+fn left_line(alloc: Global, at: u32, line: Option<u64>) -> Result<String, AllocError>
     ensures { IfOk result (λ text. string_bytes text ≡ left_line at line) }
 {
     let line = line_text(alloc, line)?;
@@ -155,4 +155,23 @@ pub(crate) fn line_number_at(
     let placed = placed_lines(alloc, source)?;
     let lines = lines_by_address(alloc, source, &placed)?;
     Ok(lines.get(&address).map(|line| line.number))
+}
+
+/// The line on a run that has gone on at the address, if the source, whose image this is, has a word there;
+/// else nothing.
+pub(crate) fn left_text(
+    alloc: Global,
+    source: &[u8],
+    image: &Image,
+    at: u32,
+) -> Result<Vec<u8>, ReportFault>
+    ensures text { IfOk result (λ text. IsLeftText source.now image.now at text.items) }
+    ensures fault { IfErr result (IsSourceFault source.now) }
+{
+    if image.word_at(at).is_none() {
+        return Ok(Vec::new(alloc));
+    }
+    let line = line_number_at(alloc, source, at)?;
+    let text = left_line(alloc, at, line)?;
+    Ok(Vec::from_slice(alloc, text.as_bytes())?)
 }

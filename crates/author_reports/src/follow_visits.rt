@@ -1,13 +1,14 @@
 //! Whether a machine's run keeps the statements of a handler and of FIQ's, which interrupts it.
 
-ghost use Rattle.std.specs.Prelude.{◌≡◌, ◌<◌, ◌^◌, ℕ, List, Option, IfErr, IfOk, option_map, true, false};
+ghost use Rattle.std.specs.Prelude.{◌≡◌, ◌<◌, ◌^◌, ◌++◌, ℕ, List, Option, IfErr, IfOk, option_map};
+ghost use Rattle.std.specs.Prelude.{true, false};
 ghost use Rattle.bus_ticks.specs.declared.space.TheConstants.{FIQ_VECTOR};
 ghost use Rattle.kept_runs.specs.Judging.{IsMachineFor};
 ghost use Rattle.kept_runs.specs.Keeping.{IsHandler};
 ghost use Rattle.longest_walk.specs.Visits.{visits_bound};
-ghost use Rattle.author_reports.specs.FollowText.{IsLineNumberAt, strayed_text};
+ghost use Rattle.author_reports.specs.FollowText.{IsLeftText, IsLineNumberAt, strayed_text};
 ghost use Rattle.author_reports.specs.FollowVisits.{FollowsVisitedRun};
-ghost use Rattle.author_reports.specs.VisitedText.{kept_visits_text, never_text, visit_why_text};
+ghost use Rattle.author_reports.specs.VisitedText.{never_text, visit_why_text};
 ghost use Rattle.author_reports.specs.VisitedWork.{IsBoundOf, IsRunText, IsVisitsJudged, IsVisitsRefusalOf};
 ghost use Rattle.author_reports.specs.VisitedWork.{IsVisitsReportOn};
 ghost use Rattle.report_input.specs.FiqHandler.{IsFiqRefused};
@@ -16,7 +17,7 @@ ghost use Rattle.report_input.specs.Report.{BeforeOutput, IsRefused};
 ghost use Rattle.report_input.specs.Source.{IsSourceFault, Says};
 
 use crate::follow::{Judged, states_registers};
-use crate::follow_text::{line_number_at, strayed_text};
+use crate::follow_text::{left_text, line_number_at, strayed_text};
 use crate::visited_text::{kept_visits_text, never_text, visit_why_text};
 use assembler::Assembly;
 use bus_ticks::{Profile, fiq_entry};
@@ -57,6 +58,15 @@ struct Both<'a> {
     image: &'a Image,
     irq: &'a BoundedHandler,
     fiq: &'a BoundedHandler,
+}
+
+// How a run came out: its steps before the entry, what it did from there on, and the address, in bytes, where
+// the machine is then.
+#[derive(Clone, Copy)]
+struct Outcome {
+    before: usize,
+    run: VisitedRun,
+    after: u32,
 }
 
 // The handler that FIQ interrupts.
@@ -146,39 +156,42 @@ fn strayed_run(
     })
 }
 
-// The answer on a run that keeps both statements.
-fn kept_run(alloc: Global, ticks: u128, visits: u64, total: u128) -> Result<Judged, AllocError>
-    ensures { IfOk result
-        (λ j. (j.kept ≡ true) × (j.text.items ≡ kept_visits_text ticks visits total)) }
+// The answer on a run that keeps both statements, as this line says, and has gone on at the address.
+fn kept_run(alloc: Global, both: Both<'_>, line: &str, at: u32) -> Result<Judged, ReportFault>
+    ensures text { IfOk result
+        (λ j. (j.kept ≡ true)
+        × ((left : List ℕ) × IsLeftText both.entry.source.now both.entry.image.now at left
+        × (j.text.items ≡ line.now ++ left))) }
+    ensures fault { IfErr result (IsSourceFault both.entry.source.now) }
 {
-    let text = kept_visits_text(alloc, ticks, visits, total)?;
-    Ok(Judged {
-        kept: true,
-        text: Vec::from_slice(alloc, text.as_bytes())?,
-    })
+    let left = left_text(alloc, both.source, both.image, at)?;
+    let mut text = Vec::from_slice(alloc, line.as_bytes())?;
+    text.extend_from_slice(&left)?;
+    Ok(Judged { kept: true, text })
 }
 
-// The answer on a run that was judged, after so many steps before the entry.
+// The answer on a run that was followed.
 fn run_answer(
     alloc: Global,
     both: Both<'_>,
     profile: &Profile,
-    before: usize,
-    run: VisitedRun,
+    outcome: Outcome,
 ) -> Result<Judged, ReportFault>
     requires small { both.fiq.now.bound < 2 ^ 63 }
     ensures text { IfOk result
-        (λ j. IsRunText both.entry.source.now profile.now both.entry.irq.now both.entry.fiq.now before run j.kept
-        j.text.items) }
+        (λ j. IsRunText both.entry.source.now both.entry.image.now profile.now both.entry.irq.now
+        both.entry.fiq.now outcome.before outcome.after outcome.run j.kept j.text.items) }
     ensures fault { IfErr result (IsSourceFault both.entry.source.now) }
 {
-    match run {
+    match outcome.run {
         VisitedRun::Kept { ticks, visits, .. } => {
             let total = visits_total(profile, both.irq.bound, both.fiq.bound, visits);
-            Ok(kept_run(alloc, ticks, visits, total)?)
+            let line = kept_visits_text(alloc, ticks, visits, total)?;
+            kept_run(alloc, both, line.as_str(), outcome.after)
         }
         VisitedRun::Strayed { steps, at, why } => {
-            strayed_run(alloc, both, before as u128 + u128::from(steps), at, why)
+            let steps = outcome.before as u128 + u128::from(steps);
+            strayed_run(alloc, both, steps, at, why)
         }
     }
 }
@@ -223,7 +236,9 @@ fn visits_judged(
         fiq: accepted(both.image, &both.fiq.handler),
     };
     let run = follow_visited(alloc, handlers, &mut placed.machine, &inputs[before..])?;
-    run_answer(alloc, both, profile, before, run)
+    let after = placed.machine.address();
+    let outcome = Outcome { before, run, after };
+    run_answer(alloc, both, profile, outcome)
 }
 
 // The answer on a machine's run through both handlers.
@@ -284,16 +299,17 @@ fn source_run(
 
 /// Runs the machine of a source and a machine file and judges the run, from where it first comes to the
 /// handler's entry until it leaves the handler, by the statements of the handler and of FIQ's handler, which
-/// interrupts it. The file's steps are the most that it makes. The prices are those of a cycle profile's file,
-/// or of the first profile.
+/// interrupts it. The file's steps are the most that it makes. The prices are those of a cycle profile's
+/// file, or of the first profile.
 ///
 /// `true` exactly where the run keeps both statements: from the entry some number of its steps are those of a
 /// walk to Exit that keeps the loop bounds, as if there were no visits, and visits of FIQ's handler, each of
 /// which keeps its statement and leads back to where FIQ was taken. Then its ticks are at most the total that
-/// `visits_report` prints for so many visits, and the line that is written says how
-/// many of both they are, and how much less than the total the ticks. Else the line says which step is the
-/// first that does not keep them, by its number from 0 from the machine file's start on, its address and its
-/// line of the source, and why, or that the run never comes to the entry.
+/// `visits_report` prints for so many visits, and the first line that is written says how many of both they
+/// are, and how much less than the total the ticks; where the run goes on at a word of the source, a second
+/// line says at which. Else the line says which step is the first that does not keep them, by its number from
+/// 0 from the machine file's start on, its address and its line of the source, and why, or that the run never
+/// comes to the entry.
 ///
 /// # Errors
 ///

@@ -1,11 +1,10 @@
-use Rattle.std.proofs.Common.{ℕ, List, IfOk, subst, sym}
+use Rattle.std.proofs.Common.{ℕ, List, IfOk, subst}
 use Rattle.std.proofs.lemmas.Result.{IfErr-weaker, IfOk-weaker}
 use Rattle.loader.specs.Image.{Words}
 use Rattle.loader.specs.Labels.{address_of}
 use Rattle.author_reports.specs.VisitedWork.{IsVisitsJudged}
 use Rattle.author_reports.proofs.ExplainLemmas.{source_unexplained}
-use Rattle.author_reports.proofs.FollowLemmas.{machine_for}
-use Rattle.author_reports.proofs.VisitedLemmas.{Refused, both_accepted, fiq_bound_small, fiq_handler_is, irq_handler_is, irq_refused, machine_refused, same_prices, visits_reported}
+use Rattle.author_reports.proofs.VisitedLemmas.{Refused, both_accepted, irq_refused, machine_refused, visits_reported}
 use Rattle.report_input.proofs.HandlerLemmas.{refused_as}
 use Rattle.report_input.specs.Source.{IsSourceFault}
 use Rattle.author_reports.proofs.follow_visits.machine_run.Goals as goal

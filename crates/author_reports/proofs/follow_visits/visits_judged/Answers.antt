@@ -6,7 +6,7 @@ use Rattle.flow_graph.specs.Flow.{Flow}
 use Rattle.kept_runs.specs.Arriving.{ArrivesAfter}
 use Rattle.kept_runs.specs.Judging.{IsMachineFor}
 use Rattle.kept_runs.specs.Visited.{Handled, IsVisitedRun, handled}
-use Rattle.author_reports.specs.VisitedWork.{handled_by}
+use Rattle.author_reports.specs.VisitedWork.{IsRunText, handled_by}
 use Rattle.author_reports.proofs.follow_visits.visits_judged.Goals as goal
 
 pub follow_visited-requires-clause-machine : goal.follow_visited-requires-clause-machine
@@ -42,6 +42,14 @@ returns-clause-judged c =
     (λ j text. record {
       inputs = inputs;
       inputs_are = c.in_ok-inputs.ensures;
-      is_text = inl (record { before = before; now = now; arrives = arrives; after = after; run = run; judged = judged; is_text = text });
+      is_text = inl (record {
+        before = before;
+        now = now;
+        arrives = arrives;
+        after = after;
+        run = run;
+        judged = judged;
+        is_text = subst (λ (at : ℕ). IsRunText b.source.now b.image.now c.args.profile.now b.irq.now b.fiq.now before at run j.kept j.text.items) c.address-after.ensures.address text;
+      });
     })
     c.run_answer.ensures.text
