@@ -1,14 +1,14 @@
 -- A run that keeps a statement: of a handler of one word in ROM, SUBS PC,R14,#4, in IRQ mode.
 use Rattle.std.proofs.Common.{◌≡◌, ◌++◌, ℕ, List, [], ◌∷◌, None, Some, replicate, refl, ap}
 use Rattle.bus_ticks.specs.declared.profile.Profile.{Profile}
-use Rattle.loader.specs.Image.{Words, word_of}
+use Rattle.image.specs.Image.{Words, word_of}
 use Rattle.memc.specs.Memory.{control_of}
 use Rattle.ioc.specs.Interrupts as ioc
 use Rattle.vidc.specs.Video as vidc
 use Rattle.arm2_transfer.specs.declared.bus.Bus.{Bus}
 use Rattle.arm2_exec.specs.Run.{at_rest, counted, why_stopped}
 use Rattle.arm2_exec.specs.State.{State}
-use Rattle.report_input.specs.Keeping.{HasKeptRun}
+use Rattle.handlers.specs.Keeping.{HasKeptRun}
 use Rattle.arcwcet.proofs.OneWord as one
 use Rattle.arcwcet.proofs.OneWord.{goes_before, quiet}
 

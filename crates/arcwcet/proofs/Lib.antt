@@ -3,4 +3,3 @@ pub mod KeptRun
 pub mod OneWord
 pub mod RunLemmas
 pub mod VisitedRun
-pub mod VisitsReportLemmas

@@ -4,9 +4,9 @@ use Rattle.std.specs.List.Sorted.{IsStrictlySortedBy}
 use Rattle.std.proofs.lemmas.Option.{same_Some}
 use Rattle.bus_ticks.specs.declared.profile.Profile.{Profile}
 use Rattle.bus_ticks.specs.declared.profile.Class.TheVariants.{Any}
-use Rattle.flow_graph.proofs.SortedLemmas.{no_member}
-use Rattle.flow_graph.proofs.StepEdges.{only_one}
-use Rattle.loader.specs.Image.{Words, word_of}
+use Rattle.control_flow.proofs.SortedLemmas.{no_member}
+use Rattle.control_flow.proofs.LabelLemmas.{only_one}
+use Rattle.image.specs.Image.{Words, word_of}
 use Rattle.arm2_decode.specs.declared.instr.Instr.{Instr}
 use Rattle.arm2_decode.specs.declared.instr.Operation.TheVariants as operation
 use Rattle.arm2_decode.specs.declared.names.Cond.TheVariants.{Al}
@@ -27,17 +27,17 @@ use Rattle.arm2_exec.specs.declared.machine.Input.{Input}
 use Rattle.arm2_exec.specs.declared.machine.Stepped.{Stepped}
 use Rattle.statement.specs.Stated.{Stated}
 use Rattle.statement.specs.declared.stated.Returns.TheVariants.{Assumed}
-use Rattle.flow_graph.specs.Edges.{AreEdgesOf, HasAction, IsEdge, do_edge, word_edges}
-use Rattle.flow_graph.specs.Flow.{Flow, edge_shape}
-use Rattle.flow_graph.specs.Graph.{IsFlowGraph}
+use Rattle.control_flow.specs.Edges.{AreEdgesOf, HasAction, IsEdge, do_edge, word_edges}
+use Rattle.control_flow.specs.Flow.{Flow, edge_shape}
+use Rattle.control_flow.specs.Graph.{IsFlowGraph}
 use Rattle.walks.specs.Walk.{Leads}
-use Rattle.flow_graph.specs.Kinds.{instr_action}
+use Rattle.control_flow.specs.Kinds.{instr_action}
 use Rattle.flow_graph.specs.StepLaw.{Executes, Follows, IsEdgeOf, IsTaken}
 use Rattle.loop_bounds.specs.Bounds.{IsCompleteWalk, KeepsTheBounds}
-use Rattle.flow_graph.specs.declared.edges.Edge.{Edge}
-use Rattle.flow_graph.specs.declared.actions.Action.{Action}
-use Rattle.flow_graph.specs.declared.places.Place.{Place}
-use Rattle.flow_graph.specs.declared.places.Place.TheVariants.{At, Exit}
+use Rattle.control_flow.specs.declared.edges.Edge.{Edge}
+use Rattle.control_flow.specs.declared.actions.Action.{Action}
+use Rattle.control_flow.specs.declared.places.Place.{Place}
+use Rattle.control_flow.specs.declared.places.Place.TheVariants.{At, Exit}
 
 abbrev pub word : ℕ
 word = 0xE25EF004

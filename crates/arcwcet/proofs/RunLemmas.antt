@@ -3,22 +3,22 @@ use Rattle.std.proofs.Common.{◌≡◌, ◌≢◌, ◌∙◌, ◌≤◌, ℕ, B
 use Rattle.std.proofs.KnownBytes.{Appends-nil}
 use Rattle.std.specs.Prelude.{IfErr, OnErr}
 use Rattle.outputs.specs.Output.{TakesFront}
-use Rattle.report_output.specs.FaultText.{TakesOrFails, fault_text, refusal_line}
+use Rattle.handlers.specs.FaultText.{TakesOrFails, fault_text, refusal_line}
 use Rattle.arcwcet.specs.Refusals.{Says, SaysRefused, Saying, TakesSome, refusal_of, shows_why, store_fault_name}
 use Rattle.std.specs.Io.KnownBytes.{Appends, Consumes, IsAtEnd}
 use Rattle.std.specs.List.{cons_option}
 use Rattle.bus_ticks.specs.declared.profile.Profile.{Profile}
-use Rattle.report_output.specs.Answers.{Answers, FailsWithin, OfSome, PrintsOrRefuses}
-use Rattle.machine_reports.specs.Assembly.{IsSourceRefused}
+use Rattle.handlers.specs.Answers.{Answers, FailsWithin, OfSome, PrintsOrRefuses}
+use Rattle.source_reports.specs.Assembly.{IsSourceRefused}
 use Rattle.command_line.specs.Line.{Asked, FileNames, asm, list, draft, run, trace, debug, bound, explain, tight, check, explain_verdict, visits, follow, follow_visits, graph}
-use Rattle.report_input.specs.Placing.{IsRunRefused}
-use Rattle.report_input.specs.Priced.{ByProfile, HasNoProfile, IsUnpriced, Priced, PricedFault}
+use Rattle.handlers.specs.Placing.{IsRunRefused}
+use Rattle.handlers.specs.Priced.{ByProfile, HasNoProfile, IsUnpriced, Priced, PricedFault}
 use Rattle.arcwcet.specs.Files.{FailsToRead, ReadsAll, Reading, Texts, Writing, two_of}
 use Rattle.arcwcet.specs.Run.{ByFour, ByThree, ByTwo, HasPrinted, HasWritten, IsSessionOf, OfFour, OfThree, OfTwo, Plain, RefusesFour, RefusesThree, RefusesTwo, Runs, RunsAsked, RunsAsm, RunsDebug, RunsOf, PrintsOrRefusesOf}
 use Rattle.arcwcet.specs.Run.{answer_status, answered, fault_of, files_of, report_status, store_status, text_of}
-use Rattle.report_output.specs.declared.fault.ReportFault.{ReportFault}
-use Rattle.report_output.specs.declared.fault.ReportFault.TheVariants.{Memory, Source, Image, Statement, Graph, Loops, Walk, MachineFile, Load, Cert, Device}
-use Rattle.report_output.specs.declared.fault.ReportFault.TheVariants as report_fault
+use Rattle.handlers.specs.declared.fault.ReportFault.{ReportFault}
+use Rattle.handlers.specs.declared.fault.ReportFault.TheVariants.{Memory, Source, Image, Statement, Graph, Loops, Walk, MachineFile, Load, Cert, Device}
+use Rattle.handlers.specs.declared.fault.ReportFault.TheVariants as report_fault
 use Rattle.arcwcet.specs.declared.fault.StoreFault.{StoreFault}
 use Rattle.arcwcet.specs.declared.fault.StoreFault.TheVariants as store_fault
 

@@ -3,7 +3,7 @@
 use Rattle.std.proofs.Common.{◌≡◌, ◌++◌, ℕ, List, [], ◌∷◌, Bool, true, false, None, Some, replicate, refl, ap, subst}
 use Rattle.std.specs.Prelude.{◌&&◌, if◌then◌else◌}
 use Rattle.bus_ticks.specs.declared.profile.Profile.{Profile}
-use Rattle.loader.specs.Image.{Words, word_of}
+use Rattle.image.specs.Image.{Words, word_of}
 use Rattle.memc.specs.Memory.{Memory, control_of}
 use Rattle.ioc.specs.Interrupts as ioc
 use Rattle.ioc.specs.declared.timers.Timers.{Timers}
@@ -23,9 +23,9 @@ use Rattle.arm2_exec.specs.declared.machine.Input.{Input}
 use Rattle.arm2_exec.specs.declared.machine.Ran.{Ran}
 use Rattle.arm2_exec.specs.declared.machine.Stepped.{Stepped}
 use Rattle.flow_graph.specs.StepLaw.{IsEdgeOf}
-use Rattle.report_input.specs.Keeping.{KeepsStatement}
+use Rattle.handlers.specs.Keeping.{KeepsStatement}
 use Rattle.kept_runs.specs.Visited.{IsVisit, MainStep, Visit, inputs_of}
-use Rattle.report_input.specs.Visits.{HasVisitedRun, KeepsVisited}
+use Rattle.handlers.specs.Visits.{HasVisitedRun, KeepsVisited}
 use Rattle.arcwcet.proofs.OneWord as one
 use Rattle.arcwcet.proofs.OneWord.{goes_before, quiet}
 

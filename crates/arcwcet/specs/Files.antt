@@ -11,7 +11,8 @@ use Rattle.arcwcet.specs.declared.files.TheConstants.{MOST_INPUT_BYTES}
 abbrev pub Texts : Type 0
 Texts = List (List ℕ)
 
--- the names of two files, and of a third one, and of a fourth one: a cycle profile's file comes first, where there is one
+-- the names of two files, and of a third one, and of a fourth one: a cycle profile's file comes first, where
+-- there is one
 abbrev pub two_of : FileNames → Texts
 two_of n = cons_option n.profile (n.first ∷ n.second ∷ [])
 

@@ -5,5 +5,4 @@ pub mod FileFaults
 pub mod Refusals
 pub mod Run
 pub mod Store
-pub mod VisitsReport
 pub use Rattle.command_line.specs.Line

@@ -2,8 +2,8 @@
 use Rattle.std.specs.Prelude.{◌≡◌, ◌++◌, ℕ, Bool, true, false, List, codes, Option, Some, None, Result, Ok, Err}
 use Rattle.std.specs.Io.KnownBytes.{Appends}
 use Rattle.command_line.specs.Line.{Asked, explain, explain_verdict}
-use Rattle.report_output.specs.FaultText.{TakesOrFails, fault_text, refusal_line}
-use Rattle.report_output.specs.declared.fault.ReportFault.{ReportFault}
+use Rattle.handlers.specs.FaultText.{TakesOrFails, fault_text, refusal_line}
+use Rattle.handlers.specs.declared.fault.ReportFault.{ReportFault}
 use Rattle.arcwcet.specs.declared.fault.FileFault.{FileFault}
 use Rattle.arcwcet.specs.declared.fault.FileFault.TheVariants as file_fault
 use Rattle.arcwcet.specs.declared.fault.StoreFault.{StoreFault}

@@ -2,35 +2,35 @@
 use Rattle.std.specs.Prelude.{◌≡◌, ◌≢◌, ◌⊎◌, ◌≤◌, ℕ, Bool, true, false, if◌then◌else◌, List, [], ◌∷◌}
 use Rattle.std.specs.Prelude.{codes, length, Option, Some, None, Result, Ok, Err}
 use Rattle.std.specs.Io.KnownBytes.{Appends, Consumes, IsAtEnd}
-use Rattle.report_output.specs.Answers.{FailsWithin, OfSome, Prints, PrintsOrRefuses}
-use Rattle.report_output.specs.FaultText.{fault_text}
-use Rattle.machine_reports.specs.Assembly.{IsAsmReport, IsSourceRefused, IsWritten}
-use Rattle.bound_reports.specs.Check.{IsAnswer, IsCheckRefused}
-use Rattle.bound_reports.specs.Verdict.{IsVerdictReport}
+use Rattle.handlers.specs.Answers.{FailsWithin, OfSome, Prints, PrintsOrRefuses}
+use Rattle.handlers.specs.FaultText.{fault_text}
+use Rattle.source_reports.specs.Assembly.{IsAsmReport, IsSourceRefused, IsWritten}
+use Rattle.handler_reports.specs.Check.{IsAnswer, IsCheckRefused}
+use Rattle.handler_reports.specs.Verdict.{IsVerdictReport}
 use Rattle.machine_reports.specs.Debug.{IsDebugReport}
 use Rattle.arcwcet.specs.Files.{FailsToRead, ReadsAll, Reading, StopsReading, Texts, Writing, three_of}
 use Rattle.arcwcet.specs.Files.{four_of, two_of}
 use Rattle.command_line.specs.Line.{Asked, asm, list, draft, run, trace, debug, bound, explain, tight}
 use Rattle.command_line.specs.Line.{ExplainOptions, FileNames, check, explain_verdict, follow, follow_visits}
 use Rattle.command_line.specs.Line.{graph, visits}
-use Rattle.author_reports.specs.DraftReport.{IsDraftRefused, IsDraftReport}
-use Rattle.author_reports.specs.ExplainReport.{IsExplainReport}
-use Rattle.author_reports.specs.FollowReport.{IsFollowRefused, IsFollowReport}
-use Rattle.author_reports.specs.FollowVisits.{AreNotFollowed, IsFollowVisitsReport}
-use Rattle.author_reports.specs.GraphReport.{IsGraphReport}
-use Rattle.machine_reports.specs.ListReport.{IsListReport}
-use Rattle.report_input.specs.Placing.{IsRunRefused}
+use Rattle.source_reports.specs.DraftReport.{IsDraftRefused, IsDraftReport}
+use Rattle.handler_reports.specs.ExplainReport.{IsExplainReport}
+use Rattle.handler_reports.specs.FollowReport.{IsFollowRefused, IsFollowReport}
+use Rattle.handler_reports.specs.FollowVisits.{AreNotFollowed, IsFollowVisitsReport}
+use Rattle.handler_reports.specs.GraphReport.{IsGraphReport}
+use Rattle.source_reports.specs.ListReport.{IsListReport}
+use Rattle.handlers.specs.Placing.{IsRunRefused}
 use Rattle.machine_reports.specs.Machine.{IsMachineReport, ShowsRegisters, ShowsSteps}
 use Rattle.outputs.specs.Output.{TakesFront, FailsSince}
-use Rattle.report_input.specs.Priced.{ByProfile, PricedFault}
-use Rattle.report_input.specs.Report.{IsRefused, IsReport}
-use Rattle.machine_reports.specs.TightReport.{IsTightRefused, IsTightReport}
+use Rattle.handlers.specs.Priced.{ByProfile, PricedFault}
+use Rattle.handlers.specs.Report.{IsRefused, IsReport}
+use Rattle.handler_reports.specs.TightReport.{IsTightRefused, IsTightReport}
 use Rattle.arcwcet.specs.Refusals.{Saying, store_fault_name}
-use Rattle.arcwcet.specs.VisitsReport.{AreRefused, IsVisitsReport}
+use Rattle.handler_reports.specs.VisitsReport.{AreRefused, IsVisitsReport}
 use Rattle.bus_ticks.specs.declared.profile.Profile.{Profile}
-use Rattle.explained.specs.declared.bursts.Bursts.{Bursts}
-use Rattle.report_output.specs.declared.fault.ReportFault.{ReportFault}
-use Rattle.report_output.specs.declared.fault.ReportFault.TheVariants as report_fault
+use Rattle.text_explained.specs.declared.bursts.Bursts.{Bursts}
+use Rattle.handlers.specs.declared.fault.ReportFault.{ReportFault}
+use Rattle.handlers.specs.declared.fault.ReportFault.TheVariants as report_fault
 use Rattle.arcwcet.specs.declared.files.TheConstants.{MOST_INPUT_BYTES}
 use Rattle.arcwcet.specs.declared.fault.StoreFault.{StoreFault}
 use Rattle.arcwcet.specs.declared.fault.StoreFault.TheVariants as store_fault

@@ -1,6 +1,7 @@
-ghost use Rattle.std.specs.Prelude.{◌≡◌, ◌≢◌, ◌⊎◌, None, Some};
+ghost use Rattle.std.specs.Prelude.{◌≡◌, ◌≢◌, ◌⊎◌, None, Some, codes};
 ghost use Rattle.command_line.specs.Line.{Asked, asked_in, asked_of, asm, debug, explain, follow_visits};
 ghost use Rattle.command_line.specs.Line.{names_of, options_of};
+ghost use Rattle.handlers.specs.FaultText.{TakesOrFails, refusal_line};
 ghost use Rattle.arcwcet.specs.Asked.{pair_asked, source_asked, triple_asked};
 ghost use Rattle.arcwcet.specs.Refusals.{Says};
 ghost use Rattle.arcwcet.specs.Run.{RunsAsked, RunsAsm, RunsDebug, RunsOf};
@@ -9,13 +10,15 @@ use crate::diagnose::explained_status;
 use crate::files::{Store, read_four_files, read_limited, read_three_files, read_two_files};
 use crate::reports::{PairReport, SourceReport, TripleReport, answered, print_follow_visits};
 use crate::status::{answer_status, line_status, report_status, store_status, unread_status};
-use author_reports::{Explained, explain_report};
 use command_line::{AsmNames, ExplainNames, FollowVisitsNames, Names, Request, request};
-use explained::Bursts;
-use machine_reports::{debug_report, image_written};
-use report_output::{Output, ReportFault, write_whole};
+use handler_reports::{Explained, explain_report};
+use handlers::ReportFault;
+use machine_reports::debug_report;
+use outputs::{Output, write_whole};
+use source_reports::image_written;
 use std::alloc::Global;
 use std::io::Read;
+use text_explained::Bursts;
 
 fn obey<S: Store, I: Read, O: Output, E: Output>(
     alloc: Global,
@@ -68,10 +71,11 @@ pub fn program<S: Store, I: Read, O: Output, E: Output>(
     out: &mut O,
     err: &mut E,
 ) -> u8
-    // Words that ask for nothing are wrong usage, and no others are.
+    // Words that ask for nothing are wrong usage, and no others are, unless memory runs out.
     ensures usage { asked_in words.now ≡ None
-        → ((result ≡ 2) ⊎ (result ≡ 3)) × (out.new ≡ out.old) × (store.new ≡ store.old)
-        × (input.new ≡ input.old) }
+        → ((result ≡ 2) ⊎ ((result ≡ 3)
+        × TakesOrFails E.taken E.failures err.old err.new (refusal_line (codes "Memory"))))
+        × (out.new ≡ out.old) × (store.new ≡ store.old) × (input.new ≡ input.old) }
     ensures no_usage { asked_in words.now ≢ None → result ≢ 2 }
 
     // What the words ask for was done, and standard error says what was refused.

@@ -1,28 +1,26 @@
 //! What the one line of a refusal has no room for.
 
 ghost use Rattle.std.specs.Prelude.{◌≡◌, IfErr, OnOk, true};
-ghost use Rattle.report_output.specs.FaultText.{fault_text};
+ghost use Rattle.handlers.specs.FaultText.{fault_text};
 ghost use Rattle.arcwcet.specs.Refusals.{SaysRefused, TakesSome};
 ghost use Rattle.arcwcet.specs.Run.{answer_status};
 
 use crate::status::{answer_status, report_status};
 use assembler::{Assembly, PlacedLine, Program, placed_lines};
-use author_reports::Explained;
 use bus_ticks::Profile;
-use diagnosis::{
+use control_flow::{BuildFault, FaultyPlace, faulty_place};
+use handler_reports::{Explained, HandlerGraph, read_graph};
+use handlers::{ReportFault, profile_of, read_source};
+use image::is_image;
+use loop_bounds::NestFault;
+use outputs::{Output, write_whole};
+use statement::{Statement, StatementFault, read_statement};
+use std::alloc::{AllocError, Global};
+use text_refusals::{
     WordLines, crossing_text, cycle_text, deep_place, deep_text, entry_text, extent_of,
     faulty_lines, faulty_text, loops_that_cross, mid_entry, place_text, shared_header, shared_text,
     statement_text, unbounded_cycle, word_text, words_of,
 };
-use flow_graph::{
-    BuildFault, FaultyPlace, Statement, StatementFault, faulty_place, read_statement,
-};
-use loader::is_image;
-use loop_bounds::NestFault;
-use machine_reports::{HandlerGraph, read_graph};
-use report_input::{profile_of, read_source};
-use report_output::{Output, ReportFault, write_whole};
-use std::alloc::{AllocError, Global};
 
 // Where the lines of a source are placed. An image has none.
 fn placed_in(alloc: Global, source: &[u8]) -> Result<Vec<PlacedLine>, ReportFault> {

@@ -1,7 +1,7 @@
 ghost use Rattle.std.specs.Prelude.{◌≡◌};
 ghost use Rattle.bus_ticks.specs.declared.profile.Profile.{Profile};
-ghost use Rattle.report_input.specs.Keeping.{HasKeptRun};
-ghost use Rattle.report_input.specs.Visits.{HasVisitedRun};
+ghost use Rattle.handlers.specs.Keeping.{HasKeptRun};
+ghost use Rattle.handlers.specs.Visits.{HasVisitedRun};
 
 use crate::files::MOST_INPUT_BYTES;
 

@@ -8,14 +8,15 @@ ghost use Rattle.arcwcet.specs.FileTexts.{lent_four, lent_three, lent_two};
 ghost use Rattle.arcwcet.specs.Run.{PrintsOrRefusesOf, answered, files_of};
 
 use crate::files::{FourTexts, ThreeTexts, TwoTexts};
-use crate::visits::visits_report;
-use author_reports::{
-    FollowedRun, FollowedVisits, draft_report, follow_report, follow_visits_report, graph_report,
-};
-use bound_reports::{CheckInputs, bound_report, check_report, verdict_report};
 use command_line::{CheckNames, DraftNames, FollowNames, Names, TightNames, VisitsNames};
-use machine_reports::{ShownRegisters, ShownSteps, list_report, machine_report, tight_report};
-use report_output::{Output, ReportFault};
+use handler_reports::{
+    CheckInputs, FollowedRun, FollowedVisits, bound_report, check_report, follow_report,
+    follow_visits_report, graph_report, tight_report, verdict_report, visits_report,
+};
+use handlers::ReportFault;
+use machine_reports::{ShownRegisters, ShownSteps, machine_report};
+use outputs::Output;
+use source_reports::{draft_report, list_report};
 use std::alloc::Global;
 
 /// The answer of a report that is its text alone: yes.

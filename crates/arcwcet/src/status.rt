@@ -1,16 +1,14 @@
 ghost use Rattle.std.specs.Prelude.{◌≡◌, ◌≢◌, ◌⊎◌, IfErr, OnOk, codes, true};
 ghost use Rattle.outputs.specs.OnTheWay.{Adds};
-ghost use Rattle.report_output.specs.FaultText.{TakesOrFails, fault_text, refusal_line};
+ghost use Rattle.handlers.specs.FaultText.{TakesOrFails, fault_text, refusal_line};
 ghost use Rattle.arcwcet.specs.Refusals.{SaysRefused, TakesSome, store_fault_name, unread_line};
 ghost use Rattle.arcwcet.specs.Run.{answer_status, report_status, store_status};
 
 use crate::fault::{StoreFault, file_fault_text, store_fault_name};
 use crate::files::{Store, Unread};
 use command_line::CommandLineFault;
-use outputs::Page;
-use report_output::{
-    FaultPlace, Output, ReportFault, fault_name, fault_place, print_refusal_line, write_whole,
-};
+use handlers::{FaultPlace, ReportFault, fault_name, fault_place, print_refusal_line};
+use outputs::{Output, Page, write_whole};
 use std::fmt;
 use std::fmt::Write;
 

@@ -6,15 +6,15 @@ use Rattle.std.specs.List.{AllByRecursion, AllZip}
 use Rattle.std.specs.Str.{bytes_eq}
 use Rattle.std.proofs.lemmas.List.{length-append}
 use Rattle.std.proofs.lemmas.Slice.Eq.{bytes_eq-Decides}
-use Rattle.loader.specs.Image.{may_hold}
+use Rattle.image.specs.Image.{may_hold}
 use Rattle.asm_text.specs.Statements.{Parsed, line_of}
 use Rattle.assembler.specs.Assembles.{AreFree, AreWords, Laid, Once, address_after, label_at, labels_of, laid_from, places, addresses_from, segments, word_count}
-use Rattle.loader.specs.Labels.{Names}
+use Rattle.image.specs.Labels.{Names}
 use Rattle.assembler.specs.Sweeps.{State, label_fault, labelled_state, swept, with_name}
 use Rattle.assembler.proofs.AssembleSteps.{Step, said_is, segments_in}
 use Rattle.assembler.proofs.AssembleBack.{Apart, Exact, In}
 use Rattle.assembler.proofs.AssembleReady.{NotEmpty, Passes, Ready, said_ok}
-use Rattle.loader.proofs.WordLemmas.{all_parts}
+use Rattle.image.proofs.WordLemmas.{all_parts}
 use Rattle.assembler.proofs.AssembleBasics.{all_both, all_true, count_places}
 
 -- ## Lists in two parts

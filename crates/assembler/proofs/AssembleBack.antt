@@ -5,13 +5,13 @@ use Rattle.std.specs.List.{AllByRecursion, list_any}
 use Rattle.std.proofs.lemmas.Bool.{and_parts, cases_Bool, or_right}
 use Rattle.std.proofs.lemmas.Bool.Decides.{nat_tests}
 use Rattle.std.proofs.lemmas.List.{length-append}
-use Rattle.loader.specs.Image.{lies_in_memory, may_hold}
-use Rattle.loader.proofs.PlaceLemmas.{Lies, lies_in, lies_more, lies_one, may_parts}
+use Rattle.image.specs.Image.{lies_in_memory, may_hold}
+use Rattle.image.proofs.PlaceLemmas.{Lies, lies_in, lies_more, lies_one, may_parts}
 use Rattle.asm_text.proofs.WordLaws.{false_true}
 use Rattle.assembler.specs.Assembles.{addresses_from}
 use Rattle.assembler.specs.Sweeps.{Pending, State, closed_with, org_state, is_open_at, overlaps, placed}
 use Rattle.assembler.proofs.AssembleSteps.{InSegments, put_all}
-use Rattle.loader.proofs.WordLemmas.{all_push}
+use Rattle.image.proofs.WordLemmas.{all_push}
 use Rattle.std.proofs.lemmas.List.{append-nil}
 
 -- ## Addresses in a list

@@ -5,14 +5,14 @@ use Rattle.std.specs.List.{AllByRecursion, AllZip, fold}
 use Rattle.std.proofs.lemmas.Bool.Decides.{nat_tests}
 use Rattle.std.proofs.lemmas.Bool.{not-false, or_parts}
 use Rattle.asm_text.proofs.WordLaws.{chosen, false_true, same_Ok}
-use Rattle.loader.specs.Image.{Words, may_hold, put_fault, runs_of, with_word, word_of}
-use Rattle.loader.specs.declared.image.ImageFault.{ImageFault}
-use Rattle.loader.specs.declared.image.ImageFault.TheVariants as image_fault
-use Rattle.loader.proofs.WordLemmas.{length_with_word, none_held}
+use Rattle.image.specs.Image.{Words, may_hold, put_fault, runs_of, with_word, word_of}
+use Rattle.image.specs.declared.image.ImageFault.{ImageFault}
+use Rattle.image.specs.declared.image.ImageFault.TheVariants as image_fault
+use Rattle.image.proofs.WordLemmas.{length_with_word, none_held}
 use Rattle.asm_text.specs.Said.{Target, Number, Label, Said, Codes, Refers, Orgs, Lists}
 use Rattle.assembler.specs.Assembles.{AreWords, IsTarget, Laid, Once, places, addresses_from, words_at, words_from}
 use Rattle.assembler.specs.Codes.{encoded, refer}
-use Rattle.loader.specs.Labels.{Names}
+use Rattle.image.specs.Labels.{Names}
 use Rattle.assembler.specs.Sweeps.{Fixed, Waits, Item, Pending, filled, item_step, put_on, resolved, targeted, value_pending, word_put}
 use Rattle.assembler.specs.declared.fault.LineFault.{LineFault}
 use Rattle.assembler.proofs.AssembleSteps.{Pends, items_at}

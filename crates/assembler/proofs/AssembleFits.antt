@@ -4,16 +4,16 @@ use Rattle.std.proofs.lemmas.Bool.Decides.{nat_tests}
 use Rattle.std.proofs.lemmas.List.{append-nil, length-append}
 use Rattle.std.specs.List.{AllByRecursion}
 use Rattle.std.specs.Prelude.{flat_map, if◌then◌else◌, nat_le, nat_lt}
-use Rattle.loader.specs.Image.{Words, may_hold, put_fault, runs_of, with_word, word_of}
-use Rattle.loader.proofs.SegmentLemmas.{word_of_here}
-use Rattle.loader.proofs.WordLemmas.{length_with_word}
+use Rattle.image.specs.Image.{Words, may_hold, put_fault, runs_of, with_word, word_of}
+use Rattle.image.proofs.SegmentLemmas.{word_of_here}
+use Rattle.image.proofs.WordLemmas.{length_with_word}
 use Rattle.asm_text.specs.Said.{Said, Orgs}
 use Rattle.asm_text.specs.Statements.{Parsed}
 use Rattle.asm_text.proofs.WordLaws.{false_true}
 use Rattle.assembler.specs.Assembles.{Laid, Once, address_after, is_open, laid_from, places, addresses_from, segments, word_count}
 use Rattle.assembler.proofs.AssembleAll.{apart_both, once_parts}
 use Rattle.assembler.proofs.AssembleBack.{Apart, In, may_four, in_first, in_last}
-use Rattle.loader.proofs.WordLemmas.{all_parts}
+use Rattle.image.proofs.WordLemmas.{all_parts}
 use Rattle.assembler.proofs.AssembleBasics.{count_places}
 use Rattle.assembler.proofs.AssembleRuns.{Ascending, ascending_put, put_elsewhere, runs_more, runs_same}
 

@@ -2,12 +2,12 @@
 use Rattle.std.proofs.Common.{◌≡◌, ◌+◌, ℕ, List, [], ◌∷◌, ◌++◌, length, map, Option, Some, None, Ok, refl, sym, ap, subst, ◌∙◌}
 use Rattle.std.specs.Prelude.{flat_map}
 use Rattle.std.specs.List.{AllZip}
-use Rattle.loader.specs.Image.{Words, with_word}
+use Rattle.image.specs.Image.{Words, with_word}
 use Rattle.asm_text.specs.Said.{Target, Number, Label, Said, Codes, Refers, Orgs, Lists}
 use Rattle.asm_text.specs.Statements.{Parsed}
 use Rattle.assembler.specs.Assembles.{AreWords, IsTarget, address_after, laid_from, places, addresses_from, word_count, words_at, words_from}
 use Rattle.assembler.specs.Codes.{encoded, refer}
-use Rattle.loader.specs.Labels.{Names}
+use Rattle.image.specs.Labels.{Names}
 use Rattle.assembler.specs.Sweeps.{Item, Pending, filled, value_pending}
 use Rattle.assembler.proofs.AssembleSteps.{Pends, items_at}
 use Rattle.assembler.proofs.AssembleSweep.{NewItems, flat}

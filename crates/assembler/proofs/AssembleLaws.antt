@@ -3,8 +3,8 @@ use Rattle.std.proofs.Common.{◌≡◌, ◌≤◌, ℕ, true, false, List, [], 
 use Rattle.std.specs.Prelude.{flat_map}
 use Rattle.std.specs.List.{AllByRecursion, AllZip}
 use Rattle.std.proofs.lemmas.Bool.{false≢true}
-use Rattle.loader.specs.Image.{Words, may_hold}
-use Rattle.loader.proofs.ZipLemmas.{AllZip-one, AllZip-weaker}
+use Rattle.image.specs.Image.{Words, may_hold}
+use Rattle.image.proofs.ZipLemmas.{AllZip-one, AllZip-weaker}
 use Rattle.asm_text.specs.Source.{lines_of}
 use Rattle.asm_text.specs.Spelling.{Spells, SpellsOperands, SpellsParts}
 use Rattle.asm_text.specs.Statements.{Parsed, line_of}
@@ -14,7 +14,7 @@ use Rattle.asm_text.specs.declared.word.Word.{Word}
 use Rattle.asm_text.specs.declared.word.Word.TheVariants.{Dcd}
 use Rattle.asm_text.proofs.WordLaws.{same_Ok}
 use Rattle.assembler.specs.Assembles.{AreWords, IsAssembly, Laid, Once, labels_of, laid, places}
-use Rattle.loader.specs.Labels.{Names, no_names}
+use Rattle.image.specs.Labels.{Names, no_names}
 use Rattle.assembler.specs.Sweeps.{State, assembled, assembled_on, assembled_with, at_first, filled, swept}
 use Rattle.assembler.specs.declared.fault.LineFault.{LineFault}
 use Rattle.assembler.proofs.AssembleSteps.{Covers, InSegments, StartBelow, segments_in}

@@ -5,14 +5,14 @@ use Rattle.std.specs.Prelude.{nat_le, nat_lt, is_some, if◌then◌else◌}
 use Rattle.std.specs.List.{AllByRecursion}
 use Rattle.std.proofs.lemmas.Bool.Decides.{nat_tests}
 use Rattle.arm2_decode.specs.declared.names.Register.TheVariants.{R15}
-use Rattle.loader.specs.Image.{may_hold}
+use Rattle.image.specs.Image.{may_hold}
 use Rattle.asm_text.specs.Said.{Number, Label, Said, Codes, Refers, Orgs, Lists}
 use Rattle.asm_text.specs.declared.syntax.Use.{Use}
 use Rattle.asm_text.specs.declared.syntax.Use.TheVariants as use_of
 use Rattle.assembler.specs.Assembles.{AreWords, IsFree, addresses_from, word_count}
 use Rattle.assembler.specs.Codes.{action_word, encoded, refer, use_action, use_fault}
 use Rattle.assembler.specs.Faults.{lower}
-use Rattle.loader.specs.Labels.{Names}
+use Rattle.image.specs.Labels.{Names}
 use Rattle.assembler.specs.Sweeps.{Pending, Fixed, Waits, State, around_fault, lacks_segment, label_fault, labelled_state, org_state, is_open_at, org_fault, overlaps, place_fault, placed, said_step, unless, value_pending}
 use Rattle.assembler.specs.declared.fault.LineFault.{LineFault}
 use Rattle.assembler.proofs.AssembleSteps.{InSegments, put_all, segments_in, values_put}

@@ -4,7 +4,7 @@ use Rattle.std.proofs.lemmas.Bool.{cases_Bool}
 use Rattle.std.specs.Prelude.{nat_lt}
 use Rattle.std.proofs.lemmas.Bool.Decides.{nat_tests}
 use Rattle.asm_text.proofs.WordLaws.{chosen}
-use Rattle.loader.specs.Image.{Words, begins, runs_after, runs_of, with_word, word_of}
+use Rattle.image.specs.Image.{Words, begins, runs_after, runs_of, with_word, word_of}
 
 -- ascending multiples of 4
 

@@ -5,7 +5,7 @@ use Rattle.std.proofs.lemmas.List.{length-append}
 use Rattle.std.specs.List.{AllByRecursion, list_any}
 use Rattle.std.proofs.lemmas.Bool.{and_parts, cases_Bool, not-false, or_parts}
 use Rattle.std.proofs.lemmas.Bool.Decides.{nat_tests}
-use Rattle.loader.specs.Image.{lies_in_memory, may_hold}
+use Rattle.image.specs.Image.{lies_in_memory, may_hold}
 use Rattle.asm_text.specs.Said.{Target, Number, Label, Said, Codes, Refers, Orgs, Lists}
 use Rattle.assembler.specs.Assembles.{IsFree, address_after, is_open, addresses_from, word_count}
 use Rattle.assembler.specs.Codes.{encoded, refer, use_fault}
@@ -13,7 +13,7 @@ use Rattle.assembler.specs.Faults.{lower}
 use Rattle.assembler.specs.Sweeps.{Pending, Fixed, Waits, Item, State, all_placed, around_fault, closed_with, lacks_segment, label_fault, labelled_state, org_state, is_open_at, org_fault, overlaps, pending_step, place_fault, placed, said_step, unless, value_pending, word_pending}
 use Rattle.assembler.specs.declared.fault.LineFault.{LineFault}
 use Rattle.assembler.specs.declared.fault.LineFault.TheVariants.{OutOfRange, TooLong}
-use Rattle.loader.proofs.WordLemmas.{all_push}
+use Rattle.image.proofs.WordLemmas.{all_push}
 use Rattle.assembler.proofs.AssembleBasics.{all_map, count_map, labelled_at}
 use Rattle.std.proofs.lemmas.List.{append-nil}
 use Rattle.asm_text.proofs.WordLaws.{chosen, false_true}

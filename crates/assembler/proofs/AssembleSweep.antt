@@ -7,7 +7,7 @@ use Rattle.std.specs.Str.{bytes_eq}
 use Rattle.asm_text.specs.Statements.{Parsed, line_of}
 use Rattle.asm_text.specs.declared.statement.TextFault.{TextFault}
 use Rattle.assembler.specs.Assembles.{AreFree, Laid, Once, address_after, is_open, label_at, labels_of, laid_from, segments, word_count}
-use Rattle.loader.specs.Labels.{Names}
+use Rattle.image.specs.Labels.{Names}
 use Rattle.assembler.specs.Sweeps.{Item, Pending, State, label_fault, labelled_state, line_step, swept, after_line, with_name}
 use Rattle.assembler.specs.declared.fault.LineFault.{LineFault}
 use Rattle.assembler.specs.declared.fault.LineFault.TheVariants.{LabelTwice}

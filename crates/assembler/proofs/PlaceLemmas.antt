@@ -8,7 +8,7 @@ use Rattle.asm_text.specs.Source.{lines_of}
 use Rattle.asm_text.specs.Spelling.{Spells}
 use Rattle.asm_text.specs.Statements.{Parsed, line_of}
 use Rattle.asm_text.specs.declared.statement.TextFault.{TextFault}
-use Rattle.loader.proofs.ZipLemmas.{AllZip-one}
+use Rattle.image.proofs.ZipLemmas.{AllZip-one}
 use Rattle.assembler.specs.Assembles.{address_after, laid, laid_from, word_count}
 use Rattle.assembler.specs.Placed.{ArePlaced, IsPlaceFault, IsPlaced}
 use Rattle.assembler.specs.Refusals.{ArePassed, IsRefusedAtOnce}

@@ -5,12 +5,12 @@ use Rattle.std.specs.List.{AllByRecursion, Contains}
 use Rattle.std.proofs.lemmas.Option.{none-some, same_Some}
 use Rattle.std.specs.Result.{result_err}
 use Rattle.std.specs.Option.{option_or}
-use Rattle.loader.specs.Image.{Words, put_fault, with_word}
+use Rattle.image.specs.Image.{Words, put_fault, with_word}
 use Rattle.asm_text.specs.Said.{Target, Number, Label, Said, Codes, Refers, Orgs, Lists}
 use Rattle.assembler.specs.Assembles.{Laid, places, addresses_from, word_count}
 use Rattle.assembler.specs.Codes.{encoded, refer}
 use Rattle.assembler.specs.Refusals.{HasLabelFault, IsFaultless, IsLowest, IsMissing}
-use Rattle.loader.specs.Labels.{Names}
+use Rattle.image.specs.Labels.{Names}
 use Rattle.assembler.specs.Sweeps.{Item, Pending, filled, after_line, resolved, targeted, value_pending, word_put}
 use Rattle.assembler.specs.declared.fault.LineFault.{LineFault}
 use Rattle.assembler.specs.declared.fault.LineFault.TheVariants.{LabelMissing}

@@ -4,8 +4,8 @@ use Rattle.std.specs.Prelude.{nat_le, nat_lt, if◌then◌else◌}
 use Rattle.std.specs.List.{AllByRecursion, Contains}
 use Rattle.std.proofs.lemmas.Bool.{and_parts, cases_Bool, or_parts, not-false, or_right}
 use Rattle.std.proofs.lemmas.Bool.Decides.{nat_tests}
-use Rattle.loader.specs.Image.{lies_in_memory, may_hold}
-use Rattle.loader.proofs.PlaceLemmas.{may_within}
+use Rattle.image.specs.Image.{lies_in_memory, may_hold}
+use Rattle.image.proofs.PlaceLemmas.{may_within}
 use Rattle.asm_text.proofs.WordLaws.{false_true}
 use Rattle.assembler.specs.Assembles.{addresses_from}
 use Rattle.assembler.specs.Faults.{lower}

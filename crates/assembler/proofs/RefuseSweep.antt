@@ -8,7 +8,7 @@ use Rattle.std.proofs.lemmas.List.{append-nil, length-append}
 use Rattle.std.proofs.lemmas.List.Elements.{Contains-append_cases, Contains-append_left, Contains-append_right}
 use Rattle.std.proofs.lemmas.Option.{none-some, same_Some}
 use Rattle.std.specs.Result.{result_err}
-use Rattle.loader.specs.Image.{may_hold}
+use Rattle.image.specs.Image.{may_hold}
 use Rattle.asm_text.specs.Said.{Said, Orgs}
 use Rattle.asm_text.specs.Spelling.{Spells}
 use Rattle.asm_text.specs.Statements.{Parsed, line_of}
@@ -16,7 +16,7 @@ use Rattle.asm_text.specs.declared.statement.TextFault.{TextFault}
 use Rattle.asm_text.proofs.WordLaws.{all_join, same_Ok}
 use Rattle.assembler.specs.Assembles.{Laid, Once, address_after, is_open, label_at, labels_of, laid, addresses_from, segments, word_count}
 use Rattle.assembler.specs.Refusals.{ArePassed, HasFault, IsLowest, IsUnreadable, IsWrong, address_of_next, asked}
-use Rattle.loader.specs.Labels.{Names}
+use Rattle.image.specs.Labels.{Names}
 use Rattle.assembler.specs.Sweeps.{State, at_first, label_fault, labelled_state, line_step, said_step, swept, after_line}
 use Rattle.assembler.specs.declared.fault.LineFault.{LineFault}
 use Rattle.assembler.specs.declared.fault.LineFault.TheVariants.{OutOfRange, TooLong}

@@ -4,12 +4,12 @@ use Rattle.std.specs.Prelude.{nat_lt}
 use Rattle.std.specs.List.{list_any}
 use Rattle.std.proofs.lemmas.List.{drop_all, drop_more}
 use Rattle.std.specs.Str.{bytes_eq}
-use Rattle.loader.specs.Labels.{NamedAddresses, Names, address_of}
+use Rattle.image.specs.Labels.{NamedAddresses, Names, address_of}
 use Rattle.assembler.specs.Sweeps.{State, all_placed, filled, after_line, item_step, line_step, overlaps, placed, swept, value_pending, with_name}
 use Rattle.assembler.specs.Views.{item_of, span_of}
 use Rattle.assembler.specs.declared.fault.LineFault.{LineFault}
 use Rattle.assembler.specs.declared.item.Item.{Item as CodeItem}
-use Rattle.loader.specs.Image.{Words}
+use Rattle.image.specs.Image.{Words}
 use Rattle.asm_text.specs.Source.{lines_of}
 use Rattle.asm_text.specs.Statements.{line_of}
 use Rattle.assembler.specs.declared.sweep.Span.{Span}

@@ -2,8 +2,8 @@
 use Rattle.std.specs.Prelude.{◌≡◌, ◌⊎◌, ◌+◌, ◌<◌, ◌≤◌, ℕ, true, false, List, [], ◌∷◌, ◌++◌, length}
 use Rattle.std.specs.Prelude.{flat_map, Option, Some, Err}
 use Rattle.std.specs.List.{AllByRecursion, Contains, list_all}
-use Rattle.loader.specs.Image.{may_hold}
-use Rattle.loader.specs.declared.places.TheConstants.{MOST_SEGMENTS, MOST_WORDS}
+use Rattle.image.specs.Image.{may_hold}
+use Rattle.image.specs.declared.places.TheConstants.{MOST_SEGMENTS, MOST_WORDS}
 use Rattle.asm_text.specs.Lines.{IsBlanks}
 use Rattle.asm_text.specs.Pieces.{is_name}
 use Rattle.asm_text.specs.Words.{IsSpelling}

@@ -3,11 +3,11 @@ use Rattle.std.specs.Prelude.{ℕ, ◌+◌, ◌*◌, ◌&&◌, ◌||◌, not, na
 use Rattle.std.specs.Prelude.{length, Option, Some, None, is_some, unwrap_or, Result, Ok, Err, if◌then◌else◌}
 use Rattle.std.specs.List.{list_any}
 use Rattle.std.specs.Str.{bytes_eq}
-use Rattle.loader.specs.Image.{Words, lies_in_memory, may_hold, put_fault, with_word}
-use Rattle.loader.specs.Labels.{Names, no_names}
-use Rattle.loader.specs.declared.places.TheConstants.{MOST_SEGMENTS, MOST_WORDS}
-use Rattle.loader.specs.declared.image.ImageFault.{ImageFault}
-use Rattle.loader.specs.declared.image.ImageFault.TheVariants as image_fault
+use Rattle.image.specs.Image.{Words, lies_in_memory, may_hold, put_fault, with_word}
+use Rattle.image.specs.Labels.{Names, no_names}
+use Rattle.image.specs.declared.places.TheConstants.{MOST_SEGMENTS, MOST_WORDS}
+use Rattle.image.specs.declared.image.ImageFault.{ImageFault}
+use Rattle.image.specs.declared.image.ImageFault.TheVariants as image_fault
 use Rattle.asm_text.specs.declared.syntax.Reference.{Reference}
 use Rattle.asm_text.specs.declared.statement.TextFault.{TextFault}
 use Rattle.asm_text.specs.declared.statement.TextFault.TheVariants as text_fault

@@ -1,6 +1,6 @@
 -- What the code keeps, as the definitions see it.
 use Rattle.std.specs.Prelude.{◌≡◌, ℕ, List, map, Result, Ok, Err}
-use Rattle.loader.specs.Labels.{address_of}
+use Rattle.image.specs.Labels.{address_of}
 use Rattle.assembler.specs.declared.fault.AsmFault.{AsmFault}
 use Rattle.assembler.specs.declared.fault.AsmFault.TheVariants.{Memory, Line}
 use Rattle.assembler.specs.declared.fault.LineFault.{LineFault}

@@ -1,5 +1,5 @@
 ghost use Rattle.std.specs.Prelude.{◌≡◌, [], IfOk, IfErr, OnOk, Ok, Err, map};
-ghost use Rattle.loader.specs.Labels.{address_of};
+ghost use Rattle.image.specs.Labels.{address_of};
 ghost use Rattle.asm_text.specs.Source.{lines_of};
 ghost use Rattle.assembler.specs.Assembles.{IsAssembly};
 ghost use Rattle.assembler.specs.Sweeps.{assembled, at_first, filled, item_step, resolved, swept};
@@ -12,7 +12,7 @@ use crate::law::{sources_are_assembled, sources_are_refused};
 use crate::reference::refer;
 use crate::sweep::Sweep;
 use asm_text::first_line;
-use loader::{Image, ImageFault, Labels};
+use image::{Image, ImageFault, Labels};
 use std::alloc::Global;
 
 /// The words of a source by their addresses, and the addresses of its labels.

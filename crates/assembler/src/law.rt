@@ -1,8 +1,8 @@
 ghost use Rattle.std.specs.Prelude.{◌≡◌, ℕ, List, Ok, Err};
-ghost use Rattle.loader.specs.Image.{Words};
+ghost use Rattle.image.specs.Image.{Words};
 ghost use Rattle.assembler.specs.Assembles.{IsAssembly};
 ghost use Rattle.assembler.specs.Refusals.{IsRefusal};
-ghost use Rattle.loader.specs.Labels.{Names};
+ghost use Rattle.image.specs.Labels.{Names};
 ghost use Rattle.assembler.specs.Sweeps.{assembled};
 ghost use Rattle.assembler.specs.declared.fault.LineFault.{LineFault};
 

@@ -1,5 +1,5 @@
 use crate::placed_line::PlacedLine;
-use loader::{Image, Labels};
+use image::{Image, Labels};
 
 /// A source with what the assembler made of it.
 #[derive(Clone, Copy)]

@@ -19,7 +19,7 @@ use crate::fault::{AsmFault, LineFault, lower, lowest};
 use crate::item::{Item, Pending};
 use crate::reference::{refer, use_fault};
 use asm_text::{Code, Line, Reference, Statement, TextFault, Value, read_line};
-use loader::{Labels, MOST_SEGMENTS, MOST_WORDS, lies_in_memory, may_hold};
+use image::{Labels, MOST_SEGMENTS, MOST_WORDS, lies_in_memory, may_hold};
 use std::alloc::Global;
 
 /// Where a source begins that has no ORG in front of its first line, in bytes.

@@ -3,12 +3,12 @@
 #![tactic(auto)]
 
 mod cases;
-mod handlers;
 mod host;
+mod sample_handlers;
 
 use cases::judge_cases;
-use handlers::judge_handlers;
 use host::run_commands;
+use sample_handlers::judge_handlers;
 use std::io;
 use std::process::ExitCode;
 

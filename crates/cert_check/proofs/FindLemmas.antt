@@ -10,10 +10,10 @@ use Rattle.std.proofs.lemmas.List.{get_or_default, get_or-map, length-map}
 use Rattle.std.proofs.lemmas.List.Sorted.{searchable_from_sorted}
 use Rattle.std.proofs.lemmas.Map.Keys.{Less-from_sorted}
 use Rattle.walks.proofs.RowLemmas.{find_some}
-use Rattle.flow_graph.specs.declared.places.Place.{Place}
-use Rattle.flow_graph.specs.declared.places.Place.TheVariants.{At}
-use Rattle.flow_graph.specs.Places.{place_cmp}
-use Rattle.flow_graph.proofs.PlaceLemmas.{place_total, place_exact}
+use Rattle.control_flow.specs.declared.places.Place.{Place}
+use Rattle.control_flow.specs.declared.places.Place.TheVariants.{At}
+use Rattle.control_flow.specs.Places.{place_cmp}
+use Rattle.control_flow.proofs.PlaceLemmas.{place_total, place_exact}
 use Rattle.loop_bounds.proofs.Positions.{not_less, places_once}
 use Rattle.longest_walk.proofs.CarryFind.{at_itself, at_place, find_known}
 use Rattle.longest_walk.specs.Rows.{is_at}

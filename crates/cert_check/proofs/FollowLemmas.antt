@@ -5,10 +5,10 @@ use Rattle.std.proofs.lemmas.List.Elements.{Contains-append_left, Contains-appen
 use Rattle.std.specs.List.{repeat}
 use Rattle.walks.specs.Walk.{Leads, Shape}
 use Rattle.walks.proofs.Leading.{Leads-repeated}
-use Rattle.flow_graph.specs.declared.places.Place.{Place}
-use Rattle.flow_graph.specs.declared.edges.Edge.{Edge}
-use Rattle.flow_graph.specs.Flow.{Flow, HasEdge, edge_shape}
-use Rattle.flow_graph.proofs.SortedLemmas.{here, there}
+use Rattle.control_flow.specs.declared.places.Place.{Place}
+use Rattle.control_flow.specs.declared.edges.Edge.{Edge}
+use Rattle.control_flow.specs.Flow.{Flow, HasEdge, edge_shape}
+use Rattle.control_flow.proofs.SortedLemmas.{here, there}
 use Rattle.loop_bounds.specs.Tree.{Tree}
 use Rattle.longest_walk.specs.Folded.{Opened, deepest, joined, one_edge, turned}
 use Rattle.longest_walk.specs.Longest.{IsBody}

@@ -6,10 +6,10 @@ use Rattle.std.proofs.lemmas.List.{take_all, take-append-drop}
 use Rattle.std.proofs.lemmas.List.Elements.{All-append, All-nil}
 use Rattle.walks.specs.Walk.{Leads}
 use Rattle.walks.proofs.Leading.{Leads-append}
-use Rattle.flow_graph.specs.declared.places.Place.{Place}
-use Rattle.flow_graph.specs.declared.places.Place.TheVariants.{Exit}
-use Rattle.flow_graph.specs.declared.edges.Edge.{Edge}
-use Rattle.flow_graph.specs.Flow.{Flow, HasEdge, IsWellFormed, edge_shape}
+use Rattle.control_flow.specs.declared.places.Place.{Place}
+use Rattle.control_flow.specs.declared.places.Place.TheVariants.{Exit}
+use Rattle.control_flow.specs.declared.edges.Edge.{Edge}
+use Rattle.control_flow.specs.Flow.{Flow, HasEdge, IsWellFormed, edge_shape}
 use Rattle.numbered_walks.specs.declared.span.Span.{Span}
 use Rattle.loop_bounds.specs.Tree.{IsTree, Tree}
 use Rattle.longest_walk.specs.Folded.{IsCount}

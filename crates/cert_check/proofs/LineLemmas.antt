@@ -4,9 +4,9 @@ use Rattle.std.specs.Prelude.{option_map}
 use Rattle.std.specs.List.{AllByRecursion}
 use Rattle.std.proofs.lemmas.List.Folds.{flat_map-map}
 use Rattle.walks.specs.Walk.{Leads}
-use Rattle.flow_graph.specs.declared.places.Place.{Place}
-use Rattle.flow_graph.specs.declared.edges.Edge.{Edge}
-use Rattle.flow_graph.specs.Flow.{Flow, HasEdge, edge_shape}
+use Rattle.control_flow.specs.declared.places.Place.{Place}
+use Rattle.control_flow.specs.declared.edges.Edge.{Edge}
+use Rattle.control_flow.specs.Flow.{Flow, HasEdge, edge_shape}
 use Rattle.loop_bounds.specs.Tree.{Tree}
 use Rattle.longest_walk.specs.Folded.{Opened, one_edge, open_item, open_items, open_step, turned, unfolded}
 use Rattle.longest_walk.specs.declared.folded.Item.{Item}

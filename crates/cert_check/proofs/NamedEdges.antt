@@ -3,16 +3,16 @@ use Rattle.std.proofs.Common.{◌≡◌, ◌∙◌, true, Some, refl, sym, ap, s
 use Rattle.std.specs.Prelude.{Contains, ◌&&◌, ◌==◌}
 use Rattle.std.proofs.lemmas.Bool.{and_parts, eq-eqb, eqb-true}
 use Rattle.bus_ticks.specs.declared.profile.Profile.{Profile}
-use Rattle.loader.specs.Image.{Words}
+use Rattle.image.specs.Image.{Words}
 use Rattle.statement.specs.Stated.{Stated}
 use Rattle.walks.proofs.RowLemmas.{find_some}
-use Rattle.flow_graph.specs.declared.places.Place.{Place}
-use Rattle.flow_graph.specs.declared.places.Place.TheVariants.{At, Exit}
-use Rattle.flow_graph.specs.declared.edges.Edge.{Edge}
-use Rattle.flow_graph.specs.Flow.{Flow, HasEdge, IsWellFormed}
-use Rattle.flow_graph.specs.Graph.{IsFlowGraph}
-use Rattle.flow_graph.specs.Places.{place_address}
-use Rattle.flow_graph.proofs.NameLemmas.{AreAlike, named_once}
+use Rattle.control_flow.specs.declared.places.Place.{Place}
+use Rattle.control_flow.specs.declared.places.Place.TheVariants.{At, Exit}
+use Rattle.control_flow.specs.declared.edges.Edge.{Edge}
+use Rattle.control_flow.specs.Flow.{Flow, HasEdge, IsWellFormed}
+use Rattle.control_flow.specs.Graph.{IsFlowGraph}
+use Rattle.control_flow.specs.Places.{place_address}
+use Rattle.control_flow.proofs.NameLemmas.{AreAlike, named_once}
 use Rattle.longest_walk.specs.Rows.{is_at}
 use Rattle.longest_walk.proofs.CarryFind.{at_itself, at_place, find_known}
 use Rattle.certificate.specs.Walk.{step_of, to_of}

@@ -1,6 +1,6 @@
 -- A certificate has one verdict.
 use Rattle.std.proofs.Common.{◌≡◌, ◌∙◌, List, [], ◌∷◌, inl, inr, sym}
-use Rattle.flow_graph.specs.Flow.{Flow}
+use Rattle.control_flow.specs.Flow.{Flow}
 use Rattle.loop_bounds.specs.Tree.{Tree}
 use Rattle.certificate.specs.declared.cert.Cert.{Cert}
 use Rattle.cert_check.specs.Verdict.{IsFirstOf, IsVerdict, objections}

@@ -6,11 +6,11 @@ use Rattle.std.specs.Option.{IfSome}
 use Rattle.std.proofs.lemmas.List.{get_or_default, length-map, get_or-map}
 use Rattle.std.proofs.lemmas.List.Elements.{All-weaker}
 use Rattle.walks.specs.Rows as rows
-use Rattle.flow_graph.specs.declared.places.Place.{Place}
-use Rattle.flow_graph.specs.declared.places.Place.TheVariants.{Exit}
-use Rattle.flow_graph.specs.declared.edges.Edge.{Edge}
-use Rattle.flow_graph.specs.Flow.{Flow, edge_shape}
-use Rattle.flow_graph.proofs.StepEdges.{from_map, into_map}
+use Rattle.control_flow.specs.declared.places.Place.{Place}
+use Rattle.control_flow.specs.declared.places.Place.TheVariants.{Exit}
+use Rattle.control_flow.specs.declared.edges.Edge.{Edge}
+use Rattle.control_flow.specs.Flow.{Flow, edge_shape}
+use Rattle.control_flow.proofs.LabelLemmas.{from_map, into_map}
 use Rattle.loop_bounds.specs.Instance.{Instance, is_header, place_loops}
 use Rattle.loop_bounds.specs.Tree.{IsTree, Tree}
 use Rattle.loop_bounds.proofs.ExtentOf.{header_place}
@@ -18,7 +18,7 @@ use Rattle.longest_walk.specs.declared.folded.Longest.{Longest}
 use Rattle.longest_walk.specs.Folded.{open_items}
 use Rattle.longest_walk.specs.Longest.{AreAllRounds, IsBody, IsLongest, KeepsTree, TreeTooLarge}
 use Rattle.longest_walk.specs.Rows.{RowsFit, RowsHold, header_of, is_exit, potentials_of}
-use Rattle.loader.proofs.ZipLemmas.{AllZip-weaker}
+use Rattle.image.proofs.ZipLemmas.{AllZip-weaker}
 use Rattle.longest_walk.proofs.RowLemmas.{headers_once}
 use Rattle.cert_check.proofs.SameMembers.{Differ, Within, find_same, sum_same}
 

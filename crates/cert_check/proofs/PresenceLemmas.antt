@@ -7,10 +7,10 @@ use Rattle.std.specs.Result.{is_ok}
 use Rattle.std.proofs.lemmas.Bool.{cases_lt, false≢true}
 use Rattle.std.proofs.lemmas.Cmp.{tied_itself}
 use Rattle.std.proofs.lemmas.List.Sorted.{Contains-permutation, IsPermutation-sym, searchable_from_sorted}
-use Rattle.flow_graph.specs.declared.places.Place.{Place}
-use Rattle.flow_graph.specs.Places.{place_cmp}
-use Rattle.flow_graph.specs.Search.{by_order}
-use Rattle.flow_graph.proofs.PlaceLemmas.{by_place, place_exact, place_total}
+use Rattle.control_flow.specs.declared.places.Place.{Place}
+use Rattle.control_flow.specs.Places.{place_cmp}
+use Rattle.control_flow.specs.Search.{by_order}
+use Rattle.control_flow.proofs.PlaceLemmas.{by_place, place_exact, place_total}
 use Rattle.loop_bounds.specs.declared.loop_instances.LoopInstance.{LoopInstance}
 use Rattle.loop_bounds.specs.Extents.{found_instance}
 use Rattle.longest_walk.specs.Rows.{header_of}

@@ -1,8 +1,8 @@
 -- What the verdict Yes means of an answer.
 use Rattle.std.proofs.Common.{◌≡◌, Result, Ok, subst}
 use Rattle.walks.specs.Greatest.{IsGreatest}
-use Rattle.flow_graph.specs.declared.places.Place.TheVariants.{Exit}
-use Rattle.flow_graph.specs.Flow.{Flow, HasEdge, IsWellFormed, edge_shape}
+use Rattle.control_flow.specs.declared.places.Place.TheVariants.{Exit}
+use Rattle.control_flow.specs.Flow.{Flow, HasEdge, IsWellFormed, edge_shape}
 use Rattle.loop_bounds.specs.Tree.{IsTree, Tree}
 use Rattle.longest_walk.specs.Longest.{KeepsTree}
 use Rattle.certificate.specs.declared.cert.Cert.{Cert}

@@ -3,11 +3,11 @@ use Rattle.std.proofs.Common.{◌≡◌, ◌∙◌, ℕ, zero, suc, ◌<◌, ◌
 use Rattle.std.specs.List.{find}
 use Rattle.std.proofs.lemmas.Bool.{cases_Bool, cases_lt, false≢true}
 use Rattle.std.proofs.lemmas.List.{get_or_default}
-use Rattle.flow_graph.specs.declared.places.Place.{Place}
-use Rattle.flow_graph.specs.declared.places.Place.TheVariants.{At, Exit}
-use Rattle.flow_graph.specs.declared.edges.Edge.{Edge}
-use Rattle.flow_graph.specs.Flow.{Flow, IsEdgeRange, IsWellFormed}
-use Rattle.flow_graph.proofs.Firsts.{no_edge, whole_range}
+use Rattle.control_flow.specs.declared.places.Place.{Place}
+use Rattle.control_flow.specs.declared.places.Place.TheVariants.{At, Exit}
+use Rattle.control_flow.specs.declared.edges.Edge.{Edge}
+use Rattle.control_flow.specs.Flow.{Flow, IsEdgeRange, IsWellFormed}
+use Rattle.control_flow.proofs.Firsts.{no_edge, whole_range}
 use Rattle.loop_bounds.specs.Tree.{IsTree, Tree, place_in}
 use Rattle.longest_walk.specs.Built.{step_at}
 use Rattle.longest_walk.specs.Rows.{is_at}

@@ -6,10 +6,10 @@ use Rattle.walks.specs.Greatest.{IsGreatest}
 use Rattle.walks.specs.Walk.{cost_of}
 use Rattle.loop_bounds.specs.Bounds.{IsCompleteWalk}
 use Rattle.walks.proofs.RowLemmas.{walk_to_exit-le}
-use Rattle.flow_graph.specs.declared.places.Place.{Place}
-use Rattle.flow_graph.specs.declared.places.Place.TheVariants.{At, Exit}
-use Rattle.flow_graph.specs.declared.edges.Edge.{Edge}
-use Rattle.flow_graph.specs.Flow.{Flow, HasEdge, IsWellFormed, edge_shape}
+use Rattle.control_flow.specs.declared.places.Place.{Place}
+use Rattle.control_flow.specs.declared.places.Place.TheVariants.{At, Exit}
+use Rattle.control_flow.specs.declared.edges.Edge.{Edge}
+use Rattle.control_flow.specs.Flow.{Flow, HasEdge, IsWellFormed, edge_shape}
 use Rattle.loop_bounds.specs.Instance.{Instance, is_header, is_member, place_loops}
 use Rattle.loop_bounds.specs.Tree.{IsTree, Tree, place_in}
 use Rattle.loop_bounds.proofs.ExtentOf.{header_place}

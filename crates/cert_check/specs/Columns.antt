@@ -2,9 +2,9 @@
 use Rattle.std.specs.Prelude.{◌≡◌, ℕ, ◌<◌, List, length, map, slice_index}
 use Rattle.std.specs.List.{find}
 use Rattle.std.specs.List.Sorted.{IsStrictlySortedBy}
-use Rattle.flow_graph.specs.declared.places.Place.{Place}
-use Rattle.flow_graph.specs.Flow.{Flow}
-use Rattle.flow_graph.specs.Places.{place_cmp}
+use Rattle.control_flow.specs.declared.places.Place.{Place}
+use Rattle.control_flow.specs.Flow.{Flow}
+use Rattle.control_flow.specs.Places.{place_cmp}
 use Rattle.numbered_walks.specs.declared.tables.Tables.{Tables}
 use Rattle.loop_bounds.specs.Tree.{Tree, place_in}
 use Rattle.longest_walk.specs.Rows.{distance_in, header_of_row, is_at, number_or_zero, place_of_row}

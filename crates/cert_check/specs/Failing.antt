@@ -4,10 +4,10 @@ use Rattle.std.specs.Prelude.{take, Contains, Option, Some, None, IfSome}
 use Rattle.walks.specs.Walk.{Leads, cost_of}
 use Rattle.walks.specs.Greatest.{KeepsBound}
 use Rattle.walks.specs.Rows as rows
-use Rattle.flow_graph.specs.declared.places.Place.{Place}
-use Rattle.flow_graph.specs.declared.places.Place.TheVariants.{Exit}
-use Rattle.flow_graph.specs.declared.edges.Edge.{Edge}
-use Rattle.flow_graph.specs.Flow.{Flow, HasEdge, edge_shape}
+use Rattle.control_flow.specs.declared.places.Place.{Place}
+use Rattle.control_flow.specs.declared.places.Place.TheVariants.{Exit}
+use Rattle.control_flow.specs.declared.edges.Edge.{Edge}
+use Rattle.control_flow.specs.Flow.{Flow, HasEdge, edge_shape}
 use Rattle.loop_bounds.specs.Instance.{Instance, place_loops}
 use Rattle.loop_bounds.specs.Tree.{Tree}
 use Rattle.longest_walk.specs.Folded.{most_nested}

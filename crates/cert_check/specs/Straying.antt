@@ -1,6 +1,6 @@
 -- Where the lines of a certificate's walk cannot be followed.
 use Rattle.std.specs.Prelude.{ℕ, ◌+◌, ◌<◌, List, length, take}
-use Rattle.flow_graph.specs.Flow.{Flow}
+use Rattle.control_flow.specs.Flow.{Flow}
 use Rattle.numbered_walks.specs.declared.span.Span.{Span}
 use Rattle.loop_bounds.specs.Tree.{Tree}
 use Rattle.certificate.specs.declared.walk.CertItem.{CertItem}

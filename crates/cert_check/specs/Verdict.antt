@@ -4,9 +4,9 @@ use Rattle.std.specs.List.{list_any}
 use Rattle.walks.specs.Walk.{cost_of}
 use Rattle.walks.specs.Greatest.{is_back_edge}
 use Rattle.walks.specs.Rows as rows
-use Rattle.flow_graph.specs.declared.places.Place.{Place}
-use Rattle.flow_graph.specs.declared.edges.Edge.{Edge}
-use Rattle.flow_graph.specs.Flow.{Flow, HasEdge, edge_shape}
+use Rattle.control_flow.specs.declared.places.Place.{Place}
+use Rattle.control_flow.specs.declared.edges.Edge.{Edge}
+use Rattle.control_flow.specs.Flow.{Flow, HasEdge, edge_shape}
 use Rattle.loop_bounds.specs.Bounds.{IsCompleteWalk}
 use Rattle.loop_bounds.specs.Instance.{Instance, place_loops}
 use Rattle.loop_bounds.specs.Tree.{Tree}

@@ -4,9 +4,9 @@ use Rattle.std.specs.Prelude.{List, ◌++◌, length, replicate, slice_index, sl
 use Rattle.std.specs.Prelude.{All, Contains, Option, Some, None}
 use Rattle.std.specs.Option.{option_or}
 use Rattle.walks.specs.Walk.{Leads}
-use Rattle.flow_graph.specs.declared.places.Place.{Place}
-use Rattle.flow_graph.specs.declared.edges.Edge.{Edge}
-use Rattle.flow_graph.specs.Flow.{Flow, HasEdge, IsWellFormed, edge_shape}
+use Rattle.control_flow.specs.declared.places.Place.{Place}
+use Rattle.control_flow.specs.declared.edges.Edge.{Edge}
+use Rattle.control_flow.specs.Flow.{Flow, HasEdge, IsWellFormed, edge_shape}
 use Rattle.numbered_walks.specs.declared.span.NumberedEdge.{NumberedEdge}
 use Rattle.numbered_walks.specs.declared.span.Span.{Span}
 use Rattle.numbered_walks.specs.Index.{edges_of}

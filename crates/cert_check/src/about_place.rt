@@ -1,7 +1,7 @@
 ghost use Rattle.std.specs.Prelude.{◌≡◌, ℕ, List};
 
 use certificate::{InstanceRow, PlaceRow};
-use flow_graph::Place;
+use control_flow::Place;
 use loop_bounds::LoopInstance;
 
 /// What is about a place: a row about its own, or an instance or its row about their header.

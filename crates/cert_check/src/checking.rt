@@ -1,5 +1,5 @@
 ghost use Rattle.std.specs.Prelude.{◌≡◌, IfOk};
-ghost use Rattle.flow_graph.specs.Flow.{HasEdge, edge_shape};
+ghost use Rattle.control_flow.specs.Flow.{HasEdge, edge_shape};
 ghost use Rattle.loop_bounds.specs.Tree.{IsTree};
 ghost use Rattle.walks.specs.Greatest.{IsGreatest};
 ghost use Rattle.longest_walk.specs.Longest.{KeepsTree};
@@ -11,7 +11,7 @@ use crate::failing::verdict_of;
 use crate::fault::CheckFault;
 use crate::verdict::Verdict;
 use certificate::Cert;
-use flow_graph::{Graph, Place};
+use control_flow::{Graph, Place};
 use loop_bounds::LoopTree;
 use std::alloc::Global;
 

@@ -1,13 +1,13 @@
 ghost use Rattle.std.specs.Prelude.{◌≡◌, IfOk, map};
 ghost use Rattle.std.specs.List.Sorted.{IsStrictlySortedBy};
-ghost use Rattle.flow_graph.specs.Places.{place_cmp};
+ghost use Rattle.control_flow.specs.Places.{place_cmp};
 ghost use Rattle.loop_bounds.specs.Tree.{IsTree};
 ghost use Rattle.longest_walk.specs.Rows.{distance_in, header_of_row, place_of_row};
 ghost use Rattle.cert_check.specs.Columns.{AreTablesOf, Ascends, arrival_in, round_in};
 
 use crate::finding::row_about;
 use certificate::{Cert, InstanceRow, PlaceRow};
-use flow_graph::{Graph, Place};
+use control_flow::{Graph, Place};
 use loop_bounds::{LoopTree, place_in};
 use numbered_walks::Tables;
 use std::alloc::{AllocError, Global};

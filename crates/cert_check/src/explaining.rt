@@ -13,7 +13,7 @@ use crate::fault::CheckFault;
 use crate::index::Index;
 use crate::indexed_tree::IndexedTree;
 use certificate::Cert;
-use flow_graph::Graph;
+use control_flow::Graph;
 use loop_bounds::LoopTree;
 use std::alloc::Global;
 

@@ -2,7 +2,7 @@ ghost use Rattle.std.specs.Prelude.{◌≡◌};
 ghost use Rattle.cert_check.specs.Failing.{objection_of, verdict_of};
 
 use crate::verdict::{Objection, Verdict};
-use flow_graph::{Edge, Place};
+use control_flow::{Edge, Place};
 
 /// The row of an edge that asks for more than the number that it is about.
 #[derive(Clone, Copy)]

@@ -1,6 +1,6 @@
 ghost use Rattle.std.specs.Prelude.{Contains, IfOk, MatchOption, map};
 ghost use Rattle.std.specs.List.Sorted.{IsSorted};
-ghost use Rattle.flow_graph.specs.Places.{place_cmp};
+ghost use Rattle.control_flow.specs.Places.{place_cmp};
 ghost use Rattle.longest_walk.specs.Rows.{header_of, header_of_row, place_of_row};
 ghost use Rattle.cert_check.specs.Columns.{Ascends};
 ghost use Rattle.cert_check.specs.Failing.{IsFirstFailing, IsFirstWithout};
@@ -9,7 +9,7 @@ ghost use Rattle.cert_check.specs.Verdict.{HasAll, presence_objections};
 use crate::failing::FailingRow;
 use crate::presence::{has_its_prices, is_among, places_of, sorted_headers};
 use certificate::Cert;
-use flow_graph::{Graph, Place};
+use control_flow::{Graph, Place};
 use loop_bounds::LoopTree;
 use std::alloc::{AllocError, Global};
 

@@ -12,7 +12,7 @@ use crate::indexed_tree::IndexedTree;
 use crate::walk_trace::follow_one;
 use crate::walker::Walker;
 use certificate::{Cert, CertItem};
-use flow_graph::Graph;
+use control_flow::Graph;
 use loop_bounds::{MOST_INSTANCES, place_in};
 use numbered_walks::Span;
 use std::alloc::{AllocError, Global};

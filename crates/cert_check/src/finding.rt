@@ -1,11 +1,11 @@
 ghost use Rattle.std.specs.Prelude.{◌≡◌, map};
 ghost use Rattle.std.specs.List.{find};
 ghost use Rattle.std.specs.List.Sorted.{IsStrictlySortedBy};
-ghost use Rattle.flow_graph.specs.Places.{place_cmp};
+ghost use Rattle.control_flow.specs.Places.{place_cmp};
 ghost use Rattle.longest_walk.specs.Rows.{is_at};
 
 use crate::about_place::AboutPlace;
-use flow_graph::{Place, order_of_places};
+use control_flow::{Place, order_of_places};
 use std::cmp::Ordering;
 
 // How the place that a row is about compares with another.

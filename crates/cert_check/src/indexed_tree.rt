@@ -1,5 +1,5 @@
 use crate::index::Index;
-use flow_graph::Graph;
+use control_flow::Graph;
 use loop_bounds::LoopTree;
 
 /// A handler's flow graph, the tree of its loops, and the checker's index of the tree.

@@ -1,9 +1,9 @@
 ghost use Rattle.bus_ticks.specs.declared.profile.Profile.{Profile};
-ghost use Rattle.loader.specs.Image.{Words};
+ghost use Rattle.image.specs.Image.{Words};
 ghost use Rattle.statement.specs.Stated.{Stated};
-ghost use Rattle.flow_graph.specs.declared.places.Place.TheVariants.{Exit};
-ghost use Rattle.flow_graph.specs.Flow.{Flow, HasEdge, IsWellFormed, edge_shape};
-ghost use Rattle.flow_graph.specs.Graph.{IsFlowGraph};
+ghost use Rattle.control_flow.specs.declared.places.Place.TheVariants.{Exit};
+ghost use Rattle.control_flow.specs.Flow.{Flow, HasEdge, IsWellFormed, edge_shape};
+ghost use Rattle.control_flow.specs.Graph.{IsFlowGraph};
 ghost use Rattle.loop_bounds.specs.Tree.{IsTree, Tree};
 ghost use Rattle.walks.specs.Greatest.{IsGreatest};
 ghost use Rattle.longest_walk.specs.declared.folded.Longest.{Longest};

@@ -1,7 +1,7 @@
 //! The checker of certificates: whether the numbers and the walk of a certificate, whoever wrote it, prove
 //! that its bound is the greatest cost of a complete walk that keeps the loop bounds.
 //!
-//! With the crates that find walks it shares types and definitions, and calls no function of theirs.
+//! It shares types and definitions with the crates that find walks, and nothing of their search.
 #![tactic(auto)]
 
 mod about_place;

@@ -1,12 +1,12 @@
 ghost use Rattle.std.specs.Prelude.{◌≡◌, ◌↔◌, Contains, IfOk, IsTrue, map};
 ghost use Rattle.std.specs.List.Sorted.{IsSorted};
-ghost use Rattle.flow_graph.specs.Places.{place_cmp};
+ghost use Rattle.control_flow.specs.Places.{place_cmp};
 ghost use Rattle.longest_walk.specs.Rows.{header_of};
 ghost use Rattle.cert_check.specs.Presence.{Lists};
 
 use crate::about_place::AboutPlace;
 use certificate::Cert;
-use flow_graph::{Graph, Place};
+use control_flow::{Graph, Place};
 use loop_bounds::LoopTree;
 use std::alloc::{AllocError, Global};
 

@@ -1,6 +1,6 @@
 ghost use Rattle.std.specs.Prelude.{◌≡◌, ◌↔◌, ◌<◌, IsTrue, MatchOption, length};
-ghost use Rattle.flow_graph.specs.declared.edges.Edge.{Edge};
-ghost use Rattle.flow_graph.specs.Flow.{HasEdge, IsWellFormed};
+ghost use Rattle.control_flow.specs.declared.edges.Edge.{Edge};
+ghost use Rattle.control_flow.specs.Flow.{HasEdge, IsWellFormed};
 ghost use Rattle.longest_walk.specs.Built.{step_at};
 ghost use Rattle.cert_check.specs.Columns.{AreTablesOf};
 ghost use Rattle.cert_check.specs.Failing.{IsFirstWithout};

@@ -9,9 +9,10 @@ use crate::index::Index;
 use crate::indexed_tree::IndexedTree;
 use crate::walker::{Round, Walker};
 use certificate::{CertItem, StepLine, To};
-use flow_graph::{Edge, Graph, MOST_ROUNDS, Place};
+use control_flow::{Edge, Graph, Place};
 use loop_bounds::{LoopTree, edge_range_in};
 use numbered_walks::Span;
+use statement::MOST_ROUNDS;
 use walk_counts::{is_in, is_same_label};
 
 fn leads_to(place: &Place, named: To) -> bool

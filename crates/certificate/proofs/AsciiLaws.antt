@@ -8,8 +8,8 @@ use Rattle.std.proofs.lemmas.Bool.Decides.{nat_tests}
 use Rattle.std.proofs.lemmas.Str.{IsAscii-append, IsUtf8-from_ascii}
 use Rattle.std.proofs.lemmas.Str.Ascii.{IsAscii-cons, IsAscii-nil, IsAscii-push}
 use Rattle.asm_text.specs.Hex.{hex}
-use Rattle.flow_graph.specs.declared.edges.Label.{Label}
-use Rattle.flow_graph.specs.declared.edges.Label.TheVariants.{Do, Skip}
+use Rattle.control_flow.specs.declared.edges.Label.{Label}
+use Rattle.control_flow.specs.declared.edges.Label.TheVariants.{Do, Skip}
 use Rattle.certificate.specs.declared.walk.To.{To}
 use Rattle.certificate.specs.declared.walk.To.TheVariants.{At, Exit}
 use Rattle.certificate.specs.declared.walk.StepLine.{StepLine}

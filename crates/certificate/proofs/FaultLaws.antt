@@ -5,7 +5,7 @@ use Rattle.std.proofs.lemmas.List.Elements.{All-from_recursion}
 use Rattle.asm_text.proofs.WordLaws.{all_join}
 use Rattle.bus_ticks.specs.Numbers.{profile_one}
 use Rattle.bus_ticks.specs.Ranges.{IsPrice}
-use Rattle.flow_graph.specs.declared.edges.Label.TheVariants.{Do}
+use Rattle.control_flow.specs.declared.edges.Label.TheVariants.{Do}
 use Rattle.certificate.specs.declared.cert.Cert.{Cert}
 use Rattle.certificate.specs.declared.draft.Stage.{Stage}
 use Rattle.certificate.specs.declared.draft.Stage.TheVariants as s

@@ -4,8 +4,8 @@ use Rattle.std.specs.List.{AllByRecursion, join_with_byte}
 use Rattle.std.specs.Fmt.{decimal}
 use Rattle.std.proofs.lemmas.List.Elements.{recursion_from_All}
 use Rattle.std.specs.Str.Iter.{LacksByte}
-use Rattle.flow_graph.specs.declared.edges.Label.{Label}
-use Rattle.flow_graph.specs.declared.edges.Label.TheVariants.{Skip, Do}
+use Rattle.control_flow.specs.declared.edges.Label.{Label}
+use Rattle.control_flow.specs.declared.edges.Label.TheVariants.{Skip, Do}
 use Rattle.certificate.specs.declared.walk.To.{To}
 use Rattle.certificate.specs.declared.walk.To.TheVariants.{At, Exit}
 use Rattle.asm_text.specs.Hex.{hex}

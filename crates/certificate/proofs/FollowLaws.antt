@@ -6,9 +6,9 @@ use Rattle.std.specs.declared.cmp.Ordering.TheVariants.{Less, Equal, Greater}
 use Rattle.std.specs.List.{AllByRecursion, last_or}
 use Rattle.std.specs.List.Sorted.{IsStrictlySortedBy}
 use Rattle.std.proofs.lemmas.Map.Keys.{sorted_head, sorted_tail}
-use Rattle.flow_graph.specs.declared.places.Place.{Place}
-use Rattle.flow_graph.specs.Places.{place_cmp}
-use Rattle.flow_graph.proofs.PlaceLemmas.{place_total}
+use Rattle.control_flow.specs.declared.places.Place.{Place}
+use Rattle.control_flow.specs.Places.{place_cmp}
+use Rattle.control_flow.proofs.PlaceLemmas.{place_total}
 use Rattle.longest_walk.specs.declared.rows.PlaceRow.{PlaceRow}
 use Rattle.longest_walk.specs.declared.rows.InstanceRow.{InstanceRow}
 use Rattle.longest_walk.specs.Rows.{header_of_row, place_of_row}

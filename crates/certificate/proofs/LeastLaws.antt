@@ -11,10 +11,10 @@ use Rattle.std.proofs.lemmas.Map.Keys.{sorted_head, sorted_tail}
 use Rattle.walks.specs.Walk.{Shape}
 use Rattle.walks.specs.Greatest.{Loops}
 use Rattle.walks.specs.Rows.{IsAtMost, Potentials, RowsFit, RowsHold, is_left, limit_at, needed, stay_of}
-use Rattle.flow_graph.specs.declared.places.Place.{Place}
-use Rattle.flow_graph.specs.declared.places.Place.TheVariants.{At}
-use Rattle.flow_graph.specs.Places.{place_cmp}
-use Rattle.flow_graph.proofs.PlaceLemmas.{place_total}
+use Rattle.control_flow.specs.declared.places.Place.{Place}
+use Rattle.control_flow.specs.declared.places.Place.TheVariants.{At}
+use Rattle.control_flow.specs.Places.{place_cmp}
+use Rattle.control_flow.proofs.PlaceLemmas.{place_total}
 use Rattle.longest_walk.specs.Rows.{is_at}
 use Rattle.longest_walk.proofs.CarryFind.{at_itself, at_place}
 

@@ -2,7 +2,7 @@
 use Rattle.std.proofs.Common.{◌≡◌, ◌≢◌, ◌∙◌, ◌+◌, ◌<◌, ◌≤◌, ◌^◌, Bool, true, false, ℕ, zero, suc, List, [], ◌∷◌, ◌++◌, Some, None, option_and_then, map-id, map, take, nat_lt, inl, inr, refl, sym, ap, subst, arith, length, get_or, lt-ltb, if◌then◌else◌}
 use Rattle.std.specs.List.{AllByRecursion, find, repeat}
 use Rattle.asm_text.proofs.WordLaws.{all_join}
-use Rattle.flow_graph.specs.declared.edges.Edge.{Edge}
+use Rattle.control_flow.specs.declared.edges.Edge.{Edge}
 use Rattle.longest_walk.specs.Folded.{IsCount, Opened, deepest, joined, open_item, open_step, turned, unfolded}
 use Rattle.longest_walk.specs.declared.folded.Item.{Item}
 use Rattle.longest_walk.specs.declared.folded.Item.TheOpen.{Item-F}
@@ -21,12 +21,12 @@ use Rattle.bus_ticks.specs.declared.profile.Profile.{Profile}
 use Rattle.bus_ticks.specs.Numbers.{numbers_of}
 use Rattle.bus_ticks.specs.Ranges.{IsPrice}
 use Rattle.walks.specs.Walk.{Leads}
-use Rattle.flow_graph.specs.declared.places.Place.{Place}
-use Rattle.flow_graph.specs.declared.places.Place.TheVariants.{At, Exit}
-use Rattle.flow_graph.specs.Flow.{Flow, HasEdge, IsWellFormed, edge_shape}
-use Rattle.flow_graph.specs.Places.{IsInRange, place_address, place_cmp}
-use Rattle.flow_graph.proofs.SortedLemmas.{here, there}
-use Rattle.flow_graph.proofs.StepEdges.{from_map, into_map}
+use Rattle.control_flow.specs.declared.places.Place.{Place}
+use Rattle.control_flow.specs.declared.places.Place.TheVariants.{At, Exit}
+use Rattle.control_flow.specs.Flow.{Flow, HasEdge, IsWellFormed, edge_shape}
+use Rattle.control_flow.specs.Places.{IsInRange, place_address, place_cmp}
+use Rattle.control_flow.proofs.SortedLemmas.{here, there}
+use Rattle.control_flow.proofs.LabelLemmas.{from_map, into_map}
 use Rattle.loop_bounds.specs.Instance.{Instance, is_header, place_loops}
 use Rattle.loop_bounds.specs.Tree.{IsTree, Tree, place_in}
 use Rattle.loop_bounds.proofs.ExtentOf.{header_place}

@@ -1,7 +1,7 @@
 -- Lines that follow one another up to the last are those of a certificate.
 use Rattle.std.proofs.Common.{◌≡◌, ◌∙◌, Bool, true, false, ℕ, zero, suc, List, [], ◌∷◌, ◌++◌, Option, Some, None, option_and_then, map, refl, ap, if◌then◌else◌}
 use Rattle.std.specs.List.{AllByRecursion}
-use Rattle.flow_graph.specs.declared.places.Place.{Place}
+use Rattle.control_flow.specs.declared.places.Place.{Place}
 use Rattle.longest_walk.specs.declared.rows.PlaceRow.{PlaceRow}
 use Rattle.longest_walk.specs.declared.rows.InstanceRow.{InstanceRow}
 use Rattle.longest_walk.specs.Rows.{header_of_row, place_of_row}

@@ -1,8 +1,8 @@
 -- Which line may follow which.
 use Rattle.std.specs.Prelude.{ℕ, zero, suc, List, Bool, true, Option, Some, None, if◌then◌else◌}
 use Rattle.std.specs.Ordering.{is_lt}
-use Rattle.flow_graph.specs.declared.places.Place.{Place}
-use Rattle.flow_graph.specs.Places.{place_cmp}
+use Rattle.control_flow.specs.declared.places.Place.{Place}
+use Rattle.control_flow.specs.Places.{place_cmp}
 use Rattle.longest_walk.specs.Rows.{place_of_row, header_of_row}
 use Rattle.certificate.specs.declared.line.Version.TheVariants.{One, Two}
 use Rattle.certificate.specs.declared.line.Line.{Line}

@@ -5,7 +5,7 @@ use Rattle.std.specs.List.{AllByRecursion}
 use Rattle.std.specs.List.Sorted.{IsStrictlySortedBy}
 use Rattle.walks.specs.declared.limits.TheConstants.{COST_LIMIT}
 use Rattle.bus_ticks.specs.Numbers.{numbers_of, profile_one}
-use Rattle.flow_graph.specs.Places.{place_cmp}
+use Rattle.control_flow.specs.Places.{place_cmp}
 use Rattle.longest_walk.specs.declared.folded.Longest.{Longest}
 use Rattle.longest_walk.specs.declared.rows.PlaceRow.{PlaceRow}
 use Rattle.longest_walk.specs.declared.rows.InstanceRow.{InstanceRow}

@@ -9,9 +9,9 @@ use Rattle.walks.specs.declared.limits.TheConstants.{COST_LIMIT}
 use Rattle.asm_text.specs.Hex.{hex}
 use Rattle.bus_ticks.specs.Numbers.{profile_one}
 use Rattle.bus_ticks.specs.Ranges.{AreInRange, AreOrdered}
-use Rattle.flow_graph.specs.declared.edges.Label.{Label}
-use Rattle.flow_graph.specs.declared.edges.Label.TheVariants.{Skip, Do}
-use Rattle.flow_graph.specs.Places.{IsInRange}
+use Rattle.control_flow.specs.declared.edges.Label.{Label}
+use Rattle.control_flow.specs.declared.edges.Label.TheVariants.{Skip, Do}
+use Rattle.control_flow.specs.Places.{IsInRange}
 use Rattle.longest_walk.specs.Folded.{IsCount}
 use Rattle.longest_walk.specs.declared.rows.PlaceRow.{PlaceRow}
 use Rattle.longest_walk.specs.declared.rows.InstanceRow.{InstanceRow}

@@ -9,7 +9,7 @@ use crate::fault::CertFault;
 use crate::line::{Line, Version, WalkLine};
 use crate::open_walk::OpenWalk;
 use bus_ticks::Profile;
-use flow_graph::Place;
+use control_flow::Place;
 use longest_walk::{InstanceRow, ItemList, PlaceRow};
 use std::alloc::Global;
 

@@ -5,12 +5,12 @@ ghost use Rattle.walks.specs.declared.limits.TheConstants.{COST_LIMIT};
 ghost use Rattle.asm_text.specs.Hex.{hex};
 ghost use Rattle.certificate.specs.Words.{AreCalls, ToFits, label_words, list_words, to_words};
 ghost use Rattle.certificate.specs.declared.walk.To.{To};
-ghost use Rattle.flow_graph.specs.declared.edges.Label.{Label};
+ghost use Rattle.control_flow.specs.declared.edges.Label.{Label};
 
 use crate::numbers::{decimal_at, hex_at};
 use crate::splitting::{after_front, cut_at};
 use crate::walk::To;
-use flow_graph::{Calls, Label};
+use control_flow::{Calls, Label};
 
 /// The address that the words begin with, and the words after its blank.
 pub(crate) fn address_first(words: &[u8]) -> Option<(u32, &[u8])>

@@ -1,5 +1,5 @@
 ghost use Rattle.std.specs.Prelude.{◌≡◌};
-ghost use Rattle.flow_graph.specs.Flow.{Flow, IsWellFormed};
+ghost use Rattle.control_flow.specs.Flow.{Flow, IsWellFormed};
 ghost use Rattle.loop_bounds.specs.Tree.{IsTree, Tree};
 ghost use Rattle.longest_walk.specs.declared.folded.Longest.{Longest};
 ghost use Rattle.longest_walk.specs.Longest.{IsLongest};

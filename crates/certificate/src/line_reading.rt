@@ -20,8 +20,8 @@ use crate::numbers::decimal_at;
 use crate::splitting::{after_front, cut_at};
 use crate::walk::StepLine;
 use bus_ticks::Profile;
-use flow_graph::MOST_ROUNDS;
 use longest_walk::{InstanceRow, PlaceRow};
+use statement::MOST_ROUNDS;
 
 // How often the body of a repeat is taken at most: as often as a loop turns back.
 const MOST_TURNS: u64 = MOST_ROUNDS as u64;

@@ -8,7 +8,7 @@ ghost use Rattle.certificate.specs.Words.{edge_words, instance_words, label_word
 ghost use Rattle.certificate.specs.Words.{step_words, to_words};
 
 use crate::line_end::{LINE_ROOM, LineEnd};
-use flow_graph::{Calls, Edge, Label, Place};
+use control_flow::{Calls, Edge, Label, Place};
 use longest_walk::{InstanceRow, PlaceRow};
 
 impl LineEnd {

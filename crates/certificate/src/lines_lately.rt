@@ -10,7 +10,7 @@ ghost use Rattle.certificate.specs.declared.lines_lately.TheConstants.{EDGE_ROOM
 use crate::line_end::LineEnd;
 use crate::steps_lately::{ROWS, row_of};
 use crate::walk::{StepLine, To};
-use flow_graph::{Edge, Label, Place};
+use control_flow::{Edge, Label, Place};
 use outputs::{Output, Page};
 
 // The most bytes of an edge's line.

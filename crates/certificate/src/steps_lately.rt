@@ -10,7 +10,7 @@ use crate::line::{Line, WalkLine};
 use crate::line_reading::line_of;
 use crate::splitting::after_front;
 use crate::walk::{StepLine, To};
-use flow_graph::Label;
+use control_flow::Label;
 
 /// How many lines are kept: two for each place in 4 KB, which an address names by its bits 11 to 2.
 pub(crate) const ROWS: usize = 2048;

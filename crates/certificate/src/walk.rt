@@ -1,4 +1,4 @@
-use flow_graph::Label;
+use control_flow::Label;
 use numbered_walks::ItemList;
 
 /// Where an edge leads, as a certificate names it.

@@ -13,7 +13,7 @@ use crate::fault::CertFault;
 use crate::line_end::LineEnd;
 use crate::lines_lately::LinesLately;
 use bus_ticks::Profile;
-use flow_graph::Edge;
+use control_flow::Edge;
 use itoa::Buffer;
 use longest_walk::{InstanceRow, Item, Longest, PlaceRow};
 use outputs::{Output, OutputFault, Page, VecOutput};

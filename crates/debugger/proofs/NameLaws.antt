@@ -8,7 +8,7 @@ use Rattle.std.proofs.lemmas.Bool.{and_parts, cases_Bool, cond-true, cond-false}
 use Rattle.std.proofs.lemmas.Slice.Eq.{bytes_eq-Decides}
 use Rattle.bitflags.specs.Sets.{Row, find_name, find_row}
 use Rattle.ioc.specs.declared.lines.Lines.{Lines}
-use Rattle.trace_text.proofs.AsciiLaws.{ascii_utf8}
+use Rattle.text_trace.proofs.AsciiLaws.{ascii_utf8}
 use Rattle.ioc.specs.LineNames.{line_named, line_names}
 
 abbrev is_plain : List ℕ → Bool

@@ -14,7 +14,7 @@ use Rattle.arm2_exec.proofs.StepLemmas.{stopped_same, stops}
 use Rattle.arm2_exec.proofs.RunLemmas.{added, goes, plus_none, why_of}
 use Rattle.arm2_exec.specs.declared.machine.Traced.{Traced}
 use Rattle.asm_text.specs.Appended.{Appends}
-use Rattle.trace_text.specs.TraceText.{IsLineOf, IsTraceLine}
+use Rattle.text_trace.specs.TraceText.{IsLineOf, IsTraceLine}
 use Rattle.arm2_effect.specs.declared.step_end.Kind.{Kind}
 use Rattle.arm2_effect.specs.declared.step_end.Kind.TheVariants.{Plain, Taken, Stopped}
 use Rattle.debugger.specs.Stepping.{Counts, Makes, Stops}

@@ -14,7 +14,7 @@ use Rattle.arm2_exec.specs.Run.{Runs, why_stopped}
 use Rattle.assembler.specs.ShownLines.{IsShown}
 use Rattle.asm_text.specs.Hex.{hex8}
 use Rattle.arm2_exec.specs.declared.machine.Traced.{Traced}
-use Rattle.trace_text.specs.TraceText.{IsTraceLine, TracesRun, registers_text, ticks_text}
+use Rattle.text_trace.specs.TraceText.{IsTraceLine, TracesRun, registers_text, ticks_text}
 use Rattle.debugger.specs.declared.command.Command.{Command}
 use Rattle.debugger.specs.declared.command.Command.TheVariants.{Step, Run, ListBreaks, Break, Regs, Mem, Dis}
 use Rattle.debugger.specs.declared.command.Command.TheVariants.{Ticks, Burst, Line, Port}

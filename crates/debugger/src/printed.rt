@@ -4,12 +4,12 @@ ghost use Rattle.std.specs.Prelude.{◌≡◌, ◌++◌, ◌+◌, ◌≤◌, len
 ghost use Rattle.assembler.specs.ShownLines.{IsShown};
 ghost use Rattle.asm_text.specs.Hex.{hex8};
 ghost use Rattle.asm_text.specs.Appended.{Appends};
-ghost use Rattle.trace_text.specs.TraceText.{IsTraceLine};
+ghost use Rattle.text_trace.specs.TraceText.{IsTraceLine};
 
 use arm2_exec::Traced;
 use asm_text::WORD_LINE_ROOM;
 use assembler::disassemble;
-use trace_text::{LINE_ROOM, hex_word, trace_line};
+use text_trace::{LINE_ROOM, hex_word, trace_line};
 
 /// Adds a text.
 pub(crate) fn put(out: &mut Vec<u8>, text: &[u8])

@@ -2,7 +2,7 @@ ghost use Rattle.std.specs.Prelude.{◌≡◌, ◌⊎◌, ◌+◌, ◌*◌, ◌<
 ghost use Rattle.std.specs.Prelude.{IfOk, IfErr, OnErr, OnOk, MatchOption, length};
 ghost use Rattle.std.specs.List.{prefix_len};
 ghost use Rattle.bus_ticks.specs.declared.space.TheConstants.{SPACE_END};
-ghost use Rattle.trace_text.specs.TraceText.{registers_text, ticks_text};
+ghost use Rattle.text_trace.specs.TraceText.{registers_text, ticks_text};
 ghost use Rattle.debugger.specs.Answers.{Answers, AnswersLine, AnswersRun, AnswersStep, AreSeen, HasGap};
 ghost use Rattle.debugger.specs.Answers.{IsStopped, Refuses, RefusesLine, Sets, ShowsSpan, breaks_text};
 ghost use Rattle.debugger.specs.Answers.{seen, switched};
@@ -22,7 +22,7 @@ use ioc::Lines;
 use memc::Spot;
 use std::alloc::Global;
 use std::marker::Model;
-use trace_text::{LINE_ROOM, write_registers, write_ticks};
+use text_trace::{LINE_ROOM, write_registers, write_ticks};
 
 // The most breakpoints.
 const MOST_BREAKS: usize = 16;

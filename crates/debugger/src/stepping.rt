@@ -3,7 +3,7 @@ ghost use Rattle.std.specs.Prelude.{vec_capacity};
 ghost use Rattle.arm2_exec.specs.Run.{IsWithin, Runs};
 ghost use Rattle.arm2_exec.specs.declared.machine.Traced.{Traced};
 ghost use Rattle.asm_text.specs.Appended.{Appends};
-ghost use Rattle.trace_text.specs.TraceText.{TracesRun};
+ghost use Rattle.text_trace.specs.TraceText.{TracesRun};
 ghost use Rattle.debugger.specs.SessionState.{without_bursts};
 ghost use Rattle.debugger.specs.Stepping.{Counts, Stops};
 ghost use Rattle.debugger.specs.Watching.{IsLast, Watches, as_shown, inputs_of, is_at_break};
@@ -11,7 +11,7 @@ ghost use Rattle.debugger.specs.Watching.{IsLast, Watches, as_shown, inputs_of, 
 use crate::printed::put_trace;
 use crate::tally::Tally;
 use arm2_exec::{Input, Kind, Machine, Ran, Stepped, Traced};
-use trace_text::LINE_ROOM;
+use text_trace::LINE_ROOM;
 
 /// What a run reports, and the last of its steps, as its line shows it.
 #[derive(Clone, Copy)]

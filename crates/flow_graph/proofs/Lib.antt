@@ -1,24 +1,9 @@
-pub mod PlaceLemmas
-pub mod FoundLemmas
-pub mod GrowLemmas
-pub mod SortedLemmas
-mod Ascending
-pub mod WorkLemmas
-pub mod EdgeLemmas
-pub mod StrayLemmas
-pub mod BuildLemmas
-mod FaultyLemmas
-pub mod TurnLemmas
-pub mod FlowLemmas
-pub mod Firsts
-pub mod Unique
 pub mod StepRegisters
 pub mod StepTicks
 pub mod StepWords
 pub mod StepOperations
 pub mod StepEdges
 pub mod StepLemmas
-pub mod NameLemmas
 pub mod TightTicks
 pub mod TightState
 pub mod TightSetting

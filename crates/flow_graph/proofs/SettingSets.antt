@@ -49,10 +49,10 @@ use Rattle.arm2_transfer.specs.Single.{address_for, of_immediate}
 use Rattle.arm2_exec.specs.State.{State}
 use Rattle.arm2_exec.specs.Step.{with_lines}
 use Rattle.arm2_exec.specs.declared.machine.Input.{Input}
-use Rattle.flow_graph.specs.Free.{adds_an_immediate, copies_a_register, is_add_or_sub, is_free_operation}
+use Rattle.control_flow.specs.Free.{adds_an_immediate, copies_a_register, is_add_or_sub, is_free_operation}
 use Rattle.flow_graph.specs.Setting.{HasSetting, IsData, IsDataOf, IsMemory, IsPort, IsSource, MayStart, Sets, of_register, rotated, transfer_setting, with_source}
 use Rattle.flow_graph.specs.TightWork.{IsDearestTarget, TransfersDearest}
-use Rattle.flow_graph.specs.declared.places.Place.{Place}
+use Rattle.control_flow.specs.declared.places.Place.{Place}
 use Rattle.flow_graph.specs.declared.tight_setting.Aim.{Aim}
 use Rattle.flow_graph.specs.declared.tight_setting.Held.{Held}
 use Rattle.flow_graph.specs.declared.tight_setting.Setting.{Setting}

@@ -7,7 +7,7 @@ use Rattle.arm2_decode.specs.Names.{is_never}
 use Rattle.bus_ticks.specs.declared.profile.Class.{Class}
 use Rattle.bus_ticks.specs.declared.profile.Profile.{Profile}
 use Rattle.bus_ticks.specs.declared.profile.RomTimes.{RomTimes}
-use Rattle.loader.specs.Image.{Words}
+use Rattle.image.specs.Image.{Words}
 use Rattle.walks.specs.Walk.{cost_of}
 use Rattle.arm2_decode.specs.Table.{Means}
 use Rattle.arm2_decode.specs.declared.instr.Instr.{Instr}
@@ -29,28 +29,29 @@ use Rattle.arm2_exec.specs.Run.{Ends, Runs, at_rest, counted, why_stopped}
 use Rattle.arm2_exec.specs.State.{State}
 use Rattle.arm2_exec.specs.Step.{Obeys, ObeysFetched, Step, Works, address_in, answer_of, fetched, instruction_moved, interrupt_due, ticks_in, unallocated_moved, with_lines}
 use Rattle.arm2_exec.proofs.StepLemmas.{one_step}
-use Rattle.flow_graph.specs.Edges.{HasAction, do_ticks, do_edge, passing_ticks, skip_edge, word_edges}
-use Rattle.flow_graph.specs.Flow.{edge_shape}
-use Rattle.flow_graph.specs.Graph.{IsReached, IsTooDeep, makes_call}
-use Rattle.flow_graph.specs.Kinds.{IsAction, instr_action, kind_of, unallocated_action, work_of}
+use Rattle.control_flow.specs.Edges.{HasAction, do_ticks, do_edge, passing_ticks, skip_edge, word_edges}
+use Rattle.control_flow.specs.Flow.{edge_shape}
+use Rattle.control_flow.specs.Graph.{IsReached, IsTooDeep, makes_call}
+use Rattle.control_flow.specs.Kinds.{IsAction, instr_action, kind_of, unallocated_action, work_of}
 use Rattle.flow_graph.specs.StepLaw.{Executes, Follows, IsAccepted, IsEdgeOf, IsPlaceOf, IsTaken, IsWithin, RunLaw, StepCost, StepLaw, WritesElsewhere, bursts_of, holds_in}
-use Rattle.flow_graph.specs.declared.edges.Edge.{Edge}
-use Rattle.flow_graph.specs.declared.edges.Label.TheVariants.{Skip, Do}
-use Rattle.flow_graph.specs.declared.faults.BuildFault.TheVariants as fault
-use Rattle.flow_graph.specs.declared.actions.Action.{Action}
-use Rattle.flow_graph.specs.declared.actions.Kind.{Kind}
-use Rattle.flow_graph.specs.declared.actions.Kind.TheVariants as kind
-use Rattle.flow_graph.specs.declared.actions.Work.{Work}
-use Rattle.flow_graph.specs.declared.actions.Work.TheVariants as work
-use Rattle.flow_graph.specs.declared.places.Place.{Place}
-use Rattle.flow_graph.specs.declared.places.Place.TheVariants.{At}
+use Rattle.control_flow.specs.declared.edges.Edge.{Edge}
+use Rattle.control_flow.specs.declared.edges.Label.TheVariants.{Skip, Do}
+use Rattle.control_flow.specs.declared.faults.BuildFault.TheVariants as fault
+use Rattle.control_flow.specs.declared.actions.Action.{Action}
+use Rattle.control_flow.specs.declared.actions.Kind.{Kind}
+use Rattle.control_flow.specs.declared.actions.Kind.TheVariants as kind
+use Rattle.control_flow.specs.declared.actions.Work.{Work}
+use Rattle.control_flow.specs.declared.actions.Work.TheVariants as work
+use Rattle.control_flow.specs.declared.places.Place.{Place}
+use Rattle.control_flow.specs.declared.places.Place.TheVariants.{At}
 use Rattle.statement.specs.Stated.{Stated, class_at, target_of}
-use Rattle.flow_graph.proofs.EdgeLemmas.{among_edges, one_action}
-use Rattle.flow_graph.proofs.StepEdges.{Lands, Which, always_holds, arrives, do_among, lands, never_holds, skip_among, which_edge}
+use Rattle.control_flow.proofs.EdgeLemmas.{among_edges, one_action}
+use Rattle.control_flow.proofs.LabelLemmas.{Which, always_holds, do_among, never_holds, skip_among, which_edge}
+use Rattle.flow_graph.proofs.StepEdges.{Lands, arrives, lands}
 use Rattle.flow_graph.proofs.StepOperations.{MovedCosts, either_done, operation_costs, skipped_costs, stopped_costs}
 use Rattle.flow_graph.proofs.StepRegisters.{word_address_of}
 use Rattle.flow_graph.proofs.StepTicks.{Costs}
-use Rattle.flow_graph.proofs.WorkLemmas.{action_fits}
+use Rattle.control_flow.proofs.WorkLemmas.{action_fits}
 
 -- ## What a plain step reports
 

@@ -40,12 +40,12 @@ use Rattle.arm2_transfer.specs.Moved.{Moved, on_bus, faulted}
 use Rattle.arm2_transfer.specs.Operations.{operation_moved}
 use Rattle.arm2_transfer.specs.Registers.{moved_by, passed, with_base}
 use Rattle.arm2_transfer.specs.Single.{address_for, base_after, of_immediate, of_register, single_at, single_by, single_carried_out, single_loaded, single_loads, single_stores}
-use Rattle.flow_graph.specs.Kinds.{IsWork, kind_of, transfer_work, work_of, writer_if}
+use Rattle.control_flow.specs.Kinds.{IsWork, kind_of, transfer_work, work_of, writer_if}
 use Rattle.flow_graph.specs.StepLaw.{TransfersIn}
-use Rattle.flow_graph.specs.declared.actions.Kind.{Kind}
-use Rattle.flow_graph.specs.declared.actions.Kind.TheVariants as kind
-use Rattle.flow_graph.specs.declared.actions.Work.{Work}
-use Rattle.flow_graph.specs.declared.actions.Work.TheVariants as work
+use Rattle.control_flow.specs.declared.actions.Kind.{Kind}
+use Rattle.control_flow.specs.declared.actions.Kind.TheVariants as kind
+use Rattle.control_flow.specs.declared.actions.Work.{Work}
+use Rattle.control_flow.specs.declared.actions.Work.TheVariants as work
 use Rattle.flow_graph.proofs.StepRegisters.{IsWordAddress, address_ahead, address_jumped, address_put, address_restored, base_stays, goes, loaded_stays, long_based, long_with, passed_goes, word_address_ahead, word_address_of}
 use Rattle.flow_graph.proofs.StepTicks.{Costs, branch_costs, call_costs, delayed_costs, jump_costs, load_block, load_costs, store_block, store_costs, straight_costs}
 use Rattle.flow_graph.proofs.StepWords.{AllMoveOther, all_stay, verdict_others}

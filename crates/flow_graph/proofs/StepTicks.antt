@@ -16,14 +16,14 @@ use Rattle.arm2_effect.specs.Effects.{Access, FetchN, FetchS, Internal, Word, st
 use Rattle.arm2_effect.specs.ProgramCounter.{branch_target}
 use Rattle.arm2_transfer.proofs.Ticks.{end_of_load-jumps, end_of_load-passes, ticks_of-append, ticks_of-words_at}
 use Rattle.arm2_transfer.specs.Moved.{load_accesses, store_accesses, words_at}
-use Rattle.flow_graph.specs.Edges.{fetch_ticks, passing_ticks, work_ticks}
-use Rattle.flow_graph.specs.Kinds.{writer_if}
+use Rattle.control_flow.specs.Edges.{fetch_ticks, passing_ticks, work_ticks}
+use Rattle.control_flow.specs.Kinds.{writer_if}
 use Rattle.flow_graph.specs.StepLaw.{TransfersIn}
-use Rattle.flow_graph.specs.declared.actions.Kind.{Kind}
-use Rattle.flow_graph.specs.declared.actions.Kind.TheVariants as kind
-use Rattle.flow_graph.specs.declared.actions.Work.{Work}
-use Rattle.flow_graph.specs.declared.actions.Work.TheVariants as work
-use Rattle.flow_graph.proofs.SortedLemmas.{there}
+use Rattle.control_flow.specs.declared.actions.Kind.{Kind}
+use Rattle.control_flow.specs.declared.actions.Kind.TheVariants as kind
+use Rattle.control_flow.specs.declared.actions.Work.{Work}
+use Rattle.control_flow.specs.declared.actions.Work.TheVariants as work
+use Rattle.control_flow.proofs.SortedLemmas.{there}
 
 -- the first words of a transfer are among its accesses
 pub words_there : (store : Bool) (address k i : ℕ) → i < k → Contains (words_at store address k) (Word store (i == 0) (word_address address i))

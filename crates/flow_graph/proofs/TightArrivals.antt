@@ -8,17 +8,17 @@ use Rattle.bus_ticks.specs.declared.profile.Profile.{Profile}
 use Rattle.bus_ticks.specs.declared.profile.RomTimes.{RomTimes}
 use Rattle.bus_ticks.specs.Prices.{ahead_of, fetch_n, fetch_s}
 use Rattle.arm2_effect.specs.ProgramCounter.{branch_target}
-use Rattle.flow_graph.specs.Edges.{arrival_ticks, jump_ticks, landings}
-use Rattle.flow_graph.specs.Kinds.{is_writer}
+use Rattle.control_flow.specs.Edges.{arrival_ticks, jump_ticks, landings}
+use Rattle.control_flow.specs.Kinds.{is_writer}
 use Rattle.flow_graph.specs.StepLaw.{IsPlaceOf}
 use Rattle.flow_graph.specs.TightWork.{IsDearestTarget}
-use Rattle.flow_graph.specs.declared.actions.Kind.{Kind}
-use Rattle.flow_graph.specs.declared.actions.Kind.TheVariants as kind
-use Rattle.flow_graph.specs.declared.places.Place.{Place}
-use Rattle.flow_graph.specs.declared.places.Place.TheVariants.{At}
+use Rattle.control_flow.specs.declared.actions.Kind.{Kind}
+use Rattle.control_flow.specs.declared.actions.Kind.TheVariants as kind
+use Rattle.control_flow.specs.declared.places.Place.{Place}
+use Rattle.control_flow.specs.declared.places.Place.TheVariants.{At}
 use Rattle.statement.specs.Stated.{Stated}
-use Rattle.flow_graph.proofs.SortedLemmas.{no_member}
-use Rattle.flow_graph.proofs.StepEdges.{only_one}
+use Rattle.control_flow.proofs.SortedLemmas.{no_member}
+use Rattle.control_flow.proofs.LabelLemmas.{only_one}
 use Rattle.flow_graph.proofs.StepTicks.{Reaches, jump_price}
 use Rattle.flow_graph.proofs.TightTicks.{n_worst, s_worst}
 

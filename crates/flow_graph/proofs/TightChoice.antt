@@ -27,10 +27,10 @@ use Rattle.arm2_decode.specs.declared.names.Register.TheVariants.{R15}
 use Rattle.arm2_transfer.specs.Registers.{address_by}
 use Rattle.arm2_exec.specs.State.{State}
 use Rattle.arm2_exec.specs.declared.machine.Input.{Input}
-use Rattle.flow_graph.specs.Free.{adds_an_immediate, is_free_operation}
+use Rattle.control_flow.specs.Free.{adds_an_immediate, is_free_operation}
 use Rattle.flow_graph.specs.Setting.{MayStart, Sets, of_register, transfer_setting, with_source}
 use Rattle.flow_graph.specs.TightWork.{IsSetFor}
-use Rattle.flow_graph.specs.declared.places.Place.{Place}
+use Rattle.control_flow.specs.declared.places.Place.{Place}
 use Rattle.flow_graph.specs.declared.tight_setting.Aim.{Aim}
 use Rattle.flow_graph.specs.declared.tight_setting.Held.{Held}
 use Rattle.flow_graph.specs.declared.tight_setting.Setting.{Setting}

@@ -20,10 +20,10 @@ use Rattle.arm2_effect.specs.Operations.{branch_effect, compared, delayed, enter
 use Rattle.arm2_effect.specs.Operations.{multiply_effect, outcome_effect, product_of}
 use Rattle.arm2_effect.specs.Outcomes.{outcome_of}
 use Rattle.arm2_effect.specs.ProgramCounter.{address_of}
-use Rattle.flow_graph.specs.Kinds.{is_writer, writer_if}
-use Rattle.flow_graph.specs.declared.actions.Kind.{Kind}
-use Rattle.flow_graph.specs.declared.actions.Kind.TheVariants as kind
-use Rattle.flow_graph.specs.declared.actions.Work.TheVariants as work
+use Rattle.control_flow.specs.Kinds.{is_writer, writer_if}
+use Rattle.control_flow.specs.declared.actions.Kind.{Kind}
+use Rattle.control_flow.specs.declared.actions.Kind.TheVariants as kind
+use Rattle.control_flow.specs.declared.actions.Work.TheVariants as work
 use Rattle.flow_graph.specs.TightWork.{IsDearestTarget}
 use Rattle.flow_graph.proofs.StepOperations.{branch_lands, jumped_goes}
 use Rattle.flow_graph.proofs.StepTicks.{jump_price}

@@ -7,35 +7,35 @@ use Rattle.bus_ticks.specs.Dearest.{AreDearest}
 use Rattle.bus_ticks.specs.declared.profile.Profile.{Profile}
 use Rattle.bus_ticks.specs.declared.profile.RomTimes.{RomTimes}
 use Rattle.bus_ticks.proofs.WorstLemmas.{dearest_times}
-use Rattle.loader.specs.Image.{Words}
-use Rattle.loader.specs.Inside.{AreWhole}
+use Rattle.image.specs.Image.{Words}
+use Rattle.image.specs.Inside.{AreWhole}
 use Rattle.loader.specs.Loading.{put_words}
 use Rattle.loader.specs.PagePlan.{IsPagePlan}
 use Rattle.loader.specs.declared.plan.PlacedPage.{PlacedPage}
-use Rattle.loader.proofs.PlaceLemmas.{may_parts}
-use Rattle.loader.proofs.WordLemmas.{held}
+use Rattle.image.proofs.PlaceLemmas.{may_parts}
+use Rattle.image.proofs.WordLemmas.{held}
 use Rattle.arm2_decode.specs.Names.{register_number}
 use Rattle.arm2_effect.specs.declared.modes.Mode.TheVariants.{Svc}
 use Rattle.arm2_effect.specs.Modes.{slot_of}
 use Rattle.arm2_exec.specs.State.{State}
 use Rattle.machine_file.specs.Parts.{AreWords}
 use Rattle.machine_file.specs.Started.{IsStarted}
-use Rattle.flow_graph.specs.Edges.{IsEdge}
-use Rattle.flow_graph.specs.Free.{IsFree, IsFreeWord}
+use Rattle.control_flow.specs.Edges.{IsEdge}
+use Rattle.control_flow.specs.Free.{IsFree, IsFreeWord}
 use Rattle.flow_graph.specs.TightFile.{FreeEdgesAreTight, HasTight, HasWordAt, IsPlaceWord, IsPlaced, IsSettingOf, IsSetUp, file_of, registers_with}
 use Rattle.flow_graph.specs.TightWork.{IsDearestTarget}
-use Rattle.flow_graph.specs.declared.edges.Edge.{Edge}
-use Rattle.flow_graph.specs.declared.edges.Label.{Label}
-use Rattle.flow_graph.specs.declared.edges.Label.TheVariants.{Skip}
-use Rattle.flow_graph.specs.declared.places.Place.{Place}
-use Rattle.flow_graph.specs.declared.places.Place.TheVariants.{At, Exit}
+use Rattle.control_flow.specs.declared.edges.Edge.{Edge}
+use Rattle.control_flow.specs.declared.edges.Label.{Label}
+use Rattle.control_flow.specs.declared.edges.Label.TheVariants.{Skip}
+use Rattle.control_flow.specs.declared.places.Place.{Place}
+use Rattle.control_flow.specs.declared.places.Place.TheVariants.{At, Exit}
 use Rattle.flow_graph.specs.declared.tight_setting.Aim.{Aim}
 use Rattle.flow_graph.specs.declared.tight_setting.Held.{Held}
 use Rattle.flow_graph.specs.declared.tight_setting.Setting.{Setting}
 use Rattle.flow_graph.specs.declared.tight.SetUp.{SetUp}
 use Rattle.flow_graph.specs.declared.tight.Tight.{Tight}
 use Rattle.statement.specs.Stated.{Stated, class_at}
-use Rattle.flow_graph.proofs.FlowLemmas.{has_edge_is_edge}
+use Rattle.control_flow.proofs.FlowLemmas.{has_edge_is_edge}
 use Rattle.flow_graph.proofs.TightChoice.{IsSmall, choose, dearest_leave, nothing_small}
 use Rattle.flow_graph.proofs.TightMade.{edge_lands, in_range, is_set, is_tight_file, length_with, none_twice, one_word, placed_takes, same_pair}
 use Rattle.flow_graph.proofs.TightPlan.{planned}

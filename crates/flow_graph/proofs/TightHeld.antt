@@ -10,10 +10,10 @@ use Rattle.std.proofs.lemmas.Bool.{cases_eq, eq-eqb, ne_eqb}
 use Rattle.std.proofs.lemmas.Bool.Decides.{nat_tests}
 use Rattle.std.proofs.lemmas.List.Elements.{Contains-append_right}
 use Rattle.std.proofs.lemmas.List.Kept.{Contains-dedup_nat, Contains-from_dedup}
-use Rattle.loader.specs.Image.{Words, begins, runs_after, runs_of, word_of}
-use Rattle.loader.specs.Inside.{AreWhole, Ascends}
-use Rattle.loader.specs.PagePlan.{AreHeld, Ascend, HasWordOn}
-use Rattle.loader.proofs.WordLemmas.{Quads, begins_new, quads}
+use Rattle.image.specs.Image.{Words, begins, runs_after, runs_of, word_of}
+use Rattle.image.specs.Inside.{AreWhole, Ascends}
+use Rattle.image.specs.Pages.{AreHeld, Ascend, HasWordOn}
+use Rattle.image.proofs.WordLemmas.{Quads, begins_new, quads}
 
 -- the page of each word
 abbrev pub pages : Words → List ℕ

@@ -10,14 +10,15 @@ use Rattle.bus_ticks.specs.declared.profile.Profile.{Profile}
 use Rattle.bus_ticks.specs.declared.profile.RomTimes.{RomTimes}
 use Rattle.bus_ticks.specs.Dearest.{AreDearest}
 use Rattle.bus_ticks.specs.Prices.{rom_price}
-use Rattle.loader.specs.Image.{Words, is_past_ram, may_hold, word_of}
-use Rattle.loader.specs.Inside.{AreWhole}
+use Rattle.image.specs.Image.{Words, is_past_ram, may_hold, word_of, AreOf, IsFitted}
+use Rattle.image.specs.Inside.{AreWhole}
 use Rattle.loader.specs.Loading.{HasWord, lacks_page, loaded, put_words, spot_of}
-use Rattle.loader.specs.PagePlan.{IsPagePlan, page_of, physical_page}
-use Rattle.loader.specs.Planned.{AreOf, IsBeside, IsFitted, IsMapped}
+use Rattle.image.specs.Pages.{page_of}
+use Rattle.loader.specs.PagePlan.{IsPagePlan, physical_page}
+use Rattle.loader.specs.Planned.{IsBeside, IsMapped}
 use Rattle.loader.specs.declared.plan.PlacedPage.{PlacedPage}
 use Rattle.loader.proofs.MemoryLemmas.{same_spot}
-use Rattle.loader.proofs.PlaceLemmas.{may_within}
+use Rattle.image.proofs.PlaceLemmas.{may_within}
 use Rattle.loader.proofs.PlannedLemmas.{InRam, InRom, beside_given, found, gives_at, image_fits, image_given, image_stays, mapped_stays, parts}
 use Rattle.memc.specs.Memory.{Memory as Memc, located, word_at}
 use Rattle.memc.specs.declared.spots.Spot.{Spot}
@@ -36,25 +37,25 @@ use Rattle.toml_reading.specs.Documents.{are_distinct}
 use Rattle.machine_file.specs.Parts.{IsInRange, HasNoneTwice}
 use Rattle.machine_file.specs.Started.{IsStarted, psr_number}
 use Rattle.machine_file.specs.Started as started
-use Rattle.flow_graph.specs.Edges.{AreEdgesOf, IsEdge}
-use Rattle.flow_graph.specs.Flow.{Flow, HasEdge}
-use Rattle.flow_graph.specs.Graph.{IsFlowGraph}
-use Rattle.flow_graph.specs.Places.{place_address, place_at}
-use Rattle.flow_graph.specs.Free.{IsFree}
+use Rattle.control_flow.specs.Edges.{AreEdgesOf, IsEdge}
+use Rattle.control_flow.specs.Flow.{Flow, HasEdge}
+use Rattle.control_flow.specs.Graph.{IsFlowGraph}
+use Rattle.control_flow.specs.Places.{place_address, place_at}
+use Rattle.control_flow.specs.Free.{IsFree}
 use Rattle.flow_graph.specs.Setting.{HasSetting, IsData}
 use Rattle.flow_graph.specs.Tight.{IsTight}
 use Rattle.flow_graph.specs.TightFile.{CanPlace, HasOwnWord, HasPlaceWord, HasWordAt, IsPlaceWord, IsPlaced, IsSetUp, IsTightFile, file_of, masked_flags, registers_with}
 use Rattle.flow_graph.specs.TightWork.{FetchesAt, IsSetForEdge, masked}
-use Rattle.flow_graph.specs.declared.edges.Edge.{Edge}
-use Rattle.flow_graph.specs.declared.places.Place.{Place}
-use Rattle.flow_graph.specs.declared.places.Place.TheVariants.{At, Exit}
+use Rattle.control_flow.specs.declared.edges.Edge.{Edge}
+use Rattle.control_flow.specs.declared.places.Place.{Place}
+use Rattle.control_flow.specs.declared.places.Place.TheVariants.{At, Exit}
 use Rattle.flow_graph.specs.declared.tight_setting.Held.{Held}
 use Rattle.flow_graph.specs.declared.tight.SetUp.{SetUp}
 use Rattle.statement.specs.Stated.{Stated}
 use Rattle.std.proofs.lemmas.List.{get_or_read}
 use Rattle.std.specs.Cmp.Derive.{both_true}
-use Rattle.flow_graph.proofs.FlowLemmas.{ends_in, part_of}
-use Rattle.flow_graph.proofs.SortedLemmas.{here, no_member}
+use Rattle.control_flow.proofs.FlowLemmas.{ends_in, part_of}
+use Rattle.control_flow.proofs.SortedLemmas.{here, no_member}
 use Rattle.flow_graph.proofs.StepRegisters.{address_put}
 use Rattle.flow_graph.proofs.TightPages.{all_mappable, all_single, is_mapped}
 use Rattle.flow_graph.proofs.TightStep as step

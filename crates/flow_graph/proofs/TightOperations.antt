@@ -32,12 +32,12 @@ use Rattle.arm2_transfer.specs.Single.{address_for, has_user_rights, of_immediat
 use Rattle.arm2_exec.specs.State.{State}
 use Rattle.arm2_exec.specs.Step.{with_lines}
 use Rattle.arm2_exec.specs.declared.machine.Input.{Input}
-use Rattle.flow_graph.specs.Edges.{landings}
-use Rattle.flow_graph.specs.Kinds.{kind_of, transfer_work, work_of, writer_if}
+use Rattle.control_flow.specs.Edges.{landings}
+use Rattle.control_flow.specs.Kinds.{kind_of, transfer_work, work_of, writer_if}
 use Rattle.flow_graph.specs.TightWork.{IsDearestTarget, IsSetFor, TransfersDearest}
-use Rattle.flow_graph.specs.declared.places.Place.{Place}
+use Rattle.control_flow.specs.declared.places.Place.{Place}
 use Rattle.statement.specs.Stated.{Stated, class_at}
-use Rattle.flow_graph.proofs.SortedLemmas.{no_member}
+use Rattle.control_flow.proofs.SortedLemmas.{no_member}
 use Rattle.flow_graph.proofs.StepOperations.{refused_else, refused_not}
 use Rattle.flow_graph.proofs.TightSetting.{MovedPays, Setting, mode}
 use Rattle.flow_graph.proofs.TightData.{branch_pays, delayed_moves, multiply_pays, placed_pays}

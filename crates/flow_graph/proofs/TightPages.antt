@@ -5,8 +5,9 @@ use Rattle.std.specs.List.{list_all, list_any}
 use Rattle.std.proofs.lemmas.Bool.{cases_lt, eqb-false, eq-eqb, eqb-true, lt-ltb, ne_eqb, or_parts}
 use Rattle.std.proofs.lemmas.List.Elements.{All-contains, All-contains_itself, All-from_recursion, All-tail, All-weaker}
 use Rattle.std.proofs.lemmas.Option.{same_Some}
-use Rattle.loader.specs.Image.{Words}
-use Rattle.loader.specs.PagePlan.{Ascend, IsFree, IsPagePlan}
+use Rattle.image.specs.Image.{Words}
+use Rattle.image.specs.Pages.{Ascend}
+use Rattle.loader.specs.PagePlan.{IsFree, IsPagePlan}
 use Rattle.loader.specs.Planned.{IsMapped}
 use Rattle.loader.specs.declared.plan.PlacedPage.{PlacedPage}
 use Rattle.loader.proofs.PlanLemmas.{first_apart, rest_ascend}
@@ -19,8 +20,8 @@ use Rattle.machine_file.specs.MachineFile.{are_single, is_mappable}
 use Rattle.machine_file.specs.Started.{IsController, IsResetMap, stated_at}
 use Rattle.machine_file.specs.declared.pages.MappedPage.{MappedPage}
 use Rattle.flow_graph.specs.TightFile.{open_page}
-use Rattle.flow_graph.proofs.SortedLemmas.{cons_cases, here, no_member, there}
-use Rattle.flow_graph.proofs.StepEdges.{into_map}
+use Rattle.control_flow.proofs.SortedLemmas.{cons_cases, here, no_member, there}
+use Rattle.control_flow.proofs.LabelLemmas.{into_map}
 
 -- ## Numbers that ascend
 

@@ -2,9 +2,10 @@
 use Rattle.std.proofs.Common.{◌≡◌, ℕ, eqb, List, length, get_or, refl, sym}
 use Rattle.std.specs.List.{dedup}
 use Rattle.std.proofs.lemmas.List.{get_or_default}
-use Rattle.loader.specs.Image.{Words}
-use Rattle.loader.specs.Inside.{AreWhole}
-use Rattle.loader.specs.PagePlan.{AreHeld, IsPagePlan, free_pages}
+use Rattle.image.specs.Image.{Words}
+use Rattle.image.specs.Inside.{AreWhole}
+use Rattle.image.specs.Pages.{AreHeld}
+use Rattle.loader.specs.PagePlan.{IsPagePlan, free_pages}
 use Rattle.loader.specs.declared.plan.PlacedPage.{PlacedPage}
 use Rattle.loader.proofs.PlanLemmas.{pages_on, plan_is, spare_within}
 use Rattle.flow_graph.proofs.TightHeld.{held_pages, pages}

@@ -8,33 +8,33 @@ use Rattle.arm2_decode.specs.Names.{is_always, is_never}
 use Rattle.bus_ticks.specs.declared.profile.Class.TheVariants.{Any}
 use Rattle.bus_ticks.specs.declared.profile.Profile.{Profile}
 use Rattle.bus_ticks.specs.Prices.{ahead_of}
-use Rattle.loader.specs.Image.{Words, may_hold, word_of}
-use Rattle.loader.proofs.PlaceLemmas.{may_parts}
+use Rattle.image.specs.Image.{Words, may_hold, word_of}
+use Rattle.image.proofs.PlaceLemmas.{may_parts}
 use Rattle.arm2_decode.specs.Table.{Means}
 use Rattle.arm2_decode.specs.declared.flags.Flags.{Flags}
 use Rattle.arm2_decode.specs.declared.instr.Instr.{Instr}
 use Rattle.arm2_decode.specs.declared.names.Cond.{Cond}
 use Rattle.arm2_decode.specs.declared.names.Cond.TheVariants as condition
-use Rattle.flow_graph.specs.Edges.{AreEdgesOf, HasAction, IsEdge, do_edge, do_edges, landing_edges, landings}
-use Rattle.flow_graph.specs.Edges.{skip_edge, skip_edges, word_edges}
-use Rattle.flow_graph.specs.Free.{HasFreeWord, IsFree, IsFreeWord}
-use Rattle.flow_graph.specs.Kinds.{IsAction}
+use Rattle.control_flow.specs.Edges.{AreEdgesOf, HasAction, IsEdge, do_edge, do_edges, landing_edges, landings}
+use Rattle.control_flow.specs.Edges.{skip_edge, skip_edges, word_edges}
+use Rattle.control_flow.specs.Free.{HasFreeWord, IsFree, IsFreeWord}
+use Rattle.control_flow.specs.Kinds.{IsAction}
 use Rattle.flow_graph.specs.Setting.{Sets}
 use Rattle.flow_graph.specs.StepLaw.{label_by}
 use Rattle.flow_graph.specs.TightFile.{IsSettingOf}
 use Rattle.flow_graph.specs.TightWork.{IsDearestTarget}
-use Rattle.flow_graph.specs.declared.edges.Edge.{Edge}
-use Rattle.flow_graph.specs.declared.edges.Label.{Label}
-use Rattle.flow_graph.specs.declared.edges.Label.TheVariants.{Skip, Do}
-use Rattle.flow_graph.specs.declared.actions.Action.{Action}
-use Rattle.flow_graph.specs.declared.places.Place.TheVariants.{At}
+use Rattle.control_flow.specs.declared.edges.Edge.{Edge}
+use Rattle.control_flow.specs.declared.edges.Label.{Label}
+use Rattle.control_flow.specs.declared.edges.Label.TheVariants.{Skip, Do}
+use Rattle.control_flow.specs.declared.actions.Action.{Action}
+use Rattle.control_flow.specs.declared.places.Place.TheVariants.{At}
 use Rattle.flow_graph.specs.declared.tight_setting.Aim.{Aim}
 use Rattle.flow_graph.specs.declared.tight_setting.Setting.{Setting}
-use Rattle.flow_graph.specs.Places.{place_address}
+use Rattle.control_flow.specs.Places.{place_address}
 use Rattle.statement.specs.Stated.{Stated}
-use Rattle.flow_graph.proofs.EdgeLemmas.{one_action}
-use Rattle.flow_graph.proofs.SortedLemmas.{no_member}
-use Rattle.flow_graph.proofs.StepEdges.{from_map, only_one}
+use Rattle.control_flow.proofs.EdgeLemmas.{one_action}
+use Rattle.control_flow.proofs.SortedLemmas.{no_member}
+use Rattle.control_flow.proofs.LabelLemmas.{from_map, only_one}
 use Rattle.flow_graph.proofs.TightTicks.{n_worst, s_worst}
 
 -- ## Targets

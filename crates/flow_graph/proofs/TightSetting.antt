@@ -11,11 +11,11 @@ use Rattle.arm2_effect.specs.Modes.{r15_in}
 use Rattle.arm2_effect.specs.ProgramCounter.{address_of, mode_of}
 use Rattle.arm2_transfer.specs.declared.bus.Bus.{Bus}
 use Rattle.arm2_transfer.specs.Moved.{Moved, on_bus}
-use Rattle.flow_graph.specs.Kinds.{is_writer}
+use Rattle.control_flow.specs.Kinds.{is_writer}
 use Rattle.flow_graph.specs.TightWork.{IsDearestTarget}
-use Rattle.flow_graph.specs.declared.actions.Kind.{Kind}
-use Rattle.flow_graph.specs.declared.actions.Work.{Work}
-use Rattle.flow_graph.specs.declared.places.Place.{Place}
+use Rattle.control_flow.specs.declared.actions.Kind.{Kind}
+use Rattle.control_flow.specs.declared.actions.Work.{Work}
+use Rattle.control_flow.specs.declared.places.Place.{Place}
 use Rattle.statement.specs.Stated.{Stated}
 use Rattle.flow_graph.proofs.TightTicks.{AreDear, Pays}
 

@@ -9,7 +9,7 @@ use Rattle.std.proofs.lemmas.List.FromFn.{get_or-map-range_with_len, length-map-
 use Rattle.bus_ticks.specs.declared.profile.Profile.{Profile}
 use Rattle.bus_ticks.specs.declared.profile.RomTimes.{RomTimes}
 use Rattle.ioc.specs.Interrupts as ioc
-use Rattle.loader.specs.Image.{Words}
+use Rattle.image.specs.Image.{Words}
 use Rattle.loader.specs.PagePlan.{IsPagePlan}
 use Rattle.loader.specs.declared.plan.PlacedPage.{PlacedPage}
 use Rattle.memc.specs.Memory.{Memory, control_of}
@@ -20,7 +20,7 @@ use Rattle.machine_file.specs.Started.{IsController, IsMap, IsStarted, stated_at
 use Rattle.machine_file.specs.Started as started
 use Rattle.flow_graph.specs.TightFile.{file_of, open_page, registers_with}
 use Rattle.flow_graph.specs.declared.tight.SetUp.{SetUp}
-use Rattle.flow_graph.proofs.StepEdges.{into_map}
+use Rattle.control_flow.proofs.LabelLemmas.{into_map}
 use Rattle.flow_graph.proofs.TightPages.{stated_page}
 
 -- ## RAM

@@ -6,7 +6,7 @@ use Rattle.std.proofs.lemmas.Bool.{cond-false, cond-true}
 use Rattle.bus_ticks.specs.declared.profile.Class.{Class}
 use Rattle.bus_ticks.specs.declared.profile.Profile.{Profile}
 use Rattle.bus_ticks.specs.declared.profile.RomTimes.{RomTimes}
-use Rattle.loader.specs.Image.{Words, word_of}
+use Rattle.image.specs.Image.{Words, word_of}
 use Rattle.arm2_decode.specs.Table.{Means}
 use Rattle.arm2_decode.specs.declared.instr.Instr.{Instr}
 use Rattle.arm2_effect.specs.declared.exceptions.Vector.{Vector}
@@ -23,21 +23,21 @@ use Rattle.arm2_exec.specs.State.{State}
 use Rattle.arm2_exec.specs.Step.{Obeys, ObeysFetched, Works, address_in, answer_of, interrupt_due}
 use Rattle.arm2_exec.specs.Step.{state_after, with_lines}
 use Rattle.arm2_exec.specs.declared.machine.Input.{Input}
-use Rattle.flow_graph.specs.Edges.{HasAction, do_edge, do_ticks}
-use Rattle.flow_graph.specs.Edges.{landings, passing_ticks, skip_edge, word_edges}
-use Rattle.flow_graph.specs.Kinds.{IsAction, instr_action, unallocated_action, kind_of}
+use Rattle.control_flow.specs.Edges.{HasAction, do_edge, do_ticks}
+use Rattle.control_flow.specs.Edges.{landings, passing_ticks, skip_edge, word_edges}
+use Rattle.control_flow.specs.Kinds.{IsAction, instr_action, unallocated_action, kind_of}
 use Rattle.flow_graph.specs.StepLaw.{IsPlaceOf, TransfersIn, holds_in, label_by, label_in}
 use Rattle.flow_graph.specs.Tight.{IsTight}
 use Rattle.flow_graph.specs.TightWork.{IsSetFor, IsSetForEdge, TightLaw}
-use Rattle.flow_graph.specs.declared.edges.Edge.{Edge}
-use Rattle.flow_graph.specs.declared.edges.Label.TheVariants.{Skip, Do}
-use Rattle.flow_graph.specs.declared.actions.Action.{Action}
-use Rattle.flow_graph.specs.declared.actions.Kind.{Kind}
-use Rattle.flow_graph.specs.declared.places.Place.{Place}
-use Rattle.flow_graph.specs.declared.places.Place.TheVariants.{At}
+use Rattle.control_flow.specs.declared.edges.Edge.{Edge}
+use Rattle.control_flow.specs.declared.edges.Label.TheVariants.{Skip, Do}
+use Rattle.control_flow.specs.declared.actions.Action.{Action}
+use Rattle.control_flow.specs.declared.actions.Kind.{Kind}
+use Rattle.control_flow.specs.declared.places.Place.{Place}
+use Rattle.control_flow.specs.declared.places.Place.TheVariants.{At}
 use Rattle.statement.specs.Stated.{Stated, class_at}
-use Rattle.flow_graph.proofs.EdgeLemmas.{among_edges, one_action}
-use Rattle.flow_graph.proofs.StepEdges.{Which, not_both, which_edge}
+use Rattle.control_flow.proofs.EdgeLemmas.{among_edges, one_action}
+use Rattle.control_flow.proofs.LabelLemmas.{Which, not_both, which_edge}
 use Rattle.flow_graph.proofs.StepLemmas.{IsPlainStep, answer_by, plain_step}
 use Rattle.flow_graph.proofs.StepOperations.{operation_costs, skipped_costs}
 use Rattle.flow_graph.proofs.TightArrivals.{arrives_exactly}
@@ -45,7 +45,7 @@ use Rattle.flow_graph.proofs.TightData.{skipped_pays}
 use Rattle.flow_graph.proofs.TightOperations.{operation_set, setting}
 use Rattle.flow_graph.proofs.TightState.{at_address, flags_are, in_svc, no_interrupt}
 use Rattle.flow_graph.proofs.TightTicks.{transfers_in}
-use Rattle.flow_graph.proofs.WorkLemmas.{action_fits}
+use Rattle.control_flow.proofs.WorkLemmas.{action_fits}
 
 -- ## What the step reports
 

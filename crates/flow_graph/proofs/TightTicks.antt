@@ -15,13 +15,13 @@ use Rattle.arm2_effect.specs.Effects.{ticks_of}
 use Rattle.arm2_transfer.proofs.Ticks.{end_of_load-jumps, end_of_load-passes, ticks_of-append}
 use Rattle.arm2_transfer.proofs.Ticks.{ticks_of-words_at}
 use Rattle.arm2_transfer.specs.Moved.{load_accesses, store_accesses, words_at}
-use Rattle.flow_graph.specs.Edges.{fetch_ticks, passing_ticks, work_ticks}
-use Rattle.flow_graph.specs.Kinds.{writer_if}
+use Rattle.control_flow.specs.Edges.{fetch_ticks, passing_ticks, work_ticks}
+use Rattle.control_flow.specs.Kinds.{writer_if}
 use Rattle.flow_graph.specs.StepLaw.{TransfersIn}
-use Rattle.flow_graph.specs.declared.actions.Kind.{Kind}
-use Rattle.flow_graph.specs.declared.actions.Kind.TheVariants as kind
-use Rattle.flow_graph.specs.declared.actions.Work.{Work}
-use Rattle.flow_graph.specs.declared.actions.Work.TheVariants as work
+use Rattle.control_flow.specs.declared.actions.Kind.{Kind}
+use Rattle.control_flow.specs.declared.actions.Kind.TheVariants as kind
+use Rattle.control_flow.specs.declared.actions.Work.{Work}
+use Rattle.control_flow.specs.declared.actions.Work.TheVariants as work
 use Rattle.flow_graph.proofs.StepTicks.{jump_price}
 
 -- ## Words of the class

@@ -24,10 +24,10 @@ use Rattle.arm2_transfer.specs.Registers.{moved_by, passed, with_base}
 use Rattle.arm2_transfer.specs.Single.{address_for, base_after, has_user_rights, single_at, single_by}
 use Rattle.arm2_transfer.specs.Single.{single_carried_out, single_loaded, single_loads, single_stores}
 use Rattle.arm2_transfer.specs.Words.{moves_of, or_fault, verdict_of}
-use Rattle.flow_graph.specs.Kinds.{is_writer, transfer_work, writer_if}
+use Rattle.control_flow.specs.Kinds.{is_writer, transfer_work, writer_if}
 use Rattle.flow_graph.specs.TightWork.{IsDearestTarget}
-use Rattle.flow_graph.specs.declared.actions.Kind.TheVariants as kind
-use Rattle.flow_graph.specs.declared.actions.Work.TheVariants as work
+use Rattle.control_flow.specs.declared.actions.Kind.TheVariants as kind
+use Rattle.control_flow.specs.declared.actions.Work.TheVariants as work
 use Rattle.flow_graph.proofs.StepRegisters.{loaded_goes, long_based, long_r15}
 use Rattle.flow_graph.proofs.TightSetting.{IsDear, IsTarget, MovedPays, Setting, mode, start}
 use Rattle.flow_graph.proofs.TightTicks.{load_pays, store_pays}

@@ -1,15 +1,4 @@
-pub mod Calls
-pub mod Places
-pub mod Flow
-pub mod GraphParts
-pub mod Kinds
-pub mod Edges
-pub mod Graph
-pub mod Search
-pub mod Sites
-pub mod Faulty
 pub mod StepLaw
-pub mod Free
 pub mod Tight
 pub mod TightWork
 pub mod Setting
@@ -17,7 +6,7 @@ pub mod TightFile
 pub use Rattle.walks.specs.Walk
 pub use Rattle.bus_ticks.specs.Prices
 pub use Rattle.bus_ticks.specs.Worst
-pub use Rattle.loader.specs.Image
+pub use Rattle.image.specs.Image
 pub use Rattle.arm2_decode.specs.Table
 pub use Rattle.statement.specs.Stated
 pub use Rattle.statement.specs.Statement

@@ -27,9 +27,10 @@ use Rattle.arm2_effect.specs.Operands.{shifted_of}
 use Rattle.arm2_effect.specs.ProgramCounter.{mode_of}
 use Rattle.arm2_exec.specs.State.{State}
 use Rattle.arm2_exec.specs.declared.machine.Input.{Input}
-use Rattle.loader.specs.PagePlan.{page_of, physical_page}
+use Rattle.image.specs.Pages.{page_of}
+use Rattle.loader.specs.PagePlan.{physical_page}
 use Rattle.flow_graph.specs.TightWork.{IsDearestTarget, IsSetFor}
-use Rattle.flow_graph.specs.declared.places.Place.{Place}
+use Rattle.control_flow.specs.declared.places.Place.{Place}
 use Rattle.flow_graph.specs.declared.tight_setting.Aim.{Aim}
 use Rattle.flow_graph.specs.declared.tight_setting.Held.{Held}
 use Rattle.flow_graph.specs.declared.tight_setting.Setting.{Setting}

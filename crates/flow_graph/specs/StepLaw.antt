@@ -5,7 +5,7 @@ use Rattle.std.specs.Prelude.{sum_by, Contains, ◌⊎◌}
 use Rattle.bus_ticks.specs.declared.profile.Class.{Class}
 use Rattle.bus_ticks.specs.declared.profile.Profile.{Profile}
 use Rattle.bus_ticks.specs.Worst.{IsOf}
-use Rattle.loader.specs.Image.{Words, word_of}
+use Rattle.image.specs.Image.{Words, word_of}
 use Rattle.walks.specs.Walk.{cost_of}
 use Rattle.arm2_decode.specs.Conditions.{condition_holds}
 use Rattle.arm2_decode.specs.declared.flags.Flags.{Flags}
@@ -20,18 +20,18 @@ use Rattle.arm2_exec.specs.Step.{Step, address_in, fetched}
 use Rattle.arm2_exec.specs.declared.machine.Input.{Input}
 use Rattle.arm2_exec.specs.declared.machine.Ran.{Ran}
 use Rattle.arm2_exec.specs.declared.machine.Stepped.{Stepped}
-use Rattle.flow_graph.specs.Edges.{HasAction, IsEdge}
-use Rattle.flow_graph.specs.Flow.{edge_shape}
-use Rattle.flow_graph.specs.Graph.{IsBuildFault, IsReached}
-use Rattle.flow_graph.specs.Kinds.{is_writer}
-use Rattle.flow_graph.specs.declared.edges.Edge.{Edge}
-use Rattle.flow_graph.specs.declared.edges.Label.{Label}
-use Rattle.flow_graph.specs.declared.edges.Label.TheVariants.{Skip, Do}
-use Rattle.flow_graph.specs.declared.faults.BuildFault.{BuildFault}
-use Rattle.flow_graph.specs.declared.faults.BuildFault.TheVariants as fault
-use Rattle.flow_graph.specs.declared.actions.Action.{Action}
-use Rattle.flow_graph.specs.declared.places.Place.{Place}
-use Rattle.flow_graph.specs.declared.places.Place.TheVariants.{At, Exit}
+use Rattle.control_flow.specs.Edges.{HasAction, IsEdge}
+use Rattle.control_flow.specs.Flow.{edge_shape}
+use Rattle.control_flow.specs.Graph.{IsBuildFault, IsReached}
+use Rattle.control_flow.specs.Kinds.{is_writer}
+use Rattle.control_flow.specs.declared.edges.Edge.{Edge}
+use Rattle.control_flow.specs.declared.edges.Label.{Label}
+use Rattle.control_flow.specs.declared.edges.Label.TheVariants.{Skip, Do}
+use Rattle.control_flow.specs.declared.faults.BuildFault.{BuildFault}
+use Rattle.control_flow.specs.declared.faults.BuildFault.TheVariants as fault
+use Rattle.control_flow.specs.declared.actions.Action.{Action}
+use Rattle.control_flow.specs.declared.places.Place.{Place}
+use Rattle.control_flow.specs.declared.places.Place.TheVariants.{At, Exit}
 use Rattle.statement.specs.Stated.{Stated, class_at}
 
 -- whether the condition holds by the flags in R15

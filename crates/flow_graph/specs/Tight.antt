@@ -2,14 +2,14 @@
 -- the prices of these edges real: none of them is more than some step costs.
 use Rattle.std.specs.Prelude.{◌≡◌, false}
 use Rattle.bus_ticks.specs.declared.profile.Profile.{Profile}
-use Rattle.loader.specs.Image.{Words}
+use Rattle.image.specs.Image.{Words}
 use Rattle.arm2_effect.specs.Modes.{r15_in, is_user}
 use Rattle.arm2_effect.specs.ProgramCounter.{mode_of}
 use Rattle.arm2_exec.specs.State.{State}
 use Rattle.arm2_exec.specs.declared.machine.Input.{Input}
 use Rattle.arm2_exec.specs.declared.machine.Stepped.{Stepped}
 use Rattle.flow_graph.specs.StepLaw.{IsEdgeOf}
-use Rattle.flow_graph.specs.declared.edges.Edge.{Edge}
+use Rattle.control_flow.specs.declared.edges.Edge.{Edge}
 use Rattle.statement.specs.Stated.{Stated}
 
 -- In a privileged mode, the one step executes the image's word at the edge's place, moves only words of the

@@ -15,11 +15,10 @@ use Rattle.arm2_decode.specs.declared.flags.Flags.{Flags}
 use Rattle.arm2_decode.specs.declared.instr.Instr.{Instr}
 use Rattle.arm2_effect.specs.declared.modes.Mode.TheVariants.{Svc}
 use Rattle.arm2_effect.specs.Modes.{slot_of}
-use Rattle.loader.specs.Image.{Words, word_of}
+use Rattle.image.specs.Image.{Words, word_of, AreOf, IsFitted}
 use Rattle.loader.specs.declared.plan.PlacedPage.{PlacedPage}
-use Rattle.loader.specs.Inside.{AreWhole}
+use Rattle.image.specs.Inside.{AreWhole}
 use Rattle.loader.specs.Loading.{lacks_page, put_words}
-use Rattle.loader.specs.Planned.{AreOf, IsFitted}
 use Rattle.loader.specs.PagePlan.{IsPagePlan}
 use Rattle.arm2_exec.specs.State.{State}
 use Rattle.arm2_exec.specs.declared.machine.Input.{Input}
@@ -28,21 +27,21 @@ use Rattle.machine_file.specs.Stated as file
 use Rattle.machine_file.specs.Started.{IsStarted}
 use Rattle.machine_file.specs.declared.flags.PsrFlags.{PsrFlags}
 use Rattle.machine_file.specs.declared.pages.MappedPage.{MappedPage}
-use Rattle.flow_graph.specs.Edges.{IsEdge}
-use Rattle.flow_graph.specs.Flow.{Flow, HasEdge}
-use Rattle.flow_graph.specs.Free.{IsFree}
-use Rattle.flow_graph.specs.Graph.{IsFlowGraph}
-use Rattle.flow_graph.specs.Kinds.{IsAction}
+use Rattle.control_flow.specs.Edges.{IsEdge}
+use Rattle.control_flow.specs.Flow.{Flow, HasEdge}
+use Rattle.control_flow.specs.Free.{IsFree}
+use Rattle.control_flow.specs.Graph.{IsFlowGraph}
+use Rattle.control_flow.specs.Kinds.{IsAction}
 use Rattle.flow_graph.specs.Setting.{IsData, Sets}
 use Rattle.flow_graph.specs.StepLaw.{label_by}
 use Rattle.flow_graph.specs.Tight.{IsTight}
 use Rattle.flow_graph.specs.TightWork.{IsDearestTarget, IsSetForEdge}
-use Rattle.flow_graph.specs.declared.edges.Edge.{Edge}
-use Rattle.flow_graph.specs.declared.edges.Label.{Label}
-use Rattle.flow_graph.specs.declared.edges.Label.TheVariants.{Skip}
-use Rattle.flow_graph.specs.declared.actions.Action.{Action}
-use Rattle.flow_graph.specs.declared.places.Place.{Place}
-use Rattle.flow_graph.specs.declared.places.Place.TheVariants.{At, Exit}
+use Rattle.control_flow.specs.declared.edges.Edge.{Edge}
+use Rattle.control_flow.specs.declared.edges.Label.{Label}
+use Rattle.control_flow.specs.declared.edges.Label.TheVariants.{Skip}
+use Rattle.control_flow.specs.declared.actions.Action.{Action}
+use Rattle.control_flow.specs.declared.places.Place.{Place}
+use Rattle.control_flow.specs.declared.places.Place.TheVariants.{At, Exit}
 use Rattle.flow_graph.specs.declared.tight_setting.Aim.{Aim}
 use Rattle.flow_graph.specs.declared.tight_setting.Held.{Held}
 use Rattle.flow_graph.specs.declared.tight_setting.Setting.{Setting}

@@ -9,7 +9,7 @@ use Rattle.bus_ticks.specs.declared.profile.RomTimes.{RomTimes}
 use Rattle.bus_ticks.specs.Dearest.{AreDearest, IsDearestBlock}
 use Rattle.bus_ticks.specs.Prices.{word_address}
 use Rattle.bus_ticks.specs.Worst.{leave_price}
-use Rattle.loader.specs.Image.{Words, word_of}
+use Rattle.image.specs.Image.{Words, word_of}
 use Rattle.memc.specs.Memory.{Memory, located}
 use Rattle.memc.specs.declared.spots.Spot.{Spot}
 use Rattle.shifter.specs.declared.shifts.TheConstants.{MOST_MULTIPLY_CYCLES}
@@ -34,15 +34,15 @@ use Rattle.arm2_transfer.specs.Single.{address_for, of_immediate}
 use Rattle.arm2_exec.specs.State.{State}
 use Rattle.arm2_exec.specs.Step.{fetched, with_lines}
 use Rattle.arm2_exec.specs.declared.machine.Input.{Input}
-use Rattle.flow_graph.specs.Edges.{IsEdge, jump_ticks}
-use Rattle.flow_graph.specs.Kinds.{IsAction}
+use Rattle.control_flow.specs.Edges.{IsEdge, jump_ticks}
+use Rattle.control_flow.specs.Kinds.{IsAction}
 use Rattle.flow_graph.specs.StepLaw.{IsPlaceOf, label_by}
 use Rattle.flow_graph.specs.Tight.{IsTight}
-use Rattle.flow_graph.specs.declared.edges.Edge.{Edge}
-use Rattle.flow_graph.specs.declared.edges.Label.TheVariants.{Skip}
-use Rattle.flow_graph.specs.declared.actions.Action.{Action}
-use Rattle.flow_graph.specs.declared.places.Place.{Place}
-use Rattle.flow_graph.specs.declared.places.Place.TheVariants.{At}
+use Rattle.control_flow.specs.declared.edges.Edge.{Edge}
+use Rattle.control_flow.specs.declared.edges.Label.TheVariants.{Skip}
+use Rattle.control_flow.specs.declared.actions.Action.{Action}
+use Rattle.control_flow.specs.declared.places.Place.{Place}
+use Rattle.control_flow.specs.declared.places.Place.TheVariants.{At}
 use Rattle.statement.specs.Stated.{Stated, class_at}
 
 -- F and I set, the lowest two bits of the PSR

@@ -1,8 +1,8 @@
 ghost use Rattle.std.specs.Prelude.{◌≡◌, ◌≢◌, IfSome, IsNone};
 ghost use Rattle.flow_graph.specs.StepLaw.{label_by};
 
-use crate::edges::Label;
 use arm2_decode::{Cond, Flags, holds};
+use control_flow::Label;
 
 // Each condition but AL and NV holds by one of these three and fails by another.
 const NONE_SET: Flags = Flags {

@@ -1,27 +1,9 @@
-ghost use Rattle.std.specs.Prelude.{◌≡◌};
-ghost use Rattle.flow_graph.specs.Places.{place_cmp};
 ghost use Rattle.flow_graph.specs.StepLaw.{RunLaw, StepCost, StepLaw};
 ghost use Rattle.flow_graph.specs.TightFile.{FreeEdgesAreTight};
 ghost use Rattle.flow_graph.specs.TightWork.{TightLaw};
 
-use crate::call_list::MOST_CALLS;
-use crate::places::Place;
-use crate::search::MOST_PLACES;
-
-/// States the order of places; it does nothing.
-pub fn order_of_places()
-    ensures { (x y : Place) → ⟦<Place as Ord>⟧.cmp x y ≡ place_cmp x y }
-{}
-
-/// States how many places a graph has at most besides Exit, 16,384, and how many calls a place is inside of
-/// at most: 8. It does nothing.
-pub fn place_limits()
-    ensures places { MOST_PLACES ≡ 16384 }
-    ensures calls { MOST_CALLS ≡ 8 }
-{}
-
 /// What the machine's steps cost against the edges of the flow graph: a law over the definitions that
-/// [`build`](crate::build) and the machine's step keep.
+/// [`build`](control_flow::build) and the machine's step keep.
 pub fn step_law()
     ensures edge { StepLaw }
     ensures cost { StepCost }
@@ -41,7 +23,7 @@ pub fn tight_law()
     ensures { TightLaw }
 {}
 
-/// Each free edge ([`is_free`](crate::is_free)) of the flow graph of an image has a machine and an input whose
+/// Each free edge ([`is_free`](control_flow::is_free)) of the flow graph of an image has a machine and an input whose
 /// one step takes it at exactly its price, in ticks, and a machine file that states them, such as
 /// [`tight_state`](crate::tight_state) returns where memory is found. The machine is set for the edge as
 /// [`tight_law`] asks. The call does nothing.

@@ -6,12 +6,12 @@ ghost use Rattle.std.specs.Option.{option_to_list};
 ghost use Rattle.bus_ticks.specs.declared.space.TheConstants.{SPACE_END};
 ghost use Rattle.loader.specs.Loading.{lacks_page, put_words};
 ghost use Rattle.memc.specs.declared.pages.TheConstants.{PHYSICAL_PAGES};
-ghost use Rattle.flow_graph.specs.Graph.{IsFlowGraph};
-ghost use Rattle.flow_graph.specs.declared.edges.Edge.{Edge};
+ghost use Rattle.control_flow.specs.Graph.{IsFlowGraph};
+ghost use Rattle.control_flow.specs.declared.edges.Edge.{Edge};
 ghost use Rattle.arm2_decode.specs.Names.{is_pc};
 ghost use Rattle.machine_file.specs.Parts.{IsInRange, HasNoneTwice, stated_by};
-ghost use Rattle.flow_graph.specs.Edges.{IsEdge};
-ghost use Rattle.flow_graph.specs.Free.{IsFree, IsFreeWord};
+ghost use Rattle.control_flow.specs.Edges.{IsEdge};
+ghost use Rattle.control_flow.specs.Free.{IsFree, IsFreeWord};
 ghost use Rattle.flow_graph.specs.TightFile.{CanPlace, HasOwnWord, HasWordAt, IsPlaceWord, IsPlaced};
 ghost use Rattle.flow_graph.specs.TightFile.{IsSettingOf, IsSetUp, IsTightAt, IsTightFile};
 ghost use Rattle.flow_graph.specs.TightFile.{file_of, masked_flags};
@@ -19,21 +19,17 @@ ghost use Rattle.flow_graph.specs.TightFile.{open_page, registers_with};
 ghost use Rattle.flow_graph.specs.TightWork.{IsDearestTarget};
 ghost use Rattle.flow_graph.specs.declared.tight.TightFault.TheVariants.{Memory};
 
-use crate::actions::action_of;
-use crate::edges::{Edge, Label};
-use crate::free_edges::is_free;
-use crate::graph::Graph;
-use crate::graph_inputs::GraphInputs;
 use crate::label_flags::flags_for;
-use crate::places::Place;
 use crate::tight_setting::{Aim, Held, NOTHING, Setting, setting_for};
 use arm2_decode::{Flags, decode};
 use arm2_effect::{Mode, slot_of};
 use arm2_exec::{Input, Machine, MachineFault};
 use bitflags::Flags as _;
 use bus_ticks::{Profile, RomTimes, dearest_leave, dearest_rom_times};
+use control_flow::{Edge, Graph, GraphInputs, Label, Place, action_of, is_free};
+use image::Image;
 use ioc::Lines;
-use loader::{Image, LoadFault, PagePlan, page_plan, put_words};
+use loader::{LoadFault, PagePlan, page_plan, put_words};
 use machine_file::{
     ControllerParts, MachineFile, MachineFileFault, MachineParts, MappedPage, ProcessorParts,
     PsrFlags, ScheduleParts,
@@ -397,14 +393,15 @@ pub fn tight_state(
     ensures not_free { (e : Edge) → e ≡ slice_index_or graph.now.edges edge e
         → (result ≡ Err TightFault.NotFree) ↔ (IsFree image.now e → ⊥) }
 {
-    let edge = &graph.edges[edge];
+    let edge = &graph.edges()[edge];
     if !is_free(image, edge) {
         return Err(TightFault::NotFree);
     }
+    let profile = graph.profile();
     let inputs = GraphInputs {
         image,
         statement,
-        profile: &graph.profile,
+        profile: &profile,
     };
     tight_edge(alloc, &inputs, edge)
 }

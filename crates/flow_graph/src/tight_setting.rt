@@ -7,7 +7,7 @@ ghost use Rattle.arm2_effect.specs.Outcomes.{outcome_of};
 ghost use Rattle.arm2_transfer.specs.Block.{lowest_of};
 ghost use Rattle.arm2_transfer.specs.Single.{address_for, of_immediate};
 ghost use Rattle.memc.specs.declared.pages.TheConstants.{PHYSICAL_PAGES};
-ghost use Rattle.flow_graph.specs.Free.{adds_an_immediate, is_free_operation};
+ghost use Rattle.control_flow.specs.Free.{adds_an_immediate, is_free_operation};
 ghost use Rattle.flow_graph.specs.Setting.{MayStart, Sets, of_register, rotated, transfer_setting};
 
 use arm2_decode::{Block, DataImmediate, Opcode, Operation, Register, SingleImmediate};
@@ -15,7 +15,7 @@ use arm2_transfer::address_by;
 use bus_ticks::{
     Class, PHYSICAL_START, Profile, ROM_START, dearest_device, dearest_ram_start, word_address,
 };
-use loader::PAGE_BYTES;
+use image::PAGE_BYTES;
 use shifter::rotate_imm;
 
 // Where the words of a load from ROM are, in bytes: at ROM's end, or before that where the load itself is

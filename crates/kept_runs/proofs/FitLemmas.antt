@@ -16,7 +16,7 @@ use Rattle.arm2_exec.proofs.StepLemmas.{same_profile, stopped_same}
 use Rattle.arm2_exec.proofs.TakenLemmas.{took}
 use Rattle.arm2_transfer.specs.declared.bus.Bus.{Bus}
 use Rattle.arm2_transfer.specs.Moved.{Moved}
-use Rattle.flow_graph.specs.Flow.{Flow}
+use Rattle.control_flow.specs.Flow.{Flow}
 use Rattle.flow_graph.proofs.StepLemmas.{plain_step, works_plain}
 use Rattle.kept_runs.specs.Judging.{IsMachineFor}
 use Rattle.kept_runs.specs.Reading.{instr_reading, unallocated_reading}

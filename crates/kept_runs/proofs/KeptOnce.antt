@@ -1,13 +1,13 @@
 -- A run that keeps a statement has one answer.
 use Rattle.std.proofs.Common.{◌≡◌, ◌∙◌, ℕ, List, length, take, drop, sym, ap, subst}
 use Rattle.std.proofs.lemmas.List.{length-take-le, take-append-drop}
-use Rattle.loader.specs.Image.{Words}
+use Rattle.image.specs.Image.{Words}
 use Rattle.statement.specs.Stated.{Stated}
 use Rattle.arm2_exec.specs.Run.{Runs}
 use Rattle.arm2_exec.specs.State.{State}
 use Rattle.arm2_exec.specs.declared.machine.Input.{Input}
 use Rattle.arm2_exec.specs.declared.machine.Ran.{Ran}
-use Rattle.flow_graph.specs.Flow.{Flow}
+use Rattle.control_flow.specs.Flow.{Flow}
 use Rattle.loop_bounds.specs.Tree.{Tree}
 use Rattle.kept_runs.specs.declared.tally.Passed.{Passed}
 use Rattle.kept_runs.specs.Keeping.{IsKeptRun}

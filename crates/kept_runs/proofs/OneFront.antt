@@ -1,7 +1,7 @@
 -- Of the fronts of some inputs one at most keeps a statement from a state, and it has one run.
 use Rattle.std.proofs.Common.{◌≡◌, ◌∙◌, ℕ, ◌+◌, ◌*◌, List, [], ◌∷◌, ◌++◌, Option, Some, None, refl, sym, ap, subst, arith}
 use Rattle.bus_ticks.specs.declared.profile.Profile.{Profile}
-use Rattle.loader.specs.Image.{Words}
+use Rattle.image.specs.Image.{Words}
 use Rattle.statement.specs.Stated.{Stated}
 use Rattle.arm2_effect.specs.declared.step_end.Kind.TheVariants as ended
 use Rattle.arm2_effect.specs.declared.step_end.Why.{Why}
@@ -14,11 +14,11 @@ use Rattle.arm2_exec.specs.declared.machine.Stepped.{Stepped}
 use Rattle.arm2_exec.proofs.RunLemmas as R
 use Rattle.arm2_exec.proofs.StepLemmas.{one_step}
 use Rattle.walks.specs.Walk.{Leads}
-use Rattle.flow_graph.specs.Flow.{Flow, HasEdge, edge_shape}
+use Rattle.control_flow.specs.Flow.{Flow, HasEdge, edge_shape}
 use Rattle.flow_graph.specs.StepLaw.{Follows, IsEdgeOf}
-use Rattle.flow_graph.specs.declared.edges.Edge.{Edge}
-use Rattle.flow_graph.specs.declared.places.Place.{Place}
-use Rattle.flow_graph.specs.declared.places.Place.TheVariants.{Exit}
+use Rattle.control_flow.specs.declared.edges.Edge.{Edge}
+use Rattle.control_flow.specs.declared.places.Place.{Place}
+use Rattle.control_flow.specs.declared.places.Place.TheVariants.{Exit}
 use Rattle.flow_graph.proofs.StepLemmas.{goes_on}
 use Rattle.loop_bounds.specs.Tree.{Tree}
 use Rattle.kept_runs.specs.Keeping.{KeepsTo}

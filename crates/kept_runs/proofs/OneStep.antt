@@ -3,7 +3,7 @@ use Rattle.std.proofs.Common.{◌≡◌, ◌∙◌, ℕ, Bool, true, false, cond
 use Rattle.std.proofs.lemmas.Bool.{false≢true}
 use Rattle.std.proofs.lemmas.Option.{same_Some}
 use Rattle.bus_ticks.specs.declared.profile.Profile.{Profile}
-use Rattle.loader.specs.Image.{Words}
+use Rattle.image.specs.Image.{Words}
 use Rattle.statement.specs.Stated.{Stated}
 use Rattle.arm2_effect.specs.Effects.{is_stopped}
 use Rattle.arm2_effect.specs.declared.step_end.Kind.TheVariants as ended
@@ -12,13 +12,13 @@ use Rattle.arm2_exec.specs.Step.{Step, address_in, state_after}
 use Rattle.arm2_exec.specs.declared.machine.Input.{Input}
 use Rattle.arm2_exec.specs.declared.machine.Stepped.{Stepped}
 use Rattle.arm2_exec.proofs.StepLemmas.{one_step}
-use Rattle.flow_graph.specs.Kinds.{IsAction}
+use Rattle.control_flow.specs.Kinds.{IsAction}
 use Rattle.flow_graph.specs.StepLaw.{IsEdgeOf, IsTaken}
-use Rattle.flow_graph.specs.declared.edges.Edge.{Edge}
-use Rattle.flow_graph.specs.declared.actions.Action.{Action}
-use Rattle.flow_graph.proofs.EdgeLemmas.{one_action}
+use Rattle.control_flow.specs.declared.edges.Edge.{Edge}
+use Rattle.control_flow.specs.declared.actions.Action.{Action}
+use Rattle.control_flow.proofs.EdgeLemmas.{one_action}
 use Rattle.flow_graph.proofs.StepLemmas.{plain_step}
-use Rattle.flow_graph.proofs.PlaceLemmas.{same_at}
+use Rattle.control_flow.proofs.PlaceLemmas.{same_at}
 use Rattle.kept_runs.proofs.EdgeChoice.{one_edge}
 
 regs_by : (stops : Bool) (s a : State) → stops ≡ false → (cond stops s a).regs ≡ a.regs

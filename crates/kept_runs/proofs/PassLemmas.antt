@@ -6,7 +6,7 @@ use Rattle.std.proofs.lemmas.Bool.{cases_eq, eq-eqb, ne_eqb}
 use Rattle.std.proofs.lemmas.List.{get_or-replicate, length-replicate}
 use Rattle.std.proofs.lemmas.List.Elements.{All-nil, All-push}
 use Rattle.std.proofs.lemmas.List.Sums.{sum_by_push}
-use Rattle.flow_graph.specs.Flow.{Flow}
+use Rattle.control_flow.specs.Flow.{Flow}
 use Rattle.kept_runs.specs.declared.following.Follower.{Follower}
 use Rattle.kept_runs.specs.declared.tally.Passed.{Passed}
 use Rattle.kept_runs.specs.Following.{IsTallyOf}

@@ -4,7 +4,7 @@ use Rattle.std.specs.Prelude.{Contains}
 use Rattle.std.proofs.Math.ListN.{drop_of_length-le}
 use Rattle.std.proofs.lemmas.List.{drop_more, get_or-replicate, get_or_default, length-replicate, take_more}
 use Rattle.std.proofs.lemmas.List.Elements.{All-append, All-cons, All-nil, Contains-get_or}
-use Rattle.loader.specs.Image.{Words}
+use Rattle.image.specs.Image.{Words}
 use Rattle.statement.specs.Stated.{Stated}
 use Rattle.arm2_exec.specs.Run.{Runs}
 use Rattle.arm2_exec.specs.State.{State}
@@ -21,13 +21,13 @@ use Rattle.walks.specs.Stretch.{Keeps}
 use Rattle.walks.specs.Greatest as G
 use Rattle.walks.proofs.Joins.{keeps_from_most, most_from_keeps}
 use Rattle.walks.proofs.Leading.{Leads-append}
-use Rattle.flow_graph.specs.Flow.{Flow, HasEdge, IsWellFormed, edge_shape}
+use Rattle.control_flow.specs.Flow.{Flow, HasEdge, IsWellFormed, edge_shape}
 use Rattle.flow_graph.specs.StepLaw.{Follows, IsEdgeOf, IsPlaceOf}
-use Rattle.flow_graph.specs.declared.edges.Edge.{Edge}
-use Rattle.flow_graph.specs.declared.edges.Label.TheVariants.{Do}
-use Rattle.flow_graph.specs.declared.places.Place.{Place}
-use Rattle.flow_graph.specs.declared.places.Place.TheVariants.{At, Exit}
-use Rattle.flow_graph.proofs.Firsts.{no_edge}
+use Rattle.control_flow.specs.declared.edges.Edge.{Edge}
+use Rattle.control_flow.specs.declared.edges.Label.TheVariants.{Do}
+use Rattle.control_flow.specs.declared.places.Place.{Place}
+use Rattle.control_flow.specs.declared.places.Place.TheVariants.{At, Exit}
+use Rattle.control_flow.proofs.Firsts.{no_edge}
 use Rattle.loop_bounds.proofs.LayoutLemmas.{take_none}
 use Rattle.numbered_walks.specs.declared.span.NumberedEdge.{NumberedEdge}
 use Rattle.numbered_walks.specs.declared.span.Span.{Span}

@@ -16,12 +16,12 @@ use Rattle.arm2_effect.specs.declared.step_end.Why.{Why}
 use Rattle.arm2_exec.proofs.RunLemmas as R
 use Rattle.arm2_exec.proofs.StepLemmas.{one_step}
 use Rattle.walks.specs.Walk.{Leads}
-use Rattle.flow_graph.specs.Flow.{HasEdge, IsWellFormed, edge_shape}
+use Rattle.control_flow.specs.Flow.{HasEdge, IsWellFormed, edge_shape}
 use Rattle.flow_graph.specs.StepLaw.{IsEdgeOf}
-use Rattle.flow_graph.specs.declared.edges.Edge.{Edge}
-use Rattle.flow_graph.specs.declared.places.Place.{Place}
-use Rattle.flow_graph.specs.declared.places.Place.TheVariants.{At, Exit}
-use Rattle.flow_graph.proofs.Firsts.{no_edge}
+use Rattle.control_flow.specs.declared.edges.Edge.{Edge}
+use Rattle.control_flow.specs.declared.places.Place.{Place}
+use Rattle.control_flow.specs.declared.places.Place.TheVariants.{At, Exit}
+use Rattle.control_flow.proofs.Firsts.{no_edge}
 use Rattle.loop_bounds.proofs.LayoutLemmas.{take_none}
 use Rattle.numbered_walks.specs.declared.span.Span.{Span}
 use Rattle.numbered_walks.specs.Index.{edges_of}

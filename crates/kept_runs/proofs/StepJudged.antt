@@ -4,7 +4,7 @@ use Rattle.std.specs.Prelude.{Contains}
 use Rattle.std.proofs.lemmas.List.Elements.{Contains-get_or}
 use Rattle.std.proofs.lemmas.Option.{same_Some}
 use Rattle.bus_ticks.specs.declared.profile.Class.{Class}
-use Rattle.loader.specs.Image.{Words}
+use Rattle.image.specs.Image.{Words}
 use Rattle.statement.specs.Stated.{Stated, class_at}
 use Rattle.arm2_effect.specs.declared.exceptions.Vector.{Vector}
 use Rattle.arm2_effect.specs.declared.step_end.Kind.{Kind}
@@ -19,17 +19,17 @@ use Rattle.arm2_exec.specs.declared.machine.Input.{Input}
 use Rattle.arm2_exec.specs.declared.machine.Stepped.{Stepped}
 use Rattle.arm2_effect.specs.Effects.{is_stopped}
 use Rattle.arm2_exec.proofs.StepLemmas.{one_step, same_profile, works_one}
-use Rattle.flow_graph.specs.Edges.{HasAction}
-use Rattle.flow_graph.specs.Flow.{Flow}
-use Rattle.flow_graph.specs.Graph.{IsFlowGraph}
-use Rattle.flow_graph.specs.Kinds.{IsAction, instr_action, unallocated_action}
+use Rattle.control_flow.specs.Edges.{HasAction}
+use Rattle.control_flow.specs.Flow.{Flow}
+use Rattle.control_flow.specs.Graph.{IsFlowGraph}
+use Rattle.control_flow.specs.Kinds.{IsAction, instr_action, unallocated_action}
 use Rattle.flow_graph.specs.StepLaw.{Executes, IsEdgeOf, IsTaken, TransfersIn, holds_in, label_in}
-use Rattle.flow_graph.specs.declared.edges.Edge.{Edge}
-use Rattle.flow_graph.specs.declared.edges.Label.{Label}
-use Rattle.flow_graph.specs.declared.actions.Action.{Action}
-use Rattle.flow_graph.specs.declared.places.Place.{Place}
-use Rattle.flow_graph.proofs.EdgeLemmas.{one_action}
-use Rattle.flow_graph.proofs.FlowLemmas.{has_edge_is_edge, is_edge_has_edge}
+use Rattle.control_flow.specs.declared.edges.Edge.{Edge}
+use Rattle.control_flow.specs.declared.edges.Label.{Label}
+use Rattle.control_flow.specs.declared.actions.Action.{Action}
+use Rattle.control_flow.specs.declared.places.Place.{Place}
+use Rattle.control_flow.proofs.EdgeLemmas.{one_action}
+use Rattle.control_flow.proofs.FlowLemmas.{has_edge_is_edge, is_edge_has_edge}
 use Rattle.flow_graph.proofs.StepLemmas.{IsPlainStep, plain_step, works_plain}
 use Rattle.longest_walk.specs.Built.{step_at}
 use Rattle.kept_runs.specs.declared.edges.Going.{Going}

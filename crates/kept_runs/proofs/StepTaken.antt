@@ -4,16 +4,16 @@ use Rattle.std.specs.Prelude.{Contains}
 use Rattle.std.proofs.Math.ListN.{length-set}
 use Rattle.std.proofs.lemmas.List.{get_or_default}
 use Rattle.std.proofs.lemmas.List.Elements.{Contains-get_or}
-use Rattle.loader.specs.Image.{Words}
+use Rattle.image.specs.Image.{Words}
 use Rattle.statement.specs.Stated.{Stated}
 use Rattle.arm2_exec.specs.State.{State}
 use Rattle.arm2_exec.specs.declared.machine.Input.{Input}
 use Rattle.arm2_exec.specs.declared.machine.Stepped.{Stepped}
-use Rattle.flow_graph.specs.Flow.{Flow, IsWellFormed}
-use Rattle.flow_graph.specs.Places.{place_at}
-use Rattle.flow_graph.specs.declared.edges.Edge.{Edge}
-use Rattle.flow_graph.specs.declared.edges.Label.TheVariants.{Do}
-use Rattle.flow_graph.specs.declared.places.Place.{Place}
+use Rattle.control_flow.specs.Flow.{Flow, IsWellFormed}
+use Rattle.control_flow.specs.Places.{place_at}
+use Rattle.control_flow.specs.declared.edges.Edge.{Edge}
+use Rattle.control_flow.specs.declared.edges.Label.TheVariants.{Do}
+use Rattle.control_flow.specs.declared.places.Place.{Place}
 use Rattle.numbered_walks.specs.declared.span.NumberedEdge.{NumberedEdge}
 use Rattle.numbered_walks.specs.declared.span.Span.{Span}
 use Rattle.numbered_walks.specs.Index.{edge_at}

@@ -2,14 +2,14 @@
 use Rattle.std.proofs.Common.{◌≡◌, ◌∙◌, ◌+◌, List, [], ◌∷◌, ◌++◌, length, refl, sym, ap, subst, append_assoc}
 use Rattle.std.proofs.lemmas.List.Sums.{sum_by_push}
 use Rattle.bus_ticks.specs.declared.profile.Profile.{Profile}
-use Rattle.loader.specs.Image.{Words}
+use Rattle.image.specs.Image.{Words}
 use Rattle.statement.specs.Stated.{Stated}
 use Rattle.arm2_exec.specs.State.{State}
 use Rattle.arm2_exec.specs.Step.{Step, address_in}
 use Rattle.arm2_exec.specs.declared.machine.Input.{Input}
 use Rattle.arm2_exec.specs.declared.machine.Stepped.{Stepped}
 use Rattle.flow_graph.specs.StepLaw.{IsEdgeOf}
-use Rattle.flow_graph.specs.declared.edges.Edge.{Edge}
+use Rattle.control_flow.specs.declared.edges.Edge.{Edge}
 use Rattle.kept_runs.specs.Visited.{AreVisits, FollowsVisited, IsVisit, LeadsVisited, MainStep, Visit, inputs_of, visits_before, visits_of}
 
 -- ## Inputs

@@ -1,7 +1,7 @@
 -- One main step or one visit of a run of two handlers that is followed.
 use Rattle.std.proofs.Common.{◌≡◌, ◌∙◌, inl, inr, ℕ, ◌+◌, ◌^◌, ◌<◌, ◌≤◌, List, length, get_or, drop, refl, sym, ap, subst, arith}
 use Rattle.std.proofs.lemmas.List.{length-drop}
-use Rattle.loader.specs.Image.{Words}
+use Rattle.image.specs.Image.{Words}
 use Rattle.statement.specs.Stated.{Stated}
 use Rattle.arm2_exec.specs.State.{State}
 use Rattle.arm2_exec.specs.Step.{Step}
@@ -9,11 +9,11 @@ use Rattle.arm2_exec.specs.declared.machine.Input.{Input}
 use Rattle.arm2_exec.specs.declared.machine.Stepped.{Stepped}
 use Rattle.arm2_effect.specs.declared.exceptions.Vector.TheVariants.{Fiq}
 use Rattle.arm2_effect.specs.declared.step_end.Kind.TheVariants.{Plain, Taken}
-use Rattle.flow_graph.specs.Flow.{Flow, IsWellFormed}
+use Rattle.control_flow.specs.Flow.{Flow, IsWellFormed}
 use Rattle.flow_graph.specs.StepLaw.{IsPlaceOf}
-use Rattle.flow_graph.specs.declared.edges.Label.TheVariants.{Do}
-use Rattle.flow_graph.specs.declared.places.Place.{Place}
-use Rattle.flow_graph.specs.declared.places.Place.TheVariants.{At, Exit}
+use Rattle.control_flow.specs.declared.edges.Label.TheVariants.{Do}
+use Rattle.control_flow.specs.declared.places.Place.{Place}
+use Rattle.control_flow.specs.declared.places.Place.TheVariants.{At, Exit}
 use Rattle.loop_bounds.specs.Tree.{IsTree, Tree, place_in}
 use Rattle.longest_walk.specs.Built.{step_at}
 use Rattle.longest_walk.proofs.CarryWalks.{edge_same, exit_is}

@@ -2,7 +2,7 @@
 use Rattle.std.proofs.Common.{◌≡◌, ℕ, ◌<◌, ◌≤◌, List, [], ◌∷◌, ◌++◌, length, sym, subst, arith}
 use Rattle.std.specs.Prelude.{Contains}
 use Rattle.std.proofs.lemmas.List.Elements.{All-append, All-cons, All-nil, Contains-get_or}
-use Rattle.loader.specs.Image.{Words}
+use Rattle.image.specs.Image.{Words}
 use Rattle.statement.specs.Stated.{Stated}
 use Rattle.arm2_exec.specs.State.{State}
 use Rattle.arm2_exec.specs.declared.machine.Input.{Input}
@@ -12,9 +12,9 @@ use Rattle.walks.specs.Stretch.{Keeps}
 use Rattle.walks.specs.Greatest as G
 use Rattle.walks.proofs.Joins.{keeps_from_most, most_from_keeps}
 use Rattle.walks.proofs.Leading.{Leads-append}
-use Rattle.flow_graph.specs.Flow.{Flow, HasEdge, IsWellFormed, edge_shape}
-use Rattle.flow_graph.specs.declared.edges.Edge.{Edge}
-use Rattle.flow_graph.specs.declared.places.Place.{Place}
+use Rattle.control_flow.specs.Flow.{Flow, HasEdge, IsWellFormed, edge_shape}
+use Rattle.control_flow.specs.declared.edges.Edge.{Edge}
+use Rattle.control_flow.specs.declared.places.Place.{Place}
 use Rattle.numbered_walks.specs.declared.span.NumberedEdge.{NumberedEdge}
 use Rattle.numbered_walks.specs.declared.span.Span.{Span}
 use Rattle.numbered_walks.specs.Index.{edge_at, edges_of}

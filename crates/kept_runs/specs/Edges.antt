@@ -1,8 +1,8 @@
 -- Which edge of a place a step takes.
 use Rattle.std.specs.Prelude.{◌≡◌, ℕ, ◌<◌, IsTrue, length}
-use Rattle.flow_graph.specs.declared.edges.Edge.{Edge}
-use Rattle.flow_graph.specs.declared.places.Place.{Place}
-use Rattle.flow_graph.specs.Flow.{Flow, HasEdge}
+use Rattle.control_flow.specs.declared.edges.Edge.{Edge}
+use Rattle.control_flow.specs.declared.places.Place.{Place}
+use Rattle.control_flow.specs.Flow.{Flow, HasEdge}
 use Rattle.flow_graph.specs.StepLaw.{IsPlaceOf}
 use Rattle.longest_walk.specs.Built.{step_at}
 use Rattle.walk_counts.specs.Counts.{is_same_label}

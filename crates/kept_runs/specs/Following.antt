@@ -1,13 +1,13 @@
 -- How far a run has been followed, and one step of it.
 use Rattle.std.specs.Prelude.{◌≡◌, ℕ, ◌+◌, ◌<◌, ◌≤◌, ◌^◌, List, [], ◌∷◌, ◌++◌, length, replicate, Option}
 use Rattle.std.specs.Prelude.{Contains, slice_index, slice_index_or}
-use Rattle.loader.specs.Image.{Words}
+use Rattle.image.specs.Image.{Words}
 use Rattle.statement.specs.Stated.{Stated}
 use Rattle.arm2_exec.specs.State.{State}
 use Rattle.arm2_exec.specs.declared.machine.Input.{Input}
 use Rattle.arm2_exec.specs.declared.machine.Stepped.{Stepped}
-use Rattle.flow_graph.specs.Flow.{Flow}
-use Rattle.flow_graph.specs.declared.edges.Label.TheVariants.{Do}
+use Rattle.control_flow.specs.Flow.{Flow}
+use Rattle.control_flow.specs.declared.edges.Label.TheVariants.{Do}
 use Rattle.flow_graph.specs.StepLaw.{IsEdgeOf}
 use Rattle.numbered_walks.specs.declared.span.NumberedEdge.{NumberedEdge}
 use Rattle.numbered_walks.specs.declared.span.Span.{Span}

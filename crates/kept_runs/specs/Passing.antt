@@ -5,10 +5,10 @@ use Rattle.arm2_exec.specs.State.{State}
 use Rattle.arm2_exec.specs.Step.{Step}
 use Rattle.arm2_exec.specs.declared.machine.Input.{Input}
 use Rattle.arm2_exec.specs.declared.machine.Stepped.{Stepped}
-use Rattle.flow_graph.specs.declared.edges.Edge.{Edge}
-use Rattle.flow_graph.specs.declared.edges.Label.TheVariants.{Do}
-use Rattle.flow_graph.specs.Flow.{Flow}
-use Rattle.flow_graph.specs.Places.{place_at}
+use Rattle.control_flow.specs.declared.edges.Edge.{Edge}
+use Rattle.control_flow.specs.declared.edges.Label.TheVariants.{Do}
+use Rattle.control_flow.specs.Flow.{Flow}
+use Rattle.control_flow.specs.Places.{place_at}
 use Rattle.walk_counts.specs.Counts.{is_same_label}
 use Rattle.kept_runs.specs.declared.tally.Passed.{Passed}
 

@@ -1,6 +1,6 @@
 -- What the word at the machine's address is to do, by the registers.
 use Rattle.std.specs.Prelude.{◌≡◌, ◌⊎◌, ℕ, Bool, if◌then◌else◌, List, Option, Some, None}
-use Rattle.loader.specs.Image.{Words, word_of}
+use Rattle.image.specs.Image.{Words, word_of}
 use Rattle.arm2_decode.specs.Table.{IsUnallocated, Means}
 use Rattle.arm2_decode.specs.declared.instr.Instr.{Instr}
 use Rattle.arm2_decode.specs.declared.instr.Operation.{Operation}

@@ -3,7 +3,7 @@ use Rattle.std.specs.Prelude.{◌≡◌, ◌≢◌, ℕ, ◌+◌, ◌<◌, ◌�
 use Rattle.std.specs.Prelude.{Contains, slice_index_or}
 use Rattle.walks.specs.Walk.{Leads}
 use Rattle.bus_ticks.specs.declared.profile.Profile.{Profile}
-use Rattle.loader.specs.Image.{Words}
+use Rattle.image.specs.Image.{Words}
 use Rattle.statement.specs.Stated.{Stated}
 use Rattle.arm2_effect.specs.declared.step_end.Kind.TheVariants.{Taken}
 use Rattle.arm2_effect.specs.declared.exceptions.Vector.TheVariants.{Fiq}
@@ -13,9 +13,9 @@ use Rattle.arm2_exec.specs.Step.{Step, address_in}
 use Rattle.arm2_exec.specs.declared.machine.Input.{Input}
 use Rattle.arm2_exec.specs.declared.machine.Ran.{Ran}
 use Rattle.arm2_exec.specs.declared.machine.Stepped.{Stepped}
-use Rattle.flow_graph.specs.declared.edges.Edge.{Edge}
-use Rattle.flow_graph.specs.declared.places.Place.{Place}
-use Rattle.flow_graph.specs.Flow.{Flow, HasEdge, edge_shape}
+use Rattle.control_flow.specs.declared.edges.Edge.{Edge}
+use Rattle.control_flow.specs.declared.places.Place.{Place}
+use Rattle.control_flow.specs.Flow.{Flow, HasEdge, edge_shape}
 use Rattle.flow_graph.specs.StepLaw.{IsEdgeOf}
 use Rattle.numbered_walks.specs.declared.span.Span.{Span}
 use Rattle.loop_bounds.specs.Bounds.{IsCompleteWalk}
@@ -165,8 +165,8 @@ module _ (irq fiq : Handled) where
     pub at : IsPlaceFor place now
 
   -- so many steps lead to a place of the interrupted handler, and the next, by this input, leads from the
-  -- state `now` to the state `then_at`
-  pub record IsStepAfter (s : State) (inputs : List Input) (steps : ℕ) (then_at : State) : Type 0 where
+  -- state `now` to the state `next`
+  pub record IsStepAfter (s : State) (inputs : List Input) (steps : ℕ) (next : State) : Type 0 where
     pub place : Place
     pub now : State
     pub input : Input
@@ -174,7 +174,7 @@ module _ (irq fiq : Handled) where
     pub at : steps < length inputs
     pub input_is : slice_index_or inputs steps input ≡ input
     pub stepped : Stepped
-    pub step : Step now input stepped then_at
+    pub step : Step now input stepped next
 
   -- the step after so many takes no FIQ, and is along no edge of the place where the run is
   pub record StraysInMain (s : State) (inputs : List Input) (steps : ℕ) (after : State)

@@ -1,10 +1,10 @@
 -- A run that is followed until it leaves the handler, or strays.
 use Rattle.std.specs.Prelude.{◌≡◌, ◌+◌, ◌*◌, ◌≤◌, List, length}
-use Rattle.loader.specs.Image.{Words}
+use Rattle.image.specs.Image.{Words}
 use Rattle.statement.specs.Stated.{Stated}
 use Rattle.arm2_exec.specs.State.{State}
 use Rattle.arm2_exec.specs.declared.machine.Input.{Input}
-use Rattle.flow_graph.specs.Flow.{Flow}
+use Rattle.control_flow.specs.Flow.{Flow}
 use Rattle.loop_bounds.specs.Tree.{Tree}
 use Rattle.kept_runs.specs.declared.following.Follower.{Follower}
 use Rattle.kept_runs.specs.declared.following.Straying.{Straying}

@@ -2,7 +2,7 @@
 
 ghost use Rattle.std.specs.Prelude.{◌≡◌, is_some, MatchOption};
 ghost use Rattle.arm2_exec.specs.Run.{why_stopped};
-ghost use Rattle.flow_graph.specs.Flow.{Flow};
+ghost use Rattle.control_flow.specs.Flow.{Flow};
 ghost use Rattle.kept_runs.specs.Arriving.{ArrivesAfter, NeverArrives};
 ghost use Rattle.kept_runs.specs.Judging.{IsMachineFor};
 

@@ -1,12 +1,12 @@
 //! Which edge of a place a step takes.
 
 ghost use Rattle.std.specs.Prelude.{◌↔◌, ◌<◌, length, IsTrue, MatchOption};
-ghost use Rattle.flow_graph.specs.Places.{place_at};
+ghost use Rattle.control_flow.specs.Places.{place_at};
 ghost use Rattle.flow_graph.specs.StepLaw.{IsPlaceOf};
 ghost use Rattle.kept_runs.specs.Edges.{HasNoEdge, IsFound, IsMet};
 
 use bus_ticks::Class;
-use flow_graph::{Edge, Graph, Label, Place};
+use control_flow::{Edge, Graph, Label, Place};
 use walk_counts::is_same_label;
 
 /// Where a step goes: by which label, and to which address.

@@ -1,5 +1,5 @@
 ghost use Rattle.std.specs.Prelude.{◌≡◌, ◌+◌, ◌<◌, ◌^◌, IfErr, IfOk, MatchOption, length};
-ghost use Rattle.flow_graph.specs.Flow.{IsWellFormed};
+ghost use Rattle.control_flow.specs.Flow.{IsWellFormed};
 ghost use Rattle.kept_runs.specs.Following.{AreHeadersOf, CanGo, Goes, HaltsBy, IsFresh};
 ghost use Rattle.kept_runs.specs.Judging.{IsMachineFor};
 ghost use Rattle.kept_runs.specs.Keeping.{IsFollowed, IsHandler};
@@ -10,7 +10,7 @@ use crate::judging::{Stray, judge};
 use crate::stays::turn;
 use crate::tally::{Passed, count};
 use arm2_exec::{Input, Machine, Stepped};
-use flow_graph::Label;
+use control_flow::Label;
 use numbered_walks::Span;
 use std::alloc::{AllocError, Global};
 use walk_counts::{headers, is_same_label};

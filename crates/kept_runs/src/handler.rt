@@ -1,6 +1,7 @@
-use flow_graph::{Graph, Statement};
-use loader::Image;
+use control_flow::Graph;
+use image::Image;
 use loop_bounds::LoopTree;
+use statement::Statement;
 
 /// An accepted handler: its words, its statement, and the flow graph and the loops that they have.
 #[derive(Clone, Copy)]

@@ -1,6 +1,6 @@
 ghost use Rattle.std.specs.Prelude.{◌≡◌, ◌<◌, length, MatchResult};
-ghost use Rattle.flow_graph.specs.Graph.{IsFlowGraph};
-ghost use Rattle.flow_graph.specs.Places.{place_at};
+ghost use Rattle.control_flow.specs.Graph.{IsFlowGraph};
+ghost use Rattle.control_flow.specs.Places.{place_at};
 ghost use Rattle.kept_runs.specs.Judging.{IsAtPlace, Strays, StraysBy, Takes, label_if, made};
 
 use crate::edges::{Going, edge_taken};
@@ -8,7 +8,7 @@ use crate::handler::AcceptedHandler;
 use crate::reading::{own_word, read_word};
 use crate::transfers::{Access, other_of};
 use arm2_exec::{Input, Kind, Machine, Stepped, Vector, Why};
-use flow_graph::Label;
+use control_flow::Label;
 
 /// How a step is along no edge of its place, by the statement.
 #[derive(Clone, Copy, Debug, PartialEq, Eq)]

@@ -1,9 +1,9 @@
 ghost use Rattle.std.specs.Prelude.{◌≡◌, List, ℕ};
 ghost use Rattle.arm2_exec.specs.State.{State};
-ghost use Rattle.flow_graph.specs.Flow.{Flow};
+ghost use Rattle.control_flow.specs.Flow.{Flow};
 ghost use Rattle.kept_runs.specs.Keeping.{IsKeptRun, IsStrayedRun};
 ghost use Rattle.kept_runs.specs.Visited.{Handled, IsKeptVisited, IsStrayedVisited};
-ghost use Rattle.loader.specs.Image.{Words};
+ghost use Rattle.image.specs.Image.{Words};
 ghost use Rattle.loop_bounds.specs.Tree.{Tree};
 ghost use Rattle.statement.specs.Stated.{Stated};
 

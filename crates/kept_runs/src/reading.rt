@@ -8,7 +8,7 @@ use crate::transfers::{Transfer, words_of};
 use arm2_decode::{Instr, decode};
 use arm2_effect::Registers;
 use arm2_exec::Machine;
-use loader::Image;
+use image::Image;
 
 /// What a word is to do.
 #[derive(Clone, Copy)]

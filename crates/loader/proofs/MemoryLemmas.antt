@@ -3,7 +3,7 @@ use Rattle.std.proofs.Common.{◌≡◌, ◌∙◌, ℕ, zero, suc, ◌+◌, ◌
 use Rattle.std.specs.List.{AllByRecursion}
 use Rattle.std.proofs.lemmas.Bool.{cases_eq, cases_lt, eq-eqb, le-ltb, lt-ltb, ne_eqb}
 use Rattle.std.proofs.lemmas.Option.{same_Some}
-use Rattle.loader.specs.Image.{Words}
+use Rattle.image.specs.Image.{Words}
 use Rattle.loader.specs.Loading.{HasWord, loaded, ram_before, ram_words, rom_before, rom_words, spot_of, with_places}
 use Rattle.memc.proofs.Rom.{rom_word-with_words}
 use Rattle.memc.specs.Memory.{Memory, last_word, on_page, rom_word, word_at}

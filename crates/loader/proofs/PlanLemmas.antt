@@ -18,8 +18,9 @@ use Rattle.std.proofs.lemmas.List.Sums.{count_by-le-length, length-filter}
 use Rattle.std.proofs.lemmas.Map.Keys.{below_from_sorted, non_decreasing_from_sorted}
 use Rattle.std.proofs.lemmas.Map.Made.{length-le_from_is_member}
 use Rattle.std.proofs.lemmas.Map.Views.{Contains-from_any, exact_unsigned_eq, list_any-from_Contains}
-use Rattle.loader.specs.Image.{Words}
-use Rattle.loader.specs.PagePlan.{AreHeld, Ascend, HasWordOn, IsFree, IsPagePlan, free_pages, is_logical, is_unnamed, placed}
+use Rattle.image.specs.Image.{Words}
+use Rattle.image.specs.Pages.{AreHeld, Ascend, HasWordOn}
+use Rattle.loader.specs.PagePlan.{IsFree, IsPagePlan, free_pages, is_logical, is_unnamed, placed}
 use Rattle.loader.specs.declared.plan.PlacedPage.{PlacedPage}
 
 -- ## Search

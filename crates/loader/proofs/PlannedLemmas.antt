@@ -6,17 +6,18 @@ use Rattle.std.proofs.lemmas.Bool.{cases_lt, le-ltb, lt-ltb, or_parts}
 use Rattle.std.proofs.lemmas.Bool.Decides.{nat_tests}
 use Rattle.std.proofs.lemmas.List.Elements.{All-contains, All-from_recursion, All-map, recursion_from_All}
 use Rattle.std.proofs.lemmas.Option.{same_Some}
-use Rattle.loader.specs.Image.{Words, word_of}
-use Rattle.loader.specs.Inside.{AreWhole}
+use Rattle.image.specs.Image.{Words, word_of, AreOf, IsFitted}
+use Rattle.image.specs.Inside.{AreWhole}
 use Rattle.loader.specs.Loading.{HasWord, lacks_page, loaded, spot_of}
-use Rattle.loader.specs.PagePlan.{IsFree, IsPagePlan, page_of, physical_page}
-use Rattle.loader.specs.Planned.{AreOf, IsBeside, IsFitted, IsMapped}
+use Rattle.image.specs.Pages.{page_of}
+use Rattle.loader.specs.PagePlan.{IsFree, IsPagePlan, physical_page}
+use Rattle.loader.specs.Planned.{IsBeside, IsMapped}
 use Rattle.loader.specs.declared.plan.PlacedPage.{PlacedPage}
 use Rattle.memc.specs.declared.pages.TheConstants.{PHYSICAL_PAGES}
 use Rattle.loader.proofs.MemoryLemmas.{AreSame, last_kept, last_there, ram_entries, ram_gives, ram_number, rom_entries, rom_gives, rom_number, same_whole}
-use Rattle.loader.proofs.FittedLemmas.{before_or_past, not_past}
-use Rattle.loader.proofs.PlaceLemmas.{may_parts}
-use Rattle.loader.proofs.WordLemmas.{held}
+use Rattle.image.proofs.FittedLemmas.{before_or_past, not_past}
+use Rattle.image.proofs.PlaceLemmas.{may_parts}
+use Rattle.image.proofs.WordLemmas.{held}
 use Rattle.memc.specs.Memory.{Memory, last_word, on_page, physical_at, rom_word, word_at}
 use Rattle.memc.specs.Paged.{IsWhole, fitted_bytes, page_at, place_of}
 use Rattle.memc.specs.declared.pages.Entry.{Entry}

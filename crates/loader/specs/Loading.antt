@@ -3,7 +3,7 @@
 -- image's words go in the order of their addresses.
 use Rattle.std.specs.Prelude.{◌≡◌, ℕ, suc, ◌/◌, Bool, false, ◌||◌, List, [], ◌∷◌, Result, Ok, is_err}
 use Rattle.arm2_exec.specs.State.{State}
-use Rattle.loader.specs.Image.{Words}
+use Rattle.image.specs.Image.{Words}
 use Rattle.memc.specs.Memory.{Memory, last_word, located, stored, with_words, word_at}
 use Rattle.memc.specs.declared.spots.Refused.{Refused}
 use Rattle.memc.specs.declared.spots.Spot.{Spot}

@@ -1,38 +1,18 @@
 -- A plan of pages for an image: on which physical page of 32 KB each logical page with words of it lies.
 -- Pages are numbered by their addresses, of 32,768 bytes each: the pages 0 to 1023 are logical, and the page
 -- 1024 + p, which begins at 2000000 + 32768 * p, is the physical page p.
-use Rattle.std.specs.Prelude.{◌≡◌, ◌<◌, ◌≤◌, ◌↔◌, ◌+◌, ◌/◌, ℕ, Bool, IsSome, List, length, map}
+use Rattle.std.specs.Prelude.{◌<◌, ◌↔◌, ◌+◌, ℕ, Bool, List, map}
 use Rattle.std.specs.Prelude.{All, nat_eq, nat_lt, not}
 use Rattle.std.specs.List.{Contains, filter, list_any, range_with_len}
-use Rattle.std.specs.List.Sorted.{IsStrictlySortedBy}
-use Rattle.std.specs.Ordering.{nat_cmp}
-use Rattle.loader.specs.Image.{Words, word_of}
-use Rattle.loader.specs.declared.image.TheConstants.{PAGE_BYTES}
+use Rattle.image.specs.Image.{Words}
+use Rattle.image.specs.Pages.{Ascend, HasWordOn}
 use Rattle.loader.specs.declared.plan.PlacedPage.{PlacedPage}
 use Rattle.loader.specs.declared.plan.TheConstants.{LOGICAL_PAGES}
 use Rattle.memc.specs.declared.pages.TheConstants.{PHYSICAL_PAGES}
 
--- the number of the page of an address, and that of a physical page by its own addresses
-abbrev pub page_of : ℕ → ℕ
-page_of address = address / PAGE_BYTES
-
+-- the number of a physical page by its own addresses
 abbrev pub physical_page : ℕ → ℕ
 physical_page p = LOGICAL_PAGES + p
-
--- a word lies on the page
-abbrev pub HasWordOn : Words → ℕ → Type 0
-HasWordOn words page = (address : ℕ) × IsSome (word_of words address) × (page_of address ≡ page)
-
--- numbers that ascend, no two of them equal
-abbrev pub Ascend : List ℕ → Type 0
-Ascend numbers = IsStrictlySortedBy nat_cmp numbers
-
--- The pages on which words lie. There are at most 40 of them: 65,536 words fill 8 pages, and each of 16 runs
--- begins and ends on one more.
-pub record AreHeld (words : Words) (pages : List ℕ) : Type 0 where
-  pub ascend : Ascend pages
-  pub held : (page : ℕ) → Contains pages page ↔ HasWordOn words page
-  pub few : length pages ≤ 40
 
 -- a page is logical; a physical one is not among pages, and so no word names it by its own address
 abbrev pub is_logical : ℕ → Bool

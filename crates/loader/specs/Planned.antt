@@ -1,8 +1,9 @@
 -- Memory whose logical pages lie as a plan says, and the words that are put there.
 use Rattle.std.specs.Prelude.{◌≡◌, ◌<◌, ◌≤◌, ◌⊎◌, ◌%◌, ℕ, false, Some, List, All}
 use Rattle.bus_ticks.specs.declared.space.TheConstants.{ROM_START, SPACE_END}
-use Rattle.loader.specs.Image.{Words, is_past_ram, word_of}
-use Rattle.loader.specs.PagePlan.{page_of, physical_page}
+use Rattle.image.specs.Image.{Words, is_past_ram, word_of}
+use Rattle.image.specs.Pages.{page_of}
+use Rattle.loader.specs.PagePlan.{physical_page}
 use Rattle.loader.specs.declared.plan.PlacedPage.{PlacedPage}
 use Rattle.memc.specs.Memory.{Memory, shift_of_size}
 use Rattle.memc.specs.Paged.{IsWhole, page_at}
@@ -13,14 +14,6 @@ pub record IsMapped (pages : List PlacedPage) (m : Memory) : Type 0 where
   pub size : m.shift ≡ shift_of_size K32
   pub whole : IsWhole (shift_of_size K32) m.paged
   pub placed : All (λ p. page_at m.paged p.logical ≡ Some (record { physical = p.physical; level = 0 })) pages
-
--- words of an image, in any order, each as often as one likes
-abbrev pub AreOf : Words → Words → Type 0
-AreOf image words = All (λ e. word_of image e.0 ≡ Some e.1) words
-
--- not past RAM
-abbrev pub IsFitted : ℕ → Type 0
-IsFitted address = is_past_ram address ≡ false
 
 -- where a word may be beside an image's: on the spare page, by its own address, or in ROM
 abbrev pub IsBeside : ℕ → ℕ → Type 0

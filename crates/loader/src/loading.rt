@@ -3,8 +3,8 @@ ghost use Rattle.bus_ticks.specs.declared.space.TheConstants.{SPACE_END};
 ghost use Rattle.loader.specs.Loading.{lacks_page, loaded, put_at, put_words, rom_words, spot_of, with_ram};
 ghost use Rattle.loader.specs.declared.loading.LoadFault.TheVariants.{Memory};
 
-use crate::image::Image;
 use arm2_exec::Machine;
+use image::Image;
 use memc::{Memc, MemcFault, Spot};
 use std::alloc::{AllocError, AllocFailed, Global};
 use thiserror::Error;

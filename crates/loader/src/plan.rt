@@ -2,10 +2,11 @@
 
 ghost use Rattle.std.specs.Prelude.{◌≡◌, IfOk, map, nat_eq};
 ghost use Rattle.std.specs.List.{filter, list_any, zip};
-ghost use Rattle.loader.specs.Inside.{AreWhole};
-ghost use Rattle.loader.specs.PagePlan.{Ascend, IsPagePlan, free_pages, is_logical, placed};
+ghost use Rattle.image.specs.Inside.{AreWhole};
+ghost use Rattle.image.specs.Pages.{Ascend};
+ghost use Rattle.loader.specs.PagePlan.{IsPagePlan, free_pages, is_logical, placed};
 
-use crate::image::Image;
+use image::Image;
 use memc::PHYSICAL_PAGES;
 use std::alloc::{AllocError, Global};
 

@@ -6,12 +6,12 @@ use Rattle.std.proofs.lemmas.List.{get_or_default}
 use Rattle.std.proofs.lemmas.List.Elements.{All-contains, Contains-get_or}
 use Rattle.walks.specs.Rows.{Potentials}
 use Rattle.walks.proofs.RowLemmas.{find_some}
-use Rattle.flow_graph.specs.declared.places.Place.{Place}
-use Rattle.flow_graph.specs.declared.places.Place.TheVariants.{At, Exit}
-use Rattle.flow_graph.specs.declared.edges.Edge.{Edge}
-use Rattle.flow_graph.specs.Flow.{Flow, IsWellFormed, edge_shape}
-use Rattle.flow_graph.proofs.Firsts.{no_edge}
-use Rattle.flow_graph.proofs.StepEdges.{from_map, into_map}
+use Rattle.control_flow.specs.declared.places.Place.{Place}
+use Rattle.control_flow.specs.declared.places.Place.TheVariants.{At, Exit}
+use Rattle.control_flow.specs.declared.edges.Edge.{Edge}
+use Rattle.control_flow.specs.Flow.{Flow, IsWellFormed, edge_shape}
+use Rattle.control_flow.proofs.Firsts.{no_edge}
+use Rattle.control_flow.proofs.LabelLemmas.{from_map, into_map}
 use Rattle.numbered_walks.specs.declared.span.NumberedEdge.{NumberedEdge}
 use Rattle.numbered_walks.specs.declared.span.Span.{Span}
 use Rattle.numbered_walks.specs.declared.tables.Tables.{Tables}

@@ -6,12 +6,12 @@ use Rattle.std.proofs.lemmas.List.Elements.{All-head, All-tail, Contains-get_or}
 use Rattle.std.proofs.lemmas.List.Sums.{sum_by-cons}
 use Rattle.walks.specs.Walk.{Leads, cost_of}
 use Rattle.walks.specs.Greatest as G
-use Rattle.flow_graph.specs.declared.places.Place.{Place}
-use Rattle.flow_graph.specs.declared.places.Place.TheVariants.{Exit}
-use Rattle.flow_graph.specs.declared.edges.Edge.{Edge}
-use Rattle.flow_graph.specs.Flow.{Flow, IsWellFormed, edge_shape, HasEdge}
-use Rattle.flow_graph.specs.Places.{place_at}
-use Rattle.flow_graph.proofs.Firsts.{no_edge}
+use Rattle.control_flow.specs.declared.places.Place.{Place}
+use Rattle.control_flow.specs.declared.places.Place.TheVariants.{Exit}
+use Rattle.control_flow.specs.declared.edges.Edge.{Edge}
+use Rattle.control_flow.specs.Flow.{Flow, IsWellFormed, edge_shape, HasEdge}
+use Rattle.control_flow.specs.Places.{place_at}
+use Rattle.control_flow.proofs.Firsts.{no_edge}
 use Rattle.numbered_walks.specs.declared.span.NumberedEdge.{NumberedEdge}
 use Rattle.numbered_walks.specs.declared.span.Span.{Span}
 use Rattle.numbered_walks.specs.declared.fault.WalkFault.{WalkFault}

@@ -6,10 +6,10 @@ use Rattle.std.proofs.lemmas.List.Elements.{All-weaker}
 use Rattle.std.proofs.lemmas.List.Sums.{AllPass-from_list_all}
 use Rattle.walks.specs.Walk.{Leads, cost_of}
 use Rattle.walks.specs.Greatest as G
-use Rattle.flow_graph.specs.declared.places.Place.{Place}
-use Rattle.flow_graph.specs.declared.places.Place.TheVariants.{Exit}
-use Rattle.flow_graph.specs.declared.edges.Edge.{Edge}
-use Rattle.flow_graph.specs.Flow.{Flow, IsWellFormed, edge_shape, HasEdge}
+use Rattle.control_flow.specs.declared.places.Place.{Place}
+use Rattle.control_flow.specs.declared.places.Place.TheVariants.{Exit}
+use Rattle.control_flow.specs.declared.edges.Edge.{Edge}
+use Rattle.control_flow.specs.Flow.{Flow, IsWellFormed, edge_shape, HasEdge}
 use Rattle.numbered_walks.specs.declared.span.NumberedEdge.{NumberedEdge}
 use Rattle.numbered_walks.specs.declared.tables.Tables.{Tables}
 use Rattle.numbered_walks.specs.declared.fault.WalkFault.{WalkFault}
@@ -30,7 +30,7 @@ use Rattle.longest_walk.proofs.CarryKeeps.{pass_back}
 use Rattle.longest_walk.proofs.CarryOnce.{rising_once}
 use Rattle.longest_walk.proofs.CarryPotentials.{least, rows_fit, rows_hold}
 use Rattle.longest_walk.proofs.CarryWalks.{agree_all, costs_same, exit_place, greatest_up, instance_of, keeps_up, leads_up, too_large_down}
-use Rattle.loader.proofs.ZipLemmas.{AllZip-weaker}
+use Rattle.image.proofs.ZipLemmas.{AllZip-weaker}
 
 some_mapped : {X Y : Type 0} (f : X → Y) (xs : List X) → xs ≢ [] → map f xs ≢ []
 some_mapped f [] some is = some refl

@@ -5,8 +5,8 @@ use Rattle.std.specs.declared.rc.Rc.{Rc}
 use Rattle.std.specs.List.{AllZip, repeat}
 use Rattle.std.proofs.lemmas.List.{flat_map_more, get_or_default, map-append, take_more}
 use Rattle.std.proofs.lemmas.List.Elements.{All-nil, All-append}
-use Rattle.flow_graph.specs.declared.edges.Edge.{Edge}
-use Rattle.flow_graph.specs.Flow.{Flow}
+use Rattle.control_flow.specs.declared.edges.Edge.{Edge}
+use Rattle.control_flow.specs.Flow.{Flow}
 use Rattle.numbered_walks.specs.Index.{edge_at}
 use Rattle.loop_bounds.specs.Tree.{Tree}
 use Rattle.longest_walk.specs.Built.{step_at}

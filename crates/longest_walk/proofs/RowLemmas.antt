@@ -10,11 +10,11 @@ use Rattle.std.proofs.lemmas.Bool.{cases_lt, eqb-true, eq-eqb}
 use Rattle.std.proofs.lemmas.List.{get_or_default, length-map, map-append, take_more, take_all, get_or-map}
 use Rattle.std.proofs.lemmas.List.Elements.{All-push, Contains-get_or, recursion_from_All}
 use Rattle.std.proofs.lemmas.List.Sorted.{All-permutation, Contains-permutation, IsPermutation-map, IsPermutation-sym, ranks_by, sorted_far}
-use Rattle.flow_graph.specs.declared.places.Place.{Place}
-use Rattle.flow_graph.specs.declared.places.Place.TheVariants.{At, Exit}
-use Rattle.flow_graph.specs.Flow.{Flow}
-use Rattle.flow_graph.specs.Places.{place_address, place_at, place_calls, place_cmp}
-use Rattle.flow_graph.proofs.PlaceLemmas.{place_exact, place_total}
+use Rattle.control_flow.specs.declared.places.Place.{Place}
+use Rattle.control_flow.specs.declared.places.Place.TheVariants.{At, Exit}
+use Rattle.control_flow.specs.Flow.{Flow}
+use Rattle.control_flow.specs.Places.{place_address, place_at, place_calls, place_cmp}
+use Rattle.control_flow.proofs.PlaceLemmas.{place_exact, place_total}
 use Rattle.numbered_walks.specs.declared.span.Span.{Span}
 use Rattle.numbered_walks.specs.declared.tables.Tables.{Tables}
 use Rattle.numbered_walks.specs.Tables.{arrival_of, distance_of, round_of}

@@ -3,10 +3,10 @@ use Rattle.std.specs.Prelude.{◌≡◌, ◌≢◌, ℕ, ◌≤◌, true, List, 
 use Rattle.std.specs.List.{AllPass, AllZip}
 use Rattle.walks.specs.Walk.{Leads, cost_of}
 use Rattle.walks.specs.Greatest.{KeepsBounds, IsGreatest, TooLarge, is_inside}
-use Rattle.flow_graph.specs.declared.places.Place.{Place}
-use Rattle.flow_graph.specs.declared.places.Place.TheVariants.{Exit}
-use Rattle.flow_graph.specs.declared.edges.Edge.{Edge}
-use Rattle.flow_graph.specs.Flow.{Flow, edge_shape, HasEdge}
+use Rattle.control_flow.specs.declared.places.Place.{Place}
+use Rattle.control_flow.specs.declared.places.Place.TheVariants.{Exit}
+use Rattle.control_flow.specs.declared.edges.Edge.{Edge}
+use Rattle.control_flow.specs.Flow.{Flow, edge_shape, HasEdge}
 use Rattle.loop_bounds.specs.Bounds.{IsCompleteWalk}
 use Rattle.loop_bounds.specs.Instance.{Instance, is_header, place_loops}
 use Rattle.loop_bounds.specs.Tree.{Tree}

@@ -1,6 +1,6 @@
 use crate::rows::Potentials;
 use bus_ticks::Profile;
-use flow_graph::Edge;
+use control_flow::Edge;
 use numbered_walks::ItemList;
 use std::rc::Rc;
 

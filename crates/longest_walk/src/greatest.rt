@@ -9,7 +9,7 @@ use crate::folded::Longest;
 use crate::listing::{instance_rows, place_rows};
 use crate::rows::Potentials;
 use crate::trace::Search;
-use flow_graph::Graph;
+use control_flow::Graph;
 use loop_bounds::LoopTree;
 use numbered_walks::{Index, NumberedGraph, Tables, WalkFault, find_tables};
 use std::alloc::Global;

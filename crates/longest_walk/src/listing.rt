@@ -7,7 +7,7 @@ ghost use Rattle.longest_walk.specs.Built.{AreInstanceRowsAt, ArePlaceRowsAt};
 ghost use Rattle.longest_walk.specs.Rows.{header_of, header_of_row};
 
 use crate::rows::{InstanceRow, PlaceRow};
-use flow_graph::{Graph, Place, order_of_places};
+use control_flow::{Graph, Place, order_of_places};
 use loop_bounds::{LoopInstance, LoopTree};
 use numbered_walks::{ItemList, Span, Tables};
 use std::alloc::{AllocError, Global};

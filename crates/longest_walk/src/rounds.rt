@@ -8,7 +8,7 @@ ghost use Rattle.longest_walk.specs.Ways.{opened_rounds, opened_way, rounds_at};
 
 use crate::folded::Item;
 use crate::trace::{Search, last_turn, trace};
-use flow_graph::Graph;
+use control_flow::Graph;
 use loop_bounds::LoopTree;
 use numbered_walks::{Span, WalkFault};
 use std::alloc::{AllocError, Global};

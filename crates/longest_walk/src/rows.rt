@@ -1,4 +1,4 @@
-use flow_graph::Calls;
+use control_flow::Calls;
 use numbered_walks::ItemList;
 
 /// The distance of a place, as a certificate states it.

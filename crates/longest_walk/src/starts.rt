@@ -5,7 +5,7 @@ ghost use Rattle.longest_walk.specs.Starts.{AreWorstStarts};
 
 use crate::greatest::numbers_of_walk;
 use crate::listing::numbers;
-use flow_graph::Graph;
+use control_flow::Graph;
 use loop_bounds::LoopTree;
 use numbered_walks::{NumberedGraph, WalkFault, greatest_cost_to};
 use std::alloc::Global;

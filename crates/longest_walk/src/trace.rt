@@ -4,7 +4,7 @@ ghost use Rattle.numbered_walks.specs.Tables.{round_of};
 ghost use Rattle.numbered_walks.specs.Reach.{InTree, holds_in, start_of};
 ghost use Rattle.longest_walk.specs.Ways.{AreSearched, IsWay};
 
-use flow_graph::Graph;
+use control_flow::Graph;
 use loop_bounds::LoopTree;
 use numbered_walks::{Index, NumberedGraph, Span, Tables, entering_edge, turning_edge};
 use std::alloc::{AllocError, Global};

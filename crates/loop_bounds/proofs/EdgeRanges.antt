@@ -1,9 +1,9 @@
 -- The edges of the place of a number.
 use Rattle.std.proofs.Common.{◌≡◌, ◌∙◌, ℕ, ◌<◌, List, length, get_or, sym, ap, subst, arith}
 use Rattle.std.proofs.lemmas.List.{get_or_default}
-use Rattle.flow_graph.specs.declared.places.Place.{Place}
-use Rattle.flow_graph.specs.Flow.{Flow, IsEdgeRange}
-use Rattle.flow_graph.specs.Places.{place_at}
+use Rattle.control_flow.specs.declared.places.Place.{Place}
+use Rattle.control_flow.specs.Flow.{Flow, IsEdgeRange}
+use Rattle.control_flow.specs.Places.{place_at}
 use Rattle.loop_bounds.specs.Tree.{IsTree, Tree, place_in}
 
 module _ (flow : Flow) (tree : Tree) (t : IsTree flow tree) (n : ℕ) (lt : n < length flow.places) (order : List ℕ) (is : order ≡ tree.order) where

@@ -12,9 +12,9 @@ use Rattle.std.proofs.lemmas.List.{get_or_past, get_or_default, get_or_append_le
 use Rattle.std.proofs.Math.Seq.{get_or-append_seam}
 use Rattle.std.proofs.lemmas.List.Elements.{Contains-get_or}
 use Rattle.std.proofs.lemmas.List.Sorted.{ranks_by, sorted_far, Contains-permutation, IsPermutation-sym}
-use Rattle.flow_graph.specs.declared.places.Place.{Place}
-use Rattle.flow_graph.specs.declared.places.Place.TheVariants.{At, Exit}
-use Rattle.flow_graph.specs.Places.{place_at}
+use Rattle.control_flow.specs.declared.places.Place.{Place}
+use Rattle.control_flow.specs.declared.places.Place.TheVariants.{At, Exit}
+use Rattle.control_flow.specs.Places.{place_at}
 use Rattle.loop_bounds.specs.declared.extents.Extent.{Extent}
 use Rattle.loop_bounds.specs.declared.loop_instances.LoopInstance.{LoopInstance}
 use Rattle.loop_bounds.specs.Instance.{Instance, holds, is_member, is_header}

@@ -4,10 +4,10 @@ use Rattle.std.specs.Prelude.{Contains, All, AllPairs, ◌↔◌}
 use Rattle.std.specs.List.Sorted.{IsPermutation}
 use Rattle.std.proofs.lemmas.List.{get_or-map, length-map}
 use Rattle.std.proofs.lemmas.List.Sorted.{IsPermutation-map, Contains-permutation, IsPermutation-sym}
-use Rattle.flow_graph.specs.declared.places.Place.{Place}
-use Rattle.flow_graph.specs.declared.places.Place.TheVariants.{At, Exit}
+use Rattle.control_flow.specs.declared.places.Place.{Place}
+use Rattle.control_flow.specs.declared.places.Place.TheVariants.{At, Exit}
 use Rattle.statement.specs.declared.stated.Loop.{Loop}
-use Rattle.flow_graph.specs.Flow.{Flow, IsWellFormed}
+use Rattle.control_flow.specs.Flow.{Flow, IsWellFormed}
 use Rattle.statement.specs.Stated.{IsLoop}
 use Rattle.loop_bounds.specs.declared.loop_instances.LoopInstance.{LoopInstance}
 use Rattle.loop_bounds.specs.Instance.{Instance, IsInstance}

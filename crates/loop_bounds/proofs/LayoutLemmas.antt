@@ -22,8 +22,8 @@ use Rattle.loop_bounds.specs.Keys.{is_before}
 use Rattle.loop_bounds.specs.Layout.{AreIndexes, AreKeyed, AreMoved, AreNumbers, AreParted, ArePlaced, ArePositions, AreSpans, IsLaidOut, IsShown, by_keys, kept_key}
 use Rattle.loop_bounds.proofs.KeyLemmas.{before_is}
 use Rattle.loop_bounds.proofs.Moved.{IsOnce, once_moved, some_of}
-use Rattle.flow_graph.specs.declared.places.Place.{Place}
-use Rattle.flow_graph.specs.Places.{place_at}
+use Rattle.control_flow.specs.declared.places.Place.{Place}
+use Rattle.control_flow.specs.Places.{place_at}
 
 -- ## Numbers
 

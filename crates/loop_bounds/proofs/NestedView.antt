@@ -3,8 +3,8 @@ use Rattle.std.proofs.Common.{◌≡◌, true, ℕ, ◌+◌, ◌-◌, ◌<◌, �
 use Rattle.std.specs.Prelude.{Contains, All, ◌↔◌}
 use Rattle.std.proofs.lemmas.List.{get_or-drop, get_or_default, length-drop, length-map, map-append, take_all, take_more, get_or-map}
 use Rattle.std.proofs.lemmas.List.Elements.{All-nil, All-push, Contains-get_or}
-use Rattle.flow_graph.specs.declared.places.Place.{Place}
-use Rattle.flow_graph.specs.Flow.{Flow}
+use Rattle.control_flow.specs.declared.places.Place.{Place}
+use Rattle.control_flow.specs.Flow.{Flow}
 use Rattle.numbered_walks.specs.declared.span.Span.{Span}
 use Rattle.loop_bounds.specs.declared.loop_instances.LoopInstance.{LoopInstance}
 use Rattle.loop_bounds.specs.declared.nested.Outermost.{Outermost}

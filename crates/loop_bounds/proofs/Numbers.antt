@@ -6,10 +6,10 @@ use Rattle.std.proofs.lemmas.List.Elements.{Contains-get_or}
 use Rattle.std.proofs.Math.Seq.{get_or-append_seam}
 use Rattle.std.proofs.lemmas.Bool.{cases_lt}
 use Rattle.walks.specs.Walk.{Leads, Cycle, IsReached}
-use Rattle.flow_graph.specs.declared.places.Place.{Place}
-use Rattle.flow_graph.specs.declared.edges.Edge.{Edge}
-use Rattle.flow_graph.specs.Flow.{Flow, IsWellFormed, edge_shape, HasEdge}
-use Rattle.flow_graph.proofs.Firsts.{no_edge}
+use Rattle.control_flow.specs.declared.places.Place.{Place}
+use Rattle.control_flow.specs.declared.edges.Edge.{Edge}
+use Rattle.control_flow.specs.Flow.{Flow, IsWellFormed, edge_shape, HasEdge}
+use Rattle.control_flow.proofs.Firsts.{no_edge}
 use Rattle.numbered_walks.specs.declared.span.NumberedEdge.{NumberedEdge}
 use Rattle.numbered_walks.specs.Ordered.{number_shape}
 use Rattle.numbered_walks.proofs.Members.{no_numbered_edge}

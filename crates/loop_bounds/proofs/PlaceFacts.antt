@@ -7,12 +7,12 @@ use Rattle.std.proofs.lemmas.List.Elements.{Contains-get_or}
 use Rattle.std.proofs.Math.Bool.{and_comm}
 use Rattle.walks.specs.Walk.{IsReached}
 use Rattle.walks.specs.Greatest.{is_back_edge}
-use Rattle.flow_graph.specs.declared.places.Place.{Place}
-use Rattle.flow_graph.specs.declared.places.Place.TheVariants.{At}
-use Rattle.flow_graph.specs.declared.edges.Edge.{Edge}
+use Rattle.control_flow.specs.declared.places.Place.{Place}
+use Rattle.control_flow.specs.declared.places.Place.TheVariants.{At}
+use Rattle.control_flow.specs.declared.edges.Edge.{Edge}
 use Rattle.statement.specs.declared.stated.Loop.{Loop}
-use Rattle.flow_graph.specs.Flow.{Flow, IsWellFormed, edge_shape}
-use Rattle.flow_graph.specs.Places.{place_at}
+use Rattle.control_flow.specs.Flow.{Flow, IsWellFormed, edge_shape}
+use Rattle.control_flow.specs.Places.{place_at}
 use Rattle.loop_bounds.specs.declared.extents.Extent.{Extent}
 use Rattle.loop_bounds.specs.declared.handler_positions.HandlerPositions.{HandlerPositions}
 use Rattle.numbered_walks.specs.declared.span.NumberedEdge.{NumberedEdge}

@@ -12,12 +12,12 @@ use Rattle.std.proofs.lemmas.List.{get_or_past, get_or_default}
 use Rattle.std.proofs.lemmas.List.Elements.{Contains-get_or}
 use Rattle.std.proofs.lemmas.List.Sorted.{searchable_from_sorted, Contains-permutation, IsPermutation-sym, length_permutation}
 use Rattle.std.proofs.lemmas.Map.Keys.{Less-from_sorted}
-use Rattle.flow_graph.specs.declared.places.Place.{Place}
-use Rattle.flow_graph.specs.declared.places.Place.TheVariants.{Exit}
-use Rattle.flow_graph.specs.Flow.{Flow, IsWellFormed}
-use Rattle.flow_graph.specs.Places.{place_cmp, place_at}
-use Rattle.flow_graph.specs.Search.{by_order}
-use Rattle.flow_graph.proofs.PlaceLemmas.{by_place, place_total, place_exact}
+use Rattle.control_flow.specs.declared.places.Place.{Place}
+use Rattle.control_flow.specs.declared.places.Place.TheVariants.{Exit}
+use Rattle.control_flow.specs.Flow.{Flow, IsWellFormed}
+use Rattle.control_flow.specs.Places.{place_cmp, place_at}
+use Rattle.control_flow.specs.Search.{by_order}
+use Rattle.control_flow.proofs.PlaceLemmas.{by_place, place_total, place_exact}
 use Rattle.loop_bounds.specs.Keys.{IsListed, by_key, key_of}
 use Rattle.loop_bounds.specs.Tree.{ArePlaceNumbers}
 use Rattle.loop_bounds.proofs.KeyLemmas.{before_is, same_by_order, same_key}

@@ -8,10 +8,10 @@ use Rattle.std.proofs.lemmas.List.{get_or_default, get_or_past, length-map, take
 use Rattle.std.proofs.lemmas.List.Elements.{Contains-get_or}
 use Rattle.std.proofs.lemmas.List.Sorted.{ranks_by, sorted_far, Contains-permutation, IsPermutation-sym, length_permutation, sum_by-IsPermutation}
 use Rattle.walks.specs.declared.limits.TheConstants.{MOST_INSTANCES, MOST_ROUNDS}
-use Rattle.flow_graph.specs.declared.places.Place.TheVariants.{Exit}
+use Rattle.control_flow.specs.declared.places.Place.TheVariants.{Exit}
 use Rattle.statement.specs.declared.stated.Loop.{Loop}
-use Rattle.flow_graph.specs.Flow.{Flow, IsWellFormed}
-use Rattle.flow_graph.specs.Places.{place_at}
+use Rattle.control_flow.specs.Flow.{Flow, IsWellFormed}
+use Rattle.control_flow.specs.Places.{place_at}
 use Rattle.loop_bounds.specs.declared.extents.Extent.{Extent}
 use Rattle.loop_bounds.specs.declared.loop_instances.LoopInstance.{LoopInstance}
 use Rattle.loop_bounds.specs.declared.handler_positions.HandlerPositions.{HandlerPositions}

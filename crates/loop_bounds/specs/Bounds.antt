@@ -2,10 +2,10 @@
 use Rattle.std.specs.Prelude.{ℕ, List}
 use Rattle.walks.specs.Walk.{Leads}
 use Rattle.walks.specs.Greatest.{KeepsBounds, IsGreatest, TooLarge}
-use Rattle.flow_graph.specs.declared.places.Place.TheVariants.{Exit}
-use Rattle.flow_graph.specs.declared.edges.Edge.{Edge}
+use Rattle.control_flow.specs.declared.places.Place.TheVariants.{Exit}
+use Rattle.control_flow.specs.declared.edges.Edge.{Edge}
 use Rattle.statement.specs.declared.stated.Loop.{Loop}
-use Rattle.flow_graph.specs.Flow.{Flow, edge_shape, HasEdge}
+use Rattle.control_flow.specs.Flow.{Flow, edge_shape, HasEdge}
 use Rattle.loop_bounds.specs.Instance.{IsInstance, place_loops}
 
 -- consecutive edges of the flow graph from its entry to Exit

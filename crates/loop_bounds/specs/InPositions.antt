@@ -3,9 +3,9 @@ use Rattle.std.specs.Prelude.{◌≡◌, ℕ, ◌+◌, ◌<◌, ◌≤◌, ◌�
 use Rattle.walks.specs.Walk.{Cycle}
 use Rattle.walks.specs.declared.limits.TheConstants.{MOST_INSTANCES}
 use Rattle.statement.specs.declared.stated.Loop.{Loop}
-use Rattle.flow_graph.specs.Flow.{Flow}
-use Rattle.flow_graph.specs.Places.{place_at}
-use Rattle.flow_graph.specs.declared.search.TheConstants.{MOST_PLACES}
+use Rattle.control_flow.specs.Flow.{Flow}
+use Rattle.control_flow.specs.Places.{place_at}
+use Rattle.control_flow.specs.declared.search.TheConstants.{MOST_PLACES}
 use Rattle.statement.specs.Stated.{IsLoop}
 use Rattle.loop_bounds.specs.declared.fault.NestFault.{NestFault}
 use Rattle.loop_bounds.specs.declared.fault.NestFault.TheVariants.{Memory, LoopsCross, SharedHeader}

@@ -15,6 +15,6 @@ pub mod NestedParts
 pub use Rattle.walks.specs.Walk
 pub use Rattle.walks.specs.Stretch
 pub use Rattle.walks.specs.Greatest
-pub use Rattle.flow_graph.specs.Flow
-pub use Rattle.flow_graph.specs.Places
+pub use Rattle.control_flow.specs.Flow
+pub use Rattle.control_flow.specs.Places
 pub use Rattle.statement.specs.Stated

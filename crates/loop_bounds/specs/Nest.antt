@@ -5,10 +5,10 @@ use Rattle.std.specs.Prelude.{AllPairs, All}
 use Rattle.walks.specs.Walk.{Cycle}
 use Rattle.walks.specs.Greatest.{is_back_edge}
 use Rattle.walks.specs.declared.limits.TheConstants.{MOST_INSTANCES}
-use Rattle.flow_graph.specs.declared.places.Place.{Place}
-use Rattle.flow_graph.specs.declared.edges.Edge.{Edge}
+use Rattle.control_flow.specs.declared.places.Place.{Place}
+use Rattle.control_flow.specs.declared.edges.Edge.{Edge}
 use Rattle.statement.specs.declared.stated.Loop.{Loop}
-use Rattle.flow_graph.specs.Flow.{Flow, edge_shape, HasEdge}
+use Rattle.control_flow.specs.Flow.{Flow, edge_shape, HasEdge}
 use Rattle.loop_bounds.specs.declared.fault.NestFault.{NestFault}
 use Rattle.loop_bounds.specs.declared.fault.NestFault.TheVariants.{Memory, LoopsCross, SharedHeader}
 use Rattle.loop_bounds.specs.declared.fault.NestFault.TheVariants.{EntersMidLoop, UnboundedCycle}

@@ -1,9 +1,9 @@
 -- The instances of a tree with those directly inside each.
 use Rattle.std.specs.Prelude.{◌≡◌, true, false, ◌↔◌, List, [], ◌∷◌, ◌++◌, map, filter, flat_map, Contains}
 use Rattle.std.specs.Prelude.{All}
-use Rattle.flow_graph.specs.declared.places.Place.{Place}
-use Rattle.flow_graph.specs.Flow.{Flow}
-use Rattle.flow_graph.specs.Places.{place_at}
+use Rattle.control_flow.specs.declared.places.Place.{Place}
+use Rattle.control_flow.specs.Flow.{Flow}
+use Rattle.control_flow.specs.Places.{place_at}
 use Rattle.loop_bounds.specs.declared.nested.Instance.{Instance as Nested, out-Instance}
 use Rattle.loop_bounds.specs.declared.nested.Instance.TheOpen.{Instance-F}
 use Rattle.loop_bounds.specs.declared.nested.Instance.TheFolds.{fold-Instance}

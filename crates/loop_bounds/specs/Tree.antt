@@ -1,11 +1,11 @@
 -- The tree of a handler's loop instances, and an order of its places in which each instance is an interval.
 use Rattle.std.specs.Prelude.{◌≡◌, ℕ, ◌+◌, ◌<◌, ◌≤◌, ◌==◌, List}
 use Rattle.std.specs.Prelude.{length, Contains, slice_index, slice_index_or}
-use Rattle.flow_graph.specs.declared.places.Place.{Place}
-use Rattle.flow_graph.specs.declared.places.Place.TheVariants.{Exit}
-use Rattle.flow_graph.specs.declared.edges.Edge.{Edge}
-use Rattle.flow_graph.specs.Flow.{Flow}
-use Rattle.flow_graph.specs.Places.{place_at}
+use Rattle.control_flow.specs.declared.places.Place.{Place}
+use Rattle.control_flow.specs.declared.places.Place.TheVariants.{Exit}
+use Rattle.control_flow.specs.declared.edges.Edge.{Edge}
+use Rattle.control_flow.specs.Flow.{Flow}
+use Rattle.control_flow.specs.Places.{place_at}
 use Rattle.numbered_walks.specs.declared.span.NumberedEdge.{NumberedEdge}
 use Rattle.numbered_walks.specs.declared.span.Span.{Span}
 use Rattle.numbered_walks.specs.Ordered.{IsOrdered, is_in}

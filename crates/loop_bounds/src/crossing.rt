@@ -1,6 +1,6 @@
 ghost use Rattle.std.specs.Prelude.{◌≡◌, ◌↔◌, IfOk, All, Contains, map, true, false};
 ghost use Rattle.std.specs.List.Sorted.{IsStrictlySortedBy};
-ghost use Rattle.flow_graph.specs.Places.{place_cmp};
+ghost use Rattle.control_flow.specs.Places.{place_cmp};
 ghost use Rattle.statement.specs.Stated.{IsLoop};
 ghost use Rattle.loop_bounds.specs.Extents.{IsFoundAmong, found_instance};
 ghost use Rattle.loop_bounds.specs.Instance.{Instance};
@@ -10,7 +10,8 @@ ghost use Rattle.loop_bounds.specs.Nest.{HasCrossing, HasCrossingWith};
 use crate::extents::extents;
 use crate::loop_instances::LoopInstance;
 use crate::parents::parents;
-use flow_graph::{Calls, Graph, Loop, Place};
+use control_flow::{Calls, Graph, Place};
+use statement::Loop;
 use std::alloc::{AllocError, Global};
 
 // The instances with the list of calls.

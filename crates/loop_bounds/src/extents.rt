@@ -1,12 +1,12 @@
 ghost use Rattle.std.specs.Prelude.{◌≡◌, ◌↔◌, ◌+◌, ◌<◌, IfOk, IsTrue, All, Contains};
 ghost use Rattle.statement.specs.Stated.{IsLoop};
-ghost use Rattle.flow_graph.specs.declared.places.Place.TheVariants.{At};
+ghost use Rattle.control_flow.specs.declared.places.Place.TheVariants.{At};
 ghost use Rattle.loop_bounds.specs.Keys.{AreByKey};
 ghost use Rattle.loop_bounds.specs.Extents.{AreExtents, AreExtentsOf, IsExtentOf, IsWithin, found_instance};
 
 use crate::loop_instances::LoopInstance;
 use crate::numbering::point;
-use flow_graph::Place;
+use control_flow::Place;
 use std::alloc::{AllocError, Global};
 use std::cmp::Reverse;
 

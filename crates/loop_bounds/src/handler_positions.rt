@@ -8,8 +8,9 @@ ghost use Rattle.loop_bounds.specs.Nest.{HasSharedHeader};
 use crate::extents::{Extent, extents};
 use crate::loop_instances::{LoopInstance, instances_among};
 use crate::numbering::{number_edges, position_of};
-use flow_graph::{Graph, Loop, Place};
+use control_flow::{Graph, Place};
 use numbered_walks::NumberedEdge;
+use statement::Loop;
 use std::alloc::{AllocError, Global};
 
 /// A handler's places by key, its instances with their extents, and its edges and its entry between

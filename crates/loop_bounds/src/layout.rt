@@ -1,7 +1,7 @@
 ghost use Rattle.std.specs.Prelude.{◌≡◌, ℕ, ◌+◌, ◌<◌, ◌≤◌, IfOk, IfSome, All, Contains, EachIndex};
 ghost use Rattle.std.specs.Prelude.{MatchOption, length, slice_index};
 ghost use Rattle.std.specs.List.Sorted.{IsStrictlySortedBy};
-ghost use Rattle.flow_graph.specs.Places.{place_cmp};
+ghost use Rattle.control_flow.specs.Places.{place_cmp};
 ghost use Rattle.loop_bounds.specs.InPositions.{HasKeys};
 ghost use Rattle.loop_bounds.specs.Layout.{AreNumbers, IsLaidOut, ArePlaced, AreMoved};
 ghost use Rattle.loop_bounds.specs.Layout.{IsShown, AreShown, AreKeyed, by_keys};
@@ -14,7 +14,7 @@ use crate::loop_instances::LoopInstance;
 use crate::nesting::Nesting;
 use crate::numbering::index_near;
 use crate::parents::innermost;
-use flow_graph::Place;
+use control_flow::Place;
 use numbered_walks::{NumberedEdge, Span};
 use std::alloc::{AllocError, Global};
 use std::cmp::{Ordering, Reverse};

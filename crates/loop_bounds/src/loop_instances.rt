@@ -7,7 +7,8 @@ ghost use Rattle.loop_bounds.specs.Extents.{HeadersDiffer, IsFoundAmong, PlacesD
 ghost use Rattle.loop_bounds.specs.Extents.{header_place};
 ghost use Rattle.loop_bounds.specs.Nest.{HasSharedHeader};
 
-use flow_graph::{Calls, Loop, Place};
+use control_flow::{Calls, Place};
+use statement::Loop;
 use std::alloc::{AllocError, Global};
 use std::collections::BTreeSet;
 

@@ -3,7 +3,8 @@ ghost use Rattle.loop_bounds.specs.Extents.{found_instance};
 ghost use Rattle.loop_bounds.specs.Instance.{holds, is_header, is_member, is_back_edge_of};
 
 use crate::loop_instances::LoopInstance;
-use flow_graph::{Edge, Loop, Place};
+use control_flow::{Edge, Place};
+use statement::Loop;
 
 fn is_between(stated: &Loop, address: u32) -> bool
     ensures { result ≡ holds stated.now.first stated.now.last [] (address ∷ []) }

@@ -1,7 +1,7 @@
 ghost use Rattle.std.specs.Prelude.{◌≡◌, [], ◌∷◌, ◌++◌, ◌-◌, ◌+◌, ◌≤◌, ◌<◌, ℕ, IfOk, OnOk, length, map, take};
 ghost use Rattle.std.specs.Prelude.{drop, slice_index};
 ghost use Rattle.std.specs.List.Sorted.{IsNonDecreasingBy};
-ghost use Rattle.flow_graph.specs.Places.{place_at};
+ghost use Rattle.control_flow.specs.Places.{place_at};
 ghost use Rattle.loop_bounds.specs.Extents.{found_instance};
 ghost use Rattle.loop_bounds.specs.Nested.{IsNestedView, inner_in, instance_in, node_of, nodes, outline};
 ghost use Rattle.loop_bounds.specs.Nested.{places_in};
@@ -10,7 +10,7 @@ ghost use Rattle.loop_bounds.specs.Tree.{IsTree};
 
 use crate::loop_instances::LoopInstance;
 use crate::tree::LoopTree;
-use flow_graph::{Calls, Graph, Place};
+use control_flow::{Calls, Graph, Place};
 use numbered_walks::{ItemList, Span};
 use std::alloc::{AllocError, Global};
 

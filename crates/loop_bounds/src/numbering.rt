@@ -4,11 +4,11 @@ ghost use Rattle.std.specs.Ordering.{nat_cmp};
 ghost use Rattle.std.specs.Cmp.Lexicographic.{slice_cmp};
 ghost use Rattle.std.specs.List.Sorted.{IsSorted, IsStrictlySortedBy};
 ghost use Rattle.loop_bounds.specs.Keys.{IsListed, IsPoint, by_key};
-ghost use Rattle.flow_graph.specs.Places.{place_cmp, place_at};
+ghost use Rattle.control_flow.specs.Places.{place_cmp, place_at};
 ghost use Rattle.loop_bounds.specs.Tree.{IsNumbered, NumbersEdge};
 
 use crate::compare_pushed::compare_pushed;
-use flow_graph::{Calls, Edge, Graph, Place};
+use control_flow::{Calls, Edge, Graph, Place};
 use numbered_walks::NumberedEdge;
 use std::alloc::{AllocError, Global};
 use std::cmp::Ordering;

@@ -1,7 +1,7 @@
 ghost use Rattle.std.specs.Prelude.{◌≡◌, ◌↔◌, ℕ, ◌+◌, ◌<◌, ◌≤◌, IfOk, IfErr, IsTrue, length};
 ghost use Rattle.std.specs.Prelude.{slice_index, All, Option, None};
 ghost use Rattle.std.specs.List.Sorted.{IsNonDecreasingBy};
-ghost use Rattle.flow_graph.specs.declared.search.TheConstants.{MOST_PLACES};
+ghost use Rattle.control_flow.specs.declared.search.TheConstants.{MOST_PLACES};
 ghost use Rattle.loop_bounds.specs.Edges.{IsGrouped};
 ghost use Rattle.loop_bounds.specs.Layout.{AreHeaders, AreHeights, ArePlain, AreRanks, HaveApartHeaders};
 ghost use Rattle.loop_bounds.specs.Layout.{IsBack, IsRankFault};

@@ -1,6 +1,6 @@
 ghost use Rattle.std.specs.Prelude.{◌≡◌, ◌≢◌, ◌↔◌, ◌<◌, All, Contains, IfOk, OnOk, IfErr, List, length, map};
 ghost use Rattle.statement.specs.Stated.{IsLoop};
-ghost use Rattle.flow_graph.specs.Flow.{IsEdgeRange};
+ghost use Rattle.control_flow.specs.Flow.{IsEdgeRange};
 ghost use Rattle.loop_bounds.specs.Extents.{found_instance};
 ghost use Rattle.loop_bounds.specs.InPositions.{AreHandlerPositions, IsNesting};
 ghost use Rattle.loop_bounds.specs.Keys.{IsListed};
@@ -16,8 +16,9 @@ use crate::layout::{indexes, numbers, order, renumbered, spans};
 use crate::loop_instances::{LoopInstance, by_header, shares_header};
 use crate::nesting::{Nesting, nest_extents};
 use crate::numbering::listed;
-use flow_graph::{Graph, Loop, Place, Statement};
+use control_flow::{Graph, Place};
 use numbered_walks::{NumberedEdge, Span};
+use statement::{Loop, Statement};
 use std::alloc::{AllocError, Global};
 use std::marker::Model;
 

@@ -5,7 +5,7 @@ use Rattle.std.specs.List.{AllZip}
 use Rattle.std.specs.Map.{keys_of}
 use Rattle.std.proofs.lemmas.List.Elements.{All-cons}
 use Rattle.toml.specs.Data.{Data, Members, as_integer, as_table, get_member}
-use Rattle.loader.specs.Image.{may_hold}
+use Rattle.image.specs.Image.{may_hold}
 use Rattle.toml_reading.specs.Documents.{are_distinct, tables_at}
 use Rattle.toml_reading.specs.Lowest.{AtKey, AtKeyOr, IsListOf, ListFault, entries_at}
 use Rattle.toml_reading.specs.Readings.{pair}

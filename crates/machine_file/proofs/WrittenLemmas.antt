@@ -10,7 +10,7 @@ use Rattle.toml.specs.View.{items_of}
 use Rattle.arm2_effect.specs.declared.modes.Mode.{Mode}
 use Rattle.arm2_effect.specs.declared.modes.Mode.TheVariants.{User}
 use Rattle.arm2_effect.specs.declared.modes.Reg.{Reg}
-use Rattle.loader.specs.Image.{may_hold}
+use Rattle.image.specs.Image.{may_hold}
 use Rattle.memc.specs.Memory.{shift_of_size}
 use Rattle.memc.specs.declared.spots.PageSize.{PageSize}
 use Rattle.memc.specs.declared.spots.PageSize.TheVariants.{K4}

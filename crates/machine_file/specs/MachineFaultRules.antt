@@ -3,7 +3,7 @@ use Rattle.std.specs.Prelude.{◌≡◌, ◌≢◌, ◌⊎◌, ◌-◌, ◌^◌,
 use Rattle.std.specs.Prelude.{map, Any, nat_lt, None, IsSomeAnd, IsTrue, MatchOption}
 use Rattle.std.specs.List.{list_all}
 use Rattle.toml.specs.Data.{Data, Members, as_integer, as_str, as_table, get_member}
-use Rattle.loader.specs.Image.{may_hold}
+use Rattle.image.specs.Image.{may_hold}
 use Rattle.memc.specs.Memory.{shift_of_size}
 use Rattle.memc.specs.declared.pages.TheConstants.{PHYSICAL_PAGES}
 use Rattle.memc.specs.declared.spots.PageSize.{PageSize}

@@ -11,7 +11,7 @@ use Rattle.arm2_effect.specs.declared.modes.Mode.{Mode}
 use Rattle.arm2_effect.specs.declared.modes.Mode.TheVariants.{Svc}
 use Rattle.arm2_effect.specs.declared.modes.Reg.{Reg}
 use Rattle.ioc.specs.declared.lines.Lines.{Lines}
-use Rattle.loader.specs.Image.{may_hold}
+use Rattle.image.specs.Image.{may_hold}
 use Rattle.memc.specs.Memory.{can_map, shift_of_size}
 use Rattle.memc.specs.declared.spots.PageSize.{PageSize}
 use Rattle.memc.specs.declared.spots.PageSize.TheVariants.{K4, K8, K16, K32}

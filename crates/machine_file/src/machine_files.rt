@@ -1,7 +1,7 @@
 ghost use Rattle.std.specs.Prelude.{◌≡◌, ◌≢◌, ◌≤◌, ◌<◌, All, Err, IfOk, IsTrue, length, true};
 ghost use Rattle.std.specs.Map.{keys_of};
 ghost use Rattle.bus_ticks.specs.declared.space.TheConstants.{SPACE_END};
-ghost use Rattle.loader.specs.Image.{may_hold};
+ghost use Rattle.image.specs.Image.{may_hold};
 ghost use Rattle.toml.specs.View.{table_view};
 ghost use Rattle.toml_reading.specs.Documents.{are_distinct};
 ghost use Rattle.toml_reading.specs.Readings.{pair, reading_map};

@@ -1,5 +1,5 @@
 ghost use Rattle.std.specs.Prelude.{◌≡◌, ◌≢◌, ◌↔◌, All, Err, IfOk, IsTrue};
-ghost use Rattle.loader.specs.Image.{may_hold};
+ghost use Rattle.image.specs.Image.{may_hold};
 ghost use Rattle.bus_ticks.specs.Prices.{is_word_address};
 ghost use Rattle.machine_file.specs.Parts.{IsBuilt, IsInRange, HasNoneTwice, stated_by};
 
@@ -13,8 +13,8 @@ use crate::registers::Bank;
 use crate::words::{PutWords, have_own_addresses};
 use arm2_effect::Mode;
 use bus_ticks::is_word_address;
+use image::may_hold;
 use indexmap::IndexMap;
-use loader::may_hold;
 use memc::PageSize;
 use std::alloc::{AllocError, Global};
 

@@ -1,7 +1,7 @@
 ghost use Rattle.std.specs.Prelude.{◌≡◌, ◌≤◌, ◌<◌, ◌^◌, All, IsTrue, true, length};
 ghost use Rattle.std.specs.List.{list_all};
 ghost use Rattle.std.specs.Map.{keys_of};
-ghost use Rattle.loader.specs.Image.{may_hold};
+ghost use Rattle.image.specs.Image.{may_hold};
 ghost use Rattle.memc.specs.Memory.{shift_of_size};
 ghost use Rattle.toml_reading.specs.Documents.{are_distinct};
 ghost use Rattle.bus_ticks.specs.Prices.{is_word_address};

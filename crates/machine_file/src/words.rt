@@ -1,13 +1,13 @@
 ghost use Rattle.std.specs.Prelude.{◌≡◌, All, IfOk, IsTrue};
 ghost use Rattle.std.specs.Map.{keys_of};
 ghost use Rattle.toml.specs.View.{table_view, view};
-ghost use Rattle.loader.specs.Image.{may_hold};
+ghost use Rattle.image.specs.Image.{may_hold};
 ghost use Rattle.toml_reading.specs.Documents.{are_distinct, once};
 ghost use Rattle.machine_file.specs.MachineFile.{put_address_at, put_address_in, put_address_of};
 ghost use Rattle.machine_file.specs.MachineFile.{put_word_at, put_word_in, put_words_in};
 
 use crate::machine_faults::{MachineFileFault, Read};
-use loader::may_hold;
+use image::may_hold;
 use std::alloc::{AllocError, Global};
 use std::marker::Model;
 use toml::{Table, Value};
@@ -61,7 +61,7 @@ pub(crate) struct PutWords {
 impl Model for PutWords {
     ghost use Rattle.std.specs.Prelude.{◌≡◌, true, ℕ, List, All, IsTrue};
     ghost use Rattle.std.specs.Map.{keys_of};
-    ghost use Rattle.loader.specs.Image.{may_hold};
+    ghost use Rattle.image.specs.Image.{may_hold};
     ghost use Rattle.toml_reading.specs.Documents.{are_distinct};
 
     ghost Value = { List (ℕ × ℕ) };

@@ -1,3 +1,1 @@
-pub mod CommentLemmas
 pub mod MachineLemmas
-pub mod TightLemmas

@@ -3,7 +3,7 @@ use Rattle.std.proofs.Common.{◌≡◌, ℕ, Bool, true, false, List, Option, S
 use Rattle.std.specs.Prelude.{◌↔◌, IsTrue, is_some, not}
 use Rattle.arm2_effect.specs.declared.step_end.Why.{Why}
 use Rattle.bus_ticks.specs.declared.profile.Profile.{Profile}
-use Rattle.report_input.specs.Placing.{IsRunnable}
+use Rattle.handlers.specs.Placing.{IsRunnable}
 use Rattle.machine_reports.specs.Machine.{Front, IsMachineReport}
 
 -- what is shown could be run

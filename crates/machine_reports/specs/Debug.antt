@@ -6,7 +6,7 @@ use Rattle.asm_text.specs.Source.{lines_of}
 use Rattle.machine_file.specs.Stated.{Stated}
 use Rattle.debugger.specs.Conversation.{Converses}
 use Rattle.debugger.specs.SessionState.{begun}
-use Rattle.report_input.specs.Placing.{IsPlaced}
+use Rattle.handlers.specs.Placing.{IsPlaced}
 
 -- the session of the loaded machine by the lines of the commands, with the file's word at the port; its steps
 -- and events are not used

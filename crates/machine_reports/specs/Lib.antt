@@ -1,6 +1,2 @@
-pub mod Assembly
 pub mod Debug
-pub mod ListReport
 pub mod Machine
-pub mod TightReport
-pub mod TightText

@@ -9,10 +9,10 @@ use Rattle.arm2_exec.specs.Run.{Runs}
 use Rattle.arm2_exec.specs.State.{State}
 use Rattle.arm2_exec.specs.declared.machine.Input.{Input}
 use Rattle.arm2_exec.specs.declared.machine.Ran.{Ran}
-use Rattle.trace_text.specs.TraceText.{TracesRun, registers_text, stop_text, ticks_text}
-use Rattle.report_output.specs.Answers.{Answers}
-use Rattle.report_output.specs.declared.fault.ReportFault.{ReportFault}
-use Rattle.report_input.specs.Placing.{IsLoaded, IsRunRefused, IsRunnable}
+use Rattle.text_trace.specs.TraceText.{TracesRun, registers_text, stop_text, ticks_text}
+use Rattle.handlers.specs.Answers.{Answers}
+use Rattle.handlers.specs.declared.fault.ReportFault.{ReportFault}
+use Rattle.handlers.specs.Placing.{IsLoaded, IsRunRefused, IsRunnable}
 
 -- ## The texts
 

@@ -1,14 +1,14 @@
 ghost use Rattle.std.specs.Prelude.{◌≡◌, IfErr, IfOk, option_map};
-ghost use Rattle.report_output.specs.Answers.{Answers};
+ghost use Rattle.handlers.specs.Answers.{Answers};
 ghost use Rattle.machine_reports.specs.Debug.{IsDebugReport};
-ghost use Rattle.report_input.specs.Placing.{IsRunRefused, IsRunnable};
-ghost use Rattle.report_input.specs.Priced.{Priced};
-ghost use Rattle.report_input.specs.Report.{BeforeOutput};
+ghost use Rattle.handlers.specs.Placing.{IsRunRefused, IsRunnable};
+ghost use Rattle.handlers.specs.Priced.{Priced};
+ghost use Rattle.handlers.specs.Report.{BeforeOutput};
 
 use bus_ticks::Profile;
 use debugger::converse;
-use report_input::{place, profile_of};
-use report_output::{Output, ReportFault, print_answer};
+use handlers::{ReportFault, place, print_answer, profile_of};
+use outputs::Output;
 use std::alloc::Global;
 
 // The bytes of a source, a machine file and a session's commands.

@@ -3,18 +3,18 @@ ghost use Rattle.std.specs.Prelude.{string_bytes};
 ghost use Rattle.bus_ticks.specs.declared.profile.Profile.{Profile};
 ghost use Rattle.arm2_exec.specs.Run.{Runs};
 ghost use Rattle.asm_text.specs.Appended.{Appends};
-ghost use Rattle.report_input.specs.Placing.{IsPlaced, IsRunRefused, IsRunnable};
+ghost use Rattle.handlers.specs.Placing.{IsPlaced, IsRunRefused, IsRunnable};
 ghost use Rattle.machine_reports.specs.Machine.{Front, IsMachineReport, ReportsRun, ShowsRegisters};
 ghost use Rattle.machine_reports.specs.Machine.{ShowsSteps, end_text};
-ghost use Rattle.report_input.specs.Priced.{Priced};
-ghost use Rattle.report_input.specs.Report.{BeforeOutput};
+ghost use Rattle.handlers.specs.Priced.{Priced};
+ghost use Rattle.handlers.specs.Report.{BeforeOutput};
 
 use arm2_exec::{Input, Machine, Ran};
 use bus_ticks::Profile;
-use report_input::{Placed, place, profile_of};
-use report_output::{Output, ReportFault, print_answer};
+use handlers::{Placed, ReportFault, place, print_answer, profile_of};
+use outputs::Output;
 use std::alloc::{AllocError, Global};
-use trace_text::{write_registers, write_run, write_stop, write_ticks};
+use text_trace::{write_registers, write_run, write_stop, write_ticks};
 
 // A report's text, and whether the run did all its steps.
 #[derive(Drop)]

@@ -1,6 +1,6 @@
 use arm2_exec::Why;
 use std::test::Fail;
-use trace_text::write_stop;
+use text_trace::write_stop;
 
 #[test]
 fn stop_is_reported(rt: HostRuntime) -> Result<(), Fail> {

@@ -38,7 +38,12 @@ pub(crate) trait HandlerCall: Copy {
     fn on(self, alloc: Global, handler: &Stated) -> Result<Answer, ReportFault>;
 }
 
-fn handler_of(alloc: Global, source: &[u8], statement: &[u8]) -> Result<Stated, ReportFault> {
+/// The handler of a source and a statement.
+pub(crate) fn handler_of(
+    alloc: Global,
+    source: &[u8],
+    statement: &[u8],
+) -> Result<Stated, ReportFault> {
     let said = assemble(alloc, source)?;
     match read_statement(alloc, statement, &said.labels) {
         Ok(statement) => Ok(Stated {

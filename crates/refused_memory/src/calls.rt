@@ -1,9 +1,9 @@
 use crate::analysis::{AnalysisCall, on_nested};
-use crate::assumptions::Assumed;
+use crate::assumptions::AssumedCall;
 use crate::certificates::CertificateCall;
 use crate::drafts::Drafted;
 use crate::explanations::ExplainedCall;
-use crate::followed::Follow;
+use crate::followed::FollowCall;
 use crate::images::{ImageCall, Load};
 use crate::listings::ListingCall;
 use crate::machine::{AddRom, NewCall};
@@ -31,10 +31,10 @@ pub(crate) enum Pure {
     Analysis(AnalysisCall),
     Certificate(CertificateCall),
     Explained(ExplainedCall),
-    Assumed,
+    Assumed(AssumedCall),
     Draft,
     /// It changes the machine, which is made for each call.
-    Follow,
+    Follow(FollowCall),
 }
 
 impl Trial for Pure {
@@ -49,9 +49,9 @@ impl Trial for Pure {
             Pure::Analysis(call) => on_nested(alloc, call),
             Pure::Certificate(call) => call.made(alloc),
             Pure::Explained(call) => on_nested(alloc, call),
-            Pure::Assumed => Assumed.made(alloc),
+            Pure::Assumed(call) => call.made(alloc),
             Pure::Draft => Drafted.made(alloc),
-            Pure::Follow => Follow.made(alloc),
+            Pure::Follow(call) => call.made(alloc),
         }
     }
 
@@ -161,9 +161,28 @@ pub(crate) const CALLS: &[(&str, Call)] = &[
         "image_table",
         Call::Pure(Pure::Explained(ExplainedCall::Words)),
     ),
-    ("source_assumptions", Call::Pure(Pure::Assumed)),
+    (
+        "source_assumptions",
+        Call::Pure(Pure::Assumed(AssumedCall::Source)),
+    ),
+    (
+        "image_assumptions",
+        Call::Pure(Pure::Assumed(AssumedCall::Image)),
+    ),
+    (
+        "source_done_returns",
+        Call::Pure(Pure::Assumed(AssumedCall::SourceDone)),
+    ),
+    (
+        "image_done_returns",
+        Call::Pure(Pure::Assumed(AssumedCall::ImageDone)),
+    ),
     ("draft", Call::Pure(Pure::Draft)),
-    ("follow", Call::Pure(Pure::Follow)),
+    ("follow", Call::Pure(Pure::Follow(FollowCall::Alone))),
+    (
+        "follow_visited",
+        Call::Pure(Pure::Follow(FollowCall::Visited)),
+    ),
     ("Session::command-step", Call::Command(Command::Step)),
     ("Session::command-run", Call::Command(Command::Run)),
     ("Session::command-regs", Call::Command(Command::Registers)),
@@ -178,6 +197,10 @@ pub(crate) const CALLS: &[(&str, Call)] = &[
     ("trace_report", Call::Report(Report::Trace, ROOM)),
     ("debug_report", Call::Report(Report::Debug, ROOM)),
     ("follow_report", Call::Report(Report::Follow, ROOM)),
+    (
+        "follow_visits_report",
+        Call::Report(Report::FollowVisits, ROOM),
+    ),
     ("bound_report", Call::Report(Report::Bound, ROOM)),
     ("bound_report-without-room", Call::Report(Report::Bound, 0)),
     ("check_report", Call::Report(Report::Check, ROOM)),

@@ -1,8 +1,8 @@
 use crate::trial::Answer;
 use arcwcet::ReportFault;
 use assembler::{Assembly, Program, assemble, placed_lines};
-use drafting::draft;
 use std::alloc::Global;
+use text_draft::draft;
 
 // A byte of a device, a loop that is counted, and a jump through a table that is none.
 const SOURCE: &[u8] = b"start MOV R1,#&3200000\nread LDRB R0,[R1]\n MOV R2,#3\n\
@@ -29,7 +29,7 @@ bound = \"?\"  # 2, if no other way leads into the loop
 [[target]]
 at = \"jump\"  # line 6: jump ADD PC,PC,R0,LSL #2
 kind = \"jump\"  # or \"call\", \"return\", \"leave\"
-to = \"?\"  # a list, or nothing for a return: draft from each of them too
+to = \"?\"  # a list, or nothing for a return or a leave: draft from each of them too
 ";
 
 /// The draft of a handler. It changes no value.

@@ -2,11 +2,11 @@ use crate::analysis::{HandlerCall, Stated, graph_of, walk_of};
 use crate::trial::Answer;
 use arcwcet::ReportFault;
 use assembler::placed_lines;
-use explained::{StatedGraph, TimedWalk, image_table, source_table};
 use flow_graph::Graph;
 use longest_walk::Longest;
 use samples::nested_countdown::SOURCE;
 use std::alloc::Global;
+use text_explained::{StatedGraph, TimedWalk, image_table, source_table};
 use walk_counts::edge_counts;
 
 /// The bound of the nested countdown, by the lines of its source.

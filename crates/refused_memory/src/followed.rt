@@ -2,39 +2,95 @@ ghost use Rattle.std.specs.Prelude.{◌≡◌, IfOk, length};
 ghost use Rattle.kept_runs.specs.Judging.{IsMachineFor};
 ghost use Rattle.kept_runs.specs.Keeping.{IsHandler};
 
-use crate::analysis::{HandlerCall, Stated, on_handler};
+use crate::analysis::{Stated, handler_of};
 use crate::machine::word_in;
 use crate::machine_files::input;
 use crate::trial::Answer;
 use arcwcet::ReportFault;
 use arm2_exec::{Input, Machine, Reg};
+use bitflags::Flags;
 use bus_ticks::Profile;
 use flow_graph::{Graph, build};
-use kept_runs::{AcceptedHandler, Followed, follow};
+use ioc::Lines;
+use kept_runs::{AcceptedHandler, Followed, VisitedHandlers, VisitedRun, follow, follow_visited};
 use loader::{Image, load};
 use loop_bounds::{LoopTree, nest};
 use memc::PageSize;
 use std::alloc::Global;
 
-// A countdown from 3 at the address of a machine that was reset. It stores the count, and returns to 0.
-const SOURCE: &[u8] = b" ORG 0\n MOV R0,#3\nagain STR R0,[R1,#&100]\n SUBS R0,R0,#1\n\
-    turn BNE again\n MOV PC,R14\n";
+/// A countdown from 3 at the address of a machine that was reset. It lets FIQ interrupt it, in R15 and in
+/// IOC, stores the count, and returns to 0. FIQ's handler masks FIQ in IOC.
+pub(crate) const SOURCE: &[u8] = b" ORG 0\n B main\n ORG &1C\n\
+    fiq STRB R8,[R1,#&38]\n SUBS PC,R14,#4\n\
+    main TEQP PC,#&8000003\n MOV R0,#3\n MOV R1,#&3200000\n STRB R0,[R1,#&38]\n\
+    again STR R0,[R2,#&100]\n SUBS R0,R0,#1\nturn BNE again\n MOV PC,R14\n";
 
-const STATEMENT: &[u8] = b"entry = 0\n\
+/// The statement on it.
+pub(crate) const STATEMENT: &[u8] = b"entry = 0\n\
     [[loop]]\nheader = \"again\"\nfirst = \"again\"\nlast = \"turn\"\nbound = 2\n";
 
-// The steps until it returns, and their ticks: 1, three rounds of 10, of which the last one is 3 less, and
+/// The statement on FIQ's handler.
+pub(crate) const FIQ_STATEMENT: &[u8] = b"entry = \"fiq\"\n";
+
+// The steps until it returns, and their ticks: 18, three rounds of 10, of which the last one is 3 less, and
 // 4.
-const KEPT: (u64, u128) = (11, 32);
+const KEPT: (u64, u128) = (15, 49);
+
+// The same with a visit of FIQ, which takes 5 ticks to begin, 10 to mask it, and 4 to return.
+const VISITED: VisitedRun = VisitedRun::Kept {
+    steps: 18,
+    ticks: 68,
+    visits: 1,
+};
 
 // R15, the count, and the word where it is stored, before the run and after it.
 const BEFORE: [Option<u32>; 3] = [Some(0x0C00_0003), Some(0), Some(0)];
 
-const AFTER: [Option<u32>; 3] = [Some(0x6C00_0003), Some(0), Some(1)];
+const AFTER: [Option<u32>; 3] = [Some(0x6800_0003), Some(0), Some(1)];
 
-/// A run that is followed. The call changes the machine, which is made for each call.
+/// A run that is followed: without FIQ, or with a visit of it. The call changes the machine, which is made
+/// for each call.
 #[derive(Clone, Copy)]
-pub(crate) struct Follow;
+pub(crate) enum FollowCall {
+    Alone,
+    Visited,
+}
+
+// A handler that was accepted.
+#[derive(Drop)]
+struct Accepted {
+    stated: Stated,
+    graph: Graph,
+    tree: LoopTree,
+}
+
+fn accepted_of(alloc: Global, statement: &[u8], profile: &Profile) -> Result<Accepted, ReportFault>
+    ensures handler { IfOk result (λ a. IsHandler a.stated.image a.stated.statement a.graph a.tree) }
+    ensures prices { IfOk result (λ a. a.graph.profile ≡ profile.now) }
+{
+    let stated = handler_of(alloc, SOURCE, statement)?;
+    let graph = build(alloc, &stated.image, &stated.statement, profile)?;
+    let tree = nest(alloc, &graph, &stated.statement)?;
+    Ok(Accepted {
+        stated,
+        graph,
+        tree,
+    })
+}
+
+fn lent<'a>(handler: &'a Accepted) -> AcceptedHandler<'a>
+    ensures image { result.image.now ≡ handler.now.stated.image }
+    ensures statement { result.statement.now ≡ handler.now.stated.statement }
+    ensures graph { result.graph.now ≡ handler.now.graph }
+    ensures tree { result.tree.now ≡ handler.now.tree }
+{
+    AcceptedHandler {
+        image: &handler.stated.image,
+        statement: &handler.stated.statement,
+        graph: &handler.graph,
+        tree: &handler.tree,
+    }
+}
 
 fn shown(machine: &Machine) -> [Option<u32>; 3] {
     let registers = [machine.get(Reg::R15), machine.get(Reg::R0)];
@@ -45,9 +101,10 @@ fn shown(machine: &Machine) -> [Option<u32>; 3] {
     ]
 }
 
-// Without bursts and interrupts, and one more than there are steps.
-fn inputs() -> [Input; 12] {
-    [input(0); 12]
+// Without bursts, and one more than the most steps.
+fn inputs(lines: Lines) -> [Input; 19] {
+    let input = Input { lines, ..input(0) };
+    [input; 19]
 }
 
 fn is_kept(found: &Followed) -> bool {
@@ -66,56 +123,46 @@ fn machine_of(alloc: Global, image: &Image, profile: Profile) -> Result<Machine,
     Ok(machine)
 }
 
-fn answered(alloc: Global, handler: AcceptedHandler<'_>, machine: &mut Machine) -> Answer
+fn without_visit(alloc: Global, handler: AcceptedHandler<'_>, machine: &mut Machine) -> Answer
     requires handler { IsHandler handler.image.now handler.statement.now handler.graph.now handler.tree.now }
     requires machine { IsMachineFor handler.graph.now machine.old }
 {
-    match follow(alloc, handler, machine, &inputs()) {
+    match follow(alloc, handler, machine, &inputs(Lines::empty())) {
         Ok(found) => Answer::of(is_kept(&found) && shown(machine) == AFTER),
         Err(_) => Answer::of_refusal(shown(machine) == BEFORE),
     }
 }
 
-fn followed(
-    alloc: Global,
-    handler: &Stated,
-    graph: &Graph,
-    tree: &LoopTree,
-) -> Result<Answer, ReportFault>
-    requires { IsHandler handler.now.image handler.now.statement graph.now tree.now }
+fn with_visit(alloc: Global, handlers: VisitedHandlers<'_>, machine: &mut Machine) -> Answer
+    requires irq { IsHandler handlers.irq.image.now handlers.irq.statement.now handlers.irq.graph.now
+        handlers.irq.tree.now }
+    requires fiq { IsHandler handlers.fiq.image.now handlers.fiq.statement.now handlers.fiq.graph.now
+        handlers.fiq.tree.now }
+    requires prices { handlers.fiq.graph.now.profile ≡ handlers.irq.graph.now.profile }
+    requires machine { IsMachineFor handlers.irq.graph.now machine.old }
 {
-    let mut machine = machine_of(alloc, &handler.image, graph.profile())?;
-    let whole = AcceptedHandler {
-        image: &handler.image,
-        statement: &handler.statement,
-        graph,
-        tree,
-    };
-    let answer = answered(alloc, whole, &mut machine);
-    drop(machine);
-    Ok(answer)
-}
-
-impl HandlerCall for Follow {
-    fn on(self, alloc: Global, handler: &Stated) -> Result<Answer, ReportFault> {
-        let graph = build(alloc, &handler.image, &handler.statement, &Profile::one())?;
-        let answer = match nest(alloc, &graph, &handler.statement) {
-            Ok(tree) => {
-                let answer = followed(alloc, handler, &graph, &tree);
-                drop(tree);
-                answer
-            }
-            Err(fault) => Err(fault.into()),
-        };
-        drop(graph);
-        answer
+    match follow_visited(alloc, handlers, machine, &inputs(Lines::F0)) {
+        Ok(found) => Answer::of(found == VISITED && shown(machine) == AFTER),
+        Err(_) => Answer::of_refusal(shown(machine) == BEFORE),
     }
 }
 
-// Each call compares the machine that it was refused.
-impl Follow {
-    /// Makes the call, and answers what it did.
+impl FollowCall {
+    /// Makes the call, and answers what it did. Where it is refused, it compares the machine.
     pub(crate) fn made(self, alloc: Global) -> Result<Answer, ReportFault> {
-        on_handler(alloc, SOURCE, STATEMENT, self)
+        let profile = Profile::one();
+        let irq = accepted_of(alloc, STATEMENT, &profile)?;
+        let mut machine = machine_of(alloc, &irq.stated.image, profile)?;
+        match self {
+            FollowCall::Alone => Ok(without_visit(alloc, lent(&irq), &mut machine)),
+            FollowCall::Visited => {
+                let fiq = accepted_of(alloc, FIQ_STATEMENT, &profile)?;
+                let handlers = VisitedHandlers {
+                    irq: lent(&irq),
+                    fiq: lent(&fiq),
+                };
+                Ok(with_visit(alloc, handlers, &mut machine))
+            }
+        }
     }
 }

@@ -1,8 +1,8 @@
 use crate::trial::Answer;
 use arcwcet::ReportFault;
 use assembler::{AsmFault, Assembly, PlacedLine, assemble, placed_lines};
-use listing::{list_image, list_source};
 use std::alloc::Global;
+use text_listing::{list_image, list_source};
 
 // A line of three words, lines without a word, and one in a second segment.
 const LINES: &[u8] = b" DCD 1,&FFFFFFFF,end\n; nothing\nend\n ORG &9000\nhere B here\n";

@@ -1,9 +1,11 @@
 use crate::explanations::NESTED_LINES;
+use crate::followed;
 use crate::trial::{Answer, Trial};
 use arcwcet::{
-    Bursts, Explained, FollowedRun, MemoryOutput, Output, ReportFault, asm_report, bound_report,
-    check_report, debug_report, draft_report, explain_report, follow_report, graph_report,
-    list_report, run_report, tight_report, trace_report, visits_report,
+    Bursts, Explained, FollowedRun, FollowedVisits, MemoryOutput, Output, ReportFault, asm_report,
+    bound_report, check_report, debug_report, draft_report, explain_report, follow_report,
+    follow_visits_report, graph_report, list_report, run_report, tight_report, trace_report,
+    visits_report,
 };
 use samples::{countdown, nested_countdown};
 use std::alloc::Global;
@@ -138,6 +140,9 @@ const FOLLOWED: &[u8] = b"kept: 21 ticks, 4 less than the bound
        1        5       1        9  0000800C     4   SUBS PC,R14,#4
 ";
 
+// The bounds are 80 and 21 ticks, and FIQ is taken in at most 8.
+const FOLLOWED_VISITS: &[u8] = b"kept: 68 ticks with 1 visit, 41 less than the total\n";
+
 // Its bound is exactly as much as it may be.
 const EXPLAINED: Explained<'static> = Explained {
     source: nested_countdown::SOURCE,
@@ -155,6 +160,14 @@ const FOLLOWED_RUN: FollowedRun<'static> = FollowedRun {
     machine: countdown::MACHINE,
 };
 
+// FIQ's line is active from the start.
+const VISITED_RUN: FollowedVisits<'static> = FollowedVisits {
+    source: followed::SOURCE,
+    statement: followed::STATEMENT,
+    fiq_statement: followed::FIQ_STATEMENT,
+    machine: b"pc = 0\nmode = \"svc\"\nsteps = 19\n[[event]]\nstep = 0\nlines = [\"F0\"]\n",
+};
+
 /// A report that takes memory.
 #[derive(Clone, Copy)]
 pub(crate) enum Report {
@@ -164,6 +177,7 @@ pub(crate) enum Report {
     Trace,
     Debug,
     Follow,
+    FollowVisits,
     Bound,
     Check,
     Visits,
@@ -184,6 +198,7 @@ impl Report {
             Report::Trace => TRACED,
             Report::Debug => ANSWERED,
             Report::Follow => FOLLOWED,
+            Report::FollowVisits => FOLLOWED_VISITS,
             Report::Bound => nested_countdown::CERTIFICATE,
             Report::Check => b"yes\n",
             Report::Visits => VISITED,
@@ -196,7 +211,8 @@ impl Report {
 
     fn write(self, alloc: Global, out: &mut MemoryOutput) -> Result<bool, ReportFault> {
         match self {
-            Report::Run | Report::Trace | Report::Follow => self.write_of_machine(alloc, out),
+            Report::Run | Report::Trace | Report::Follow | Report::FollowVisits =>
+                self.write_of_machine(alloc, out),
             Report::Check | Report::Explain => self.write_of_bound(alloc, out),
             Report::Asm | Report::List | Report::Debug | Report::Draft => {
                 self.write_of_source(alloc, out)?;
@@ -224,6 +240,7 @@ impl Report {
         match self {
             Report::Trace => trace_report(alloc, source, machine, None, out),
             Report::Follow => follow_report(alloc, FOLLOWED_RUN, None, out),
+            Report::FollowVisits => follow_visits_report(alloc, VISITED_RUN, None, out),
             _ => run_report(alloc, source, machine, None, out),
         }
     }

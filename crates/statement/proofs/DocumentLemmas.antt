@@ -16,7 +16,7 @@ use Rattle.toml_reading.proofs.LowestParts.{keys_judged, named_judged, some_weak
 use Rattle.toml_reading.proofs.TwiceLemmas.{keys_not_distinct}
 use Rattle.statement.specs.StatementRules.{AccessFault, AddressFault, HasAccess, HasFault, HasParts, HasTarget, HasTwo, IsAddress, IsAt, IsSingle, LoopFault, PartsFault, RequiredFault, States, StatesAccess, StatesLoop, StatesTarget, TargetFault}
 use Rattle.statement.specs.Stated.{Stated}
-use Rattle.loader.specs.Labels.{Names}
+use Rattle.image.specs.Labels.{Names}
 use Rattle.statement.specs.Statement.{Parts, access_at, access_keys, class_named_at, leave_in, loop_at, named_class, named_returns, parts_of, returns_in, returns_named_at, statement_keys, statement_of, target_at, target_keys, stated_once}
 use Rattle.statement.specs.StatementFaults.{number_of, statement_faults}
 use Rattle.statement.specs.declared.faults.StatementFault.{StatementFault}

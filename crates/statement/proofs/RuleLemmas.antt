@@ -11,7 +11,7 @@ use Rattle.toml_reading.proofs.Following.{refusal_judged}
 use Rattle.toml_reading.proofs.LowestLemmas.{Judges, judged_as, required_judged}
 use Rattle.toml_reading.proofs.LowestParts.{named_judged, whole_same}
 use Rattle.statement.specs.StatementRules.{AddressFault, IsAddress, RequiredFault}
-use Rattle.loader.specs.Labels.{Names}
+use Rattle.image.specs.Labels.{Names}
 use Rattle.statement.specs.Statement.{address_at, address_in, label_address}
 use Rattle.statement.specs.StatementFaults.{number_of, statement_faults}
 use Rattle.statement.specs.declared.faults.StatementFault.TheVariants.{OutOfRange, UnknownLabel, WrongKind}

@@ -12,7 +12,7 @@ use Rattle.toml_reading.specs.Readings.{and_then, pair, items_in, required, read
 use Rattle.toml_reading.proofs.ReadingLemmas.{also_holds, and_then_holds, pair_holds, check_holds, first_holds, follows_holds, implied, in_space_holds, listed_up_to_holds, number_in_holds, required_holds, second_holds, map_pair, map_second, tables_few, tables_up_to_hold, test_holds}
 use Rattle.statement.specs.ReadingParts.{parts_in}
 use Rattle.statement.specs.Stated.{IsLoop, IsStated, IsTarget, Target}
-use Rattle.loader.specs.Labels.{Names}
+use Rattle.image.specs.Labels.{Names}
 use Rattle.statement.specs.Statement.{Parts, Read, accesses_in, address_at, address_in, destinations, destinations_at, target_of_kind, ends_in, kind_in, label_address, leaving_in, loop_at, loop_in, loop_parts, loops_in, number_or_name, parts_of, placed_loop, some_destinations, stated_by, target_at, target_in, targets_in}
 use Rattle.statement.specs.StatementFaults.{statement_faults}
 use Rattle.statement.specs.declared.faults.StatementFault.TheVariants.{OutOfRange, WrongKind, Twice}

@@ -19,7 +19,7 @@ use Rattle.toml_reading.proofs.LowestParts.{any_none, number_in_judged, table_ju
 use Rattle.toml_reading.proofs.TwiceLemmas.{not_distinct}
 use Rattle.statement.specs.StatementRules.{AccessFault, AccessKeysFault, AddressFault, AreDestinations, DestinationsFault, GoesTo, HasAccess, HasLoop, HasTarget, IsAddress, IsMisplaced, IsPlaced, LoopFault, LoopKeysFault, RequiredFault, StatesAccess, StatesLoop, StatesTarget, TargetFault, TargetKeysFault, ToFault}
 use Rattle.statement.specs.Stated.{Target}
-use Rattle.loader.specs.Labels.{Names}
+use Rattle.image.specs.Labels.{Names}
 use Rattle.statement.specs.Statement.{access_at, access_keys, address_at, address_in, class_in, destinations, destinations_at, target_of_kind, kind_in, loop_at, loop_keys, loop_parts, named_class, named_kind, placed_loop, some_destinations, target_at, target_keys}
 use Rattle.statement.specs.StatementFaults.{number_of, statement_faults}
 use Rattle.statement.specs.declared.faults.StatementFault.{StatementFault}

@@ -2,7 +2,7 @@
 use Rattle.std.proofs.Common.{◌≡◌, ℕ, List}
 use Rattle.toml_reading.proofs.Unique.{one_answer}
 use Rattle.statement.specs.Stated.{Stated}
-use Rattle.loader.specs.Labels.{Names}
+use Rattle.image.specs.Labels.{Names}
 use Rattle.statement.specs.Statement.{IsStatement, Read, statement_of}
 use Rattle.statement.specs.declared.faults.StatementFault.TheVariants.{NotToml}
 

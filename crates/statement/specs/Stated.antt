@@ -15,8 +15,8 @@ pub record Target : Type 0 where
   pub to : List ℕ
 
 -- the entry's address, the class of the addresses to which the handler leaves, whether a word that writes R15
--- and has no target returns or must have one, the loops, the targets of the words at some addresses, and the classes of the addresses that the words at some addresses transfer, in the
--- text's order
+-- and has no target returns or must have one, the loops, the targets of the words at some addresses, and the
+-- classes of the addresses that the words at some addresses transfer, in the text's order
 pub record Stated : Type 0 where
   pub entry : ℕ
   pub leave : Class

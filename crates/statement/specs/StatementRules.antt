@@ -12,7 +12,7 @@ use Rattle.bus_ticks.specs.Prices.{is_word_address}
 use Rattle.toml_reading.specs.Lowest.{AtKey, AtKeyOr, IsNamed, IsNoAddress, IsNumber, IsTable}
 use Rattle.toml_reading.specs.Lowest.{KeysFault, NameFault, NumberFault, TableFault}
 use Rattle.statement.specs.Stated.{Stated, Target}
-use Rattle.loader.specs.Labels.{Names}
+use Rattle.image.specs.Labels.{Names}
 use Rattle.statement.specs.Statement.{access_keys, loop_keys, named_class, named_kind, named_returns}
 use Rattle.statement.specs.Statement.{statement_keys, target_keys}
 use Rattle.statement.specs.StatementFaults.{statement_faults}

@@ -1,6 +1,6 @@
 ghost use Rattle.std.specs.Prelude.{◌≡◌, IfOk, map, option_map};
 ghost use Rattle.toml.specs.View.{table_view, view};
-ghost use Rattle.loader.specs.Labels.{address_of};
+ghost use Rattle.image.specs.Labels.{address_of};
 ghost use Rattle.toml_reading.specs.Documents.{once};
 ghost use Rattle.toml_reading.specs.Readings.{and_then, items_in};
 ghost use Rattle.statement.specs.Statement.{access_at, access_in, address_at, address_in, class_named_at};
@@ -13,7 +13,7 @@ ghost use Rattle.statement.specs.Statement.{some_destinations, target_at, target
 use crate::faults::{Read, StatementFault};
 use crate::stated::{Loop, Returns, Target, TargetKind};
 use bus_ticks::Class;
-use loader::Labels;
+use image::Labels;
 use std::alloc::{AllocError, Global};
 use toml::{Table, Value};
 use toml_reading::{

@@ -3,7 +3,7 @@ ghost use Rattle.toml.specs.Data.{Members};
 ghost use Rattle.toml_reading.specs.Lowest.{IsLowest};
 ghost use Rattle.statement.specs.StatementRules.{HasFault, States};
 ghost use Rattle.statement.specs.Stated.{Stated};
-ghost use Rattle.loader.specs.Labels.{Names};
+ghost use Rattle.image.specs.Labels.{Names};
 ghost use Rattle.statement.specs.Statement.{statement_of};
 ghost use Rattle.statement.specs.StatementFaults.{statement_faults};
 

@@ -1,6 +1,6 @@
 ghost use Rattle.std.specs.Prelude.{◌≡◌, ◌≢◌, Err, IfOk};
 ghost use Rattle.toml.specs.View.{table_view};
-ghost use Rattle.loader.specs.Labels.{address_of};
+ghost use Rattle.image.specs.Labels.{address_of};
 ghost use Rattle.toml_reading.specs.Readings.{and_then, reading_map};
 ghost use Rattle.statement.specs.ReadingParts.{parts_in};
 ghost use Rattle.statement.specs.Stated.{IsStated};
@@ -11,7 +11,7 @@ use crate::entries::{address_in, class_named_at, returns_named_at};
 use crate::faults::{Read, StatementFault};
 use crate::stated::{Loop, Returns, Statement, Target};
 use bus_ticks::Class;
-use loader::Labels;
+use image::Labels;
 use std::alloc::{AllocError, Global};
 use toml::Table;
 use toml_reading::{by_number, document, of_keys, pair, tables_up_to, value_at};

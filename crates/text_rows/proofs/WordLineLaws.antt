@@ -6,7 +6,7 @@ use Rattle.std.specs.Map.{update, update_all}
 use Rattle.std.specs.Ordering.{nat_cmp}
 use Rattle.std.specs.Prelude.{option_map}
 use Rattle.assembler.specs.declared.placed_line.PlacedLine.{PlacedLine}
-use Rattle.loader.specs.Labels.{NamedAddresses}
+use Rattle.image.specs.Labels.{NamedAddresses}
 use Rattle.text_rows.specs.LineLabels.{label_of}
 use Rattle.text_rows.specs.declared.line_labels.SourceLine.{SourceLine}
 use Rattle.text_rows.specs.WordLines.{Numbered, numbered, numbered_at, words_from, words_of}

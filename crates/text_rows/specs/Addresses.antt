@@ -2,7 +2,7 @@
 use Rattle.std.specs.Prelude.{◌≡◌, ◌⊎◌, ℕ, ◌==◌, if◌then◌else◌, List, [], ◌∷◌, ◌++◌, length, codes}
 use Rattle.std.specs.Prelude.{Option, Some, None}
 use Rattle.asm_text.specs.Hex.{hex8}
-use Rattle.loader.specs.Labels.{NamedAddresses, address_of}
+use Rattle.image.specs.Labels.{NamedAddresses, address_of}
 
 -- a number of TOML
 abbrev pub toml_number : ℕ → List ℕ

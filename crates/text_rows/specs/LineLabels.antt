@@ -6,7 +6,7 @@ use Rattle.std.specs.List.{prefix_len}
 use Rattle.std.specs.Ordering.{nat_cmp}
 use Rattle.asm_text.specs.Pieces.{is_blank}
 use Rattle.asm_text.specs.Statements.{is_in_body}
-use Rattle.loader.specs.Labels.{NamedAddresses, address_of}
+use Rattle.image.specs.Labels.{NamedAddresses, address_of}
 use Rattle.text_rows.specs.Addresses.{IsNamed}
 use Rattle.text_rows.specs.declared.line_labels.SourceLine.{SourceLine}
 

@@ -6,7 +6,7 @@ use Rattle.std.specs.Map.{update_all}
 use Rattle.std.specs.Ordering.{nat_cmp}
 use Rattle.asm_text.specs.Source.{lines_of}
 use Rattle.assembler.specs.declared.placed_line.PlacedLine.{PlacedLine}
-use Rattle.loader.specs.Labels.{NamedAddresses}
+use Rattle.image.specs.Labels.{NamedAddresses}
 use Rattle.text_rows.specs.LineLabels.{label_of}
 use Rattle.text_rows.specs.declared.line_labels.SourceLine.{SourceLine}
 

@@ -4,7 +4,7 @@ ghost use Rattle.text_rows.specs.Addresses.{IsNamed};
 ghost use Rattle.text_rows.specs.LineLabels.{first_word, is_in_word, label_of, name_of};
 
 use asm_text::is_blank;
-use loader::Labels;
+use image::Labels;
 
 /// The line of a word.
 #[derive(Clone, Copy)]

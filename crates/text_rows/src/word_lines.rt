@@ -1,6 +1,6 @@
 ghost use Rattle.std.specs.Prelude.{◌≡◌, ℕ, IfOk, OnOk, nat_eq};
 ghost use Rattle.std.specs.Map.{update_all};
-ghost use Rattle.loader.specs.Labels.{NamedAddresses};
+ghost use Rattle.image.specs.Labels.{NamedAddresses};
 ghost use Rattle.text_rows.specs.Addresses.{IsNamed};
 ghost use Rattle.text_rows.specs.LineLabels.{AreNamed};
 ghost use Rattle.text_rows.specs.WordLines.{AreLinesOf, numbered, numbered_at, words_from};

@@ -8,19 +8,19 @@ use Rattle.std.proofs.lemmas.Bool.{and_from, and_parts, both_ways, cases_Bool, c
 use Rattle.std.proofs.lemmas.Cmp.{tied_itself}
 use Rattle.std.proofs.lemmas.List.{get_or_default}
 use Rattle.std.proofs.lemmas.List.Sums.{fails_before_first, passes_at_first, position_or_len_is}
-use Rattle.flow_graph.specs.declared.places.Place.{Place}
-use Rattle.flow_graph.specs.declared.places.Place.TheVariants.{Exit}
-use Rattle.flow_graph.specs.declared.edges.Edge.{Edge}
-use Rattle.flow_graph.specs.declared.edges.Label.{Label}
-use Rattle.flow_graph.specs.declared.edges.Label.TheVariants.{Skip, Do}
-use Rattle.flow_graph.specs.Flow.{Flow, IsEdgeRange, IsWellFormed}
-use Rattle.flow_graph.specs.Places.{place_at, place_cmp}
-use Rattle.flow_graph.specs.Search.{by_order}
-use Rattle.flow_graph.specs.contracts.places.PlacePartialEq.TheImpl as PlaceEqual
-use Rattle.flow_graph.proofs.PlaceLemmas.{by_order_exact, equal_is_tied, place_exact, place_total}
+use Rattle.control_flow.specs.declared.places.Place.{Place}
+use Rattle.control_flow.specs.declared.places.Place.TheVariants.{Exit}
+use Rattle.control_flow.specs.declared.edges.Edge.{Edge}
+use Rattle.control_flow.specs.declared.edges.Label.{Label}
+use Rattle.control_flow.specs.declared.edges.Label.TheVariants.{Skip, Do}
+use Rattle.control_flow.specs.Flow.{Flow, IsEdgeRange, IsWellFormed}
+use Rattle.control_flow.specs.Places.{place_at, place_cmp}
+use Rattle.control_flow.specs.Search.{by_order}
+use Rattle.control_flow.specs.contracts.places.PlacePartialEq.TheImpl as PlaceEqual
+use Rattle.control_flow.proofs.PlaceLemmas.{by_order_exact, equal_is_tied, place_exact, place_total}
 use Rattle.loop_bounds.proofs.Positions.{known}
 use Rattle.longest_walk.specs.Built.{step_at}
-use Rattle.flow_graph.proofs.Firsts.{no_edge, whole_range}
+use Rattle.control_flow.proofs.Firsts.{no_edge, whole_range}
 use Rattle.walk_counts.specs.Counts.{is_same_edge, is_same_label, is_same_place, number_of}
 
 -- ## The same edge

@@ -13,7 +13,7 @@ use Rattle.numbered_walks.specs.Ordered.{IsOrdered, ends_at_header, is_in, is_in
 use Rattle.numbered_walks.specs.Reach.{most_in}
 use Rattle.numbered_walks.proofs.Members.{header_in}
 use Rattle.numbered_walks.proofs.Nesting.{same_header}
-use Rattle.flow_graph.specs.Flow.{Flow}
+use Rattle.control_flow.specs.Flow.{Flow}
 use Rattle.loop_bounds.specs.Tree.{IsTree, Tree}
 use Rattle.walk_counts.specs.Spans.{EndsBefore, header_at, turns_at_end}
 

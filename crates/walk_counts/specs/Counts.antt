@@ -4,11 +4,11 @@ use Rattle.std.specs.Prelude.{length}
 use Rattle.std.specs.Prelude.{count_by, slice_index, sum_by}
 use Rattle.std.specs.List.{position_or_len, range_with_len}
 use Rattle.std.specs.Ordering.{is_eq}
-use Rattle.flow_graph.specs.declared.places.Place.{Place}
-use Rattle.flow_graph.specs.declared.edges.Edge.{Edge}
-use Rattle.flow_graph.specs.declared.edges.Label.{Label}
-use Rattle.flow_graph.specs.declared.edges.Label.TheVariants.{Skip, Do}
-use Rattle.flow_graph.specs.Places.{place_cmp}
+use Rattle.control_flow.specs.declared.places.Place.{Place}
+use Rattle.control_flow.specs.declared.edges.Edge.{Edge}
+use Rattle.control_flow.specs.declared.edges.Label.{Label}
+use Rattle.control_flow.specs.declared.edges.Label.TheVariants.{Skip, Do}
+use Rattle.control_flow.specs.Places.{place_cmp}
 use Rattle.longest_walk.specs.Built.{step_at}
 
 -- ## The number of an edge

@@ -1,5 +1,5 @@
 ghost use Rattle.std.specs.Prelude.{◌≡◌, ◌+◌, ◌*◌, ◌<◌, ◌^◌, [], ◌∷◌, All, IfOk, length, ℕ};
-ghost use Rattle.flow_graph.specs.Flow.{HasEdge, edge_shape};
+ghost use Rattle.control_flow.specs.Flow.{HasEdge, edge_shape};
 ghost use Rattle.loop_bounds.specs.Tree.{Tree};
 ghost use Rattle.longest_walk.specs.Folded.{open_item, unfolded};
 ghost use Rattle.longest_walk.specs.Longest.{IsWalkOf};
@@ -7,7 +7,7 @@ ghost use Rattle.walks.specs.Walk.{cost_of};
 ghost use Rattle.walk_counts.specs.Counts.{AreCounts, AreExact, Counts, capped, counted_cost};
 
 use crate::numbers::edge_number;
-use flow_graph::{Edge, Graph};
+use control_flow::{Edge, Graph};
 use longest_walk::{FoldedWalk, Item};
 use std::alloc::{AllocError, Global};
 

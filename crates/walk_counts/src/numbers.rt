@@ -1,8 +1,8 @@
 ghost use Rattle.std.specs.Prelude.{◌≡◌, ◌<◌, ◌≤◌, MatchOption, length};
-ghost use Rattle.flow_graph.specs.Places.{place_at};
+ghost use Rattle.control_flow.specs.Places.{place_at};
 ghost use Rattle.walk_counts.specs.Counts.{is_same_edge, is_same_label, number_of};
 
-use flow_graph::{Edge, Graph, Label};
+use control_flow::{Edge, Graph, Label};
 
 /// Whether the two are one label.
 pub fn is_same_label(label: Label, other: Label) -> bool

@@ -4,7 +4,7 @@ use Rattle.std.specs.Prelude.{◌↔◌, IfSome, IsTrue}
 use Rattle.std.proofs.lemmas.Bool.{false≢true}
 use Rattle.arm2_decode.specs.declared.instr.Instr.{Instr}
 use Rattle.arm2_decode.specs.declared.instr.Operation.{Operation}
-use Rattle.loader.specs.Image.{Words}
+use Rattle.image.specs.Image.{Words}
 use Rattle.word_shapes.specs.Shapes.{may_do}
 use Rattle.word_shapes.specs.Words.{HasInstr, HasShape, MayDo}
 

@@ -32,8 +32,8 @@ copies_link x = is_mov x.opcode && is_link x.rm && is_lsl_by 0 x
 abbrev pub subtracts_from_link : Opcode → Register → Bool
 subtracts_from_link o rn = is_sub o && is_link rn
 
--- what a word that writes R15 to return looks like: MOV of R14, SUB of a number from R14, or a load by R13, and
--- at most a number
+-- what a word that writes R15 to return looks like: MOV of R14, SUB of a number from R14, or a load by R13 with
+-- at most a number, or of a block
 abbrev pub is_return : Operation → Bool
 is_return (operation.DataRegister x) = copies_link x
 is_return (operation.DataImmediate x) = subtracts_from_link x.opcode x.rn

@@ -11,7 +11,7 @@ use crate::shapes::{
     may_transfer, may_write_oddly, restores_flags,
 };
 use arm2_decode::{Instr, decode};
-use loader::Image;
+use image::Image;
 
 // The instruction of a word.
 fn decoded(word: u32) -> Option<Instr>

@@ -1,10 +1,10 @@
 use Rattle.std.proofs.Common.{◌≢◌, List, ℕ, Err, subst}
 use Rattle.std.specs.Prelude.{string_bytes}
-use Rattle.machine_reports.specs.Assembly.{IsSourceRefused, IsWritten}
+use Rattle.source_reports.specs.Assembly.{IsSourceRefused, IsWritten}
 use Rattle.command_line.specs.Line.{asm}
-use Rattle.report_output.specs.FaultText.{fault_text}
+use Rattle.handlers.specs.FaultText.{fault_text}
 use Rattle.arcwcet.specs.Refusals.{Says, store_fault_name}
-use Rattle.report_output.specs.declared.fault.ReportFault.TheVariants.{Device}
+use Rattle.handlers.specs.declared.fault.ReportFault.TheVariants.{Device}
 use Rattle.arcwcet.specs.Run.{HasWritten}
 use Rattle.arcwcet.proofs.RunLemmas.{asm_refused, asm_unread, asm_unwritten, says_line}
 use Rattle.arcwcet.proofs.commands.run_asm.Goals as goal

@@ -2,7 +2,7 @@ use Rattle.std.proofs.Common.{◌≤◌, List, ℕ, length, rules, sym, subst}
 use Rattle.std.specs.Io.KnownBytes.{Consumes}
 use Rattle.command_line.specs.Line.{debug, names_of}
 use Rattle.machine_reports.specs.Debug.{IsDebugReport}
-use Rattle.report_input.specs.Placing.{IsRunRefused, IsRunnable}
+use Rattle.handlers.specs.Placing.{IsRunRefused, IsRunnable}
 use Rattle.arcwcet.specs.FileTexts.{kept_two, lent_two}
 use Rattle.arcwcet.specs.Refusals.{Says}
 use Rattle.arcwcet.proofs.RunLemmas.{debug_ran, answered_two_plain, says_answer}

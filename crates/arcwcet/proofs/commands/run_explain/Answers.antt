@@ -1,7 +1,7 @@
 use Rattle.std.proofs.Common.{refl}
 use Rattle.command_line.specs.Line.{explain, names_of, options_of}
-use Rattle.author_reports.specs.ExplainReport.{IsExplainReport}
-use Rattle.report_input.specs.Report.{IsAccepted, IsRefused}
+use Rattle.handler_reports.specs.ExplainReport.{IsExplainReport}
+use Rattle.handlers.specs.Report.{IsAccepted, IsRefused}
 use Rattle.arcwcet.specs.Files.{two_of}
 use Rattle.arcwcet.specs.FileTexts.{kept_two, lent_two}
 use Rattle.arcwcet.specs.Run.{bursts_of}

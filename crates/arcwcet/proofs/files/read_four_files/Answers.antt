@@ -2,7 +2,7 @@ use Rattle.std.proofs.Common.{[], ◌∷◌, option_map}
 use Rattle.std.specs.List.{cons_option}
 use Rattle.arcwcet.specs.Files.{FailsToRead}
 use Rattle.arcwcet.proofs.FileLemmas.{first_three_fail, fourth_fails}
-use Rattle.report_input.proofs.HandlerLemmas.{refused_as}
+use Rattle.handlers.proofs.HandlerLemmas.{refused_as}
 use Rattle.arcwcet.proofs.files.read_four_files.Goals as goal
 
 pub returns-in_err-three-clause-fault : goal.returns-in_err-three-clause-fault

@@ -2,7 +2,7 @@ use Rattle.std.proofs.Common.{[], ◌∷◌, option_map}
 use Rattle.std.specs.List.{cons_option}
 use Rattle.arcwcet.specs.Files.{FailsToRead}
 use Rattle.arcwcet.proofs.FileLemmas.{third_fails}
-use Rattle.report_input.proofs.HandlerLemmas.{refused_as}
+use Rattle.handlers.proofs.HandlerLemmas.{refused_as}
 use Rattle.arcwcet.proofs.files.read_three_files.Goals as goal
 
 pub returns-in_err-third-clause-fault : goal.returns-in_err-third-clause-fault

@@ -1,4 +1,4 @@
-use Rattle.author_reports.specs.FollowVisits.{AreFollowable, AreNotFollowed, IsFollowVisitsReport}
+use Rattle.handler_reports.specs.FollowVisits.{AreFollowable, AreNotFollowed, IsFollowVisitsReport}
 use Rattle.arcwcet.proofs.RunLemmas.{answered_four}
 use Rattle.arcwcet.proofs.reports.print_follow_visits.Goals as goal
 

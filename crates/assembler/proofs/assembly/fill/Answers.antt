@@ -1,5 +1,5 @@
 use Rattle.std.proofs.Common.{arith}
-use Rattle.loader.specs.Labels.{address_of}
+use Rattle.image.specs.Labels.{address_of}
 use Rattle.assembler.proofs.SweepLaws.{filled_end, filled_step}
 use Rattle.assembler.proofs.assembly.fill.Goals as goal
 

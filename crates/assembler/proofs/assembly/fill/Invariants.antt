@@ -1,5 +1,5 @@
 use Rattle.std.proofs.Common.{◌≡◌, [], drop, map}
-use Rattle.loader.specs.Labels.{address_of}
+use Rattle.image.specs.Labels.{address_of}
 use Rattle.assembler.specs.Sweeps.{filled}
 use Rattle.assembler.specs.Views.{item_of}
 use Rattle.assembler.proofs.assembly.fill.Given as goal

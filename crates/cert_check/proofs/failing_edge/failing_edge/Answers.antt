@@ -1,7 +1,7 @@
 use Rattle.std.proofs.Common.{◌∙◌, List, ap, get_or, subst, sym}
 use Rattle.std.proofs.lemmas.List.{get_or_default}
-use Rattle.flow_graph.specs.declared.edges.Edge.{Edge}
-use Rattle.flow_graph.proofs.Firsts.{no_edge}
+use Rattle.control_flow.specs.declared.edges.Edge.{Edge}
+use Rattle.control_flow.proofs.Firsts.{no_edge}
 use Rattle.cert_check.specs.Failing.{IsFirstWithout}
 use Rattle.cert_check.specs.Weighing.{RowFits}
 use Rattle.cert_check.proofs.FailingLemmas.{too_large}

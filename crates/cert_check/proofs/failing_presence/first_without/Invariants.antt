@@ -1,5 +1,5 @@
 use Rattle.std.proofs.Common.{ℕ, ◌<◌, get_or, Contains}
-use Rattle.flow_graph.specs.declared.places.Place.{Place}
+use Rattle.control_flow.specs.declared.places.Place.{Place}
 use Rattle.cert_check.proofs.failing_presence.first_without.Given as goal
 
 abbrev pub invariant-loop-place : goal.invariant-loop-place

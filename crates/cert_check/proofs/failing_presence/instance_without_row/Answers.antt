@@ -1,7 +1,7 @@
 use Rattle.std.proofs.Common.{◌∙◌, List, ap, map, subst, sym}
 use Rattle.std.specs.List.Sorted.{IsSorted}
-use Rattle.flow_graph.specs.declared.places.Place.{Place}
-use Rattle.flow_graph.specs.Places.{place_cmp}
+use Rattle.control_flow.specs.declared.places.Place.{Place}
+use Rattle.control_flow.specs.Places.{place_cmp}
 use Rattle.loop_bounds.proofs.Positions.{sorted}
 use Rattle.longest_walk.specs.Rows.{header_of, header_of_row}
 use Rattle.cert_check.proofs.FailingLemmas.{found_over}

@@ -1,5 +1,5 @@
 use Rattle.std.proofs.Common.{◌∙◌, ◌<◌, ◌^◌, Some, ap, arith, length, subst, sym}
-use Rattle.flow_graph.specs.declared.places.Place.{Place}
+use Rattle.control_flow.specs.declared.places.Place.{Place}
 use Rattle.cert_check.specs.declared.failing.FailingRow.TheVariants as f
 use Rattle.cert_check.specs.Failing.{IsFirstFailing}
 use Rattle.cert_check.specs.Verdict.{walk_objections}

@@ -1,6 +1,6 @@
 use Rattle.std.proofs.Common.{List, length, subst, sym}
 use Rattle.std.specs.Prelude.{MatchOption}
-use Rattle.flow_graph.specs.declared.places.Place.{Place}
+use Rattle.control_flow.specs.declared.places.Place.{Place}
 use Rattle.certificate.specs.declared.walk.CertItem.{CertItem}
 use Rattle.cert_check.specs.Followed.{followed}
 use Rattle.cert_check.specs.Straying.{StraysAt}

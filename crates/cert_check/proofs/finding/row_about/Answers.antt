@@ -1,7 +1,7 @@
 use Rattle.std.proofs.Common.{rules}
 use Rattle.std.proofs.lemmas.Fn.{always_returns_same}
-use Rattle.flow_graph.specs.declared.places.Place.TheVariants.{At}
-use Rattle.flow_graph.specs.Places.{place_cmp}
+use Rattle.control_flow.specs.declared.places.Place.TheVariants.{At}
+use Rattle.control_flow.specs.Places.{place_cmp}
 use Rattle.cert_check.proofs.FindLemmas.{row_found, row_missed}
 use Rattle.cert_check.proofs.finding.row_about.Goals as goal
 

@@ -1,5 +1,5 @@
 use Rattle.std.proofs.Common.{◌∙◌, List, ap, map, subst}
-use Rattle.flow_graph.specs.declared.places.Place.{Place}
+use Rattle.control_flow.specs.declared.places.Place.{Place}
 use Rattle.longest_walk.specs.Rows.{header_of}
 use Rattle.cert_check.specs.Presence.{Lists}
 use Rattle.cert_check.proofs.PresenceLemmas.{lists_sorted, map_found}

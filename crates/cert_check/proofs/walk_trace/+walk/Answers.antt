@@ -1,5 +1,5 @@
 use Rattle.std.proofs.Common.{rules, ◌≡◌, ◌<◌, ℕ, Vec, arith, ◌∙◌, Option, ap, false, subst, sym, true}
-use Rattle.flow_graph.specs.declared.places.Place.{Place}
+use Rattle.control_flow.specs.declared.places.Place.{Place}
 use Rattle.cert_check.specs.Followed.{Followed, follow_item}
 use Rattle.cert_check.specs.Walking.{Follows}
 use Rattle.cert_check.proofs.WalkFollowing.{item_step, left_more, left_none, left_refused}

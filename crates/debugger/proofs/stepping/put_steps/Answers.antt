@@ -4,7 +4,7 @@ use Rattle.arm2_exec.specs.declared.machine.Ran.{Ran}
 use Rattle.arm2_exec.proofs.RunLemmas.{SoFar, at_end, at_stop, more_steps}
 use Rattle.arm2_exec.specs.Run.{Runs}
 use Rattle.asm_text.specs.Appended.{Appends}
-use Rattle.trace_text.proofs.RunLaws.{PrintedSoFar, text_ends, text_goes, text_stops}
+use Rattle.text_trace.proofs.RunLaws.{PrintedSoFar, text_ends, text_goes, text_stops}
 use Rattle.debugger.specs.SessionState.{without_bursts}
 use Rattle.debugger.specs.Watching.{inputs_of}
 use Rattle.debugger.proofs.WatchLaws.{at_hand, none_left}

@@ -1,8 +1,8 @@
 use Rattle.std.proofs.Common.{◌≡◌, ◌+◌, ◌-◌, ◌*◌, ◌≤◌, None, length, vec_capacity}
 use Rattle.arm2_exec.proofs.RunLemmas.{SoFar}
 use Rattle.asm_text.specs.Appended.{Appends}
-use Rattle.trace_text.specs.declared.trace.TheConstants.{LINE_ROOM}
-use Rattle.trace_text.proofs.RunLaws.{PrintedSoFar}
+use Rattle.text_trace.specs.declared.trace.TheConstants.{LINE_ROOM}
+use Rattle.text_trace.proofs.RunLaws.{PrintedSoFar}
 use Rattle.arm2_exec.specs.Run.{IsWithin}
 use Rattle.debugger.specs.Watching.{inputs_of}
 use Rattle.debugger.proofs.stepping.put_steps.Given as goal

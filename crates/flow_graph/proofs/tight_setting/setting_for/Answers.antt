@@ -1,6 +1,6 @@
 use Rattle.std.proofs.Common.{◌≡◌, true, IsTrue, subst, sym}
 use Rattle.arm2_decode.specs.Writers.{writes_pc}
-use Rattle.flow_graph.specs.Free.{is_free_operation}
+use Rattle.control_flow.specs.Free.{is_free_operation}
 use Rattle.flow_graph.proofs.SettingSets.{copy_sets, multiply_sets, sum_sets}
 use Rattle.flow_graph.proofs.tight_setting.setting_for.Goals as goal
 

@@ -1,5 +1,5 @@
 use Rattle.std.proofs.Common.{◌≡◌}
-use Rattle.flow_graph.specs.Flow.{Flow}
+use Rattle.control_flow.specs.Flow.{Flow}
 use Rattle.kept_runs.specs.Judging.{IsMachineFor}
 use Rattle.kept_runs.proofs.ArrivalLemmas.{SoFarAway}
 use Rattle.kept_runs.proofs.arriving.arrive.Given as goal

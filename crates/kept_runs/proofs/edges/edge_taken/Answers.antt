@@ -1,4 +1,4 @@
-use Rattle.flow_graph.specs.Places.{place_at}
+use Rattle.control_flow.specs.Places.{place_at}
 use Rattle.kept_runs.proofs.PlaceEdges.{found_here, found_nowhere, none_before, none_here}
 use Rattle.kept_runs.proofs.edges.edge_taken.Goals as goal
 

@@ -1,5 +1,5 @@
 use Rattle.std.proofs.Common.{◌≡◌, ℕ, ◌<◌}
-use Rattle.flow_graph.specs.Places.{place_at}
+use Rattle.control_flow.specs.Places.{place_at}
 use Rattle.longest_walk.specs.Built.{step_at}
 use Rattle.kept_runs.specs.Edges.{IsMet}
 use Rattle.kept_runs.proofs.edges.edge_taken.Given as goal

@@ -2,8 +2,8 @@ use Rattle.std.proofs.Common.{◌∙◌, ap, refl, subst}
 use Rattle.std.proofs.lemmas.List.Elements.{Contains-get_or}
 use Rattle.bus_ticks.specs.declared.profile.Class.{Class}
 use Rattle.statement.specs.Stated.{class_at}
-use Rattle.flow_graph.specs.Places.{place_at}
-use Rattle.flow_graph.specs.declared.places.Place.TheVariants.{Exit}
+use Rattle.control_flow.specs.Places.{place_at}
+use Rattle.control_flow.specs.declared.places.Place.TheVariants.{Exit}
 use Rattle.kept_runs.specs.declared.edges.Going.{Going}
 use Rattle.kept_runs.specs.declared.judging.Stray.TheVariants as stray
 use Rattle.kept_runs.specs.Edges.{HasNoEdge, IsFound}

@@ -1,5 +1,5 @@
 use Rattle.std.proofs.Common.{◌≡◌, ◌∙◌, ℕ, ◌++◌, List, Option, None, length, map, ap, subst}
-use Rattle.flow_graph.specs.declared.places.Place.{Place}
+use Rattle.control_flow.specs.declared.places.Place.{Place}
 use Rattle.longest_walk.specs.Folded.{Opened, open_item}
 use Rattle.longest_walk.specs.Ways.{IsWay, opened_rounds, opened_way, rounds_at}
 use Rattle.longest_walk.specs.declared.folded.Item.{Item}

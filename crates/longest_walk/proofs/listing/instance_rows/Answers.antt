@@ -3,7 +3,7 @@ use Rattle.std.specs.Ordering.{is_lt}
 use Rattle.std.specs.List.Sorted.{IsSortedByKey}
 use Rattle.std.proofs.lemmas.List.{get_or_default, length-map}
 use Rattle.std.proofs.lemmas.List.Sorted.{answers_always}
-use Rattle.flow_graph.specs.Places.{place_cmp}
+use Rattle.control_flow.specs.Places.{place_cmp}
 use Rattle.numbered_walks.specs.declared.span.Span.{Span}
 use Rattle.numbered_walks.specs.Index.{span_at}
 use Rattle.loop_bounds.specs.Extents.{found_instance}

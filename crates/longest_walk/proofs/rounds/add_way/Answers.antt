@@ -1,5 +1,5 @@
 use Rattle.std.proofs.Common.{◌∙◌, List, get_or, map, ap}
-use Rattle.flow_graph.specs.declared.edges.Edge.{Edge}
+use Rattle.control_flow.specs.declared.edges.Edge.{Edge}
 use Rattle.numbered_walks.specs.declared.span.NumberedEdge.{NumberedEdge}
 use Rattle.numbered_walks.specs.Index.{edge_at}
 use Rattle.longest_walk.specs.Folded.{open_item}

@@ -1,8 +1,8 @@
 use Rattle.std.proofs.Common.{◌≡◌, ◌<◌, ◌≤◌, ◌∷◌, [], List, length, take, ap, subst, arith}
 use Rattle.std.proofs.lemmas.List.{take_more}
-use Rattle.flow_graph.specs.declared.places.Place.{Place}
-use Rattle.flow_graph.specs.declared.places.Place.TheVariants.{Exit}
-use Rattle.flow_graph.specs.Places.{place_at}
+use Rattle.control_flow.specs.declared.places.Place.{Place}
+use Rattle.control_flow.specs.declared.places.Place.TheVariants.{Exit}
+use Rattle.control_flow.specs.Places.{place_at}
 use Rattle.numbered_walks.specs.Ordered.{IsGreatest}
 use Rattle.longest_walk.specs.Starts.{IsWorstStart}
 use Rattle.longest_walk.proofs.CarryWalks.{greatest_at}

@@ -1,8 +1,8 @@
 use Rattle.std.proofs.Common.{◌≡◌, List, map, All, not, ap, subst, sym, ◌∙◌}
 use Rattle.std.specs.Prelude.{Contains}
 use Rattle.std.proofs.lemmas.List.Sorted.{IsPermutation-refl}
-use Rattle.flow_graph.specs.declared.places.Place.{Place}
-use Rattle.flow_graph.specs.declared.places.Place.TheVariants.{At}
+use Rattle.control_flow.specs.declared.places.Place.{Place}
+use Rattle.control_flow.specs.declared.places.Place.TheVariants.{At}
 use Rattle.statement.specs.Stated.{IsLoop}
 use Rattle.loop_bounds.specs.declared.extents.Extent.{Extent}
 use Rattle.loop_bounds.specs.declared.loop_instances.LoopInstance.{LoopInstance}

@@ -1,5 +1,5 @@
 use Rattle.std.proofs.Common.{ℕ, List, get_or, length, sym, ap, ◌∙◌, arith}
-use Rattle.flow_graph.specs.declared.places.Place.{Place}
+use Rattle.control_flow.specs.declared.places.Place.{Place}
 use Rattle.loop_bounds.specs.Nest.{HasCrossingWith}
 use Rattle.loop_bounds.proofs.CrossFacts.{apart_here, apart_more, crossing_at, seen_again}
 use Rattle.loop_bounds.proofs.FindLemmas.{true_from_not}

@@ -1,7 +1,7 @@
 use Rattle.std.proofs.Common.{◌≡◌, List, get_or, map, subst, sym, ◌∙◌}
 use Rattle.std.specs.Prelude.{Contains}
 use Rattle.std.proofs.lemmas.List.{take_all}
-use Rattle.flow_graph.specs.declared.places.Place.TheVariants.{At}
+use Rattle.control_flow.specs.declared.places.Place.TheVariants.{At}
 use Rattle.statement.specs.declared.stated.Loop.{Loop}
 use Rattle.loop_bounds.specs.Instance.{Instance}
 use Rattle.loop_bounds.specs.Extents.{IsFoundAmong, found_instance}

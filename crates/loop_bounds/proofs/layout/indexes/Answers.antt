@@ -1,7 +1,7 @@
 use Rattle.std.proofs.Common.{◌≡◌, ◌<◌, length, get_or, subst, sym, ◌∙◌, arith}
 use Rattle.std.proofs.lemmas.List.{get_or_default}
-use Rattle.flow_graph.specs.Places.{place_at}
-use Rattle.flow_graph.specs.declared.places.Place.TheVariants.{Exit}
+use Rattle.control_flow.specs.Places.{place_at}
+use Rattle.control_flow.specs.declared.places.Place.TheVariants.{Exit}
 use Rattle.loop_bounds.specs.Layout.{AreIndexes}
 use Rattle.loop_bounds.proofs.Positions.{listed_from, listed_length}
 use Rattle.loop_bounds.proofs.LayoutLemmas.{indexes_more, placed}

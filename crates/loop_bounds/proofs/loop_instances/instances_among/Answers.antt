@@ -1,7 +1,7 @@
 use Rattle.std.proofs.Common.{List, map, subst, ap, ⊎_elim, inl, inr, arith, length}
 use Rattle.std.specs.Prelude.{Contains}
 use Rattle.std.proofs.lemmas.List.{take_all}
-use Rattle.flow_graph.specs.declared.places.Place.{Place}
+use Rattle.control_flow.specs.declared.places.Place.{Place}
 use Rattle.loop_bounds.specs.declared.loop_instances.LoopInstance.{LoopInstance}
 use Rattle.loop_bounds.specs.Instance.{Instance}
 use Rattle.loop_bounds.specs.Extents.{IsFoundAmong, found_instance}

@@ -1,5 +1,5 @@
 use Rattle.std.specs.Prelude.{◌≡◌, ◌-◌, drop, map, take}
-use Rattle.flow_graph.specs.Places.{place_at}
+use Rattle.control_flow.specs.Places.{place_at}
 use Rattle.loop_bounds.proofs.nested.places_of.Given as goal
 
 abbrev pub invariant-loop-number : goal.invariant-loop-number

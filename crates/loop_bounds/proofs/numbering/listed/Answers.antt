@@ -2,7 +2,7 @@ use Rattle.std.proofs.Common.{◌≡◌, rules, subst, List, ap}
 use Rattle.std.specs.Ordering.{is_lt}
 use Rattle.std.specs.List.Sorted.{IsPermutation}
 use Rattle.std.proofs.lemmas.List.Sorted.{answers_always}
-use Rattle.flow_graph.specs.declared.places.Place.{Place}
+use Rattle.control_flow.specs.declared.places.Place.{Place}
 use Rattle.loop_bounds.specs.Keys.{by_key}
 use Rattle.loop_bounds.proofs.KeyLemmas.{by_key_ranks}
 use Rattle.loop_bounds.proofs.numbering.listed.Goals as goal

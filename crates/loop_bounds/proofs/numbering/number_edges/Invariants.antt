@@ -1,5 +1,5 @@
 use Rattle.std.proofs.Common.{◌≤◌, length}
-use Rattle.flow_graph.specs.Places.{place_at}
+use Rattle.control_flow.specs.Places.{place_at}
 use Rattle.loop_bounds.specs.TreeParts.{AreNumberedUpto}
 use Rattle.loop_bounds.proofs.numbering.number_edges.Given as goal
 

@@ -1,6 +1,6 @@
 use Rattle.std.proofs.Common.{rules}
 use Rattle.std.proofs.lemmas.Fn.{always_returns_same}
-use Rattle.flow_graph.specs.declared.places.Place.{Place}
+use Rattle.control_flow.specs.declared.places.Place.{Place}
 use Rattle.loop_bounds.specs.Keys.{by_key}
 use Rattle.loop_bounds.proofs.Positions.{position_found}
 use Rattle.loop_bounds.proofs.numbering.position_of.Goals as goal

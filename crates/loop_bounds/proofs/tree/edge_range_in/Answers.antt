@@ -1,5 +1,5 @@
 use Rattle.std.proofs.Common.{◌+◌, ◌∙◌, List, ℕ, ap, get_or}
-use Rattle.flow_graph.proofs.Firsts.{range_firsts}
+use Rattle.control_flow.proofs.Firsts.{range_firsts}
 use Rattle.loop_bounds.proofs.EdgeRanges.{place_known, range_of_number}
 use Rattle.loop_bounds.proofs.tree.edge_range_in.Goals as goal
 

@@ -1,6 +1,6 @@
 use Rattle.std.proofs.Common.{rules, ◌≡◌, ℕ, List, sym, subst, arith, true, All, IsTrue}
 use Rattle.std.specs.List.{list_all}
-use Rattle.loader.specs.Image.{may_hold}
+use Rattle.image.specs.Image.{may_hold}
 use Rattle.memc.specs.Memory.{shift_of_size}
 use Rattle.bus_ticks.specs.Prices.{is_word_address}
 use Rattle.machine_file.specs.MachineFile.{is_mappable}

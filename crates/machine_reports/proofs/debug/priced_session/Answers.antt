@@ -1,6 +1,6 @@
 use Rattle.std.proofs.Common.{sym, subst}
 use Rattle.machine_reports.specs.Debug.{IsDebugReport}
-use Rattle.report_output.proofs.AnswerLemmas.{ends_printed}
+use Rattle.handlers.proofs.AnswerLemmas.{ends_printed}
 use Rattle.machine_reports.proofs.debug.priced_session.Goals as goal
 
 pub returns : goal.returns

@@ -2,8 +2,8 @@ use Rattle.std.proofs.Common.{◌≡◌, ℕ, refl, subst}
 use Rattle.asm_text.specs.Source.{lines_of}
 use Rattle.debugger.specs.Conversation.{Converses}
 use Rattle.debugger.specs.SessionState.{begun}
-use Rattle.report_output.specs.declared.fault.ReportFault.TheVariants.{Memory}
-use Rattle.report_input.proofs.HandlerLemmas.{refused_as}
+use Rattle.handlers.specs.declared.fault.ReportFault.TheVariants.{Memory}
+use Rattle.handlers.proofs.HandlerLemmas.{refused_as}
 use Rattle.machine_reports.proofs.debug.session_text.Goals as goal
 
 pub returns-in_err-text-clause-only : goal.returns-in_err-text-clause-only

@@ -1,4 +1,4 @@
-use Rattle.report_input.proofs.PricedLemmas.{by_profile}
+use Rattle.handlers.proofs.PricedLemmas.{by_profile}
 use Rattle.machine_reports.proofs.machine.machine_report.Goals as goal
 
 pub returns : goal.returns

@@ -1,5 +1,5 @@
 use Rattle.std.proofs.Common.{sym, subst}
-use Rattle.report_output.proofs.AnswerLemmas.{ends_printed}
+use Rattle.handlers.proofs.AnswerLemmas.{ends_printed}
 use Rattle.machine_reports.specs.Machine.{IsMachineReport}
 use Rattle.machine_reports.proofs.MachineLemmas.{runnable}
 use Rattle.machine_reports.proofs.machine.priced.Goals as goal

@@ -1,8 +1,8 @@
 use Rattle.std.proofs.Common.{◌≡◌, subst, sym}
 use Rattle.std.proofs.lemmas.Result.{IfErr-weaker}
-use Rattle.report_output.specs.declared.fault.ReportFault.{ReportFault}
-use Rattle.report_output.specs.declared.fault.ReportFault.TheVariants.{Memory}
-use Rattle.report_input.proofs.PlacingLemmas.{Refused}
+use Rattle.handlers.specs.declared.fault.ReportFault.{ReportFault}
+use Rattle.handlers.specs.declared.fault.ReportFault.TheVariants.{Memory}
+use Rattle.handlers.proofs.PlacingLemmas.{Refused}
 use Rattle.machine_reports.proofs.machine.report_of.Goals as goal
 
 pub returns : goal.returns

@@ -1,6 +1,6 @@
 use Rattle.std.proofs.Common.{option_map}
 use Rattle.toml.specs.View.{view}
-use Rattle.loader.specs.Labels.{address_of}
+use Rattle.image.specs.Labels.{address_of}
 use Rattle.statement.proofs.StatementLemmas.{read_small}
 use Rattle.statement.proofs.entries.direct.Goals as goal
 

@@ -1,5 +1,5 @@
 use Rattle.std.proofs.Common.{ap, ◌∙◌}
-use Rattle.loader.specs.Labels.{address_of}
+use Rattle.image.specs.Labels.{address_of}
 use Rattle.toml_reading.specs.Documents.{tables_up_to}
 use Rattle.toml_reading.specs.Readings.{pair, reading_map}
 use Rattle.statement.specs.ReadingParts.{parts_in}

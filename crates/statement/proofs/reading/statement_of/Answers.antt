@@ -1,7 +1,7 @@
 use Rattle.std.proofs.Common.{sym, subst}
 use Rattle.std.specs.Prelude.{IfOk}
 use Rattle.toml.specs.View.{table_view}
-use Rattle.loader.specs.Labels.{address_of}
+use Rattle.image.specs.Labels.{address_of}
 use Rattle.statement.specs.Stated.{IsStated}
 use Rattle.statement.specs.Statement.{stated_by}
 use Rattle.statement.proofs.StatementLemmas.{parts_hold}

@@ -1,6 +1,6 @@
 use Rattle.std.proofs.Common.{◌≡◌, ◌-◌, ℕ, eqb}
 use Rattle.std.specs.Map.{update_all}
-use Rattle.loader.specs.Labels.{NamedAddresses}
+use Rattle.image.specs.Labels.{NamedAddresses}
 use Rattle.text_rows.specs.Addresses.{IsNamed}
 use Rattle.text_rows.specs.LineLabels.{AreNamed}
 use Rattle.text_rows.specs.WordLines.{numbered, numbered_at, words_from}

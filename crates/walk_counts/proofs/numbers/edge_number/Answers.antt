@@ -1,7 +1,7 @@
 use Rattle.std.proofs.Common.{List, Ok, Err, length, subst}
 use Rattle.std.specs.List.Sorted.{IsBinarySearchResult, IsSearchInRange}
-use Rattle.flow_graph.specs.declared.places.Place.{Place}
-use Rattle.flow_graph.specs.Search.{by_order}
+use Rattle.control_flow.specs.declared.places.Place.{Place}
+use Rattle.control_flow.specs.Search.{by_order}
 use Rattle.walk_counts.proofs.NumberLemmas.{place_found, place_missed}
 use Rattle.walk_counts.proofs.numbers.edge_number.Goals as goal
 

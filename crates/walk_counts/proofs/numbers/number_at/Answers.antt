@@ -1,5 +1,5 @@
 use Rattle.std.proofs.Common.{◌≡◌, below_more, false, true}
-use Rattle.flow_graph.specs.Places.{place_at}
+use Rattle.control_flow.specs.Places.{place_at}
 use Rattle.longest_walk.specs.Built.{step_at}
 use Rattle.walk_counts.specs.Counts.{is_same_edge}
 use Rattle.walk_counts.proofs.NumberLemmas.{fail_before, found_here, found_nowhere, tested}

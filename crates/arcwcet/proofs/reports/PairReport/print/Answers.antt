@@ -1,8 +1,8 @@
 use Rattle.machine_reports.specs.Machine.{IsMachineReport, ShowsRegisters, ShowsSteps}
-use Rattle.machine_reports.specs.TightReport.{HasTightReport, IsTightRefused, IsTightReport}
-use Rattle.author_reports.specs.GraphReport.{IsGraphReport}
-use Rattle.report_input.specs.Placing.{IsRunRefused, IsRunnable}
-use Rattle.report_input.specs.Report.{IsAccepted, IsRefused, IsReport}
+use Rattle.handler_reports.specs.TightReport.{HasTightReport, IsTightRefused, IsTightReport}
+use Rattle.handler_reports.specs.GraphReport.{IsGraphReport}
+use Rattle.handlers.specs.Placing.{IsRunRefused, IsRunnable}
+use Rattle.handlers.specs.Report.{IsAccepted, IsRefused, IsReport}
 use Rattle.arcwcet.proofs.RunLemmas.{answered_two, answered_two_plain}
 use Rattle.arcwcet.proofs.reports.PairReport.print.Goals as goal
 

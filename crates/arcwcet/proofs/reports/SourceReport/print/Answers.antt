@@ -1,8 +1,8 @@
 use Rattle.std.proofs.Common.{List, ℕ, subst}
-use Rattle.machine_reports.specs.Assembly.{IsSource, IsSourceRefused}
-use Rattle.machine_reports.specs.ListReport.{IsListReport}
-use Rattle.author_reports.specs.DraftReport.{IsDraftRefused, IsDraftReport, IsDraftable}
-use Rattle.report_output.specs.Answers.{Answers}
+use Rattle.source_reports.specs.Assembly.{IsSource, IsSourceRefused}
+use Rattle.source_reports.specs.ListReport.{IsListReport}
+use Rattle.source_reports.specs.DraftReport.{IsDraftRefused, IsDraftReport, IsDraftable}
+use Rattle.handlers.specs.Answers.{Answers}
 use Rattle.arcwcet.proofs.RunLemmas.{answered_source}
 use Rattle.arcwcet.proofs.reports.SourceReport.print.Goals as goal
 

@@ -1,7 +1,7 @@
-use Rattle.author_reports.specs.FollowReport.{IsFollowRefused, IsFollowReport, IsFollowable}
-use Rattle.bound_reports.specs.Check.{IsAnswer, IsCheckRefused, IsCheckable}
-use Rattle.bound_reports.specs.Verdict.{IsVerdictReport}
-use Rattle.arcwcet.specs.VisitsReport.{AreAccepted, AreRefused, IsVisitsReport}
+use Rattle.handler_reports.specs.FollowReport.{IsFollowRefused, IsFollowReport, IsFollowable}
+use Rattle.handler_reports.specs.Check.{IsAnswer, IsCheckRefused, IsCheckable}
+use Rattle.handler_reports.specs.Verdict.{IsVerdictReport}
+use Rattle.handler_reports.specs.VisitsReport.{AreAccepted, AreRefused, IsVisitsReport}
 use Rattle.arcwcet.proofs.RunLemmas.{answered_three, answered_three_plain}
 use Rattle.arcwcet.proofs.reports.TripleReport.print.Goals as goal
 

@@ -1,6 +1,6 @@
 use Rattle.std.proofs.Common.{◌++◌, ◌∷◌, List, ℕ, [], inr, refl, ap, subst, arith}
 use Rattle.arm2_exec.specs.declared.machine.Traced.{Traced}
-use Rattle.trace_text.specs.TraceText.{IsTraceLine}
+use Rattle.text_trace.specs.TraceText.{IsTraceLine}
 use Rattle.debugger.specs.Watching.{Watches, inputs_of}
 use Rattle.debugger.proofs.WatchLaws.{added_alone, first_of_watch, none_made, session_on, some_steps, still}
 use Rattle.debugger.proofs.WatchLaws.{same_line, with_last}

@@ -1,5 +1,5 @@
 use Rattle.std.proofs.Common.{◌<◌, inr, refl, ap, arith}
-use Rattle.trace_text.specs.TraceText.{TracesRun}
+use Rattle.text_trace.specs.TraceText.{TracesRun}
 use Rattle.debugger.specs.Watching.{inputs_of}
 use Rattle.debugger.proofs.WatchLaws.{added_alone, session_on, still_run}
 use Rattle.debugger.proofs.session.Session.step.Goals as goal

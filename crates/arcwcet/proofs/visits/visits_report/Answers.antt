@@ -1,5 +1,0 @@
-use Rattle.report_input.proofs.PricedLemmas.{by_profile}
-use Rattle.arcwcet.proofs.visits.visits_report.Goals as goal
-
-pub returns : goal.returns
-returns g c = by_profile c.in_ok-profile.profile c.in_ok-profile.ensures.is c.priced_visits.ensures

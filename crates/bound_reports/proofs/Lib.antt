@@ -1,2 +1,0 @@
-pub mod CheckLemmas
-mod VerdictLemmas

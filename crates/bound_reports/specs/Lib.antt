@@ -1,4 +1,0 @@
-pub mod Bound
-pub mod Check
-pub mod Found
-pub mod Verdict

@@ -1,0 +1,83 @@
+ghost use Rattle.std.specs.Prelude.{◌≡◌, ◌+◌, ◌*◌, ◌<◌};
+ghost use Rattle.control_flow.specs.Edges.{arrival_ticks, do_ticks, fetch_ticks, jump_ticks};
+ghost use Rattle.control_flow.specs.Edges.{passing_ticks, work_ticks};
+ghost use Rattle.control_flow.specs.Kinds.{IsWork};
+ghost use Rattle.control_flow.specs.Places.{IsInSpace};
+
+use crate::actions::{Kind, Work};
+use crate::places::Place;
+use crate::sites::Site;
+use bus_ticks::{
+    Class, Profile, ahead_of, worst_fetch_n, worst_fetch_s, worst_leave, worst_transfer,
+};
+
+/// What a word costs that is passed over: the fetch of the word after the next.
+pub(crate) fn passing_ticks(profile: &Profile, address: u32) -> u32
+    ensures ticks { result ≡ passing_ticks profile.now address }
+    ensures small { result < 256 }
+{
+    worst_fetch_s(profile, ahead_of(address, 8))
+}
+
+// The fetch of the word after the next.
+fn fetch_ticks(profile: &Profile, address: u32, work: Work) -> u32
+    ensures ticks { result ≡ fetch_ticks profile.now address work }
+    ensures small { result < 256 }
+{
+    match work {
+        Work::Internal(_) | Work::Load(_) => passing_ticks(profile, address),
+        Work::Store(_) => worst_fetch_n(profile, ahead_of(address, 8)),
+    }
+}
+
+/// What a word costs besides its fetches, in ticks: below 4400.
+pub fn work_ticks(profile: &Profile, class: Class, work: Work) -> u32
+    requires { IsWork work }
+    ensures ticks { result ≡ work_ticks profile.now class work }
+    ensures small { result < 4400 }
+{
+    match work {
+        Work::Internal(cycles) => cycles * profile.internal,
+        Work::Load(words) => worst_transfer(profile, class, words, false) + profile.internal,
+        Work::Store(words) => worst_transfer(profile, class, words, true),
+    }
+}
+
+// What the fetches after a jump cost: of the word at its target, and of the next.
+fn jump_ticks(profile: &Profile, leave: Class, to: &Place) -> u32
+    requires { IsInSpace to.now }
+    ensures ticks { result ≡ jump_ticks profile.now leave to.now }
+    ensures small { result < 512 }
+{
+    match to {
+        Place::At(_, address) => {
+            worst_fetch_n(profile, *address) + worst_fetch_s(profile, ahead_of(*address, 4))
+        }
+        Place::Exit => worst_leave(profile, leave),
+    }
+}
+
+fn arrival_ticks(profile: &Profile, leave: Class, kind: Kind, to: &Place) -> u32
+    requires { IsInSpace to.now }
+    ensures ticks { result ≡ arrival_ticks profile.now leave kind to.now }
+    ensures small { result < 512 }
+{
+    match kind {
+        Kind::Branch(_) | Kind::Call(_) | Kind::Writer => jump_ticks(profile, leave, to),
+        Kind::Plain | Kind::Trap | Kind::Unallocated => 0,
+    }
+}
+
+/// What a word costs that is done, and so goes to that place.
+pub(crate) fn do_ticks(site: &Site, to: &Place) -> u32
+    requires work { IsWork site.now.action.work }
+    requires to { IsInSpace to.now }
+    ensures { result ≡ do_ticks site.now.inputs.statement.now site.now.inputs.profile.now
+        site.now.address site.now.action to.now }
+{
+    let (statement, profile) = (site.inputs.statement, site.inputs.profile);
+    let work = site.action.work;
+    fetch_ticks(profile, site.address, work)
+        + work_ticks(profile, statement.class_at(site.address), work)
+        + arrival_ticks(profile, statement.leave(), site.action.kind, to)
+}

@@ -1,5 +1,0 @@
-use Rattle.std.proofs.Common.{length}
-use Rattle.diagnosis.proofs.nested.Wanted.+add_up_to.Given as goal
-
-abbrev pub decreases-add_up_to : goal.decreases-add_up_to
-decreases-add_up_to l = length l.list

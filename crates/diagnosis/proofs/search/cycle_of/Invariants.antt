@@ -1,6 +1,0 @@
-use Rattle.std.proofs.Common.{◌≡◌, ◌<◌, ℕ, get_or}
-use Rattle.flow_graph.specs.declared.edges.Edge.{Edge}
-use Rattle.diagnosis.proofs.search.cycle_of.Given as goal
-
-abbrev pub invariant-loop-k : goal.invariant-loop-k
-invariant-loop-k l = (k : ℕ) (e : Edge) → k < l.k → get_or l.path k e ≡ e → e.from ≡ l.end → ⊥

@@ -1,6 +1,0 @@
-use Rattle.std.proofs.Common.{ℕ, ◌<◌}
-use Rattle.diagnosis.specs.SharedHeaders.{IsAlone}
-use Rattle.diagnosis.proofs.shared_headers.shared_header.Given as goal
-
-abbrev pub invariant-loop-one : goal.invariant-loop-one
-invariant-loop-one l = (k : ℕ) → k < l.one → IsAlone l.loops k

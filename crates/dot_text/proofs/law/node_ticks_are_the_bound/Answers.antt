@@ -1,5 +1,0 @@
-use Rattle.dot_text.proofs.TotalLaws.{ticks_in_all}
-use Rattle.dot_text.proofs.law.node_ticks_are_the_bound.Goals as goal
-
-pub returns : goal.returns
-returns c = ticks_in_all

@@ -1,8 +1,0 @@
-use Rattle.std.proofs.Common.{◌≡◌, ◌++◌, drop, flat_map}
-use Rattle.dot_text.specs.Parts.{drawn_row}
-use Rattle.dot_text.proofs.nodes.put_rows.Given as goal
-
-abbrev pub invariant-loop-number : goal.invariant-loop-number
-invariant-loop-number l =
-    l.out.items ++ flat_map (drawn_row l.drawn) (drop l.number-index l.numbers)
-    ≡ l.initial.out.items ++ flat_map (drawn_row l.drawn) l.numbers

@@ -1,8 +1,0 @@
-use Rattle.std.proofs.Common.{take}
-use Rattle.drafting.specs.Candidates.{HasWord, IsLiteral}
-use Rattle.drafting.specs.Exploring.{Gains}
-use Rattle.drafting.proofs.candidates.push_literals.Given as goal
-
-abbrev pub invariant-loop-word : goal.invariant-loop-word
-invariant-loop-word l =
-    Gains (λ a. HasWord l.image a × IsLiteral (take l.word-index l.words) a) l.fn.out.items l.out.items

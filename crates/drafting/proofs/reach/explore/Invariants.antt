@@ -1,9 +1,0 @@
-use Rattle.drafting.specs.Exploring.{IsFound}
-use Rattle.drafting.proofs.Explored.{IsSearch}
-use Rattle.drafting.proofs.reach.explore.Given as goal
-
-abbrev pub invariant-loop-next : goal.invariant-loop-next
-invariant-loop-next l = record {
-  found : IsFound l.found.seen l.found.order.items;
-  search : IsSearch l.image l.entry l.found.order.items l.next;
-}

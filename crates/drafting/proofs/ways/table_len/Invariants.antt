@@ -1,5 +1,0 @@
-use Rattle.drafting.proofs.WayLaws.{AreBranches}
-use Rattle.drafting.proofs.ways.table_len.Given as goal
-
-abbrev pub invariant-loop-n : goal.invariant-loop-n
-invariant-loop-n l = AreBranches l.image l.at l.n

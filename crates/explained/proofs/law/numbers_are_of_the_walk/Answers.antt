@@ -1,5 +1,0 @@
-use Rattle.explained.proofs.TotalLaws.{numbers_of_walk}
-use Rattle.explained.proofs.law.numbers_are_of_the_walk.Goals as goal
-
-pub returns : goal.returns
-returns c = numbers_of_walk

@@ -1,5 +1,0 @@
-use Rattle.explained.proofs.ToldLaws.{told_is_passed}
-use Rattle.explained.proofs.law.rows_with_ticks_have_passes.Goals as goal
-
-pub returns : goal.returns
-returns c = told_is_passed

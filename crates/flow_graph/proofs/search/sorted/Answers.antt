@@ -1,7 +1,0 @@
-use Rattle.std.proofs.Common.{IfOk, subst}
-use Rattle.std.specs.List.Sorted.{IsStrictlySortedBy}
-use Rattle.flow_graph.proofs.PlaceLemmas.{by_place}
-use Rattle.flow_graph.proofs.search.sorted.Goals as goal
-
-pub returns-clause-ordered : goal.returns-clause-ordered
-returns-clause-ordered c = subst (λ R. IfOk c.ascending.result (λ places. IsStrictlySortedBy R places.items)) by_place c.ascending.ensures.ordered

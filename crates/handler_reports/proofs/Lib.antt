@@ -1,0 +1,14 @@
+pub mod CheckLemmas
+mod VerdictLemmas
+pub mod CommentLemmas
+pub mod TightLemmas
+pub mod DifferenceLemmas
+mod DoneLemmas
+mod VisitedLemmas
+pub mod ExplainLemmas
+pub mod ExactLemmas
+pub mod FollowLemmas
+pub mod GraphLemmas
+pub mod RunTimeLemmas
+mod SaidLemmas
+pub mod VisitsReportLemmas

@@ -1,0 +1,19 @@
+use Rattle.std.proofs.Common.{rules}
+use Rattle.handler_reports.proofs.explain.placed_text.Goals as goal
+
+pub returns : goal.returns
+returns c = record {
+  placed = c.args.placed.now;
+  table = c.in_ok-text.text.items;
+  burst_lines = c.in_ok-rest.rest.items;
+  assumptions = c.in_ok-assumptions.assumptions.items;
+  idle = c.in_ok-idle.idle.items;
+  savings = c.in_ok-saved.saved.items;
+  are_placed = c.requires;
+  is_table = c.in_ok-text.ensures;
+  are_burst_lines = c.in_ok-rest.ensures;
+  are_assumptions = c.in_ok-assumptions.ensures;
+  are_idle = c.in_ok-idle.ensures;
+  are_savings = c.in_ok-saved.ensures;
+  text_is = search rules;
+}

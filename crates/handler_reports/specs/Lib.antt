@@ -1,0 +1,17 @@
+pub mod Bound
+pub mod Check
+pub mod Found
+pub mod Verdict
+pub mod TightReport
+pub mod TightText
+pub mod Differences
+pub mod ExplainReport
+pub mod FollowReport
+pub mod FollowText
+pub mod FollowWork
+pub mod GraphReport
+pub mod RunTimes
+pub mod FollowVisits
+pub mod VisitedText
+pub mod VisitedWork
+pub mod VisitsReport

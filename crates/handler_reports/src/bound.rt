@@ -1,0 +1,125 @@
+ghost use Rattle.std.specs.Prelude.{IfErr, IfOk, OnOk, option_map};
+ghost use Rattle.handler_reports.specs.Bound.{Reports};
+ghost use Rattle.certificate.specs.Lines.{cert_text, said_of};
+ghost use Rattle.handlers.specs.Priced.{Priced};
+ghost use Rattle.handlers.specs.Report.{BeforeOutput, HasItsTree, IsAccepted, IsBoundReport};
+ghost use Rattle.handlers.specs.Report.{IsRefused, IsReport, OfHandler};
+
+use bus_ticks::Profile;
+use cert_check::longest_gets_yes;
+use certificate::{print_cert, write_cert};
+use flow_graph::run_law;
+use handlers::{Handler, ReportFault, graph_is_well_formed, longest_of, profile_of, read_handler};
+use longest_walk::Longest;
+use outputs::Output;
+use std::alloc::Global;
+
+// The greatest walk of a handler.
+fn read_longest(
+    alloc: Global,
+    source: &[u8],
+    statement: &[u8],
+    profile: &Profile,
+) -> Result<Longest, ReportFault>
+    ensures report { IfOk result
+        (λ found. IsReport source.now statement.now profile.now (cert_text (said_of found))) }
+    ensures accepted { OnOk result (IsAccepted source.now statement.now profile.now) }
+    ensures fault { IfErr result (BeforeOutput (IsRefused source.now statement.now profile.now)) }
+{
+    let handler = read_handler(alloc, source, statement, profile)?;
+    certified_longest(alloc, &handler)
+}
+
+// The greatest walk of a handler that was read, whose certificate is judged yes.
+fn certified_longest(alloc: Global, handler: &Handler) -> Result<Longest, ReportFault>
+    requires { HasItsTree handler.now }
+    ensures report { OfHandler handler.now
+        (λ source statement profile. IfOk result
+        (λ found. IsBoundReport source statement profile handler.now.statement found.bound
+        (cert_text (said_of found)))) }
+    ensures accepted { OfHandler handler.now
+        (λ source statement profile. OnOk result (IsAccepted source statement profile)) }
+    ensures fault { OfHandler handler.now
+        (λ source statement profile. IfErr result (BeforeOutput (IsRefused source statement profile))) }
+{
+    let found = longest_of(alloc, handler)?;
+    graph_is_well_formed(handler);
+    run_law();
+    longest_gets_yes();
+    Ok(found)
+}
+
+/// The bound of a report, in ticks, and its text.
+#[derive(Drop)]
+pub struct BoundReport {
+    pub bound: u64,
+    pub text: Vec<u8>,
+}
+
+/// The report of a handler that was read.
+///
+/// # Errors
+///
+/// Those of [`longest_of`].
+pub fn longest_report(alloc: Global, handler: &Handler) -> Result<BoundReport, ReportFault>
+    requires { HasItsTree handler.now }
+    ensures report { OfHandler handler.now
+        (λ source statement profile. IfOk result
+        (λ r. IsBoundReport source statement profile handler.now.statement r.bound r.text.items)) }
+    ensures accepted { OfHandler handler.now
+        (λ source statement profile. OnOk result (IsAccepted source statement profile)) }
+    ensures fault { OfHandler handler.now
+        (λ source statement profile. IfErr result (BeforeOutput (IsRefused source statement profile))) }
+{
+    let found = certified_longest(alloc, handler)?;
+    let text = write_cert(alloc, &found)?;
+    Ok(BoundReport {
+        bound: found.bound,
+        text,
+    })
+}
+
+/// Writes the report of a source and a statement by a cycle profile's file, or by the first profile, the
+/// certificate of a greatest walk: the greatest cost, in ticks, of a complete walk of the handler's flow
+/// graph that keeps the bounds, such a walk, and the numbers that prove it greatest. Whatever text says the
+/// same is judged `yes` by [`check_report`](crate::check_report). No run of the machine that keeps the
+/// statement takes more ticks, but for the profile's burst price for each DMA burst.
+///
+/// The text goes to the output piece by piece, and takes no memory: nothing is written before all that can be
+/// refused but the output itself is done.
+///
+/// # Errors
+///
+/// Of several faults the first in the order of the work is answered: profile, source, statement, graph,
+/// loops, walk. `Device`: the output failed, and took a front of the report. `Memory`: an allocation failed.
+/// After any but `Device` nothing was written.
+pub fn bound_report<O: Output>(
+    alloc: Global,
+    source: &[u8],
+    statement: &[u8],
+    profile: Option<&[u8]>,
+    out: &mut O,
+) -> Result<(), ReportFault>
+    ensures { Priced (option_map (λ f. f.now) profile.entry)
+        (λ p. Reports O.taken O.failures source.now statement.now p out.old out.new
+        result) out.old out.new result }
+{
+    let profile = profile_of(alloc, profile)?;
+    priced_report(alloc, source, statement, &profile, out)
+}
+
+fn priced_report<O: Output>(
+    alloc: Global,
+    source: &[u8],
+    statement: &[u8],
+    profile: &Profile,
+    out: &mut O,
+) -> Result<(), ReportFault>
+    ensures { Reports O.taken O.failures source.now statement.now profile.now out.old out.new result }
+{
+    let found = read_longest(alloc, source, statement, profile)?;
+    match print_cert(&found, out) {
+        Ok(()) => Ok(()),
+        Err(_) => Err(ReportFault::Device),
+    }
+}

@@ -1,0 +1,233 @@
+//! Where the ticks of a handler's greatest run time go.
+
+ghost use Rattle.std.specs.Prelude.{◌≡◌, Ok, IfErr, IfOk, option_map};
+ghost use Rattle.bus_ticks.specs.declared.profile.Profile.{Profile};
+ghost use Rattle.text_explained.specs.Starts.{latest_at};
+ghost use Rattle.image.specs.Labels.{Names};
+ghost use Rattle.assembler.specs.Placed.{ArePlaced};
+ghost use Rattle.handler_reports.specs.ExplainReport.{Explains, IsExplanation, IsImageText, IsSourceText};
+ghost use Rattle.handler_reports.specs.ExplainReport.{IsTextOf, is_enough};
+ghost use Rattle.handlers.specs.Priced.{Priced};
+ghost use Rattle.handlers.specs.Report.{BeforeOutput, HasItsTree, HasLoops, IsRefused};
+ghost use Rattle.handlers.specs.Source.{IsSourceFault, source_of};
+
+use assembler::{PlacedLine, placed_lines};
+use bus_ticks::Profile;
+use flow_graph::run_law;
+use handlers::{
+    Handler, ReportFault, graph_is_well_formed, longest_of, print_answer, profile_of, said_handler,
+};
+use image::{Image, is_image};
+use longest_walk::worst_starts;
+use outputs::Output;
+use std::alloc::{AllocError, Global};
+use text_explained::{
+    Bursts, StatedGraph, TimedWalk, burst_lines, idle_entries, image_assumptions, image_table,
+    latest_starts_are_of_walks, places_are_listed_once, source_assumptions, source_table,
+    totals_are_the_bound,
+};
+use text_savings::{image_savings, source_savings};
+
+/// A handler whose bound is explained.
+#[derive(Clone, Copy)]
+pub struct Explained<'a> {
+    /// The bytes of its source, a text or an image.
+    pub source: &'a [u8],
+    /// The text of the statement on it.
+    pub statement: &'a [u8],
+    /// The most ticks that its bound, without bursts, may have to be enough; for `None` any bound is.
+    pub at_most: Option<u64>,
+    /// The DMA bursts with which its bound is printed too.
+    pub bursts: Bursts,
+}
+
+// A greatest walk with the worst starts of its places, and the bursts that are added to its cost, by the
+// profile's price of one.
+#[derive(Clone, Copy)]
+struct BurstWalk<'w, 'p> {
+    timed: TimedWalk<'w>,
+    profile: &'p Profile,
+    bursts: Bursts,
+}
+
+// A bound, in ticks, and the text that explains it.
+#[derive(Drop)]
+struct Explanation {
+    bound: u64,
+    text: Vec<u8>,
+}
+
+fn is_enough(at_most: Option<u64>, bound: u64) -> bool
+    ensures { result ≡ is_enough at_most bound }
+{
+    match at_most {
+        Some(most) => bound <= most,
+        None => true,
+    }
+}
+
+// The explanation by the words of an image.
+fn image_text(
+    alloc: Global,
+    stated: StatedGraph<'_>,
+    walk: BurstWalk<'_, '_>,
+) -> Result<Vec<u8>, AllocError>
+    ensures { IfOk result
+        (λ text. IsImageText stated.entry.image.now stated.entry.statement.now stated.entry.graph.now
+        walk.entry.timed.longest.now
+        (latest_at stated.entry.graph.now.places walk.entry.timed.starts.now)
+        walk.entry.profile.now.burst walk.entry.bursts text.items) }
+{
+    let mut text = image_table(alloc, stated, walk.timed)?;
+    let mut rest = burst_lines(alloc, walk.profile, walk.timed.longest.bound, walk.bursts)?;
+    let assumptions = image_assumptions(alloc, stated)?;
+    rest.extend_from_slice(&assumptions)?;
+    let idle = idle_entries(alloc, stated)?;
+    rest.extend_from_slice(&idle)?;
+    let saved = image_savings(alloc, stated, walk.timed.longest)?;
+    rest.extend_from_slice(&saved)?;
+    text.extend_from_slice(&rest)?;
+    Ok(text)
+}
+
+// The explanation by the lines of a text, which are placed so.
+fn placed_text(
+    alloc: Global,
+    source: &[u8],
+    placed: &[PlacedLine],
+    stated: StatedGraph<'_>,
+    walk: BurstWalk<'_, '_>,
+) -> Result<Vec<u8>, AllocError>
+    requires { ArePlaced source.now placed.now }
+    ensures { IfOk result
+        (λ text. IsSourceText source.now stated.entry.image.now stated.entry.statement.now
+        stated.entry.graph.now walk.entry.timed.longest.now
+        (latest_at stated.entry.graph.now.places walk.entry.timed.starts.now)
+        walk.entry.profile.now.burst walk.entry.bursts text.items) }
+{
+    let mut text = source_table(alloc, stated, source, placed, walk.timed)?;
+    let mut rest = burst_lines(alloc, walk.profile, walk.timed.longest.bound, walk.bursts)?;
+    let assumptions = source_assumptions(alloc, stated, source, placed)?;
+    rest.extend_from_slice(&assumptions)?;
+    let idle = idle_entries(alloc, stated)?;
+    rest.extend_from_slice(&idle)?;
+    let saved = source_savings(alloc, stated, source, placed, walk.timed.longest)?;
+    rest.extend_from_slice(&saved)?;
+    text.extend_from_slice(&rest)?;
+    Ok(text)
+}
+
+// The explanation by a greatest walk.
+fn text_of(
+    alloc: Global,
+    source: &[u8],
+    stated: StatedGraph<'_>,
+    walk: BurstWalk<'_, '_>,
+) -> Result<Vec<u8>, ReportFault>
+    ensures text { IfOk result
+        (λ text. IsTextOf source.now stated.entry.image.now stated.entry.statement.now
+        stated.entry.graph.now walk.entry.timed.longest.now
+        (latest_at stated.entry.graph.now.places walk.entry.timed.starts.now)
+        walk.entry.profile.now.burst walk.entry.bursts text.items) }
+    ensures fault { IfErr result (IsSourceFault source.now) }
+{
+    if is_image(source) {
+        let text = image_text(alloc, stated, walk)?;
+        return Ok(text);
+    }
+    let placed = placed_lines(alloc, source)?;
+    let text = placed_text(alloc, source, &placed, stated, walk)?;
+    Ok(text)
+}
+
+// The explanation of a handler that was read.
+fn explanation_of(
+    alloc: Global,
+    explained: Explained<'_>,
+    profile: &Profile,
+    image: &Image,
+    handler: &Handler,
+) -> Result<Explanation, ReportFault>
+    requires { HasItsTree handler.now }
+    ensures explains { (names : Names)
+        → source_of explained.entry.source.now ≡ Ok (image.now, names)
+        → HasLoops explained.entry.source.now explained.entry.statement.now profile.now
+        handler.now.statement handler.now.graph
+        → IfOk result (λ e. IsExplanation explained.entry.source.now explained.entry.statement.now
+        explained.entry.bursts profile.now e.bound e.text.items) }
+    ensures fault { (names : Names)
+        → source_of explained.entry.source.now ≡ Ok (image.now, names)
+        → HasLoops explained.entry.source.now explained.entry.statement.now profile.now
+        handler.now.statement handler.now.graph
+        → IfErr result
+        (BeforeOutput (IsRefused explained.entry.source.now explained.entry.statement.now profile.now)) }
+{
+    let found = longest_of(alloc, handler)?;
+    let starts = worst_starts(alloc, &handler.graph, &handler.tree)?;
+    graph_is_well_formed(handler);
+    places_are_listed_once();
+    totals_are_the_bound();
+    latest_starts_are_of_walks();
+    run_law();
+    let stated = StatedGraph {
+        image,
+        statement: &handler.statement,
+        graph: &handler.graph,
+    };
+    let walk = BurstWalk {
+        timed: TimedWalk {
+            longest: &found,
+            starts: &starts,
+        },
+        profile,
+        bursts: explained.bursts,
+    };
+    let text = text_of(alloc, explained.source, stated, walk)?;
+    Ok(Explanation {
+        bound: found.bound,
+        text,
+    })
+}
+
+fn source_explanation(
+    alloc: Global,
+    explained: Explained<'_>,
+    profile: &Profile,
+) -> Result<Explanation, ReportFault>
+    ensures explains { IfOk result
+        (λ e. IsExplanation explained.entry.source.now explained.entry.statement.now explained.entry.bursts
+        profile.now e.bound e.text.items) }
+    ensures fault { IfErr result
+        (BeforeOutput (IsRefused explained.entry.source.now explained.entry.statement.now profile.now)) }
+{
+    let read = said_handler(alloc, explained.source, explained.statement, profile)?;
+    explanation_of(alloc, explained, profile, &read.said.image, &read.handler)
+}
+
+/// Writes where the ticks of a handler's greatest run time go, by a cycle profile's file or by the first
+/// profile: a table by the lines of the source, or by the words of an image, with how often a greatest walk
+/// passes each, the ticks of a pass and of all, the tick by which it begins at the latest, and what the price
+/// takes for granted; then the bound, in ticks and in microseconds; then the
+/// bound with DMA bursts, if any are given; then what is taken for granted: words that count as returns but
+/// do not look like returns, words that leave the handler of an interrupt and restore no flags, words that
+/// return by R14 after a call, or an address of the source, has overwritten it, and loads and stores of which
+/// no class is stated; then the entries of the statement without effect; and then what better entries would
+/// save. Answers whether the bound is enough: without bursts at most so many ticks as are wanted.
+///
+/// # Errors
+///
+/// Those of [`bound_report`](crate::bound_report). After any but `Device` nothing was written.
+pub fn explain_report<O: Output>(
+    alloc: Global,
+    explained: Explained<'_>,
+    profile: Option<&[u8]>,
+    out: &mut O,
+) -> Result<bool, ReportFault>
+    ensures { Priced (option_map (λ f. f.now) profile.entry)
+        (λ p. Explains O.taken O.failures explained.entry.source.now explained.entry.statement.now
+        explained.entry.at_most explained.entry.bursts p out.old out.new result) out.old out.new result }
+{
+    let profile = profile_of(alloc, profile)?;
+    let found = source_explanation(alloc, explained, &profile)?;
+    print_answer(is_enough(explained.at_most, found.bound), &found.text, out)
+}

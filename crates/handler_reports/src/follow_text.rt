@@ -1,0 +1,176 @@
+//! What is printed of a run that is judged by a statement.
+
+ghost use Rattle.std.specs.Prelude.{◌≡◌, IfErr, IfOk, string_bytes};
+ghost use Rattle.handler_reports.specs.FollowText.{IsLeftText, IsLineNumberAt, access_name, access_text};
+ghost use Rattle.handler_reports.specs.FollowText.{kept_text, left_line, less_text, line_text};
+ghost use Rattle.handler_reports.specs.FollowText.{stray_text, strayed_text, times_text, turned_text};
+ghost use Rattle.handler_reports.specs.FollowText.{why_text};
+ghost use Rattle.handlers.specs.Source.{IsSourceFault};
+
+use assembler::placed_lines;
+use bus_ticks::{Class, class_of};
+use handlers::ReportFault;
+use image::{Image, is_image};
+use kept_runs::{Access, Stray, Unkept};
+use statement::{Statement, class_name};
+use std::alloc::{AllocError, Global};
+use text_rows::lines_by_address;
+use text_trace::{exception_name, why_name};
+
+/// How much less than the most of this name the ticks are. `AllocError`: an allocation failed.
+pub(crate) fn less_text(
+    alloc: Global,
+    name: &str,
+    ticks: u128,
+    most: u128,
+) -> Result<String, AllocError>
+    ensures { IfOk result (λ text. string_bytes text ≡ less_text name.now ticks most) }
+{
+    if ticks == most {
+        return format!(in alloc; "the {name}");
+    }
+    let less = most.saturating_sub(ticks);
+    format!(in alloc; "{less} less than the {name}")
+}
+
+/// The line on a run that keeps the statement: its ticks, and how much less than the bound they are.
+pub(crate) fn kept_text(alloc: Global, ticks: u128, bound: u64) -> Result<String, AllocError>
+    ensures { IfOk result (λ text. string_bytes text ≡ kept_text ticks bound) }
+{
+    let less = less_text(alloc, "bound", ticks, u128::from(bound))?;
+    format!(in alloc; "kept: {ticks} ticks, {less}\n")
+}
+
+fn access_name(store: bool) -> &'static str
+    ensures { result.now ≡ access_name store }
+{
+    if store { "stored to " } else { "loaded from " }
+}
+
+fn access_text(alloc: Global, stated: Class, access: Access) -> Result<String, AllocError>
+    ensures { IfOk result (λ text. string_bytes text ≡ access_text stated access) }
+{
+    let name = access_name(access.store);
+    let address = access.address;
+    let class = class_name(class_of(address));
+    let stated = class_name(stated);
+    format!(in alloc; "{name}{address:X}, {class}; {stated} is stated")
+}
+
+// How the step of a word strays for which this class is stated.
+fn stray_text(alloc: Global, stated: Class, stray: Stray) -> Result<String, AllocError>
+    ensures { IfOk result (λ text. string_bytes text ≡ stray_text stated stray) }
+{
+    match stray {
+        Stray::OtherWord => String::from_str(alloc, "fetches another word than the source's"),
+        Stray::Exception(vector) => format!(in alloc; "exception {}", exception_name(vector)),
+        Stray::Stopped(why) => format!(in alloc; "stopped {}", why_name(why)),
+        Stray::OtherClass(access) => access_text(alloc, stated, access),
+        Stray::Elsewhere(to) => format!(in alloc; "went to {to:X}, which is not stated"),
+    }
+}
+
+fn times_text(alloc: Global, times: u64) -> Result<String, AllocError>
+    ensures { IfOk result (λ text. string_bytes text ≡ times_text times) }
+{
+    if times == 1 {
+        return String::from_str(alloc, "once");
+    }
+    format!(in alloc; "{times} times")
+}
+
+// That a loop turned back once more than its bound.
+fn turned_text(alloc: Global, bound: u32) -> Result<String, AllocError>
+    ensures { IfOk result (λ text. string_bytes text ≡ turned_text bound) }
+{
+    let times = times_text(alloc, u64::from(bound) + 1)?;
+    format!(in alloc; "turned back {times}; {bound} stated")
+}
+
+/// Why the step at the address does not keep the statement.
+pub(crate) fn why_text(
+    alloc: Global,
+    statement: &Statement,
+    at: u32,
+    why: Unkept,
+) -> Result<String, AllocError>
+    ensures { IfOk result (λ text. string_bytes text ≡ why_text statement.now at why) }
+{
+    match why {
+        Unkept::NotAtEntry => {
+            let entry = statement.entry();
+            format!(in alloc; "not the entry, which is {entry:X}")
+        }
+        Unkept::Stray(stray) => stray_text(alloc, statement.class_at(at), stray),
+        Unkept::TurnedBack(span) => turned_text(alloc, span.bound),
+        Unkept::Unfinished => String::from_str(alloc, "the steps end inside the handler"),
+    }
+}
+
+fn line_text(alloc: Global, line: Option<u64>) -> Result<String, AllocError>
+    ensures { IfOk result (λ text. string_bytes text ≡ line_text line) }
+{
+    match line {
+        Some(line) => format!(in alloc; ", line {line}"),
+        None => Ok(String::new(alloc)),
+    }
+}
+
+/// The line on a run that does not keep the statement: the number of the step that does not, from 0, its
+/// address and its line, and why.
+pub(crate) fn strayed_text(
+    alloc: Global,
+    steps: u128,
+    at: u32,
+    line: Option<u64>,
+    why: &str,
+) -> Result<String, AllocError>
+    ensures { IfOk result (λ text. string_bytes text ≡ strayed_text steps at line why.now) }
+{
+    let line = line_text(alloc, line)?;
+    format!(in alloc; "step {steps}, {at:X}{line}: {why}\n")
+}
+
+// The line on a run that goes on at a word of the source, by that word's line.
+fn left_line(alloc: Global, at: u32, line: Option<u64>) -> Result<String, AllocError>
+    ensures { IfOk result (λ text. string_bytes text ≡ left_line at line) }
+{
+    let line = line_text(alloc, line)?;
+    format!(in alloc; "left to {at:X}{line}, a word of the source\n")
+}
+
+/// The number of the line of a source that has a word at the address; none of an image.
+pub(crate) fn line_number_at(
+    alloc: Global,
+    source: &[u8],
+    address: u32,
+) -> Result<Option<u64>, ReportFault>
+    ensures line { IfOk result (IsLineNumberAt source.now address) }
+    ensures fault { IfErr result (IsSourceFault source.now) }
+{
+    if is_image(source) {
+        return Ok(None);
+    }
+    let placed = placed_lines(alloc, source)?;
+    let lines = lines_by_address(alloc, source, &placed)?;
+    Ok(lines.get(&address).map(|line| line.number))
+}
+
+/// The line on a run that has gone on at the address, if the source, whose image this is, has a word there;
+/// else nothing.
+pub(crate) fn left_text(
+    alloc: Global,
+    source: &[u8],
+    image: &Image,
+    at: u32,
+) -> Result<Vec<u8>, ReportFault>
+    ensures text { IfOk result (λ text. IsLeftText source.now image.now at text.items) }
+    ensures fault { IfErr result (IsSourceFault source.now) }
+{
+    if image.word_at(at).is_none() {
+        return Ok(Vec::new(alloc));
+    }
+    let line = line_number_at(alloc, source, at)?;
+    let text = left_line(alloc, at, line)?;
+    Ok(Vec::from_slice(alloc, text.as_bytes())?)
+}

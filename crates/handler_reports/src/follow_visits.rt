@@ -1,0 +1,333 @@
+//! Whether a machine's run keeps the statements of a handler and of FIQ's, which interrupts it.
+
+ghost use Rattle.std.specs.Prelude.{◌≡◌, ◌<◌, ◌^◌, ◌++◌, ℕ, List, Option, IfErr, IfOk, option_map};
+ghost use Rattle.std.specs.Prelude.{true, false};
+ghost use Rattle.bus_ticks.specs.declared.space.TheConstants.{FIQ_VECTOR};
+ghost use Rattle.kept_runs.specs.Judging.{IsMachineFor};
+ghost use Rattle.kept_runs.specs.Keeping.{IsHandler};
+ghost use Rattle.longest_walk.specs.Visits.{visits_bound};
+ghost use Rattle.handler_reports.specs.FollowText.{IsLeftText, IsLineNumberAt, strayed_text};
+ghost use Rattle.handler_reports.specs.FollowVisits.{FollowsVisitedRun};
+ghost use Rattle.handler_reports.specs.VisitedText.{never_text, visit_why_text};
+ghost use Rattle.handler_reports.specs.VisitedWork.{IsBoundOf, IsRunText, IsVisitsJudged, IsVisitsRefusalOf};
+ghost use Rattle.handler_reports.specs.VisitedWork.{IsVisitsReportOn};
+ghost use Rattle.handlers.specs.FiqHandler.{IsFiqRefused};
+ghost use Rattle.handlers.specs.Priced.{Priced};
+ghost use Rattle.handlers.specs.Report.{BeforeOutput, IsRefused};
+ghost use Rattle.handlers.specs.Source.{IsSourceFault, Says};
+
+use crate::follow::{Judged, states_registers};
+use crate::follow_text::{left_text, line_number_at, strayed_text};
+use crate::visited_text::{kept_visits_text, never_text, visit_why_text};
+use assembler::Assembly;
+use bus_ticks::{Profile, fiq_entry};
+use handlers::{
+    Handler, Placed, ReportFault, fiq_handler, handler_of, longest_of, place_image, print_answer,
+    profile_of, read_source,
+};
+use image::Image;
+use kept_runs::{
+    AcceptedHandler, VisitUnkept, VisitedHandlers, VisitedRun, arrive, follow_visited,
+};
+use outputs::Output;
+use std::alloc::{AllocError, Global};
+
+/// A handler, FIQ's, which interrupts it, and a machine whose run through both is judged.
+#[derive(Clone, Copy)]
+pub struct FollowedVisits<'a> {
+    /// The bytes of the source of both, a text or an image.
+    pub source: &'a [u8],
+    /// The text of the statement on the handler.
+    pub statement: &'a [u8],
+    /// That of the statement on FIQ's handler.
+    pub fiq_statement: &'a [u8],
+    /// The text of the machine file.
+    pub machine: &'a [u8],
+}
+
+// A handler that was read, and its bound, in ticks.
+#[derive(Drop)]
+struct BoundedHandler {
+    handler: Handler,
+    bound: u64,
+}
+
+// Both handlers, by the words of their source.
+#[derive(Clone, Copy)]
+struct Both<'a> {
+    source: &'a [u8],
+    image: &'a Image,
+    irq: &'a BoundedHandler,
+    fiq: &'a BoundedHandler,
+}
+
+// How a run came out: its steps before the entry, what it did from there on, and the address, in bytes, where
+// the machine is then.
+#[derive(Clone, Copy)]
+struct Outcome {
+    before: usize,
+    run: VisitedRun,
+    after: u32,
+}
+
+// The handler that FIQ interrupts.
+fn irq_bounded(
+    alloc: Global,
+    said: &Assembly,
+    statement: &[u8],
+    profile: &Profile,
+) -> Result<BoundedHandler, ReportFault>
+    ensures is { (source : List ℕ) → Says source said.now
+        → IfOk result (IsBoundOf source statement.now profile.now) }
+    ensures fault { (source : List ℕ) → Says source said.now
+        → IfErr result (BeforeOutput (IsRefused source statement.now profile.now)) }
+{
+    let handler = handler_of(alloc, said, statement, profile)?;
+    let longest = longest_of(alloc, &handler)?;
+    let bound = longest.bound;
+    Ok(BoundedHandler { handler, bound })
+}
+
+// FIQ's handler.
+fn fiq_bounded(
+    alloc: Global,
+    said: &Assembly,
+    statement: &[u8],
+    profile: &Profile,
+) -> Result<BoundedHandler, ReportFault>
+    ensures is { (source : List ℕ) → Says source said.now
+        → IfOk result (IsBoundOf source statement.now profile.now) }
+    ensures entry { IfOk result (λ b. b.handler.statement.entry ≡ FIQ_VECTOR) }
+    ensures fault { (source : List ℕ) → Says source said.now
+        → IfErr result (BeforeOutput (IsFiqRefused source statement.now profile.now)) }
+{
+    let handler = fiq_handler(alloc, said, statement, profile)?;
+    let longest = longest_of(alloc, &handler)?;
+    let bound = longest.bound;
+    Ok(BoundedHandler { handler, bound })
+}
+
+// The most ticks of both with so many visits.
+fn visits_total(profile: &Profile, irq: u64, fiq: u64, visits: u64) -> u128
+    requires { fiq < 2 ^ 63 }
+    ensures { result ≡ visits_bound profile.now irq fiq visits }
+{
+    let visit = u128::from(fiq) + u128::from(fiq_entry(profile));
+    u128::from(irq) + u128::from(visits) * visit
+}
+
+fn accepted<'a>(image: &'a Image, handler: &'a Handler) -> AcceptedHandler<'a>
+    ensures image { result.image.now ≡ image.now }
+    ensures statement { result.statement.now ≡ handler.now.statement }
+    ensures graph { result.graph.now ≡ handler.now.graph }
+    ensures tree { result.tree.now ≡ handler.now.tree }
+{
+    AcceptedHandler {
+        image,
+        statement: &handler.statement,
+        graph: &handler.graph,
+        tree: &handler.tree,
+    }
+}
+
+// The answer on a run whose step after so many strays.
+fn strayed_run(
+    alloc: Global,
+    both: Both<'_>,
+    steps: u128,
+    at: u32,
+    why: VisitUnkept,
+) -> Result<Judged, ReportFault>
+    ensures text { IfOk result
+        (λ j. (j.kept ≡ false)
+        × ((line : Option ℕ) × IsLineNumberAt both.entry.source.now at line
+        × (j.text.items
+        ≡ strayed_text steps at line (visit_why_text both.entry.irq.now.handler.statement
+        both.entry.fiq.now.handler.statement at why)))) }
+    ensures fault { IfErr result (IsSourceFault both.entry.source.now) }
+{
+    let line = line_number_at(alloc, both.source, at)?;
+    let irq = &both.irq.handler.statement;
+    let fiq = &both.fiq.handler.statement;
+    let why = visit_why_text(alloc, irq, fiq, at, why)?;
+    let text = strayed_text(alloc, steps, at, line, why.as_str())?;
+    Ok(Judged {
+        kept: false,
+        text: Vec::from_slice(alloc, text.as_bytes())?,
+    })
+}
+
+// The answer on a run that keeps both statements, as this line says, and has gone on at the address.
+fn kept_run(alloc: Global, both: Both<'_>, line: &str, at: u32) -> Result<Judged, ReportFault>
+    ensures text { IfOk result
+        (λ j. (j.kept ≡ true)
+        × ((left : List ℕ) × IsLeftText both.entry.source.now both.entry.image.now at left
+        × (j.text.items ≡ line.now ++ left))) }
+    ensures fault { IfErr result (IsSourceFault both.entry.source.now) }
+{
+    let left = left_text(alloc, both.source, both.image, at)?;
+    let mut text = Vec::from_slice(alloc, line.as_bytes())?;
+    text.extend_from_slice(&left)?;
+    Ok(Judged { kept: true, text })
+}
+
+// The answer on a run that was followed.
+fn run_answer(
+    alloc: Global,
+    both: Both<'_>,
+    profile: &Profile,
+    outcome: Outcome,
+) -> Result<Judged, ReportFault>
+    requires small { both.fiq.now.bound < 2 ^ 63 }
+    ensures text { IfOk result
+        (λ j. IsRunText both.entry.source.now both.entry.image.now profile.now both.entry.irq.now
+        both.entry.fiq.now outcome.before outcome.after outcome.run j.kept j.text.items) }
+    ensures fault { IfErr result (IsSourceFault both.entry.source.now) }
+{
+    match outcome.run {
+        VisitedRun::Kept { ticks, visits, .. } => {
+            let total = visits_total(profile, both.irq.bound, both.fiq.bound, visits);
+            let line = kept_visits_text(alloc, ticks, visits, total)?;
+            kept_run(alloc, both, line.as_str(), outcome.after)
+        }
+        VisitedRun::Strayed { steps, at, why } => {
+            let steps = outcome.before as u128 + u128::from(steps);
+            strayed_run(alloc, both, steps, at, why)
+        }
+    }
+}
+
+// The answer on a run that never comes to the entry.
+fn never_answer(alloc: Global, entry: u32) -> Result<Judged, AllocError>
+    ensures { IfOk result (λ j. (j.kept ≡ false) × (j.text.items ≡ never_text entry)) }
+{
+    let text = never_text(alloc, entry)?;
+    Ok(Judged {
+        kept: false,
+        text: Vec::from_slice(alloc, text.as_bytes())?,
+    })
+}
+
+// The answer on the run of a machine that has all its words.
+fn visits_judged(
+    alloc: Global,
+    both: Both<'_>,
+    profile: &Profile,
+    placed: &mut Placed,
+) -> Result<Judged, ReportFault>
+    requires irq { IsHandler both.image.now both.irq.now.handler.statement both.irq.now.handler.graph
+        both.irq.now.handler.tree }
+    requires fiq { IsHandler both.image.now both.fiq.now.handler.statement both.fiq.now.handler.graph
+        both.fiq.now.handler.tree }
+    requires prices { both.fiq.now.handler.graph.profile ≡ both.irq.now.handler.graph.profile }
+    requires machine { IsMachineFor both.irq.now.handler.graph placed.old.machine }
+    requires small { both.fiq.now.bound < 2 ^ 63 }
+    ensures judged { IfOk result
+        (λ j. IsVisitsJudged both.entry.source.now both.entry.image.now profile.now both.entry.irq.now
+        both.entry.fiq.now placed.old.file placed.old.machine j.kept j.text.items) }
+    ensures fault { IfErr result (IsSourceFault both.entry.source.now) }
+{
+    let inputs = placed.file.inputs(alloc)?;
+    let entry = both.irq.handler.statement.entry();
+    let Some(before) = arrive(&mut placed.machine, entry, &inputs) else {
+        return Ok(never_answer(alloc, entry)?);
+    };
+    let handlers = VisitedHandlers {
+        irq: accepted(both.image, &both.irq.handler),
+        fiq: accepted(both.image, &both.fiq.handler),
+    };
+    let run = follow_visited(alloc, handlers, &mut placed.machine, &inputs[before..])?;
+    let after = placed.machine.address();
+    let outcome = Outcome { before, run, after };
+    run_answer(alloc, both, profile, outcome)
+}
+
+// The answer on a machine's run through both handlers.
+fn machine_run(
+    alloc: Global,
+    run: FollowedVisits<'_>,
+    said: &Assembly,
+    both: Both<'_>,
+    profile: &Profile,
+) -> Result<Judged, ReportFault>
+    requires said { Says run.source.now said.now }
+    requires source { both.source.now ≡ run.source.now }
+    requires image { both.image.now ≡ said.now.image }
+    requires irq { IsBoundOf run.source.now run.statement.now profile.now both.irq.now }
+    requires fiq { IsBoundOf run.source.now run.fiq_statement.now profile.now both.fiq.now }
+    requires entry { both.fiq.now.handler.statement.entry ≡ FIQ_VECTOR }
+    ensures judged { IfOk result (λ j. IsVisitsReportOn run.entry profile.now j.kept j.text.items) }
+    ensures fault { IfErr result (BeforeOutput (IsVisitsRefusalOf run.entry profile.now)) }
+{
+    let mut placed = place_image(alloc, said, run.machine, *profile)?;
+    states_registers(&placed.file);
+    visits_judged(alloc, both, profile, &mut placed)
+}
+
+// The answer on a run through the handlers of a source that was read.
+fn said_run(
+    alloc: Global,
+    run: FollowedVisits<'_>,
+    said: &Assembly,
+    profile: &Profile,
+) -> Result<Judged, ReportFault>
+    requires { Says run.source.now said.now }
+    ensures judged { IfOk result (λ j. IsVisitsReportOn run.entry profile.now j.kept j.text.items) }
+    ensures fault { IfErr result (BeforeOutput (IsVisitsRefusalOf run.entry profile.now)) }
+{
+    let irq = irq_bounded(alloc, said, run.statement, profile)?;
+    let fiq = fiq_bounded(alloc, said, run.fiq_statement, profile)?;
+    let both = Both {
+        source: run.source,
+        image: &said.image,
+        irq: &irq,
+        fiq: &fiq,
+    };
+    machine_run(alloc, run, said, both, profile)
+}
+
+fn source_run(
+    alloc: Global,
+    run: FollowedVisits<'_>,
+    profile: &Profile,
+) -> Result<Judged, ReportFault>
+    ensures judged { IfOk result (λ j. IsVisitsReportOn run.entry profile.now j.kept j.text.items) }
+    ensures fault { IfErr result (BeforeOutput (IsVisitsRefusalOf run.entry profile.now)) }
+{
+    let said = read_source(alloc, run.source)?;
+    said_run(alloc, run, &said, profile)
+}
+
+/// Runs the machine of a source and a machine file and judges the run, from where it first comes to the
+/// handler's entry until it leaves the handler, by the statements of the handler and of FIQ's handler, which
+/// interrupts it. The file's steps are the most that it makes. The prices are those of a cycle profile's
+/// file, or of the first profile.
+///
+/// `true` exactly where the run keeps both statements: from the entry some number of its steps are those of a
+/// walk to Exit that keeps the loop bounds, as if there were no visits, and visits of FIQ's handler, each of
+/// which keeps its statement and leads back to where FIQ was taken. Then its ticks are at most the total that
+/// `visits_report` prints for so many visits, and the first line that is written says how many of both they
+/// are, and how much less than the total the ticks; where the run goes on at a word of the source, a second
+/// line says at which. Else the line says which step is the first that does not keep them, by its number from
+/// 0 from the machine file's start on, its address and its line of the source, and why, or that the run never
+/// comes to the entry.
+///
+/// # Errors
+///
+/// The first in the order of the work: profile, source, the handler's statement, graph, loops and walk, those
+/// of FIQ's handler with `NotFiqEntry` after its statement, machine file, load; `Memory`. After any but
+/// `Device` nothing was written.
+pub fn follow_visits_report<O: Output>(
+    alloc: Global,
+    run: FollowedVisits<'_>,
+    profile: Option<&[u8]>,
+    out: &mut O,
+) -> Result<bool, ReportFault>
+    ensures { Priced (option_map (λ f. f.now) profile.entry)
+        (λ p. FollowsVisitedRun O.taken O.failures run.entry.source.now run.entry.statement.now
+        run.entry.fiq_statement.now run.entry.machine.now p out.old out.new result) out.old out.new result }
+{
+    let profile = profile_of(alloc, profile)?;
+    let judged = source_run(alloc, run, &profile)?;
+    print_answer(judged.kept, &judged.text, out)
+}

@@ -1,0 +1,73 @@
+//! Which of the returns that a run does an explanation warns of.
+
+ghost use Rattle.std.specs.Prelude.{◌≡◌, ◌↔◌, ℕ, true, IfErr, IfOk, List, OnOk, length};
+ghost use Rattle.std.specs.BTreeSet.{contains};
+ghost use Rattle.std.specs.Ordering.{nat_cmp};
+ghost use Rattle.kept_runs.specs.Passing.{IsTally, Pass};
+ghost use Rattle.handler_reports.specs.FollowText.{AreWarnings, IsDoneAt};
+ghost use Rattle.handler_reports.specs.FollowWork.{HasDone, NotesDone};
+ghost use Rattle.handlers.specs.Source.{IsSourceFault};
+
+use assembler::placed_lines;
+use control_flow::{Graph, Place};
+use handlers::ReportFault;
+use image::is_image;
+use kept_runs::Passed;
+use std::alloc::{AllocError, Global};
+use std::collections::BTreeSet;
+use text_explained::{StatedGraph, image_done_returns, source_done_returns};
+
+// Adds the address of the place, if some of the steps there do its word.
+fn note(done: &mut BTreeSet<u32>, place: &Place, passed: Passed) -> Result<(), AllocError>
+    ensures { OnOk result
+        (NotesDone place.now passed (contains nat_cmp done.old) (contains nat_cmp done.new)) }
+{
+    let Place::At(_, address) = place else {
+        return Ok(());
+    };
+    if passed.done > 0 {
+        done.insert(*address)?;
+    }
+    Ok(())
+}
+
+// The addresses of the words that a run does, by what it does at each place.
+fn done_words(
+    alloc: Global,
+    graph: &Graph,
+    by_place: &[Passed],
+) -> Result<BTreeSet<u32>, AllocError>
+    requires { length by_place.now ≡ length graph.now.places }
+    ensures { IfOk result
+        (λ done. HasDone graph.now.places by_place.now (length graph.now.places) (contains nat_cmp done)) }
+{
+    let mut done = BTreeSet::new(alloc);
+    for index in 0..graph.places().len() {
+        note(&mut done, &graph.places()[index], by_place[index])?;
+    }
+    Ok(done)
+}
+
+/// The returns and ways out of which an explanation warns, of the words alone that a run does, under the same
+/// headings. `by_place` says what the run does at each place of the graph, in their order. No text where the
+/// run does none of them.
+pub(crate) fn warnings(
+    alloc: Global,
+    source: &[u8],
+    stated: StatedGraph<'_>,
+    by_place: &[Passed],
+) -> Result<Vec<u8>, ReportFault>
+    requires { length by_place.now ≡ length stated.graph.now.places }
+    ensures are { (passes : List Pass) → IsTally stated.entry.graph.now passes by_place.now
+        → IfOk result
+        (λ text. AreWarnings source.now stated.entry.image.now stated.entry.statement.now
+        stated.entry.graph.now passes text.items) }
+    ensures fault { IfErr result (IsSourceFault source.now) }
+{
+    let done = done_words(alloc, stated.graph, by_place)?;
+    if is_image(source) {
+        return Ok(image_done_returns(alloc, stated, &done)?);
+    }
+    let placed = placed_lines(alloc, source)?;
+    Ok(source_done_returns(alloc, stated, source, &placed, &done)?)
+}

@@ -1,0 +1,12 @@
+pub mod FiqHandler
+pub mod Keeping
+pub mod Placing
+pub mod Priced
+pub mod Report
+pub mod Source
+pub mod Visits
+pub mod Answers
+pub mod FaultNames
+pub mod FaultText
+pub mod Faults
+pub mod Sent

@@ -1,0 +1,17 @@
+pub mod WordLemmas
+pub mod ZipLemmas
+pub mod GapLemmas
+mod LabelLemmas
+pub mod PlaceLemmas
+mod ReadLemmas
+pub mod SegmentLemmas
+mod RunLemmas
+mod SpellLemmas
+mod WrittenLemmas
+mod RoomLemmas
+pub mod AcceptLemmas
+mod CutLemmas
+mod FrontLemmas
+mod TrailLemmas
+mod PageLemmas
+pub mod FittedLemmas

@@ -1,0 +1,7 @@
+pub mod Image
+pub mod Inside
+pub mod Labels
+pub mod ImageBytes
+pub mod Pages
+pub mod Spelling
+pub mod Writing

@@ -1,6 +1,0 @@
-use Rattle.std.proofs.Common.{◌∙◌, sym}
-use Rattle.loader.proofs.GapLemmas.{all_from}
-use Rattle.loader.proofs.gap_buffer.first_below.Goals as goal
-
-pub returns-else-entry-address : goal.returns-else-entry-address
-returns-else-entry-address c = all_from c.args.words.now.items c.args.address c.in-Some.entry (sym c.first.ensures ∙ c.in-Some.is) c.if-entry-address.false c.requires

@@ -1,5 +1,0 @@
-use Rattle.loader.specs.Inside.{IsPartly}
-use Rattle.loader.proofs.image.Image.put_segment.Given as goal
-
-abbrev pub invariant-loop-next : goal.invariant-loop-next
-invariant-loop-next l = IsPartly l.fn.self l.head.address l.head.count l.bytes l.next l.self

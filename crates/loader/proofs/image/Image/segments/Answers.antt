@@ -1,6 +1,0 @@
-use Rattle.std.proofs.Common.{◌∙◌, ◌++◌}
-use Rattle.loader.proofs.RunLemmas.{counted}
-use Rattle.loader.proofs.image.Image.segments.Goals as goal
-
-pub returns-clause-written : goal.returns-clause-written
-returns-clause-written c = rw (← c.self.view_is) (c.self.invariant.counted ∙ counted (c.self.inside.below.items ++ c.self.inside.above.items))

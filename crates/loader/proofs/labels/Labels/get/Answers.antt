@@ -1,6 +1,0 @@
-use Rattle.std.proofs.Common.{◌∙◌}
-use Rattle.loader.proofs.LabelLemmas.{found}
-use Rattle.loader.proofs.labels.Labels.get.Goals as goal
-
-pub returns : goal.returns
-returns c = rw (← c.self.view_is) (c.copied.ensures ∙ c.get.ensures.value ∙ found c.self.inside.addresses.entries c.args.name.now)

@@ -1,7 +1,0 @@
-use Rattle.std.proofs.Common.{◌≡◌, ◌-◌, ◌≤◌}
-use Rattle.loader.specs.Image.{runs_of}
-use Rattle.loader.specs.ImageBytes.{image_read, segments_read}
-use Rattle.loader.proofs.reading.read_image.Given as goal
-
-abbrev pub invariant-loop-done : goal.invariant-loop-done
-invariant-loop-done l = (image_read l.bytes ≡ segments_read (l.count - l.done) l.image l.rest) × (runs_of l.image ≤ l.done) × (l.done ≤ l.count)

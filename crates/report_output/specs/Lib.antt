@@ -1,5 +1,0 @@
-pub mod Answers
-pub mod FaultNames
-pub mod FaultText
-pub mod Faults
-pub mod Sent

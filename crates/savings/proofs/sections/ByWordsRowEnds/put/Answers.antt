@@ -1,4 +1,0 @@
-use Rattle.savings.proofs.sections.ByWordsRowEnds.put.Goals as goal
-
-pub returns-in-Word : goal.returns-in-Word
-returns-in-Word c = rw c.in-Word.is c.put_shown_row.ensures

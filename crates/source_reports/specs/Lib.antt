@@ -1,0 +1,3 @@
+pub mod Assembly
+pub mod ListReport
+pub mod DraftReport

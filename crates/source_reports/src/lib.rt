@@ -1,0 +1,10 @@
+//! Reports of a source: its image and size, its lines beside their words, and drafts of statements.
+#![tactic(auto)]
+
+mod assembly;
+mod draft;
+mod list;
+
+pub use assembly::{Written, asm_report, image_written};
+pub use draft::draft_report;
+pub use list::list_report;

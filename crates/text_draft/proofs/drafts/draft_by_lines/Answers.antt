@@ -1,0 +1,21 @@
+use Rattle.std.proofs.lemmas.Result.{IfOk-weaker}
+use Rattle.text_draft.proofs.drafts.draft_by_lines.Goals as goal
+
+pub returns : goal.returns
+returns c =
+    IfOk-weaker c.draft_text.result _ _
+    (λ text text_is. record {
+      lines = c.args.lines.now;
+      are_lines = c.requires.are_lines;
+      named = c.requires.named;
+      full = c.in_ok-found.found.full;
+      ends = c.in_ok-found.found.ends.items;
+      cycles = c.in_ok-found.found.loops.cycles.items;
+      accesses = c.in_ok-found.found.accesses.items;
+      loops = c.in_ok-found.found.loops.loops.items;
+      candidates = c.in_ok-found.found.candidates.items;
+      targets = c.in_ok-found.found.targets.items;
+      found = c.in_ok-found.ensures;
+      text_is = text_is;
+    })
+    c.draft_text.ensures

@@ -1,0 +1,152 @@
+-- The text of a draft, of what was found.
+use Rattle.std.specs.Prelude.{ℕ, zero, suc, Bool, true, false, ◌*◌, ◌==◌, if◌then◌else◌, List, [], ◌∷◌, ◌++◌, length}
+use Rattle.std.specs.Prelude.{replicate}
+use Rattle.std.specs.Prelude.{codes, decimal, Option, Some, None}
+use Rattle.std.specs.BTreeMap.{BTreeMap, get}
+use Rattle.std.specs.List.{flat_map}
+use Rattle.std.specs.Ordering.{nat_cmp}
+use Rattle.asm_text.specs.Hex.{hex8}
+use Rattle.bus_ticks.specs.declared.profile.Class.{Class}
+use Rattle.bus_ticks.specs.Prices.{ahead_of}
+use Rattle.statement.specs.Statement.{class_name}
+use Rattle.text_rows.specs.Addresses.{name_text}
+use Rattle.text_rows.specs.declared.line_labels.SourceLine.{SourceLine}
+use Rattle.text_draft.specs.Rows.{line_label, row}
+use Rattle.text_draft.specs.declared.ends.End.{End}
+use Rattle.text_draft.specs.declared.ends.End.TheVariants.{NoWord, Unallocated, Trap}
+use Rattle.text_draft.specs.declared.found_loop.FoundLoop.{FoundLoop}
+use Rattle.text_draft.specs.Targets.{any_open, leaves_open}
+use Rattle.text_draft.specs.declared.writers.FoundTarget.{FoundTarget}
+use Rattle.text_draft.specs.declared.writers.Way.{Way}
+use Rattle.text_draft.specs.declared.writers.Way.TheVariants.{Call, Jump, Return}
+
+-- the end of an access
+abbrev pub class_text : Class → List ℕ
+class_text class = codes ", class = \"" ++ (class_name class ++ codes "\"},")
+
+-- what a draft says of an end
+abbrev pub end_words : End → List ℕ
+end_words NoWord = codes ": reached, and no word is there."
+end_words Unallocated = codes ": reached, and the word is no instruction."
+end_words Trap = codes ": reached, and the word is a SWI or undefined."
+
+-- a bound, that many columns in: a question mark, or the number that was counted. While it is open where a
+-- word leads, the number is a comment alone
+abbrev pub bound_text : ℕ → (open_left : Bool) → Option ℕ → List ℕ
+bound_text indent open_left None = replicate indent 32 ++ codes "bound = \"?\"\n"
+bound_text indent true (Some turns) =
+    replicate indent 32
+    ++ (codes "bound = \"?\"  # " ++ (decimal turns ++ codes ", if no other way leads into the loop\n"))
+bound_text indent false (Some turns) =
+    replicate indent 32
+    ++ (codes "bound = " ++ (decimal turns ++ codes "  # counted, if no [[target]] leads into the loop\n"))
+
+-- what a draft says that looked at as many addresses as it may
+abbrev pub full_text : Bool → List ℕ
+full_text true = codes "# It ends after 16384 addresses: what else is reached is left out.\n"
+full_text false = []
+
+-- so many addresses of words, from one on
+abbrev pub words_from : ℕ → ℕ → List ℕ
+words_from at zero = []
+words_from at (suc more) = at ∷ words_from (ahead_of at 4) more
+
+-- ## What is at the addresses
+
+module _ (lines : BTreeMap ℕ SourceLine) where
+  -- a key and an address, that many columns in
+  abbrev pub place_text : ℕ → List ℕ → ℕ → List ℕ
+  place_text indent key at =
+      row (replicate indent 32 ++ (key ++ (codes " = " ++ name_text (line_label (get nat_cmp lines at)) at)))
+      (get nat_cmp lines at)
+
+  -- an address between two texts
+  abbrev pub element_text : List ℕ → ℕ → List ℕ → List ℕ
+  element_text front at back =
+      row (front ++ (name_text (line_label (get nat_cmp lines at)) at ++ back)) (get nat_cmp lines at)
+
+  -- a comment on an address
+  abbrev pub comment_text : ℕ → List ℕ → List ℕ
+  comment_text at words = row (codes "# " ++ (hex8 at ++ words)) (get nat_cmp lines at)
+
+  abbrev pub end_text : ℕ × End → List ℕ
+  end_text e = comment_text e.0 (end_words e.1)
+
+  abbrev pub cycle_text : ℕ → List ℕ
+  cycle_text at = comment_text at (codes ": a cycle that no loop bounds.")
+
+  abbrev pub access_text : ℕ × Class → List ℕ
+  access_text e = element_text (codes "  {at = ") e.0 (class_text e.1)
+
+  abbrev pub access_list_text : List (ℕ × Class) → List ℕ
+  access_list_text accesses =
+      codes "\n# What loads and stores reach: \"any\", \"ram\", \"rom\" or \"io\".\naccess = [\n"
+      ++ (flat_map access_text accesses ++ codes "]\n")
+
+  -- all loads and stores, if there are any
+  abbrev pub accesses_text : List (ℕ × Class) → List ℕ
+  accesses_text accesses = if length accesses == 0 then [] else access_list_text accesses
+
+  -- a loop, further in by two columns for each loop around it
+  abbrev pub loop_text : (open_left : Bool) → FoundLoop → List ℕ
+  loop_text open_left l =
+      codes "\n" ++ (replicate (2 * l.depth) 32 ++ (codes "[[loop]]\n"
+      ++ (place_text (2 * l.depth) (codes "header") l.header
+      ++ (place_text (2 * l.depth) (codes "first") l.first
+      ++ (place_text (2 * l.depth) (codes "last") l.last ++ bound_text (2 * l.depth) open_left l.turns)))))
+
+  abbrev pub destination_text : ℕ → List ℕ
+  destination_text at = element_text (codes "  ") at (codes ",")
+
+  -- the branches of a table, or what to write
+  abbrev pub destinations_text : ℕ → ℕ → List ℕ
+  destinations_text table branches =
+      if branches == 0 then codes "to = \"?\"  # a list, or nothing for a return or a leave: draft from each of them too\n"
+      else codes "to = [\n"
+      ++ (flat_map destination_text (words_from table branches)
+      ++ codes "  \"?\",  # what else it may reach, or nothing\n]\n")
+
+  -- what is written of a word that writes R15
+  abbrev pub way_text : Way → ℕ → ℕ → List ℕ
+  way_text Return at branches = codes "kind = \"return\"\n"
+  way_text Jump at branches =
+      codes "kind = \"jump\"  # or \"call\", \"return\", \"leave\"\n"
+      ++ destinations_text (ahead_of at 8) branches
+  way_text Call at branches =
+      codes "kind = \"call\"  # or \"jump\", \"return\", \"leave\"\n"
+      ++ destinations_text (ahead_of at 8) branches
+
+  abbrev pub target_text : FoundTarget → List ℕ
+  target_text t =
+      codes "\n[[target]]\n" ++ (place_text 0 (codes "at") t.at ++ way_text t.way t.at t.branches)
+
+  -- what to do, the entry, and what may be stated of where the handler leaves to, and that all else is
+  abbrev pub head_text : ℕ → List ℕ
+  head_text entry =
+      codes "# A draft, of what the words show. Write something for each \"?\". A bound counts\n"
+      ++ (codes "# turns back: of a loop that runs eight times seven.\n"
+      ++ (place_text 0 (codes "entry") entry
+      ++ codes "# leave = \"ram\"  # where it returns to, if always to one: \"ram\", \"rom\" or \"io\"\nreturns = \"stated\"\n"))
+
+  abbrev pub candidate_text : ℕ → List ℕ
+  candidate_text at = element_text (codes "#   ") at []
+
+  abbrev pub candidate_list_text : List ℕ → List ℕ
+  candidate_list_text candidates =
+      codes "\n# The words name these addresses of the source, to which a \"?\" below may lead:\n"
+      ++ flat_map candidate_text candidates
+
+  -- where words may lead of which it is left open
+  abbrev pub candidates_text : (open_left : Bool) → List ℕ → List ℕ
+  candidates_text true candidates = if length candidates == 0 then [] else candidate_list_text candidates
+  candidates_text false candidates = []
+
+  -- the whole text
+  abbrev pub draft_text : ℕ → (full : Bool) → (ends : List (ℕ × End)) → (cycles : List ℕ)
+      → (accesses : List (ℕ × Class)) → (loops : List FoundLoop) → (candidates : List ℕ)
+      → (targets : List FoundTarget) → List ℕ
+  draft_text entry full ends cycles accesses loops candidates targets =
+      head_text entry ++ (full_text full ++ (flat_map end_text ends ++ (flat_map cycle_text cycles
+      ++ (accesses_text accesses
+      ++ (flat_map (loop_text (leaves_open full targets)) loops
+      ++ (candidates_text (any_open targets) candidates ++ flat_map target_text targets))))))

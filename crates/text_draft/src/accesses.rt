@@ -1,0 +1,126 @@
+ghost use Rattle.std.specs.Prelude.{◌≡◌, true, All, IfOk, OnOk};
+ghost use Rattle.std.specs.Map.{keys_of};
+ghost use Rattle.text_draft.specs.Accesses.{AreAccesses, RestsOnWord};
+ghost use Rattle.text_draft.specs.Picks.{Keeps};
+ghost use Rattle.arm2_decode.specs.Writers.{is_transfer};
+ghost use Rattle.word_shapes.specs.Words.{MayDo};
+
+use crate::constants::Constants;
+use crate::reach::Reached;
+use crate::ways::before;
+use arm2_decode::{Block, Operation, SingleImmediate};
+use arm2_transfer::address_by;
+use bus_ticks::{Class, SPACE_END, class_of};
+use image::Image;
+use std::alloc::{AllocError, Global};
+use word_shapes::{instr_at, is_by_pc_at, may_transfer_at};
+
+// The class of both addresses, where they are of one.
+fn class_from(first: u32, last: u32) -> Class {
+    if first >= SPACE_END || last >= SPACE_END {
+        return Class::Any;
+    }
+    let class = class_of(first);
+    if class == class_of(last) {
+        class
+    } else {
+        Class::Any
+    }
+}
+
+fn single_class(known: &Constants, at: u32, x: &SingleImmediate) -> Class {
+    let Some(base) = known.get(x.rn, at) else {
+        return Class::Any;
+    };
+    let address = address_by(x.before, x.up, base, x.offset);
+    class_from(address, address)
+}
+
+fn block_class(known: &Constants, at: u32, x: &Block) -> Class {
+    let Some(base) = known.get(x.rn, at) else {
+        return Class::Any;
+    };
+    let bytes = 4 * x.word_count();
+    if x.up {
+        class_from(base, base.wrapping_add(bytes))
+    } else {
+        class_from(base.wrapping_sub(bytes), base)
+    }
+}
+
+// The class of what an operation transfers, where the words show its address; else any.
+fn class_shown(known: &Constants, at: u32, operation: &Operation) -> Class {
+    match operation {
+        Operation::SingleImmediate(x) => single_class(known, at, x),
+        Operation::Block(x) => block_class(known, at, x),
+        _ => Class::Any,
+    }
+}
+
+// The class of what is transferred at an address, by the words in front too or by the word alone.
+fn class_at(image: &Image, known: &Constants, at: u32, by_word: bool) -> Class
+    ensures { by_word ≡ true → RestsOnWord image.now (at, result) }
+{
+    if by_word && !is_by_pc_at(image, at) {
+        return Class::Any;
+    }
+    match instr_at(image, at) {
+        Some(instr) => class_shown(known, at, &instr.operation),
+        None => Class::Any,
+    }
+}
+
+// Takes an address whose word loads or stores, and is not under NV.
+fn keep_access(
+    found: &mut Vec<(u32, Class)>,
+    image: &Image,
+    known: &Constants,
+    at: u32,
+    by_word: bool,
+) -> Result<(), AllocError>
+    ensures kept { OnOk result
+        (Keeps (MayDo is_transfer image.now) at (keys_of found.old.items) (keys_of found.new.items)) }
+    ensures rest { OnOk result
+        (by_word ≡ true → All (RestsOnWord image.now) found.old.items
+        → All (RestsOnWord image.now) found.new.items) }
+{
+    if !may_transfer_at(image, at) {
+        return Ok(());
+    }
+    let class = class_at(image, known, at, by_word);
+    found.push((at, class))?;
+    Ok(())
+}
+
+// What is known where control goes on from an address to the next.
+fn passed(image: &Image, known: Constants, at: u32) -> Constants {
+    let mut known = known;
+    if let Some(instr) = instr_at(image, at) {
+        known.pass(image, at, &instr);
+    }
+    known
+}
+
+/// Those of the addresses whose words load or store and are not under NV, in their order, each with the class
+/// of what it transfers where the words in front of it show it, or only the word itself. No clause says that
+/// the class is right: that is tested.
+pub(crate) fn find_accesses(
+    alloc: Global,
+    image: &Image,
+    reach: &Reached,
+    addresses: &[u32],
+    by_word: bool,
+) -> Result<Vec<(u32, Class)>, AllocError>
+    ensures { IfOk result (λ found. AreAccesses image.now addresses.now by_word found.items) }
+{
+    let mut found = Vec::new(alloc);
+    let mut known = Constants::none();
+    for at in addresses {
+        if !reach.follows_alone(*at, before(*at)) {
+            known = Constants::none();
+        }
+        keep_access(&mut found, image, &known, *at, by_word)?;
+        known = passed(image, known, *at);
+    }
+    Ok(found)
+}

@@ -1,0 +1,84 @@
+use crate::counted::immediate;
+use crate::words::changed;
+use arm2_decode::{Cond, DataImmediate, DataRegister, Instr, Opcode, Operation, Register, Shift};
+use bus_ticks::ahead_of;
+use image::Image;
+
+/// The registers whose words the last words show.
+#[derive(Clone, Copy)]
+pub(crate) struct Constants {
+    words: [Option<u32>; 16],
+}
+
+impl Constants {
+    /// None is known.
+    pub(crate) fn none() -> Self {
+        Constants { words: [None; 16] }
+    }
+
+    /// The word of a register, for the instruction at an address.
+    pub(crate) fn get(&self, register: Register, at: u32) -> Option<u32> {
+        if register.is_pc() {
+            return Some(ahead_of(at, 8));
+        }
+        self.words[register.number() as usize]
+    }
+
+    // The result of an operation with an immediate operand.
+    fn given(&self, x: &DataImmediate, at: u32) -> Option<u32> {
+        let operand = immediate(x);
+        if x.opcode == Opcode::Mov {
+            return Some(operand);
+        }
+        let word = self.get(x.rn, at)?;
+        match x.opcode {
+            Opcode::Add => Some(word.wrapping_add(operand)),
+            Opcode::Sub => Some(word.wrapping_sub(operand)),
+            Opcode::Orr => Some(word | operand),
+            Opcode::Bic => Some(word & !operand),
+            _ => None,
+        }
+    }
+
+    // The word of a register that is moved.
+    fn moved(&self, x: &DataRegister, at: u32) -> Option<u32> {
+        if x.opcode == Opcode::Mov && x.shift == Shift::Lsl && x.amount == 0 && !x.rm.is_pc() {
+            self.get(x.rm, at)
+        } else {
+            None
+        }
+    }
+
+    fn set(&mut self, register: Register, word: Option<u32>) {
+        self.words[register.number() as usize] = word;
+    }
+
+    // Forgets the registers of the bits that are set.
+    fn forget(&mut self, registers: u32) {
+        for (n, word) in self.words.iter_mut().enumerate() {
+            if registers >> n as u32 & 1 == 1 {
+                *word = None;
+            }
+        }
+    }
+
+    // The register that an instruction sets, with its word where that is known.
+    fn known_after(&self, at: u32, instr: &Instr) -> Option<(Register, u32)> {
+        match &instr.operation {
+            Operation::DataImmediate(x) => Some((x.rd, self.given(x, at)?)),
+            Operation::DataRegister(x) => Some((x.rd, self.moved(x, at)?)),
+            _ => None,
+        }
+    }
+
+    /// Goes past the instruction at an address.
+    pub(crate) fn pass(&mut self, image: &Image, at: u32, instr: &Instr) {
+        let known = self.known_after(at, instr);
+        self.forget(changed(image, at, instr));
+        if let Some((register, word)) = known {
+            if instr.cond == Cond::Al {
+                self.set(register, Some(word));
+            }
+        }
+    }
+}

@@ -1,0 +1,429 @@
+ghost use Rattle.std.specs.Prelude.{◌≡◌, ◌++◌, OnOk, decimal};
+ghost use Rattle.std.specs.BTreeMap.{get};
+ghost use Rattle.std.specs.List.{flat_map};
+ghost use Rattle.std.specs.Ordering.{nat_cmp};
+ghost use Rattle.text_draft.specs.DraftText.{access_list_text, access_text, accesses_text, bound_text};
+ghost use Rattle.text_draft.specs.DraftText.{candidate_list_text, candidate_text, candidates_text};
+ghost use Rattle.text_draft.specs.DraftText.{comment_text, cycle_text, destination_text, destinations_text};
+ghost use Rattle.text_draft.specs.DraftText.{element_text, end_text};
+ghost use Rattle.text_draft.specs.DraftText.{end_words, full_text, head_text, loop_text, place_text, target_text};
+ghost use Rattle.text_draft.specs.DraftText.{way_text, words_from};
+
+use crate::ends::End;
+use crate::found_loop::FoundLoop;
+use crate::rows::{end_row, put_address, put_blanks, put_name};
+use crate::writers::{FoundTarget, Way};
+use bus_ticks::{Class, ahead_of};
+use statement::class_name;
+use std::alloc::AllocError;
+use std::collections::BTreeMap;
+use text_rows::{SourceLine, put, put_decimal};
+
+// Loads and stores with their classes.
+type Accesses<'a> = &'a [(u32, Class)];
+
+// So many branches one after another, from an address on.
+#[derive(Clone, Copy)]
+struct Table {
+    first: u32,
+    branches: u32,
+}
+
+/// What is at the addresses.
+#[derive(Drop)]
+pub struct Sheet<'s, 'a> {
+    pub lines: &'s BTreeMap<u32, SourceLine<'a>>,
+}
+
+impl<'a> Sheet<'_, 'a> {
+    // The line of the word at an address.
+    fn line(&self, at: u32) -> Option<SourceLine<'a>>
+        ensures { result ≡ get nat_cmp self.now.lines.now at }
+    {
+        self.lines.get(&at).copied()
+    }
+
+    // Adds a key with an address, beside the line that is there.
+    fn put_place(
+        &self,
+        out: &mut Vec<u8>,
+        indent: usize,
+        key: &[u8],
+        at: u32,
+    ) -> Result<(), AllocError>
+        ensures { OnOk result
+            (out.new.items ≡ out.old.items ++ place_text self.now.lines.now indent key.now at) }
+    {
+        let start = out.len();
+        let line = self.line(at);
+        put_blanks(out, indent)?;
+        put(out, key)?;
+        put(out, b" = ")?;
+        put_name(out, line, at)?;
+        end_row(out, start, line)
+    }
+
+    // Adds a comment on an address.
+    fn put_comment(&self, out: &mut Vec<u8>, at: u32, words: &[u8]) -> Result<(), AllocError>
+        ensures { OnOk result
+            (out.new.items ≡ out.old.items ++ comment_text self.now.lines.now at words.now) }
+    {
+        let start = out.len();
+        put(out, b"# ")?;
+        put_address(out, at)?;
+        put(out, words)?;
+        end_row(out, start, self.line(at))
+    }
+
+    // Adds an address between two texts, beside the line that is there.
+    fn put_element(
+        &self,
+        out: &mut Vec<u8>,
+        front: &[u8],
+        at: u32,
+        back: &[u8],
+    ) -> Result<(), AllocError>
+        ensures { OnOk result
+            (out.new.items ≡ out.old.items ++ element_text self.now.lines.now front.now at back.now) }
+    {
+        let start = out.len();
+        let line = self.line(at);
+        put(out, front)?;
+        put_name(out, line, at)?;
+        put(out, back)?;
+        end_row(out, start, line)
+    }
+
+    fn put_access(&self, out: &mut Vec<u8>, at: u32, class: Class) -> Result<(), AllocError>
+        ensures { OnOk result (out.new.items ≡ out.old.items ++ access_text self.now.lines.now (at, class)) }
+    {
+        let start = out.len();
+        let line = self.line(at);
+        put(out, b"  {at = ")?;
+        put_name(out, line, at)?;
+        put(out, b", class = \"")?;
+        put(out, class_name(class).as_bytes())?;
+        put(out, b"\"},")?;
+        end_row(out, start, line)
+    }
+
+    fn put_each_access(&self, out: &mut Vec<u8>, accesses: Accesses<'_>) -> Result<(), AllocError>
+        ensures { OnOk result
+            (out.new.items ≡ out.old.items ++ flat_map (access_text self.now.lines.now) accesses.now) }
+    {
+        for (at, class) in accesses {
+            self.put_access(out, *at, *class)?;
+        }
+        Ok(())
+    }
+
+    fn put_access_list(&self, out: &mut Vec<u8>, accesses: Accesses<'_>) -> Result<(), AllocError>
+        ensures { OnOk result
+            (out.new.items ≡ out.old.items ++ access_list_text self.now.lines.now accesses.now) }
+    {
+        put(
+            out,
+            b"\n# What loads and stores reach: \"any\", \"ram\", \"rom\" or \"io\".\naccess = [\n",
+        )?;
+        self.put_each_access(out, accesses)?;
+        put(out, b"]\n")
+    }
+
+    /// Adds the loads and stores with their classes.
+    ///
+    /// # Errors
+    ///
+    /// An allocation failed.
+    pub fn put_accesses(&self, out: &mut Vec<u8>, accesses: Accesses<'_>) -> Result<(), AllocError>
+        ensures { OnOk result
+            (out.new.items ≡ out.old.items ++ accesses_text self.now.lines.now accesses.now) }
+    {
+        if accesses.is_empty() {
+            return Ok(());
+        }
+        self.put_access_list(out, accesses)
+    }
+
+    fn put_loop(
+        &self,
+        out: &mut Vec<u8>,
+        open_left: bool,
+        found: &FoundLoop,
+    ) -> Result<(), AllocError>
+        ensures { OnOk result
+            (out.new.items ≡ out.old.items ++ loop_text self.now.lines.now open_left found.now) }
+    {
+        let indent = 2 * found.depth as usize;
+        put(out, b"\n")?;
+        put_blanks(out, indent)?;
+        put(out, b"[[loop]]\n")?;
+        self.put_place(out, indent, b"header", found.header)?;
+        self.put_place(out, indent, b"first", found.first)?;
+        self.put_place(out, indent, b"last", found.last)?;
+        put_bound(out, indent, open_left, found.turns)
+    }
+
+    /// Adds the loops, each inside those around it. While it is left open where a word leads, a count is a
+    /// comment alone.
+    ///
+    /// # Errors
+    ///
+    /// An allocation failed.
+    pub fn put_loops(
+        &self,
+        out: &mut Vec<u8>,
+        open_left: bool,
+        loops: &[FoundLoop],
+    ) -> Result<(), AllocError>
+        ensures { OnOk result
+            (out.new.items ≡ out.old.items ++ flat_map (loop_text self.now.lines.now open_left) loops.now) }
+    {
+        for found in loops {
+            self.put_loop(out, open_left, found)?;
+        }
+        Ok(())
+    }
+
+    fn put_each_destination(&self, out: &mut Vec<u8>, table: Table) -> Result<(), AllocError>
+        ensures { OnOk result
+            (out.new.items
+            ≡ out.old.items
+            ++ flat_map (destination_text self.now.lines.now) (words_from table.first table.branches)) }
+    {
+        let mut at = table.first;
+        for _ in 0..table.branches {
+            self.put_element(out, b"  ", at, b",")?;
+            at = ahead_of(at, 4);
+        }
+        Ok(())
+    }
+
+    // Adds the destinations, or what to write of them.
+    fn put_destinations(&self, out: &mut Vec<u8>, table: Table) -> Result<(), AllocError>
+        ensures { OnOk result
+            (out.new.items
+            ≡ out.old.items ++ destinations_text self.now.lines.now table.first table.branches) }
+    {
+        if table.branches == 0 {
+            return put(
+                out,
+                b"to = \"?\"  # a list, or nothing for a return or a leave: draft from each of them too\n",
+            );
+        }
+        put(out, b"to = [\n")?;
+        self.put_each_destination(out, table)?;
+        put(out, b"  \"?\",  # what else it may reach, or nothing\n]\n")
+    }
+
+    // Adds what the word shows, with its table if it jumps into one.
+    fn put_way(&self, out: &mut Vec<u8>, target: &FoundTarget) -> Result<(), AllocError>
+        ensures { OnOk result
+            (out.new.items
+            ≡ out.old.items
+            ++ way_text self.now.lines.now target.now.way target.now.at target.now.branches) }
+    {
+        let table = Table {
+            first: ahead_of(target.at, 8),
+            branches: target.branches,
+        };
+        match target.way {
+            Way::Return => put(out, b"kind = \"return\"\n"),
+            Way::Jump => {
+                put(
+                    out,
+                    b"kind = \"jump\"  # or \"call\", \"return\", \"leave\"\n",
+                )?;
+                self.put_destinations(out, table)
+            }
+            Way::Call => {
+                put(
+                    out,
+                    b"kind = \"call\"  # or \"jump\", \"return\", \"leave\"\n",
+                )?;
+                self.put_destinations(out, table)
+            }
+        }
+    }
+
+    fn put_target(&self, out: &mut Vec<u8>, target: &FoundTarget) -> Result<(), AllocError>
+        ensures { OnOk result (out.new.items ≡ out.old.items ++ target_text self.now.lines.now target.now) }
+    {
+        put(out, b"\n[[target]]\n")?;
+        self.put_place(out, 0, b"at", target.at)?;
+        self.put_way(out, target)
+    }
+
+    /// Adds the words that write R15, with what is shown of where they lead.
+    ///
+    /// # Errors
+    ///
+    /// An allocation failed.
+    pub fn put_targets(&self, out: &mut Vec<u8>, targets: &[FoundTarget]) -> Result<(), AllocError>
+        ensures { OnOk result
+            (out.new.items ≡ out.old.items ++ flat_map (target_text self.now.lines.now) targets.now) }
+    {
+        for target in targets {
+            self.put_target(out, target)?;
+        }
+        Ok(())
+    }
+
+    fn put_each_candidate(&self, out: &mut Vec<u8>, candidates: &[u32]) -> Result<(), AllocError>
+        ensures { OnOk result
+            (out.new.items ≡ out.old.items ++ flat_map (candidate_text self.now.lines.now) candidates.now) }
+    {
+        for at in candidates {
+            self.put_element(out, b"#   ", *at, b"")?;
+        }
+        Ok(())
+    }
+
+    fn put_candidate_list(&self, out: &mut Vec<u8>, candidates: &[u32]) -> Result<(), AllocError>
+        ensures { OnOk result
+            (out.new.items
+            ≡ out.old.items ++ candidate_list_text self.now.lines.now candidates.now) }
+    {
+        put(
+            out,
+            b"\n# The words name these addresses of the source, to which a \"?\" below may lead:\n",
+        )?;
+        self.put_each_candidate(out, candidates)
+    }
+
+    /// Adds a comment with addresses to which words may lead, if any are left open.
+    ///
+    /// # Errors
+    ///
+    /// An allocation failed.
+    pub fn put_candidates(
+        &self,
+        out: &mut Vec<u8>,
+        open_left: bool,
+        candidates: &[u32],
+    ) -> Result<(), AllocError>
+        ensures { OnOk result
+            (out.new.items
+            ≡ out.old.items ++ candidates_text self.now.lines.now open_left candidates.now) }
+    {
+        if !open_left {
+            return Ok(());
+        }
+        if candidates.is_empty() {
+            return Ok(());
+        }
+        self.put_candidate_list(out, candidates)
+    }
+
+    /// Adds a comment for each address at which the handler cannot go on.
+    ///
+    /// # Errors
+    ///
+    /// An allocation failed.
+    pub fn put_ends(&self, out: &mut Vec<u8>, ends: &[(u32, End)]) -> Result<(), AllocError>
+        ensures { OnOk result
+            (out.new.items ≡ out.old.items ++ flat_map (end_text self.now.lines.now) ends.now) }
+    {
+        for (at, end) in ends {
+            self.put_comment(out, *at, end_words(*end))?;
+        }
+        Ok(())
+    }
+
+    /// Adds a comment for each cycle that no loop bounds.
+    ///
+    /// # Errors
+    ///
+    /// An allocation failed.
+    pub fn put_cycles(&self, out: &mut Vec<u8>, cycles: &[u32]) -> Result<(), AllocError>
+        ensures { OnOk result
+            (out.new.items ≡ out.old.items ++ flat_map (cycle_text self.now.lines.now) cycles.now) }
+    {
+        for at in cycles {
+            self.put_comment(out, *at, b": a cycle that no loop bounds.")?;
+        }
+        Ok(())
+    }
+
+    /// Adds the head, with the entry.
+    ///
+    /// # Errors
+    ///
+    /// An allocation failed.
+    pub fn put_head(&self, out: &mut Vec<u8>, entry: u32) -> Result<(), AllocError>
+        ensures { OnOk result (out.new.items ≡ out.old.items ++ head_text self.now.lines.now entry) }
+    {
+        put(
+            out,
+            b"# A draft, of what the words show. Write something for each \"?\". A bound counts\n",
+        )?;
+        put(
+            out,
+            b"# turns back: of a loop that runs eight times seven.\n",
+        )?;
+        self.put_place(out, 0, b"entry", entry)?;
+        put(
+            out,
+            b"# leave = \"ram\"  # where it returns to, if always to one: \"ram\", \"rom\" or \"io\"\nreturns = \"stated\"\n",
+        )
+    }
+}
+
+// Adds a number in front of a text.
+fn put_counted(out: &mut Vec<u8>, turns: u32, back: &[u8]) -> Result<(), AllocError>
+    ensures { OnOk result (out.new.items ≡ out.old.items ++ (decimal turns ++ back.now)) }
+{
+    put_decimal(out, u64::from(turns))?;
+    put(out, back)
+}
+
+fn put_bound(
+    out: &mut Vec<u8>,
+    indent: usize,
+    open_left: bool,
+    turns: Option<u32>,
+) -> Result<(), AllocError>
+    ensures { OnOk result (out.new.items ≡ out.old.items ++ bound_text indent open_left turns) }
+{
+    put_blanks(out, indent)?;
+    let Some(turns) = turns else {
+        return put(out, b"bound = \"?\"\n");
+    };
+    if open_left {
+        put(out, b"bound = \"?\"  # ")?;
+        put_counted(out, turns, b", if no other way leads into the loop\n")
+    } else {
+        put(out, b"bound = ")?;
+        put_counted(
+            out,
+            turns,
+            b"  # counted, if no [[target]] leads into the loop\n",
+        )
+    }
+}
+
+/// Adds that as many addresses were looked at as may be, if they were.
+///
+/// # Errors
+///
+/// An allocation failed.
+pub(crate) fn put_full(out: &mut Vec<u8>, full: bool) -> Result<(), AllocError>
+    ensures { OnOk result (out.new.items ≡ out.old.items ++ full_text full) }
+{
+    if full {
+        put(
+            out,
+            b"# It ends after 16384 addresses: what else is reached is left out.\n",
+        )?;
+    }
+    Ok(())
+}
+
+fn end_words(end: End) -> &'static [u8]
+    ensures { result.now ≡ end_words end }
+{
+    match end {
+        End::NoWord => b": reached, and no word is there.",
+        End::Unallocated => b": reached, and the word is no instruction.",
+        End::Trap => b": reached, and the word is a SWI or undefined.",
+    }
+}

@@ -1,0 +1,69 @@
+-- The rows of a table, and the whole of it.
+use Rattle.std.proofs.Common.{◌≡◌, ◌∙◌, ℕ, ◌+◌, ◌<◌, List, ◌++◌, length, get_or, take, sum_by, Option, refl, sym, ap, subst, arith, append_assoc}
+use Rattle.std.proofs.lemmas.List.Sums.{sum_by_more}
+use Rattle.std.specs.BTreeMap.{get}
+use Rattle.std.specs.Ordering.{nat_cmp}
+use Rattle.asm_text.specs.Source.{lines_of}
+use Rattle.assembler.specs.declared.placed_line.PlacedLine.{PlacedLine}
+use Rattle.walk_counts.specs.Counts.{capped}
+use Rattle.assembler.specs.ShownLines.{IsShown}
+use Rattle.control_flow.specs.Flow.{Flow}
+use Rattle.image.specs.Image.{Words}
+use Rattle.longest_walk.specs.Folded.{unfolded}
+use Rattle.longest_walk.specs.declared.folded.Longest.{Longest}
+use Rattle.statement.specs.Stated.{Stated}
+use Rattle.asm_text.specs.Appended.{Appends}
+use Rattle.text_rows.specs.Rows.{AreRows}
+use Rattle.text_explained.specs.Columns.{heading}
+use Rattle.text_explained.specs.Costing.{IsCosting, figures_of}
+use Rattle.text_explained.specs.Starts.{latest_at}
+use Rattle.text_explained.specs.Table.{AreImageRows, IsWordRow, WalkFigures, image_ticks, source_rows, source_table, source_ticks, table_end, ticks_of, walk_figures, word_figures, word_row}
+use Rattle.text_explained.specs.declared.columns.Column.TheVariants.{Address, Line}
+use Rattle.text_explained.specs.declared.lines.Costing.{Costing}
+use Rattle.text_explained.specs.declared.lines.RowFigures.{RowFigures}
+use Rattle.text_explained.specs.declared.tally.Taken.{Taken}
+
+-- with the figures of its word
+pub row_written : (walk : WalkFigures) (at word : ℕ) (figures : RowFigures) (line old new : List ℕ) → figures ≡ word_figures walk at → IsShown word at line
+    → new ≡ old ++ word_row figures at line → Appends (IsWordRow walk (at, word)) old new
+row_written walk at word figures line old new same shown row =
+    (word_row (word_figures walk at) at line, (line, shown, refl), row ∙ ap (λ (f : RowFigures). old ++ word_row f at line) same)
+
+-- the ticks of a word more
+pub image_more : (taken : ℕ → Option Taken) (words : Words) (i : ℕ) (d : ℕ × ℕ) (ticks one new : ℕ) → i < length words → ticks ≡ image_ticks taken (take i words)
+    → one ≡ ticks_of (taken (get_or words i d).0) → new ≡ capped (ticks + one) → new ≡ image_ticks taken (take (i + 1) words)
+image_more taken words i d ticks one new lt before here sum_is =
+    let f = λ (e : ℕ × ℕ). ticks_of (taken e.0) in
+    let all : sum_by f (take (i + 1) words) ≡ sum_by f (take i words) + one = sum_by_more f words i d lt ∙ ap (λ n. sum_by f (take i words) + n) (sym here) in
+    let once : capped (capped (sum_by f (take i words)) + one) ≡ capped (sum_by f (take i words) + one) = omega arith in
+    sum_is ∙ ap (λ n. capped (n + one)) before ∙ once ∙ ap capped (sym all)
+
+-- the figures of a walk, by the maps of its costing
+pub figures_are : (words : Words) (st : Stated) (flow : Flow) (longest : Longest) (starts : List ℕ) (c : Costing) → IsCosting words st flow longest starts c
+    → figures_of c ≡ walk_figures flow (unfolded longest.walk) (latest_at flow.places starts) longest.bound (get nat_cmp c.prices)
+figures_are words st flow longest starts c is =
+    λ i. record { taken = λ a. is.tally a i; latest = λ a. is.latest a i; priced = get nat_cmp c.prices; bound = is.bound i }
+
+-- the heading, the rows and the end
+pub image_whole : (lookup walk : WalkFigures) (total : ℕ) (listed words : Words) (start rows new : List ℕ) → lookup ≡ walk → listed ≡ words → start ≡ heading Address
+    → Appends (AreRows (IsWordRow lookup) listed) start rows → total ≡ image_ticks lookup.taken listed → new ≡ rows ++ table_end total walk.bound → AreImageRows walk words new
+image_whole lookup walk total listed words start rows new same are heading_is adds total_is last =
+    let ticks = image_ticks lookup.taken listed in
+    let table : AreImageRows lookup listed new = (
+      adds.0,
+      adds.1,
+      last ∙ ap (λ n. rows ++ table_end n walk.bound) total_is ∙ ap (λ (w : WalkFigures). rows ++ table_end ticks w.bound) (sym same)
+          ∙ ap (λ xs. xs ++ table_end ticks lookup.bound) (adds.2 ∙ ap (λ xs. xs ++ adds.0) heading_is)
+          ∙ append_assoc (heading Address) adds.0 (table_end ticks lookup.bound),
+    ) in
+    subst (λ ws. AreImageRows walk ws new) are (subst (λ (w : WalkFigures). AreImageRows w listed new) same table)
+
+pub source_whole : (lookup walk : WalkFigures) (total : ℕ) (source : List ℕ) (placed : List PlacedLine) (start rows new : List ℕ) → lookup ≡ walk → start ≡ heading Line
+    → rows ≡ start ++ source_rows lookup 1 (lines_of source) placed → total ≡ source_ticks lookup.taken placed → new ≡ rows ++ table_end total walk.bound → new ≡ source_table walk source placed
+source_whole lookup walk total source placed start rows new same heading_is rows_are total_is last =
+    let lines = source_rows lookup 1 (lines_of source) placed in
+    let ticks = source_ticks lookup.taken placed in
+    last ∙ ap (λ n. rows ++ table_end n walk.bound) total_is ∙ ap (λ (w : WalkFigures). rows ++ table_end ticks w.bound) (sym same)
+    ∙ ap (λ xs. xs ++ table_end ticks lookup.bound) (rows_are ∙ ap (λ xs. xs ++ lines) heading_is)
+    ∙ append_assoc (heading Line) lines (table_end ticks lookup.bound)
+    ∙ ap (λ (w : WalkFigures). source_table w source placed) same

@@ -1,0 +1,11 @@
+use Rattle.std.proofs.Common.{◌≡◌, ℕ, true, take}
+use Rattle.std.specs.Prelude.{◌↔◌}
+use Rattle.std.specs.BTreeSet.{contains}
+use Rattle.std.specs.Ordering.{nat_cmp}
+use Rattle.text_explained.specs.Links.{MayReturnByLink}
+use Rattle.text_explained.specs.Taken.{is_reached}
+use Rattle.text_explained.proofs.links.returning.Given as goal
+
+abbrev pub invariant-loop-place : goal.invariant-loop-place
+invariant-loop-place l =
+    (a : ℕ) → (contains nat_cmp l.named a ≡ true) ↔ ((is_reached (take l.place-index l.places) a ≡ true) × MayReturnByLink l.image l.statement a)

@@ -1,0 +1,76 @@
+-- What the price of a word takes for granted.
+use Rattle.std.specs.Prelude.{◌≡◌, ℕ, true, false, if◌then◌else◌, List, [], ◌++◌, codes, Option, Some, None}
+use Rattle.arm2_decode.specs.Names.{is_never}
+use Rattle.arm2_decode.specs.declared.instr.Instr.{Instr}
+use Rattle.arm2_decode.specs.declared.instr.Operation.{Operation}
+use Rattle.arm2_decode.specs.declared.instr.Operation.TheVariants as operation
+use Rattle.bus_ticks.specs.declared.profile.Class.{Class}
+use Rattle.control_flow.specs.Flow.{Flow}
+use Rattle.image.specs.Image.{Words}
+use Rattle.statement.specs.Stated.{Stated, class_at}
+use Rattle.statement.specs.Statement.{class_name}
+use Rattle.word_shapes.specs.Words.{HasInstr}
+use Rattle.text_explained.specs.Leaving.{is_left_on}
+use Rattle.text_explained.specs.Taken.{is_reached}
+use Rattle.text_explained.specs.declared.leaving.EdgeKind.TheVariants.{LeadsOut}
+use Rattle.text_explained.specs.declared.pricing.Granted.{Granted}
+use Rattle.text_explained.specs.declared.pricing.Granted.TheVariants.{Nothing, Multiplier, Access}
+use Rattle.text_explained.specs.declared.pricing.Pricing.{Pricing}
+
+-- ## What is taken for granted
+
+-- a multiply is priced at its most cycles, and a load or a store by the class of what it transfers
+abbrev pub operation_granted : Class → Operation → Granted
+operation_granted class (operation.Multiply x) = Multiplier
+operation_granted class (operation.DataRegister x) = Nothing
+operation_granted class (operation.DataRegisterShift x) = Nothing
+operation_granted class (operation.DataImmediate x) = Nothing
+operation_granted class (operation.SingleImmediate x) = Access class
+operation_granted class (operation.SingleRegister x) = Access class
+operation_granted class (operation.Block x) = Access class
+operation_granted class (operation.Branch x) = Nothing
+operation_granted class (operation.Swi x) = Nothing
+operation_granted class (operation.UndefinedTransfer x) = Nothing
+operation_granted class (operation.CoprocessorTransfer x) = Nothing
+operation_granted class (operation.Coprocessor x) = Nothing
+
+-- a word under NV is passed over
+abbrev pub instr_granted : Class → Instr → Granted
+instr_granted class i = if is_never i.cond then Nothing else operation_granted class i.operation
+
+-- for what the word at an address does besides its fetches
+pub record IsGranted (words : Words) (st : Stated) (a : ℕ) (g : Granted) : Type 0 where
+  pub of_instr : (i : Instr) → HasInstr words a i → g ≡ instr_granted (class_at st a) i
+  pub of_none : ((i : Instr) → HasInstr words a i → ⊥) → g ≡ Nothing
+
+-- and where the handler leaves from there, the class of the addresses to which it leaves
+pub record IsPricing (words : Words) (st : Stated) (flow : Flow) (a : ℕ) (p : Pricing) : Type 0 where
+  pub granted : IsGranted words st a p.granted
+  pub leave : p.leave ≡ (if is_left_on LeadsOut flow.edges a then Some st.leave else None)
+
+-- so it is said of each address where the graph has a place, and of no other
+pub record ArePriced (words : Words) (st : Stated) (flow : Flow) (priced : ℕ → Option Pricing) : Type 0 where
+  pub reached : (a : ℕ) → is_reached flow.places a ≡ true
+      → (p : Pricing) × (priced a ≡ Some p) × IsPricing words st flow a p
+  pub other : (a : ℕ) → is_reached flow.places a ≡ false → priced a ≡ None
+
+-- ## Texts
+
+abbrev pub granted_text : Granted → List ℕ
+granted_text Nothing = []
+granted_text Multiplier = codes "m = 16"
+granted_text (Access class) = class_name class
+
+-- with a way out of the handler
+abbrev pub leave_text : Granted → Class → List ℕ
+leave_text Nothing class = codes "> " ++ class_name class
+leave_text granted class = granted_text granted ++ (codes " > " ++ class_name class)
+
+abbrev pub both_text : Granted → Option Class → List ℕ
+both_text granted None = granted_text granted
+both_text granted (Some class) = leave_text granted class
+
+-- nothing where no place is
+abbrev pub pricing_text : Option Pricing → List ℕ
+pricing_text None = []
+pricing_text (Some p) = both_text p.granted p.leave

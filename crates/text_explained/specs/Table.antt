@@ -1,0 +1,200 @@
+-- The table of a bound.
+use Rattle.std.specs.Prelude.{◌≡◌, ℕ, ◌+◌, Bool, ◌==◌, if◌then◌else◌, List, [], ◌++◌, codes}
+use Rattle.std.specs.Prelude.{decimal, find, nat_lt, sum_by, unwrap_or, Option, Some, None, is_some}
+use Rattle.std.specs.List.{list_any}
+use Rattle.asm_text.specs.Hex.{hex8}
+use Rattle.asm_text.specs.Source.{lines_of}
+use Rattle.assembler.specs.Assembles.{addresses_from}
+use Rattle.assembler.specs.ShownLines.{IsShown}
+use Rattle.assembler.specs.declared.placed_line.PlacedLine.{PlacedLine}
+use Rattle.control_flow.specs.Flow.{Flow}
+use Rattle.control_flow.specs.declared.edges.Edge.{Edge}
+use Rattle.image.specs.Image.{Words}
+use Rattle.statement.specs.Stated.{Stated}
+use Rattle.walk_counts.specs.Counts.{capped}
+use Rattle.text_explained.specs.Columns.{bound_line, gap_text, heading, in_column, span, ticks_text}
+use Rattle.text_explained.specs.Columns.{total_row}
+use Rattle.text_rows.specs.Columns.{in_columns}
+use Rattle.text_rows.specs.Lines.{rows_by_line}
+use Rattle.text_rows.specs.Rows.{AreRows, row_end}
+use Rattle.text_explained.specs.Pricing.{ArePriced, pricing_text}
+use Rattle.text_explained.specs.Taken.{taken_at}
+use Rattle.text_explained.specs.declared.columns.Column.{Column}
+use Rattle.text_explained.specs.declared.columns.Column.TheVariants.{Passes, Each, Ticks, Share, Latest}
+use Rattle.text_explained.specs.declared.columns.Column.TheVariants.{PricedAs, Line, Address, Text}
+use Rattle.text_explained.specs.declared.lines.RowFigures.{RowFigures}
+use Rattle.text_explained.specs.declared.pricing.Pricing.{Pricing}
+use Rattle.text_explained.specs.declared.tally.Costs.{Costs}
+use Rattle.text_explained.specs.declared.tally.Taken.{Taken}
+
+-- ## Lines
+
+abbrev pub words_of : PlacedLine → List ℕ
+words_of line = addresses_from line.at line.words
+
+abbrev pub passes_of : Option Taken → ℕ
+passes_of None = 0
+passes_of (Some t) = t.passes
+
+abbrev pub costs_of : Option Taken → Option Costs
+costs_of None = None
+costs_of (Some t) = t.costs
+
+abbrev pub ticks_of : Option Taken → ℕ
+ticks_of None = 0
+ticks_of (Some t) = t.ticks
+
+-- what is taken at each address, None where no place is
+module _ (taken : ℕ → Option Taken) where
+  -- a place is at one of the words
+  abbrev pub is_any_reached : (from count : ℕ) → Bool
+  is_any_reached from count = list_any (λ a. is_some (taken a)) (addresses_from from count)
+
+  -- the walk passes the address
+  abbrev pub is_passed : ℕ → Bool
+  is_passed a = nat_lt 0 (passes_of (taken a))
+
+  -- the word of which the row of a line tells: the first of its words that the walk passes; if it passes none,
+  -- the first at which a place is; and if no place is on the line, the first
+  abbrev pub told_at : PlacedLine → ℕ
+  told_at line =
+      unwrap_or (find is_passed (words_of line))
+      (unwrap_or (find (λ a. is_some (taken a)) (words_of line)) line.at)
+
+  -- the ticks at the words
+  abbrev pub ticks_in : (from count : ℕ) → ℕ
+  ticks_in from count = capped (sum_by (λ a. ticks_of (taken a)) (addresses_from from count))
+
+  -- the passes of the word that is told of and the ticks of each, and the ticks of all words; None where no
+  -- place is on the line
+  abbrev pub line_taken : PlacedLine → Option Taken
+  line_taken line =
+      if is_any_reached line.at line.words
+      then Some (record {
+        passes = passes_of (taken (told_at line));
+        ticks = ticks_in line.at line.words;
+        costs = costs_of (taken (told_at line));
+      }) else None
+
+  -- the ticks of all lines
+  abbrev pub source_ticks : List PlacedLine → ℕ
+  source_ticks placed = capped (sum_by (λ line. ticks_in line.at line.words) placed)
+
+  -- the ticks of all words
+  abbrev pub image_ticks : Words → ℕ
+  image_ticks words = capped (sum_by (λ e. ticks_of (taken e.0)) words)
+
+-- ## Figures
+
+-- what is taken at each address, when the word there begins at the latest, and what its price takes for
+-- granted, each None where no place is; and the bound
+pub record WalkFigures : Type 0 where
+  pub taken : ℕ → Option Taken
+  pub latest : ℕ → Option ℕ
+  pub priced : ℕ → Option Pricing
+  pub bound : ℕ
+
+-- those of a row: what is taken there, with the latest start and the price of the word at an address
+abbrev pub row_figures : WalkFigures → Option Taken → (at : ℕ) → RowFigures
+row_figures walk taken at =
+    record { taken = taken; latest = walk.latest at; pricing = walk.priced at; bound = walk.bound }
+
+-- of a line, and of the word that is told of
+abbrev pub line_figures : WalkFigures → PlacedLine → RowFigures
+line_figures walk p = row_figures walk (line_taken walk.taken p) (told_at walk.taken p)
+
+abbrev pub word_figures : WalkFigures → ℕ → RowFigures
+word_figures walk at = row_figures walk (walk.taken at) at
+
+-- ## Rows
+
+-- the ticks of a pass: one number, or from the least to the greatest; nothing is said where the walk never
+-- passes
+abbrev pub each_text : Option Costs → List ℕ
+each_text None = codes "-"
+each_text (Some c) =
+    if c.least == c.greatest then decimal c.least else decimal c.least ++ (codes "-" ++ decimal c.greatest)
+
+-- the columns of what is taken
+abbrev pub taken_span : ℕ
+taken_span = span Passes + (span Each + (span Ticks + span Share))
+
+-- how often, the ticks each time, and those of all times; or that no walk ever comes there
+abbrev pub taken_text : ℕ → Option Taken → List ℕ
+taken_text bound None = in_columns taken_span (codes "never reached")
+taken_text bound (Some t) =
+    in_column Passes (decimal t.passes) ++ (in_column Each (each_text t.costs) ++ ticks_text t.ticks bound)
+
+-- the tick by which it begins at the latest; nothing where no place is
+abbrev pub latest_text : Option ℕ → List ℕ
+latest_text None = []
+latest_text (Some ticks) = decimal ticks
+
+-- what is taken, when it begins at the latest, and what the price takes for granted
+abbrev pub figures_text : RowFigures → List ℕ
+figures_text row =
+    taken_text row.bound row.taken
+    ++ (in_column Latest (latest_text row.latest) ++ in_column PricedAs (pricing_text row.pricing))
+
+-- with what tells the row from others, and as much of the text there as there is room for
+abbrev pub table_row : Column → RowFigures → (name : List ℕ) → (text : List ℕ) → List ℕ
+table_row rows_by row name = row_end 0 (figures_text row ++ (in_column rows_by name ++ gap_text Text))
+
+-- with the number of a line
+abbrev pub line_row : RowFigures → ℕ → (text : List ℕ) → List ℕ
+line_row row n = table_row Line row (decimal n)
+
+-- with the address of a word
+abbrev pub word_row : RowFigures → (at : ℕ) → (line : List ℕ) → List ℕ
+word_row row at = table_row Address row (hex8 at)
+
+-- ## Tables
+
+abbrev pub table_end : (total bound : ℕ) → List ℕ
+table_end total bound = total_row total bound ++ bound_line bound
+
+module _ (walk : WalkFigures) where
+  -- the row of a line, if it has words
+  abbrev pub line_rows : ℕ → List ℕ → PlacedLine → List ℕ
+  line_rows n text p = if p.words == 0 then [] else line_row (line_figures walk p) n text
+
+  -- those of all lines, with numbers from one on
+  abbrev pub source_rows : ℕ → List (List ℕ) → List PlacedLine → List ℕ
+  source_rows = rows_by_line line_rows
+
+  -- the line is the one that the word is shown as
+  abbrev pub IsWordRow : ℕ × ℕ → List ℕ → Type 0
+  IsWordRow e row =
+      (line : List ℕ) × IsShown e.1 e.0 line × (row ≡ word_row (word_figures walk e.0) e.0 line)
+
+  -- of a source whose lines are placed so
+  abbrev pub source_table : List ℕ → List PlacedLine → List ℕ
+  source_table source placed =
+      heading Line
+      ++ (source_rows 1 (lines_of source) placed ++ table_end (source_ticks walk.taken placed) walk.bound)
+
+  -- of an image
+  abbrev pub AreImageRows : Words → List ℕ → Type 0
+  AreImageRows words text =
+      (rows : List ℕ) × AreRows IsWordRow words rows
+      × (text ≡ heading Address ++ (rows ++ table_end (image_ticks walk.taken words) walk.bound))
+
+-- of a walk that costs so much, when its words begin at the latest, and their prices
+abbrev pub walk_figures : Flow → List Edge → (latest : ℕ → Option ℕ) → ℕ → (priced : ℕ → Option Pricing)
+    → WalkFigures
+walk_figures flow walk latest bound priced =
+    record { taken = taken_at flow walk; latest = latest; priced = priced; bound = bound }
+
+-- by the words, the statement, the flow graph, a walk that costs so much, and when its words begin at the
+-- latest
+abbrev pub IsSourceTable : Words → Stated → Flow → List Edge → (latest : ℕ → Option ℕ) → ℕ → List ℕ
+    → List PlacedLine → List ℕ → Type 0
+IsSourceTable words st flow walk latest bound source placed text =
+    (priced : ℕ → Option Pricing) × ArePriced words st flow priced
+    × (text ≡ source_table (walk_figures flow walk latest bound priced) source placed)
+
+abbrev pub IsImageTable : Words → Stated → Flow → List Edge → (latest : ℕ → Option ℕ) → ℕ → List ℕ
+    → Type 0
+IsImageTable words st flow walk latest bound text =
+    (priced : ℕ → Option Pricing) × ArePriced words st flow priced
+    × AreImageRows (walk_figures flow walk latest bound priced) words text

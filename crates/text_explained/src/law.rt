@@ -1,0 +1,112 @@
+ghost use Rattle.std.specs.Prelude.{◌≡◌, ◌≢◌, ◌↔◌, ◌<◌, ◌≤◌, ◌^◌, ℕ, false, true, List, None, Some, Ok};
+ghost use Rattle.std.specs.Prelude.{Option};
+ghost use Rattle.std.specs.Prelude.{Contains, flat_map, map, sum_by};
+ghost use Rattle.bus_ticks.specs.declared.profile.Profile.{Profile};
+ghost use Rattle.assembler.specs.Placed.{ArePlaced};
+ghost use Rattle.image.specs.Labels.{Names};
+ghost use Rattle.assembler.specs.Sweeps.{assembled};
+ghost use Rattle.control_flow.specs.Graph.{IsBuildFault, IsFlowGraph};
+ghost use Rattle.control_flow.specs.declared.edges.Edge.{Edge};
+ghost use Rattle.control_flow.specs.declared.faults.BuildFault.{BuildFault};
+ghost use Rattle.assembler.specs.declared.placed_line.PlacedLine.{PlacedLine};
+ghost use Rattle.control_flow.specs.Flow.{Flow, IsWellFormed};
+ghost use Rattle.image.specs.Image.{Words};
+ghost use Rattle.image.specs.ImageBytes.{image_read};
+ghost use Rattle.loop_bounds.specs.Tree.{Tree};
+ghost use Rattle.longest_walk.specs.Folded.{unfolded};
+ghost use Rattle.longest_walk.specs.Longest.{IsWalkOf};
+ghost use Rattle.longest_walk.specs.declared.folded.Item.{Item};
+ghost use Rattle.text_explained.specs.Bursts.{AreFewest, IsBurstTime, with_bursts};
+ghost use Rattle.longest_walk.specs.Starts.{AreWorstStarts};
+ghost use Rattle.text_explained.specs.Starts.{IsLatestStart, latest_at};
+ghost use Rattle.text_explained.specs.Table.{image_ticks, line_taken, passes_of, source_ticks};
+ghost use Rattle.text_explained.specs.Table.{ticks_in, told_at, words_of};
+ghost use Rattle.text_explained.specs.Taken.{AreCostsAt, AreOnWords, AreListedOnce, cost_at, is_reached, pass_at};
+ghost use Rattle.text_explained.specs.Taken.{taken_at};
+ghost use Rattle.text_explained.specs.declared.tally.Costs.{Costs};
+ghost use Rattle.statement.specs.Stated.{Stated};
+
+use asm_text::lines_are_spelled;
+use assembler::sources_are_assembled;
+
+/// States that of a walk of the graph that costs less than 2^64 ticks the numbers at an address are exact:
+/// how often the walk leaves the address, the ticks of that, and the least and the greatest cost of an edge
+/// on which it does. It does nothing.
+pub fn numbers_are_of_the_walk()
+    ensures { (flow : Flow) (tree : Tree) (cost : ℕ) (items : List Item) (a : ℕ)
+        → IsWellFormed flow → IsWalkOf flow tree cost items → cost < 2 ^ 64
+        → is_reached flow.places a ≡ true
+        → (costs : Option Costs) × AreCostsAt a (unfolded items) costs
+        × (taken_at flow (unfolded items) a
+        ≡ Some (record {
+          passes = sum_by (pass_at a) (unfolded items);
+          ticks = sum_by (cost_at a) (unfolded items);
+          costs = costs;
+        })) }
+{}
+
+/// States that the ticks of all rows are what the walk costs, if each place of the graph is at one word
+/// of the lines, or of the image. It does nothing.
+pub fn totals_are_the_bound()
+    ensures source { (flow : Flow) (tree : Tree) (cost : ℕ) (items : List Item) (placed : List PlacedLine)
+        → IsWellFormed flow → IsWalkOf flow tree cost items → cost < 2 ^ 64
+        → AreListedOnce flow.places (flat_map words_of placed)
+        → source_ticks (taken_at flow (unfolded items)) placed ≡ cost }
+    ensures image { (flow : Flow) (tree : Tree) (cost : ℕ) (items : List Item) (words : Words)
+        → IsWellFormed flow → IsWalkOf flow tree cost items → cost < 2 ^ 64
+        → AreListedOnce flow.places (map (λ e. e.0) words)
+        → image_ticks (taken_at flow (unfolded items)) words ≡ cost }
+{}
+
+/// States that each place of a graph that is not refused is at one word: of the lines of a source that is
+/// assembled, each where it is placed, and of an image that is read. It does nothing.
+pub fn places_are_listed_once()
+    ensures words { (words : Words) (stated : Stated) (profile : Profile) (flow : Flow)
+        → IsFlowGraph words stated profile flow
+        → ((f : BuildFault) → f ≢ BuildFault.Memory → IsBuildFault words stated profile f → ⊥)
+        → AreOnWords words flow.places }
+    ensures source { (source : List ℕ) (words : Words) (names : Names) (placed : List PlacedLine)
+        (flow : Flow) → IsWellFormed flow → assembled source ≡ Ok (words, names) → ArePlaced source placed
+        → AreOnWords words flow.places → AreListedOnce flow.places (flat_map words_of placed) }
+    ensures image { (bytes : List ℕ) (words : Words) (flow : Flow) → IsWellFormed flow
+        → image_read bytes ≡ Ok words → AreOnWords words flow.places
+        → AreListedOnce flow.places (map (λ e. e.0) words) }
+{
+    lines_are_spelled();
+    sources_are_assembled();
+}
+
+/// States that by the worst starts of a graph's places the greatest start at an address is when its word
+/// begins at the latest: a walk from the entry that keeps the bounds of the loops comes there after so many
+/// ticks, and none after more. Where no place is at the address, none comes there. It does nothing.
+pub fn latest_starts_are_of_walks()
+    ensures { (flow : Flow) (tree : Tree) (starts : List ℕ) (a : ℕ) → IsWellFormed flow
+        → AreWorstStarts flow tree starts → IsLatestStart flow tree a (latest_at flow.places starts a) }
+{}
+
+/// States that a line's row has no ticks without passes: where the walk takes ticks at the words of a line, it
+/// passes the word of which the row tells. It does nothing.
+pub fn rows_with_ticks_have_passes()
+    ensures { (flow : Flow) (walk : List Edge) (line : PlacedLine)
+        → 0 < ticks_in (taken_at flow walk) line.at line.words
+        → 0 < passes_of (taken_at flow walk (told_at (taken_at flow walk) line)) }
+{}
+
+/// States which lines a table says nothing can ever reach: those at whose words the graph has no place. It
+/// does nothing.
+pub fn unreached_lines_have_no_place()
+    ensures { (flow : Flow) (walk : List Edge) (line : PlacedLine)
+        → (line_taken (taken_at flow walk) line ≡ None)
+        ↔ ((a : ℕ) → Contains (words_of line) a → is_reached flow.places a ≡ false) }
+{}
+
+/// States that the time with the fewest bursts that are enough is the least that is the bound and a burst for
+/// each stretch of so many ticks that is begun in it, and that there is no such time where no number is
+/// enough. It does nothing.
+pub fn burst_time_is_the_least()
+    ensures some { (price bound every count : ℕ) → 0 < every → AreFewest price bound every (Some count)
+        → IsBurstTime price bound every (with_bursts price bound count)
+        × ((ticks : ℕ) → IsBurstTime price bound every ticks → with_bursts price bound count ≤ ticks) }
+    ensures none { (price bound every : ℕ) → 0 < every → AreFewest price bound every None
+        → (ticks : ℕ) → IsBurstTime price bound every ticks → ⊥ }
+{}

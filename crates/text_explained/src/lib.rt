@@ -1,0 +1,36 @@
+//! A bound explained: where the ticks of a greatest walk go, and what is taken for granted, by the line of a
+//! source or the word of an image.
+#![tactic(auto)]
+
+mod assumptions;
+mod bursts;
+mod caveats;
+mod columns;
+mod done_returns;
+mod idle;
+mod image_rows;
+mod law;
+mod leaving;
+mod lines;
+mod links;
+mod named_words;
+mod pricing;
+mod sections;
+mod source;
+mod starts;
+mod tally;
+
+pub use bursts::{Bursts, burst_lines};
+pub use done_returns::{image_done_returns, source_done_returns};
+pub use idle::idle_entries;
+pub use image_rows::image_table;
+pub use law::{
+    burst_time_is_the_least, latest_starts_are_of_walks, numbers_are_of_the_walk,
+    places_are_listed_once, rows_with_ticks_have_passes, totals_are_the_bound,
+    unreached_lines_have_no_place,
+};
+pub use links::{Overwrite, lost_links};
+pub use sections::{StatedGraph, image_assumptions, source_assumptions};
+pub use source::source_table;
+pub use starts::TimedWalk;
+pub use tally::{Costs, Taken, Tally};

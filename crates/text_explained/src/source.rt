@@ -1,0 +1,115 @@
+ghost use Rattle.std.specs.Prelude.{◌≡◌, ◌++◌, IfOk, OnOk};
+ghost use Rattle.std.specs.BTreeMap.{get};
+ghost use Rattle.std.specs.Ordering.{nat_cmp};
+ghost use Rattle.longest_walk.specs.Folded.{unfolded};
+ghost use Rattle.text_explained.specs.Costing.{figures_of};
+ghost use Rattle.text_explained.specs.Starts.{latest_at};
+ghost use Rattle.text_explained.specs.Table.{IsSourceTable, line_row, line_rows, source_ticks};
+
+use crate::columns::{Column, heading, put_end};
+use crate::lines::{Costing, RowFigures, line_taken, put_figures, ticks_in, told_at};
+use crate::sections::StatedGraph;
+use crate::starts::TimedWalk;
+use crate::tally::Tally;
+use assembler::PlacedLine;
+use std::alloc::{AllocError, Global};
+use text_rows::{LineRows, NumberedLine, put_cut_row, put_line_rows};
+use walk_counts::capped_sum;
+
+// Adds the row of a line.
+fn put_line(
+    out: &mut Vec<u8>,
+    figures: RowFigures,
+    line: NumberedLine<'_>,
+) -> Result<(), AllocError>
+    ensures { OnOk result
+        (out.new.items ≡ out.old.items ++ line_row figures line.entry.number line.entry.text.now) }
+{
+    let begun = out.len();
+    put_figures(out, figures)?;
+    Column::Line.put_number(out, line.number)?;
+    Column::Text.put_gap(out)?;
+    put_cut_row(out, out.len() - begun, line.text)
+}
+
+// A line has a row if it has words.
+impl LineRows for Costing {
+    ghost rows = { λ c. line_rows (figures_of c) };
+
+    fn put(
+        &self,
+        out: &mut Vec<u8>,
+        line: NumberedLine<'_>,
+        placed: PlacedLine,
+    ) -> Result<(), AllocError> {
+        if placed.words == 0 {
+            return Ok(());
+        }
+        put_line(
+            out,
+            self.figures(
+                line_taken(&self.tally, placed),
+                told_at(&self.tally, placed),
+            ),
+            line,
+        )
+    }
+}
+
+// The ticks of all rows.
+fn source_ticks(tally: &Tally, placed: &[PlacedLine]) -> u64
+    ensures { result ≡ source_ticks (get nat_cmp tally.now.by_address) placed.now }
+{
+    let mut ticks = 0;
+    for line in placed {
+        ticks = capped_sum(ticks, ticks_in(tally, line.at, line.words));
+    }
+    ticks
+}
+
+/// Where the ticks of a greatest walk go: a row for each line of the source that has words, with how often
+/// the walk passes the line's word, the ticks of such a pass (from the least to the greatest, where they
+/// differ), the ticks at its words, what part of the bound those are, the tick by which its word begins at
+/// the latest, what the price of that word takes for granted, the number of the line and its text; then the
+/// ticks of all rows, and the bound in ticks and in microseconds. Of a line of several words that word is the
+/// first that the walk passes, or, where it passes none, the first at which the graph has a place.
+///
+/// A text is cut where it would go past column 80: the source has all of it. A byte counts as a column, and
+/// columns grow with their numbers.
+///
+/// The latest tick is the greatest of the starts of the places at the word's address, counted from the
+/// handler's beginning.
+///
+/// The price of a load or a store takes the class of what it transfers for granted, that of a multiply its
+/// most cycles (m = 16), and that of a way out of the handler the class of the addresses to which it leaves,
+/// after `>`.
+///
+/// `placed` says where the lines are, in their order; the rows end with the lines, or with the places.
+/// Where no place of the graph is on a line, the row says so in place of the numbers.
+///
+/// # Errors
+///
+/// An allocation failed.
+pub fn source_table(
+    alloc: Global,
+    handler: StatedGraph<'_>,
+    source: &[u8],
+    placed: &[PlacedLine],
+    walk: TimedWalk<'_>,
+) -> Result<Vec<u8>, AllocError>
+    ensures { IfOk result
+        (λ text. IsSourceTable handler.entry.image.now handler.entry.statement.now handler.entry.graph.now
+        (unfolded walk.entry.longest.now.walk)
+        (latest_at handler.entry.graph.now.places walk.entry.starts.now) walk.entry.longest.now.bound
+        source.now placed.now text.items) }
+{
+    let costing = Costing::of_walk(alloc, handler, walk)?;
+    let mut out = heading(alloc, Column::Line)?;
+    put_line_rows(&mut out, source, placed, &costing)?;
+    put_end(
+        &mut out,
+        source_ticks(&costing.tally, placed),
+        walk.longest.bound,
+    )?;
+    Ok(out)
+}

@@ -1,0 +1,73 @@
+ghost use Rattle.std.specs.Prelude.{◌≡◌, ◌≤◌, ◌+◌, ◌*◌, ◌++◌, IfOk, OnOk};
+ghost use Rattle.bus_ticks.specs.declared.space.TheConstants.{SPACE_END};
+ghost use Rattle.asm_text.specs.Source.{lines_of};
+ghost use Rattle.text_listing.specs.Listing.{line_rows, source_rows, word_rows};
+
+use crate::columns::{put_line_row, put_word_columns};
+use assembler::PlacedLine;
+use image::Image;
+use std::alloc::{AllocError, Global};
+use text_rows::{LineRows, NumberedLine, put, put_line_rows};
+
+// Adds a row for each of so many words from an address on.
+fn put_words(out: &mut Vec<u8>, image: &Image, from: u32, count: usize) -> Result<(), AllocError>
+    requires { from + 4 * count ≤ SPACE_END }
+    ensures { OnOk result (out.new.items ≡ out.old.items ++ word_rows image.now from count) }
+{
+    let mut at = from;
+    for _ in 0..count {
+        put_word_columns(out, at, image.word_at(at))?;
+        put(out, b"\n")?;
+        at += 4;
+    }
+    Ok(())
+}
+
+// The rows of lines beside the words of an image.
+#[derive(Clone, Copy)]
+struct Beside<'a> {
+    image: &'a Image,
+}
+
+impl LineRows for Beside<'_> {
+    ghost rows = { λ b n text p. line_rows b.image.now n text p };
+
+    fn put(
+        &self,
+        out: &mut Vec<u8>,
+        line: NumberedLine<'_>,
+        placed: PlacedLine,
+    ) -> Result<(), AllocError> {
+        if placed.words == 0 {
+            put(out, b"                  ")?;
+            return put_line_row(out, line);
+        }
+        put_word_columns(out, placed.at, self.image.word_at(placed.at))?;
+        put_line_row(out, line)?;
+        put_words(out, self.image, placed.at + 4, placed.words - 1)
+    }
+}
+
+/// The lines of a source beside the words of its image: a row for each line, with the address and the word
+/// of its first word, if it has one, its number from 1 and its text; below it a row for each further word.
+///
+/// `placed` says where the lines are, in their order; the rows end with the lines, or with the places. The
+/// text is bytes, since a comment may be other than UTF-8. A row ends at column 80, and a longer text is cut
+/// there: the source has all of it. A byte counts as a column. Dashes stand for a word that the image lacks.
+///
+/// # Errors
+///
+/// An allocation failed.
+pub fn list_source(
+    alloc: Global,
+    source: &[u8],
+    placed: &[PlacedLine],
+    image: &Image,
+) -> Result<Vec<u8>, AllocError>
+    ensures { IfOk result
+        (λ rows. rows.items ≡ source_rows image.now 1 (lines_of source.now) placed.now) }
+{
+    let mut out = Vec::new(alloc);
+    put_line_rows(&mut out, source, placed, &Beside { image })?;
+    Ok(out)
+}

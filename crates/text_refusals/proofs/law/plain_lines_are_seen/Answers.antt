@@ -1,0 +1,6 @@
+use Rattle.std.proofs.Common.{[]}
+use Rattle.text_refusals.proofs.PlainLemmas.{lines_state}
+use Rattle.text_refusals.proofs.law.plain_lines_are_seen.Goals as goal
+
+pub returns : goal.returns
+returns c = lines_state 1 [] [] []

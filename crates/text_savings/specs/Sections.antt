@@ -1,0 +1,78 @@
+-- What better entries of a statement would save, as text.
+use Rattle.std.specs.Prelude.{◌≡◌, ℕ, List, ◌++◌, codes, decimal, length, Option, Some, None}
+use Rattle.assembler.specs.declared.placed_line.PlacedLine.{PlacedLine}
+use Rattle.text_rows.specs.ByAddress.{line_of}
+use Rattle.text_rows.specs.Columns.{in_columns}
+use Rattle.statement.specs.Statement.{class_name}
+use Rattle.text_rows.specs.Rows.{IsShownRow, address_row, named_row, section}
+use Rattle.control_flow.specs.Flow.{Flow}
+use Rattle.control_flow.specs.declared.edges.Edge.{Edge}
+use Rattle.image.specs.Image.{Words}
+use Rattle.statement.specs.Stated.{Stated}
+use Rattle.text_rows.specs.Rows.{AreRows}
+use Rattle.text_savings.specs.Savings.{AreSavings}
+use Rattle.text_savings.specs.declared.classes.ClassChange.{ClassChange}
+use Rattle.text_savings.specs.declared.gains.Refinement.{Refinement}
+use Rattle.text_savings.specs.declared.gains.Refinement.TheVariants.{Addresses, Multiplier}
+use Rattle.text_savings.specs.declared.saving.Saving.{Saving}
+use Rattle.text_savings.specs.declared.saving.Subject.{Subject}
+use Rattle.text_savings.specs.declared.saving.Subject.TheVariants.{Leave, Word}
+
+-- ## Rows
+
+-- one class in place of another
+abbrev pub change_text : ClassChange → List ℕ
+change_text change = class_name change.better ++ (codes " for " ++ class_name change.present)
+
+abbrev pub refinement_text : Refinement → List ℕ
+refinement_text Multiplier = codes "m = 15"
+refinement_text (Addresses change) = change_text change
+
+abbrev pub entry_text : Subject → Refinement → List ℕ
+entry_text (Word at word) refinement = refinement_text refinement
+entry_text Leave refinement = codes "leave " ++ refinement_text refinement
+
+-- the ticks, and what the entry would be
+abbrev pub front_text : Saving → List ℕ
+front_text s = in_columns 9 (decimal s.ticks) ++ in_columns 19 (entry_text s.subject s.refinement)
+
+-- up to the end of the line
+abbrev pub IsSavingRow : ((used : ℕ) → Subject → List ℕ → Type 0) → Saving → List ℕ → Type 0
+IsSavingRow IsEnd s row =
+    (end : List ℕ) × IsEnd (length (front_text s)) s.subject end × (row ≡ front_text s ++ end)
+
+-- the address, and the number and the text of its line
+abbrev pub line_row : (used at : ℕ) → Option (ℕ × List ℕ) → List ℕ
+line_row used at None = address_row at
+line_row used at (Some line) = named_row used at line.0 line.1
+
+abbrev pub IsSourceEnd : (ℕ → Option (ℕ × List ℕ)) → (used : ℕ) → Subject → List ℕ → Type 0
+IsSourceEnd line used (Word at word) end = end ≡ line_row used at (line at)
+IsSourceEnd line used Leave end = end ≡ codes "\n"
+
+-- the address, the word and its line
+abbrev pub IsImageEnd : (used : ℕ) → Subject → List ℕ → Type 0
+IsImageEnd used (Word at word) end = IsShownRow used (at, word) end
+IsImageEnd used Leave end = end ≡ codes "\n"
+
+-- ## The section
+
+abbrev pub heading : List ℕ
+heading = codes "\nWhat would save most, in ticks at most (state only what is true):\n"
+
+-- a row for each saving under the heading, and nothing where there are none
+pub record IsSavingsText (IsEnd : (used : ℕ) → Subject → List ℕ → Type 0) (words : Words) (st : Stated)
+    (flow : Flow) (walk : List Edge) (text : List ℕ) : Type 0 where
+  pub list : List Saving
+  pub rows : List ℕ
+  pub are_savings : AreSavings words st flow walk list
+  pub are_rows : AreRows (IsSavingRow IsEnd) list rows
+  pub text_is : text ≡ section heading rows
+
+-- by the lines of a source
+abbrev pub AreSourceSavings : List ℕ → List PlacedLine → Words → Stated → Flow → List Edge → List ℕ → Type 0
+AreSourceSavings source placed = IsSavingsText (IsSourceEnd (line_of source placed))
+
+-- by the words of an image
+abbrev pub AreImageSavings : Words → Stated → Flow → List Edge → List ℕ → Type 0
+AreImageSavings = IsSavingsText IsImageEnd

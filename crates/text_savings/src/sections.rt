@@ -1,0 +1,181 @@
+ghost use Rattle.std.specs.Prelude.{◌≡◌, ◌++◌, ℕ, List, IfOk, OnOk};
+ghost use Rattle.longest_walk.specs.Folded.{unfolded};
+ghost use Rattle.asm_text.specs.Appended.{Appends};
+ghost use Rattle.text_rows.specs.Rows.{AreRows};
+ghost use Rattle.text_savings.specs.Sections.{AreImageSavings, AreSourceSavings, IsImageEnd, IsSavingRow};
+ghost use Rattle.text_savings.specs.Sections.{IsSourceEnd};
+ghost use Rattle.text_savings.specs.Sections.{entry_text, front_text, line_row, refinement_text};
+ghost use Rattle.text_savings.specs.declared.saving.Subject.{Subject};
+ghost use Rattle.text_rows.specs.ByAddress.{line_at};
+
+use crate::gains::Refinement;
+use crate::saving::{Saving, Subject, savings};
+use assembler::PlacedLine;
+use longest_walk::Longest;
+use statement::class_name;
+use std::alloc::{AllocError, Global};
+use std::collections::BTreeMap;
+use text_explained::StatedGraph;
+use text_rows::{
+    NumberedLine, lines_by_address, put, put_address_row, put_named_row, put_number, put_right,
+    put_shown_row, section,
+};
+
+const HEADING: &[u8] = b"\nWhat would save most, in ticks at most (state only what is true):\n";
+
+// Adds what the better entry says, and of what in place of what.
+fn put_refinement(out: &mut Vec<u8>, refinement: Refinement) -> Result<(), AllocError>
+    ensures { OnOk result (out.new.items ≡ out.old.items ++ refinement_text refinement) }
+{
+    match refinement {
+        Refinement::Multiplier => put(out, b"m = 15"),
+        Refinement::Addresses(change) => {
+            put(out, class_name(change.better).as_bytes())?;
+            put(out, b" for ")?;
+            put(out, class_name(change.present).as_bytes())
+        }
+    }
+}
+
+fn entry_text(
+    alloc: Global,
+    subject: Subject,
+    refinement: Refinement,
+) -> Result<Vec<u8>, AllocError>
+    ensures { IfOk result (λ text. text.items ≡ entry_text subject refinement) }
+{
+    let mut text = Vec::new(alloc);
+    if let Subject::Leave = subject {
+        put(&mut text, b"leave ")?;
+    }
+    put_refinement(&mut text, refinement)?;
+    Ok(text)
+}
+
+// Adds the ticks, and what the entry would be.
+fn put_front(out: &mut Vec<u8>, saving: &Saving) -> Result<(), AllocError>
+    ensures { OnOk result (out.new.items ≡ out.old.items ++ front_text saving.now) }
+{
+    put_number(out, saving.ticks, 9)?;
+    let text = entry_text(*out.allocator(), saving.subject, saving.refinement)?;
+    put_right(out, &text, 19)
+}
+
+// Adds an address, and the number and the text of its line, if it has one, to a row that has so many columns.
+fn put_line(
+    out: &mut Vec<u8>,
+    used: usize,
+    lines: &BTreeMap<u32, NumberedLine<'_>>,
+    at: u32,
+) -> Result<(), AllocError>
+    ensures { OnOk result (out.new.items ≡ out.old.items ++ line_row used at (line_at lines.now at)) }
+{
+    match lines.get(&at) {
+        Some(line) => put_named_row(out, used, *line, at),
+        None => put_address_row(out, at),
+    }
+}
+
+// What follows the entry in the row of a saving.
+trait RowEnds {
+    // What it is for a subject in a row that has so many columns.
+    ghost is_end: { Self → (used : ℕ) → Subject → List ℕ → Type 0 };
+
+    // Adds it to such a row.
+    fn put(&self, out: &mut Vec<u8>, used: usize, subject: Subject) -> Result<(), AllocError>
+        ensures { OnOk result (Appends (is_end self.now used subject) out.old.items out.new.items) };
+}
+
+// By the lines of a source.
+impl RowEnds for BTreeMap<u32, NumberedLine<'_>> {
+    ghost is_end = { λ lines. IsSourceEnd (line_at lines) };
+
+    fn put(&self, out: &mut Vec<u8>, used: usize, subject: Subject) -> Result<(), AllocError> {
+        match subject {
+            Subject::Word(at, _) => put_line(out, used, self, at),
+            Subject::Leave => put(out, b"\n"),
+        }
+    }
+}
+
+// By the words of an image.
+#[derive(Clone, Copy)]
+struct ByWords;
+
+impl RowEnds for ByWords {
+    ghost is_end = { λ _. IsImageEnd };
+
+    fn put(&self, out: &mut Vec<u8>, used: usize, subject: Subject) -> Result<(), AllocError> {
+        match subject {
+            Subject::Word(at, word) => put_shown_row(out, used, at, word),
+            Subject::Leave => put(out, b"\n"),
+        }
+    }
+}
+
+fn put_row<E: RowEnds>(out: &mut Vec<u8>, ends: &E, saving: &Saving) -> Result<(), AllocError>
+    ensures { OnOk result
+        (Appends (IsSavingRow (E.is_end ends.now) saving.now) out.old.items out.new.items) }
+{
+    let begun = out.len();
+    put_front(out, saving)?;
+    ends.put(out, out.len() - begun, saving.subject)
+}
+
+fn rows_of<E: RowEnds>(alloc: Global, ends: &E, list: &[Saving]) -> Result<Vec<u8>, AllocError>
+    ensures { IfOk result (λ rows. AreRows (IsSavingRow (E.is_end ends.now)) list.now rows.items) }
+{
+    let mut out = Vec::new(alloc);
+    for saving in list {
+        put_row(&mut out, ends, saving)?;
+    }
+    Ok(out)
+}
+
+/// What better entries of a statement would save by a greatest walk, by the lines of a source: under a
+/// heading a row for each of the [`savings`], with the ticks, the better entry, and the address, the number
+/// and the text of its line. A row ends at column 80. Nothing where there are no savings.
+///
+/// `placed` says where the lines are, in their order.
+///
+/// # Errors
+///
+/// An allocation failed.
+pub fn source_savings(
+    alloc: Global,
+    handler: StatedGraph<'_>,
+    source: &[u8],
+    placed: &[PlacedLine],
+    longest: &Longest,
+) -> Result<Vec<u8>, AllocError>
+    ensures { IfOk result
+        (λ text. AreSourceSavings source.now placed.now handler.entry.image.now
+        handler.entry.statement.now handler.entry.graph.now (unfolded longest.now.walk) text.items) }
+{
+    let list = savings(alloc, handler, longest)?;
+    let lines = lines_by_address(alloc, source, placed)?;
+    let rows = rows_of(alloc, &lines, &list)?;
+    section(alloc, HEADING, &rows)
+}
+
+/// What better entries of a statement would save by a greatest walk, by the words of an image: under a
+/// heading a row for each of the [`savings`], with the ticks, the better entry, and the address, the word
+/// and the line that [`disassemble`](assembler::disassemble) shows. A row ends at column 80. Nothing where
+/// there are no savings.
+///
+/// # Errors
+///
+/// An allocation failed.
+pub fn image_savings(
+    alloc: Global,
+    handler: StatedGraph<'_>,
+    longest: &Longest,
+) -> Result<Vec<u8>, AllocError>
+    ensures { IfOk result
+        (λ text. AreImageSavings handler.entry.image.now handler.entry.statement.now
+        handler.entry.graph.now (unfolded longest.now.walk) text.items) }
+{
+    let list = savings(alloc, handler, longest)?;
+    let rows = rows_of(alloc, &ByWords, &list)?;
+    section(alloc, HEADING, &rows)
+}
