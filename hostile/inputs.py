@@ -285,6 +285,20 @@ def machines():
             yield Trial(f"run, machine file: {name}", ["run", "handler.s", "machine.toml"], judge, files)
 
 
+def followed_visits(bench):
+    """A run that FIQ interrupts, by both statements and a machine file, each cut at each byte."""
+    files = worked.sample("podule_and_floppy")
+    known = labels_of(bench, files["handler.s"])
+    words = ["follow", "--fiq", "fiq.toml", "handler.s", "handler.toml", "machine.toml"]
+    for file in ("handler.toml", "fiq.toml", "machine.toml"):
+        for name, data in [("whole", files[file]), *cuts(files[file])]:
+            if file == "machine.toml":
+                judge = ReadAs("follow", readers.machine_fault(data), {*readers.Faults.ORDER} - {"Disordered"})
+            else:
+                judge = ReadAs("follow", readers.statement_fault(data, known), readers.Faults.ORDER)
+            yield Trial(f"follow --fiq, {file}: {name}", words, judge, {**files, file: data})
+
+
 def profiles(bench):
     words = ["bound", "--profile", "profile.toml", "handler.s", "handler.toml"]
     text = worked.profile()
@@ -648,6 +662,7 @@ def trials(bench):
         *statements(bench),
         *statement_limits(bench),
         *machines(),
+        *followed_visits(bench),
         *profiles(bench),
         *documents(),
         *source_cuts(bench),

@@ -1,4 +1,4 @@
-"""What docs/MANUAL.md allows the program to answer."""
+"""What docs/MANUAL.md and docs/REFUSALS.md allow the program to answer."""
 
 import re
 
@@ -12,7 +12,7 @@ DRAFTS = "Drafts"
 OF_SOURCE = (ANY, SOURCES, IMAGES)
 OF_HANDLER = (*OF_SOURCE, PROFILES, STATEMENTS, GRAPH, LOOPS)
 
-# The sections of the manual whose refusals a command can meet.
+# The sections of REFUSALS.md whose refusals a command can meet.
 MET_BY = {
     "asm": OF_SOURCE,
     "list": OF_SOURCE,
@@ -22,7 +22,7 @@ MET_BY = {
     "graph": (*OF_HANDLER, PATH),
     "check": (*OF_HANDLER, CERTIFICATES),
     "visits": (*OF_HANDLER, PATH, VISITS),
-    "follow": (*OF_HANDLER, PATH, MACHINES),
+    "follow": (*OF_HANDLER, PATH, MACHINES, VISITS),
     **{name: (*OF_SOURCE, PROFILES, MACHINES) for name in ("run", "trace", "debug")},
 }
 STATUSES = {"Memory": 3, "Device": 4}
@@ -38,9 +38,9 @@ def section(text, title):
 
 
 def refusals(text):
-    """The refusals of each section, by name, each with what may follow it."""
+    """The refusals of each section of REFUSALS.md, by name, each with what may follow it."""
     tables = {}
-    for part in re.split(r"^### ", section(text, "Refusals"), flags=re.M)[1:]:
+    for part in re.split(r"^## ", text, flags=re.M)[1:]:
         title, _, body = part.partition("\n")
         names = {}
         for cell in re.findall(r"^\| (`[^|]*) \|", body, re.M):
@@ -52,7 +52,7 @@ def refusals(text):
 
 
 MANUAL = (TOP / "docs/MANUAL.md").read_text()
-REFUSALS = refusals(MANUAL)
+REFUSALS = refusals((TOP / "docs/REFUSALS.md").read_text())
 OBJECTIONS = re.findall(r"^\| `(\w+)` \|", section(MANUAL, "Certificates"), re.M)
 # The bounds of the sample handlers.
 SAMPLES = {name: int(it) for name, it in re.findall(r"^\| `(\w+)` \| (\d+) \|", MANUAL, re.M)}
@@ -83,7 +83,7 @@ def ended_early(outcome):
         return verdict[1].decode() in OBJECTIONS
     if re.search(rb"^bound \d+ ticks, .*\n\Z", outcome.out, re.M):
         return True
-    if re.fullmatch(rb"step \d+, [0-9A-F]+(, line \d+)?: .+\n", outcome.out):
+    if re.fullmatch(rb"step \d+, [0-9A-F]+(, line \d+)?: .+\n|never at the entry, .+\n", outcome.out):
         return True
     return re.search(rb"^stopped \w+ at [0-9A-F]+\nticks \d+ elapsed \d+\n\Z", outcome.out, re.M) is not None
 

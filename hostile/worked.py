@@ -149,6 +149,7 @@ def priced(bench, words, files):
         command(bench, f"visits {words} handler.toml fiq.toml 2", {**bound.files, "fiq.toml": FIQ}),
         command(bench, f"follow {words} handler.toml machine.toml", followed),
         command(bench, f"follow {words} handler.toml machine.toml", short),
+        command(bench, f"follow --fiq fiq.toml {words} handler.toml machine.toml", {**followed, "fiq.toml": FIQ}),
         command(bench, f"run {words} machine.toml", machine),
         command(bench, f"trace {words} machine.toml", machine),
         command(bench, f"debug {words} machine.toml", machine, SESSION),
