@@ -1,8 +1,10 @@
-ghost use Rattle.std.specs.Prelude.{◌≡◌, true, All, IfOk, OnOk};
+ghost use Rattle.std.specs.Prelude.{◌≡◌, ◌⊎◌, true, All, IfOk, OnOk};
 ghost use Rattle.std.specs.Map.{keys_of};
-ghost use Rattle.text_draft.specs.Accesses.{AreAccesses, RestsOnWord};
+ghost use Rattle.text_draft.specs.Accesses.{AreAccesses, RestsOn, RestsOnWord};
 ghost use Rattle.text_draft.specs.Picks.{Keeps};
 ghost use Rattle.arm2_decode.specs.Writers.{is_transfer};
+ghost use Rattle.bus_ticks.specs.Prices.{class_of};
+ghost use Rattle.bus_ticks.specs.declared.profile.Class.{Class};
 ghost use Rattle.word_shapes.specs.Words.{MayDo};
 
 use crate::constants::Constants;
@@ -10,13 +12,15 @@ use crate::reach::Reached;
 use crate::ways::before;
 use arm2_decode::{Block, Operation, SingleImmediate};
 use arm2_transfer::address_by;
-use bus_ticks::{Class, SPACE_END, class_of};
+use bus_ticks::{Class, SPACE_END, ahead_of, class_of};
 use image::Image;
 use std::alloc::{AllocError, Global};
-use word_shapes::{instr_at, is_by_pc_at, may_transfer_at};
+use word_shapes::{instr_at, may_transfer_at};
 
 // The class of both addresses, where they are of one.
-fn class_from(first: u32, last: u32) -> Class {
+fn class_from(first: u32, last: u32) -> Class
+    ensures { (result ≡ Class.Any) ⊎ (result ≡ class_of first) }
+{
     if first >= SPACE_END || last >= SPACE_END {
         return Class::Any;
     }
@@ -57,16 +61,31 @@ fn class_shown(known: &Constants, at: u32, operation: &Operation) -> Class {
     }
 }
 
+// The class of what an operation transfers, where it shows the address by itself; else any.
+fn class_by_pc(at: u32, operation: &Operation) -> Class
+    ensures { RestsOn at operation.now result }
+{
+    let Operation::SingleImmediate(x) = operation else {
+        return Class::Any;
+    };
+    if !x.rn.is_pc() {
+        return Class::Any;
+    }
+    let address = address_by(x.before, x.up, ahead_of(at, 8), x.offset);
+    class_from(address, address)
+}
+
 // The class of what is transferred at an address, by the words in front too or by the word alone.
 fn class_at(image: &Image, known: &Constants, at: u32, by_word: bool) -> Class
     ensures { by_word ≡ true → RestsOnWord image.now (at, result) }
 {
-    if by_word && !is_by_pc_at(image, at) {
+    let Some(instr) = instr_at(image, at) else {
         return Class::Any;
-    }
-    match instr_at(image, at) {
-        Some(instr) => class_shown(known, at, &instr.operation),
-        None => Class::Any,
+    };
+    if by_word {
+        class_by_pc(at, &instr.operation)
+    } else {
+        class_shown(known, at, &instr.operation)
     }
 }
 
@@ -102,8 +121,8 @@ fn passed(image: &Image, known: Constants, at: u32) -> Constants {
 }
 
 /// Those of the addresses whose words load or store and are not under NV, in their order, each with the class
-/// of what it transfers where the words in front of it show it, or only the word itself. No clause says that
-/// the class is right: that is tested.
+/// of what it transfers where the words in front of it show it, or only the word itself. Of the first no clause
+/// says that the class is right: that is tested.
 pub(crate) fn find_accesses(
     alloc: Global,
     image: &Image,

@@ -58,13 +58,6 @@ keeps_return_address (operation.DataRegister x) =
     is_mov x.opcode && is_link x.rd && is_pc x.rm && is_lsl_by 0 x
 keeps_return_address _ = false
 
--- ## Addresses by PC
-
--- the one word or byte that it loads or stores is so many bytes from PC
-abbrev pub is_by_pc : Operation → Bool
-is_by_pc (operation.SingleImmediate x) = is_pc x.rn
-is_by_pc _ = false
-
 -- ## Flags
 
 -- a word that writes R15 restores the flags with it: data processing with S, or a block with ^

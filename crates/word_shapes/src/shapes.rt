@@ -1,6 +1,6 @@
 ghost use Rattle.std.specs.Prelude.{◌≡◌};
 ghost use Rattle.arm2_decode.specs.Writers.{is_transfer};
-ghost use Rattle.word_shapes.specs.Shapes.{copies_link, is_by_pc, is_lsl_by, is_odd_writer, is_return};
+ghost use Rattle.word_shapes.specs.Shapes.{copies_link, is_lsl_by, is_odd_writer, is_return};
 ghost use Rattle.word_shapes.specs.Shapes.{is_table_jump, keeps_return_address, makes_address, may_do};
 ghost use Rattle.word_shapes.specs.Shapes.{offsets_pc, restores_flags, sets_link_by_pc, subtracts_from_link};
 
@@ -67,16 +67,6 @@ pub fn keeps_return_address(operation: &Operation) -> bool
         Operation::DataRegister(x) => {
             x.opcode.is_mov() && x.rd.is_link() && x.rm.is_pc() && is_lsl_by(0, x)
         }
-        _ => false,
-    }
-}
-
-/// Whether an operation loads or stores one word or byte that is so many bytes from PC.
-pub(crate) fn is_by_pc(operation: &Operation) -> bool
-    ensures { result ≡ is_by_pc operation.now }
-{
-    match operation {
-        Operation::SingleImmediate(x) => x.rn.is_pc(),
         _ => false,
     }
 }

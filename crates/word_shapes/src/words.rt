@@ -2,13 +2,13 @@ ghost use Rattle.std.specs.Prelude.{◌≡◌, ◌↔◌, IfSome, IsTrue, Some};
 ghost use Rattle.arm2_decode.specs.Table.{Means};
 ghost use Rattle.arm2_decode.specs.declared.instr.Instr.{Instr};
 ghost use Rattle.arm2_decode.specs.Writers.{is_transfer};
-ghost use Rattle.word_shapes.specs.Shapes.{is_by_pc, is_odd_writer, is_table_jump, keeps_return_address};
+ghost use Rattle.word_shapes.specs.Shapes.{is_odd_writer, is_table_jump, keeps_return_address};
 ghost use Rattle.word_shapes.specs.Shapes.{leaves_flags, sets_link_by_pc};
 ghost use Rattle.word_shapes.specs.Words.{HasInstr, HasShape, MayDo};
 
 use crate::shapes::{
-    is_by_pc, is_odd_writer, is_table_jump, may_keep_return_address, may_set_link_by_pc,
-    may_transfer, may_write_oddly, restores_flags,
+    is_odd_writer, is_table_jump, may_keep_return_address, may_set_link_by_pc, may_transfer,
+    may_write_oddly, restores_flags,
 };
 use arm2_decode::{Instr, decode};
 use image::Image;
@@ -62,13 +62,6 @@ pub fn may_keep_return_address_at(image: &Image, at: u32) -> bool
     ensures { IsTrue result ↔ MayDo keeps_return_address image.now at }
 {
     instr_at(image, at).is_some_and(|instr| may_keep_return_address(&instr))
-}
-
-/// Whether the image has a word at an address that loads or stores one word or byte so many bytes from PC.
-pub fn is_by_pc_at(image: &Image, at: u32) -> bool
-    ensures { IsTrue result ↔ HasShape is_by_pc image.now at }
-{
-    instr_at(image, at).is_some_and(|instr| is_by_pc(&instr.operation))
 }
 
 /// Whether the image has a word at an address that may put an address by PC into R14, or load R14 from one:
