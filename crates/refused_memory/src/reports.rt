@@ -140,8 +140,10 @@ const FOLLOWED: &[u8] = b"kept: 21 ticks, 4 less than the bound
        1        5       1        9  0000800C     4   SUBS PC,R14,#4
 ";
 
-// The bounds are 80 and 21 ticks, and FIQ is taken in at most 8.
-const FOLLOWED_VISITS: &[u8] = b"kept: 68 ticks with 1 visit, 41 less than the total\n";
+// The bounds are 80 and 21 ticks, and FIQ is taken in at most 8. The run returns to the source's first word.
+const FOLLOWED_VISITS: &[u8] = b"kept: 68 ticks with 1 visit, 41 less than the total
+left to 0, line 2, a word of the source
+";
 
 // Its bound is exactly as much as it may be.
 const EXPLAINED: Explained<'static> = Explained {
