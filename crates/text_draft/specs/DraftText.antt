@@ -1,5 +1,6 @@
 -- The text of a draft, of what was found.
-use Rattle.std.specs.Prelude.{ℕ, zero, suc, Bool, true, false, ◌*◌, ◌==◌, if◌then◌else◌, List, [], ◌∷◌, ◌++◌, length}
+use Rattle.std.specs.Prelude.{ℕ, zero, suc, Bool, true, false, ◌*◌, ◌==◌, if◌then◌else◌, List, []}
+use Rattle.std.specs.Prelude.{◌∷◌, ◌++◌, length}
 use Rattle.std.specs.Prelude.{replicate}
 use Rattle.std.specs.Prelude.{codes, decimal, Option, Some, None}
 use Rattle.std.specs.BTreeMap.{BTreeMap, get}
@@ -101,7 +102,8 @@ module _ (lines : BTreeMap ℕ SourceLine) where
   -- the branches of a table, or what to write
   abbrev pub destinations_text : ℕ → ℕ → List ℕ
   destinations_text table branches =
-      if branches == 0 then codes "to = \"?\"  # a list, or nothing for a return or a leave: draft from each of them too\n"
+      if branches == 0 then
+      codes "to = \"?\"  # a list, or nothing for a return or a leave: draft from each of them too\n"
       else codes "to = [\n"
       ++ (flat_map destination_text (words_from table branches)
       ++ codes "  \"?\",  # what else it may reach, or nothing\n]\n")
@@ -126,7 +128,8 @@ module _ (lines : BTreeMap ℕ SourceLine) where
       codes "# A draft, of what the words show. Write something for each \"?\". A bound counts\n"
       ++ (codes "# turns back: of a loop that runs eight times seven.\n"
       ++ (place_text 0 (codes "entry") entry
-      ++ codes "# leave = \"ram\"  # where it returns to, if always to one: \"ram\", \"rom\" or \"io\"\nreturns = \"stated\"\n"))
+      ++ (codes "# leave = \"ram\"  # where it returns to, if always to one: \"ram\", \"rom\" or \"io\"\n"
+      ++ codes "returns = \"stated\"\n")))
 
   abbrev pub candidate_text : ℕ → List ℕ
   candidate_text at = element_text (codes "#   ") at []

@@ -363,8 +363,9 @@ impl<'a> Sheet<'_, 'a> {
         self.put_place(out, 0, b"entry", entry)?;
         put(
             out,
-            b"# leave = \"ram\"  # where it returns to, if always to one: \"ram\", \"rom\" or \"io\"\nreturns = \"stated\"\n",
-        )
+            b"# leave = \"ram\"  # where it returns to, if always to one: \"ram\", \"rom\" or \"io\"\n",
+        )?;
+        put(out, b"returns = \"stated\"\n")
     }
 }
 
