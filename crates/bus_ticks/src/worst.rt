@@ -53,7 +53,7 @@ fn worst_fetch(profile: &Profile, address: u32, ram: u32) -> u32
 pub fn worst_fetch_n(profile: &Profile, address: u32) -> u32
     requires { address < SPACE_END }
     ensures number { result ≡ worst_fetch_n profile.now address }
-    ensures greatest { IsGreatest IsAnyTimes (λ rom. fetch_n profile.now rom address) result }
+    ensures greatest { IsGreatest IsAnyTimes (λ rom. fetch_n profile.now address rom) result }
     ensures small { result < 256 }
 {
     worst_fetch(profile, address, profile.n)
@@ -63,7 +63,7 @@ pub fn worst_fetch_n(profile: &Profile, address: u32) -> u32
 pub fn worst_fetch_s(profile: &Profile, address: u32) -> u32
     requires { address < SPACE_END }
     ensures number { result ≡ worst_fetch_s profile.now address }
-    ensures greatest { IsGreatest IsAnyTimes (λ rom. fetch_s profile.now rom address) result }
+    ensures greatest { IsGreatest IsAnyTimes (λ rom. fetch_s profile.now address rom) result }
     ensures small { result < 256 }
 {
     worst_fetch(profile, address, ram_price(profile, address))
