@@ -1,8 +1,11 @@
 //! The offsets of IOC's registers, in bytes from 3200000.
+//!
+//! Of each bank (IRQ A, IRQ B and FIQ): its status, its request, which is status and mask, and its mask. Of
+//! each timer: the two bytes of its output, which are written to its latch; where a write has the latch as
+//! the count; and where one has the count as the output.
 
-// Of each bank its status, the request (status and mask) and its mask.
 pub(crate) const STATUS_A: u32 = 0x10;
-// A write clears the latched requests.
+// A write clears the four latched requests.
 pub(crate) const REQUEST_A: u32 = 0x14;
 
 pub(crate) const MASK_A: u32 = 0x18;
@@ -19,8 +22,6 @@ pub(crate) const REQUEST_F: u32 = 0x34;
 
 pub(crate) const MASK_F: u32 = 0x38;
 
-// Of each timer the two bytes of its output, which are written to its latch; and where a write has the latch
-// be its count, or its count be the output.
 pub(crate) const TIMER_0_LOW: u32 = 0x40;
 
 pub(crate) const TIMER_0_HIGH: u32 = 0x44;
