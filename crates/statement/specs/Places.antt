@@ -1,7 +1,8 @@
 -- Where in a statement's document a fault is: each fault of `StatementRules`, with the spot that has it.
-use Rattle.std.specs.Prelude.{◌≡◌, ◌<◌, ◌⊎◌, ℕ, Bool, true, false, List, [], codes, length, take, Any}
-use Rattle.std.specs.Prelude.{Option, Some, None, IsSome, IsSomeAnd}
+use Rattle.std.specs.Prelude.{◌≡◌, ◌<◌, ◌⊎◌, ℕ, Bool, true, false, List, [], ◌∷◌, codes, length, take, Any}
+use Rattle.std.specs.Prelude.{Option, Some, None, IsSome, IsSomeAnd, if◌then◌else◌}
 use Rattle.std.specs.List.{slice_get}
+use Rattle.std.specs.Str.{bytes_eq}
 use Rattle.toml.specs.Data.{Data, Members, as_table, get_member}
 use Rattle.toml_reading.specs.Documents.{is_one_of, items_at}
 use Rattle.toml_reading.specs.Lowest.{AtKey, IsNamed, NameFault, NumberFault, entries_at}
@@ -51,6 +52,18 @@ key_name Kind = codes "kind"
 key_name To = codes "to"
 key_name Class = codes "class"
 
+-- the first of the keys that a word names
+abbrev pub key_among : List Key → List ℕ → Option Key
+key_among [] w = None
+key_among (key ∷ keys) w = if bytes_eq (key_name key) w then Some key else key_among keys w
+
+abbrev pub all_keys : List Key
+all_keys =
+    Entry ∷ Leave ∷ Returns ∷ Header ∷ First ∷ Last ∷ Bound ∷ At ∷ Kind ∷ To ∷ Class ∷ []
+
+abbrev pub named_key : List ℕ → Option Key
+named_key w = key_among all_keys w
+
 -- the keys that a table of the list may have, or the statement itself
 abbrev pub keys_of : Option TableList → List (List ℕ)
 keys_of None = statement_keys
@@ -75,7 +88,9 @@ has_destinations Leaving = false
 -- the table's kind is known, and goes to destinations or does not
 abbrev pub GoesOn : Bool → Members → Type 0
 GoesOn goes ms =
-    (kind : TargetKind) × AtKey (codes "kind") ms (λ d. IsNamed named_kind d kind) × (has_destinations kind ≡ goes)
+    (kind : TargetKind)
+    × AtKey (codes "kind") ms (λ d. IsNamed named_kind d kind)
+    × (has_destinations kind ≡ goes)
 
 -- there must be destinations, and there are none
 abbrev pub NoDestinationsFault : Members → StatementFault → Type 0
@@ -144,7 +159,8 @@ module _ (names : Names) where
   -- an earlier target or access is of its address
   abbrev pub SecondFault : TableList → ℕ → Members → StatementFault → Type 0
   SecondFault Loops n ms fault = ⊥
-  SecondFault Targets n ms fault = IsRepeatAt (IsAt names) (entries_at (codes "target") ms) n × (fault ≡ Twice)
+  SecondFault Targets n ms fault =
+      IsRepeatAt (IsAt names) (entries_at (codes "target") ms) n × (fault ≡ Twice)
   SecondFault Accesses n ms fault =
       IsRepeatAt (IsAt names) (entries_at (codes "access") ms) n × (fault ≡ Twice)
 

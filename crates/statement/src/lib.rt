@@ -20,6 +20,6 @@ pub use faults::StatementFault;
 pub use law::{faults_have_spots, statements_are_read};
 pub use places::Document;
 pub use reading::{MOST_ACCESSES, MOST_LOOPS, MOST_TARGETS, STATEMENT_KEYS, read_statement};
-pub use spots::{Key, Part, Spot, TableList, key_name, list_key};
+pub use spots::{KEYS, Key, Part, Spot, TableList, key_name, list_key, most_of, named_key};
 pub use stated::{Loop, Returns, Statement, Target, TargetKind};
 pub use walks::MOST_ROUNDS;

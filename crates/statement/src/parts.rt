@@ -5,7 +5,8 @@ ghost use Rattle.toml.specs.View.{table_view, view};
 ghost use Rattle.toml_reading.specs.Lowest.{entries_at};
 ghost use Rattle.image.specs.Labels.{address_of};
 ghost use Rattle.statement.specs.PlaceTests.{access_key_gives, destination_gives, entry_at, gives, goes_on};
-ghost use Rattle.statement.specs.PlaceTests.{has_no_destinations, is_no_list, is_no_table, is_outside, is_same};
+ghost use Rattle.statement.specs.PlaceTests.{has_no_destinations, is_no_list, is_no_table, is_outside};
+ghost use Rattle.statement.specs.PlaceTests.{is_same};
 ghost use Rattle.statement.specs.PlaceTests.{is_too_long, is_unwanted, key_gives, kind_goes, lies_outside};
 ghost use Rattle.statement.specs.PlaceTests.{loop_key_gives, own_key_gives, part_gives, stays, table_at};
 ghost use Rattle.statement.specs.PlaceTests.{target_key_gives};
@@ -257,9 +258,7 @@ pub(crate) fn part_gives(
                 && has(table, key)
                 && !is_one_of(keys_of(list), key.as_bytes())
         }
-        Part::Value(key) => {
-            has(table, key_name(key)) && key_gives(labels, list, table, key, fault)
-        }
+        Part::Value(key) => has(table, key_name(key)) && key_gives(labels, list, table, key, fault),
         Part::Missing(key) => {
             !has(table, key_name(key)) && key_gives(labels, list, table, key, fault)
         }

@@ -6,8 +6,7 @@ ghost use Rattle.image.specs.Labels.{address_of};
 ghost use Rattle.statement.specs.PlaceTests.{IsStored, destination_gives, entry_at, found, goes_on, holds_of};
 ghost use Rattle.statement.specs.PlaceTests.{is_no_list, is_no_table, is_outside, is_second};
 ghost use Rattle.statement.specs.PlaceTests.{is_second_destination, is_too_long, is_unwanted, part_gives};
-ghost use Rattle.statement.specs.PlaceTests.{repeats_of};
-ghost use Rattle.statement.specs.PlaceTests.{table_at};
+ghost use Rattle.statement.specs.PlaceTests.{repeats_of, table_at};
 ghost use Rattle.statement.specs.Places.{IsFaultAt, list_key, most_of};
 
 use crate::faults::StatementFault;
@@ -66,7 +65,8 @@ impl<'a> Document<'a> {
 
     // Whether an earlier entry of the list is of the address of the entry.
     fn is_second(&self, list: TableList, index: usize) -> bool
-        ensures { result ≡ is_second (address_of self.now.labels.now) list index (table_view self.now.table.now) }
+        ensures { result
+            ≡ is_second (address_of self.now.labels.now) list index (table_view self.now.table.now) }
     {
         match list {
             TableList::Loops => false,
@@ -105,7 +105,8 @@ impl<'a> Document<'a> {
         fault: StatementFault,
     ) -> bool
         ensures { result
-            ≡ holds_of (λ table. part_gives (address_of self.now.labels.now) (Some list) part.entry table fault)
+            ≡ holds_of
+            (λ table. part_gives (address_of self.now.labels.now) (Some list) part.entry table fault)
             (table_at list index (table_view self.now.table.now)) }
     {
         match table_at(self.table, list, index) {
@@ -116,7 +117,9 @@ impl<'a> Document<'a> {
 
     // Whether the loop's header lies outside first to last.
     fn is_misplaced(&self, index: usize) -> bool
-        ensures { result ≡ holds_of (is_outside (address_of self.now.labels.now)) (table_at TableList.Loops index (table_view self.now.table.now)) }
+        ensures { result
+            ≡ holds_of (is_outside (address_of self.now.labels.now))
+            (table_at TableList.Loops index (table_view self.now.table.now)) }
     {
         match table_at(self.table, TableList::Loops, index) {
             Some(table) => is_outside(self.labels, table),
@@ -126,7 +129,8 @@ impl<'a> Document<'a> {
 
     // Whether the target has destinations and may have none.
     fn is_unwanted(&self, index: usize) -> bool
-        ensures { result ≡ holds_of is_unwanted (table_at TableList.Targets index (table_view self.now.table.now)) }
+        ensures { result
+            ≡ holds_of is_unwanted (table_at TableList.Targets index (table_view self.now.table.now)) }
     {
         match table_at(self.table, TableList::Targets, index) {
             Some(table) => is_unwanted(table),
@@ -136,7 +140,8 @@ impl<'a> Document<'a> {
 
     // Whether the target has more destinations than it may have.
     fn is_too_long(&self, index: usize) -> bool
-        ensures { result ≡ holds_of is_too_long (table_at TableList.Targets index (table_view self.now.table.now)) }
+        ensures { result
+            ≡ holds_of is_too_long (table_at TableList.Targets index (table_view self.now.table.now)) }
     {
         match table_at(self.table, TableList::Targets, index) {
             Some(table) => is_too_long(table),
@@ -146,7 +151,8 @@ impl<'a> Document<'a> {
 
     // Whether the target is a jump or a call.
     fn goes_on(&self, index: usize) -> bool
-        ensures { result ≡ holds_of goes_on (table_at TableList.Targets index (table_view self.now.table.now)) }
+        ensures { result
+            ≡ holds_of goes_on (table_at TableList.Targets index (table_view self.now.table.now)) }
     {
         match table_at(self.table, TableList::Targets, index) {
             Some(table) => goes_on(table),
@@ -169,7 +175,8 @@ impl<'a> Document<'a> {
     // Whether the destination has the fault, or an earlier one is of its address.
     fn is_faulty_destination(&self, target: usize, index: usize, fault: StatementFault) -> bool
         ensures { result
-            ≡ found (address_of self.now.labels.now) (table_view self.now.table.now) (Spot.Destination target index) fault }
+            ≡ found (address_of self.now.labels.now) (table_view self.now.table.now)
+            (Spot.Destination target index) fault }
     {
         if self.destination_gives(target, index, fault) {
             return true;
@@ -188,7 +195,8 @@ impl<'a> Document<'a> {
 
     // Whether the list has more entries than a statement may have.
     fn has_too_many(&self, list: TableList) -> bool
-        ensures { result ≡ nat_lt (most_of list) (length (entries_at (list_key list) (table_view self.now.table.now))) }
+        ensures { result
+            ≡ nat_lt (most_of list) (length (entries_at (list_key list) (table_view self.now.table.now))) }
     {
         most_of(list) < entries_at(self.table, list_key(list)).len()
     }
@@ -201,7 +209,8 @@ impl<'a> Document<'a> {
     }
 
     fn found(&self, spot: Spot<'_>, fault: StatementFault) -> bool
-        ensures { result ≡ found (address_of self.now.labels.now) (table_view self.now.table.now) spot.entry fault }
+        ensures { result
+            ≡ found (address_of self.now.labels.now) (table_view self.now.table.now) spot.entry fault }
     {
         let is = |other| is_same(other, fault);
         match spot {
@@ -212,7 +221,7 @@ impl<'a> Document<'a> {
                 is(StatementFault::WrongKind) && self.is_no_table(list, index)
             }
             Spot::Listed(list, index, part) => self.listed_gives(list, index, part, fault),
-            Spot::Misplaced(index) => { is(StatementFault::OutOfRange) && self.is_misplaced(index) }
+            Spot::Misplaced(index) => is(StatementFault::OutOfRange) && self.is_misplaced(index),
             Spot::Unwanted(index) => is(StatementFault::WrongKind) && self.is_unwanted(index),
             Spot::TooManyDestinations(index) => {
                 is(StatementFault::OutOfRange) && self.is_too_long(index)
@@ -224,7 +233,8 @@ impl<'a> Document<'a> {
 
     /// Whether the document has the fault at the spot.
     pub fn has_fault_at(&self, spot: Spot<'_>, fault: StatementFault) -> bool
-        ensures { result ≡ true ↔ IsFaultAt (address_of self.now.labels.now) (table_view self.now.table.now) spot.entry fault }
+        ensures { result ≡ true
+            ↔ IsFaultAt (address_of self.now.labels.now) (table_view self.now.table.now) spot.entry fault }
     {
         self.found(spot, fault)
     }

@@ -1,5 +1,5 @@
 ghost use Rattle.std.specs.Prelude.{◌≡◌, map};
-ghost use Rattle.statement.specs.Places.{key_name, keys_of, list_key, most_of};
+ghost use Rattle.statement.specs.Places.{key_among, key_name, keys_of, list_key, most_of, named_key};
 
 use crate::entries::{ACCESS_KEYS, LOOP_KEYS, TARGET_KEYS};
 use crate::reading::{MOST_ACCESSES, MOST_LOOPS, MOST_TARGETS, STATEMENT_KEYS};
@@ -27,6 +27,21 @@ pub enum Key {
     To,
     Class,
 }
+
+/// Each key, in the order of the tables that have it: of the statement, a loop, a target and an access.
+pub const KEYS: &[Key] = &[
+    Key::Entry,
+    Key::Leave,
+    Key::Returns,
+    Key::Header,
+    Key::First,
+    Key::Last,
+    Key::Bound,
+    Key::At,
+    Key::Kind,
+    Key::To,
+    Key::Class,
+];
 
 /// What of a table may have a fault.
 #[derive(Clone, Copy)]
@@ -94,6 +109,25 @@ pub fn key_name(key: Key) -> &'static str
     }
 }
 
+// The first of the keys that a word names.
+fn key_among(keys: &[Key], word: &[u8]) -> Option<Key>
+    ensures { result ≡ key_among keys.now word.now }
+{
+    for key in keys {
+        if key_name(*key).as_bytes() == word {
+            return Some(*key);
+        }
+    }
+    None
+}
+
+/// The key that a word names.
+pub fn named_key(word: &[u8]) -> Option<Key>
+    ensures { result ≡ named_key word.now }
+{
+    key_among(KEYS, word)
+}
+
 /// The keys that a table of the list may have, or the statement itself.
 pub(crate) fn keys_of(list: Option<TableList>) -> &'static [&'static str]
     ensures { map (λ k. k.now) result.now ≡ keys_of list }
@@ -106,8 +140,8 @@ pub(crate) fn keys_of(list: Option<TableList>) -> &'static [&'static str]
     }
 }
 
-/// The most entries of a list.
-pub(crate) fn most_of(list: TableList) -> usize
+/// The most entries that a list of a statement may have.
+pub fn most_of(list: TableList) -> usize
     ensures { result ≡ most_of list }
 {
     match list {
