@@ -27,15 +27,15 @@ use Rattle.statement.proofs.TableLemmas.{access_judged, loop_judged, seven_in_li
 
 -- ## Faults differ in their numbers
 
-abbrev fault_at : ℕ → StatementFault
+abbrev pub fault_at : ℕ → StatementFault
 fault_at n =
     get_or (Memory ∷ Memory ∷ NotToml ∷ UnknownKey ∷ WrongKind ∷ UnknownLabel ∷ OutOfRange ∷ Twice ∷ []) n Memory
 
-numbered_back : (f : StatementFault) → fault_at (number_of f) ≡ f
+pub numbered_back : (f : StatementFault) → fault_at (number_of f) ≡ f
 numbered_back Memory = refl
 numbered_back _ = refl
 
-leave_judged :
+pub leave_judged :
     (ms : Members)
     → Judges
     statement_faults
@@ -52,7 +52,7 @@ leave_judged ms =
     Any
     (get_member (codes "leave") ms)
 
-returns_judged :
+pub returns_judged :
     (ms : Members)
     → Judges
     statement_faults

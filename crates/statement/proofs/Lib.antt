@@ -3,3 +3,6 @@ pub mod Unique
 pub mod RuleLemmas
 pub mod TableLemmas
 pub mod DocumentLemmas
+pub mod RepeatLemmas
+pub mod PlaceLemmas
+pub mod SpotLemmas

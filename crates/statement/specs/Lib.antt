@@ -4,3 +4,5 @@ pub mod StatementFaults
 pub mod Statement
 pub mod ReadingParts
 pub mod StatementRules
+pub mod Places
+pub mod PlaceTests

@@ -43,8 +43,8 @@ fn label_address(address: Option<u32>) -> Read<u32>
     }
 }
 
-// An address, as an integer or as a label's name.
-fn address_at(labels: &Labels, value: &Value) -> Read<u32>
+/// An address, as an integer or as a label's name.
+pub(crate) fn address_at(labels: &Labels, value: &Value) -> Read<u32>
     ensures { result ≡ address_at (address_of labels.now) (view value.now) }
 {
     if let Some(number) = value.as_integer() {
@@ -63,8 +63,8 @@ pub(crate) fn address_in(labels: &Labels, table: &Table, key: &str) -> Read<u32>
     required(value_at(table, key), |value| address_at(labels, value))
 }
 
-// The loop of its first and last word, its header and its bound.
-fn placed_loop(parts: ((u32, u32), (u32, u32))) -> Read<Loop>
+/// The loop of its first and last word, its header and its bound.
+pub(crate) fn placed_loop(parts: ((u32, u32), (u32, u32))) -> Read<Loop>
     ensures { result ≡ placed_loop parts }
 {
     let ((first, last), (header, bound)) = parts;
@@ -178,7 +178,7 @@ pub(crate) fn returns_named_at(value: &Value) -> Read<Returns>
     required(word.and_then(named_returns), Ok)
 }
 
-fn class_in(table: &Table) -> Read<Class>
+pub(crate) fn class_in(table: &Table) -> Read<Class>
     ensures { result ≡ class_in (table_view table.now) }
 {
     required(value_at(table, "class"), class_named_at)
@@ -229,7 +229,7 @@ fn kind_at(value: &Value) -> Read<TargetKind>
     required(word.and_then(named_kind), Ok)
 }
 
-fn kind_in(table: &Table) -> Read<TargetKind>
+pub(crate) fn kind_in(table: &Table) -> Read<TargetKind>
     ensures { result ≡ kind_in (table_view table.now) }
 {
     required(value_at(table, "kind"), kind_at)

@@ -1,11 +1,13 @@
 ghost use Rattle.std.specs.Prelude.{◌≡◌, ◌↔◌, Ok, Err};
 ghost use Rattle.toml.specs.Data.{Members};
 ghost use Rattle.toml_reading.specs.Lowest.{IsLowest};
+ghost use Rattle.statement.specs.Places.{IsFaultAt};
 ghost use Rattle.statement.specs.StatementRules.{HasFault, States};
 ghost use Rattle.statement.specs.Stated.{Stated};
 ghost use Rattle.image.specs.Labels.{Names};
 ghost use Rattle.statement.specs.Statement.{statement_of};
 ghost use Rattle.statement.specs.StatementFaults.{statement_faults};
+ghost use Rattle.statement.specs.declared.spots.Spot.{Spot};
 
 use crate::faults::StatementFault;
 
@@ -16,4 +18,11 @@ pub fn statements_are_read()
         ↔ States names ms st }
     ensures refused { (names : Names) → (ms : Members) → (fault : StatementFault)
         → statement_of names ms ≡ Err fault ↔ IsLowest statement_faults (HasFault names ms) fault }
+{}
+
+/// States that a document has a fault exactly where one of its spots has it, as
+/// [`has_fault_at`](crate::Document::has_fault_at) says. It does nothing.
+pub fn faults_have_spots()
+    ensures { (names : Names) → (ms : Members) → (fault : StatementFault) → HasFault names ms fault
+        ↔ ((spot : Spot) × IsFaultAt names ms spot fault) }
 {}

@@ -5,7 +5,11 @@
 mod entries;
 mod faults;
 mod law;
+mod parts;
+mod places;
 mod reading;
+mod repeats;
+mod spots;
 mod stated;
 
 pub use entries::{
@@ -13,7 +17,9 @@ pub use entries::{
     named_returns,
 };
 pub use faults::StatementFault;
-pub use law::statements_are_read;
+pub use law::{faults_have_spots, statements_are_read};
+pub use places::Document;
 pub use reading::{MOST_ACCESSES, MOST_LOOPS, MOST_TARGETS, STATEMENT_KEYS, read_statement};
+pub use spots::{KEYS, Key, Part, Spot, TableList, key_name, list_key, most_of, named_key};
 pub use stated::{Loop, Returns, Statement, Target, TargetKind};
 pub use walks::MOST_ROUNDS;

@@ -28,15 +28,15 @@ pub const MOST_TARGETS: usize = 1024;
 /// The most accesses of a statement.
 pub const MOST_ACCESSES: usize = 4096;
 
-// The class to leave to.
-fn leave_in(table: &Table) -> Read<Class>
+/// The class to leave to.
+pub(crate) fn leave_in(table: &Table) -> Read<Class>
     ensures { result ≡ leave_in (table_view table.now) }
 {
     value_at(table, "leave").map_or(Ok(Class::Any), class_named_at)
 }
 
-// What a word does that writes R15 and has no stated target.
-fn returns_in(table: &Table) -> Read<Returns>
+/// What a word does that writes R15 and has no stated target.
+pub(crate) fn returns_in(table: &Table) -> Read<Returns>
     ensures { result ≡ returns_in (table_view table.now) }
 {
     value_at(table, "returns").map_or(Ok(Returns::Assumed), returns_named_at)

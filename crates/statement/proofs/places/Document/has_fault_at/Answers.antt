@@ -1,0 +1,10 @@
+use Rattle.std.proofs.Common.{sym, ◌∙◌}
+use Rattle.toml.specs.View.{table_view}
+use Rattle.image.specs.Labels.{address_of}
+use Rattle.statement.proofs.PlaceLemmas.{found_is}
+use Rattle.statement.proofs.places.Document.has_fault_at.Goals as goal
+
+pub returns : goal.returns
+returns c =
+    let is = found_is (address_of c.args.self.now.labels.now) (table_view c.args.self.now.table.now) c.args.spot c.args.fault in
+    (λ e. is.0 (sym c.found.ensures ∙ e), λ h. c.found.ensures ∙ is.1 h)

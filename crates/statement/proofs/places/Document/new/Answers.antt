@@ -1,0 +1,20 @@
+use Rattle.std.proofs.Common.{ap, map, ◌∙◌}
+use Rattle.toml.specs.View.{view}
+use Rattle.image.specs.Labels.{address_of}
+use Rattle.statement.specs.PlaceTests.{destination_repeats, entry_repeats}
+use Rattle.statement.proofs.RepeatLemmas.{map_twice}
+use Rattle.statement.proofs.places.Document.new.Goals as goal
+
+pub invariant_of-result : goal.invariant_of-result
+invariant_of-result c =
+    let names = address_of c.args.labels.now in
+    record {
+      stored = record {
+        targets_known = c.in_ok-entry_repeats.ensures ∙ ap (entry_repeats names) c.entries_at-targets.ensures;
+        accesses_known = c.in_ok-entry_repeats-2.ensures ∙ ap (entry_repeats names) c.entries_at-accesses.ensures;
+        destinations_known =
+            c.in_ok-all_destination_repeats.ensures
+            ∙ map_twice (destination_repeats names) view c.entries_at-targets.result.now
+            ∙ ap (map (destination_repeats names)) c.entries_at-targets.ensures;
+      };
+    }
