@@ -6,3 +6,4 @@ pub mod DocumentLemmas
 pub mod RepeatLemmas
 pub mod PlaceLemmas
 pub mod SpotLemmas
+pub mod KeyLemmas

@@ -241,6 +241,15 @@ fn has(table: &Table, key: &str) -> bool
     value_at(table, key).is_some()
 }
 
+fn has_name(table: &Table, name: &[u8]) -> bool
+    ensures { result ≡ is_some (get_member name.now (table_view table.now)) }
+{
+    match str::from_utf8(name) {
+        Ok(key) => has(table, key),
+        Err(_) => false,
+    }
+}
+
 /// Whether the part of a table of the list, or of the statement itself, has the fault.
 pub(crate) fn part_gives(
     labels: &Labels,
@@ -255,8 +264,8 @@ pub(crate) fn part_gives(
     match part {
         Part::Unknown(key) => {
             is_same(StatementFault::UnknownKey, fault)
-                && has(table, key)
-                && !is_one_of(keys_of(list), key.as_bytes())
+                && has_name(table, key)
+                && !is_one_of(keys_of(list), key)
         }
         Part::Value(key) => has(table, key_name(key)) && key_gives(labels, list, table, key, fault),
         Part::Missing(key) => {

@@ -46,8 +46,8 @@ pub const KEYS: &[Key] = &[
 /// What of a table may have a fault.
 #[derive(Clone, Copy)]
 pub enum Part<'a> {
-    /// A key that the table may not have, by its name.
-    Unknown(&'a str),
+    /// A key that the table may not have, by the bytes of its name.
+    Unknown(&'a [u8]),
     /// A key that is there: its value, or that it is there.
     Value(Key),
     /// A key that has to be there and is not.
