@@ -7,12 +7,13 @@ use Rattle.std.specs.Ordering.{nat_cmp}
 use Rattle.bus_ticks.specs.Prices.{ahead_of}
 use Rattle.bus_ticks.specs.declared.space.TheConstants.{SPACE_END}
 use Rattle.arm2_decode.specs.Names.{is_link, is_never, is_pc}
+use Rattle.arm2_decode.specs.Transfers.{is_listed}
 use Rattle.arm2_decode.specs.Writers.{is_transfer, writes, writes_pc}
 use Rattle.arm2_decode.specs.declared.instr.Instr.{Instr}
 use Rattle.arm2_decode.specs.declared.instr.Operation.{Operation}
 use Rattle.arm2_decode.specs.declared.instr.Operation.TheVariants as operation
 use Rattle.arm2_decode.specs.declared.instr.SingleImmediate.{SingleImmediate}
-use Rattle.arm2_decode.specs.declared.names.Register.TheVariants.{R14}
+use Rattle.arm2_decode.specs.declared.names.Register.TheVariants.{R14, R15}
 use Rattle.arm2_effect.specs.ProgramCounter.{address_of}
 use Rattle.control_flow.specs.Flow.{Flow, HasEdge}
 use Rattle.control_flow.specs.declared.edges.Edge.{Edge}
@@ -31,9 +32,26 @@ use Rattle.text_explained.specs.declared.links.Overwrite.TheVariants.{ByCall, By
 
 -- ## Words
 
--- the operation writes R14, other than a call
+-- a block with ^ and without R15 loads the registers of User, of which R14 is another; a base that is written
+-- is the mode's own
+abbrev pub loads_users_link : Operation → Bool
+loads_users_link (operation.Multiply x) = false
+loads_users_link (operation.DataRegister x) = false
+loads_users_link (operation.DataRegisterShift x) = false
+loads_users_link (operation.DataImmediate x) = false
+loads_users_link (operation.SingleImmediate x) = false
+loads_users_link (operation.SingleRegister x) = false
+loads_users_link (operation.Block x) =
+    x.load && (x.user && (not (is_listed x.list R15) && not (x.write_back && is_link x.rn)))
+loads_users_link (operation.Branch x) = false
+loads_users_link (operation.Swi x) = false
+loads_users_link (operation.UndefinedTransfer x) = false
+loads_users_link (operation.CoprocessorTransfer x) = false
+loads_users_link (operation.Coprocessor x) = false
+
+-- the operation writes R14 of an interrupt's mode, other than a call
 abbrev pub writes_link : Operation → Bool
-writes_link o = writes o R14
+writes_link o = writes o R14 && not (loads_users_link o)
 
 -- it writes R15 as returns do, and not from memory: MOV of R14, or SUB of a number from it
 abbrev pub returns_by_link : Operation → Bool

@@ -12,6 +12,7 @@ ghost use Rattle.text_explained.specs.Assumed.{Notes};
 ghost use Rattle.text_explained.specs.Links.{AreLostLinks, Does, DoesTo, IsLost, MayReturnByLink, PutsAddress};
 ghost use Rattle.text_explained.specs.Links.{counts_as_return, distance, holds_address};
 ghost use Rattle.text_explained.specs.Links.{is_return_kind, literal_at, loads_address, loads_link_by_pc};
+ghost use Rattle.text_explained.specs.Links.{loads_users_link};
 ghost use Rattle.text_explained.specs.Links.{may_put_address, returns_by_link, writes_link};
 ghost use Rattle.text_explained.specs.Losing.{ByEdge, HasRoom, LeadsTo};
 ghost use Rattle.text_explained.specs.Taken.{is_reached};
@@ -46,11 +47,21 @@ pub(crate) enum LinkStep {
     Keeps,
 }
 
-// Whether an operation writes R14, other than a call.
+// Whether an operation loads R14 of User's bank, and leaves that of the mode.
+fn loads_users_link(operation: &Operation) -> bool
+    ensures { result ≡ loads_users_link operation.now }
+{
+    let Operation::Block(x) = operation else {
+        return false;
+    };
+    x.load && x.user && !x.is_listed(Register::R15) && !(x.write_back && x.rn.is_link())
+}
+
+// Whether an operation writes R14 of an interrupt's mode, other than a call.
 fn writes_link(operation: &Operation) -> bool
     ensures { result ≡ writes_link operation.now }
 {
-    operation.writes(Register::R14)
+    operation.writes(Register::R14) && !loads_users_link(operation)
 }
 
 // Whether an instruction may write R14, other than a call: its condition is not NV.
