@@ -229,6 +229,7 @@ fn read_named<'a, S: Store>(
 ) -> Result<Vec<u8>, Unread<'a>>
     ensures read { IfOk result (λ v. S.read_gives store.old name.now (Ok v.items) store.new) }
     ensures fault { IfErr result (λ u. S.read_gives store.old name.now (Err u.fault) store.new) }
+    ensures name { IfErr result (λ u. u.name.now ≡ name.now) }
 {
     match store.read(alloc, name) {
         Ok(bytes) => Ok(bytes),
