@@ -44,7 +44,10 @@ unpriced Is IsFault = record { IsText = Plain Is; IsFault = IsFault }
 abbrev pub judged : Option (List ℕ) → (Profile → Bool → List ℕ → Type 0) → (Profile → ReportFault → Type 0)
     → Report
 judged file Is IsFault =
-    record { IsText = λ answer text. ByProfile file (λ p. Is p answer text); IsFault = PricedFault file IsFault }
+    record {
+      IsText = λ answer text. ByProfile file (λ p. Is p answer text);
+      IsFault = PricedFault file IsFault;
+    }
 
 -- one that answers yes
 abbrev pub priced : Option (List ℕ) → (Profile → List ℕ → Type 0) → (Profile → ReportFault → Type 0) → Report

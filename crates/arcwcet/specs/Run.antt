@@ -88,8 +88,8 @@ module _ {S : Type 0} (reads : Reading S) (names : Texts) (old new : S) where
 -- printed one of `false`, or the files are refused and nothing is printed; nor is anything for lack of
 -- memory. Standard error says what was refused, and nothing where a text was printed.
 pub record Runs {S O : Type 0} (reads : Reading S) (taken : O → Option (List ℕ)) (failures : O → ℕ)
-    (Says : Saying) (IsText : Bool → Texts → List ℕ → Type 0) (IsFault : Texts → ReportFault → Type 0) (names : Texts)
-    (old new : S) (before after : O) (status : ℕ) : Type 0 where
+    (Says : Saying) (IsText : Bool → Texts → List ℕ → Type 0) (IsFault : Texts → ReportFault → Type 0)
+    (names : Texts) (old new : S) (before after : O) (status : ℕ) : Type 0 where
   pub done : status ≡ 0
       → HasPrinted reads names old new (IsText true) (taken before) (taken after) × Says None
   pub denied : status ≡ 1
@@ -164,7 +164,8 @@ module _ {S : Type 0} (reads : Reading S) (writes : Writing S) (asked : Asked) (
 -- What `asm` did, by its status: the image's file is written before anything is printed, and neither where
 -- the source is refused.
 pub record RunsAsm {S O : Type 0} (reads : Reading S) (writes : Writing S) (taken : O → Option (List ℕ))
-    (failures : O → ℕ) (Says : Saying) (asked : Asked) (old new : S) (before after : O) (status : ℕ) : Type 0 where
+    (failures : O → ℕ) (Says : Saying) (asked : Asked) (old new : S) (before after : O) (status : ℕ)
+    : Type 0 where
   pub done : status ≡ 0
       → HasAssembled reads writes asked old new (taken before) (taken after) × Says None
   pub denied : status ≡ 1

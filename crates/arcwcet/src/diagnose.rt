@@ -250,8 +250,8 @@ fn job_text(alloc: Global, job: Job<'_, '_>, fault: ReportFault) -> Result<Vec<u
     refusal_text(alloc, refused, fault)
 }
 
-// Prints what shows why a job is refused. Nothing is printed where memory is wanting, and failures of the output
-// change nothing.
+// Prints what shows why a job is refused. Nothing is printed where memory is wanting, and failures of the
+// output change nothing.
 fn print_reasons<E: Output>(alloc: Global, job: Job<'_, '_>, fault: ReportFault, err: &mut E)
     ensures { TakesSome (E.taken err.old) (E.taken err.new) }
 {
@@ -260,8 +260,8 @@ fn print_reasons<E: Output>(alloc: Global, job: Job<'_, '_>, fault: ReportFault,
     }
 }
 
-/// Prints why there is no report, if there is none: the refusal, and then what shows where it comes from, where
-/// that is shown. Answers the exit status: 1 where the report says no.
+/// Prints why there is no report, if there is none: the refusal, and then what shows where it comes from, if
+/// that is to be shown. Answers the exit status: 1 where the report says no.
 pub(crate) fn answered_status<E: Output>(
     alloc: Global,
     job: Job<'_, '_>,

@@ -278,8 +278,8 @@ fn read_each<'a, S: Store>(
     Ok(files)
 }
 
-/// Reads the profile's file first, and then the others, and says which was not read; no file, where there is no
-/// memory for a list of them.
+/// Reads the profile's file first, and then the others, and says which was not read. Where there is no memory
+/// for a list of them it reads none.
 pub(crate) fn read_files<'a, S: Store>(
     alloc: Global,
     request: &Request<'a>,

@@ -141,9 +141,9 @@ fn print_followed_visits<O: Output>(
     follow_visits_report(alloc, run, inputs.profile, out)
 }
 
-/// Prints the report of a job, with the commands that were typed for `debug`, and answers yes; or whether a run
-/// did all its steps, a bound is enough, a certificate proves it, or a run keeps its statement. Of `asm`, which
-/// writes the image's file too, it prints the line alone.
+/// Prints the report of a job, with the commands that were typed for `debug`, and answers yes; or whether a
+/// run did all its steps, a bound is enough, a certificate proves it, or a run keeps its statement. Of `asm`,
+/// which writes the image's file too, it prints the line alone.
 pub(crate) fn print<O: Output>(
     alloc: Global,
     job: Job<'_, '_>,

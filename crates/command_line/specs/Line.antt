@@ -232,8 +232,8 @@ unless_refused (k ∷ ks) asked = None
 -- `--version` or `-V`, as the only word after the program's name
 abbrev pub asks_version : List Text → Bool
 asks_version words =
-    length words == 2
-    && (bytes_eq (slice_index_or words 1 []) (codes "--version") || bytes_eq (slice_index_or words 1 []) (codes "-V"))
+    let word = slice_index_or words 1 [] in
+    length words == 2 && (bytes_eq word (codes "--version") || bytes_eq word (codes "-V"))
 
 -- what the words ask for: nothing where clap refuses them
 unfoldable pub asked : List Text → Option Asked

@@ -227,8 +227,8 @@ fn version<'a>(alloc: Global) -> Request<'a>
 /// # Errors
 ///
 /// Where the words ask for nothing: `Usage` with the command-line crate's own refusal, or its help;
-/// `SourceReplaced` where `asm` would write the image over its source; `OptionBesideCertificate` where `explain`
-/// has a certificate and another option but the profile. `Memory`: an allocation failed.
+/// `SourceReplaced` where `asm` would write the image over its source; `OptionBesideCertificate` where
+/// `explain` has a certificate and an option for bounds. `Memory`: an allocation failed.
 pub fn request<'a>(alloc: Global, words: &'a [String]) -> Result<Request<'a>, CommandLineFault>
     ensures read { IfOk result (λ q. asked_in words.entry.now ≡ Some (asked_of q)) }
     ensures refused { IfErr result
