@@ -1,24 +1,24 @@
 -- What a run of a command did, from what its reads and its call returned.
-use Rattle.std.proofs.Common.{◌≡◌, ◌≢◌, ◌∙◌, ◌≤◌, ℕ, Bool, true, false, codes, List, [], ◌∷◌, length, take, Option, Some, None, Result, Ok, Err, OnOk, refl, sym, ap, subst, inl, inr, arith}
+use Rattle.std.proofs.Common.{◌≡◌, ◌≢◌, ◌∙◌, ℕ, Bool, true, false, codes, List, [], take, Option, Some, None, Result, Ok, Err, OnOk, refl, sym, ap, subst, inl, inr, arith}
 use Rattle.std.proofs.KnownBytes.{Appends-nil}
-use Rattle.std.specs.Prelude.{IfErr, OnErr}
-use Rattle.outputs.specs.Output.{TakesFront}
-use Rattle.handlers.specs.FaultText.{TakesOrFails, fault_text, refusal_line}
-use Rattle.arcwcet.specs.Refusals.{Says, SaysRefused, Saying, TakesSome, refusal_of, shows_why, store_fault_name}
-use Rattle.std.specs.Io.KnownBytes.{Appends, Consumes, IsAtEnd}
-use Rattle.std.specs.List.{cons_option}
+use Rattle.std.specs.Prelude.{OnErr}
+use Rattle.std.specs.Io.KnownBytes.{Appends}
 use Rattle.bus_ticks.specs.declared.profile.Profile.{Profile}
+use Rattle.outputs.specs.Output.{FailsSince, TakesFront}
 use Rattle.handlers.specs.Answers.{Answers, FailsWithin, OfSome, PrintsOrRefuses}
-use Rattle.source_reports.specs.Assembly.{IsSourceRefused}
-use Rattle.command_line.specs.Line.{Asked, FileNames, asm, list, draft, run, trace, debug, bound, explain, tight, check, explain_verdict, visits, follow, follow_visits, graph}
-use Rattle.handlers.specs.Placing.{IsRunRefused}
+use Rattle.handlers.specs.FaultText.{TakesOrFails, fault_text, refusal_line}
 use Rattle.handlers.specs.Priced.{ByProfile, HasNoProfile, IsUnpriced, Priced, PricedFault}
-use Rattle.arcwcet.specs.Files.{FailsToRead, ReadsAll, Reading, Texts, Writing, two_of}
-use Rattle.arcwcet.specs.Run.{ByFour, ByThree, ByTwo, HasPrinted, HasWritten, IsSessionOf, OfFour, OfThree, OfTwo, Plain, RefusesFour, RefusesThree, RefusesTwo, Runs, RunsAsked, RunsAsm, RunsDebug, RunsOf, PrintsOrRefusesOf}
-use Rattle.arcwcet.specs.Run.{answer_status, answered, fault_of, files_of, report_status, store_status, text_of}
 use Rattle.handlers.specs.declared.fault.ReportFault.{ReportFault}
 use Rattle.handlers.specs.declared.fault.ReportFault.TheVariants.{Memory, Source, Image, Statement, Graph, Loops, Walk, MachineFile, Load, Cert, Device}
 use Rattle.handlers.specs.declared.fault.ReportFault.TheVariants as report_fault
+use Rattle.source_reports.specs.Assembly.{IsSourceRefused, IsWritten}
+use Rattle.command_line.specs.Line.{Asked}
+use Rattle.command_line.specs.declared.line.Command.{Command}
+use Rattle.command_line.specs.declared.line.Command.TheVariants as command
+use Rattle.arcwcet.specs.Files.{FailsToRead, Inputs, ReadsAll, Reading, Texts, Writing, inputs_of, names_of}
+use Rattle.arcwcet.specs.Refusals.{Says, SaysRefused, Saying, TakesSome, refusal_of, shows_why, store_fault_name}
+use Rattle.arcwcet.specs.Reports.{Plain, answered, judged, priced, report_by, report_of, unpriced}
+use Rattle.arcwcet.specs.Run.{HasAnswered, HasPrinted, HasWritten, PrintsReport, Runs, RunsAsm, RunsBy, RunsOf, answer_status, report_from, report_status, store_status}
 use Rattle.arcwcet.specs.declared.fault.StoreFault.{StoreFault}
 use Rattle.arcwcet.specs.declared.fault.StoreFault.TheVariants as store_fault
 
@@ -66,20 +66,10 @@ module _ {E : Type 0} (taken : E → Option (List ℕ)) (failures : E → ℕ) (
   pub says_line : (asked : Asked) (refused : List ℕ) → TakesOrFails taken failures old new (refusal_line refused) → Says taken failures asked old new (Some refused)
   says_line asked refused line = line_alone (shows_why asked) refused line
 
-  -- what a report answers
-  pub says_answer : (asked : Asked) (answer : Result Bool ReportFault) → OnOk answer (new ≡ old) → IfErr answer (λ fault. TakesOrFails taken failures old new (refusal_line (fault_text fault)))
-      → Says taken failures asked old new (refusal_of answer)
-  says_answer asked (Ok x) quiet line = quiet
-  says_answer asked (Err fault) quiet line = says_line asked (fault_text fault) line
-
-  -- the same, of a command that shows why
-  pub says_lines : (asked : Asked) → shows_why asked ≡ true → (refused : List ℕ) → SaysRefused taken failures true old new refused → Says taken failures asked old new (Some refused)
-  says_lines asked shows refused lines = subst (λ (why : Bool). SaysRefused taken failures why old new refused) (sym shows) lines
-
-  pub says_why : (asked : Asked) → shows_why asked ≡ true → (answer : Result Bool ReportFault) → OnOk answer (new ≡ old) → IfErr answer (λ fault. SaysRefused taken failures true old new (fault_text fault))
-      → Says taken failures asked old new (refusal_of answer)
-  says_why asked shows (Ok x) quiet lines = quiet
-  says_why asked shows (Err fault) quiet lines = says_lines asked shows (fault_text fault) lines
+  -- the line, and then what shows why
+  pub says_lines : (asked : Asked) → shows_why asked ≡ true → (refused : List ℕ) → (between : E) → TakesOrFails taken failures old between (refusal_line refused) → TakesSome (taken between) (taken new)
+      → Says taken failures asked old new (Some refused)
+  says_lines asked shows refused between line more = subst (λ (why : Bool). SaysRefused taken failures why old new refused) (sym shows) (between, line, more)
 
 -- ## What the command did
 
@@ -181,20 +171,26 @@ module _ {S O : Type 0} (reads : Reading S) (taken : O → Option (List ℕ)) (f
     answered_ran (Ok false) h said status is = subst Ran (sym is) (denied (record { files = files; read = read; printed = h.printed }) said)
     answered_ran (Err fault) h said status is = refused fault h.fault h.quiet (λ d. h.device (ap Err d)) said status is
 
--- ## Of a command by the names of its files
+-- ## Of a command that reads its files and prints its report
 
-module _ {S O : Type 0} (reads : Reading S) (taken : O → Option (List ℕ)) (failures : O → ℕ) (Said : Saying) (asked : Asked) (names : Texts) (named : names ≡ files_of asked) (old new : S) where
-  pub ran_of : (before after : O) (kept lent : Texts) → lent ≡ kept → ReadsAll reads old names kept new → (result : Result Bool ReportFault) → PrintsOrRefusesOf taken failures asked lent before after result
-      → Said (refusal_of result) → (status : ℕ) → status ≡ answer_status result → RunsOf reads taken failures Said asked old new before after status
-  ran_of before after kept lent same read result printed =
-      answered_ran reads taken failures Said (text_of asked) (fault_of asked) (files_of asked) old new before after kept (subst (λ (n : Texts). ReadsAll reads old n kept new) named read)
-      result (subst (λ (files : Texts). PrintsOrRefusesOf taken failures asked files before after result) same printed)
+module _ {S O : Type 0} (reads : Reading S) (taken : O → Option (List ℕ)) (failures : O → ℕ) (Said : Saying) (asked : Asked) (typed : List ℕ) (old new : S) where
+  abbrev IsTextOf : Bool → Texts → List ℕ → Type 0
+  IsTextOf answer files = (report_from asked typed files).IsText answer
+
+  abbrev IsFaultOf : Texts → ReportFault → Type 0
+  IsFaultOf files = (report_from asked typed files).IsFault
+
+  -- the files were read, and the report of them answered
+  pub ran_of : (before after : O) (files : Texts) (i : Inputs) → i ≡ inputs_of asked.profile files → ReadsAll reads old (names_of asked) files new → (status : ℕ)
+      → HasAnswered taken failures Said (report_of asked i typed) before after status → RunsOf reads taken failures Said asked typed old new before after status
+  ran_of before after files i split read status h =
+      answered_ran reads taken failures Said IsTextOf IsFaultOf (names_of asked) old new before after files read h.answer
+      (subst (λ (j : Inputs). PrintsReport taken failures (report_of asked j typed) before after h.answer) split h.printed) h.said status h.status_is
 
   -- a file could not be read
-  pub unread_of : (out : O) (fault : StoreFault) → FailsToRead reads old names fault new → Said (Some (store_fault_name fault)) → (status : ℕ) → status ≡ store_status fault
-      → RunsOf reads taken failures Said asked old new out out status
-  unread_of out fault fails =
-      unread reads taken failures Said (text_of asked) (fault_of asked) (files_of asked) old new out out fault (subst (λ (n : Texts). FailsToRead reads old n fault new) named fails) refl
+  pub unread_of : (out : O) (fault : StoreFault) → FailsToRead reads old (names_of asked) fault new → Said (Some (store_fault_name fault)) → (status : ℕ) → status ≡ store_status fault
+      → RunsOf reads taken failures Said asked typed old new out out status
+  unread_of out fault fails = unread reads taken failures Said IsTextOf IsFaultOf (names_of asked) old new out out fault fails refl
 
 -- ## `asm`
 
@@ -202,9 +198,12 @@ module _ {S O : Type 0} (reads : Reading S) (taken : O → Option (List ℕ)) (f
 abbrev pub Nothing : Bool → Texts → List ℕ → Type 0
 Nothing answer files text = ⊥
 
-module _ {S O : Type 0} (reads : Reading S) (writes : Writing S) (taken : O → Option (List ℕ)) (failures : O → ℕ) (Said : Saying) (source image : List ℕ) (old new : S) (out : O) where
-  pub asm_quiet : (status : ℕ) → Runs reads taken failures Said Nothing (fault_of (asm source image)) (source ∷ []) old new out out status → RunsAsm reads writes taken failures Said source image old new out out status
-  asm_quiet status r = record {
+module _ {S O : Type 0} (reads : Reading S) (writes : Writing S) (taken : O → Option (List ℕ)) (failures : O → ℕ) (Said : Saying) (asked : Asked) (old new : S) where
+  abbrev IsAsmFault : Texts → ReportFault → Type 0
+  IsAsmFault files = (report_from asked [] files).IsFault
+
+  pub asm_quiet : (out : O) (status : ℕ) → Runs reads taken failures Said Nothing IsAsmFault (names_of asked) old new out out status → RunsAsm reads writes taken failures Said asked old new out out status
+  asm_quiet out status r = record {
     done = λ e. absurd (r.done e).0.printed.is_text;
     denied = λ e. elim (r.denied e) [
       | inl printed ↦ absurd printed.0.printed.is_text
@@ -218,34 +217,68 @@ module _ {S O : Type 0} (reads : Reading S) (writes : Writing S) (taken : O → 
     known = r.known;
   }
 
-  -- the source is refused
-  pub asm_refused : (file : List ℕ) (fault : ReportFault) → reads old source (Ok file) new → (fault ≢ Device) × IsSourceRefused file fault → Said (Some (fault_text fault)) → (status : ℕ) → status ≡ report_status fault
-      → RunsAsm reads writes taken failures Said source image old new out out status
-  asm_refused file fault read holds said status is =
-      asm_quiet status
-      (refused reads taken failures Said Nothing (fault_of (asm source image)) (source ∷ []) old new out out (file ∷ []) (new, read, refl) fault holds.1 (λ other. refl) (λ d. absurd (holds.0 d)) said status is)
-
   -- the source could not be read
-  pub asm_unread : (fault : StoreFault) → reads old source (Err fault) new → Said (Some (store_fault_name fault)) → (status : ℕ) → status ≡ store_status fault
-      → RunsAsm reads writes taken failures Said source image old new out out status
-  asm_unread fault fails said status is =
-      asm_quiet status (unread reads taken failures Said Nothing (fault_of (asm source image)) (source ∷ []) old new out out fault (inl fails) refl said status is)
+  pub asm_unread : (out : O) (fault : StoreFault) → FailsToRead reads old (names_of asked) fault new → Said (Some (store_fault_name fault)) → (status : ℕ) → status ≡ store_status fault
+      → RunsAsm reads writes taken failures Said asked old new out out status
+  asm_unread out fault fails said status is =
+      asm_quiet out status (unread reads taken failures Said Nothing IsAsmFault (names_of asked) old new out out fault fails refl said status is)
 
-  -- the image's file could not be written
-  pub asm_unwritten : (fault : StoreFault) → fault ≡ store_fault.Device → (report : List ℕ) → HasWritten reads writes source image old new (Err fault) report → Said (Some (store_fault_name fault))
-      → (status : ℕ) → status ≡ store_status fault → RunsAsm reads writes taken failures Said source image old new out out status
-  asm_unwritten fault device report written said status is =
-      let four : status ≡ 4 = is ∙ ap store_status device in
-      record {
-        done = λ e. absurd (omega (arith, e, four));
-        denied = λ e. absurd (omega (arith, e, four));
-        failed = λ e. (
-          inr (inl (record { report = report; written = subst (λ (f : StoreFault). HasWritten reads writes source image old new (Err f) report) device written }), refl),
-          subst (λ (f : StoreFault). Said (Some (store_fault_name f))) device said,
-        );
-        out_of_memory = λ e. absurd (omega (arith, e, four));
-        known = inr (inr (inr four));
+  module _ (files : Texts) where
+    -- the source is refused
+    pub asm_refused : (out : O) → ReadsAll reads old (names_of asked) files new → asked.command ≡ command.Asm → (i : Inputs) → i ≡ inputs_of asked.profile files → (fault : ReportFault) → (fault ≢ Device) × IsSourceRefused i.source fault
+        → Said (Some (fault_text fault)) → (status : ℕ) → status ≡ report_status fault → RunsAsm reads writes taken failures Said asked old new out out status
+    asm_refused out read is_asm i split fault holds said status is =
+        let of_asm : IsSourceRefused (inputs_of asked.profile files).source fault = subst (λ (j : Inputs). IsSourceRefused j.source fault) split holds.1 in
+        asm_quiet out status
+        (refused reads taken failures Said Nothing IsAsmFault (names_of asked) old new out out files read fault
+        (subst (λ (k : Command). (report_by asked (inputs_of asked.profile files) [] k).IsFault fault) (sym is_asm) of_asm) (λ other. refl) (λ d. absurd (holds.0 d)) said status is)
+
+    module _ (between : S) (read : ReadsAll reads old (names_of asked) files between) (i : Inputs) (split : i ≡ inputs_of asked.profile files) (bytes report : List ℕ) (image : IsWritten i.source bytes report) where
+      has_written : (written : Result (Unit {0}) StoreFault) → writes between asked.word bytes written new → HasWritten reads writes asked old new written report
+      has_written written h = record {
+        files = files;
+        bytes = bytes;
+        between = between;
+        read = read;
+        is = subst (λ (j : Inputs). IsWritten j.source bytes report) split image;
+        writes_it = h;
       }
+
+      -- the image's file could not be written
+      pub asm_unwritten : (out : O) (fault : StoreFault) → fault ≡ store_fault.Device → writes between asked.word bytes (Err fault) new → Said (Some (store_fault_name fault)) → (status : ℕ) → status ≡ store_status fault
+          → RunsAsm reads writes taken failures Said asked old new out out status
+      asm_unwritten out fault device h said status is =
+          let four : status ≡ 4 = is ∙ ap store_status device in
+          let written : HasWritten reads writes asked old new (Err store_fault.Device) report = has_written (Err store_fault.Device) (subst (λ (f : StoreFault). writes between asked.word bytes (Err f) new) device h) in
+          record {
+            done = λ e. absurd (omega (arith, e, four));
+            denied = λ e. absurd (omega (arith, e, four));
+            failed = λ e. (inr (inl (record { report = report; written = written }), refl), subst (λ (f : StoreFault). Said (Some (store_fault_name f))) device said);
+            out_of_memory = λ e. absurd (omega (arith, e, four));
+            known = inr (inr (inr four));
+          }
+
+      module _ (h : writes between asked.word bytes (Ok tt) new) (before after : O) where
+        -- the report was printed
+        pub asm_done : Appends (taken before) (taken after) report → Said None → RunsAsm reads writes taken failures Said asked old new before after 0
+        asm_done printed said = record {
+          done = λ e. (record { report = report; written = has_written (Ok tt) h; printed = printed }, said);
+          denied = λ e. absurd (omega (arith, e));
+          failed = λ e. absurd (omega (arith, e));
+          out_of_memory = λ e. absurd (omega (arith, e));
+          known = inl refl;
+        }
+
+        -- the output failed within it
+        pub asm_unprinted : TakesFront (taken before) (taken after) report → FailsSince (failures before) (failures after) → Said (Some (codes "Device")) → (status : ℕ) → status ≡ 4
+            → RunsAsm reads writes taken failures Said asked old new before after status
+        asm_unprinted front failed said status four = record {
+          done = λ e. absurd (omega (arith, e, four));
+          denied = λ e. absurd (omega (arith, e, four));
+          failed = λ e. (inl (record { report = report; written = has_written (Ok tt) h; taken = front; failed = failed }), said);
+          out_of_memory = λ e. absurd (omega (arith, e, four));
+          known = inr (inr (inr four));
+        }
 
 -- ## What a report answers, of the texts of its files
 
@@ -340,115 +373,81 @@ module _ {O : Type 0} (taken : O → Option (List ℕ)) (failures : O → ℕ) (
         (λ fault is. faults fault (inl (record { profile = b.profile; is = b.is; holds = is }))) result b.holds
     answered_priced file IsText IsFine IsFault texts faults result (inr u) = answered_unpriced file (λ fault none. faults fault (inr none)) result u
 
-  -- of a source alone
-  pub answered_source : (Is : List ℕ → Type 0) (IsFine : Type 0) (IsFault : ReportFault → Type 0) (result : Result (Unit {0}) ReportFault)
-      → Answers taken failures (λ _ text. Is text) IsFine IsFault before after result → (answer : Result Bool ReportFault) → answer ≡ answered result → PrintsOrRefuses taken failures (Plain Is) IsFault before after answer
-  answered_source Is IsFine IsFault result h answer is =
-      subst (λ (r : Result Bool ReportFault). PrintsOrRefuses taken failures (Plain Is) IsFault before after r) (sym is)
+  -- a report that takes no cycle profile
+  pub answered_unpriced_report : (Is : List ℕ → Type 0) (IsFine : Type 0) (IsFault : ReportFault → Type 0) (result : Result (Unit {0}) ReportFault)
+      → Answers taken failures (λ _ text. Is text) IsFine IsFault before after result → (answer : Result Bool ReportFault) → answer ≡ answered result → PrintsReport taken failures (unpriced Is IsFault) before after answer
+  answered_unpriced_report Is IsFine IsFault result h answer is =
+      subst (λ (r : Result Bool ReportFault). PrintsReport taken failures (unpriced Is IsFault) before after r) (sym is)
       (answered_answer (Plain Is) IsFault (Plain Is) IsFine IsFault (λ x text t. t) (λ fault t. t) (answered result) (answers_plain Is IsFine IsFault result h))
 
--- the files in front of which a cycle profile's may be
-pub of_two : (Is : Option (List ℕ) → List ℕ → List ℕ → Type 0) (file : Option (List ℕ)) (a b : List ℕ) → Is file a b → OfTwo Is (cons_option file (a ∷ b ∷ []))
-of_two Is None a b h = h
-of_two Is (Some f) a b h = h
+  -- one that takes one
+  pub answered_judged : (file : Option (List ℕ)) (Is : Profile → Bool → List ℕ → Type 0) (IsFine : Profile → Type 0) (IsFault : Profile → ReportFault → Type 0) (result : Result Bool ReportFault)
+      → Priced file (λ p. Answers taken failures (Is p) (IsFine p) (IsFault p) before after result) before after result → PrintsReport taken failures (judged file Is IsFault) before after result
+  answered_judged file Is IsFine IsFault =
+      answered_priced (λ answer text. ByProfile file (λ p. Is p answer text)) (PricedFault file IsFault) file Is IsFine IsFault (λ x text b. b) (λ fault k. k)
 
-pub of_three : (Is : Option (List ℕ) → List ℕ → List ℕ → List ℕ → Type 0) (file : Option (List ℕ)) (a b c : List ℕ) → Is file a b c → OfThree Is (cons_option file (a ∷ b ∷ c ∷ []))
-of_three Is None a b c h = h
-of_three Is (Some f) a b c h = h
+  pub answered_yes : (file : Option (List ℕ)) (Is : Profile → List ℕ → Type 0) (IsFine : Profile → Type 0) (IsFault : Profile → ReportFault → Type 0) (result : Result (Unit {0}) ReportFault)
+      → Priced file (λ p. Answers taken failures (λ _ text. Is p text) (IsFine p) (IsFault p) before after result) before after result
+      → (answer : Result Bool ReportFault) → answer ≡ answered result → PrintsReport taken failures (priced file Is IsFault) before after answer
+  answered_yes file Is IsFine IsFault result h answer is =
+      answered_judged file (λ p. Plain (Is p)) IsFine IsFault answer (priced_plain file Is IsFine IsFault result h answer is)
 
-pub of_four : (Is : Option (List ℕ) → List ℕ → List ℕ → List ℕ → List ℕ → Type 0) (file : Option (List ℕ)) (a b c d : List ℕ) → Is file a b c d → OfFour Is (cons_option file (a ∷ b ∷ c ∷ d ∷ []))
-of_four Is None a b c d h = h
-of_four Is (Some f) a b c d h = h
+-- ## Any command
 
-module _ {O : Type 0} (taken : O → Option (List ℕ)) (failures : O → ℕ) (before after : O) (file : Option (List ℕ)) (one two : List ℕ) where
-  pub answered_two : (Is : List ℕ → List ℕ → Profile → Bool → List ℕ → Type 0) (IsFine : List ℕ → List ℕ → Profile → Type 0) (IsFault : List ℕ → List ℕ → Profile → ReportFault → Type 0)
-      → (result : Result Bool ReportFault) → Priced file (λ p. Answers taken failures (Is one two p) (IsFine one two p) (IsFault one two p) before after result) before after result
-      → PrintsOrRefuses taken failures (λ answer text. ByTwo (λ a b p. Is a b p answer text) (cons_option file (one ∷ two ∷ []))) (RefusesTwo IsFault (cons_option file (one ∷ two ∷ []))) before after result
-  answered_two Is IsFine IsFault =
-      answered_priced taken failures before after (λ answer text. ByTwo (λ a b p. Is a b p answer text) (cons_option file (one ∷ two ∷ []))) (RefusesTwo IsFault (cons_option file (one ∷ two ∷ [])))
-      file (Is one two) (IsFine one two) (IsFault one two)
-      (λ x text b. of_two (λ f s t. ByProfile f (λ p. Is s t p x text)) file one two b)
-      (λ fault k. of_two (λ f s t. PricedFault f (IsFault s t) fault) file one two k)
+module _ {S I O : Type 0} (reads : Reading S) (writes : Writing S) (remaining : I → Option (List ℕ)) (taken : O → Option (List ℕ)) (failures : O → ℕ) (Said : Saying) (asked : Asked) where
+  module _ (old new : S) (input_old input_new : I) (before after : O) (status : ℕ) where
+    abbrev pub RunsAs : Command → Type 0
+    RunsAs c = RunsBy reads writes remaining taken failures Said asked c old new input_old input_new before after status
 
-  pub answered_two_plain : (Is : List ℕ → List ℕ → Profile → List ℕ → Type 0) (IsFine : List ℕ → List ℕ → Profile → Type 0) (IsFault : List ℕ → List ℕ → Profile → ReportFault → Type 0)
-      → (result : Result (Unit {0}) ReportFault) → Priced file (λ p. Answers taken failures (λ _ text. Is one two p text) (IsFine one two p) (IsFault one two p) before after result) before after result
-      → (answer : Result Bool ReportFault) → answer ≡ answered result
-      → PrintsOrRefuses taken failures (λ answer text. ByTwo (λ a b p. Plain (Is a b p) answer text) (cons_option file (one ∷ two ∷ []))) (RefusesTwo IsFault (cons_option file (one ∷ two ∷ []))) before after answer
-  answered_two_plain Is IsFine IsFault result h answer is =
-      answered_two (λ a b p. Plain (Is a b p)) IsFine IsFault answer (priced_plain taken failures before after file (Is one two) (IsFine one two) (IsFault one two) result h answer is)
+    -- a command, by its own form if it has one
+    pub by_form : (c : Command) → (c ≡ command.Asm → RunsAs command.Asm) → (c ≡ command.Debug → RunsAs command.Debug)
+        → RunsOf reads taken failures Said asked [] old new before after status × (input_new ≡ input_old) → RunsAs c
+    by_form command.Asm asm debug plain = asm refl
+    by_form command.Debug asm debug plain = debug refl
+    by_form command.Version asm debug plain = plain
+    by_form command.List asm debug plain = plain
+    by_form command.Draft asm debug plain = plain
+    by_form command.Run asm debug plain = plain
+    by_form command.Trace asm debug plain = plain
+    by_form command.Bound asm debug plain = plain
+    by_form command.Tight asm debug plain = plain
+    by_form command.Check asm debug plain = plain
+    by_form command.Visits asm debug plain = plain
+    by_form command.Explain asm debug plain = plain
+    by_form command.Verdict asm debug plain = plain
+    by_form command.Follow asm debug plain = plain
+    by_form command.FollowVisits asm debug plain = plain
+    by_form command.Graph asm debug plain = plain
 
-  pub answered_three : (three : List ℕ) (Is : List ℕ → List ℕ → List ℕ → Profile → Bool → List ℕ → Type 0) (IsFine : List ℕ → List ℕ → List ℕ → Profile → Type 0)
-      (IsFault : List ℕ → List ℕ → List ℕ → Profile → ReportFault → Type 0)
-      → (result : Result Bool ReportFault) → Priced file (λ p. Answers taken failures (Is one two three p) (IsFine one two three p) (IsFault one two three p) before after result) before after result
-      → PrintsOrRefuses taken failures (λ answer text. ByThree (λ a b c p. Is a b c p answer text) (cons_option file (one ∷ two ∷ three ∷ []))) (RefusesThree IsFault (cons_option file (one ∷ two ∷ three ∷ []))) before after result
-  answered_three three Is IsFine IsFault =
-      answered_priced taken failures before after (λ answer text. ByThree (λ a b c p. Is a b c p answer text) (cons_option file (one ∷ two ∷ three ∷ []))) (RefusesThree IsFault (cons_option file (one ∷ two ∷ three ∷ [])))
-      file (Is one two three) (IsFine one two three) (IsFault one two three)
-      (λ x text b. of_three (λ f s t u. ByProfile f (λ p. Is s t u p x text)) file one two three b)
-      (λ fault k. of_three (λ f s t u. PricedFault f (IsFault s t u) fault) file one two three k)
+  -- a file could not be read
+  pub asked_unread : (old new : S) (input : I) (out : O) (fault : StoreFault) → FailsToRead reads old (names_of asked) fault new → Said (Some (store_fault_name fault)) → (status : ℕ) → status ≡ store_status fault
+      → RunsAs old new input input out out status asked.command
+  asked_unread old new input out fault fails said status is =
+      by_form old new input input out out status asked.command
+      (λ e. (asm_unread reads writes taken failures Said asked old new out fault fails said status is, refl))
+      (λ e. (inr (inl (record { fault = fault; fails = fails; status_is = is; input_unread = refl; said = said }), refl)))
+      (unread_of reads taken failures Said asked [] old new out fault fails said status is, refl)
 
-  pub answered_four : (three four : List ℕ) (Is : List ℕ → List ℕ → List ℕ → List ℕ → Profile → Bool → List ℕ → Type 0) (IsFine : List ℕ → List ℕ → List ℕ → List ℕ → Profile → Type 0)
-      (IsFault : List ℕ → List ℕ → List ℕ → List ℕ → Profile → ReportFault → Type 0)
-      → (result : Result Bool ReportFault) → Priced file (λ p. Answers taken failures (Is one two three four p) (IsFine one two three four p) (IsFault one two three four p) before after result) before after result
-      → PrintsOrRefuses taken failures (λ answer text. ByFour (λ a b c d p. Is a b c d p answer text) (cons_option file (one ∷ two ∷ three ∷ four ∷ []))) (RefusesFour IsFault (cons_option file (one ∷ two ∷ three ∷ four ∷ []))) before after result
-  answered_four three four Is IsFine IsFault =
-      answered_priced taken failures before after (λ answer text. ByFour (λ a b c d p. Is a b c d p answer text) (cons_option file (one ∷ two ∷ three ∷ four ∷ []))) (RefusesFour IsFault (cons_option file (one ∷ two ∷ three ∷ four ∷ [])))
-      file (Is one two three four) (IsFine one two three four) (IsFault one two three four)
-      (λ x text b. of_four (λ f s t u v. ByProfile f (λ p. Is s t u v p x text)) file one two three four b)
-      (λ fault k. of_four (λ f s t u v. PricedFault f (IsFault s t u v) fault) file one two three four k)
+  -- ## Without memory for the words, or for a list of the files
 
-  pub answered_three_plain : (three : List ℕ) (Is : List ℕ → List ℕ → List ℕ → Profile → List ℕ → Type 0) (IsFine : List ℕ → List ℕ → List ℕ → Profile → Type 0)
-      (IsFault : List ℕ → List ℕ → List ℕ → Profile → ReportFault → Type 0)
-      → (result : Result (Unit {0}) ReportFault) → Priced file (λ p. Answers taken failures (λ _ text. Is one two three p text) (IsFine one two three p) (IsFault one two three p) before after result) before after result
-      → (answer : Result Bool ReportFault) → answer ≡ answered result
-      → PrintsOrRefuses taken failures (λ answer text. ByThree (λ a b c p. Plain (Is a b c p) answer text) (cons_option file (one ∷ two ∷ three ∷ []))) (RefusesThree IsFault (cons_option file (one ∷ two ∷ three ∷ []))) before after answer
-  answered_three_plain three Is IsFine IsFault result h answer is =
-      answered_three three (λ a b c p. Plain (Is a b c p)) IsFine IsFault answer (priced_plain taken failures before after file (Is one two three) (IsFine one two three) (IsFault one two three) result h answer is)
+  module _ (said : Said (Some (codes "Memory"))) (store : S) (input : I) (out : O) where
+    run_out_of_memory : (IsText : Bool → Texts → List ℕ → Type 0) (IsFault : Texts → ReportFault → Type 0) → Runs reads taken failures Said IsText IsFault (names_of asked) store store out out 3
+    run_out_of_memory IsText IsFault = record {
+      done = λ e. absurd (omega (arith, e));
+      denied = λ e. absurd (omega (arith, e));
+      failed = λ e. absurd (omega (arith, e));
+      out_of_memory = λ e. (inl refl, refl, said);
+      known = inr (inr (inl refl));
+    }
 
--- ## `debug`
+    pub asked_out_of_memory : RunsAs store store input input out out 3 asked.command
+    asked_out_of_memory =
+        by_form store store input input out out 3 asked.command
+        (λ e. (asm_quiet reads writes taken failures Said asked store store out 3 (run_out_of_memory Nothing (IsAsmFault reads writes taken failures Said asked store store)), refl))
+        (λ e. (inr (inr (inr (refl, refl, refl, said)), refl)))
+        (run_out_of_memory (IsTextOf reads taken failures Said asked [] store store) (IsFaultOf reads taken failures Said asked [] store store), refl)
 
-module _ {S I O : Type 0} (reads : Reading S) (remaining : I → Option (List ℕ)) (taken : O → Option (List ℕ)) (failures : O → ℕ) (Said : Saying) (names : FileNames) (old new : S) (input_old input_new : I) (before after : O) where
-  module _ (commands : List ℕ) (consumed : Consumes (remaining input_old) (remaining input_new) commands) (at_end : IsAtEnd (remaining input_new)) (few : length commands ≤ 16777216)
-      (kept lent : Texts) (same : lent ≡ kept) (read : ReadsAll reads old (two_of names) kept new) where
-    -- a session of the commands was printed, or refused
-    pub debug_ran : (result : Result Bool ReportFault) → PrintsOrRefuses taken failures (λ answer. IsSessionOf commands answer lent) (RefusesTwo IsRunRefused lent) before after result
-        → Said (refusal_of result) → (status : ℕ) → status ≡ answer_status result → RunsDebug reads remaining taken failures Said names old new input_old input_new before after status
-    debug_ran result printed said status is =
-        inl (
-          commands,
-          record { files = kept; read = read; consumed = consumed; at_end = at_end; few = few },
-          answered_ran reads taken failures Said (IsSessionOf commands) (RefusesTwo IsRunRefused) (two_of names) old new before after kept read result
-              (subst (λ (files : Texts). PrintsOrRefuses taken failures (λ answer. IsSessionOf commands answer files) (RefusesTwo IsRunRefused files) before after result) same printed) said status is,
-        )
-
--- ## Without memory for the words
-
-module _ {S I O : Type 0} (reads : Reading S) (writes : Writing S) (remaining : I → Option (List ℕ)) (taken : O → Option (List ℕ)) (failures : O → ℕ) (Said : Saying) (said : Said (Some (codes "Memory"))) (store : S) (input : I) (out : O) where
-  run_out_of_memory : (IsText : Bool → Texts → List ℕ → Type 0) (IsFault : Texts → ReportFault → Type 0) (names : Texts) → Runs reads taken failures Said IsText IsFault names store store out out 3
-  run_out_of_memory IsText IsFault names = record {
-    done = λ e. absurd (omega (arith, e));
-    denied = λ e. absurd (omega (arith, e));
-    failed = λ e. absurd (omega (arith, e));
-    out_of_memory = λ e. (inl refl, refl, said);
-    known = inr (inr (inl refl));
-  }
-
-  command_out_of_memory : (asked : Asked) → RunsOf reads taken failures Said asked store store out out 3 × (input ≡ input)
-  command_out_of_memory asked = (run_out_of_memory (text_of asked) (fault_of asked) (files_of asked), refl)
-
-  pub asked_out_of_memory : (asked : Asked) → RunsAsked reads writes remaining taken failures Said asked store store input input out out 3
-  asked_out_of_memory (asm source image) = (asm_quiet reads writes taken failures Said source image store store out 3 (run_out_of_memory Nothing (fault_of (asm source image)) (source ∷ [])), refl)
-  asked_out_of_memory (debug n) = inr (inr (inr (refl, refl, refl, said)), refl)
-  asked_out_of_memory (list source) = command_out_of_memory (list source)
-  asked_out_of_memory (draft source entry) = command_out_of_memory (draft source entry)
-  asked_out_of_memory (run n) = command_out_of_memory (run n)
-  asked_out_of_memory (trace n) = command_out_of_memory (trace n)
-  asked_out_of_memory (bound n) = command_out_of_memory (bound n)
-  asked_out_of_memory (graph n) = command_out_of_memory (graph n)
-  asked_out_of_memory (explain n options) = command_out_of_memory (explain n options)
-  asked_out_of_memory (tight n edge) = command_out_of_memory (tight n edge)
-  asked_out_of_memory (check n cert) = command_out_of_memory (check n cert)
-  asked_out_of_memory (explain_verdict n cert) = command_out_of_memory (explain_verdict n cert)
-  asked_out_of_memory (visits n fiq k) = command_out_of_memory (visits n fiq k)
-  asked_out_of_memory (follow n machine) = command_out_of_memory (follow n machine)
-  asked_out_of_memory (follow_visits n fiq machine) = command_out_of_memory (follow_visits n fiq machine)
+    pub asked_without_memory : (new : S) → new ≡ store → (status : ℕ) → status ≡ 3 → RunsAs store new input input out out status asked.command
+    asked_without_memory new same status three =
+        subst (λ (s : S). RunsAs store s input input out out status asked.command) (sym same)
+        (subst (λ (n : ℕ). RunsAs store store input input out out n asked.command) (sym three) asked_out_of_memory)

@@ -1,8 +1,9 @@
 -- Reading files from a store, one after another, and writing one; and reading an input.
-use Rattle.std.specs.Prelude.{◌≡◌, ◌≤◌, ◌+◌, ◌⊎◌, ℕ, List, [], ◌∷◌, length, Option, Result, Ok, Err}
+use Rattle.std.specs.Prelude.{◌≡◌, ◌≤◌, ◌+◌, ◌⊎◌, ℕ, List, [], ◌∷◌, length, Option, None, Some, Result, Ok}
+use Rattle.std.specs.Prelude.{Err, slice_index_or}
 use Rattle.std.specs.Io.KnownBytes.{Consumes}
 use Rattle.std.specs.List.{cons_option}
-use Rattle.command_line.specs.Line.{FileNames}
+use Rattle.command_line.specs.Line.{Asked}
 use Rattle.arcwcet.specs.declared.fault.StoreFault.{StoreFault}
 use Rattle.arcwcet.specs.declared.fault.StoreFault.TheVariants as store_fault
 use Rattle.arcwcet.specs.declared.files.TheConstants.{MOST_INPUT_BYTES}
@@ -11,16 +12,33 @@ use Rattle.arcwcet.specs.declared.files.TheConstants.{MOST_INPUT_BYTES}
 abbrev pub Texts : Type 0
 Texts = List (List ℕ)
 
--- the names of two files, and of a third one, and of a fourth one: a cycle profile's file comes first, where
--- there is one
-abbrev pub two_of : FileNames → Texts
-two_of n = cons_option n.profile (n.first ∷ n.second ∷ [])
+-- the names of what a command reads: a cycle profile's file comes first, where one is named
+abbrev pub names_of : Asked → Texts
+names_of asked = cons_option asked.profile asked.files
 
-abbrev pub three_of : FileNames → (third : List ℕ) → Texts
-three_of n third = cons_option n.profile (n.first ∷ n.second ∷ third ∷ [])
+-- the bytes of a command's files, a cycle profile's apart; a file that a command does not have is empty
+pub record Inputs : Type 0 where
+  pub profile : Option (List ℕ)
+  pub source : List ℕ
+  pub second : List ℕ
+  pub third : List ℕ
+  pub fourth : List ℕ
 
-abbrev pub four_of : FileNames → (third fourth : List ℕ) → Texts
-four_of n third fourth = cons_option n.profile (n.first ∷ n.second ∷ third ∷ fourth ∷ [])
+abbrev pub inputs : Option (List ℕ) → Texts → Inputs
+inputs profile files =
+    record {
+      profile = profile;
+      source = slice_index_or files 0 [];
+      second = slice_index_or files 1 [];
+      third = slice_index_or files 2 [];
+      fourth = slice_index_or files 3 [];
+    }
+
+-- of the files that were read, with a cycle profile's in front where one is named
+abbrev pub inputs_of : (named : Option (List ℕ)) → Texts → Inputs
+inputs_of None files = inputs None files
+inputs_of (Some name) [] = inputs None []
+inputs_of (Some name) (profile ∷ files) = inputs (Some profile) files
 
 -- how a store is read: what it was, a name, what the read returns, and the store after it
 abbrev pub Reading : Type 0 → Type 1

@@ -1,7 +1,10 @@
 -- What standard error takes of a refusal.
-use Rattle.std.specs.Prelude.{◌≡◌, ◌++◌, ℕ, Bool, true, false, List, codes, Option, Some, None, Result, Ok, Err}
+use Rattle.std.specs.Prelude.{◌≡◌, ◌++◌, ℕ, Bool, true, false, List, codes, Option, Some, None, Result}
+use Rattle.std.specs.Prelude.{Ok, Err}
 use Rattle.std.specs.Io.KnownBytes.{Appends}
-use Rattle.command_line.specs.Line.{Asked, explain, explain_verdict}
+use Rattle.command_line.specs.Line.{Asked}
+use Rattle.command_line.specs.declared.line.Command.{Command}
+use Rattle.command_line.specs.declared.line.Command.TheVariants as command
 use Rattle.handlers.specs.FaultText.{TakesOrFails, fault_text, refusal_line}
 use Rattle.handlers.specs.declared.fault.ReportFault.{ReportFault}
 use Rattle.arcwcet.specs.declared.fault.FileFault.{FileFault}
@@ -27,11 +30,14 @@ refusal_of (Err fault) = Some (fault_text fault)
 abbrev pub Saying : Type 1
 Saying = Option (List ℕ) → Type 0
 
--- whether a command shows why, after the line of its refusal
+-- `explain` always shows why, after the line of its refusal, and other commands where `--why` is given
+abbrev pub shows_why_of : Command → Bool → Bool
+shows_why_of command.Explain why = true
+shows_why_of command.Verdict why = true
+shows_why_of c why = why
+
 abbrev pub shows_why : Asked → Bool
-shows_why (explain n options) = true
-shows_why (explain_verdict n cert) = true
-shows_why asked = false
+shows_why asked = shows_why_of asked.command asked.why
 
 -- some text was taken
 abbrev pub TakesSome : Option (List ℕ) → Option (List ℕ) → Type 0

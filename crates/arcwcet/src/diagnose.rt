@@ -1,16 +1,18 @@
 //! What the one line of a refusal has no room for.
 
-ghost use Rattle.std.specs.Prelude.{◌≡◌, IfErr, OnOk, true};
-ghost use Rattle.handlers.specs.FaultText.{fault_text};
-ghost use Rattle.arcwcet.specs.Refusals.{SaysRefused, TakesSome};
+ghost use Rattle.std.specs.Prelude.{◌≡◌};
+ghost use Rattle.command_line.specs.Rows.{asked_of};
+ghost use Rattle.arcwcet.specs.Refusals.{Says, TakesSome, refusal_of};
 ghost use Rattle.arcwcet.specs.Run.{answer_status};
 
-use crate::status::{answer_status, report_status};
+use crate::reports::Job;
+use crate::status::{report_status, shows_why};
 use assembler::{Assembly, PlacedLine, Program, placed_lines};
 use bus_ticks::Profile;
+use command_line::Command;
 use control_flow::{BuildFault, FaultyPlace, faulty_place};
-use handler_reports::{Explained, HandlerGraph, read_graph};
-use handlers::{ReportFault, profile_of, read_source};
+use handler_reports::{HandlerGraph, read_graph};
+use handlers::{ReportFault, profile_of, read_handler, read_source};
 use image::is_image;
 use loop_bounds::NestFault;
 use outputs::{Output, write_whole};
@@ -21,6 +23,14 @@ use text_refusals::{
     faulty_lines, faulty_text, loops_that_cross, mid_entry, place_text, shared_header, shared_text,
     statement_text, unbounded_cycle, word_text, words_of,
 };
+
+// A handler that is refused: its source, the statement on it, and a cycle profile's file.
+#[derive(Clone, Copy)]
+struct Refused<'a> {
+    source: &'a [u8],
+    statement: &'a [u8],
+    profile: Option<&'a [u8]>,
+}
 
 // Where the lines of a source are placed. An image has none.
 fn placed_in(alloc: Global, source: &[u8]) -> Result<Vec<PlacedLine>, ReportFault> {
@@ -88,13 +98,13 @@ fn loops_text(
 // The same, of a source that was read.
 fn nest_text(
     alloc: Global,
-    explained: Explained<'_>,
+    refused: Refused<'_>,
     said: &Assembly,
     stated: &HandlerGraph,
     fault: NestFault,
 ) -> Result<Vec<u8>, ReportFault> {
-    let placed = placed_in(alloc, explained.source)?;
-    let words = source_words(alloc, explained.source, said, &placed)?;
+    let placed = placed_in(alloc, refused.source)?;
+    let words = source_words(alloc, refused.source, said, &placed)?;
     let text = loops_text(alloc, &words, stated, fault)?;
     Ok(text)
 }
@@ -102,24 +112,23 @@ fn nest_text(
 // Of loops that are refused, what shows why.
 fn refused_loops(
     alloc: Global,
-    explained: Explained<'_>,
-    profile: Option<&[u8]>,
+    refused: Refused<'_>,
     fault: NestFault,
 ) -> Result<Vec<u8>, ReportFault> {
-    let profile = profile_of(alloc, profile)?;
-    let said = read_source(alloc, explained.source)?;
-    let stated = read_graph(alloc, &said, explained.statement, &profile)?;
-    nest_text(alloc, explained, &said, &stated, fault)
+    let profile = profile_of(alloc, refused.profile)?;
+    let said = read_source(alloc, refused.source)?;
+    let stated = read_graph(alloc, &said, refused.statement, &profile)?;
+    nest_text(alloc, refused, &said, &stated, fault)
 }
 
 // Of a statement that is refused, the lines that show why.
 fn refused_statement(
     alloc: Global,
-    explained: Explained<'_>,
+    refused: Refused<'_>,
     fault: StatementFault,
 ) -> Result<Vec<u8>, ReportFault> {
-    let said = read_source(alloc, explained.source)?;
-    let text = statement_text(alloc, explained.statement, &said.labels, fault)?;
+    let said = read_source(alloc, refused.source)?;
+    let text = statement_text(alloc, refused.statement, &said.labels, fault)?;
     Ok(text)
 }
 
@@ -166,14 +175,14 @@ fn graph_text(
 // The same, of a source that was read.
 fn build_text(
     alloc: Global,
-    explained: Explained<'_>,
+    refused: Refused<'_>,
     profile: &Profile,
     said: &Assembly,
     fault: BuildFault,
 ) -> Result<Vec<u8>, ReportFault> {
-    let statement = read_statement(alloc, explained.statement, &said.labels)?;
-    let placed = placed_in(alloc, explained.source)?;
-    let words = source_words(alloc, explained.source, said, &placed)?;
+    let statement = read_statement(alloc, refused.statement, &said.labels)?;
+    let placed = placed_in(alloc, refused.source)?;
+    let words = source_words(alloc, refused.source, said, &placed)?;
     let text = graph_text(alloc, &words, &statement, profile, fault)?;
     Ok(text)
 }
@@ -181,28 +190,26 @@ fn build_text(
 // The same, of the texts.
 fn refused_graph(
     alloc: Global,
-    explained: Explained<'_>,
-    profile: Option<&[u8]>,
+    refused: Refused<'_>,
     fault: BuildFault,
 ) -> Result<Vec<u8>, ReportFault> {
-    let profile = profile_of(alloc, profile)?;
-    let said = read_source(alloc, explained.source)?;
-    build_text(alloc, explained, &profile, &said, fault)
+    let profile = profile_of(alloc, refused.profile)?;
+    let said = read_source(alloc, refused.source)?;
+    build_text(alloc, refused, &profile, &said, fault)
 }
 
 // What shows why a handler is refused; nothing where only its one line does.
 fn refusal_text(
     alloc: Global,
-    explained: Explained<'_>,
-    profile: Option<&[u8]>,
+    refused: Refused<'_>,
     fault: ReportFault,
 ) -> Result<Vec<u8>, ReportFault> {
     match fault {
-        ReportFault::Loops(fault) => refused_loops(alloc, explained, profile, fault),
-        ReportFault::Statement(fault) => refused_statement(alloc, explained, fault),
-        ReportFault::Graph(fault) => refused_graph(alloc, explained, profile, fault),
+        ReportFault::Loops(fault) => refused_loops(alloc, refused, fault),
+        ReportFault::Statement(fault) => refused_statement(alloc, refused, fault),
+        ReportFault::Graph(fault) => refused_graph(alloc, refused, fault),
         ReportFault::Source(_) => {
-            let lines = faulty_lines(alloc, explained.source)?;
+            let lines = faulty_lines(alloc, refused.source)?;
             let text = faulty_text(alloc, &lines)?;
             Ok(text)
         }
@@ -210,41 +217,71 @@ fn refusal_text(
     }
 }
 
-// Prints what shows why a handler that was to be explained is refused. Nothing is printed where memory is
-// wanting, and failures of the output change nothing.
-fn print_refusal<E: Output>(
-    alloc: Global,
-    explained: Explained<'_>,
-    profile: Option<&[u8]>,
-    fault: ReportFault,
-    err: &mut E,
-)
+// Whether a handler has a flow graph whose loops are bounded.
+fn is_accepted(alloc: Global, handler: Refused<'_>) -> Result<bool, ReportFault> {
+    let profile = profile_of(alloc, handler.profile)?;
+    Ok(read_handler(alloc, handler.source, handler.statement, &profile).is_ok())
+}
+
+// The handler of a job that is refused: of two statements the second, where the first is accepted.
+fn refused_of<'b>(alloc: Global, job: Job<'b, '_>) -> Result<Refused<'b>, ReportFault> {
+    let inputs = job.inputs;
+    let first = Refused {
+        source: inputs.source,
+        statement: inputs.second,
+        profile: inputs.profile,
+    };
+    match job.request.command {
+        Command::Visits | Command::FollowVisits => {
+            let statement = if is_accepted(alloc, first)? {
+                inputs.third
+            } else {
+                inputs.second
+            };
+            Ok(Refused { statement, ..first })
+        }
+        _ => Ok(first),
+    }
+}
+
+// What shows why a job is refused.
+fn job_text(alloc: Global, job: Job<'_, '_>, fault: ReportFault) -> Result<Vec<u8>, ReportFault> {
+    let refused = refused_of(alloc, job)?;
+    refusal_text(alloc, refused, fault)
+}
+
+// Prints what shows why a job is refused. Nothing is printed where memory is wanting, and failures of the
+// output change nothing.
+fn print_reasons<E: Output>(alloc: Global, job: Job<'_, '_>, fault: ReportFault, err: &mut E)
     ensures { TakesSome (E.taken err.old) (E.taken err.new) }
 {
-    if let Ok(text) = refusal_text(alloc, explained, profile, fault) {
+    if let Ok(text) = job_text(alloc, job, fault) {
         let _ = write_whole(err, &text);
     }
 }
 
-/// Prints why a handler was not explained, if it was not: the refusal, and then what shows where it comes
-/// from. Answers the exit status.
-pub(crate) fn explained_status<E: Output>(
+/// Prints why there is no report, if there is none: the refusal, and then what shows where it comes from, if
+/// that is to be shown. Answers the exit status: 1 where the report says no.
+pub(crate) fn answered_status<E: Output>(
     alloc: Global,
-    explained: Explained<'_>,
-    profile: Option<&[u8]>,
+    job: Job<'_, '_>,
     answer: Result<bool, ReportFault>,
     err: &mut E,
 ) -> u8
     ensures status { result ≡ answer_status answer }
     ensures silent { result ≡ 0 → err.new ≡ err.old }
-    ensures quiet { OnOk answer (err.new ≡ err.old) }
-    ensures says { IfErr answer
-        (λ fault. SaysRefused E.taken E.failures true err.old err.new (fault_text fault)) }
+    ensures says { Says E.taken E.failures (asked_of job.entry.request.now) err.old err.new
+        (refusal_of answer) }
 {
-    let Err(fault) = answer else {
-        return answer_status(answer, err);
+    let fault = match answer {
+        Ok(true) => return 0,
+        Ok(false) => return 1,
+        Err(fault) => fault,
     };
+    if !shows_why(job.request) {
+        return report_status(fault, err);
+    }
     let status = report_status(fault, err);
-    print_refusal(alloc, explained, profile, fault, err);
+    print_reasons(alloc, job, fault, err);
     status
 }

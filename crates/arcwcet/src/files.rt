@@ -1,18 +1,19 @@
-ghost use Rattle.std.specs.Prelude.{◌≡◌, ◌≤◌, [], vec_len, option_map};
+ghost use Rattle.std.specs.Prelude.{◌≡◌, ◌≤◌, ◌⊎◌, [], is_some, length, map, option_map};
+ghost use Rattle.std.specs.Prelude.{slice_index_or, vec_capacity, vec_len};
 ghost use Rattle.std.specs.Prelude.{Result, IfErr, IfOk, IfSome, OnOk};
 ghost use Rattle.std.specs.Io.KnownBytes.{Consumes, IsAtEnd};
 ghost use Rattle.std.specs.IoError.{error_kind};
 ghost use Rattle.std.specs.List.{cons_option};
-ghost use Rattle.command_line.specs.Line.{names_of};
+ghost use Rattle.command_line.specs.Rows.{asked_of};
 ghost use Rattle.arcwcet.specs.Files.{FailsToRead, Reading, ReadsAll, StopsReading, Writing};
-ghost use Rattle.arcwcet.specs.Files.{four_of, three_of, two_of};
-ghost use Rattle.arcwcet.specs.FileTexts.{kept_four, kept_three, kept_two, lent_four, lent_three, lent_two};
+ghost use Rattle.arcwcet.specs.Files.{names_of};
+ghost use Rattle.arcwcet.specs.Kept.{inputs_kept, inputs_lent, kept_of};
 ghost use Rattle.arcwcet.specs.FileFaults.{file_fault_of};
 ghost use Rattle.arcwcet.specs.Store.{bytes_read};
 ghost use Rattle.arcwcet.specs.declared.fault.StoreFault.{StoreFault};
 
 use crate::fault::{FileFault, StoreFault};
-use command_line::Names;
+use command_line::Request;
 use std::alloc::Global;
 use std::io::{ErrorKind, Read, Write};
 use std::rt::Files;
@@ -161,23 +162,35 @@ pub fn read_limited<R: Read>(alloc: Global, reader: &mut R) -> Result<Vec<u8>, S
     Err(StoreFault::InputTooLong)
 }
 
-/// The bytes of two files, and of a cycle profile's where one is named.
+/// The bytes of the files that a command read.
 #[derive(Drop)]
-pub(crate) struct TwoFiles {
+pub(crate) struct ReadFiles {
     profile: Option<Vec<u8>>,
-    first: Vec<u8>,
-    second: Vec<u8>,
+    others: Vec<Vec<u8>>,
 }
 
-/// The same, lent.
+/// The same, lent: those of a cycle profile's file, where one is named, and of the others in their order, of
+/// which those that the command does not have are empty.
 #[derive(Clone, Copy)]
-pub(crate) struct TwoTexts<'a> {
+pub(crate) struct Inputs<'a> {
     pub(crate) profile: Option<&'a [u8]>,
-    pub(crate) first: &'a [u8],
+    pub(crate) source: &'a [u8],
     pub(crate) second: &'a [u8],
+    pub(crate) third: &'a [u8],
+    pub(crate) fourth: &'a [u8],
 }
 
-impl TwoFiles {
+// The bytes of the file in a place, from 0.
+fn bytes_at(files: &[Vec<u8>], place: usize) -> &[u8]
+    ensures { result.now ≡ slice_index_or (map (λ v. v.items) files.now) place [] }
+{
+    match files.get(place) {
+        Some(bytes) => bytes,
+        None => &[],
+    }
+}
+
+impl ReadFiles {
     fn profile(&self) -> Option<&[u8]>
         ensures { option_map (λ f. f.now) result ≡ option_map (λ v. v.items) self.now.profile }
     {
@@ -187,14 +200,17 @@ impl TwoFiles {
         }
     }
 
-    /// The texts of the files.
-    pub(crate) fn texts(&self) -> TwoTexts<'_>
-        ensures { lent_two result ≡ kept_two self.now }
+    /// The bytes of the files.
+    pub(crate) fn inputs(&self) -> Inputs<'_>
+        ensures { inputs_lent result ≡ inputs_kept self.now }
     {
-        TwoTexts {
+        let others = self.others.as_slice();
+        Inputs {
             profile: self.profile(),
-            first: &self.first,
-            second: &self.second,
+            source: bytes_at(others, 0),
+            second: bytes_at(others, 1),
+            third: bytes_at(others, 2),
+            fourth: bytes_at(others, 3),
         }
     }
 }
@@ -226,6 +242,7 @@ fn read_if_named<'a, S: Store>(
     name: Option<&'a str>,
     store: &mut S,
 ) -> Result<Option<Vec<u8>>, Unread<'a>>
+    ensures named { IfOk result (λ f. is_some f ≡ is_some name.entry) }
     ensures read { IfOk result
         (λ f. ReadsAll S.read_gives store.old (cons_option (option_map (λ n. n.now) name.entry) [])
         (cons_option (option_map (λ v. v.items) f) []) store.new) }
@@ -239,114 +256,49 @@ fn read_if_named<'a, S: Store>(
     }
 }
 
-/// Reads the profile's file first, and then the other two, and says which was not read.
-pub(crate) fn read_two_files<'a, S: Store>(
+// Reads files one after another into an empty list with room for as many.
+fn read_each<'a, S: Store>(
     alloc: Global,
-    names: Names<'a>,
+    names: &[&'a str],
+    empty: Vec<Vec<u8>>,
     store: &mut S,
-) -> Result<TwoFiles, Unread<'a>>
-    ensures read { IfOk result
-        (λ f. ReadsAll S.read_gives store.old (two_of (names_of names.entry)) (kept_two f) store.new) }
+) -> Result<Vec<Vec<u8>>, Unread<'a>>
+    requires empty { empty.items ≡ [] }
+    requires room { length names.now ≤ vec_capacity empty }
+    ensures read { IfOk result (λ files. ReadsAll S.read_gives store.old (map (λ n. n.now) names.now)
+        (map (λ v. v.items) files.items) store.new) }
     ensures fault { IfErr result
-        (λ u. FailsToRead S.read_gives store.old (two_of (names_of names.entry)) u.fault store.new) }
+        (λ u. FailsToRead S.read_gives store.old (map (λ n. n.now) names.now) u.fault store.new) }
 {
-    let profile = read_if_named(alloc, names.profile, store)?;
-    let first = read_named(alloc, names.first, store)?;
-    let second = read_named(alloc, names.second, store)?;
-    Ok(TwoFiles {
-        profile,
-        first,
-        second,
-    })
-}
-
-/// The bytes of two files, of a cycle profile's where one is named, and of a third file.
-#[derive(Drop)]
-pub(crate) struct ThreeFiles {
-    handler: TwoFiles,
-    third: Vec<u8>,
-}
-
-/// The same, lent.
-#[derive(Clone, Copy)]
-pub(crate) struct ThreeTexts<'a> {
-    pub(crate) handler: TwoTexts<'a>,
-    pub(crate) third: &'a [u8],
-}
-
-impl ThreeFiles {
-    /// The texts of the files.
-    pub(crate) fn texts(&self) -> ThreeTexts<'_>
-        ensures { lent_three result ≡ kept_three self.now }
-    {
-        ThreeTexts {
-            handler: self.handler.texts(),
-            third: &self.third,
-        }
+    let mut files = empty;
+    for name in names {
+        let bytes = read_named(alloc, name, store)?;
+        let _ = files.push(bytes);
     }
+    Ok(files)
 }
 
-/// Reads the profile's file first, and then the other three, and says which was not read.
-pub(crate) fn read_three_files<'a, S: Store>(
+/// Reads the profile's file first, and then the others, and says which was not read. Where there is no memory
+/// for a list of them it reads none.
+pub(crate) fn read_files<'a, S: Store>(
     alloc: Global,
-    names: Names<'a>,
-    third: &'a str,
+    request: &Request<'a>,
     store: &mut S,
-) -> Result<ThreeFiles, Unread<'a>>
+) -> Result<ReadFiles, Unread<'a>>
+    ensures named { IfOk result (λ f. is_some f.profile ≡ is_some request.now.profile) }
     ensures read { IfOk result
-        (λ f. ReadsAll S.read_gives store.old (three_of (names_of names.entry) third.now) (kept_three f)
-        store.new) }
+        (λ f. ReadsAll S.read_gives store.old (names_of (asked_of request.now)) (kept_of f) store.new) }
     ensures fault { IfErr result
-        (λ u. FailsToRead S.read_gives store.old (three_of (names_of names.entry) third.now) u.fault
-        store.new) }
+        (λ u. FailsToRead S.read_gives store.old (names_of (asked_of request.now)) u.fault store.new
+        ⊎ ((u.fault ≡ StoreFault.Memory) × (store.new ≡ store.old))) }
 {
-    let handler = read_two_files(alloc, names, store)?;
-    let third = read_named(alloc, third, store)?;
-    Ok(ThreeFiles { handler, third })
-}
-
-/// The bytes of three files, of a cycle profile's where one is named, and of a fourth file.
-#[derive(Drop)]
-pub(crate) struct FourFiles {
-    three: ThreeFiles,
-    fourth: Vec<u8>,
-}
-
-/// The same, lent.
-#[derive(Clone, Copy)]
-pub(crate) struct FourTexts<'a> {
-    pub(crate) three: ThreeTexts<'a>,
-    pub(crate) fourth: &'a [u8],
-}
-
-impl FourFiles {
-    /// The texts of the files.
-    pub(crate) fn texts(&self) -> FourTexts<'_>
-        ensures { lent_four result ≡ kept_four self.now }
-    {
-        FourTexts {
-            three: self.three.texts(),
-            fourth: &self.fourth,
-        }
-    }
-}
-
-/// Reads the profile's file first, and then the other four, and says which was not read.
-pub(crate) fn read_four_files<'a, S: Store>(
-    alloc: Global,
-    names: Names<'a>,
-    third: &'a str,
-    fourth: &'a str,
-    store: &mut S,
-) -> Result<FourFiles, Unread<'a>>
-    ensures read { IfOk result
-        (λ f. ReadsAll S.read_gives store.old (four_of (names_of names.entry) third.now fourth.now)
-        (kept_four f) store.new) }
-    ensures fault { IfErr result
-        (λ u. FailsToRead S.read_gives store.old (four_of (names_of names.entry) third.now fourth.now)
-        u.fault store.new) }
-{
-    let three = read_three_files(alloc, names, third, store)?;
-    let fourth = read_named(alloc, fourth, store)?;
-    Ok(FourFiles { three, fourth })
+    let Ok(empty) = Vec::with_capacity(alloc, request.files.len()) else {
+        return Err(Unread {
+            name: "",
+            fault: StoreFault::Memory,
+        });
+    };
+    let profile = read_if_named(alloc, request.profile, store)?;
+    let others = read_each(alloc, &request.files, empty, store)?;
+    Ok(ReadFiles { profile, others })
 }

@@ -1,12 +1,13 @@
-ghost use Rattle.std.specs.Prelude.{◌≡◌, ◌≢◌, ◌⊎◌, IfErr, OnOk, codes, true};
+ghost use Rattle.std.specs.Prelude.{◌≡◌, ◌≢◌, ◌⊎◌, Some, codes};
 ghost use Rattle.outputs.specs.OnTheWay.{Adds};
 ghost use Rattle.handlers.specs.FaultText.{TakesOrFails, fault_text, refusal_line};
-ghost use Rattle.arcwcet.specs.Refusals.{SaysRefused, TakesSome, store_fault_name, unread_line};
-ghost use Rattle.arcwcet.specs.Run.{answer_status, report_status, store_status};
+ghost use Rattle.command_line.specs.Rows.{asked_of};
+ghost use Rattle.arcwcet.specs.Refusals.{Says, TakesSome, shows_why, store_fault_name, unread_line};
+ghost use Rattle.arcwcet.specs.Run.{report_status, store_status};
 
 use crate::fault::{StoreFault, file_fault_text, store_fault_name};
 use crate::files::{Store, Unread};
-use command_line::CommandLineFault;
+use command_line::{Command, CommandLineFault, Request};
 use handlers::{FaultPlace, ReportFault, fault_name, fault_place, print_refusal_line};
 use outputs::{Output, Page, write_whole};
 use std::fmt;
@@ -105,12 +106,30 @@ fn print_unread<S: Store, E: Output>(name: &str, fault: StoreFault, store: &S, e
     }
 }
 
-/// Prints which file was not read and why, and answers the exit status.
-pub(crate) fn unread_status<S: Store, E: Output>(unread: Unread<'_>, store: &S, err: &mut E) -> u8
-    ensures status { result ≡ store_status unread.entry.fault }
-    ensures says { SaysRefused E.taken E.failures true err.old err.new
-        (store_fault_name unread.entry.fault) }
+/// Whether what shows the reason of a refusal is printed after its line.
+pub(crate) fn shows_why(request: &Request<'_>) -> bool
+    ensures { result ≡ shows_why (asked_of request.now) }
 {
+    match request.command {
+        Command::Explain | Command::Verdict => true,
+        _ => request.why,
+    }
+}
+
+/// Prints that a file was not read, and which and why where that is shown, and answers the exit status.
+pub(crate) fn unread_status<S: Store, E: Output>(
+    unread: Unread<'_>,
+    request: &Request<'_>,
+    store: &S,
+    err: &mut E,
+) -> u8
+    ensures status { result ≡ store_status unread.entry.fault }
+    ensures says { Says E.taken E.failures (asked_of request.now) err.old err.new
+        (Some (store_fault_name unread.entry.fault)) }
+{
+    if !shows_why(request) {
+        return store_status(unread.fault, err);
+    }
     let status = store_status(unread.fault, err);
     print_unread(unread.name, unread.fault, store, err);
     status
@@ -126,20 +145,5 @@ pub(crate) fn report_status<E: Output>(fault: ReportFault, err: &mut E) -> u8
         ReportFault::Memory => 3,
         ReportFault::Device => 4,
         _ => 1,
-    }
-}
-
-/// Prints the refusal of a report, if it was refused, and answers the exit status: 1 where it says no.
-pub(crate) fn answer_status<E: Output>(answer: Result<bool, ReportFault>, err: &mut E) -> u8
-    ensures status { result ≡ answer_status answer }
-    ensures silent { result ≡ 0 → err.new ≡ err.old }
-    ensures quiet { OnOk answer (err.new ≡ err.old) }
-    ensures says { IfErr answer
-        (λ fault. TakesOrFails E.taken E.failures err.old err.new (refusal_line (fault_text fault))) }
-{
-    match answer {
-        Ok(true) => 0,
-        Ok(false) => 1,
-        Err(fault) => report_status(fault, err),
     }
 }

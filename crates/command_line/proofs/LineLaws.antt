@@ -16,39 +16,61 @@ use Rattle.clap.specs.declared.error.Error.{Error}
 use Rattle.clap.specs.declared.error.kind.ErrorKind.TheVariants.{OutOfMemory}
 use Rattle.clap.specs.declared.error.kind.ErrorKind.{ErrorKind}
 use Rattle.clap.proofs.ValueTestLemmas.{accepts-Accepts, Accepts-accepts}
-use Rattle.command_line.specs.Line.{Asked, arcwcet_command, asked, asked_by, number_to, unless_refused}
+use Rattle.command_line.specs.Line.{Asked, arcwcet_command, asked, asked_by, asks_version, no_numbers, number_to, plainly, unless_refused}
+use Rattle.command_line.specs.declared.line.Command.TheVariants as command
 
 shut : (kinds : Kinds) (x : Option Asked) (k : ErrorKind) → IsAmong k kinds → unless_refused kinds x ≡ None
 shut [] x k among = absurd among
 shut (y ∷ kinds) x k among = refl
 
--- an error of clap's asks for nothing
-pub asked_refused : (words : List Text) (k : ErrorKind) → IsAmong k (fault_of arcwcet_command words) → asked words ≡ None
+-- by a test that is false or true
+second_of : (b : Bool) (x y : Option Asked) → b ≡ false → (if b then x else y) ≡ y
+second_of false x y is = refl
+second_of true x y is = absurd (cc is)
+
+first_of_two : (b : Bool) (x y : Option Asked) → b ≡ true → (if b then x else y) ≡ x
+first_of_two true x y is = refl
+first_of_two false x y is = absurd (cc is)
+
+by_clap : List Text → Option Asked
+by_clap words = unless_refused (fault_of arcwcet_command words) (option_and_then asked_by (subcommand_of arcwcet_command words))
+
+pub version_asked : (words : List Text) → asks_version words ≡ true → asked words ≡ Some (plainly command.Version no_numbers)
 unfolding asked
-asked_refused words k among = shut (fault_of arcwcet_command words) (option_and_then asked_by (subcommand_of arcwcet_command words)) k among
+version_asked words is = first_of_two (asks_version words) (Some (plainly command.Version no_numbers)) _ is
 
--- matches ask what their subcommand asks
-pub asked_read : (words : List Text) (o : Option (Text × List Row)) → fault_of arcwcet_command words ≡ []
-    → o ≡ subcommand_of arcwcet_command words → asked words ≡ option_and_then asked_by o
-unfolding asked
-asked_read words o none is = ap (λ (ks : Kinds). unless_refused ks (option_and_then asked_by (subcommand_of arcwcet_command words))) none ∙ ap (option_and_then asked_by) (sym is)
+module _ (words : List Text) (plain : asks_version words ≡ false) where
+  as_clap_says : asked words ≡ by_clap words
+  unfolding asked by_clap
+  as_clap_says = second_of (asks_version words) (Some (plainly command.Version no_numbers)) _ plain
 
--- the same, of clap's clauses over a command that is the program's
-pub asked_of_matches : (app : App) (words : List Text) (o : Option (Text × List Row)) → app ≡ arcwcet_command
-    → (is_simple_and_free app ≡ true → fault_of app words ≡ []) → (is_simple app ≡ true → o ≡ subcommand_of app words)
-    → asked words ≡ option_and_then asked_by o
-asked_of_matches app words o is kinds rows =
-    asked_read words o
-    (subst (λ (a : App). fault_of a words ≡ []) is (kinds (ap is_simple_and_free is)))
-    (subst (λ (a : App). o ≡ subcommand_of a words) is (rows (ap is_simple is)))
+  -- an error of clap's asks for nothing
+  asked_refused : (k : ErrorKind) → IsAmong k (fault_of arcwcet_command words) → asked words ≡ None
+  unfolding by_clap
+  asked_refused k among = as_clap_says ∙ shut (fault_of arcwcet_command words) (option_and_then asked_by (subcommand_of arcwcet_command words)) k among
 
-pub asked_of_error : (app : App) (words : List Text) (e : Error) → app ≡ arcwcet_command
-    → (is_simple_and_free app ≡ true → HasKind (fault_of app words) e) → (kind_of e ≡ OutOfMemory → ⊥) → asked words ≡ None
-asked_of_error app words e is kinds other =
-    elim (subst (λ (a : App). HasKind (fault_of a words) e) is (kinds (ap is_simple_and_free is))) [
-      | inl memory ↦ absurd (other memory)
-      | inr among ↦ asked_refused words (kind_of e) among
-    ]
+  -- matches ask what their subcommand asks
+  asked_read : (o : Option (Text × List Row)) → fault_of arcwcet_command words ≡ [] → o ≡ subcommand_of arcwcet_command words → asked words ≡ option_and_then asked_by o
+  unfolding by_clap
+  asked_read o none is =
+      as_clap_says ∙ ap (λ (ks : Kinds). unless_refused ks (option_and_then asked_by (subcommand_of arcwcet_command words))) none ∙ ap (option_and_then asked_by) (sym is)
+
+  -- the same, of clap's clauses over a command that is the program's
+  pub asked_of_matches : (app : App) (o : Option (Text × List Row)) → app ≡ arcwcet_command
+      → (is_simple_and_free app ≡ true → fault_of app words ≡ []) → (is_simple app ≡ true → o ≡ subcommand_of app words)
+      → asked words ≡ option_and_then asked_by o
+  asked_of_matches app o is kinds rows =
+      asked_read o
+      (subst (λ (a : App). fault_of a words ≡ []) is (kinds (ap is_simple_and_free is)))
+      (subst (λ (a : App). o ≡ subcommand_of a words) is (rows (ap is_simple is)))
+
+  pub asked_of_error : (app : App) (e : Error) → app ≡ arcwcet_command
+      → (is_simple_and_free app ≡ true → HasKind (fault_of app words) e) → (kind_of e ≡ OutOfMemory → ⊥) → asked words ≡ None
+  asked_of_error app e is kinds other =
+      elim (subst (λ (a : App). HasKind (fault_of a words) e) is (kinds (ap is_simple_and_free is))) [
+        | inl memory ↦ absurd (other memory)
+        | inr among ↦ asked_refused (kind_of e) among
+      ]
 
 number_or_none : Text → Bool → Option ℕ
 number_or_none t fits = if fits then Some (digits_value 10 (without_leading_plus t)) else None

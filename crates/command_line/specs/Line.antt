@@ -1,8 +1,10 @@
 -- What a line of words asks of the program, by clap's function for a simple command. The commands are our
 -- own.
-use Rattle.std.specs.Prelude.{ℕ, pos, true, List, [], ◌∷◌, Option, Some, None, String, codes, map}
-use Rattle.std.specs.Prelude.{option_and_then, option_map, string_bytes, if◌then◌else◌, is_none, ◌&&◌}
-use Rattle.std.specs.Option.{option_zip}
+use Rattle.std.specs.Prelude.{ℕ, Bool, pos, true, false, not, List, [], ◌∷◌, ◌++◌, Option, Some, None, String}
+use Rattle.std.specs.Prelude.{codes, find, fold, is_none, length, map, option_and_then, slice_index_or}
+use Rattle.std.specs.Prelude.{string_bytes, unwrap_or, if◌then◌else◌, ◌&&◌, ◌||◌, ◌==◌}
+use Rattle.std.specs.Option.{option_map_or}
+use Rattle.std.specs.List.{list_any}
 use Rattle.std.specs.declared.alloc.Global.{Global}
 use Rattle.std.specs.Str.{bytes_eq}
 use Rattle.std.specs.Str.Parse.{digits_value, without_leading_plus}
@@ -11,50 +13,87 @@ use Rattle.clap.specs.Simple.{App, new_app, new_rule, on_top, subcommand_of, wit
 use Rattle.clap.specs.Faults.{fault_of}
 use Rattle.clap.specs.Kinds.{Kinds}
 use Rattle.clap.specs.ValueTests.{is_unsigned_in}
+use Rattle.clap.specs.declared.builder.action.ArgAction.TheVariants.{SetTrue}
 use Rattle.clap.specs.declared.builder.value_parser.ValueParser.TheVariants as parser
-use Rattle.command_line.specs.declared.line.Request.{Request}
-use Rattle.command_line.specs.declared.line.Request.TheVariants as request
-use Rattle.command_line.specs.declared.line.ExplainNames.{ExplainNames}
-use Rattle.command_line.specs.declared.line.Names.{Names}
+use Rattle.command_line.specs.declared.line.Command.{Command}
+use Rattle.command_line.specs.declared.line.Command.TheVariants as command
+use Rattle.command_line.specs.declared.line.Numbers.{Numbers}
+use Rattle.command_line.specs.declared.rows.Form.{Form}
+use Rattle.command_line.specs.declared.rows.Form.TheVariants as form
+
+-- ## The commands
+
+-- an argument: its name, how it is given, and what is asked for instead where it is given
+pub record Argument : Type 0 where
+  pub id : Text
+  pub form : Form
+  pub instead : Option Command
+
+-- how a command is used: its name, what it asks for, and its arguments
+pub record Usage : Type 0 where
+  pub name : Text
+  pub command : Command
+  pub arguments : List Argument
+
+abbrev pub argument : Text → Form → Argument
+argument id form = record { id = id; form = form; instead = None }
+
+-- an option that asks for another command
+abbrev pub other : Text → Form → Command → Argument
+other id form instead = record { id = id; form = form; instead = Some instead }
+
+abbrev pub usage : Text → Command → List Argument → Usage
+usage name command arguments = record { name = name; command = command; arguments = arguments }
+
+abbrev pub profile : Argument
+profile = argument (codes "profile") form.Profile
+
+abbrev pub source : Argument
+source = argument (codes "source") form.Placed
+
+abbrev pub machine : Argument
+machine = argument (codes "machine") form.Placed
+
+abbrev pub statement : Argument
+statement = argument (codes "statement") form.Placed
+
+-- the option that each command has
+abbrev pub why : Argument
+why = argument (codes "why") form.Flag
+
+abbrev pub usages : List Usage
+usages =
+    usage (codes "asm") command.Asm (source ∷ argument (codes "image") form.Word ∷ [])
+    ∷ usage (codes "list") command.List (source ∷ [])
+    ∷ usage (codes "draft") command.Draft (source ∷ argument (codes "entry") form.Word ∷ [])
+    ∷ usage (codes "run") command.Run (profile ∷ source ∷ machine ∷ [])
+    ∷ usage (codes "trace") command.Trace (profile ∷ source ∷ machine ∷ [])
+    ∷ usage (codes "debug") command.Debug (profile ∷ source ∷ machine ∷ [])
+    ∷ usage (codes "bound") command.Bound
+    (profile ∷ source ∷ statement ∷ other (codes "tight") form.Numbered command.Tight ∷ [])
+    ∷ usage (codes "check") command.Check
+    (profile ∷ source ∷ statement ∷ argument (codes "cert") form.Placed ∷ [])
+    ∷ usage (codes "visits") command.Visits
+    (profile ∷ source ∷ statement ∷ argument (codes "fiq_statement") form.Placed
+    ∷ argument (codes "visits") form.Counted ∷ [])
+    ∷ usage (codes "explain") command.Explain
+    (profile ∷ source ∷ statement ∷ argument (codes "at-most") form.Ticks
+    ∷ argument (codes "bursts") form.Numbered ∷ argument (codes "burst-every") form.Numbered
+    ∷ other (codes "certificate") form.Named command.Verdict ∷ [])
+    ∷ usage (codes "follow") command.Follow
+    (profile ∷ source ∷ statement ∷ other (codes "fiq") form.Named command.FollowVisits ∷ machine ∷ [])
+    ∷ usage (codes "graph") command.Graph (profile ∷ source ∷ statement ∷ [])
+    ∷ []
+
+-- ## The words that clap takes
 
 -- an argument that has to be there, in its place
 abbrev pub required_rule : Text → Rule
 required_rule id = record (new_rule id) { required = true }
 
--- `--profile FILE`
-abbrev pub profile_rule : Rule
-profile_rule = record (new_rule (codes "profile")) { long = Some (codes "profile"); value_names = 1 }
-
--- `asm SOURCE IMAGE`
-abbrev pub asm_command : App
-asm_command =
-    with_rule (with_rule (new_app (codes "asm")) (required_rule (codes "source")))
-    (required_rule (codes "image"))
-
--- `list SOURCE`
-abbrev pub list_command : App
-list_command = with_rule (new_app (codes "list")) (required_rule (codes "source"))
-
--- `draft SOURCE ENTRY`
-abbrev pub draft_command : App
-draft_command =
-    with_rule (with_rule (new_app (codes "draft")) (required_rule (codes "source")))
-    (required_rule (codes "entry"))
-
--- `NAME SOURCE SECOND`, with a cycle profile
-abbrev pub priced_command : Text → Text → App
-priced_command name second =
-    with_rule (with_rule (with_rule (new_app name) profile_rule) (required_rule (codes "source")))
-    (required_rule second)
-
-abbrev pub run_command : App
-run_command = priced_command (codes "run") (codes "machine")
-
-abbrev pub trace_command : App
-trace_command = priced_command (codes "trace") (codes "machine")
-
-abbrev pub debug_command : App
-debug_command = priced_command (codes "debug") (codes "machine")
+-- an option of the argument's name
+abbrev pub option_rule : Text → Rule
+option_rule id = record (new_rule id) { long = Some id }
 
 -- the greatest number of 32 bits
 abbrev pub most_number : ℕ
@@ -64,169 +103,57 @@ most_number = 4294967295
 abbrev pub numbered : Rule → Rule
 numbered rule = record rule { value_names = 1; parser = Some (parser.Signed (pos 0) (pos most_number)) }
 
--- `--tight N`
-abbrev pub tight_rule : Rule
-tight_rule = numbered (record (new_rule (codes "tight")) { long = Some (codes "tight") })
-
--- `bound SOURCE STATEMENT`, with a cycle profile and the number of an edge
-abbrev pub bound_command : App
-bound_command = with_rule (priced_command (codes "bound") (codes "statement")) tight_rule
-
 -- an argument's value is a number of ticks, of at most 2^63 - 1
 abbrev pub in_ticks : Rule → Rule
 in_ticks rule = record rule { value_names = 1; parser = Some (parser.Unsigned 0 9223372036854775807) }
 
--- `--at-most N`
-abbrev pub at_most_rule : Rule
-at_most_rule = in_ticks (record (new_rule (codes "at-most")) { long = Some (codes "at-most") })
+abbrev pub rule_by : Form → Text → Rule
+rule_by form.Placed id = required_rule id
+rule_by form.Word id = required_rule id
+rule_by form.Counted id = numbered (required_rule id)
+rule_by form.Profile id = record (option_rule id) { value_names = 1 }
+rule_by form.Named id = record (option_rule id) { value_names = 1 }
+rule_by form.Numbered id = numbered (option_rule id)
+rule_by form.Ticks id = in_ticks (option_rule id)
+rule_by form.Flag id = record (option_rule id) { action = Some SetTrue }
 
--- `--bursts N`
-abbrev pub bursts_rule : Rule
-bursts_rule = numbered (record (new_rule (codes "bursts")) { long = Some (codes "bursts") })
+abbrev pub rule_as : Argument → Rule
+rule_as a = rule_by a.form a.id
 
--- `--burst-every N`
-abbrev pub burst_every_rule : Rule
-burst_every_rule = numbered (record (new_rule (codes "burst-every")) { long = Some (codes "burst-every") })
+abbrev pub with_arguments : App → List Argument → App
+with_arguments app arguments = fold (λ (a : App) argument. with_rule a (rule_as argument)) app arguments
 
--- `--certificate FILE`
-abbrev pub certificate_rule : Rule
-certificate_rule =
-    record (new_rule (codes "certificate")) { long = Some (codes "certificate"); value_names = 1 }
+abbrev pub app_in : Usage → App
+app_in u = with_rule (with_arguments (new_app u.name) u.arguments) (rule_as why)
 
--- `explain SOURCE STATEMENT`, with a cycle profile, the most ticks that are wanted, DMA bursts, and a
--- certificate
-abbrev pub explain_command : App
-explain_command =
-    with_rule
-    (with_rule
-    (with_rule (with_rule (priced_command (codes "explain") (codes "statement")) at_most_rule) bursts_rule)
-    burst_every_rule)
-    certificate_rule
-
--- `check SOURCE STATEMENT CERT`, with a cycle profile
-abbrev pub check_command : App
-check_command = with_rule (priced_command (codes "check") (codes "statement")) (required_rule (codes "cert"))
-
--- a whole number of visits, in its place
-abbrev pub visits_rule : Rule
-visits_rule = numbered (required_rule (codes "visits"))
-
--- `visits SOURCE STATEMENT FIQSTATEMENT K`, with a cycle profile
-abbrev pub visits_command : App
-visits_command =
-    with_rule
-    (with_rule (priced_command (codes "visits") (codes "statement")) (required_rule (codes "fiq_statement")))
-    visits_rule
-
--- `--fiq FILE`
-abbrev pub fiq_rule : Rule
-fiq_rule = record (new_rule (codes "fiq")) { long = Some (codes "fiq"); value_names = 1 }
-
--- `follow SOURCE STATEMENT MACHINE`, with a cycle profile, and a statement on FIQ's handler
-abbrev pub follow_command : App
-follow_command =
-    with_rule
-    (with_rule (priced_command (codes "follow") (codes "statement")) (required_rule (codes "machine")))
-    fiq_rule
-
--- `graph SOURCE STATEMENT`, with a cycle profile
-abbrev pub graph_command : App
-graph_command = priced_command (codes "graph") (codes "statement")
+-- a command with these subcommands
+abbrev pub with_commands : App → List Usage → App
+with_commands app us = fold (λ (a : App) u. with_subcommand a (app_in u).top) app us
 
 abbrev pub arcwcet_top : App
-arcwcet_top = on_top (λ s. record s { subcommand_required = true }) (new_app (codes "arcwcet"))
+arcwcet_top =
+    on_top (λ s. record s { subcommand_required = true; has_version = true }) (new_app (codes "arcwcet"))
 
 -- the program's command with its subcommands
 abbrev pub arcwcet_command : App
-arcwcet_command =
-    with_subcommand
-    (with_subcommand
-    (with_subcommand
-    (with_subcommand
-    (with_subcommand
-    (with_subcommand
-    (with_subcommand
-    (with_subcommand
-    (with_subcommand
-    (with_subcommand
-    (with_subcommand
-    (with_subcommand arcwcet_top
-    asm_command.top) list_command.top) draft_command.top) run_command.top) trace_command.top)
-    debug_command.top) bound_command.top)
-    check_command.top) visits_command.top) explain_command.top) follow_command.top) graph_command.top
+arcwcet_command = with_commands arcwcet_top usages
 
--- the names of two files, and of a cycle profile's
-pub record FileNames : Type 0 where
+-- ## What is asked for
+
+-- a command, whether to print what shows the reason of a refusal, the names of files, the cycle profile's
+-- apart, a word that names no file to be read, and numbers
+pub record Asked : Type 0 where
+  pub command : Command
+  pub why : Bool
   pub profile : Option Text
-  pub first : Text
-  pub second : Text
+  pub files : List Text
+  pub word : Text
+  pub numbers : Numbers
 
--- the numbers of the options of `explain`
-pub record ExplainOptions : Type 0 where
-  pub at_most : Option ℕ
-  pub bursts : Option ℕ
-  pub burst_every : Option ℕ
-
--- what is asked for, with the names of files
-pub data Asked : Type 0 where
-  asm : Text → Text → Asked
-  list : Text → Asked
-  draft : Text → Text → Asked
-  run : FileNames → Asked
-  trace : FileNames → Asked
-  debug : FileNames → Asked
-  bound : FileNames → Asked
-  explain : FileNames → ExplainOptions → Asked
-  tight : FileNames → ℕ → Asked
-  check : FileNames → Text → Asked
-  explain_verdict : FileNames → Text → Asked
-  visits : FileNames → Text → ℕ → Asked
-  follow : FileNames → Text → Asked
-  follow_visits : FileNames → (fiq machine : Text) → Asked
-  graph : FileNames → Asked
-
-abbrev pub names_of : Names → FileNames
-names_of n =
-    record { profile = option_map (λ s. s.now) n.profile; first = n.first.now; second = n.second.now }
-
-abbrev pub options_of : ExplainNames → ExplainOptions
-options_of n = record { at_most = n.at_most; bursts = n.bursts; burst_every = n.burst_every }
-
-abbrev pub asked_of : Request → Asked
-asked_of (request.Asm names) = asm names.source.now names.image.now
-asked_of (request.List source) = list source.now
-asked_of (request.Draft names) = draft names.source.now names.entry.now
-asked_of (request.Run names) = run (names_of names)
-asked_of (request.Trace names) = trace (names_of names)
-asked_of (request.Debug names) = debug (names_of names)
-asked_of (request.Bound names) = bound (names_of names)
-asked_of (request.Explain names) = explain (names_of names.handler) (options_of names)
-asked_of (request.Tight names) = tight (names_of names.handler) names.edge
-asked_of (request.Check names) = check (names_of names.handler) names.cert.now
-asked_of (request.ExplainVerdict names) = explain_verdict (names_of names.handler) names.cert.now
-asked_of (request.Visits names) = visits (names_of names.handler) names.fiq_statement.now names.visits
-asked_of (request.Follow names) = follow (names_of names.handler) names.machine.now
-asked_of (request.FollowVisits names) =
-    follow_visits (names_of names.handler) names.fiq_statement.now names.machine.now
-asked_of (request.Graph names) = graph (names_of names)
-
--- the source's name and another argument, where both are given
-abbrev pub source_and : Text → List Row → Option (Text × Text)
-source_and id rows = option_zip (first_of (codes "source") rows) (first_of id rows)
-
--- by the values of a command with a cycle profile
-abbrev pub names_in : Text → List Row → Option FileNames
-names_in second rows =
-    option_map (λ p. record { profile = first_of (codes "profile") rows; first = p.0; second = p.1 })
-    (source_and second rows)
-
--- the names of a handler's files and another argument, where all are given
-abbrev pub handler_and : Text → List Row → Option (FileNames × Text)
-handler_and id rows = option_zip (names_in (codes "statement") rows) (first_of id rows)
-
--- nothing where the image would be written over its source
-abbrev pub asm_of : Text × Text → Option Asked
-asm_of p = if bytes_eq p.0 p.1 then None else Some (asm p.0 p.1)
+-- without an argument
+abbrev pub plainly : Command → Numbers → Asked
+plainly command numbers =
+    record { command = command; why = false; profile = None; files = []; word = []; numbers = numbers }
 
 -- the number of at most this that a text writes: decimal digits, after any plus
 abbrev pub number_to : ℕ → Text → Option ℕ
@@ -241,97 +168,78 @@ number_at id rows = option_and_then (number_to most_number) (one_of id rows)
 abbrev pub ticks_at : Text → List Row → Option ℕ
 ticks_at id rows = option_and_then (number_to 18446744073709551615) (one_of id rows)
 
--- by the values of `asm`
-abbrev pub asked_asm : List Row → Option Asked
-asked_asm rows = option_and_then asm_of (source_and (codes "image") rows)
-
--- by the values of `list`
-abbrev pub asked_list : List Row → Option Asked
-asked_list rows = option_map list (first_of (codes "source") rows)
-
--- by the values of `draft`
-abbrev pub asked_draft : List Row → Option Asked
-asked_draft rows = option_map (λ p. draft p.0 p.1) (source_and (codes "entry") rows)
-
--- an edge where one is named, else the bound
-abbrev pub bound_of : Option ℕ → FileNames → Asked
-bound_of (Some edge) names = tight names edge
-bound_of None names = bound names
-
--- by the values of `bound`
-abbrev pub asked_bound : List Row → Option Asked
-asked_bound rows = option_map (bound_of (number_at (codes "tight") rows)) (names_in (codes "statement") rows)
-
-abbrev pub options_in : List Row → ExplainOptions
-options_in rows =
+abbrev pub numbers_in : List Row → Numbers
+numbers_in rows =
     record {
+      edge = unwrap_or (number_at (codes "tight") rows) 0;
+      visits = unwrap_or (number_at (codes "visits") rows) 0;
       at_most = ticks_at (codes "at-most") rows;
       bursts = number_at (codes "bursts") rows;
       burst_every = number_at (codes "burst-every") rows;
     }
 
--- the verdict on a certificate: nothing where another option of `explain` is given, which would have no effect
-abbrev pub verdict_of : (cert : Text) → ExplainOptions → FileNames → Option Asked
-verdict_of cert options names =
-    if is_none options.at_most && (is_none options.bursts && is_none options.burst_every)
-    then Some (explain_verdict names cert) else None
+abbrev pub no_numbers : Numbers
+no_numbers = record { edge = 0; visits = 0; at_most = None; bursts = None; burst_every = None }
 
--- that where a certificate is named, else the explanation
-abbrev pub explain_of : (cert : Option Text) → ExplainOptions → FileNames → Option Asked
-explain_of (Some cert) options names = verdict_of cert options names
-explain_of None options names = Some (explain names options)
+-- with the value of an argument of a form too; numbers are read by their names
+abbrev pub with_value_by : Form → Text → Asked → Asked
+with_value_by form.Placed name asked = record asked { files = asked.files ++ name ∷ [] }
+with_value_by form.Named name asked = record asked { files = asked.files ++ name ∷ [] }
+with_value_by form.Word word asked = record asked { word = word }
+with_value_by form.Profile name asked = record asked { profile = Some name }
+with_value_by form.Flag value asked = record asked { why = bytes_eq value (codes "true") }
+with_value_by form.Counted value asked = asked
+with_value_by form.Numbered value asked = asked
+with_value_by form.Ticks value asked = asked
 
--- by the values of `explain`
-abbrev pub asked_explain : List Row → Option Asked
-asked_explain rows =
-    option_and_then (explain_of (first_of (codes "certificate") rows) (options_in rows))
-    (names_in (codes "statement") rows)
+abbrev pub with_value : Argument → Text → Asked → Asked
+with_value a value asked =
+    with_value_by a.form value (record asked { command = unwrap_or a.instead asked.command })
 
--- by the values of `check`
-abbrev pub asked_check : List Row → Option Asked
-asked_check rows = option_map (λ p. check p.0 p.1) (handler_and (codes "cert") rows)
+-- with the value of an argument, if it is given
+abbrev pub with_argument : List Row → Asked → Argument → Asked
+with_argument rows asked a = option_map_or (λ value. with_value a value asked) (first_of a.id rows) asked
 
--- with FIQ's visits where its statement is named, else without
-abbrev pub follow_of : (fiq : Option Text) → FileNames × Text → Asked
-follow_of (Some fiq) p = follow_visits p.0 fiq p.1
-follow_of None p = follow p.0 p.1
+-- with those of a command's arguments, in their order
+abbrev pub asked_as : Usage → List Row → Asked
+asked_as u rows =
+    with_argument rows (fold (with_argument rows) (plainly u.command (numbers_in rows)) u.arguments) why
 
--- by the values of `follow`
-abbrev pub asked_follow : List Row → Option Asked
-asked_follow rows = option_map (follow_of (first_of (codes "fiq") rows)) (handler_and (codes "machine") rows)
+-- `asm` writes no image over a file that it reads, and beside the certificate of a verdict no other option
+-- of `explain` is given, which would have no effect
+abbrev pub is_allowed_of : Command → Asked → Bool
+is_allowed_of command.Asm asked = not (list_any (λ name. bytes_eq name asked.word) asked.files)
+is_allowed_of command.Verdict asked =
+    is_none asked.numbers.at_most && (is_none asked.numbers.bursts && is_none asked.numbers.burst_every)
+is_allowed_of c asked = true
 
--- by the values of `visits`
-abbrev pub asked_visits : List Row → Option Asked
-asked_visits rows =
-    option_map (λ p. visits p.0.0 p.0.1 p.1)
-    (option_zip (handler_and (codes "fiq_statement") rows) (number_at (codes "visits") rows))
+abbrev pub is_allowed : Asked → Bool
+is_allowed asked = is_allowed_of asked.command asked
 
--- by the subcommand's name and its values
+abbrev pub allowed : Asked → Option Asked
+allowed asked = if is_allowed asked then Some asked else None
+
+-- by a command's name and its values
 abbrev pub asked_by : Text × List Row → Option Asked
 asked_by p =
-    if bytes_eq p.0 (codes "asm") then asked_asm p.1
-    else (if bytes_eq p.0 (codes "list") then asked_list p.1
-    else (if bytes_eq p.0 (codes "run") then option_map run (names_in (codes "machine") p.1)
-    else (if bytes_eq p.0 (codes "trace") then option_map trace (names_in (codes "machine") p.1)
-    else (if bytes_eq p.0 (codes "debug") then option_map debug (names_in (codes "machine") p.1)
-    else (if bytes_eq p.0 (codes "bound") then asked_bound p.1
-    else (if bytes_eq p.0 (codes "check") then asked_check p.1
-    else (if bytes_eq p.0 (codes "visits") then asked_visits p.1
-    else (if bytes_eq p.0 (codes "explain") then asked_explain p.1
-    else (if bytes_eq p.0 (codes "draft") then asked_draft p.1
-    else (if bytes_eq p.0 (codes "follow") then asked_follow p.1
-    else (if bytes_eq p.0 (codes "graph") then option_map graph (names_in (codes "statement") p.1)
-    else None)))))))))))
+    option_and_then (λ u. allowed (asked_as u p.1)) (find (λ u. bytes_eq p.0 u.name) usages)
 
 -- only where there is no fault
 abbrev pub unless_refused : Kinds → Option Asked → Option Asked
 unless_refused [] asked = asked
 unless_refused (k ∷ ks) asked = None
 
+-- `--version` or `-V`, as the only word after the program's name
+abbrev pub asks_version : List Text → Bool
+asks_version words =
+    let word = slice_index_or words 1 [] in
+    length words == 2 && (bytes_eq word (codes "--version") || bytes_eq word (codes "-V"))
+
 -- what the words ask for: nothing where clap refuses them
 unfoldable pub asked : List Text → Option Asked
 asked words =
-    unless_refused (fault_of arcwcet_command words)
+    if asks_version words then Some (plainly command.Version no_numbers)
+    else unless_refused (fault_of arcwcet_command words)
     (option_and_then asked_by (subcommand_of arcwcet_command words))
 
 -- the same of the program's words

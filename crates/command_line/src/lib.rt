@@ -6,8 +6,6 @@ mod line;
 mod rows;
 mod words;
 
-pub use line::{
-    AsmNames, CheckNames, CommandLineFault, DraftNames, ExplainNames, FollowNames,
-    FollowVisitsNames, Names, Request, TightNames, VisitsNames,
-};
+pub use line::{Command, CommandLineFault, Numbers, Request};
+pub use rows::VERSION;
 pub use words::request;

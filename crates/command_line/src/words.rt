@@ -1,93 +1,21 @@
-ghost use Rattle.std.specs.Prelude.{◌≡◌, ◌≢◌, IfOk, IfErr, Some, None, option_map};
-ghost use Rattle.std.specs.Prelude.{List, find, option_and_then};
+ghost use Rattle.std.specs.Prelude.{◌≡◌, ◌≢◌, IfErr, IfOk, OnOk, Some, None, map, option_map};
+ghost use Rattle.std.specs.Prelude.{find, option_and_then, string_bytes};
+ghost use Rattle.std.specs.List.{list_any};
 ghost use Rattle.std.specs.Str.{bytes_eq};
 ghost use Rattle.clap.specs.Matches.{found_of};
-ghost use Rattle.clap.specs.Walk.{Row, rows_of};
+ghost use Rattle.clap.specs.Walk.{rows_of};
 ghost use Rattle.clap.specs.Words.{kind_of, subcommand_rows_of};
-ghost use Rattle.command_line.specs.Line.{asked_asm, asked_bound, asked_by, asked_check, asked_draft};
-ghost use Rattle.command_line.specs.Line.{asked_explain, asked_follow, asked_in, asked_list, asked_of};
-ghost use Rattle.command_line.specs.Line.{asked_visits, asm_of, handler_and, names_in, names_of};
-ghost use Rattle.command_line.specs.Line.{number_at};
-ghost use Rattle.command_line.specs.Line.{options_of, source_and, ticks_at, verdict_of};
-ghost use Rattle.command_line.specs.Rows.{asked_as, first_asked};
+ghost use Rattle.command_line.specs.Line.{asked_as, asked_by, asked_in, asks_version, is_allowed};
+ghost use Rattle.command_line.specs.Line.{no_numbers, number_at, numbers_in, plainly, ticks_at};
+ghost use Rattle.command_line.specs.Line.{with_argument, with_value};
+ghost use Rattle.command_line.specs.Rows.{argument_of, asked_of, usage_of};
 
 use crate::commands::arcwcet;
-use crate::line::{
-    AsmNames, CheckNames, CommandLineFault, DraftNames, ExplainNames, FollowNames,
-    FollowVisitsNames, Names, Request, TightNames, VisitsNames,
-};
-use crate::rows::{KINDS, Kind};
+use crate::line::{Command, CommandLineFault, Numbers, Request};
+use crate::rows::{ArgumentRow, COMMANDS, CommandRow, Form, WHY};
 use clap::error::ErrorKind;
 use clap::{ArgMatches, Error};
-use std::alloc::Global;
-
-// The source's name and another argument, where both are given.
-fn source_and<'a>(values: &ArgMatches<'a>, id: &str) -> Option<(&'a str, &'a str)>
-    ensures { option_map (λ p. (p.0.now, p.1.now)) result
-        ≡ source_and id.now (rows_of (found_of values.now)) }
-{
-    let source = values.get_str("source")?;
-    let other = values.get_str(id)?;
-    Some((source, other))
-}
-
-// The names of a profile's file, if there is one, and of two others.
-fn names_in<'a>(values: &ArgMatches<'a>, second: &str) -> Option<Names<'a>>
-    ensures { option_map names_of result ≡ names_in second.now (rows_of (found_of values.now)) }
-{
-    let profile = values.get_str("profile");
-    let (first, second) = source_and(values, second)?;
-    Some(Names {
-        profile,
-        first,
-        second,
-    })
-}
-
-// The names of a handler's files and another argument, where all are given.
-fn handler_and<'a>(values: &ArgMatches<'a>, id: &str) -> Option<(Names<'a>, &'a str)>
-    ensures { option_map (λ p. (names_of p.0, p.1.now)) result
-        ≡ handler_and id.now (rows_of (found_of values.now)) }
-{
-    let handler = names_in(values, "statement")?;
-    let other = values.get_str(id)?;
-    Some((handler, other))
-}
-
-// The request for a source's image: none where the image would be written over its source.
-fn asm_request<'a>(source: &'a str, image: &'a str) -> Option<Request<'a>>
-    ensures { option_map asked_of result ≡ asm_of (source.now, image.now) }
-{
-    if source == image {
-        None
-    } else {
-        Some(Request::Asm(AsmNames { source, image }))
-    }
-}
-
-// What `asm` is asked with.
-fn asm_in<'a>(values: &ArgMatches<'a>) -> Option<Request<'a>>
-    ensures { option_map asked_of result ≡ asked_asm (rows_of (found_of values.now)) }
-{
-    let (source, image) = source_and(values, "image")?;
-    asm_request(source, image)
-}
-
-// What `list` is asked with.
-fn list_in<'a>(values: &ArgMatches<'a>) -> Option<Request<'a>>
-    ensures { option_map asked_of result ≡ asked_list (rows_of (found_of values.now)) }
-{
-    let source = values.get_str("source")?;
-    Some(Request::List(source))
-}
-
-// What `draft` is asked with.
-fn draft_in<'a>(values: &ArgMatches<'a>) -> Option<Request<'a>>
-    ensures { option_map asked_of result ≡ asked_draft (rows_of (found_of values.now)) }
-{
-    let (source, entry) = source_and(values, "entry")?;
-    Some(Request::Draft(DraftNames { source, entry }))
-}
+use std::alloc::{AllocError, Global};
 
 // The number of an option or of an argument.
 fn number_at(values: &ArgMatches<'_>, id: &str) -> Option<u32>
@@ -103,133 +31,147 @@ fn ticks_at(values: &ArgMatches<'_>, id: &str) -> Option<u64>
     values.get_one(id)
 }
 
-// What `bound` is asked with.
-fn bound_in<'a>(values: &ArgMatches<'a>) -> Option<Request<'a>>
-    ensures { option_map asked_of result ≡ asked_bound (rows_of (found_of values.now)) }
+fn numbers_in(values: &ArgMatches<'_>) -> Numbers
+    ensures { result ≡ numbers_in (rows_of (found_of values.now)) }
 {
-    let handler = names_in(values, "statement")?;
-    match number_at(values, "tight") {
-        Some(edge) => Some(Request::Tight(TightNames { handler, edge })),
-        None => Some(Request::Bound(handler)),
-    }
-}
-
-// The request for the verdict on a certificate: none where an option is given that has no effect beside it.
-fn verdict_of<'a>(cert: &'a str, names: ExplainNames<'a>) -> Option<Request<'a>>
-    ensures { option_map asked_of result ≡ verdict_of cert.now (options_of names.entry) (names_of names.entry.handler) }
-{
-    let handler = names.handler;
-    match (names.at_most, names.bursts, names.burst_every) {
-        (None, None, None) => Some(Request::ExplainVerdict(CheckNames { handler, cert })),
-        _ => None,
-    }
-}
-
-// What `explain` is asked with.
-fn explain_in<'a>(values: &ArgMatches<'a>) -> Option<Request<'a>>
-    ensures { option_map asked_of result ≡ asked_explain (rows_of (found_of values.now)) }
-{
-    let handler = names_in(values, "statement")?;
-    let names = ExplainNames {
-        handler,
+    Numbers {
+        edge: number_at(values, "tight").unwrap_or(0),
+        visits: number_at(values, "visits").unwrap_or(0),
         at_most: ticks_at(values, "at-most"),
         bursts: number_at(values, "bursts"),
         burst_every: number_at(values, "burst-every"),
+    }
+}
+
+// Adds to what is asked the value of an argument.
+fn add_value<'a>(
+    request: &mut Request<'a>,
+    row: &ArgumentRow,
+    value: &'a str,
+) -> Result<(), AllocError>
+    ensures { OnOk result (asked_of request.new
+        ≡ with_value (argument_of row.now) value.now (asked_of request.old)) }
+{
+    request.command = row.instead.unwrap_or(request.command);
+    match row.form {
+        Form::Placed | Form::Named => request.files.push(value)?,
+        Form::Word => request.word = value,
+        Form::Profile => request.profile = Some(value),
+        Form::Flag => request.why = value == "true",
+        Form::Counted | Form::Numbered | Form::Ticks => {}
+    }
+    Ok(())
+}
+
+// The same of an argument that may be given.
+fn add_argument<'a>(
+    request: &mut Request<'a>,
+    row: &ArgumentRow,
+    values: &ArgMatches<'a>,
+) -> Result<(), AllocError>
+    ensures { OnOk result (asked_of request.new
+        ≡ with_argument (rows_of (found_of values.now)) (asked_of request.old) (argument_of row.now)) }
+{
+    match values.get_str(row.id) {
+        Some(value) => add_value(request, row, value),
+        None => Ok(()),
+    }
+}
+
+// What the command of a row is asked with.
+fn asked<'a>(
+    alloc: Global,
+    row: &CommandRow,
+    values: &ArgMatches<'a>,
+) -> Result<Request<'a>, AllocError>
+    ensures { IfOk result
+        (λ q. asked_of q ≡ asked_as (usage_of row.now) (rows_of (found_of values.now))) }
+{
+    let mut request = Request {
+        command: row.command,
+        why: false,
+        profile: None,
+        files: Vec::new(alloc),
+        word: "",
+        numbers: numbers_in(values),
     };
-    match values.get_str("certificate") {
-        Some(cert) => verdict_of(cert, names),
-        None => Some(Request::Explain(names)),
+    for argument in row.arguments {
+        add_argument(&mut request, argument, values)?;
+    }
+    add_argument(&mut request, &WHY, values)?;
+    Ok(request)
+}
+
+// Whether a name is among others.
+fn is_among(names: &[&str], word: &str) -> bool
+    ensures { result ≡ list_any (λ name. bytes_eq name.now word.now) names.now }
+{
+    names.iter().any(|name| *name == word)
+}
+
+// Whether what is asked may be: the image of `asm` is no file that it reads, and no option that has no effect
+// stands beside the certificate of a verdict.
+fn is_allowed(request: &Request<'_>) -> bool
+    ensures { result ≡ is_allowed (asked_of request.now) }
+{
+    match request.command {
+        Command::Asm => !is_among(&request.files, request.word),
+        Command::Verdict => {
+            let numbers = request.numbers;
+            numbers.at_most.is_none() && numbers.bursts.is_none() && numbers.burst_every.is_none()
+        }
+        _ => true,
     }
 }
 
-// What `check` is asked with.
-fn check_in<'a>(values: &ArgMatches<'a>) -> Option<Request<'a>>
-    ensures { option_map asked_of result ≡ asked_check (rows_of (found_of values.now)) }
+fn first_row<'a>(rows: &'a [CommandRow], name: &str) -> Option<&'a CommandRow>
+    ensures { option_map (λ row. row.now) result
+        ≡ find (λ row. bytes_eq name.now row.name.now) rows.now }
 {
-    let (handler, cert) = handler_and(values, "cert")?;
-    Some(Request::Check(CheckNames { handler, cert }))
+    rows.iter().find(|row| name == row.name)
 }
 
-// What `follow` is asked with.
-fn follow_in<'a>(values: &ArgMatches<'a>) -> Option<Request<'a>>
-    ensures { option_map asked_of result ≡ asked_follow (rows_of (found_of values.now)) }
+// The row of a command's name.
+fn row_named<'a>(rows: &'a [CommandRow], name: &str) -> Option<&'a CommandRow>
+    ensures { option_map (λ row. usage_of row.now) result
+        ≡ find (λ usage. bytes_eq name.now usage.name) (map usage_of rows.now) }
 {
-    let (handler, machine) = handler_and(values, "machine")?;
-    match values.get_str("fiq") {
-        Some(fiq_statement) => Some(Request::FollowVisits(FollowVisitsNames {
-            handler,
-            fiq_statement,
-            machine,
-        })),
-        None => Some(Request::Follow(FollowNames { handler, machine })),
+    first_row(rows, name)
+}
+
+// What a command's name and its values ask for, if they may.
+fn asked_by<'a>(
+    alloc: Global,
+    name: &str,
+    values: &ArgMatches<'a>,
+) -> Result<Option<Request<'a>>, AllocError>
+    ensures { IfOk result
+        (λ q. option_map asked_of q ≡ asked_by (name.now, rows_of (found_of values.now))) }
+{
+    let rows = &COMMANDS;
+    let Some(row) = row_named(rows, name) else {
+        return Ok(None);
+    };
+    let request = asked(alloc, row, values)?;
+    if is_allowed(&request) {
+        Ok(Some(request))
+    } else {
+        Ok(None)
     }
-}
-
-// What `visits` is asked with.
-fn visits_in<'a>(values: &ArgMatches<'a>) -> Option<Request<'a>>
-    ensures { option_map asked_of result ≡ asked_visits (rows_of (found_of values.now)) }
-{
-    let (handler, fiq_statement) = handler_and(values, "fiq_statement")?;
-    let visits = number_at(values, "visits")?;
-    Some(Request::Visits(VisitsNames {
-        handler,
-        fiq_statement,
-        visits,
-    }))
-}
-
-// What a command asks for.
-fn asked<'a>(kind: &Kind, values: &ArgMatches<'a>) -> Option<Request<'a>>
-    ensures { option_map asked_of result ≡ asked_as kind.now (rows_of (found_of values.now)) }
-{
-    match kind {
-        Kind::Asm => asm_in(values),
-        Kind::List => list_in(values),
-        Kind::Draft => draft_in(values),
-        Kind::Run => Some(Request::Run(names_in(values, "machine")?)),
-        Kind::Trace => Some(Request::Trace(names_in(values, "machine")?)),
-        Kind::Debug => Some(Request::Debug(names_in(values, "machine")?)),
-        Kind::Bound => bound_in(values),
-        Kind::Check => check_in(values),
-        Kind::Visits => visits_in(values),
-        Kind::Explain => explain_in(values),
-        Kind::Follow => follow_in(values),
-        Kind::Graph => Some(Request::Graph(names_in(values, "statement")?)),
-    }
-}
-
-fn first_row<'a, 'b>(rows: &'a [(&'b str, Kind)], name: &str) -> Option<&'a (&'b str, Kind)>
-    ensures { option_map (λ row. row.now) result ≡ find (λ row. bytes_eq name.now row.0.now) rows.now }
-{
-    rows.iter().find(|row| name == row.0)
-}
-
-// What the first row of a name says.
-fn kind_in<'a>(rows: &'a [(&str, Kind)], name: &str) -> Option<&'a Kind>
-    ensures { (values : List Row) → option_and_then (λ kind. asked_as kind.now values) result
-        ≡ first_asked rows.now name.now values }
-{
-    match first_row(rows, name) {
-        Some(row) => Some(&row.1),
-        None => None,
-    }
-}
-
-// What the name of a command asks for.
-fn kind_named(name: &str) -> Option<&'static Kind>
-    ensures { (values : List Row) → option_and_then (λ kind. asked_as kind.now values) result
-        ≡ asked_by (name.now, values) }
-{
-    kind_in(&KINDS, name)
 }
 
 // What the matches ask for.
-fn request_in<'a>(matches: &ArgMatches<'a>) -> Option<Request<'a>>
-    ensures { option_map asked_of result ≡ option_and_then asked_by (subcommand_rows_of matches.now) }
+fn request_in<'a>(
+    alloc: Global,
+    matches: &ArgMatches<'a>,
+) -> Result<Option<Request<'a>>, AllocError>
+    ensures { IfOk result
+        (λ q. option_map asked_of q ≡ option_and_then asked_by (subcommand_rows_of matches.now)) }
 {
-    let (name, values) = matches.subcommand()?;
-    let kind = kind_named(name)?;
-    asked(kind, values)
+    match matches.subcommand() {
+        Some((name, values)) => asked_by(alloc, name, values),
+        None => Ok(None),
+    }
 }
 
 fn line_fault(error: Error) -> CommandLineFault
@@ -250,26 +192,60 @@ fn unasked(matches: &ArgMatches<'_>) -> CommandLineFault {
     }
 }
 
+// Whether the words ask for the program's version.
+fn asks_version(words: &[String]) -> bool
+    ensures { result ≡ asks_version (map (λ s. string_bytes s) words.now) }
+{
+    if words.len() != 2 {
+        return false;
+    }
+    let word = words[1].as_str();
+    word == "--version" || word == "-V"
+}
+
+fn version<'a>(alloc: Global) -> Request<'a>
+    ensures { asked_of result ≡ plainly Command.Version no_numbers }
+{
+    Request {
+        command: Command::Version,
+        why: false,
+        profile: None,
+        files: Vec::new(alloc),
+        word: "",
+        numbers: Numbers {
+            edge: 0,
+            visits: 0,
+            at_most: None,
+            bursts: None,
+            burst_every: None,
+        },
+    }
+}
+
 /// What the words ask for, the program's name first.
 ///
 /// # Errors
 ///
 /// Where the words ask for nothing: `Usage` with the command-line crate's own refusal, or its help;
-/// `SourceReplaced` where `asm` would write the image over its source; `OptionBesideCertificate` where `explain`
-/// has a certificate and another option but the profile. `Memory`: an allocation failed.
+/// `SourceReplaced` where `asm` would write the image over its source; `OptionBesideCertificate` where
+/// `explain` has a certificate and an option for bounds. `Memory`: an allocation failed.
 pub fn request<'a>(alloc: Global, words: &'a [String]) -> Result<Request<'a>, CommandLineFault>
     ensures read { IfOk result (λ q. asked_in words.entry.now ≡ Some (asked_of q)) }
     ensures refused { IfErr result
         (λ e. e ≢ CommandLineFault.Memory → asked_in words.entry.now ≡ None) }
 {
+    if asks_version(words) {
+        return Ok(version(alloc));
+    }
     let command = match arcwcet(alloc) {
         Ok(command) => command,
         Err(_) => return Err(CommandLineFault::Memory),
     };
     match command.try_get_matches_from(words) {
-        Ok(matches) => match request_in(&matches) {
-            Some(asked) => Ok(asked),
-            None => Err(unasked(&matches)),
+        Ok(matches) => match request_in(alloc, &matches) {
+            Ok(Some(asked)) => Ok(asked),
+            Ok(None) => Err(unasked(&matches)),
+            Err(_) => Err(CommandLineFault::Memory),
         },
         Err(error) => Err(line_fault(error)),
     }

@@ -1,47 +1,65 @@
-use Rattle.std.proofs.Common.{refl}
+use Rattle.std.proofs.Common.{◌≤◌, ◌∙◌, [], List, ℕ, inl, inr, length, refl, rules, subst, sym}
+use Rattle.std.specs.Io.KnownBytes.{Consumes}
+use Rattle.command_line.specs.Rows.{asked_of}
+use Rattle.command_line.specs.declared.line.Command.{Command}
+use Rattle.arcwcet.specs.Kept.{inputs_lent, kept_of}
+use Rattle.arcwcet.specs.Refusals.{Says, store_fault_name}
+use Rattle.arcwcet.proofs.FileLemmas.{bytes_kept, inputs_split}
+use Rattle.arcwcet.proofs.RunLemmas.{RunsAs, by_form, ran_of, says_line}
 use Rattle.arcwcet.proofs.commands.obey.Goals as goal
 
-pub returns-in-Asm-clause-done : goal.returns-in-Asm-clause-done
-returns-in-Asm-clause-done g c = rw c.in-Asm.is (c.run_asm.ensures.ran, refl)
-
-pub returns-in-List-clause-done : goal.returns-in-List-clause-done
-returns-in-List-clause-done g c = rw c.in-List.is (c.run_source.ensures.ran, refl)
-
-pub returns-in-Draft-clause-done : goal.returns-in-Draft-clause-done
-returns-in-Draft-clause-done g c = rw c.in-Draft.is (c.run_source-in-Draft.ensures.ran, refl)
-
-pub returns-in-Run-clause-done : goal.returns-in-Run-clause-done
-returns-in-Run-clause-done g c = rw c.in-Run.is (c.run_pair.ensures.ran, refl)
-
-pub returns-in-Trace-clause-done : goal.returns-in-Trace-clause-done
-returns-in-Trace-clause-done g c = rw c.in-Trace.is (c.run_pair-in-Trace.ensures.ran, refl)
-
-pub returns-in-Bound-clause-done : goal.returns-in-Bound-clause-done
-returns-in-Bound-clause-done g c = rw c.in-Bound.is (c.run_pair-in-Bound.ensures.ran, refl)
-
-pub returns-in-Explain-clause-done : goal.returns-in-Explain-clause-done
-returns-in-Explain-clause-done g c = rw c.in-Explain.is (c.run_explain.ensures.ran, refl)
-
-pub returns-in-Tight-clause-done : goal.returns-in-Tight-clause-done
-returns-in-Tight-clause-done g c = rw c.in-Tight.is (c.run_pair-in-Tight.ensures.ran, refl)
-
-pub returns-in-Check-clause-done : goal.returns-in-Check-clause-done
-returns-in-Check-clause-done g c = rw c.in-Check.is (c.run_triple.ensures.ran, refl)
-
-pub returns-in-ExplainVerdict-clause-done : goal.returns-in-ExplainVerdict-clause-done
-returns-in-ExplainVerdict-clause-done g c = rw c.in-ExplainVerdict.is (c.run_triple-in-ExplainVerdict.ensures.ran, refl)
-
-pub returns-in-Visits-clause-done : goal.returns-in-Visits-clause-done
-returns-in-Visits-clause-done g c = rw c.in-Visits.is (c.run_triple-in-Visits.ensures.ran, refl)
-
-pub returns-in-Follow-clause-done : goal.returns-in-Follow-clause-done
-returns-in-Follow-clause-done g c = rw c.in-Follow.is (c.run_triple-in-Follow.ensures.ran, refl)
-
-pub returns-in-FollowVisits-clause-done : goal.returns-in-FollowVisits-clause-done
-returns-in-FollowVisits-clause-done g c = rw c.in-FollowVisits.is (c.run_follow_visits.ensures.ran, refl)
-
-pub returns-in-Graph-clause-done : goal.returns-in-Graph-clause-done
-returns-in-Graph-clause-done g c = rw c.in-Graph.is (c.run_pair-in-Graph.ensures.ran, refl)
+pub returns-in-Ok-read_limited-clause-done : goal.returns-in-Ok-read_limited-clause-done
+returns-in-Ok-read_limited-clause-done g c =
+    let asked = asked_of c.args.asked in
+    let files = c.in-Ok.files in
+    let typed = c.deref.result.now in
+    let input_read = c.in-Ok-read_limited.ensures in
+    let says = Says g.E.Output.taken g.E.Output.failures asked c.args.err.now c.run_report.new.err in
+    let split = c.inputs.ensures ∙ inputs_split (λ n. n.now) (λ v. v.items) c.args.asked.profile files.profile (bytes_kept files.others.items) c.in-Ok.ensures.named in
+    let limit : length c.in-Ok-read_limited.typed.items ≤ 16777216 = search (rules, input_read.limit, c.in-Ok-read_limited.typed.ok) in
+    subst (λ (k : Command). RunsAs g.S.Store.read_gives g.S.Store.write_gives g.I.Read.remaining g.O.Output.taken g.O.Output.failures says asked c.args.store.now c.read_files.new.store c.args.input.now c.read_limited.new.reader c.args.out.now c.run_report.new.out c.run_report.result k)
+    (sym c.in-Debug.is)
+    (inl (
+      typed,
+      record {
+        files = kept_of files;
+        read = c.in-Ok.ensures.read;
+        consumed = subst (λ (xs : List ℕ). Consumes (g.I.Read.remaining c.args.input.now) (g.I.Read.remaining c.read_limited.new.reader) xs) (sym c.deref.ensures.value) input_read.consumed;
+        at_end = input_read.at_end;
+        few = subst (λ (xs : List ℕ). length xs ≤ 16777216) (sym c.deref.ensures.value) limit;
+      },
+      ran_of g.S.Store.read_gives g.O.Output.taken g.O.Output.failures says asked typed c.args.store.now c.read_files.new.store c.args.out.now c.run_report.new.out (kept_of files) (inputs_lent c.inputs.result) split c.in-Ok.ensures.read c.run_report.result c.run_report.ensures.ran,
+    ))
 
 pub returns-in-Debug-clause-done : goal.returns-in-Debug-clause-done
-returns-in-Debug-clause-done g c = rw c.in-Debug.is c.run_debug.ensures.ran
+returns-in-Debug-clause-done g c =
+    let asked = asked_of c.args.asked in
+    let fault = c.in-Err-read_limited.fault in
+    let says = Says g.E.Output.taken g.E.Output.failures asked c.args.err.now c.store_status.new.err in
+    subst (λ (k : Command). RunsAs g.S.Store.read_gives g.S.Store.write_gives g.I.Read.remaining g.O.Output.taken g.O.Output.failures says asked c.args.store.now c.read_files.new.store c.args.input.now c.read_limited.new.reader c.args.out.now c.args.out.now c.store_status.result k)
+    (sym c.in-Debug.is)
+    (inr (
+      inr (inl (record {
+        files = kept_of c.in-Ok.files;
+        read = c.in-Ok.ensures.read;
+        fault = fault;
+        status_is = c.store_status.ensures.status;
+        stops = c.in-Err-read_limited.ensures.stops;
+        said = says_line g.E.Output.taken g.E.Output.failures c.args.err.now c.store_status.new.err asked (store_fault_name fault) c.store_status.ensures.says;
+      })),
+      refl,
+    ))
+
+pub returns : goal.returns
+returns g c =
+    let asked = asked_of c.args.asked in
+    let files = c.in-Ok.files in
+    let ran = c.run_report-in_default in
+    let says = Says g.E.Output.taken g.E.Output.failures asked c.args.err.now ran.new.err in
+    let split = c.inputs.ensures ∙ inputs_split (λ n. n.now) (λ v. v.items) c.args.asked.profile files.profile (bytes_kept files.others.items) c.in-Ok.ensures.named in
+    record {
+      done = by_form g.S.Store.read_gives g.S.Store.write_gives g.I.Read.remaining g.O.Output.taken g.O.Output.failures says asked c.args.store.now c.read_files.new.store c.args.input.now c.args.input.now c.args.out.now ran.new.out ran.result asked.command
+          (λ e. absurd (c.in_default.not-Asm e)) (λ e. absurd (c.in_default.not-Debug e))
+          (ran_of g.S.Store.read_gives g.O.Output.taken g.O.Output.failures says asked [] c.args.store.now c.read_files.new.store c.args.out.now ran.new.out (kept_of files) (inputs_lent c.inputs.result) split c.in-Ok.ensures.read ran.result ran.ensures.ran, refl);
+      silent = ran.ensures.silent;
+    }

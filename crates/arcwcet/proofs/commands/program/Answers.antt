@@ -1,5 +1,6 @@
 use Rattle.std.proofs.Common.{◌≡◌, ◌∙◌, ℕ, codes, Some, None, sym, subst, inl, inr}
-use Rattle.command_line.specs.Line.{Asked, asked_of}
+use Rattle.command_line.specs.Line.{Asked}
+use Rattle.command_line.specs.Rows.{asked_of}
 use Rattle.arcwcet.specs.Refusals.{Says}
 use Rattle.arcwcet.specs.Run.{RunsAsked}
 use Rattle.arcwcet.proofs.RunLemmas.{asked_out_of_memory, says_line}
@@ -12,8 +13,8 @@ returns-in-Err-clause-done g c = λ asked wanted.
       | inr three ↦
           let says = Says g.E.Output.taken g.E.Output.failures asked c.args.err.now c.line_status.new.err in
           subst (λ (s : ℕ). RunsAsked g.S.Store.read_gives g.S.Store.write_gives g.I.Read.remaining g.O.Output.taken g.O.Output.failures says asked c.args.store.now c.args.store.now c.args.input.now c.args.input.now c.args.out.now c.args.out.now s) (sym three.0)
-          (asked_out_of_memory g.S.Store.read_gives g.S.Store.write_gives g.I.Read.remaining g.O.Output.taken g.O.Output.failures says
-          (says_line g.E.Output.taken g.E.Output.failures c.args.err.now c.line_status.new.err asked (codes "Memory") three.2) c.args.store.now c.args.input.now c.args.out.now asked)
+          (asked_out_of_memory g.S.Store.read_gives g.S.Store.write_gives g.I.Read.remaining g.O.Output.taken g.O.Output.failures says asked
+          (says_line g.E.Output.taken g.E.Output.failures c.args.err.now c.line_status.new.err asked (codes "Memory") three.2) c.args.store.now c.args.input.now c.args.out.now)
     ]
 
 pub returns-clause-done : goal.returns-clause-done

@@ -1,0 +1,107 @@
+-- What a command prints of the bytes of its files, and why it refuses them: a line for each command.
+use Rattle.std.specs.Prelude.{◌≡◌, ℕ, Bool, true, false, List, codes, Option, Result, Ok, Err}
+use Rattle.bus_ticks.specs.declared.profile.Profile.{Profile}
+use Rattle.text_explained.specs.declared.bursts.Bursts.{Bursts}
+use Rattle.handlers.specs.Placing.{IsRunRefused}
+use Rattle.handlers.specs.Priced.{ByProfile, PricedFault}
+use Rattle.handlers.specs.Report.{IsRefused, IsReport}
+use Rattle.handlers.specs.declared.fault.ReportFault.{ReportFault}
+use Rattle.handlers.specs.declared.fault.ReportFault.TheVariants as report_fault
+use Rattle.source_reports.specs.Assembly.{IsAsmReport, IsSourceRefused}
+use Rattle.source_reports.specs.DraftReport.{IsDraftRefused, IsDraftReport}
+use Rattle.source_reports.specs.ListReport.{IsListReport}
+use Rattle.machine_reports.specs.Debug.{IsDebugReport}
+use Rattle.machine_reports.specs.Machine.{IsMachineReport, ShowsRegisters, ShowsSteps}
+use Rattle.handler_reports.specs.Check.{IsAnswer, IsCheckRefused}
+use Rattle.handler_reports.specs.ExplainReport.{IsExplainReport}
+use Rattle.handler_reports.specs.FollowReport.{IsFollowRefused, IsFollowReport}
+use Rattle.handler_reports.specs.FollowVisits.{AreNotFollowed, IsFollowVisitsReport}
+use Rattle.handler_reports.specs.GraphReport.{IsGraphReport}
+use Rattle.handler_reports.specs.TightReport.{IsTightRefused, IsTightReport}
+use Rattle.handler_reports.specs.Verdict.{IsVerdictReport}
+use Rattle.handler_reports.specs.VisitsReport.{AreRefused, IsVisitsReport}
+use Rattle.command_line.specs.Line.{Asked}
+use Rattle.command_line.specs.declared.line.Command.{Command}
+use Rattle.command_line.specs.declared.line.Command.TheVariants as command
+use Rattle.command_line.specs.declared.line.Numbers.{Numbers}
+use Rattle.arcwcet.specs.Files.{Inputs}
+
+-- the texts of each answer, and the faults
+pub record Report : Type 1 where
+  pub IsText : Bool → List ℕ → Type 0
+  pub IsFault : ReportFault → Type 0
+
+-- a text that is all there is to say is one of yes
+abbrev pub Plain : (List ℕ → Type 0) → Bool → List ℕ → Type 0
+Plain Is true text = Is text
+Plain Is false text = ⊥
+
+-- a report that takes no cycle profile, and answers yes
+abbrev pub unpriced : (List ℕ → Type 0) → (ReportFault → Type 0) → Report
+unpriced Is IsFault = record { IsText = Plain Is; IsFault = IsFault }
+
+-- a report by the cycle profile of a file, or by the first one
+abbrev pub judged : Option (List ℕ) → (Profile → Bool → List ℕ → Type 0) → (Profile → ReportFault → Type 0)
+    → Report
+judged file Is IsFault =
+    record {
+      IsText = λ answer text. ByProfile file (λ p. Is p answer text);
+      IsFault = PricedFault file IsFault;
+    }
+
+-- one that answers yes
+abbrev pub priced : Option (List ℕ) → (Profile → List ℕ → Type 0) → (Profile → ReportFault → Type 0) → Report
+priced file Is IsFault = judged file (λ p. Plain (Is p)) IsFault
+
+abbrev pub bursts_of : Numbers → Bursts
+bursts_of n = record { count = n.bursts; every = n.burst_every }
+
+-- what `--version` prints
+abbrev pub version_line : List ℕ
+version_line = codes "arcwcet 1.0.0\n"
+
+abbrev pub version_report : Report
+version_report = unpriced (λ text. text ≡ version_line) (λ fault. fault ≡ report_fault.Device)
+
+-- What a command prints, with its answer: whether a run did all its steps, a bound is enough, a certificate
+-- proves it, a run keeps its statement; the others answer yes.
+module _ (asked : Asked) (i : Inputs) (typed : List ℕ) where
+  abbrev pub report_by : Command → Report
+  report_by command.Version = version_report
+  report_by command.Asm = unpriced (IsAsmReport i.source) (IsSourceRefused i.source)
+  report_by command.List = unpriced (IsListReport i.source) (IsSourceRefused i.source)
+  report_by command.Draft = unpriced (IsDraftReport i.source asked.word) (IsDraftRefused i.source asked.word)
+  report_by command.Run =
+      judged i.profile (IsMachineReport ShowsRegisters i.source i.second) (IsRunRefused i.source i.second)
+  report_by command.Trace =
+      judged i.profile (IsMachineReport ShowsSteps i.source i.second) (IsRunRefused i.source i.second)
+  report_by command.Debug =
+      priced i.profile (IsDebugReport i.source i.second typed) (IsRunRefused i.source i.second)
+  report_by command.Bound = priced i.profile (IsReport i.source i.second) (IsRefused i.source i.second)
+  report_by command.Tight =
+      priced i.profile (IsTightReport i.source i.second asked.numbers.edge)
+      (IsTightRefused i.source i.second asked.numbers.edge)
+  report_by command.Check =
+      judged i.profile (IsAnswer i.source i.second i.third) (IsCheckRefused i.source i.second i.third)
+  report_by command.Visits =
+      priced i.profile (IsVisitsReport i.source i.second i.third asked.numbers.visits)
+      (AreRefused i.source i.second i.third asked.numbers.visits)
+  report_by command.Explain =
+      judged i.profile (IsExplainReport i.source i.second asked.numbers.at_most (bursts_of asked.numbers))
+      (IsRefused i.source i.second)
+  report_by command.Verdict =
+      judged i.profile (IsVerdictReport i.source i.second i.third) (IsCheckRefused i.source i.second i.third)
+  report_by command.Follow =
+      judged i.profile (IsFollowReport i.source i.second i.third) (IsFollowRefused i.source i.second i.third)
+  report_by command.FollowVisits =
+      judged i.profile (IsFollowVisitsReport i.source i.second i.third i.fourth)
+      (AreNotFollowed i.source i.second i.third i.fourth)
+  report_by command.Graph = priced i.profile (IsGraphReport i.source i.second) (IsRefused i.source i.second)
+
+  abbrev pub report_of : Report
+  report_of = report_by asked.command
+
+-- the answer of a report that is its text alone
+abbrev pub answered : Result (Unit {0}) ReportFault → Result Bool ReportFault
+answered (Ok _) = Ok true
+answered (Err fault) = Err fault
