@@ -1,8 +1,8 @@
 -- What a line of words asks of the program, by clap's function for a simple command. The commands are our
 -- own.
 use Rattle.std.specs.Prelude.{ℕ, Bool, pos, true, false, not, List, [], ◌∷◌, ◌++◌, Option, Some, None, String}
-use Rattle.std.specs.Prelude.{codes, find, fold, is_none, length, map, option_and_then, slice_index_or}
-use Rattle.std.specs.Prelude.{string_bytes, unwrap_or, if◌then◌else◌, ◌&&◌, ◌||◌, ◌==◌}
+use Rattle.std.specs.Prelude.{codes, find, fold, is_none, map, option_and_then}
+use Rattle.std.specs.Prelude.{string_bytes, unwrap_or, if◌then◌else◌, ◌&&◌, ◌||◌}
 use Rattle.std.specs.Option.{option_map_or}
 use Rattle.std.specs.List.{list_any}
 use Rattle.std.specs.declared.alloc.Global.{Global}
@@ -29,7 +29,8 @@ pub record Argument : Type 0 where
   pub form : Form
   pub instead : Option Command
 
--- how a command is used: its name, what it asks for, and its arguments
+-- how a command is used: its name, what it asks for, and its arguments, with the files in the order in which
+-- they are read, an option's too
 pub record Usage : Type 0 where
   pub name : Text
   pub command : Command
@@ -46,20 +47,20 @@ abbrev pub usage : Text → Command → List Argument → Usage
 usage name command arguments = record { name = name; command = command; arguments = arguments }
 
 abbrev pub profile : Argument
-profile = argument (codes "profile") form.Profile
+profile = argument (codes "profile") form.ProfileOption
 
 abbrev pub source : Argument
-source = argument (codes "source") form.Placed
+source = argument (codes "source") form.File
 
 abbrev pub machine : Argument
-machine = argument (codes "machine") form.Placed
+machine = argument (codes "machine") form.File
 
 abbrev pub statement : Argument
-statement = argument (codes "statement") form.Placed
+statement = argument (codes "statement") form.File
 
 -- the option that each command has
 abbrev pub why : Argument
-why = argument (codes "why") form.Flag
+why = argument (codes "why") form.Why
 
 abbrev pub usages : List Usage
 usages =
@@ -70,18 +71,18 @@ usages =
     ∷ usage (codes "trace") command.Trace (profile ∷ source ∷ machine ∷ [])
     ∷ usage (codes "debug") command.Debug (profile ∷ source ∷ machine ∷ [])
     ∷ usage (codes "bound") command.Bound
-    (profile ∷ source ∷ statement ∷ other (codes "tight") form.Numbered command.Tight ∷ [])
+    (profile ∷ source ∷ statement ∷ other (codes "tight") form.NumberOption command.Tight ∷ [])
     ∷ usage (codes "check") command.Check
-    (profile ∷ source ∷ statement ∷ argument (codes "cert") form.Placed ∷ [])
+    (profile ∷ source ∷ statement ∷ argument (codes "cert") form.File ∷ [])
     ∷ usage (codes "visits") command.Visits
-    (profile ∷ source ∷ statement ∷ argument (codes "fiq_statement") form.Placed
-    ∷ argument (codes "visits") form.Counted ∷ [])
+    (profile ∷ source ∷ statement ∷ argument (codes "fiq_statement") form.File
+    ∷ argument (codes "visits") form.Number ∷ [])
     ∷ usage (codes "explain") command.Explain
-    (profile ∷ source ∷ statement ∷ argument (codes "at-most") form.Ticks
-    ∷ argument (codes "bursts") form.Numbered ∷ argument (codes "burst-every") form.Numbered
-    ∷ other (codes "certificate") form.Named command.Verdict ∷ [])
+    (profile ∷ source ∷ statement ∷ argument (codes "at-most") form.TicksOption
+    ∷ argument (codes "bursts") form.NumberOption ∷ argument (codes "burst-every") form.NumberOption
+    ∷ other (codes "certificate") form.FileOption command.Verdict ∷ [])
     ∷ usage (codes "follow") command.Follow
-    (profile ∷ source ∷ statement ∷ other (codes "fiq") form.Named command.FollowVisits ∷ machine ∷ [])
+    (profile ∷ source ∷ statement ∷ other (codes "fiq") form.FileOption command.FollowVisits ∷ machine ∷ [])
     ∷ usage (codes "graph") command.Graph (profile ∷ source ∷ statement ∷ [])
     ∷ []
 
@@ -108,14 +109,14 @@ abbrev pub in_ticks : Rule → Rule
 in_ticks rule = record rule { value_names = 1; parser = Some (parser.Unsigned 0 9223372036854775807) }
 
 abbrev pub rule_by : Form → Text → Rule
-rule_by form.Placed id = required_rule id
+rule_by form.File id = required_rule id
 rule_by form.Word id = required_rule id
-rule_by form.Counted id = numbered (required_rule id)
-rule_by form.Profile id = record (option_rule id) { value_names = 1 }
-rule_by form.Named id = record (option_rule id) { value_names = 1 }
-rule_by form.Numbered id = numbered (option_rule id)
-rule_by form.Ticks id = in_ticks (option_rule id)
-rule_by form.Flag id = record (option_rule id) { action = Some SetTrue }
+rule_by form.Number id = numbered (required_rule id)
+rule_by form.ProfileOption id = record (option_rule id) { value_names = 1 }
+rule_by form.FileOption id = record (option_rule id) { value_names = 1 }
+rule_by form.NumberOption id = numbered (option_rule id)
+rule_by form.TicksOption id = in_ticks (option_rule id)
+rule_by form.Why id = record (option_rule id) { action = Some SetTrue }
 
 abbrev pub rule_as : Argument → Rule
 rule_as a = rule_by a.form a.id
@@ -183,14 +184,14 @@ no_numbers = record { edge = 0; visits = 0; at_most = None; bursts = None; burst
 
 -- with the value of an argument of a form too; numbers are read by their names
 abbrev pub with_value_by : Form → Text → Asked → Asked
-with_value_by form.Placed name asked = record asked { files = asked.files ++ name ∷ [] }
-with_value_by form.Named name asked = record asked { files = asked.files ++ name ∷ [] }
+with_value_by form.File name asked = record asked { files = asked.files ++ name ∷ [] }
+with_value_by form.FileOption name asked = record asked { files = asked.files ++ name ∷ [] }
 with_value_by form.Word word asked = record asked { word = word }
-with_value_by form.Profile name asked = record asked { profile = Some name }
-with_value_by form.Flag value asked = record asked { why = bytes_eq value (codes "true") }
-with_value_by form.Counted value asked = asked
-with_value_by form.Numbered value asked = asked
-with_value_by form.Ticks value asked = asked
+with_value_by form.ProfileOption name asked = record asked { profile = Some name }
+with_value_by form.Why value asked = record asked { why = bytes_eq value (codes "true") }
+with_value_by form.Number value asked = asked
+with_value_by form.NumberOption value asked = asked
+with_value_by form.TicksOption value asked = asked
 
 abbrev pub with_value : Argument → Text → Asked → Asked
 with_value a value asked =
@@ -205,8 +206,8 @@ abbrev pub asked_as : Usage → List Row → Asked
 asked_as u rows =
     with_argument rows (fold (with_argument rows) (plainly u.command (numbers_in rows)) u.arguments) why
 
--- `asm` writes no image over a file that it reads, and beside the certificate of a verdict no other option
--- of `explain` is given, which would have no effect
+-- `asm` writes no image over a file that it reads, and beside the certificate of a verdict no number is
+-- given, which would have no effect
 abbrev pub is_allowed_of : Command → Asked → Bool
 is_allowed_of command.Asm asked = not (list_any (λ name. bytes_eq name asked.word) asked.files)
 is_allowed_of command.Verdict asked =
@@ -231,9 +232,8 @@ unless_refused (k ∷ ks) asked = None
 
 -- `--version` or `-V`, as the only word after the program's name
 abbrev pub asks_version : List Text → Bool
-asks_version words =
-    let word = slice_index_or words 1 [] in
-    length words == 2 && (bytes_eq word (codes "--version") || bytes_eq word (codes "-V"))
+asks_version (program ∷ word ∷ []) = bytes_eq word (codes "--version") || bytes_eq word (codes "-V")
+asks_version words = false
 
 -- what the words ask for: nothing where clap refuses them
 unfoldable pub asked : List Text → Option Asked

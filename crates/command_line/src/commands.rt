@@ -16,21 +16,21 @@ fn argument<'a>(alloc: Global, row: &ArgumentRow) -> Arg<'a>
 {
     let arg = Arg::new(alloc, row.id).help(row.help);
     match row.form {
-        Form::Placed | Form::Word => arg.required(true),
-        Form::Counted => arg
+        Form::File | Form::Word => arg.required(true),
+        Form::Number => arg
             .required(true)
             .value_name("K")
             .value_parser(value_parser!(u32)),
-        Form::Profile | Form::Named => arg.long(row.id).value_name("FILE"),
-        Form::Numbered => arg
+        Form::ProfileOption | Form::FileOption => arg.long(row.id).value_name("FILE"),
+        Form::NumberOption => arg
             .long(row.id)
             .value_name("N")
             .value_parser(value_parser!(u32)),
-        Form::Ticks => arg
+        Form::TicksOption => arg
             .long(row.id)
             .value_name("N")
             .value_parser(value_parser!(u64).range(..=i64::MAX)),
-        Form::Flag => arg.long(row.id).action(ArgAction::SetTrue),
+        Form::Why => arg.long(row.id).action(ArgAction::SetTrue),
     }
 }
 

@@ -8,21 +8,21 @@ pub const VERSION: &str = "1.0.0";
 /// How an argument is given, and what it is.
 pub(crate) enum Form {
     /// The name of a file to be read, in its place.
-    Placed,
+    File,
     /// A word that names no file to be read, in its place.
     Word,
     /// A whole number of 32 bits, in its place.
-    Counted,
+    Number,
     /// The name of the cycle profile's file, by an option.
-    Profile,
+    ProfileOption,
     /// The name of a file to be read, by an option.
-    Named,
+    FileOption,
     /// A whole number of 32 bits, by an option.
-    Numbered,
+    NumberOption,
     /// A number of ticks, to 2^63 - 1, by an option.
-    Ticks,
-    /// An option without a value.
-    Flag,
+    TicksOption,
+    /// The option that asks for what shows the reason of a refusal.
+    Why,
 }
 
 /// An argument, what the help says of it, and what is asked for instead where it is given, if that is another
@@ -35,7 +35,8 @@ pub(crate) struct ArgumentRow {
 }
 
 /// A command: its name, what it asks for, what the help says of it, and its arguments, with the files in the
-/// order in which they are read. Each command has [`WHY`] too.
+/// order in which they are read: an option's too, so that `--fiq` stands before the machine file. Each command
+/// has [`WHY`] too.
 pub(crate) struct CommandRow {
     pub name: &'static str,
     pub command: Command,
@@ -46,35 +47,35 @@ pub(crate) struct CommandRow {
 /// The option that each command has.
 pub(crate) const WHY: ArgumentRow = ArgumentRow {
     id: "why",
-    form: Form::Flag,
+    form: Form::Why,
     help: "Print after a refusal what shows its reason",
     instead: None,
 };
 
 const PROFILE: ArgumentRow = ArgumentRow {
     id: "profile",
-    form: Form::Profile,
+    form: Form::ProfileOption,
     help: "Cycle profile file [default: the first profile]",
     instead: None,
 };
 
 const SOURCE: ArgumentRow = ArgumentRow {
     id: "source",
-    form: Form::Placed,
+    form: Form::File,
     help: "Assembly source, or an image",
     instead: None,
 };
 
 const MACHINE: ArgumentRow = ArgumentRow {
     id: "machine",
-    form: Form::Placed,
+    form: Form::File,
     help: "Machine file",
     instead: None,
 };
 
 const STATEMENT: ArgumentRow = ArgumentRow {
     id: "statement",
-    form: Form::Placed,
+    form: Form::File,
     help: "Statement on the handler",
     instead: None,
 };
@@ -95,63 +96,63 @@ const ENTRY: ArgumentRow = ArgumentRow {
 
 const TIGHT: ArgumentRow = ArgumentRow {
     id: "tight",
-    form: Form::Numbered,
+    form: Form::NumberOption,
     help: "Print a machine file that takes the graph's edge N at its price",
     instead: Some(Command::Tight),
 };
 
 const AT_MOST: ArgumentRow = ArgumentRow {
     id: "at-most",
-    form: Form::Ticks,
+    form: Form::TicksOption,
     help: "Status 1 where the bound, without bursts, is more than N ticks",
     instead: None,
 };
 
 const BURSTS: ArgumentRow = ArgumentRow {
     id: "bursts",
-    form: Form::Numbered,
+    form: Form::NumberOption,
     help: "Print the bound with N DMA bursts too",
     instead: None,
 };
 
 const BURST_EVERY: ArgumentRow = ArgumentRow {
     id: "burst-every",
-    form: Form::Numbered,
+    form: Form::NumberOption,
     help: "Print the bound with a DMA burst every N ticks too",
     instead: None,
 };
 
 const CERTIFICATE: ArgumentRow = ArgumentRow {
     id: "certificate",
-    form: Form::Named,
+    form: Form::FileOption,
     help: "Print instead the verdict on this certificate, and what fails in it",
     instead: Some(Command::Verdict),
 };
 
 const CERT: ArgumentRow = ArgumentRow {
     id: "cert",
-    form: Form::Placed,
+    form: Form::File,
     help: "Certificate",
     instead: None,
 };
 
 const FIQ_STATEMENT: ArgumentRow = ArgumentRow {
     id: "fiq_statement",
-    form: Form::Placed,
+    form: Form::File,
     help: "Statement on FIQ's handler",
     instead: None,
 };
 
 const FIQ: ArgumentRow = ArgumentRow {
     id: "fiq",
-    form: Form::Named,
+    form: Form::FileOption,
     help: "Statement on FIQ's handler, whose visits of the handler are judged too",
     instead: Some(Command::FollowVisits),
 };
 
 const VISITS: ArgumentRow = ArgumentRow {
     id: "visits",
-    form: Form::Counted,
+    form: Form::Number,
     help: "How often FIQ interrupts it, at most",
     instead: None,
 };

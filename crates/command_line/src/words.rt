@@ -54,11 +54,11 @@ fn add_value<'a>(
 {
     request.command = row.instead.unwrap_or(request.command);
     match row.form {
-        Form::Placed | Form::Named => request.files.push(value)?,
+        Form::File | Form::FileOption => request.files.push(value)?,
         Form::Word => request.word = value,
-        Form::Profile => request.profile = Some(value),
-        Form::Flag => request.why = value == "true",
-        Form::Counted | Form::Numbered | Form::Ticks => {}
+        Form::ProfileOption => request.profile = Some(value),
+        Form::Why => request.why = value == "true",
+        Form::Number | Form::NumberOption | Form::TicksOption => {}
     }
     Ok(())
 }
@@ -196,11 +196,13 @@ fn unasked(matches: &ArgMatches<'_>) -> CommandLineFault {
 fn asks_version(words: &[String]) -> bool
     ensures { result ≡ asks_version (map (λ s. string_bytes s) words.now) }
 {
-    if words.len() != 2 {
-        return false;
+    match words {
+        [_, word] => {
+            let word = word.as_str();
+            word == "--version" || word == "-V"
+        }
+        _ => false,
     }
-    let word = words[1].as_str();
-    word == "--version" || word == "-V"
 }
 
 fn version<'a>(alloc: Global) -> Request<'a>
