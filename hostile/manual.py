@@ -28,6 +28,13 @@ MET_BY = {
 STATUSES = {"Memory": 3, "Device": 4}
 
 
+def complete(names, what):
+    """Stops where a command of the manual is not among these names, or one of them is none."""
+    amiss = COMMANDS.symmetric_difference(names)
+    if amiss:
+        raise SystemExit(f"{what}: {sorted(amiss)}, by the table of commands in docs/MANUAL.md")
+
+
 def section(text, title):
     """The text under a heading of the manual, up to the next of its kind or a higher one."""
     found = re.search(rf"^(#+) {re.escape(title)}\n(.*?)(?=^#{{1,9}} )", text + "\n# ", re.M | re.S)
@@ -52,12 +59,15 @@ def refusals(text):
 
 
 MANUAL = (TOP / "docs/MANUAL.md").read_text()
+# The commands of its table. The refusals of each are known, and each is tried.
+COMMANDS = set(re.findall(r"^\| `arcwcet (\w+) ", MANUAL, re.M))
 REFUSALS = refusals((TOP / "docs/REFUSALS.md").read_text())
 OBJECTIONS = re.findall(r"^\| `(\w+)` \|", section(MANUAL, "Certificates"), re.M)
 # The bounds of the sample handlers.
 SAMPLES = {name: int(it) for name, it in re.findall(r"^\| `(\w+)` \| (\d+) \|", MANUAL, re.M)}
 # The machine file with every key.
 ALL_KEYS = re.search(r"^```toml file=all_keys.toml\n(.*?)^```$", MANUAL, re.M | re.S)[1].encode()
+complete(MET_BY, "hostile/manual.py, MET_BY")
 
 
 def refusal(outcome):

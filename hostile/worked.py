@@ -2,6 +2,7 @@
 
 import dataclasses
 
+from manual import complete
 from running import TOP
 
 SOURCE = b"""\
@@ -123,6 +124,7 @@ def commands(bench):
         for option in ("", "--profile profile.toml "):
             files = {source: first, **({"profile.toml": profile()} if option else {})}
             found += priced(bench, f"{option}{source}", files)
+    complete((it.words[0] for it in found), "hostile/worked.py, commands")
     return found
 
 
@@ -162,8 +164,9 @@ def cases():
         held = {it.name: it.read_bytes() for it in folder.iterdir()}
         words = held["args"].decode().splitlines()
         # The file of that name in the folder is what is to be written.
-        if words[:1] == ["asm"] and len(words) == 3:
-            words[2] = "made.image"
+        plain = [at for at, it in enumerate(words) if not it.startswith("-")]
+        if words[:1] == ["asm"] and len(plain) == 3:
+            words[plain[2]] = "made.image"
         yield folder.name, words, {name: held[name] for name in held if name in words}, held
 
 
