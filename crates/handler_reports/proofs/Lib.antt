@@ -1,3 +1,4 @@
+mod BoundLemmas
 pub mod CheckLemmas
 mod VerdictLemmas
 pub mod CommentLemmas

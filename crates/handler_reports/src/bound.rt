@@ -1,6 +1,7 @@
-ghost use Rattle.std.specs.Prelude.{IfErr, IfOk, OnOk, option_map};
-ghost use Rattle.handler_reports.specs.Bound.{Reports};
+ghost use Rattle.std.specs.Prelude.{◌≡◌, ◌≢◌, ◌⊎◌, Err, IfErr, IfOk, OnOk};
+ghost use Rattle.handler_reports.specs.Bound.{AreAcceptedBy, AreRefusedBy, IsReportBy, Reports, given};
 ghost use Rattle.certificate.specs.Lines.{cert_text, said_of};
+ghost use Rattle.handlers.specs.Answers.{FailsWithin, Prints};
 ghost use Rattle.handlers.specs.Priced.{Priced};
 ghost use Rattle.handlers.specs.Report.{BeforeOutput, HasItsTree, IsAccepted, IsBoundReport};
 ghost use Rattle.handlers.specs.Report.{IsRefused, IsReport, OfHandler};
@@ -100,9 +101,20 @@ pub fn bound_report<O: Output>(
     profile: Option<&[u8]>,
     out: &mut O,
 ) -> Result<(), ReportFault>
-    ensures { Priced (option_map (λ f. f.now) profile.entry)
-        (λ p. Reports O.taken O.failures source.now statement.now p out.old out.new
-        result) out.old out.new result }
+    // Ok: the report was printed, of what is accepted.
+    ensures printed { OnOk result (Prints (IsReportBy (given profile.entry) source.now statement.now)
+        (O.taken out.old) (O.taken out.new)) }
+    ensures accepted { OnOk result (AreAcceptedBy (given profile.entry) source.now statement.now) }
+
+    // Err: each refusal where it holds, and of what is accepted none but for lack of memory or by the output.
+    ensures refused { IfErr result (AreRefusedBy (given profile.entry) source.now statement.now) }
+    ensures only { Priced (given profile.entry)
+        (λ p. IsAccepted source.now statement.now p
+        → IfErr result (λ e. (e ≡ ReportFault.Memory) ⊎ (e ≡ ReportFault.Device))) out.old out.new result }
+    ensures quiet { IfErr result (λ e. e ≢ ReportFault.Device → out.new ≡ out.old) }
+    ensures cut { result ≡ Err ReportFault.Device
+        → FailsWithin (IsReportBy (given profile.entry) source.now statement.now)
+        (O.taken out.old) (O.taken out.new) (O.failures out.old) (O.failures out.new) }
 {
     let profile = profile_of(alloc, profile)?;
     priced_report(alloc, source, statement, &profile, out)
