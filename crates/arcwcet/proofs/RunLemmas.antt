@@ -1,11 +1,11 @@
 -- What a run of a command did, from what its reads and its call returned.
-use Rattle.std.proofs.Common.{◌≡◌, ◌≢◌, ◌∙◌, ℕ, Bool, true, false, codes, List, [], take, Option, Some, None, Result, Ok, Err, OnOk, refl, sym, ap, subst, inl, inr, arith}
+use Rattle.std.proofs.Common.{◌≡◌, ◌≢◌, ◌∙◌, ℕ, Bool, true, false, codes, List, [], take, Option, Some, None, Result, Ok, Err, IfErr, OnOk, refl, sym, ap, subst, inl, inr, arith}
 use Rattle.std.proofs.KnownBytes.{Appends-nil}
 use Rattle.std.specs.Prelude.{OnErr}
 use Rattle.std.specs.Io.KnownBytes.{Appends}
 use Rattle.bus_ticks.specs.declared.profile.Profile.{Profile}
 use Rattle.outputs.specs.Output.{FailsSince, TakesFront}
-use Rattle.handlers.specs.Answers.{Answers, FailsWithin, OfSome, PrintsOrRefuses}
+use Rattle.handlers.specs.Answers.{Answers, FailsWithin, OfSome, Prints, PrintsOrRefuses}
 use Rattle.handlers.specs.FaultText.{TakesOrFails, fault_text, refusal_line}
 use Rattle.handlers.specs.Priced.{ByProfile, HasNoProfile, IsUnpriced, Priced, PricedFault}
 use Rattle.handlers.specs.declared.fault.ReportFault.{ReportFault}
@@ -391,6 +391,35 @@ module _ {O : Type 0} (taken : O → Option (List ℕ)) (failures : O → ℕ) (
       → (answer : Result Bool ReportFault) → answer ≡ answered result → PrintsReport taken failures (priced file Is IsFault) before after answer
   answered_yes file Is IsFine IsFault result h answer is =
       answered_judged file (λ p. Plain (Is p)) IsFine IsFault answer (priced_plain file Is IsFine IsFault result h answer is)
+
+  -- a report of labelled clauses
+  module _ (file : Option (List ℕ)) (Is : Profile → List ℕ → Type 0) (IsFault : Profile → ReportFault → Type 0) where
+    clauses_yes : (result : Result (Unit {0}) ReportFault) → OnOk result (Prints (λ text. ByProfile file (λ p. Is p text)) (taken before) (taken after))
+        → IfErr result (PricedFault file IsFault) → IfErr result (λ e. e ≢ Device → after ≡ before)
+        → (result ≡ Err Device → FailsWithin (λ text. ByProfile file (λ p. Is p text)) (taken before) (taken after) (failures before) (failures after))
+        → PrintsReport taken failures (priced file Is IsFault) before after (answered result)
+    clauses_yes (Ok x) printed refused quiet cut = record {
+      printed = record { text = printed.text; is_text = printed.is_text; printed = printed.printed };
+      fault = tt;
+      quiet = tt;
+      device = λ e. cc e;
+    }
+    clauses_yes (Err fault) printed refused quiet cut = record {
+      printed = tt;
+      fault = refused;
+      quiet = quiet;
+      device = λ e.
+          let same : fault ≡ Device = cc e in
+          let f = cut (ap Err same) in
+          record { text = f.text; is_text = (true, f.is_text); taken = f.taken; failed = f.failed };
+    }
+
+    pub answered_clauses : (result : Result (Unit {0}) ReportFault) → OnOk result (Prints (λ text. ByProfile file (λ p. Is p text)) (taken before) (taken after))
+        → IfErr result (PricedFault file IsFault) → IfErr result (λ e. e ≢ Device → after ≡ before)
+        → (result ≡ Err Device → FailsWithin (λ text. ByProfile file (λ p. Is p text)) (taken before) (taken after) (failures before) (failures after))
+        → (answer : Result Bool ReportFault) → answer ≡ answered result → PrintsReport taken failures (priced file Is IsFault) before after answer
+    answered_clauses result printed refused quiet cut answer is =
+        subst (λ (r : Result Bool ReportFault). PrintsReport taken failures (priced file Is IsFault) before after r) (sym is) (clauses_yes result printed refused quiet cut)
 
 -- ## Any command
 

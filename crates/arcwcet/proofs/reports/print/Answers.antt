@@ -17,7 +17,7 @@ use Rattle.handler_reports.specs.Verdict.{IsVerdictReport}
 use Rattle.handler_reports.specs.VisitsReport.{AreAccepted, AreRefused, IsVisitsReport}
 use Rattle.arcwcet.specs.Kept.{inputs_lent}
 use Rattle.arcwcet.specs.Reports.{bursts_of}
-use Rattle.arcwcet.proofs.RunLemmas.{answered_judged, answered_unpriced_report, answered_yes}
+use Rattle.arcwcet.proofs.RunLemmas.{answered_clauses, answered_judged, answered_unpriced_report, answered_yes}
 use Rattle.arcwcet.proofs.reports.print.Goals as goal
 
 pub returns-in-Version : goal.returns-in-Version
@@ -71,9 +71,10 @@ returns-in-Debug g c =
 pub returns-in-Bound : goal.returns-in-Bound
 returns-in-Bound g c =
     let i = inputs_lent c.args.job.inputs in
+    let is = c.bound_report.ensures in
     rw (c.in-Bound.is)
-    (answered_yes g.O.Output.taken g.O.Output.failures c.args.out.now c.bound_report.new.out i.profile (IsReport i.source i.second) (IsAccepted i.source i.second) (IsRefused i.source i.second)
-    c.bound_report.result c.bound_report.ensures c.answered-in-Bound.result c.answered-in-Bound.ensures)
+    (answered_clauses g.O.Output.taken g.O.Output.failures c.args.out.now c.bound_report.new.out i.profile (IsReport i.source i.second) (IsRefused i.source i.second)
+    c.bound_report.result is.printed is.refused is.quiet is.cut c.answered-in-Bound.result c.answered-in-Bound.ensures)
 
 pub returns-in-Tight : goal.returns-in-Tight
 returns-in-Tight g c =
