@@ -3,13 +3,10 @@ mod CrossingLemmas
 mod CycleLemmas
 mod EntryLemmas
 mod ExtentLemmas
-mod IntegerLemmas
-mod JudgedLemmas
 mod LabelRows
 mod NestedLemmas
 mod OutlineLemmas
 mod PlainLemmas
 mod RefusedLemmas
-mod RepeatLemmas
 mod SearchLemmas
 mod TextLaws

@@ -1,10 +1,10 @@
+pub mod Courses
 pub mod Crossings
 pub mod Cycles
 pub mod Entries
 pub mod Extents
+pub mod FaultyItems
 pub mod FaultyLines
-pub mod Integers
-pub mod Judged
 pub mod Nested
 pub mod Outline
 pub mod PlainLines

@@ -2,16 +2,16 @@
 //! elsewhere than at its header, how a place without edges is reached, and where these are in the source.
 #![tactic(auto)]
 
+mod asked;
+mod course;
 mod crossings;
 mod cycles;
 mod entries;
 mod extents;
-mod integers;
 mod law;
 mod members;
 mod nested;
 mod outline;
-mod repeats;
 mod rows;
 mod search;
 mod shared_headers;
@@ -19,7 +19,6 @@ mod sources;
 mod statements;
 mod texts;
 mod tokens;
-mod values;
 mod words;
 
 pub use crossings::{Crossing, loops_that_cross};
