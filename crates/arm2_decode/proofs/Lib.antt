@@ -8,3 +8,4 @@ pub mod OnlyLemmas
 pub mod Unique
 pub mod LowestLemmas
 pub mod Listed
+pub mod WrittenLemmas

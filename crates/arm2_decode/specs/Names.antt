@@ -110,6 +110,9 @@ register_number R13 = 13
 register_number R14 = 14
 register_number R15 = 15
 
+abbrev pub is_same : (register other : Register) → Bool
+is_same register other = register_number register == register_number other
+
 -- R13 points to the stack
 abbrev pub is_stack : Register → Bool
 is_stack register = register_number register == 13

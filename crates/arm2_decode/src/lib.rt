@@ -29,5 +29,5 @@ pub use instr::{
 pub use law::{compares_by_number, decode_encoded, encode_decoded};
 pub use names::{Cond, Opcode, Register, Shift};
 pub use reading::decode;
-pub use transfers::{asks_for_user, writes_base};
+pub use transfers::{Moved, asks_for_user, writes_base};
 pub use writing::encode;

@@ -1,8 +1,8 @@
 ghost use Rattle.std.specs.Prelude.{◌≡◌, ◌<◌};
 ghost use Rattle.arm2_decode.specs.Names.{is_add, is_stack, is_sub};
 ghost use Rattle.arm2_decode.specs.Names.{cond_number, is_always, is_compare, is_compare_number, is_link};
-ghost use Rattle.arm2_decode.specs.Names.{is_lsl, is_mov, is_never, is_pc, is_pc_number, opcode_number};
-ghost use Rattle.arm2_decode.specs.Names.{register_number, shift_number};
+ghost use Rattle.arm2_decode.specs.Names.{is_lsl, is_mov, is_never, is_pc, is_pc_number, is_same};
+ghost use Rattle.arm2_decode.specs.Names.{opcode_number, register_number, shift_number};
 
 // The variant of a number: the last one stands for all numbers that follow.
 macro_rules! variant {
@@ -268,6 +268,13 @@ impl Register {
                 8 R8 9 R9 10 R10 11 R11 12 R12 13 R13 14 R14,
             R15
         )
+    }
+
+    /// Whether it is the other.
+    pub(crate) fn is_same(self, other: Register) -> bool
+        ensures { result ≡ is_same self other }
+    {
+        self.number() == other.number()
     }
 
     /// Whether it is R13, which points to the stack.

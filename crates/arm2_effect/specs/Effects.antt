@@ -19,9 +19,9 @@ pub data Access : Type 0 where
   Internal : ℕ → Access
 
 abbrev pub price_of : Prices → Access → ℕ
-price_of prices (FetchN a) = fetch_n prices.profile prices.rom a
-price_of prices (FetchS a) = fetch_s prices.profile prices.rom a
-price_of prices (Word store first a) = word_price prices.profile prices.rom store first (a / 4 * 4)
+price_of prices (FetchN a) = fetch_n prices.profile a prices.rom
+price_of prices (FetchS a) = fetch_s prices.profile a prices.rom
+price_of prices (Word store first a) = word_price prices.profile (a / 4 * 4) first store prices.rom
 price_of prices (Internal cycles) = cycles * prices.profile.internal
 
 -- the ticks of a step are the prices of its accesses, added up

@@ -1,6 +1,6 @@
-//! What an instruction of the ARM2 does to the registers, and the ticks that it takes.
+//! What instructions of the ARM2 do by the registers alone, and the ticks that they take.
 //!
-//! Everything but loads and stores is here: data processing, multiplies, branches and exceptions.
+//! These are all but loads and stores: data processing, multiplies, branches and exceptions.
 //! The rules are those of the VL86C010 data sheet, but for C after a multiply. A step's ticks are the sum of
 //! its accesses, at prices of our own.
 #![tactic(auto)]

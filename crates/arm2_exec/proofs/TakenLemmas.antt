@@ -96,9 +96,9 @@ keeps_the_rest s i stepped after v step kind =
 fiq_ticks : (s : State) (bus : Bus) → ticks_in s (on_bus bus (taken vector.Fiq s.regs)) ≡ fiq_entry_price s.profile (interrupted_in s)
 unfolding taken
 fiq_ticks s bus =
-    let first = fetch_s s.profile s.bus.memc.control.rom_times ((address_in s.regs + 8) % 0x4000000) in
-    let second = fetch_n s.profile s.bus.memc.control.rom_times 0x1C in
-    let third = fetch_s s.profile s.bus.memc.control.rom_times 0x20 in
+    let first = fetch_s s.profile ((address_in s.regs + 8) % 0x4000000) s.bus.memc.control.rom_times in
+    let second = fetch_n s.profile 0x1C s.bus.memc.control.rom_times in
+    let third = fetch_s s.profile 0x20 s.bus.memc.control.rom_times in
     let total : ticks_in s (on_bus bus (taken vector.Fiq s.regs)) ≡ 0 + first + second + third = refl in
     omega (arith, total)
 

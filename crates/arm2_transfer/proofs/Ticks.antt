@@ -16,19 +16,19 @@ ticks_of-append prices xs ys =
 word_address-aligned : (address i : ℕ) → word_address address i / 4 * 4 ≡ word_address address i
 word_address-aligned address i = omega arith
 
-pub ticks_of-words_at : (prices : Prices) (store : Bool) (address k : ℕ) → ticks_of prices (words_at store address k) ≡ transfer prices.profile prices.rom store address k
+pub ticks_of-words_at : (prices : Prices) (store : Bool) (address k : ℕ) → ticks_of prices (words_at store address k) ≡ transfer prices.profile address k store prices.rom
 unfolding words_at transfer
 ticks_of-words_at prices store address zero = refl
 ticks_of-words_at prices store address (suc k) =
-    let rounded : price_of prices (Word store (k == 0) (word_address address k)) ≡ word_price prices.profile prices.rom store (k == 0) (word_address address k)
-    = ap (λ (x : ℕ). word_price prices.profile prices.rom store (k == 0) x) (word_address-aligned address k) in
+    let rounded : price_of prices (Word store (k == 0) (word_address address k)) ≡ word_price prices.profile (word_address address k) (k == 0) store prices.rom
+    = ap (λ (x : ℕ). word_price prices.profile x (k == 0) store prices.rom) (word_address-aligned address k) in
     let split = ticks_of-append prices (words_at store address k) (Word store (k == 0) (word_address address k) ∷ []) in
     omega (arith, split, rounded, ticks_of-words_at prices store address k)
 
 -- what a load costs, where it jumps and where it does not
 pub end_of_load-jumps : (prices : Prices) (a address k t : ℕ) →
     ticks_of prices (load_accesses a address k true t)
-    ≡ ticks_of prices (straight a) + transfer prices.profile prices.rom false address k + (ticks_of prices (Internal 1 ∷ []) + ticks_of prices (refill t))
+    ≡ ticks_of prices (straight a) + transfer prices.profile address k false prices.rom + (ticks_of prices (Internal 1 ∷ []) + ticks_of prices (refill t))
 end_of_load-jumps prices a address k t =
     let all = ticks_of-append prices (straight a ++ words_at false address k) (Internal 1 ∷ refill t) in
     let first = ticks_of-append prices (straight a) (words_at false address k) in
@@ -37,7 +37,7 @@ end_of_load-jumps prices a address k t =
 
 pub end_of_load-passes : (prices : Prices) (a address k t : ℕ) →
     ticks_of prices (load_accesses a address k false t)
-    ≡ ticks_of prices (straight a) + transfer prices.profile prices.rom false address k + ticks_of prices (Internal 1 ∷ [])
+    ≡ ticks_of prices (straight a) + transfer prices.profile address k false prices.rom + ticks_of prices (Internal 1 ∷ [])
 end_of_load-passes prices a address k t =
     let all = ticks_of-append prices (straight a ++ words_at false address k) (Internal 1 ∷ []) in
     let first = ticks_of-append prices (straight a) (words_at false address k) in
@@ -45,9 +45,9 @@ end_of_load-passes prices a address k t =
 
 -- what a store costs
 pub end_of_store-are : (prices : Prices) (a next address k fetch words : ℕ) →
-    next ≡ ahead_of a 8 → fetch ≡ fetch_n prices.profile prices.rom next → words ≡ transfer prices.profile prices.rom true address k →
+    next ≡ ahead_of a 8 → fetch ≡ fetch_n prices.profile next prices.rom → words ≡ transfer prices.profile address k true prices.rom →
     fetch + words ≡ ticks_of prices (store_accesses a address k)
 end_of_store-are prices a next address k fetch words ahead fetched moved =
     let all = ticks_of-append prices (FetchN (ahead_of a 8) ∷ []) (words_at true address k) in
-    let price : fetch ≡ fetch_n prices.profile prices.rom (ahead_of a 8) = fetched ∙ ap (λ (x : ℕ). fetch_n prices.profile prices.rom x) ahead in
+    let price : fetch ≡ fetch_n prices.profile (ahead_of a 8) prices.rom = fetched ∙ ap (λ (x : ℕ). fetch_n prices.profile x prices.rom) ahead in
     omega (arith, all, price, moved, ticks_of-words_at prices true address k)

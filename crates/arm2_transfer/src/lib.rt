@@ -1,10 +1,10 @@
-//! What an instruction of the ARM2 does to the registers, to memory and to the devices, and the ticks that it
-//! takes.
+//! Loads and stores of the ARM2: what they do to the registers, to memory and to the devices, and the ticks
+//! that they take.
 //!
-//! Loads and stores are here, single ones and those of a list of registers; all other instructions are
-//! `arm2_effect`'s. The rules are those of the VL86C010 data sheet, and where it is silent our own: all words
-//! of a transfer are located before the first is moved, so an aborted one changes nothing. Every call takes
-//! constant time.
+//! They are single ones and those of a list of registers. A [`Processor`] carries out every instruction, and
+//! has `arm2_effect` do all others. The rules are those of the VL86C010 data sheet, and where it is silent our
+//! own: all words of a transfer are located before the first is moved, so an aborted one changes nothing.
+//! Every call takes constant time.
 #![tactic(auto)]
 
 mod addresses;

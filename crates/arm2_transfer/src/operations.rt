@@ -21,7 +21,15 @@ impl Processor {
             Operation::SingleImmediate(fields) => self.single_immediate(fields),
             Operation::SingleRegister(fields) => self.single_register(fields),
             Operation::Block(transfer) => self.block_moved(transfer),
-            _ => self.registers.execute(&self.prices, operation),
+            Operation::Multiply(_)
+            | Operation::DataRegister(_)
+            | Operation::DataRegisterShift(_)
+            | Operation::DataImmediate(_)
+            | Operation::Branch(_)
+            | Operation::Swi(_)
+            | Operation::UndefinedTransfer(_)
+            | Operation::CoprocessorTransfer(_)
+            | Operation::Coprocessor(_) => self.registers.execute(&self.prices, operation),
         }
     }
 }

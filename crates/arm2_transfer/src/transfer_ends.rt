@@ -68,7 +68,7 @@ pub(crate) fn end_of_load(prices: &Prices, accesses: Accesses, jumps: bool, to: 
 fn fetch_after(prices: &Prices, from: u32) -> u32
     requires from { from < SPACE_END }
     requires from_aligned { from % 4 ≡ 0 }
-    ensures price { result ≡ fetch_n prices.now.profile prices.now.rom (ahead_of from 8) }
+    ensures price { result ≡ fetch_n prices.now.profile (ahead_of from 8) prices.now.rom }
     ensures small { result < 256 }
 {
     fetch_n(&prices.profile, ahead_of(from, 8), prices.rom)

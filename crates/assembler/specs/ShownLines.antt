@@ -269,7 +269,9 @@ operation_text c (operation.SingleRegister x) at = single_register_text c x
 operation_text c (operation.Block x) at = block_text c x
 operation_text c (operation.Branch x) at = branch_text c x at
 operation_text c (operation.Swi x) at = swi_text c x
-operation_text c _ at = []
+operation_text c (operation.UndefinedTransfer x) at = []
+operation_text c (operation.CoprocessorTransfer x) at = []
+operation_text c (operation.Coprocessor x) at = []
 
 -- the stated spelling of an instruction at an address
 abbrev pub shown_line : Instr → ℕ → List ℕ

@@ -1,5 +1,5 @@
 ghost use Rattle.std.specs.Prelude.{◌≡◌, IfNone, None, Some};
-ghost use Rattle.assembler.specs.Faults.{lower, number};
+ghost use Rattle.assembler.specs.Faults.{lower, name, number};
 ghost use Rattle.assembler.specs.declared.fault.AsmFault.TheVariants.{Memory};
 
 use std::alloc::{AllocError, AllocFailed};
@@ -73,6 +73,24 @@ impl LineFault {
         ensures { result ≡ number self }
     {
         self as u32
+    }
+
+    /// The fault's name, as a refusal says it.
+    pub fn name(self) -> &'static [u8]
+        ensures { result.now ≡ name self }
+    {
+        match self {
+            LineFault::NotText => b"NotText",
+            LineFault::UnknownWord => b"UnknownWord",
+            LineFault::BadOperand => b"BadOperand",
+            LineFault::ImmediateNotRotated => b"ImmediateNotRotated",
+            LineFault::BranchTooFar => b"BranchTooFar",
+            LineFault::LabelTwice => b"LabelTwice",
+            LineFault::LabelMissing => b"LabelMissing",
+            LineFault::OutOfRange => b"OutOfRange",
+            LineFault::Unallocated => b"Unallocated",
+            LineFault::TooLong => b"TooLong",
+        }
     }
 }
 

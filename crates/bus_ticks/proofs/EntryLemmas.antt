@@ -13,7 +13,7 @@ use Rattle.bus_ticks.proofs.WorstLemmas.{dearest_times, rom_le}
 abbrev dearest : Profile → ℕ
 dearest p = max p.quad (max (worst_rom p) p.unfitted)
 
-following_le : (p : Profile) (rom : RomTimes) (x : ℕ) → fetch_s p rom x ≤ dearest p
+following_le : (p : Profile) (rom : RomTimes) (x : ℕ) → fetch_s p x rom ≤ dearest p
 following_le p rom x =
     elim (class_cases x) [
       | inl r ↦ omega (arith, s_at p rom x Ram r.0, s_ram_le p (eqb (x % 16) 0))

@@ -15,19 +15,19 @@ by_class_rises Any ram rom top io h = omega arith
 
 -- a price that differs in Rom alone
 dearest : (p : Profile) (x ram io top : ℕ) → top ≡ by_class (class_of x) ram (worst_rom p) io
-    → IsGreatest IsAnyTimes (λ rom. by_class (class_of x) ram (rom_price p rom x) io) top
+    → IsGreatest IsAnyTimes (λ rom. by_class (class_of x) ram (rom_price p x rom) io) top
 dearest p x ram io top e =
     let best = dearest_times p in
     rw e (record {
       none_above =
-          λ rom any. by_class_rises (class_of x) ram (rom_price p rom x) (worst_rom p) io (rom_le p rom x);
+          λ rom any. by_class_rises (class_of x) ram (rom_price p x rom) (worst_rom p) io (rom_le p rom x);
       reached = (best.0, tt, ap (λ r. by_class (class_of x) ram r io) (best.1 x));
     })
 
 pub n_greatest : (p : Profile) (x top : ℕ) → top ≡ worst_fetch_n p x
-    → IsGreatest IsAnyTimes (λ rom. fetch_n p rom x) top
+    → IsGreatest IsAnyTimes (λ rom. fetch_n p x rom) top
 n_greatest p x top e = dearest p x p.n p.unfitted top e
 
 pub s_greatest : (p : Profile) (x top : ℕ) → top ≡ worst_fetch_s p x
-    → IsGreatest IsAnyTimes (λ rom. fetch_s p rom x) top
+    → IsGreatest IsAnyTimes (λ rom. fetch_s p x rom) top
 s_greatest p x top e = dearest p x (cond (eqb (x % 16) 0) p.quad p.s) p.unfitted top e

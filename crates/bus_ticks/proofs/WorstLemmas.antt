@@ -33,7 +33,7 @@ choice_reached a b c d =
       ]
     ]
 
-pub rom_le : (p : Profile) (rom : RomTimes) (x : ℕ) → rom_price p rom x ≤ worst_rom p
+pub rom_le : (p : Profile) (rom : RomTimes) (x : ℕ) → rom_price p x rom ≤ worst_rom p
 rom_le p rom x = choice_le (cond (ltb x 0x3800000) rom.low rom.high) p.rom_0 p.rom_1 p.rom_2 p.rom_3
 
 pub io_le : (p : Profile) (x : ℕ) → io_price p x ≤ worst_io p
@@ -56,7 +56,7 @@ cond_same false x = refl
 
 -- no word costs more than the dearest device access
 pub word_le : (p : Profile) (rom : RomTimes) (store first : Bool) (x : ℕ)
-    → word_price p rom store first x ≤ worst_io p
+    → word_price p x first store rom ≤ worst_io p
 word_le p rom store first x =
     by_class_le (class_of x) _ _ _ _
     (cond_le first _ _ _ p.n_below (cond_le (eqb (x % 16) 0) _ _ _
@@ -66,14 +66,14 @@ word_le p rom store first x =
     (io_le p x)
 
 word_small : (p : Profile) (rom : RomTimes) (store first : Bool) (x : ℕ)
-    → word_price p rom store first x ≤ 255
+    → word_price p x first store rom ≤ 255
 word_small p rom store first x =
     omega (arith, word_le p rom store first x, p.slow_price, p.medium_price, p.fast_price, p.synchronous_price)
 
 -- a block costs at most its number of words times what each costs at most
 pub block_le : (p : Profile) (rom : RomTimes) (store : Bool) (a top k : ℕ)
-    → ((i : ℕ) → i < k → (first : Bool) → word_price p rom store first (word_address a i) ≤ top)
-    → transfer p rom store a k ≤ k * top
+    → ((i : ℕ) → i < k → (first : Bool) → word_price p (word_address a i) first store rom ≤ top)
+    → transfer p a k store rom ≤ k * top
 unfolding transfer
 block_le p rom store a top zero each = omega arith
 block_le p rom store a top (suc k) each =
@@ -81,8 +81,8 @@ block_le p rom store a top (suc k) each =
     omega (arith, before, each k (omega arith) (eqb k 0))
 
 pub block_is : (p : Profile) (rom : RomTimes) (store : Bool) (a top k : ℕ)
-    → ((i : ℕ) → i < k → (first : Bool) → word_price p rom store first (word_address a i) ≡ top)
-    → transfer p rom store a k ≡ k * top
+    → ((i : ℕ) → i < k → (first : Bool) → word_price p (word_address a i) first store rom ≡ top)
+    → transfer p a k store rom ≡ k * top
 unfolding transfer
 block_is p rom store a top zero each = omega arith
 block_is p rom store a top (suc k) each =
@@ -91,11 +91,11 @@ block_is p rom store a top (suc k) each =
 
 -- the price of a word, by its class
 pub word_at : (p : Profile) (rom : RomTimes) (store first : Bool) (x : ℕ) (c : Class) → class_of x ≡ c
-    → word_price p rom store first x ≡ by_class c (cond first p.n (cond (eqb (x % 16) 0) p.quad p.s))
-    (cond store p.control (rom_price p rom x)) (io_price p x)
+    → word_price p x first store rom ≡ by_class c (cond first p.n (cond (eqb (x % 16) 0) p.quad p.s))
+    (cond store p.control (rom_price p x rom)) (io_price p x)
 word_at p rom store first x c e =
     let ram : ℕ = cond first p.n (cond (eqb (x % 16) 0) p.quad p.s) in
-    ap (λ c. by_class c ram (cond store p.control (rom_price p rom x)) (io_price p x)) e
+    ap (λ c. by_class c ram (cond store p.control (rom_price p x rom)) (io_price p x)) e
 
 quad_step : (n k s m d before word : ℕ) → before ≡ n + k * s + m * d → word ≡ s + d
     → before + word ≡ n + suc k * s + suc m * d
@@ -108,7 +108,7 @@ plain_step n k s m d before word e f = omega arith
 -- a block in Ram: n for the first word, s for each other, and what quad has more at each multiple of 16
 pub ram_block : (p : Profile) (rom : RomTimes) (store : Bool) (a k d : ℕ) → p.quad ≡ p.s + d
     → ((i : ℕ) → i < suc k → class_of (word_address a i) ≡ Ram)
-    → transfer p rom store a (suc k) ≡ p.n + k * p.s + ((a / 4 + k) / 4 - a / 4 / 4) * d
+    → transfer p a (suc k) store rom ≡ p.n + k * p.s + ((a / 4 + k) / 4 - a / 4 / 4) * d
 unfolding transfer
 ram_block p rom store a zero d e each =
     let none : (a / 4 + 0) / 4 - a / 4 / 4 ≡ 0 = omega arith in
@@ -118,19 +118,19 @@ ram_block p rom store a (suc k) d e each =
     let later : eqb (suc k) 0 ≡ false = grind (arith, nat_tests) in
     let x = word_address a (suc k) in
     let follows : ℕ = cond (eqb (x % 16) 0) p.quad p.s in
-    let word : word_price p rom store (eqb (suc k) 0) x ≡ follows =
+    let word : word_price p x (eqb (suc k) 0) store rom ≡ follows =
     word_at p rom store (eqb (suc k) 0) x Ram (each (suc k) (omega arith))
     ∙ ap (λ b. cond b p.n follows) later in
     elim (eqb_tells (x % 16) 0) [
       | inl at_quad ↦
           let more : (a / 4 + suc k) / 4 - a / 4 / 4 ≡ suc ((a / 4 + k) / 4 - a / 4 / 4) =
           omega (arith, at_quad.1) in
-          let here : word_price p rom store (eqb (suc k) 0) x ≡ p.s + d =
+          let here : word_price p x (eqb (suc k) 0) store rom ≡ p.s + d =
           word ∙ ap (λ b. cond b p.quad p.s) at_quad.0 ∙ e in
           rw more (quad_step p.n k p.s ((a / 4 + k) / 4 - a / 4 / 4) d _ _ before here)
       | inr apart ↦
           let same : (a / 4 + suc k) / 4 - a / 4 / 4 ≡ (a / 4 + k) / 4 - a / 4 / 4 = omega (arith, apart.1) in
-          let here : word_price p rom store (eqb (suc k) 0) x ≡ p.s =
+          let here : word_price p x (eqb (suc k) 0) store rom ≡ p.s =
           word ∙ ap (λ b. cond b p.quad p.s) apart.0 in
           rw same (plain_step p.n k p.s ((a / 4 + k) / 4 - a / 4 / 4) d _ _ before here)
     ]
@@ -182,7 +182,7 @@ ram_block_at p base k store rom whole room =
     }
 
 rom_word_le : (p : Profile) (rom : RomTimes) (store first : Bool) (x : ℕ) → class_of x ≡ Rom
-    → word_price p rom store first x ≤ cond store p.control (worst_rom p)
+    → word_price p x first store rom ≤ cond store p.control (worst_rom p)
 rom_word_le p rom true first x e = omega (arith, word_at p rom true first x Rom e)
 rom_word_le p rom false first x e = omega (arith, word_at p rom false first x Rom e, rom_le p rom x)
 
@@ -196,12 +196,12 @@ rom_above : (p : Profile) (store : Bool) (k : ℕ) (b : AtTimes) → IsBlockOf R
 rom_above p store k b h =
     let top : ℕ = cond store p.control (worst_rom p) in
     let each : (i : ℕ) → i < k → (first : Bool)
-    → word_price p b.rom store first (word_address b.address i) ≤ top =
+    → word_price p (word_address b.address i) first store b.rom ≤ top =
     λ i l first. rom_word_le p b.rom store first (word_address b.address i) (h.each i l) in
     omega (arith, block_le p b.rom store b.address top k each, rom_fold p store k)
 
 rom_same : (p : Profile) (i : ℕ) (h : i < 4) (x : ℕ)
-    → rom_price p (times i h) x ≡ choice i p.rom_0 p.rom_1 p.rom_2 p.rom_3
+    → rom_price p x (times i h) ≡ choice i p.rom_0 p.rom_1 p.rom_2 p.rom_3
 rom_same p i h x = ap (λ f. choice f p.rom_0 p.rom_1 p.rom_2 p.rom_3) (cond_same (ltb x 0x3800000) i)
 
 -- the dearest field in both halves
@@ -253,7 +253,7 @@ from_io f k g few i h = (class_io (word_address (page f) i) (omega arith) (omega
 
 io_word_is : (p : Profile) (rom : RomTimes) (store first : Bool) (x f : ℕ) → class_of x ≡ Io
     → x / 0x80000 % 4 ≡ f → choice f p.slow p.medium p.fast p.synchronous ≡ worst_io p
-    → word_price p rom store first x ≡ worst_io p
+    → word_price p x first store rom ≡ worst_io p
 io_word_is p rom store first x f e g best =
     word_at p rom store first x Io e ∙ ap (λ f. choice f p.slow p.medium p.fast p.synchronous) g ∙ best
 
@@ -330,6 +330,6 @@ worst_block_small p class words store top some few e =
     let best = (worst_transfer_greatest p class words store top some few e).reached in
     let b = best.0 in
     let each : (i : ℕ) → i < words → (first : Bool)
-    → word_price p b.rom store first (word_address b.address i) ≤ 255 =
+    → word_price p (word_address b.address i) first store b.rom ≤ 255 =
     λ i h first. word_small p b.rom store first (word_address b.address i) in
     omega (arith, best.2, block_le p b.rom store b.address 255 words each)

@@ -17,7 +17,7 @@ pub record IsDearestOf (a b c d : ℕ) (i : ℕ) : Type 0 where
 
 -- time fields at which each fetch and each load of Rom costs the most
 abbrev pub AreDearest : Profile → RomTimes → Type 0
-AreDearest p rom = (x : ℕ) → rom_price p rom x ≡ worst_rom p
+AreDearest p rom = (x : ℕ) → rom_price p x rom ≡ worst_rom p
 
 -- all words are of the class, and no transfer of as many of the class costs more
 pub record IsDearestBlock (p : Profile) (class : Class) (words : ℕ) (store : Bool)

@@ -23,8 +23,8 @@ abbrev pub choice : ℕ → ℕ → ℕ → ℕ → ℕ → ℕ
 choice i a b c d = if i == 0 then a else (if i == 1 then b else (if i == 2 then c else d))
 
 -- an access to ROM, by the time field of its half
-abbrev pub rom_price : Profile → RomTimes → ℕ → ℕ
-rom_price p rom x =
+abbrev pub rom_price : Profile → ℕ → RomTimes → ℕ
+rom_price p x rom =
     choice (if nat_lt x HIGH_ROM_START then rom.low else rom.high) p.rom_0 p.rom_1 p.rom_2 p.rom_3
 
 -- an access to a device, by address bits 20 and 19
@@ -36,21 +36,21 @@ abbrev pub ram_price : Profile → ℕ → ℕ
 ram_price p x = if x % 16 == 0 then p.quad else p.s
 
 -- a fetch that does not follow the access before it
-abbrev pub fetch_n : Profile → RomTimes → ℕ → ℕ
-fetch_n p rom x = by_class (class_of x) p.n (rom_price p rom x) p.unfitted
+abbrev pub fetch_n : Profile → ℕ → RomTimes → ℕ
+fetch_n p x rom = by_class (class_of x) p.n (rom_price p x rom) p.unfitted
 
 -- a fetch that follows the access before it
-abbrev pub fetch_s : Profile → RomTimes → ℕ → ℕ
-fetch_s p rom x = by_class (class_of x) (ram_price p x) (rom_price p rom x) p.unfitted
+abbrev pub fetch_s : Profile → ℕ → RomTimes → ℕ
+fetch_s p x rom = by_class (class_of x) (ram_price p x) (rom_price p x rom) p.unfitted
 
 -- one word of a transfer: in Ram the first word costs n, and each other follows; a store in Rom goes to a
 -- control register
-abbrev pub word_price : Profile → RomTimes → Bool → Bool → ℕ → ℕ
-word_price p rom store first x =
+abbrev pub word_price : Profile → ℕ → Bool → Bool → RomTimes → ℕ
+word_price p x first store rom =
     by_class
     (class_of x)
     (if first then p.n else ram_price p x)
-    (if store then p.control else rom_price p rom x)
+    (if store then p.control else rom_price p x rom)
     (io_price p x)
 
 -- the number is the address of a word: a multiple of 4 below 4000000
@@ -66,7 +66,7 @@ abbrev pub word_address : ℕ → ℕ → ℕ
 word_address address i = 4 * (address / 4 + i) % SPACE_END
 
 -- the first words of a transfer, together
-unfoldable pub transfer : Profile → RomTimes → Bool → ℕ → ℕ → ℕ
-transfer p rom store address zero = 0
-transfer p rom store address (suc k) =
-    transfer p rom store address k + word_price p rom store (k == 0) (word_address address k)
+unfoldable pub transfer : Profile → ℕ → ℕ → Bool → RomTimes → ℕ
+transfer p address zero store rom = 0
+transfer p address (suc k) store rom =
+    transfer p address k store rom + word_price p (word_address address k) (k == 0) store rom

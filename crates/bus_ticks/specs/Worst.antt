@@ -41,11 +41,11 @@ abbrev pub IsAnyTimes : RomTimes → Type 0
 IsAnyTimes rom = Unit {0}
 
 abbrev pub transfer_price : Profile → ℕ → Bool → AtTimes → ℕ
-transfer_price p words store b = transfer p b.rom store b.address words
+transfer_price p words store b = transfer p b.address words store b.rom
 
 -- the fetch at a target, and the one that follows
 abbrev pub leave_price : Profile → AtTimes → ℕ
-leave_price p t = fetch_n p t.rom t.address + fetch_s p t.rom (ahead_of t.address 4)
+leave_price p t = fetch_n p t.address t.rom + fetch_s p (ahead_of t.address 4) t.rom
 
 -- ROM at its dearest time field, and the dearest device
 abbrev pub worst_rom : Profile → ℕ
@@ -81,7 +81,7 @@ worst_leave p Any =
 -- taking FIQ before the instruction at an address: the fetch 8 bytes on, and the two at FIQ's vector
 abbrev pub fiq_entry_price : Profile → AtTimes → ℕ
 fiq_entry_price p t =
-    fetch_s p t.rom (ahead_of t.address 8) + (fetch_n p t.rom FIQ_VECTOR + fetch_s p t.rom (FIQ_VECTOR + 4))
+    fetch_s p (ahead_of t.address 8) t.rom + (fetch_n p FIQ_VECTOR t.rom + fetch_s p (FIQ_VECTOR + 4) t.rom)
 
 -- the greatest price of taking FIQ: the first fetch may be of any class, and the vector is in Ram
 abbrev pub fiq_entry : Profile → ℕ

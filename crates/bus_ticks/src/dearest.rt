@@ -36,8 +36,8 @@ pub fn dearest_rom_times(profile: &Profile) -> RomTimes
     ensures low { IsDearestOf profile.now.rom_0 profile.now.rom_1 profile.now.rom_2 profile.now.rom_3
         result.low }
     ensures high { result.high ≡ result.low }
-    ensures fetch_n { (x : ℕ) → fetch_n profile.now result x ≡ worst_fetch_n profile.now x }
-    ensures fetch_s { (x : ℕ) → fetch_s profile.now result x ≡ worst_fetch_s profile.now x }
+    ensures fetch_n { (x : ℕ) → fetch_n profile.now x result ≡ worst_fetch_n profile.now x }
+    ensures fetch_s { (x : ℕ) → fetch_s profile.now x result ≡ worst_fetch_s profile.now x }
 {
     let field = dearest_of(profile.rom_0, profile.rom_1, profile.rom_2, profile.rom_3);
     RomTimes {

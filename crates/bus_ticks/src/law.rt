@@ -22,9 +22,9 @@ pub fn memory_map()
 /// one that follows the access before it and one that does not. It does nothing.
 pub fn fetches_cost_the_worst()
     ensures n { (profile : Profile) → (rom : RomTimes) → AreDearest profile rom → (x : ℕ)
-        → fetch_n profile rom x ≡ worst_fetch_n profile x }
+        → fetch_n profile x rom ≡ worst_fetch_n profile x }
     ensures s { (profile : Profile) → (rom : RomTimes) → AreDearest profile rom → (x : ℕ)
-        → fetch_s profile rom x ≡ worst_fetch_s profile x }
+        → fetch_s profile x rom ≡ worst_fetch_s profile x }
 {}
 
 /// States that where a transfer starts in ROM does not change what it costs, if all its words are in ROM: at

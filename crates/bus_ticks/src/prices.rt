@@ -64,8 +64,8 @@ macro_rules! pick {
 }
 
 #[inline(never)]
-fn rom_price(profile: &Profile, rom: RomTimes, address: u32) -> u32
-    ensures price { result ≡ rom_price profile.now rom address }
+fn rom_price(profile: &Profile, address: u32, rom: RomTimes) -> u32
+    ensures price { result ≡ rom_price profile.now address rom }
     ensures small { result < 256 }
 {
     let field = if address < HIGH_ROM_START {
@@ -80,7 +80,7 @@ fn rom_price(profile: &Profile, rom: RomTimes, address: u32) -> u32
 #[inline(always)]
 pub fn fetch_n(profile: &Profile, address: u32, rom: RomTimes) -> u32
     requires { address < SPACE_END }
-    ensures price { result ≡ fetch_n profile.now rom address }
+    ensures price { result ≡ fetch_n profile.now address rom }
     ensures small { result < 256 }
 {
     if is_ram(address) {
@@ -88,7 +88,7 @@ pub fn fetch_n(profile: &Profile, address: u32, rom: RomTimes) -> u32
     } else if is_io(address) {
         profile.unfitted
     } else {
-        rom_price(profile, rom, address)
+        rom_price(profile, address, rom)
     }
 }
 
@@ -109,7 +109,7 @@ pub(crate) fn ram_price(profile: &Profile, address: u32) -> u32
 #[inline(always)]
 pub fn fetch_s(profile: &Profile, address: u32, rom: RomTimes) -> u32
     requires { address < SPACE_END }
-    ensures price { result ≡ fetch_s profile.now rom address }
+    ensures price { result ≡ fetch_s profile.now address rom }
     ensures small { result < 256 }
 {
     if is_ram(address) {
@@ -117,7 +117,7 @@ pub fn fetch_s(profile: &Profile, address: u32, rom: RomTimes) -> u32
     } else if is_io(address) {
         profile.unfitted
     } else {
-        rom_price(profile, rom, address)
+        rom_price(profile, address, rom)
     }
 }
 
@@ -133,7 +133,7 @@ fn io_price(profile: &Profile, address: u32) -> u32
 #[inline(always)]
 fn word_price(profile: &Profile, address: u32, first: bool, store: bool, rom: RomTimes) -> u32
     requires { address < SPACE_END }
-    ensures price { result ≡ word_price profile.now rom store first address }
+    ensures price { result ≡ word_price profile.now address first store rom }
     ensures small { result < 256 }
 {
     if is_ram(address) {
@@ -147,7 +147,7 @@ fn word_price(profile: &Profile, address: u32, first: bool, store: bool, rom: Ro
     } else if store {
         profile.control
     } else {
-        rom_price(profile, rom, address)
+        rom_price(profile, address, rom)
     }
 }
 
@@ -157,7 +157,7 @@ fn word_price(profile: &Profile, address: u32, first: bool, store: bool, rom: Ro
 fn transfer_by_words(profile: &Profile, address: u32, words: u32, store: bool, rom: RomTimes) -> u32
     requires in_space { address < SPACE_END }
     requires few { words ≤ 16 }
-    ensures price { result ≡ transfer profile.now rom store address words }
+    ensures price { result ≡ transfer profile.now address words store rom }
     ensures small { result ≤ 255 * words }
 {
     let mut ticks = 0;
@@ -177,7 +177,7 @@ pub fn transfer(profile: &Profile, address: u32, words: u32, store: bool, rom: R
     requires in_space { address < SPACE_END }
     requires some { 1 ≤ words }
     requires few { words ≤ 16 }
-    ensures price { result ≡ transfer profile.now rom store address words }
+    ensures price { result ≡ transfer profile.now address words store rom }
     ensures small { result ≤ 255 * words }
 {
     if words == 1 {

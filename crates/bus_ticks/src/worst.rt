@@ -53,7 +53,7 @@ fn worst_fetch(profile: &Profile, address: u32, ram: u32) -> u32
 pub fn worst_fetch_n(profile: &Profile, address: u32) -> u32
     requires { address < SPACE_END }
     ensures number { result ≡ worst_fetch_n profile.now address }
-    ensures greatest { IsGreatest IsAnyTimes (λ rom. fetch_n profile.now rom address) result }
+    ensures greatest { IsGreatest IsAnyTimes (λ rom. fetch_n profile.now address rom) result }
     ensures small { result < 256 }
 {
     worst_fetch(profile, address, profile.n)
@@ -63,14 +63,14 @@ pub fn worst_fetch_n(profile: &Profile, address: u32) -> u32
 pub fn worst_fetch_s(profile: &Profile, address: u32) -> u32
     requires { address < SPACE_END }
     ensures number { result ≡ worst_fetch_s profile.now address }
-    ensures greatest { IsGreatest IsAnyTimes (λ rom. fetch_s profile.now rom address) result }
+    ensures greatest { IsGreatest IsAnyTimes (λ rom. fetch_s profile.now address rom) result }
     ensures small { result < 256 }
 {
     worst_fetch(profile, address, ram_price(profile, address))
 }
 
 // The greatest price as a number.
-fn worst_transfer_ticks(profile: &Profile, class: Class, words: u32, store: bool) -> u32
+fn worst_transfer_number(profile: &Profile, class: Class, words: u32, store: bool) -> u32
     requires some { 1 ≤ words }
     requires few { words ≤ 16 }
     ensures { result ≡ worst_transfer profile.now class words store }
@@ -101,11 +101,11 @@ pub fn worst_transfer(profile: &Profile, class: Class, words: u32, store: bool) 
     ensures greatest { IsGreatest (IsBlockOf class words) (transfer_price profile.now words store) result }
     ensures small { result ≤ 255 * words }
 {
-    worst_transfer_ticks(profile, class, words, store)
+    worst_transfer_number(profile, class, words, store)
 }
 
 // The greatest price of leaving to an address of the class, as a number.
-fn worst_leave_ticks(profile: &Profile, class: Class) -> u32
+fn worst_leave_number(profile: &Profile, class: Class) -> u32
     ensures { result ≡ worst_leave profile.now class }
 {
     let worst_rom = worst_rom(profile);
@@ -127,11 +127,11 @@ pub fn worst_leave(profile: &Profile, class: Class) -> u32
     ensures greatest { IsGreatest (IsTargetOf class) (leave_price profile.now) result }
     ensures small { result < 512 }
 {
-    worst_leave_ticks(profile, class)
+    worst_leave_number(profile, class)
 }
 
 // The greatest price as a number.
-fn fiq_entry_ticks(profile: &Profile) -> u32
+fn fiq_entry_number(profile: &Profile) -> u32
     ensures { result ≡ fiq_entry profile.now }
 {
     let first = profile.quad.max(worst_rom(profile).max(profile.unfitted));
@@ -145,5 +145,5 @@ pub fn fiq_entry(profile: &Profile) -> u32
     ensures greatest { IsGreatest (IsTargetOf Class.Any) (fiq_entry_price profile.now) result }
     ensures small { result < 768 }
 {
-    fiq_entry_ticks(profile)
+    fiq_entry_number(profile)
 }

@@ -1,25 +1,17 @@
 -- The edges of a place, by their labels and by where a word leads.
-use Rattle.std.proofs.Common.{◌≡◌, ℕ, zero, suc, ◌+◌, ◌^◌, ◌<◌, ◌≤◌, ◌⊎◌, inl, inr, Bool, true, false, cond, List, [], ◌∷◌, ◌++◌, length, map, nat_lt, Option, Some, None, refl, sym, ap, subst, ◌∙◌, arith}
+use Rattle.std.proofs.Common.{◌≡◌, ℕ, zero, suc, ◌⊎◌, inl, inr, Bool, true, false, cond, List, [], ◌∷◌, ◌++◌, length, map, nat_lt, Option, Some, None, refl, sym, ap, subst, ◌∙◌, arith}
 use Rattle.std.specs.Prelude.{Contains}
-use Rattle.std.proofs.lemmas.Bool.{lt-ltb}
-use Rattle.std.proofs.lemmas.Bool.Decides.{eqb_tells}
 use Rattle.std.proofs.lemmas.List.{get_or-map, length-map}
 use Rattle.std.proofs.lemmas.List.Elements.{Contains-append_cases, Contains-append_left, Contains-append_right}
 use Rattle.arm2_decode.specs.Names.{is_always, is_never}
 use Rattle.arm2_effect.specs.ProgramCounter.{branch_target}
-use Rattle.bus_ticks.specs.declared.profile.Class.{Class}
-use Rattle.bus_ticks.specs.declared.profile.Class.TheVariants.{Any, Ram, Rom, Io}
 use Rattle.bus_ticks.specs.declared.profile.Profile.{Profile}
-use Rattle.bus_ticks.specs.declared.profile.RomTimes.{RomTimes}
-use Rattle.bus_ticks.specs.Prices.{ahead_of, class_of, fetch_n, fetch_s}
-use Rattle.bus_ticks.specs.Worst.{IsOf, worst_leave, worst_fetch_n, worst_fetch_s}
-use Rattle.bus_ticks.proofs.LeaveLemmas.{worst_leave_greatest}
+use Rattle.bus_ticks.specs.Prices.{ahead_of}
 use Rattle.arm2_decode.specs.Conditions.{condition_holds}
 use Rattle.arm2_decode.specs.declared.flags.Flags.{Flags}
 use Rattle.arm2_decode.specs.declared.names.Cond.{Cond}
 use Rattle.arm2_decode.specs.declared.names.Cond.TheVariants as condition
-use Rattle.control_flow.specs.Edges.{arrival_ticks, call_places, do_edge, landing_edges, do_edges, places_at, jump_ticks, landings, return_place, skip_edge, skip_edges, stated_landings, word_edges, writer_landings}
-use Rattle.control_flow.specs.Kinds.{is_writer}
+use Rattle.control_flow.specs.Edges.{call_places, do_edge, landing_edges, do_edges, places_at, landings, return_place, skip_edge, skip_edges, stated_landings, word_edges, writer_landings}
 use Rattle.control_flow.specs.declared.edges.Edge.{Edge}
 use Rattle.control_flow.specs.declared.edges.Label.{Label}
 use Rattle.control_flow.specs.declared.edges.Label.TheVariants.{Skip, Do}

@@ -39,13 +39,19 @@ adds_an_immediate x = is_add_or_sub x.opcode && not (is_pc x.rn)
 -- as above; and single transfers whose base is R15, that ask for User rights, or whose offset is in a
 -- register. A trap counts as free, but no `do` edge leaves one
 abbrev pub is_free_operation : Operation → Bool
+is_free_operation (operation.Multiply x) = true
 is_free_operation (operation.DataRegister x) = not (data_writes_pc x.opcode x.rd) || copies_a_register x
 is_free_operation (operation.DataRegisterShift x) = not (data_writes_pc x.opcode x.rd)
 is_free_operation (operation.DataImmediate x) = not (data_writes_pc x.opcode x.rd) || adds_an_immediate x
 is_free_operation (operation.SingleImmediate x) =
     not (is_pc x.rn) && not (asks_for_user x.before x.write_back)
 is_free_operation (operation.SingleRegister x) = false
-is_free_operation _ = true
+is_free_operation (operation.Block x) = true
+is_free_operation (operation.Branch x) = true
+is_free_operation (operation.Swi x) = true
+is_free_operation (operation.UndefinedTransfer x) = true
+is_free_operation (operation.CoprocessorTransfer x) = true
+is_free_operation (operation.Coprocessor x) = true
 
 -- ## Edges
 

@@ -1,15 +1,15 @@
 -- What a word does: to the flow of control, and besides its fetches (VL86C010 data sheet, by the table of
 -- instruction words, but for the cycles, of which a multiply has its most).
 use Rattle.std.specs.Prelude.{◌≡◌, ℕ, ◌≤◌, Bool, true, false}
-use Rattle.std.specs.Prelude.{if◌then◌else◌, ◌⊎◌}
-use Rattle.arm2_decode.specs.Transfers.{word_count}
+use Rattle.std.specs.Prelude.{if◌then◌else◌, ◌⊎◌, Option, Some, None}
 use Rattle.arm2_decode.specs.Table.{Means, IsUnallocated}
-use Rattle.arm2_decode.specs.Writers.{writes_pc}
+use Rattle.arm2_decode.specs.Writers.{moved, writes_pc}
 use Rattle.arm2_decode.specs.declared.instr.Instr.{Instr}
 use Rattle.arm2_decode.specs.declared.instr.Unallocated.{Unallocated}
 use Rattle.arm2_decode.specs.declared.instr.Operation.{Operation}
 use Rattle.arm2_decode.specs.declared.instr.Operation.TheVariants as operation
 use Rattle.arm2_decode.specs.declared.names.Cond.{Cond}
+use Rattle.arm2_decode.specs.declared.transfers.Moved.{Moved}
 use Rattle.shifter.specs.declared.shifts.TheConstants.{MOST_MULTIPLY_CYCLES}
 use Rattle.control_flow.specs.declared.actions.Kind.{Kind}
 use Rattle.control_flow.specs.declared.actions.Kind.TheVariants as kind
@@ -24,12 +24,18 @@ abbrev pub writer_if : Bool → Kind
 writer_if writes = if writes then kind.Writer else kind.Plain
 
 abbrev pub kind_of : Operation → Kind
+kind_of (operation.Multiply x) = writer_if (writes_pc (operation.Multiply x))
+kind_of (operation.DataRegister x) = writer_if (writes_pc (operation.DataRegister x))
+kind_of (operation.DataRegisterShift x) = writer_if (writes_pc (operation.DataRegisterShift x))
+kind_of (operation.DataImmediate x) = writer_if (writes_pc (operation.DataImmediate x))
+kind_of (operation.SingleImmediate x) = writer_if (writes_pc (operation.SingleImmediate x))
+kind_of (operation.SingleRegister x) = writer_if (writes_pc (operation.SingleRegister x))
+kind_of (operation.Block x) = writer_if (writes_pc (operation.Block x))
 kind_of (operation.Branch x) = if x.link then kind.Call x.offset else kind.Branch x.offset
 kind_of (operation.Swi x) = kind.Trap
 kind_of (operation.UndefinedTransfer x) = kind.Trap
 kind_of (operation.CoprocessorTransfer x) = kind.Trap
 kind_of (operation.Coprocessor x) = kind.Trap
-kind_of o = writer_if (writes_pc o)
 
 -- a word that writes R15, other than a branch or a call
 abbrev pub is_writer : Kind → Bool
@@ -45,20 +51,42 @@ is_writer kind.Unallocated = false
 abbrev pub transfer_work : Bool → ℕ → Work
 transfer_work load words = if load then work.Load words else work.Store words
 
--- a shift by a register's amount takes one internal cycle, and a multiply its most
+abbrev pub is_multiply : Operation → Bool
+is_multiply (operation.Multiply x) = true
+is_multiply (operation.DataRegister x) = false
+is_multiply (operation.DataRegisterShift x) = false
+is_multiply (operation.DataImmediate x) = false
+is_multiply (operation.SingleImmediate x) = false
+is_multiply (operation.SingleRegister x) = false
+is_multiply (operation.Block x) = false
+is_multiply (operation.Branch x) = false
+is_multiply (operation.Swi x) = false
+is_multiply (operation.UndefinedTransfer x) = false
+is_multiply (operation.CoprocessorTransfer x) = false
+is_multiply (operation.Coprocessor x) = false
+
+-- of what neither loads nor stores: a multiply takes its most, and a shift by a register's amount one
+abbrev pub internal_cycles : Operation → ℕ
+internal_cycles (operation.Multiply x) = MOST_MULTIPLY_CYCLES
+internal_cycles (operation.DataRegister x) = 0
+internal_cycles (operation.DataRegisterShift x) = 1
+internal_cycles (operation.DataImmediate x) = 0
+internal_cycles (operation.SingleImmediate x) = 0
+internal_cycles (operation.SingleRegister x) = 0
+internal_cycles (operation.Block x) = 0
+internal_cycles (operation.Branch x) = 0
+internal_cycles (operation.Swi x) = 0
+internal_cycles (operation.UndefinedTransfer x) = 0
+internal_cycles (operation.CoprocessorTransfer x) = 0
+internal_cycles (operation.Coprocessor x) = 0
+
+-- by what it moves, if it moves anything
+abbrev pub work_by : Operation → Option Moved → Work
+work_by o None = work.Internal (internal_cycles o)
+work_by o (Some m) = transfer_work m.load m.words
+
 abbrev pub work_of : Operation → Work
-work_of (operation.Multiply x) = work.Internal MOST_MULTIPLY_CYCLES
-work_of (operation.DataRegister x) = work.Internal 0
-work_of (operation.DataRegisterShift x) = work.Internal 1
-work_of (operation.DataImmediate x) = work.Internal 0
-work_of (operation.SingleImmediate x) = transfer_work x.load 1
-work_of (operation.SingleRegister x) = transfer_work x.load 1
-work_of (operation.Block x) = transfer_work x.load (word_count x.list)
-work_of (operation.Branch x) = work.Internal 0
-work_of (operation.Swi x) = work.Internal 0
-work_of (operation.UndefinedTransfer x) = work.Internal 0
-work_of (operation.CoprocessorTransfer x) = work.Internal 0
-work_of (operation.Coprocessor x) = work.Internal 0
+work_of o = work_by o (moved o)
 
 -- a block has 1 to 16 words
 abbrev pub IsWork : Work → Type 0

@@ -1,6 +1,6 @@
 ghost use Rattle.std.specs.Prelude.{◌≡◌};
-ghost use Rattle.control_flow.specs.Kinds.{IsAction, IsWork, is_writer, kind_of, transfer_work, work_of};
-ghost use Rattle.control_flow.specs.Kinds.{writer_if};
+ghost use Rattle.control_flow.specs.Kinds.{IsAction, IsWork, internal_cycles, is_multiply, is_writer, kind_of};
+ghost use Rattle.control_flow.specs.Kinds.{transfer_work, work_of, writer_if};
 
 use arm2_decode::{Cond, Operation, decode};
 use shifter::MOST_MULTIPLY_CYCLES;
@@ -62,7 +62,13 @@ fn kind_of(operation: &Operation) -> Kind
         | Operation::UndefinedTransfer(_)
         | Operation::CoprocessorTransfer(_)
         | Operation::Coprocessor(_) => Kind::Trap,
-        _ => writer_if(operation.writes_pc()),
+        Operation::Multiply(_)
+        | Operation::DataRegister(_)
+        | Operation::DataRegisterShift(_)
+        | Operation::DataImmediate(_)
+        | Operation::SingleImmediate(_)
+        | Operation::SingleRegister(_)
+        | Operation::Block(_) => writer_if(operation.writes_pc()),
     }
 }
 
@@ -77,22 +83,39 @@ pub fn transfer_work(load: bool, words: u32) -> Work
     }
 }
 
-fn work_of(operation: &Operation) -> Work
-    ensures { result ≡ work_of operation.now }
+/// Whether it is a multiply.
+pub fn is_multiply(operation: &Operation) -> bool
+    ensures { result ≡ is_multiply operation.now }
+{
+    matches!(operation, Operation::Multiply(_))
+}
+
+// The most internal cycles of an operation that neither loads nor stores.
+fn internal_cycles(operation: &Operation) -> u32
+    ensures { result ≡ internal_cycles operation.now }
 {
     match operation {
-        Operation::Multiply(_) => Work::Internal(MOST_MULTIPLY_CYCLES),
-        Operation::DataRegisterShift(_) => Work::Internal(1),
-        Operation::SingleImmediate(x) => transfer_work(x.load, 1),
-        Operation::SingleRegister(x) => transfer_work(x.load, 1),
-        Operation::Block(x) => transfer_work(x.load, x.word_count()),
+        Operation::Multiply(_) => MOST_MULTIPLY_CYCLES,
+        Operation::DataRegisterShift(_) => 1,
         Operation::DataRegister(_)
         | Operation::DataImmediate(_)
+        | Operation::SingleImmediate(_)
+        | Operation::SingleRegister(_)
+        | Operation::Block(_)
         | Operation::Branch(_)
         | Operation::Swi(_)
         | Operation::UndefinedTransfer(_)
         | Operation::CoprocessorTransfer(_)
-        | Operation::Coprocessor(_) => Work::Internal(0),
+        | Operation::Coprocessor(_) => 0,
+    }
+}
+
+fn work_of(operation: &Operation) -> Work
+    ensures { result ≡ work_of operation.now }
+{
+    match operation.moved() {
+        Some(moved) => transfer_work(moved.load, moved.words),
+        None => Work::Internal(internal_cycles(operation)),
     }
 }
 

@@ -28,7 +28,13 @@ fn is_free_operation(operation: &Operation) -> bool
         Operation::DataImmediate(x) => !operation.writes_pc() || adds_an_immediate(x),
         Operation::SingleImmediate(x) => !x.rn.is_pc() && !asks_for_user(x.before, x.write_back),
         Operation::SingleRegister(_) => false,
-        _ => true,
+        Operation::Multiply(_)
+        | Operation::Block(_)
+        | Operation::Branch(_)
+        | Operation::Swi(_)
+        | Operation::UndefinedTransfer(_)
+        | Operation::CoprocessorTransfer(_)
+        | Operation::Coprocessor(_) => true,
     }
 }
 

@@ -18,7 +18,7 @@ mod sites;
 mod strays;
 mod ticks;
 
-pub use actions::{Action, Kind, Work, action_of, transfer_work};
+pub use actions::{Action, Kind, Work, action_of, is_multiply, transfer_work};
 pub use building::build;
 pub use call_list::{Calls, MOST_CALLS};
 pub use edges::{Edge, Label};

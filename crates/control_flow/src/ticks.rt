@@ -11,7 +11,7 @@ use bus_ticks::{
     Class, Profile, ahead_of, worst_fetch_n, worst_fetch_s, worst_leave, worst_transfer,
 };
 
-/// What a word costs that is passed over: the fetch of the word after the next.
+/// The cost of a word that is skipped: the fetch of the word after the next.
 pub(crate) fn passing_ticks(profile: &Profile, address: u32) -> u32
     ensures ticks { result ≡ passing_ticks profile.now address }
     ensures small { result < 256 }
@@ -30,7 +30,7 @@ fn fetch_ticks(profile: &Profile, address: u32, work: Work) -> u32
     }
 }
 
-/// What a word costs besides its fetches, in ticks: below 4400.
+/// The cost of a word besides its fetches, in ticks: below 4400.
 pub fn work_ticks(profile: &Profile, class: Class, work: Work) -> u32
     requires { IsWork work }
     ensures ticks { result ≡ work_ticks profile.now class work }
@@ -43,7 +43,7 @@ pub fn work_ticks(profile: &Profile, class: Class, work: Work) -> u32
     }
 }
 
-// What the fetches after a jump cost: of the word at its target, and of the next.
+// The cost of the fetches after a jump: of the word at its target, and of the next.
 fn jump_ticks(profile: &Profile, leave: Class, to: &Place) -> u32
     requires { IsInSpace to.now }
     ensures ticks { result ≡ jump_ticks profile.now leave to.now }
@@ -68,7 +68,7 @@ fn arrival_ticks(profile: &Profile, leave: Class, kind: Kind, to: &Place) -> u32
     }
 }
 
-/// What a word costs that is done, and so goes to that place.
+/// The cost of a word that is done and goes on to that place.
 pub(crate) fn do_ticks(site: &Site, to: &Place) -> u32
     requires work { IsWork site.now.action.work }
     requires to { IsInSpace to.now }

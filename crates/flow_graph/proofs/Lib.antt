@@ -19,7 +19,6 @@ mod TightSetUp
 mod TightPages
 mod TightMade
 mod TightChoice
-mod TightHeld
 mod TightPlan
 mod TightStart
 mod TightFree

@@ -88,9 +88,9 @@ lands st p rom class calls a kind.Unallocated t e few = absurd e
 
 -- ## What a jump costs
 
-jump_arrives : (st : Stated) (p : Profile) (rom : RomTimes) (class : Class) (a : ℕ) (to : Place) (t : ℕ) → t < 2 ^ 26 → IsPlaceOf st.leave t to → fetch_n p rom t + fetch_s p rom (ahead_of t 4) ≤ jump_ticks p st.leave to
+jump_arrives : (st : Stated) (p : Profile) (rom : RomTimes) (class : Class) (a : ℕ) (to : Place) (t : ℕ) → t < 2 ^ 26 → IsPlaceOf st.leave t to → fetch_n p t rom + fetch_s p (ahead_of t 4) rom ≤ jump_ticks p st.leave to
 jump_arrives st p rom class a (At calls x) t small e =
-    subst (λ y. fetch_n p rom y + fetch_s p rom (ahead_of y 4) ≤ worst_fetch_n p x + worst_fetch_s p (ahead_of x 4)) e
+    subst (λ y. fetch_n p y rom + fetch_s p (ahead_of y 4) rom ≤ worst_fetch_n p x + worst_fetch_s p (ahead_of x 4)) e
     (omega (arith, n_most p rom class a x, s_most p rom class a (ahead_of x 4)))
 jump_arrives st p rom class a Exit t small is =
     (worst_leave_greatest p st.leave (worst_leave p st.leave) refl).none_above (record { address = t; rom = rom }) (record { below = small; is_of = is })

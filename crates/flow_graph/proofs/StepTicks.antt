@@ -56,10 +56,10 @@ module _ (p : Profile) (rom : RomTimes) (class : Class) (a : ℕ) where
   abbrev prices : Prices
   prices = record { profile = p; rom = rom }
 
-  pub n_most : (x : ℕ) → fetch_n p rom x ≤ worst_fetch_n p x
+  pub n_most : (x : ℕ) → fetch_n p x rom ≤ worst_fetch_n p x
   n_most x = (n_greatest p x (worst_fetch_n p x) refl).none_above rom tt
 
-  pub s_most : (x : ℕ) → fetch_s p rom x ≤ worst_fetch_s p x
+  pub s_most : (x : ℕ) → fetch_s p x rom ≤ worst_fetch_s p x
   s_most x = (s_greatest p x (worst_fetch_s p x) refl).none_above rom tt
 
   -- where a word of the kind leads from address a, by its own fields
@@ -74,9 +74,9 @@ module _ (p : Profile) (rom : RomTimes) (class : Class) (a : ℕ) where
   -- the two fetches of a word that jumps
   abbrev pub jump_price : Kind → ℕ → ℕ
   jump_price kind.Plain t = 0
-  jump_price (kind.Branch offset) t = fetch_n p rom t + fetch_s p rom (ahead_of t 4)
-  jump_price (kind.Call offset) t = fetch_n p rom t + fetch_s p rom (ahead_of t 4)
-  jump_price kind.Writer t = fetch_n p rom t + fetch_s p rom (ahead_of t 4)
+  jump_price (kind.Branch offset) t = fetch_n p t rom + fetch_s p (ahead_of t 4) rom
+  jump_price (kind.Call offset) t = fetch_n p t rom + fetch_s p (ahead_of t 4) rom
+  jump_price kind.Writer t = fetch_n p t rom + fetch_s p (ahead_of t 4) rom
   jump_price kind.Trap t = 0
   jump_price kind.Unallocated t = 0
 
@@ -108,7 +108,7 @@ module _ (p : Profile) (rom : RomTimes) (class : Class) (a : ℕ) where
         omega (arith, all, product, before);
   }
 
-  block_most : (address k : ℕ) (store : Bool) → 1 ≤ k → k ≤ 16 → IsBlockOf class k (record { address = address; rom = rom }) → transfer p rom store address k ≤ worst_transfer p class k store
+  block_most : (address k : ℕ) (store : Bool) → 1 ≤ k → k ≤ 16 → IsBlockOf class k (record { address = address; rom = rom }) → transfer p address k store rom ≤ worst_transfer p class k store
   block_most address k store some few of_class = (worst_transfer_greatest p class k store (worst_transfer p class k store) some few refl).none_above (record { address = address; rom = rom }) of_class
 
   pub load_costs : (address k : ℕ) (jumps : Bool) (t : ℕ) → 1 ≤ k → k ≤ 16 → IsBlockOf class k (record { address = address; rom = rom }) → (jumps ≡ false → t ≡ ahead_of a 4) → Costs (writer_if jumps) (work.Load k) (load_accesses a address k jumps t) t

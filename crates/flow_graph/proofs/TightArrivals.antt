@@ -34,9 +34,9 @@ module _ (st : Stated) (p : Profile) (rom : RomTimes) (class : Class) (dear : Ar
     pub price : jump_price p rom class a k t ≡ arrival_ticks p st.leave k to
 
   jump_at : (inside : List ℕ) (x t : ℕ) → t ≡ x
-      → fetch_n p rom t + fetch_s p rom (ahead_of t 4) ≡ jump_ticks p st.leave (At inside x)
+      → fetch_n p t rom + fetch_s p (ahead_of t 4) rom ≡ jump_ticks p st.leave (At inside x)
   jump_at inside x t e =
-      ap (λ y. fetch_n p rom y + fetch_s p rom (ahead_of y 4)) e
+      ap (λ y. fetch_n p y rom + fetch_s p (ahead_of y 4) rom) e
       ∙ omega (arith, n_worst p rom class a dear x, s_worst p rom class a dear (ahead_of x 4))
 
   pub arrives_exactly : (k : Kind) (t : ℕ) (to : Place) → Reaches p rom class a k t

@@ -35,7 +35,7 @@ abbrev pub branch_kind : Bool → ℕ → Kind
 branch_kind link offset = cond link (kind.Call offset) (kind.Branch offset)
 
 branch_jumps : (p : Profile) (rom : RomTimes) (class : Class) (a : ℕ) (link : Bool) (offset t : ℕ)
-    → jump_price p rom class a (branch_kind link offset) t ≡ fetch_n p rom t + fetch_s p rom (ahead_of t 4)
+    → jump_price p rom class a (branch_kind link offset) t ≡ fetch_n p t rom + fetch_s p (ahead_of t 4) rom
 branch_jumps p rom class a true offset t = refl
 branch_jumps p rom class a false offset t = refl
 
@@ -61,7 +61,7 @@ module _ (c : Setting) where
   jumps : (k : Kind) (t : ℕ) (e : Effect) → e.kind ≡ ended.Plain → e.accesses ≡ onward (start c) t
       → address_of (r15_in e.regs) ≡ t
       → jump_price c.profile c.rom c.class (start c) k t
-      ≡ fetch_n c.profile c.rom t + fetch_s c.profile c.rom (ahead_of t 4)
+      ≡ fetch_n c.profile t c.rom + fetch_s c.profile (ahead_of t 4) c.rom
       → (is_writer k ≡ true → IsDearestTarget c.st c.profile c.to t)
       → EffectPays c k (work.Internal 0) e
   jumps k t e plain accesses there price target = record {

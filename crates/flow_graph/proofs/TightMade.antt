@@ -171,7 +171,7 @@ module _ (words : Words) (st : Stated) (profile : Profile) (e : Edge) (spare : �
         high_is : (rom.low * 2 ^ 4 + rom.high * 2 ^ 6) / 2 ^ 6 % 2 ^ 2 ≡ rom.high
         high_is = let small = rom.low_in_range in let small_too = rom.high_in_range in omega (arith, small, small_too)
 
-        rom_same : (r : RomTimes) → r.low ≡ rom.low → r.high ≡ rom.high → (x : ℕ) → rom_price profile r x ≡ rom_price profile rom x
+        rom_same : (r : RomTimes) → r.low ≡ rom.low → r.high ≡ rom.high → (x : ℕ) → rom_price profile x r ≡ rom_price profile x rom
         rom_same r low high x = rw (low, high) refl
 
         by_fields : (r : RomTimes) → r.low ≡ rom.low → r.high ≡ rom.high → AreDearest profile r

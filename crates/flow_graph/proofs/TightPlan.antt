@@ -5,10 +5,10 @@ use Rattle.std.proofs.lemmas.List.{get_or_default}
 use Rattle.image.specs.Image.{Words}
 use Rattle.image.specs.Inside.{AreWhole}
 use Rattle.image.specs.Pages.{AreHeld}
+use Rattle.image.proofs.PageLemmas.{held_pages, pages}
 use Rattle.loader.specs.PagePlan.{IsPagePlan, free_pages}
 use Rattle.loader.specs.declared.plan.PlacedPage.{PlacedPage}
 use Rattle.loader.proofs.PlanLemmas.{pages_on, plan_is, spare_within}
-use Rattle.flow_graph.proofs.TightHeld.{held_pages, pages}
 
 pub record Planned (words : Words) : Type 0 where
   pub pages : List PlacedPage

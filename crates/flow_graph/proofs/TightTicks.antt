@@ -76,10 +76,10 @@ module _ (p : Profile) (rom : RomTimes) (class : Class) (a : ℕ) (dear : AreDea
   abbrev prices : Prices
   prices = record { profile = p; rom = rom }
 
-  pub n_worst : (x : ℕ) → fetch_n p rom x ≡ worst_fetch_n p x
+  pub n_worst : (x : ℕ) → fetch_n p x rom ≡ worst_fetch_n p x
   n_worst x = ap (λ r. by_class (class_of x) p.n r p.unfitted) (dear x)
 
-  pub s_worst : (x : ℕ) → fetch_s p rom x ≡ worst_fetch_s p x
+  pub s_worst : (x : ℕ) → fetch_s p x rom ≡ worst_fetch_s p x
   s_worst x = ap (λ r. by_class (class_of x) (ram_price p x) r p.unfitted) (dear x)
 
   -- accesses of a step that ends at t: their words are of the class, and they cost what the kind and the work
@@ -94,7 +94,7 @@ module _ (p : Profile) (rom : RomTimes) (class : Class) (a : ℕ) (dear : AreDea
 
   -- the kinds that jump
   pub onward_pays : (k : Kind) (t : ℕ)
-      → jump_price p rom class a k t ≡ fetch_n p rom t + fetch_s p rom (ahead_of t 4)
+      → jump_price p rom class a k t ≡ fetch_n p t rom + fetch_s p (ahead_of t 4) rom
       → Pays k (work.Internal 0) (onward a t) t
   onward_pays k t jumps = record {
     in_class = All-append (IsIn class) (straight a) (refill t) (straight_in class a) (refill_in class t);
@@ -122,13 +122,13 @@ module _ (p : Profile) (rom : RomTimes) (class : Class) (a : ℕ) (dear : AreDea
   load_pays x k true t block = record {
     in_class = load_in class a x k true t block.of_class.each;
     exact =
-        let price : transfer p rom false x k ≡ worst_transfer p class k false = block.price in
+        let price : transfer p x k false rom ≡ worst_transfer p class k false = block.price in
         omega (arith, end_of_load-jumps prices a x k t, s_worst (ahead_of a 8), price);
   }
   load_pays x k false t block = record {
     in_class = load_in class a x k false t block.of_class.each;
     exact =
-        let price : transfer p rom false x k ≡ worst_transfer p class k false = block.price in
+        let price : transfer p x k false rom ≡ worst_transfer p class k false = block.price in
         omega (arith, end_of_load-passes prices a x k t, s_worst (ahead_of a 8), price);
   }
 
@@ -140,7 +140,7 @@ module _ (p : Profile) (rom : RomTimes) (class : Class) (a : ℕ) (dear : AreDea
         (All-from_recursion (IsIn class) (FetchN (ahead_of a 8) ∷ []) (tt, tt))
         (words_in class true x k block.of_class.each);
     exact =
-        let price : transfer p rom true x k ≡ worst_transfer p class k true = block.price in
+        let price : transfer p x k true rom ≡ worst_transfer p class k true = block.price in
         let all = ticks_of-append prices (FetchN (ahead_of a 8) ∷ []) (words_at true x k) in
         omega (arith, all, ticks_of-words_at prices true x k, n_worst (ahead_of a 8), price);
   }

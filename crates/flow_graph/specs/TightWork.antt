@@ -112,7 +112,11 @@ module _ (st : Stated) (profile : Profile) (address : ℕ) (to : Place) (s : Sta
   IsSetFor (operation.Block x) =
       TransfersDearest x.load (is_listed x.list R15) (word_count x.list)
       (lowest_of x (register_in Svc (register_number x.rn) s.regs) (word_count x.list))
-  IsSetFor _ = Unit {0}
+  IsSetFor (operation.Branch x) = Unit {0}
+  IsSetFor (operation.Swi x) = Unit {0}
+  IsSetFor (operation.UndefinedTransfer x) = Unit {0}
+  IsSetFor (operation.CoprocessorTransfer x) = Unit {0}
+  IsSetFor (operation.Coprocessor x) = Unit {0}
 
 module _ (words : Words) (st : Stated) (profile : Profile) where
   -- the machine is at the edge's place; by its flags the word there is passed over or done as the edge is

@@ -188,6 +188,14 @@ pub(crate) fn setting_for(aim: &Aim, operation: &Operation) -> Setting
         }
         Operation::SingleImmediate(x) => of_single(aim, x),
         Operation::Block(x) => of_block(aim, x),
-        _ => NOTHING,
+        Operation::DataRegister(_)
+        | Operation::DataRegisterShift(_)
+        | Operation::DataImmediate(_)
+        | Operation::SingleRegister(_)
+        | Operation::Branch(_)
+        | Operation::Swi(_)
+        | Operation::UndefinedTransfer(_)
+        | Operation::CoprocessorTransfer(_)
+        | Operation::Coprocessor(_) => NOTHING,
     }
 }

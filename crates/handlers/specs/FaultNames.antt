@@ -2,8 +2,7 @@
 use Rattle.std.specs.Prelude.{ℕ, List, codes}
 use Rattle.assembler.specs.declared.fault.AsmFault.{AsmFault}
 use Rattle.assembler.specs.declared.fault.AsmFault.TheVariants as asm_fault
-use Rattle.assembler.specs.declared.fault.LineFault.{LineFault}
-use Rattle.assembler.specs.declared.fault.LineFault.TheVariants as line_fault
+use Rattle.assembler.specs.Faults.{name}
 use Rattle.image.specs.declared.reading.ReadFault.{ReadFault}
 use Rattle.image.specs.declared.reading.ReadFault.TheVariants as read_fault
 use Rattle.loader.specs.declared.loading.LoadFault.{LoadFault}
@@ -25,22 +24,10 @@ use Rattle.certificate.specs.declared.fault.CertFault.TheVariants as cert_fault
 use Rattle.handlers.specs.declared.fault.ReportFault.{ReportFault}
 use Rattle.handlers.specs.declared.fault.ReportFault.TheVariants as report_fault
 
-abbrev pub line_fault_name : LineFault → List ℕ
-line_fault_name line_fault.NotText = codes "NotText"
-line_fault_name line_fault.UnknownWord = codes "UnknownWord"
-line_fault_name line_fault.BadOperand = codes "BadOperand"
-line_fault_name line_fault.ImmediateNotRotated = codes "ImmediateNotRotated"
-line_fault_name line_fault.BranchTooFar = codes "BranchTooFar"
-line_fault_name line_fault.LabelTwice = codes "LabelTwice"
-line_fault_name line_fault.LabelMissing = codes "LabelMissing"
-line_fault_name line_fault.OutOfRange = codes "OutOfRange"
-line_fault_name line_fault.Unallocated = codes "Unallocated"
-line_fault_name line_fault.TooLong = codes "TooLong"
-
 -- of a source that cannot be assembled: that of its line's fault
 abbrev pub source_fault_name : AsmFault → List ℕ
 source_fault_name asm_fault.Memory = codes "Memory"
-source_fault_name (asm_fault.Line fault line) = line_fault_name fault
+source_fault_name (asm_fault.Line fault line) = name fault
 
 abbrev pub image_fault_name : ReadFault → List ℕ
 image_fault_name read_fault.Memory = codes "Memory"

@@ -1,12 +1,12 @@
 ghost use Rattle.std.specs.Prelude.{◌≡◌};
 ghost use Rattle.handlers.specs.FaultNames.{cert_fault_name, fault_name, graph_fault_name};
-ghost use Rattle.handlers.specs.FaultNames.{image_fault_name, line_fault_name, load_fault_name};
+ghost use Rattle.handlers.specs.FaultNames.{image_fault_name, load_fault_name};
 ghost use Rattle.handlers.specs.FaultNames.{loops_fault_name, machine_file_fault_name};
 ghost use Rattle.handlers.specs.FaultNames.{profile_fault_name, source_fault_name};
 ghost use Rattle.handlers.specs.FaultNames.{statement_fault_name, walk_fault_name};
 
 use crate::fault::ReportFault;
-use assembler::{AsmFault, LineFault};
+use assembler::AsmFault;
 use certificate::CertFault;
 use control_flow::BuildFault;
 use image::ReadFault;
@@ -16,29 +16,12 @@ use loop_bounds::NestFault;
 use machine_file::{MachineFileFault, ProfileFileFault};
 use statement::StatementFault;
 
-fn line_fault_name(fault: LineFault) -> &'static [u8]
-    ensures { result.now ≡ line_fault_name fault }
-{
-    match fault {
-        LineFault::NotText => b"NotText",
-        LineFault::UnknownWord => b"UnknownWord",
-        LineFault::BadOperand => b"BadOperand",
-        LineFault::ImmediateNotRotated => b"ImmediateNotRotated",
-        LineFault::BranchTooFar => b"BranchTooFar",
-        LineFault::LabelTwice => b"LabelTwice",
-        LineFault::LabelMissing => b"LabelMissing",
-        LineFault::OutOfRange => b"OutOfRange",
-        LineFault::Unallocated => b"Unallocated",
-        LineFault::TooLong => b"TooLong",
-    }
-}
-
 fn source_fault_name(fault: AsmFault) -> &'static [u8]
     ensures { result.now ≡ source_fault_name fault }
 {
     match fault {
         AsmFault::Memory => b"Memory",
-        AsmFault::Line(fault, _) => line_fault_name(fault),
+        AsmFault::Line(fault, _) => fault.name(),
     }
 }
 

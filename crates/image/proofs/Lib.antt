@@ -13,5 +13,5 @@ pub mod AcceptLemmas
 mod CutLemmas
 mod FrontLemmas
 mod TrailLemmas
-mod PageLemmas
+pub mod PageLemmas
 pub mod FittedLemmas

@@ -111,7 +111,7 @@ few_after (e ∷ rest) p quad p4 =
           (next_page p e.0 (length rest) (runs_after (Some e.0) rest) (begins (Some p) e.0) (length (dedup_from eqb (e.0 / 2 ^ 15) (pages rest))) p4 quad.0 other (joins p e.0) more)
     ]
 
-pub pages_few : (words : Words) → Quads words → runs_of words ≤ 16 → length words ≤ 65536 → length (dedup eqb (pages words)) ≤ 40
+pages_few : (words : Words) → Quads words → runs_of words ≤ 16 → length words ≤ 65536 → length (dedup eqb (pages words)) ≤ 40
 pages_few [] quad few short = omega arith
 pages_few (e ∷ rest) quad few short =
     let more = few_after rest e.0 quad.1 quad.0 in
@@ -119,13 +119,17 @@ pages_few (e ∷ rest) quad few short =
 
 -- ## All of it
 
+pub held_pages : (words : Words) → AreWhole words → AreHeld words (dedup eqb (pages words))
+held_pages words whole = record {
+  ascend = pages_ascend words whole.ascends;
+  held = λ page. (
+    (λ c. let d = Contains-from_dedup eqb (pages words) page c in has_word words d.0 page d.1 d.2),
+    (λ h. Contains-dedup_nat (pages words) page (has_page words h.0 page h.1 h.2)),
+  );
+  few = pages_few words (quads words whole.allowed) whole.few_runs whole.few_words;
+}
+
+-- the same of a list that is filtered
 pub pages_held : (words : Words) (numbers kept : List ℕ) → AreWhole words → numbers ≡ pages words → IsFiltered (DiffersFromLast eqb) [] numbers kept → AreHeld words kept
 pages_held words numbers kept whole are filtered =
-    subst (λ (ps : List ℕ). AreHeld words ps) (sym (dedup_is eqb numbers kept filtered ∙ ap (dedup eqb) are)) (record {
-      ascend = pages_ascend words whole.ascends;
-      held = λ page. (
-        (λ c. let d = Contains-from_dedup eqb (pages words) page c in has_word words d.0 page d.1 d.2),
-        (λ h. Contains-dedup_nat (pages words) page (has_page words h.0 page h.1 h.2)),
-      );
-      few = pages_few words (quads words whole.allowed) whole.few_runs whole.few_words;
-    })
+    subst (λ (ps : List ℕ). AreHeld words ps) (sym (dedup_is eqb numbers kept filtered ∙ ap (dedup eqb) are)) (held_pages words whole)

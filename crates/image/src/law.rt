@@ -3,7 +3,8 @@ ghost use Rattle.image.specs.Image.{Words};
 ghost use Rattle.image.specs.ImageBytes.{Segment, image_bytes, image_read};
 ghost use Rattle.image.specs.Spelling.{AreImage, BeginImage, PassImage, Spell};
 
-use crate::places::{MOST_SEGMENTS, MOST_WORDS};
+use crate::image::PAGE_BYTES;
+use crate::places::{LARGEST_RAM_END, MOST_SEGMENTS, MOST_WORDS};
 use crate::reading::ReadFault;
 
 /// States that [`read_image`](crate::read_image) takes the bytes of every list of segments that
@@ -35,8 +36,11 @@ pub fn trailing_bytes_follow_an_image()
     ensures trailing { (bytes : List ℕ) → PassImage bytes → image_read bytes ≡ Err ReadFault.TrailingBytes }
 {}
 
-/// States how large an image may be: 65536 words (256 KB) in 16 segments. It does nothing.
+/// States how large an image may be: 65536 words (256 KB) in 16 segments; and that the largest pages have
+/// 32 KB, and with them RAM ends at 2400000. It does nothing.
 pub fn image_limits()
     ensures words { MOST_WORDS ≡ 65536 }
     ensures segments { MOST_SEGMENTS ≡ 16 }
+    ensures page { PAGE_BYTES ≡ 32768 }
+    ensures ram { LARGEST_RAM_END ≡ 0x2400000 }
 {}

@@ -8,6 +8,7 @@ mod banks;
 mod countdown;
 mod law;
 mod lines;
+mod offsets;
 mod timers;
 
 ghost use Rattle.std.specs.Prelude.{◌≡◌, ◌≤◌, ◌<◌};
@@ -182,19 +183,19 @@ impl Ioc {
             return 0;
         }
         match offset_of(address) {
-            0x10 => u32::from(self.status_a().bits()),
-            0x14 => u32::from(self.status_a().intersection(self.mask_a).bits()),
-            0x18 => u32::from(self.mask_a.bits()),
-            0x20 => u32::from(self.status_b().bits()),
-            0x24 => u32::from(self.status_b().intersection(self.mask_b).bits()),
-            0x28 => u32::from(self.mask_b.bits()),
-            0x30 => u32::from(self.status_f().bits()),
-            0x34 => u32::from(self.status_f().intersection(self.mask_f).bits()),
-            0x38 => u32::from(self.mask_f.bits()),
-            0x40 => self.timers.current().timer_0.output as u32 % 0x100,
-            0x44 => self.timers.current().timer_0.output as u32 / 0x100,
-            0x50 => self.timers.current().timer_1.output as u32 % 0x100,
-            0x54 => self.timers.current().timer_1.output as u32 / 0x100,
+            offsets::STATUS_A => u32::from(self.status_a().bits()),
+            offsets::REQUEST_A => u32::from(self.status_a().intersection(self.mask_a).bits()),
+            offsets::MASK_A => u32::from(self.mask_a.bits()),
+            offsets::STATUS_B => u32::from(self.status_b().bits()),
+            offsets::REQUEST_B => u32::from(self.status_b().intersection(self.mask_b).bits()),
+            offsets::MASK_B => u32::from(self.mask_b.bits()),
+            offsets::STATUS_F => u32::from(self.status_f().bits()),
+            offsets::REQUEST_F => u32::from(self.status_f().intersection(self.mask_f).bits()),
+            offsets::MASK_F => u32::from(self.mask_f.bits()),
+            offsets::TIMER_0_LOW => self.timers.current().timer_0.output as u32 % 0x100,
+            offsets::TIMER_0_HIGH => self.timers.current().timer_0.output as u32 / 0x100,
+            offsets::TIMER_1_LOW => self.timers.current().timer_1.output as u32 % 0x100,
+            offsets::TIMER_1_HIGH => self.timers.current().timer_1.output as u32 / 0x100,
             _ => 0,
         }
     }
@@ -213,7 +214,7 @@ impl Ioc {
         let timers = self.timers.current();
         let (timer_0, timer_1) = (timers.timer_0, timers.timer_1);
         match offset_of(address) {
-            0x14 => {
+            offsets::REQUEST_A => {
                 self.a2_rose = false;
                 self.flyback_rose = false;
                 let (timer_0, timer_1) = (timer_0.cleared(), timer_1.cleared());
@@ -223,17 +224,17 @@ impl Ioc {
                     ..timers
                 });
             }
-            0x18 => self.mask_a = IrqA::from_bits_retain(byte),
-            0x28 => self.mask_b = IrqB::from_bits_retain(byte),
-            0x38 => self.mask_f = FiqBank::from_bits_retain(byte),
-            0x40 => self.set_timer_0(timer_0.with_low(byte)),
-            0x44 => self.set_timer_0(timer_0.with_high(byte)),
-            0x48 => self.set_timer_0(timer_0.started()),
-            0x4C => self.set_timer_0(timer_0.sampled()),
-            0x50 => self.set_timer_1(timer_1.with_low(byte)),
-            0x54 => self.set_timer_1(timer_1.with_high(byte)),
-            0x58 => self.set_timer_1(timer_1.started()),
-            0x5C => self.set_timer_1(timer_1.sampled()),
+            offsets::MASK_A => self.mask_a = IrqA::from_bits_retain(byte),
+            offsets::MASK_B => self.mask_b = IrqB::from_bits_retain(byte),
+            offsets::MASK_F => self.mask_f = FiqBank::from_bits_retain(byte),
+            offsets::TIMER_0_LOW => self.set_timer_0(timer_0.with_low(byte)),
+            offsets::TIMER_0_HIGH => self.set_timer_0(timer_0.with_high(byte)),
+            offsets::TIMER_0_START => self.set_timer_0(timer_0.started()),
+            offsets::TIMER_0_SAMPLE => self.set_timer_0(timer_0.sampled()),
+            offsets::TIMER_1_LOW => self.set_timer_1(timer_1.with_low(byte)),
+            offsets::TIMER_1_HIGH => self.set_timer_1(timer_1.with_high(byte)),
+            offsets::TIMER_1_START => self.set_timer_1(timer_1.started()),
+            offsets::TIMER_1_SAMPLE => self.set_timer_1(timer_1.sampled()),
             _ => {}
         }
     }

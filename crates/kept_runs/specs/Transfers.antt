@@ -28,6 +28,10 @@ block_words x regs =
 
 -- loads and stores transfer words, and no other instruction does
 abbrev pub words_of : Operation → List ℕ → Option Transfer
+words_of (operation.Multiply x) regs = None
+words_of (operation.DataRegister x) regs = None
+words_of (operation.DataRegisterShift x) regs = None
+words_of (operation.DataImmediate x) regs = None
 words_of (operation.SingleImmediate x) regs =
     Some (one_word x.load (address_by x.before x.up (first_of 8 x.rn regs) x.offset))
 words_of (operation.SingleRegister x) regs =
@@ -36,7 +40,11 @@ words_of (operation.SingleRegister x) regs =
     (address_by x.before x.up (first_of 8 x.rn regs)
     (shifted_by_amount x.shift x.amount x.rm regs).value))
 words_of (operation.Block x) regs = Some (block_words x regs)
-words_of other regs = None
+words_of (operation.Branch x) regs = None
+words_of (operation.Swi x) regs = None
+words_of (operation.UndefinedTransfer x) regs = None
+words_of (operation.CoprocessorTransfer x) regs = None
+words_of (operation.Coprocessor x) regs = None
 
 -- ## Classes
 

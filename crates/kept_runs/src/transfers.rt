@@ -56,7 +56,15 @@ pub(crate) fn words_of(registers: &Registers, operation: &Operation) -> Option<T
                 store: !x.load,
             })
         }
-        _ => None,
+        Operation::Multiply(_)
+        | Operation::DataRegister(_)
+        | Operation::DataRegisterShift(_)
+        | Operation::DataImmediate(_)
+        | Operation::Branch(_)
+        | Operation::Swi(_)
+        | Operation::UndefinedTransfer(_)
+        | Operation::CoprocessorTransfer(_)
+        | Operation::Coprocessor(_) => None,
     }
 }
 

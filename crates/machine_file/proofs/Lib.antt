@@ -14,3 +14,4 @@ mod WrittenLemmas
 pub mod InputLemmas
 pub mod PageLemmas
 pub mod StartLemmas
+pub mod Unique

@@ -288,7 +288,7 @@ price_decides x = elim (cases_lt x 1) [
   ]
 ]
 
-range_decides : (ns : List ℕ) → AreInRange ns ⊎ ¬ AreInRange ns
+pub range_decides : (ns : List ℕ) → AreInRange ns ⊎ ¬ AreInRange ns
 range_decides ns = elim (all_decide IsPrice price_decides (take 14 ns)) [
   | inl all ↦ elim (cases_lt (slice_index ns 14) 256) [
     | inl small ↦ inl (record { prices = all; burst = small })
@@ -300,7 +300,7 @@ range_decides ns = elim (all_decide IsPrice price_decides (take 14 ns)) [
 le_decides : (x y : ℕ) → (x ≤ y) ⊎ ¬ (x ≤ y)
 le_decides x y = elim (cases_lt y x) [ inl above ↦ inr (λ le. omega (arith, above, le)) | inr le ↦ inl le ]
 
-order_decides : (ns : List ℕ) → AreOrdered ns ⊎ ¬ AreOrdered ns
+pub order_decides : (ns : List ℕ) → AreOrdered ns ⊎ ¬ AreOrdered ns
 order_decides ns = elim (le_decides (slice_index ns 1) (slice_index ns 2)) [
   | inl a ↦ elim (le_decides (slice_index ns 2) (slice_index ns 0)) [
     | inl b ↦ elim (le_decides (slice_index ns 0) (device_number ns)) [

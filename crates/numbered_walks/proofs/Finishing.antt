@@ -14,7 +14,7 @@ use Rattle.numbered_walks.specs.declared.span.NumberedEdge.{NumberedEdge}
 use Rattle.numbered_walks.specs.declared.span.Span.{Span}
 use Rattle.numbered_walks.specs.declared.tables.Tables.{Tables}
 use Rattle.numbered_walks.specs.Ordered.{IsOrdered, number_shape, span_loops, Leads, KeepsBounds, IsComplete, IsGreatest, TooLarge, cost_of, is_in, is_inside, ends_at_header}
-use Rattle.numbered_walks.specs.Tables.{IsPassed, AllEntered, potentials_of, stay_of, needed, distance_of, arrival_of, round_of, RowsHold, RowsFit, total_of, number_of, is_header_in, is_exit}
+use Rattle.numbered_walks.specs.Tables.{IsPassed, AllEntered, potentials_of, stay_of, needed, distance_of, arrival_of, round_of, RowsHold, RowsFit, total_of, found_at, is_header_in, is_exit}
 use Rattle.numbered_walks.specs.Index.{span_at}
 use Rattle.numbered_walks.proofs.Members.{IsReachable, header_in, member_header, member_last, no_span, reachable}
 use Rattle.numbered_walks.proofs.Nesting.{same_header}
@@ -51,7 +51,7 @@ module _ (exit : ℕ) (edges : List NumberedEdge) (tree : List Span) (c : Tables
   edge_up : (e : NumberedEdge) → Contains edges e → ((i : Span) → Contains tree i → is_in i e.from ≡ true → e.to ≡ i.header → ⊥) → e.from < e.to
   edge_up e in_graph none = ⊎_elim (λ up. up) (λ b. absurd (none b.0 b.1 b.2 b.3)) (order.goes_up e in_graph)
 
-  up_row : (e : NumberedEdge) → Contains edges e → e.from < e.to → (needed tree c e ≤ number_of tree c e.to) × (needed tree c e < 2 ^ 63)
+  up_row : (e : NumberedEdge) → Contains edges e → e.from < e.to → (needed tree c e ≤ found_at tree c e.to) × (needed tree c e < 2 ^ 63)
   up_row e in_graph up = pass.rows e in_graph up (omega (arith, (order.places e in_graph).1))
 
   row_at : (e : NumberedEdge) → Contains edges e → (o : Option Span) → find (λ i. ends_at_header i e) tree ≡ o → Fits e (limit_at number_shape span_loops tree (potentials_of c) (is_exit exit) e o)
@@ -59,7 +59,7 @@ module _ (exit : ℕ) (edges : List NumberedEdge) (tree : List Span) (c : Tables
       let no_header : is_header_in tree e.to ≡ false = ⊎_elim (λ header. absurd (header_find tree e header is)) (λ other. other) (cases_Bool (is_header_in tree e.to)) in
       let up : e.from < e.to = edge_up e in_graph (λ i i_in holds to_header. both_ways (is_header_in tree e.to) no_header (header_there tree e.to i i_in to_header)) in
       let row = up_row e in_graph up in
-      let number : number_of tree c e.to ≡ distance_of c e.to = rw no_header refl in
+      let number : found_at tree c e.to ≡ distance_of c e.to = rw no_header refl in
       let limit : place_limit number_shape span_loops tree (potentials_of c) (is_exit exit) e ≡ distance_of c e.to = exit_pick (eqb e.to exit) c.bound (distance_of c e.to) (λ at_exit. closes ∙ ap (λ (p : ℕ). distance_of c p) (sym (eqb-true e.to exit at_exit))) in
       (omega (arith, row.0, number, limit), row.1)
   row_at e in_graph (Some i) is =
@@ -79,7 +79,7 @@ module _ (exit : ℕ) (edges : List NumberedEdge) (tree : List Span) (c : Tables
             both_ways (is_in i e.from) outside (subst (λ (x : Span). is_in x e.from ≡ true) same holds)) in
             let row = up_row e in_graph up in
             let header : is_header_in tree e.to ≡ true = header_there tree e.to i found.0 to_header in
-            let number : number_of tree c e.to ≡ arrival_of c i = rw header (ap (λ (p : ℕ). slice_index c.arrivals.items p) to_header) in
+            let number : found_at tree c e.to ≡ arrival_of c i = rw header (ap (λ (p : ℕ). slice_index c.arrivals.items p) to_header) in
             (omega (arith, row.0, number), row.1)
       ] refl
 

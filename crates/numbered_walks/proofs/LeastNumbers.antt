@@ -14,7 +14,7 @@ use Rattle.numbered_walks.specs.declared.span.NumberedEdge.{NumberedEdge}
 use Rattle.numbered_walks.specs.declared.span.Span.{Span}
 use Rattle.numbered_walks.specs.declared.tables.Tables.{Tables}
 use Rattle.numbered_walks.specs.Ordered.{IsOrdered, number_shape, span_loops, is_in}
-use Rattle.numbered_walks.specs.Tables.{potentials_of, is_left, stay_of, needed, distance_of, arrival_of, round_of, IsPassed, number_of, is_header_in, is_exit, RowsHold}
+use Rattle.numbered_walks.specs.Tables.{potentials_of, is_left, stay_of, needed, distance_of, arrival_of, round_of, IsPassed, found_at, is_header_in, is_exit, RowsHold}
 use Rattle.numbered_walks.specs.Index.{span_at}
 use Rattle.numbered_walks.proofs.Members.{member_from, member_header, member_last, no_span}
 use Rattle.numbered_walks.proofs.Nesting.{same_header}
@@ -101,10 +101,10 @@ module _ (exit : ℕ) (edges : List NumberedEdge) (tree : List Span) (c : Tables
   span_of : (j : Span) (in_tree : Contains tree j) → span_at tree in_tree.0 ≡ j
   span_of j in_tree = sym (get_or_default tree in_tree.0 j no_span in_tree.1) ∙ in_tree.2
 
-  number_plain : (p : ℕ) → is_header_in tree p ≡ false → number_of tree c p ≡ distance_of c p
+  number_plain : (p : ℕ) → is_header_in tree p ≡ false → found_at tree c p ≡ distance_of c p
   number_plain p plain = rw plain refl
 
-  number_header : (p : ℕ) (i : Span) → Contains tree i → p ≡ i.header → number_of tree c p ≡ arrival_of c i
+  number_header : (p : ℕ) (i : Span) → Contains tree i → p ≡ i.header → found_at tree c p ≡ arrival_of c i
   number_header p i i_in is = rw (header_there tree p i i_in is) (ap (λ (x : ℕ). slice_index c.arrivals.items x) is)
 
   place-le : (q : ℕ) → Places q → Stays q → Places (q + 1)

@@ -12,7 +12,7 @@ use Rattle.numbered_walks.specs.declared.tables.Tables.{Tables}
 use Rattle.numbered_walks.specs.Ordered.{is_in}
 use Rattle.numbered_walks.specs.Tables.{is_left, stay_of, needed, distance_of, arrival_of, round_of}
 use Rattle.numbered_walks.specs.Ordered.{IsOrdered}
-use Rattle.numbered_walks.specs.Tables.{IsPassed, IsHeaviest, IsPlaceWritten, IsRoundWritten, EntersBy, TurnsBy, number_of, is_header_in}
+use Rattle.numbered_walks.specs.Tables.{IsPassed, IsHeaviest, IsPlaceWritten, IsRoundWritten, EntersBy, TurnsBy, found_at, is_header_in}
 use Rattle.walks.proofs.SumLe.{sum_by-same_all}
 use Rattle.numbered_walks.specs.Ordered.{IsOrdered}
 use Rattle.numbered_walks.specs.Tables.{AllEntered}
@@ -97,7 +97,7 @@ number_same : (b : Bool) (m n m' n' : ℕ) → m ≡ m' → n ≡ n' → cond {A
 number_same true m n m' n' one two = one
 number_same false m n m' n' one two = two
 
-number-place : (tree : List Span) (q v : ℕ) (c new : Tables) → IsPlaceWritten tree q v c new → (p : ℕ) → p ≢ q → number_of tree new p ≡ number_of tree c p
+number-place : (tree : List Span) (q v : ℕ) (c new : Tables) → IsPlaceWritten tree q v c new → (p : ℕ) → p ≢ q → found_at tree new p ≡ found_at tree c p
 number-place tree q v c new w p other = number_same (is_header_in tree p) (slice_index new.arrivals.items p) (slice_index new.distances.items p) (slice_index c.arrivals.items p) (slice_index c.distances.items p) (w.arrivals p other) (w.distances p other)
 
 pub place_step : (exit : ℕ) (edges : List NumberedEdge) (tree : List Span) (k q v : ℕ) (c new : Tables) (into : List NumberedEdge) → AllEntered edges (exit + 1) → q < (exit + 1) → ((e : NumberedEdge) → Contains into e ↔ (Contains edges e × (e.to ≡ q) × (e.from < q))) → IsHeaviest tree c into v → IsPlaceWritten tree q v c new → IsPassed edges tree k q c → IsPassed edges tree k (q + 1) new
@@ -112,7 +112,7 @@ place_step exit edges tree k q v c new into entered below in_list heavy w pass =
   rows = λ e in_graph up small. ⊎_elim
       (λ same.
       let row : (needed tree c e ≤ v) × (needed tree c e < 2 ^ 63) = All-contains (λ x. (needed tree c x ≤ v) × (needed tree c x < 2 ^ 63)) into e heavy.most ((in_list e).1 (in_graph, same, omega arith)) in
-      let number : number_of tree new e.to ≡ v = subst (λ (x : ℕ). number_of tree new x ≡ v) (sym same) w.here in
+      let number : found_at tree new e.to ≡ v = subst (λ (x : ℕ). found_at tree new x ≡ v) (sym same) w.here in
       (omega (arith, row.0, number, needed-place tree q v c new w e (omega arith)), omega (arith, row.1, needed-place tree q v c new w e (omega arith))))
       (λ other.
       let row = pass.rows e in_graph up (omega arith) in
@@ -124,7 +124,7 @@ place_step exit edges tree k q v c new into entered below in_list heavy w pass =
       (row.0, omega (arith, row.1, same, w.rounds (span_at tree n).header), omega (arith, row.2, same));
   round_zero = λ n small none. w.rounds (span_at tree n).header ∙ pass.round_zero n small none;
   attained = λ p small. ⊎_elim
-      (λ same. subst (λ (x : ℕ). ((x ≡ 0) × (number_of tree new x ≡ 0)) ⊎ EntersBy edges tree new x) (sym same)
+      (λ same. subst (λ (x : ℕ). ((x ≡ 0) × (found_at tree new x ≡ 0)) ⊎ EntersBy edges tree new x) (sym same)
       (⊎_elim
       (λ none. ⊎_elim
       (λ first. inl (first, w.here ∙ none.0))
@@ -164,7 +164,7 @@ needed-round exit edges tree i v c new order i_in w e stays =
     let turns : round_of new j ≡ round_of c j = w.rounds j.header (λ same. stays (subst (λ (x : Span). is_left e x ≡ true) (same_header tree order.headers_differ j i here i_in same) is)) in
     rw (arrives, turns) refl)
 
-number-round : (tree : List Span) (h v : ℕ) (c new : Tables) → IsRoundWritten h v c new → (p : ℕ) → number_of tree new p ≡ number_of tree c p
+number-round : (tree : List Span) (h v : ℕ) (c new : Tables) → IsRoundWritten h v c new → (p : ℕ) → found_at tree new p ≡ found_at tree c p
 number-round tree h v c new w p = number_same (is_header_in tree p) (slice_index new.arrivals.items p) (slice_index new.distances.items p) (slice_index c.arrivals.items p) (slice_index c.distances.items p) (w.arrivals p) (w.distances p)
 
 -- an edge up to a member or below the instance's end does not leave it

@@ -9,7 +9,7 @@ use Rattle.numbered_walks.specs.declared.tables.Tables.{Tables}
 use Rattle.numbered_walks.specs.Ordered.{is_in, is_inside, ends_at_header}
 use Rattle.numbered_walks.specs.Tables.{stay_of, needed, distance_of, arrival_of, round_of}
 use Rattle.numbered_walks.specs.Ordered.{IsOrdered, TooLarge}
-use Rattle.numbered_walks.specs.Tables.{IsPassed, TurnsBy, number_of, is_header_in}
+use Rattle.numbered_walks.specs.Tables.{IsPassed, TurnsBy, found_at, is_header_in}
 use Rattle.numbered_walks.specs.Index.{span_at}
 use Rattle.walks.proofs.SumLe.{sum_by-same_all}
 use Rattle.numbered_walks.proofs.Nesting.{same_header, structure, level, level_lower}
@@ -46,7 +46,7 @@ module _ (exit : ℕ) (edges : List NumberedEdge) (tree : List Span) (k q : ℕ)
 
   header_of : (p : ℕ) → Placed p → (i : Span) → Contains tree i → p ≡ i.header → is_header_in tree p ≡ true → R.HeaderAt edges tree taken dist (arrival_of c) (round_of c) Placed rank p
   header_of p placed i i_in is header =
-      let number : number_of tree c p ≡ arrival_of c i = rw (header, is) refl in
+      let number : found_at tree c p ≡ arrival_of c i = rw (header, is) refl in
       record {
         instance = i;
         in_tree = i_in;
@@ -70,7 +70,7 @@ module _ (exit : ℕ) (edges : List NumberedEdge) (tree : List Span) (k q : ℕ)
   place_of p placed = ⊎_elim
       (λ header. let found = header_found tree p header in inr (inr (header_of p placed found.0 found.1 found.2 header)))
       (λ other.
-      let number : number_of tree c p ≡ dist p = rw other (sym (same p)) in
+      let number : found_at tree c p ≡ dist p = rw other (sym (same p)) in
       let none : (j : Span) → Contains tree j → p ≡ j.header → ⊥ = λ j j_in is. both_ways (is_header_in tree p) other (header_there tree p j j_in is) in
       ⊎_elim
       (λ start. inl (record { is = start.0 ∙ sym refl; no_header = none; zero_here = sym number ∙ start.1 }))

@@ -9,7 +9,7 @@ use Rattle.numbered_walks.specs.declared.span.Span.{Span}
 use Rattle.numbered_walks.specs.declared.tables.Tables.{Tables}
 use Rattle.numbered_walks.specs.Ordered.{IsOrdered, Leads, is_in, is_inside}
 use Rattle.numbered_walks.specs.Index.{edge_at}
-use Rattle.numbered_walks.specs.Tables.{distance_of, arrival_of, round_of, number_of, is_header_in}
+use Rattle.numbered_walks.specs.Tables.{distance_of, arrival_of, round_of, found_at, is_header_in}
 use Rattle.numbered_walks.specs.Found.{AreFound, IsEntering, IsTurning}
 use Rattle.numbered_walks.specs.Reach.{AreRoundsOf, InTree, IsPathTo, IsRoundOf, holds_in, start_of}
 use Rattle.numbered_walks.proofs.Grouping.{edge_at-in}
@@ -50,7 +50,7 @@ module _ (exit : ℕ) (edges : List NumberedEdge) (spans : List Span) (c : Table
       let in_graph : Contains edges e = edge_at-in edges k by.inside in
       let goes_in : holds_in context e.to ≡ true = subst (λ (x : ℕ). holds_in context x ≡ true) (sym by.ends) inside in
       let later_e : start_of context < e.to = omega (arith, by.ends) in
-      let number : number_of spans c p ≡ distance_of c p = rw plain refl in
+      let number : found_at spans c p ≡ distance_of c p = rw plain refl in
       subst (λ (x : ℕ). IsPathTo edges spans c context x (walk ++ e ∷ [])) by.ends
       (W.by_step edges spans bound_of (distance_of c) (arrival_of c) (round_of c) st context here e in_graph
       (λ j j_in is. both_ways (is_header_in spans p) plain (header_there spans p j j_in (sym by.ends ∙ is)))
@@ -64,7 +64,7 @@ module _ (exit : ℕ) (edges : List NumberedEdge) (spans : List Span) (c : Table
       let goes_in : holds_in context e.to ≡ true = subst (λ (x : ℕ). holds_in context x ≡ true) (sym by.ends) inside in
       let later_e : start_of context < e.to = omega (arith, by.ends) in
       let header : is_header_in spans p ≡ true = header_there spans p s s_in is in
-      let number : number_of spans c p ≡ arrival_of c s = rw header (ap (λ (x : ℕ). slice_index c.arrivals.items x) is) in
+      let number : found_at spans c p ≡ arrival_of c s = rw header (ap (λ (x : ℕ). slice_index c.arrivals.items x) is) in
       subst (λ (x : ℕ). IsPathTo edges spans c context x ((walk ++ e ∷ []) ++ rounds)) by.ends
       (W.by_header edges spans bound_of (distance_of c) (arrival_of c) (round_of c) st context here e s in_graph s_in (by.ends ∙ is)
       (⊎_elim (λ holds_from. absurd (omega (arith, member_header s e.from holds_from, by.up, is))) (λ out. out) (cases_Bool (is_in s e.from)))
@@ -114,7 +114,7 @@ module _ (exit : ℕ) (edges : List NumberedEdge) (spans : List Span) (c : Table
   -- .. and at the entry, where that is no header
   pub at_entry : is_header_in spans 0 ≡ false → IsPathTo edges spans c None 0 []
   at_entry plain =
-      let number : number_of spans c 0 ≡ distance_of c 0 = rw plain refl in
+      let number : found_at spans c 0 ≡ distance_of c 0 = rw plain refl in
       stay None 0 refl (⊎_elim (λ first. sym number ∙ first.1) (λ by. absurd (omega (arith, by.3))) (found.passed.attained 0 (omega arith)))
       (λ j j_in inside lower. both_ways (is_header_in spans 0) plain (header_there spans 0 j j_in (order.entry_at_header j j_in inside)))
 
@@ -122,7 +122,7 @@ module _ (exit : ℕ) (edges : List NumberedEdge) (spans : List Span) (c : Table
   pub entry_rounds : (s : Span) → Contains spans s → 0 ≡ s.header → (walk : List NumberedEdge) → AreRoundsOf edges spans c s walk → IsPathTo edges spans c None 0 walk
   entry_rounds s s_in is walk (r, r_is) =
       let header : is_header_in spans 0 ≡ true = header_there spans 0 s s_in is in
-      let number : number_of spans c 0 ≡ arrival_of c s = rw header (ap (λ (x : ℕ). slice_index c.arrivals.items x) is) in
+      let number : found_at spans c 0 ≡ arrival_of c s = rw header (ap (λ (x : ℕ). slice_index c.arrivals.items x) is) in
       let none : arrival_of c s ≡ 0 = ⊎_elim (λ first. sym number ∙ first.1) (λ by. absurd (omega (arith, by.3))) (found.passed.attained 0 (omega arith)) in (
         record {
           walk = r.walk;

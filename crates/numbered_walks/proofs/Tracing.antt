@@ -10,7 +10,7 @@ use Rattle.numbered_walks.specs.declared.span.Span.{Span}
 use Rattle.numbered_walks.specs.declared.tables.Tables.{Tables}
 use Rattle.numbered_walks.specs.Ordered.{IsOrdered}
 use Rattle.numbered_walks.specs.Index.{AreGrouped, edge_at, span_at}
-use Rattle.numbered_walks.specs.Tables.{needed, number_of, round_of, TurnsBy}
+use Rattle.numbered_walks.specs.Tables.{needed, found_at, round_of, TurnsBy}
 use Rattle.numbered_walks.specs.Found.{AreFound, IsEntering, IsTurning}
 use Rattle.numbered_walks.proofs.Grouping.{edge_in, edge_at-in, entering_edges, turning_edges}
 use Rattle.numbered_walks.proofs.PassLemmas.{turn_low}
@@ -24,7 +24,7 @@ module _ (exit : ℕ) (edges : List NumberedEdge) (spans : List Span) (c : Table
   abbrev None_asks : List ℕ → ℕ → Type 0
   None_asks group number = All (λ k. needed spans c (edge_at edges k) ≢ number) group
 
-  pub entering_is : (p : ℕ) (d : Vec ℕ Global) → p < length groups → AreGrouped edges (length edges) true groups → (k : ℕ) → Contains (group_at p d) k → needed spans c (edge_at edges k) ≡ number_of spans c p → IsEntering edges spans c p k
+  pub entering_is : (p : ℕ) (d : Vec ℕ Global) → p < length groups → AreGrouped edges (length edges) true groups → (k : ℕ) → Contains (group_at p d) k → needed spans c (edge_at edges k) ≡ found_at spans c p → IsEntering edges spans c p k
   entering_is p d small all k here asks =
       let known = (all p d small k).0 here in
       record {
@@ -34,13 +34,13 @@ module _ (exit : ℕ) (edges : List NumberedEdge) (spans : List Span) (c : Table
         asks = sym asks;
       }
 
-  pub some_enters : (p : ℕ) (d : Vec ℕ Global) → p < length groups → AreGrouped edges (length edges) true groups → 0 < p → p ≤ exit → None_asks (group_at p d) (number_of spans c p) → ⊥
+  pub some_enters : (p : ℕ) (d : Vec ℕ Global) → p < length groups → AreGrouped edges (length edges) true groups → 0 < p → p ≤ exit → None_asks (group_at p d) (found_at spans c p) → ⊥
   some_enters p d small all later known none = ⊎_elim
       (λ first. absurd (omega (arith, first.0)))
       (λ by.
       let e = by.0 in
       let at = edge_in edges (group_at p d) e ((entering_edges edges groups p d small all e).1 (by.1, by.2, by.3)) in
-      All-contains (λ k. needed spans c (edge_at edges k) ≢ number_of spans c p) (group_at p d) at.0 none at.1 (ap (λ (x : NumberedEdge). needed spans c x) at.2 ∙ sym by.4))
+      All-contains (λ k. needed spans c (edge_at edges k) ≢ found_at spans c p) (group_at p d) at.0 none at.1 (ap (λ (x : NumberedEdge). needed spans c x) at.2 ∙ sym by.4))
       (found.passed.attained p (omega arith))
 
   pub only_enters : (p : ℕ) (d : Vec ℕ Global) (k : ℕ) → p < length groups → AreGrouped edges (length edges) true groups → 0 < p → p ≤ exit → length (group_at p d) ≡ 1 → k ≡ get_or (group_at p d) 0 k → IsEntering edges spans c p k

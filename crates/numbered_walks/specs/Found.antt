@@ -7,7 +7,7 @@ use Rattle.numbered_walks.specs.declared.tables.Tables.{Tables}
 use Rattle.numbered_walks.specs.declared.fault.WalkFault.{WalkFault}
 use Rattle.numbered_walks.specs.declared.fault.WalkFault.TheVariants.{Memory, NoCompleteWalk, BoundTooLarge}
 use Rattle.numbered_walks.specs.Ordered.{IsComplete, IsGreatest, TooLarge}
-use Rattle.numbered_walks.specs.Tables.{IsPassed, HasRoom, RowsFit, RowsHold, distance_of, is_exit, number_of}
+use Rattle.numbered_walks.specs.Tables.{IsPassed, HasRoom, RowsFit, RowsHold, distance_of, is_exit, found_at}
 use Rattle.numbered_walks.specs.Tables.{needed, round_of, potentials_of}
 use Rattle.numbered_walks.specs.Index.{edge_at}
 
@@ -37,7 +37,7 @@ pub record IsEntering (edges : List NumberedEdge) (spans : List Span) (c : Table
   pub inside : k < length edges
   pub ends : (edge_at edges k).to ≡ place
   pub up : (edge_at edges k).from < place
-  pub asks : number_of spans c place ≡ needed spans c (edge_at edges k)
+  pub asks : found_at spans c place ≡ needed spans c (edge_at edges k)
 
 -- the edge at this place of the list is a back edge of the instance, whose round it asks for
 pub record IsTurning (edges : List NumberedEdge) (spans : List Span) (c : Tables) (s : Span)

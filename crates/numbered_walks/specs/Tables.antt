@@ -57,15 +57,15 @@ is_header_in [] p = false
 is_header_in (s ∷ spans) p = cond (nat_eq s.header p) true (is_header_in spans p)
 
 -- what the pass finds for a number: the arrival of the instance that it is the header of, or its distance
-abbrev pub number_of : List Span → Tables → ℕ → ℕ
-number_of spans c p =
+abbrev pub found_at : List Span → Tables → ℕ → ℕ
+found_at spans c p =
     cond (is_header_in spans p) (slice_index c.arrivals.items p) (slice_index c.distances.items p)
 
 -- the number is what some edge up to it needs
 abbrev pub EntersBy : List NumberedEdge → List Span → Tables → ℕ → Type 0
 EntersBy edges spans c p =
     (e : NumberedEdge) × Contains edges e × (e.to ≡ p) × (e.from < p)
-    × (number_of spans c p ≡ needed spans c e)
+    × (found_at spans c p ≡ needed spans c e)
 
 -- the round is what some back edge needs
 abbrev pub TurnsBy : List NumberedEdge → List Span → Tables → Span → Type 0
@@ -80,13 +80,13 @@ pub record IsPassed (edges : List NumberedEdge) (spans : List Span) (k q : ℕ) 
   pub header_distance : (p : ℕ) → is_header_in spans p ≡ true → distance_of c p ≡ 0
   pub later_round : (n : ℕ) → k ≤ n → n < length spans → round_of c (span_at spans n) ≡ 0
   pub rows : (e : NumberedEdge) → Contains edges e → e.from < e.to → e.to < q
-      → (needed spans c e ≤ number_of spans c e.to) × (needed spans c e < COST_LIMIT)
+      → (needed spans c e ≤ found_at spans c e.to) × (needed spans c e < COST_LIMIT)
   pub round_rows : (n : ℕ) → n < k → 0 < (span_at spans n).bound → (e : NumberedEdge) → Contains edges e
       → e.to ≡ (span_at spans n).header → e.to ≤ e.from
       → (e.from ≤ (span_at spans n).last) × (needed spans c e ≤ round_of c (span_at spans n))
       × (needed spans c e < COST_LIMIT)
   pub round_zero : (n : ℕ) → n < k → (span_at spans n).bound ≡ 0 → round_of c (span_at spans n) ≡ 0
-  pub attained : (p : ℕ) → p < q → ((p ≡ 0) × (number_of spans c p ≡ 0)) ⊎ EntersBy edges spans c p
+  pub attained : (p : ℕ) → p < q → ((p ≡ 0) × (found_at spans c p ≡ 0)) ⊎ EntersBy edges spans c p
   pub round_attained : (n : ℕ) → n < k
       → (round_of c (span_at spans n) ≡ 0) ⊎ TurnsBy edges spans c (span_at spans n)
 
@@ -96,7 +96,7 @@ AllEntered edges limit = (p : ℕ) → 0 < p → p < limit → IsEnteredUp edges
 
 -- what a write of the entry of a number leaves
 pub record IsPlaceWritten (spans : List Span) (q v : ℕ) (c new : Tables) : Type 0 where
-  pub here : number_of spans new q ≡ v
+  pub here : found_at spans new q ≡ v
   pub header_zero : is_header_in spans q ≡ true → distance_of new q ≡ distance_of c q
   pub distances : (p : ℕ) → p ≢ q → distance_of new p ≡ distance_of c p
   pub arrivals : (p : ℕ) → p ≢ q → slice_index new.arrivals.items p ≡ slice_index c.arrivals.items p

@@ -24,11 +24,20 @@ is_adr x = is_pc x.rn && (is_add x.opcode || is_sub x.opcode)
 
 -- the address by PC that an operation at an address makes: by ADR, or by MOV R14,PC
 abbrev pub named_by : ℕ → Operation → Option ℕ
-named_by at (operation.DataImmediate x) =
-    if is_adr x then Some (address_by true (is_add x.opcode) (ahead_of at 8) (immediate x)) else None
+named_by at (operation.Multiply x) = None
 named_by at (operation.DataRegister x) =
     if keeps_return_address (operation.DataRegister x) then Some (ahead_of at 8) else None
-named_by at _ = None
+named_by at (operation.DataRegisterShift x) = None
+named_by at (operation.DataImmediate x) =
+    if is_adr x then Some (address_by true (is_add x.opcode) (ahead_of at 8) (immediate x)) else None
+named_by at (operation.SingleImmediate x) = None
+named_by at (operation.SingleRegister x) = None
+named_by at (operation.Block x) = None
+named_by at (operation.Branch x) = None
+named_by at (operation.Swi x) = None
+named_by at (operation.UndefinedTransfer x) = None
+named_by at (operation.CoprocessorTransfer x) = None
+named_by at (operation.Coprocessor x) = None
 
 -- the address that an instruction there makes: one under NV makes none
 abbrev pub named_in : ℕ → Instr → Option ℕ

@@ -54,11 +54,13 @@ fn block_class(known: &Constants, at: u32, x: &Block) -> Class {
 
 // The class of what an operation transfers, where the words show its address; else any.
 fn class_shown(known: &Constants, at: u32, operation: &Operation) -> Class {
-    match operation {
-        Operation::SingleImmediate(x) => single_class(known, at, x),
-        Operation::Block(x) => block_class(known, at, x),
-        _ => Class::Any,
+    if let Operation::SingleImmediate(x) = operation {
+        return single_class(known, at, x);
     }
+    let Operation::Block(x) = operation else {
+        return Class::Any;
+    };
+    block_class(known, at, x)
 }
 
 // The class of what an operation transfers, where it shows the address by itself; else any.

@@ -26,7 +26,18 @@ fn named_by(at: u32, operation: &Operation) -> Option<u32>
             Some(address_by(true, x.opcode.is_add(), ahead_of(at, 8), immediate(x)))
         }
         Operation::DataRegister(_) if keeps_return_address(operation) => Some(ahead_of(at, 8)),
-        _ => None,
+        Operation::Multiply(_)
+        | Operation::DataRegister(_)
+        | Operation::DataRegisterShift(_)
+        | Operation::DataImmediate(_)
+        | Operation::SingleImmediate(_)
+        | Operation::SingleRegister(_)
+        | Operation::Block(_)
+        | Operation::Branch(_)
+        | Operation::Swi(_)
+        | Operation::UndefinedTransfer(_)
+        | Operation::CoprocessorTransfer(_)
+        | Operation::Coprocessor(_) => None,
     }
 }
 

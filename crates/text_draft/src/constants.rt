@@ -1,5 +1,5 @@
 use crate::counted::immediate;
-use crate::words::changed;
+use crate::words::may_change;
 use arm2_decode::{Cond, DataImmediate, DataRegister, Instr, Opcode, Operation, Register, Shift};
 use bus_ticks::ahead_of;
 use image::Image;
@@ -53,10 +53,10 @@ impl Constants {
         self.words[register.number() as usize] = word;
     }
 
-    // Forgets the registers of the bits that are set.
-    fn forget(&mut self, registers: u32) {
+    // Forgets the registers that may differ after the instruction at an address.
+    fn forget(&mut self, image: &Image, at: u32, instr: &Instr) {
         for (n, word) in self.words.iter_mut().enumerate() {
-            if registers >> n as u32 & 1 == 1 {
+            if may_change(image, at, instr, Register::of(n as u32)) {
                 *word = None;
             }
         }
@@ -64,17 +64,19 @@ impl Constants {
 
     // The register that an instruction sets, with its word where that is known.
     fn known_after(&self, at: u32, instr: &Instr) -> Option<(Register, u32)> {
-        match &instr.operation {
-            Operation::DataImmediate(x) => Some((x.rd, self.given(x, at)?)),
-            Operation::DataRegister(x) => Some((x.rd, self.moved(x, at)?)),
-            _ => None,
+        if let Operation::DataImmediate(x) = &instr.operation {
+            return Some((x.rd, self.given(x, at)?));
         }
+        let Operation::DataRegister(x) = &instr.operation else {
+            return None;
+        };
+        Some((x.rd, self.moved(x, at)?))
     }
 
     /// Goes past the instruction at an address.
     pub(crate) fn pass(&mut self, image: &Image, at: u32, instr: &Instr) {
         let known = self.known_after(at, instr);
-        self.forget(changed(image, at, instr));
+        self.forget(image, at, instr);
         if let Some((register, word)) = known {
             if instr.cond == Cond::Al {
                 self.set(register, Some(word));

@@ -4,7 +4,7 @@ ghost use Rattle.text_draft.specs.Candidates.{immediate};
 use crate::found_loop::FoundLoop;
 use crate::reach::Reached;
 use crate::ways::before;
-use crate::words::{action_at, changed};
+use crate::words::{action_at, may_change};
 use arm2_decode::{Cond, DataImmediate, Opcode, Operation, Register};
 use control_flow::Kind;
 use image::Image;
@@ -24,10 +24,10 @@ pub(crate) fn immediate(x: &DataImmediate) -> u32
 // The always done instruction of an immediate operand at an address.
 fn immediate_at(image: &Image, at: u32) -> Option<DataImmediate> {
     let instr = instr_at(image, at)?;
-    match instr.operation {
-        Operation::DataImmediate(x) if instr.cond == Cond::Al => Some(x),
-        _ => None,
-    }
+    let Operation::DataImmediate(x) = instr.operation else {
+        return None;
+    };
+    instr.cond.is_always().then_some(x)
 }
 
 // The register that the word at an address counts down by 1, with the flags set.
@@ -46,7 +46,7 @@ fn is_branch_if_not_zero(image: &Image, at: u32) -> bool {
 
 fn may_write(image: &Image, at: u32, register: Register) -> bool {
     match instr_at(image, at) {
-        Some(instr) => changed(image, at, &instr) >> register.number() & 1 == 1,
+        Some(instr) => may_change(image, at, &instr, register),
         None => true,
     }
 }

@@ -4,7 +4,7 @@ ghost use Rattle.control_flow.specs.declared.actions.Action.{Action};
 ghost use Rattle.image.specs.Image.{word_of};
 
 use crate::ways::has_return_address;
-use arm2_decode::{Block, Instr, Opcode, Operation, Register, writes_base};
+use arm2_decode::{Instr, Operation, Register};
 use control_flow::{Action, action_of};
 use image::Image;
 use word_shapes::is_odd_writer;
@@ -21,54 +21,22 @@ pub(crate) fn action_at(image: &Image, at: u32) -> Option<Action>
     }
 }
 
-fn bit(register: Register) -> u32 {
-    1 << register.number()
-}
-
-fn data_written(opcode: Opcode, rd: Register) -> u32 {
-    if !opcode.is_compare() {
-        bit(rd)
-    } else if rd.is_pc() {
-        ALL_REGISTERS
-    } else {
-        0
-    }
-}
-
-fn single_written(load: bool, rd: Register, writes_rn: bool, rn: Register) -> u32 {
-    let loaded = if load { bit(rd) } else { 0 };
-    let moved = if writes_rn { bit(rn) } else { 0 };
-    loaded | moved
-}
-
-fn block_written(x: &Block) -> u32 {
-    let loaded = if x.load { x.list } else { 0 };
-    let moved = if x.write_back { bit(x.rn) } else { 0 };
-    loaded | moved
-}
-
-const ALL_REGISTERS: u32 = 0xFFFF;
-
-// The registers that an operation may write, as the bits of their numbers: all for a call, and for a compare
-// that changes the mode.
-fn written(operation: &Operation) -> u32 {
+// Whether any register may differ after an operation: after a call, an exception, and a compare that changes
+// the mode.
+fn may_change_all(operation: &Operation) -> bool {
     match operation {
-        Operation::Multiply(x) => bit(x.rd),
-        Operation::DataRegister(x) => data_written(x.opcode, x.rd),
-        Operation::DataRegisterShift(x) => data_written(x.opcode, x.rd),
-        Operation::DataImmediate(x) => data_written(x.opcode, x.rd),
-        Operation::SingleImmediate(x) => {
-            single_written(x.load, x.rd, writes_base(x.before, x.write_back), x.rn)
-        }
-        Operation::SingleRegister(x) => {
-            single_written(x.load, x.rd, writes_base(x.before, x.write_back), x.rn)
-        }
-        Operation::Block(x) => block_written(x),
-        Operation::Branch(x) => { if x.link { ALL_REGISTERS } else { 0 } }
+        Operation::DataRegister(x) => x.opcode.is_compare() && x.rd.is_pc(),
+        Operation::DataRegisterShift(x) => x.opcode.is_compare() && x.rd.is_pc(),
+        Operation::DataImmediate(x) => x.opcode.is_compare() && x.rd.is_pc(),
+        Operation::Branch(x) => x.link,
         Operation::Swi(_)
         | Operation::UndefinedTransfer(_)
         | Operation::CoprocessorTransfer(_)
-        | Operation::Coprocessor(_) => ALL_REGISTERS,
+        | Operation::Coprocessor(_) => true,
+        Operation::Multiply(_)
+        | Operation::SingleImmediate(_)
+        | Operation::SingleRegister(_)
+        | Operation::Block(_) => false,
     }
 }
 
@@ -78,14 +46,12 @@ fn may_call(image: &Image, at: u32, operation: &Operation) -> bool {
     is_odd_writer(operation) || operation.writes_pc() && has_return_address(image, at)
 }
 
-/// The registers that may differ after the instruction at an address, as the bits of their numbers: none
-/// under NV, and all after a word that may call a routine by writing R15.
-pub(crate) fn changed(image: &Image, at: u32, instr: &Instr) -> u32 {
-    if instr.cond.is_never() {
-        0
-    } else if may_call(image, at, &instr.operation) {
-        ALL_REGISTERS
-    } else {
-        written(&instr.operation)
-    }
+/// Whether a register may differ after the instruction at an address: none does under NV, and any may after a
+/// word that may call a routine by writing R15.
+pub(crate) fn may_change(image: &Image, at: u32, instr: &Instr, register: Register) -> bool {
+    let operation = &instr.operation;
+    !instr.cond.is_never()
+        && (operation.writes(register)
+            || may_change_all(operation)
+            || may_call(image, at, operation))
 }

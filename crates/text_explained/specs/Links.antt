@@ -6,17 +6,13 @@ use Rattle.std.specs.List.Sorted.{IsStrictlySortedBy}
 use Rattle.std.specs.Ordering.{nat_cmp}
 use Rattle.bus_ticks.specs.Prices.{ahead_of}
 use Rattle.bus_ticks.specs.declared.space.TheConstants.{SPACE_END}
-use Rattle.arm2_decode.specs.Names.{is_compare, is_link, is_never, is_pc}
-use Rattle.arm2_decode.specs.Transfers.{is_listed, writes_base}
-use Rattle.arm2_decode.specs.Writers.{writes_pc}
+use Rattle.arm2_decode.specs.Names.{is_link, is_never, is_pc}
+use Rattle.arm2_decode.specs.Writers.{is_transfer, writes, writes_pc}
 use Rattle.arm2_decode.specs.declared.instr.Instr.{Instr}
 use Rattle.arm2_decode.specs.declared.instr.Operation.{Operation}
 use Rattle.arm2_decode.specs.declared.instr.Operation.TheVariants as operation
 use Rattle.arm2_decode.specs.declared.instr.SingleImmediate.{SingleImmediate}
-use Rattle.arm2_decode.specs.declared.names.Opcode.{Opcode}
-use Rattle.arm2_decode.specs.declared.names.Register.{Register}
 use Rattle.arm2_decode.specs.declared.names.Register.TheVariants.{R14}
-use Rattle.arm2_decode.specs.Writers.{is_transfer}
 use Rattle.arm2_effect.specs.ProgramCounter.{address_of}
 use Rattle.control_flow.specs.Flow.{Flow, HasEdge}
 use Rattle.control_flow.specs.declared.edges.Edge.{Edge}
@@ -35,30 +31,9 @@ use Rattle.text_explained.specs.declared.links.Overwrite.TheVariants.{ByCall, By
 
 -- ## Words
 
--- data processing writes Rd, unless it compares
-abbrev pub data_writes_link : Opcode → Register → Bool
-data_writes_link o rd = is_link rd && not (is_compare o)
-
--- a load of one word writes Rd, and a load or a store may write its base
-abbrev pub single_writes_link : (load writes_rn : Bool) → (rn rd : Register) → Bool
-single_writes_link load writes_rn rn rd = (load && is_link rd) || (writes_rn && is_link rn)
-
 -- the operation writes R14, other than a call
 abbrev pub writes_link : Operation → Bool
-writes_link (operation.Multiply x) = is_link x.rd
-writes_link (operation.DataRegister x) = data_writes_link x.opcode x.rd
-writes_link (operation.DataRegisterShift x) = data_writes_link x.opcode x.rd
-writes_link (operation.DataImmediate x) = data_writes_link x.opcode x.rd
-writes_link (operation.SingleImmediate x) =
-    single_writes_link x.load (writes_base x.before x.write_back) x.rn x.rd
-writes_link (operation.SingleRegister x) =
-    single_writes_link x.load (writes_base x.before x.write_back) x.rn x.rd
-writes_link (operation.Block x) = (x.load && is_listed x.list R14) || (x.write_back && is_link x.rn)
-writes_link (operation.Branch x) = false
-writes_link (operation.Swi x) = false
-writes_link (operation.UndefinedTransfer x) = false
-writes_link (operation.CoprocessorTransfer x) = false
-writes_link (operation.Coprocessor x) = false
+writes_link o = writes o R14
 
 -- it writes R15 as returns do, and not from memory: MOV of R14, or SUB of a number from it
 abbrev pub returns_by_link : Operation → Bool
@@ -102,9 +77,19 @@ holds_address image (Some word) = is_some (word_of image (address_of word))
 
 -- at the address the operation loads R14 with a word of the source that holds the address of one
 abbrev pub loads_address : Words → ℕ → Operation → Bool
+loads_address image a (operation.Multiply x) = false
+loads_address image a (operation.DataRegister x) = false
+loads_address image a (operation.DataRegisterShift x) = false
+loads_address image a (operation.DataImmediate x) = false
 loads_address image a (operation.SingleImmediate x) =
     loads_link_by_pc x && holds_address image (word_of image (literal_at a x))
-loads_address image a _ = false
+loads_address image a (operation.SingleRegister x) = false
+loads_address image a (operation.Block x) = false
+loads_address image a (operation.Branch x) = false
+loads_address image a (operation.Swi x) = false
+loads_address image a (operation.UndefinedTransfer x) = false
+loads_address image a (operation.CoprocessorTransfer x) = false
+loads_address image a (operation.Coprocessor x) = false
 
 -- at the address the instruction may put an address of the source into R14
 abbrev pub may_put_address : Words → ℕ → Instr → Bool

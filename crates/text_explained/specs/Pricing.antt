@@ -1,11 +1,12 @@
 -- What the price of a word takes for granted.
 use Rattle.std.specs.Prelude.{◌≡◌, ℕ, true, false, if◌then◌else◌, List, [], ◌++◌, codes, Option, Some, None}
 use Rattle.arm2_decode.specs.Names.{is_never}
+use Rattle.arm2_decode.specs.Writers.{is_transfer}
 use Rattle.arm2_decode.specs.declared.instr.Instr.{Instr}
 use Rattle.arm2_decode.specs.declared.instr.Operation.{Operation}
-use Rattle.arm2_decode.specs.declared.instr.Operation.TheVariants as operation
 use Rattle.bus_ticks.specs.declared.profile.Class.{Class}
 use Rattle.control_flow.specs.Flow.{Flow}
+use Rattle.control_flow.specs.Kinds.{is_multiply}
 use Rattle.image.specs.Image.{Words}
 use Rattle.statement.specs.Stated.{Stated, class_at}
 use Rattle.statement.specs.Statement.{class_name}
@@ -21,18 +22,8 @@ use Rattle.text_explained.specs.declared.pricing.Pricing.{Pricing}
 
 -- a multiply is priced at its most cycles, and a load or a store by the class of what it transfers
 abbrev pub operation_granted : Class → Operation → Granted
-operation_granted class (operation.Multiply x) = Multiplier
-operation_granted class (operation.DataRegister x) = Nothing
-operation_granted class (operation.DataRegisterShift x) = Nothing
-operation_granted class (operation.DataImmediate x) = Nothing
-operation_granted class (operation.SingleImmediate x) = Access class
-operation_granted class (operation.SingleRegister x) = Access class
-operation_granted class (operation.Block x) = Access class
-operation_granted class (operation.Branch x) = Nothing
-operation_granted class (operation.Swi x) = Nothing
-operation_granted class (operation.UndefinedTransfer x) = Nothing
-operation_granted class (operation.CoprocessorTransfer x) = Nothing
-operation_granted class (operation.Coprocessor x) = Nothing
+operation_granted class o =
+    if is_multiply o then Multiplier else (if is_transfer o then Access class else Nothing)
 
 -- a word under NV is passed over
 abbrev pub instr_granted : Class → Instr → Granted

@@ -10,15 +10,15 @@ ghost use Rattle.word_shapes.specs.Shapes.{may_do};
 ghost use Rattle.word_shapes.specs.Words.{MayDo};
 ghost use Rattle.text_explained.specs.Assumed.{Notes};
 ghost use Rattle.text_explained.specs.Links.{AreLostLinks, Does, DoesTo, IsLost, MayReturnByLink, PutsAddress};
-ghost use Rattle.text_explained.specs.Links.{counts_as_return, data_writes_link, distance, holds_address};
+ghost use Rattle.text_explained.specs.Links.{counts_as_return, distance, holds_address};
 ghost use Rattle.text_explained.specs.Links.{is_return_kind, literal_at, loads_address, loads_link_by_pc};
-ghost use Rattle.text_explained.specs.Links.{may_put_address, returns_by_link, single_writes_link, writes_link};
+ghost use Rattle.text_explained.specs.Links.{may_put_address, returns_by_link, writes_link};
 ghost use Rattle.text_explained.specs.Losing.{ByEdge, HasRoom, LeadsTo};
 ghost use Rattle.text_explained.specs.Taken.{is_reached};
 
 use crate::assumptions::{add, sorted};
 use crate::sections::StatedGraph;
-use arm2_decode::{Instr, Opcode, Operation, Register, SingleImmediate, writes_base};
+use arm2_decode::{Instr, Operation, Register, SingleImmediate};
 use arm2_effect::address_of;
 use bus_ticks::{SPACE_END, ahead_of};
 use control_flow::{Calls, Edge, Graph, Place};
@@ -46,42 +46,11 @@ pub(crate) enum LinkStep {
     Keeps,
 }
 
-// Whether data processing writes R14.
-fn data_writes_link(opcode: Opcode, rd: Register) -> bool
-    ensures { result ≡ data_writes_link opcode rd }
-{
-    rd.is_link() && !opcode.is_compare()
-}
-
-fn single_writes_link(load: bool, writes_rn: bool, rn: Register, rd: Register) -> bool
-    ensures { result ≡ single_writes_link load writes_rn rn rd }
-{
-    load && rd.is_link() || writes_rn && rn.is_link()
-}
-
 // Whether an operation writes R14, other than a call.
 fn writes_link(operation: &Operation) -> bool
     ensures { result ≡ writes_link operation.now }
 {
-    match operation {
-        Operation::Multiply(x) => x.rd.is_link(),
-        Operation::DataRegister(x) => data_writes_link(x.opcode, x.rd),
-        Operation::DataRegisterShift(x) => data_writes_link(x.opcode, x.rd),
-        Operation::DataImmediate(x) => data_writes_link(x.opcode, x.rd),
-        Operation::SingleImmediate(x) => {
-            single_writes_link(x.load, writes_base(x.before, x.write_back), x.rn, x.rd)
-        }
-        Operation::SingleRegister(x) => {
-            single_writes_link(x.load, writes_base(x.before, x.write_back), x.rn, x.rd)
-        }
-        Operation::Block(x) => x.load && x.is_listed(Register::R14)
-            || x.write_back && x.rn.is_link(),
-        Operation::Branch(_)
-        | Operation::Swi(_)
-        | Operation::UndefinedTransfer(_)
-        | Operation::CoprocessorTransfer(_)
-        | Operation::Coprocessor(_) => false,
-    }
+    operation.writes(Register::R14)
 }
 
 // Whether an instruction may write R14, other than a call: its condition is not NV.
@@ -186,12 +155,10 @@ fn holds_address(image: &Image, word: Option<u32>) -> bool
 fn loads_address(image: &Image, at: u32, operation: &Operation) -> bool
     ensures { result ≡ loads_address image.now at operation.now }
 {
-    match operation {
-        Operation::SingleImmediate(x) => {
-            loads_link_by_pc(x) && holds_address(image, image.word_at(literal_at(at, x)))
-        }
-        _ => false,
-    }
+    let Operation::SingleImmediate(x) = operation else {
+        return false;
+    };
+    loads_link_by_pc(x) && holds_address(image, image.word_at(literal_at(at, x)))
 }
 
 fn may_put_address(image: &Image, at: u32, instr: &Instr) -> bool

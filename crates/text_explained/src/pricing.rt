@@ -13,7 +13,7 @@ use crate::leaving::{EdgeKind, addresses_left};
 use crate::sections::StatedGraph;
 use arm2_decode::{Instr, Operation};
 use bus_ticks::Class;
-use control_flow::Place;
+use control_flow::{Place, is_multiply};
 use image::Image;
 use statement::{Statement, class_name};
 use std::alloc::{AllocError, Global};
@@ -42,19 +42,12 @@ pub(crate) struct Pricing {
 fn operation_granted(class: Class, operation: &Operation) -> Granted
     ensures { result ≡ operation_granted class operation.now }
 {
-    match operation {
-        Operation::Multiply(_) => Granted::Multiplier,
-        Operation::SingleImmediate(_) | Operation::SingleRegister(_) | Operation::Block(_) => {
-            Granted::Access(class)
-        }
-        Operation::DataRegister(_)
-        | Operation::DataRegisterShift(_)
-        | Operation::DataImmediate(_)
-        | Operation::Branch(_)
-        | Operation::Swi(_)
-        | Operation::UndefinedTransfer(_)
-        | Operation::CoprocessorTransfer(_)
-        | Operation::Coprocessor(_) => Granted::Nothing,
+    if is_multiply(operation) {
+        Granted::Multiplier
+    } else if operation.is_transfer() {
+        Granted::Access(class)
+    } else {
+        Granted::Nothing
     }
 }
 

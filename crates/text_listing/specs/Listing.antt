@@ -1,5 +1,5 @@
 -- The rows of a listing.
-use Rattle.std.specs.Prelude.{◌≡◌, ℕ, zero, suc, ◌+◌, List, ◌++◌}
+use Rattle.std.specs.Prelude.{◌≡◌, ℕ, zero, suc, ◌+◌, List, [], ◌++◌}
 use Rattle.std.specs.Prelude.{codes, decimal, Option, Some}
 use Rattle.asm_text.specs.Hex.{hex8}
 use Rattle.assembler.specs.ShownLines.{IsShown}
@@ -17,7 +17,7 @@ word_columns at word = hex8 at ++ (codes "  " ++ word_text word)
 
 -- blanks in the place of both
 abbrev pub no_columns : List ℕ
-no_columns = codes "                  "
+no_columns = in_columns WORD_COLUMNS []
 
 -- after the columns of a word, the number of a line, and as much of its text as there is room for
 abbrev pub line_row : ℕ → List ℕ → List ℕ

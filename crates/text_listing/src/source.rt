@@ -3,11 +3,11 @@ ghost use Rattle.bus_ticks.specs.declared.space.TheConstants.{SPACE_END};
 ghost use Rattle.asm_text.specs.Source.{lines_of};
 ghost use Rattle.text_listing.specs.Listing.{line_rows, source_rows, word_rows};
 
-use crate::columns::{put_line_row, put_word_columns};
+use crate::columns::{WORD_COLUMNS, put_line_row, put_word_columns};
 use assembler::PlacedLine;
 use image::Image;
 use std::alloc::{AllocError, Global};
-use text_rows::{LineRows, NumberedLine, put, put_line_rows};
+use text_rows::{LineRows, NumberedLine, put, put_line_rows, put_right};
 
 // Adds a row for each of so many words from an address on.
 fn put_words(out: &mut Vec<u8>, image: &Image, from: u32, count: usize) -> Result<(), AllocError>
@@ -39,7 +39,7 @@ impl LineRows for Beside<'_> {
         placed: PlacedLine,
     ) -> Result<(), AllocError> {
         if placed.words == 0 {
-            put(out, b"                  ")?;
+            put_right(out, b"", WORD_COLUMNS)?;
             return put_line_row(out, line);
         }
         put_word_columns(out, placed.at, self.image.word_at(placed.at))?;

@@ -1,12 +1,7 @@
 -- What is printed of a cycle and of an entry.
 use Rattle.std.specs.Prelude.{◌≡◌, ℕ, List, [], ◌++◌, codes, decimal, length, map, Option, Some, None}
 use Rattle.std.specs.BTreeMap.{BTreeMap}
-use Rattle.assembler.specs.declared.fault.LineFault.{LineFault}
-use Rattle.assembler.specs.declared.fault.LineFault.TheVariants.{NotText, UnknownWord, BadOperand}
-use Rattle.assembler.specs.declared.fault.LineFault.TheVariants.{ImmediateNotRotated, BranchTooFar}
-use Rattle.assembler.specs.declared.fault.LineFault.TheVariants.{LabelTwice}
-use Rattle.assembler.specs.declared.fault.LineFault.TheVariants.{LabelMissing, OutOfRange, Unallocated}
-use Rattle.assembler.specs.declared.fault.LineFault.TheVariants.{TooLong}
+use Rattle.assembler.specs.Faults.{name}
 use Rattle.control_flow.specs.declared.edges.Edge.{Edge}
 use Rattle.control_flow.specs.declared.faults.BuildFault.{BuildFault}
 use Rattle.control_flow.specs.declared.faults.BuildFault.TheVariants as build
@@ -152,19 +147,7 @@ IsFaultText words faulty _ text = IsPlaceRow words faulty.place text
 
 -- ## Lines that cannot be assembled
 
-abbrev pub fault_name : LineFault → List ℕ
-fault_name NotText = codes "NotText"
-fault_name UnknownWord = codes "UnknownWord"
-fault_name BadOperand = codes "BadOperand"
-fault_name ImmediateNotRotated = codes "ImmediateNotRotated"
-fault_name BranchTooFar = codes "BranchTooFar"
-fault_name LabelTwice = codes "LabelTwice"
-fault_name LabelMissing = codes "LabelMissing"
-fault_name OutOfRange = codes "OutOfRange"
-fault_name Unallocated = codes "Unallocated"
-fault_name TooLong = codes "TooLong"
-
 -- a line of text on such a line: its number, and what is wrong with it
 abbrev pub IsFaultyRow : FaultyLine → List ℕ → Type 0
 IsFaultyRow line row =
-    row ≡ codes "line " ++ (decimal line.number ++ (codes ": " ++ (fault_name line.fault ++ codes "\n")))
+    row ≡ codes "line " ++ (decimal line.number ++ (codes ": " ++ (name line.fault ++ codes "\n")))

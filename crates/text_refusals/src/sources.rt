@@ -3,7 +3,7 @@ ghost use Rattle.text_refusals.specs.FaultyLines.{AreFaults, AreFaultyLines, IsA
 ghost use Rattle.text_refusals.specs.FaultyLines.{keeps_label, label_left, left_after, line_left, without};
 ghost use Rattle.asm_text.specs.Appended.{Appends};
 ghost use Rattle.text_rows.specs.Rows.{AreRows};
-ghost use Rattle.text_refusals.specs.Texts.{IsFaultyRow, fault_name};
+ghost use Rattle.text_refusals.specs.Texts.{IsFaultyRow};
 
 use crate::rows::MOST_LINES;
 use asm_text::{TextFault, first_line, read_line};
@@ -132,23 +132,6 @@ pub fn faulty_lines(alloc: Global, source: &[u8]) -> Result<Vec<FaultyLine>, All
     Ok(lines)
 }
 
-fn fault_name(fault: LineFault) -> &'static [u8]
-    ensures { result.now ≡ fault_name fault }
-{
-    match fault {
-        LineFault::NotText => b"NotText",
-        LineFault::UnknownWord => b"UnknownWord",
-        LineFault::BadOperand => b"BadOperand",
-        LineFault::ImmediateNotRotated => b"ImmediateNotRotated",
-        LineFault::BranchTooFar => b"BranchTooFar",
-        LineFault::LabelTwice => b"LabelTwice",
-        LineFault::LabelMissing => b"LabelMissing",
-        LineFault::OutOfRange => b"OutOfRange",
-        LineFault::Unallocated => b"Unallocated",
-        LineFault::TooLong => b"TooLong",
-    }
-}
-
 // Adds a line of text on a faulty line.
 fn put_faulty(out: &mut Vec<u8>, line: &FaultyLine) -> Result<(), AllocError>
     ensures { OnOk result (Appends (IsFaultyRow line.now) out.old.items out.new.items) }
@@ -156,7 +139,7 @@ fn put_faulty(out: &mut Vec<u8>, line: &FaultyLine) -> Result<(), AllocError>
     put(out, b"line ")?;
     put_decimal(out, line.number as u64)?;
     put(out, b": ")?;
-    put(out, fault_name(line.fault))?;
+    put(out, line.fault.name())?;
     put(out, b"\n")
 }
 

@@ -1,16 +1,16 @@
 -- What the next better entry of a statement takes off a price, in ticks.
 use Rattle.std.specs.Prelude.{◌≢◌, ℕ, ◌-◌, ◌*◌, ◌<◌, ◌≤◌, ◌==◌, max, nat_lt, if◌then◌else◌}
 use Rattle.std.specs.Prelude.{Option, Some, None}
-use Rattle.arm2_decode.specs.Transfers.{word_count}
+use Rattle.arm2_decode.specs.Writers.{moved}
 use Rattle.arm2_decode.specs.declared.instr.Operation.{Operation}
-use Rattle.arm2_decode.specs.declared.instr.Operation.TheVariants as operation
+use Rattle.arm2_decode.specs.declared.transfers.Moved.{Moved}
 use Rattle.bus_ticks.specs.declared.profile.Class.{Class}
 use Rattle.bus_ticks.specs.declared.profile.Class.TheVariants.{Any, Ram, Rom, Io}
 use Rattle.bus_ticks.specs.declared.profile.Profile.{Profile}
 use Rattle.bus_ticks.specs.Worst.{worst_leave}
 use Rattle.shifter.specs.declared.shifts.TheConstants.{MOST_MULTIPLY_CYCLES}
 use Rattle.control_flow.specs.Edges.{work_ticks}
-use Rattle.control_flow.specs.Kinds.{transfer_work}
+use Rattle.control_flow.specs.Kinds.{is_multiply, transfer_work}
 use Rattle.control_flow.specs.declared.actions.Work.{Work}
 use Rattle.text_savings.specs.declared.classes.ClassPrices.{ClassPrices}
 use Rattle.text_savings.specs.declared.gains.Gain.{Gain}
@@ -75,20 +75,14 @@ multiply_gain p =
       ticks = MOST_MULTIPLY_CYCLES * p.internal - (MOST_MULTIPLY_CYCLES - 1) * p.internal;
     }
 
--- what takes neither is priced by no entry
+-- of what it moves, if it moves anything
+abbrev pub moved_gain : Profile → Class → Option Moved → Option Gain
+moved_gain p class None = None
+moved_gain p class (Some m) = transfer_gain p class (transfer_work m.load m.words)
+
+-- what is no multiply and moves nothing is priced by no entry
 abbrev pub operation_gain : Profile → Class → Operation → Option Gain
-operation_gain p class (operation.Multiply x) = Some (multiply_gain p)
-operation_gain p class (operation.DataRegister x) = None
-operation_gain p class (operation.DataRegisterShift x) = None
-operation_gain p class (operation.DataImmediate x) = None
-operation_gain p class (operation.SingleImmediate x) = transfer_gain p class (transfer_work x.load 1)
-operation_gain p class (operation.SingleRegister x) = transfer_gain p class (transfer_work x.load 1)
-operation_gain p class (operation.Block x) = transfer_gain p class (transfer_work x.load (word_count x.list))
-operation_gain p class (operation.Branch x) = None
-operation_gain p class (operation.Swi x) = None
-operation_gain p class (operation.UndefinedTransfer x) = None
-operation_gain p class (operation.CoprocessorTransfer x) = None
-operation_gain p class (operation.Coprocessor x) = None
+operation_gain p class o = if is_multiply o then Some (multiply_gain p) else moved_gain p class (moved o)
 
 -- of the two fetches after the handler leaves, by the class of the addresses to which it does
 abbrev pub leave_prices : Profile → ClassPrices

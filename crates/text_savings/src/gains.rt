@@ -5,7 +5,7 @@ ghost use Rattle.text_savings.specs.Gains.{leave_gain, operation_gain, transfer_
 use crate::classes::{ClassChange, ClassPrices, class_gain};
 use arm2_decode::Operation;
 use bus_ticks::{Class, Profile, worst_leave};
-use control_flow::{Work, transfer_work, work_ticks};
+use control_flow::{Work, is_multiply, transfer_work, work_ticks};
 
 /// What a price would take for granted in place of what it does.
 #[derive(Clone, Copy)]
@@ -46,15 +46,15 @@ pub(crate) fn operation_gain(profile: &Profile, class: Class, operation: &Operat
     requires { IsWork (work_of operation.now) }
     ensures { result ≡ operation_gain profile.now class operation.now }
 {
-    match operation {
-        Operation::Multiply(_) => Some(Gain {
+    if is_multiply(operation) {
+        return Some(Gain {
             refinement: Refinement::Multiplier,
             ticks: profile.internal,
-        }),
-        Operation::SingleImmediate(x) => transfer_gain(profile, class, transfer_work(x.load, 1)),
-        Operation::SingleRegister(x) => transfer_gain(profile, class, transfer_work(x.load, 1)),
-        Operation::Block(x) => transfer_gain(profile, class, transfer_work(x.load, x.word_count())),
-        _ => None,
+        });
+    }
+    match operation.moved() {
+        Some(moved) => transfer_gain(profile, class, transfer_work(moved.load, moved.words)),
+        None => None,
     }
 }
 

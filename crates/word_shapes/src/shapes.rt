@@ -36,7 +36,14 @@ pub fn is_return(operation: &Operation) -> bool
         Operation::DataImmediate(x) => subtracts_from_link(x.opcode, x.rn),
         Operation::SingleImmediate(x) => x.rn.is_stack(),
         Operation::Block(x) => x.rn.is_stack(),
-        _ => false,
+        Operation::Multiply(_)
+        | Operation::DataRegisterShift(_)
+        | Operation::SingleRegister(_)
+        | Operation::Branch(_)
+        | Operation::Swi(_)
+        | Operation::UndefinedTransfer(_)
+        | Operation::CoprocessorTransfer(_)
+        | Operation::Coprocessor(_) => false,
     }
 }
 
@@ -51,24 +58,20 @@ pub fn is_odd_writer(operation: &Operation) -> bool
 pub(crate) fn is_table_jump(operation: &Operation) -> bool
     ensures { result ≡ is_table_jump operation.now }
 {
-    match operation {
-        Operation::DataRegister(x) => {
-            x.opcode.is_add() && x.rn.is_pc() && x.rd.is_pc() && is_lsl_by(2, x)
-        }
-        _ => false,
-    }
+    let Operation::DataRegister(x) = operation else {
+        return false;
+    };
+    x.opcode.is_add() && x.rn.is_pc() && x.rd.is_pc() && is_lsl_by(2, x)
 }
 
 /// Whether an operation keeps the address of the second word after it as the return address: MOV R14,PC.
 pub fn keeps_return_address(operation: &Operation) -> bool
     ensures { result ≡ keeps_return_address operation.now }
 {
-    match operation {
-        Operation::DataRegister(x) => {
-            x.opcode.is_mov() && x.rd.is_link() && x.rm.is_pc() && is_lsl_by(0, x)
-        }
-        _ => false,
-    }
+    let Operation::DataRegister(x) = operation else {
+        return false;
+    };
+    x.opcode.is_mov() && x.rd.is_link() && x.rm.is_pc() && is_lsl_by(0, x)
 }
 
 /// Whether an operation that writes R15 restores the flags with it: data processing with S, or a block
@@ -81,7 +84,14 @@ pub(crate) fn restores_flags(operation: &Operation) -> bool
         Operation::DataRegisterShift(x) => x.sets_flags,
         Operation::DataImmediate(x) => x.sets_flags,
         Operation::Block(x) => x.user,
-        _ => false,
+        Operation::Multiply(_)
+        | Operation::SingleImmediate(_)
+        | Operation::SingleRegister(_)
+        | Operation::Branch(_)
+        | Operation::Swi(_)
+        | Operation::UndefinedTransfer(_)
+        | Operation::CoprocessorTransfer(_)
+        | Operation::Coprocessor(_) => false,
     }
 }
 
@@ -124,7 +134,15 @@ pub fn makes_address(operation: &Operation) -> bool
         }
         Operation::DataRegisterShift(x) => offsets_pc(x.opcode, x.rn, x.rd),
         Operation::DataImmediate(x) => offsets_pc(x.opcode, x.rn, x.rd),
-        _ => false,
+        Operation::Multiply(_)
+        | Operation::SingleImmediate(_)
+        | Operation::SingleRegister(_)
+        | Operation::Block(_)
+        | Operation::Branch(_)
+        | Operation::Swi(_)
+        | Operation::UndefinedTransfer(_)
+        | Operation::CoprocessorTransfer(_)
+        | Operation::Coprocessor(_) => false,
     }
 }
 

@@ -13,11 +13,11 @@ returns-in-DataRegister c =
     rw (c.in-DataRegister.is, c.of_register-in-DataRegister.ensures)
     (copy_sets c.args.aim.now c.in-DataRegister.x
     (subst (λ o. IsTrue (is_free_operation o)) c.in-DataRegister.is c.requires.free)
-    (subst (λ o. writes_pc o ≡ true) c.in-DataRegister.is (sym c.if-writes_pc.ensures)))
+    (subst (λ o. writes_pc o ≡ true) c.in-DataRegister.is (sym c.if-writes_pc.ensures.pc)))
 
 pub returns-in-DataImmediate : goal.returns-in-DataImmediate
 returns-in-DataImmediate c =
     rw (c.in-DataImmediate.is, c.of_register-in-DataImmediate.ensures)
     (sum_sets c.args.aim.now c.in-DataImmediate.x c.addend.result
     (subst (λ o. IsTrue (is_free_operation o)) c.in-DataImmediate.is c.requires.free)
-    (subst (λ o. writes_pc o ≡ true) c.in-DataImmediate.is (sym c.if-writes_pc-2.ensures)) c.addend.ensures)
+    (subst (λ o. writes_pc o ≡ true) c.in-DataImmediate.is (sym c.if-writes_pc-2.ensures.pc)) c.addend.ensures)

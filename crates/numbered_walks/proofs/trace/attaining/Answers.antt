@@ -11,7 +11,7 @@ use Rattle.numbered_walks.proofs.trace.attaining.Goals as goal
 
 pub loop-k-preserved : goal.loop-k-preserved
 loop-k-preserved c =
-    let asks = λ (k : ℕ). needed c.args.graph.spans.now c.args.tables.now (edge_at c.args.graph.edges.now k) ≡ c.args.number in
+    let asks = λ (k : ℕ). needed c.args.graph.spans.now c.args.tables.now (edge_at c.args.graph.edges.now k) ≡ c.args.ticks in
     let group = c.args.group.now in
     let seen = take (c.loop-k.k-index + 1) group in
     elim c.if-needs.branch [
@@ -21,7 +21,7 @@ loop-k-preserved c =
 
 pub returns : goal.returns
 returns c =
-    let asks = λ (k : ℕ). needed c.args.graph.spans.now c.args.tables.now (edge_at c.args.graph.edges.now k) ≡ c.args.number in
+    let asks = λ (k : ℕ). needed c.args.graph.spans.now c.args.tables.now (edge_at c.args.graph.edges.now k) ≡ c.args.ticks in
     subst (λ (l : List ℕ). IsFoundIn asks c.args.group.now l c.loop-k.found) (take_all c.loop-k.k-index c.args.group.now (omega arith)) c.loop-k.invariant
 
 pub needs-requires-clause-known : goal.needs-requires-clause-known

@@ -7,6 +7,6 @@ use Rattle.numbered_walks.proofs.trace.attaining.Given as goal
 abbrev pub invariant-loop-k : goal.invariant-loop-k
 invariant-loop-k l =
     MatchOption l.found
-    (All (λ k. needed l.graph.spans.now l.tables (edge_at l.graph.edges.now k) ≢ l.number)
+    (All (λ k. needed l.graph.spans.now l.tables (edge_at l.graph.edges.now k) ≢ l.ticks)
     (take l.k-index l.group))
-    (λ k. Contains l.group k × (needed l.graph.spans.now l.tables (edge_at l.graph.edges.now k) ≡ l.number))
+    (λ k. Contains l.group k × (needed l.graph.spans.now l.tables (edge_at l.graph.edges.now k) ≡ l.ticks))
