@@ -1,12 +1,16 @@
+mod AskedLemmas
 mod CountedLemmas
+mod CourseLemmas
 mod CrossingLemmas
 mod CycleLemmas
 mod EntryLemmas
 mod ExtentLemmas
-mod LabelRows
 mod NestedLemmas
 mod OutlineLemmas
+mod PlacedLemmas
 mod PlainLemmas
+mod PlainText
 mod RefusedLemmas
+mod RowLemmas
 mod SearchLemmas
 mod TextLaws

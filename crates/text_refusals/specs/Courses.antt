@@ -17,9 +17,13 @@ named_list w =
     else (if bytes_eq w (list_key Targets) then Some Targets
     else (if bytes_eq w (list_key Accesses) then Some Accesses else None))
 
+-- no dot
+abbrev pub is_inner : ℕ → Bool
+is_inner b = not (b == 46)
+
 -- the first part of a key with dots
 abbrev pub key_head : List ℕ → List ℕ
-key_head key = take (prefix_len (λ b. not (b == 46)) key) key
+key_head key = take (prefix_len is_inner key) key
 
 -- the list of which the table is an entry
 abbrev pub entry_list : Table → Option TableList

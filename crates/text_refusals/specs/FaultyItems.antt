@@ -40,7 +40,8 @@ may_be_text depth (Some Bound) = false
 may_be_text depth (Some To) = not (depth == 0)
 may_be_text depth (Some _) = true
 
--- Where a label or a word may be, a text that goes on after its line has no row, whether it is right or wrong.
+-- Where a label or a word may be, a text that goes on after its line has no row, whether it is right or
+-- wrong.
 abbrev pub is_hidden : KeyValue → Bool
 is_hidden p = is_cut p.value && may_be_text p.depth (named_key p.key)
 
@@ -53,6 +54,12 @@ number_if_target Accesses n = None
 abbrev pub target_number : Option (TableList × ℕ) → Option ℕ
 target_number None = None
 target_number (Some e) = number_if_target e.0 e.1
+
+-- the value is of a list's key, and no list
+abbrev pub has_no_list : (Spot → Bool) → KeyValue → Bool
+has_no_list has p =
+    length p.list == 0
+    && (p.depth == 0 && holds_of (λ list. has (NoList list)) (named_list (key_head p.key)))
 
 module _ (has : Spot → Bool) (c : Course) where
   -- a part of the table that the value is in has the fault
@@ -67,11 +74,6 @@ module _ (has : Spot → Bool) (c : Course) where
   -- the value at the key
   abbrev pub has_value : KeyValue → Bool
   has_value p = p.depth == 0 && holds_of (λ key. has_part p (part.Value key)) (named_key (key_head p.key))
-
-  -- the value is of a list's key, and no list
-  abbrev pub has_no_list : KeyValue → Bool
-  has_no_list p =
-      length p.list == 0 && (p.depth == 0 && holds_of (λ list. has (NoList list)) (named_list (key_head p.key)))
 
   -- the value is an entry of a list, and no table
   abbrev pub has_no_table : KeyValue → Bool
@@ -88,9 +90,14 @@ module _ (has : Spot → Bool) (c : Course) where
       not (length p.list == 0)
       && (is_at_key 0 (codes "at") p && holds_of (λ e. has (Second e.0 e.1)) c.entry)
 
+  -- the value is one of a list's
+  abbrev pub is_listed : KeyValue → Bool
+  is_listed p = has_no_table p || (has_destination p || has_second p)
+
+  -- the value has the fault, which is not hidden
+  abbrev pub is_shown : KeyValue → Bool
+  is_shown p = has_value p || (has_no_list has p || is_listed p)
+
   -- the value, or its key, has the fault
   abbrev pub is_faulty : KeyValue → Bool
-  is_faulty p =
-      has_unknown p
-      || (not (is_hidden p)
-      && (has_value p || (has_no_list p || (has_no_table p || (has_destination p || has_second p)))))
+  is_faulty p = has_unknown p || (not (is_hidden p) && is_shown p)

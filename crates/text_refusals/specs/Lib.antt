@@ -7,6 +7,7 @@ pub mod FaultyItems
 pub mod FaultyLines
 pub mod Nested
 pub mod Outline
+pub mod Placed
 pub mod PlainLines
 pub mod Refused
 pub mod Rows

@@ -96,6 +96,16 @@ tables_in list (Begins t ∷ items) =
 tables_in list (States p ∷ items) = tables_in list items
 tables_in list (Ends ∷ items) = tables_in list items
 
+-- the row of a destination that comes after those that its target may have
+abbrev pub extra_destination_row : Option KeyValue → List Row
+extra_destination_row None = []
+extra_destination_row (Some p) =
+    record {
+      line = p.line;
+      text = (value_row p).text ++ codes " comes after the 64 destinations that a target may have";
+    }
+    ∷ []
+
 -- ## Of a table
 
 -- by which spots of the document have the fault
@@ -115,14 +125,19 @@ module _ (has : Spot → Bool) where
       if has (TooManyDestinations n)
       then extra_destination_row (first_after MOST_DESTINATIONS (stated_at 1 (codes "to") items)) else []
 
+  abbrev pub unwanted_rows : ℕ → Table → List Row
+  unwanted_rows n t = row_if (has (Unwanted n)) (table_row t (codes " may have no to") [])
+
   abbrev pub target_rows : ℕ → Table → List Item → List Row
-  target_rows n t items =
-      row_if (has (Unwanted n)) (table_row t (codes " may have no to") []) ++ long_rows n items
+  target_rows n t items = unwanted_rows n t ++ long_rows n items
+
+  abbrev pub misplaced_rows : ℕ → Table → List Row
+  misplaced_rows n t =
+      row_if (has (Misplaced n)) (table_row t (codes " has its header outside first to last") [])
 
   -- what is wrong with an entry of the list, but for its keys
   abbrev pub list_rows : TableList → ℕ → Table → List Item → List Row
-  list_rows Loops n t items =
-      row_if (has (Misplaced n)) (table_row t (codes " has its header outside first to last") [])
+  list_rows Loops n t items = misplaced_rows n t
   list_rows Targets n t items = target_rows n t items
   list_rows Accesses n t items = []
 
@@ -130,14 +145,27 @@ module _ (has : Spot → Bool) where
   abbrev pub entry_rows : TableList → ℕ → Table → List Item → List Row
   entry_rows list n t items = missing_rows list n t all_keys ++ list_rows list n t items
 
+  abbrev pub unknown_rows : Table → List Row
+  unknown_rows t =
+      row_if (has (Own (part.Unknown (lent (key_head t.name)))))
+      (table_row t (codes " is no list of statements") [])
+
+  abbrev pub no_table_rows : Table → List Row
+  no_table_rows t =
+      row_if (holds_of (λ key. has (Own (part.Value key))) (named_key (key_head t.name)))
+      (table_row t (codes " may be no table") [])
+
+  abbrev pub no_list_rows : Table → List Row
+  no_list_rows t =
+      row_if (holds_of (λ list. has (NoList list)) (named_list (key_head t.name)))
+      (table_row t (codes " has to be in double brackets") [])
+
+  abbrev pub value_table_rows : Table → List Row
+  value_table_rows t = no_table_rows t ++ no_list_rows t
+
   -- a table that is no entry of a list stands for a value of the statement
   abbrev pub header_rows : Table → List Row
-  header_rows t =
-      row_if (has (Own (part.Unknown (lent (key_head t.name))))) (table_row t (codes " is no list of statements") [])
-      ++ (row_if (holds_of (λ key. has (Own (part.Value key))) (named_key (key_head t.name)))
-      (table_row t (codes " may be no table") [])
-      ++ row_if (holds_of (λ list. has (NoList list)) (named_list (key_head t.name)))
-      (table_row t (codes " has to be in double brackets") []))
+  header_rows t = unknown_rows t ++ value_table_rows t
 
   abbrev pub rows_of_table : Course → Table → List Item → Option TableList → List Row
   rows_of_table c t items None = header_rows t
@@ -166,7 +194,8 @@ abbrev pub loop_limit : Limit
 loop_limit = record { list = Loops; words = codes " comes after the 256 loops that a statement may have" }
 
 abbrev pub target_limit : Limit
-target_limit = record { list = Targets; words = codes " comes after the 1024 targets that a statement may have" }
+target_limit =
+    record { list = Targets; words = codes " comes after the 1024 targets that a statement may have" }
 
 abbrev pub access_limit : Limit
 access_limit =
@@ -181,19 +210,26 @@ module _ (has : Spot → Bool) where
   abbrev pub extra_row : Limit → List Item → List Row
   extra_row limit items =
       if has (TooMany limit.list)
-      then extra_table_row limit (first_after (most_of limit.list) (tables_in (list_key limit.list) items)) else []
+      then extra_table_row limit (first_after (most_of limit.list) (tables_in (list_key limit.list) items))
+      else []
+
+  abbrev pub extra_rows : List Item → List Row
+  extra_rows items =
+      extra_row loop_limit items ++ (extra_row target_limit items ++ extra_row access_limit items)
 
   -- that there is no entry, and the lists that are too long
   abbrev pub whole_rows : List Item → List Row
   whole_rows items =
-      row_if (has (Own (part.Missing key.Entry))) (record { line = 1; text = codes "the statement has no entry" })
-      ++ (extra_row loop_limit items ++ (extra_row target_limit items ++ extra_row access_limit items))
+      row_if (has (Own (part.Missing key.Entry)))
+      (record { line = 1; text = codes "the statement has no entry" })
+      ++ extra_rows items
 
   abbrev pub all_rows : List Item → List Row
-  all_rows items = whole_rows items ++ rows at_front items
+  all_rows items = whole_rows items ++ rows has at_front items
 
 -- the rows of the text of a document, by where that has the fault
-pub record AreRows (names : NamedAddresses) (text : List ℕ) (fault : StatementFault) (out : List ℕ) : Type 0 where
+pub record AreRows (names : NamedAddresses) (text : List ℕ) (fault : StatementFault)
+    (out : List ℕ) : Type 0 where
   pub members : Members
   pub document : IsDocument text members
   pub has : Spot → Bool

@@ -48,9 +48,9 @@ pub(crate) struct Asked<'a> {
 }
 
 impl Asked<'_> {
-    ghost use Rattle.text_refusals.specs.declared.course.Course.{Course};
     ghost use Rattle.text_refusals.specs.FaultyItems.{has_destination, has_in, has_no_list, has_no_table};
-    ghost use Rattle.text_refusals.specs.FaultyItems.{has_part, has_second, has_unknown, has_value, is_faulty};
+    ghost use Rattle.text_refusals.specs.FaultyItems.{has_part, has_second, has_unknown, has_value};
+    ghost use Rattle.text_refusals.specs.FaultyItems.{is_faulty, is_listed, is_shown};
 
     /// Whether the spot of the document has the fault.
     pub(crate) fn has(&self, spot: Spot<'_>) -> bool
@@ -94,7 +94,7 @@ impl Asked<'_> {
 
     // Whether the value is of a list's key, and no list.
     fn has_no_list(&self, pair: &KeyValue<'_>) -> bool
-        ensures { (c : Course) → result ≡ has_no_list (has_in self.now) c (key_value_of pair.now) }
+        ensures { result ≡ has_no_list (has_in self.now) (key_value_of pair.now) }
     {
         if !pair.list.is_empty() || pair.depth != 0 {
             return false;
@@ -141,6 +141,32 @@ impl Asked<'_> {
         }
     }
 
+    // Whether the value is one of a list's, and has the fault.
+    fn is_listed(&self, course: &Course, pair: &KeyValue<'_>) -> bool
+        ensures { result ≡ is_listed (has_in self.now) course.now (key_value_of pair.now) }
+    {
+        if self.has_no_table(course, pair) {
+            return true;
+        }
+        if self.has_destination(course, pair) {
+            return true;
+        }
+        self.has_second(course, pair)
+    }
+
+    // Whether the value has the fault, which is not hidden.
+    fn is_shown(&self, course: &Course, pair: &KeyValue<'_>) -> bool
+        ensures { result ≡ is_shown (has_in self.now) course.now (key_value_of pair.now) }
+    {
+        if self.has_value(course, pair) {
+            return true;
+        }
+        if self.has_no_list(pair) {
+            return true;
+        }
+        self.is_listed(course, pair)
+    }
+
     /// Whether the value, or its key, has the fault.
     pub(crate) fn is_faulty(&self, course: &Course, pair: &KeyValue<'_>) -> bool
         ensures { result ≡ is_faulty (has_in self.now) course.now (key_value_of pair.now) }
@@ -148,11 +174,6 @@ impl Asked<'_> {
         if self.has_unknown(course, pair) {
             return true;
         }
-        !is_hidden(pair)
-            && (self.has_value(course, pair)
-                || self.has_no_list(pair)
-                || self.has_no_table(course, pair)
-                || self.has_destination(course, pair)
-                || self.has_second(course, pair))
+        !is_hidden(pair) && self.is_shown(course, pair)
     }
 }

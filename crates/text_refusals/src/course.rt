@@ -1,6 +1,9 @@
-ghost use Rattle.std.specs.Prelude.{◌≡◌, ◌<◌};
+ghost use Rattle.std.specs.Prelude.{◌≡◌, ◌≤◌, length};
+ghost use Rattle.std.specs.List.{prefix_len};
 ghost use Rattle.text_refusals.specs.Courses.{HasRoom, after, at_front, begun, counted, entered, entry_list};
-ghost use Rattle.text_refusals.specs.Courses.{is_at_key, is_destination, key_head, named_list, passed, value_list};
+ghost use Rattle.text_refusals.specs.Courses.{is_inner};
+ghost use Rattle.text_refusals.specs.Courses.{is_at_key, is_destination, key_head, named_list, passed};
+ghost use Rattle.text_refusals.specs.Courses.{value_list};
 ghost use Rattle.text_refusals.specs.Outline.{item_of, key_value_of, table_of};
 
 use crate::outline::{Item, KeyValue, Table};
@@ -35,12 +38,24 @@ pub(crate) fn named_list(word: &[u8]) -> Option<TableList>
     None
 }
 
+fn is_inner(byte: u8) -> bool
+    ensures { result ≡ is_inner byte }
+{
+    byte != b'.'
+}
+
+fn head_len(key: &[u8]) -> usize
+    ensures len { result ≡ prefix_len is_inner key.now }
+    ensures within { result ≤ length key.now }
+{
+    key.iter().take_while(|byte| is_inner(**byte)).count()
+}
+
 /// The first part of a key with dots.
 pub(crate) fn key_head(key: &[u8]) -> &[u8]
     ensures { result.now ≡ key_head key.now }
 {
-    let len = key.iter().take_while(|byte| **byte != b'.').count();
-    &key[..len]
+    &key[..head_len(key)]
 }
 
 /// The list of which the table is an entry.

@@ -25,9 +25,7 @@ pub use crossings::{Crossing, loops_that_cross};
 pub use cycles::unbounded_cycle;
 pub use entries::{MidEntry, mid_entry};
 pub use extents::{Extent, extent_of};
-pub use law::{
-    addresses_are_judged_as_stated, most_lines, plain_lines_are_seen, unknown_labels_have_rows,
-};
+pub use law::{most_lines, plain_lines_are_seen, rows_show_faults};
 pub use nested::{DeepPlace, deep_place};
 pub use shared_headers::shared_header;
 pub use sources::{FaultyLine, faulty_lines, faulty_text};

@@ -1,16 +1,19 @@
 ghost use Rattle.std.specs.Prelude.{◌≡◌, ◌≤◌, ◌++◌, ◌∷◌, [], IfOk, OnOk, codes, length, map};
 ghost use Rattle.std.specs.Prelude.{option_map};
 ghost use Rattle.statement.specs.PlaceTests.{holds_of};
-ghost use Rattle.statement.specs.Places.{key_name};
-ghost use Rattle.text_refusals.specs.Courses.{named_list};
-ghost use Rattle.text_refusals.specs.FaultyItems.{has_in};
+ghost use Rattle.statement.specs.Places.{key_name, named_key};
+ghost use Rattle.text_refusals.specs.Courses.{at_front, key_head, named_list};
+ghost use Rattle.text_refusals.specs.FaultyItems.{has_in, lent};
 ghost use Rattle.text_refusals.specs.Outline.{item_of, items_of, key_value_of, table_of, value_of};
-ghost use Rattle.text_refusals.specs.Refused.{Adds, IsStatementText, IsTomlText, IsRowsText, all_rows, entry_rows};
-ghost use Rattle.text_refusals.specs.Refused.{extra_destination_rows, extra_row, feeds, first_after};
+ghost use Rattle.text_refusals.specs.Refused.{Adds, IsRowsText, IsStatementText, IsTomlText, all_rows};
+ghost use Rattle.text_refusals.specs.Refused.{entry_rows, extra_destination_row, missing_row, target_rows};
+ghost use Rattle.text_refusals.specs.Refused.{extra_row, extra_rows, feeds, first_after};
 ghost use Rattle.text_refusals.specs.Refused.{header_rows, item_rows, limit_of, list_rows, missing_rows};
 ghost use Rattle.text_refusals.specs.Refused.{name_text, row_if, row_text, rows, shown, stated_at};
 ghost use Rattle.text_refusals.specs.Refused.{table_row, table_rows, tables_in, toml_row, toml_row_at};
-ghost use Rattle.text_refusals.specs.Refused.{value_row, value_text, whole_rows};
+ghost use Rattle.text_refusals.specs.Refused.{long_rows, misplaced_rows, no_list_rows, no_table_rows};
+ghost use Rattle.text_refusals.specs.Refused.{unknown_rows, unwanted_rows, value_row, value_table_rows};
+ghost use Rattle.text_refusals.specs.Refused.{value_text, whole_rows};
 
 use crate::asked::Asked;
 use crate::course::{Course, entry_list, is_at_key, key_head, named_list};
@@ -19,8 +22,8 @@ use crate::rows::{MOST_LINES, around_number};
 use crate::tokens::Value;
 use image::Labels;
 use statement::{
-    Document, KEYS, Key, MOST_DESTINATIONS, Part, Spot, StatementFault, TableList, key_name, list_key,
-    most_of, named_key,
+    Document, KEYS, Key, MOST_DESTINATIONS, Part, Spot, StatementFault, TableList, key_name,
+    list_key, most_of, named_key,
 };
 use std::alloc::{AllocError, Global};
 use text_rows::{put, put_decimal};
@@ -226,28 +229,12 @@ impl Report {
     }
 
     // Adds what is said of a table.
-    fn put_table(
-        &mut self,
-        table: &Table<'_>,
-        words: &[u8],
-        key: &[u8],
-    ) -> Result<(), AllocError>
+    fn put_table(&mut self, table: &Table<'_>, words: &[u8], key: &[u8]) -> Result<(), AllocError>
         ensures { OnOk result
             (Adds (table_row (table_of table.now) words.now key.now ∷ []) self.old self.new) }
     {
         let text = table_text(self.alloc, table, words, key)?;
         self.put_row(table.line, &text)
-    }
-
-    // Adds what is said of a table, where it holds.
-    fn put_if(&mut self, holds: bool, table: &Table<'_>, words: &[u8]) -> Result<(), AllocError>
-        ensures { OnOk result
-            (Adds (row_if holds (table_row (table_of table.now) words.now [])) self.old self.new) }
-    {
-        if holds {
-            return self.put_table(table, words, b"");
-        }
-        Ok(())
     }
 
     // Adds that an entry of a list has no such key, where that is a fault.
@@ -258,8 +245,8 @@ impl Report {
         key: Key,
     ) -> Result<(), AllocError>
         ensures { OnOk result
-            (Adds (missing_row (has_in asked.now) entry.now.list entry.now.index (table_of entry.now.table.now)
-            key) self.old self.new) }
+            (Adds (missing_row (has_in asked.now) entry.now.list entry.now.index
+            (table_of entry.now.table.now) key) self.old self.new) }
     {
         if asked.has(Spot::Listed(entry.list, entry.index, Part::Missing(key))) {
             return self.put_table(entry.table, b" has no ", key_name(key).as_bytes());
@@ -301,6 +288,35 @@ impl Report {
         self.put_row(pair.line, &text)
     }
 
+    // Adds that a target has destinations and may have none.
+    fn put_if_unwanted(&mut self, asked: &Asked<'_>, entry: &Entry<'_>) -> Result<(), AllocError>
+        ensures { OnOk result
+            (Adds (unwanted_rows (has_in asked.now) entry.now.index (table_of entry.now.table.now))
+            self.old self.new) }
+    {
+        if asked.has(Spot::Unwanted(entry.index)) {
+            return self.put_table(entry.table, b" may have no to", b"");
+        }
+        Ok(())
+    }
+
+    // Adds that a target has more destinations than it may have.
+    fn put_if_too_long(
+        &mut self,
+        asked: &Asked<'_>,
+        entry: &Entry<'_>,
+        rest: &[Item<'_>],
+    ) -> Result<(), AllocError>
+        ensures { OnOk result
+            (Adds (long_rows (has_in asked.now) entry.now.index (map item_of rest.now))
+            self.old self.new) }
+    {
+        if asked.has(Spot::TooManyDestinations(entry.index)) {
+            return self.put_extra_destination(rest);
+        }
+        Ok(())
+    }
+
     // Adds what is wrong with a target, but for its keys.
     #[tactic(auto, using(crate::proofs::RefusedLemmas::adds_both))]
     fn put_of_target(
@@ -313,10 +329,19 @@ impl Report {
             (Adds (target_rows (has_in asked.now) entry.now.index (table_of entry.now.table.now)
             (map item_of rest.now)) self.old self.new) }
     {
-        let unwanted = asked.has(Spot::Unwanted(entry.index));
-        self.put_if(unwanted, entry.table, b" may have no to")?;
-        if asked.has(Spot::TooManyDestinations(entry.index)) {
-            return self.put_extra_destination(rest);
+        self.put_if_unwanted(asked, entry)?;
+        self.put_if_too_long(asked, entry, rest)
+    }
+
+    // Adds that the header of a loop lies outside it.
+    fn put_if_misplaced(&mut self, asked: &Asked<'_>, entry: &Entry<'_>) -> Result<(), AllocError>
+        ensures { OnOk result
+            (Adds (misplaced_rows (has_in asked.now) entry.now.index (table_of entry.now.table.now))
+            self.old self.new) }
+    {
+        if asked.has(Spot::Misplaced(entry.index)) {
+            let words = b" has its header outside first to last";
+            return self.put_table(entry.table, words, b"");
         }
         Ok(())
     }
@@ -333,11 +358,7 @@ impl Report {
             (table_of entry.now.table.now) (map item_of rest.now)) self.old self.new) }
     {
         match entry.list {
-            TableList::Loops => {
-                let misplaced = asked.has(Spot::Misplaced(entry.index));
-                let words = b" has its header outside first to last";
-                self.put_if(misplaced, entry.table, words)
-            }
+            TableList::Loops => self.put_if_misplaced(asked, entry),
             TableList::Targets => self.put_of_target(asked, entry, rest),
             TableList::Accesses => Ok(()),
         }
@@ -359,17 +380,54 @@ impl Report {
         self.put_of_list(asked, entry, rest)
     }
 
+    fn put_if_unknown(&mut self, asked: &Asked<'_>, table: &Table<'_>) -> Result<(), AllocError>
+        ensures { OnOk result
+            (Adds (unknown_rows (has_in asked.now) (table_of table.now)) self.old self.new) }
+    {
+        if has_unknown(asked, table) {
+            return self.put_table(table, b" is no list of statements", b"");
+        }
+        Ok(())
+    }
+
+    fn put_if_no_table(&mut self, asked: &Asked<'_>, table: &Table<'_>) -> Result<(), AllocError>
+        ensures { OnOk result
+            (Adds (no_table_rows (has_in asked.now) (table_of table.now)) self.old self.new) }
+    {
+        if has_key(asked, table) {
+            return self.put_table(table, b" may be no table", b"");
+        }
+        Ok(())
+    }
+
+    fn put_if_no_list(&mut self, asked: &Asked<'_>, table: &Table<'_>) -> Result<(), AllocError>
+        ensures { OnOk result
+            (Adds (no_list_rows (has_in asked.now) (table_of table.now)) self.old self.new) }
+    {
+        if has_list(asked, table) {
+            return self.put_table(table, b" has to be in double brackets", b"");
+        }
+        Ok(())
+    }
+
+    // Adds that a table stands for a value that is none.
+    #[tactic(auto, using(crate::proofs::RefusedLemmas::adds_both))]
+    fn put_if_table(&mut self, asked: &Asked<'_>, table: &Table<'_>) -> Result<(), AllocError>
+        ensures { OnOk result
+            (Adds (value_table_rows (has_in asked.now) (table_of table.now)) self.old self.new) }
+    {
+        self.put_if_no_table(asked, table)?;
+        self.put_if_no_list(asked, table)
+    }
+
     // Adds what is wrong with a table that is no entry of a list.
     #[tactic(auto, using(crate::proofs::RefusedLemmas::adds_both))]
     fn put_of_header(&mut self, asked: &Asked<'_>, table: &Table<'_>) -> Result<(), AllocError>
         ensures { OnOk result
             (Adds (header_rows (has_in asked.now) (table_of table.now)) self.old self.new) }
     {
-        let name = key_head(table.name);
-        let unknown = asked.has(Spot::Own(Part::Unknown(name)));
-        self.put_if(unknown, table, b" is no list of statements")?;
-        self.put_if(has_key(asked, name), table, b" may be no table")?;
-        self.put_if(has_list(asked, name), table, b" has to be in double brackets")
+        self.put_if_unknown(asked, table)?;
+        self.put_if_table(asked, table)
     }
 
     // Adds what is wrong with a table.
@@ -439,10 +497,10 @@ impl Report {
         &mut self,
         asked: &Asked<'_>,
         items: &[Item<'_>],
-        limit: Limit,
+        limit: &Limit,
     ) -> Result<(), AllocError>
         ensures { OnOk result
-            (Adds (extra_row (has_in asked.now) (limit_of limit.entry) (map item_of items.now))
+            (Adds (extra_row (has_in asked.now) (limit_of limit.now) (map item_of items.now))
             self.old self.new) }
     {
         if !asked.has(Spot::TooMany(limit.list)) {
@@ -454,34 +512,55 @@ impl Report {
         }
     }
 
+    // Adds of each list that is too long the first table after those that there may be.
+    fn put_extra_tables(&mut self, asked: &Asked<'_>, items: &[Item<'_>]) -> Result<(), AllocError>
+        ensures { OnOk result
+            (Adds (extra_rows (has_in asked.now) (map item_of items.now)) self.old self.new) }
+    {
+        self.put_if_too_many(asked, items, &LOOPS)?;
+        self.put_if_too_many(asked, items, &TARGETS)?;
+        self.put_if_too_many(asked, items, &ACCESSES)
+    }
+
     // Adds what is wrong with the whole.
+    #[tactic(auto, using(crate::proofs::RefusedLemmas::adds_both))]
     fn put_of_whole(&mut self, asked: &Asked<'_>, items: &[Item<'_>]) -> Result<(), AllocError>
         ensures { OnOk result
             (Adds (whole_rows (has_in asked.now) (map item_of items.now)) self.old self.new) }
     {
         let no_entry = asked.has(Spot::Own(Part::Missing(Key::Entry)));
         self.put_row_if(no_entry, 1, NO_ENTRY)?;
-        self.put_if_too_many(asked, items, LOOPS)?;
-        self.put_if_too_many(asked, items, TARGETS)?;
-        self.put_if_too_many(asked, items, ACCESSES)
+        self.put_extra_tables(asked, items)
     }
 }
 
-// Whether what is at the key of that name has the fault.
-fn has_key(asked: &Asked<'_>, name: &[u8]) -> bool
-    ensures { result ≡ holds_of (λ key. has_in asked.now (Spot.Own (Part.Value key))) (named_key name.now) }
+// Whether the statement may not have the key that the table stands for.
+fn has_unknown(asked: &Asked<'_>, table: &Table<'_>) -> bool
+    ensures { result
+        ≡ has_in asked.now (Spot.Own (Part.Unknown (lent (key_head (table_of table.now).name)))) }
 {
-    match named_key(name) {
+    asked.has(Spot::Own(Part::Unknown(key_head(table.name))))
+}
+
+// Whether the table stands for a value that has the fault.
+fn has_key(asked: &Asked<'_>, table: &Table<'_>) -> bool
+    ensures { result
+        ≡ holds_of (λ key. has_in asked.now (Spot.Own (Part.Value key)))
+        (named_key (key_head (table_of table.now).name)) }
+{
+    match named_key(key_head(table.name)) {
         Some(key) => asked.has(Spot::Own(Part::Value(key))),
         None => false,
     }
 }
 
-// Whether what is at the key of the list of that name is no list.
-fn has_list(asked: &Asked<'_>, name: &[u8]) -> bool
-    ensures { result ≡ holds_of (λ list. has_in asked.now (Spot.NoList list)) (named_list name.now) }
+// Whether the table stands for a list, which it is not.
+fn has_list(asked: &Asked<'_>, table: &Table<'_>) -> bool
+    ensures { result
+        ≡ holds_of (λ list. has_in asked.now (Spot.NoList list))
+        (named_list (key_head (table_of table.now).name)) }
 {
-    match named_list(name) {
+    match named_list(key_head(table.name)) {
         Some(list) => asked.has(Spot::NoList(list)),
         None => false,
     }
