@@ -3,7 +3,7 @@ use Rattle.std.proofs.Common.{◌≡◌, ◌<◌, ◌⊎◌, ◌==◌, ◌&&◌,
 use Rattle.std.specs.Prelude.{Contains, codes, if◌then◌else◌}
 use Rattle.std.proofs.lemmas.Bool.{and_parts, cases_Bool, false≢true}
 use Rattle.std.proofs.lemmas.List.Elements.{Contains-append_cases}
-use Rattle.std.proofs.lemmas.Option.{none-some}
+use Rattle.std.proofs.lemmas.Option.{none-some, same_Some}
 use Rattle.statement.specs.PlaceTests.{holds_of}
 use Rattle.statement.specs.Places.{all_keys, key_name, list_key, most_of, named_key}
 use Rattle.statement.specs.declared.entries.TheConstants.{MOST_DESTINATIONS}
@@ -62,10 +62,7 @@ in_if false row r h = absurd (in_none r h)
 
 first_in : {A : Type 0} (most : ℕ) (xs : List A) (x : A) → first_after most xs ≡ Some x → Contains xs x
 first_in zero [] x e = absurd (none-some x e)
-first_in zero (y ∷ xs) x e = subst (λ z. Contains (y ∷ xs) z) (same y x e) (in_head y xs)
-  where
-    same : (y x : _) → Some y ≡ Some x → y ≡ x
-    same y x e = cc
+first_in zero (y ∷ xs) x e = subst (Contains (y ∷ xs)) (same_Some y x e) (in_head y xs)
 first_in (suc most) [] x e = absurd (none-some x e)
 first_in (suc most) (y ∷ xs) x e = in_tail y x xs (first_in most xs x e)
 
@@ -86,7 +83,7 @@ stated_in (States q ∷ items) depth key p h = by_test (is_at_key depth key q) h
 target_of : (o : Option (TableList × ℕ)) (n : ℕ) → target_number o ≡ Some n → o ≡ Some (Targets, n)
 target_of None n e = absurd (none-some n e)
 target_of (Some (Loops, m)) n e = absurd (none-some n e)
-target_of (Some (Targets, m)) n e = let same : m ≡ n = cc in ap (λ k. Some (Targets, k)) same
+target_of (Some (Targets, m)) n e = ap (λ k. Some (Targets, k)) (same_Some m n e)
 target_of (Some (Accesses, m)) n e = absurd (none-some n e)
 
 module _ (has : Spot → Bool) where
