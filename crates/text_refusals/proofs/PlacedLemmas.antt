@@ -8,11 +8,13 @@ use Rattle.std.proofs.lemmas.List.Elements.{Contains-append_left, Contains-appen
 use Rattle.std.proofs.lemmas.Option.{none-some}
 use Rattle.toml.specs.Data.{Data, Members, as_table, get_member}
 use Rattle.toml_reading.specs.Documents.{is_one_of, items_at}
-use Rattle.toml_reading.specs.Lowest.{AtKey, entries_at}
+use Rattle.toml_reading.specs.Lowest.{AtKey, NameFault, entries_at}
 use Rattle.toml_reading.proofs.LowestParts.{some_weaker}
 use Rattle.image.specs.Labels.{NamedAddresses, address_of}
 use Rattle.statement.specs.PlaceTests.{holds_of}
 use Rattle.statement.proofs.SpotLemmas.{fault_spot}
+use Rattle.statement.specs.Statement.{named_class, named_returns}
+use Rattle.statement.specs.StatementFaults.{statement_faults}
 use Rattle.statement.specs.StatementRules.{AddressFault, HasFault, IsAddress, IsAt, IsMisplaced}
 use Rattle.statement.specs.Places.{DestinationFault, GoesOn, InTable, IsFaultAt, IsRepeatAt, PartFault, all_keys, key_name, keys_of, list_key, most_of, named_key}
 use Rattle.statement.specs.declared.faults.StatementFault.{StatementFault}
@@ -308,15 +310,15 @@ module _ (names : NamedAddresses) (ms : Members) (f : StatementFault) (has : Spo
     whole_row : HasRow (whole_rows has items) → HasRow (all_rows has items)
     whole_row h = in_first (whole_rows has items) (rows has at_front items) h
 
-    no_key : {P : Data → Type 0} (o : Option Data) → o ≡ None → IsSomeAnd o P → ⊥
-    no_key None e h = h
-    no_key (Some d) e h = none-some d (sym e)
+    no_key : (P : Data → Type 0) (o : Option Data) → o ≡ None → IsSomeAnd o P → ⊥
+    no_key P None e h = h
+    no_key P (Some d) e h = none-some d (sym e)
 
     own_missing : (k : Key) → At (spot.Own (Missing k)) → HasRow (all_rows has items)
     own_missing key.Entry h =
         whole_row (in_first _ (extra_rows has items) (row_of_if (has (spot.Own (Missing key.Entry))) _ (found (spot.Own (Missing key.Entry)) h)))
-    own_missing key.Leave h = absurd (no_key (get_member (codes "leave") ms) h.0 h.1)
-    own_missing key.Returns h = absurd (no_key (get_member (codes "returns") ms) h.0 h.1)
+    own_missing key.Leave h = absurd (no_key (λ d. NameFault statement_faults named_class d f) (get_member (codes "leave") ms) h.0 h.1)
+    own_missing key.Returns h = absurd (no_key (λ d. NameFault statement_faults named_returns d f) (get_member (codes "returns") ms) h.0 h.1)
     own_missing _ h = absurd h.1
 
     dest_there :

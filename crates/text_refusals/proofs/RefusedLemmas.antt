@@ -53,7 +53,7 @@ full old left xs ys is = ap (λ t. old ++ t) (ap (λ n. shown n xs) is ∙ (no_r
 pub adds_first : (rows rest whole : List Row) (a b : Report) → Adds rows a b → whole ≡ rows ++ rest → (more : List Row) → b.text.items ++ shown b.left (rest ++ more) ≡ a.text.items ++ shown a.left (whole ++ more)
 adds_first rows rest whole a b adds is more = adds.same (rest ++ more) ∙ ap (λ r. a.text.items ++ shown a.left r) (sym (append_assoc rows rest more) ∙ ap (λ w. w ++ more) (sym is))
 
-one_row : (has : Spot → Bool) (c : Course) (i : Item) (items : List Item) → rows has c (i ∷ items) ≡ item_rows has c i items ++ rows has (after c i) items
+pub one_row : (has : Spot → Bool) (c : Course) (i : Item) (items : List Item) → rows has c (i ∷ items) ≡ item_rows has c i items ++ rows has (after c i) items
 unfolding rows
 one_row has c i items = refl
 
