@@ -4,7 +4,8 @@ use Rattle.std.specs.Str.{bytes_eq}
 use Rattle.std.proofs.lemmas.Bool.{not-false}
 use Rattle.std.proofs.lemmas.List.{drop_more}
 use Rattle.text_refusals.specs.Outline.{Begins, Item, KeyValue, States, Table, item_of}
-use Rattle.text_refusals.specs.Refused.{first_after, is_at_key, tables_in, stated_at}
+use Rattle.text_refusals.specs.Courses.{is_at_key}
+use Rattle.text_refusals.specs.Refused.{first_after, tables_in, stated_at}
 use Rattle.text_refusals.specs.declared.outline.Item.{Item as CodeItem}
 
 -- the first after one fewer of the rest

@@ -1,9 +1,11 @@
 -- Rows one after another.
 use Rattle.std.proofs.Common.{◌≡◌, ◌<◌, ◌-◌, ◌+◌, ◌++◌, zero, suc, ℕ, Bool, List, [], ◌∷◌, length, get_or, drop, map, refl, sym, ap, ◌∙◌, append_assoc, append-nil, arith}
 use Rattle.std.proofs.lemmas.List.{drop_more}
-use Rattle.image.specs.Labels.{NamedAddresses}
+use Rattle.statement.specs.declared.spots.Spot.{Spot}
+use Rattle.text_refusals.specs.Courses.{after}
 use Rattle.text_refusals.specs.Outline.{Item, item_of}
-use Rattle.text_refusals.specs.Refused.{Adds, Row, is_twice, item_row_if, row_text, shown, twice_rows}
+use Rattle.text_refusals.specs.Refused.{Adds, Row, item_rows, row_text, rows, shown}
+use Rattle.text_refusals.specs.declared.course.Course.{Course}
 use Rattle.text_refusals.specs.declared.outline.Item.{Item as CodeItem}
 use Rattle.text_refusals.specs.declared.statements.Report.{Report}
 
@@ -51,15 +53,17 @@ full old left xs ys is = ap (λ t. old ++ t) (ap (λ n. shown n xs) is ∙ (no_r
 pub adds_first : (rows rest whole : List Row) (a b : Report) → Adds rows a b → whole ≡ rows ++ rest → (more : List Row) → b.text.items ++ shown b.left (rest ++ more) ≡ a.text.items ++ shown a.left (whole ++ more)
 adds_first rows rest whole a b adds is more = adds.same (rest ++ more) ∙ ap (λ r. a.text.items ++ shown a.left r) (sym (append_assoc rows rest more) ∙ ap (λ w. w ++ more) (sym is))
 
-one_row : (names : NamedAddresses) (before items : List Item) (i : Item) → twice_rows names before (i ∷ items) ≡ item_row_if (is_twice names before i) i ++ twice_rows names (i ∷ before) items
-unfolding twice_rows
-one_row names before items i = refl
+pub one_row : (has : Spot → Bool) (c : Course) (i : Item) (items : List Item) → rows has c (i ∷ items) ≡ item_rows has c i items ++ rows has (after c i) items
+unfolding rows
+one_row has c i items = refl
 
--- the row of the item at an index, if an earlier one has its address
-pub twice_more : (names : NamedAddresses) (before : List Item) (items : List CodeItem) (k : ℕ) (d : CodeItem) (holds : Bool) → k < length items → holds ≡ is_twice names before (item_of (get_or items k d))
-    → twice_rows names before (map item_of (drop k items)) ≡ item_row_if holds (item_of (get_or items k d)) ++ twice_rows names (item_of (get_or items k d) ∷ before) (map item_of (drop (k + 1) items))
-twice_more names before items k d holds inside is_among =
-    let i = item_of (get_or items k d) in
-    let rest = map item_of (drop (k + 1) items) in
-    ap (λ (es : List CodeItem). twice_rows names before (map item_of es)) (drop_more items k d inside)
-    ∙ (one_row names before rest i ∙ ap (λ b. item_row_if b i ++ twice_rows names (i ∷ before) rest) (sym is_among))
+-- the rows of the item at an index, and of those that follow
+pub rows_more : (has : Spot → Bool) (c : Course) (items : List CodeItem) (k : ℕ) (d : CodeItem) → k < length items
+    → rows has c (map item_of (drop k items)) ≡ item_rows has c (item_of (get_or items k d)) (map item_of (drop (k + 1) items)) ++ rows has (after c (item_of (get_or items k d))) (map item_of (drop (k + 1) items))
+rows_more has c items k d inside =
+    ap (λ (es : List CodeItem). rows has c (map item_of es)) (drop_more items k d inside)
+    ∙ one_row has c (item_of (get_or items k d)) (map item_of (drop (k + 1) items))
+
+pub no_items : (has : Spot → Bool) (c : Course) → rows has c [] ≡ []
+unfolding rows
+no_items has c = refl

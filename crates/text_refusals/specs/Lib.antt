@@ -1,12 +1,13 @@
+pub mod Courses
 pub mod Crossings
 pub mod Cycles
 pub mod Entries
 pub mod Extents
+pub mod FaultyItems
 pub mod FaultyLines
-pub mod Integers
-pub mod Judged
 pub mod Nested
 pub mod Outline
+pub mod Placed
 pub mod PlainLines
 pub mod Refused
 pub mod Rows

@@ -1,12 +1,14 @@
-ghost use Rattle.std.specs.Prelude.{◌≡◌, ℕ, [], List, Contains, true};
-ghost use Rattle.toml.specs.Data.{Data, Members};
+ghost use Rattle.std.specs.Prelude.{◌≡◌, ◌↔◌, [], Bool, Contains, List, true};
+ghost use Rattle.toml.specs.Data.{Members};
 ghost use Rattle.image.specs.Labels.{NamedAddresses, address_of};
+ghost use Rattle.statement.specs.Places.{IsFaultAt};
 ghost use Rattle.statement.specs.StatementRules.{HasFault};
-ghost use Rattle.statement.specs.declared.faults.StatementFault.TheVariants.{UnknownLabel};
-ghost use Rattle.text_refusals.specs.Judged.{AreOf, IsJudgedAs, Spells, a_document, a_text};
-ghost use Rattle.text_refusals.specs.Outline.{KeyValue, States, items_of};
+ghost use Rattle.statement.specs.declared.faults.StatementFault.{StatementFault};
+ghost use Rattle.statement.specs.declared.spots.Spot.{Spot};
+ghost use Rattle.text_refusals.specs.Outline.{Item, items_of};
+ghost use Rattle.text_refusals.specs.Placed.{AreOf, IsRowOf, a_document, a_text};
 ghost use Rattle.text_refusals.specs.PlainLines.{ArePlain, PlainLine, items_from, lines_text};
-ghost use Rattle.text_refusals.specs.Refused.{all_rows, is_unknown_label, takes_address, value_row};
+ghost use Rattle.text_refusals.specs.Refused.{Row, all_rows};
 
 use crate::rows::MOST_LINES;
 
@@ -18,21 +20,18 @@ pub fn plain_lines_are_seen()
         → items_of (lines_text lines) ≡ items_from 1 [] lines }
 {}
 
-/// States that the tests of rows judge a value in the place of an address as the rules of statements judge the
-/// data that it spells. It does nothing.
-pub fn addresses_are_judged_as_stated()
-    ensures { (labels : NamedAddresses) (p : KeyValue) (d : Data) → takes_address p.key ≡ true
-        → Spells p.value d → IsJudgedAs labels p d }
-{}
-
-/// States that an unknown label has a row: where a document has one, and what it has is what the items of the
-/// text spell, some value of the text is a text in the place of an address that is no label, and has a row.
-/// Some document is what the items of plain lines spell. It does nothing.
-pub fn unknown_labels_have_rows()
-    ensures rows { (labels : NamedAddresses) (text : List ℕ) (ms : Members) → AreOf (items_of text) ms
-        → HasFault (address_of labels) ms UnknownLabel
-        → (p : KeyValue) × Contains (items_of text) (States p) × (is_unknown_label labels p ≡ true)
-        × Contains (all_rows labels UnknownLabel (items_of text)) (value_row p) }
+/// States which rows there are, by the spots at which a document has a fault: each row is of such a spot, on
+/// the line of an item of the text that shows it; and where the document has the fault, and is that of the
+/// items, as it is for plain lines, there is a row. Some document is that of a plain line. It does nothing.
+pub fn rows_show_faults()
+    ensures spots { (names : NamedAddresses) (ms : Members) (fault : StatementFault) (has : Spot → Bool)
+        (items : List Item) → ((s : Spot) → has s ≡ true ↔ IsFaultAt (address_of names) ms s fault)
+        → (row : Row) → Contains (all_rows has items) row
+        → (s : Spot) × IsFaultAt (address_of names) ms s fault × IsRowOf items row s }
+    ensures rows { (names : NamedAddresses) (ms : Members) (fault : StatementFault) (has : Spot → Bool)
+        (items : List Item) → ((s : Spot) → has s ≡ true ↔ IsFaultAt (address_of names) ms s fault)
+        → AreOf items ms → HasFault (address_of names) ms fault
+        → (row : Row) × Contains (all_rows has items) row }
     ensures some { AreOf (items_from 1 [] a_text) a_document }
 {}
 

@@ -2,16 +2,16 @@
 //! elsewhere than at its header, how a place without edges is reached, and where these are in the source.
 #![tactic(auto)]
 
+mod asked;
+mod course;
 mod crossings;
 mod cycles;
 mod entries;
 mod extents;
-mod integers;
 mod law;
 mod members;
 mod nested;
 mod outline;
-mod repeats;
 mod rows;
 mod search;
 mod shared_headers;
@@ -19,16 +19,13 @@ mod sources;
 mod statements;
 mod texts;
 mod tokens;
-mod values;
 mod words;
 
 pub use crossings::{Crossing, loops_that_cross};
 pub use cycles::unbounded_cycle;
 pub use entries::{MidEntry, mid_entry};
 pub use extents::{Extent, extent_of};
-pub use law::{
-    addresses_are_judged_as_stated, most_lines, plain_lines_are_seen, unknown_labels_have_rows,
-};
+pub use law::{most_lines, plain_lines_are_seen, rows_show_faults};
 pub use nested::{DeepPlace, deep_place};
 pub use shared_headers::shared_header;
 pub use sources::{FaultyLine, faulty_lines, faulty_text};

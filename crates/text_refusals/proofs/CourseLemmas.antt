@@ -1,0 +1,84 @@
+-- No more entries have begun than items were passed.
+use Rattle.std.proofs.Common.{◌≤◌, ◌<◌, ◌+◌, ◌≡◌, ℕ, Bool, true, false, Option, Some, None, cond, arith, rules}
+use Rattle.statement.specs.declared.spots.TableList.{TableList}
+use Rattle.statement.specs.declared.spots.TableList.TheVariants.{Loops, Targets, Accesses}
+use Rattle.text_refusals.specs.Courses.{HasRoom, after, at_front, counted, counted_if, entered, entry_list, is_destination, passed, value_list}
+use Rattle.text_refusals.specs.Outline.{Begins, Ends, Item, KeyValue, States}
+use Rattle.text_refusals.specs.declared.course.Course.{Course}
+
+pub record IsUpTo (n : ℕ) (c : Course) : Type 0 where
+  pub loops : c.loops ≤ n
+  pub targets : c.targets ≤ n
+  pub accesses : c.accesses ≤ n
+  pub destinations : c.destinations ≤ n
+
+pub none_passed : IsUpTo 0 at_front
+none_passed = record { loops = omega arith; targets = omega arith; accesses = omega arith; destinations = omega arith }
+
+pub has_room : (n : ℕ) (c : Course) → IsUpTo n c → n + 1 < 18446744073709551616 → HasRoom c
+has_room n c h low = record {
+  loops = omega (arith, h.loops, low);
+  targets = omega (arith, h.targets, low);
+  accesses = omega (arith, h.accesses, low);
+  destinations = omega (arith, h.destinations, low);
+}
+
+more : (n : ℕ) (c : Course) → IsUpTo n c → IsUpTo (n + 1) c
+more n c h = record {
+  loops = omega (arith, h.loops);
+  targets = omega (arith, h.targets);
+  accesses = omega (arith, h.accesses);
+  destinations = omega (arith, h.destinations);
+}
+
+counted_up_to : (n : ℕ) (c : Course) (list : TableList) → IsUpTo n c → IsUpTo (n + 1) (counted list c)
+counted_up_to n c Loops h = record {
+  loops = omega (arith, h.loops);
+  targets = omega (arith, h.targets);
+  accesses = omega (arith, h.accesses);
+  destinations = omega (arith, h.destinations);
+}
+counted_up_to n c Targets h = record {
+  loops = omega (arith, h.loops);
+  targets = omega (arith, h.targets);
+  accesses = omega (arith, h.accesses);
+  destinations = omega (arith, h.destinations);
+}
+counted_up_to n c Accesses h = record {
+  loops = omega (arith, h.loops);
+  targets = omega (arith, h.targets);
+  accesses = omega (arith, h.accesses);
+  destinations = omega (arith, h.destinations);
+}
+
+counted_if_up_to : (n : ℕ) (c : Course) (list : Option TableList) → IsUpTo n c → IsUpTo (n + 1) (counted_if list c)
+counted_if_up_to n c None h = more n c h
+counted_if_up_to n c (Some list) h = counted_up_to n c list h
+
+entered_up_to : (n : ℕ) (c : Course) (list : Option TableList) → IsUpTo n c → IsUpTo (n + 1) (entered list c)
+entered_up_to n c None h = record {
+  loops = omega (arith, h.loops);
+  targets = omega (arith, h.targets);
+  accesses = omega (arith, h.accesses);
+  destinations = omega arith;
+}
+entered_up_to n c (Some list) h =
+    let up = counted_up_to n c list h in
+    record { loops = up.loops; targets = up.targets; accesses = up.accesses; destinations = omega arith }
+
+passed_up_to : (n : ℕ) (c : Course) (p : KeyValue) → IsUpTo n c → IsUpTo (n + 1) (passed p c)
+passed_up_to n c p h = by_test (is_destination p)
+  where
+    by_test : (b : Bool) → IsUpTo (n + 1) (cond b (record c { destinations = c.destinations + 1 }) (counted_if (value_list p) c))
+    by_test true = record {
+      loops = omega (arith, h.loops);
+      targets = omega (arith, h.targets);
+      accesses = omega (arith, h.accesses);
+      destinations = omega (arith, h.destinations);
+    }
+    by_test false = counted_if_up_to n c (value_list p) h
+
+pub after_up_to : (n : ℕ) (c : Course) (i : Item) → IsUpTo n c → IsUpTo (n + 1) (after c i)
+after_up_to n c (Begins t) h = entered_up_to n c (entry_list t) h
+after_up_to n c (States p) h = passed_up_to n c p h
+after_up_to n c Ends h = more n c h

@@ -1,0 +1,85 @@
+-- Where in its document each item of a statement's text is: of which entry of which list, and which of its
+-- destinations, by the tables and values before it.
+use Rattle.std.specs.Prelude.{◌==◌, ◌&&◌, ◌+◌, ◌<◌, not, ℕ, Bool, List, [], ◌∷◌, codes, length, take}
+use Rattle.std.specs.Prelude.{Option, Some, None, if◌then◌else◌}
+use Rattle.std.specs.List.{prefix_len}
+use Rattle.std.specs.Str.{bytes_eq}
+use Rattle.statement.specs.Places.{list_key}
+use Rattle.statement.specs.declared.spots.TableList.{TableList}
+use Rattle.statement.specs.declared.spots.TableList.TheVariants.{Loops, Targets, Accesses}
+use Rattle.text_refusals.specs.Outline.{Begins, Ends, Item, KeyValue, States, Table}
+use Rattle.text_refusals.specs.declared.course.Course.{Course}
+
+-- the list that a word names
+abbrev pub named_list : List ℕ → Option TableList
+named_list w =
+    if bytes_eq w (list_key Loops) then Some Loops
+    else (if bytes_eq w (list_key Targets) then Some Targets
+    else (if bytes_eq w (list_key Accesses) then Some Accesses else None))
+
+-- no dot
+abbrev pub is_inner : ℕ → Bool
+is_inner b = not (b == 46)
+
+-- the first part of a key with dots
+abbrev pub key_head : List ℕ → List ℕ
+key_head key = take (prefix_len is_inner key) key
+
+-- the list of which the table is an entry
+abbrev pub entry_list : Table → Option TableList
+entry_list t = if t.is_listed then named_list t.name else None
+
+-- in so many arrays, at the key
+abbrev pub is_at_key : (depth : ℕ) → (key : List ℕ) → KeyValue → Bool
+is_at_key depth key p = p.depth == depth && bytes_eq p.key key
+
+-- the list of which the value, in an array of the statement itself, is an entry
+abbrev pub value_list : KeyValue → Option TableList
+value_list p = if length p.list == 0 && p.depth == 1 then named_list p.key else None
+
+-- the value is a destination of the table at hand
+abbrev pub is_destination : KeyValue → Bool
+is_destination p = not (length p.list == 0) && is_at_key 1 (codes "to") p
+
+-- ## Courses
+
+abbrev pub at_front : Course
+at_front = record { loops = 0; targets = 0; accesses = 0; entry = None; destinations = 0 }
+
+-- how many entries of the list have begun
+abbrev pub begun : TableList → Course → ℕ
+begun Loops c = c.loops
+begun Targets c = c.targets
+begun Accesses c = c.accesses
+
+-- one entry of the list more
+abbrev pub counted : TableList → Course → Course
+counted Loops c = record c { loops = c.loops + 1 }
+counted Targets c = record c { targets = c.targets + 1 }
+counted Accesses c = record c { accesses = c.accesses + 1 }
+
+abbrev pub counted_if : Option TableList → Course → Course
+counted_if None c = c
+counted_if (Some list) c = counted list c
+
+-- a table has begun, which is the next entry of the list, or none
+abbrev pub entered : Option TableList → Course → Course
+entered None c = record c { entry = None; destinations = 0 }
+entered (Some list) c = record (counted list c) { entry = Some (list, begun list c); destinations = 0 }
+
+-- a value was passed: a destination, an entry of a list, or neither
+abbrev pub passed : KeyValue → Course → Course
+passed p c =
+    if is_destination p then record c { destinations = c.destinations + 1 } else counted_if (value_list p) c
+
+abbrev pub after : Course → Item → Course
+after c (Begins t) = entered (entry_list t) c
+after c (States p) = passed p c
+after c Ends = c
+
+-- one more of each can be counted
+pub record HasRoom (c : Course) : Type 0 where
+  pub loops : c.loops + 1 < 18446744073709551616
+  pub targets : c.targets + 1 < 18446744073709551616
+  pub accesses : c.accesses + 1 < 18446744073709551616
+  pub destinations : c.destinations + 1 < 18446744073709551616

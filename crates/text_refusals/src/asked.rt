@@ -1,0 +1,179 @@
+ghost use Rattle.std.specs.Prelude.{◌≡◌};
+ghost use Rattle.text_refusals.specs.FaultyItems.{is_cut, is_hidden, may_be_text, target_number};
+ghost use Rattle.text_refusals.specs.Outline.{key_value_of, value_of};
+
+use crate::course::{Course, is_at_key, is_destination, key_head, named_list, value_list};
+use crate::outline::KeyValue;
+use crate::tokens::Value;
+use statement::{Document, Key, Part, Spot, StatementFault, TableList, named_key};
+
+// Whether the value is a text that goes on after its line.
+fn is_cut(value: Value<'_>) -> bool
+    ensures { result ≡ is_cut (value_of value.entry) }
+{
+    matches!(value, Value::Cut(_, _))
+}
+
+fn may_be_text(depth: u8, key: Option<Key>) -> bool
+    ensures { result ≡ may_be_text depth key }
+{
+    match key {
+        None | Some(Key::Bound) => false,
+        Some(Key::To) => depth != 0,
+        Some(_) => true,
+    }
+}
+
+// Whether the value is a text that goes on after its line where a label or a word may be: it has no row.
+fn is_hidden(pair: &KeyValue<'_>) -> bool
+    ensures { result ≡ is_hidden (key_value_of pair.now) }
+{
+    is_cut(pair.value) && may_be_text(pair.depth, named_key(pair.key))
+}
+
+fn target_number(entry: Option<(TableList, usize)>) -> Option<usize>
+    ensures { result ≡ target_number entry }
+{
+    match entry {
+        Some((TableList::Targets, index)) => Some(index),
+        Some((TableList::Loops | TableList::Accesses, _)) | None => None,
+    }
+}
+
+/// The document of a statement's text, and the fault that is looked for in it.
+#[derive(Clone, Copy)]
+pub(crate) struct Asked<'a> {
+    pub document: &'a Document<'a>,
+    pub fault: StatementFault,
+}
+
+impl Asked<'_> {
+    ghost use Rattle.text_refusals.specs.FaultyItems.{has_destination, has_in, has_no_list, has_no_table};
+    ghost use Rattle.text_refusals.specs.FaultyItems.{has_part, has_second, has_unknown, has_value};
+    ghost use Rattle.text_refusals.specs.FaultyItems.{is_faulty, is_listed, is_shown};
+
+    /// Whether the spot of the document has the fault.
+    pub(crate) fn has(&self, spot: Spot<'_>) -> bool
+        ensures { result ≡ has_in self.now spot.entry }
+    {
+        self.document.has_fault_at(spot, self.fault)
+    }
+
+    // Whether a part of the table that the value is in has the fault.
+    fn has_part(&self, course: &Course, pair: &KeyValue<'_>, part: Part<'_>) -> bool
+        ensures { result ≡ has_part (has_in self.now) course.now (key_value_of pair.now) part.entry }
+    {
+        if pair.list.is_empty() {
+            return self.has(Spot::Own(part));
+        }
+        match course.entry {
+            Some((list, index)) => self.has(Spot::Listed(list, index, part)),
+            None => false,
+        }
+    }
+
+    // Whether the table may not have the key.
+    fn has_unknown(&self, course: &Course, pair: &KeyValue<'_>) -> bool
+        ensures { result ≡ has_unknown (has_in self.now) course.now (key_value_of pair.now) }
+    {
+        pair.depth == 0 && self.has_part(course, pair, Part::Unknown(key_head(pair.key)))
+    }
+
+    // Whether the value at the key has the fault.
+    fn has_value(&self, course: &Course, pair: &KeyValue<'_>) -> bool
+        ensures { result ≡ has_value (has_in self.now) course.now (key_value_of pair.now) }
+    {
+        if pair.depth != 0 {
+            return false;
+        }
+        match named_key(key_head(pair.key)) {
+            Some(key) => self.has_part(course, pair, Part::Value(key)),
+            None => false,
+        }
+    }
+
+    // Whether the value is of a list's key, and no list.
+    fn has_no_list(&self, pair: &KeyValue<'_>) -> bool
+        ensures { result ≡ has_no_list (has_in self.now) (key_value_of pair.now) }
+    {
+        if !pair.list.is_empty() || pair.depth != 0 {
+            return false;
+        }
+        match named_list(key_head(pair.key)) {
+            Some(list) => self.has(Spot::NoList(list)),
+            None => false,
+        }
+    }
+
+    // Whether the value is an entry of a list, and no table.
+    fn has_no_table(&self, course: &Course, pair: &KeyValue<'_>) -> bool
+        ensures { result ≡ has_no_table (has_in self.now) course.now (key_value_of pair.now) }
+    {
+        match value_list(pair) {
+            Some(list) => self.has(Spot::NoTable(list, course.begun(list))),
+            None => false,
+        }
+    }
+
+    // Whether the value is a destination, and has the fault.
+    fn has_destination(&self, course: &Course, pair: &KeyValue<'_>) -> bool
+        ensures { result ≡ has_destination (has_in self.now) course.now (key_value_of pair.now) }
+    {
+        if !is_destination(pair) {
+            return false;
+        }
+        match target_number(course.entry) {
+            Some(index) => self.has(Spot::Destination(index, course.destinations)),
+            None => false,
+        }
+    }
+
+    // Whether an earlier target or access is of the address that the value is.
+    fn has_second(&self, course: &Course, pair: &KeyValue<'_>) -> bool
+        ensures { result ≡ has_second (has_in self.now) course.now (key_value_of pair.now) }
+    {
+        if pair.list.is_empty() || !is_at_key(0, b"at", pair) {
+            return false;
+        }
+        match course.entry {
+            Some((list, index)) => self.has(Spot::Second(list, index)),
+            None => false,
+        }
+    }
+
+    // Whether the value is one of a list's, and has the fault.
+    fn is_listed(&self, course: &Course, pair: &KeyValue<'_>) -> bool
+        ensures { result ≡ is_listed (has_in self.now) course.now (key_value_of pair.now) }
+    {
+        if self.has_no_table(course, pair) {
+            return true;
+        }
+        if self.has_destination(course, pair) {
+            return true;
+        }
+        self.has_second(course, pair)
+    }
+
+    // Whether the value has the fault, which is not hidden.
+    fn is_shown(&self, course: &Course, pair: &KeyValue<'_>) -> bool
+        ensures { result ≡ is_shown (has_in self.now) course.now (key_value_of pair.now) }
+    {
+        if self.has_value(course, pair) {
+            return true;
+        }
+        if self.has_no_list(pair) {
+            return true;
+        }
+        self.is_listed(course, pair)
+    }
+
+    /// Whether the value, or its key, has the fault.
+    pub(crate) fn is_faulty(&self, course: &Course, pair: &KeyValue<'_>) -> bool
+        ensures { result ≡ is_faulty (has_in self.now) course.now (key_value_of pair.now) }
+    {
+        if self.has_unknown(course, pair) {
+            return true;
+        }
+        !is_hidden(pair) && self.is_shown(course, pair)
+    }
+}
