@@ -1,5 +1,5 @@
 -- No more entries have begun than items were passed.
-use Rattle.std.proofs.Common.{◌≤◌, ◌<◌, ◌+◌, ◌≡◌, ℕ, Bool, true, false, Option, Some, None, cond, arith, rules}
+use Rattle.std.proofs.Common.{◌≤◌, ◌<◌, ◌+◌, ℕ, Bool, true, false, Option, Some, None, cond, arith}
 use Rattle.statement.specs.declared.spots.TableList.{TableList}
 use Rattle.statement.specs.declared.spots.TableList.TheVariants.{Loops, Targets, Accesses}
 use Rattle.text_refusals.specs.Courses.{HasRoom, after, at_front, counted, counted_if, entered, entry_list, is_destination, passed, value_list}

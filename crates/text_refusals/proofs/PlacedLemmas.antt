@@ -1,9 +1,8 @@
 -- A fault of a document has a row in the text whose items it is of.
-use Rattle.std.proofs.Common.{◌≡◌, ◌↔◌, ◌<◌, ◌≤◌, ◌⊎◌, ◌==◌, ◌&&◌, ◌||◌, ◌+◌, not, zero, suc, ℕ, Bool, true, false, cond, List, [], ◌∷◌, ◌++◌, length, drop, get_or, Option, Some, None, IsSomeAnd, inl, inr, refl, sym, ap, subst, ◌∙◌, arith}
+use Rattle.std.proofs.Common.{◌≡◌, ◌↔◌, ◌<◌, ◌==◌, ◌&&◌, ◌||◌, not, zero, suc, ℕ, Bool, true, false, List, [], ◌∷◌, ◌++◌, length, get_or, Option, Some, None, IsSomeAnd, inl, inr, refl, sym, ap, subst, ◌∙◌, arith}
 use Rattle.std.specs.Prelude.{Contains, IsSome, codes, if◌then◌else◌}
 use Rattle.std.specs.Cmp.Derive.{both_true}
 use Rattle.std.specs.List.{slice_get}
-use Rattle.std.proofs.lemmas.Bool.{false≢true}
 use Rattle.std.proofs.lemmas.List.Elements.{Contains-append_left, Contains-append_right}
 use Rattle.std.proofs.lemmas.Option.{none-some}
 use Rattle.toml.specs.Data.{Data, Members, as_table, get_member}
@@ -27,11 +26,11 @@ use Rattle.statement.specs.declared.spots.Spot.{Spot}
 use Rattle.statement.specs.declared.spots.Spot.TheVariants as spot
 use Rattle.statement.specs.declared.spots.TableList.{TableList}
 use Rattle.statement.specs.declared.spots.TableList.TheVariants.{Loops, Targets, Accesses}
-use Rattle.text_refusals.specs.Courses.{after, at_front, begun, entry_list, is_at_key, is_destination, key_head, named_list, value_list}
+use Rattle.text_refusals.specs.Courses.{after, at_front, begun, entry_list, key_head, named_list}
 use Rattle.text_refusals.specs.FaultyItems.{has_destination, has_no_list, has_no_table, has_part, has_second, has_unknown, has_value, is_faulty, is_hidden, is_listed, is_shown, lent, target_number}
 use Rattle.text_refusals.specs.Outline.{Begins, Ends, Item, KeyValue, States, Table}
 use Rattle.text_refusals.specs.Placed.{AreOf, IsEntry, IsThere, Shows, TableShows, ValueShows, placed}
-use Rattle.text_refusals.specs.Refused.{Limit, Row, access_limit, all_rows, entry_rows, extra_row, extra_rows, extra_table_row, first_after, first_item, header_rows, item_rows, list_rows, long_rows, loop_limit, misplaced_rows, missing_row, missing_rows, no_list_rows, no_table_rows, row_if, rows, rows_of_table, table_row, table_rows, tables_in, target_limit, target_rows, unknown_rows, unwanted_rows, value_row, value_table_rows, whole_rows}
+use Rattle.text_refusals.specs.Refused.{Limit, Row, access_limit, all_rows, entry_rows, extra_row, extra_rows, extra_table_row, first_after, header_rows, item_rows, list_rows, long_rows, loop_limit, misplaced_rows, missing_row, missing_rows, no_list_rows, no_table_rows, row_if, rows, rows_of_table, table_row, table_rows, tables_in, target_limit, target_rows, unknown_rows, unwanted_rows, value_row, value_table_rows, whole_rows}
 use Rattle.text_refusals.specs.declared.course.Course.{Course}
 use Rattle.text_refusals.proofs.RefusedLemmas.{one_row}
 

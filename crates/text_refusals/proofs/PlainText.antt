@@ -1,12 +1,12 @@
 -- A document that is that of a plain line.
-use Rattle.std.proofs.Common.{◌≡◌, ◌≤◌, ◌∙◌, ℕ, true, false, List, [], ◌∷◌, length, Option, Some, None, Ordering, refl, sym, ap, subst, arith}
-use Rattle.std.specs.Prelude.{Contains, IsSome, codes, is_some}
+use Rattle.std.proofs.Common.{◌≡◌, ◌≤◌, ℕ, List, [], length, Some, None, Ordering, refl, sym, arith}
+use Rattle.std.specs.Prelude.{Contains, IsSome, codes}
 use Rattle.std.specs.Ordering.{match_ordering, nat_cmp}
 use Rattle.std.specs.Cmp.Lexicographic.{slice_cmp}
 use Rattle.std.specs.declared.cmp.Ordering.TheVariants.{Less, Equal, Greater}
 use Rattle.std.proofs.lemmas.Bool.{false≢true}
 use Rattle.std.proofs.lemmas.Map.Lookups.{exact_bytes}
-use Rattle.toml.specs.Data.{Data, get_member, string}
+use Rattle.toml.specs.Data.{string}
 use Rattle.toml_reading.specs.Lowest.{entries_at}
 use Rattle.statement.specs.Places.{list_key}
 use Rattle.statement.specs.declared.spots.Key.TheVariants as key
@@ -34,12 +34,18 @@ abbrev Shown : Spot → Type 0
 Shown s = (c : Course) × (i : Item) × Contains (placed at_front the_items) (c, i) × Shows c i s
 
 shown : (s : Spot) → IsThere a_document s → Shown s
-shown (spot.Own (Unknown k)) h =
-    (at_front, States (record { line = 1; list = []; key = codes "entry"; depth = 0; value = Quoted (codes "\"") (codes "a") }), (0, omega arith, refl),
-    (refl, refl, sym (entry_key k.now (slice_cmp nat_cmp k.now (codes "entry")) refl h)))
-shown (spot.Own (Value key.Entry)) h =
-    (at_front, States (record { line = 1; list = []; key = codes "entry"; depth = 0; value = Quoted (codes "\"") (codes "a") }), (0, omega arith, refl),
-    (refl, refl, (refl, refl)))
+shown (spot.Own (Unknown k)) h = (
+  at_front,
+  States (record { line = 1; list = []; key = codes "entry"; depth = 0; value = Quoted (codes "\"") (codes "a") }),
+  (0, omega arith, refl),
+  (refl, refl, sym (entry_key k.now (slice_cmp nat_cmp k.now (codes "entry")) refl h)),
+)
+shown (spot.Own (Value key.Entry)) h = (
+  at_front,
+  States (record { line = 1; list = []; key = codes "entry"; depth = 0; value = Quoted (codes "\"") (codes "a") }),
+  (0, omega arith, refl),
+  (refl, refl, (refl, refl)),
+)
 shown (spot.Own (Value _)) h = absurd (false≢true h)
 shown (spot.Own (Missing k)) h = absurd h
 shown (spot.NoList Loops) h = absurd (false≢true h)

@@ -1,5 +1,5 @@
 -- A row is of a spot that has the fault.
-use Rattle.std.proofs.Common.{◌≡◌, ◌<◌, ◌⊎◌, ◌==◌, ◌&&◌, ◌||◌, ◌+◌, not, zero, suc, ℕ, Bool, true, false, List, [], ◌∷◌, ◌++◌, length, drop, get_or, Option, Some, None, inl, inr, refl, sym, ap, subst, ◌∙◌, arith}
+use Rattle.std.proofs.Common.{◌≡◌, ◌<◌, ◌⊎◌, ◌==◌, ◌&&◌, ◌||◌, not, zero, suc, ℕ, Bool, true, false, List, [], ◌∷◌, ◌++◌, length, get_or, Option, Some, None, inl, inr, refl, sym, ap, subst, ◌∙◌, arith}
 use Rattle.std.specs.Prelude.{Contains, codes, if◌then◌else◌}
 use Rattle.std.proofs.lemmas.Bool.{and_parts, cases_Bool, false≢true}
 use Rattle.std.proofs.lemmas.List.Elements.{Contains-append_cases}
@@ -19,7 +19,7 @@ use Rattle.text_refusals.specs.Courses.{after, at_front, begun, entry_list, is_a
 use Rattle.text_refusals.specs.FaultyItems.{has_destination, has_no_list, has_no_table, has_part, has_second, has_unknown, has_value, is_faulty, is_hidden, is_listed, is_shown, lent, target_number}
 use Rattle.text_refusals.specs.Outline.{Begins, Ends, Item, KeyValue, States, Table}
 use Rattle.text_refusals.specs.Placed.{IsPartOf, IsRowOf, Shows, TableShows, ValueShows, line_of, placed}
-use Rattle.text_refusals.specs.Refused.{Limit, Row, access_limit, all_rows, entry_rows, extra_destination_row, extra_row, extra_rows, extra_table_row, first_after, first_item, header_rows, item_rows, list_rows, long_rows, loop_limit, misplaced_rows, missing_row, missing_rows, no_list_rows, no_table_rows, row_if, rows, rows_of_table, stated_at, table_row, table_rows, tables_in, target_limit, target_rows, unknown_rows, unwanted_rows, value_row, value_table_rows, whole_rows}
+use Rattle.text_refusals.specs.Refused.{Limit, Row, access_limit, all_rows, extra_destination_row, extra_row, extra_rows, extra_table_row, first_after, header_rows, item_rows, list_rows, long_rows, loop_limit, missing_row, missing_rows, no_list_rows, no_table_rows, row_if, rows, rows_of_table, stated_at, table_row, table_rows, tables_in, target_limit, unknown_rows, unwanted_rows, value_row, value_table_rows, whole_rows}
 use Rattle.text_refusals.specs.declared.course.Course.{Course}
 use Rattle.text_refusals.proofs.RefusedLemmas.{no_items, one_row}
 
@@ -230,11 +230,14 @@ module _ (has : Spot → Bool) where
 
   item_sound : (c : Course) (i : Item) (items : List Item) (places : List (Course × Item)) (r : Row) → Contains (item_rows has c i items) r → OfItems ((c, i) ∷ places) (i ∷ items) r
   item_sound c (Begins t) items places r h =
-      let u = table_sound c t items r h in
-      (u.0, u.1, elim u.2 [
-        | inl s ↦ inr (c, Begins t, in_head (c, Begins t) places, s.0, s.1)
-        | inr l ↦ inl (l.0, l.1, l.2, in_tail (Begins t) (States l.1) items l.3, l.4)
-      ])
+      let u = table_sound c t items r h in (
+        u.0,
+        u.1,
+        elim u.2 [
+          | inl s ↦ inr (c, Begins t, in_head (c, Begins t) places, s.0, s.1)
+          | inr l ↦ inl (l.0, l.1, l.2, in_tail (Begins t) (States l.1) items l.3, l.4)
+        ],
+      )
   item_sound c (States p) items places r h =
       let u = in_if (is_faulty has c p) (value_row p) r h in
       let s = value_sound c p u.0 in
@@ -242,10 +245,14 @@ module _ (has : Spot → Bool) where
   item_sound c Ends items places r h = absurd (in_none r h)
 
   later : (c : Course) (i : Item) (items : List Item) (places : List (Course × Item)) (r : Row) → OfItems places items r → OfItems ((c, i) ∷ places) (i ∷ items) r
-  later c i items places r u = (u.0, u.1, elim u.2 [
-    | inl l ↦ inl (l.0, l.1, l.2, in_tail i (States l.1) items l.3, l.4)
-    | inr s ↦ inr (s.0, s.1, in_tail (c, i) (s.0, s.1) places s.2, s.3, s.4)
-  ])
+  later c i items places r u = (
+    u.0,
+    u.1,
+    elim u.2 [
+      | inl l ↦ inl (l.0, l.1, l.2, in_tail i (States l.1) items l.3, l.4)
+      | inr s ↦ inr (s.0, s.1, in_tail (c, i) (s.0, s.1) places s.2, s.3, s.4)
+    ],
+  )
 
   rows_sound : (c : Course) (items : List Item) (r : Row) → Contains (rows has c items) r → OfItems (placed c items) items r
   rows_sound c [] r h = absurd (in_none r (subst (λ (rs : List Row). Contains rs r) (no_items has c) h))

@@ -1,6 +1,6 @@
 -- Where in its document each item of a statement's text is: of which entry of which list, and which of its
 -- destinations, by the tables and values before it.
-use Rattle.std.specs.Prelude.{◌==◌, ◌&&◌, ◌+◌, ◌<◌, not, ℕ, Bool, List, [], ◌∷◌, codes, length, take}
+use Rattle.std.specs.Prelude.{◌==◌, ◌&&◌, ◌+◌, ◌<◌, not, ℕ, Bool, List, codes, length, take}
 use Rattle.std.specs.Prelude.{Option, Some, None, if◌then◌else◌}
 use Rattle.std.specs.List.{prefix_len}
 use Rattle.std.specs.Str.{bytes_eq}

@@ -1,9 +1,9 @@
 -- Which items of a statement's text show which spots of its document, and when a document is that of the
 -- items: so it is for plain lines.
 use Rattle.std.specs.Prelude.{◌≡◌, ◌==◌, ◌<◌, ◌≤◌, ◌⊎◌, ℕ, true, false, List, [], ◌∷◌, codes, length, Contains}
-use Rattle.std.specs.Prelude.{Option, Some, None, IsSome, IsSomeAnd}
+use Rattle.std.specs.Prelude.{Some, None, IsSome, IsSomeAnd}
 use Rattle.std.specs.List.{slice_get}
-use Rattle.toml.specs.Data.{Data, Members, as_table, get_member, member, no_members, string}
+use Rattle.toml.specs.Data.{Members, as_table, get_member, member, no_members, string}
 use Rattle.toml_reading.specs.Lowest.{entries_at}
 use Rattle.statement.specs.Places.{InTable, key_name, list_key, named_key}
 use Rattle.statement.specs.declared.spots.Key.TheVariants as key

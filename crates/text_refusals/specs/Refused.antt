@@ -1,6 +1,6 @@
 -- What is named of a statement that is refused: first what is wrong with the whole, and then the values and
 -- the tables that show where its document has the fault, in the order of the text, twenty at most.
-use Rattle.std.specs.Prelude.{◌≡◌, ◌≤◌, ◌⊎◌, ◌↔◌, ◌==◌, ◌+◌, zero, suc, Bool, true, false, ℕ}
+use Rattle.std.specs.Prelude.{◌≡◌, ◌≤◌, ◌⊎◌, ◌↔◌, ◌==◌, ◌+◌, zero, suc, Bool, true, ℕ}
 use Rattle.std.specs.Prelude.{List, [], ◌∷◌, ◌++◌, length, take, drop, codes, decimal, count_by}
 use Rattle.std.specs.Prelude.{Option, Some, None, IsSome, IsUtf8, if◌then◌else◌}
 use Rattle.std.specs.Str.{bytes_eq}

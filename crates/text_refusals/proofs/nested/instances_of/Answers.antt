@@ -1,7 +1,7 @@
-use Rattle.std.proofs.Common.{◌≡◌, ◌∙◌, List, ap, map, subst, sym}
+use Rattle.std.proofs.Common.{◌∙◌, List, ap, map, subst, sym}
 use Rattle.loop_bounds.specs.declared.loop_instances.LoopInstance.{LoopInstance}
 use Rattle.loop_bounds.specs.Extents.{found_instance}
-use Rattle.text_refusals.specs.Nested.{AreInstancesOf, HasAllUpTo, HavePlace}
+use Rattle.text_refusals.specs.Nested.{AreInstancesOf}
 use Rattle.text_refusals.proofs.NestedLemmas.{all_instances, none_of_exit, none_yet}
 use Rattle.text_refusals.proofs.nested.instances_of.Goals.{in-At+in_ok-add_up_to, in_default}
 use Rattle.text_refusals.proofs.nested.instances_of.Goals as goal

@@ -1,4 +1,4 @@
-use Rattle.std.proofs.Common.{◌≡◌, List, ap, map, refl, subst, sym}
+use Rattle.std.proofs.Common.{List, ap, map, refl, subst, sym}
 use Rattle.std.specs.Prelude.{Contains, IsNone}
 use Rattle.loop_bounds.specs.declared.loop_instances.LoopInstance.{LoopInstance}
 use Rattle.loop_bounds.specs.Extents.{found_instance}

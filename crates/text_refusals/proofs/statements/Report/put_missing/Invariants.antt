@@ -1,4 +1,4 @@
-use Rattle.std.proofs.Common.{◌≡◌, ◌++◌, List, drop, map}
+use Rattle.std.proofs.Common.{◌≡◌, ◌++◌, List, drop}
 use Rattle.text_refusals.specs.FaultyItems.{has_in}
 use Rattle.text_refusals.specs.Outline.{table_of}
 use Rattle.text_refusals.specs.Refused.{Row, missing_rows, shown}

@@ -22,8 +22,8 @@ loop-index-preserved c =
     let rest = map item_of (drop (k + 1) items) in
     let low : k < length items = omega (arith, c.loop-index-test.true) in
     let added =
-        subst (λ (es : List CodeItem). Adds (item_rows has course i (map item_of es)) c.loop-index.self c.put_of_item.new.self)
-        (take_rest items (k + 1)) c.in_ok-put_of_item.ensures in
+    subst (λ (es : List CodeItem). Adds (item_rows has course i (map item_of es)) c.loop-index.self c.put_of_item.new.self)
+    (take_rest items (k + 1)) c.in_ok-put_of_item.ensures in
     record {
       within = subst (λ (d : Course). IsUpTo (k + 1) d) (sym c.after-course.ensures) (after_up_to k course i c.loop-index.invariant.within);
       same = λ more.
