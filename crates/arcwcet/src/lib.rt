@@ -1,4 +1,4 @@
-//! The longest run time of an interrupt handler: reports over sources and statements, verdicts on such
+//! The greatest run time of an interrupt handler: reports over sources and statements, verdicts on such
 //! reports, and the program that prints them.
 #![tactic(auto)]
 
