@@ -268,7 +268,9 @@ def lines(command):
         ([], "no words"),
         (["--help"], "help"),
         (["bound", "--help"], "a command's help"),
-        (["--version"], "the version"),
+        (["--version", "bound"], "the version of a command"),
+        (["bound", "--version"], "a command's version"),
+        (["bound", "--why", "--why", "handler.s", "handler.toml"], "two reasons"),
         (["bound", "--profile"], "no profile"),
         (["bound", "--profile", "a", "--profile", "b", "handler.s", "handler.toml"], "two profiles"),
         (["asm", *["handler.s"] * 5000], "5,000 words"),
@@ -278,6 +280,8 @@ def lines(command):
         usage.append((["visits", "handler.s", "a", "b", number], f"{number:.10} visits"))
     for words, name in usage:
         yield Trial(f"the command line: {name}", words, Usage(), command.files)
+    for word in ("--version", "-V"):
+        yield Trial(f"the command line: {word}", [word], Is(0, b"arcwcet 1.0.0\n"))
     for name, word in (("an empty name", ""), ("100,000 letters", "n" * 100_000), ("a line end", "a\nb")):
         yield Trial(f"the command line: {name} for a file", ["bound", word, word], Allowed("bound"))
     for name, words in (("a name", "bound $'\\xff.s' handler.toml"), ("a command", "$'\\xff'")):
