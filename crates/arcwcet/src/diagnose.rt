@@ -7,21 +7,18 @@ ghost use Rattle.arcwcet.specs.Run.{answer_status};
 
 use crate::reports::Job;
 use crate::status::{report_status, shows_why};
-use assembler::{Assembly, PlacedLine, Program, placed_lines};
 use bus_ticks::Profile;
 use command_line::Command;
-use control_flow::{BuildFault, FaultyPlace, faulty_place};
+use control_flow::BuildFault;
 use handler_reports::{HandlerGraph, read_graph};
 use handlers::{ReportFault, profile_of, read_handler, read_source};
-use image::is_image;
 use loop_bounds::NestFault;
 use outputs::{Output, write_whole};
-use statement::{Statement, StatementFault, read_statement};
+use sources::Source;
+use statement::{StatementFault, read_statement};
 use std::alloc::{AllocError, Global};
 use text_refusals::{
-    WordLines, crossing_text, cycle_text, deep_place, deep_text, entry_text, extent_of,
-    faulty_lines, faulty_text, loops_that_cross, mid_entry, place_text, shared_header, shared_text,
-    statement_text, unbounded_cycle, word_text, words_of,
+    faulty_lines, faulty_text, graph_reason, loops_reason, statement_text, words_of,
 };
 
 // A handler that is refused: its source, the statement on it, and a cycle profile's file.
@@ -32,81 +29,21 @@ struct Refused<'a> {
     profile: Option<&'a [u8]>,
 }
 
-// Where the lines of a source are placed. An image has none.
-fn placed_in(alloc: Global, source: &[u8]) -> Result<Vec<PlacedLine>, ReportFault> {
-    if is_image(source) {
-        return Ok(Vec::new(alloc));
-    }
-    let placed = placed_lines(alloc, source)?;
-    Ok(placed)
-}
-
-// The words of a source that was read, with their lines, by where those are placed.
-fn source_words<'a>(
-    alloc: Global,
-    source: &'a [u8],
-    said: &'a Assembly,
-    placed: &'a [PlacedLine],
-) -> Result<WordLines<'a>, AllocError> {
-    let program = Program {
-        source,
-        placed,
-        image: &said.image,
-        labels: &said.labels,
-    };
-    words_of(alloc, &program)
-}
-
 // Of loops that are refused, the places that show why.
-fn loops_text(
+fn nest_text(
     alloc: Global,
-    words: &WordLines<'_>,
+    source: &Source<'_>,
     stated: &HandlerGraph,
     fault: NestFault,
 ) -> Result<Vec<u8>, AllocError> {
-    let loops = stated.statement.loops();
-    match fault {
-        NestFault::UnboundedCycle => {
-            let Some(cycle) = unbounded_cycle(alloc, &stated.graph, loops)? else {
-                return Ok(Vec::new(alloc));
-            };
-            match extent_of(&cycle) {
-                Some(extent) => cycle_text(alloc, words, &cycle, &extent),
-                None => Ok(Vec::new(alloc)),
-            }
-        }
-        NestFault::LoopsCross => match loops_that_cross(&stated.graph, loops) {
-            Some(crossing) => crossing_text(alloc, words, &crossing),
-            None => Ok(Vec::new(alloc)),
-        },
-        NestFault::SharedHeader => match shared_header(loops) {
-            Some((one, other)) => shared_text(alloc, words, &one, &other),
-            None => Ok(Vec::new(alloc)),
-        },
-        NestFault::EntersMidLoop => match mid_entry(&stated.graph, loops) {
-            Some(entry) => entry_text(alloc, words, &entry),
-            None => Ok(Vec::new(alloc)),
-        },
-        NestFault::NestedTooDeep => match deep_place(alloc, &stated.graph, loops)? {
-            Some(deep) => deep_text(alloc, words, &deep),
-            None => Ok(Vec::new(alloc)),
-        },
-        NestFault::Memory => Ok(Vec::new(alloc)),
-    }
-}
-
-// The same, of a source that was read.
-fn nest_text(
-    alloc: Global,
-    refused: Refused<'_>,
-    said: &Assembly,
-    stated: &HandlerGraph,
-    fault: NestFault,
-) -> Result<Vec<u8>, ReportFault> {
-    let placed = placed_in(alloc, refused.source)?;
-    let words = source_words(alloc, refused.source, said, &placed)?;
-    let text = loops_text(alloc, &words, stated, fault)?;
-    Ok(text)
+    let words = words_of(alloc, source)?;
+    loops_reason(
+        alloc,
+        &words,
+        &stated.graph,
+        stated.statement.loops(),
+        fault,
+    )
 }
 
 // Of loops that are refused, what shows why.
@@ -118,7 +55,8 @@ fn refused_loops(
     let profile = profile_of(alloc, refused.profile)?;
     let said = read_source(alloc, refused.source)?;
     let stated = read_graph(alloc, &said, refused.statement, &profile)?;
-    nest_text(alloc, refused, &said, &stated, fault)
+    let text = nest_text(alloc, &said, &stated, fault)?;
+    Ok(text)
 }
 
 // Of a statement that is refused, the lines that show why.
@@ -132,58 +70,17 @@ fn refused_statement(
     Ok(text)
 }
 
-// What shows why a place has no edges; nothing where there is no such place.
-fn shown_place(
-    alloc: Global,
-    words: &WordLines<'_>,
-    found: Option<FaultyPlace>,
-) -> Result<Vec<u8>, AllocError> {
-    match found {
-        Some(faulty) => place_text(alloc, words, &faulty),
-        None => Ok(Vec::new(alloc)),
-    }
-}
-
-// The place at which a handler's flow graph fails, with the words that show why.
-fn unbuilt_text(
-    alloc: Global,
-    words: &WordLines<'_>,
-    statement: &Statement,
-    profile: &Profile,
-) -> Result<Vec<u8>, AllocError> {
-    match faulty_place(alloc, words.image, statement, profile) {
-        Ok(found) => shown_place(alloc, words, found),
-        // Out of memory, or too many places: the one line says all there is to say.
-        Err(_) => Ok(Vec::new(alloc)),
-    }
-}
-
 // Of a handler that has no flow graph, the words that show why.
-fn graph_text(
-    alloc: Global,
-    words: &WordLines<'_>,
-    statement: &Statement,
-    profile: &Profile,
-    fault: BuildFault,
-) -> Result<Vec<u8>, AllocError> {
-    match fault {
-        BuildFault::TargetNotWriter(at) => word_text(alloc, words, at),
-        _ => unbuilt_text(alloc, words, statement, profile),
-    }
-}
-
-// The same, of a source that was read.
 fn build_text(
     alloc: Global,
     refused: Refused<'_>,
     profile: &Profile,
-    said: &Assembly,
+    said: &Source<'_>,
     fault: BuildFault,
 ) -> Result<Vec<u8>, ReportFault> {
     let statement = read_statement(alloc, refused.statement, &said.labels)?;
-    let placed = placed_in(alloc, refused.source)?;
-    let words = source_words(alloc, refused.source, said, &placed)?;
-    let text = graph_text(alloc, &words, &statement, profile, fault)?;
+    let words = words_of(alloc, said)?;
+    let text = graph_reason(alloc, &words, &statement, profile, fault)?;
     Ok(text)
 }
 

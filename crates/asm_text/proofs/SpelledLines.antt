@@ -22,8 +22,8 @@ use Rattle.asm_text.specs.declared.names.Head.TheVariants as head
 use Rattle.asm_text.specs.declared.names.Suffix.{Suffix}
 use Rattle.asm_text.specs.declared.word.Word.{Word}
 use Rattle.asm_text.specs.declared.word.Word.TheVariants.{Plain, Branch, Org, Dcd}
-use Rattle.asm_text.specs.declared.syntax.Action.{Action}
-use Rattle.asm_text.specs.declared.syntax.Action.TheVariants as action
+use Rattle.asm_text.specs.declared.syntax.WordAction.{WordAction}
+use Rattle.asm_text.specs.declared.syntax.WordAction.TheVariants as action
 use Rattle.asm_text.specs.declared.syntax.Use.{Use}
 use Rattle.asm_text.specs.declared.syntax.Use.TheVariants as use_of
 use Rattle.asm_text.specs.declared.statement.Expects.TheVariants as expects
@@ -39,7 +39,7 @@ use Rattle.asm_text.proofs.SpelledLists.{block_again, block_is, dcd_again, dcd_i
 
 -- ## Actions
 
-action_is : (h : Head) (s : Suffix) (ps : List Piece) (a : Action) → action_of h s ps ≡ Some a → SpellsAction a h s ps
+action_is : (h : Head) (s : Suffix) (ps : List Piece) (a : WordAction) → action_of h s ps ≡ Some a → SpellsAction a h s ps
 action_is (head.Data op) s ps a e =
     let k = map_is action.Data (data_of op s ps) a e in
     subst (λ x. SpellsAction x (head.Data op) s ps) k.2 (data_is op s ps k.0 k.1)
@@ -123,7 +123,7 @@ operands_is Dcd ps x e =
     let k = map_is Lists (values_in expects.Start ps) x e in
     subst (λ y. SpellsOperands y Dcd ps) k.2 (dcd_is ps k.0 k.1)
 
-action_again : (a : Action) (h : Head) (c : Cond) (s : Suffix) (ps : List Piece) → SpellsAction a h s ps → plain_said h c s ps ≡ Some (Codes (record { cond = c; action = a }))
+action_again : (a : WordAction) (h : Head) (c : Cond) (s : Suffix) (ps : List Piece) → SpellsAction a h s ps → plain_said h c s ps ≡ Some (Codes (record { cond = c; action = a }))
 action_again (action.Data x) (head.Data op) c s ps h = rw (data_again op s x ps h) refl
 action_again (action.Multiply x) (head.Multiply b) c s ps h = rw (product_again b s x ps h) refl
 action_again (action.Single x) (head.Single load) c s ps h =

@@ -18,8 +18,8 @@ use Rattle.asm_text.specs.SpelledOperands.{IsDigits, IsRegister, Listed, SpellsB
 use Rattle.asm_text.specs.Spelling.{SpellsTarget}
 use Rattle.asm_text.specs.declared.token.Mark.TheVariants.{Minus, Bang, Caret, Ampersand, OpenBrace, CloseBrace}
 use Rattle.asm_text.specs.declared.names.Suffix.{Suffix}
-use Rattle.asm_text.specs.declared.list.Place.{Place}
-use Rattle.asm_text.specs.declared.list.Place.TheVariants as place
+use Rattle.asm_text.specs.declared.list.ListPlace.{ListPlace}
+use Rattle.asm_text.specs.declared.list.ListPlace.TheVariants as place
 use Rattle.asm_text.specs.declared.list.Step.{Step}
 use Rattle.asm_text.specs.declared.list.Step.TheVariants as step
 use Rattle.asm_text.specs.declared.syntax.BlockTransfer.{BlockTransfer}
@@ -51,7 +51,7 @@ To : ℕ → Register → ℕ × List Piece → List Piece → Type 0
 unfolding Ended Runs
 To list a f ps = (t : List ℕ) × (b : Register) × (qs : List Piece) × (ps ≡ Run t ∷ qs) × IsRegister t b × (register_number a ≤ register_number b) × Ended (bit_or list (bits_of (a, b))) f qs
 
-Left : Place → ℕ → ℕ × List Piece → List Piece → Type 0
+Left : ListPlace → ℕ → ℕ × List Piece → List Piece → Type 0
 unfolding Ended Runs To
 Left place.Start list f ps = Runs list f ps
 Left (place.First a) list f ps = ((qs : List Piece) × (ps ≡ Sign Minus ∷ qs) × To list a f qs) ⊎ Ended (bit_or list (bits_of (a, a))) f ps
@@ -83,7 +83,7 @@ bits_is a b bits e =
 bits_again : (a b : Register) → register_number a ≤ register_number b → run_bits a b ≡ Some (bits_of (a, b))
 bits_again a b le = let k : nat_le (register_number a) (register_number b) ≡ true = grind (arith, nat_tests, le) in rw k refl
 
-by_is : (on : ℕ → Place → Option (ℕ × List Piece)) (ps : List Piece) (o : Option Step) (f : ℕ × List Piece) → list_by on ps o ≡ Some f → (s : Step) × (o ≡ Some s) × (list_by on ps (Some s) ≡ Some f)
+by_is : (on : ℕ → ListPlace → Option (ℕ × List Piece)) (ps : List Piece) (o : Option Step) (f : ℕ × List Piece) → list_by on ps o ≡ Some f → (s : Step) × (o ≡ Some s) × (list_by on ps (Some s) ≡ Some f)
 by_is on ps None f e = absurd (none-some f e)
 by_is on ps (Some s) f e = (s, refl, e)
 
@@ -104,11 +104,11 @@ alone_is list a p ps f start e =
     let m = and_then_is (λ more. after_step more p) (with_bits list (run_bits a a)) s.0 s.1 in
     let b = map_is (bit_or list) (run_bits a a) m.0 m.1 in
     let k = bits_is a a b.0 b.1 in
-    let on = λ (more : ℕ) (next : Place). list_from more next ps in
+    let on = λ (more : ℕ) (next : ListPlace). list_from more next ps in
     let there : list_by on ps (after_step m.0 p) ≡ Some f = ap (list_by on ps) m.2 ∙ s.2 in
     subst (λ n. Ended n f (p ∷ ps)) (sym b.2 ∙ ap (bit_or list) k.1) (ended_is m.0 p ps f start there)
 
-left_is : (ps : List Piece) (at : Place) (list : ℕ) (f : ℕ × List Piece) → list_from list at ps ≡ Some f → Left at list f ps
+left_is : (ps : List Piece) (at : ListPlace) (list : ℕ) (f : ℕ × List Piece) → list_from list at ps ≡ Some f → Left at list f ps
 unfolding Left To Ended Runs
 left_is [] at list f e = absurd (none-some f e)
 left_is (Run t ∷ ps) place.Start list f e =

@@ -16,8 +16,8 @@ use Rattle.asm_text.specs.declared.token.Mark.TheVariants.{Hash, Minus, Bang, Ca
 use Rattle.asm_text.specs.declared.token.Mark.TheVariants.{CloseBrace}
 use Rattle.asm_text.specs.declared.names.Suffix.{Suffix}
 use Rattle.asm_text.specs.declared.names.Suffix.TheVariants.{S, P, B, T, Bt, Ia, Ib, Db, Fd, Ed, Fa, Ea}
-use Rattle.asm_text.specs.declared.list.Place.{Place}
-use Rattle.asm_text.specs.declared.list.Place.TheVariants.{Start, First, To, After}
+use Rattle.asm_text.specs.declared.list.ListPlace.{ListPlace}
+use Rattle.asm_text.specs.declared.list.ListPlace.TheVariants.{Start, First, To, After}
 use Rattle.asm_text.specs.declared.list.Step.{Step}
 use Rattle.asm_text.specs.declared.list.Step.TheVariants.{Goes, Ends}
 use Rattle.asm_text.specs.declared.syntax.Amount.TheVariants as amount
@@ -247,7 +247,7 @@ to_step list a (Run b) =
 to_step list a _ = None
 
 -- what a piece does in a list, by what comes before it
-abbrev pub list_step : ℕ → Place → Piece → Option Step
+abbrev pub list_step : ℕ → ListPlace → Piece → Option Step
 list_step list Start p = start_step list p
 list_step list (First a) p = first_step list a p
 list_step list (To a) p = to_step list a p
@@ -257,14 +257,14 @@ abbrev pub list_of : Step → ℕ
 list_of (Goes list place) = list
 list_of (Ends list) = list
 
-abbrev pub list_by : (ℕ → Place → Option (ℕ × List Piece)) → List Piece → Option Step
+abbrev pub list_by : (ℕ → ListPlace → Option (ℕ × List Piece)) → List Piece → Option Step
     → Option (ℕ × List Piece)
 list_by on ps None = None
 list_by on ps (Some (Goes list place)) = on list place
 list_by on ps (Some (Ends list)) = Some (list, ps)
 
 -- after {: registers and runs with commas between them, and }; what follows that
-abbrev pub list_from : ℕ → Place → List Piece → Option (ℕ × List Piece)
+abbrev pub list_from : ℕ → ListPlace → List Piece → Option (ℕ × List Piece)
 list_from list place [] = None
 list_from list place (p ∷ ps) = list_by (λ more next. list_from more next ps) ps (list_step list place p)
 

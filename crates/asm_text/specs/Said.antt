@@ -4,8 +4,8 @@ use Rattle.asm_text.specs.declared.syntax.Code.{Code}
 use Rattle.asm_text.specs.declared.syntax.Reference.{Reference}
 use Rattle.asm_text.specs.declared.syntax.Value.{Value}
 use Rattle.asm_text.specs.declared.syntax.Value.TheVariants as value
-use Rattle.asm_text.specs.declared.syntax.Statement.{Statement}
-use Rattle.asm_text.specs.declared.syntax.Statement.TheVariants as statement
+use Rattle.asm_text.specs.declared.syntax.SourceStatement.{SourceStatement}
+use Rattle.asm_text.specs.declared.syntax.SourceStatement.TheVariants as statement
 
 -- a number, or the name of an address
 pub data Target : Type 0 where
@@ -23,7 +23,7 @@ abbrev pub target_of : Value → Target
 target_of (value.Number n) = Number n
 target_of (value.Label name) = Label name.now
 
-abbrev pub said : Statement → Said
+abbrev pub said : SourceStatement → Said
 said (statement.Code c) = Codes c
 said (statement.Refer r v) = Refers r (target_of v)
 said (statement.Org n) = Orgs n

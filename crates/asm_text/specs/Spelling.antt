@@ -17,10 +17,10 @@ use Rattle.asm_text.specs.declared.names.Head.TheVariants as head
 use Rattle.asm_text.specs.declared.names.Suffix.{Suffix}
 use Rattle.asm_text.specs.declared.word.Word.{Word}
 use Rattle.asm_text.specs.declared.word.Word.TheVariants.{Plain, Branch, Org, Dcd}
-use Rattle.asm_text.specs.declared.syntax.Action.{Action}
-use Rattle.asm_text.specs.declared.syntax.Action.TheVariants as action
+use Rattle.asm_text.specs.declared.syntax.WordAction.{WordAction}
+use Rattle.asm_text.specs.declared.syntax.WordAction.TheVariants as action
 use Rattle.asm_text.specs.declared.syntax.Address.{Address}
-use Rattle.asm_text.specs.declared.syntax.Transfer.{Transfer}
+use Rattle.asm_text.specs.declared.syntax.SingleTransfer.{SingleTransfer}
 use Rattle.asm_text.specs.declared.syntax.Use.{Use}
 use Rattle.asm_text.specs.declared.syntax.Use.TheVariants as use_of
 
@@ -30,7 +30,7 @@ SpellsTarget (Number n) ps = SpellsNumber n ps
 SpellsTarget (Label name) ps = (ps ≡ Run name ∷ []) × (is_label name ≡ true)
 
 -- Rd,[address of LDR and STR
-pub record SpellsTransfer (load : Bool) (s : Suffix) (x : Transfer) (ps : List Piece) : Type 0 where
+pub record SpellsTransfer (load : Bool) (s : Suffix) (x : SingleTransfer) (ps : List Piece) : Type 0 where
   pub rd : Register
   pub at : Address
   pub means : x ≡ record { load = load; byte = is_byte s; rd = rd; address = at }
@@ -51,7 +51,7 @@ pub record SpellsAt (rd : Register) (t : Target) (ps : List Piece) : Type 0 wher
 -- ## What follows a word
 
 -- an action whose operands are all numbers and registers
-abbrev pub SpellsAction : Action → Head → Suffix → List Piece → Type 0
+abbrev pub SpellsAction : WordAction → Head → Suffix → List Piece → Type 0
 SpellsAction (action.Data x) (head.Data op) s ps = SpellsData op s x ps
 SpellsAction (action.Multiply x) (head.Multiply accumulate) s ps = SpellsMultiply accumulate s x ps
 SpellsAction (action.Single x) (head.Single load) s ps = SpellsTransfer load s x ps

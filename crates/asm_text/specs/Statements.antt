@@ -18,8 +18,8 @@ use Rattle.asm_text.specs.declared.names.Head.TheVariants as head
 use Rattle.asm_text.specs.declared.names.Suffix.{Suffix}
 use Rattle.asm_text.specs.declared.word.Word.{Word}
 use Rattle.asm_text.specs.declared.word.Word.TheVariants.{Plain, Branch, Org, Dcd}
-use Rattle.asm_text.specs.declared.syntax.Action.{Action}
-use Rattle.asm_text.specs.declared.syntax.Action.TheVariants as action
+use Rattle.asm_text.specs.declared.syntax.WordAction.{WordAction}
+use Rattle.asm_text.specs.declared.syntax.WordAction.TheVariants as action
 use Rattle.asm_text.specs.declared.syntax.Use.{Use}
 use Rattle.asm_text.specs.declared.syntax.Use.TheVariants as use_of
 use Rattle.asm_text.specs.declared.statement.Expects.{Expects}
@@ -75,7 +75,7 @@ single_said c load s ps = option_and_then (λ f. single_with c load s f.0 f.1) (
 abbrev pub adr_said : Cond → List Piece → Option Said
 adr_said c ps = option_and_then (λ f. refers c (use_of.Adr f.0) f.1) (first_register_comma ps)
 
-abbrev pub action_of : Head → Suffix → List Piece → Option Action
+abbrev pub action_of : Head → Suffix → List Piece → Option WordAction
 action_of (head.Data op) s ps = option_map action.Data (data_of op s ps)
 action_of (head.Multiply a) s ps = option_map action.Multiply (product_of a s ps)
 action_of (head.Block l) s ps = option_map action.Block (block_of l s ps)

@@ -41,8 +41,8 @@ pub use number::{read_hex, read_number};
 pub use printed_lines::{Shown, WORD_LINE_ROOM, read_shown};
 pub use statement::TextFault;
 pub use syntax::{
-    Action, Address, Amount, BlockTransfer, Code, Data, Distance, Operand, Product, Reference,
-    Shifting, Statement, Transfer, Use, Value,
+    Address, Amount, BlockTransfer, Code, Data, Distance, Operand, Product, Reference, Shifting,
+    SingleTransfer, SourceStatement, Use, Value, WordAction,
 };
 pub use token::{after_blanks, is_blank};
 pub use word::Word;

@@ -8,7 +8,7 @@ ghost use Rattle.asm_text.specs.Statements.{parsed};
 ghost use Rattle.asm_text.specs.Source.{feed_len, line_view, lines_of, without_return};
 
 use crate::statement::{TextFault, is_label, read_statement};
-use crate::syntax::Statement;
+use crate::syntax::SourceStatement;
 use crate::token::{Token, tokens, word_ends};
 use memchr::memchr;
 use std::alloc::Global;
@@ -18,7 +18,7 @@ use std::alloc::Global;
 pub struct Line<'a> {
     /// The label in its first column.
     pub label: Option<&'a [u8]>,
-    pub statement: Option<Statement<'a>>,
+    pub statement: Option<SourceStatement<'a>>,
 }
 
 fn is_text(b: u8) -> bool

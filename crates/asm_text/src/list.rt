@@ -3,7 +3,7 @@ ghost use Rattle.asm_text.specs.Pieces.{in_pieces, piece_of};
 ghost use Rattle.asm_text.specs.Operands.{after_step, block_before, block_based, block_of, block_up};
 ghost use Rattle.asm_text.specs.Operands.{braced, caret_of, first_step, list_from, list_of};
 ghost use Rattle.asm_text.specs.Operands.{list_step, run_bits, with_bits};
-ghost use Rattle.asm_text.specs.declared.list.Place.TheVariants.{Start};
+ghost use Rattle.asm_text.specs.declared.list.ListPlace.TheVariants.{Start};
 
 use crate::names::Suffix;
 use crate::register::{first_register, register_of};
@@ -27,7 +27,7 @@ fn run_bits(first: Register, last: Register) -> Option<u32>
 
 /// Where a reader of a list of registers is.
 #[derive(Clone, Copy)]
-pub enum Place {
+pub enum ListPlace {
     /// A register or a run of them comes next.
     Start,
     /// After a register, which may begin a run.
@@ -42,7 +42,7 @@ pub enum Place {
 #[derive(Clone, Copy)]
 pub enum Step {
     /// The list goes on.
-    Goes(u32, Place),
+    Goes(u32, ListPlace),
     /// The list ends.
     Ends(u32),
 }
@@ -63,7 +63,7 @@ fn after_step(list: u32, token: Token<'_>) -> Option<Step>
     ensures fits { IfSome result (λ step. list_of step < 2 ^ 16) }
 {
     match token {
-        Token::Comma => Some(Step::Goes(list, Place::Start)),
+        Token::Comma => Some(Step::Goes(list, ListPlace::Start)),
         Token::Sign(Mark::CloseBrace) => Some(Step::Ends(list)),
         _ => None,
     }
@@ -75,7 +75,7 @@ fn first_step(list: u32, first: Register, token: Token<'_>) -> Option<Step>
     ensures fits { IfSome result (λ step. list_of step < 2 ^ 16) }
 {
     match token {
-        Token::Sign(Mark::Minus) => Some(Step::Goes(list, Place::To(first))),
+        Token::Sign(Mark::Minus) => Some(Step::Goes(list, ListPlace::To(first))),
         _ => {
             let more = with_bits(list, first, first)?;
             after_step(more, token)
@@ -83,29 +83,29 @@ fn first_step(list: u32, first: Register, token: Token<'_>) -> Option<Step>
     }
 }
 
-fn list_step(list: u32, place: Place, token: Token<'_>) -> Option<Step>
+fn list_step(list: u32, place: ListPlace, token: Token<'_>) -> Option<Step>
     requires { list < 2 ^ 16 }
     ensures value { result ≡ list_step list place (piece_of token.entry) }
     ensures fits { IfSome result (λ step. list_of step < 2 ^ 16) }
 {
     match place {
-        Place::Start => match token {
+        ListPlace::Start => match token {
             Token::Run(name) => {
                 let first = register_of(name)?;
-                Some(Step::Goes(list, Place::First(first)))
+                Some(Step::Goes(list, ListPlace::First(first)))
             }
             _ => None,
         },
-        Place::First(first) => first_step(list, first, token),
-        Place::To(first) => match token {
+        ListPlace::First(first) => first_step(list, first, token),
+        ListPlace::To(first) => match token {
             Token::Run(name) => {
                 let last = register_of(name)?;
                 let more = with_bits(list, first, last)?;
-                Some(Step::Goes(more, Place::After))
+                Some(Step::Goes(more, ListPlace::After))
             }
             _ => None,
         },
-        Place::After => after_step(list, token),
+        ListPlace::After => after_step(list, token),
     }
 }
 
@@ -116,7 +116,7 @@ fn first_list<'a, 'b>(tokens: &'a [Token<'b>]) -> Option<(u32, &'a [Token<'b>])>
     ensures fits { IfSome result (λ f. f.0 < 2 ^ 16) }
 {
     let mut list = 0;
-    let mut place = Place::Start;
+    let mut place = ListPlace::Start;
     for (index, token) in tokens.iter().enumerate() {
         match list_step(list, place, *token)? {
             Step::Goes(more, next) => {

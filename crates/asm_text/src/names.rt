@@ -10,12 +10,12 @@ use arm2_decode::{Cond, Opcode};
 pub enum Head {
     /// A data processing word.
     Data(Opcode),
-    /// MUL, or MLA, which accumulates (true).
-    Multiply(bool),
-    /// STR, or LDR, which loads (true).
-    Single(bool),
-    /// STM, or LDM, which loads (true).
-    Block(bool),
+    /// MUL, or MLA, which accumulates.
+    Multiply { accumulate: bool },
+    /// STR, or LDR, which loads.
+    Single { load: bool },
+    /// STM, or LDM, which loads.
+    Block { load: bool },
     /// SWI.
     Swi,
     /// ADR.
@@ -93,12 +93,12 @@ const HEADS: [(&[u8], Head); 24] = [
     (b"MOV", Head::Data(Opcode::Mov)),
     (b"BIC", Head::Data(Opcode::Bic)),
     (b"MVN", Head::Data(Opcode::Mvn)),
-    (b"MUL", Head::Multiply(false)),
-    (b"MLA", Head::Multiply(true)),
-    (b"LDR", Head::Single(true)),
-    (b"STR", Head::Single(false)),
-    (b"LDM", Head::Block(true)),
-    (b"STM", Head::Block(false)),
+    (b"MUL", Head::Multiply { accumulate: false }),
+    (b"MLA", Head::Multiply { accumulate: true }),
+    (b"LDR", Head::Single { load: true }),
+    (b"STR", Head::Single { load: false }),
+    (b"LDM", Head::Block { load: true }),
+    (b"STM", Head::Block { load: false }),
     (b"SWI", Head::Swi),
     (b"ADR", Head::Adr),
 ];
@@ -186,9 +186,9 @@ pub(crate) fn may_have(head: Head, suffix: Suffix) -> bool
             Suffix::P => opcode.is_compare(),
             _ => false,
         },
-        Head::Multiply(_) => matches!(suffix, Suffix::Bare | Suffix::S),
-        Head::Single(_) => matches!(suffix, Suffix::Bare | Suffix::B | Suffix::T | Suffix::Bt),
-        Head::Block(_) => is_block_suffix(suffix),
+        Head::Multiply { .. } => matches!(suffix, Suffix::Bare | Suffix::S),
+        Head::Single { .. } => matches!(suffix, Suffix::Bare | Suffix::B | Suffix::T | Suffix::Bt),
+        Head::Block { .. } => is_block_suffix(suffix),
         Head::Swi | Head::Adr => matches!(suffix, Suffix::Bare),
     }
 }

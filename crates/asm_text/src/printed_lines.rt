@@ -11,7 +11,7 @@ ghost use Rattle.asm_text.specs.Said.{said};
 ghost use Rattle.asm_text.specs.declared.printed_lines.Shown.{Shown};
 
 use crate::statement::{plain_said, refers};
-use crate::syntax::{Code, Reference, Statement, Use, Value};
+use crate::syntax::{Code, Reference, SourceStatement, Use, Value};
 use crate::token::{Token, next};
 use crate::word::{Word, word_of};
 use arrayvec::ArrayVec;
@@ -58,12 +58,12 @@ fn is_shown_text(text: &[u8]) -> bool
     are_shown_bytes(text) && is_upper(text) && text.len() <= WORD_LINE_ROOM
 }
 
-fn shown_in(statement: &Statement<'_>) -> Option<Shown>
+fn shown_in(statement: &SourceStatement<'_>) -> Option<Shown>
     ensures { result ≡ shown_in (said statement.now) }
 {
     match statement {
-        Statement::Code(code) => Some(Shown::Code(*code)),
-        Statement::Refer(reference, Value::Number(n)) => Some(Shown::Refer(*reference, *n)),
+        SourceStatement::Code(code) => Some(Shown::Code(*code)),
+        SourceStatement::Refer(reference, Value::Number(n)) => Some(Shown::Refer(*reference, *n)),
         _ => None,
     }
 }
@@ -77,8 +77,8 @@ fn operands_of(word: Word, tokens: &[Token<'_>]) -> Option<Shown>
             let statement = plain_said(head, cond, suffix, tokens)?;
             shown_in(&statement)
         }
-        Word::Branch(link, cond) => {
-            let statement = refers(cond, Use::Branch(link), tokens)?;
+        Word::Branch { link, cond } => {
+            let statement = refers(cond, Use::Branch { link }, tokens)?;
             shown_in(&statement)
         }
         Word::Org | Word::Dcd => None,

@@ -18,7 +18,7 @@ use crate::names::{Head, Suffix};
 use crate::number::{first_hex, first_number, read_hex, read_number};
 use crate::operand::{all_read, data_of, product_of};
 use crate::register::first_register_comma;
-use crate::syntax::{Action, Code, Reference, Statement, Transfer, Use, Value};
+use crate::syntax::{Code, Reference, SingleTransfer, SourceStatement, Use, Value, WordAction};
 use crate::token::{Mark, Token, is_name};
 use crate::word::{Word, spelled_word};
 use arm2_decode::{Cond, Register};
@@ -142,11 +142,11 @@ fn is_user(suffix: Suffix) -> bool
 }
 
 /// A target, to which a word with this condition refers in this way.
-pub(crate) fn refers<'a>(cond: Cond, how: Use, tokens: &[Token<'a>]) -> Option<Statement<'a>>
+pub(crate) fn refers<'a>(cond: Cond, how: Use, tokens: &[Token<'a>]) -> Option<SourceStatement<'a>>
     ensures { option_map said result ≡ refers cond how (map piece_of tokens.now) }
 {
     let value = only_target(tokens)?;
-    Some(Statement::Refer(Reference { cond, how }, value))
+    Some(SourceStatement::Refer(Reference { cond, how }, value))
 }
 
 fn single_with<'a>(
@@ -155,7 +155,7 @@ fn single_with<'a>(
     suffix: Suffix,
     rd: Register,
     tokens: &[Token<'a>],
-) -> Option<Statement<'a>>
+) -> Option<SourceStatement<'a>>
     ensures { option_map said result ≡ single_with cond load suffix rd (map piece_of tokens.now) }
 {
     let byte = is_byte(suffix);
@@ -163,20 +163,20 @@ fn single_with<'a>(
     match tokens {
         [Token::Sign(Mark::OpenBracket), rest @ ..] => {
             let address = address_of(user, rest)?;
-            let transfer = Transfer {
+            let transfer = SingleTransfer {
                 load,
                 byte,
                 rd,
                 address,
             };
-            let action = Action::Single(transfer);
-            Some(Statement::Code(Code { cond, action }))
+            let action = WordAction::Single(transfer);
+            Some(SourceStatement::Code(Code { cond, action }))
         }
         _ => {
             if user {
                 None
             } else {
-                refers(cond, Use::Transfer(load, byte, rd), tokens)
+                refers(cond, Use::Transfer { load, byte, rd }, tokens)
             }
         }
     }
@@ -187,14 +187,14 @@ fn single_said<'a>(
     load: bool,
     suffix: Suffix,
     tokens: &[Token<'a>],
-) -> Option<Statement<'a>>
+) -> Option<SourceStatement<'a>>
     ensures { option_map said result ≡ single_said cond load suffix (map piece_of tokens.now) }
 {
     let (rd, rest) = first_register_comma(tokens)?;
     single_with(cond, load, suffix, rd, rest)
 }
 
-fn adr_said<'a>(cond: Cond, tokens: &[Token<'a>]) -> Option<Statement<'a>>
+fn adr_said<'a>(cond: Cond, tokens: &[Token<'a>]) -> Option<SourceStatement<'a>>
     ensures { option_map said result ≡ adr_said cond (map piece_of tokens.now) }
 {
     let (rd, rest) = first_register_comma(tokens)?;
@@ -202,15 +202,17 @@ fn adr_said<'a>(cond: Cond, tokens: &[Token<'a>]) -> Option<Statement<'a>>
 }
 
 // The action of a word without a target.
-fn action_of(head: Head, suffix: Suffix, tokens: &[Token<'_>]) -> Option<Action>
+fn action_of(head: Head, suffix: Suffix, tokens: &[Token<'_>]) -> Option<WordAction>
     ensures { result ≡ action_of head suffix (map piece_of tokens.now) }
 {
     match head {
-        Head::Data(opcode) => data_of(opcode, suffix, tokens).map(Action::Data),
-        Head::Multiply(accumulate) => product_of(accumulate, suffix, tokens).map(Action::Multiply),
-        Head::Block(load) => block_of(load, suffix, tokens).map(Action::Block),
-        Head::Swi => only_number(tokens).map(Action::Swi),
-        Head::Single(_) | Head::Adr => None,
+        Head::Data(opcode) => data_of(opcode, suffix, tokens).map(WordAction::Data),
+        Head::Multiply { accumulate } => {
+            product_of(accumulate, suffix, tokens).map(WordAction::Multiply)
+        }
+        Head::Block { load } => block_of(load, suffix, tokens).map(WordAction::Block),
+        Head::Swi => only_number(tokens).map(WordAction::Swi),
+        Head::Single { .. } | Head::Adr => None,
     }
 }
 
@@ -219,11 +221,11 @@ fn code_said<'a>(
     cond: Cond,
     suffix: Suffix,
     tokens: &[Token<'a>],
-) -> Option<Statement<'a>>
+) -> Option<SourceStatement<'a>>
     ensures { option_map said result ≡ code_said head cond suffix (map piece_of tokens.now) }
 {
     let action = action_of(head, suffix, tokens)?;
-    Some(Statement::Code(Code { cond, action }))
+    Some(SourceStatement::Code(Code { cond, action }))
 }
 
 /// What the operands of a word of this head, condition and suffix say.
@@ -232,21 +234,21 @@ pub(crate) fn plain_said<'a>(
     cond: Cond,
     suffix: Suffix,
     tokens: &[Token<'a>],
-) -> Option<Statement<'a>>
+) -> Option<SourceStatement<'a>>
     ensures { option_map said result ≡ plain_said head cond suffix (map piece_of tokens.now) }
 {
     match head {
-        Head::Single(load) => single_said(cond, load, suffix, tokens),
+        Head::Single { load } => single_said(cond, load, suffix, tokens),
         Head::Adr => adr_said(cond, tokens),
         _ => code_said(head, cond, suffix, tokens),
     }
 }
 
-fn org_said<'a>(tokens: &[Token<'a>]) -> Option<Statement<'a>>
+fn org_said<'a>(tokens: &[Token<'a>]) -> Option<SourceStatement<'a>>
     ensures { option_map said result ≡ org_said (map piece_of tokens.now) }
 {
     let n = only_number(tokens)?;
-    Some(Statement::Org(n))
+    Some(SourceStatement::Org(n))
 }
 
 // What a piece adds to a list of values, and what comes next.
@@ -307,11 +309,14 @@ fn values_in<'a>(alloc: Global, tokens: &[Token<'a>]) -> Result<Option<Vec<Value
     }
 }
 
-fn dcd_said<'a>(alloc: Global, tokens: &[Token<'a>]) -> Result<Option<Statement<'a>>, AllocError>
+fn dcd_said<'a>(
+    alloc: Global,
+    tokens: &[Token<'a>],
+) -> Result<Option<SourceStatement<'a>>, AllocError>
     ensures { IfOk result (λ found. option_map said found ≡ dcd_said (map piece_of tokens.now)) }
 {
     match values_in(alloc, tokens)? {
-        Some(values) => Ok(Some(Statement::Dcd(values))),
+        Some(values) => Ok(Some(SourceStatement::Dcd(values))),
         None => Ok(None),
     }
 }
@@ -320,12 +325,12 @@ fn operands_of<'a>(
     alloc: Global,
     word: Word,
     tokens: &[Token<'a>],
-) -> Result<Option<Statement<'a>>, AllocError>
+) -> Result<Option<SourceStatement<'a>>, AllocError>
     ensures { IfOk result (λ found. option_map said found ≡ operands_of word (map piece_of tokens.now)) }
 {
     match word {
         Word::Plain(head, cond, suffix) => Ok(plain_said(head, cond, suffix, tokens)),
-        Word::Branch(link, cond) => Ok(refers(cond, Use::Branch(link), tokens)),
+        Word::Branch { link, cond } => Ok(refers(cond, Use::Branch { link }, tokens)),
         Word::Org => Ok(org_said(tokens)),
         Word::Dcd => dcd_said(alloc, tokens),
     }
@@ -335,7 +340,7 @@ fn after_word<'a>(
     alloc: Global,
     word: Word,
     tokens: &[Token<'a>],
-) -> Result<Statement<'a>, TextFault>
+) -> Result<SourceStatement<'a>, TextFault>
     ensures ok { IfOk result (λ s. after_word word (map piece_of tokens.now) ≡ Ok (said s)) }
     ensures fault { IfErr result
         (λ fault. (fault ≡ TextFault.Memory) ⊎ (after_word word (map piece_of tokens.now) ≡ Err fault)) }
@@ -353,7 +358,7 @@ fn after_word<'a>(
 pub(crate) fn read_statement<'a>(
     alloc: Global,
     tokens: &[Token<'a>],
-) -> Result<Statement<'a>, TextFault>
+) -> Result<SourceStatement<'a>, TextFault>
     ensures ok { IfOk result (λ s. statement_of (map piece_of tokens.now) ≡ Ok (said s)) }
     ensures fault { IfErr result
         (λ fault. (fault ≡ TextFault.Memory) ⊎ (statement_of (map piece_of tokens.now) ≡ Err fault)) }

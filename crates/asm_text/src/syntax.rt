@@ -72,7 +72,7 @@ pub struct Address {
 
 /// LDR or STR.
 #[derive(Clone, Copy)]
-pub struct Transfer {
+pub struct SingleTransfer {
     pub load: bool,
     pub byte: bool,
     pub rd: Register,
@@ -94,13 +94,13 @@ pub struct BlockTransfer {
 
 /// What a word does, with every number as written.
 #[derive(Clone, Copy)]
-pub enum Action {
+pub enum WordAction {
     Data(Data),
     Multiply(Product),
-    Single(Transfer),
+    Single(SingleTransfer),
     Block(BlockTransfer),
-    /// To a target, with a link (true) or without.
-    Branch(bool, u32),
+    /// To a target, with a link (BL) or without.
+    Branch { link: bool, target: u32 },
     Swi(u32),
 }
 
@@ -108,18 +108,24 @@ pub enum Action {
 #[derive(Clone, Copy)]
 pub struct Code {
     pub cond: Cond,
-    pub action: Action,
+    pub action: WordAction,
 }
 
 /// What a word does with its target.
 #[derive(Clone, Copy)]
 pub enum Use {
-    /// B, or BL (true).
-    Branch(bool),
+    /// B, or BL, which links.
+    Branch {
+        link: bool,
+    },
     /// ADR to a register.
     Adr(Register),
-    /// A transfer at the target: whether it loads, whether it is of a byte, and Rd.
-    Transfer(bool, bool, Register),
+    /// STR at the target, or LDR, which loads: a word, or a byte.
+    Transfer {
+        load: bool,
+        byte: bool,
+        rd: Register,
+    },
 }
 
 /// A word with a target.
@@ -138,7 +144,7 @@ pub enum Value<'a> {
 
 /// What a line says after its label.
 #[derive(Drop)]
-pub enum Statement<'a> {
+pub enum SourceStatement<'a> {
     /// A word of numbers and registers.
     Code(Code),
     /// A word with a target.

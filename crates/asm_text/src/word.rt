@@ -15,8 +15,8 @@ use std::alloc::{AllocError, Global};
 pub enum Word {
     /// A head, a condition and a suffix.
     Plain(Head, Cond, Suffix),
-    /// B, or BL, which links (true).
-    Branch(bool, Cond),
+    /// B, or BL, which links.
+    Branch { link: bool, cond: Cond },
     /// ORG.
     Org,
     /// DCD.
@@ -39,10 +39,16 @@ fn branch_of(text: &[u8]) -> Option<Word>
     match text {
         [b'B', rest @ ..] => {
             if let Some(c) = whole_cond(rest) {
-                return Some(Word::Branch(false, c));
+                return Some(Word::Branch {
+                    link: false,
+                    cond: c,
+                });
             }
             match rest {
-                [b'L', after @ ..] => whole_cond(after).map(|c| Word::Branch(true, c)),
+                [b'L', after @ ..] => whole_cond(after).map(|c| Word::Branch {
+                    link: true,
+                    cond: c,
+                }),
                 _ => None,
             }
         }

@@ -295,12 +295,12 @@ clash_least : (s : State) (k : ℕ) (before : List Parsed) (p : Parsed) (o : Opt
     → IsLeast (Clashes before p) (lower (label_fault s p.label) o)
 clash_least s k before p o h place =
     let Label = λ (f : LineFault). (f ≡ LabelTwice) × IsRepeated before p.label in
-    let Place =
+    let ListPlace =
     λ (f : LineFault). ((f ≡ OutOfRange) × IsMisplaced before p.said)
     ⊎ ((f ≡ TooLong) × AreTooLong (before ++ p ∷ [])) in
-    least_same (λ f. Label f ⊎ Place f) (Clashes before p) (lower (label_fault s p.label) o)
+    least_same (λ f. Label f ⊎ ListPlace f) (Clashes before p) (lower (label_fault s p.label) o)
     (sum_clash before p) (clash_sum before p)
-    (least_both Label Place (label_fault s p.label) o (label_least s k before p.label h) place)
+    (least_both Label ListPlace (label_fault s p.label) o (label_least s k before p.label h) place)
 
 words_clash : (s : State) (k : ℕ) (before : List Parsed) (p : Parsed) (m : ℕ) → Front s k before
     → word_count p.said ≡ suc m

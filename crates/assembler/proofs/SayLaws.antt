@@ -20,8 +20,8 @@ use Rattle.asm_text.specs.declared.names.Head.{Head}
 use Rattle.asm_text.specs.declared.names.Head.TheVariants as head
 use Rattle.asm_text.specs.declared.names.Suffix.{Suffix}
 use Rattle.asm_text.specs.declared.names.Suffix.TheVariants as suffix
-use Rattle.asm_text.specs.declared.syntax.Action.{Action}
-use Rattle.asm_text.specs.declared.syntax.Action.TheVariants as action
+use Rattle.asm_text.specs.declared.syntax.WordAction.{WordAction}
+use Rattle.asm_text.specs.declared.syntax.WordAction.TheVariants as action
 use Rattle.asm_text.specs.declared.syntax.Address.{Address}
 use Rattle.asm_text.specs.declared.syntax.Use.{Use}
 use Rattle.asm_text.specs.declared.syntax.Use.TheVariants as use_of
@@ -95,7 +95,7 @@ after_word_plain : (w : Word) (ps : List Piece) → ((qs : List Piece) → plain
 after_word_plain w (Gap ∷ ps) h = bad_plain (operands_of w ps) (h ps)
 after_word_plain w ps h = refl
 
-code_plain : (c : Cond) (o : Option Action) → plain_option (option_map (λ a. Codes (record { cond = c; action = a })) o) ≡ true
+code_plain : (c : Cond) (o : Option WordAction) → plain_option (option_map (λ a. Codes (record { cond = c; action = a })) o) ≡ true
 code_plain c None = refl
 code_plain c (Some a) = refl
 

@@ -25,10 +25,10 @@ use Rattle.asm_text.specs.declared.syntax.Data.{Data}
 use Rattle.asm_text.specs.declared.syntax.Product.{Product}
 use Rattle.asm_text.specs.declared.syntax.Distance.{Distance}
 use Rattle.asm_text.specs.declared.syntax.Distance.TheVariants as distance
-use Rattle.asm_text.specs.declared.syntax.Transfer.{Transfer}
+use Rattle.asm_text.specs.declared.syntax.SingleTransfer.{SingleTransfer}
 use Rattle.asm_text.specs.declared.syntax.BlockTransfer.{BlockTransfer}
-use Rattle.asm_text.specs.declared.syntax.Action.{Action}
-use Rattle.asm_text.specs.declared.syntax.Action.TheVariants as action
+use Rattle.asm_text.specs.declared.syntax.WordAction.{WordAction}
+use Rattle.asm_text.specs.declared.syntax.WordAction.TheVariants as action
 use Rattle.asm_text.specs.declared.syntax.Code.{Code}
 use Rattle.asm_text.specs.declared.syntax.Use.{Use}
 use Rattle.asm_text.specs.declared.syntax.Use.TheVariants as use_of
@@ -120,7 +120,7 @@ product_word c p =
 
 -- ## Transfers
 
-abbrev pub number_transfer : ℕ → Transfer → ℕ → Result ℕ LineFault
+abbrev pub number_transfer : ℕ → SingleTransfer → ℕ → Result ℕ LineFault
 number_transfer c t n =
     in_range (nat_lt n 4096)
     (allowed
@@ -130,7 +130,7 @@ number_transfer c t n =
     (c ∷ bit_of t.address.before ∷ bit_of t.address.up ∷ bit_of t.byte ∷ bit_of t.address.write_back
     ∷ bit_of t.load ∷ register_number t.address.rn ∷ register_number t.rd ∷ n ∷ [])))
 
-abbrev pub register_transfer : ℕ → Transfer → Register → Amount → Result ℕ LineFault
+abbrev pub register_transfer : ℕ → SingleTransfer → Register → Amount → Result ℕ LineFault
 register_transfer c t m a =
     in_range (amount_fits a)
     (allowed
@@ -141,7 +141,7 @@ register_transfer c t m a =
     ∷ bit_of t.load ∷ register_number t.address.rn ∷ register_number t.rd ∷ amount_field a
     ∷ shift_number (amount_shift a) ∷ register_number m ∷ [])))
 
-abbrev pub transfer_word : ℕ → Transfer → Distance → Result ℕ LineFault
+abbrev pub transfer_word : ℕ → SingleTransfer → Distance → Result ℕ LineFault
 transfer_word c t (distance.Number n) = number_transfer c t n
 transfer_word c t (distance.Register m a) = register_transfer c t m a
 
@@ -174,7 +174,7 @@ swi_word c n = in_range (nat_lt n (2 ^ 24)) (Ok (word_in swi_row (c ∷ n ∷ []
 -- ## Any
 
 -- the word, or the lowest fault
-abbrev pub action_word : ℕ → ℕ → Action → Result ℕ LineFault
+abbrev pub action_word : ℕ → ℕ → WordAction → Result ℕ LineFault
 action_word c at (action.Data d) = operand_word c d d.operand
 action_word c at (action.Multiply p) = product_word c p
 action_word c at (action.Single t) = transfer_word c t t.address.distance
@@ -195,7 +195,7 @@ abbrev pub apart : ℕ → ℕ → ℕ
 apart at target = if is_ahead at target then target - (at + 8) else at + 8 - target
 
 -- what a word with a target does
-abbrev pub use_action : Use → ℕ → ℕ → Action
+abbrev pub use_action : Use → ℕ → ℕ → WordAction
 use_action (use_of.Branch link) at target = action.Branch link target
 use_action (use_of.Adr d) at target =
     action.Data

@@ -9,7 +9,7 @@ use crate::encoded::encoded;
 use crate::spelling::shown_line;
 use crate::text::Line;
 use arm2_decode::decode;
-use asm_text::{Action, Code, Shown, Use, hex8, read_shown};
+use asm_text::{Code, Shown, Use, WordAction, hex8, read_shown};
 
 fn word_or_none(code: Code, at: u32) -> Option<u32>
     ensures { result ≡ result_ok (encoded code at) }
@@ -27,8 +27,8 @@ fn shown_word(shown: Shown, at: u32) -> Option<u32>
     match shown {
         Shown::Code(code) => word_or_none(code, at),
         Shown::Refer(reference, target) => match reference.how {
-            Use::Branch(link) => {
-                let action = Action::Branch(link, target);
+            Use::Branch { link } => {
+                let action = WordAction::Branch { link, target };
                 let cond = reference.cond;
                 word_or_none(Code { cond, action }, at)
             }

@@ -15,7 +15,8 @@ use arm2_decode::{
     data_clash, data_shift_clash, encode, multiply_clash, single_clash, single_register_clash,
 };
 use asm_text::{
-    Action, Amount, BlockTransfer, Code, Data, Distance, Operand, Product, Shifting, Transfer,
+    Amount, BlockTransfer, Code, Data, Distance, Operand, Product, Shifting, SingleTransfer,
+    WordAction,
 };
 use bus_ticks::is_word_address;
 
@@ -184,7 +185,7 @@ fn product_word(cond: Cond, product: Product) -> Result<u32, LineFault>
 }
 
 // The fields of a transfer's word that may bar it.
-fn single_fields(transfer: Transfer) -> SingleFields
+fn single_fields(transfer: SingleTransfer) -> SingleFields
     ensures before { result.before ≡ transfer.address.before }
     ensures byte { result.byte ≡ transfer.byte }
     ensures write_back { result.write_back ≡ transfer.address.write_back }
@@ -202,7 +203,7 @@ fn single_fields(transfer: Transfer) -> SingleFields
     }
 }
 
-fn number_transfer(cond: Cond, transfer: Transfer, n: u32) -> Result<u32, LineFault>
+fn number_transfer(cond: Cond, transfer: SingleTransfer, n: u32) -> Result<u32, LineFault>
     ensures { result ≡ number_transfer (cond_number cond) transfer n }
 {
     if n >= 4096 {
@@ -226,7 +227,7 @@ fn number_transfer(cond: Cond, transfer: Transfer, n: u32) -> Result<u32, LineFa
 
 fn register_transfer(
     cond: Cond,
-    transfer: Transfer,
+    transfer: SingleTransfer,
     rm: Register,
     amount: Amount,
 ) -> Result<u32, LineFault>
@@ -253,7 +254,7 @@ fn register_transfer(
     Ok(word_of(cond, operation))
 }
 
-fn transfer_word(cond: Cond, transfer: Transfer) -> Result<u32, LineFault>
+fn transfer_word(cond: Cond, transfer: SingleTransfer) -> Result<u32, LineFault>
     ensures { result ≡ transfer_word (cond_number cond) transfer transfer.address.distance }
 {
     match transfer.address.distance {
@@ -332,11 +333,11 @@ pub(crate) fn encoded(code: Code, at: u32) -> Result<u32, LineFault>
     ensures { result ≡ encoded code at }
 {
     match code.action {
-        Action::Data(fields) => operand_word(code.cond, fields, fields.operand),
-        Action::Multiply(factors) => product_word(code.cond, factors),
-        Action::Single(single) => transfer_word(code.cond, single),
-        Action::Block(list) => block_word(code.cond, list),
-        Action::Branch(link, target) => branch_word(code.cond, at, link, target),
-        Action::Swi(comment) => swi_word(code.cond, comment),
+        WordAction::Data(fields) => operand_word(code.cond, fields, fields.operand),
+        WordAction::Multiply(factors) => product_word(code.cond, factors),
+        WordAction::Single(single) => transfer_word(code.cond, single),
+        WordAction::Block(list) => block_word(code.cond, list),
+        WordAction::Branch { link, target } => branch_word(code.cond, at, link, target),
+        WordAction::Swi(comment) => swi_word(code.cond, comment),
     }
 }

@@ -4,7 +4,9 @@ ghost use Rattle.assembler.specs.Codes.{apart, is_ahead, refer, use_action, use_
 
 use crate::fault::LineFault;
 use arm2_decode::{Opcode, Register};
-use asm_text::{Action, Address, Code, Data, Distance, Operand, Reference, Transfer, Use};
+use asm_text::{
+    Address, Code, Data, Distance, Operand, Reference, SingleTransfer, Use, WordAction,
+};
 
 fn is_ahead(at: u32, target: u32) -> bool
     requires { at ≤ SPACE_END }
@@ -25,13 +27,13 @@ fn apart(at: u32, target: u32) -> u32
     }
 }
 
-fn use_action(how: Use, at: u32, target: u32) -> Action
+fn use_action(how: Use, at: u32, target: u32) -> WordAction
     requires { at ≤ SPACE_END }
     ensures { result ≡ use_action how at target }
 {
     match how {
-        Use::Branch(link) => Action::Branch(link, target),
-        Use::Adr(rd) => Action::Data(Data {
+        Use::Branch { link } => WordAction::Branch { link, target },
+        Use::Adr(rd) => WordAction::Data(Data {
             opcode: if is_ahead(at, target) {
                 Opcode::Add
             } else {
@@ -42,7 +44,7 @@ fn use_action(how: Use, at: u32, target: u32) -> Action
             rd,
             operand: Operand::Immediate(apart(at, target)),
         }),
-        Use::Transfer(load, byte, rd) => Action::Single(Transfer {
+        Use::Transfer { load, byte, rd } => WordAction::Single(SingleTransfer {
             load,
             byte,
             rd,
@@ -74,7 +76,11 @@ pub(crate) fn use_fault(how: Use) -> Option<LineFault>
     ensures { result ≡ use_fault how }
 {
     match how {
-        Use::Transfer(_, true, Register::R15) => Some(LineFault::Unallocated),
+        Use::Transfer {
+            byte: true,
+            rd: Register::R15,
+            ..
+        } => Some(LineFault::Unallocated),
         _ => None,
     }
 }

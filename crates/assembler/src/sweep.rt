@@ -18,7 +18,7 @@ use crate::encoded::encoded;
 use crate::fault::{AsmFault, LineFault, lower, lowest};
 use crate::item::{Item, Pending};
 use crate::reference::{refer, use_fault};
-use asm_text::{Code, Line, Reference, Statement, TextFault, Value, read_line};
+use asm_text::{Code, Line, Reference, SourceStatement, TextFault, Value, read_line};
 use image::{Labels, MOST_SEGMENTS, MOST_WORDS, lies_in_memory, may_hold};
 use std::alloc::Global;
 
@@ -354,16 +354,16 @@ impl<'a> Sweep<'a> {
         let label = parsed.label;
         match &parsed.statement {
             None => self.label_line(alloc, line, label),
-            Some(Statement::Code(code)) => {
+            Some(SourceStatement::Code(code)) => {
                 let pending = code_pending(*code, self.at);
                 self.pending_line(alloc, line, label, pending)
             }
-            Some(Statement::Refer(reference, value)) => {
+            Some(SourceStatement::Refer(reference, value)) => {
                 let pending = at_target(*reference, self.at, *value);
                 self.pending_line(alloc, line, label, pending)
             }
-            Some(Statement::Org(address)) => self.org_line(alloc, line, label, *address),
-            Some(Statement::Dcd(values)) => self.values_line(alloc, line, label, values),
+            Some(SourceStatement::Org(address)) => self.org_line(alloc, line, label, *address),
+            Some(SourceStatement::Dcd(values)) => self.values_line(alloc, line, label, values),
         }
     }
 

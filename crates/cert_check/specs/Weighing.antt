@@ -1,5 +1,5 @@
 -- The rows by the numbers of a tree's order.
-use Rattle.std.specs.Prelude.{◌≡◌, ◌≢◌, ℕ, ◌<◌, Bool, true, false, not, List, length, AllPairs}
+use Rattle.std.specs.Prelude.{◌≡◌, ◌≢◌, ℕ, ◌<◌, Bool, true, false, not, List, Option, length, AllPairs}
 use Rattle.std.specs.List.{list_any}
 use Rattle.walks.specs.Rows as rows
 use Rattle.control_flow.specs.declared.edges.Edge.{Edge}
@@ -17,6 +17,7 @@ use Rattle.certificate.specs.declared.cert.Cert.{Cert}
 use Rattle.cert_check.specs.declared.index.Index.{Index}
 use Rattle.cert_check.specs.declared.weighing.RowTest.{RowTest}
 use Rattle.cert_check.specs.declared.weighing.RowTest.TheVariants as t
+use Rattle.cert_check.specs.declared.weighing.Weighing.{Weighing}
 use Rattle.cert_check.specs.Verdict.{RowHolds, goes_back, goes_out, potentials}
 
 -- what a test asks of an edge's row, by whether the edge goes back and whether it leaves an instance
@@ -58,3 +59,33 @@ pub record CanWeigh (spans : List Span) (index : Index) (e : NumberedEdge) : Typ
   pub differ : AllPairs (λ s t. s.header ≢ t.header) spans
   pub from_in : e.from < length index.holders.items
   pub to_in : e.to < length index.headers.items
+
+-- ## By what rows are weighed by
+
+module _ (weighing : Weighing) where
+  -- the number that the row of an edge is about: none for a back edge of bound 0
+  abbrev pub limit_by : NumberedEdge → Option ℕ
+  limit_by e =
+      rows.limit_of
+      number_shape
+      span_loops
+      weighing.spans.now
+      (T.potentials_of weighing.tables.now)
+      (T.is_exit weighing.exit)
+      e
+
+  -- what the row asks for, in ticks
+  abbrev pub needed_by : NumberedEdge → ℕ
+  needed_by e = T.needed weighing.spans.now weighing.tables.now e
+
+  abbrev pub FitsBy : NumberedEdge → Type 0
+  FitsBy e = NumberFits weighing.exit weighing.spans.now weighing.tables.now e
+
+  abbrev pub HoldsBy : NumberedEdge → Type 0
+  HoldsBy e = NumberHolds weighing.exit weighing.spans.now weighing.tables.now e
+
+  abbrev pub PassesBy : RowTest → NumberedEdge → Type 0
+  PassesBy test e = NumberPasses weighing.exit weighing.spans.now weighing.tables.now test e
+
+  abbrev pub CanWeighBy : NumberedEdge → Type 0
+  CanWeighBy e = CanWeigh weighing.spans.now weighing.index.now e

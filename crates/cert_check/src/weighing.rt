@@ -1,12 +1,12 @@
 ghost use Rattle.std.specs.Prelude.{◌≡◌, ◌≢◌, ◌↔◌, ◌<◌, ◌≤◌, ◌^◌, IsTrue, AllPairs, MatchOption, length};
 ghost use Rattle.std.specs.Prelude.{nat_eq, not};
 ghost use Rattle.std.specs.List.{find, list_any};
-ghost use Rattle.walks.specs.Rows.{limit_of};
 ghost use Rattle.numbered_walks.specs.Index.{AreHeaders};
-ghost use Rattle.numbered_walks.specs.Ordered.{is_in, number_shape, span_loops};
-ghost use Rattle.numbered_walks.specs.Tables.{arrival_of, distance_of, is_exit, needed, potentials_of};
+ghost use Rattle.numbered_walks.specs.Ordered.{is_in};
+ghost use Rattle.numbered_walks.specs.Tables.{arrival_of, distance_of, needed};
 ghost use Rattle.numbered_walks.specs.Tables.{round_of, stay_of};
-ghost use Rattle.cert_check.specs.Weighing.{CanWeigh, NumberFits, NumberHolds, NumberPasses, leaves};
+ghost use Rattle.cert_check.specs.Weighing.{CanWeigh, CanWeighBy, FitsBy, HoldsBy, PassesBy, leaves};
+ghost use Rattle.cert_check.specs.Weighing.{limit_by, needed_by};
 
 use crate::index::Index;
 use numbered_walks::{NumberedEdge, Span, Tables};
@@ -98,10 +98,8 @@ fn span_at(spans: &[Span], headers: &[Option<Span>], number: usize) -> Option<Sp
 
 // The number that the edge's row is about: none for a back edge of bound 0.
 fn limit_of(weighing: Weighing<'_>, edge: &NumberedEdge) -> Option<u64>
-    requires { CanWeigh weighing.spans.now weighing.index.now edge.now }
-    ensures { result
-        ≡ limit_of number_shape span_loops weighing.entry.spans.now
-        (potentials_of weighing.entry.tables.now) (is_exit weighing.entry.exit) edge.now }
+    requires { CanWeighBy weighing edge.now }
+    ensures { result ≡ limit_by weighing.entry edge.now }
 {
     let tables = weighing.tables;
     match span_at(weighing.spans, &weighing.index.headers, edge.to) {
@@ -127,9 +125,8 @@ fn limit_of(weighing: Weighing<'_>, edge: &NumberedEdge) -> Option<u64>
 }
 
 fn row_fits(weighing: Weighing<'_>, edge: &NumberedEdge) -> bool
-    requires { CanWeigh weighing.spans.now weighing.index.now edge.now }
-    ensures { IsTrue result
-        ↔ NumberFits weighing.entry.exit weighing.entry.spans.now weighing.entry.tables.now edge.now }
+    requires { CanWeighBy weighing edge.now }
+    ensures { IsTrue result ↔ FitsBy weighing.entry edge.now }
 {
     match limit_of(weighing, edge) {
         None => true,
@@ -141,9 +138,8 @@ fn row_fits(weighing: Weighing<'_>, edge: &NumberedEdge) -> bool
 }
 
 fn row_holds(weighing: Weighing<'_>, edge: &NumberedEdge) -> bool
-    requires { CanWeigh weighing.spans.now weighing.index.now edge.now }
-    ensures { IsTrue result
-        ↔ NumberHolds weighing.entry.exit weighing.entry.spans.now weighing.entry.tables.now edge.now }
+    requires { CanWeighBy weighing edge.now }
+    ensures { IsTrue result ↔ HoldsBy weighing.entry edge.now }
 {
     match limit_of(weighing, edge) {
         None => true,
@@ -156,12 +152,11 @@ fn row_holds(weighing: Weighing<'_>, edge: &NumberedEdge) -> bool
 
 /// What the edge's row asks for, and the number that it is about, in ticks, where it does not hold.
 pub(crate) fn weight(weighing: Weighing<'_>, edge: &NumberedEdge) -> (u64, u64)
-    requires can_weigh { CanWeigh weighing.spans.now weighing.index.now edge.now }
-    requires fits { NumberFits weighing.exit weighing.spans.now weighing.tables.now edge.now }
-    requires fails { NumberHolds weighing.exit weighing.spans.now weighing.tables.now edge.now → ⊥ }
-    ensures needed { result.0 ≡ needed weighing.entry.spans.now weighing.entry.tables.now edge.now }
-    ensures stated { limit_of number_shape span_loops weighing.entry.spans.now
-        (potentials_of weighing.entry.tables.now) (is_exit weighing.entry.exit) edge.now ≡ Some result.1 }
+    requires can_weigh { CanWeighBy weighing edge.now }
+    requires fits { FitsBy weighing edge.now }
+    requires fails { HoldsBy weighing edge.now → ⊥ }
+    ensures needed { result.0 ≡ needed_by weighing.entry edge.now }
+    ensures stated { limit_by weighing.entry edge.now ≡ Some result.1 }
     ensures less { result.1 < result.0 }
 {
     let stated = limit_of(weighing, edge).unwrap_or(0);
@@ -186,9 +181,8 @@ fn leaves(spans: &[Span], index: &Index, edge: &NumberedEdge) -> bool
 
 /// Whether the edge's row passes the test.
 pub(crate) fn passes(weighing: Weighing<'_>, test: RowTest, edge: &NumberedEdge) -> bool
-    requires { CanWeigh weighing.spans.now weighing.index.now edge.now }
-    ensures { IsTrue result
-        ↔ NumberPasses weighing.entry.exit weighing.entry.spans.now weighing.entry.tables.now test edge.now }
+    requires { CanWeighBy weighing edge.now }
+    ensures { IsTrue result ↔ PassesBy weighing.entry test edge.now }
 {
     let Weighing { spans, index, .. } = weighing;
     let back = edge.to <= edge.from;

@@ -1,7 +1,6 @@
 ghost use Rattle.std.specs.Prelude.{◌≡◌, ◌≢◌, OnOk, IfErr, IfOk};
 ghost use Rattle.control_flow.specs.Graph.{ArePlaces, IsBuildFault, IsFlowGraph, start_of};
 ghost use Rattle.control_flow.specs.Search.{AreInTurn, IsAllowed, IsTurnFault, places_in};
-ghost use Rattle.statement.specs.Stated.{IsStated};
 ghost use Rattle.control_flow.specs.declared.faults.BuildFault.{BuildFault};
 
 use crate::call_list::Calls;
@@ -14,7 +13,7 @@ use crate::search::{add, add_ends, sorted};
 use crate::strays::stray_target;
 use bus_ticks::Profile;
 use image::Image;
-use statement::Statement;
+use statement::{Statement, statements_are_stated};
 use std::alloc::Global;
 use std::cmp::Reverse;
 use std::collections::BTreeSet;
@@ -22,7 +21,6 @@ use std::collections::BTreeSet;
 /// Where a walk starts.
 pub(crate) fn start_of(statement: &Statement) -> Place
     ensures value { result ≡ start_of statement.now }
-    ensures is_stated { IsStated statement.now }
 {
     Place::At(Calls::new(), statement.entry())
 }
@@ -104,6 +102,7 @@ pub fn build(
     let seen = explore(alloc, &inputs)?;
     let places = sorted(alloc, &seen)?;
     let (edges, firsts) = edges_in_turn(alloc, &inputs, &places)?;
+    statements_are_stated(statement);
     Ok(Graph {
         entry: start_of(statement),
         places,

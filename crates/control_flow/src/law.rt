@@ -1,7 +1,9 @@
 ghost use Rattle.std.specs.Prelude.{◌≡◌};
+ghost use Rattle.control_flow.specs.Flow.{IsWellFormed};
 ghost use Rattle.control_flow.specs.Places.{place_cmp};
 
 use crate::call_list::MOST_CALLS;
+use crate::graph::Graph;
 use crate::places::Place;
 use crate::search::MOST_PLACES;
 
@@ -16,3 +18,11 @@ pub fn place_limits()
     ensures places { MOST_PLACES ≡ 16384 }
     ensures calls { MOST_CALLS ≡ 8 }
 {}
+
+/// States that each graph is well formed: its places ascend, and the edges of each lead on to its places. It
+/// does nothing.
+pub fn graphs_are_well_formed(graph: &Graph)
+    ensures { IsWellFormed graph.now }
+{
+    let _places = graph.places();
+}

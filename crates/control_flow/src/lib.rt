@@ -27,7 +27,7 @@ pub use faulty::{FaultyPlace, faulty_place};
 pub use free_edges::is_free;
 pub use graph::Graph;
 pub use graph_inputs::GraphInputs;
-pub use law::{order_of_places, place_limits};
+pub use law::{graphs_are_well_formed, order_of_places, place_limits};
 pub use places::Place;
 pub use search::MOST_PLACES;
 pub use ticks::work_ticks;

@@ -24,7 +24,6 @@ use Rattle.handlers.proofs.AnswerLemmas.{ends_early}
 use Rattle.handlers.specs.Report.{BeforeOutput, HasLoops, IsHandlerRefused, IsReport, IsTreeOf}
 use Rattle.handlers.specs.declared.fault.ReportFault.{ReportFault}
 use Rattle.handlers.specs.declared.fault.ReportFault.TheVariants.{Memory, Device}
-use Rattle.handlers.specs.declared.fault.ReportFault.TheVariants as report_fault
 use Rattle.handlers.proofs.HandlerLemmas.{handler_refusals, one_graph, refused_as}
 use Rattle.handlers.proofs.ReportLemmas.{tree_is_greatest}
 

@@ -7,7 +7,7 @@ use Rattle.control_flow.specs.declared.places.Place.{Place}
 use Rattle.control_flow.specs.declared.places.Place.TheVariants.{At, Exit}
 use Rattle.control_flow.specs.Flow.{Flow}
 use Rattle.control_flow.specs.Places.{place_at}
-use Rattle.image.specs.Image.{Words}
+use Rattle.sources.specs.declared.read.Source.{Source}
 use Rattle.statement.specs.Stated.{Stated}
 use Rattle.text_explained.specs.Assumed.{AreDone, AreDoneReturns, IsSection}
 use Rattle.text_explained.specs.Taken.{is_at}
@@ -93,20 +93,19 @@ module _ (Of Is : ℕ → Type 0) (same : (a : ℕ) → Of a ↔ Is a) where
     each = λ a. (λ h. let w = (d.each a).0 h in (w.0, (same a).0 w.1), λ h. (d.each a).1 (h.0, (same a).1 h.1));
   }
 
-  section_as : (AreRowsOf : List ℕ → List ℕ → Type 0) (heading : List ℕ) (AreNamed : List ℕ → Type 0) (text : List ℕ)
-      → IsSection AreRowsOf heading (AreDone Of AreNamed) text → IsSection AreRowsOf heading (AreDone Is AreNamed) text
-  section_as AreRowsOf heading AreNamed text s = record { named = s.named; rows = s.rows; are_named = named_as AreNamed s.named s.are_named; are_rows = s.are_rows; text_is = s.text_is }
+  section_as : (source : Source) (heading : List ℕ) (AreNamed : List ℕ → Type 0) (text : List ℕ)
+      → IsSection source heading (AreDone Of AreNamed) text → IsSection source heading (AreDone Is AreNamed) text
+  section_as source heading AreNamed text s = record { named = s.named; rows = s.rows; are_named = named_as AreNamed s.named s.are_named; are_rows = s.are_rows; text_is = s.text_is }
 
-  pub returns_as : (AreRowsOf : List ℕ → List ℕ → Type 0) (image : Words) (st : Stated) (flow : Flow) (text : List ℕ)
-      → AreDoneReturns AreRowsOf image st flow Of text → AreDoneReturns AreRowsOf image st flow Is text
-  returns_as AreRowsOf image st flow text r = record {
+  pub returns_as : (source : Source) (st : Stated) (flow : Flow) (text : List ℕ) → AreDoneReturns source st flow Of text → AreDoneReturns source st flow Is text
+  returns_as source st flow text r = record {
     returns = r.returns;
     flags = r.flags;
     called = r.called;
     addressed = r.addressed;
-    are_returns = section_as AreRowsOf _ _ r.returns r.are_returns;
-    are_flags = section_as AreRowsOf _ _ r.flags r.are_flags;
-    are_called = section_as AreRowsOf _ _ r.called r.are_called;
-    are_addressed = section_as AreRowsOf _ _ r.addressed r.are_addressed;
+    are_returns = section_as source _ _ r.returns r.are_returns;
+    are_flags = section_as source _ _ r.flags r.are_flags;
+    are_called = section_as source _ _ r.called r.are_called;
+    are_addressed = section_as source _ _ r.addressed r.are_addressed;
     text_is = r.text_is;
   }

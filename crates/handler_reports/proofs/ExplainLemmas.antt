@@ -1,12 +1,10 @@
 -- The explanation of a handler's bound.
-use Rattle.std.proofs.Common.{◌≡◌, ◌≢◌, ◌^◌, ◌<◌, ◌≤◌, ℕ, List, Ok, Option, refl, subst, ⊎_elim, arith}
+use Rattle.std.proofs.Common.{◌≢◌, ◌^◌, ◌<◌, ◌≤◌, ℕ, List, Option, refl, ⊎_elim, arith}
 use Rattle.std.proofs.lemmas.Bool.{cases_lt}
 use Rattle.bus_ticks.specs.declared.profile.Profile.{Profile}
 use Rattle.text_explained.specs.Starts.{IsLatestStart}
 use Rattle.text_explained.specs.declared.bursts.Bursts.{Bursts}
-use Rattle.image.specs.Image.{Words}
 use Rattle.statement.specs.Stated.{Stated}
-use Rattle.image.specs.Labels.{Names}
 use Rattle.control_flow.specs.Flow.{Flow, IsWellFormed}
 use Rattle.flow_graph.specs.StepLaw.{RunLaw}
 use Rattle.control_flow.specs.declared.places.Place.TheVariants.{Exit}
@@ -18,12 +16,13 @@ use Rattle.numbered_walks.specs.declared.fault.WalkFault.{WalkFault}
 use Rattle.numbered_walks.specs.declared.fault.WalkFault.TheVariants as walk_fault
 use Rattle.handler_reports.specs.ExplainReport.{IsExplanation, IsTextOf, IsTotal}
 use Rattle.handlers.specs.Report.{BeforeOutput, HasLoops, IsRefused, IsTreeOf}
-use Rattle.handlers.specs.Source.{IsSourceFault, source_of}
+use Rattle.handlers.specs.Source.{IsSourceFault}
+use Rattle.sources.specs.Source.{IsSource}
+use Rattle.sources.specs.declared.read.Source.{Source}
 use Rattle.handlers.specs.declared.fault.ReportFault.{ReportFault}
 use Rattle.handlers.proofs.HandlerLemmas.{source_refusal}
 use Rattle.handlers.proofs.ReportLemmas.{accepted, bounded, report_refusal, tree_is_greatest}
 use Rattle.handler_reports.proofs.RunTimeLemmas.{begins_within, ends_within, some_bound}
-use Rattle.handler_reports.proofs.SaidLemmas.{same_words}
 
 -- a greatest walk of 2^63 ticks or more would have been refused
 pub bound_is_allowed : (flow : Flow) (tree : Tree) (l : Longest) → IsLongest flow tree l → l.bound < 2 ^ 63
@@ -41,11 +40,11 @@ bound_is_allowed flow tree l is = ⊎_elim
 pub bound_fits : (flow : Flow) (tree : Tree) (l : Longest) → IsLongest flow tree l → l.bound < 2 ^ 64
 bound_fits flow tree l is = let lt : l.bound < 2 ^ 63 = bound_is_allowed flow tree l is in omega (arith, lt)
 
-module _ (source statement : List ℕ) (profile : Profile) (words : Words) (names : Names) (said : source_of source ≡ Ok (words, names))
+module _ (source statement : List ℕ) (profile : Profile) (read : Source) (is_read : IsSource source read)
     (st : Stated) (flow : Flow) (tree : Tree) (loops : HasLoops source statement profile st flow) (of : IsTreeOf flow st.loops tree) where
   -- the table of a greatest walk explains its bound
   pub explained : RunLaw → IsWellFormed flow → (bursts : Bursts) (l : Longest) (latest : ℕ → Option ℕ) (text : List ℕ) → IsLongest flow tree l → ((a : ℕ) → IsLatestStart flow tree a (latest a)) → ((f : WalkFault) → f ≢ walk_fault.Memory → IsWalkFault flow tree f → ⊥)
-      → IsTextOf source words st flow l latest profile.burst bursts text → IsTotal source loops.graph.words flow l
+      → IsTextOf read st flow l latest profile.burst bursts text → IsTotal read flow l
       → IsExplanation source statement bursts profile l.bound text
   unfolding accepted bounded
   explained law well bursts l latest text is are allowed explains total = record {
@@ -57,7 +56,9 @@ module _ (source statement : List ℕ) (profile : Profile) (words : Words) (name
     ends =
         ends_within loops.graph.words st profile flow l.bound law (tree_is_greatest flow st.loops tree of.instances l.bound is.greatest)
         (some_bound loops.graph.words st profile flow tree l well loops.graph.graph_is is);
-    explains = subst (λ (w : Words). IsTextOf source w st flow l latest profile.burst bursts text) (same_words source statement profile words names st flow said loops) explains;
+    read = read;
+    is_read = is_read;
+    explains = explains;
     total = total;
   }
 

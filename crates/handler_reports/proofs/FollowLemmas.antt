@@ -1,5 +1,5 @@
 -- A report on a followed run, from what is found of a source, a statement and a machine file.
-use Rattle.std.proofs.Common.{◌≡◌, ◌≢◌, ◌∙◌, ◌⊎◌, ◌++◌, ◌∷◌, [], ℕ, ◌+◌, ◌≤◌, Bool, List, length, take, Result, Ok, Err, sym, ap, subst}
+use Rattle.std.proofs.Common.{◌≡◌, ◌≢◌, ◌∙◌, ◌⊎◌, ◌++◌, ◌∷◌, [], ℕ, ◌+◌, ◌≤◌, Bool, List, append_assoc, length, take, Result, Ok, Err, sym, ap, subst}
 use Rattle.std.specs.Prelude.{IfErr}
 use Rattle.std.proofs.lemmas.List.{length-append}
 use Rattle.bus_ticks.specs.declared.profile.Profile.{Profile}
@@ -31,7 +31,7 @@ use Rattle.handler_reports.specs.FollowWork.{HasAllPlaces, IsJudgedRun, IsFollow
 use Rattle.handlers.specs.Keeping.{KeepsStatement, TakesAtMost}
 use Rattle.handlers.specs.Placing.{IsPlaced, IsRunRefused}
 use Rattle.handlers.specs.Report.{BeforeOutput, HasLoops, IsAccepted, IsRefused, IsTreeOf}
-use Rattle.handlers.specs.Source.{source_of}
+use Rattle.sources.specs.Source.{source_of}
 use Rattle.handlers.specs.declared.fault.ReportFault.{ReportFault}
 use Rattle.handlers.specs.declared.fault.ReportFault.TheVariants.{Memory, Source, Image, MachineFile, Load, Device}
 use Rattle.handler_reports.proofs.ExactLemmas.{table_exact}
@@ -106,6 +106,12 @@ module _ (words : Words) (st : Stated) (flow : Flow) (tree : Tree) (of : IsTreeO
         line_is = said.1.1;
         text_is = said.1.2;
       })
+
+-- a text of a line and three pieces, of which two were appended to the first
+pub told_in_pieces : (line first second third two three begun text : List ℕ) → begun ≡ line → two ≡ first ++ second → three ≡ two ++ third → text ≡ begun ++ three
+    → text ≡ line ++ (first ++ (second ++ third))
+told_in_pieces line first second third two three begun text begins twos threes is =
+    is ∙ (λ i. begins i ++ (threes ∙ ap (λ xs. xs ++ third) twos ∙ append_assoc first second third) i)
 
 -- what is said of a kept run is said of each place
 pub all_places : (words : Words) (st : Stated) (flow : Flow) (tree : Tree) (s : State) (inputs : List Input) (after : State) (followed : Followed)

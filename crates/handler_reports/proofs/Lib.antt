@@ -5,6 +5,7 @@ pub mod CommentLemmas
 pub mod TightLemmas
 pub mod DifferenceLemmas
 mod DoneLemmas
+mod LineLemmas
 mod VisitedLemmas
 pub mod ExplainLemmas
 pub mod ExactLemmas

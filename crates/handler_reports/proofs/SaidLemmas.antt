@@ -6,7 +6,7 @@ use Rattle.image.specs.Image.{Words}
 use Rattle.statement.specs.Stated.{Stated}
 use Rattle.image.specs.Labels.{Names}
 use Rattle.handlers.specs.Report.{HasLoops}
-use Rattle.handlers.specs.Source.{Said, source_of}
+use Rattle.sources.specs.Source.{Said, source_of}
 use Rattle.handlers.proofs.HandlerLemmas.{one_ok}
 
 -- its words are those of the handler's graph

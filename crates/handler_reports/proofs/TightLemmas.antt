@@ -49,7 +49,8 @@ use Rattle.certificate.specs.Words.{edge_words, label_words, to_words}
 use Rattle.handlers.specs.Faults.{of_graph, of_statement}
 use Rattle.handlers.specs.Placing.{IsLoaded, IsRunnable}
 use Rattle.handlers.specs.Report.{BeforeOutput, HasGraph, IsHandlerRefused}
-use Rattle.handlers.specs.Source.{IsSourceFault, Said, source_of}
+use Rattle.handlers.specs.Source.{IsSourceFault}
+use Rattle.sources.specs.Source.{Said, source_of}
 use Rattle.handler_reports.specs.TightReport.{HasNoTightReport, HasTightReport, IsEdgeAt, IsEdgeRefused, IsTightRefused, IsTightReport, TakesEdge, edge_line}
 use Rattle.handler_reports.specs.TightReport.{one_step as step_of_cost}
 use Rattle.handler_reports.specs.TightText.{IsEdgeFile, IsEdgeText}

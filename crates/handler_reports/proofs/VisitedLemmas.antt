@@ -28,7 +28,7 @@ use Rattle.handlers.specs.FiqHandler.{IsFiqRefused}
 use Rattle.handlers.specs.Keeping.{KeepsStatement, TakesAtMost}
 use Rattle.handlers.specs.Placing.{IsPlaced, IsRunRefused}
 use Rattle.handlers.specs.Report.{BeforeOutput, IsAccepted, IsRefused, IsTreeOf}
-use Rattle.handlers.specs.Source.{source_of}
+use Rattle.sources.specs.Source.{source_of}
 use Rattle.handlers.specs.Visits.{KeepsVisited}
 use Rattle.handlers.specs.declared.fault.ReportFault.{ReportFault}
 use Rattle.handlers.specs.declared.fault.ReportFault.TheVariants.{Memory, Device}

@@ -1,28 +1,20 @@
 -- The report of a handler that FIQ interrupts, and its refusals.
-use Rattle.std.proofs.Common.{◌≡◌, ◌≢◌, ◌∙◌, ◌⊎◌, ◌++◌, ℕ, ◌≤◌, ◌<◌, List, Result, Ok, Err, refl, sym, ap, subst, inl, inr, arith}
+use Rattle.std.proofs.Common.{◌≡◌, ◌∙◌, ◌⊎◌, ◌++◌, ℕ, ◌≤◌, ◌<◌, List, Result, Ok, Err, refl, sym, ap, subst, inl, inr, arith}
 use Rattle.std.specs.Prelude.{IfErr, ◌^◌}
 use Rattle.bus_ticks.specs.declared.profile.Profile.{Profile}
 use Rattle.bus_ticks.specs.Worst.{fiq_entry}
 use Rattle.bus_ticks.proofs.EntryLemmas.{fiq_entry_greatest}
-use Rattle.image.specs.Image.{Words}
 use Rattle.control_flow.specs.Flow.{Flow}
 use Rattle.statement.specs.Stated.{Stated}
-use Rattle.image.specs.Labels.{Names}
-use Rattle.statement.specs.Statement.{IsStatement}
-use Rattle.statement.specs.declared.faults.StatementFault.{StatementFault}
-use Rattle.statement.specs.declared.faults.StatementFault.TheVariants as statement_fault
 use Rattle.loop_bounds.specs.Bounds.{IsGreatestCost}
 use Rattle.longest_walk.specs.Visits.{visits_bound}
 use Rattle.numbered_walks.specs.declared.fault.WalkFault.TheVariants as walk_fault
-use Rattle.handlers.specs.Faults.{of_statement}
-use Rattle.handlers.specs.Report.{BeforeOutput, IsBounded, IsRefused}
-use Rattle.handlers.specs.Source.{Said, source_of}
+use Rattle.handlers.specs.Report.{BeforeOutput, IsBounded}
 use Rattle.handler_reports.specs.VisitsReport.{AreAccepted, AreRefused, HasBound, HasFiqBound, HaveReports, IsVisitsReport, summary, total_of}
 use Rattle.handlers.specs.declared.fault.ReportFault.{ReportFault}
-use Rattle.handlers.specs.declared.fault.ReportFault.TheVariants.{Memory, Walk, Device, NotFiqEntry}
-use Rattle.handlers.specs.declared.fault.ReportFault.TheVariants as report_fault
-use Rattle.handlers.proofs.HandlerLemmas.{one_graph, one_ok, same_statement, statement_refusal}
-use Rattle.handlers.proofs.ReportLemmas.{accepted_refusals, report_refusal}
+use Rattle.handlers.specs.declared.fault.ReportFault.TheVariants.{Memory, Walk, Device}
+use Rattle.handlers.proofs.HandlerLemmas.{one_graph}
+use Rattle.handlers.proofs.ReportLemmas.{accepted_refusals}
 use Rattle.handlers.proofs.FiqLemmas.{fiq_accepted}
 use Rattle.handlers.proofs.VisitLemmas.{bounds_visited}
 use Rattle.handlers.specs.FiqHandler.{IsFiqRefused}

@@ -6,13 +6,15 @@ use Rattle.std.specs.Prelude.{slice_index_or}
 use Rattle.std.specs.BTreeMap.{get}
 use Rattle.std.specs.List.{range_with_len}
 use Rattle.std.specs.Ordering.{nat_cmp}
-use Rattle.asm_text.specs.Source.{lines_of}
-use Rattle.assembler.specs.Placed.{ArePlaced}
-use Rattle.assembler.specs.declared.placed_line.PlacedLine.{PlacedLine}
 use Rattle.text_explained.specs.declared.tally.Taken.{Taken}
 use Rattle.text_rows.specs.Columns.{in_columns}
-use Rattle.text_rows.specs.Lines.{rows_by_line, rows_by_word}
-use Rattle.text_rows.specs.Rows.{AreRows, IsShownRow, named_row, section}
+use Rattle.text_rows.specs.Lines.{rows_by_word}
+use Rattle.text_rows.specs.Rows.{IsShownRow, named_row, section}
+use Rattle.sources.specs.Rows.{AreSourceRows}
+use Rattle.sources.specs.Source.{IsSource}
+use Rattle.sources.specs.declared.read.Source.{Source}
+use Rattle.sources.specs.declared.read.Text.{Text}
+use Rattle.sources.specs.declared.read.Text.TheVariants.{Lines, Image}
 use Rattle.text_explained.specs.Table.{passes_of, ticks_of}
 use Rattle.text_explained.specs.Taken.{cost_at, is_at, pass_at, taken_at}
 use Rattle.text_explained.specs.declared.tally.Tally.{Tally}
@@ -24,7 +26,6 @@ use Rattle.kept_runs.specs.Passing as passing
 use Rattle.kept_runs.specs.Passing.{Pass}
 use Rattle.kept_runs.specs.declared.tally.Passed.{Passed}
 use Rattle.image.specs.Image.{Words}
-use Rattle.image.specs.ImageBytes.{is_image}
 use Rattle.walk_counts.specs.Counts.{capped}
 use Rattle.handler_reports.specs.declared.differences.Compared.{Compared}
 use Rattle.handler_reports.specs.declared.differences.Numbers.{Numbers}
@@ -68,10 +69,6 @@ module _ (compared : ℕ → Compared) where
       if agree (compared at) then []
       else compared_text (compared at) ++ named_row (length (compared_text (compared at))) at n text
 
-  -- word by word of the lines, with numbers from one on
-  abbrev pub line_rows : ℕ → List (List ℕ) → List PlacedLine → List ℕ
-  line_rows = rows_by_line (rows_by_word row_if_apart)
-
   -- of an image's word, with its address, the word and its line; nothing where the two agree
   pub record IsRowIfApart (e : ℕ × ℕ) (row : List ℕ) : Type 0 where
     pub apart : agree (compared e.0) ≡ false
@@ -91,15 +88,20 @@ abbrev pub image_heading : List ℕ
 image_heading =
     upper_heading ++ codes "  passes    ticks  passes    ticks   address      word  text\n"
 
--- a row for each word of a source's lines, or of an image, where the two differ; no text where they nowhere
--- do
+-- above the rows of a text, or of an image
+abbrev pub heading_of : Text → List ℕ
+heading_of (Lines bytes placed) = heading
+heading_of Image = image_heading
+
+-- a row for each word of the source, which has these words, where the two differ: by its lines, with numbers
+-- from one on, or by the words of an image; no text where they nowhere do
 pub record IsTable (source : List ℕ) (words : Words) (compared : ℕ → Compared) (text : List ℕ) : Type 0 where
-  pub of_text : is_image source ≡ false
-      → (placed : List PlacedLine) × ArePlaced source placed
-      × (text ≡ section heading (line_rows compared 1 (lines_of source) placed))
-  pub of_image : is_image source ≡ true
-      → (rows : List ℕ) × AreRows (IsRowIfApart compared) words rows
-      × (text ≡ section image_heading rows)
+  pub read : Source
+  pub is_read : IsSource source read
+  pub words_are : read.image ≡ words
+  pub rows : List ℕ
+  pub are_rows : AreSourceRows (rows_by_word (row_if_apart compared)) (IsRowIfApart compared) read rows
+  pub text_is : text ≡ section (heading_of read.text) rows
 
 -- ## Tallies
 

@@ -5,11 +5,11 @@ use Rattle.std.specs.Prelude.{Contains, MatchOption, Option, Some, None, option_
 use Rattle.bus_ticks.specs.Prices.{class_of}
 use Rattle.bus_ticks.specs.declared.profile.Class.{Class}
 use Rattle.asm_text.specs.Hex.{hex}
-use Rattle.assembler.specs.Placed.{ArePlaced}
-use Rattle.assembler.specs.declared.placed_line.PlacedLine.{PlacedLine}
 use Rattle.statement.specs.Stated.{Stated, class_at}
 use Rattle.statement.specs.Statement.{class_name}
-use Rattle.text_rows.specs.ByAddress.{line_of}
+use Rattle.sources.specs.Lines.{line_of}
+use Rattle.sources.specs.Source.{IsSource}
+use Rattle.sources.specs.declared.read.Source.{Source}
 use Rattle.text_trace.specs.TraceText.{exception_name, why_name}
 use Rattle.kept_runs.specs.declared.following.Unkept.{Unkept}
 use Rattle.kept_runs.specs.declared.following.Unkept.TheVariants as unkept
@@ -17,8 +17,7 @@ use Rattle.kept_runs.specs.declared.judging.Stray.{Stray}
 use Rattle.kept_runs.specs.declared.judging.Stray.TheVariants as stray
 use Rattle.kept_runs.specs.declared.transfers.Access.{Access}
 use Rattle.image.specs.Image.{Words, word_of}
-use Rattle.image.specs.ImageBytes.{is_image}
-use Rattle.text_explained.specs.Assumed.{AreImageDone, AreSourceDone}
+use Rattle.text_explained.specs.Assumed.{AreDoneReturns}
 use Rattle.text_explained.specs.Taken.{is_at}
 use Rattle.control_flow.specs.Flow.{Flow}
 use Rattle.control_flow.specs.Places.{place_at}
@@ -90,10 +89,9 @@ strayed_text steps at line why =
 
 -- the number of the line of a text that has a word at the address; an image has no lines
 pub record IsLineNumberAt (source : List ℕ) (address : ℕ) (line : Option ℕ) : Type 0 where
-  pub of_image : is_image source ≡ true → line ≡ None
-  pub of_text : is_image source ≡ false
-      → (placed : List PlacedLine) × ArePlaced source placed
-      × (line ≡ option_map (λ (l : ℕ × List ℕ). l.0) (line_of source placed address))
+  pub read : Source
+  pub is_read : IsSource source read
+  pub line_is : line ≡ option_map (λ l. l.number) (line_of read address)
 
 -- ## What a run that keeps the statement takes for granted
 
@@ -105,10 +103,10 @@ IsDoneAt flow passes a =
 -- the returns and ways out of which an explanation warns, of the words alone that the steps do
 pub record AreWarnings (source : List ℕ) (words : Words) (st : Stated) (flow : Flow) (passes : List Pass)
     (text : List ℕ) : Type 0 where
-  pub of_text : is_image source ≡ false
-      → (placed : List PlacedLine) × ArePlaced source placed
-      × AreSourceDone source placed words st flow (IsDoneAt flow passes) text
-  pub of_image : is_image source ≡ true → AreImageDone words st flow (IsDoneAt flow passes) text
+  pub read : Source
+  pub is_read : IsSource source read
+  pub words_are : read.image ≡ words
+  pub are_done : AreDoneReturns read st flow (IsDoneAt flow passes) text
 
 -- ## Where a run that keeps the statement goes on
 

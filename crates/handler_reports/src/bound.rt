@@ -9,8 +9,9 @@ ghost use Rattle.handlers.specs.Report.{IsRefused, IsReport, OfHandler};
 use bus_ticks::Profile;
 use cert_check::longest_gets_yes;
 use certificate::{print_cert, write_cert};
+use control_flow::graphs_are_well_formed;
 use flow_graph::run_law;
-use handlers::{Handler, ReportFault, graph_is_well_formed, longest_of, profile_of, read_handler};
+use handlers::{Handler, ReportFault, longest_of, profile_of, read_handler};
 use longest_walk::Longest;
 use outputs::Output;
 use std::alloc::Global;
@@ -44,7 +45,7 @@ fn certified_longest(alloc: Global, handler: &Handler) -> Result<Longest, Report
         (λ source statement profile. IfErr result (BeforeOutput (IsRefused source statement profile))) }
 {
     let found = longest_of(alloc, handler)?;
-    graph_is_well_formed(handler);
+    graphs_are_well_formed(&handler.graph);
     run_law();
     longest_gets_yes();
     Ok(found)

@@ -1,29 +1,24 @@
 //! Where a run that keeps its statement and a greatest walk differ.
 
-ghost use Rattle.std.specs.Prelude.{◌≡◌, ◌+◌, ◌++◌, IfErr, IfOk, List, OnOk, length};
+ghost use Rattle.std.specs.Prelude.{◌≡◌, ◌+◌, ◌++◌, ℕ, IfOk, List, OnOk, length};
 ghost use Rattle.asm_text.specs.Appended.{Appends};
-ghost use Rattle.text_rows.specs.Rows.{AreRows};
 ghost use Rattle.kept_runs.specs.Passing.{IsTally, Pass};
 ghost use Rattle.longest_walk.specs.Folded.{unfolded};
 ghost use Rattle.walk_counts.specs.Counts.{capped};
 ghost use Rattle.handler_reports.specs.Differences.{Adds, HasAdded, IsRowIfApart, IsTable, agree};
 ghost use Rattle.handler_reports.specs.Differences.{compared_in, compared_text};
-ghost use Rattle.handler_reports.specs.Differences.{numbers_text};
+ghost use Rattle.handler_reports.specs.Differences.{heading_of, numbers_text};
 ghost use Rattle.handler_reports.specs.Differences.{row_if_apart, tallied, capped_at, with_place};
-ghost use Rattle.handlers.specs.Source.{IsSourceFault};
+ghost use Rattle.sources.specs.Source.{IsSource};
 
-use assembler::placed_lines;
 use control_flow::{Graph, Place};
-use handlers::ReportFault;
-use image::{Image, is_image};
 use kept_runs::Passed;
 use longest_walk::FoldedWalk;
+use sources::{ImageRows, Source, Text};
 use std::alloc::{AllocError, Global};
 use std::collections::BTreeMap;
 use text_explained::Tally;
-use text_rows::{
-    NumberedLine, WordRows, put, put_named_row, put_number, put_shown_row, put_word_rows, section,
-};
+use text_rows::{NumberedLine, WordRows, put, put_named_row, put_number, put_shown_row, section};
 use walk_counts::capped_sum;
 
 // The names of the columns, of a text's rows and of an image's.
@@ -60,13 +55,6 @@ struct RunTally {
 struct Tallies<'a> {
     run: &'a RunTally,
     walk: &'a Tally,
-}
-
-/// A handler's source and its image.
-#[derive(Clone, Copy)]
-pub(crate) struct SourceAndImage<'a> {
-    pub(crate) source: &'a [u8],
-    pub(crate) image: &'a Image,
 }
 
 fn capped_ticks(ticks: u64, more: u128) -> u64
@@ -206,39 +194,33 @@ fn put_word(out: &mut Vec<u8>, tallies: Tallies<'_>, at: u32, word: u32) -> Resu
     put_shown_row(out, out.len() - begun, at, word)
 }
 
-// The rows of those of an image's words.
-fn image_rows(alloc: Global, tallies: Tallies<'_>, image: &Image) -> Result<Vec<u8>, AllocError>
-    ensures { IfOk result
-        (λ rows. AreRows (IsRowIfApart (compared_in tallies.entry.run.now tallies.entry.walk.now)) image.now
-        rows.items) }
-{
-    let words = image.listed(alloc)?;
-    let mut out = Vec::new(alloc);
-    for (at, word) in &words {
-        put_word(&mut out, tallies, *at, *word)?;
+impl ImageRows for Tallies<'_> {
+    ghost is_row = { λ t. IsRowIfApart (compared_in t.run.now t.walk.now) };
+
+    fn put_word(&self, out: &mut Vec<u8>, at: u32, word: u32) -> Result<(), AllocError> {
+        put_word(out, *self, at, word)
     }
-    Ok(out)
+}
+
+fn heading_of(text: &Text<'_>) -> &'static [u8]
+    ensures { result.now ≡ heading_of text.now }
+{
+    match text {
+        Text::Lines(_, _) => HEADING,
+        Text::Image => IMAGE_HEADING,
+    }
 }
 
 // The table by the tallies.
-fn table_by(
-    alloc: Global,
-    program: SourceAndImage<'_>,
-    tallies: Tallies<'_>,
-) -> Result<Vec<u8>, ReportFault>
-    ensures table { IfOk result
-        (λ text. IsTable program.entry.source.now program.entry.image.now
+fn table_by(alloc: Global, read: &Source<'_>, tallies: Tallies<'_>) -> Result<Vec<u8>, AllocError>
+    ensures { (source : List ℕ) → IsSource source read.now
+        → IfOk result
+        (λ text. IsTable source read.now.image
         (compared_in tallies.entry.run.now tallies.entry.walk.now) text.items) }
-    ensures fault { IfErr result (IsSourceFault program.entry.source.now) }
 {
-    if is_image(program.source) {
-        let rows = image_rows(alloc, tallies, program.image)?;
-        return Ok(section(alloc, IMAGE_HEADING, &rows)?);
-    }
-    let placed = placed_lines(alloc, program.source)?;
     let mut rows = Vec::new(alloc);
-    put_word_rows(&mut rows, program.source, &placed, &tallies)?;
-    Ok(section(alloc, HEADING, &rows)?)
+    read.put_word_rows(&mut rows, &tallies)?;
+    section(alloc, heading_of(&read.text), &rows)
 }
 
 /// Where a run and a walk of the graph differ: of each word of a source's lines, or of an image, where one
@@ -247,17 +229,17 @@ fn table_by(
 /// order. No text where the two nowhere differ.
 pub(crate) fn differences(
     alloc: Global,
-    program: SourceAndImage<'_>,
+    read: &Source<'_>,
     graph: &Graph,
     by_place: &[Passed],
     walk: &FoldedWalk,
-) -> Result<Vec<u8>, ReportFault>
+) -> Result<Vec<u8>, AllocError>
     requires { length by_place.now ≡ length graph.now.places }
-    ensures table { (passes : List Pass) → IsTally graph.now passes by_place.now
+    ensures { (source : List ℕ) (passes : List Pass) → IsSource source read.now
+        → IsTally graph.now passes by_place.now
         → IfOk result
-        (λ text. IsTable program.entry.source.now program.entry.image.now
-        (capped_at graph.now passes (unfolded walk.now)) text.items) }
-    ensures fault { IfErr result (IsSourceFault program.entry.source.now) }
+        (λ text. IsTable source read.now.image (capped_at graph.now passes (unfolded walk.now))
+        text.items) }
 {
     let run_tally = RunTally::of_places(alloc, graph, by_place)?;
     let walk_tally = Tally::of_walk(alloc, graph, walk)?;
@@ -265,5 +247,5 @@ pub(crate) fn differences(
         run: &run_tally,
         walk: &walk_tally,
     };
-    table_by(alloc, program, tallies)
+    table_by(alloc, read, tallies)
 }

@@ -1,32 +1,26 @@
 //! Where the ticks of a handler's greatest run time go.
 
-ghost use Rattle.std.specs.Prelude.{◌≡◌, Ok, IfErr, IfOk, option_map};
+ghost use Rattle.std.specs.Prelude.{◌≡◌, ℕ, List, IfErr, IfOk, option_map};
 ghost use Rattle.bus_ticks.specs.declared.profile.Profile.{Profile};
 ghost use Rattle.text_explained.specs.Starts.{latest_at};
-ghost use Rattle.image.specs.Labels.{Names};
-ghost use Rattle.assembler.specs.Placed.{ArePlaced};
-ghost use Rattle.handler_reports.specs.ExplainReport.{Explains, IsExplanation, IsImageText, IsSourceText};
-ghost use Rattle.handler_reports.specs.ExplainReport.{IsTextOf, is_enough};
+ghost use Rattle.handler_reports.specs.ExplainReport.{Explains, IsExplanation, IsTextOf, is_enough};
 ghost use Rattle.handlers.specs.Priced.{Priced};
 ghost use Rattle.handlers.specs.Report.{BeforeOutput, HasItsTree, HasLoops, IsRefused};
-ghost use Rattle.handlers.specs.Source.{IsSourceFault, source_of};
+ghost use Rattle.sources.specs.Source.{IsSource};
 
-use assembler::{PlacedLine, placed_lines};
 use bus_ticks::Profile;
+use control_flow::graphs_are_well_formed;
 use flow_graph::run_law;
-use handlers::{
-    Handler, ReportFault, graph_is_well_formed, longest_of, print_answer, profile_of, said_handler,
-};
-use image::{Image, is_image};
+use handlers::{Handler, ReportFault, longest_of, print_answer, profile_of, said_handler};
 use longest_walk::worst_starts;
 use outputs::Output;
+use sources::Source;
 use std::alloc::{AllocError, Global};
 use text_explained::{
-    Bursts, StatedGraph, TimedWalk, burst_lines, idle_entries, image_assumptions, image_table,
-    latest_starts_are_of_walks, places_are_listed_once, source_assumptions, source_table,
-    totals_are_the_bound,
+    Bursts, StatedGraph, TimedWalk, assumed_text, burst_lines, cost_table, idle_entries,
+    latest_starts_are_of_walks, places_are_listed_once, totals_are_the_bound,
 };
-use text_savings::{image_savings, source_savings};
+use text_savings::savings_text;
 
 /// A handler whose bound is explained.
 #[derive(Clone, Copy)]
@@ -66,111 +60,55 @@ fn is_enough(at_most: Option<u64>, bound: u64) -> bool
     }
 }
 
-// The explanation by the words of an image.
-fn image_text(
+// The explanation by a greatest walk.
+fn text_of(
     alloc: Global,
     stated: StatedGraph<'_>,
     walk: BurstWalk<'_, '_>,
 ) -> Result<Vec<u8>, AllocError>
     ensures { IfOk result
-        (λ text. IsImageText stated.entry.image.now stated.entry.statement.now stated.entry.graph.now
+        (λ text. IsTextOf stated.entry.source.now stated.entry.statement.now stated.entry.graph.now
         walk.entry.timed.longest.now
         (latest_at stated.entry.graph.now.places walk.entry.timed.starts.now)
         walk.entry.profile.now.burst walk.entry.bursts text.items) }
 {
-    let mut text = image_table(alloc, stated, walk.timed)?;
+    let mut text = cost_table(alloc, stated, walk.timed)?;
     let mut rest = burst_lines(alloc, walk.profile, walk.timed.longest.bound, walk.bursts)?;
-    let assumptions = image_assumptions(alloc, stated)?;
+    let assumptions = assumed_text(alloc, stated)?;
     rest.extend_from_slice(&assumptions)?;
     let idle = idle_entries(alloc, stated)?;
     rest.extend_from_slice(&idle)?;
-    let saved = image_savings(alloc, stated, walk.timed.longest)?;
+    let saved = savings_text(alloc, stated, walk.timed.longest)?;
     rest.extend_from_slice(&saved)?;
     text.extend_from_slice(&rest)?;
     Ok(text)
 }
 
-// The explanation by the lines of a text, which are placed so.
-fn placed_text(
-    alloc: Global,
-    source: &[u8],
-    placed: &[PlacedLine],
-    stated: StatedGraph<'_>,
-    walk: BurstWalk<'_, '_>,
-) -> Result<Vec<u8>, AllocError>
-    requires { ArePlaced source.now placed.now }
-    ensures { IfOk result
-        (λ text. IsSourceText source.now stated.entry.image.now stated.entry.statement.now
-        stated.entry.graph.now walk.entry.timed.longest.now
-        (latest_at stated.entry.graph.now.places walk.entry.timed.starts.now)
-        walk.entry.profile.now.burst walk.entry.bursts text.items) }
-{
-    let mut text = source_table(alloc, stated, source, placed, walk.timed)?;
-    let mut rest = burst_lines(alloc, walk.profile, walk.timed.longest.bound, walk.bursts)?;
-    let assumptions = source_assumptions(alloc, stated, source, placed)?;
-    rest.extend_from_slice(&assumptions)?;
-    let idle = idle_entries(alloc, stated)?;
-    rest.extend_from_slice(&idle)?;
-    let saved = source_savings(alloc, stated, source, placed, walk.timed.longest)?;
-    rest.extend_from_slice(&saved)?;
-    text.extend_from_slice(&rest)?;
-    Ok(text)
-}
-
-// The explanation by a greatest walk.
-fn text_of(
-    alloc: Global,
-    source: &[u8],
-    stated: StatedGraph<'_>,
-    walk: BurstWalk<'_, '_>,
-) -> Result<Vec<u8>, ReportFault>
-    ensures text { IfOk result
-        (λ text. IsTextOf source.now stated.entry.image.now stated.entry.statement.now
-        stated.entry.graph.now walk.entry.timed.longest.now
-        (latest_at stated.entry.graph.now.places walk.entry.timed.starts.now)
-        walk.entry.profile.now.burst walk.entry.bursts text.items) }
-    ensures fault { IfErr result (IsSourceFault source.now) }
-{
-    if is_image(source) {
-        let text = image_text(alloc, stated, walk)?;
-        return Ok(text);
-    }
-    let placed = placed_lines(alloc, source)?;
-    let text = placed_text(alloc, source, &placed, stated, walk)?;
-    Ok(text)
-}
-
-// The explanation of a handler that was read.
+// The explanation of a handler that was read, with its source.
 fn explanation_of(
     alloc: Global,
-    explained: Explained<'_>,
+    read: &Source<'_>,
+    bursts: Bursts,
     profile: &Profile,
-    image: &Image,
     handler: &Handler,
 ) -> Result<Explanation, ReportFault>
     requires { HasItsTree handler.now }
-    ensures explains { (names : Names)
-        → source_of explained.entry.source.now ≡ Ok (image.now, names)
-        → HasLoops explained.entry.source.now explained.entry.statement.now profile.now
-        handler.now.statement handler.now.graph
-        → IfOk result (λ e. IsExplanation explained.entry.source.now explained.entry.statement.now
-        explained.entry.bursts profile.now e.bound e.text.items) }
-    ensures fault { (names : Names)
-        → source_of explained.entry.source.now ≡ Ok (image.now, names)
-        → HasLoops explained.entry.source.now explained.entry.statement.now profile.now
-        handler.now.statement handler.now.graph
-        → IfErr result
-        (BeforeOutput (IsRefused explained.entry.source.now explained.entry.statement.now profile.now)) }
+    ensures explains { (source statement : List ℕ) → IsSource source read.now
+        → HasLoops source statement profile.now handler.now.statement handler.now.graph
+        → IfOk result (λ e. IsExplanation source statement bursts profile.now e.bound e.text.items) }
+    ensures fault { (source statement : List ℕ)
+        → HasLoops source statement profile.now handler.now.statement handler.now.graph
+        → IfErr result (BeforeOutput (IsRefused source statement profile.now)) }
 {
     let found = longest_of(alloc, handler)?;
     let starts = worst_starts(alloc, &handler.graph, &handler.tree)?;
-    graph_is_well_formed(handler);
+    graphs_are_well_formed(&handler.graph);
     places_are_listed_once();
     totals_are_the_bound();
     latest_starts_are_of_walks();
     run_law();
     let stated = StatedGraph {
-        image,
+        source: read,
         statement: &handler.statement,
         graph: &handler.graph,
     };
@@ -180,9 +118,9 @@ fn explanation_of(
             starts: &starts,
         },
         profile,
-        bursts: explained.bursts,
+        bursts,
     };
-    let text = text_of(alloc, explained.source, stated, walk)?;
+    let text = text_of(alloc, stated, walk)?;
     Ok(Explanation {
         bound: found.bound,
         text,
@@ -201,7 +139,7 @@ fn source_explanation(
         (BeforeOutput (IsRefused explained.entry.source.now explained.entry.statement.now profile.now)) }
 {
     let read = said_handler(alloc, explained.source, explained.statement, profile)?;
-    explanation_of(alloc, explained, profile, &read.said.image, &read.handler)
+    explanation_of(alloc, &read.said, explained.bursts, profile, &read.handler)
 }
 
 /// Writes where the ticks of a handler's greatest run time go, by a cycle profile's file or by the first

@@ -12,8 +12,8 @@ use crate::check::CheckInputs;
 use bus_ticks::Profile;
 use cert_check::{CheckFault, FailingRow, Verdict, check, failing_row};
 use certificate::{Cert, read_cert};
-use control_flow::Graph;
-use handlers::{Handler, ReportFault, graph_is_well_formed, read_handler};
+use control_flow::{Graph, graphs_are_well_formed};
+use handlers::{Handler, ReportFault, read_handler};
 use loop_bounds::LoopTree;
 use std::alloc::Global;
 
@@ -85,7 +85,7 @@ fn found_on<F: Finding>(alloc: Global, handler: &Handler, cert: &[u8]) -> Result
     ensures only { (source statement : List ℕ) (profile : Profile)
         → IsCheckable source statement cert.now profile → IfErr result (λ e. e ≡ ReportFault.Memory) }
 {
-    graph_is_well_formed(handler);
+    graphs_are_well_formed(&handler.graph);
     let read = read_cert(alloc, cert)?;
     let found = F::find(alloc, &handler.graph, &handler.tree, &read)?;
     Ok(found)

@@ -11,23 +11,23 @@ ghost use Rattle.handler_reports.specs.FollowWork.{HasAllPlaces, IsJudgedRun, Is
 ghost use Rattle.handler_reports.specs.FollowWork.{IsFollowedText, IsTallyText};
 ghost use Rattle.handlers.specs.Priced.{Priced};
 ghost use Rattle.handlers.specs.Report.{BeforeOutput, HasItsTree, HasLoops};
-ghost use Rattle.handlers.specs.Source.{IsSourceFault, Says};
+ghost use Rattle.handlers.specs.Source.{IsSourceFault};
+ghost use Rattle.sources.specs.Source.{IsSource};
 
-use crate::differences::{SourceAndImage, differences};
+use crate::differences::differences;
 use crate::follow_text::{kept_text, left_text, line_number_at, strayed_text, why_text};
 use crate::warnings::warnings;
-use assembler::Assembly;
 use bus_ticks::Profile;
+use control_flow::graphs_are_well_formed;
 use flow_graph::{run_law, step_law};
 use handlers::{
-    Handler, Placed, ReportFault, graph_is_well_formed, longest_of, place_image, print_answer,
-    profile_of, said_handler,
+    Handler, Placed, ReportFault, longest_of, place_image, print_answer, profile_of, said_handler,
 };
-use image::Image;
 use kept_runs::{AcceptedHandler, Followed, Passed, Unkept, follow};
 use longest_walk::Longest;
 use machine_file::MachineFile;
 use outputs::Output;
+use sources::Source;
 use std::alloc::Global;
 use text_explained::StatedGraph;
 
@@ -53,7 +53,7 @@ pub(crate) struct Judged {
 #[derive(Clone, Copy)]
 struct Bounded<'a> {
     source: &'a [u8],
-    image: &'a Image,
+    read: &'a Source<'a>,
     handler: &'a Handler,
     longest: &'a Longest,
 }
@@ -66,31 +66,28 @@ fn kept_run(
     ticks: u128,
     by_place: &[Passed],
 ) -> Result<Vec<u8>, ReportFault>
-    requires { length by_place.now ≡ length bounded.handler.now.graph.places }
+    requires read { IsSource bounded.source.now bounded.read.now }
+    requires places { length by_place.now ≡ length bounded.handler.now.graph.places }
     ensures text { IfOk result
-        (λ text. IsTallyText bounded.entry.source.now bounded.entry.image.now
+        (λ text. IsTallyText bounded.entry.source.now bounded.entry.read.now.image
         bounded.entry.handler.now.statement bounded.entry.handler.now.graph bounded.entry.longest.now at
         ticks by_place.now text.items) }
     ensures fault { IfErr result (IsSourceFault bounded.entry.source.now) }
 {
-    let program = SourceAndImage {
-        source: bounded.source,
-        image: bounded.image,
-    };
     let stated = StatedGraph {
-        image: bounded.image,
+        source: bounded.read,
         statement: &bounded.handler.statement,
         graph: &bounded.handler.graph,
     };
-    let warned = warnings(alloc, bounded.source, stated, by_place)?;
+    let warned = warnings(alloc, stated, by_place)?;
     let table = differences(
         alloc,
-        program,
+        bounded.read,
         stated.graph,
         by_place,
         &bounded.longest.walk,
     )?;
-    let mut rest = left_text(alloc, bounded.source, bounded.image, at)?;
+    let mut rest = left_text(alloc, bounded.read, at)?;
     rest.extend_from_slice(&table)?;
     rest.extend_from_slice(&warned)?;
     let line = kept_text(alloc, ticks, bounded.longest.bound)?;
@@ -107,12 +104,13 @@ fn strayed_run(
     at: u32,
     why: Unkept,
 ) -> Result<Vec<u8>, ReportFault>
+    requires { IsSource bounded.source.now bounded.read.now }
     ensures text { IfOk result
         (λ text. (line : Option ℕ) × IsLineNumberAt bounded.entry.source.now at line
         × (text.items ≡ strayed_text steps at line (why_text bounded.entry.handler.now.statement at why))) }
     ensures fault { IfErr result (IsSourceFault bounded.entry.source.now) }
 {
-    let line = line_number_at(alloc, bounded.source, at)?;
+    let line = line_number_at(alloc, bounded.read, at)?;
     let why = why_text(alloc, &bounded.handler.statement, at, why)?;
     let text = strayed_text(alloc, u128::from(steps), at, line, why.as_str())?;
     Ok(Vec::from_slice(alloc, text.as_bytes())?)
@@ -125,9 +123,10 @@ fn judgement(
     after: u32,
     followed: &Followed,
 ) -> Result<Judged, ReportFault>
-    requires { HasAllPlaces bounded.handler.now.graph followed.now }
+    requires read { IsSource bounded.source.now bounded.read.now }
+    requires places { HasAllPlaces bounded.handler.now.graph followed.now }
     ensures text { IfOk result
-        (λ j. IsFollowedText bounded.entry.source.now bounded.entry.image.now
+        (λ j. IsFollowedText bounded.entry.source.now bounded.entry.read.now.image
         bounded.entry.handler.now.statement bounded.entry.handler.now.graph bounded.entry.longest.now
         after followed.now j.kept j.text.items) }
     ensures fault { IfErr result (IsSourceFault bounded.entry.source.now) }
@@ -154,7 +153,8 @@ fn judged_run(
     bounded: Bounded<'_>,
     placed: &mut Placed,
 ) -> Result<Judged, ReportFault>
-    requires graph { IsFlowGraph bounded.image.now bounded.handler.now.statement
+    requires read { IsSource bounded.source.now bounded.read.now }
+    requires graph { IsFlowGraph bounded.read.now.image bounded.handler.now.statement
         bounded.handler.now.graph.profile bounded.handler.now.graph }
     requires tree { HasItsTree bounded.handler.now }
     requires longest { IsLongest bounded.handler.now.graph bounded.handler.now.tree bounded.longest.now }
@@ -162,21 +162,21 @@ fn judged_run(
         bounded.longest.now.bound }
     requires machine { IsMachineFor bounded.handler.now.graph placed.old.machine }
     ensures judged { IfOk result
-        (λ j. IsJudgedRun bounded.entry.image.now bounded.entry.handler.now.statement
+        (λ j. IsJudgedRun bounded.entry.read.now.image bounded.entry.handler.now.statement
         bounded.entry.handler.now.graph bounded.entry.handler.now.tree bounded.entry.source.now
         bounded.entry.longest.now placed.old.file placed.old.machine j.kept j.text.items) }
     ensures fault { IfErr result (IsSourceFault bounded.entry.source.now) }
 {
     let inputs = placed.file.inputs(alloc)?;
     let handler = AcceptedHandler {
-        image: bounded.image,
+        image: &bounded.read.image,
         statement: &bounded.handler.statement,
         graph: &bounded.handler.graph,
         tree: &bounded.handler.tree,
     };
     run_law();
     step_law();
-    graph_is_well_formed(bounded.handler);
+    graphs_are_well_formed(&bounded.handler.graph);
     let followed = follow(alloc, handler, &mut placed.machine, &inputs)?;
     let after = placed.machine.address();
     judgement(alloc, bounded, after, &followed)
@@ -193,11 +193,11 @@ pub(crate) fn states_registers(file: &MachineFile)
 fn handler_run(
     alloc: Global,
     run: FollowedRun<'_>,
-    said: &Assembly,
+    said: &Source<'_>,
     handler: &Handler,
     profile: &Profile,
 ) -> Result<Judged, ReportFault>
-    requires said { Says run.source.now said.now }
+    requires said { IsSource run.source.now said.now }
     requires loops { HasLoops run.source.now run.statement.now profile.now handler.now.statement
         handler.now.graph }
     requires tree { HasItsTree handler.now }
@@ -209,7 +209,7 @@ fn handler_run(
     states_registers(&placed.file);
     let bounded = Bounded {
         source: run.source,
-        image: &said.image,
+        read: said,
         handler,
         longest: &longest,
     };

@@ -1,20 +1,17 @@
 //! What is printed of a run that is judged by a statement.
 
-ghost use Rattle.std.specs.Prelude.{◌≡◌, IfErr, IfOk, string_bytes};
+ghost use Rattle.std.specs.Prelude.{◌≡◌, ℕ, List, IfOk, string_bytes};
 ghost use Rattle.handler_reports.specs.FollowText.{IsLeftText, IsLineNumberAt, access_name, access_text};
 ghost use Rattle.handler_reports.specs.FollowText.{kept_text, left_line, less_text, line_text};
 ghost use Rattle.handler_reports.specs.FollowText.{stray_text, strayed_text, times_text, turned_text};
 ghost use Rattle.handler_reports.specs.FollowText.{why_text};
-ghost use Rattle.handlers.specs.Source.{IsSourceFault};
+ghost use Rattle.sources.specs.Source.{IsSource};
 
-use assembler::placed_lines;
 use bus_ticks::{Class, class_of};
-use handlers::ReportFault;
-use image::{Image, is_image};
 use kept_runs::{Access, Stray, Unkept};
+use sources::Source;
 use statement::{Statement, class_name};
 use std::alloc::{AllocError, Global};
-use text_rows::lines_by_address;
 use text_trace::{exception_name, why_name};
 
 /// How much less than the most of this name the ticks are. `AllocError`: an allocation failed.
@@ -142,35 +139,24 @@ fn left_line(alloc: Global, at: u32, line: Option<u64>) -> Result<String, AllocE
 /// The number of the line of a source that has a word at the address; none of an image.
 pub(crate) fn line_number_at(
     alloc: Global,
-    source: &[u8],
+    read: &Source<'_>,
     address: u32,
-) -> Result<Option<u64>, ReportFault>
-    ensures line { IfOk result (IsLineNumberAt source.now address) }
-    ensures fault { IfErr result (IsSourceFault source.now) }
+) -> Result<Option<u64>, AllocError>
+    ensures { (source : List ℕ) → IsSource source read.now → IfOk result (IsLineNumberAt source address) }
 {
-    if is_image(source) {
-        return Ok(None);
-    }
-    let placed = placed_lines(alloc, source)?;
-    let lines = lines_by_address(alloc, source, &placed)?;
-    Ok(lines.get(&address).map(|line| line.number))
+    let lines = read.lines(alloc)?;
+    Ok(lines.get(&address).map(|line| line.number as u64))
 }
 
-/// The line on a run that has gone on at the address, if the source, whose image this is, has a word there;
-/// else nothing.
-pub(crate) fn left_text(
-    alloc: Global,
-    source: &[u8],
-    image: &Image,
-    at: u32,
-) -> Result<Vec<u8>, ReportFault>
-    ensures text { IfOk result (λ text. IsLeftText source.now image.now at text.items) }
-    ensures fault { IfErr result (IsSourceFault source.now) }
+/// The line on a run that has gone on at the address, if the source has a word there; else nothing.
+pub(crate) fn left_text(alloc: Global, read: &Source<'_>, at: u32) -> Result<Vec<u8>, AllocError>
+    ensures { (source : List ℕ) → IsSource source read.now
+        → IfOk result (λ text. IsLeftText source read.now.image at text.items) }
 {
-    if image.word_at(at).is_none() {
+    if read.image.word_at(at).is_none() {
         return Ok(Vec::new(alloc));
     }
-    let line = line_number_at(alloc, source, at)?;
+    let line = line_number_at(alloc, read, at)?;
     let text = left_line(alloc, at, line)?;
-    Ok(Vec::from_slice(alloc, text.as_bytes())?)
+    Vec::from_slice(alloc, text.as_bytes())
 }

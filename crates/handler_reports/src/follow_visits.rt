@@ -14,12 +14,12 @@ ghost use Rattle.handler_reports.specs.VisitedWork.{IsVisitsReportOn};
 ghost use Rattle.handlers.specs.FiqHandler.{IsFiqRefused};
 ghost use Rattle.handlers.specs.Priced.{Priced};
 ghost use Rattle.handlers.specs.Report.{BeforeOutput, IsRefused};
-ghost use Rattle.handlers.specs.Source.{IsSourceFault, Says};
+ghost use Rattle.handlers.specs.Source.{IsSourceFault};
+ghost use Rattle.sources.specs.Source.{IsSource, Says};
 
 use crate::follow::{Judged, states_registers};
 use crate::follow_text::{left_text, line_number_at, strayed_text};
 use crate::visited_text::{kept_visits_text, never_text, visit_why_text};
-use assembler::Assembly;
 use bus_ticks::{Profile, fiq_entry};
 use handlers::{
     Handler, Placed, ReportFault, fiq_handler, handler_of, longest_of, place_image, print_answer,
@@ -30,6 +30,7 @@ use kept_runs::{
     AcceptedHandler, VisitUnkept, VisitedHandlers, VisitedRun, arrive, follow_visited,
 };
 use outputs::Output;
+use sources::Source;
 use std::alloc::{AllocError, Global};
 
 /// A handler, FIQ's, which interrupts it, and a machine whose run through both is judged.
@@ -52,11 +53,11 @@ struct BoundedHandler {
     bound: u64,
 }
 
-// Both handlers, by the words of their source.
+// Both handlers, with their source.
 #[derive(Clone, Copy)]
 struct Both<'a> {
     source: &'a [u8],
-    image: &'a Image,
+    read: &'a Source<'a>,
     irq: &'a BoundedHandler,
     fiq: &'a BoundedHandler,
 }
@@ -73,7 +74,7 @@ struct Outcome {
 // The handler that FIQ interrupts.
 fn irq_bounded(
     alloc: Global,
-    said: &Assembly,
+    said: &Source<'_>,
     statement: &[u8],
     profile: &Profile,
 ) -> Result<BoundedHandler, ReportFault>
@@ -91,7 +92,7 @@ fn irq_bounded(
 // FIQ's handler.
 fn fiq_bounded(
     alloc: Global,
-    said: &Assembly,
+    said: &Source<'_>,
     statement: &[u8],
     profile: &Profile,
 ) -> Result<BoundedHandler, ReportFault>
@@ -138,6 +139,7 @@ fn strayed_run(
     at: u32,
     why: VisitUnkept,
 ) -> Result<Judged, ReportFault>
+    requires { IsSource both.source.now both.read.now }
     ensures text { IfOk result
         (λ j. (j.kept ≡ false)
         × ((line : Option ℕ) × IsLineNumberAt both.entry.source.now at line
@@ -146,7 +148,7 @@ fn strayed_run(
         both.entry.fiq.now.handler.statement at why)))) }
     ensures fault { IfErr result (IsSourceFault both.entry.source.now) }
 {
-    let line = line_number_at(alloc, both.source, at)?;
+    let line = line_number_at(alloc, both.read, at)?;
     let irq = &both.irq.handler.statement;
     let fiq = &both.fiq.handler.statement;
     let why = visit_why_text(alloc, irq, fiq, at, why)?;
@@ -159,13 +161,14 @@ fn strayed_run(
 
 // The answer on a run that keeps both statements, as this line says, and has gone on at the address.
 fn kept_run(alloc: Global, both: Both<'_>, line: &str, at: u32) -> Result<Judged, ReportFault>
+    requires { IsSource both.source.now both.read.now }
     ensures text { IfOk result
         (λ j. (j.kept ≡ true)
-        × ((left : List ℕ) × IsLeftText both.entry.source.now both.entry.image.now at left
+        × ((left : List ℕ) × IsLeftText both.entry.source.now both.entry.read.now.image at left
         × (j.text.items ≡ line.now ++ left))) }
     ensures fault { IfErr result (IsSourceFault both.entry.source.now) }
 {
-    let left = left_text(alloc, both.source, both.image, at)?;
+    let left = left_text(alloc, both.read, at)?;
     let mut text = Vec::from_slice(alloc, line.as_bytes())?;
     text.extend_from_slice(&left)?;
     Ok(Judged { kept: true, text })
@@ -178,9 +181,10 @@ fn run_answer(
     profile: &Profile,
     outcome: Outcome,
 ) -> Result<Judged, ReportFault>
+    requires read { IsSource both.source.now both.read.now }
     requires small { both.fiq.now.bound < 2 ^ 63 }
     ensures text { IfOk result
-        (λ j. IsRunText both.entry.source.now both.entry.image.now profile.now both.entry.irq.now
+        (λ j. IsRunText both.entry.source.now both.entry.read.now.image profile.now both.entry.irq.now
         both.entry.fiq.now outcome.before outcome.after outcome.run j.kept j.text.items) }
     ensures fault { IfErr result (IsSourceFault both.entry.source.now) }
 {
@@ -215,15 +219,16 @@ fn visits_judged(
     profile: &Profile,
     placed: &mut Placed,
 ) -> Result<Judged, ReportFault>
-    requires irq { IsHandler both.image.now both.irq.now.handler.statement both.irq.now.handler.graph
+    requires read { IsSource both.source.now both.read.now }
+    requires irq { IsHandler both.read.now.image both.irq.now.handler.statement both.irq.now.handler.graph
         both.irq.now.handler.tree }
-    requires fiq { IsHandler both.image.now both.fiq.now.handler.statement both.fiq.now.handler.graph
+    requires fiq { IsHandler both.read.now.image both.fiq.now.handler.statement both.fiq.now.handler.graph
         both.fiq.now.handler.tree }
     requires prices { both.fiq.now.handler.graph.profile ≡ both.irq.now.handler.graph.profile }
     requires machine { IsMachineFor both.irq.now.handler.graph placed.old.machine }
     requires small { both.fiq.now.bound < 2 ^ 63 }
     ensures judged { IfOk result
-        (λ j. IsVisitsJudged both.entry.source.now both.entry.image.now profile.now both.entry.irq.now
+        (λ j. IsVisitsJudged both.entry.source.now both.entry.read.now.image profile.now both.entry.irq.now
         both.entry.fiq.now placed.old.file placed.old.machine j.kept j.text.items) }
     ensures fault { IfErr result (IsSourceFault both.entry.source.now) }
 {
@@ -233,8 +238,8 @@ fn visits_judged(
         return Ok(never_answer(alloc, entry)?);
     };
     let handlers = VisitedHandlers {
-        irq: accepted(both.image, &both.irq.handler),
-        fiq: accepted(both.image, &both.fiq.handler),
+        irq: accepted(&both.read.image, &both.irq.handler),
+        fiq: accepted(&both.read.image, &both.fiq.handler),
     };
     let run = follow_visited(alloc, handlers, &mut placed.machine, &inputs[before..])?;
     let after = placed.machine.address();
@@ -246,20 +251,18 @@ fn visits_judged(
 fn machine_run(
     alloc: Global,
     run: FollowedVisits<'_>,
-    said: &Assembly,
     both: Both<'_>,
     profile: &Profile,
 ) -> Result<Judged, ReportFault>
-    requires said { Says run.source.now said.now }
+    requires read { IsSource run.source.now both.read.now }
     requires source { both.source.now ≡ run.source.now }
-    requires image { both.image.now ≡ said.now.image }
     requires irq { IsBoundOf run.source.now run.statement.now profile.now both.irq.now }
     requires fiq { IsBoundOf run.source.now run.fiq_statement.now profile.now both.fiq.now }
     requires entry { both.fiq.now.handler.statement.entry ≡ FIQ_VECTOR }
     ensures judged { IfOk result (λ j. IsVisitsReportOn run.entry profile.now j.kept j.text.items) }
     ensures fault { IfErr result (BeforeOutput (IsVisitsRefusalOf run.entry profile.now)) }
 {
-    let mut placed = place_image(alloc, said, run.machine, *profile)?;
+    let mut placed = place_image(alloc, both.read, run.machine, *profile)?;
     states_registers(&placed.file);
     visits_judged(alloc, both, profile, &mut placed)
 }
@@ -268,10 +271,10 @@ fn machine_run(
 fn said_run(
     alloc: Global,
     run: FollowedVisits<'_>,
-    said: &Assembly,
+    said: &Source<'_>,
     profile: &Profile,
 ) -> Result<Judged, ReportFault>
-    requires { Says run.source.now said.now }
+    requires { IsSource run.source.now said.now }
     ensures judged { IfOk result (λ j. IsVisitsReportOn run.entry profile.now j.kept j.text.items) }
     ensures fault { IfErr result (BeforeOutput (IsVisitsRefusalOf run.entry profile.now)) }
 {
@@ -279,11 +282,11 @@ fn said_run(
     let fiq = fiq_bounded(alloc, said, run.fiq_statement, profile)?;
     let both = Both {
         source: run.source,
-        image: &said.image,
+        read: said,
         irq: &irq,
         fiq: &fiq,
     };
-    machine_run(alloc, run, said, both, profile)
+    machine_run(alloc, run, both, profile)
 }
 
 fn source_run(

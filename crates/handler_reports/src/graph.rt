@@ -1,68 +1,35 @@
 //! The drawing of a handler's flow graph, with what its greatest run time takes.
 
-ghost use Rattle.std.specs.Prelude.{◌≡◌, ℕ, List, Ok, IfErr, IfOk, option_map};
+ghost use Rattle.std.specs.Prelude.{ℕ, List, IfErr, IfOk, option_map};
 ghost use Rattle.bus_ticks.specs.declared.profile.Profile.{Profile};
-ghost use Rattle.image.specs.Labels.{Names};
-ghost use Rattle.handler_reports.specs.GraphReport.{AreLabelsOf, Draws, IsGraphReport};
+ghost use Rattle.handler_reports.specs.GraphReport.{Draws, IsGraphReport};
 ghost use Rattle.handlers.specs.Priced.{Priced};
-ghost use Rattle.handlers.specs.Report.{BeforeOutput, HasItsTree, HasLoops, IsRefused};
-ghost use Rattle.handlers.specs.Source.{IsSourceFault, source_of};
+ghost use Rattle.handlers.specs.Report.{BeforeOutput, HasItsTree, HasLoops, IsRefused, OfHandler};
+ghost use Rattle.sources.specs.Source.{IsSource};
 
-use assembler::placed_lines;
 use bus_ticks::Profile;
-use control_flow::Graph;
-use handlers::{
-    Handler, ReportFault, graph_is_well_formed, longest_of, print_answer, profile_of, said_handler,
-};
-use image::{Image, is_image};
+use control_flow::graphs_are_well_formed;
+use handlers::{Handler, ReportFault, longest_of, print_answer, profile_of, said_handler};
 use outputs::Output;
+use sources::Source;
 use std::alloc::Global;
-use text_graph::{
-    drawing, image_labels, node_ticks_are_the_bound, places_are_drawn_once, source_labels,
-};
+use text_graph::{drawing, node_ticks_are_the_bound, place_labels, places_are_drawn_once};
 
-// What stands for the places, by a text's lines or an image's words.
-fn labels_of(
-    alloc: Global,
-    source: &[u8],
-    image: &Image,
-    graph: &Graph,
-) -> Result<Vec<Vec<u8>>, ReportFault>
-    ensures labels { IfOk result
-        (λ labels. AreLabelsOf source.now image.now graph.now.places labels.items) }
-    ensures fault { IfErr result (IsSourceFault source.now) }
-{
-    if is_image(source) {
-        let labels = image_labels(alloc, image, graph)?;
-        return Ok(labels);
-    }
-    let placed = placed_lines(alloc, source)?;
-    let labels = source_labels(alloc, source, &placed, graph)?;
-    Ok(labels)
-}
-
-// The drawing of a handler that was read.
-fn drawing_of(
-    alloc: Global,
-    source: &[u8],
-    image: &Image,
-    handler: &Handler,
-) -> Result<Vec<u8>, ReportFault>
+// The drawing of a handler that was read, with its source.
+fn drawing_of(alloc: Global, read: &Source<'_>, handler: &Handler) -> Result<Vec<u8>, ReportFault>
     requires { HasItsTree handler.now }
-    ensures draws { (statement : List ℕ) (profile : Profile) (names : Names)
-        → source_of source.now ≡ Ok (image.now, names)
-        → HasLoops source.now statement profile handler.now.statement handler.now.graph
-        → IfOk result (λ text. IsGraphReport source.now statement profile text.items) }
-    ensures fault { (statement : List ℕ) (profile : Profile) (names : Names)
-        → source_of source.now ≡ Ok (image.now, names)
-        → HasLoops source.now statement profile handler.now.statement handler.now.graph
-        → IfErr result (BeforeOutput (IsRefused source.now statement profile)) }
+    ensures draws { (source statement : List ℕ) (profile : Profile)
+        → IsSource source read.now
+        → HasLoops source statement profile handler.now.statement handler.now.graph
+        → IfOk result (λ text. IsGraphReport source statement profile text.items) }
+    ensures fault { OfHandler handler.now
+        (λ source statement profile. IfErr result (BeforeOutput (IsRefused source statement profile))) }
 {
     let found = longest_of(alloc, handler)?;
-    graph_is_well_formed(handler);
+    graphs_are_well_formed(&handler.graph);
     places_are_drawn_once();
     node_ticks_are_the_bound();
-    let labels = labels_of(alloc, source, image, &handler.graph)?;
+    let labels = place_labels(alloc, read, &handler.graph)?;
     let text = drawing(alloc, &handler.graph, &handler.tree, &found, &labels)?;
     Ok(text)
 }
@@ -78,7 +45,7 @@ fn source_drawing(
     ensures fault { IfErr result (BeforeOutput (IsRefused source.now statement.now profile.now)) }
 {
     let read = said_handler(alloc, source, statement, profile)?;
-    drawing_of(alloc, source, &read.said.image, &read.handler)
+    drawing_of(alloc, &read.said, &read.handler)
 }
 
 /// Writes the drawing of a handler's flow graph in DOT, the language of Graphviz, by a cycle profile's file

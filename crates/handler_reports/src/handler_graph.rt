@@ -4,13 +4,13 @@ ghost use Rattle.control_flow.specs.Graph.{IsBuildFault, IsFlowGraph};
 ghost use Rattle.control_flow.specs.declared.faults.BuildFault.{BuildFault};
 ghost use Rattle.statement.specs.Statement.{IsStatement};
 ghost use Rattle.handlers.specs.Report.{BeforeOutput};
-ghost use Rattle.handlers.specs.Source.{Says};
+ghost use Rattle.sources.specs.Source.{Says};
 ghost use Rattle.handler_reports.specs.TightReport.{IsTightRefused};
 
-use assembler::Assembly;
 use bus_ticks::Profile;
 use control_flow::{Graph, build};
 use handlers::ReportFault;
+use sources::Source;
 use statement::{Statement, read_statement};
 use std::alloc::Global;
 
@@ -28,7 +28,7 @@ pub struct HandlerGraph {
 /// The first in the order of the work: statement, graph. `Memory`: an allocation failed.
 pub fn read_graph(
     alloc: Global,
-    said: &Assembly,
+    said: &Source<'_>,
     text: &[u8],
     profile: &Profile,
 ) -> Result<HandlerGraph, ReportFault>

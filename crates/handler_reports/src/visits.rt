@@ -5,16 +5,16 @@ ghost use Rattle.longest_walk.specs.Visits.{visits_bound};
 ghost use Rattle.handlers.specs.Priced.{Priced};
 ghost use Rattle.handlers.specs.FiqHandler.{IsFiqRefused};
 ghost use Rattle.handlers.specs.Report.{BeforeOutput, IsRefused};
-ghost use Rattle.handlers.specs.Source.{Says};
+ghost use Rattle.sources.specs.Source.{Says};
 ghost use Rattle.handler_reports.specs.VisitsReport.{AreRefused, HasBound, HasFiqBound};
 ghost use Rattle.handler_reports.specs.VisitsReport.{IsVisitsReport, ReportsVisits, summary};
 
 use crate::bound::{BoundReport, longest_report};
-use assembler::Assembly;
 use bus_ticks::{Profile, fiq_entry};
 use handlers::{ReportFault, fiq_handler, handler_of, print_answer, profile_of, read_source};
 use longest_walk::{WalkFault, visits_bound};
 use outputs::Output;
+use sources::Source;
 use std::alloc::Global;
 use std::fmt::Write;
 
@@ -29,7 +29,7 @@ struct Visited<'a> {
 // The report of the interrupted handler.
 fn irq_report(
     alloc: Global,
-    said: &Assembly,
+    said: &Source<'_>,
     statement: &[u8],
     profile: &Profile,
 ) -> Result<BoundReport, ReportFault>
@@ -45,7 +45,7 @@ fn irq_report(
 // The report of FIQ's handler.
 fn fiq_report(
     alloc: Global,
-    said: &Assembly,
+    said: &Source<'_>,
     statement: &[u8],
     profile: &Profile,
 ) -> Result<BoundReport, ReportFault>
@@ -91,7 +91,7 @@ fn joined_text(
 // The report of a source that was read.
 fn visits_text(
     alloc: Global,
-    said: &Assembly,
+    said: &Source<'_>,
     asked: Visited<'_>,
     profile: &Profile,
 ) -> Result<Vec<u8>, ReportFault>

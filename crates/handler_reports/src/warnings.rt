@@ -1,21 +1,18 @@
 //! Which of the returns that a run does an explanation warns of.
 
-ghost use Rattle.std.specs.Prelude.{◌≡◌, ◌↔◌, ℕ, true, IfErr, IfOk, List, OnOk, length};
+ghost use Rattle.std.specs.Prelude.{◌≡◌, ℕ, IfOk, List, OnOk, length};
 ghost use Rattle.std.specs.BTreeSet.{contains};
 ghost use Rattle.std.specs.Ordering.{nat_cmp};
 ghost use Rattle.kept_runs.specs.Passing.{IsTally, Pass};
-ghost use Rattle.handler_reports.specs.FollowText.{AreWarnings, IsDoneAt};
+ghost use Rattle.handler_reports.specs.FollowText.{AreWarnings};
 ghost use Rattle.handler_reports.specs.FollowWork.{HasDone, NotesDone};
-ghost use Rattle.handlers.specs.Source.{IsSourceFault};
+ghost use Rattle.sources.specs.Source.{IsSource};
 
-use assembler::placed_lines;
 use control_flow::{Graph, Place};
-use handlers::ReportFault;
-use image::is_image;
 use kept_runs::Passed;
 use std::alloc::{AllocError, Global};
 use std::collections::BTreeSet;
-use text_explained::{StatedGraph, image_done_returns, source_done_returns};
+use text_explained::{StatedGraph, done_text};
 
 // Adds the address of the place, if some of the steps there do its word.
 fn note(done: &mut BTreeSet<u32>, place: &Place, passed: Passed) -> Result<(), AllocError>
@@ -53,21 +50,16 @@ fn done_words(
 /// run does none of them.
 pub(crate) fn warnings(
     alloc: Global,
-    source: &[u8],
     stated: StatedGraph<'_>,
     by_place: &[Passed],
-) -> Result<Vec<u8>, ReportFault>
+) -> Result<Vec<u8>, AllocError>
     requires { length by_place.now ≡ length stated.graph.now.places }
-    ensures are { (passes : List Pass) → IsTally stated.entry.graph.now passes by_place.now
+    ensures { (source : List ℕ) (passes : List Pass) → IsSource source stated.entry.source.now
+        → IsTally stated.entry.graph.now passes by_place.now
         → IfOk result
-        (λ text. AreWarnings source.now stated.entry.image.now stated.entry.statement.now
+        (λ text. AreWarnings source stated.entry.source.now.image stated.entry.statement.now
         stated.entry.graph.now passes text.items) }
-    ensures fault { IfErr result (IsSourceFault source.now) }
 {
     let done = done_words(alloc, stated.graph, by_place)?;
-    if is_image(source) {
-        return Ok(image_done_returns(alloc, stated, &done)?);
-    }
-    let placed = placed_lines(alloc, source)?;
-    Ok(source_done_returns(alloc, stated, source, &placed, &done)?)
+    done_text(alloc, stated, &done)
 }

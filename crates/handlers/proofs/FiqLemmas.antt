@@ -14,7 +14,7 @@ use Rattle.handlers.specs.declared.fault.ReportFault.TheVariants.{Memory, Device
 use Rattle.handlers.specs.declared.fault.ReportFault.TheVariants as report_fault
 use Rattle.handlers.specs.FiqHandler.{EntersElsewhere, IsFiqRefused}
 use Rattle.handlers.specs.Report.{BeforeOutput, IsAccepted, IsRefused}
-use Rattle.handlers.specs.Source.{Said, source_of}
+use Rattle.sources.specs.Source.{Said, source_of}
 use Rattle.handlers.proofs.HandlerLemmas.{one_ok, same_statement, statement_refusal}
 use Rattle.handlers.proofs.ReportLemmas.{accepted_refusals, report_refusal}
 

@@ -20,9 +20,11 @@ use Rattle.loop_bounds.specs.Nest.{Applies, IsNestFault}
 use Rattle.loop_bounds.specs.declared.fault.NestFault.{NestFault}
 use Rattle.loop_bounds.specs.declared.fault.NestFault.TheVariants as nest_fault
 use Rattle.handlers.specs.Faults.{of_graph, of_loops, of_statement}
-use Rattle.assembler.specs.declared.assembly.Assembly.{Assembly}
 use Rattle.handlers.specs.Report.{AreLoopsRefused, HasGraph, HasItsTree, HasLoops, IsGraphRefused, IsHandlerOf, IsHandlerRefused, IsStatementRefused}
-use Rattle.handlers.specs.Source.{IsSourceFault, Said, Says, source_of}
+use Rattle.handlers.specs.Source.{IsSourceFault}
+use Rattle.sources.specs.Source.{Said, Says, source_of}
+use Rattle.sources.specs.declared.fault.SourceFault.TheVariants as source_fault
+use Rattle.sources.specs.declared.read.Source.{Source as ReadSource}
 use Rattle.handlers.specs.declared.handler.Handler.{Handler}
 use Rattle.handlers.specs.declared.fault.ReportFault.{ReportFault}
 use Rattle.handlers.specs.declared.fault.ReportFault.TheVariants.{Memory, Source, Image, Statement, Graph, Loops}
@@ -67,7 +69,7 @@ graph_there source statement profile words names st flow said read allowed is = 
 }
 
 -- loops by each source that says this, and the tree, are the handler
-pub handler_is : (r : Result Handler ReportFault) (said : Assembly) (statement : List ℕ) (profile : Profile) → ((source : List ℕ) → Says source said → IfOk r (λ h. HasLoops source statement profile h.statement h.graph))
+pub handler_is : (r : Result Handler ReportFault) (said : ReadSource) (statement : List ℕ) (profile : Profile) → ((source : List ℕ) → Says source said → IfOk r (λ h. HasLoops source statement profile h.statement h.graph))
     → IfOk r HasItsTree → IfOk r (IsHandlerOf said statement profile)
 handler_is (Ok h) said statement profile loops tree = record { loops = loops; tree = tree }
 handler_is (Err e) said statement profile loops tree = tt
@@ -88,8 +90,8 @@ pub graph_refusals : (source statement : List ℕ) (profile : Profile) (st : Sta
     → (e ≡ Memory) ⊎ ((f : NestFault) × (e ≡ Loops f))
 graph_refusals source statement profile st flow Memory g r = inl refl
 graph_refusals source statement profile st flow (Loops f) g r = inr (f, refl)
-graph_refusals source statement profile st flow (Source f) g r = absurd (never_both (g.words, g.names) (Source f) (source_of source) g.source_is r)
-graph_refusals source statement profile st flow (Image f) g r = absurd (never_both (g.words, g.names) (Image f) (source_of source) g.source_is r)
+graph_refusals source statement profile st flow (Source f) g r = absurd (never_both (g.words, g.names) (source_fault.Text f) (source_of source) g.source_is r)
+graph_refusals source statement profile st flow (Image f) g r = absurd (never_both (g.words, g.names) (source_fault.Image f) (source_of source) g.source_is r)
 graph_refusals source statement profile st flow (Statement f) g r =
     let said : (g.words, g.names) ≡ (r.words, r.names) = one_ok (g.words, g.names) (r.words, r.names) (source_of source) g.source_is r.source_is in
     let both : Ok st ≡ Err f = same_statement statement g.names r.names (Ok st) (Err f) (ap (λ (s : Said). s.1) said) g.statement_is r.statement_is in

@@ -25,7 +25,8 @@ use Rattle.machine_file.specs.declared.pages.MappedPage.{MappedPage}
 use Rattle.handlers.specs.Faults.{of_load, of_machine_file}
 use Rattle.handlers.specs.Placing.{IsFileRefused, IsRunRefused, IsRunnable, IsStated, LacksPage}
 use Rattle.handlers.specs.Report.{BeforeOutput}
-use Rattle.handlers.specs.Source.{Said, source_of}
+use Rattle.sources.specs.Source.{Said, source_of}
+use Rattle.sources.specs.declared.fault.SourceFault.TheVariants as source_fault
 use Rattle.image.specs.Labels.{Names}
 use Rattle.handlers.specs.declared.fault.ReportFault.{ReportFault}
 use Rattle.handlers.specs.declared.fault.ReportFault.TheVariants.{Memory as OfMemory, Source, Image, MachineFile, Load, Device}
@@ -105,8 +106,8 @@ module _ (source machine : List ℕ) (profile : Profile) where
   pub runnable_refusals : (e : ReportFault) → IsRunnable source machine profile → IsRunRefused source machine profile e → (e ≡ OfMemory) ⊎ (e ≡ Device)
   runnable_refusals OfMemory a r = inl refl
   runnable_refusals Device a r = inr refl
-  runnable_refusals (Source f) a r = absurd (let both : Ok (a.placed.words, a.placed.stated.names) ≡ Err (Source f) = sym a.placed.stated.source_is ∙ r in cc both)
-  runnable_refusals (Image f) a r = absurd (let both : Ok (a.placed.words, a.placed.stated.names) ≡ Err (Image f) = sym a.placed.stated.source_is ∙ r in cc both)
+  runnable_refusals (Source f) a r = absurd (let both : Ok (a.placed.words, a.placed.stated.names) ≡ Err (source_fault.Text f) = sym a.placed.stated.source_is ∙ r in cc both)
+  runnable_refusals (Image f) a r = absurd (let both : Ok (a.placed.words, a.placed.stated.names) ≡ Err (source_fault.Image f) = sym a.placed.stated.source_is ∙ r in cc both)
   runnable_refusals (MachineFile f) a r = absurd (let both : Ok a.file ≡ Err f = one_machine_file machine (Ok a.file) (Err f) a.placed.stated.file_is r.file_is in cc both)
   runnable_refusals (Load f) a r =
       let p = a.placed in

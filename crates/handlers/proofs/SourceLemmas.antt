@@ -1,62 +1,20 @@
 -- What reading a source reports.
-use Rattle.std.proofs.Common.{◌≡◌, ◌∙◌, ◌⊎◌, ℕ, Bool, true, false, List, Result, Ok, Err, ap, cond, inl, inr, sym}
+use Rattle.std.proofs.Common.{◌≡◌, ℕ, List, Result}
 use Rattle.std.specs.Prelude.{IfErr}
 use Rattle.std.specs.Result.{IsErrAnd}
-use Rattle.image.specs.Image.{Words}
-use Rattle.image.specs.ImageBytes.{image_read, is_image}
-use Rattle.image.specs.declared.reading.ReadFault.{ReadFault}
-use Rattle.image.specs.declared.reading.ReadFault.TheVariants as read_fault
-use Rattle.image.specs.Labels.{Names, no_names}
-use Rattle.assembler.specs.Sweeps.{assembled}
-use Rattle.assembler.specs.Views.{FaultedAt}
-use Rattle.assembler.specs.declared.fault.LineFault.{LineFault}
-use Rattle.assembler.specs.declared.fault.AsmFault.{AsmFault}
-use Rattle.assembler.specs.declared.fault.AsmFault.TheVariants as asm_fault
-use Rattle.handlers.specs.Faults.{of_image, of_source}
-use Rattle.handlers.specs.Source.{IsSourceFault, said_by_image, said_by_text, source_of}
+use Rattle.handlers.specs.Faults.{of_source}
+use Rattle.handlers.specs.Source.{IsSourceFault}
 use Rattle.handlers.specs.declared.fault.ReportFault.{ReportFault}
 use Rattle.handlers.proofs.HandlerLemmas.{refused_as}
+use Rattle.sources.specs.Source as source
+use Rattle.sources.specs.declared.fault.SourceFault.{SourceFault}
+use Rattle.sources.specs.declared.fault.SourceFault.TheVariants as source_fault
 
-said_image : (source : List ℕ) → is_image source ≡ true → source_of source ≡ said_by_image (image_read source)
-unfolding source_of
-said_image source is = ap (λ (b : Bool). cond b (said_by_image (image_read source)) (said_by_text (assembled source))) is
+reported : (bytes : List ℕ) (f : SourceFault) → source.IsFaultOf bytes f → IsSourceFault bytes (of_source f)
+reported bytes source_fault.Memory h = tt
+reported bytes (source_fault.Text f) h = h
+reported bytes (source_fault.Image f) h = h
 
-said_text : (source : List ℕ) → is_image source ≡ false → source_of source ≡ said_by_text (assembled source)
-unfolding source_of
-said_text source is = ap (λ (b : Bool). cond b (said_by_image (image_read source)) (said_by_text (assembled source))) is
-
-pub image_said : (source : List ℕ) (words : Words) (names : Names) → is_image source ≡ true → image_read source ≡ Ok words → names ≡ no_names → source_of source ≡ Ok (words, names)
-image_said source words names is read none = said_image source is ∙ ap said_by_image read ∙ ap (λ (n : Names). Ok (words, n)) (sym none)
-
-pub text_said : (source : List ℕ) (words : Words) (names : Names) → is_image source ≡ false → assembled source ≡ Ok (words, names) → source_of source ≡ Ok (words, names)
-text_said source words names is read = said_text source is ∙ ap said_by_text read
-
-read_of_said : (r : Result Words ReadFault) (words : Words) (names : Names) → said_by_image r ≡ Ok (words, names) → r ≡ Ok words
-read_of_said (Ok read) words names e = let same : ◌≡◌ {A = Words × Names} (read, no_names) (words, names) = cc in ap (λ x. Ok x.0) same
-read_of_said (Err fault) words names e = absurd cc
-
-pub image_was_read : (source : List ℕ) (words : Words) (names : Names) → is_image source ≡ true → source_of source ≡ Ok (words, names) → image_read source ≡ Ok words
-image_was_read source words names is said = read_of_said (image_read source) words names (sym (said_image source is) ∙ said)
-
-assembled_of_said : (r : Result (Words × Names) (LineFault × ℕ)) (words : Words) (names : Names) → said_by_text r ≡ Ok (words, names) → r ≡ Ok (words, names)
-assembled_of_said (Ok said) words names e = let same : ◌≡◌ {A = Words × Names} said (words, names) = cc in ap (λ x. Ok x) same
-assembled_of_said (Err fault) words names e = absurd cc
-
-pub text_was_assembled : (source : List ℕ) (words : Words) (names : Names) → is_image source ≡ false → source_of source ≡ Ok (words, names) → assembled source ≡ Ok (words, names)
-text_was_assembled source words names is said = assembled_of_said (assembled source) words names (sym (said_text source is) ∙ said)
-
--- why an image cannot be read
-pub image_fault : (source : List ℕ) (f : ReadFault) → is_image source ≡ true → (f ≡ read_fault.Memory) ⊎ (image_read source ≡ Err f) → IsSourceFault source (of_image f)
-image_fault source read_fault.Memory is h = tt
-image_fault source f is (inl h) = absurd (cc h)
-image_fault source f is (inr h) = said_image source is ∙ ap said_by_image h
-
--- why a text cannot be assembled
-pub text_fault : (source : List ℕ) (f : AsmFault) → is_image source ≡ false → FaultedAt f (assembled source) → IsSourceFault source (of_source f)
-text_fault source asm_fault.Memory is h = tt
-text_fault source (asm_fault.Line fault line) is h = said_text source is ∙ ap said_by_text h
-
--- the same of an answer by a `?`
-pub text_refused : {T : Type 0} (source : List ℕ) (f : AsmFault) (r : Result T ReportFault) → IsErrAnd r (λ e. e ≡ of_source f) → is_image source ≡ false → FaultedAt f (assembled source)
-    → IfErr r (IsSourceFault source)
-text_refused source f r answered is h = refused_as r (of_source f) (IsSourceFault source) answered (text_fault source f is h)
+-- the fault of a source, as a `?` answers it
+pub source_refused : {T : Type 0} (bytes : List ℕ) (f : SourceFault) (r : Result T ReportFault) → IsErrAnd r (λ e. e ≡ of_source f) → source.IsFaultOf bytes f → IfErr r (IsSourceFault bytes)
+source_refused bytes f r answered is = refused_as r (of_source f) (IsSourceFault bytes) answered (reported bytes f is)

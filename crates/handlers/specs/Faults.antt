@@ -1,8 +1,6 @@
 -- Faults of the parts as a report's: lack of memory is one for all.
 use Rattle.assembler.specs.declared.fault.AsmFault.{AsmFault}
 use Rattle.assembler.specs.declared.fault.AsmFault.TheVariants as asm_fault
-use Rattle.image.specs.declared.reading.ReadFault.{ReadFault}
-use Rattle.image.specs.declared.reading.ReadFault.TheVariants as read_fault
 use Rattle.loader.specs.declared.loading.LoadFault.{LoadFault}
 use Rattle.loader.specs.declared.loading.LoadFault.TheVariants as load_fault
 use Rattle.machine_file.specs.declared.machine_faults.MachineFileFault.{MachineFileFault}
@@ -11,6 +9,8 @@ use Rattle.machine_file.specs.declared.profile_faults.ProfileFileFault.{ProfileF
 use Rattle.machine_file.specs.declared.profile_faults.ProfileFileFault.TheVariants as profile_fault
 use Rattle.control_flow.specs.declared.faults.BuildFault.{BuildFault}
 use Rattle.control_flow.specs.declared.faults.BuildFault.TheVariants as build_fault
+use Rattle.sources.specs.declared.fault.SourceFault.{SourceFault}
+use Rattle.sources.specs.declared.fault.SourceFault.TheVariants as source_fault
 use Rattle.statement.specs.declared.faults.StatementFault.{StatementFault}
 use Rattle.statement.specs.declared.faults.StatementFault.TheVariants as statement_fault
 use Rattle.loop_bounds.specs.declared.fault.NestFault.{NestFault}
@@ -25,9 +25,14 @@ use Rattle.handlers.specs.declared.fault.ReportFault.TheVariants.{Statement, Gra
 use Rattle.handlers.specs.declared.fault.ReportFault.TheVariants.{Loops, Walk, MachineFile, Load, Cert}
 use Rattle.handlers.specs.declared.fault.ReportFault.TheVariants.{Profile}
 
-abbrev pub of_source : AsmFault → ReportFault
-of_source asm_fault.Memory = Memory
-of_source fault = Source fault
+abbrev pub of_source : SourceFault → ReportFault
+of_source source_fault.Memory = Memory
+of_source (source_fault.Text fault) = Source fault
+of_source (source_fault.Image fault) = Image fault
+
+abbrev pub of_text : AsmFault → ReportFault
+of_text asm_fault.Memory = Memory
+of_text fault = Source fault
 
 abbrev pub of_statement : StatementFault → ReportFault
 of_statement statement_fault.Memory = Memory
@@ -48,10 +53,6 @@ of_walk fault = Walk fault
 abbrev pub of_cert : CertFault → ReportFault
 of_cert cert_fault.Memory = Memory
 of_cert fault = Cert fault
-
-abbrev pub of_image : ReadFault → ReportFault
-of_image read_fault.Memory = Memory
-of_image fault = Image fault
 
 abbrev pub of_machine_file : MachineFileFault → ReportFault
 of_machine_file machine_fault.Memory = Memory

@@ -7,7 +7,7 @@ use Rattle.image.specs.Labels.{Names}
 use Rattle.statement.specs.Stated.{Stated}
 use Rattle.statement.specs.Statement.{IsStatement}
 use Rattle.handlers.specs.Report.{IsRefused}
-use Rattle.handlers.specs.Source.{source_of}
+use Rattle.sources.specs.Source.{source_of}
 use Rattle.handlers.specs.declared.fault.ReportFault.{ReportFault}
 use Rattle.handlers.specs.declared.fault.ReportFault.TheVariants as report_fault
 

@@ -15,9 +15,10 @@ use Rattle.machine_file.specs.Started.{IsStarted}
 use Rattle.machine_file.specs.Stated.{Stated}
 use Rattle.machine_file.specs.declared.machine_faults.MachineFileFault.{MachineFileFault}
 use Rattle.machine_file.specs.declared.machine_faults.MachineFileFault.TheVariants as machine_fault
-use Rattle.handlers.specs.Source.{IsSourceFault, source_of}
+use Rattle.handlers.specs.Source.{IsSourceFault}
 use Rattle.handlers.specs.declared.fault.ReportFault.{ReportFault}
 use Rattle.handlers.specs.declared.fault.ReportFault.TheVariants as report_fault
+use Rattle.sources.specs.Source.{source_of}
 
 -- ## The machine
 

@@ -2,7 +2,6 @@
 -- none.
 use Rattle.std.specs.Prelude.{◌≡◌, ◌≢◌, ◌↔◌, ℕ, List, Ok, Err, Contains}
 use Rattle.bus_ticks.specs.declared.profile.Profile.{Profile}
-use Rattle.assembler.specs.declared.assembly.Assembly.{Assembly}
 use Rattle.image.specs.Image.{Words}
 use Rattle.control_flow.specs.declared.edges.Edge.{Edge}
 use Rattle.control_flow.specs.Flow.{Flow, edge_shape}
@@ -33,10 +32,12 @@ use Rattle.certificate.specs.declared.cert.Cert.{Cert}
 use Rattle.cert_check.specs.Verdict.{IsVerdict}
 use Rattle.cert_check.specs.declared.verdict.Verdict.TheVariants.{Yes}
 use Rattle.handlers.specs.Keeping.{BoundsRuns}
-use Rattle.handlers.specs.Source.{IsSourceFault, Says, source_of}
+use Rattle.handlers.specs.Source.{IsSourceFault}
 use Rattle.handlers.specs.declared.handler.Handler.{Handler}
 use Rattle.handlers.specs.declared.fault.ReportFault.{ReportFault}
 use Rattle.handlers.specs.declared.fault.ReportFault.TheVariants as report_fault
+use Rattle.sources.specs.Source.{Says, source_of}
+use Rattle.sources.specs.declared.read.Source.{Source}
 
 -- the bound is the greatest cost, and the items unfold to a complete walk of that cost that keeps the bounds
 pub record IsGreatestWalk (flow : Flow) (loops : List Loop) (bound : ℕ) (items : List Item) : Type 0 where
@@ -86,7 +87,7 @@ abbrev pub HasItsTree : Handler → Type 0
 HasItsTree handler = IsTreeOf handler.graph handler.statement.loops handler.tree
 
 -- it is the handler of each source that says this, and of the statement
-pub record IsHandlerOf (said : Assembly) (statement : List ℕ) (profile : Profile)
+pub record IsHandlerOf (said : Source) (statement : List ℕ) (profile : Profile)
     (handler : Handler) : Type 0 where
   pub loops : (source : List ℕ) → Says source said
       → HasLoops source statement profile handler.statement handler.graph

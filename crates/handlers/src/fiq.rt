@@ -1,12 +1,12 @@
 ghost use Rattle.std.specs.Prelude.{◌≡◌, List, ℕ, IfErr, IfOk};
 ghost use Rattle.handlers.specs.FiqHandler.{IsFiqRefused};
 ghost use Rattle.handlers.specs.Report.{BeforeOutput, IsHandlerOf};
-ghost use Rattle.handlers.specs.Source.{Says};
+ghost use Rattle.sources.specs.Source.{Says};
 
 use crate::fault::ReportFault;
 use crate::handler::{Handler, stated_handler};
-use assembler::Assembly;
 use bus_ticks::{FIQ_VECTOR, Profile};
+use sources::Source;
 use statement::read_statement;
 use std::alloc::Global;
 
@@ -18,7 +18,7 @@ use std::alloc::Global;
 /// `Memory`: an allocation failed.
 pub fn fiq_handler(
     alloc: Global,
-    said: &Assembly,
+    said: &Source<'_>,
     statement: &[u8],
     profile: &Profile,
 ) -> Result<Handler, ReportFault>

@@ -1,6 +1,5 @@
 ghost use Rattle.std.specs.Prelude.{◌≡◌, ◌≢◌, List, ℕ, Ok, IfErr, IfOk, OnOk, option_map};
 ghost use Rattle.image.specs.Labels.{address_of};
-ghost use Rattle.control_flow.specs.Flow.{IsWellFormed};
 ghost use Rattle.longest_walk.specs.Longest.{IsLongest, IsWalkFault};
 ghost use Rattle.loop_bounds.specs.Bounds.{IsGreatestCost};
 ghost use Rattle.numbered_walks.specs.declared.fault.WalkFault.{WalkFault};
@@ -8,16 +7,16 @@ ghost use Rattle.statement.specs.Statement.{IsStatement};
 ghost use Rattle.handlers.specs.Priced.{HasNoProfile, IsProfile};
 ghost use Rattle.handlers.specs.Report.{BeforeOutput, HasItsTree, HasLoops, IsHandlerOf};
 ghost use Rattle.handlers.specs.Report.{IsHandlerRefused, IsRefused, OfHandler};
-ghost use Rattle.handlers.specs.Source.{IsSourceFault, Says};
+ghost use Rattle.handlers.specs.Source.{IsSourceFault};
+ghost use Rattle.sources.specs.Source.{IsSource, Says};
 
 use crate::fault::ReportFault;
-use assembler::{Assembly, assemble};
 use bus_ticks::Profile;
 use control_flow::{Graph, build};
-use image::{Labels, is_image, read_image};
 use longest_walk::{Longest, longest};
 use loop_bounds::{LoopTree, nest};
 use machine_file::read_profile;
+use sources::Source;
 use statement::{Statement, read_statement};
 use std::alloc::Global;
 
@@ -39,23 +38,17 @@ pub fn profile_of(alloc: Global, file: Option<&[u8]>) -> Result<Profile, ReportF
     }
 }
 
-/// The words and the labels of a source: of an image where it begins as one, which has no labels, else of a
-/// text.
+/// A source, an image where it begins as one, else a text.
 ///
 /// # Errors
 ///
 /// `Source`, with its line, of a text; `Image` of an image. `Memory`: an allocation failed.
-pub fn read_source(alloc: Global, source: &[u8]) -> Result<Assembly, ReportFault>
-    ensures said { IfOk result (Says source.now) }
+pub fn read_source<'a>(alloc: Global, source: &'a [u8]) -> Result<Source<'a>, ReportFault>
+    ensures is { IfOk result (IsSource source.now) }
     ensures fault { IfErr result (IsSourceFault source.now) }
 {
-    if is_image(source) {
-        let image = read_image(alloc, source)?;
-        let labels = Labels::new(alloc);
-        return Ok(Assembly { image, labels });
-    }
-    let assembly = assemble(alloc, source)?;
-    Ok(assembly)
+    let read = Source::read(alloc, source)?;
+    Ok(read)
 }
 
 /// A handler's statement, its flow graph and the tree of its loops.
@@ -66,25 +59,25 @@ pub struct Handler {
     pub tree: LoopTree,
 }
 
-/// What a source says, and the handler of it and of a statement.
+/// A source, and the handler of it and of a statement.
 #[derive(Drop)]
-pub struct SaidHandler {
-    pub said: Assembly,
+pub struct SaidHandler<'a> {
+    pub said: Source<'a>,
     pub handler: Handler,
 }
 
-/// What a source says with its handler.
+/// A source with its handler.
 ///
 /// # Errors
 ///
 /// The first in the order of the work: source, statement, graph, loops. `Memory`: an allocation failed.
-pub fn said_handler(
+pub fn said_handler<'a>(
     alloc: Global,
-    source: &[u8],
+    source: &'a [u8],
     statement: &[u8],
     profile: &Profile,
-) -> Result<SaidHandler, ReportFault>
-    ensures said { IfOk result (λ r. Says source.now r.said) }
+) -> Result<SaidHandler<'a>, ReportFault>
+    ensures is { IfOk result (λ r. IsSource source.now r.said) }
     ensures loops { IfOk result
         (λ r. HasLoops source.now statement.now profile.now r.handler.statement r.handler.graph) }
     ensures tree { IfOk result (λ r. HasItsTree r.handler) }
@@ -121,7 +114,7 @@ pub fn read_handler(
 /// The first in the order of the work: statement, graph, loops. `Memory`: an allocation failed.
 pub fn handler_of(
     alloc: Global,
-    said: &Assembly,
+    said: &Source<'_>,
     statement: &[u8],
     profile: &Profile,
 ) -> Result<Handler, ReportFault>
@@ -140,7 +133,7 @@ pub fn handler_of(
 /// The first in the order of the work: graph, loops. `Memory`: an allocation failed.
 pub fn stated_handler(
     alloc: Global,
-    said: &Assembly,
+    said: &Source<'_>,
     statement: Statement,
     profile: &Profile,
 ) -> Result<Handler, ReportFault>
@@ -160,13 +153,6 @@ pub fn stated_handler(
         graph,
         tree,
     })
-}
-
-/// States that a handler's graph is well formed. It does nothing.
-pub fn graph_is_well_formed(handler: &Handler)
-    ensures { IsWellFormed handler.now.graph }
-{
-    let _places = handler.graph.places();
 }
 
 /// The greatest of a handler's walks.

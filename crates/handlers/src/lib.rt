@@ -16,8 +16,8 @@ pub use fault::ReportFault;
 pub use fault_names::fault_name;
 pub use fiq::fiq_handler;
 pub use handler::{
-    Handler, SaidHandler, graph_is_well_formed, handler_of, longest_of, profile_of, read_handler,
-    read_source, said_handler, stated_handler,
+    Handler, SaidHandler, handler_of, longest_of, profile_of, read_handler, read_source,
+    said_handler, stated_handler,
 };
 pub use output::{MemoryOutput, StreamOutput, print_answer};
 pub use placing::{Placed, place, place_image};

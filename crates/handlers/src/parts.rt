@@ -2,8 +2,8 @@
 
 ghost use Rattle.std.specs.Prelude.{◌≡◌};
 ghost use Rattle.handlers.specs.declared.fault.ReportFault.TheVariants.{Memory};
-ghost use Rattle.handlers.specs.Faults.{of_cert, of_graph, of_image, of_load, of_loops, of_machine_file};
-ghost use Rattle.handlers.specs.Faults.{of_profile, of_source, of_statement, of_walk};
+ghost use Rattle.handlers.specs.Faults.{of_cert, of_graph, of_load, of_loops, of_machine_file};
+ghost use Rattle.handlers.specs.Faults.{of_profile, of_source, of_statement, of_text, of_walk};
 
 use crate::fault::ReportFault;
 use arm2_exec::MachineFault;
@@ -12,11 +12,11 @@ use cert_check::CheckFault;
 use certificate::CertFault;
 use control_flow::BuildFault;
 use debugger::DebugFault;
-use image::ReadFault;
 use loader::LoadFault;
 use longest_walk::WalkFault;
 use loop_bounds::NestFault;
 use machine_file::{MachineFileFault, ProfileFileFault};
+use sources::SourceFault;
 use statement::StatementFault;
 use std::alloc::AllocError;
 
@@ -28,8 +28,20 @@ impl From<AllocError> for ReportFault {
     }
 }
 
-impl From<AsmFault> for ReportFault {
+impl From<SourceFault> for ReportFault {
     ghost from_gives = { λ lower fault. fault ≡ of_source lower };
+
+    fn from(lower: SourceFault) -> ReportFault {
+        match lower {
+            SourceFault::Memory => ReportFault::Memory,
+            SourceFault::Text(fault) => ReportFault::Source(fault),
+            SourceFault::Image(fault) => ReportFault::Image(fault),
+        }
+    }
+}
+
+impl From<AsmFault> for ReportFault {
+    ghost from_gives = { λ lower fault. fault ≡ of_text lower };
 
     fn from(lower: AsmFault) -> ReportFault {
         match lower {
@@ -99,17 +111,6 @@ impl From<CheckFault> for ReportFault {
 
     fn from(_lower: CheckFault) -> ReportFault {
         ReportFault::Memory
-    }
-}
-
-impl From<ReadFault> for ReportFault {
-    ghost from_gives = { λ lower fault. fault ≡ of_image lower };
-
-    fn from(lower: ReadFault) -> ReportFault {
-        match lower {
-            ReadFault::Memory => ReportFault::Memory,
-            _ => ReportFault::Image(lower),
-        }
     }
 }
 

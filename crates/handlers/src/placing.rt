@@ -3,16 +3,16 @@ ghost use Rattle.bus_ticks.specs.declared.profile.Profile.{Profile};
 ghost use Rattle.loader.specs.Loading.{lacks_page, put_words};
 ghost use Rattle.handlers.specs.Placing.{IsPlaced, IsRunRefused, IsRunnable, IsStated, LacksPage};
 ghost use Rattle.handlers.specs.Report.{BeforeOutput};
-ghost use Rattle.handlers.specs.Source.{Says};
+ghost use Rattle.sources.specs.Source.{Says};
 
 use crate::fault::ReportFault;
 use crate::handler::read_source;
 use arm2_exec::Machine;
-use assembler::Assembly;
 use bus_ticks::Profile;
 use image::Image;
 use loader::{LoadFault, load, put_words};
 use machine_file::{MachineFile, read_machine};
+use sources::Source;
 use std::alloc::Global;
 
 /// A machine with all its words, before its first step, and the file that states it.
@@ -48,7 +48,7 @@ pub fn place(
 /// The first in the order of the work: machine file, load. `Memory`: an allocation failed.
 pub fn place_image(
     alloc: Global,
-    said: &Assembly,
+    said: &Source<'_>,
     machine: &[u8],
     profile: Profile,
 ) -> Result<Placed, ReportFault>

@@ -4,7 +4,9 @@ use Rattle.std.proofs.lemmas.Bool.{true≢false}
 use Rattle.toml.specs.Data.{Data, Members, as_table, get_member}
 use Rattle.toml_reading.specs.Lowest.{AtKey, entries_at}
 use Rattle.toml_reading.proofs.LowestParts.{some_weaker}
-use Rattle.machine_file.specs.MachineFaultRules.{AreNoTables, HasMachineFault, HasOtherKey, HasOtherKind, HasOtherNumber, HasWrongKind, IsLetterTwice, IsNoTable, IsOtherKind, IsOtherNumber, IsPageTwice, IsStepTwice, IsUnmappable, IsWordTwice, LacksKey, OfSomeTable, Row, Shape, Takes, event_shape, file_shape, map_shape, register_shape, put_word_shape}
+use Rattle.machine_file.specs.MachineFaultRules.{AreNoTables, HasMachineFault, HasOtherKey, HasOtherKind, HasOtherNumber, HasWrongKind, IsLetterTwice, IsNoTable, IsOtherKind, IsOtherNumber, IsPageTwice, IsStepTwice, IsUnmappable, IsWordTwice, LacksKey, OfSomeTable, Row, Shape, event_shape, file_shape, map_shape, register_shape, put_word_shape}
+use Rattle.machine_file.specs.declared.rows.Takes.{Takes}
+use Rattle.machine_file.specs.MachinePlaces.{KindFault}
 use Rattle.machine_file.specs.declared.machine_faults.MachineFileFault.{MachineFileFault}
 use Rattle.machine_file.specs.declared.machine_faults.MachineFileFault.TheVariants.{UnknownKey, WrongKind, OutOfRange, Twice}
 
@@ -90,12 +92,9 @@ module _ (P : Shape → Members → Type 0) (C : Type 0) (f : (s : Shape) (t : M
 -- ## The faults of one table
 
 module _ (f : MachineFileFault) where
-  abbrev pub KindFault : Takes → Data → Type 0
-  KindFault takes d = (IsOtherKind takes d × (f ≡ WrongKind)) ⊎ (IsOtherNumber takes d × (f ≡ OutOfRange))
-
   abbrev pub RowFault : Members → Row → Type 0
   RowFault t row =
-      MatchOption (get_member row.key t) ((row.required ≡ true) × (f ≡ WrongKind)) (KindFault row.takes)
+      MatchOption (get_member row.key t) ((row.required ≡ true) × (f ≡ WrongKind)) (KindFault f row.takes)
 
   abbrev pub ShapeFault : Shape → Members → Type 0
   ShapeFault shape t = (HasOtherKey shape t × (f ≡ UnknownKey)) ⊎ Any (RowFault t) shape.rows
@@ -107,7 +106,7 @@ module _ (f : MachineFileFault) where
   OtherNumber shape t = HasOtherNumber shape t × (f ≡ OutOfRange)
 
   row_split : (takes : Takes) (R : Type 0) (o : Option Data)
-      → MatchOption o (R × (f ≡ WrongKind)) (KindFault takes)
+      → MatchOption o (R × (f ≡ WrongKind)) (KindFault f takes)
       → ((R × (o ≡ None)) × (f ≡ WrongKind)) ⊎ ((IsSomeAnd o (IsOtherKind takes) × (f ≡ WrongKind)) ⊎ (IsSomeAnd o (IsOtherNumber takes) × (f ≡ OutOfRange)))
   row_split takes R None h = inl ((h.0, refl), h.1)
   row_split takes R (Some d) (inl h) = inr (inl h)
@@ -129,17 +128,17 @@ module _ (f : MachineFileFault) where
   shape_split shape t (inr h) = inr (rows_split shape t h)
 
   row_missing : (takes : Takes) (R : Type 0) (o : Option Data) → f ≡ WrongKind → R × (o ≡ None)
-      → MatchOption o (R × (f ≡ WrongKind)) (KindFault takes)
+      → MatchOption o (R × (f ≡ WrongKind)) (KindFault f takes)
   row_missing takes R None e h = (h.0, e)
   row_missing takes R (Some d) e h = absurd (true≢false (ap is_some h.1))
 
   row_kind : (takes : Takes) (R : Type 0) (o : Option Data) → f ≡ WrongKind
-      → IsSomeAnd o (IsOtherKind takes) → MatchOption o (R × (f ≡ WrongKind)) (KindFault takes)
+      → IsSomeAnd o (IsOtherKind takes) → MatchOption o (R × (f ≡ WrongKind)) (KindFault f takes)
   row_kind takes R None e h = absurd h
   row_kind takes R (Some d) e h = inl (h, e)
 
   row_number : (takes : Takes) (R : Type 0) (o : Option Data) → f ≡ OutOfRange
-      → IsSomeAnd o (IsOtherNumber takes) → MatchOption o (R × (f ≡ WrongKind)) (KindFault takes)
+      → IsSomeAnd o (IsOtherNumber takes) → MatchOption o (R × (f ≡ WrongKind)) (KindFault f takes)
   row_number takes R None e h = absurd h
   row_number takes R (Some d) e h = inr (h, e)
 

@@ -11,15 +11,18 @@ use Rattle.toml_reading.specs.Lowest.{AtKey, AtKeyOr, IsLowest, IsNoAddress, IsO
 use Rattle.toml_reading.proofs.LowestLemmas.{Judges, judged_as, judged_fault, judged_value}
 use Rattle.toml_reading.proofs.LowestParts.{any_cases, any_first, any_later, any_none, any_one_of}
 use Rattle.machine_file.specs.MachineFaults.{machine_faults}
-use Rattle.machine_file.specs.MachineFaultRules.{HasMachineFault, IsNoPutAddress, IsNoTable, Takes, UpTo, Address, PutAddress, Size, ModeName, FlagLetters, LineNames, Word, event_shape, file_shape, map_shape, may_have, needs, register_shape, put_word_shape}
+use Rattle.machine_file.specs.MachineFaultRules.{HasMachineFault, IsNoPutAddress, IsNoTable, Word, event_shape, file_shape, map_shape, may_have, needs, register_shape, put_word_shape}
+use Rattle.machine_file.specs.declared.rows.Takes.{Takes}
+use Rattle.machine_file.specs.declared.rows.Takes.TheVariants.{UpTo, Address, PutAddress, Size, ModeName, FlagLetters, LineNames}
 use Rattle.machine_file.specs.MachineFile.{is_letter, is_single, machine_in}
+use Rattle.machine_file.specs.MachinePlaces.{KindFault}
 use Rattle.ioc.specs.LineNames.{line_named}
 use Rattle.machine_file.specs.MachineRules.{StatesMachine, kilobytes}
 use Rattle.machine_file.specs.Names.{name_of, named_mode, named_registers}
 use Rattle.machine_file.specs.Stated.{Stated}
 use Rattle.machine_file.specs.declared.machine_faults.MachineFileFault.{MachineFileFault}
 use Rattle.machine_file.specs.declared.machine_faults.MachineFileFault.TheVariants.{WrongKind, OutOfRange, Twice}
-use Rattle.machine_file.proofs.FaultTableLemmas.{In, KindFault, RowFault, ShapeFault, TablesFault, any_map, from_machine_fault, to_machine_fault}
+use Rattle.machine_file.proofs.FaultTableLemmas.{In, RowFault, ShapeFault, TablesFault, any_map, from_machine_fault, to_machine_fault}
 use Rattle.machine_file.proofs.KeyFaults.{AddressFault, EventFault, FlagsFault, HasKeyFault, LinesFault, PageFault, PutAddressFault, PutWordFault, RegistersFault, SizeFault, UpToFault, WordFault}
 use Rattle.machine_file.proofs.MachineRuleLemmas.{machine_judged}
 use Rattle.machine_file.proofs.MachineValueLemmas.{one_rank}

@@ -15,3 +15,10 @@ pub mod InputLemmas
 pub mod PageLemmas
 pub mod StartLemmas
 pub mod Unique
+mod TestLemmas
+mod RepeatLemmas
+mod KeyNameLemmas
+mod PlaceLemmas
+mod SpotLemmas
+mod PricePlaceLemmas
+mod PriceSpotLemmas

@@ -94,7 +94,7 @@ module _ (n : ℕ) where
       let none : (s : PageSize) → pos n ≡ pos (kilobytes s) → ⊥ = λ s e. other_size ea eb ec ed s (whole_same n (kilobytes s) e) in
       (none, record { has = (none, refl); least = λ f x. is_fault f OutOfRange x.1 })
 
-size_answers : (z : ℤ) → AnswersBy machine_faults (λ s. z ≡ pos (kilobytes s)) (OtherSize z) (size_of z)
+pub size_answers : (z : ℤ) → AnswersBy machine_faults (λ s. z ≡ pos (kilobytes s)) (OtherSize z) (size_of z)
 size_answers (pos n) = size_tested n (eqb n 4) (eqb n 8) (eqb n 16) (eqb n 32) refl refl refl refl
 size_answers (negsuc n) = (
   λ s e. not_whole n (kilobytes s) e,

@@ -225,7 +225,7 @@ module _ (ms : Members) where
     ],
   )
 
-  parts_judged : Judges profile_faults (λ p. StatesNumbers ms (joined p)) (PriceFault ms) (parts_in ms)
+  pub parts_judged : Judges profile_faults (λ p. StatesNumbers ms (joined p)) (PriceFault ms) (parts_in ms)
   parts_judged =
       judged_as
       profile_faults

@@ -33,7 +33,7 @@ PutAddress z a = (z ≡ pos a) × IsTrue (may_hold a)
 abbrev NoPutAddress : ℤ → MachineFileFault → Type 0
 NoPutAddress z f = IsNoPutAddress z × (f ≡ OutOfRange)
 
-put_address_answers : (z : ℤ) → Judges machine_faults (PutAddress z) (NoPutAddress z) (put_address_of z)
+pub put_address_answers : (z : ℤ) → Judges machine_faults (PutAddress z) (NoPutAddress z) (put_address_of z)
 put_address_answers =
     tested_judged
     machine_faults

@@ -8,6 +8,10 @@ pub mod Stated
 pub mod MachineFile
 pub mod MachineRules
 pub mod MachineFaultRules
+pub mod MachinePlaces
+pub mod MachinePlaceTests
+pub mod ProfilePlaces
+pub mod ProfilePlaceTests
 pub mod Parts
 pub mod Written
 pub mod Inputs

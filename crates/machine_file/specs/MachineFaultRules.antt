@@ -19,20 +19,15 @@ use Rattle.machine_file.specs.Names.{register_keys, word_keys}
 use Rattle.machine_file.specs.declared.machine_faults.MachineFileFault.{MachineFileFault}
 use Rattle.machine_file.specs.declared.machine_faults.MachineFileFault.TheVariants.{UnknownKey, WrongKind}
 use Rattle.machine_file.specs.declared.machine_faults.MachineFileFault.TheVariants.{OutOfRange, Twice}
+use Rattle.machine_file.specs.declared.rows.Takes.{Takes}
+use Rattle.machine_file.specs.declared.rows.Takes.TheVariants.{UpTo, Address, PutAddress, Size, ModeName}
+use Rattle.machine_file.specs.declared.rows.Takes.TheVariants.{FlagLetters, LineNames}
+use Rattle.machine_file.specs.declared.spots.EntryNumber.{EntryNumber}
+use Rattle.machine_file.specs.declared.spots.EntryNumber.TheVariants as number
 
 -- ## What the keys take
 
--- a number from 0 to a limit, an address of the program, that of a word in RAM or in ROM, a page's size in
--- KB, the name of a mode, letters of flags, or a list of names of lines
-pub data Takes : Type 0 where
-  UpTo : ℕ → Takes
-  Address : Takes
-  PutAddress : Takes
-  Size : Takes
-  ModeName : Takes
-  FlagLetters : Takes
-  LineNames : Takes
-
+-- a key, what it takes, and whether it has to be there
 pub record Row : Type 0 where
   pub key : List ℕ
   pub takes : Takes
@@ -165,14 +160,22 @@ are_below limit numbers = list_all (λ n. nat_lt n limit) numbers
 abbrev pub page_numbers : List ℕ → Members → List ℕ
 page_numbers key ms = numbers_at key (entries_at (codes "map") ms)
 
--- MEMC maps 2 ^ 25 bytes of logical pages, and its physical pages, at levels 0 to 3
+-- that holds of what a number of a page has to be below: MEMC maps 2 ^ 25 bytes of logical pages, and its
+-- physical pages, at levels 0 to 3
+abbrev pub OfLimit : EntryNumber → Members → (ℕ → Type 0) → Type 0
+OfLimit number.Logical ms P =
+    (size : PageSize)
+    × AtKeyOr (codes "pages") ms (size ≡ K4) (λ d. IsSize d size)
+    × P (2 ^ (25 - shift_of_size size))
+OfLimit number.Physical ms P = P PHYSICAL_PAGES
+OfLimit number.Level ms P = P 4
+OfLimit _ ms P = ⊥
+
 abbrev pub IsUnmappable : Members → Type 0
 IsUnmappable ms =
-    ((size : PageSize)
-    × AtKeyOr (codes "pages") ms (size ≡ K4) (λ d. IsSize d size)
-    × (are_below (2 ^ (25 - shift_of_size size)) (page_numbers (codes "logical") ms) ≡ false))
-    ⊎ (are_below PHYSICAL_PAGES (page_numbers (codes "physical") ms) ≡ false)
-    ⊎ (are_below 4 (page_numbers (codes "level") ms) ≡ false)
+    OfLimit number.Logical ms (λ limit. are_below limit (page_numbers (codes "logical") ms) ≡ false)
+    ⊎ OfLimit number.Physical ms (λ limit. are_below limit (page_numbers (codes "physical") ms) ≡ false)
+    ⊎ OfLimit number.Level ms (λ limit. are_below limit (page_numbers (codes "level") ms) ≡ false)
 
 -- ## Something twice
 

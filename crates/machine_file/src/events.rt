@@ -25,11 +25,11 @@ use toml_reading::{
 /// How many steps a machine file asks for at most, and how many where it says nothing.
 pub(crate) const MOST_STEPS: u32 = 65_536;
 
-// The last step that an event can be at: steps are counted from 0.
-const LAST_STEP: u32 = MOST_STEPS - 1;
+/// The last step that an event can be at: steps are counted from 0.
+pub(crate) const LAST_STEP: u32 = MOST_STEPS - 1;
 
-// The keys of an event's table.
-const EVENT_KEYS: &[&str] = &["step", "bursts", "lines", "port"];
+/// The keys of an event's table.
+pub(crate) const EVENT_KEYS: &[&str] = &["step", "bursts", "lines", "port"];
 
 /// What comes from outside from a step on.
 #[derive(Clone, Copy, Debug, PartialEq, Eq)]
@@ -42,7 +42,7 @@ pub struct Event {
     pub port: Option<u32>,
 }
 
-fn line_named(name: &str) -> Option<Lines>
+pub(crate) fn line_named(name: &str) -> Option<Lines>
     ensures { result ≡ line_named name.now }
 {
     Lines::from_name(name)

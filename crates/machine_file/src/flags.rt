@@ -41,13 +41,13 @@ fn is_letter(letter: u8) -> bool
     has(LETTERS, letter)
 }
 
-fn are_letters(text: &[u8]) -> bool
+pub(crate) fn are_letters(text: &[u8]) -> bool
     ensures { result ≡ list_all is_letter text.now }
 {
     text.iter().all(|letter| is_letter(*letter))
 }
 
-fn is_single(text: &[u8]) -> bool
+pub(crate) fn is_single(text: &[u8]) -> bool
     ensures { result ≡ is_single text.now }
 {
     LETTERS.iter().all(|letter| times(*letter, text) <= 1)

@@ -3,12 +3,16 @@ ghost use Rattle.toml.specs.Data.{Members};
 ghost use Rattle.toml_reading.specs.Lowest.{IsLowest};
 ghost use Rattle.machine_file.specs.MachineFaults.{machine_faults};
 ghost use Rattle.machine_file.specs.MachineFile.{machine_in};
+ghost use Rattle.machine_file.specs.MachinePlaces.{IsMachineFaultAt};
 ghost use Rattle.machine_file.specs.MachineFaultRules.{HasMachineFault};
 ghost use Rattle.machine_file.specs.MachineRules.{StatesMachine};
 ghost use Rattle.machine_file.specs.ProfileFaults.{profile_faults};
 ghost use Rattle.machine_file.specs.ProfileFile.{IsPriced, Read, numbers_in};
+ghost use Rattle.machine_file.specs.ProfilePlaces.{IsProfileFaultAt};
 ghost use Rattle.machine_file.specs.ProfileRules.{HasProfileFault, StatesProfile};
 ghost use Rattle.machine_file.specs.Stated.{Stated};
+ghost use Rattle.machine_file.specs.declared.spots.MachineSpot.{MachineSpot};
+ghost use Rattle.machine_file.specs.declared.spots.ProfileSpot.{ProfileSpot};
 
 use crate::machine_faults::MachineFileFault;
 use crate::profile_faults::ProfileFileFault;
@@ -30,4 +34,18 @@ pub fn machine_files_are_read()
         ↔ StatesMachine ms stated }
     ensures fault { (ms : Members) → (fault : MachineFileFault) → machine_in ms ≡ Err fault
         ↔ IsLowest machine_faults (HasMachineFault ms) fault }
+{}
+
+/// States that a machine file's document has a fault exactly where one of its spots has it, as
+/// [`has_fault_at`](crate::MachineDocument::has_fault_at) says. It does nothing.
+pub fn machine_faults_have_spots()
+    ensures { (ms : Members) → (fault : MachineFileFault) → HasMachineFault ms fault
+        ↔ ((spot : MachineSpot) × IsMachineFaultAt ms spot fault) }
+{}
+
+/// States that a cycle profile's document has a fault exactly where one of its spots has it, as
+/// [`has_fault_at`](crate::ProfileDocument::has_fault_at) says. It does nothing.
+pub fn profile_faults_have_spots()
+    ensures { (ms : Members) → (fault : ProfileFileFault) → HasProfileFault ms fault
+        ↔ ((spot : ProfileSpot) × IsProfileFaultAt ms spot fault) }
 {}

@@ -23,8 +23,8 @@ use std::marker::Model;
 use toml::Table;
 use toml_reading::{document, of_keys, pair};
 
-// The keys of the file.
-const FILE_KEYS: &[&str] = &[
+/// The keys of a machine file.
+pub const MACHINE_KEYS: &[&str] = &[
     "pc",
     "pages",
     "mode",
@@ -203,7 +203,7 @@ fn machine_in(alloc: Global, table: &Table) -> Result<Read<MachineFile>, AllocEr
     ensures { IfOk result (λ reading. reading ≡ machine_in (table_view table.now)) }
 {
     let file = stated(parts(alloc, table)?);
-    Ok(of_keys(FILE_KEYS, table, file))
+    Ok(of_keys(MACHINE_KEYS, table, file))
 }
 
 /// The machine that a file states.

@@ -16,8 +16,8 @@ use toml_reading::{
     Entry, are_all_distinct, number_in, number_or, of_keys, pair, required, tables, value_at,
 };
 
-// The keys of a mapped page's table.
-const MAP_KEYS: &[&str] = &["logical", "physical", "level"];
+/// The keys of a mapped page's table.
+pub(crate) const MAP_KEYS: &[&str] = &["logical", "physical", "level"];
 
 /// A logical page on a physical page, both by number, with its level of protection.
 #[derive(Clone, Copy, Debug, PartialEq, Eq)]
@@ -30,7 +30,7 @@ pub struct MappedPage {
     pub level: u32,
 }
 
-fn size_of(number: i64) -> Read<PageSize>
+pub(crate) fn size_of(number: i64) -> Read<PageSize>
     ensures { result ≡ size_of number }
 {
     match u32::try_from(number) {
@@ -48,7 +48,7 @@ fn size_at(value: &Value) -> Read<PageSize>
     required(value.as_integer(), size_of)
 }
 
-fn size_in(table: &Table) -> Read<PageSize>
+pub(crate) fn size_in(table: &Table) -> Read<PageSize>
     ensures { result ≡ size_in (table_view table.now) }
 {
     value_at(table, "pages").map_or(Ok(PageSize::K4), size_at)

@@ -50,7 +50,7 @@ impl Model for Processor {
     ghost view = { λ p. record { pc = p.pc; mode = p.mode; flags = p.flags; registers = p.registers } };
 }
 
-fn start_address(number: i64) -> Read<StartAddress>
+pub(crate) fn start_address(number: i64) -> Read<StartAddress>
     ensures { result ≡ in_space machine_faults number }
 {
     match in_space(number) {
@@ -71,7 +71,7 @@ fn pc_in(table: &Table) -> Read<StartAddress>
     required(value_at(table, "pc"), pc_at)
 }
 
-fn named_mode(word: &str) -> Option<Mode>
+pub(crate) fn named_mode(word: &str) -> Option<Mode>
     ensures { result ≡ named_mode word.now }
 {
     match word {

@@ -21,8 +21,8 @@ type Four = ((u32, u32), (u32, u32));
 
 type Parts = (((u32, (u32, u32)), (Four, Four)), Four);
 
-// The keys of a profile file.
-const KEYS: &[&str] = &[
+/// The keys of a cycle profile file: all are required.
+pub const PROFILE_KEYS: &[&str] = &[
     "n", "s", "quad", "rom", "io", "control", "unfitted", "internal", "burst",
 ];
 
@@ -75,15 +75,15 @@ fn other_prices_in(table: &Table) -> Read<Four>
     )
 }
 
-fn parts_in(table: &Table) -> Read<Parts>
+pub(crate) fn parts_in(table: &Table) -> Read<Parts>
     ensures { result ≡ parts_in (table_view table.now) }
 {
     let lists = pair(four_in(table, "rom"), four_in(table, "io"));
     pair(pair(ram_prices_in(table), lists), other_prices_in(table))
 }
 
-// The parts as the fifteen numbers, in the order of a profile's fields.
-fn joined(parts: Parts) -> [u32; 15]
+/// The parts as the fifteen numbers, in the order of a profile's fields.
+pub(crate) fn joined(parts: Parts) -> [u32; 15]
     ensures { result ≡ joined parts }
 {
     let (((n, (s, quad)), (rom, io)), ((control, unfitted), (internal, burst))) = parts;
@@ -111,7 +111,7 @@ fn joined(parts: Parts) -> [u32; 15]
 fn numbers_in(table: &Table) -> Read<[u32; 15]>
     ensures { result ≡ numbers_in (table_view table.now) }
 {
-    of_keys(KEYS, table, parts_in(table)).map(joined)
+    of_keys(PROFILE_KEYS, table, parts_in(table)).map(joined)
 }
 
 // The profile of the numbers that were read.

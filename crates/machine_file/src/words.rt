@@ -13,10 +13,10 @@ use std::marker::Model;
 use toml::{Table, Value};
 use toml_reading::{Entry, are_all_distinct, number_in, of_keys, pair, required, tables, value_at};
 
-// The keys of the table of a word that is put into memory.
-const WORD_KEYS: &[&str] = &["at", "value"];
+/// The keys of the table of a word that is put into memory.
+pub(crate) const WORD_KEYS: &[&str] = &["at", "value"];
 
-fn put_address_of(number: i64) -> Read<u32>
+pub(crate) fn put_address_of(number: i64) -> Read<u32>
     ensures { result ≡ put_address_of number }
 {
     match u32::try_from(number) {

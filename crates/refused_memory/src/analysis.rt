@@ -11,6 +11,7 @@ use loader::Image;
 use longest_walk::{FoldedWalk, Item, Longest, WalkFault, longest};
 use loop_bounds::{Instances, LoopTree, NestFault, nest};
 use samples::nested_countdown::{SOURCE, STATEMENT};
+use sources::{Source, Text};
 use std::alloc::Global;
 
 // An edge of the nested countdown: the branch that turns its inner loop, which takes 4 ticks.
@@ -31,6 +32,15 @@ pub(crate) enum AnalysisCall {
 pub(crate) struct Stated {
     pub(crate) image: Image,
     pub(crate) statement: Statement,
+}
+
+/// The words of a source, as of an image.
+pub(crate) fn image_of(source: Source<'_>) -> Source<'_> {
+    Source {
+        image: source.image,
+        labels: source.labels,
+        text: Text::Image,
+    }
 }
 
 /// A call on a handler.

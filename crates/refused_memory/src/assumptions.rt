@@ -1,12 +1,10 @@
-use crate::analysis::{HandlerCall, Stated, graph_of, on_handler};
+use crate::analysis::{HandlerCall, Stated, graph_of, image_of, on_handler};
 use crate::trial::Answer;
 use arcwcet::ReportFault;
-use assembler::placed_lines;
+use sources::Source;
 use std::alloc::{AllocError, Global};
 use std::collections::BTreeSet;
-use text_explained::{
-    StatedGraph, image_assumptions, image_done_returns, source_assumptions, source_done_returns,
-};
+use text_explained::{StatedGraph, assumed_text, done_text};
 
 // Transfers for which no class is stated. Two may write R15, and no target is stated for them; the first is
 // done.
@@ -68,49 +66,51 @@ fn done_words(alloc: Global) -> Result<BTreeSet<u32>, AllocError> {
     Ok(done)
 }
 
-fn by_lines(alloc: Global, stated: StatedGraph<'_>) -> Result<Answer, ReportFault> {
-    let placed = placed_lines(alloc, SOURCE)?;
-    let made = source_assumptions(alloc, stated, SOURCE, &placed);
-    Ok(Answer::of_text(made, SOURCE_ASSUMPTIONS))
+fn assumed(
+    alloc: Global,
+    stated: StatedGraph<'_>,
+    expected: &'static [u8],
+) -> Result<Answer, ReportFault> {
+    Ok(Answer::of_text(assumed_text(alloc, stated), expected))
 }
 
-fn by_words(alloc: Global, stated: StatedGraph<'_>) -> Answer {
-    Answer::of_text(image_assumptions(alloc, stated), IMAGE_ASSUMPTIONS)
-}
-
-fn done_by_lines(alloc: Global, stated: StatedGraph<'_>) -> Result<Answer, ReportFault> {
-    let done = done_words(alloc)?;
-    let placed = placed_lines(alloc, SOURCE)?;
-    let made = source_done_returns(alloc, stated, SOURCE, &placed, &done);
-    Ok(Answer::of_text(made, SOURCE_DONE))
-}
-
-fn done_by_words(alloc: Global, stated: StatedGraph<'_>) -> Result<Answer, ReportFault> {
-    let done = done_words(alloc)?;
-    let made = image_done_returns(alloc, stated, &done);
-    Ok(Answer::of_text(made, IMAGE_DONE))
+fn done(
+    alloc: Global,
+    stated: StatedGraph<'_>,
+    expected: &'static [u8],
+) -> Result<Answer, ReportFault> {
+    let words = done_words(alloc)?;
+    Ok(Answer::of_text(done_text(alloc, stated, &words), expected))
 }
 
 impl HandlerCall for AssumedCall {
     fn on(self, alloc: Global, handler: &Stated) -> Result<Answer, ReportFault> {
         let graph = graph_of(alloc, handler)?;
+        let source = self.source(alloc)?;
         let stated = StatedGraph {
-            image: &handler.image,
+            source: &source,
             statement: &handler.statement,
             graph: &graph,
         };
-        let answer = match self {
-            AssumedCall::Source => by_lines(alloc, stated),
-            AssumedCall::Image => Ok(by_words(alloc, stated)),
-            AssumedCall::SourceDone => done_by_lines(alloc, stated),
-            AssumedCall::ImageDone => done_by_words(alloc, stated),
-        };
-        drop(graph);
-        answer
+        match self {
+            AssumedCall::Source => assumed(alloc, stated, SOURCE_ASSUMPTIONS),
+            AssumedCall::Image => assumed(alloc, stated, IMAGE_ASSUMPTIONS),
+            AssumedCall::SourceDone => done(alloc, stated, SOURCE_DONE),
+            AssumedCall::ImageDone => done(alloc, stated, IMAGE_DONE),
+        }
     }
 }
 
 impl AssumedCall {
+    // The source that the call reports by.
+    fn source(self, alloc: Global) -> Result<Source<'static>, ReportFault> {
+        let source = Source::read(alloc, SOURCE)?;
+        match self {
+            AssumedCall::Source | AssumedCall::SourceDone => Ok(source),
+            AssumedCall::Image | AssumedCall::ImageDone => Ok(image_of(source)),
+        }
+    }
+
     /// Makes the call, and answers what it did.
     pub(crate) fn made(self, alloc: Global) -> Result<Answer, ReportFault> {
         on_handler(alloc, SOURCE, STATEMENT, self)

@@ -1,4 +1,5 @@
 use crate::analysis::{AnalysisCall, on_nested};
+use crate::assembled::SourceCall;
 use crate::assumptions::AssumedCall;
 use crate::certificates::CertificateCall;
 use crate::drafts::Drafted;
@@ -12,7 +13,6 @@ use crate::programs::{Line, Started};
 use crate::puts::PutInTurn;
 use crate::reports::{NewOutput, ROOM, Report, Written};
 use crate::sessions::{Command, Obeyed};
-use crate::sources::SourceCall;
 use crate::trial::{Answer, Outcome, Trial, tried};
 use arcwcet::ReportFault;
 use loader::{Image, Labels};
@@ -116,11 +116,11 @@ pub(crate) const CALLS: &[(&str, Call)] = &[
         "placed_lines",
         Call::Pure(Pure::Listing(ListingCall::Places)),
     ),
+    ("list_rows", Call::Pure(Pure::Listing(ListingCall::Source))),
     (
-        "list_source",
-        Call::Pure(Pure::Listing(ListingCall::Source)),
+        "list_rows-image",
+        Call::Pure(Pure::Listing(ListingCall::Image)),
     ),
-    ("list_image", Call::Pure(Pure::Listing(ListingCall::Image))),
     (
         "read_statement",
         Call::Pure(Pure::Source(SourceCall::ReadStatement)),
@@ -154,27 +154,27 @@ pub(crate) const CALLS: &[(&str, Call)] = &[
         Call::Pure(Pure::Explained(ExplainedCall::Counts)),
     ),
     (
-        "source_table",
+        "cost_table",
         Call::Pure(Pure::Explained(ExplainedCall::Lines)),
     ),
     (
-        "image_table",
+        "cost_table-image",
         Call::Pure(Pure::Explained(ExplainedCall::Words)),
     ),
     (
-        "source_assumptions",
+        "assumed_text",
         Call::Pure(Pure::Assumed(AssumedCall::Source)),
     ),
     (
-        "image_assumptions",
+        "assumed_text-image",
         Call::Pure(Pure::Assumed(AssumedCall::Image)),
     ),
     (
-        "source_done_returns",
+        "done_text",
         Call::Pure(Pure::Assumed(AssumedCall::SourceDone)),
     ),
     (
-        "image_done_returns",
+        "done_text-image",
         Call::Pure(Pure::Assumed(AssumedCall::ImageDone)),
     ),
     ("draft", Call::Pure(Pure::Draft)),

@@ -1,6 +1,6 @@
 use crate::trial::Answer;
 use arcwcet::ReportFault;
-use assembler::{Assembly, Program, assemble, placed_lines};
+use sources::Source;
 use std::alloc::Global;
 use text_draft::draft;
 
@@ -36,23 +36,10 @@ to = \"?\"  # a list, or nothing for a return or a leave: draft from each of the
 #[derive(Clone, Copy)]
 pub(crate) struct Drafted;
 
-fn answered(alloc: Global, said: &Assembly) -> Result<Answer, ReportFault> {
-    let placed = placed_lines(alloc, SOURCE)?;
-    let program = Program {
-        source: SOURCE,
-        placed: &placed,
-        image: &said.image,
-        labels: &said.labels,
-    };
-    Ok(Answer::of_text(draft(alloc, &program, 0x8000), DRAFT))
-}
-
 impl Drafted {
     /// Makes the call, and answers what it did.
     pub(crate) fn made(self, alloc: Global) -> Result<Answer, ReportFault> {
-        let said = assemble(alloc, SOURCE)?;
-        let answer = answered(alloc, &said);
-        drop(said);
-        answer
+        let source = Source::read(alloc, SOURCE)?;
+        Ok(Answer::of_text(draft(alloc, &source, 0x8000), DRAFT))
     }
 }

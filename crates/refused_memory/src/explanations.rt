@@ -1,12 +1,12 @@
-use crate::analysis::{HandlerCall, Stated, graph_of, walk_of};
+use crate::analysis::{HandlerCall, Stated, graph_of, image_of, walk_of};
 use crate::trial::Answer;
 use arcwcet::ReportFault;
-use assembler::placed_lines;
 use flow_graph::Graph;
 use longest_walk::Longest;
 use samples::nested_countdown::SOURCE;
+use sources::Source;
 use std::alloc::Global;
-use text_explained::{StatedGraph, TimedWalk, image_table, source_table};
+use text_explained::{StatedGraph, TimedWalk, cost_table};
 use walk_counts::edge_counts;
 
 /// The bound of the nested countdown, by the lines of its source.
@@ -50,18 +50,13 @@ pub(crate) enum ExplainedCall {
     Counts,
 }
 
-fn lines(
+fn table(
     alloc: Global,
     handler: StatedGraph<'_>,
     walk: TimedWalk<'_>,
-) -> Result<Answer, ReportFault> {
-    let placed = placed_lines(alloc, SOURCE)?;
-    let made = source_table(alloc, handler, SOURCE, &placed, walk);
-    Ok(Answer::of_text(made, NESTED_LINES))
-}
-
-fn words(alloc: Global, handler: StatedGraph<'_>, walk: TimedWalk<'_>) -> Answer {
-    Answer::of_text(image_table(alloc, handler, walk), NESTED_WORDS)
+    expected: &'static [u8],
+) -> Answer {
+    Answer::of_text(cost_table(alloc, handler, walk), expected)
 }
 
 fn counted(alloc: Global, graph: &Graph, found: &Longest) -> Answer {
@@ -79,8 +74,9 @@ impl ExplainedCall {
         graph: &Graph,
     ) -> Result<Answer, ReportFault> {
         let found = walk_of(alloc, handler, graph)?;
+        let source = self.source(alloc)?;
         let stated = StatedGraph {
-            image: &handler.image,
+            source: &source,
             statement: &handler.statement,
             graph,
         };
@@ -89,13 +85,20 @@ impl ExplainedCall {
             longest: &found,
             starts: starts.as_slice(),
         };
-        let answer = match self {
-            ExplainedCall::Lines => lines(alloc, stated, timed),
-            ExplainedCall::Words => Ok(words(alloc, stated, timed)),
+        match self {
+            ExplainedCall::Lines => Ok(table(alloc, stated, timed, NESTED_LINES)),
+            ExplainedCall::Words => Ok(table(alloc, stated, timed, NESTED_WORDS)),
             ExplainedCall::Counts => Ok(counted(alloc, graph, &found)),
-        };
-        drop(found);
-        answer
+        }
+    }
+
+    // The source that the call explains by.
+    fn source(self, alloc: Global) -> Result<Source<'static>, ReportFault> {
+        let source = Source::read(alloc, SOURCE)?;
+        match self {
+            ExplainedCall::Words => Ok(image_of(source)),
+            ExplainedCall::Lines | ExplainedCall::Counts => Ok(source),
+        }
     }
 }
 

@@ -1,8 +1,10 @@
+use crate::analysis::image_of;
 use crate::trial::Answer;
 use arcwcet::ReportFault;
-use assembler::{AsmFault, Assembly, PlacedLine, assemble, placed_lines};
+use assembler::{AsmFault, PlacedLine, placed_lines};
+use sources::Source;
 use std::alloc::Global;
-use text_listing::{list_image, list_source};
+use text_listing::list_rows;
 
 // A line of three words, lines without a word, and one in a second segment.
 const LINES: &[u8] = b" DCD 1,&FFFFFFFF,end\n; nothing\nend\n ORG &9000\nhere B here\n";
@@ -56,32 +58,25 @@ fn placed(alloc: Global) -> Answer {
     }
 }
 
-fn source_rows(alloc: Global, said: &Assembly) -> Result<Answer, ReportFault> {
-    let placed = placed_lines(alloc, LINES)?;
-    let made = list_source(alloc, LINES, &placed, &said.image);
-    Ok(Answer::of_text(made, SOURCE_ROWS))
+fn source_rows(alloc: Global) -> Result<Answer, ReportFault> {
+    let source = Source::read(alloc, LINES)?;
+    Ok(Answer::of_text(list_rows(alloc, &source), SOURCE_ROWS))
 }
 
-fn image_rows(alloc: Global, said: &Assembly) -> Answer {
-    Answer::of_text(list_image(alloc, &said.image), IMAGE_ROWS)
+// The rows of the same words, as of an image.
+fn image_rows(alloc: Global) -> Result<Answer, ReportFault> {
+    let source = Source::read(alloc, LINES)?;
+    let image = image_of(source);
+    Ok(Answer::of_text(list_rows(alloc, &image), IMAGE_ROWS))
 }
 
 impl ListingCall {
-    fn on_assembly(self, alloc: Global) -> Result<Answer, ReportFault> {
-        let said = assemble(alloc, LINES)?;
-        let answer = match self {
-            ListingCall::Source => source_rows(alloc, &said),
-            _ => Ok(image_rows(alloc, &said)),
-        };
-        drop(said);
-        answer
-    }
-
     /// Makes the call, and answers what it did.
     pub(crate) fn made(self, alloc: Global) -> Result<Answer, ReportFault> {
         match self {
             ListingCall::Places => Ok(placed(alloc)),
-            ListingCall::Source | ListingCall::Image => self.on_assembly(alloc),
+            ListingCall::Source => source_rows(alloc),
+            ListingCall::Image => image_rows(alloc),
         }
     }
 }

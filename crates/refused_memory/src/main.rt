@@ -8,6 +8,7 @@
 #![tactic(auto)]
 
 mod analysis;
+mod assembled;
 mod assumptions;
 mod calls;
 mod certificates;
@@ -22,7 +23,6 @@ mod programs;
 mod puts;
 mod reports;
 mod sessions;
-mod sources;
 mod tally;
 mod trial;
 

@@ -3,9 +3,10 @@ use Rattle.std.specs.Prelude.{◌≡◌, ◌++◌, ℕ, List, codes, decimal, le
 use Rattle.image.specs.Image.{Words}
 use Rattle.image.specs.ImageBytes.{image_bytes, segments_of}
 use Rattle.image.specs.Labels.{Names}
-use Rattle.handlers.specs.Source.{IsSourceFault, source_of}
+use Rattle.handlers.specs.Source.{IsSourceFault}
 use Rattle.handlers.specs.declared.fault.ReportFault.{ReportFault}
 use Rattle.handlers.specs.declared.fault.ReportFault.TheVariants as report_fault
+use Rattle.sources.specs.Source.{source_of}
 
 -- the source has these words
 pub record HasWords (source : List ℕ) (words : Words) : Type 0 where

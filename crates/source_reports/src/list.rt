@@ -1,31 +1,14 @@
 ghost use Rattle.std.specs.Prelude.{◌≡◌, IfErr, IfOk};
 ghost use Rattle.handlers.specs.Answers.{Answers};
 ghost use Rattle.source_reports.specs.Assembly.{IsSource, IsSourceRefused};
-ghost use Rattle.source_reports.specs.ListReport.{AreRows, IsListReport};
+ghost use Rattle.source_reports.specs.ListReport.{IsListReport};
 ghost use Rattle.handlers.specs.Report.{BeforeOutput};
-ghost use Rattle.handlers.specs.Source.{IsSourceFault};
 
 use crate::assembly::size_text;
-use assembler::placed_lines;
 use handlers::{ReportFault, print_answer, read_source};
-use image::{Image, is_image};
 use outputs::Output;
 use std::alloc::Global;
-use text_listing::{list_image, list_source};
-
-// The rows of a text's lines, or of an image's words.
-fn rows_of(alloc: Global, source: &[u8], image: &Image) -> Result<Vec<u8>, ReportFault>
-    ensures rows { IfOk result (λ rows. AreRows source.now image.now rows.items) }
-    ensures fault { IfErr result (IsSourceFault source.now) }
-{
-    if is_image(source) {
-        let rows = list_image(alloc, image)?;
-        return Ok(rows);
-    }
-    let placed = placed_lines(alloc, source)?;
-    let rows = list_source(alloc, source, &placed, image)?;
-    Ok(rows)
-}
+use text_listing::list_rows;
 
 // The report of a source.
 fn list_text(alloc: Global, source: &[u8]) -> Result<Vec<u8>, ReportFault>
@@ -33,9 +16,9 @@ fn list_text(alloc: Global, source: &[u8]) -> Result<Vec<u8>, ReportFault>
     ensures fault { IfErr result (BeforeOutput (IsSourceRefused source.now)) }
     ensures only { IsSource source.now → IfErr result (λ e. e ≡ ReportFault.Memory) }
 {
-    let image = read_source(alloc, source)?.image;
-    let mut text = rows_of(alloc, source, &image)?;
-    let size = size_text(alloc, &image)?;
+    let read = read_source(alloc, source)?;
+    let mut text = list_rows(alloc, &read)?;
+    let size = size_text(alloc, &read.image)?;
     text.extend_from_slice(size.as_bytes())?;
     Ok(text)
 }

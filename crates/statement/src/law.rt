@@ -3,13 +3,14 @@ ghost use Rattle.toml.specs.Data.{Members};
 ghost use Rattle.toml_reading.specs.Lowest.{IsLowest};
 ghost use Rattle.statement.specs.Places.{IsFaultAt};
 ghost use Rattle.statement.specs.StatementRules.{HasFault, States};
-ghost use Rattle.statement.specs.Stated.{Stated};
+ghost use Rattle.statement.specs.Stated.{IsStated, Stated};
 ghost use Rattle.image.specs.Labels.{Names};
 ghost use Rattle.statement.specs.Statement.{statement_of};
 ghost use Rattle.statement.specs.StatementFaults.{statement_faults};
 ghost use Rattle.statement.specs.declared.spots.Spot.{Spot};
 
 use crate::faults::StatementFault;
+use crate::stated::Statement;
 
 /// States what [`read_statement`](crate::reading::read_statement) returns for a document: the statement that
 /// it states, for each that states one; or the lowest of all the faults that it has. It does nothing.
@@ -26,3 +27,11 @@ pub fn faults_have_spots()
     ensures { (names : Names) → (ms : Members) → (fault : StatementFault) → HasFault names ms fault
         ↔ ((spot : Spot) × IsFaultAt names ms spot fault) }
 {}
+
+/// States that each statement is within the limits of statements, as a text of it would have to be. It does
+/// nothing.
+pub fn statements_are_stated(statement: &Statement)
+    ensures { IsStated statement.now }
+{
+    let _entry = statement.entry;
+}

@@ -17,7 +17,7 @@ pub use entries::{
     named_returns,
 };
 pub use faults::StatementFault;
-pub use law::{faults_have_spots, statements_are_read};
+pub use law::{faults_have_spots, statements_are_read, statements_are_stated};
 pub use places::Document;
 pub use reading::{MOST_ACCESSES, MOST_LOOPS, MOST_TARGETS, STATEMENT_KEYS, read_statement};
 pub use spots::{KEYS, Key, Part, Spot, TableList, key_name, list_key, most_of, named_key};

@@ -102,7 +102,6 @@ impl Statement {
     /// The address of the handler's first instruction.
     pub fn entry(&self) -> u32
         ensures value { result ≡ self.now.entry }
-        ensures is_stated { IsStated self.now }
     {
         self.entry
     }

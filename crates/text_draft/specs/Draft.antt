@@ -5,10 +5,8 @@ use Rattle.std.specs.List.Sorted.{IsStrictlySortedBy}
 use Rattle.std.specs.Ordering.{nat_cmp}
 use Rattle.bus_ticks.specs.declared.profile.Class.{Class}
 use Rattle.image.specs.Image.{Words}
-use Rattle.image.specs.Labels.{NamedAddresses}
-use Rattle.assembler.specs.declared.placed_line.PlacedLine.{PlacedLine}
-use Rattle.text_rows.specs.LineLabels.{AreNamed}
-use Rattle.text_rows.specs.WordLines.{AreLinesOf}
+use Rattle.sources.specs.Lines.{AreLines}
+use Rattle.sources.specs.declared.read.Source.{Source}
 use Rattle.text_rows.specs.declared.line_labels.SourceLine.{SourceLine}
 use Rattle.text_draft.specs.Accesses.{AreAccesses}
 use Rattle.text_draft.specs.Candidates.{AreCandidates}
@@ -41,14 +39,11 @@ pub record AreFound (words : Words) (entry : ℕ) (full : Bool) (ends : List (�
   pub targets_are : AreTargets words addresses targets
 
 -- the text of what was found. Each label and each comment in it is that of the source's line that has the
--- word at the address, by where the lines are placed: the comment has the line's number and text, and the
--- label is the one that the line or a line before gives the address, if one does. Where no line is placed, as
--- in an image, there are none
-pub record IsDraft (words : Words) (names : NamedAddresses) (source : List ℕ) (placed : List PlacedLine)
-    (entry : ℕ) (text : List ℕ) : Type 0 where
+-- word at the address: the comment has the line's number and text, and the label is the one that the line or
+-- a line before gives the address, if one does. An image has no lines
+pub record IsDraft (source : Source) (entry : ℕ) (text : List ℕ) : Type 0 where
   pub lines : BTreeMap ℕ SourceLine
-  pub are_lines : AreLinesOf names source placed lines
-  pub named : AreNamed names lines
+  pub are_lines : AreLines source lines
   pub full : Bool
   pub ends : List (ℕ × End)
   pub cycles : List ℕ
@@ -56,5 +51,5 @@ pub record IsDraft (words : Words) (names : NamedAddresses) (source : List ℕ) 
   pub loops : List FoundLoop
   pub candidates : List ℕ
   pub targets : List FoundTarget
-  pub found : AreFound words entry full ends accesses candidates targets
+  pub found : AreFound source.image entry full ends accesses candidates targets
   pub text_is : text ≡ draft_text lines entry full ends cycles accesses loops candidates targets

@@ -1,8 +1,7 @@
 ghost use Rattle.std.specs.Prelude.{◌≡◌, ◌++◌, IfOk, OnOk};
 ghost use Rattle.std.specs.List.Sorted.{IsStrictlySortedBy};
 ghost use Rattle.std.specs.Ordering.{nat_cmp};
-ghost use Rattle.text_rows.specs.LineLabels.{AreNamed};
-ghost use Rattle.text_rows.specs.WordLines.{AreLinesOf};
+ghost use Rattle.sources.specs.Lines.{AreLines};
 ghost use Rattle.text_draft.specs.Draft.{AreFound, IsDraft, is_full};
 ghost use Rattle.text_draft.specs.DraftText.{draft_text};
 ghost use Rattle.text_draft.specs.Reach.{AreReached};
@@ -14,12 +13,12 @@ use crate::loops::{Loops, find_loops};
 use crate::reach::{MOST_ADDRESSES, Reached, reach};
 use crate::statement_text::{Sheet, put_full};
 use crate::writers::{FoundTarget, any_open, find_targets, leaves_open};
-use assembler::Program;
 use bus_ticks::Class;
 use image::Image;
+use sources::Source;
 use std::alloc::{AllocError, Global};
 use std::collections::BTreeMap;
-use text_rows::{SourceLine, source_lines};
+use text_rows::SourceLine;
 
 /// What the words show of what is to be stated.
 #[derive(Drop)]
@@ -125,17 +124,14 @@ fn draft_text(
 // The draft, where the lines are found by their addresses.
 fn draft_by_lines(
     alloc: Global,
-    program: &Program,
+    source: &Source<'_>,
     lines: &BTreeMap<u32, SourceLine>,
     entry: u32,
 ) -> Result<Vec<u8>, AllocError>
-    requires named { AreNamed program.now.labels.now lines.now }
-    requires are_lines { AreLinesOf program.now.labels.now program.now.source.now program.now.placed.now lines.now }
-    ensures { IfOk result
-        (λ text. IsDraft program.now.image.now program.now.labels.now program.now.source.now
-        program.now.placed.now entry text.items) }
+    requires { AreLines source.now lines.now }
+    ensures { IfOk result (λ text. IsDraft source.now entry text.items) }
 {
-    let found = find(alloc, program.image, entry)?;
+    let found = find(alloc, &source.image, entry)?;
     draft_text(alloc, lines, entry, &found)
 }
 
@@ -155,11 +151,9 @@ fn draft_by_lines(
 /// # Errors
 ///
 /// An allocation failed.
-pub fn draft(alloc: Global, program: &Program, entry: u32) -> Result<Vec<u8>, AllocError>
-    ensures { IfOk result
-        (λ text. IsDraft program.now.image.now program.now.labels.now program.now.source.now
-        program.now.placed.now entry text.items) }
+pub fn draft(alloc: Global, source: &Source<'_>, entry: u32) -> Result<Vec<u8>, AllocError>
+    ensures { IfOk result (λ text. IsDraft source.now entry text.items) }
 {
-    let lines = source_lines(alloc, program)?;
-    draft_by_lines(alloc, program, &lines, entry)
+    let lines = source.lines(alloc)?;
+    draft_by_lines(alloc, source, &lines, entry)
 }

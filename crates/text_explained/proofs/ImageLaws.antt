@@ -3,8 +3,6 @@ use Rattle.std.proofs.Common.{◌≡◌, ◌∙◌, ℕ, ◌+◌, ◌<◌, List,
 use Rattle.std.proofs.lemmas.List.Sums.{sum_by_more}
 use Rattle.std.specs.BTreeMap.{get}
 use Rattle.std.specs.Ordering.{nat_cmp}
-use Rattle.asm_text.specs.Source.{lines_of}
-use Rattle.assembler.specs.declared.placed_line.PlacedLine.{PlacedLine}
 use Rattle.walk_counts.specs.Counts.{capped}
 use Rattle.assembler.specs.ShownLines.{IsShown}
 use Rattle.control_flow.specs.Flow.{Flow}
@@ -13,12 +11,13 @@ use Rattle.longest_walk.specs.Folded.{unfolded}
 use Rattle.longest_walk.specs.declared.folded.Longest.{Longest}
 use Rattle.statement.specs.Stated.{Stated}
 use Rattle.asm_text.specs.Appended.{Appends}
-use Rattle.text_rows.specs.Rows.{AreRows}
+use Rattle.sources.specs.Rows.{AreSourceRows}
+use Rattle.sources.specs.declared.read.Source.{Source}
 use Rattle.text_explained.specs.Columns.{heading}
 use Rattle.text_explained.specs.Costing.{IsCosting, figures_of}
 use Rattle.text_explained.specs.Starts.{latest_at}
-use Rattle.text_explained.specs.Table.{AreImageRows, IsWordRow, WalkFigures, image_ticks, source_rows, source_table, source_ticks, table_end, ticks_of, walk_figures, word_figures, word_row}
-use Rattle.text_explained.specs.declared.columns.Column.TheVariants.{Address, Line}
+use Rattle.text_explained.specs.Table.{IsTableOf, IsWordRow, WalkFigures, all_ticks, image_ticks, line_rows, rows_by, table_end, ticks_of, walk_figures, word_figures, word_row}
+use Rattle.text_explained.specs.declared.columns.Column.{Column}
 use Rattle.text_explained.specs.declared.lines.Costing.{Costing}
 use Rattle.text_explained.specs.declared.lines.RowFigures.{RowFigures}
 use Rattle.text_explained.specs.declared.tally.Taken.{Taken}
@@ -45,25 +44,16 @@ figures_are words st flow longest starts c is =
     λ i. record { taken = λ a. is.tally a i; latest = λ a. is.latest a i; priced = get nat_cmp c.prices; bound = is.bound i }
 
 -- the heading, the rows and the end
-pub image_whole : (lookup walk : WalkFigures) (total : ℕ) (listed words : Words) (start rows new : List ℕ) → lookup ≡ walk → listed ≡ words → start ≡ heading Address
-    → Appends (AreRows (IsWordRow lookup) listed) start rows → total ≡ image_ticks lookup.taken listed → new ≡ rows ++ table_end total walk.bound → AreImageRows walk words new
-image_whole lookup walk total listed words start rows new same are heading_is adds total_is last =
-    let ticks = image_ticks lookup.taken listed in
-    let table : AreImageRows lookup listed new = (
+pub table_whole : (lookup walk : WalkFigures) (total : ℕ) (source : Source) (column : Column) (start rows new : List ℕ) → lookup ≡ walk → column ≡ rows_by source.text → start ≡ heading column
+    → Appends (AreSourceRows (line_rows lookup) (IsWordRow lookup) source) start rows → total ≡ all_ticks lookup.taken source.image source.text → new ≡ rows ++ table_end total walk.bound
+    → IsTableOf walk source new
+table_whole lookup walk total source column start rows new same by heading_is adds total_is last =
+    let ticks = all_ticks lookup.taken source.image source.text in
+    let table : IsTableOf lookup source new = (
       adds.0,
       adds.1,
       last ∙ ap (λ n. rows ++ table_end n walk.bound) total_is ∙ ap (λ (w : WalkFigures). rows ++ table_end ticks w.bound) (sym same)
-          ∙ ap (λ xs. xs ++ table_end ticks lookup.bound) (adds.2 ∙ ap (λ xs. xs ++ adds.0) heading_is)
-          ∙ append_assoc (heading Address) adds.0 (table_end ticks lookup.bound),
+          ∙ ap (λ xs. xs ++ table_end ticks lookup.bound) (adds.2 ∙ ap (λ xs. xs ++ adds.0) (heading_is ∙ ap heading by))
+          ∙ append_assoc (heading (rows_by source.text)) adds.0 (table_end ticks lookup.bound),
     ) in
-    subst (λ ws. AreImageRows walk ws new) are (subst (λ (w : WalkFigures). AreImageRows w listed new) same table)
-
-pub source_whole : (lookup walk : WalkFigures) (total : ℕ) (source : List ℕ) (placed : List PlacedLine) (start rows new : List ℕ) → lookup ≡ walk → start ≡ heading Line
-    → rows ≡ start ++ source_rows lookup 1 (lines_of source) placed → total ≡ source_ticks lookup.taken placed → new ≡ rows ++ table_end total walk.bound → new ≡ source_table walk source placed
-source_whole lookup walk total source placed start rows new same heading_is rows_are total_is last =
-    let lines = source_rows lookup 1 (lines_of source) placed in
-    let ticks = source_ticks lookup.taken placed in
-    last ∙ ap (λ n. rows ++ table_end n walk.bound) total_is ∙ ap (λ (w : WalkFigures). rows ++ table_end ticks w.bound) (sym same)
-    ∙ ap (λ xs. xs ++ table_end ticks lookup.bound) (rows_are ∙ ap (λ xs. xs ++ lines) heading_is)
-    ∙ append_assoc (heading Line) lines (table_end ticks lookup.bound)
-    ∙ ap (λ (w : WalkFigures). source_table w source placed) same
+    subst (λ (w : WalkFigures). IsTableOf w source new) same table

@@ -11,6 +11,7 @@ pub mod RangeLaws
 pub mod RowLaws
 mod ListedOnceLaws
 mod StartLaws
+mod SourceLaws
 mod SumLaws
 mod TableLaws
 pub mod TallyLaws

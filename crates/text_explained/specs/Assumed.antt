@@ -6,19 +6,19 @@ use Rattle.std.specs.List.{list_any}
 use Rattle.std.specs.List.Sorted.{IsStrictlySortedBy}
 use Rattle.std.specs.Ordering.{nat_cmp}
 use Rattle.arm2_decode.specs.Writers.{is_transfer}
-use Rattle.asm_text.specs.Source.{lines_of}
-use Rattle.assembler.specs.declared.placed_line.PlacedLine.{PlacedLine}
 use Rattle.bus_ticks.specs.declared.profile.Class.TheVariants.{Any}
 use Rattle.control_flow.specs.Flow.{Flow}
 use Rattle.image.specs.Image.{Words}
+use Rattle.sources.specs.Rows.{AreSourceRows}
+use Rattle.sources.specs.declared.read.Source.{Source}
 use Rattle.statement.specs.Stated.{Stated, class_at, target_of}
 use Rattle.word_shapes.specs.Shapes.{is_odd_writer, leaves_flags}
 use Rattle.word_shapes.specs.Words.{HasShape, MayDo}
 use Rattle.control_flow.specs.declared.places.Place.{Place}
 use Rattle.text_explained.specs.Leaving.{is_left_on}
 use Rattle.text_explained.specs.Links.{AreLostLinks}
-use Rattle.text_rows.specs.Lines.{rows_by_line, rows_by_word}
-use Rattle.text_rows.specs.Rows.{AreRows, IsShownRow, named_row, section}
+use Rattle.text_rows.specs.Lines.{rows_by_word}
+use Rattle.text_rows.specs.Rows.{IsShownRow, named_row, section}
 use Rattle.text_explained.specs.Taken.{is_at, is_reached}
 use Rattle.text_explained.specs.declared.assumptions.Assumption.{Assumption}
 use Rattle.text_explained.specs.declared.assumptions.Assumption.TheVariants.{LeavesFlags, LooseTransfer}
@@ -80,14 +80,14 @@ Notes Holds place old new = (a : ℕ) → (new a ≡ true) ↔ ((old a ≡ true)
 abbrev pub row_if_named : (named : List ℕ) → (n : ℕ) → (text : List ℕ) → (at : ℕ) → List ℕ
 row_if_named named n text at = if list_any (λ a. a == at) named then named_row 0 at n text else []
 
--- the rows of the named words, line by line, with numbers from one on
-abbrev pub named_rows : List ℕ → ℕ → List (List ℕ) → List PlacedLine → List ℕ
-named_rows named = rows_by_line (rows_by_word (row_if_named named))
-
 -- the row of an image's word if it is named, else nothing
 pub record IsNamedRow (named : List ℕ) (e : ℕ × ℕ) (row : List ℕ) : Type 0 where
   pub named_one : list_any (λ a. a == e.0) named ≡ true → IsShownRow 0 e row
   pub other : list_any (λ a. a == e.0) named ≡ false → row ≡ []
+
+-- the rows of the named words, of a text line by line, with numbers from one on
+abbrev pub AreNamedRows : Source → (named rows : List ℕ) → Type 0
+AreNamedRows source named = AreSourceRows (rows_by_word (row_if_named named)) (IsNamedRow named) source
 
 -- ## Texts
 
@@ -110,33 +110,32 @@ abbrev pub caveat_heading : Caveat → List ℕ
 caveat_heading (Assumed what) = heading_of what
 caveat_heading (LinkLost by) = lost_heading by
 
--- under a heading the rows of exactly the words that are named so, the rows of named words being such
-pub record IsSection (AreRowsOf : (named rows : List ℕ) → Type 0) (heading : List ℕ)
-    (AreNamed : List ℕ → Type 0) (text : List ℕ) : Type 0 where
+-- under a heading the rows of exactly the words that are named so
+pub record IsSection (source : Source) (heading : List ℕ) (AreNamed : List ℕ → Type 0)
+    (text : List ℕ) : Type 0 where
   pub named : List ℕ
   pub rows : List ℕ
   pub are_named : AreNamed named
-  pub are_rows : AreRowsOf named rows
+  pub are_rows : AreNamedRows source named rows
   pub text_is : text ≡ section heading rows
 
 -- the words that count as returns, then those that restore no flags, then those that return by an R14 that a
 -- call or an address has overwritten, and then the loads and stores
-pub record AreAssumptions (AreRowsOf : (named rows : List ℕ) → Type 0) (image : Words) (st : Stated)
-    (flow : Flow) (text : List ℕ) : Type 0 where
+pub record AreAssumptions (source : Source) (st : Stated) (flow : Flow) (text : List ℕ) : Type 0 where
   pub returns : List ℕ
   pub flags : List ℕ
   pub called : List ℕ
   pub addressed : List ℕ
   pub transfers : List ℕ
-  pub are_returns : IsSection AreRowsOf (heading_of TakenForReturn)
-      (AreAssumed image st flow TakenForReturn) returns
-  pub are_flags : IsSection AreRowsOf (heading_of LeavesFlags)
-      (AreAssumed image st flow LeavesFlags) flags
-  pub are_called : IsSection AreRowsOf (lost_heading ByCall) (AreLostLinks image flow ByCall st) called
-  pub are_addressed : IsSection AreRowsOf (lost_heading ByAddress)
-      (AreLostLinks image flow ByAddress st) addressed
-  pub are_transfers : IsSection AreRowsOf (heading_of LooseTransfer)
-      (AreAssumed image st flow LooseTransfer) transfers
+  pub are_returns : IsSection source (heading_of TakenForReturn)
+      (AreAssumed source.image st flow TakenForReturn) returns
+  pub are_flags : IsSection source (heading_of LeavesFlags)
+      (AreAssumed source.image st flow LeavesFlags) flags
+  pub are_called : IsSection source (lost_heading ByCall) (AreLostLinks source.image flow ByCall st) called
+  pub are_addressed : IsSection source (lost_heading ByAddress)
+      (AreLostLinks source.image flow ByAddress st) addressed
+  pub are_transfers : IsSection source (heading_of LooseTransfer)
+      (AreAssumed source.image st flow LooseTransfer) transfers
   pub text_is : text ≡ returns ++ (flags ++ (called ++ (addressed ++ transfers)))
 
 -- ## Of what a run has done
@@ -150,38 +149,18 @@ pub record AreDone (IsDone : ℕ → Type 0) (AreNamed : List ℕ → Type 0) (n
 
 -- the words that are done of those that count as returns, that restore no flags, and that return by an R14
 -- that a call or an address has overwritten
-pub record AreDoneReturns (AreRowsOf : (named rows : List ℕ) → Type 0) (image : Words) (st : Stated)
-    (flow : Flow) (IsDone : ℕ → Type 0) (text : List ℕ) : Type 0 where
+pub record AreDoneReturns (source : Source) (st : Stated) (flow : Flow) (IsDone : ℕ → Type 0)
+    (text : List ℕ) : Type 0 where
   pub returns : List ℕ
   pub flags : List ℕ
   pub called : List ℕ
   pub addressed : List ℕ
-  pub are_returns : IsSection AreRowsOf (heading_of TakenForReturn)
-      (AreDone IsDone (AreAssumed image st flow TakenForReturn)) returns
-  pub are_flags : IsSection AreRowsOf (heading_of LeavesFlags)
-      (AreDone IsDone (AreAssumed image st flow LeavesFlags)) flags
-  pub are_called : IsSection AreRowsOf (lost_heading ByCall)
-      (AreDone IsDone (AreLostLinks image flow ByCall st)) called
-  pub are_addressed : IsSection AreRowsOf (lost_heading ByAddress)
-      (AreDone IsDone (AreLostLinks image flow ByAddress st)) addressed
+  pub are_returns : IsSection source (heading_of TakenForReturn)
+      (AreDone IsDone (AreAssumed source.image st flow TakenForReturn)) returns
+  pub are_flags : IsSection source (heading_of LeavesFlags)
+      (AreDone IsDone (AreAssumed source.image st flow LeavesFlags)) flags
+  pub are_called : IsSection source (lost_heading ByCall)
+      (AreDone IsDone (AreLostLinks source.image flow ByCall st)) called
+  pub are_addressed : IsSection source (lost_heading ByAddress)
+      (AreDone IsDone (AreLostLinks source.image flow ByAddress st)) addressed
   pub text_is : text ≡ returns ++ (flags ++ (called ++ addressed))
-
--- ## By lines, and by words
-
--- by the lines of a source
-abbrev pub AreSourceAssumptions : List ℕ → List PlacedLine → Words → Stated → Flow → List ℕ → Type 0
-AreSourceAssumptions source placed =
-    AreAssumptions (λ named rows. rows ≡ named_rows named 1 (lines_of source) placed)
-
-abbrev pub AreSourceDone : List ℕ → List PlacedLine → Words → Stated → Flow → (ℕ → Type 0) → List ℕ
-    → Type 0
-AreSourceDone source placed =
-    AreDoneReturns (λ named rows. rows ≡ named_rows named 1 (lines_of source) placed)
-
--- by the words of an image
-abbrev pub AreImageAssumptions : Words → Stated → Flow → List ℕ → Type 0
-AreImageAssumptions image = AreAssumptions (λ named. AreRows (IsNamedRow named) image) image
-
-abbrev pub AreImageDone : Words → Stated → Flow → (ℕ → Type 0) → List ℕ
-    → Type 0
-AreImageDone image = AreDoneReturns (λ named. AreRows (IsNamedRow named) image) image

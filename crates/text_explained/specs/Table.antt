@@ -1,22 +1,25 @@
 -- The table of a bound.
 use Rattle.std.specs.Prelude.{◌≡◌, ℕ, ◌+◌, Bool, ◌==◌, if◌then◌else◌, List, [], ◌++◌, codes}
-use Rattle.std.specs.Prelude.{decimal, find, nat_lt, sum_by, unwrap_or, Option, Some, None, is_some}
+use Rattle.std.specs.Prelude.{decimal, find, flat_map, map, nat_lt, sum_by, unwrap_or, Option, Some}
+use Rattle.std.specs.Prelude.{None, is_some}
 use Rattle.std.specs.List.{list_any}
 use Rattle.asm_text.specs.Hex.{hex8}
-use Rattle.asm_text.specs.Source.{lines_of}
 use Rattle.assembler.specs.Assembles.{addresses_from}
 use Rattle.assembler.specs.ShownLines.{IsShown}
 use Rattle.assembler.specs.declared.placed_line.PlacedLine.{PlacedLine}
 use Rattle.control_flow.specs.Flow.{Flow}
 use Rattle.control_flow.specs.declared.edges.Edge.{Edge}
 use Rattle.image.specs.Image.{Words}
+use Rattle.sources.specs.Rows.{AreSourceRows}
+use Rattle.sources.specs.declared.read.Source.{Source}
+use Rattle.sources.specs.declared.read.Text.{Text as SourceText}
+use Rattle.sources.specs.declared.read.Text.TheVariants as text
 use Rattle.statement.specs.Stated.{Stated}
 use Rattle.walk_counts.specs.Counts.{capped}
 use Rattle.text_explained.specs.Columns.{bound_line, gap_text, heading, in_column, span, ticks_text}
 use Rattle.text_explained.specs.Columns.{total_row}
 use Rattle.text_rows.specs.Columns.{in_columns}
-use Rattle.text_rows.specs.Lines.{rows_by_line}
-use Rattle.text_rows.specs.Rows.{AreRows, row_end}
+use Rattle.text_rows.specs.Rows.{row_end}
 use Rattle.text_explained.specs.Pricing.{ArePriced, pricing_text}
 use Rattle.text_explained.specs.Taken.{taken_at}
 use Rattle.text_explained.specs.declared.columns.Column.{Column}
@@ -83,6 +86,23 @@ module _ (taken : ℕ → Option Taken) where
   -- the ticks of all words
   abbrev pub image_ticks : Words → ℕ
   image_ticks words = capped (sum_by (λ e. ticks_of (taken e.0)) words)
+
+-- ## Of a source
+
+-- what its rows are told apart by
+abbrev pub rows_by : SourceText → Column
+rows_by (text.Lines bytes placed) = Line
+rows_by text.Image = Address
+
+-- the words of its lines, or of its image, in their order
+abbrev pub listed_words : Words → SourceText → List ℕ
+listed_words words (text.Lines bytes placed) = flat_map words_of placed.items
+listed_words words text.Image = map (λ e. e.0) words
+
+-- the ticks of all rows, where so much is taken at each address
+abbrev pub all_ticks : (ℕ → Option Taken) → Words → SourceText → ℕ
+all_ticks taken words (text.Lines bytes placed) = source_ticks taken placed.items
+all_ticks taken words text.Image = image_ticks taken words
 
 -- ## Figures
 
@@ -158,26 +178,18 @@ module _ (walk : WalkFigures) where
   abbrev pub line_rows : ℕ → List ℕ → PlacedLine → List ℕ
   line_rows n text p = if p.words == 0 then [] else line_row (line_figures walk p) n text
 
-  -- those of all lines, with numbers from one on
-  abbrev pub source_rows : ℕ → List (List ℕ) → List PlacedLine → List ℕ
-  source_rows = rows_by_line line_rows
-
   -- the line is the one that the word is shown as
   abbrev pub IsWordRow : ℕ × ℕ → List ℕ → Type 0
   IsWordRow e row =
       (line : List ℕ) × IsShown e.1 e.0 line × (row ≡ word_row (word_figures walk e.0) e.0 line)
 
-  -- of a source whose lines are placed so
-  abbrev pub source_table : List ℕ → List PlacedLine → List ℕ
-  source_table source placed =
-      heading Line
-      ++ (source_rows 1 (lines_of source) placed ++ table_end (source_ticks walk.taken placed) walk.bound)
-
-  -- of an image
-  abbrev pub AreImageRows : Words → List ℕ → Type 0
-  AreImageRows words text =
-      (rows : List ℕ) × AreRows IsWordRow words rows
-      × (text ≡ heading Address ++ (rows ++ table_end (image_ticks walk.taken words) walk.bound))
+  -- the rows of the source's lines, or of an image's words, below the heading, and the sum of their ticks
+  abbrev pub IsTableOf : Source → List ℕ → Type 0
+  IsTableOf source text =
+      (rows : List ℕ) × AreSourceRows line_rows IsWordRow source rows
+      × (text
+      ≡ heading (rows_by source.text)
+      ++ (rows ++ table_end (all_ticks walk.taken source.image source.text) walk.bound))
 
 -- of a walk that costs so much, when its words begin at the latest, and their prices
 abbrev pub walk_figures : Flow → List Edge → (latest : ℕ → Option ℕ) → ℕ → (priced : ℕ → Option Pricing)
@@ -185,16 +197,9 @@ abbrev pub walk_figures : Flow → List Edge → (latest : ℕ → Option ℕ) �
 walk_figures flow walk latest bound priced =
     record { taken = taken_at flow walk; latest = latest; priced = priced; bound = bound }
 
--- by the words, the statement, the flow graph, a walk that costs so much, and when its words begin at the
+-- by the source, the statement, the flow graph, a walk that costs so much, and when its words begin at the
 -- latest
-abbrev pub IsSourceTable : Words → Stated → Flow → List Edge → (latest : ℕ → Option ℕ) → ℕ → List ℕ
-    → List PlacedLine → List ℕ → Type 0
-IsSourceTable words st flow walk latest bound source placed text =
-    (priced : ℕ → Option Pricing) × ArePriced words st flow priced
-    × (text ≡ source_table (walk_figures flow walk latest bound priced) source placed)
-
-abbrev pub IsImageTable : Words → Stated → Flow → List Edge → (latest : ℕ → Option ℕ) → ℕ → List ℕ
-    → Type 0
-IsImageTable words st flow walk latest bound text =
-    (priced : ℕ → Option Pricing) × ArePriced words st flow priced
-    × AreImageRows (walk_figures flow walk latest bound priced) words text
+abbrev pub IsTable : Source → Stated → Flow → List Edge → (latest : ℕ → Option ℕ) → ℕ → List ℕ → Type 0
+IsTable source st flow walk latest bound text =
+    (priced : ℕ → Option Pricing) × ArePriced source.image st flow priced
+    × IsTableOf (walk_figures flow walk latest bound priced) source text

@@ -61,7 +61,7 @@ fn is_interrupt_vector(address: u32) -> bool
 fn is_left_without_flags(handler: StatedGraph<'_>, left: &BTreeSet<u32>, at: u32) -> bool
     requires { (a : ℕ) → contains nat_cmp left.now a ≡ is_left_on LeadsOut handler.graph.now.edges a }
     ensures { IsTrue result
-        ↔ IsLeftWithoutFlags handler.entry.image.now handler.entry.statement.now
+        ↔ IsLeftWithoutFlags handler.entry.source.now.image handler.entry.statement.now
         handler.entry.graph.now at }
 {
     if !is_interrupt_vector(handler.statement.entry()) {
@@ -70,18 +70,26 @@ fn is_left_without_flags(handler: StatedGraph<'_>, left: &BTreeSet<u32>, at: u32
     if !left.contains(&at) {
         return false;
     }
-    leaves_flags_at(handler.image, at)
+    leaves_flags_at(&handler.source.image, at)
 }
 
 // Whether that is assumed of the word at the address, by the addresses that are left.
 fn is_assumed(handler: StatedGraph<'_>, left: &BTreeSet<u32>, what: Assumption, at: u32) -> bool
     requires { (a : ℕ) → contains nat_cmp left.now a ≡ is_left_on LeadsOut handler.graph.now.edges a }
     ensures { IsTrue result
-        ↔ Assumes handler.entry.image.now handler.entry.statement.now handler.entry.graph.now what at }
+        ↔ Assumes handler.entry.source.now.image handler.entry.statement.now handler.entry.graph.now what at }
 {
     match what {
-        Assumption::LooseTransfer => is_loose_transfer(handler.image, handler.statement, at),
-        Assumption::TakenForReturn => is_taken_for_return(handler.image, handler.statement, at),
+        Assumption::LooseTransfer => is_loose_transfer(
+            &handler.source.image,
+            handler.statement,
+            at,
+        ),
+        Assumption::TakenForReturn => is_taken_for_return(
+            &handler.source.image,
+            handler.statement,
+            at,
+        ),
         Assumption::LeavesFlags => is_left_without_flags(handler, left, at),
     }
 }
@@ -96,7 +104,8 @@ fn note(
 ) -> Result<(), AllocError>
     requires { (a : ℕ) → contains nat_cmp left.now a ≡ is_left_on LeadsOut handler.graph.now.edges a }
     ensures { OnOk result
-        (Notes (Assumes handler.entry.image.now handler.entry.statement.now handler.entry.graph.now what)
+        (Notes (Assumes handler.entry.source.now.image handler.entry.statement.now handler.entry.graph.now
+        what)
         place.now (contains nat_cmp named.old) (contains nat_cmp named.new)) }
 {
     let Place::At(_, address) = place else {
@@ -137,7 +146,8 @@ pub(crate) fn assumed(
     what: Assumption,
 ) -> Result<Vec<u32>, AllocError>
     ensures { IfOk result
-        (λ named. AreAssumed handler.entry.image.now handler.entry.statement.now handler.entry.graph.now what
+        (λ named. AreAssumed handler.entry.source.now.image handler.entry.statement.now
+        handler.entry.graph.now what
         named.items) }
 {
     let left = addresses_left(alloc, handler.graph, EdgeKind::LeadsOut)?;

@@ -53,7 +53,7 @@ impl Caveat {
         handler: StatedGraph<'_>,
     ) -> Result<Vec<u32>, AllocError>
         ensures named { IfOk result
-            (λ named. AreSubjectTo handler.entry.image.now handler.entry.statement.now
+            (λ named. AreSubjectTo handler.entry.source.now.image handler.entry.statement.now
             handler.entry.graph.now self named.items) }
         ensures ascending { IfOk result (λ named. IsStrictlySortedBy nat_cmp named.items) }
     {

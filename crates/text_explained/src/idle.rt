@@ -140,7 +140,8 @@ fn addresses<V>(alloc: Global, stated: &IndexMap<u32, V>) -> Result<Vec<u32>, Al
 // The rows of the entries without effect.
 fn idle_rows(alloc: Global, handler: StatedGraph<'_>) -> Result<Vec<u8>, AllocError>
     ensures { IfOk result
-        (λ rows. AreIdleRows handler.entry.image.now handler.entry.statement.now handler.entry.graph.now
+        (λ rows. AreIdleRows handler.entry.source.now.image handler.entry.statement.now
+        handler.entry.graph.now
         rows.items) }
 {
     let done = addresses_left(alloc, handler.graph, EdgeKind::CarriesOut)?;
@@ -149,7 +150,7 @@ fn idle_rows(alloc: Global, handler: StatedGraph<'_>) -> Result<Vec<u8>, AllocEr
     let mut rows = Vec::new(alloc);
     put_loops(&mut rows, handler.graph, handler.statement.loops())?;
     put_targets(&mut rows, &done, &targets)?;
-    put_accesses(&mut rows, handler.image, &done, &accesses)?;
+    put_accesses(&mut rows, &handler.source.image, &done, &accesses)?;
     Ok(rows)
 }
 
@@ -163,7 +164,7 @@ fn idle_rows(alloc: Global, handler: StatedGraph<'_>) -> Result<Vec<u8>, AllocEr
 /// An allocation failed.
 pub fn idle_entries(alloc: Global, handler: StatedGraph<'_>) -> Result<Vec<u8>, AllocError>
     ensures { IfOk result
-        (λ text. AreIdleEntries handler.entry.image.now handler.entry.statement.now
+        (λ text. AreIdleEntries handler.entry.source.now.image handler.entry.statement.now
         handler.entry.graph.now text.items) }
 {
     let rows = idle_rows(alloc, handler)?;

@@ -1,17 +1,16 @@
-ghost use Rattle.std.specs.Prelude.{◌≡◌, ◌≢◌, ◌↔◌, ◌<◌, ◌≤◌, ◌^◌, ℕ, false, true, List, None, Some, Ok};
+ghost use Rattle.std.specs.Prelude.{◌≡◌, ◌≢◌, ◌↔◌, ◌<◌, ◌≤◌, ◌^◌, ℕ, false, true, List, None, Some};
 ghost use Rattle.std.specs.Prelude.{Option};
-ghost use Rattle.std.specs.Prelude.{Contains, flat_map, map, sum_by};
+ghost use Rattle.std.specs.Prelude.{Contains, sum_by};
 ghost use Rattle.bus_ticks.specs.declared.profile.Profile.{Profile};
-ghost use Rattle.assembler.specs.Placed.{ArePlaced};
-ghost use Rattle.image.specs.Labels.{Names};
-ghost use Rattle.assembler.specs.Sweeps.{assembled};
+ghost use Rattle.sources.specs.Source.{IsSource};
+ghost use Rattle.sources.specs.declared.read.Source.{Source};
+ghost use Rattle.sources.specs.declared.read.Text.{Text};
 ghost use Rattle.control_flow.specs.Graph.{IsBuildFault, IsFlowGraph};
 ghost use Rattle.control_flow.specs.declared.edges.Edge.{Edge};
 ghost use Rattle.control_flow.specs.declared.faults.BuildFault.{BuildFault};
 ghost use Rattle.assembler.specs.declared.placed_line.PlacedLine.{PlacedLine};
 ghost use Rattle.control_flow.specs.Flow.{Flow, IsWellFormed};
 ghost use Rattle.image.specs.Image.{Words};
-ghost use Rattle.image.specs.ImageBytes.{image_read};
 ghost use Rattle.loop_bounds.specs.Tree.{Tree};
 ghost use Rattle.longest_walk.specs.Folded.{unfolded};
 ghost use Rattle.longest_walk.specs.Longest.{IsWalkOf};
@@ -19,7 +18,7 @@ ghost use Rattle.longest_walk.specs.declared.folded.Item.{Item};
 ghost use Rattle.text_explained.specs.Bursts.{AreFewest, IsBurstTime, with_bursts};
 ghost use Rattle.longest_walk.specs.Starts.{AreWorstStarts};
 ghost use Rattle.text_explained.specs.Starts.{IsLatestStart, latest_at};
-ghost use Rattle.text_explained.specs.Table.{image_ticks, line_taken, passes_of, source_ticks};
+ghost use Rattle.text_explained.specs.Table.{all_ticks, line_taken, listed_words, passes_of};
 ghost use Rattle.text_explained.specs.Table.{ticks_in, told_at, words_of};
 ghost use Rattle.text_explained.specs.Taken.{AreCostsAt, AreOnWords, AreListedOnce, cost_at, is_reached, pass_at};
 ghost use Rattle.text_explained.specs.Taken.{taken_at};
@@ -48,29 +47,22 @@ pub fn numbers_are_of_the_walk()
 /// States that the ticks of all rows are what the walk costs, if each place of the graph is at one word
 /// of the lines, or of the image. It does nothing.
 pub fn totals_are_the_bound()
-    ensures source { (flow : Flow) (tree : Tree) (cost : ℕ) (items : List Item) (placed : List PlacedLine)
+    ensures { (flow : Flow) (tree : Tree) (cost : ℕ) (items : List Item) (words : Words) (text : Text)
         → IsWellFormed flow → IsWalkOf flow tree cost items → cost < 2 ^ 64
-        → AreListedOnce flow.places (flat_map words_of placed)
-        → source_ticks (taken_at flow (unfolded items)) placed ≡ cost }
-    ensures image { (flow : Flow) (tree : Tree) (cost : ℕ) (items : List Item) (words : Words)
-        → IsWellFormed flow → IsWalkOf flow tree cost items → cost < 2 ^ 64
-        → AreListedOnce flow.places (map (λ e. e.0) words)
-        → image_ticks (taken_at flow (unfolded items)) words ≡ cost }
+        → AreListedOnce flow.places (listed_words words text)
+        → all_ticks (taken_at flow (unfolded items)) words text ≡ cost }
 {}
 
-/// States that each place of a graph that is not refused is at one word: of the lines of a source that is
-/// assembled, each where it is placed, and of an image that is read. It does nothing.
+/// States that each place of a graph that is not refused is at one word: of the lines of a source that was
+/// read, each where it is placed, or of an image. It does nothing.
 pub fn places_are_listed_once()
     ensures words { (words : Words) (stated : Stated) (profile : Profile) (flow : Flow)
         → IsFlowGraph words stated profile flow
         → ((f : BuildFault) → f ≢ BuildFault.Memory → IsBuildFault words stated profile f → ⊥)
         → AreOnWords words flow.places }
-    ensures source { (source : List ℕ) (words : Words) (names : Names) (placed : List PlacedLine)
-        (flow : Flow) → IsWellFormed flow → assembled source ≡ Ok (words, names) → ArePlaced source placed
-        → AreOnWords words flow.places → AreListedOnce flow.places (flat_map words_of placed) }
-    ensures image { (bytes : List ℕ) (words : Words) (flow : Flow) → IsWellFormed flow
-        → image_read bytes ≡ Ok words → AreOnWords words flow.places
-        → AreListedOnce flow.places (map (λ e. e.0) words) }
+    ensures source { (bytes : List ℕ) (source : Source) (flow : Flow) → IsWellFormed flow
+        → IsSource bytes source → AreOnWords source.image flow.places
+        → AreListedOnce flow.places (listed_words source.image source.text) }
 {
     lines_are_spelled();
     sources_are_assembled();

@@ -16,21 +16,20 @@ mod links;
 mod named_words;
 mod pricing;
 mod sections;
-mod source;
 mod starts;
+mod table;
 mod tally;
 
 pub use bursts::{Bursts, burst_lines};
-pub use done_returns::{image_done_returns, source_done_returns};
+pub use done_returns::done_text;
 pub use idle::idle_entries;
-pub use image_rows::image_table;
 pub use law::{
     burst_time_is_the_least, latest_starts_are_of_walks, numbers_are_of_the_walk,
     places_are_listed_once, rows_with_ticks_have_passes, totals_are_the_bound,
     unreached_lines_have_no_place,
 };
 pub use links::{Overwrite, lost_links};
-pub use sections::{StatedGraph, image_assumptions, source_assumptions};
-pub use source::source_table;
+pub use sections::{StatedGraph, assumed_text};
 pub use starts::TimedWalk;
+pub use table::cost_table;
 pub use tally::{Costs, Taken, Tally};

@@ -54,7 +54,7 @@ impl Costing {
         walk: TimedWalk<'_>,
     ) -> Result<Costing, AllocError>
         ensures { IfOk result
-            (IsCosting handler.entry.image.now handler.entry.statement.now handler.entry.graph.now
+            (IsCosting handler.entry.source.now.image handler.entry.statement.now handler.entry.graph.now
             walk.entry.longest.now walk.entry.starts.now) }
     {
         let tally = Tally::of_walk(alloc, handler.graph, &walk.longest.walk)?;

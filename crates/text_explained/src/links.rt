@@ -363,10 +363,10 @@ pub fn lost_links(
     by: Overwrite,
 ) -> Result<Vec<u32>, AllocError>
     ensures { IfOk result
-        (λ named. AreLostLinks handler.entry.image.now handler.entry.graph.now by
+        (λ named. AreLostLinks handler.entry.source.now.image handler.entry.graph.now by
         handler.entry.statement.now named.items) }
 {
-    let places = lost_places(alloc, handler.image, handler.graph, by)?;
-    let named = returning(alloc, handler.image, handler.statement, &places)?;
+    let places = lost_places(alloc, &handler.source.image, handler.graph, by)?;
+    let named = returning(alloc, &handler.source.image, handler.statement, &places)?;
     sorted(alloc, &named)
 }

@@ -3,15 +3,12 @@ ghost use Rattle.std.specs.List.{list_any};
 ghost use Rattle.std.specs.List.Sorted.{IsStrictlySortedBy};
 ghost use Rattle.std.specs.Ordering.{nat_cmp};
 ghost use Rattle.std.proofs.Props.{props};
-ghost use Rattle.asm_text.specs.Source.{lines_of};
-ghost use Rattle.text_explained.specs.Assumed.{IsNamedRow, named_rows, row_if_named};
+ghost use Rattle.text_explained.specs.Assumed.{AreNamedRows, IsNamedRow, row_if_named};
 ghost use Rattle.asm_text.specs.Appended.{Appends};
-ghost use Rattle.text_rows.specs.Rows.{AreRows};
 
-use assembler::PlacedLine;
-use image::Image;
+use sources::{ImageRows, Source};
 use std::alloc::{AllocError, Global};
-use text_rows::{NumberedLine, WordRows, put_named_row, put_shown_row, put_word_rows};
+use text_rows::{NumberedLine, WordRows, put_named_row, put_shown_row};
 
 fn is_named(named: &[u32], at: u32) -> bool
     requires { IsStrictlySortedBy nat_cmp named.now }
@@ -38,27 +35,6 @@ impl WordRows for Named<'_> {
     }
 }
 
-/// The rows of those of a source's words that are named: the address of each, and the number and the text of
-/// its line. The named addresses ascend, and `placed` says where the lines are, in their order.
-///
-/// # Errors
-///
-/// An allocation failed.
-pub(crate) fn named_lines(
-    alloc: Global,
-    source: &[u8],
-    placed: &[PlacedLine],
-    named: &[u32],
-) -> Result<Vec<u8>, AllocError>
-    requires { IsStrictlySortedBy nat_cmp named.now }
-    ensures { IfOk result
-        (λ rows. rows.items ≡ named_rows named.now 1 (lines_of source.now) placed.now) }
-{
-    let mut out = Vec::new(alloc);
-    put_word_rows(&mut out, source, placed, &Named { addresses: named })?;
-    Ok(out)
-}
-
 // Adds the row of an image's word, if that is named.
 fn put_word(out: &mut Vec<u8>, named: &[u32], at: u32, word: u32) -> Result<(), AllocError>
     requires { IsStrictlySortedBy nat_cmp named.now }
@@ -70,24 +46,30 @@ fn put_word(out: &mut Vec<u8>, named: &[u32], at: u32, word: u32) -> Result<(), 
     put_shown_row(out, 0, at, word)
 }
 
-/// The rows of those of an image's words that are named: the address of each, the word, and the line that
-/// [`disassemble`] shows. The named addresses ascend.
+impl ImageRows for Named<'_> {
+    ghost is_row = { λ named. IsNamedRow named.addresses.now };
+
+    fn put_word(&self, out: &mut Vec<u8>, at: u32, word: u32) -> Result<(), AllocError> {
+        put_word(out, self.addresses, at, word)
+    }
+}
+
+/// The rows of those of a source's words that are named: the address of each, and the number and the text of
+/// its line; of an image the address, the word, and the line that
+/// [`disassemble`](assembler::disassemble) shows. The named addresses ascend.
 ///
 /// # Errors
 ///
 /// An allocation failed.
-pub(crate) fn named_words(
+pub(crate) fn named_rows(
     alloc: Global,
-    image: &Image,
+    source: &Source<'_>,
     named: &[u32],
 ) -> Result<Vec<u8>, AllocError>
     requires { IsStrictlySortedBy nat_cmp named.now }
-    ensures { IfOk result (λ rows. AreRows (IsNamedRow named.now) image.now rows.items) }
+    ensures { IfOk result (λ rows. AreNamedRows source.now named.now rows.items) }
 {
-    let words = image.listed(alloc)?;
     let mut out = Vec::new(alloc);
-    for (at, word) in &words {
-        put_word(&mut out, named, *at, *word)?;
-    }
+    source.put_word_rows(&mut out, &Named { addresses: named })?;
     Ok(out)
 }

@@ -81,11 +81,12 @@ fn leave_at(leaving: &BTreeSet<u32>, leave: Class, at: u32) -> Option<Class>
 }
 
 fn pricing_at(handler: StatedGraph<'_>, leaving: &BTreeSet<u32>, at: u32) -> Pricing
-    ensures { IsPricedBy handler.entry.image.now handler.entry.statement.now (contains nat_cmp leaving.now)
+    ensures { IsPricedBy handler.entry.source.now.image handler.entry.statement.now
+        (contains nat_cmp leaving.now)
         at result }
 {
     Pricing {
-        granted: granted_at(handler.image, handler.statement, at),
+        granted: granted_at(&handler.source.image, handler.statement, at),
         leave: leave_at(leaving, handler.statement.leave(), at),
     }
 }
@@ -98,7 +99,8 @@ fn put_pricing_of(
     place: &Place,
 ) -> Result<(), AllocError>
     ensures { OnOk result
-        (Prices handler.entry.image.now handler.entry.statement.now (contains nat_cmp leaving.now) place.now
+        (Prices handler.entry.source.now.image handler.entry.statement.now (contains nat_cmp leaving.now)
+        place.now
         (get nat_cmp prices.old) (get nat_cmp prices.new)) }
 {
     let Place::At(_, address) = place else {
@@ -115,7 +117,8 @@ pub(crate) fn priced(
     handler: StatedGraph<'_>,
 ) -> Result<BTreeMap<u32, Pricing>, AllocError>
     ensures { IfOk result
-        (λ prices. ArePriced handler.entry.image.now handler.entry.statement.now handler.entry.graph.now
+        (λ prices. ArePriced handler.entry.source.now.image handler.entry.statement.now
+        handler.entry.graph.now
         (get nat_cmp prices)) }
 {
     let leaving = addresses_left(alloc, handler.graph, EdgeKind::LeadsOut)?;

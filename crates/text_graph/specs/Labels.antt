@@ -3,32 +3,32 @@ use Rattle.std.specs.Prelude.{◌≡◌, ℕ, List, [], Vec, Option, Some, None}
 use Rattle.std.specs.Global.{Global}
 use Rattle.std.specs.List.{AllZip}
 use Rattle.assembler.specs.ShownLines.{IsWordLine}
-use Rattle.assembler.specs.declared.placed_line.PlacedLine.{PlacedLine}
 use Rattle.control_flow.specs.Places.{place_address}
 use Rattle.control_flow.specs.declared.places.Place.{Place}
 use Rattle.image.specs.Image.{Words, word_of}
-use Rattle.text_rows.specs.ByAddress.{line_of}
+use Rattle.sources.specs.Lines.{line_of}
+use Rattle.sources.specs.declared.read.Source.{Source}
+use Rattle.sources.specs.declared.read.Text.{Text}
+use Rattle.sources.specs.declared.read.Text.TheVariants.{Lines, Image}
+use Rattle.text_rows.specs.WordLines.{Numbered}
 
 -- the text of a line, empty where there is none
-abbrev pub text_of : Option (ℕ × List ℕ) → List ℕ
+abbrev pub text_of : Option Numbered → List ℕ
 text_of None = []
-text_of (Some line) = line.1
-
--- that of the line of an address
-abbrev pub source_label : (source : List ℕ) → List PlacedLine → ℕ → List ℕ
-source_label source placed a = text_of (line_of source placed a)
+text_of (Some line) = line.text
 
 -- the line of the image's word at an address
 abbrev pub IsImageLabel : Words → ℕ → List ℕ → Type 0
 IsImageLabel words a text = IsWordLine (word_of words a) a text
 
+-- the text of the line of an address, where the source has lines; else what its word there says
+abbrev pub IsLabelBy : Option Numbered → Words → Text → ℕ → List ℕ → Type 0
+IsLabelBy line words (Lines bytes placed) a text = text ≡ text_of line
+IsLabelBy line words Image a text = IsImageLabel words a text
+
+abbrev pub IsLabel : Source → ℕ → List ℕ → Type 0
+IsLabel source a = IsLabelBy (line_of source a) source.image source.text a
+
 -- a label for each place, by its address
-abbrev pub AreLabels : (ℕ → List ℕ → Type 0) → List Place → List (Vec ℕ Global) → Type 0
-AreLabels IsLabel places labels = AllZip (λ p l. IsLabel (place_address p) l.items) places labels
-
-abbrev pub AreSourceLabels : List ℕ → List PlacedLine → List Place → List (Vec ℕ Global) → Type 0
-AreSourceLabels source placed places labels =
-    AreLabels (λ a text. text ≡ source_label source placed a) places labels
-
-abbrev pub AreImageLabels : Words → List Place → List (Vec ℕ Global) → Type 0
-AreImageLabels words places labels = AreLabels (IsImageLabel words) places labels
+abbrev pub AreLabels : Source → List Place → List (Vec ℕ Global) → Type 0
+AreLabels source places labels = AllZip (λ p l. IsLabel source (place_address p) l.items) places labels

@@ -1,49 +1,27 @@
 ghost use Rattle.std.specs.Prelude.{◌≡◌, IfOk};
-ghost use Rattle.text_graph.specs.Labels.{AreImageLabels, AreSourceLabels, IsImageLabel, text_of};
-ghost use Rattle.text_rows.specs.ByAddress.{line_at};
+ghost use Rattle.text_graph.specs.Labels.{AreLabels, IsImageLabel, IsLabelBy, text_of};
+ghost use Rattle.text_rows.specs.WordLines.{numbered_at};
 
-use assembler::{PlacedLine, disassemble};
+use assembler::disassemble;
 use control_flow::Graph;
 use image::Image;
+use sources::{Source, Text};
 use std::alloc::{AllocError, Global};
 use std::collections::BTreeMap;
-use text_rows::{NumberedLine, lines_by_address};
+use text_rows::SourceLine;
 
 // The text at an address, empty where there is none.
 fn text_of(
     alloc: Global,
-    lines: &BTreeMap<u32, NumberedLine<'_>>,
+    lines: &BTreeMap<u32, SourceLine<'_>>,
     at: u32,
 ) -> Result<Vec<u8>, AllocError>
-    ensures { IfOk result (λ text. text.items ≡ text_of (line_at lines.now at)) }
+    ensures { IfOk result (λ text. text.items ≡ text_of (numbered_at lines.now at)) }
 {
     match lines.get(&at) {
         Some(line) => Vec::from_slice(alloc, line.text),
         None => Ok(Vec::new(alloc)),
     }
-}
-
-/// For each place of a graph, in their order, the text of the line that its word is of. `placed` says where
-/// the lines of the source are, in their order.
-///
-/// # Errors
-///
-/// An allocation failed.
-pub fn source_labels(
-    alloc: Global,
-    source: &[u8],
-    placed: &[PlacedLine],
-    graph: &Graph,
-) -> Result<Vec<Vec<u8>>, AllocError>
-    ensures { IfOk result
-        (λ labels. AreSourceLabels source.now placed.now graph.now.places labels.items) }
-{
-    let lines = lines_by_address(alloc, source, placed)?;
-    let mut labels = Vec::new(alloc);
-    for place in graph.places() {
-        labels.push(text_of(alloc, &lines, place.address())?)?;
-    }
-    Ok(labels)
 }
 
 // What the word at an address says.
@@ -56,17 +34,39 @@ fn image_label(alloc: Global, image: &Image, at: u32) -> Result<Vec<u8>, AllocEr
     }
 }
 
-/// For each place of a graph, in their order, what the word at its address says, as [`disassemble`] shows it.
+// What stands for the word at an address, by the lines of the source.
+fn label_by(
+    alloc: Global,
+    source: &Source<'_>,
+    lines: &BTreeMap<u32, SourceLine<'_>>,
+    at: u32,
+) -> Result<Vec<u8>, AllocError>
+    ensures { IfOk result
+        (λ label. IsLabelBy (numbered_at lines.now at) source.now.image source.now.text at label.items) }
+{
+    match &source.text {
+        Text::Lines(_, _) => text_of(alloc, lines, at),
+        Text::Image => image_label(alloc, &source.image, at),
+    }
+}
+
+/// For each place of a graph, in their order, the text of the line that its word is of; of an image what the
+/// word says, as [`disassemble`] shows it.
 ///
 /// # Errors
 ///
 /// An allocation failed.
-pub fn image_labels(alloc: Global, image: &Image, graph: &Graph) -> Result<Vec<Vec<u8>>, AllocError>
-    ensures { IfOk result (λ labels. AreImageLabels image.now graph.now.places labels.items) }
+pub fn place_labels(
+    alloc: Global,
+    source: &Source<'_>,
+    graph: &Graph,
+) -> Result<Vec<Vec<u8>>, AllocError>
+    ensures { IfOk result (λ labels. AreLabels source.now graph.now.places labels.items) }
 {
+    let lines = source.lines(alloc)?;
     let mut labels = Vec::new(alloc);
     for place in graph.places() {
-        labels.push(image_label(alloc, image, place.address())?)?;
+        labels.push(label_by(alloc, source, &lines, place.address())?)?;
     }
     Ok(labels)
 }

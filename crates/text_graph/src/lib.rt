@@ -14,5 +14,5 @@ mod stretches;
 mod tables;
 
 pub use document::drawing;
-pub use labels::{image_labels, source_labels};
+pub use labels::place_labels;
 pub use law::{node_ticks_are_the_bound, nodes_are_stretches_of_the_graph, places_are_drawn_once};

@@ -5,10 +5,12 @@ use Rattle.asm_text.specs.Hex.{hex8}
 use Rattle.assembler.specs.ShownLines.{IsShown}
 use Rattle.assembler.specs.declared.placed_line.PlacedLine.{PlacedLine}
 use Rattle.image.specs.Image.{Words, word_of}
+use Rattle.sources.specs.Rows.{AreSourceRows}
+use Rattle.sources.specs.declared.read.Source.{Source}
 use Rattle.text_listing.specs.declared.columns.TheConstants.{WORD_COLUMNS}
 use Rattle.text_rows.specs.Columns.{in_columns}
-use Rattle.text_rows.specs.Lines.{rows_by_line, rows_from}
-use Rattle.text_rows.specs.Rows.{AreRows, row_end}
+use Rattle.text_rows.specs.Lines.{rows_from}
+use Rattle.text_rows.specs.Rows.{row_end}
 use Rattle.text_trace.specs.TraceText.{word_text}
 
 -- an address and the word there
@@ -36,16 +38,13 @@ rows_beside image n text at (suc more) =
 abbrev pub line_rows : Words → (n : ℕ) → (text : List ℕ) → PlacedLine → List ℕ
 line_rows image n text p = rows_beside image n text p.at p.words
 
--- the rows of lines, each where it is placed, with numbers from one on
-abbrev pub source_rows : Words → ℕ → List (List ℕ) → List PlacedLine → List ℕ
-source_rows image = rows_by_line (line_rows image)
-
 -- the address, the word and its line
 abbrev pub IsWordRow : ℕ × ℕ → List ℕ → Type 0
 IsWordRow e row =
     (line : List ℕ) × IsShown e.1 e.0 line
     × (row ≡ row_end 0 (word_columns e.0 (Some e.1) ++ codes "  ") line)
 
--- a row for each word
-abbrev pub AreWordRows : Words → List ℕ → Type 0
-AreWordRows = AreRows IsWordRow
+-- the rows of a text's lines, each where it is placed, with numbers from one on, or a row for each word of an
+-- image
+abbrev pub AreListed : Source → List ℕ → Type 0
+AreListed source = AreSourceRows (line_rows source.image) IsWordRow source

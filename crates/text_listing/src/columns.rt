@@ -1,8 +1,10 @@
 ghost use Rattle.std.specs.Prelude.{◌≡◌, ◌++◌, OnOk};
-ghost use Rattle.text_listing.specs.Listing.{line_row, word_columns};
+ghost use Rattle.asm_text.specs.Appended.{Appends};
+ghost use Rattle.text_listing.specs.Listing.{IsWordRow, line_row, word_columns};
 ghost use Rattle.text_trace.specs.TraceText.{word_text};
 
 use asm_text::hex8;
+use assembler::disassemble;
 use std::alloc::AllocError;
 use text_rows::{NumberedLine, put, put_cut_row, put_number};
 
@@ -46,4 +48,14 @@ pub(crate) fn put_line_row(out: &mut Vec<u8>, line: NumberedLine<'_>) -> Result<
         WORD_COLUMNS.saturating_add(out.len() - begun),
         line.text,
     )
+}
+
+/// Adds the row of an image's word: its address, itself, and its line as [`disassemble`] shows it.
+pub(crate) fn put_word_row(out: &mut Vec<u8>, at: u32, word: u32) -> Result<(), AllocError>
+    ensures { OnOk result (Appends (IsWordRow (at, word)) out.old.items out.new.items) }
+{
+    put_word_columns(out, at, Some(word))?;
+    put(out, b"  ")?;
+    let line = disassemble(word, at);
+    put_cut_row(out, WORD_COLUMNS + 2, line.items())
 }

@@ -2,8 +2,6 @@
 #![tactic(auto)]
 
 mod columns;
-mod image_listing;
 mod source;
 
-pub use image_listing::list_image;
-pub use source::list_source;
+pub use source::list_rows;

@@ -1,13 +1,13 @@
 ghost use Rattle.std.specs.Prelude.{◌≡◌, ◌≤◌, ◌+◌, ◌*◌, ◌++◌, IfOk, OnOk};
 ghost use Rattle.bus_ticks.specs.declared.space.TheConstants.{SPACE_END};
-ghost use Rattle.asm_text.specs.Source.{lines_of};
-ghost use Rattle.text_listing.specs.Listing.{line_rows, source_rows, word_rows};
+ghost use Rattle.text_listing.specs.Listing.{AreListed, IsWordRow, line_rows, word_rows};
 
-use crate::columns::{WORD_COLUMNS, put_line_row, put_word_columns};
+use crate::columns::{WORD_COLUMNS, put_line_row, put_word_columns, put_word_row};
 use assembler::PlacedLine;
 use image::Image;
+use sources::{ImageRows, Source};
 use std::alloc::{AllocError, Global};
-use text_rows::{LineRows, NumberedLine, put, put_line_rows, put_right};
+use text_rows::{LineRows, NumberedLine, put, put_right};
 
 // Adds a row for each of so many words from an address on.
 fn put_words(out: &mut Vec<u8>, image: &Image, from: u32, count: usize) -> Result<(), AllocError>
@@ -23,7 +23,7 @@ fn put_words(out: &mut Vec<u8>, image: &Image, from: u32, count: usize) -> Resul
     Ok(())
 }
 
-// The rows of lines beside the words of an image.
+// The rows of lines beside the words of an image, and of these words alone.
 #[derive(Clone, Copy)]
 struct Beside<'a> {
     image: &'a Image,
@@ -48,26 +48,33 @@ impl LineRows for Beside<'_> {
     }
 }
 
+impl ImageRows for Beside<'_> {
+    ghost is_row = { λ _. IsWordRow };
+
+    fn put_word(&self, out: &mut Vec<u8>, at: u32, word: u32) -> Result<(), AllocError> {
+        put_word_row(out, at, word)
+    }
+}
+
 /// The lines of a source beside the words of its image: a row for each line, with the address and the word
-/// of its first word, if it has one, its number from 1 and its text; below it a row for each further word.
+/// of its first word, if it has one, its number from 1 and its text; below it a row for each further word. Of
+/// an image a row for each word: its address, itself, and its line as
+/// [`disassemble`](assembler::disassemble) shows it.
 ///
-/// `placed` says where the lines are, in their order; the rows end with the lines, or with the places. The
-/// text is bytes, since a comment may be other than UTF-8. A row ends at column 80, and a longer text is cut
-/// there: the source has all of it. A byte counts as a column. Dashes stand for a word that the image lacks.
+/// The text is bytes, since a comment may be other than UTF-8. A row ends at column 80, and a longer text is
+/// cut there: the source has all of it. A byte counts as a column. Dashes stand for a word that the image
+/// lacks.
 ///
 /// # Errors
 ///
 /// An allocation failed.
-pub fn list_source(
-    alloc: Global,
-    source: &[u8],
-    placed: &[PlacedLine],
-    image: &Image,
-) -> Result<Vec<u8>, AllocError>
-    ensures { IfOk result
-        (λ rows. rows.items ≡ source_rows image.now 1 (lines_of source.now) placed.now) }
+pub fn list_rows(alloc: Global, source: &Source<'_>) -> Result<Vec<u8>, AllocError>
+    ensures { IfOk result (λ rows. AreListed source.now rows.items) }
 {
     let mut out = Vec::new(alloc);
-    put_line_rows(&mut out, source, placed, &Beside { image })?;
+    let rows = Beside {
+        image: &source.image,
+    };
+    source.put_rows(&mut out, &rows)?;
     Ok(out)
 }

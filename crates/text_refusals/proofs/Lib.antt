@@ -10,6 +10,7 @@ mod OutlineLemmas
 mod PlacedLemmas
 mod PlainLemmas
 mod PlainText
+mod ReasonLemmas
 mod RefusedLemmas
 mod RowLemmas
 mod SearchLemmas

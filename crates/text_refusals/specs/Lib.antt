@@ -9,6 +9,7 @@ pub mod Nested
 pub mod Outline
 pub mod Placed
 pub mod PlainLines
+pub mod Reasons
 pub mod Refused
 pub mod Rows
 pub mod SharedHeaders

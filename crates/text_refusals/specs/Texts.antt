@@ -19,7 +19,7 @@ use Rattle.text_refusals.specs.declared.crossings.Crossing.{Crossing}
 use Rattle.text_refusals.specs.declared.entries.MidEntry.{MidEntry}
 use Rattle.text_refusals.specs.declared.extents.Extent.{Extent}
 use Rattle.text_refusals.specs.declared.nested.DeepPlace.{DeepPlace}
-use Rattle.text_refusals.specs.declared.sources.FaultyLine.{FaultyLine}
+use Rattle.text_refusals.specs.declared.source_faults.FaultyLine.{FaultyLine}
 use Rattle.text_refusals.specs.declared.words.WordLines.{WordLines}
 
 -- ## A cycle

@@ -12,10 +12,11 @@ mod law;
 mod members;
 mod nested;
 mod outline;
+mod reasons;
 mod rows;
 mod search;
 mod shared_headers;
-mod sources;
+mod source_faults;
 mod statements;
 mod texts;
 mod tokens;
@@ -27,8 +28,9 @@ pub use entries::{MidEntry, mid_entry};
 pub use extents::{Extent, extent_of};
 pub use law::{most_lines, plain_lines_are_seen, rows_show_faults};
 pub use nested::{DeepPlace, deep_place};
+pub use reasons::{graph_reason, loops_reason};
 pub use shared_headers::shared_header;
-pub use sources::{FaultyLine, faulty_lines, faulty_text};
+pub use source_faults::{FaultyLine, faulty_lines, faulty_text};
 pub use statements::statement_text;
 pub use texts::{
     crossing_text, cycle_text, deep_text, entry_text, place_text, shared_text, word_text,

@@ -1,4 +1,3 @@
-mod AddressLaws
 pub mod ColumnLaws
 pub mod LineLaws
 pub mod RowLaws

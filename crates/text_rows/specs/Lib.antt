@@ -1,6 +1,5 @@
 pub mod Columns
 pub mod Addresses
-pub mod ByAddress
 pub mod LineLabels
 pub mod Lines
 pub mod Rows

@@ -2,7 +2,6 @@
 #![tactic(auto)]
 
 mod addresses;
-mod by_address;
 mod columns;
 mod line_labels;
 mod lines;
@@ -10,7 +9,6 @@ mod rows;
 mod word_lines;
 
 pub use addresses::put_labelled;
-pub use by_address::lines_by_address;
 pub use columns::{
     ROW_COLUMNS, WIDEST_COLUMN, put, put_cut_row, put_decimal, put_number, put_right,
 };

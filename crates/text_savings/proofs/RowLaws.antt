@@ -1,17 +1,14 @@
 -- The row of a saving, and the rows of all.
-use Rattle.std.proofs.Common.{◌≡◌, ◌∙◌, ℕ, ◌+◌, ◌-◌, List, ◌++◌, append_assoc, length, Option, refl, ap, subst, arith}
+use Rattle.std.proofs.Common.{◌≡◌, ◌∙◌, ℕ, ◌+◌, ◌-◌, Bor, List, ◌++◌, append_assoc, length, Option, Vec, refl, ap, subst, sym, arith}
 use Rattle.std.proofs.lemmas.List.{length-append}
+use Rattle.std.specs.Global.{Global}
 use Rattle.assembler.specs.declared.placed_line.PlacedLine.{PlacedLine}
-use Rattle.text_rows.specs.ByAddress.{line_of}
-use Rattle.text_rows.specs.Rows.{section}
-use Rattle.control_flow.specs.Flow.{Flow}
-use Rattle.control_flow.specs.declared.edges.Edge.{Edge}
-use Rattle.image.specs.Image.{Words}
-use Rattle.statement.specs.Stated.{Stated}
+use Rattle.sources.specs.declared.read.Text.{Text}
+use Rattle.sources.specs.declared.read.Text.TheVariants.{Lines, Image}
 use Rattle.asm_text.specs.Appended.{Appends}
 use Rattle.text_rows.specs.Rows.{AreRows}
-use Rattle.text_savings.specs.Savings.{AreSavings}
-use Rattle.text_savings.specs.Sections.{AreSourceSavings, IsSavingRow, IsSourceEnd, front_text, heading}
+use Rattle.text_rows.specs.WordLines.{Numbered}
+use Rattle.text_savings.specs.Sections.{IsEndIn, IsImageEnd, IsLineEnd, IsSavingRow, front_text}
 use Rattle.text_savings.specs.declared.saving.Saving.{Saving}
 use Rattle.text_savings.specs.declared.saving.Subject.{Subject}
 
@@ -26,16 +23,13 @@ whole_row IsEnd s used old mid new front is adds =
       adds.2 ∙ ap (λ (xs : List ℕ). xs ++ adds.0) front ∙ append_assoc old (front_text s) adds.0,
     )
 
--- by lines that are found beforehand
-pub source_text : (source : List ℕ) (placed : List PlacedLine) (words : Words) (st : Stated) (flow : Flow) (walk : List Edge) (lines : ℕ → Option (ℕ × List ℕ)) (list listed : List Saving) (rows shown text : List ℕ)
-    → lines ≡ line_of source placed → AreSavings words st flow walk list → listed ≡ list → AreRows (IsSavingRow (IsSourceEnd lines)) listed rows → shown ≡ rows
-    → text ≡ section heading shown → AreSourceSavings source placed words st flow walk text
-source_text source placed words st flow walk lines list listed rows shown text lines_is savings listed_is are shown_is is = record {
-  list = list;
-  rows = rows;
-  are_savings = savings;
-  are_rows =
-      subst (λ (f : ℕ → Option (ℕ × List ℕ)). AreRows (IsSavingRow (IsSourceEnd f)) list rows) lines_is
-      (subst (λ (l : List Saving). AreRows (IsSavingRow (IsSourceEnd lines)) l rows) listed_is are);
-  text_is = is ∙ ap (section heading) shown_is;
-}
+-- by the lines of a text that are found beforehand
+pub by_lines : (text : Text) (bytes : Bor (List ℕ)) (placed : Vec PlacedLine Global) (lines found : ℕ → Option Numbered) (list : List Saving) (rows : List ℕ) → text ≡ Lines bytes placed
+    → ((at : ℕ) → lines at ≡ found at) → AreRows (IsSavingRow (IsLineEnd lines)) list rows → AreRows (IsSavingRow (IsEndIn text found)) list rows
+by_lines text bytes placed lines found list rows is are_lines are =
+    subst (λ (t : Text). AreRows (IsSavingRow (IsEndIn t found)) list rows) (sym is)
+    (subst (λ (f : ℕ → Option Numbered). AreRows (IsSavingRow (IsLineEnd f)) list rows) (λ i x. are_lines x i) are)
+
+-- by the words of an image
+pub by_words : (text : Text) (line : ℕ → Option Numbered) (list : List Saving) (rows : List ℕ) → text ≡ Image → AreRows (IsSavingRow IsImageEnd) list rows → AreRows (IsSavingRow (IsEndIn text line)) list rows
+by_words text line list rows is are = subst (λ (t : Text). AreRows (IsSavingRow (IsEndIn t line)) list rows) (sym is) are

@@ -1,15 +1,17 @@
 -- What better entries of a statement would save, as text.
 use Rattle.std.specs.Prelude.{◌≡◌, ℕ, List, ◌++◌, codes, decimal, length, Option, Some, None}
-use Rattle.assembler.specs.declared.placed_line.PlacedLine.{PlacedLine}
-use Rattle.text_rows.specs.ByAddress.{line_of}
+use Rattle.sources.specs.Lines.{line_of}
+use Rattle.sources.specs.declared.read.Source.{Source}
+use Rattle.sources.specs.declared.read.Text.{Text}
+use Rattle.sources.specs.declared.read.Text.TheVariants.{Lines, Image}
 use Rattle.text_rows.specs.Columns.{in_columns}
 use Rattle.statement.specs.Statement.{class_name}
 use Rattle.text_rows.specs.Rows.{IsShownRow, address_row, named_row, section}
 use Rattle.control_flow.specs.Flow.{Flow}
 use Rattle.control_flow.specs.declared.edges.Edge.{Edge}
-use Rattle.image.specs.Image.{Words}
 use Rattle.statement.specs.Stated.{Stated}
 use Rattle.text_rows.specs.Rows.{AreRows}
+use Rattle.text_rows.specs.WordLines.{Numbered}
 use Rattle.text_savings.specs.Savings.{AreSavings}
 use Rattle.text_savings.specs.declared.classes.ClassChange.{ClassChange}
 use Rattle.text_savings.specs.declared.gains.Refinement.{Refinement}
@@ -42,18 +44,27 @@ IsSavingRow IsEnd s row =
     (end : List ℕ) × IsEnd (length (front_text s)) s.subject end × (row ≡ front_text s ++ end)
 
 -- the address, and the number and the text of its line
-abbrev pub line_row : (used at : ℕ) → Option (ℕ × List ℕ) → List ℕ
+abbrev pub line_row : (used at : ℕ) → Option Numbered → List ℕ
 line_row used at None = address_row at
-line_row used at (Some line) = named_row used at line.0 line.1
+line_row used at (Some line) = named_row used at line.number line.text
 
-abbrev pub IsSourceEnd : (ℕ → Option (ℕ × List ℕ)) → (used : ℕ) → Subject → List ℕ → Type 0
-IsSourceEnd line used (Word at word) end = end ≡ line_row used at (line at)
-IsSourceEnd line used Leave end = end ≡ codes "\n"
+abbrev pub IsLineEnd : (ℕ → Option Numbered) → (used : ℕ) → Subject → List ℕ → Type 0
+IsLineEnd line used (Word at word) end = end ≡ line_row used at (line at)
+IsLineEnd line used Leave end = end ≡ codes "\n"
 
 -- the address, the word and its line
 abbrev pub IsImageEnd : (used : ℕ) → Subject → List ℕ → Type 0
 IsImageEnd used (Word at word) end = IsShownRow used (at, word) end
 IsImageEnd used Leave end = end ≡ codes "\n"
+
+-- where these are the lines of the words: by a text's lines, or by an image's words
+abbrev pub IsEndIn : Text → (ℕ → Option Numbered) → (used : ℕ) → Subject → List ℕ → Type 0
+IsEndIn (Lines bytes placed) line = IsLineEnd line
+IsEndIn Image line = IsImageEnd
+
+-- the rows of savings
+abbrev pub AreSavingRows : Source → List Saving → List ℕ → Type 0
+AreSavingRows source = AreRows (IsSavingRow (IsEndIn source.text (line_of source)))
 
 -- ## The section
 
@@ -61,18 +72,10 @@ abbrev pub heading : List ℕ
 heading = codes "\nWhat would save most, in ticks at most (state only what is true):\n"
 
 -- a row for each saving under the heading, and nothing where there are none
-pub record IsSavingsText (IsEnd : (used : ℕ) → Subject → List ℕ → Type 0) (words : Words) (st : Stated)
-    (flow : Flow) (walk : List Edge) (text : List ℕ) : Type 0 where
+pub record IsSavingsText (source : Source) (st : Stated) (flow : Flow) (walk : List Edge) (text : List ℕ)
+    : Type 0 where
   pub list : List Saving
   pub rows : List ℕ
-  pub are_savings : AreSavings words st flow walk list
-  pub are_rows : AreRows (IsSavingRow IsEnd) list rows
+  pub are_savings : AreSavings source.image st flow walk list
+  pub are_rows : AreSavingRows source list rows
   pub text_is : text ≡ section heading rows
-
--- by the lines of a source
-abbrev pub AreSourceSavings : List ℕ → List PlacedLine → Words → Stated → Flow → List Edge → List ℕ → Type 0
-AreSourceSavings source placed = IsSavingsText (IsSourceEnd (line_of source placed))
-
--- by the words of an image
-abbrev pub AreImageSavings : Words → Stated → Flow → List Edge → List ℕ → Type 0
-AreImageSavings = IsSavingsText IsImageEnd

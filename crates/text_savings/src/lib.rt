@@ -10,4 +10,4 @@ mod saving;
 mod sections;
 
 pub use law::{gains_are_of_the_prices, next_class_is_the_dearest_below, times_are_of_the_walk};
-pub use sections::{image_savings, source_savings};
+pub use sections::savings_text;

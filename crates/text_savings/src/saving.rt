@@ -116,11 +116,11 @@ fn found_savings(
     longest: &Longest,
 ) -> Result<Vec<Saving>, AllocError>
     ensures { IfOk result
-        (λ found. AreFound handler.entry.image.now handler.entry.statement.now handler.entry.graph.now
+        (λ found. AreFound handler.entry.source.now.image handler.entry.statement.now handler.entry.graph.now
         (unfolded longest.now.walk) found.items) }
 {
     let times = times_carried_out(alloc, handler.graph, &longest.walk)?;
-    let words = handler.image.listed(alloc)?;
+    let words = handler.source.image.listed(alloc)?;
     let profile = handler.graph.profile();
     let carried = Carried {
         statement: handler.statement,
@@ -151,7 +151,7 @@ pub(crate) fn savings(
     longest: &Longest,
 ) -> Result<Vec<Saving>, AllocError>
     ensures { IfOk result
-        (λ list. AreSavings handler.entry.image.now handler.entry.statement.now handler.entry.graph.now
+        (λ list. AreSavings handler.entry.source.now.image handler.entry.statement.now handler.entry.graph.now
         (unfolded longest.now.walk) list.items) }
 {
     let mut list = found_savings(alloc, handler, longest)?;

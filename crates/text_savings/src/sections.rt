@@ -2,22 +2,22 @@ ghost use Rattle.std.specs.Prelude.{◌≡◌, ◌++◌, ℕ, List, IfOk, OnOk};
 ghost use Rattle.longest_walk.specs.Folded.{unfolded};
 ghost use Rattle.asm_text.specs.Appended.{Appends};
 ghost use Rattle.text_rows.specs.Rows.{AreRows};
-ghost use Rattle.text_savings.specs.Sections.{AreImageSavings, AreSourceSavings, IsImageEnd, IsSavingRow};
-ghost use Rattle.text_savings.specs.Sections.{IsSourceEnd};
-ghost use Rattle.text_savings.specs.Sections.{entry_text, front_text, line_row, refinement_text};
+ghost use Rattle.text_savings.specs.Sections.{AreSavingRows, IsImageEnd, IsLineEnd, IsSavingRow};
+ghost use Rattle.text_savings.specs.Sections.{IsSavingsText, entry_text, front_text, line_row};
+ghost use Rattle.text_savings.specs.Sections.{refinement_text};
 ghost use Rattle.text_savings.specs.declared.saving.Subject.{Subject};
-ghost use Rattle.text_rows.specs.ByAddress.{line_at};
+ghost use Rattle.text_rows.specs.WordLines.{numbered_at};
 
 use crate::gains::Refinement;
 use crate::saving::{Saving, Subject, savings};
-use assembler::PlacedLine;
 use longest_walk::Longest;
+use sources::{Source, Text};
 use statement::class_name;
 use std::alloc::{AllocError, Global};
 use std::collections::BTreeMap;
 use text_explained::StatedGraph;
 use text_rows::{
-    NumberedLine, lines_by_address, put, put_address_row, put_named_row, put_number, put_right,
+    NumberedLine, SourceLine, put, put_address_row, put_named_row, put_number, put_right,
     put_shown_row, section,
 };
 
@@ -65,13 +65,19 @@ fn put_front(out: &mut Vec<u8>, saving: &Saving) -> Result<(), AllocError>
 fn put_line(
     out: &mut Vec<u8>,
     used: usize,
-    lines: &BTreeMap<u32, NumberedLine<'_>>,
+    lines: &BTreeMap<u32, SourceLine<'_>>,
     at: u32,
 ) -> Result<(), AllocError>
-    ensures { OnOk result (out.new.items ≡ out.old.items ++ line_row used at (line_at lines.now at)) }
+    ensures { OnOk result (out.new.items ≡ out.old.items ++ line_row used at (numbered_at lines.now at)) }
 {
     match lines.get(&at) {
-        Some(line) => put_named_row(out, used, *line, at),
+        Some(line) => {
+            let numbered = NumberedLine {
+                number: line.number as u64,
+                text: line.text,
+            };
+            put_named_row(out, used, numbered, at)
+        }
         None => put_address_row(out, at),
     }
 }
@@ -86,9 +92,9 @@ trait RowEnds {
         ensures { OnOk result (Appends (is_end self.now used subject) out.old.items out.new.items) };
 }
 
-// By the lines of a source.
-impl RowEnds for BTreeMap<u32, NumberedLine<'_>> {
-    ghost is_end = { λ lines. IsSourceEnd (line_at lines) };
+// By the lines of a text.
+impl RowEnds for BTreeMap<u32, SourceLine<'_>> {
+    ghost is_end = { λ lines. IsLineEnd (numbered_at lines) };
 
     fn put(&self, out: &mut Vec<u8>, used: usize, subject: Subject) -> Result<(), AllocError> {
         match subject {
@@ -132,50 +138,37 @@ fn rows_of<E: RowEnds>(alloc: Global, ends: &E, list: &[Saving]) -> Result<Vec<u
     Ok(out)
 }
 
-/// What better entries of a statement would save by a greatest walk, by the lines of a source: under a
-/// heading a row for each of the [`savings`], with the ticks, the better entry, and the address, the number
-/// and the text of its line. A row ends at column 80. Nothing where there are no savings.
-///
-/// `placed` says where the lines are, in their order.
-///
-/// # Errors
-///
-/// An allocation failed.
-pub fn source_savings(
-    alloc: Global,
-    handler: StatedGraph<'_>,
-    source: &[u8],
-    placed: &[PlacedLine],
-    longest: &Longest,
-) -> Result<Vec<u8>, AllocError>
-    ensures { IfOk result
-        (λ text. AreSourceSavings source.now placed.now handler.entry.image.now
-        handler.entry.statement.now handler.entry.graph.now (unfolded longest.now.walk) text.items) }
+// The rows by the lines of a text, or by the words of an image.
+fn source_rows(alloc: Global, source: &Source<'_>, list: &[Saving]) -> Result<Vec<u8>, AllocError>
+    ensures { IfOk result (λ rows. AreSavingRows source.now list.now rows.items) }
 {
-    let list = savings(alloc, handler, longest)?;
-    let lines = lines_by_address(alloc, source, placed)?;
-    let rows = rows_of(alloc, &lines, &list)?;
-    section(alloc, HEADING, &rows)
+    match &source.text {
+        Text::Lines(_, _) => {
+            let lines = source.lines(alloc)?;
+            rows_of(alloc, &lines, list)
+        }
+        Text::Image => rows_of(alloc, &ByWords, list),
+    }
 }
 
-/// What better entries of a statement would save by a greatest walk, by the words of an image: under a
-/// heading a row for each of the [`savings`], with the ticks, the better entry, and the address, the word
-/// and the line that [`disassemble`](assembler::disassemble) shows. A row ends at column 80. Nothing where
-/// there are no savings.
+/// What better entries of a statement would save by a greatest walk: under a heading a row for each of the
+/// [`savings`], with the ticks, the better entry, and the address, the number and the text of its line,
+/// or, of an image, the address, the word and the line that [`disassemble`](assembler::disassemble) shows.
+/// A row ends at column 80. Nothing where there are no savings.
 ///
 /// # Errors
 ///
 /// An allocation failed.
-pub fn image_savings(
+pub fn savings_text(
     alloc: Global,
     handler: StatedGraph<'_>,
     longest: &Longest,
 ) -> Result<Vec<u8>, AllocError>
     ensures { IfOk result
-        (λ text. AreImageSavings handler.entry.image.now handler.entry.statement.now
+        (λ text. IsSavingsText handler.entry.source.now handler.entry.statement.now
         handler.entry.graph.now (unfolded longest.now.walk) text.items) }
 {
     let list = savings(alloc, handler, longest)?;
-    let rows = rows_of(alloc, &ByWords, &list)?;
+    let rows = source_rows(alloc, handler.source, &list)?;
     section(alloc, HEADING, &rows)
 }

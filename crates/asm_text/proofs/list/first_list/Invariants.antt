@@ -1,7 +1,7 @@
 use Rattle.std.proofs.Common.{◌≡◌, ◌<◌, ◌^◌, drop, map}
 use Rattle.asm_text.specs.Pieces.{piece_of}
 use Rattle.asm_text.specs.Operands.{list_from}
-use Rattle.asm_text.specs.declared.list.Place.TheVariants.{Start}
+use Rattle.asm_text.specs.declared.list.ListPlace.TheVariants.{Start}
 use Rattle.asm_text.proofs.list.first_list.Given as goal
 
 abbrev pub invariant-loop-index : goal.invariant-loop-index

@@ -20,7 +20,7 @@ invariant_of-result c =
     well_formed c.args.image.now c.args.statement.now c.args.profile.now _
     (flow_from c.args.image.now c.args.statement.now c.args.profile.now (places_in c.in_ok-seen.seen) c.in_ok-places.places.items c.deref.result.now c.start_of.result c.in_ok-edges.edges.items c.in_ok-edges.firsts.items c.in_ok-places.ensures.places c.deref.ensures.value c.in_ok-seen.ensures.places c.in_ok-places.ensures.ordered c.in_ok-edges.ensures.turn c.start_of.ensures.value)
     (subst (λ (ps : List Place). length ps ≤ 16384) (sym c.in_ok-places.ensures.places) c.in_ok-seen.ensures.allowed.few)
-    c.start_of.ensures.is_stated
+    c.statements_are_stated.ensures
 
 pub returns-clause-graph : goal.returns-clause-graph
 returns-clause-graph c =

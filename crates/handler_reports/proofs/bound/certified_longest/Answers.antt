@@ -15,8 +15,8 @@ returns-clause-report c = λ source statement profile loops.
     let h = c.args.handler.now in
     let graph = loops.graph in
     reported_bound source statement profile h.statement h.graph h.tree loops c.requires
-    c.in_ok-found.found (cert_text (said_of c.in_ok-found.found)) c.run_law.ensures c.graph_is_well_formed.ensures c.in_ok-found.ensures.longest c.in_ok-found.ensures.allowed
-    (λ other of cert said. c.longest_gets_yes.ensures graph.words h.statement profile h.graph other c.in_ok-found.found cert graph.graph_is c.graph_is_well_formed.ensures
+    c.in_ok-found.found (cert_text (said_of c.in_ok-found.found)) c.run_law.ensures c.graphs_are_well_formed.ensures c.in_ok-found.ensures.longest c.in_ok-found.ensures.allowed
+    (λ other of cert said. c.longest_gets_yes.ensures graph.words h.statement profile h.graph other c.in_ok-found.found cert graph.graph_is c.graphs_are_well_formed.ensures
     of.tree_is (longest_by_each h.graph h.statement.loops h.tree other c.requires of c.in_ok-found.found c.in_ok-found.ensures.longest) said)
     refl
 

@@ -1,4 +1,3 @@
-use Rattle.image.specs.Labels.{address_of}
 use Rattle.handlers.specs.Report.{BeforeOutput, IsRefused}
 use Rattle.handlers.proofs.HandlerLemmas.{refused_as}
 use Rattle.handlers.proofs.ReportLemmas.{report_refusal}
@@ -14,8 +13,7 @@ returns-in_err-read-clause-fault c =
 
 pub returns-clause-explains : goal.returns-clause-explains
 returns-clause-explains c =
-    c.explanation_of.ensures.explains (address_of c.in_ok-read.read.said.labels) c.in_ok-read.ensures.said c.in_ok-read.ensures.loops
+    c.explanation_of.ensures.explains c.args.explained.source.now c.args.explained.statement.now c.in_ok-read.ensures.is c.in_ok-read.ensures.loops
 
 pub returns-clause-fault : goal.returns-clause-fault
-returns-clause-fault c =
-    c.explanation_of.ensures.fault (address_of c.in_ok-read.read.said.labels) c.in_ok-read.ensures.said c.in_ok-read.ensures.loops
+returns-clause-fault c = c.explanation_of.ensures.fault c.args.explained.source.now c.args.explained.statement.now c.in_ok-read.ensures.loops

@@ -1,7 +1,17 @@
 use Rattle.std.proofs.Common.{rules}
-use Rattle.handlers.proofs.SourceLemmas.{text_refused}
 use Rattle.handler_reports.proofs.explain.text_of.Goals as goal
 
-pub returns-in_err-placed-clause-fault : goal.returns-in_err-placed-clause-fault
-returns-in_err-placed-clause-fault c =
-    text_refused c.args.source.now c.in_err-placed.field-0.0 c.from_residual-in_err-placed.result c.from_residual-in_err-placed.ensures.1 (search rules) c.in_err-placed.ensures.fault
+pub returns : goal.returns
+returns c = record {
+  table = c.in_ok-text.text.items;
+  burst_lines = c.in_ok-rest.rest.items;
+  assumptions = c.in_ok-assumptions.assumptions.items;
+  idle = c.in_ok-idle.idle.items;
+  savings = c.in_ok-saved.saved.items;
+  is_table = c.in_ok-text.ensures;
+  are_burst_lines = c.in_ok-rest.ensures;
+  are_assumptions = c.in_ok-assumptions.ensures;
+  are_idle = c.in_ok-idle.ensures;
+  are_savings = c.in_ok-saved.ensures;
+  text_is = search rules;
+}

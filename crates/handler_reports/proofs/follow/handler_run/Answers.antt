@@ -23,21 +23,21 @@ returns-in_err-placed-clause-fault c =
     refused_as c.from_residual-in_err-placed.result e (Refused r.source.now r.statement.now r.machine.now profile) c.from_residual-in_err-placed.ensures.1
     (machine_refused r.source.now r.statement.now r.machine.now profile e
     (accepted r.source.now r.statement.now profile h.statement h.graph h.tree c.requires.loops c.requires.tree c.in_ok-longest.ensures.allowed)
-    (c.in_err-placed.ensures.fault r.source.now c.requires.said))
+    (c.in_err-placed.ensures.fault r.source.now c.requires.said.said))
 
 pub judged_run-requires-clause-graph : goal.judged_run-requires-clause-graph
 judged_run-requires-clause-graph c =
     let r = c.args.run in
     let said = c.args.said.now in
     let h = c.args.handler.now in
-    own_graph r.source.now r.statement.now r.machine.now c.args.profile.now said.image (address_of said.labels) c.requires.said h.statement h.graph h.tree c.requires.loops c.requires.tree
+    own_graph r.source.now r.statement.now r.machine.now c.args.profile.now said.image (address_of said.labels) c.requires.said.said h.statement h.graph h.tree c.requires.loops c.requires.tree
 
 pub judged_run-requires-clause-machine : goal.judged_run-requires-clause-machine
 judged_run-requires-clause-machine c =
     let r = c.args.run in
     let placed = c.in_ok-placed.placed in
     machine_for r.source.now r.machine.now c.args.profile.now placed.file placed.machine c.args.handler.now.graph c.requires.loops.graph.graph_is.profile_is c.states_registers.ensures
-    (c.in_ok-placed.ensures.placed r.source.now c.requires.said)
+    (c.in_ok-placed.ensures.placed r.source.now c.requires.said.said)
 
 pub returns-clause-judged : goal.returns-clause-judged
 returns-clause-judged c =
@@ -46,8 +46,8 @@ returns-clause-judged c =
     let h = c.args.handler.now in
     let placed = c.in_ok-placed.placed in
     IfOk-weaker c.judged_run.result _ _
-    (λ j is. followed r.source.now r.statement.now r.machine.now c.args.profile.now said.image (address_of said.labels) c.requires.said h.statement h.graph h.tree c.requires.loops c.requires.tree
-    c.in_ok-longest.longest placed.file placed.machine j.kept j.text.items c.in_ok-longest.ensures.allowed c.in_ok-longest.ensures.longest (c.in_ok-placed.ensures.placed r.source.now c.requires.said) is)
+    (λ j is. followed r.source.now r.statement.now r.machine.now c.args.profile.now said.image (address_of said.labels) c.requires.said.said h.statement h.graph h.tree c.requires.loops c.requires.tree
+    c.in_ok-longest.longest placed.file placed.machine j.kept j.text.items c.in_ok-longest.ensures.allowed c.in_ok-longest.ensures.longest (c.in_ok-placed.ensures.placed r.source.now c.requires.said.said) is)
     c.judged_run.ensures.judged
 
 pub returns-clause-fault : goal.returns-clause-fault

@@ -9,11 +9,11 @@ use Rattle.handler_reports.proofs.follow.judged_run.Goals as goal
 pub follow-requires-clause-handler : goal.follow-requires-clause-handler
 follow-requires-clause-handler c = record { graph_is = c.requires.graph; tree_is = c.requires.tree.tree_is }
 
-pub judgement-requires : goal.judgement-requires
-judgement-requires c =
+pub judgement-requires-clause-places : goal.judgement-requires-clause-places
+judgement-requires-clause-places c =
     let b = c.args.bounded in
     let h = b.handler.now in
-    all_places b.image.now h.statement h.graph h.tree c.args.placed.now.machine c.deref.result.now c.follow.new.machine c.in_ok-followed.followed c.in_ok-followed.ensures.followed
+    all_places b.read.now.image h.statement h.graph h.tree c.args.placed.now.machine c.deref.result.now c.follow.new.machine c.in_ok-followed.followed c.in_ok-followed.ensures.followed
 
 pub returns-clause-judged : goal.returns-clause-judged
 returns-clause-judged c =
@@ -23,12 +23,12 @@ returns-clause-judged c =
     let inputs = c.in_ok-inputs.inputs.items in
     let after = c.follow.new.machine in
     let f = c.in_ok-followed.followed in
-    let is : IsFollowed b.image.now h.statement h.graph h.tree start inputs after f =
-    subst (λ (is : List Input). IsFollowed b.image.now h.statement h.graph h.tree start is after f) c.deref.ensures.value c.in_ok-followed.ensures.followed in
+    let is : IsFollowed b.read.now.image h.statement h.graph h.tree start inputs after f =
+    subst (λ (is : List Input). IsFollowed b.read.now.image h.statement h.graph h.tree start is after f) c.deref.ensures.value c.in_ok-followed.ensures.followed in
     IfOk-weaker c.judgement.result _ _
     (λ j text. record {
       inputs = inputs;
       inputs_are = c.in_ok-inputs.ensures;
-      is_text = run_text b.image.now h.statement h.graph h.tree c.requires.tree b.source.now b.longest.now start inputs c.graph_is_well_formed.ensures c.step_law.ensures.cost c.run_law.ensures c.requires.longest c.requires.greatest after f j.kept j.text.items is (subst (λ (at : ℕ). IsFollowedText b.source.now b.image.now h.statement h.graph b.longest.now at f j.kept j.text.items) c.address-after.ensures.address text);
+      is_text = run_text b.read.now.image h.statement h.graph h.tree c.requires.tree b.source.now b.longest.now start inputs c.graphs_are_well_formed.ensures c.step_law.ensures.cost c.run_law.ensures c.requires.longest c.requires.greatest after f j.kept j.text.items is (subst (λ (at : ℕ). IsFollowedText b.source.now b.read.now.image h.statement h.graph b.longest.now at f j.kept j.text.items) c.address-after.ensures.address text);
     })
     c.judgement.ensures.text

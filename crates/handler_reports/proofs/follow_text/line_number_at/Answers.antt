@@ -1,7 +1,7 @@
 use Rattle.std.proofs.Common.{rules}
-use Rattle.handlers.proofs.SourceLemmas.{text_refused}
+use Rattle.handler_reports.proofs.LineLemmas.{numbered_by}
 use Rattle.handler_reports.proofs.follow_text.line_number_at.Goals as goal
 
-pub returns-in_err-placed-clause-fault : goal.returns-in_err-placed-clause-fault
-returns-in_err-placed-clause-fault c =
-    text_refused c.args.source.now c.in_err-placed.field-0.0 c.from_residual.result c.from_residual.ensures.1 (search rules) c.in_err-placed.ensures.fault
+pub returns : goal.returns
+returns c = λ source is_read.
+    numbered_by source c.args.read.now is_read c.in_ok-lines.lines c.in_ok-lines.ensures c.args.address c.get.result (search rules) c.map.result (search rules)

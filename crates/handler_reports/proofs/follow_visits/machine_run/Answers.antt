@@ -1,38 +1,40 @@
-use Rattle.std.proofs.Common.{ℕ, List, IfOk, subst}
+use Rattle.std.proofs.Common.{ℕ, List, IfOk, subst, sym}
 use Rattle.std.proofs.lemmas.Result.{IfErr-weaker, IfOk-weaker}
-use Rattle.image.specs.Image.{Words}
 use Rattle.image.specs.Labels.{address_of}
 use Rattle.handler_reports.specs.VisitedWork.{IsVisitsJudged}
 use Rattle.handler_reports.proofs.ExplainLemmas.{source_unexplained}
 use Rattle.handler_reports.proofs.VisitedLemmas.{Refused, both_accepted, irq_refused, machine_refused, visits_reported}
 use Rattle.handlers.proofs.HandlerLemmas.{refused_as}
 use Rattle.handlers.specs.Source.{IsSourceFault}
+use Rattle.sources.specs.Source.{IsSource}
 use Rattle.handler_reports.proofs.follow_visits.machine_run.Goals as goal
 
 pub returns-in_err-placed-clause-fault : goal.returns-in_err-placed-clause-fault
 returns-in_err-placed-clause-fault c =
     let r = c.args.run in
-    let said = c.args.said.now in
     let b = c.args.both in
+    let said = b.read.now in
     let profile = c.args.profile.now in
     let e = c.in_err-placed.field-0.0 in
     refused_as c.from_residual.result e (Refused r.source.now r.statement.now r.fiq_statement.now r.machine.now profile) c.from_residual.ensures.1
     (machine_refused r.source.now r.statement.now r.fiq_statement.now r.machine.now profile e
-    (both_accepted r.source.now r.statement.now r.fiq_statement.now r.machine.now profile said.image (address_of said.labels) c.requires.said b.irq.now b.fiq.now c.requires.irq c.requires.fiq c.requires.entry)
-    (c.in_err-placed.ensures.fault r.source.now c.requires.said))
+    (both_accepted r.source.now r.statement.now r.fiq_statement.now r.machine.now profile said.image (address_of said.labels) c.requires.read.said b.irq.now b.fiq.now c.requires.irq c.requires.fiq c.requires.entry)
+    (c.in_err-placed.ensures.fault r.source.now c.requires.read.said))
+
+pub visits_judged-requires-clause-read : goal.visits_judged-requires-clause-read
+visits_judged-requires-clause-read c = subst (λ (text : List ℕ). IsSource text c.args.both.read.now) (sym c.requires.source) c.requires.read
 
 pub returns-clause-judged : goal.returns-clause-judged
 returns-clause-judged c =
     let r = c.args.run in
-    let said = c.args.said.now in
     let b = c.args.both in
+    let said = b.read.now in
     let profile = c.args.profile.now in
     let placed = c.in_ok-placed.placed in
-    let is_placed = c.in_ok-placed.ensures.placed r.source.now c.requires.said in
-    let by_source = subst (λ (text : List ℕ). IfOk c.visits_judged.result (λ j. IsVisitsJudged text b.image.now profile b.irq.now b.fiq.now placed.file placed.machine j.kept j.text.items)) c.requires.source c.visits_judged.ensures.judged in
-    let judged = subst (λ (words : Words). IfOk c.visits_judged.result (λ j. IsVisitsJudged r.source.now words profile b.irq.now b.fiq.now placed.file placed.machine j.kept j.text.items)) c.requires.image by_source in
+    let is_placed = c.in_ok-placed.ensures.placed r.source.now c.requires.read.said in
+    let judged = subst (λ (text : List ℕ). IfOk c.visits_judged.result (λ j. IsVisitsJudged text said.image profile b.irq.now b.fiq.now placed.file placed.machine j.kept j.text.items)) c.requires.source c.visits_judged.ensures.judged in
     IfOk-weaker c.visits_judged.result _ _
-    (λ j is. visits_reported r.source.now r.statement.now r.fiq_statement.now r.machine.now profile said.image (address_of said.labels) c.requires.said b.irq.now b.fiq.now c.requires.irq c.requires.fiq c.requires.entry placed.file placed.machine j.kept j.text.items is_placed is)
+    (λ j is. visits_reported r.source.now r.statement.now r.fiq_statement.now r.machine.now profile said.image (address_of said.labels) c.requires.read.said b.irq.now b.fiq.now c.requires.irq c.requires.fiq c.requires.entry placed.file placed.machine j.kept j.text.items is_placed is)
     judged
 
 pub returns-clause-fault : goal.returns-clause-fault

@@ -26,18 +26,18 @@ returns-clause-judged c =
     subst (λ (e : ℕ). ArrivesAfter e start c.deref.result.now before now) c.entry-entry.ensures.value c.in-Some.ensures.arrives in
     let arrives : ArrivesAfter b.irq.now.handler.statement.entry start inputs before now =
     subst (λ (is : List Input). ArrivesAfter b.irq.now.handler.statement.entry start is before now) c.deref.ensures.value at_entry in
-    let irq : handled c.accepted.result ≡ handled_by b.image.now b.irq.now.handler =
+    let irq : handled c.accepted.result ≡ handled_by b.read.now.image b.irq.now.handler =
     λ i. record { words = c.accepted.ensures.image i; stated = c.accepted.ensures.statement i; flow = c.accepted.ensures.graph i; tree = c.accepted.ensures.tree i } in
-    let fiq : handled c.accepted-2.result ≡ handled_by b.image.now b.fiq.now.handler =
+    let fiq : handled c.accepted-2.result ≡ handled_by b.read.now.image b.fiq.now.handler =
     λ i. record { words = c.accepted-2.ensures.image i; stated = c.accepted-2.ensures.statement i; flow = c.accepted-2.ensures.graph i; tree = c.accepted-2.ensures.tree i } in
     let xs = c.deref-2.result.now in
     let rest = take_all (length xs - before) (drop before xs) (omega (arith, length-drop before xs)) ∙ ap (drop before) c.deref-2.ensures.value in
     let first : IsVisitedRun (handled c.accepted.result) (handled c.accepted-2.result) now (drop before inputs) after run =
     subst (λ (is : List Input). IsVisitedRun (handled c.accepted.result) (handled c.accepted-2.result) now is after run) rest c.in_ok-run.ensures.followed in
-    let second : IsVisitedRun (handled_by b.image.now b.irq.now.handler) (handled c.accepted-2.result) now (drop before inputs) after run =
+    let second : IsVisitedRun (handled_by b.read.now.image b.irq.now.handler) (handled c.accepted-2.result) now (drop before inputs) after run =
     subst (λ (h : Handled). IsVisitedRun h (handled c.accepted-2.result) now (drop before inputs) after run) irq first in
-    let judged : IsVisitedRun (handled_by b.image.now b.irq.now.handler) (handled_by b.image.now b.fiq.now.handler) now (drop before inputs) after run =
-    subst (λ (h : Handled). IsVisitedRun (handled_by b.image.now b.irq.now.handler) h now (drop before inputs) after run) fiq second in
+    let judged : IsVisitedRun (handled_by b.read.now.image b.irq.now.handler) (handled_by b.read.now.image b.fiq.now.handler) now (drop before inputs) after run =
+    subst (λ (h : Handled). IsVisitedRun (handled_by b.read.now.image b.irq.now.handler) h now (drop before inputs) after run) fiq second in
     IfOk-weaker c.run_answer.result _ _
     (λ j text. record {
       inputs = inputs;
@@ -49,7 +49,7 @@ returns-clause-judged c =
         after = after;
         run = run;
         judged = judged;
-        is_text = subst (λ (at : ℕ). IsRunText b.source.now b.image.now c.args.profile.now b.irq.now b.fiq.now before at run j.kept j.text.items) c.address-after.ensures.address text;
+        is_text = subst (λ (at : ℕ). IsRunText b.source.now b.read.now.image c.args.profile.now b.irq.now b.fiq.now before at run j.kept j.text.items) c.address-after.ensures.address text;
       });
     })
     c.run_answer.ensures.text

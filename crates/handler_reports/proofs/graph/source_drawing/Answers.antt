@@ -1,4 +1,3 @@
-use Rattle.image.specs.Labels.{address_of}
 use Rattle.handlers.specs.Report.{BeforeOutput, IsRefused}
 use Rattle.handlers.proofs.HandlerLemmas.{refused_as}
 use Rattle.handlers.proofs.ReportLemmas.{report_refusal}
@@ -13,11 +12,7 @@ returns-in_err-read-clause-fault c =
     (report_refusal source statement c.args.profile.now e c.in_err-read.ensures.fault)
 
 pub returns-clause-draws : goal.returns-clause-draws
-returns-clause-draws c =
-    let labels = address_of c.in_ok-read.read.said.labels in
-    c.drawing_of.ensures.draws c.args.statement.now c.args.profile.now labels c.in_ok-read.ensures.said c.in_ok-read.ensures.loops
+returns-clause-draws c = c.drawing_of.ensures.draws c.args.source.now c.args.statement.now c.args.profile.now c.in_ok-read.ensures.is c.in_ok-read.ensures.loops
 
 pub returns-clause-fault : goal.returns-clause-fault
-returns-clause-fault c =
-    let labels = address_of c.in_ok-read.read.said.labels in
-    c.drawing_of.ensures.fault c.args.statement.now c.args.profile.now labels c.in_ok-read.ensures.said c.in_ok-read.ensures.loops
+returns-clause-fault c = c.drawing_of.ensures.fault c.args.source.now c.args.statement.now c.args.profile.now c.in_ok-read.ensures.loops

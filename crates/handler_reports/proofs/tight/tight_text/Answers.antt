@@ -22,7 +22,7 @@ returns-in_err-handler-clause-fault c =
     let statement = c.args.statement.now in
     let profile = c.args.profile.now in
     refused_as c.from_residual-in_err-handler.result c.in_err-handler.field-0.0 (BeforeOutput (IsTightRefused source statement c.args.number profile)) c.from_residual-in_err-handler.ensures.1
-    (c.in_err-handler.ensures.fault source c.args.number c.in_ok-said.ensures.said)
+    (c.in_err-handler.ensures.fault source c.args.number c.in_ok-said.ensures.is.said)
 
 pub returns-clause-report : goal.returns-clause-report
 returns-clause-report c =
@@ -30,7 +30,7 @@ returns-clause-report c =
     let h = c.in_ok-handler.handler in
     let g = c.in_ok-handler.ensures in
     IfOk-weaker c.edge_text.result _ _
-    (λ text is. tight_reported c.args.source.now c.args.statement.now c.args.number c.args.profile.now said.image (address_of said.labels) c.in_ok-said.ensures.said h.statement h.graph g.statement g.allowed g.graph (string_bytes text) is)
+    (λ text is. tight_reported c.args.source.now c.args.statement.now c.args.number c.args.profile.now said.image (address_of said.labels) c.in_ok-said.ensures.is.said h.statement h.graph g.statement g.allowed g.graph (string_bytes text) is)
     c.edge_text.ensures.text
 
 pub returns-clause-fault : goal.returns-clause-fault
@@ -39,5 +39,5 @@ returns-clause-fault c =
     let h = c.in_ok-handler.handler in
     let g = c.in_ok-handler.ensures in
     IfErr-weaker c.edge_text.result _ _
-    (edge_refusal c.args.source.now c.args.statement.now c.args.number c.args.profile.now said.image (address_of said.labels) c.in_ok-said.ensures.said h.statement h.graph g.statement g.allowed g.graph)
+    (edge_refusal c.args.source.now c.args.statement.now c.args.number c.args.profile.now said.image (address_of said.labels) c.in_ok-said.ensures.is.said h.statement h.graph g.statement g.allowed g.graph)
     c.edge_text.ensures.fault

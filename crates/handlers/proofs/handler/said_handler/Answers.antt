@@ -11,7 +11,7 @@ returns-in_err-said-clause-fault c =
 pub returns-in_err-handler-clause-fault : goal.returns-in_err-handler-clause-fault
 returns-in_err-handler-clause-fault c =
     refused_as c.from_residual-in_err-handler.result c.in_err-handler.field-0.0 (IsHandlerRefused c.args.source.now c.args.statement.now c.args.profile.now)
-    c.from_residual-in_err-handler.ensures.1 (c.in_err-handler.ensures.fault c.args.source.now c.in_ok-said.ensures.said)
+    c.from_residual-in_err-handler.ensures.1 (c.in_err-handler.ensures.fault c.args.source.now c.in_ok-said.ensures.is.said)
 
 pub returns-clause-loops : goal.returns-clause-loops
-returns-clause-loops c = c.in_ok-handler.ensures.is.loops c.args.source.now c.in_ok-said.ensures.said
+returns-clause-loops c = c.in_ok-handler.ensures.is.loops c.args.source.now c.in_ok-said.ensures.is.said

@@ -5,7 +5,7 @@ use Rattle.handlers.proofs.placing.place.Goals as goal
 pub returns : goal.returns
 returns c =
     let source = c.args.source.now in
-    let said = c.in_ok-said.ensures.said in
+    let said = c.in_ok-said.ensures.is.said in
     record {
       placed = c.place_image.ensures.placed source said;
       fault = c.place_image.ensures.fault source said;

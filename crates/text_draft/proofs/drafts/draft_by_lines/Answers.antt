@@ -6,8 +6,7 @@ returns c =
     IfOk-weaker c.draft_text.result _ _
     (λ text text_is. record {
       lines = c.args.lines.now;
-      are_lines = c.requires.are_lines;
-      named = c.requires.named;
+      are_lines = c.requires;
       full = c.in_ok-found.found.full;
       ends = c.in_ok-found.found.ends.items;
       cycles = c.in_ok-found.found.loops.cycles.items;

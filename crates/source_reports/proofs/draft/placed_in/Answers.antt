@@ -1,7 +1,0 @@
-use Rattle.std.proofs.Common.{rules}
-use Rattle.handlers.proofs.SourceLemmas.{text_refused}
-use Rattle.source_reports.proofs.draft.placed_in.Goals as goal
-
-pub returns-in_err-placed-clause-fault : goal.returns-in_err-placed-clause-fault
-returns-in_err-placed-clause-fault c =
-    text_refused c.args.source.now c.in_err-placed.field-0.0 c.from_residual.result c.from_residual.ensures.1 (search rules) c.in_err-placed.ensures.fault

@@ -1,0 +1,52 @@
+ghost use Rattle.std.specs.Prelude.{◌≡◌};
+ghost use Rattle.sources.specs.Source.{of_image, of_text};
+ghost use Rattle.sources.specs.declared.fault.SourceFault.TheVariants.{Memory};
+
+use assembler::AsmFault;
+use image::ReadFault;
+use std::alloc::AllocError;
+use thiserror::Error;
+
+/// Why a source cannot be read. A failed allocation is always `Memory`, never inside another variant.
+#[derive(Clone, Copy, Debug, PartialEq, Eq, Drop, Error)]
+pub enum SourceFault {
+    /// An allocation failed.
+    #[error("Memory")]
+    Memory,
+    /// The text cannot be assembled.
+    #[error("{0}")]
+    Text(AsmFault),
+    /// The bytes begin as an image and are none.
+    #[error("{0}")]
+    Image(ReadFault),
+}
+
+impl From<AllocError> for SourceFault {
+    ghost from_gives = { λ _ fault. fault ≡ Memory };
+
+    fn from(_refused: AllocError) -> SourceFault {
+        SourceFault::Memory
+    }
+}
+
+impl From<AsmFault> for SourceFault {
+    ghost from_gives = { λ lower fault. fault ≡ of_text lower };
+
+    fn from(lower: AsmFault) -> SourceFault {
+        match lower {
+            AsmFault::Memory => SourceFault::Memory,
+            _ => SourceFault::Text(lower),
+        }
+    }
+}
+
+impl From<ReadFault> for SourceFault {
+    ghost from_gives = { λ lower fault. fault ≡ of_image lower };
+
+    fn from(lower: ReadFault) -> SourceFault {
+        match lower {
+            ReadFault::Memory => SourceFault::Memory,
+            _ => SourceFault::Image(lower),
+        }
+    }
+}

@@ -1,0 +1,10 @@
+//! Sources, texts and images: each is read once, into its words, its labels and the lines of its text.
+#![tactic(auto)]
+
+mod fault;
+mod read;
+mod rows;
+
+pub use fault::SourceFault;
+pub use read::{Source, Text};
+pub use rows::ImageRows;

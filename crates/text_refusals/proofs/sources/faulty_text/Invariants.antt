@@ -1,7 +1,0 @@
-use Rattle.std.proofs.Common.{[]}
-use Rattle.text_refusals.specs.Texts.{IsFaultyRow}
-use Rattle.text_rows.proofs.RowLaws.{SoFar}
-use Rattle.text_refusals.proofs.sources.faulty_text.Given as goal
-
-abbrev pub invariant-loop-line : goal.invariant-loop-line
-invariant-loop-line l = SoFar IsFaultyRow l.lines l.line-index [] l.out.items
