@@ -1,5 +1,6 @@
 """Inputs that are cut at each byte, forged, or as large as they may be."""
 
+import dataclasses
 import random
 import re
 import struct
@@ -243,6 +244,25 @@ class ReadAs:
         return fault
 
 
+class ShowsWhy:
+    """What `--why` answers of a file: the refusal as without it, and then lines of the file, twenty at most,
+    in their order."""
+
+    def __init__(self, judge, text):
+        self.judge, self.lines = judge, text.count(b"\n") + 1
+
+    def __call__(self, outcome, folder):
+        first, end, rest = outcome.err.partition(b"\n")
+        fault = self.judge(dataclasses.replace(outcome, err=first + end), folder)
+        if fault or not rest:
+            return fault
+        rows = rest.removesuffix(b"\n").split(b"\n")
+        found = [re.match(rb"line ([1-9]\d*)(?:: .| is no TOML$)", row) for row in rows]
+        numbers = [int(it[1]) if it else 0 for it in found]
+        is_right = rest.endswith(b"\n") and all(found) and len(rows) <= 20 and numbers == sorted(numbers)
+        return None if is_right and numbers[-1] <= self.lines else f"rows of other lines: {outcome}"
+
+
 def labels_of(bench, source):
     """A source's labels with their addresses, found with a table of its labels that `asm` makes after it."""
     names = sorted(readers.labels(source))
@@ -283,6 +303,8 @@ def machines():
             files = {"handler.s": worked.SOURCE, "machine.toml": data}
             judge = ReadAs("run", readers.machine_fault(data), {*readers.Faults.ORDER} - {"Disordered"})
             yield Trial(f"run, machine file: {name}", ["run", "handler.s", "machine.toml"], judge, files)
+            words = ["run", "--why", "handler.s", "machine.toml"]
+            yield Trial(f"run --why, machine file: {name}", words, ShowsWhy(judge, data), files)
 
 
 def followed_visits(bench):
@@ -306,6 +328,9 @@ def profiles(bench):
         files = {"handler.s": worked.SOURCE, "handler.toml": worked.STATEMENT, "profile.toml": data}
         judge = ReadAs("bound", readers.profile_fault(data), readers.Faults.ORDER)
         yield Trial(f"bound, profile: {name}", words, Follows(bench, judge, words, files), files)
+        why = ["run", "--why", *words[1:3], "handler.s", "machine.toml"]
+        of_run = ShowsWhy(ReadAs("run", readers.profile_fault(data), readers.Faults.ORDER), data)
+        yield Trial(f"run --why, profile: {name}", why, of_run, {**files, "machine.toml": worked.MACHINE})
         yield explained(bench, f"profile: {name}", words[1:], files)
 
 

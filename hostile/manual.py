@@ -7,7 +7,7 @@ from running import TOP, shown
 ANY, SOURCES, IMAGES = "Any command", "Sources, with the line", "Images"
 STATEMENTS, GRAPH, LOOPS, PATH = "Statements", "The graph", "Loops", "The path"
 VISITS, MACHINES, PROFILES, CERTIFICATES = "Visits", "Machine files", "Cycle profiles", "Certificates"
-DRAFTS = "Drafts"
+DRAFTS, EDGES = "Drafts", "Edges"
 
 OF_SOURCE = (ANY, SOURCES, IMAGES)
 OF_HANDLER = (*OF_SOURCE, PROFILES, STATEMENTS, GRAPH, LOOPS)
@@ -17,8 +17,8 @@ MET_BY = {
     "asm": OF_SOURCE,
     "list": OF_SOURCE,
     "draft": (*OF_SOURCE, DRAFTS),
-    "bound": (*OF_HANDLER, PATH),
-    "explain": (*OF_HANDLER, PATH),
+    "bound": (*OF_HANDLER, PATH, EDGES),
+    "explain": (*OF_HANDLER, PATH, CERTIFICATES),
     "graph": (*OF_HANDLER, PATH),
     "check": (*OF_HANDLER, CERTIFICATES),
     "visits": (*OF_HANDLER, PATH, VISITS),

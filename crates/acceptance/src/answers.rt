@@ -2,7 +2,7 @@
 
 use arcwcet::{
     Bursts, Explained, MemoryOutput, ReportFault, asm_report, bound_report, check_report,
-    draft_report, explain_report, list_report, run_report,
+    draft_report, explain_report, fault_only, list_report, run_report,
 };
 use samples::countdown::{SOURCE, STATEMENT};
 use std::alloc::{AllocError, Global};
@@ -36,7 +36,7 @@ fn explained(alloc: Global, statement: &[u8], out: &mut MemoryOutput) -> Result<
             every: None,
         },
     };
-    explain_report(alloc, explained, None, out)
+    fault_only(explain_report(alloc, explained, None, out))
 }
 
 // Reads the bytes as that input.

@@ -134,7 +134,7 @@ impl Read for Bytes {
 
 // Whether that is the program's answer to the words, and so much of the input is left.
 fn is_answered(alloc: Global, words: &[String], row: &Row) -> Result<bool, ReportFault> {
-    let (_, [source, second, profile], (byte, left, fails, unread), wanted) = row;
+    let (_, [source, second, profile], (byte, left, fails, fault_only), wanted) = row;
     let mut files = Files {
         source: *source,
         second: *second,
@@ -149,7 +149,7 @@ fn is_answered(alloc: Global, words: &[String], row: &Row) -> Result<bool, Repor
     let mut err = MemoryOutput::with_room(alloc, 0)?;
     let status = program(alloc, words, &mut files, &mut input, &mut out, &mut err);
     let answer = (status, out.bytes(), err.bytes());
-    Ok(answer == *wanted && input.left == *unread)
+    Ok(answer == *wanted && input.left == *fault_only)
 }
 
 // The number of the first row whose answer is another.

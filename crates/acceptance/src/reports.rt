@@ -2,7 +2,7 @@
 
 use arcwcet::{
     Bursts, Explained, MemoryOutput, Output, ReportFault, asm_report, bound_report, check_report,
-    debug_report, draft_report, explain_report, graph_report, list_report, run_report,
+    debug_report, draft_report, explain_report, fault_only, graph_report, list_report, run_report,
     tight_report, trace_report, visits_report,
 };
 use samples::lone_return::{CERTIFICATE, SOURCE, STATEMENT};
@@ -117,8 +117,10 @@ impl Report {
             Report::Visits => {
                 visits_report(alloc, SOURCE, STATEMENT, STATEMENT, 1, None, out).and(Ok(true))
             }
-            Report::Explain => explain_report(alloc, EXPLAINED, None, out),
-            Report::Graph => graph_report(alloc, SOURCE, STATEMENT, None, out).and(Ok(true)),
+            Report::Explain => fault_only(explain_report(alloc, EXPLAINED, None, out)),
+            Report::Graph => fault_only(graph_report(alloc, SOURCE, STATEMENT, None, out)).and(Ok(
+                true,
+            )),
             Report::Draft => draft_report(alloc, SOURCE, b"28", out).and(Ok(true)),
             Report::Tight => tight_report(alloc, SOURCE, STATEMENT, 0, None, out).and(Ok(true)),
             Report::Check => check_report(alloc, SOURCE, STATEMENT, CERTIFICATE, None, out),

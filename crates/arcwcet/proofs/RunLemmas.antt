@@ -1,11 +1,11 @@
 -- What a run of a command did, from what its reads and its call returned.
-use Rattle.std.proofs.Common.{◌≡◌, ◌≢◌, ◌∙◌, ℕ, Bool, true, false, codes, List, [], take, Option, Some, None, Result, Ok, Err, IfErr, OnOk, refl, sym, ap, subst, inl, inr, arith}
+use Rattle.std.proofs.Common.{◌≡◌, ◌≢◌, ◌∙◌, ℕ, Bool, true, false, codes, List, [], take, Option, Some, None, Result, Ok, Err, OnOk, refl, sym, ap, subst, inl, inr, arith}
 use Rattle.std.proofs.KnownBytes.{Appends-nil}
 use Rattle.std.specs.Prelude.{OnErr}
 use Rattle.std.specs.Io.KnownBytes.{Appends}
 use Rattle.bus_ticks.specs.declared.profile.Profile.{Profile}
 use Rattle.outputs.specs.Output.{FailsSince, TakesFront}
-use Rattle.handlers.specs.Answers.{Answers, FailsWithin, OfSome, Prints, PrintsOrRefuses}
+use Rattle.handlers.specs.Answers.{Answers, FailsWithin, OfSome, PrintsOrRefuses}
 use Rattle.handlers.specs.FaultText.{TakesOrFails, fault_text, refusal_line}
 use Rattle.handlers.specs.Priced.{ByProfile, HasNoProfile, IsUnpriced, Priced, PricedFault}
 use Rattle.handlers.specs.declared.fault.ReportFault.{ReportFault}
@@ -17,7 +17,7 @@ use Rattle.command_line.specs.declared.line.Command.{Command}
 use Rattle.command_line.specs.declared.line.Command.TheVariants as command
 use Rattle.arcwcet.specs.Files.{FailsToRead, Inputs, ReadsAll, Reading, Texts, Writing, inputs_of, names_of}
 use Rattle.arcwcet.specs.Refusals.{Says, SaysRefused, Saying, TakesSome, refusal_of, shows_why, store_fault_name}
-use Rattle.arcwcet.specs.Reports.{Plain, answered, judged, priced, report_by, report_of, unpriced}
+use Rattle.arcwcet.specs.Reports.{Plain, Report, answered, judged, priced, report_by, report_of, unpriced}
 use Rattle.arcwcet.specs.Run.{HasAnswered, HasPrinted, HasWritten, PrintsReport, Runs, RunsAsm, RunsBy, RunsOf, answer_status, report_from, report_status, store_status}
 use Rattle.arcwcet.specs.declared.fault.StoreFault.{StoreFault}
 use Rattle.arcwcet.specs.declared.fault.StoreFault.TheVariants as store_fault
@@ -227,6 +227,7 @@ module _ {S O : Type 0} (reads : Reading S) (writes : Writing S) (taken : O → 
     -- the source is refused
     pub asm_refused : (out : O) → ReadsAll reads old (names_of asked) files new → asked.command ≡ command.Asm → (i : Inputs) → i ≡ inputs_of asked.profile files → (fault : ReportFault) → (fault ≢ Device) × IsSourceRefused i.source fault
         → Said (Some (fault_text fault)) → (status : ℕ) → status ≡ report_status fault → RunsAsm reads writes taken failures Said asked old new out out status
+    unfolding report_by
     asm_refused out read is_asm i split fault holds said status is =
         let of_asm : IsSourceRefused (inputs_of asked.profile files).source fault = subst (λ (j : Inputs). IsSourceRefused j.source fault) split holds.1 in
         asm_quiet out status
@@ -392,34 +393,9 @@ module _ {O : Type 0} (taken : O → Option (List ℕ)) (failures : O → ℕ) (
   answered_yes file Is IsFine IsFault result h answer is =
       answered_judged file (λ p. Plain (Is p)) IsFine IsFault answer (priced_plain file Is IsFine IsFault result h answer is)
 
-  -- a report of labelled clauses
-  module _ (file : Option (List ℕ)) (Is : Profile → List ℕ → Type 0) (IsFault : Profile → ReportFault → Type 0) where
-    clauses_yes : (result : Result (Unit {0}) ReportFault) → OnOk result (Prints (λ text. ByProfile file (λ p. Is p text)) (taken before) (taken after))
-        → IfErr result (PricedFault file IsFault) → IfErr result (λ e. e ≢ Device → after ≡ before)
-        → (result ≡ Err Device → FailsWithin (λ text. ByProfile file (λ p. Is p text)) (taken before) (taken after) (failures before) (failures after))
-        → PrintsReport taken failures (priced file Is IsFault) before after (answered result)
-    clauses_yes (Ok x) printed refused quiet cut = record {
-      printed = record { text = printed.text; is_text = printed.is_text; printed = printed.printed };
-      fault = tt;
-      quiet = tt;
-      device = λ e. cc e;
-    }
-    clauses_yes (Err fault) printed refused quiet cut = record {
-      printed = tt;
-      fault = refused;
-      quiet = quiet;
-      device = λ e.
-          let same : fault ≡ Device = cc e in
-          let f = cut (ap Err same) in
-          record { text = f.text; is_text = (true, f.is_text); taken = f.taken; failed = f.failed };
-    }
-
-    pub answered_clauses : (result : Result (Unit {0}) ReportFault) → OnOk result (Prints (λ text. ByProfile file (λ p. Is p text)) (taken before) (taken after))
-        → IfErr result (PricedFault file IsFault) → IfErr result (λ e. e ≢ Device → after ≡ before)
-        → (result ≡ Err Device → FailsWithin (λ text. ByProfile file (λ p. Is p text)) (taken before) (taken after) (failures before) (failures after))
-        → (answer : Result Bool ReportFault) → answer ≡ answered result → PrintsReport taken failures (priced file Is IsFault) before after answer
-    answered_clauses result printed refused quiet cut answer is =
-        subst (λ (r : Result Bool ReportFault). PrintsReport taken failures (priced file Is IsFault) before after r) (sym is) (clauses_yes result printed refused quiet cut)
+  -- the same answer by another name
+  pub same_answer : (report : Report) (answer other : Result Bool ReportFault) → other ≡ answer → PrintsReport taken failures report before after answer → PrintsReport taken failures report before after other
+  same_answer report answer other is h = subst (λ (r : Result Bool ReportFault). PrintsReport taken failures report before after r) (sym is) h
 
 -- ## Any command
 

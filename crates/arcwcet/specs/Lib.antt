@@ -1,6 +1,7 @@
 pub mod Files
 pub mod FileFaults
 pub mod Kept
+pub mod Reasons
 pub mod Refusals
 pub mod Reports
 pub mod Run

@@ -23,7 +23,7 @@ use Rattle.handler_reports.specs.VisitsReport.{AreRefused, IsVisitsReport}
 use Rattle.command_line.specs.Line.{Asked}
 use Rattle.command_line.specs.declared.line.Command.{Command}
 use Rattle.command_line.specs.declared.line.Command.TheVariants as command
-use Rattle.command_line.specs.declared.line.Numbers.{Numbers}
+use Rattle.command_line.specs.declared.line.CommandNumbers.{CommandNumbers}
 use Rattle.arcwcet.specs.Files.{Inputs}
 
 -- the texts of each answer, and the faults
@@ -53,7 +53,7 @@ judged file Is IsFault =
 abbrev pub priced : Option (List ℕ) → (Profile → List ℕ → Type 0) → (Profile → ReportFault → Type 0) → Report
 priced file Is IsFault = judged file (λ p. Plain (Is p)) IsFault
 
-abbrev pub bursts_of : Numbers → Bursts
+abbrev pub bursts_of : CommandNumbers → Bursts
 bursts_of n = record { count = n.bursts; every = n.burst_every }
 
 -- what `--version` prints
@@ -66,7 +66,7 @@ version_report = unpriced (λ text. text ≡ version_line) (λ fault. fault ≡ 
 -- What a command prints, with its answer: whether a run did all its steps, a bound is enough, a certificate
 -- proves it, a run keeps its statement; the others answer yes.
 module _ (asked : Asked) (i : Inputs) (typed : List ℕ) where
-  abbrev pub report_by : Command → Report
+  unfoldable pub report_by : Command → Report
   report_by command.Version = version_report
   report_by command.Asm = unpriced (IsAsmReport i.source) (IsSourceRefused i.source)
   report_by command.List = unpriced (IsListReport i.source) (IsSourceRefused i.source)

@@ -8,7 +8,7 @@ ghost use Rattle.arcwcet.specs.Refusals.{Says};
 ghost use Rattle.arcwcet.specs.Reports.{report_of};
 ghost use Rattle.arcwcet.specs.Run.{HasAnswered, RunsAsked, RunsAsm};
 
-use crate::diagnose::answered_status;
+use crate::diagnose::{alone_status, answered_status};
 use crate::files::{Store, read_files, read_limited};
 use crate::reports::{Job, print};
 use crate::status::{line_status, report_status, store_status, unread_status};
@@ -33,7 +33,7 @@ fn run_report<O: Output, E: Output>(
     ensures silent { result ≡ 0 → err.new ≡ err.old }
 {
     let answer = print(alloc, job, typed, out);
-    answered_status(alloc, job, answer, err)
+    answered_status(alloc, job, &answer, err)
 }
 
 // `asm`: writes the image's file, and prints its size.
@@ -53,7 +53,7 @@ fn run_asm<S: Store, O: Output, E: Output>(
 {
     let written = match image_written(alloc, job.inputs.source) {
         Ok(written) => written,
-        Err(fault) => return answered_status(alloc, job, Err(fault), err),
+        Err(fault) => return alone_status(alloc, job, fault, err),
     };
     if let Err(fault) = store.write(job.request.word, &written.bytes) {
         return store_status(fault, err);

@@ -11,14 +11,16 @@ mod reports;
 mod status;
 
 pub use commands::program;
+pub use diagnose::{RefusedFiles, reasons};
 pub use fault::{FileFault, StoreFault};
 pub use files::{HostStore, MOST_INPUT_BYTES, Store, read_limited};
 pub use handler_reports::{
-    CheckInputs, Explained, FollowedRun, FollowedVisits, bound_report, certificates_are_accepted,
-    check_report, explain_report, follow_report, follow_visits_report, graph_report, tight_report,
+    AskedEdge, CheckInputs, Explained, FollowedRun, FollowedVisits, VisitedHandler, bound_report,
+    certificates_are_accepted, check_report, explain_report, follow_report, follow_visits_report,
+    graph_report, print_bound, print_check, print_tight, print_visits, tight_report,
     verdict_report, visits_report,
 };
-pub use handlers::{MemoryOutput, ReportFault, StreamOutput};
+pub use handlers::{MemoryOutput, Refusal, ReportFault, Stop, StreamOutput, fault_only};
 pub use law::{input_limit, some_run_has_visits, some_run_keeps};
 pub use machine_file::{MachineFile, read_machine, read_profile};
 pub use machine_reports::{debug_report, run_report, trace_report};

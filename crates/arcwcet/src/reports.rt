@@ -3,23 +3,28 @@
 ghost use Rattle.std.specs.Prelude.{◌≡◌};
 ghost use Rattle.outputs.specs.OnTheWay.{Adds};
 ghost use Rattle.handlers.specs.Priced.{Priced};
+ghost use Rattle.handlers.specs.Refusal.{fault_only};
+ghost use Rattle.handler_reports.specs.Check.{Checks};
 ghost use Rattle.handler_reports.specs.ExplainReport.{Explains};
 ghost use Rattle.handler_reports.specs.FollowReport.{FollowsRun};
 ghost use Rattle.handler_reports.specs.FollowVisits.{FollowsVisitedRun};
+ghost use Rattle.handler_reports.specs.TightReport.{IsTightRefused, IsTightReport};
 ghost use Rattle.handler_reports.specs.Verdict.{ExplainsVerdict};
+ghost use Rattle.handler_reports.specs.VisitsReport.{AreRefused, IsVisitsReport};
 ghost use Rattle.command_line.specs.Rows.{asked_of};
 ghost use Rattle.arcwcet.specs.Kept.{inputs_lent};
-ghost use Rattle.arcwcet.specs.Reports.{answered, bursts_of, report_of, version_line, version_report};
+ghost use Rattle.arcwcet.specs.Reports.{answered, bursts_of, priced, report_of, version_line};
+ghost use Rattle.arcwcet.specs.Reports.{version_report};
 ghost use Rattle.arcwcet.specs.Run.{PrintsReport};
 
 use crate::files::Inputs;
-use command_line::{Command, Numbers, Request, VERSION};
+use command_line::{Command, CommandNumbers, Request, VERSION};
 use handler_reports::{
-    CheckInputs, Explained, FollowedRun, FollowedVisits, bound_report, check_report,
-    explain_report, follow_report, follow_visits_report, graph_report, tight_report,
-    verdict_report, visits_report,
+    AskedEdge, CheckInputs, Explained, FollowedRun, FollowedVisits, VisitedHandler, explain_report,
+    follow_report, follow_visits_report, graph_report, print_bound, print_check, print_tight,
+    print_visits, verdict_report,
 };
-use handlers::ReportFault;
+use handlers::{Refusal, ReportFault};
 use machine_reports::{ShownRegisters, ShownSteps, debug_report, machine_report};
 use outputs::{Output, Page};
 use source_reports::{asm_report, draft_report, list_report};
@@ -34,13 +39,20 @@ pub(crate) struct Job<'b, 'a> {
 }
 
 // The answer of a report that is its text alone: yes.
-fn answered(done: Result<(), ReportFault>) -> Result<bool, ReportFault>
-    ensures { result ≡ answered done }
+fn answered<'b>(done: Result<(), Refusal<'b>>) -> Result<bool, Refusal<'b>>
+    ensures { fault_only result ≡ answered (fault_only done.entry) }
 {
     match done {
         Ok(()) => Ok(true),
-        Err(fault) => Err(fault),
+        Err(refusal) => Err(refusal),
     }
+}
+
+// An answer whose refusal comes alone.
+fn alone<'b, T: Drop>(answer: Result<T, ReportFault>) -> Result<T, Refusal<'b>>
+    ensures { fault_only result ≡ answer }
+{
+    Ok(answer?)
 }
 
 fn put_version<O: Output>(page: &mut Page, out: &mut O)
@@ -63,16 +75,78 @@ fn print_version<O: Output>(out: &mut O) -> Result<bool, ReportFault>
     }
 }
 
-// `explain`, of a source and a statement.
-fn print_explanation<O: Output>(
+// `tight`, of a source and a statement.
+fn print_edge<'b, O: Output>(
     alloc: Global,
-    inputs: Inputs<'_>,
-    numbers: Numbers,
+    inputs: Inputs<'b>,
+    numbers: CommandNumbers,
     out: &mut O,
-) -> Result<bool, ReportFault>
+) -> Result<bool, Refusal<'b>>
+    ensures { PrintsReport O.taken O.failures
+        (priced (inputs_lent inputs.entry).profile
+        (IsTightReport inputs.entry.source.now inputs.entry.second.now numbers.edge)
+        (IsTightRefused inputs.entry.source.now inputs.entry.second.now numbers.edge)) out.old out.new
+        (fault_only result) }
+{
+    let asked = AskedEdge {
+        source: inputs.source,
+        statement: inputs.second,
+        number: numbers.edge,
+    };
+    answered(print_tight(alloc, asked, inputs.profile, out))
+}
+
+// `check`, of a source, a statement and a certificate.
+fn print_checked<'b, O: Output>(
+    alloc: Global,
+    inputs: Inputs<'b>,
+    out: &mut O,
+) -> Result<bool, Refusal<'b>>
+    ensures { Priced (inputs_lent inputs.entry).profile
+        (λ p. Checks O.taken O.failures inputs.entry.source.now inputs.entry.second.now
+        inputs.entry.third.now p out.old out.new (fault_only result)) out.old out.new (fault_only result) }
+{
+    let checked = CheckInputs {
+        source: inputs.source,
+        statement: inputs.second,
+        cert: inputs.third,
+    };
+    print_check(alloc, checked, inputs.profile, out)
+}
+
+// `visits`, of a source and both statements.
+fn print_visited<'b, O: Output>(
+    alloc: Global,
+    inputs: Inputs<'b>,
+    numbers: CommandNumbers,
+    out: &mut O,
+) -> Result<bool, Refusal<'b>>
+    ensures { PrintsReport O.taken O.failures
+        (priced (inputs_lent inputs.entry).profile
+        (IsVisitsReport inputs.entry.source.now inputs.entry.second.now inputs.entry.third.now numbers.visits)
+        (AreRefused inputs.entry.source.now inputs.entry.second.now inputs.entry.third.now numbers.visits))
+        out.old out.new (fault_only result) }
+{
+    let asked = VisitedHandler {
+        source: inputs.source,
+        irq: inputs.second,
+        fiq: inputs.third,
+        visits: numbers.visits,
+    };
+    answered(print_visits(alloc, asked, inputs.profile, out))
+}
+
+// `explain`, of a source and a statement.
+fn print_explanation<'b, O: Output>(
+    alloc: Global,
+    inputs: Inputs<'b>,
+    numbers: CommandNumbers,
+    out: &mut O,
+) -> Result<bool, Refusal<'b>>
     ensures { Priced (inputs_lent inputs.entry).profile
         (λ p. Explains O.taken O.failures inputs.entry.source.now inputs.entry.second.now
-        numbers.at_most (bursts_of numbers) p out.old out.new result) out.old out.new result }
+        numbers.at_most (bursts_of numbers) p out.old out.new (fault_only result)) out.old out.new
+        (fault_only result) }
 {
     let explained = Explained {
         source: inputs.source,
@@ -87,14 +161,14 @@ fn print_explanation<O: Output>(
 }
 
 // `explain --certificate`, of a source, a statement and a certificate.
-fn print_verdict<O: Output>(
+fn print_verdict<'b, O: Output>(
     alloc: Global,
-    inputs: Inputs<'_>,
+    inputs: Inputs<'b>,
     out: &mut O,
-) -> Result<bool, ReportFault>
+) -> Result<bool, Refusal<'b>>
     ensures { Priced (inputs_lent inputs.entry).profile
         (λ p. ExplainsVerdict O.taken O.failures inputs.entry.source.now inputs.entry.second.now
-        inputs.entry.third.now p out.old out.new result) out.old out.new result }
+        inputs.entry.third.now p out.old out.new (fault_only result)) out.old out.new (fault_only result) }
 {
     let checked = CheckInputs {
         source: inputs.source,
@@ -105,14 +179,14 @@ fn print_verdict<O: Output>(
 }
 
 // `follow`, of a source, a statement and a machine file.
-fn print_followed<O: Output>(
+fn print_followed<'b, O: Output>(
     alloc: Global,
-    inputs: Inputs<'_>,
+    inputs: Inputs<'b>,
     out: &mut O,
-) -> Result<bool, ReportFault>
+) -> Result<bool, Refusal<'b>>
     ensures { Priced (inputs_lent inputs.entry).profile
         (λ p. FollowsRun O.taken O.failures inputs.entry.source.now inputs.entry.second.now
-        inputs.entry.third.now p out.old out.new result) out.old out.new result }
+        inputs.entry.third.now p out.old out.new (fault_only result)) out.old out.new (fault_only result) }
 {
     let run = FollowedRun {
         source: inputs.source,
@@ -123,14 +197,15 @@ fn print_followed<O: Output>(
 }
 
 // `follow --fiq`, of a source, both statements and a machine file.
-fn print_followed_visits<O: Output>(
+fn print_followed_visits<'b, O: Output>(
     alloc: Global,
-    inputs: Inputs<'_>,
+    inputs: Inputs<'b>,
     out: &mut O,
-) -> Result<bool, ReportFault>
+) -> Result<bool, Refusal<'b>>
     ensures { Priced (inputs_lent inputs.entry).profile
         (λ p. FollowsVisitedRun O.taken O.failures inputs.entry.source.now inputs.entry.second.now
-        inputs.entry.third.now inputs.entry.fourth.now p out.old out.new result) out.old out.new result }
+        inputs.entry.third.now inputs.entry.fourth.now p out.old out.new (fault_only result)) out.old out.new
+        (fault_only result) }
 {
     let run = FollowedVisits {
         source: inputs.source,
@@ -144,44 +219,37 @@ fn print_followed_visits<O: Output>(
 /// Prints the report of a job, with the commands that were typed for `debug`, and answers yes; or whether a
 /// run did all its steps, a bound is enough, a certificate proves it, or a run keeps its statement. Of `asm`,
 /// which writes the image's file too, it prints the line alone.
-pub(crate) fn print<O: Output>(
+pub(crate) fn print<'b, O: Output>(
     alloc: Global,
-    job: Job<'_, '_>,
+    job: Job<'b, '_>,
     typed: &[u8],
     out: &mut O,
-) -> Result<bool, ReportFault>
+) -> Result<bool, Refusal<'b>>
     ensures { PrintsReport O.taken O.failures
         (report_of (asked_of job.entry.request.now) (inputs_lent job.entry.inputs) typed.now) out.old out.new
-        result }
+        (fault_only result) }
 {
     let (inputs, numbers) = (job.inputs, job.request.numbers);
-    let (profile, source, second, third) = (
-        inputs.profile,
-        inputs.source,
-        inputs.second,
-        inputs.third,
-    );
+    let (profile, source, second) = (inputs.profile, inputs.source, inputs.second);
     match job.request.command {
-        Command::Version => print_version(out),
-        Command::Asm => answered(asm_report(alloc, source, out)),
-        Command::List => answered(list_report(alloc, source, out)),
+        Command::Version => alone(print_version(out)),
+        Command::Asm => answered(alone(asm_report(alloc, source, out))),
+        Command::List => answered(alone(list_report(alloc, source, out))),
         Command::Draft => {
             let entry = job.request.word.as_bytes();
-            answered(draft_report(alloc, source, entry, out))
+            answered(alone(draft_report(alloc, source, entry, out)))
         }
-        Command::Run => machine_report::<ShownRegisters, O>(alloc, source, second, profile, out),
-        Command::Trace => machine_report::<ShownSteps, O>(alloc, source, second, profile, out),
-        Command::Debug => answered(debug_report(alloc, source, second, typed, profile, out)),
-        Command::Bound => answered(bound_report(alloc, source, second, profile, out)),
-        Command::Tight => {
-            let edge = numbers.edge;
-            answered(tight_report(alloc, source, second, edge, profile, out))
-        }
-        Command::Check => check_report(alloc, source, second, third, profile, out),
-        Command::Visits => {
-            let visits = numbers.visits;
-            answered(visits_report(alloc, source, second, third, visits, profile, out))
-        }
+        Command::Run => alone(machine_report::<ShownRegisters, O>(
+            alloc, source, second, profile, out,
+        )),
+        Command::Trace => alone(machine_report::<ShownSteps, O>(
+            alloc, source, second, profile, out,
+        )),
+        Command::Debug => answered(alone(debug_report(alloc, source, second, typed, profile, out))),
+        Command::Bound => answered(print_bound(alloc, source, second, profile, out)),
+        Command::Tight => print_edge(alloc, inputs, numbers, out),
+        Command::Check => print_checked(alloc, inputs, out),
+        Command::Visits => print_visited(alloc, inputs, numbers, out),
         Command::Explain => print_explanation(alloc, inputs, numbers, out),
         Command::Verdict => print_verdict(alloc, inputs, out),
         Command::Follow => print_followed(alloc, inputs, out),

@@ -9,7 +9,7 @@ use Rattle.std.proofs.lemmas.Option.{none-some}
 use Rattle.clap.specs.Walk.{Row, Text}
 use Rattle.command_line.specs.Line.{Asked, Usage, allowed, asked_as, asked_by, usages}
 use Rattle.command_line.specs.Rows.{usage_of}
-use Rattle.command_line.specs.declared.rows.CommandRow.{CommandRow}
+use Rattle.command_line.specs.declared.command_rows.CommandRow.{CommandRow}
 
 -- as the definitions have it
 find_usage : (rows : List CommandRow) (name : Text)

@@ -17,9 +17,9 @@ use Rattle.clap.specs.declared.builder.action.ArgAction.TheVariants.{SetTrue}
 use Rattle.clap.specs.declared.builder.value_parser.ValueParser.TheVariants as parser
 use Rattle.command_line.specs.declared.line.Command.{Command}
 use Rattle.command_line.specs.declared.line.Command.TheVariants as command
-use Rattle.command_line.specs.declared.line.Numbers.{Numbers}
-use Rattle.command_line.specs.declared.rows.Form.{Form}
-use Rattle.command_line.specs.declared.rows.Form.TheVariants as form
+use Rattle.command_line.specs.declared.line.CommandNumbers.{CommandNumbers}
+use Rattle.command_line.specs.declared.command_rows.Form.{Form}
+use Rattle.command_line.specs.declared.command_rows.Form.TheVariants as form
 
 -- ## The commands
 
@@ -149,10 +149,10 @@ pub record Asked : Type 0 where
   pub profile : Option Text
   pub files : List Text
   pub word : Text
-  pub numbers : Numbers
+  pub numbers : CommandNumbers
 
 -- without an argument
-abbrev pub plainly : Command → Numbers → Asked
+abbrev pub plainly : Command → CommandNumbers → Asked
 plainly command numbers =
     record { command = command; why = false; profile = None; files = []; word = []; numbers = numbers }
 
@@ -169,7 +169,7 @@ number_at id rows = option_and_then (number_to most_number) (one_of id rows)
 abbrev pub ticks_at : Text → List Row → Option ℕ
 ticks_at id rows = option_and_then (number_to 18446744073709551615) (one_of id rows)
 
-abbrev pub numbers_in : List Row → Numbers
+abbrev pub numbers_in : List Row → CommandNumbers
 numbers_in rows =
     record {
       edge = unwrap_or (number_at (codes "tight") rows) 0;
@@ -179,7 +179,7 @@ numbers_in rows =
       burst_every = number_at (codes "burst-every") rows;
     }
 
-abbrev pub no_numbers : Numbers
+abbrev pub no_numbers : CommandNumbers
 no_numbers = record { edge = 0; visits = 0; at_most = None; bursts = None; burst_every = None }
 
 -- with the value of an argument of a form too; numbers are read by their names

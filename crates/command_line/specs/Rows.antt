@@ -2,8 +2,8 @@
 use Rattle.std.specs.Prelude.{map, option_map}
 use Rattle.command_line.specs.Line.{Argument, Asked, Usage}
 use Rattle.command_line.specs.declared.line.Request.{Request}
-use Rattle.command_line.specs.declared.rows.ArgumentRow.{ArgumentRow}
-use Rattle.command_line.specs.declared.rows.CommandRow.{CommandRow}
+use Rattle.command_line.specs.declared.command_rows.ArgumentRow.{ArgumentRow}
+use Rattle.command_line.specs.declared.command_rows.CommandRow.{CommandRow}
 
 -- without what the help says of it
 abbrev pub argument_of : ArgumentRow → Argument

@@ -6,7 +6,7 @@ ghost use Rattle.clap.specs.declared.builder.command.Command.TheViews.{out-Comma
 ghost use Rattle.command_line.specs.Line.{app_in, arcwcet_command, rule_as, with_commands};
 ghost use Rattle.command_line.specs.Rows.{argument_of, usage_of};
 
-use crate::rows::{ArgumentRow, COMMANDS, CommandRow, Form, VERSION, WHY};
+use crate::command_rows::{ArgumentRow, COMMANDS, CommandRow, Form, VERSION, WHY};
 use clap::{Arg, ArgAction, Command, value_parser};
 use std::alloc::{AllocError, Global};
 

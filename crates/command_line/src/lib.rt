@@ -1,11 +1,11 @@
 //! What the words of a command line ask of the program.
 #![tactic(auto)]
 
+mod command_rows;
 mod commands;
 mod line;
-mod rows;
-mod words;
+mod requests;
 
-pub use line::{Command, CommandLineFault, Numbers, Request};
-pub use rows::VERSION;
-pub use words::request;
+pub use command_rows::VERSION;
+pub use line::{Command, CommandLineFault, CommandNumbers, Request};
+pub use requests::request;

@@ -20,12 +20,12 @@ pub enum Command {
     Debug,
     /// The greatest run time of the handler in a source, under a statement.
     Bound,
-    /// A machine that takes the edge [`Numbers::edge`] of that handler's flow graph at its price.
+    /// A machine that takes the edge [`CommandNumbers::edge`] of that handler's flow graph at its price.
     Tight,
     /// The verdict on a certificate, the third file.
     Check,
-    /// The greatest run time of that handler with [`Numbers::visits`] visits of FIQ's handler at most, on
-    /// which the third file is the statement.
+    /// The greatest run time of that handler with [`CommandNumbers::visits`] visits of FIQ's handler at most,
+    /// on which the third file is the statement.
     Visits,
     /// Where the ticks of the handler's run time go.
     Explain,
@@ -42,7 +42,7 @@ pub enum Command {
 
 /// The numbers that a command is given.
 #[derive(Clone, Copy)]
-pub struct Numbers {
+pub struct CommandNumbers {
     /// The number of an edge of the flow graph, from 0; 0 where none is given.
     pub edge: u32,
     /// How often FIQ interrupts the handler, at most; 0 where it is not given.
@@ -67,7 +67,7 @@ pub struct Request<'a> {
     pub files: Vec<&'a str>,
     /// A word that names no file to be read; empty where the command has none.
     pub word: &'a str,
-    pub numbers: Numbers,
+    pub numbers: CommandNumbers,
 }
 
 /// Why a line of words asks for nothing.

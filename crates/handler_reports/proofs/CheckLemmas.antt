@@ -20,14 +20,24 @@ use Rattle.handler_reports.specs.Found.{FindsVerdict, IsFound}
 use Rattle.handler_reports.specs.Check.{IsCheckRefused, IsCheckable, IsJudged}
 use Rattle.handlers.specs.Answers.{Answers}
 use Rattle.handlers.specs.Faults.{of_cert}
-use Rattle.handlers.proofs.AnswerLemmas.{ends_early}
+use Rattle.handlers.specs.Refusal.{refusal_fault, fault_only}
+use Rattle.handlers.specs.declared.refusal.Refusal.{Refusal}
+use Rattle.handlers.proofs.RefusalLemmas.{ends_refused, only_err}
 use Rattle.handlers.specs.Report.{BeforeOutput, HasLoops, IsHandlerRefused, IsReport, IsTreeOf}
 use Rattle.handlers.specs.declared.fault.ReportFault.{ReportFault}
 use Rattle.handlers.specs.declared.fault.ReportFault.TheVariants.{Memory, Device}
+use Rattle.handlers.specs.declared.fault.ReportFault.TheVariants as report_fault
 use Rattle.handlers.proofs.HandlerLemmas.{handler_refusals, one_graph, refused_as}
 use Rattle.handlers.proofs.ReportLemmas.{tree_is_greatest}
 
 -- ## Refusals
+
+-- what refuses a source and a statement up to the loops refuses their check, ..
+pub handler_unchecked : (source statement text : List ℕ) (profile : Profile) (e : ReportFault) → IsHandlerRefused source statement profile e → BeforeOutput (IsCheckRefused source statement text profile) e
+handler_unchecked source statement text profile Memory h = (λ e. cc e, tt)
+handler_unchecked source statement text profile Device h = absurd h
+handler_unchecked source statement text profile (report_fault.Cert f) h = absurd h
+handler_unchecked source statement text profile e h = (λ e. cc e, h)
 
 -- .. but not where the three texts can be checked
 pub checkable_refusal : (source statement text : List ℕ) (profile : Profile) (e : ReportFault) → IsHandlerRefused source statement profile e → IsCheckable source statement text profile → e ≡ Memory
@@ -88,8 +98,8 @@ report_gets_yes source statement text profile v r j =
 -- ## The answer
 
 -- where nothing is found, before anything was written
-pub ends_unfound : {O T : Type 0} (taken : O → Option (List ℕ)) (failures : O → ℕ) (IsText : T → List ℕ → Type 0) (IsFine : Type 0) (IsFault : ReportFault → Type 0) (old : O) (r : Result T ReportFault) (e : ReportFault)
-    → IsErrAnd r (λ x. x ≡ e) → BeforeOutput IsFault e → (IsFine → e ≡ Memory) → Answers taken failures IsText IsFine IsFault old old r
-ends_unfound taken failures IsText IsFine IsFault old r e is h only =
-    ends_early taken failures IsText IsFine IsFault old r e is h
-    (λ refused fine. refused_as r e (λ x. (x ≡ Memory) ⊎ (x ≡ Device)) is (inl (only fine)))
+pub ends_unfound : {O T : Type 0} (taken : O → Option (List ℕ)) (failures : O → ℕ) (IsText : T → List ℕ → Type 0) (IsFine : Type 0) (IsFault : ReportFault → Type 0) (old : O) (q : Result T Refusal) (e : Refusal)
+    → IsErrAnd q (λ x. x ≡ e) → BeforeOutput IsFault (refusal_fault e) → (IsFine → refusal_fault e ≡ Memory) → Answers taken failures IsText IsFine IsFault old old (fault_only q)
+ends_unfound taken failures IsText IsFine IsFault old q e is h only =
+    ends_refused taken failures IsText IsFine IsFault old q e is h
+    (λ refused fine. refused_as (fault_only q) (refusal_fault e) (λ x. (x ≡ Memory) ⊎ (x ≡ Device)) (only_err q e is) (inl (only fine)))

@@ -9,7 +9,7 @@ use Rattle.std.proofs.lemmas.List.Sums.{sum_by-cons, sum_by_push}
 use Rattle.asm_text.specs.Appended.{Appends}
 use Rattle.text_rows.specs.Rows.{IsShownRow}
 use Rattle.text_explained.specs.Taken.{IsTally as IsWalkTally, is_at}
-use Rattle.text_explained.specs.declared.tally.Tally.{Tally}
+use Rattle.text_explained.specs.declared.walk_tally.WalkTally.{WalkTally}
 use Rattle.control_flow.specs.Flow.{Flow}
 use Rattle.control_flow.specs.Places.{place_at}
 use Rattle.control_flow.specs.declared.edges.Edge.{Edge}
@@ -84,7 +84,7 @@ pub same_compared : (c d : Compared) → c.run ≡ d.run → c.bound ≡ d.bound
 same_compared c d run bound = λ i. record { run = run i; bound = bound i }
 
 -- the table by the tallies is the one by the run and the walk
-pub table_capped : (source : List ℕ) (words : Words) (flow : Flow) (walk : List Edge) (by_place : List Passed) (run : RunTally) (of_walk : Tally) (text : List ℕ)
+pub table_capped : (source : List ℕ) (words : Words) (flow : Flow) (walk : List Edge) (by_place : List Passed) (run : RunTally) (of_walk : WalkTally) (text : List ℕ)
     → HasAdded flow.places by_place (length flow.places) run → IsWalkTally flow walk of_walk → IsTable source words (compared_in run of_walk) text
     → (passes : List Pass) → IsTally flow passes by_place → IsTable source words (capped_at flow passes walk) text
 table_capped source words flow walk by_place run of_walk text added taken table passes tally =

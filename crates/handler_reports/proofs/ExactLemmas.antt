@@ -22,7 +22,7 @@ use Rattle.longest_walk.specs.Longest.{IsLongest}
 use Rattle.longest_walk.specs.declared.folded.Longest.{Longest}
 use Rattle.text_explained.specs.Table.{passes_of, ticks_of}
 use Rattle.text_explained.specs.Taken.{cost_at, is_at, is_reached, pass_at, taken_at, taken_of}
-use Rattle.text_explained.specs.declared.tally.Taken.{Taken}
+use Rattle.text_explained.specs.declared.walk_tally.Taken.{Taken}
 use Rattle.text_explained.proofs.TallyLaws.{reached}
 use Rattle.text_explained.proofs.TotalLaws.{cond_within, numbers_of_walk}
 use Rattle.kept_runs.specs.Passing.{ArePasses, Pass}

@@ -23,8 +23,6 @@ use Rattle.loader.specs.Loading.{put_words}
 use Rattle.statement.specs.Stated.{Stated}
 use Rattle.image.specs.Labels.{Names}
 use Rattle.statement.specs.Statement.{IsStatement}
-use Rattle.statement.specs.declared.faults.StatementFault.{StatementFault}
-use Rattle.statement.specs.declared.faults.StatementFault.TheVariants as statement_fault
 use Rattle.machine_file.specs.Inputs.{AreInputs, IsLast, bursts_of_step, port_of_step}
 use Rattle.machine_file.specs.MachineFile.{IsMachineFile}
 use Rattle.machine_file.specs.Stated as file
@@ -46,11 +44,13 @@ use Rattle.control_flow.specs.declared.places.Place.TheVariants as place
 use Rattle.control_flow.specs.Places.{place_address}
 use Rattle.certificate.specs.Walk.{step_of, to_of}
 use Rattle.certificate.specs.Words.{edge_words, label_words, to_words}
-use Rattle.handlers.specs.Faults.{of_graph, of_statement}
 use Rattle.handlers.specs.Placing.{IsLoaded, IsRunnable}
 use Rattle.handlers.specs.Report.{BeforeOutput, HasGraph, IsHandlerRefused}
 use Rattle.handlers.specs.Source.{IsSourceFault}
-use Rattle.sources.specs.Source.{Said, source_of}
+use Rattle.sources.specs.Source.{IsSource, Said, source_of}
+use Rattle.sources.specs.declared.read.Source.{Source as ReadSource}
+use Rattle.image.specs.Labels.{address_of}
+use Rattle.handlers.specs.Refusal.{ComesAlone}
 use Rattle.handler_reports.specs.TightReport.{HasNoTightReport, HasTightReport, IsEdgeAt, IsEdgeRefused, IsTightRefused, IsTightReport, TakesEdge, edge_line}
 use Rattle.handler_reports.specs.TightReport.{one_step as step_of_cost}
 use Rattle.handler_reports.specs.TightText.{IsEdgeFile, IsEdgeText}
@@ -278,20 +278,22 @@ module _ (source statement : List ℕ) (n : ℕ) (profile : Profile) where
   abbrev IsRefusal : ReportFault → Type 0
   IsRefusal = BeforeOutput (IsTightRefused source statement n profile)
 
-  -- the refusals of the source, the statement and the graph are those of any handler
+  -- the refusals of the source are those of any handler
   pub source_refused : (e : ReportFault) → IsSourceFault source e → IsRefusal e
   source_refused Memory h = (λ d. cc d, tt)
   source_refused (Source f) h = (λ d. cc d, h)
   source_refused (Image f) h = (λ d. cc d, h)
   source_refused e h = absurd h
 
-  pub statement_refused : (f : StatementFault) → IsHandlerRefused source statement profile (of_statement f) → IsRefusal (of_statement f)
-  statement_refused statement_fault.Memory h = (λ d. cc d, tt)
-  statement_refused f h = (λ d. cc d, h)
-
-  pub graph_refused : (f : BuildFault) → IsHandlerRefused source statement profile (of_graph f) → IsRefusal (of_graph f)
-  graph_refused build_fault.Memory h = (λ d. cc d, tt)
-  graph_refused f h = (λ d. cc d, h)
+  -- those of the statement and the graph too, but those of the loops
+  pub handler_refused : (e : ReportFault) → ((f : NestFault) → e ≡ Loops f → ⊥) → IsHandlerRefused source statement profile e → IsRefusal e
+  handler_refused Memory other h = (λ d. cc d, tt)
+  handler_refused (Loops f) other h = absurd (other f refl)
+  handler_refused (Source f) other h = (λ d. cc d, h)
+  handler_refused (Image f) other h = (λ d. cc d, h)
+  handler_refused (Statement f) other h = (λ d. cc d, h)
+  handler_refused (Graph f) other h = (λ d. cc d, h)
+  handler_refused e other h = absurd h
 
   -- ## What has a report is refused for lack of memory alone, or as the output fails
 
@@ -344,3 +346,30 @@ module _ (source statement : List ℕ) (n : ℕ) (profile : Profile) where
   pub only_memory_or_device : {T : Type 0} (r : Result T ReportFault) → IfErr r IsRefusal → HasTightReport source statement n profile → IfErr r (λ e. (e ≡ Memory) ⊎ (e ≡ Device))
   only_memory_or_device (Ok x) h a = tt
   only_memory_or_device (Err e) h a = tight_refusals e a h.1
+
+-- ## Of a source that was read
+
+-- why the edge has no report comes alone
+pub edge_alone : (words : Words) (flow : Flow) (n : ℕ) (e : ReportFault) → (e ≡ Memory) ⊎ IsEdgeRefused words flow n e → ComesAlone e
+edge_alone words flow n e (inl memory) = subst ComesAlone (sym memory) tt
+edge_alone words flow n (Statement f) (inr r) = r
+edge_alone words flow n (Graph f) (inr r) = r
+edge_alone words flow n (Loops f) (inr r) = r
+edge_alone words flow n e (inr r) = tt
+
+module _ (source statement : List ℕ) (said : ReadSource) (is : IsSource source said) (st : Stated) (flow : Flow) (g : HasGraph source statement flow.profile st flow) where
+  own_words : g.words ≡ said.image
+  own_words = ap (λ (s : Said). s.0) (one_ok (g.words, g.names) (said.image, address_of said.labels) (source_of source) g.source_is is.said)
+
+  pub own_flow : IsFlowGraph said.image st flow.profile flow
+  own_flow = subst (λ (w : Words). IsFlowGraph w st flow.profile flow) own_words g.graph_is
+
+  pub edge_reported : (n : ℕ) (text : List ℕ) → IsEdgeText said.image st flow n text → IsTightReport source statement n flow.profile text
+  edge_reported n text t =
+      tight_reported source statement n flow.profile g.words g.names g.source_is st flow g.statement_is g.no_fault g.graph_is text
+      (subst (λ (w : Words). IsEdgeText w st flow n text) (sym own_words) t)
+
+  pub edge_unreported : (n : ℕ) (e : ReportFault) → (e ≡ Memory) ⊎ IsEdgeRefused said.image flow n e → BeforeOutput (IsTightRefused source statement n flow.profile) e
+  edge_unreported n e r =
+      edge_refusal source statement n flow.profile g.words g.names g.source_is st flow g.statement_is g.no_fault g.graph_is e
+      (subst (λ (w : Words). (e ≡ Memory) ⊎ IsEdgeRefused w flow n e) (sym own_words) r)

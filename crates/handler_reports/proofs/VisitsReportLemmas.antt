@@ -9,6 +9,7 @@ use Rattle.statement.specs.Stated.{Stated}
 use Rattle.loop_bounds.specs.Bounds.{IsGreatestCost}
 use Rattle.longest_walk.specs.Visits.{visits_bound}
 use Rattle.numbered_walks.specs.declared.fault.WalkFault.TheVariants as walk_fault
+use Rattle.handlers.specs.Refusal.{ComesAlone}
 use Rattle.handlers.specs.Report.{BeforeOutput, IsBounded}
 use Rattle.handler_reports.specs.VisitsReport.{AreAccepted, AreRefused, HasBound, HasFiqBound, HaveReports, IsVisitsReport, summary, total_of}
 use Rattle.handlers.specs.declared.fault.ReportFault.{ReportFault}
@@ -95,3 +96,8 @@ module _ (source irq fiq : List ℕ) (profile : Profile) where
       → AreAccepted source irq fiq k profile → IfErr r (λ e. (e ≡ Memory) ⊎ (e ≡ Device))
   only_memory_or_device k (Ok x) h a = tt
   only_memory_or_device k (Err e) h a = visits_refusals k e a h.1
+
+-- why the texts cannot be joined comes alone
+pub joined_alone : (b c k : ℕ) (profile : Profile) (e : ReportFault) → (e ≡ Memory) ⊎ ((e ≡ Walk walk_fault.BoundTooLarge) × (2 ^ 63 ≤ visits_bound profile b c k)) → ComesAlone e
+joined_alone b c k profile e (inl memory) = subst ComesAlone (sym memory) tt
+joined_alone b c k profile e (inr large) = subst ComesAlone (sym large.0) tt

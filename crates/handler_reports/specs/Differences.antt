@@ -6,18 +6,18 @@ use Rattle.std.specs.Prelude.{slice_index_or}
 use Rattle.std.specs.BTreeMap.{get}
 use Rattle.std.specs.List.{range_with_len}
 use Rattle.std.specs.Ordering.{nat_cmp}
-use Rattle.text_explained.specs.declared.tally.Taken.{Taken}
+use Rattle.text_explained.specs.declared.walk_tally.Taken.{Taken}
 use Rattle.text_rows.specs.Columns.{in_columns}
 use Rattle.text_rows.specs.Lines.{rows_by_word}
 use Rattle.text_rows.specs.Rows.{IsShownRow, named_row, section}
 use Rattle.sources.specs.Rows.{AreSourceRows}
 use Rattle.sources.specs.Source.{IsSource}
 use Rattle.sources.specs.declared.read.Source.{Source}
-use Rattle.sources.specs.declared.read.Text.{Text}
-use Rattle.sources.specs.declared.read.Text.TheVariants.{Lines, Image}
+use Rattle.sources.specs.declared.read.SourceText.{SourceText}
+use Rattle.sources.specs.declared.read.SourceText.TheVariants.{Lines, Image}
 use Rattle.text_explained.specs.Table.{passes_of, ticks_of}
 use Rattle.text_explained.specs.Taken.{cost_at, is_at, pass_at, taken_at}
-use Rattle.text_explained.specs.declared.tally.Tally.{Tally}
+use Rattle.text_explained.specs.declared.walk_tally.WalkTally.{WalkTally}
 use Rattle.control_flow.specs.Flow.{Flow}
 use Rattle.control_flow.specs.Places.{place_at}
 use Rattle.control_flow.specs.declared.edges.Edge.{Edge}
@@ -89,7 +89,7 @@ image_heading =
     upper_heading ++ codes "  passes    ticks  passes    ticks   address      word  text\n"
 
 -- above the rows of a text, or of an image
-abbrev pub heading_of : Text → List ℕ
+abbrev pub heading_of : SourceText → List ℕ
 heading_of (Lines bytes placed) = heading
 heading_of Image = image_heading
 
@@ -125,7 +125,7 @@ no_numbers = record { passes = 0; ticks = 0 }
 abbrev pub tallied : RunTally → ℕ → Numbers
 tallied t a = unwrap_or (get nat_cmp t.by_address a) no_numbers
 
-abbrev pub compared_in : RunTally → Tally → ℕ → Compared
+abbrev pub compared_in : RunTally → WalkTally → ℕ → Compared
 compared_in run walk a = record { run = tallied run a; bound = numbers_of (get nat_cmp walk.by_address a) }
 
 -- what is done at a place more

@@ -103,8 +103,8 @@ module _ (source statement : List ℕ) (n : ℕ) (profile : Profile) where
     pub graph : HasGraph source statement profile stated flow
     pub refused : IsEdgeRefused graph.words flow n fault
 
-  -- when each refusal is answered: those up to the graph, and then those of the edge. The loops and the walk
-  -- are not looked at
+  -- when each refusal is answered: those up to the graph, and then those of the edge. No refusal of loops or
+  -- of a walk is answered
   abbrev pub IsTightRefused : ReportFault → Type 0
   IsTightRefused report_fault.Memory = Unit {0}
   IsTightRefused report_fault.Device = Unit {0}

@@ -1,36 +1,27 @@
-ghost use Rattle.std.specs.Prelude.{◌≡◌, ◌≢◌, ◌⊎◌, Err, IfErr, IfOk, OnOk};
+ghost use Rattle.std.specs.Prelude.{◌≡◌, ◌≢◌, ◌⊎◌, ◌∷◌, [], ℕ, List, Err, IfErr, IfOk, OnOk};
 ghost use Rattle.handler_reports.specs.Bound.{AreAcceptedBy, AreRefusedBy, IsReportBy, Reports, given};
 ghost use Rattle.certificate.specs.Lines.{cert_text, said_of};
 ghost use Rattle.handlers.specs.Answers.{FailsWithin, Prints};
 ghost use Rattle.handlers.specs.Priced.{Priced};
+ghost use Rattle.handlers.specs.Refusal.{Carries, CarriesRead, CarriesReadBy, ComesAlone, fault_only};
+ghost use Rattle.handlers.specs.Refusal.{stop_fault};
 ghost use Rattle.handlers.specs.Report.{BeforeOutput, HasItsTree, IsAccepted, IsBoundReport};
 ghost use Rattle.handlers.specs.Report.{IsRefused, IsReport, OfHandler};
+ghost use Rattle.sources.specs.Source.{Says};
 
 use bus_ticks::Profile;
 use cert_check::longest_gets_yes;
 use certificate::{print_cert, write_cert};
 use control_flow::graphs_are_well_formed;
 use flow_graph::run_law;
-use handlers::{Handler, ReportFault, longest_of, profile_of, read_handler};
+use handlers::{
+    Handler, Refusal, ReportFault, Stop, fault_only, longest_of, profile_of, read_handler,
+    read_source, with_source,
+};
 use longest_walk::Longest;
 use outputs::Output;
+use sources::Source;
 use std::alloc::Global;
-
-// The greatest walk of a handler.
-fn read_longest(
-    alloc: Global,
-    source: &[u8],
-    statement: &[u8],
-    profile: &Profile,
-) -> Result<Longest, ReportFault>
-    ensures report { IfOk result
-        (λ found. IsReport source.now statement.now profile.now (cert_text (said_of found))) }
-    ensures accepted { OnOk result (IsAccepted source.now statement.now profile.now) }
-    ensures fault { IfErr result (BeforeOutput (IsRefused source.now statement.now profile.now)) }
-{
-    let handler = read_handler(alloc, source, statement, profile)?;
-    certified_longest(alloc, &handler)
-}
 
 // The greatest walk of a handler that was read, whose certificate is judged yes.
 fn certified_longest(alloc: Global, handler: &Handler) -> Result<Longest, ReportFault>
@@ -43,6 +34,7 @@ fn certified_longest(alloc: Global, handler: &Handler) -> Result<Longest, Report
         (λ source statement profile. OnOk result (IsAccepted source statement profile)) }
     ensures fault { OfHandler handler.now
         (λ source statement profile. IfErr result (BeforeOutput (IsRefused source statement profile))) }
+    ensures alone { IfErr result ComesAlone }
 {
     let found = longest_of(alloc, handler)?;
     graphs_are_well_formed(&handler.graph);
@@ -72,6 +64,7 @@ pub fn longest_report(alloc: Global, handler: &Handler) -> Result<BoundReport, R
         (λ source statement profile. OnOk result (IsAccepted source statement profile)) }
     ensures fault { OfHandler handler.now
         (λ source statement profile. IfErr result (BeforeOutput (IsRefused source statement profile))) }
+    ensures alone { IfErr result ComesAlone }
 {
     let found = certified_longest(alloc, handler)?;
     let text = write_cert(alloc, &found)?;
@@ -79,6 +72,44 @@ pub fn longest_report(alloc: Global, handler: &Handler) -> Result<BoundReport, R
         bound: found.bound,
         text,
     })
+}
+
+// The greatest walk of the handler of a source that was read.
+fn source_longest<'a>(
+    alloc: Global,
+    said: &Source<'_>,
+    statement: &'a [u8],
+    profile: &Profile,
+) -> Result<Longest, Stop<'a>>
+    ensures report { (source : List ℕ) → Says source said.now
+        → IfOk result (λ found. IsReport source statement.now profile.now (cert_text (said_of found))) }
+    ensures accepted { (source : List ℕ) → Says source said.now
+        → OnOk result (IsAccepted source statement.now profile.now) }
+    ensures fault { (source : List ℕ) → Says source said.now
+        → IfErr result (λ s. BeforeOutput (IsRefused source statement.now profile.now) (stop_fault s)) }
+    ensures carries { IfErr result (Carries said.now statement.now profile.now) }
+{
+    let handler = read_handler(alloc, said, statement, profile)?;
+    Ok(certified_longest(alloc, &handler)?)
+}
+
+// The greatest walk of a source's handler.
+fn read_longest<'a>(
+    alloc: Global,
+    source: &'a [u8],
+    statement: &'a [u8],
+    profile: &Profile,
+) -> Result<Longest, Refusal<'a>>
+    ensures report { IfOk result
+        (λ found. IsReport source.now statement.now profile.now (cert_text (said_of found))) }
+    ensures accepted { OnOk result (IsAccepted source.now statement.now profile.now) }
+    ensures fault { IfErr (fault_only result)
+        (BeforeOutput (IsRefused source.now statement.now profile.now)) }
+    ensures carries { IfErr result (CarriesRead source.now (statement.now ∷ []) profile.now) }
+{
+    let said = read_source(alloc, source)?;
+    let found = source_longest(alloc, &said, statement, profile);
+    with_source(said, found)
 }
 
 /// Writes the report of a source and a statement by a cycle profile's file, or by the first profile, the
@@ -117,22 +148,30 @@ pub fn bound_report<O: Output>(
         → FailsWithin (IsReportBy (given profile.entry) source.now statement.now)
         (O.taken out.old) (O.taken out.new) (O.failures out.old) (O.failures out.new) }
 {
-    let profile = profile_of(alloc, profile)?;
-    priced_report(alloc, source, statement, &profile, out)
+    fault_only(print_bound(alloc, source, statement, profile, out))
 }
 
-fn priced_report<O: Output>(
+/// As [`bound_report`]; a refusal comes with what its fault was found in.
+///
+/// # Errors
+///
+/// Those of [`bound_report`].
+pub fn print_bound<'a, O: Output>(
     alloc: Global,
-    source: &[u8],
-    statement: &[u8],
-    profile: &Profile,
+    source: &'a [u8],
+    statement: &'a [u8],
+    profile: Option<&'a [u8]>,
     out: &mut O,
-) -> Result<(), ReportFault>
-    ensures { Reports O.taken O.failures source.now statement.now profile.now out.old out.new result }
+) -> Result<(), Refusal<'a>>
+    ensures answers { Priced (given profile.entry)
+        (λ p. Reports O.taken O.failures source.now statement.now p out.old out.new (fault_only result))
+        out.old out.new (fault_only result) }
+    ensures carries { IfErr result (CarriesReadBy (given profile.entry) source.now (statement.now ∷ [])) }
 {
-    let found = read_longest(alloc, source, statement, profile)?;
+    let profile = profile_of(alloc, profile)?;
+    let found = read_longest(alloc, source, statement, &profile)?;
     match print_cert(&found, out) {
         Ok(()) => Ok(()),
-        Err(_) => Err(ReportFault::Device),
+        Err(_) => Err(Refusal::Alone(ReportFault::Device)),
     }
 }

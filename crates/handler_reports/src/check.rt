@@ -1,10 +1,12 @@
-ghost use Rattle.std.specs.Prelude.{◌≡◌, ◌↔◌, IsTrue, option_map};
+ghost use Rattle.std.specs.Prelude.{◌≡◌, ◌↔◌, ◌∷◌, [], IfErr, IsTrue};
 ghost use Rattle.handlers.specs.Priced.{Priced};
+ghost use Rattle.handlers.specs.Refusal.{CarriesReadBy, fault_only};
+ghost use Rattle.handler_reports.specs.Bound.{given};
 ghost use Rattle.handler_reports.specs.Check.{Checks, objection_line, verdict_line};
 
 use crate::finding::found_of;
 use cert_check::{Objection, Verdict};
-use handlers::{ReportFault, print_answer, profile_of};
+use handlers::{Refusal, ReportFault, fault_only, print_or_refuse, profile_of};
 use outputs::Output;
 use std::alloc::Global;
 
@@ -72,16 +74,36 @@ pub fn check_report<O: Output>(
     profile: Option<&[u8]>,
     out: &mut O,
 ) -> Result<bool, ReportFault>
-    ensures { Priced (option_map (λ f. f.now) profile.entry)
+    ensures { Priced (given profile.entry)
         (λ p. Checks O.taken O.failures source.now statement.now cert.now p out.old out.new
         result) out.old out.new result }
 {
-    let profile = profile_of(alloc, profile)?;
     let inputs = CheckInputs {
         source,
         statement,
         cert,
     };
+    fault_only(print_check(alloc, inputs, profile, out))
+}
+
+/// As [`check_report`]; a refusal comes with what its fault was found in.
+///
+/// # Errors
+///
+/// Those of [`check_report`].
+pub fn print_check<'a, O: Output>(
+    alloc: Global,
+    inputs: CheckInputs<'a>,
+    profile: Option<&'a [u8]>,
+    out: &mut O,
+) -> Result<bool, Refusal<'a>>
+    ensures answers { Priced (given profile.entry)
+        (λ p. Checks O.taken O.failures inputs.entry.source.now inputs.entry.statement.now
+        inputs.entry.cert.now p out.old out.new (fault_only result)) out.old out.new (fault_only result) }
+    ensures carries { IfErr result (CarriesReadBy (given profile.entry) inputs.entry.source.now
+        (inputs.entry.statement.now ∷ [])) }
+{
+    let profile = profile_of(alloc, profile)?;
     let verdict: Verdict = found_of(alloc, inputs, &profile)?;
-    print_answer(is_yes(verdict), verdict_line(verdict), out)
+    print_or_refuse(is_yes(verdict), verdict_line(verdict), out)
 }

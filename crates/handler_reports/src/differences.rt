@@ -14,10 +14,10 @@ ghost use Rattle.sources.specs.Source.{IsSource};
 use control_flow::{Graph, Place};
 use kept_runs::Passed;
 use longest_walk::FoldedWalk;
-use sources::{ImageRows, Source, Text};
+use sources::{ImageRows, Source, SourceText};
 use std::alloc::{AllocError, Global};
 use std::collections::BTreeMap;
-use text_explained::Tally;
+use text_explained::WalkTally;
 use text_rows::{NumberedLine, WordRows, put, put_named_row, put_number, put_shown_row, section};
 use walk_counts::capped_sum;
 
@@ -54,7 +54,7 @@ struct RunTally {
 #[derive(Clone, Copy)]
 struct Tallies<'a> {
     run: &'a RunTally,
-    walk: &'a Tally,
+    walk: &'a WalkTally,
 }
 
 fn capped_ticks(ticks: u64, more: u128) -> u64
@@ -202,12 +202,12 @@ impl ImageRows for Tallies<'_> {
     }
 }
 
-fn heading_of(text: &Text<'_>) -> &'static [u8]
+fn heading_of(text: &SourceText<'_>) -> &'static [u8]
     ensures { result.now ≡ heading_of text.now }
 {
     match text {
-        Text::Lines(_, _) => HEADING,
-        Text::Image => IMAGE_HEADING,
+        SourceText::Lines(_, _) => HEADING,
+        SourceText::Image => IMAGE_HEADING,
     }
 }
 
@@ -242,7 +242,7 @@ pub(crate) fn differences(
         text.items) }
 {
     let run_tally = RunTally::of_places(alloc, graph, by_place)?;
-    let walk_tally = Tally::of_walk(alloc, graph, walk)?;
+    let walk_tally = WalkTally::of_walk(alloc, graph, walk)?;
     let tallies = Tallies {
         run: &run_tally,
         walk: &walk_tally,

@@ -1,17 +1,23 @@
 //! Where the ticks of a handler's greatest run time go.
 
-ghost use Rattle.std.specs.Prelude.{◌≡◌, ℕ, List, IfErr, IfOk, option_map};
+ghost use Rattle.std.specs.Prelude.{◌≡◌, ◌∷◌, [], ℕ, List, IfErr, IfOk};
 ghost use Rattle.bus_ticks.specs.declared.profile.Profile.{Profile};
 ghost use Rattle.text_explained.specs.Starts.{latest_at};
+ghost use Rattle.handler_reports.specs.Bound.{given};
 ghost use Rattle.handler_reports.specs.ExplainReport.{Explains, IsExplanation, IsTextOf, is_enough};
 ghost use Rattle.handlers.specs.Priced.{Priced};
+ghost use Rattle.handlers.specs.Refusal.{Carries, CarriesRead, CarriesReadBy, ComesAlone, fault_only};
+ghost use Rattle.handlers.specs.Refusal.{stop_fault};
 ghost use Rattle.handlers.specs.Report.{BeforeOutput, HasItsTree, HasLoops, IsRefused};
-ghost use Rattle.sources.specs.Source.{IsSource};
+ghost use Rattle.sources.specs.Source.{IsSource, Says};
 
 use bus_ticks::Profile;
 use control_flow::graphs_are_well_formed;
 use flow_graph::run_law;
-use handlers::{Handler, ReportFault, longest_of, print_answer, profile_of, said_handler};
+use handlers::{
+    Handler, Refusal, ReportFault, Stop, longest_of, print_or_refuse, profile_of, read_handler,
+    read_source, with_source,
+};
 use longest_walk::worst_starts;
 use outputs::Output;
 use sources::Source;
@@ -99,6 +105,7 @@ fn explanation_of(
     ensures fault { (source statement : List ℕ)
         → HasLoops source statement profile.now handler.now.statement handler.now.graph
         → IfErr result (BeforeOutput (IsRefused source statement profile.now)) }
+    ensures alone { IfErr result ComesAlone }
 {
     let found = longest_of(alloc, handler)?;
     let starts = worst_starts(alloc, &handler.graph, &handler.tree)?;
@@ -127,19 +134,42 @@ fn explanation_of(
     })
 }
 
-fn source_explanation(
+// The explanation of the handler of a source that was read.
+fn source_explanation<'a>(
     alloc: Global,
-    explained: Explained<'_>,
+    said: &Source<'_>,
+    explained: Explained<'a>,
     profile: &Profile,
-) -> Result<Explanation, ReportFault>
+) -> Result<Explanation, Stop<'a>>
+    ensures explains { (source : List ℕ) → IsSource source said.now
+        → IfOk result (λ e. IsExplanation source explained.entry.statement.now explained.entry.bursts
+        profile.now e.bound e.text.items) }
+    ensures fault { (source : List ℕ) → Says source said.now
+        → IfErr result (λ s. BeforeOutput (IsRefused source explained.entry.statement.now profile.now)
+        (stop_fault s)) }
+    ensures carries { IfErr result (Carries said.now explained.entry.statement.now profile.now) }
+{
+    let handler = read_handler(alloc, said, explained.statement, profile)?;
+    Ok(explanation_of(alloc, said, explained.bursts, profile, &handler)?)
+}
+
+// The explanation of a source's handler.
+fn read_explanation<'a>(
+    alloc: Global,
+    explained: Explained<'a>,
+    profile: &Profile,
+) -> Result<Explanation, Refusal<'a>>
     ensures explains { IfOk result
         (λ e. IsExplanation explained.entry.source.now explained.entry.statement.now explained.entry.bursts
         profile.now e.bound e.text.items) }
-    ensures fault { IfErr result
+    ensures fault { IfErr (fault_only result)
         (BeforeOutput (IsRefused explained.entry.source.now explained.entry.statement.now profile.now)) }
+    ensures carries { IfErr result
+        (CarriesRead explained.entry.source.now (explained.entry.statement.now ∷ []) profile.now) }
 {
-    let read = said_handler(alloc, explained.source, explained.statement, profile)?;
-    explanation_of(alloc, &read.said, explained.bursts, profile, &read.handler)
+    let said = read_source(alloc, explained.source)?;
+    let found = source_explanation(alloc, &said, explained, profile);
+    with_source(said, found)
 }
 
 /// Writes where the ticks of a handler's greatest run time go, by a cycle profile's file or by the first
@@ -155,17 +185,20 @@ fn source_explanation(
 /// # Errors
 ///
 /// Those of [`bound_report`](crate::bound_report). After any but `Device` nothing was written.
-pub fn explain_report<O: Output>(
+pub fn explain_report<'a, O: Output>(
     alloc: Global,
-    explained: Explained<'_>,
-    profile: Option<&[u8]>,
+    explained: Explained<'a>,
+    profile: Option<&'a [u8]>,
     out: &mut O,
-) -> Result<bool, ReportFault>
-    ensures { Priced (option_map (λ f. f.now) profile.entry)
+) -> Result<bool, Refusal<'a>>
+    ensures answers { Priced (given profile.entry)
         (λ p. Explains O.taken O.failures explained.entry.source.now explained.entry.statement.now
-        explained.entry.at_most explained.entry.bursts p out.old out.new result) out.old out.new result }
+        explained.entry.at_most explained.entry.bursts p out.old out.new (fault_only result)) out.old out.new
+        (fault_only result) }
+    ensures carries { IfErr result (CarriesReadBy (given profile.entry) explained.entry.source.now
+        (explained.entry.statement.now ∷ [])) }
 {
     let profile = profile_of(alloc, profile)?;
-    let found = source_explanation(alloc, explained, &profile)?;
-    print_answer(is_enough(explained.at_most, found.bound), &found.text, out)
+    let found = read_explanation(alloc, explained, &profile)?;
+    print_or_refuse(is_enough(explained.at_most, found.bound), &found.text, out)
 }

@@ -1,6 +1,6 @@
 //! Whether a machine's run keeps the statement of its handler.
 
-ghost use Rattle.std.specs.Prelude.{◌≡◌, ℕ, IfErr, IfOk, Option, length, option_map};
+ghost use Rattle.std.specs.Prelude.{◌≡◌, ◌∷◌, [], ℕ, IfErr, IfOk, Option, length};
 ghost use Rattle.control_flow.specs.Graph.{IsFlowGraph};
 ghost use Rattle.kept_runs.specs.Judging.{IsMachineFor};
 ghost use Rattle.longest_walk.specs.Longest.{IsLongest};
@@ -10,8 +10,10 @@ ghost use Rattle.handler_reports.specs.FollowText.{IsLineNumberAt, strayed_text,
 ghost use Rattle.handler_reports.specs.FollowWork.{HasAllPlaces, IsJudgedRun, IsRefusalOf, IsReportOn};
 ghost use Rattle.handler_reports.specs.FollowWork.{IsFollowedText, IsTallyText};
 ghost use Rattle.handlers.specs.Priced.{Priced};
+ghost use Rattle.handlers.specs.Refusal.{Carries, CarriesRead, CarriesReadBy, ComesAlone, fault_only};
+ghost use Rattle.handlers.specs.Refusal.{stop_fault};
+ghost use Rattle.handler_reports.specs.Bound.{given};
 ghost use Rattle.handlers.specs.Report.{BeforeOutput, HasItsTree, HasLoops};
-ghost use Rattle.handlers.specs.Source.{IsSourceFault};
 ghost use Rattle.sources.specs.Source.{IsSource};
 
 use crate::differences::differences;
@@ -21,14 +23,15 @@ use bus_ticks::Profile;
 use control_flow::graphs_are_well_formed;
 use flow_graph::{run_law, step_law};
 use handlers::{
-    Handler, Placed, ReportFault, longest_of, place_image, print_answer, profile_of, said_handler,
+    Handler, Placed, Refusal, ReportFault, Stop, longest_of, place_image, print_or_refuse,
+    profile_of, read_handler, read_source, with_source,
 };
 use kept_runs::{AcceptedHandler, Followed, Passed, Unkept, follow};
 use longest_walk::Longest;
 use machine_file::MachineFile;
 use outputs::Output;
 use sources::Source;
-use std::alloc::Global;
+use std::alloc::{AllocError, Global};
 use text_explained::StatedGraph;
 
 /// A handler, and a machine whose run through it is judged.
@@ -65,14 +68,13 @@ fn kept_run(
     at: u32,
     ticks: u128,
     by_place: &[Passed],
-) -> Result<Vec<u8>, ReportFault>
+) -> Result<Vec<u8>, AllocError>
     requires read { IsSource bounded.source.now bounded.read.now }
     requires places { length by_place.now ≡ length bounded.handler.now.graph.places }
-    ensures text { IfOk result
+    ensures { IfOk result
         (λ text. IsTallyText bounded.entry.source.now bounded.entry.read.now.image
         bounded.entry.handler.now.statement bounded.entry.handler.now.graph bounded.entry.longest.now at
         ticks by_place.now text.items) }
-    ensures fault { IfErr result (IsSourceFault bounded.entry.source.now) }
 {
     let stated = StatedGraph {
         source: bounded.read,
@@ -103,12 +105,11 @@ fn strayed_run(
     steps: u64,
     at: u32,
     why: Unkept,
-) -> Result<Vec<u8>, ReportFault>
+) -> Result<Vec<u8>, AllocError>
     requires { IsSource bounded.source.now bounded.read.now }
-    ensures text { IfOk result
+    ensures { IfOk result
         (λ text. (line : Option ℕ) × IsLineNumberAt bounded.entry.source.now at line
         × (text.items ≡ strayed_text steps at line (why_text bounded.entry.handler.now.statement at why))) }
-    ensures fault { IfErr result (IsSourceFault bounded.entry.source.now) }
 {
     let line = line_number_at(alloc, bounded.read, at)?;
     let why = why_text(alloc, &bounded.handler.statement, at, why)?;
@@ -122,14 +123,13 @@ fn judgement(
     bounded: Bounded<'_>,
     after: u32,
     followed: &Followed,
-) -> Result<Judged, ReportFault>
+) -> Result<Judged, AllocError>
     requires read { IsSource bounded.source.now bounded.read.now }
     requires places { HasAllPlaces bounded.handler.now.graph followed.now }
-    ensures text { IfOk result
+    ensures { IfOk result
         (λ j. IsFollowedText bounded.entry.source.now bounded.entry.read.now.image
         bounded.entry.handler.now.statement bounded.entry.handler.now.graph bounded.entry.longest.now
         after followed.now j.kept j.text.items) }
-    ensures fault { IfErr result (IsSourceFault bounded.entry.source.now) }
 {
     match followed {
         Followed::Kept {
@@ -165,7 +165,7 @@ fn judged_run(
         (λ j. IsJudgedRun bounded.entry.read.now.image bounded.entry.handler.now.statement
         bounded.entry.handler.now.graph bounded.entry.handler.now.tree bounded.entry.source.now
         bounded.entry.longest.now placed.old.file placed.old.machine j.kept j.text.items) }
-    ensures fault { IfErr result (IsSourceFault bounded.entry.source.now) }
+    ensures fault { IfErr result (λ e. e ≡ ReportFault.Memory) }
 {
     let inputs = placed.file.inputs(alloc)?;
     let handler = AcceptedHandler {
@@ -179,7 +179,7 @@ fn judged_run(
     graphs_are_well_formed(&bounded.handler.graph);
     let followed = follow(alloc, handler, &mut placed.machine, &inputs)?;
     let after = placed.machine.address();
-    judgement(alloc, bounded, after, &followed)
+    Ok(judgement(alloc, bounded, after, &followed)?)
 }
 
 /// States that a machine file states all registers but R15. It does nothing.
@@ -203,6 +203,7 @@ fn handler_run(
     requires tree { HasItsTree handler.now }
     ensures judged { IfOk result (λ j. IsReportOn run.entry profile.now j.kept j.text.items) }
     ensures fault { IfErr result (BeforeOutput (IsRefusalOf run.entry profile.now)) }
+    ensures alone { IfErr result ComesAlone }
 {
     let longest = longest_of(alloc, handler)?;
     let mut placed = place_image(alloc, said, run.machine, *profile)?;
@@ -216,12 +217,36 @@ fn handler_run(
     judged_run(alloc, bounded, &mut placed)
 }
 
-fn source_run(alloc: Global, run: FollowedRun<'_>, profile: &Profile) -> Result<Judged, ReportFault>
+// The answer on a machine's run through the handler of a source that was read.
+fn source_run<'a>(
+    alloc: Global,
+    run: FollowedRun<'a>,
+    said: &Source<'_>,
+    profile: &Profile,
+) -> Result<Judged, Stop<'a>>
+    requires { IsSource run.source.now said.now }
     ensures judged { IfOk result (λ j. IsReportOn run.entry profile.now j.kept j.text.items) }
-    ensures fault { IfErr result (BeforeOutput (IsRefusalOf run.entry profile.now)) }
+    ensures fault { IfErr result (λ s. BeforeOutput (IsRefusalOf run.entry profile.now) (stop_fault s)) }
+    ensures carries { IfErr result (Carries said.now run.entry.statement.now profile.now) }
 {
-    let read = said_handler(alloc, run.source, run.statement, profile)?;
-    handler_run(alloc, run, &read.said, &read.handler, profile)
+    let handler = read_handler(alloc, said, run.statement, profile)?;
+    Ok(handler_run(alloc, run, said, &handler, profile)?)
+}
+
+// The answer on a machine's run through a source's handler.
+fn read_run<'a>(
+    alloc: Global,
+    run: FollowedRun<'a>,
+    profile: &Profile,
+) -> Result<Judged, Refusal<'a>>
+    ensures judged { IfOk result (λ j. IsReportOn run.entry profile.now j.kept j.text.items) }
+    ensures fault { IfErr (fault_only result) (BeforeOutput (IsRefusalOf run.entry profile.now)) }
+    ensures carries { IfErr result
+        (CarriesRead run.entry.source.now (run.entry.statement.now ∷ []) profile.now) }
+{
+    let said = read_source(alloc, run.source)?;
+    let judged = source_run(alloc, run, &said, profile);
+    with_source(said, judged)
 }
 
 /// Runs the machine of a source and a machine file, as [`run_report`](crate::run_report) does, until it
@@ -242,17 +267,19 @@ fn source_run(alloc: Global, run: FollowedRun<'_>, profile: &Profile) -> Result<
 ///
 /// The first in the order of the work: profile, source, statement, graph, loops, walk, machine file, load;
 /// `Memory`. After any but `Device` nothing was written.
-pub fn follow_report<O: Output>(
+pub fn follow_report<'a, O: Output>(
     alloc: Global,
-    run: FollowedRun<'_>,
-    profile: Option<&[u8]>,
+    run: FollowedRun<'a>,
+    profile: Option<&'a [u8]>,
     out: &mut O,
-) -> Result<bool, ReportFault>
-    ensures { Priced (option_map (λ f. f.now) profile.entry)
+) -> Result<bool, Refusal<'a>>
+    ensures answers { Priced (given profile.entry)
         (λ p. FollowsRun O.taken O.failures run.entry.source.now run.entry.statement.now
-        run.entry.machine.now p out.old out.new result) out.old out.new result }
+        run.entry.machine.now p out.old out.new (fault_only result)) out.old out.new (fault_only result) }
+    ensures carries { IfErr result (CarriesReadBy (given profile.entry) run.entry.source.now
+        (run.entry.statement.now ∷ [])) }
 {
     let profile = profile_of(alloc, profile)?;
-    let judged = source_run(alloc, run, &profile)?;
-    print_answer(judged.kept, &judged.text, out)
+    let judged = read_run(alloc, run, &profile)?;
+    print_or_refuse(judged.kept, &judged.text, out)
 }

@@ -1,7 +1,6 @@
 //! Whether a machine's run keeps the statements of a handler and of FIQ's, which interrupts it.
 
-ghost use Rattle.std.specs.Prelude.{◌≡◌, ◌<◌, ◌^◌, ◌++◌, ℕ, List, Option, IfErr, IfOk, option_map};
-ghost use Rattle.std.specs.Prelude.{true, false};
+ghost use Rattle.std.specs.Prelude.{◌≡◌, ◌<◌, ◌^◌, ◌++◌, ◌∷◌, [], ℕ, List, Option, IfErr, IfOk, true, false};
 ghost use Rattle.bus_ticks.specs.declared.space.TheConstants.{FIQ_VECTOR};
 ghost use Rattle.kept_runs.specs.Judging.{IsMachineFor};
 ghost use Rattle.kept_runs.specs.Keeping.{IsHandler};
@@ -13,8 +12,10 @@ ghost use Rattle.handler_reports.specs.VisitedWork.{IsBoundOf, IsRunText, IsVisi
 ghost use Rattle.handler_reports.specs.VisitedWork.{IsVisitsReportOn};
 ghost use Rattle.handlers.specs.FiqHandler.{IsFiqRefused};
 ghost use Rattle.handlers.specs.Priced.{Priced};
+ghost use Rattle.handlers.specs.Refusal.{ComesAlone, Carries, CarriesOneOf, CarriesRead, CarriesReadBy};
+ghost use Rattle.handlers.specs.Refusal.{stop_fault, fault_only};
+ghost use Rattle.handler_reports.specs.Bound.{given};
 ghost use Rattle.handlers.specs.Report.{BeforeOutput, IsRefused};
-ghost use Rattle.handlers.specs.Source.{IsSourceFault};
 ghost use Rattle.sources.specs.Source.{IsSource, Says};
 
 use crate::follow::{Judged, states_registers};
@@ -22,8 +23,8 @@ use crate::follow_text::{left_text, line_number_at, strayed_text};
 use crate::visited_text::{kept_visits_text, never_text, visit_why_text};
 use bus_ticks::{Profile, fiq_entry};
 use handlers::{
-    Handler, Placed, ReportFault, fiq_handler, handler_of, longest_of, place_image, print_answer,
-    profile_of, read_source,
+    Handler, Placed, Refusal, ReportFault, Stop, fiq_handler, longest_of, place_image,
+    print_or_refuse, profile_of, read_handler, read_source, with_source,
 };
 use image::Image;
 use kept_runs::{
@@ -72,35 +73,37 @@ struct Outcome {
 }
 
 // The handler that FIQ interrupts.
-fn irq_bounded(
+fn irq_bounded<'a>(
     alloc: Global,
     said: &Source<'_>,
-    statement: &[u8],
+    statement: &'a [u8],
     profile: &Profile,
-) -> Result<BoundedHandler, ReportFault>
+) -> Result<BoundedHandler, Stop<'a>>
     ensures is { (source : List ℕ) → Says source said.now
         → IfOk result (IsBoundOf source statement.now profile.now) }
     ensures fault { (source : List ℕ) → Says source said.now
-        → IfErr result (BeforeOutput (IsRefused source statement.now profile.now)) }
+        → IfErr result (λ s. BeforeOutput (IsRefused source statement.now profile.now) (stop_fault s)) }
+    ensures carries { IfErr result (Carries said.now statement.now profile.now) }
 {
-    let handler = handler_of(alloc, said, statement, profile)?;
+    let handler = read_handler(alloc, said, statement, profile)?;
     let longest = longest_of(alloc, &handler)?;
     let bound = longest.bound;
     Ok(BoundedHandler { handler, bound })
 }
 
 // FIQ's handler.
-fn fiq_bounded(
+fn fiq_bounded<'a>(
     alloc: Global,
     said: &Source<'_>,
-    statement: &[u8],
+    statement: &'a [u8],
     profile: &Profile,
-) -> Result<BoundedHandler, ReportFault>
+) -> Result<BoundedHandler, Stop<'a>>
     ensures is { (source : List ℕ) → Says source said.now
         → IfOk result (IsBoundOf source statement.now profile.now) }
     ensures entry { IfOk result (λ b. b.handler.statement.entry ≡ FIQ_VECTOR) }
     ensures fault { (source : List ℕ) → Says source said.now
-        → IfErr result (BeforeOutput (IsFiqRefused source statement.now profile.now)) }
+        → IfErr result (λ s. BeforeOutput (IsFiqRefused source statement.now profile.now) (stop_fault s)) }
+    ensures carries { IfErr result (Carries said.now statement.now profile.now) }
 {
     let handler = fiq_handler(alloc, said, statement, profile)?;
     let longest = longest_of(alloc, &handler)?;
@@ -138,15 +141,14 @@ fn strayed_run(
     steps: u128,
     at: u32,
     why: VisitUnkept,
-) -> Result<Judged, ReportFault>
+) -> Result<Judged, AllocError>
     requires { IsSource both.source.now both.read.now }
-    ensures text { IfOk result
+    ensures { IfOk result
         (λ j. (j.kept ≡ false)
         × ((line : Option ℕ) × IsLineNumberAt both.entry.source.now at line
         × (j.text.items
         ≡ strayed_text steps at line (visit_why_text both.entry.irq.now.handler.statement
         both.entry.fiq.now.handler.statement at why)))) }
-    ensures fault { IfErr result (IsSourceFault both.entry.source.now) }
 {
     let line = line_number_at(alloc, both.read, at)?;
     let irq = &both.irq.handler.statement;
@@ -160,13 +162,12 @@ fn strayed_run(
 }
 
 // The answer on a run that keeps both statements, as this line says, and has gone on at the address.
-fn kept_run(alloc: Global, both: Both<'_>, line: &str, at: u32) -> Result<Judged, ReportFault>
+fn kept_run(alloc: Global, both: Both<'_>, line: &str, at: u32) -> Result<Judged, AllocError>
     requires { IsSource both.source.now both.read.now }
-    ensures text { IfOk result
+    ensures { IfOk result
         (λ j. (j.kept ≡ true)
         × ((left : List ℕ) × IsLeftText both.entry.source.now both.entry.read.now.image at left
         × (j.text.items ≡ line.now ++ left))) }
-    ensures fault { IfErr result (IsSourceFault both.entry.source.now) }
 {
     let left = left_text(alloc, both.read, at)?;
     let mut text = Vec::from_slice(alloc, line.as_bytes())?;
@@ -180,13 +181,12 @@ fn run_answer(
     both: Both<'_>,
     profile: &Profile,
     outcome: Outcome,
-) -> Result<Judged, ReportFault>
+) -> Result<Judged, AllocError>
     requires read { IsSource both.source.now both.read.now }
     requires small { both.fiq.now.bound < 2 ^ 63 }
-    ensures text { IfOk result
+    ensures { IfOk result
         (λ j. IsRunText both.entry.source.now both.entry.read.now.image profile.now both.entry.irq.now
         both.entry.fiq.now outcome.before outcome.after outcome.run j.kept j.text.items) }
-    ensures fault { IfErr result (IsSourceFault both.entry.source.now) }
 {
     match outcome.run {
         VisitedRun::Kept { ticks, visits, .. } => {
@@ -230,7 +230,7 @@ fn visits_judged(
     ensures judged { IfOk result
         (λ j. IsVisitsJudged both.entry.source.now both.entry.read.now.image profile.now both.entry.irq.now
         both.entry.fiq.now placed.old.file placed.old.machine j.kept j.text.items) }
-    ensures fault { IfErr result (IsSourceFault both.entry.source.now) }
+    ensures fault { IfErr result (λ e. e ≡ ReportFault.Memory) }
 {
     let inputs = placed.file.inputs(alloc)?;
     let entry = both.irq.handler.statement.entry();
@@ -244,7 +244,7 @@ fn visits_judged(
     let run = follow_visited(alloc, handlers, &mut placed.machine, &inputs[before..])?;
     let after = placed.machine.address();
     let outcome = Outcome { before, run, after };
-    run_answer(alloc, both, profile, outcome)
+    Ok(run_answer(alloc, both, profile, outcome)?)
 }
 
 // The answer on a machine's run through both handlers.
@@ -261,6 +261,7 @@ fn machine_run(
     requires entry { both.fiq.now.handler.statement.entry ≡ FIQ_VECTOR }
     ensures judged { IfOk result (λ j. IsVisitsReportOn run.entry profile.now j.kept j.text.items) }
     ensures fault { IfErr result (BeforeOutput (IsVisitsRefusalOf run.entry profile.now)) }
+    ensures alone { IfErr result ComesAlone }
 {
     let mut placed = place_image(alloc, both.read, run.machine, *profile)?;
     states_registers(&placed.file);
@@ -268,15 +269,19 @@ fn machine_run(
 }
 
 // The answer on a run through the handlers of a source that was read.
-fn said_run(
+fn source_run<'a>(
     alloc: Global,
-    run: FollowedVisits<'_>,
+    run: FollowedVisits<'a>,
     said: &Source<'_>,
     profile: &Profile,
-) -> Result<Judged, ReportFault>
+) -> Result<Judged, Stop<'a>>
     requires { IsSource run.source.now said.now }
     ensures judged { IfOk result (λ j. IsVisitsReportOn run.entry profile.now j.kept j.text.items) }
-    ensures fault { IfErr result (BeforeOutput (IsVisitsRefusalOf run.entry profile.now)) }
+    ensures fault { IfErr result
+        (λ s. BeforeOutput (IsVisitsRefusalOf run.entry profile.now) (stop_fault s)) }
+    ensures carries { IfErr result
+        (CarriesOneOf run.entry.source.now said.now
+        (run.entry.statement.now ∷ run.entry.fiq_statement.now ∷ []) profile.now) }
 {
     let irq = irq_bounded(alloc, said, run.statement, profile)?;
     let fiq = fiq_bounded(alloc, said, run.fiq_statement, profile)?;
@@ -286,19 +291,23 @@ fn said_run(
         irq: &irq,
         fiq: &fiq,
     };
-    machine_run(alloc, run, both, profile)
+    Ok(machine_run(alloc, run, both, profile)?)
 }
 
-fn source_run(
+// The answer on a run through a source's handlers.
+fn read_run<'a>(
     alloc: Global,
-    run: FollowedVisits<'_>,
+    run: FollowedVisits<'a>,
     profile: &Profile,
-) -> Result<Judged, ReportFault>
+) -> Result<Judged, Refusal<'a>>
     ensures judged { IfOk result (λ j. IsVisitsReportOn run.entry profile.now j.kept j.text.items) }
-    ensures fault { IfErr result (BeforeOutput (IsVisitsRefusalOf run.entry profile.now)) }
+    ensures fault { IfErr (fault_only result) (BeforeOutput (IsVisitsRefusalOf run.entry profile.now)) }
+    ensures carries { IfErr result (CarriesRead run.entry.source.now
+        (run.entry.statement.now ∷ run.entry.fiq_statement.now ∷ []) profile.now) }
 {
     let said = read_source(alloc, run.source)?;
-    said_run(alloc, run, &said, profile)
+    let judged = source_run(alloc, run, &said, profile);
+    with_source(said, judged)
 }
 
 /// Runs the machine of a source and a machine file and judges the run, from where it first comes to the
@@ -320,17 +329,20 @@ fn source_run(
 /// The first in the order of the work: profile, source, the handler's statement, graph, loops and walk, those
 /// of FIQ's handler with `NotFiqEntry` after its statement, machine file, load; `Memory`. After any but
 /// `Device` nothing was written.
-pub fn follow_visits_report<O: Output>(
+pub fn follow_visits_report<'a, O: Output>(
     alloc: Global,
-    run: FollowedVisits<'_>,
-    profile: Option<&[u8]>,
+    run: FollowedVisits<'a>,
+    profile: Option<&'a [u8]>,
     out: &mut O,
-) -> Result<bool, ReportFault>
-    ensures { Priced (option_map (λ f. f.now) profile.entry)
+) -> Result<bool, Refusal<'a>>
+    ensures answers { Priced (given profile.entry)
         (λ p. FollowsVisitedRun O.taken O.failures run.entry.source.now run.entry.statement.now
-        run.entry.fiq_statement.now run.entry.machine.now p out.old out.new result) out.old out.new result }
+        run.entry.fiq_statement.now run.entry.machine.now p out.old out.new (fault_only result))
+        out.old out.new (fault_only result) }
+    ensures carries { IfErr result (CarriesReadBy (given profile.entry) run.entry.source.now
+        (run.entry.statement.now ∷ run.entry.fiq_statement.now ∷ [])) }
 {
     let profile = profile_of(alloc, profile)?;
-    let judged = source_run(alloc, run, &profile)?;
-    print_answer(judged.kept, &judged.text, out)
+    let judged = read_run(alloc, run, &profile)?;
+    print_or_refuse(judged.kept, &judged.text, out)
 }

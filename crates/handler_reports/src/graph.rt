@@ -1,15 +1,21 @@
 //! The drawing of a handler's flow graph, with what its greatest run time takes.
 
-ghost use Rattle.std.specs.Prelude.{ℕ, List, IfErr, IfOk, option_map};
+ghost use Rattle.std.specs.Prelude.{◌∷◌, [], ℕ, List, IfErr, IfOk};
 ghost use Rattle.bus_ticks.specs.declared.profile.Profile.{Profile};
+ghost use Rattle.handler_reports.specs.Bound.{given};
 ghost use Rattle.handler_reports.specs.GraphReport.{Draws, IsGraphReport};
 ghost use Rattle.handlers.specs.Priced.{Priced};
+ghost use Rattle.handlers.specs.Refusal.{Carries, CarriesRead, CarriesReadBy, ComesAlone, fault_only};
+ghost use Rattle.handlers.specs.Refusal.{stop_fault};
 ghost use Rattle.handlers.specs.Report.{BeforeOutput, HasItsTree, HasLoops, IsRefused, OfHandler};
-ghost use Rattle.sources.specs.Source.{IsSource};
+ghost use Rattle.sources.specs.Source.{IsSource, Says};
 
 use bus_ticks::Profile;
 use control_flow::graphs_are_well_formed;
-use handlers::{Handler, ReportFault, longest_of, print_answer, profile_of, said_handler};
+use handlers::{
+    Handler, Refusal, ReportFault, Stop, longest_of, print_or_refuse, profile_of, read_handler,
+    read_source, with_source,
+};
 use outputs::Output;
 use sources::Source;
 use std::alloc::Global;
@@ -24,6 +30,7 @@ fn drawing_of(alloc: Global, read: &Source<'_>, handler: &Handler) -> Result<Vec
         → IfOk result (λ text. IsGraphReport source statement profile text.items) }
     ensures fault { OfHandler handler.now
         (λ source statement profile. IfErr result (BeforeOutput (IsRefused source statement profile))) }
+    ensures alone { IfErr result ComesAlone }
 {
     let found = longest_of(alloc, handler)?;
     graphs_are_well_formed(&handler.graph);
@@ -34,18 +41,39 @@ fn drawing_of(alloc: Global, read: &Source<'_>, handler: &Handler) -> Result<Vec
     Ok(text)
 }
 
-fn source_drawing(
+// The drawing of the handler of a source that was read.
+fn source_drawing<'a>(
     alloc: Global,
-    source: &[u8],
-    statement: &[u8],
+    said: &Source<'_>,
+    statement: &'a [u8],
     profile: &Profile,
-) -> Result<Vec<u8>, ReportFault>
+) -> Result<Vec<u8>, Stop<'a>>
+    ensures draws { (source : List ℕ) → IsSource source said.now
+        → IfOk result (λ text. IsGraphReport source statement.now profile.now text.items) }
+    ensures fault { (source : List ℕ) → Says source said.now
+        → IfErr result (λ s. BeforeOutput (IsRefused source statement.now profile.now) (stop_fault s)) }
+    ensures carries { IfErr result (Carries said.now statement.now profile.now) }
+{
+    let handler = read_handler(alloc, said, statement, profile)?;
+    Ok(drawing_of(alloc, said, &handler)?)
+}
+
+// The drawing of a source's handler.
+fn read_drawing<'a>(
+    alloc: Global,
+    source: &'a [u8],
+    statement: &'a [u8],
+    profile: &Profile,
+) -> Result<Vec<u8>, Refusal<'a>>
     ensures draws { IfOk result
         (λ text. IsGraphReport source.now statement.now profile.now text.items) }
-    ensures fault { IfErr result (BeforeOutput (IsRefused source.now statement.now profile.now)) }
+    ensures fault { IfErr (fault_only result)
+        (BeforeOutput (IsRefused source.now statement.now profile.now)) }
+    ensures carries { IfErr result (CarriesRead source.now (statement.now ∷ []) profile.now) }
 {
-    let read = said_handler(alloc, source, statement, profile)?;
-    drawing_of(alloc, &read.said, &read.handler)
+    let said = read_source(alloc, source)?;
+    let drawn = source_drawing(alloc, &said, statement, profile);
+    with_source(said, drawn)
 }
 
 /// Writes the drawing of a handler's flow graph in DOT, the language of Graphviz, by a cycle profile's file
@@ -56,18 +84,19 @@ fn source_drawing(
 /// # Errors
 ///
 /// Those of [`bound_report`](crate::bound_report). After any but `Device` nothing was written.
-pub fn graph_report<O: Output>(
+pub fn graph_report<'a, O: Output>(
     alloc: Global,
-    source: &[u8],
-    statement: &[u8],
-    profile: Option<&[u8]>,
+    source: &'a [u8],
+    statement: &'a [u8],
+    profile: Option<&'a [u8]>,
     out: &mut O,
-) -> Result<(), ReportFault>
-    ensures { Priced (option_map (λ f. f.now) profile.entry)
-        (λ p. Draws O.taken O.failures source.now statement.now p out.old out.new
-        result) out.old out.new result }
+) -> Result<(), Refusal<'a>>
+    ensures answers { Priced (given profile.entry)
+        (λ p. Draws O.taken O.failures source.now statement.now p out.old out.new (fault_only result)) out.old
+        out.new (fault_only result) }
+    ensures carries { IfErr result (CarriesReadBy (given profile.entry) source.now (statement.now ∷ [])) }
 {
     let profile = profile_of(alloc, profile)?;
-    let text = source_drawing(alloc, source, statement, &profile)?;
-    print_answer((), &text, out)
+    let text = read_drawing(alloc, source, statement, &profile)?;
+    print_or_refuse((), &text, out)
 }

@@ -1,6 +1,6 @@
 //! Reports of a handler: its bound, which is a certificate, with FIQ's visits too; the verdict on one;
-//! explanations and drawings of a bound; runs that are followed; and the machine that takes an edge of the flow
-//! graph at its price.
+//! explanations and drawings of a bound; runs that are followed; and the machine that takes an edge of the
+//! flow graph at its price.
 #![tactic(auto)]
 
 mod bound;
@@ -12,7 +12,6 @@ mod follow;
 mod follow_text;
 mod follow_visits;
 mod graph;
-mod handler_graph;
 mod law;
 mod tight;
 mod verdict;
@@ -20,14 +19,13 @@ mod visited_text;
 mod visits;
 mod warnings;
 
-pub use bound::{BoundReport, bound_report, longest_report};
-pub use check::{CheckInputs, check_report};
+pub use bound::{BoundReport, bound_report, longest_report, print_bound};
+pub use check::{CheckInputs, check_report, print_check};
 pub use explain::{Explained, explain_report};
 pub use follow::{FollowedRun, follow_report};
 pub use follow_visits::{FollowedVisits, follow_visits_report};
 pub use graph::graph_report;
-pub use handler_graph::{HandlerGraph, read_graph};
 pub use law::certificates_are_accepted;
-pub use tight::tight_report;
+pub use tight::{AskedEdge, print_tight, tight_report};
 pub use verdict::verdict_report;
-pub use visits::visits_report;
+pub use visits::{VisitedHandler, print_visits, visits_report};

@@ -1,13 +1,15 @@
-ghost use Rattle.std.specs.Prelude.{◌≡◌, ◌↔◌, ◌++◌, None, IfOk, IsTrue, option_map};
+ghost use Rattle.std.specs.Prelude.{◌≡◌, ◌↔◌, ◌++◌, ◌∷◌, [], None, IfErr, IfOk, IsTrue};
 ghost use Rattle.cert_check.specs.Failing.{verdict_of};
 ghost use Rattle.handlers.specs.Priced.{Priced};
+ghost use Rattle.handlers.specs.Refusal.{CarriesReadBy, fault_only};
+ghost use Rattle.handler_reports.specs.Bound.{given};
 ghost use Rattle.handler_reports.specs.Check.{verdict_line};
 ghost use Rattle.handler_reports.specs.Verdict.{ExplainsVerdict, row_text};
 
 use crate::check::{CheckInputs, verdict_line};
 use crate::finding::found_of;
 use cert_check::{FailingRow, Verdict, objection_of};
-use handlers::{ReportFault, print_answer, profile_of};
+use handlers::{Refusal, print_or_refuse, profile_of};
 use outputs::Output;
 use std::alloc::{AllocError, Global};
 use text_objections::objection_text;
@@ -43,18 +45,20 @@ fn is_yes(row: &Option<FailingRow>) -> bool
 /// # Errors
 ///
 /// Those of [`check_report`](crate::check_report). After any but `Device` nothing was written.
-pub fn verdict_report<O: Output>(
+pub fn verdict_report<'a, O: Output>(
     alloc: Global,
-    inputs: CheckInputs<'_>,
-    profile: Option<&[u8]>,
+    inputs: CheckInputs<'a>,
+    profile: Option<&'a [u8]>,
     out: &mut O,
-) -> Result<bool, ReportFault>
-    ensures { Priced (option_map (λ f. f.now) profile.entry)
+) -> Result<bool, Refusal<'a>>
+    ensures answers { Priced (given profile.entry)
         (λ p. ExplainsVerdict O.taken O.failures inputs.entry.source.now inputs.entry.statement.now
-        inputs.entry.cert.now p out.old out.new result) out.old out.new result }
+        inputs.entry.cert.now p out.old out.new (fault_only result)) out.old out.new (fault_only result) }
+    ensures carries { IfErr result (CarriesReadBy (given profile.entry) inputs.entry.source.now
+        (inputs.entry.statement.now ∷ [])) }
 {
     let profile = profile_of(alloc, profile)?;
     let row: Option<FailingRow> = found_of(alloc, inputs, &profile)?;
     let text = text_of(alloc, &row)?;
-    print_answer(is_yes(&row), &text, out)
+    print_or_refuse(is_yes(&row), &text, out)
 }

@@ -1,7 +1,8 @@
 //! What is printed of a run of a handler that FIQ interrupts, judged by the statements of both.
 
 ghost use Rattle.std.specs.Prelude.{◌≡◌, IfOk, string_bytes};
-ghost use Rattle.handler_reports.specs.VisitedText.{kept_visits_text, never_text, visit_why_text, visits_text};
+ghost use Rattle.handler_reports.specs.VisitedText.{kept_visits_text, never_text, visit_why_text};
+ghost use Rattle.handler_reports.specs.VisitedText.{visits_text};
 
 use crate::follow_text::{less_text, why_text};
 use kept_runs::VisitUnkept;

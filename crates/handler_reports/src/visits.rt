@@ -1,9 +1,11 @@
-ghost use Rattle.std.specs.Prelude.{◌≡◌, ◌⊎◌, ◌++◌, ◌≤◌, ◌<◌, List, ℕ, IfErr, IfOk};
-ghost use Rattle.std.specs.Prelude.{OnOk, option_map};
+ghost use Rattle.std.specs.Prelude.{◌≡◌, ◌⊎◌, ◌++◌, ◌∷◌, [], ◌≤◌, ◌<◌, List, ℕ, IfErr, IfOk, OnOk};
 ghost use Rattle.walks.specs.declared.limits.TheConstants.{COST_LIMIT};
 ghost use Rattle.longest_walk.specs.Visits.{visits_bound};
 ghost use Rattle.handlers.specs.Priced.{Priced};
 ghost use Rattle.handlers.specs.FiqHandler.{IsFiqRefused};
+ghost use Rattle.handlers.specs.Refusal.{Carries, CarriesOneOf, CarriesRead, CarriesReadBy, fault_only};
+ghost use Rattle.handlers.specs.Refusal.{stop_fault};
+ghost use Rattle.handler_reports.specs.Bound.{given};
 ghost use Rattle.handlers.specs.Report.{BeforeOutput, IsRefused};
 ghost use Rattle.sources.specs.Source.{Says};
 ghost use Rattle.handler_reports.specs.VisitsReport.{AreRefused, HasBound, HasFiqBound};
@@ -11,51 +13,60 @@ ghost use Rattle.handler_reports.specs.VisitsReport.{IsVisitsReport, ReportsVisi
 
 use crate::bound::{BoundReport, longest_report};
 use bus_ticks::{Profile, fiq_entry};
-use handlers::{ReportFault, fiq_handler, handler_of, print_answer, profile_of, read_source};
+use handlers::{
+    Refusal, ReportFault, Stop, fault_only, fiq_handler, print_or_refuse, profile_of, read_handler,
+    read_source, with_source,
+};
 use longest_walk::{WalkFault, visits_bound};
 use outputs::Output;
 use sources::Source;
 use std::alloc::Global;
 use std::fmt::Write;
 
-// The statement of an interrupt handler, that of FIQ's handler, and how often FIQ interrupts it at most.
+/// An interrupt handler, FIQ's, and how often FIQ interrupts it at most.
 #[derive(Clone, Copy)]
-struct Visited<'a> {
-    irq: &'a [u8],
-    fiq: &'a [u8],
-    visits: u32,
+pub struct VisitedHandler<'a> {
+    /// The bytes of the source of both, a text or an image.
+    pub source: &'a [u8],
+    /// The text of the statement on the handler.
+    pub irq: &'a [u8],
+    /// That of the statement on FIQ's handler.
+    pub fiq: &'a [u8],
+    pub visits: u32,
 }
 
 // The report of the interrupted handler.
-fn irq_report(
+fn irq_report<'a>(
     alloc: Global,
     said: &Source<'_>,
-    statement: &[u8],
+    statement: &'a [u8],
     profile: &Profile,
-) -> Result<BoundReport, ReportFault>
+) -> Result<BoundReport, Stop<'a>>
     ensures report { (source : List ℕ) → Says source said.now
         → IfOk result (λ r. HasBound source statement.now profile.now r.bound r.text.items) }
     ensures fault { (source : List ℕ) → Says source said.now
-        → IfErr result (BeforeOutput (IsRefused source statement.now profile.now)) }
+        → IfErr result (λ s. BeforeOutput (IsRefused source statement.now profile.now) (stop_fault s)) }
+    ensures carries { IfErr result (Carries said.now statement.now profile.now) }
 {
-    let handler = handler_of(alloc, said, statement, profile)?;
-    longest_report(alloc, &handler)
+    let handler = read_handler(alloc, said, statement, profile)?;
+    Ok(longest_report(alloc, &handler)?)
 }
 
 // The report of FIQ's handler.
-fn fiq_report(
+fn fiq_report<'a>(
     alloc: Global,
     said: &Source<'_>,
-    statement: &[u8],
+    statement: &'a [u8],
     profile: &Profile,
-) -> Result<BoundReport, ReportFault>
+) -> Result<BoundReport, Stop<'a>>
     ensures report { (source : List ℕ) → Says source said.now
         → IfOk result (λ r. HasFiqBound source statement.now profile.now r.bound r.text.items) }
     ensures fault { (source : List ℕ) → Says source said.now
-        → IfErr result (BeforeOutput (IsFiqRefused source statement.now profile.now)) }
+        → IfErr result (λ s. BeforeOutput (IsFiqRefused source statement.now profile.now) (stop_fault s)) }
+    ensures carries { IfErr result (Carries said.now statement.now profile.now) }
 {
     let handler = fiq_handler(alloc, said, statement, profile)?;
-    longest_report(alloc, &handler)
+    Ok(longest_report(alloc, &handler)?)
 }
 
 // The summary and both reports.
@@ -89,40 +100,45 @@ fn joined_text(
 }
 
 // The report of a source that was read.
-fn visits_text(
+fn source_visits<'a>(
     alloc: Global,
     said: &Source<'_>,
-    asked: Visited<'_>,
+    asked: VisitedHandler<'a>,
     profile: &Profile,
-) -> Result<Vec<u8>, ReportFault>
+) -> Result<Vec<u8>, Stop<'a>>
     ensures report { (source : List ℕ) → Says source said.now
         → IfOk result (λ v. IsVisitsReport source asked.entry.irq.now asked.entry.fiq.now asked.entry.visits
         profile.now v.items) }
     ensures fault { (source : List ℕ) → Says source said.now
         → IfErr result
-        (BeforeOutput (AreRefused source asked.entry.irq.now asked.entry.fiq.now asked.entry.visits
-        profile.now)) }
+        (λ s. BeforeOutput (AreRefused source asked.entry.irq.now asked.entry.fiq.now asked.entry.visits
+        profile.now) (stop_fault s)) }
+    ensures carries { (source : List ℕ) → Says source said.now
+        → IfErr result
+        (CarriesOneOf source said.now (asked.entry.irq.now ∷ asked.entry.fiq.now ∷ []) profile.now) }
 {
     let irq = irq_report(alloc, said, asked.irq, profile)?;
     let fiq = fiq_report(alloc, said, asked.fiq, profile)?;
-    joined_text(alloc, profile, asked.visits, &irq, &fiq)
+    Ok(joined_text(alloc, profile, asked.visits, &irq, &fiq)?)
 }
 
 // The report of a source.
-fn read_visits(
+fn read_visits<'a>(
     alloc: Global,
-    source: &[u8],
-    asked: Visited<'_>,
+    asked: VisitedHandler<'a>,
     profile: &Profile,
-) -> Result<Vec<u8>, ReportFault>
-    ensures report { IfOk result (λ v. IsVisitsReport source.now asked.entry.irq.now asked.entry.fiq.now
-        asked.entry.visits profile.now v.items) }
-    ensures fault { IfErr result
-        (BeforeOutput (AreRefused source.now asked.entry.irq.now asked.entry.fiq.now asked.entry.visits
-        profile.now)) }
+) -> Result<Vec<u8>, Refusal<'a>>
+    ensures report { IfOk result (λ v. IsVisitsReport asked.entry.source.now asked.entry.irq.now
+        asked.entry.fiq.now asked.entry.visits profile.now v.items) }
+    ensures fault { IfErr (fault_only result)
+        (BeforeOutput (AreRefused asked.entry.source.now asked.entry.irq.now asked.entry.fiq.now
+        asked.entry.visits profile.now)) }
+    ensures carries { IfErr result
+        (CarriesRead asked.entry.source.now (asked.entry.irq.now ∷ asked.entry.fiq.now ∷ []) profile.now) }
 {
-    let said = read_source(alloc, source)?;
-    visits_text(alloc, &said, asked, profile)
+    let said = read_source(alloc, asked.source)?;
+    let text = source_visits(alloc, &said, asked, profile);
+    with_source(said, text)
 }
 
 /// Writes the report of a source, the statement of an interrupt handler and that of FIQ's, which interrupts
@@ -148,29 +164,37 @@ pub fn visits_report<O: Output>(
     profile: Option<&[u8]>,
     out: &mut O,
 ) -> Result<(), ReportFault>
-    ensures { Priced (option_map (λ f. f.now) profile.entry)
+    ensures { Priced (given profile.entry)
         (λ p. ReportsVisits O.taken O.failures source.now irq_statement.now fiq_statement.now visits p out.old
         out.new result) out.old out.new result }
 {
-    let profile = profile_of(alloc, profile)?;
-    let asked = Visited {
+    let asked = VisitedHandler {
+        source,
         irq: irq_statement,
         fiq: fiq_statement,
         visits,
     };
-    priced_visits(alloc, source, asked, &profile, out)
+    fault_only(print_visits(alloc, asked, profile, out))
 }
 
-fn priced_visits<O: Output>(
+/// As [`visits_report`]; a refusal comes with what its fault was found in.
+///
+/// # Errors
+///
+/// Those of [`visits_report`].
+pub fn print_visits<'a, O: Output>(
     alloc: Global,
-    source: &[u8],
-    asked: Visited<'_>,
-    profile: &Profile,
+    asked: VisitedHandler<'a>,
+    profile: Option<&'a [u8]>,
     out: &mut O,
-) -> Result<(), ReportFault>
-    ensures { ReportsVisits O.taken O.failures source.now asked.entry.irq.now asked.entry.fiq.now
-        asked.entry.visits profile.now out.old out.new result }
+) -> Result<(), Refusal<'a>>
+    ensures answers { Priced (given profile.entry)
+        (λ p. ReportsVisits O.taken O.failures asked.entry.source.now asked.entry.irq.now asked.entry.fiq.now
+        asked.entry.visits p out.old out.new (fault_only result)) out.old out.new (fault_only result) }
+    ensures carries { IfErr result (CarriesReadBy (given profile.entry) asked.entry.source.now
+        (asked.entry.irq.now ∷ asked.entry.fiq.now ∷ [])) }
 {
-    let text = read_visits(alloc, source, asked, profile)?;
-    print_answer((), &text, out)
+    let profile = profile_of(alloc, profile)?;
+    let text = read_visits(alloc, asked, &profile)?;
+    print_or_refuse((), &text, out)
 }

@@ -1,5 +1,5 @@
 -- When FIQ's handler is refused.
-use Rattle.std.proofs.Common.{◌≡◌, ◌≢◌, ◌∙◌, ◌⊎◌, ℕ, List, Result, Ok, Err, refl, ap, inl, inr}
+use Rattle.std.proofs.Common.{◌≡◌, ◌∙◌, ◌⊎◌, ℕ, List, Result, Ok, Err, refl, sym, ap, subst, inl, inr}
 use Rattle.std.specs.Prelude.{IfErr}
 use Rattle.bus_ticks.specs.declared.profile.Profile.{Profile}
 use Rattle.image.specs.Image.{Words}
@@ -7,15 +7,20 @@ use Rattle.image.specs.Labels.{Names}
 use Rattle.statement.specs.Stated.{Stated}
 use Rattle.statement.specs.Statement.{IsStatement}
 use Rattle.statement.specs.declared.faults.StatementFault.{StatementFault}
-use Rattle.statement.specs.declared.faults.StatementFault.TheVariants as statement_fault
-use Rattle.handlers.specs.Faults.{of_statement}
 use Rattle.handlers.specs.declared.fault.ReportFault.{ReportFault}
 use Rattle.handlers.specs.declared.fault.ReportFault.TheVariants.{Memory, Device, NotFiqEntry}
 use Rattle.handlers.specs.declared.fault.ReportFault.TheVariants as report_fault
 use Rattle.handlers.specs.FiqHandler.{EntersElsewhere, IsFiqRefused}
 use Rattle.handlers.specs.Report.{BeforeOutput, IsAccepted, IsRefused}
 use Rattle.sources.specs.Source.{Said, source_of}
-use Rattle.handlers.proofs.HandlerLemmas.{one_ok, same_statement, statement_refusal}
+use Rattle.image.specs.Labels.{address_of}
+use Rattle.sources.specs.Source.{Says}
+use Rattle.sources.specs.declared.read.Source.{Source}
+use Rattle.handlers.specs.Refusal.{HasNoHandler, HasNoStatement, stop_fault}
+use Rattle.handlers.specs.declared.refusal.Stop.{Stop}
+use Rattle.handlers.specs.declared.refusal.Stop.TheVariants as stop
+use Rattle.handlers.proofs.HandlerLemmas.{one_ok, same_statement}
+use Rattle.handlers.proofs.RefusalLemmas.{refused}
 use Rattle.handlers.proofs.ReportLemmas.{accepted_refusals, report_refusal}
 
 module _ (source fiq : List ℕ) (profile : Profile) where
@@ -51,14 +56,6 @@ module _ (source fiq : List ℕ) (profile : Profile) where
         let both : Ok other.stated ≡ Err f = same_statement fiq other.names names (Ok other.stated) (Err f) (ap (λ (s : Said). s.1) same_said) other.statement_is is in
         absurd (cc both)
 
-    refused_reading : (f : StatementFault) → f ≢ statement_fault.Memory → (f ≢ statement_fault.Memory → IsStatement fiq names (Err f)) → BeforeOutput (IsFiqRefused source fiq profile) (of_statement f)
-    refused_reading f other h =
-        fiq_refusal (of_statement f) (enters_nowhere f (h other)) (report_refusal source fiq profile (of_statement f) (statement_refusal source fiq profile words names said f h))
-
-    pub fiq_statement_refusal : (f : StatementFault) → (f ≢ statement_fault.Memory → IsStatement fiq names (Err f)) → BeforeOutput (IsFiqRefused source fiq profile) (of_statement f)
-    fiq_statement_refusal statement_fault.Memory h = (λ e. cc e, tt)
-    fiq_statement_refusal f h = refused_reading f (λ e. cc e) h
-
   -- what an accepted handler that begins at FIQ's vector is refused for
   module _ (a : IsAccepted source fiq profile) (there : a.stated.entry ≡ 0x1C) where
     own_entry : EntersElsewhere source fiq → ⊥
@@ -72,3 +69,18 @@ module _ (source fiq : List ℕ) (profile : Profile) where
     fiq_accepted (report_fault.NotFree at) r = absurd r.0
     fiq_accepted Device r = inr refl
     fiq_accepted e r = accepted_refusals source fiq profile e a r.0
+
+-- ## Where work on a source stops
+
+module _ (source : Source) (fiq : List ℕ) (profile : Profile) (bytes : List ℕ) (is : Says bytes source) where
+  -- after a statement that enters there
+  pub fiq_stopped : (s : Stop) → (EntersElsewhere bytes fiq → ⊥) → HasNoHandler source fiq profile s → BeforeOutput (IsFiqRefused bytes fiq profile) (stop_fault s)
+  fiq_stopped s right h = fiq_refusal bytes fiq profile (stop_fault s) right (report_refusal bytes fiq profile (stop_fault s) (refused source fiq profile s h bytes is))
+
+  -- in its text
+  pub fiq_unstated : (s : Stop) → HasNoStatement source fiq s → BeforeOutput (IsFiqRefused bytes fiq profile) (stop_fault s)
+  fiq_unstated (stop.Alone fault) h = subst (BeforeOutput (IsFiqRefused bytes fiq profile)) (sym h) (λ e. cc e, tt)
+  fiq_unstated (stop.Statement own fault) h =
+      fiq_stopped (stop.Statement own fault) (enters_nowhere bytes fiq profile source.image (address_of source.labels) is fault h.fault_is) h
+  fiq_unstated (stop.Graph stated prices fault) h = absurd h
+  fiq_unstated (stop.Loops stated flow fault) h = absurd h

@@ -1,6 +1,6 @@
 -- What is known of a source and a statement up to their tree of loops, and what their refusals say.
-use Rattle.std.proofs.Common.{◌≡◌, ◌≢◌, ◌∙◌, ◌⊎◌, ℕ, List, Result, Ok, Err, refl, sym, ap, subst, inl, inr}
-use Rattle.std.specs.Prelude.{IfErr, IfOk}
+use Rattle.std.proofs.Common.{◌≡◌, ◌∙◌, ◌⊎◌, ℕ, List, Result, Ok, Err, refl, sym, ap, subst, inl, inr}
+use Rattle.std.specs.Prelude.{IfErr}
 use Rattle.std.specs.Result.{IsErrAnd}
 use Rattle.bus_ticks.specs.declared.profile.Profile.{Profile}
 use Rattle.image.specs.Image.{Words}
@@ -10,25 +10,18 @@ use Rattle.statement.specs.Stated.{Stated}
 use Rattle.image.specs.Labels.{Names}
 use Rattle.statement.specs.Statement.{IsStatement}
 use Rattle.statement.specs.declared.faults.StatementFault.{StatementFault}
-use Rattle.statement.specs.declared.faults.StatementFault.TheVariants as statement_fault
-use Rattle.control_flow.specs.declared.faults.BuildFault.{BuildFault}
-use Rattle.control_flow.specs.declared.faults.BuildFault.TheVariants as build_fault
 use Rattle.statement.specs.declared.stated.Loop.{Loop}
 use Rattle.control_flow.proofs.Unique.{one_flow}
 use Rattle.statement.proofs.Unique.{one_statement}
 use Rattle.loop_bounds.specs.Nest.{Applies, IsNestFault}
 use Rattle.loop_bounds.specs.declared.fault.NestFault.{NestFault}
 use Rattle.loop_bounds.specs.declared.fault.NestFault.TheVariants as nest_fault
-use Rattle.handlers.specs.Faults.{of_graph, of_loops, of_statement}
-use Rattle.handlers.specs.Report.{AreLoopsRefused, HasGraph, HasItsTree, HasLoops, IsGraphRefused, IsHandlerOf, IsHandlerRefused, IsStatementRefused}
+use Rattle.handlers.specs.Report.{AreLoopsRefused, HasGraph, HasLoops, IsHandlerRefused}
 use Rattle.handlers.specs.Source.{IsSourceFault}
-use Rattle.sources.specs.Source.{Said, Says, source_of}
+use Rattle.sources.specs.Source.{Said, source_of}
 use Rattle.sources.specs.declared.fault.SourceFault.TheVariants as source_fault
-use Rattle.sources.specs.declared.read.Source.{Source as ReadSource}
-use Rattle.handlers.specs.declared.handler.Handler.{Handler}
 use Rattle.handlers.specs.declared.fault.ReportFault.{ReportFault}
 use Rattle.handlers.specs.declared.fault.ReportFault.TheVariants.{Memory, Source, Image, Statement, Graph, Loops}
-use Rattle.handlers.specs.declared.fault.ReportFault.TheVariants as report_fault
 
 -- ## A source has one image, a statement one value, and both one graph
 
@@ -55,24 +48,6 @@ one_graph source statement profile st su flow other g h =
     let graph : IsFlowGraph g.words st profile other =
     subst (λ (s : Stated). IsFlowGraph g.words s profile other) stated (subst (λ (w : Words). IsFlowGraph w su profile other) words h.graph_is) in
     record { same_stated = sym stated; same_flow = one_flow g.words st profile flow other g.graph_is graph }
-
--- a source and a statement that were read have a graph
-pub graph_there : (source statement : List ℕ) (profile : Profile) (words : Words) (names : Names) (st : Stated) (flow : Flow) → source_of source ≡ Ok (words, names) → IsStatement statement names (Ok st)
-    → ((f : BuildFault) → f ≢ build_fault.Memory → IsBuildFault words st profile f → ⊥) → IsFlowGraph words st profile flow → HasGraph source statement profile st flow
-graph_there source statement profile words names st flow said read allowed is = record {
-  words = words;
-  names = names;
-  source_is = said;
-  statement_is = read;
-  no_fault = allowed;
-  graph_is = is;
-}
-
--- loops by each source that says this, and the tree, are the handler
-pub handler_is : (r : Result Handler ReportFault) (said : ReadSource) (statement : List ℕ) (profile : Profile) → ((source : List ℕ) → Says source said → IfOk r (λ h. HasLoops source statement profile h.statement h.graph))
-    → IfOk r HasItsTree → IfOk r (IsHandlerOf said statement profile)
-handler_is (Ok h) said statement profile loops tree = record { loops = loops; tree = tree }
-handler_is (Err e) said statement profile loops tree = tt
 
 -- a refusal of the loops says what applies
 applies : (flow : Flow) (loops : List Loop) (f : NestFault) → IsNestFault flow loops f → Applies flow loops f
@@ -122,32 +97,6 @@ handler_refusals source statement profile st flow e a r =
 pub refused_as : {T E : Type 0} (r : Result T E) (e : E) (P : E → Type 0) → IsErrAnd r (λ x. x ≡ e) → P e → IfErr r P
 refused_as (Ok x) e P h p = tt
 refused_as (Err x) e P h p = subst P (sym h) p
-
--- ## The faults of the statement and of the graph
-
--- what a source says that was read
-module _ (source statement : List ℕ) (profile : Profile) (words : Words) (names : Names) (said : source_of source ≡ Ok (words, names)) where
-  refused_statement : (f : StatementFault) → f ≢ statement_fault.Memory → (f ≢ statement_fault.Memory → IsStatement statement names (Err f)) → IsStatementRefused source statement f
-  refused_statement f other h = record { words = words; names = names; source_is = said; not_memory = other; statement_is = h other }
-
-  pub statement_refusal : (f : StatementFault) → (f ≢ statement_fault.Memory → IsStatement statement names (Err f)) → IsHandlerRefused source statement profile (of_statement f)
-  statement_refusal statement_fault.Memory h = tt
-  statement_refusal f h = refused_statement f (λ e. cc e) h
-
-  module _ (st : Stated) (read : IsStatement statement names (Ok st)) where
-    refused_graph : (f : BuildFault) → f ≢ build_fault.Memory → IsBuildFault words st profile f → IsGraphRefused source statement profile f
-    refused_graph f other h = record { words = words; names = names; stated = st; source_is = said; statement_is = read; not_memory = other; holds = h }
-
-    pub graph_refusal : (f : BuildFault) → IsBuildFault words st profile f → IsHandlerRefused source statement profile (of_graph f)
-    graph_refusal build_fault.Memory h = tt
-    graph_refusal f h = refused_graph f (λ e. cc e) h
-
--- ## The faults of the loops
-
-pub loops_refusal : (source statement : List ℕ) (profile : Profile) (st : Stated) (flow : Flow) (f : NestFault) → HasGraph source statement profile st flow → IsNestFault flow st.loops f
-    → IsHandlerRefused source statement profile (of_loops f)
-loops_refusal source statement profile st flow nest_fault.Memory g h = tt
-loops_refusal source statement profile st flow f g h = record { stated = st; flow = flow; graph = g; not_memory = λ e. cc e; holds = h }
 
 -- ## The faults of the source
 

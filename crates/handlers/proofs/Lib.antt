@@ -2,6 +2,7 @@ pub mod FiqLemmas
 pub mod HandlerLemmas
 pub mod PlacingLemmas
 pub mod PricedLemmas
+pub mod RefusalLemmas
 pub mod ReportLemmas
 pub mod SourceLemmas
 pub mod VisitLemmas

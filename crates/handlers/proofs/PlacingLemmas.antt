@@ -30,7 +30,6 @@ use Rattle.sources.specs.declared.fault.SourceFault.TheVariants as source_fault
 use Rattle.image.specs.Labels.{Names}
 use Rattle.handlers.specs.declared.fault.ReportFault.{ReportFault}
 use Rattle.handlers.specs.declared.fault.ReportFault.TheVariants.{Memory as OfMemory, Source, Image, MachineFile, Load, Device}
-use Rattle.handlers.specs.declared.fault.ReportFault.TheVariants as report_fault
 
 -- ## A text has one answer
 
@@ -133,12 +132,12 @@ module _ (source machine : List ℕ) (profile : Profile) where
   Refused = BeforeOutput (IsRunRefused source machine profile)
 
   module _ (words : Words) (names : Names) (said : source_of source ≡ Ok (words, names)) where
-    unread : (f : MachineFileFault) → f ≢ machine_fault.Memory → IsMachineFile machine (Err f) → IsFileRefused source machine f
-    unread f other h = record { words = words; names = names; source_is = said; not_memory = other; file_is = h }
+    fault_only : (f : MachineFileFault) → f ≢ machine_fault.Memory → IsMachineFile machine (Err f) → IsFileRefused source machine f
+    fault_only f other h = record { words = words; names = names; source_is = said; not_memory = other; file_is = h }
 
     pub file_refuses : (f : MachineFileFault) → (f ≢ machine_fault.Memory → IsMachineFile machine (Err f)) → Refused (of_machine_file f)
     file_refuses machine_fault.Memory h = (λ e. cc e, tt)
-    file_refuses f h = (λ e. cc e, unread f (λ e. cc e) (h (λ e. cc e)))
+    file_refuses f h = (λ e. cc e, fault_only f (λ e. cc e) (h (λ e. cc e)))
 
     module _ (file : Stated) (read : IsMachineFile machine (Ok file)) (start : State) (started : IsStarted file profile start) where
       pub load_refuses : (f : LoadFault) → (f ≡ load_fault.Memory) ⊎ ((f ≡ load_fault.NoPage) × LacksPage start words file) → Refused (of_load f)

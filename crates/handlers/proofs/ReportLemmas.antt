@@ -30,7 +30,6 @@ use Rattle.handlers.specs.Keeping.{BoundsRuns}
 use Rattle.handlers.specs.Report.{BeforeOutput, HasLoops, IsAccepted, IsBounded, IsBoundReport, IsGreatestWalk, IsHandlerRefused, IsRefused, IsReport, IsTreeOf, IsWalkRefusal}
 use Rattle.handlers.specs.declared.fault.ReportFault.{ReportFault}
 use Rattle.handlers.specs.declared.fault.ReportFault.TheVariants.{Memory, Walk, Device}
-use Rattle.handlers.specs.declared.fault.ReportFault.TheVariants as report_fault
 use Rattle.handlers.proofs.HandlerLemmas.{handler_refusals, one_graph}
 
 -- ## Accepted

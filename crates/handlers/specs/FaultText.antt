@@ -12,8 +12,8 @@ use Rattle.certificate.specs.declared.fault.CertFault.TheVariants as cert_fault
 use Rattle.handlers.specs.FaultNames.{fault_name}
 use Rattle.handlers.specs.declared.fault.ReportFault.{ReportFault}
 use Rattle.handlers.specs.declared.fault.ReportFault.TheVariants as report_fault
-use Rattle.handlers.specs.declared.refusal.FaultPlace.{FaultPlace}
-use Rattle.handlers.specs.declared.refusal.FaultPlace.TheVariants.{Address, Nowhere, TextLine}
+use Rattle.handlers.specs.declared.refusal_line.FaultPlace.{FaultPlace}
+use Rattle.handlers.specs.declared.refusal_line.FaultPlace.TheVariants.{Address, Nowhere, TextLine}
 
 -- ## Where a fault is
 

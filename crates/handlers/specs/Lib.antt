@@ -2,6 +2,7 @@ pub mod FiqHandler
 pub mod Keeping
 pub mod Placing
 pub mod Priced
+pub mod Refusal
 pub mod Report
 pub mod Source
 pub mod Visits

@@ -9,7 +9,8 @@ use machine_file::{MachineFileFault, ProfileFileFault};
 use statement::StatementFault;
 use thiserror::Error;
 
-/// Why there is no report and no verdict. A failed allocation is always `Memory`, never inside another variant.
+/// Why there is no report and no verdict. A failed allocation is always `Memory`, never inside another
+/// variant.
 #[derive(Clone, Copy, Debug, PartialEq, Eq, Drop, Error)]
 pub enum ReportFault {
     /// An allocation failed.

@@ -5,19 +5,22 @@ ghost use Rattle.loop_bounds.specs.Bounds.{IsGreatestCost};
 ghost use Rattle.numbered_walks.specs.declared.fault.WalkFault.{WalkFault};
 ghost use Rattle.statement.specs.Statement.{IsStatement};
 ghost use Rattle.handlers.specs.Priced.{HasNoProfile, IsProfile};
-ghost use Rattle.handlers.specs.Report.{BeforeOutput, HasItsTree, HasLoops, IsHandlerOf};
+ghost use Rattle.handlers.specs.Refusal.{Carries, ComesAlone, HasNoHandler, HasNoStatement};
+ghost use Rattle.handlers.specs.Refusal.{stop_fault};
+ghost use Rattle.handlers.specs.Report.{BeforeOutput, HasItsTree, IsHandlerOf};
 ghost use Rattle.handlers.specs.Report.{IsHandlerRefused, IsRefused, OfHandler};
 ghost use Rattle.handlers.specs.Source.{IsSourceFault};
 ghost use Rattle.sources.specs.Source.{IsSource, Says};
 
 use crate::fault::ReportFault;
+use crate::refusal::Stop;
 use bus_ticks::Profile;
-use control_flow::{Graph, build};
+use control_flow::{BuildFault, Graph, build};
 use longest_walk::{Longest, longest};
-use loop_bounds::{LoopTree, nest};
+use loop_bounds::{LoopTree, NestFault, nest};
 use machine_file::read_profile;
 use sources::Source;
-use statement::{Statement, read_statement};
+use statement::{Statement, StatementFault, read_statement};
 use std::alloc::Global;
 
 /// The cycle profile of a file, or the first one where there is no file.
@@ -59,100 +62,78 @@ pub struct Handler {
     pub tree: LoopTree,
 }
 
-/// A source, and the handler of it and of a statement.
-#[derive(Drop)]
-pub struct SaidHandler<'a> {
-    pub said: Source<'a>,
-    pub handler: Handler,
-}
-
-/// A source with its handler.
+/// The statement on a source that the text says.
 ///
 /// # Errors
 ///
-/// The first in the order of the work: source, statement, graph, loops. `Memory`: an allocation failed.
-pub fn said_handler<'a>(
+/// `Statement` with the text's fault. `Memory`: an allocation failed.
+pub(crate) fn stated_on<'a>(
     alloc: Global,
-    source: &'a [u8],
-    statement: &[u8],
-    profile: &Profile,
-) -> Result<SaidHandler<'a>, ReportFault>
-    ensures is { IfOk result (λ r. IsSource source.now r.said) }
-    ensures loops { IfOk result
-        (λ r. HasLoops source.now statement.now profile.now r.handler.statement r.handler.graph) }
-    ensures tree { IfOk result (λ r. HasItsTree r.handler) }
-    ensures fault { IfErr result (IsHandlerRefused source.now statement.now profile.now) }
+    source: &Source<'_>,
+    text: &'a [u8],
+) -> Result<Statement, Stop<'a>>
+    ensures is { IfOk result (λ s. IsStatement text.now (address_of source.now.labels) (Ok s)) }
+    ensures stops { IfErr result (HasNoStatement source.now text.now) }
 {
-    let said = read_source(alloc, source)?;
-    let handler = handler_of(alloc, &said, statement, profile)?;
-    Ok(SaidHandler { said, handler })
+    match read_statement(alloc, text, &source.labels) {
+        Ok(statement) => Ok(statement),
+        Err(StatementFault::Memory) => Err(Stop::Alone(ReportFault::Memory)),
+        Err(fault) => Err(Stop::Statement(text, fault)),
+    }
 }
 
 /// The handler of a source and a statement.
 ///
 /// # Errors
 ///
-/// The first in the order of the work: source, statement, graph, loops. `Memory`: an allocation failed.
-pub fn read_handler(
-    alloc: Global,
-    source: &[u8],
-    statement: &[u8],
-    profile: &Profile,
-) -> Result<Handler, ReportFault>
-    ensures loops { IfOk result (λ h. HasLoops source.now statement.now profile.now h.statement h.graph) }
-    ensures tree { IfOk result HasItsTree }
-    ensures fault { IfErr result (IsHandlerRefused source.now statement.now profile.now) }
-{
-    let read = said_handler(alloc, source, statement, profile)?;
-    Ok(read.handler)
-}
-
-/// The same, of a source that was read.
-///
-/// # Errors
-///
 /// The first in the order of the work: statement, graph, loops. `Memory`: an allocation failed.
-pub fn handler_of(
+pub fn read_handler<'a>(
     alloc: Global,
-    said: &Source<'_>,
-    statement: &[u8],
+    source: &Source<'_>,
+    text: &'a [u8],
     profile: &Profile,
-) -> Result<Handler, ReportFault>
-    ensures is { IfOk result (IsHandlerOf said.now statement.now profile.now) }
-    ensures fault { (source : List ℕ) → Says source said.now
-        → IfErr result (IsHandlerRefused source statement.now profile.now) }
+) -> Result<Handler, Stop<'a>>
+    ensures is { IfOk result (IsHandlerOf source.now text.now profile.now) }
+    ensures fault { (bytes : List ℕ) → Says bytes source.now
+        → IfErr result (λ s. IsHandlerRefused bytes text.now profile.now (stop_fault s)) }
+    ensures stops { IfErr result (HasNoHandler source.now text.now profile.now) }
+    ensures carries { IfErr result (Carries source.now text.now profile.now) }
 {
-    let statement = read_statement(alloc, statement, &said.labels)?;
-    stated_handler(alloc, said, statement, profile)
+    let statement = stated_on(alloc, source, text)?;
+    stated_handler(alloc, source, statement, profile)
 }
 
-/// The same, of a source and a statement that were read.
+/// The same, of a statement that was read.
 ///
 /// # Errors
 ///
 /// The first in the order of the work: graph, loops. `Memory`: an allocation failed.
-pub fn stated_handler(
+pub(crate) fn stated_handler<'a>(
     alloc: Global,
-    said: &Source<'_>,
+    source: &Source<'_>,
     statement: Statement,
     profile: &Profile,
-) -> Result<Handler, ReportFault>
-    ensures loops { (source text : List ℕ) → Says source said.now
-        → IsStatement text (address_of said.now.labels) (Ok statement)
-        → IfOk result (λ h. HasLoops source text profile.now h.statement h.graph) }
-    ensures tree { IfOk result HasItsTree }
+) -> Result<Handler, Stop<'a>>
+    ensures is { (text : List ℕ) → IsStatement text (address_of source.now.labels) (Ok statement)
+        → IfOk result (IsHandlerOf source.now text profile.now) }
     ensures same { IfOk result (λ h. h.statement ≡ statement) }
-    ensures fault { (source text : List ℕ) → Says source said.now
-        → IsStatement text (address_of said.now.labels) (Ok statement)
-        → IfErr result (IsHandlerRefused source text profile.now) }
+    ensures stops { (text : List ℕ) → IsStatement text (address_of source.now.labels) (Ok statement)
+        → IfErr result (HasNoHandler source.now text profile.now) }
 {
-    let graph = build(alloc, &said.image, &statement, profile)?;
-    let tree = nest(alloc, &graph, &statement)?;
-    Ok(Handler {
-        statement,
-        graph,
-        tree,
-    })
+    let graph = match build(alloc, &source.image, &statement, profile) {
+        Ok(graph) => graph,
+        Err(BuildFault::Memory) => return Err(Stop::Alone(ReportFault::Memory)),
+        Err(fault) => return Err(Stop::Graph(statement, *profile, fault)),
+    };
+    match nest(alloc, &graph, &statement) {
+        Ok(tree) => Ok(Handler {
+            statement,
+            graph,
+            tree,
+        }),
+        Err(NestFault::Memory) => Err(Stop::Alone(ReportFault::Memory)),
+        Err(fault) => Err(Stop::Loops(statement, graph, fault)),
+    }
 }
 
 /// The greatest of a handler's walks.
@@ -172,6 +153,7 @@ pub fn longest_of(alloc: Global, handler: &Handler) -> Result<Longest, ReportFau
         → ⊥) }
     ensures fault { OfHandler handler.now
         (λ source statement profile. IfErr result (BeforeOutput (IsRefused source statement profile))) }
+    ensures alone { IfErr result ComesAlone }
 {
     let found = longest(alloc, &handler.graph, &handler.tree)?;
     Ok(found)

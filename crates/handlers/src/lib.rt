@@ -1,6 +1,6 @@
-//! What reports are made of, and why there is none: the words of a source, a cycle profile, a handler with its
-//! flow graph, loops and greatest walk, FIQ's handler, a machine with the source's words in its memory; outputs,
-//! the faults of reports, and the line of a refusal.
+//! What reports are made of, and why there is none: the words of a source, a cycle profile, a handler with
+//! its flow graph, loops and greatest walk, FIQ's handler, a machine with the source's words in its memory;
+//! outputs, the faults of reports, what comes with a refusal, and its line.
 #![tactic(auto)]
 
 mod fault;
@@ -11,14 +11,13 @@ mod output;
 mod parts;
 mod placing;
 mod refusal;
+mod refusal_line;
 
 pub use fault::ReportFault;
 pub use fault_names::fault_name;
 pub use fiq::fiq_handler;
-pub use handler::{
-    Handler, SaidHandler, handler_of, longest_of, profile_of, read_handler, read_source,
-    said_handler, stated_handler,
-};
+pub use handler::{Handler, longest_of, profile_of, read_handler, read_source};
 pub use output::{MemoryOutput, StreamOutput, print_answer};
 pub use placing::{Placed, place, place_image};
-pub use refusal::{FaultPlace, fault_place, print_refusal_line};
+pub use refusal::{Refusal, Stop, fault_only, print_or_refuse, with_source};
+pub use refusal_line::{FaultPlace, fault_place, print_refusal_line};

@@ -1,107 +1,150 @@
-//! The line of a refusal. It takes no memory, of which there may be none left.
+//! Refusals with what their faults were found in.
 
-ghost use Rattle.std.specs.Prelude.{◌≡◌, ◌++◌};
-ghost use Rattle.outputs.specs.OnTheWay.{Adds};
-ghost use Rattle.handlers.specs.FaultText.{TakesOrFails, cert_fault_place, fault_place};
-ghost use Rattle.handlers.specs.FaultText.{graph_fault_place, place_text, refusal_line};
-ghost use Rattle.handlers.specs.FaultText.{source_fault_place};
+ghost use Rattle.std.specs.Prelude.{◌≡◌, IfErr, IfOk};
+ghost use Rattle.std.specs.Io.KnownBytes.{Appends};
+ghost use Rattle.outputs.specs.Output.{FailsSince, TakesFront};
+ghost use Rattle.handlers.specs.Refusal.{stop_fault, refusal_fault, fault_only, with_source};
 
 use crate::fault::ReportFault;
-use asm_text::hex;
-use assembler::AsmFault;
-use certificate::CertFault;
-use control_flow::BuildFault;
-use itoa::Buffer;
-use outputs::{Output, Page};
+use crate::output::print_answer;
+use bus_ticks::Profile;
+use control_flow::{BuildFault, Graph};
+use loop_bounds::NestFault;
+use outputs::Output;
+use sources::Source;
+use statement::{Statement, StatementFault};
+use std::alloc::AllocError;
 
-/// Where a fault is.
-#[derive(Clone, Copy, Debug, PartialEq, Eq)]
-pub enum FaultPlace {
-    /// It has no place, or none that is told.
-    Nowhere,
-    /// A line of a text, by its number from 1.
-    TextLine(usize),
-    /// A word's address, in bytes.
-    Address(u32),
+/// Why work on a source has stopped, with what the fault was found in.
+#[derive(Drop)]
+pub enum Stop<'a> {
+    /// A fault of another kind, of which the line of a refusal says all, or a file that was read beside the
+    /// source.
+    Alone(ReportFault),
+    /// The text of the statement has the fault.
+    Statement(&'a [u8], StatementFault),
+    /// The statement has no flow graph by these prices.
+    Graph(Statement, Profile, BuildFault),
+    /// The loops of the statement and its flow graph do not fit each other.
+    Loops(Statement, Graph, NestFault),
 }
 
-fn source_fault_place(fault: AsmFault) -> FaultPlace
-    ensures { result ≡ source_fault_place fault }
-{
-    match fault {
-        AsmFault::Memory => FaultPlace::Nowhere,
-        AsmFault::Line(_, line) => FaultPlace::TextLine(line),
+/// Why there is no report, with what the fault was found in.
+#[derive(Drop)]
+pub enum Refusal<'a> {
+    /// A fault of the source or of the cycle profile, a failure of the output, or lack of memory.
+    Alone(ReportFault),
+    /// The source was read, and the work on it has stopped.
+    OnSource(Source<'a>, Stop<'a>),
+}
+
+impl<'a> From<ReportFault> for Stop<'a> {
+    ghost use Rattle.handlers.specs.declared.refusal.Stop.TheVariants.{Alone};
+
+    ghost from_gives = { λ lower stop. stop ≡ Alone lower };
+
+    fn from(lower: ReportFault) -> Stop<'a> {
+        Stop::Alone(lower)
     }
 }
 
-fn graph_fault_place(fault: BuildFault) -> FaultPlace
-    ensures { result ≡ graph_fault_place fault }
-{
-    match fault {
-        BuildFault::OutsideImage(address) => FaultPlace::Address(address),
-        BuildFault::UnallocatedWord(address) => FaultPlace::Address(address),
-        BuildFault::TrapInHandler(address) => FaultPlace::Address(address),
-        BuildFault::TargetNotWriter(address) => FaultPlace::Address(address),
-        BuildFault::UnstatedTarget(address) => FaultPlace::Address(address),
-        BuildFault::Memory | BuildFault::TooDeep | BuildFault::TooManyPlaces => FaultPlace::Nowhere,
+impl<'a> From<AllocError> for Stop<'a> {
+    ghost use Rattle.handlers.specs.declared.refusal.Stop.TheVariants.{Alone};
+    ghost use Rattle.handlers.specs.declared.fault.ReportFault.TheVariants.{Memory};
+
+    ghost from_gives = { λ _ stop. stop ≡ Alone Memory };
+
+    fn from(_refused: AllocError) -> Stop<'a> {
+        Stop::Alone(ReportFault::Memory)
     }
 }
 
-fn cert_fault_place(fault: CertFault) -> FaultPlace
-    ensures { result ≡ cert_fault_place fault }
-{
-    match fault {
-        CertFault::BadLine(line) => FaultPlace::TextLine(line),
-        CertFault::Memory | CertFault::Truncated | CertFault::TrailingBytes => FaultPlace::Nowhere,
+impl<'a> From<ReportFault> for Refusal<'a> {
+    ghost use Rattle.handlers.specs.declared.refusal.Refusal.TheVariants.{Alone};
+
+    ghost from_gives = { λ lower refusal. refusal ≡ Alone lower };
+
+    fn from(lower: ReportFault) -> Refusal<'a> {
+        Refusal::Alone(lower)
     }
 }
 
-/// Where a fault is, as a refusal's line says it.
-pub fn fault_place(fault: ReportFault) -> FaultPlace
-    ensures { result ≡ fault_place fault }
-{
-    match fault {
-        ReportFault::Source(fault) => source_fault_place(fault),
-        ReportFault::Graph(fault) => graph_fault_place(fault),
-        ReportFault::Cert(fault) => cert_fault_place(fault),
-        ReportFault::NotFree(address) => FaultPlace::Address(address),
-        _ => FaultPlace::Nowhere,
+impl<'a> From<AllocError> for Refusal<'a> {
+    ghost use Rattle.handlers.specs.declared.refusal.Refusal.TheVariants.{Alone};
+    ghost use Rattle.handlers.specs.declared.fault.ReportFault.TheVariants.{Memory};
+
+    ghost from_gives = { λ _ refusal. refusal ≡ Alone Memory };
+
+    fn from(_refused: AllocError) -> Refusal<'a> {
+        Refusal::Alone(ReportFault::Memory)
     }
 }
 
-fn put_place<O: Output>(page: &mut Page, place: FaultPlace, out: &mut O)
-    ensures { Adds O.taken O.failures out.old page.old out.new page.new (place_text place) }
-{
-    match place {
-        FaultPlace::Nowhere => page.put(out, b""),
-        FaultPlace::TextLine(line) => {
-            page.put(out, b" at line ");
-            page.put(out, Buffer::new().format(line).as_bytes());
+impl Stop<'_> {
+    /// The fault alone.
+    pub fn fault(&self) -> ReportFault
+        ensures { result ≡ stop_fault self.now }
+    {
+        match self {
+            Stop::Alone(fault) => *fault,
+            Stop::Statement(_, fault) => ReportFault::Statement(*fault),
+            Stop::Graph(_, _, fault) => ReportFault::Graph(*fault),
+            Stop::Loops(_, _, fault) => ReportFault::Loops(*fault),
         }
-        FaultPlace::Address(address) => {
-            page.put(out, b" at ");
-            page.put(out, hex(u64::from(address)).as_slice());
+    }
+}
+
+impl Refusal<'_> {
+    /// The fault alone.
+    pub fn fault(&self) -> ReportFault
+        ensures { result ≡ refusal_fault self.now }
+    {
+        match self {
+            Refusal::Alone(fault) => *fault,
+            Refusal::OnSource(_, stop) => stop.fault(),
         }
     }
 }
 
-fn put_refusal_line<O: Output>(page: &mut Page, name: &[u8], place: FaultPlace, out: &mut O)
-    ensures { Adds O.taken O.failures out.old page.old out.new page.new
-        (refusal_line (name.now ++ place_text place)) }
+/// The answer with the fault alone.
+pub fn fault_only<T: Drop>(answer: Result<T, Refusal<'_>>) -> Result<T, ReportFault>
+    ensures { result ≡ fault_only answer.entry }
 {
-    page.put(out, b"refused: ");
-    page.put(out, name);
-    put_place(page, place, out);
-    page.put(out, b"\n");
+    match answer {
+        Ok(found) => Ok(found),
+        Err(refusal) => Err(refusal.fault()),
+    }
 }
 
-/// Writes the line of a refusal: `refused: `, the fault's name, ` at line ` and the line's number in decimal or
-/// ` at ` and the address in hexadecimal, and a line feed. If the output fails, it took a front of the line.
-pub fn print_refusal_line<O: Output>(name: &[u8], place: FaultPlace, out: &mut O)
-    ensures { TakesOrFails O.taken O.failures out.old out.new
-        (refusal_line (name.now ++ place_text place)) }
+/// The answer of work on the source, with the source where the work stopped.
+pub fn with_source<'a, T: Drop>(
+    source: Source<'a>,
+    answer: Result<T, Stop<'a>>,
+) -> Result<T, Refusal<'a>>
+    ensures { result ≡ with_source source.entry answer.entry }
 {
-    let mut page = Page::new();
-    put_refusal_line(&mut page, name, place, out);
-    let _ = page.finish(out);
+    match answer {
+        Ok(found) => Ok(found),
+        Err(stop) => Err(Refusal::OnSource(source, stop)),
+    }
+}
+
+/// Writes a report's whole text as [`print_answer`] does, and returns its answer.
+///
+/// # Errors
+///
+/// The only refusal is `Device`, alone: the output failed. It took a front of the text then.
+pub fn print_or_refuse<'a, T: Drop, O: Output>(
+    answer: T,
+    text: &[u8],
+    out: &mut O,
+) -> Result<T, Refusal<'a>>
+    ensures printed { IfOk result
+        (λ x. (x ≡ answer) × Appends (O.taken out.old) (O.taken out.new) text.now) }
+    ensures device { IfErr result
+        (λ e. (e ≡ Refusal.Alone ReportFault.Device)
+        × (TakesFront (O.taken out.old) (O.taken out.new) text.now
+        × FailsSince (O.failures out.old) (O.failures out.new))) }
+{
+    Ok(print_answer(answer, text, out)?)
 }

@@ -18,7 +18,7 @@ pub mod Unique
 mod TestLemmas
 mod RepeatLemmas
 mod KeyNameLemmas
-mod PlaceLemmas
+pub mod PlaceLemmas
 mod SpotLemmas
-mod PricePlaceLemmas
+pub mod PricePlaceLemmas
 mod PriceSpotLemmas

@@ -1,4 +1,5 @@
--- Where in a machine file's document a fault is: each fault of `MachineFaultRules`, with the spot that has it.
+-- Where in a machine file's document a fault is: each fault of `MachineFaultRules`, with the spot that has
+-- it.
 use Rattle.std.specs.Prelude.{◌≡◌, ◌≤◌, ◌⊎◌, ℕ, Bool, true, false, List, codes, take, Any, None, IsSome}
 use Rattle.std.specs.Prelude.{IsSomeAnd}
 use Rattle.std.specs.List.{slice_get}

@@ -11,7 +11,7 @@ use loader::Image;
 use longest_walk::{FoldedWalk, Item, Longest, WalkFault, longest};
 use loop_bounds::{Instances, LoopTree, NestFault, nest};
 use samples::nested_countdown::{SOURCE, STATEMENT};
-use sources::{Source, Text};
+use sources::{Source, SourceText};
 use std::alloc::Global;
 
 // An edge of the nested countdown: the branch that turns its inner loop, which takes 4 ticks.
@@ -39,7 +39,7 @@ pub(crate) fn image_of(source: Source<'_>) -> Source<'_> {
     Source {
         image: source.image,
         labels: source.labels,
-        text: Text::Image,
+        text: SourceText::Image,
     }
 }
 

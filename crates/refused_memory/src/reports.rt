@@ -3,9 +3,9 @@ use crate::followed;
 use crate::trial::{Answer, Trial};
 use arcwcet::{
     Bursts, Explained, FollowedRun, FollowedVisits, MemoryOutput, Output, ReportFault, asm_report,
-    bound_report, check_report, debug_report, draft_report, explain_report, follow_report,
-    follow_visits_report, graph_report, list_report, run_report, tight_report, trace_report,
-    visits_report,
+    bound_report, check_report, debug_report, draft_report, explain_report, fault_only,
+    follow_report, follow_visits_report, graph_report, list_report, run_report, tight_report,
+    trace_report, visits_report,
 };
 use samples::{countdown, nested_countdown};
 use std::alloc::Global;
@@ -241,8 +241,8 @@ impl Report {
         let (source, machine) = (countdown::SOURCE, countdown::MACHINE);
         match self {
             Report::Trace => trace_report(alloc, source, machine, None, out),
-            Report::Follow => follow_report(alloc, FOLLOWED_RUN, None, out),
-            Report::FollowVisits => follow_visits_report(alloc, VISITED_RUN, None, out),
+            Report::Follow => fault_only(follow_report(alloc, FOLLOWED_RUN, None, out)),
+            Report::FollowVisits => fault_only(follow_visits_report(alloc, VISITED_RUN, None, out)),
             _ => run_report(alloc, source, machine, None, out),
         }
     }
@@ -251,7 +251,7 @@ impl Report {
         let (source, statement) = (nested_countdown::SOURCE, nested_countdown::STATEMENT);
         let certificate = nested_countdown::CERTIFICATE;
         match self {
-            Report::Explain => explain_report(alloc, EXPLAINED, None, out),
+            Report::Explain => fault_only(explain_report(alloc, EXPLAINED, None, out)),
             _ => check_report(alloc, source, statement, certificate, None, out),
         }
     }
@@ -264,7 +264,7 @@ impl Report {
                 visits_report(alloc, TWO_HANDLERS, irq, fiq, 2, None, out)
             }
             Report::Tight => tight_report(alloc, source, statement, EDGE, None, out),
-            Report::Graph => graph_report(alloc, source, statement, None, out),
+            Report::Graph => fault_only(graph_report(alloc, source, statement, None, out)),
             _ => {
                 let (source, statement) = (nested_countdown::SOURCE, nested_countdown::STATEMENT);
                 bound_report(alloc, source, statement, None, out)

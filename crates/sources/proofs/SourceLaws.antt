@@ -12,7 +12,7 @@ use Rattle.assembler.specs.Views.{FaultedAt}
 use Rattle.assembler.specs.declared.fault.LineFault.{LineFault}
 use Rattle.assembler.specs.declared.fault.AsmFault.{AsmFault}
 use Rattle.assembler.specs.declared.fault.AsmFault.TheVariants as asm_fault
-use Rattle.sources.specs.Source.{IsFaultOf, Said, of_image, of_text, said_by_image, said_by_text, source_of}
+use Rattle.sources.specs.Source.{IsFaultOf, of_image, of_text, said_by_image, said_by_text, source_of}
 use Rattle.sources.specs.declared.fault.SourceFault.{SourceFault}
 
 said_image : (source : List ℕ) → is_image source ≡ true → source_of source ≡ said_by_image (image_read source)

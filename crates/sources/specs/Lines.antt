@@ -5,14 +5,14 @@ use Rattle.std.specs.Map.{update_all}
 use Rattle.asm_text.specs.Source.{lines_of}
 use Rattle.image.specs.Labels.{NamedAddresses}
 use Rattle.sources.specs.declared.read.Source.{Source}
-use Rattle.sources.specs.declared.read.Text.{Text}
-use Rattle.sources.specs.declared.read.Text.TheVariants.{Lines, Image}
+use Rattle.sources.specs.declared.read.SourceText.{SourceText}
+use Rattle.sources.specs.declared.read.SourceText.TheVariants.{Lines, Image}
 use Rattle.text_rows.specs.LineLabels.{AreNamed}
 use Rattle.text_rows.specs.WordLines.{Numbered, numbered_at, words_of}
 use Rattle.text_rows.specs.declared.line_labels.SourceLine.{SourceLine}
 
 -- the line of the word at an address: where two are at one address, the later; an image has no lines
-abbrev pub line_in : NamedAddresses → Text → ℕ → Option Numbered
+abbrev pub line_in : NamedAddresses → SourceText → ℕ → Option Numbered
 line_in names (Lines bytes placed) =
     update_all nat_eq (λ a. None) (words_of names 1 [] (lines_of bytes.now) placed.items)
 line_in names Image = λ at. None

@@ -13,8 +13,8 @@ use Rattle.assembler.specs.declared.fault.LineFault.{LineFault}
 use Rattle.sources.specs.declared.fault.SourceFault.{SourceFault}
 use Rattle.sources.specs.declared.fault.SourceFault.TheVariants.{Memory, Text, Image}
 use Rattle.sources.specs.declared.read.Source.{Source}
-use Rattle.sources.specs.declared.read.Text.{Text as SourceText}
-use Rattle.sources.specs.declared.read.Text.TheVariants as text
+use Rattle.sources.specs.declared.read.SourceText.{SourceText}
+use Rattle.sources.specs.declared.read.SourceText.TheVariants as text
 
 -- ## Faults
 

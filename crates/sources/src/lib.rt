@@ -3,8 +3,8 @@
 
 mod fault;
 mod read;
-mod rows;
+mod source_rows;
 
 pub use fault::SourceFault;
-pub use read::{Source, Text};
-pub use rows::ImageRows;
+pub use read::{Source, SourceText};
+pub use source_rows::ImageRows;

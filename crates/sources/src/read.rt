@@ -12,7 +12,7 @@ use text_rows::{SourceLine, source_lines};
 
 /// The text of a source.
 #[derive(Drop)]
-pub enum Text<'a> {
+pub enum SourceText<'a> {
     /// Its bytes, and where each of its lines is placed, in their order.
     Lines(&'a [u8], Vec<PlacedLine>),
     /// There is none: the source is an image.
@@ -26,7 +26,7 @@ pub struct Source<'a> {
     pub image: Image,
     /// The addresses of its labels. An image has none.
     pub labels: Labels,
-    pub text: Text<'a>,
+    pub text: SourceText<'a>,
 }
 
 // A text, whose bytes do not begin as an image's.
@@ -40,7 +40,7 @@ fn read_text<'a>(alloc: Global, bytes: &'a [u8]) -> Result<Source<'a>, SourceFau
     Ok(Source {
         image: assembly.image,
         labels: assembly.labels,
-        text: Text::Lines(bytes, placed),
+        text: SourceText::Lines(bytes, placed),
     })
 }
 
@@ -54,7 +54,7 @@ fn read_words<'a>(alloc: Global, bytes: &'a [u8]) -> Result<Source<'a>, SourceFa
     Ok(Source {
         image,
         labels: Labels::new(alloc),
-        text: Text::Image,
+        text: SourceText::Image,
     })
 }
 
@@ -84,7 +84,7 @@ impl<'a> Source<'a> {
         ensures { IfOk result (AreLines self.now) }
     {
         match &self.text {
-            Text::Lines(bytes, placed) => source_lines(
+            SourceText::Lines(bytes, placed) => source_lines(
                 alloc,
                 &Program {
                     source: bytes,
@@ -93,7 +93,7 @@ impl<'a> Source<'a> {
                     labels: &self.labels,
                 },
             ),
-            Text::Image => Ok(BTreeMap::new(alloc)),
+            SourceText::Image => Ok(BTreeMap::new(alloc)),
         }
     }
 }

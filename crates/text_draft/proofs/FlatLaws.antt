@@ -10,8 +10,8 @@ use Rattle.text_draft.specs.DraftText.{accesses_text, bound_text, candidates_tex
 use Rattle.text_draft.specs.declared.ends.End.{End}
 use Rattle.text_draft.specs.declared.found_loop.FoundLoop.{FoundLoop}
 use Rattle.text_draft.specs.Targets.{any_open, leaves_open}
-use Rattle.text_draft.specs.declared.writers.FoundTarget.{FoundTarget}
-use Rattle.text_draft.specs.declared.writers.Way.{Way}
+use Rattle.text_draft.specs.declared.pc_writers.FoundTarget.{FoundTarget}
+use Rattle.text_draft.specs.declared.pc_writers.Way.{Way}
 use Rattle.std.specs.List.{flat_map}
 use Rattle.std.proofs.Math.Seq.{take-append-add}
 use Rattle.assembler.proofs.PutLaws.{joined, three}

@@ -1,6 +1,6 @@
 -- Addresses of the source that its words name, to which a word may lead that writes R15.
-use Rattle.std.specs.Prelude.{◌≡◌, ◌⊎◌, ◌↔◌, ◌*◌, ◌&&◌, ◌||◌, Bool, true, ℕ, if◌then◌else◌, List, map, Contains}
-use Rattle.std.specs.Prelude.{Option, Some, None}
+use Rattle.std.specs.Prelude.{◌≡◌, ◌⊎◌, ◌↔◌, ◌*◌, ◌&&◌, ◌||◌, Bool, true, ℕ, if◌then◌else◌, List, map}
+use Rattle.std.specs.Prelude.{Contains, Option, Some, None}
 use Rattle.std.specs.Int.{w32, rotate_right}
 use Rattle.std.specs.List.Sorted.{IsStrictlyIncreasing}
 use Rattle.arm2_decode.specs.Names.{is_add, is_never, is_pc, is_sub}

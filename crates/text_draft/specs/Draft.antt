@@ -16,7 +16,7 @@ use Rattle.text_draft.specs.Reach.{AreReached}
 use Rattle.text_draft.specs.Targets.{AreTargets, leaves_open}
 use Rattle.text_draft.specs.declared.ends.End.{End}
 use Rattle.text_draft.specs.declared.found_loop.FoundLoop.{FoundLoop}
-use Rattle.text_draft.specs.declared.writers.FoundTarget.{FoundTarget}
+use Rattle.text_draft.specs.declared.pc_writers.FoundTarget.{FoundTarget}
 use Rattle.control_flow.specs.declared.search.TheConstants.{MOST_PLACES}
 
 -- as many as are looked at: more may be reached

@@ -17,9 +17,9 @@ use Rattle.text_draft.specs.declared.ends.End.{End}
 use Rattle.text_draft.specs.declared.ends.End.TheVariants.{NoWord, Unallocated, Trap}
 use Rattle.text_draft.specs.declared.found_loop.FoundLoop.{FoundLoop}
 use Rattle.text_draft.specs.Targets.{any_open, leaves_open}
-use Rattle.text_draft.specs.declared.writers.FoundTarget.{FoundTarget}
-use Rattle.text_draft.specs.declared.writers.Way.{Way}
-use Rattle.text_draft.specs.declared.writers.Way.TheVariants.{Call, Jump, Return}
+use Rattle.text_draft.specs.declared.pc_writers.FoundTarget.{FoundTarget}
+use Rattle.text_draft.specs.declared.pc_writers.Way.{Way}
+use Rattle.text_draft.specs.declared.pc_writers.Way.TheVariants.{Call, Jump, Return}
 
 -- the end of an access
 abbrev pub class_text : Class → List ℕ

@@ -5,7 +5,7 @@ use Rattle.std.specs.Prelude.{codes, decimal, Option, Some, None, option_map}
 use Rattle.std.specs.Char.{is_ascii_whitespace}
 use Rattle.std.specs.List.{suffix_len}
 use Rattle.asm_text.specs.Statements.{body_len}
-use Rattle.text_rows.specs.declared.columns.TheConstants.{ROW_COLUMNS}
+use Rattle.text_rows.specs.declared.text_columns.TheConstants.{ROW_COLUMNS}
 use Rattle.text_rows.specs.declared.line_labels.SourceLine.{SourceLine}
 
 -- the label of a line

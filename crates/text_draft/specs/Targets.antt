@@ -5,9 +5,9 @@ use Rattle.arm2_decode.specs.Names.{is_never}
 use Rattle.text_draft.specs.Found.{addresses_of}
 use Rattle.text_draft.specs.Picks.{Picks}
 use Rattle.text_draft.specs.Reach.{HasPlaces, HasReturnAddress, next_of}
-use Rattle.text_draft.specs.declared.writers.FoundTarget.{FoundTarget}
-use Rattle.text_draft.specs.declared.writers.Way.{Way}
-use Rattle.text_draft.specs.declared.writers.Way.TheVariants as way
+use Rattle.text_draft.specs.declared.pc_writers.FoundTarget.{FoundTarget}
+use Rattle.text_draft.specs.declared.pc_writers.Way.{Way}
+use Rattle.text_draft.specs.declared.pc_writers.Way.TheVariants as way
 use Rattle.control_flow.specs.Edges.{HasAction}
 use Rattle.control_flow.specs.declared.actions.Action.{Action}
 use Rattle.control_flow.specs.declared.actions.Kind.TheVariants as kind

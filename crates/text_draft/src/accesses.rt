@@ -123,8 +123,8 @@ fn passed(image: &Image, known: Constants, at: u32) -> Constants {
 }
 
 /// Those of the addresses whose words load or store and are not under NV, in their order, each with the class
-/// of what it transfers where the words in front of it show it, or only the word itself. Of the first no clause
-/// says that the class is right: that is tested.
+/// of what it transfers where the words in front of it show it, or only the word itself. Of the first no
+/// clause says that the class is right: that is tested.
 pub(crate) fn find_accesses(
     alloc: Global,
     image: &Image,

@@ -1,5 +1,5 @@
 use crate::counted::immediate;
-use crate::words::may_change;
+use crate::word_actions::may_change;
 use arm2_decode::{Cond, DataImmediate, DataRegister, Instr, Opcode, Operation, Register, Shift};
 use bus_ticks::ahead_of;
 use image::Image;

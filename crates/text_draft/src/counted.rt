@@ -4,7 +4,7 @@ ghost use Rattle.text_draft.specs.Candidates.{immediate};
 use crate::found_loop::FoundLoop;
 use crate::reach::Reached;
 use crate::ways::before;
-use crate::words::{action_at, may_change};
+use crate::word_actions::{action_at, may_change};
 use arm2_decode::{Cond, DataImmediate, Opcode, Operation, Register};
 use control_flow::Kind;
 use image::Image;

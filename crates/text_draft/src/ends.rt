@@ -4,7 +4,7 @@ ghost use Rattle.text_draft.specs.Ends.{AreEnds, Ends, IsEnd, action_end};
 ghost use Rattle.text_draft.specs.Picks.{Keeps};
 ghost use Rattle.text_draft.specs.declared.ends.End.{End};
 
-use crate::words::action_at;
+use crate::word_actions::action_at;
 use control_flow::{Action, Kind};
 use image::Image;
 use std::alloc::{AllocError, Global};

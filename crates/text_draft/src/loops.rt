@@ -1,6 +1,6 @@
 use crate::counted::turns_back;
-use crate::extents::{is_entered_in_middle, natural_loop};
 use crate::found_loop::FoundLoop;
+use crate::loop_members::{is_entered_in_middle, natural_loop};
 use crate::paths::{Descent, descend};
 use crate::reach::{Reached, pairs_at};
 use image::Image;

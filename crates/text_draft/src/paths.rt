@@ -12,7 +12,7 @@ pub(crate) struct Descent {
 
 // A search that goes down as long as it can.
 #[derive(Drop)]
-struct Search<'a> {
+struct DescentSearch<'a> {
     leaving: &'a [(u32, u32)],
     descent: Descent,
     // The addresses that were reached and are no longer on the path.
@@ -21,7 +21,7 @@ struct Search<'a> {
     path: Vec<(u32, &'a [(u32, u32)])>,
 }
 
-impl<'a> Search<'a> {
+impl<'a> DescentSearch<'a> {
     // Takes a step: goes down to an address that was not reached before.
     fn step(&mut self, from: u32, to: u32, routine: u32) -> Result<(), AllocError> {
         if !self.descent.routines.contains_key(&to) {
@@ -77,7 +77,7 @@ impl<'a> Search<'a> {
 
 /// Searches all that is reached, the handler first and then the routines that are called.
 pub(crate) fn descend(alloc: Global, reach: &Reached, entry: u32) -> Result<Descent, AllocError> {
-    let mut search = Search {
+    let mut search = DescentSearch {
         leaving: &reach.leaving,
         descent: Descent {
             routines: BTreeMap::new(alloc),

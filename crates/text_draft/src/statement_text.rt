@@ -5,14 +5,13 @@ ghost use Rattle.std.specs.Ordering.{nat_cmp};
 ghost use Rattle.text_draft.specs.DraftText.{access_list_text, access_text, accesses_text, bound_text};
 ghost use Rattle.text_draft.specs.DraftText.{candidate_list_text, candidate_text, candidates_text};
 ghost use Rattle.text_draft.specs.DraftText.{comment_text, cycle_text, destination_text, destinations_text};
-ghost use Rattle.text_draft.specs.DraftText.{element_text, end_text};
-ghost use Rattle.text_draft.specs.DraftText.{end_words, full_text, head_text, loop_text, place_text, target_text};
-ghost use Rattle.text_draft.specs.DraftText.{way_text, words_from};
+ghost use Rattle.text_draft.specs.DraftText.{element_text, end_text, end_words, full_text, head_text};
+ghost use Rattle.text_draft.specs.DraftText.{loop_text, place_text, target_text, way_text, words_from};
 
+use crate::draft_rows::{end_row, put_address, put_blanks, put_name};
 use crate::ends::End;
 use crate::found_loop::FoundLoop;
-use crate::rows::{end_row, put_address, put_blanks, put_name};
-use crate::writers::{FoundTarget, Way};
+use crate::pc_writers::{FoundTarget, Way};
 use bus_ticks::{Class, ahead_of};
 use statement::class_name;
 use std::alloc::AllocError;
@@ -20,11 +19,11 @@ use std::collections::BTreeMap;
 use text_rows::{SourceLine, put, put_decimal};
 
 // Loads and stores with their classes.
-type Accesses<'a> = &'a [(u32, Class)];
+type ClassedAccesses<'a> = &'a [(u32, Class)];
 
 // So many branches one after another, from an address on.
 #[derive(Clone, Copy)]
-struct Table {
+struct BranchTable {
     first: u32,
     branches: u32,
 }
@@ -107,7 +106,11 @@ impl<'a> Sheet<'_, 'a> {
         end_row(out, start, line)
     }
 
-    fn put_each_access(&self, out: &mut Vec<u8>, accesses: Accesses<'_>) -> Result<(), AllocError>
+    fn put_each_access(
+        &self,
+        out: &mut Vec<u8>,
+        accesses: ClassedAccesses<'_>,
+    ) -> Result<(), AllocError>
         ensures { OnOk result
             (out.new.items ≡ out.old.items ++ flat_map (access_text self.now.lines.now) accesses.now) }
     {
@@ -117,7 +120,11 @@ impl<'a> Sheet<'_, 'a> {
         Ok(())
     }
 
-    fn put_access_list(&self, out: &mut Vec<u8>, accesses: Accesses<'_>) -> Result<(), AllocError>
+    fn put_access_list(
+        &self,
+        out: &mut Vec<u8>,
+        accesses: ClassedAccesses<'_>,
+    ) -> Result<(), AllocError>
         ensures { OnOk result
             (out.new.items ≡ out.old.items ++ access_list_text self.now.lines.now accesses.now) }
     {
@@ -134,7 +141,11 @@ impl<'a> Sheet<'_, 'a> {
     /// # Errors
     ///
     /// An allocation failed.
-    pub fn put_accesses(&self, out: &mut Vec<u8>, accesses: Accesses<'_>) -> Result<(), AllocError>
+    pub fn put_accesses(
+        &self,
+        out: &mut Vec<u8>,
+        accesses: ClassedAccesses<'_>,
+    ) -> Result<(), AllocError>
         ensures { OnOk result
             (out.new.items ≡ out.old.items ++ accesses_text self.now.lines.now accesses.now) }
     {
@@ -184,7 +195,7 @@ impl<'a> Sheet<'_, 'a> {
         Ok(())
     }
 
-    fn put_each_destination(&self, out: &mut Vec<u8>, table: Table) -> Result<(), AllocError>
+    fn put_each_destination(&self, out: &mut Vec<u8>, table: BranchTable) -> Result<(), AllocError>
         ensures { OnOk result
             (out.new.items
             ≡ out.old.items
@@ -199,7 +210,7 @@ impl<'a> Sheet<'_, 'a> {
     }
 
     // Adds the destinations, or what to write of them.
-    fn put_destinations(&self, out: &mut Vec<u8>, table: Table) -> Result<(), AllocError>
+    fn put_destinations(&self, out: &mut Vec<u8>, table: BranchTable) -> Result<(), AllocError>
         ensures { OnOk result
             (out.new.items
             ≡ out.old.items ++ destinations_text self.now.lines.now table.first table.branches) }
@@ -222,7 +233,7 @@ impl<'a> Sheet<'_, 'a> {
             ≡ out.old.items
             ++ way_text self.now.lines.now target.now.way target.now.at target.now.branches) }
     {
-        let table = Table {
+        let table = BranchTable {
             first: ahead_of(target.at, 8),
             branches: target.branches,
         };

@@ -5,7 +5,7 @@ ghost use Rattle.text_draft.specs.Reach.{CallsTo, GoesOn, HasPlaces, HasReturnAd
 ghost use Rattle.text_draft.specs.Reach.{LeadsAway, StepsTo, before, next_of};
 ghost use Rattle.control_flow.specs.declared.actions.Kind.TheVariants.{Writer};
 
-use crate::words::action_at;
+use crate::word_actions::action_at;
 use arm2_effect::branch_target;
 use bus_ticks::{SPACE_END, ahead_of};
 use control_flow::{Action, Kind};

@@ -2,7 +2,7 @@
 use Rattle.std.proofs.Common.{◌≡◌, ◌∙◌, ℕ, ◌+◌, ◌<◌, List, ◌++◌, length, get_or, take, sym, ap, append_assoc}
 use Rattle.std.proofs.lemmas.List.{flat_map_more, take_more}
 use Rattle.text_explained.specs.Columns.{name_text, names_text}
-use Rattle.text_explained.specs.declared.columns.Column.{Column}
+use Rattle.text_explained.specs.declared.cost_columns.Column.{Column}
 
 -- the name of a column more
 pub name_more : (columns : List Column) (i : ℕ) (d : Column) (old mid new : List ℕ) → i < length columns → mid ≡ old ++ names_text (take i columns)

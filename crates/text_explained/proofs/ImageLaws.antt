@@ -17,10 +17,10 @@ use Rattle.text_explained.specs.Columns.{heading}
 use Rattle.text_explained.specs.Costing.{IsCosting, figures_of}
 use Rattle.text_explained.specs.Starts.{latest_at}
 use Rattle.text_explained.specs.Table.{IsTableOf, IsWordRow, WalkFigures, all_ticks, image_ticks, line_rows, rows_by, table_end, ticks_of, walk_figures, word_figures, word_row}
-use Rattle.text_explained.specs.declared.columns.Column.{Column}
-use Rattle.text_explained.specs.declared.lines.Costing.{Costing}
-use Rattle.text_explained.specs.declared.lines.RowFigures.{RowFigures}
-use Rattle.text_explained.specs.declared.tally.Taken.{Taken}
+use Rattle.text_explained.specs.declared.cost_columns.Column.{Column}
+use Rattle.text_explained.specs.declared.cost_figures.Costing.{Costing}
+use Rattle.text_explained.specs.declared.cost_figures.RowFigures.{RowFigures}
+use Rattle.text_explained.specs.declared.walk_tally.Taken.{Taken}
 
 -- with the figures of its word
 pub row_written : (walk : WalkFigures) (at word : ℕ) (figures : RowFigures) (line old new : List ℕ) → figures ≡ word_figures walk at → IsShown word at line

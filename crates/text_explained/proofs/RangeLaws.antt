@@ -7,7 +7,7 @@ use Rattle.std.proofs.lemmas.List.{map-append}
 use Rattle.std.proofs.lemmas.List.Elements.{Contains-append_cases, Contains-append_left, Contains-append_right, Contains-push, Contains-push_cases, filter-append}
 use Rattle.std.proofs.lemmas.List.Sums.{fold-append, sum_by-cons}
 use Rattle.text_explained.specs.Taken.{range_of, widened}
-use Rattle.text_explained.specs.declared.tally.Costs.{Costs}
+use Rattle.text_explained.specs.declared.walk_tally.Costs.{Costs}
 use Rattle.walk_counts.proofs.SumLemmas.{range_push}
 
 numbers_more : (i : ℕ) → range_with_len 0 (i + 1) ≡ range_with_len 0 i ++ i ∷ []

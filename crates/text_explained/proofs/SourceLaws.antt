@@ -12,15 +12,15 @@ use Rattle.longest_walk.specs.declared.folded.Item.{Item}
 use Rattle.loop_bounds.specs.Tree.{Tree}
 use Rattle.sources.specs.Source.{HasText, IsSource, source_of}
 use Rattle.sources.specs.declared.read.Source.{Source}
-use Rattle.sources.specs.declared.read.Text.{Text}
-use Rattle.sources.specs.declared.read.Text.TheVariants.{Lines, Image}
+use Rattle.sources.specs.declared.read.SourceText.{SourceText}
+use Rattle.sources.specs.declared.read.SourceText.TheVariants.{Lines, Image}
 use Rattle.sources.proofs.SourceLaws.{image_was_read, text_was_assembled}
 use Rattle.text_explained.specs.Table.{all_ticks, listed_words}
 use Rattle.text_explained.specs.Taken.{AreListedOnce, AreOnWords, taken_at}
 use Rattle.text_explained.proofs.ListedOnceLaws.{image_stands, source_stands}
 use Rattle.text_explained.proofs.TotalLaws.{image_sum, source_sum}
 
-pub all_sum : (flow : Flow) (tree : Tree) (cost : ℕ) (items : List Item) (words : Words) (text : Text) → IsWellFormed flow → IsWalkOf flow tree cost items → cost < 2 ^ 64
+pub all_sum : (flow : Flow) (tree : Tree) (cost : ℕ) (items : List Item) (words : Words) (text : SourceText) → IsWellFormed flow → IsWalkOf flow tree cost items → cost < 2 ^ 64
     → AreListedOnce flow.places (listed_words words text) → all_ticks (taken_at flow (unfolded items)) words text ≡ cost
 all_sum flow tree cost items words (Lines bytes placed) well walk fits once = source_sum flow tree cost items placed.items well walk fits once
 all_sum flow tree cost items words Image well walk fits once = image_sum flow tree cost items words well walk fits once
@@ -29,7 +29,7 @@ abbrev AreOne : Type 0
 AreOne = (source : List ℕ) (image : Words) (names : Names) → assembled source ≡ Ok (image, names) → IsAssembly source image names
 
 module _ (reads : Reads) (are_one : AreOne) (bytes : List ℕ) where
-  listed : (words : Words) (names : Names) (text : Text) (flow : Flow) → IsWellFormed flow → source_of bytes ≡ Ok (words, names) → HasText bytes text → AreOnWords words flow.places
+  listed : (words : Words) (names : Names) (text : SourceText) (flow : Flow) → IsWellFormed flow → source_of bytes ≡ Ok (words, names) → HasText bytes text → AreOnWords words flow.places
       → AreListedOnce flow.places (listed_words words text)
   listed words names (Lines own placed) flow well said has on =
       source_stands reads bytes words names flow.places placed.items (are_one bytes words names (text_was_assembled bytes words names has.0 said)) has.2 well.no_exit on

@@ -17,9 +17,9 @@ use Rattle.walk_counts.specs.Counts.{capped, occurrences}
 use Rattle.walk_counts.proofs.SumLemmas.{capped_times, range_push}
 use Rattle.text_explained.specs.Taken.{Adds, HasAdded, Starts, cost_at, costs_from, in_all, is_at, is_reached, is_taken_from, with_edge, nothing, pass_at, range_of, taken_by, taken_of, widened}
 use Rattle.text_explained.proofs.RangeLaws.{range_kept, range_left}
-use Rattle.text_explained.specs.declared.tally.Costs.{Costs}
-use Rattle.text_explained.specs.declared.tally.Taken.{Taken}
-use Rattle.text_explained.specs.declared.tally.Tally.{Tally}
+use Rattle.text_explained.specs.declared.walk_tally.Costs.{Costs}
+use Rattle.text_explained.specs.declared.walk_tally.Taken.{Taken}
+use Rattle.text_explained.specs.declared.walk_tally.WalkTally.{WalkTally}
 
 zero_more : (m x : ℕ) → min x m ≡ min (0 + x) m
 zero_more m x = omega arith
@@ -108,10 +108,10 @@ module _ (edges walk : List Edge) (i : ℕ) (e : Edge) (count : ℕ) (e_is : e �
       here = ap (λ (x : Edge). is_at a x.from) (sym e_is) ∙ at
 
 -- the tally of the places alone is that of no edge
-pub none_added : (flow : Flow) (walk : List Edge) (t : Tally) → Starts flow.places t → HasAdded flow walk 0 t
+pub none_added : (flow : Flow) (walk : List Edge) (t : WalkTally) → Starts flow.places t → HasAdded flow walk 0 t
 none_added flow walk t starts = λ a. starts a
 
-pub one_added : (flow : Flow) (walk : List Edge) (i : ℕ) (e : Edge) (count : ℕ) (old new : Tally) → IsWellFormed flow → i < length flow.edges
+pub one_added : (flow : Flow) (walk : List Edge) (i : ℕ) (e : Edge) (count : ℕ) (old new : WalkTally) → IsWellFormed flow → i < length flow.edges
     → e ≡ get_or flow.edges i e → count ≡ capped (occurrences flow.edges walk i) → HasAdded flow walk i old → Adds e count old new → HasAdded flow walk (i + 1) new
 one_added flow walk i e count old new well lt at count_is h adds = λ a. ⊎_elim (taken a) (left a) (cases_Bool (is_at a e.from))
   where

@@ -11,7 +11,7 @@ use Rattle.longest_walk.specs.Built.{step_at}
 use Rattle.walk_counts.specs.Counts.{capped, occurrences}
 use Rattle.text_explained.specs.Table.{is_passed, passes_of, ticks_in, ticks_of, told_at, words_of}
 use Rattle.text_explained.specs.Taken.{cost_at, in_all, is_at, is_reached, pass_at, taken_at, taken_of}
-use Rattle.text_explained.specs.declared.tally.Taken.{Taken}
+use Rattle.text_explained.specs.declared.walk_tally.Taken.{Taken}
 
 -- ## Sums
 

@@ -22,8 +22,8 @@ use Rattle.walk_counts.proofs.NumberLemmas.{known_edge}
 use Rattle.walk_counts.proofs.SumLemmas.{sum_none, sums_by_number}
 use Rattle.text_explained.specs.Table.{costs_of, image_ticks, is_any_reached, line_taken, passes_of, source_ticks, ticks_in, ticks_of, told_at, words_of}
 use Rattle.text_explained.specs.Taken.{AreCostsAt, IsCostAt, AreListedOnce, cost_at, costs_from, in_all, is_at, is_reached, is_taken_from, pass_at, range_of, taken_at, taken_of}
-use Rattle.text_explained.specs.declared.tally.Costs.{Costs}
-use Rattle.text_explained.specs.declared.tally.Taken.{Taken}
+use Rattle.text_explained.specs.declared.walk_tally.Costs.{Costs}
+use Rattle.text_explained.specs.declared.walk_tally.Taken.{Taken}
 use Rattle.text_explained.proofs.RangeLaws.{HasCost, IsRange, is_counted, range_is, some_counted}
 use Rattle.text_explained.proofs.SumLaws.{capped_sums, counted_sum, exchanged, same_terms, sum-flat_map, sum-map_terms}
 use Rattle.text_explained.proofs.TallyLaws.{reached, same_taken}

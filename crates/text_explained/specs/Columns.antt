@@ -1,9 +1,9 @@
 -- The columns of the table of a bound.
 use Rattle.std.specs.Prelude.{ℕ, ◌+◌, ◌*◌, ◌/◌, ◌%◌, max, List, [], ◌∷◌, ◌++◌, codes, decimal, flat_map}
 use Rattle.text_rows.specs.Columns.{in_columns}
-use Rattle.text_explained.specs.declared.columns.Column.{Column}
-use Rattle.text_explained.specs.declared.columns.Column.TheVariants.{Passes, Each, Ticks, Share, Latest}
-use Rattle.text_explained.specs.declared.columns.Column.TheVariants.{PricedAs, Line, Address, Text}
+use Rattle.text_explained.specs.declared.cost_columns.Column.{Column}
+use Rattle.text_explained.specs.declared.cost_columns.Column.TheVariants.{Passes, Each, Ticks, Share, Latest}
+use Rattle.text_explained.specs.declared.cost_columns.Column.TheVariants.{PricedAs, Line, Address, Text}
 
 -- ## Columns
 

@@ -12,7 +12,7 @@ use Rattle.text_explained.specs.Pricing.{ArePriced}
 use Rattle.text_explained.specs.Starts.{latest_at}
 use Rattle.text_explained.specs.Table.{WalkFigures}
 use Rattle.text_explained.specs.Taken.{IsTally}
-use Rattle.text_explained.specs.declared.lines.Costing.{Costing}
+use Rattle.text_explained.specs.declared.cost_figures.Costing.{Costing}
 
 -- of a greatest walk, and of when the places of its graph begin at the latest
 pub record IsCosting (words : Words) (st : Stated) (flow : Flow) (longest : Longest) (starts : List ℕ)

@@ -1,5 +1,5 @@
--- Returns by an R14 that no longer has the return address: a call, or an address of the source, has overwritten
--- it. What writes R14 is the VL86C010 data sheet's.
+-- Returns by an R14 that no longer has the return address: a call, or an address of the source, has
+-- overwritten it. What writes R14 is the VL86C010 data sheet's.
 use Rattle.std.specs.Prelude.{◌≡◌, ◌↔◌, ℕ, ◌+◌, ◌-◌, ◌<◌, Bool, true, false, not, ◌&&◌, ◌||◌}
 use Rattle.std.specs.Prelude.{if◌then◌else◌, List, length, Contains, Option, Some, None, is_some}
 use Rattle.std.specs.List.Sorted.{IsStrictlySortedBy}

@@ -12,8 +12,8 @@ use Rattle.control_flow.specs.declared.edges.Edge.{Edge}
 use Rattle.image.specs.Image.{Words}
 use Rattle.sources.specs.Rows.{AreSourceRows}
 use Rattle.sources.specs.declared.read.Source.{Source}
-use Rattle.sources.specs.declared.read.Text.{Text as SourceText}
-use Rattle.sources.specs.declared.read.Text.TheVariants as text
+use Rattle.sources.specs.declared.read.SourceText.{SourceText}
+use Rattle.sources.specs.declared.read.SourceText.TheVariants as text
 use Rattle.statement.specs.Stated.{Stated}
 use Rattle.walk_counts.specs.Counts.{capped}
 use Rattle.text_explained.specs.Columns.{bound_line, gap_text, heading, in_column, span, ticks_text}
@@ -22,13 +22,13 @@ use Rattle.text_rows.specs.Columns.{in_columns}
 use Rattle.text_rows.specs.Rows.{row_end}
 use Rattle.text_explained.specs.Pricing.{ArePriced, pricing_text}
 use Rattle.text_explained.specs.Taken.{taken_at}
-use Rattle.text_explained.specs.declared.columns.Column.{Column}
-use Rattle.text_explained.specs.declared.columns.Column.TheVariants.{Passes, Each, Ticks, Share, Latest}
-use Rattle.text_explained.specs.declared.columns.Column.TheVariants.{PricedAs, Line, Address, Text}
-use Rattle.text_explained.specs.declared.lines.RowFigures.{RowFigures}
+use Rattle.text_explained.specs.declared.cost_columns.Column.{Column}
+use Rattle.text_explained.specs.declared.cost_columns.Column.TheVariants.{Passes, Each, Ticks, Share, Latest}
+use Rattle.text_explained.specs.declared.cost_columns.Column.TheVariants.{PricedAs, Line, Address, Text}
+use Rattle.text_explained.specs.declared.cost_figures.RowFigures.{RowFigures}
 use Rattle.text_explained.specs.declared.pricing.Pricing.{Pricing}
-use Rattle.text_explained.specs.declared.tally.Costs.{Costs}
-use Rattle.text_explained.specs.declared.tally.Taken.{Taken}
+use Rattle.text_explained.specs.declared.walk_tally.Costs.{Costs}
+use Rattle.text_explained.specs.declared.walk_tally.Taken.{Taken}
 
 -- ## Lines
 
@@ -57,8 +57,8 @@ module _ (taken : ℕ → Option Taken) where
   abbrev pub is_passed : ℕ → Bool
   is_passed a = nat_lt 0 (passes_of (taken a))
 
-  -- the word of which the row of a line tells: the first of its words that the walk passes; if it passes none,
-  -- the first at which a place is; and if no place is on the line, the first
+  -- the word of which the row of a line tells: the first of its words that the walk passes; if it passes
+  -- none, the first at which a place is; and if no place is on the line, the first
   abbrev pub told_at : PlacedLine → ℕ
   told_at line =
       unwrap_or (find is_passed (words_of line))

@@ -12,9 +12,9 @@ use Rattle.control_flow.specs.Flow.{Flow}
 use Rattle.image.specs.Image.{Words, word_of}
 use Rattle.longest_walk.specs.Built.{step_at}
 use Rattle.walk_counts.specs.Counts.{capped, occurrences}
-use Rattle.text_explained.specs.declared.tally.Costs.{Costs}
-use Rattle.text_explained.specs.declared.tally.Taken.{Taken}
-use Rattle.text_explained.specs.declared.tally.Tally.{Tally}
+use Rattle.text_explained.specs.declared.walk_tally.Costs.{Costs}
+use Rattle.text_explained.specs.declared.walk_tally.Taken.{Taken}
+use Rattle.text_explained.specs.declared.walk_tally.WalkTally.{WalkTally}
 
 -- ## Addresses
 
@@ -100,7 +100,7 @@ abbrev pub nothing : Taken
 nothing = record { passes = 0; ticks = 0; costs = None }
 
 -- what is taken at the place's address is set
-abbrev pub Puts : Place → Taken → (old new : Tally) → Type 0
+abbrev pub Puts : Place → Taken → (old new : WalkTally) → Type 0
 Puts place taken old new =
     (a : ℕ)
     → get nat_cmp new.by_address a ≡ (if is_at a place then Some taken else get nat_cmp old.by_address a)
@@ -115,22 +115,22 @@ with_edge t e count =
     }
 
 -- a tally of the places, before any edge
-abbrev pub Starts : List Place → Tally → Type 0
+abbrev pub Starts : List Place → WalkTally → Type 0
 Starts places t =
     (a : ℕ) → get nat_cmp t.by_address a ≡ (if is_reached places a then Some nothing else None)
 
 -- an edge is added, taken so many times
-abbrev pub Adds : Edge → ℕ → (old new : Tally) → Type 0
+abbrev pub Adds : Edge → ℕ → (old new : WalkTally) → Type 0
 Adds e count old new =
     (a : ℕ) → get nat_cmp new.by_address a
     ≡ (if is_at a e.from then Some (with_edge (unwrap_or (get nat_cmp old.by_address a) nothing) e count)
     else get nat_cmp old.by_address a)
 
 -- the first edges are added
-abbrev pub HasAdded : Flow → List Edge → ℕ → Tally → Type 0
+abbrev pub HasAdded : Flow → List Edge → ℕ → WalkTally → Type 0
 HasAdded flow walk count t = (a : ℕ) → get nat_cmp t.by_address a ≡ taken_by flow walk count a
 
-abbrev pub IsTally : Flow → List Edge → Tally → Type 0
+abbrev pub IsTally : Flow → List Edge → WalkTally → Type 0
 IsTally flow walk t = (a : ℕ) → get nat_cmp t.by_address a ≡ taken_at flow walk a
 
 -- each of the places is at exactly one of the addresses

@@ -3,7 +3,7 @@ ghost use Rattle.text_explained.specs.Bursts.{AreBurstLines, AreFewest, IsEveryL
 ghost use Rattle.text_explained.specs.Bursts.{with_bursts};
 ghost use Rattle.asm_text.specs.Appended.{Appends};
 
-use crate::columns::put_time;
+use crate::cost_columns::put_time;
 use bus_ticks::Profile;
 use std::alloc::{AllocError, Global};
 use text_rows::{put, put_number};

@@ -5,9 +5,9 @@ ghost use Rattle.asm_text.specs.Appended.{Appends};
 ghost use Rattle.text_explained.specs.Costing.{figures_of};
 ghost use Rattle.text_explained.specs.Table.{IsWordRow, image_ticks, word_row};
 
-use crate::columns::Column;
-use crate::lines::{Costing, RowFigures, put_figures, ticks_of};
-use crate::tally::Tally;
+use crate::cost_columns::Column;
+use crate::cost_figures::{Costing, RowFigures, put_figures, ticks_of};
+use crate::walk_tally::WalkTally;
 use asm_text::hex8;
 use assembler::disassemble;
 use std::alloc::AllocError;
@@ -41,7 +41,7 @@ pub(crate) fn put_row(
 }
 
 /// The ticks at all words.
-pub(crate) fn image_ticks(tally: &Tally, words: &[(u32, u32)]) -> u64
+pub(crate) fn image_ticks(tally: &WalkTally, words: &[(u32, u32)]) -> u64
     ensures { result ≡ image_ticks (get nat_cmp tally.now.by_address) words.now }
 {
     let mut ticks = 0;

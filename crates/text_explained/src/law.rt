@@ -4,7 +4,7 @@ ghost use Rattle.std.specs.Prelude.{Contains, sum_by};
 ghost use Rattle.bus_ticks.specs.declared.profile.Profile.{Profile};
 ghost use Rattle.sources.specs.Source.{IsSource};
 ghost use Rattle.sources.specs.declared.read.Source.{Source};
-ghost use Rattle.sources.specs.declared.read.Text.{Text};
+ghost use Rattle.sources.specs.declared.read.SourceText.{SourceText};
 ghost use Rattle.control_flow.specs.Graph.{IsBuildFault, IsFlowGraph};
 ghost use Rattle.control_flow.specs.declared.edges.Edge.{Edge};
 ghost use Rattle.control_flow.specs.declared.faults.BuildFault.{BuildFault};
@@ -20,9 +20,9 @@ ghost use Rattle.longest_walk.specs.Starts.{AreWorstStarts};
 ghost use Rattle.text_explained.specs.Starts.{IsLatestStart, latest_at};
 ghost use Rattle.text_explained.specs.Table.{all_ticks, line_taken, listed_words, passes_of};
 ghost use Rattle.text_explained.specs.Table.{ticks_in, told_at, words_of};
-ghost use Rattle.text_explained.specs.Taken.{AreCostsAt, AreOnWords, AreListedOnce, cost_at, is_reached, pass_at};
-ghost use Rattle.text_explained.specs.Taken.{taken_at};
-ghost use Rattle.text_explained.specs.declared.tally.Costs.{Costs};
+ghost use Rattle.text_explained.specs.Taken.{AreCostsAt, AreOnWords, AreListedOnce, cost_at, is_reached};
+ghost use Rattle.text_explained.specs.Taken.{pass_at, taken_at};
+ghost use Rattle.text_explained.specs.declared.walk_tally.Costs.{Costs};
 ghost use Rattle.statement.specs.Stated.{Stated};
 
 use asm_text::lines_are_spelled;
@@ -47,7 +47,7 @@ pub fn numbers_are_of_the_walk()
 /// States that the ticks of all rows are what the walk costs, if each place of the graph is at one word
 /// of the lines, or of the image. It does nothing.
 pub fn totals_are_the_bound()
-    ensures { (flow : Flow) (tree : Tree) (cost : ℕ) (items : List Item) (words : Words) (text : Text)
+    ensures { (flow : Flow) (tree : Tree) (cost : ℕ) (items : List Item) (words : Words) (text : SourceText)
         → IsWellFormed flow → IsWalkOf flow tree cost items → cost < 2 ^ 64
         → AreListedOnce flow.places (listed_words words text)
         → all_ticks (taken_at flow (unfolded items)) words text ≡ cost }
@@ -76,8 +76,8 @@ pub fn latest_starts_are_of_walks()
         → AreWorstStarts flow tree starts → IsLatestStart flow tree a (latest_at flow.places starts a) }
 {}
 
-/// States that a line's row has no ticks without passes: where the walk takes ticks at the words of a line, it
-/// passes the word of which the row tells. It does nothing.
+/// States that a line's row has no ticks without passes: where the walk takes ticks at the words of a line,
+/// it passes the word of which the row tells. It does nothing.
 pub fn rows_with_ticks_have_passes()
     ensures { (flow : Flow) (walk : List Edge) (line : PlacedLine)
         → 0 < ticks_in (taken_at flow walk) line.at line.words

@@ -6,9 +6,9 @@ ghost use Rattle.text_explained.specs.Columns.{in_column};
 ghost use Rattle.text_explained.specs.Pricing.{ArePriced, IsGranted, both_text, granted_text};
 ghost use Rattle.text_explained.specs.Pricing.{instr_granted, leave_text, operation_granted, pricing_text};
 ghost use Rattle.text_explained.specs.PricingParts.{Prices, IsPricedBy};
-ghost use Rattle.text_explained.specs.declared.columns.Column.TheVariants.{PricedAs};
+ghost use Rattle.text_explained.specs.declared.cost_columns.Column.TheVariants.{PricedAs};
 
-use crate::columns::Column;
+use crate::cost_columns::Column;
 use crate::leaving::{EdgeKind, addresses_left};
 use crate::sections::StatedGraph;
 use arm2_decode::{Instr, Operation};

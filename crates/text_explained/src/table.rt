@@ -7,14 +7,14 @@ ghost use Rattle.text_explained.specs.Starts.{latest_at};
 ghost use Rattle.text_explained.specs.Table.{IsTable, IsWordRow, all_ticks, line_row, line_rows, rows_by};
 ghost use Rattle.text_explained.specs.Table.{source_ticks};
 
-use crate::columns::{Column, heading, put_end};
+use crate::cost_columns::{Column, heading, put_end};
+use crate::cost_figures::{Costing, RowFigures, line_taken, put_figures, ticks_in, told_at};
 use crate::image_rows::{image_ticks, put_row};
-use crate::lines::{Costing, RowFigures, line_taken, put_figures, ticks_in, told_at};
 use crate::sections::StatedGraph;
 use crate::starts::TimedWalk;
-use crate::tally::Tally;
+use crate::walk_tally::WalkTally;
 use assembler::PlacedLine;
-use sources::{ImageRows, Source, Text};
+use sources::{ImageRows, Source, SourceText};
 use std::alloc::{AllocError, Global};
 use text_rows::{LineRows, NumberedLine, put_cut_row};
 use walk_counts::capped_sum;
@@ -68,7 +68,7 @@ impl ImageRows for Costing {
 }
 
 // The ticks of all lines.
-fn source_ticks(tally: &Tally, placed: &[PlacedLine]) -> u64
+fn source_ticks(tally: &WalkTally, placed: &[PlacedLine]) -> u64
     ensures { result ≡ source_ticks (get nat_cmp tally.now.by_address) placed.now }
 {
     let mut ticks = 0;
@@ -79,14 +79,14 @@ fn source_ticks(tally: &Tally, placed: &[PlacedLine]) -> u64
 }
 
 // The ticks of all rows.
-fn all_ticks(alloc: Global, tally: &Tally, source: &Source<'_>) -> Result<u64, AllocError>
+fn all_ticks(alloc: Global, tally: &WalkTally, source: &Source<'_>) -> Result<u64, AllocError>
     ensures { IfOk result
         (λ ticks. ticks
         ≡ all_ticks (get nat_cmp tally.now.by_address) source.now.image source.now.text) }
 {
     match &source.text {
-        Text::Lines(_, placed) => Ok(source_ticks(tally, placed)),
-        Text::Image => {
+        SourceText::Lines(_, placed) => Ok(source_ticks(tally, placed)),
+        SourceText::Image => {
             let words = source.image.listed(alloc)?;
             Ok(image_ticks(tally, &words))
         }
@@ -94,12 +94,12 @@ fn all_ticks(alloc: Global, tally: &Tally, source: &Source<'_>) -> Result<u64, A
 }
 
 // What the rows are told apart by.
-fn rows_by(text: &Text<'_>) -> Column
+fn rows_by(text: &SourceText<'_>) -> Column
     ensures { result ≡ rows_by text.now }
 {
     match text {
-        Text::Lines(_, _) => Column::Line,
-        Text::Image => Column::Address,
+        SourceText::Lines(_, _) => Column::Line,
+        SourceText::Image => Column::Address,
     }
 }
 

@@ -8,8 +8,8 @@ use Rattle.control_flow.specs.declared.places.Place.{Place}
 use Rattle.image.specs.Image.{Words, word_of}
 use Rattle.sources.specs.Lines.{line_of}
 use Rattle.sources.specs.declared.read.Source.{Source}
-use Rattle.sources.specs.declared.read.Text.{Text}
-use Rattle.sources.specs.declared.read.Text.TheVariants.{Lines, Image}
+use Rattle.sources.specs.declared.read.SourceText.{SourceText}
+use Rattle.sources.specs.declared.read.SourceText.TheVariants.{Lines, Image}
 use Rattle.text_rows.specs.WordLines.{Numbered}
 
 -- the text of a line, empty where there is none
@@ -22,7 +22,7 @@ abbrev pub IsImageLabel : Words → ℕ → List ℕ → Type 0
 IsImageLabel words a text = IsWordLine (word_of words a) a text
 
 -- the text of the line of an address, where the source has lines; else what its word there says
-abbrev pub IsLabelBy : Option Numbered → Words → Text → ℕ → List ℕ → Type 0
+abbrev pub IsLabelBy : Option Numbered → Words → SourceText → ℕ → List ℕ → Type 0
 IsLabelBy line words (Lines bytes placed) a text = text ≡ text_of line
 IsLabelBy line words Image a text = IsImageLabel words a text
 

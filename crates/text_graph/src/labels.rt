@@ -5,7 +5,7 @@ ghost use Rattle.text_rows.specs.WordLines.{numbered_at};
 use assembler::disassemble;
 use control_flow::Graph;
 use image::Image;
-use sources::{Source, Text};
+use sources::{Source, SourceText};
 use std::alloc::{AllocError, Global};
 use std::collections::BTreeMap;
 use text_rows::SourceLine;
@@ -45,8 +45,8 @@ fn label_by(
         (λ label. IsLabelBy (numbered_at lines.now at) source.now.image source.now.text at label.items) }
 {
     match &source.text {
-        Text::Lines(_, _) => text_of(alloc, lines, at),
-        Text::Image => image_label(alloc, &source.image, at),
+        SourceText::Lines(_, _) => text_of(alloc, lines, at),
+        SourceText::Image => image_label(alloc, &source.image, at),
     }
 }
 

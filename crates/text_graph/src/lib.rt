@@ -5,7 +5,7 @@
 
 mod clusters;
 mod document;
-mod edges;
+mod drawn_edges;
 mod labels;
 mod law;
 mod nodes;

@@ -5,7 +5,7 @@ ghost use Rattle.text_graph.specs.Parts.{drawn_node, drawn_row, drawn_stretch};
 ghost use Rattle.text_graph.specs.Text.{escaped, label_of};
 
 use crate::clusters::{put_closed, put_opened};
-use crate::edges::put_edges;
+use crate::drawn_edges::put_edges;
 use crate::pieces::{put_address, put_escaped, put_name, put_style};
 use crate::stretches::{passes, stretch_ticks};
 use crate::tables::Drawn;

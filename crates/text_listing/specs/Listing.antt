@@ -7,7 +7,7 @@ use Rattle.assembler.specs.declared.placed_line.PlacedLine.{PlacedLine}
 use Rattle.image.specs.Image.{Words, word_of}
 use Rattle.sources.specs.Rows.{AreSourceRows}
 use Rattle.sources.specs.declared.read.Source.{Source}
-use Rattle.text_listing.specs.declared.columns.TheConstants.{WORD_COLUMNS}
+use Rattle.text_listing.specs.declared.listing_columns.TheConstants.{WORD_COLUMNS}
 use Rattle.text_rows.specs.Columns.{in_columns}
 use Rattle.text_rows.specs.Lines.{rows_from}
 use Rattle.text_rows.specs.Rows.{row_end}

@@ -1,7 +1,7 @@
 //! Listings: the lines of a source beside their words, and the words of an image with what they say.
 #![tactic(auto)]
 
-mod columns;
+mod listing_columns;
 mod source;
 
 pub use source::list_rows;

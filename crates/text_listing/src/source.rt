@@ -2,7 +2,7 @@ ghost use Rattle.std.specs.Prelude.{◌≡◌, ◌≤◌, ◌+◌, ◌*◌, ◌+
 ghost use Rattle.bus_ticks.specs.declared.space.TheConstants.{SPACE_END};
 ghost use Rattle.text_listing.specs.Listing.{AreListed, IsWordRow, line_rows, word_rows};
 
-use crate::columns::{WORD_COLUMNS, put_line_row, put_word_columns, put_word_row};
+use crate::listing_columns::{WORD_COLUMNS, put_line_row, put_word_columns, put_word_row};
 use assembler::PlacedLine;
 use image::Image;
 use sources::{ImageRows, Source};
@@ -25,11 +25,11 @@ fn put_words(out: &mut Vec<u8>, image: &Image, from: u32, count: usize) -> Resul
 
 // The rows of lines beside the words of an image, and of these words alone.
 #[derive(Clone, Copy)]
-struct Beside<'a> {
+struct BesideWords<'a> {
     image: &'a Image,
 }
 
-impl LineRows for Beside<'_> {
+impl LineRows for BesideWords<'_> {
     ghost rows = { λ b n text p. line_rows b.image.now n text p };
 
     fn put(
@@ -48,7 +48,7 @@ impl LineRows for Beside<'_> {
     }
 }
 
-impl ImageRows for Beside<'_> {
+impl ImageRows for BesideWords<'_> {
     ghost is_row = { λ _. IsWordRow };
 
     fn put_word(&self, out: &mut Vec<u8>, at: u32, word: u32) -> Result<(), AllocError> {
@@ -72,7 +72,7 @@ pub fn list_rows(alloc: Global, source: &Source<'_>) -> Result<Vec<u8>, AllocErr
     ensures { IfOk result (λ rows. AreListed source.now rows.items) }
 {
     let mut out = Vec::new(alloc);
-    let rows = Beside {
+    let rows = BesideWords {
         image: &source.image,
     };
     source.put_rows(&mut out, &rows)?;

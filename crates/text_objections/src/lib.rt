@@ -1,7 +1,7 @@
 //! What fails in a certificate that proves nothing, in lines for people.
 #![tactic(auto)]
 
-mod parts;
-mod texts;
+mod line_parts;
+mod objection_texts;
 
-pub use texts::objection_text;
+pub use objection_texts::objection_text;

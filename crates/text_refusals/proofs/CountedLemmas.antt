@@ -6,7 +6,7 @@ use Rattle.std.proofs.lemmas.List.{drop_more}
 use Rattle.text_refusals.specs.Outline.{Begins, Item, KeyValue, States, Table, item_of}
 use Rattle.text_refusals.specs.Courses.{is_at_key}
 use Rattle.text_refusals.specs.Refused.{first_after, tables_in, stated_at}
-use Rattle.text_refusals.specs.declared.outline.Item.{Item as CodeItem}
+use Rattle.text_refusals.specs.declared.outline.OutlineItem.{OutlineItem as CodeItem}
 
 -- the first after one fewer of the rest
 first_after_more : {A : Type 0} (n : ℕ) (x : A) (xs : List A) → 0 < n → first_after n (x ∷ xs) ≡ first_after (n - 1) xs

@@ -13,7 +13,7 @@ use Rattle.loop_bounds.specs.Extents.{found_instance}
 use Rattle.loop_bounds.specs.Instance.{Instance, IsInstance, instance_of, is_header, is_member}
 use Rattle.loop_bounds.specs.Nest.{HasMidEntry, IsEntered}
 use Rattle.text_refusals.specs.Entries.{AreRightlyEntered, IsEnteredBy, IsMidEntry, IsMidOf, IsRightlyEntered, is_mid}
-use Rattle.text_refusals.specs.declared.entries.MidEntry.{MidEntry}
+use Rattle.text_refusals.specs.declared.mid_entries.MidEntry.{MidEntry}
 
 -- what no search finds passes nowhere
 pub find_none : {X : Type 0} (p : X → Bool) (xs : List X) (x : X) → find p xs ≡ None → Contains xs x → p x ≡ false

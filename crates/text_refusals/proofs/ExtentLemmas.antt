@@ -7,20 +7,20 @@ use Rattle.std.proofs.lemmas.List.{get_or_default}
 use Rattle.control_flow.specs.declared.places.Place.TheVariants.{At}
 use Rattle.control_flow.specs.declared.edges.Edge.{Edge}
 use Rattle.text_refusals.specs.Extents.{IsExtentOf, IsLeft, WidensTo}
-use Rattle.text_refusals.specs.declared.extents.Extent.{Extent}
+use Rattle.text_refusals.specs.declared.extents.CycleExtent.{CycleExtent}
 
 none_some : {X : Type 0} (x : X) → slice_get [] 0 ≡ Some x → ⊥
 none_some x is = cc
 
 -- of the first edges so many lie within
-pub record IsSoFar (edges : List Edge) (list : List ℕ) (header : ℕ) (count : ℕ) (extent : Extent) : Type 0 where
+pub record IsSoFar (edges : List Edge) (list : List ℕ) (header : ℕ) (count : ℕ) (extent : CycleExtent) : Type 0 where
   pub header_is : extent.header ≡ header
   pub least : IsLeft edges list extent.first
   pub greatest : IsLeft edges list extent.last
   pub within : (a k : ℕ) (e : Edge) → k < count → get_or edges k e ≡ e → e.from ≡ At list a → (extent.first ≤ a) × (a ≤ extent.last)
 
 module _ (edges : List Edge) (list : List ℕ) (header : ℕ) where
-  pub so_far_none : (extent : Extent) → extent.header ≡ header → extent.first ≡ header → extent.last ≡ header → IsLeft edges list header → IsSoFar edges list header 0 extent
+  pub so_far_none : (extent : CycleExtent) → extent.header ≡ header → extent.first ≡ header → extent.last ≡ header → IsLeft edges list header → IsSoFar edges list header 0 extent
   so_far_none extent h f l left = record {
     header_is = h;
     least = subst (IsLeft edges list) (sym f) left;
@@ -28,7 +28,7 @@ module _ (edges : List Edge) (list : List ℕ) (header : ℕ) where
     within = λ a k e lt is at. absurd (omega (arith, lt));
   }
 
-  pub so_far_one : (k : ℕ) (e : Edge) (old new : Extent) → k < length edges → e ≡ get_or edges k e → IsSoFar edges list header k old → WidensTo (λ a. e.from ≡ At list a) old new → IsSoFar edges list header (k + 1) new
+  pub so_far_one : (k : ℕ) (e : Edge) (old new : CycleExtent) → k < length edges → e ≡ get_or edges k e → IsSoFar edges list header k old → WidensTo (λ a. e.from ≡ At list a) old new → IsSoFar edges list header (k + 1) new
   so_far_one k e old new lt is g w =
       let has : Contains edges e = (k, lt, sym is) in
       record {
@@ -52,7 +52,7 @@ module _ (edges : List Edge) (list : List ℕ) (header : ℕ) where
             (cases_lt j k);
       }
 
-  pub so_far_all : (count : ℕ) (start : Edge) (rest : List Edge) (extent : Extent) → length edges ≤ count → edges ≡ start ∷ rest → start.from ≡ At list header → IsSoFar edges list header count extent → IsExtentOf edges extent
+  pub so_far_all : (count : ℕ) (start : Edge) (rest : List Edge) (extent : CycleExtent) → length edges ≤ count → edges ≡ start ∷ rest → start.from ≡ At list header → IsSoFar edges list header count extent → IsExtentOf edges extent
   so_far_all count start rest extent all begins at g = record {
     list = list;
     start = start;

@@ -5,6 +5,9 @@ mod CrossingLemmas
 mod CycleLemmas
 mod EntryLemmas
 mod ExtentLemmas
+mod FileCourseLemmas
+mod FileLemmas
+mod FileRowLemmas
 mod NestedLemmas
 mod OutlineLemmas
 mod PlacedLemmas

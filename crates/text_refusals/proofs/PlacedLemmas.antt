@@ -47,16 +47,16 @@ some_of : {A : Type 0} (P : A → Type 0) (o : Option A) → IsSomeAnd o P → I
 some_of P None h = absurd h
 some_of P (Some a) h = refl
 
-abbrev HasRow : List Row → Type 0
+abbrev pub HasRow : List Row → Type 0
 HasRow rs = (row : Row) × Contains rs row
 
-row_of_if : (b : Bool) (row : Row) → b ≡ true → HasRow (row_if b row)
+pub row_of_if : (b : Bool) (row : Row) → b ≡ true → HasRow (row_if b row)
 row_of_if b row e = (row, subst (λ (x : Bool). Contains (row_if x row) row) (sym e) (0, omega arith, refl))
 
-in_first : (xs ys : List Row) → HasRow xs → HasRow (xs ++ ys)
+pub in_first : (xs ys : List Row) → HasRow xs → HasRow (xs ++ ys)
 in_first xs ys h = (h.0, Contains-append_left xs ys h.0 h.1)
 
-in_second : (xs ys : List Row) → HasRow ys → HasRow (xs ++ ys)
+pub in_second : (xs ys : List Row) → HasRow ys → HasRow (xs ++ ys)
 in_second xs ys h = (h.0, Contains-append_right xs ys h.0 h.1)
 
 -- ## An item's rows are rows of the text

@@ -8,7 +8,7 @@ use Rattle.std.proofs.lemmas.List.{length-append}
 use Rattle.std.proofs.lemmas.List.Folds.{list_all-append}
 use Rattle.asm_text.specs.Pieces.{is_blank}
 use Rattle.asm_text.specs.Source.{lines_of}
-use Rattle.text_refusals.specs.Outline.{Array, Bare, Begins, Cut, Gap, InlineTable, Item, Key, Token, Quoted, Reading, States, Table, OfValue, Value, after_two, all_taken, bare_at, first_token, head_read, header_of, is_bare, is_bracket, is_gap, is_quote, line_read, lines_read, past_blanks, token_at, tokens, quoted_by, quoted_len, taken, text_left, key_or_value, wanted, word_at}
+use Rattle.text_refusals.specs.Outline.{Array, Bare, Begins, Cut, Gap, InlineTable, Item, Key, Token, Quoted, Reading, States, Table, TableKeys, OfValue, Value, after_two, all_taken, bare_at, first_token, head_read, header_of, is_bare, is_bracket, is_gap, is_quote, line_read, lines_read, past_blanks, token_at, tokens, quoted_by, quoted_len, taken, text_left, key_or_value, wanted, word_at}
 use Rattle.text_refusals.specs.PlainLines.{ArePlain, Heading, IsPlainValue, PlainLine, Setting, is_plain, is_quotable, items_from, line_text, lines_text}
 use Rattle.text_refusals.specs.Refused.{value_text}
 use Rattle.text_refusals.proofs.OutlineLemmas.{after_first, one_token}
@@ -156,8 +156,8 @@ value_token (Array e) h = absurd h
 value_token (InlineTable e) h = absurd h
 
 -- a reading between two lines, in a table of the list, after the key
-abbrev standing : (list key : List ℕ) → List Item → Reading
-standing list key items = record { at = record { list = list; key = key; depth = 0; is_part = true }; around = []; quotes = []; items = items }
+abbrev standing : TableKeys → (list key : List ℕ) → List Item → Reading
+standing keys list key items = record { keys = keys; at = record { list = list; key = key; depth = 0; is_part = true }; around = []; quotes = []; items = items }
 
 abbrev stated : (n : ℕ) (list key : List ℕ) → Value → Item
 stated n list key value = States (record { line = n; list = list; key = key; depth = 0; value = value })
@@ -170,11 +170,11 @@ none_wanted (Cut quotes w) h = absurd h
 none_wanted (Array e) h = absurd h
 none_wanted (InlineTable e) h = absurd h
 
-set_line : (line : ℕ) (list last : List ℕ) (items : List Item) (n b : ℕ) (key : List ℕ) (value : Value) → list_all is_plain (b ∷ key) ≡ true → IsPlainValue value
-    → all_taken line (standing list last items) (tokens (suc (suc (suc (suc (suc n))))) ((b ∷ key) ++ (codes " = " ++ value_text value))) ≡ standing list (b ∷ key) (items ++ stated line list (b ∷ key) value ∷ [])
-set_line line list last items n b key value is_key is_value =
-    let r = standing list last items in
-    let s = standing list (b ∷ key) items in
+set_line : (keys : TableKeys) (line : ℕ) (list last : List ℕ) (items : List Item) (n b : ℕ) (key : List ℕ) (value : Value) → list_all is_plain (b ∷ key) ≡ true → IsPlainValue value
+    → all_taken line (standing keys list last items) (tokens (suc (suc (suc (suc (suc n))))) ((b ∷ key) ++ (codes " = " ++ value_text value))) ≡ standing keys list (b ∷ key) (items ++ stated line list (b ∷ key) value ∷ [])
+set_line keys line list last items n b key value is_key is_value =
+    let r = standing keys list last items in
+    let s = standing keys list (b ∷ key) items in
     let end = items ++ stated line list (b ∷ key) value ∷ [] in
     let text = value_text value in
     next line r (suc (suc (suc (suc n)))) _ (Key (b ∷ key)) (codes " = " ++ text) (word_token b key (codes " = " ++ text) is_key refl)
@@ -183,7 +183,7 @@ set_line line list last items n b key value is_key is_value =
     ∙ (next line s (suc n) _ Gap text refl
     ∙ (next line s n _ (OfValue value) [] (value_token value is_value)
     ∙ (no_tokens line (taken line s (OfValue value)) n
-    ∙ ap (λ q. record (standing list (b ∷ key) end) { quotes = q }) (none_wanted value is_value))))))
+    ∙ ap (λ q. record (standing keys list (b ∷ key) end) { quotes = q }) (none_wanted value is_value))))))
 
 heading : (line : ℕ) (b : ℕ) (name : List ℕ) → list_all is_plain (b ∷ name) ≡ true
     → header_of line (line_text (Heading (b ∷ name))) ≡ Some (record { line = line; name = b ∷ name; is_listed = true })
@@ -204,17 +204,17 @@ some_text (Cut quotes w) h = absurd h
 some_text (Array e) h = absurd h
 some_text (InlineTable e) h = absurd h
 
-set_read : (line : ℕ) (list last : List ℕ) (items : List Item) (b : ℕ) (key : List ℕ) (value : Value) → list_all is_plain (b ∷ key) ≡ true → IsPlainValue value
-    → line_read line (standing list last items) (line_text (Setting (b ∷ key) value)) ≡ standing list (b ∷ key) (items ++ stated line list (b ∷ key) value ∷ [])
-set_read line list last items b key value is_key is_value =
-    let r = standing list last items in
+set_read : (keys : TableKeys) (line : ℕ) (list last : List ℕ) (items : List Item) (b : ℕ) (key : List ℕ) (value : Value) → list_all is_plain (b ∷ key) ≡ true → IsPlainValue value
+    → line_read line (standing keys list last items) (line_text (Setting (b ∷ key) value)) ≡ standing keys list (b ∷ key) (items ++ stated line list (b ∷ key) value ∷ [])
+set_read keys line list last items b key value is_key is_value =
+    let r = standing keys list last items in
     let text = line_text (Setting (b ∷ key) value) in
     let after = codes " = " ++ value_text value in
     let n = length key + (length (value_text value) - 1) in
     let some = some_text value is_value in
     let count : length text ≡ suc (suc (suc (suc (suc n)))) = omega (arith, length-append key after, some) in
     ap (head_read line r text) (no_heading line b key after is_key)
-    ∙ (ap (λ k. all_taken line r (tokens k text)) count ∙ set_line line list last items n b key value is_key is_value)
+    ∙ (ap (λ k. all_taken line r (tokens k text)) count ∙ set_line keys line list last items n b key value is_key is_value)
 
 -- ## Texts
 
@@ -264,23 +264,23 @@ one_line : (n : ℕ) (r : Reading) (text rest : List ℕ) → list_all goes_on t
 unfolding lines_read
 one_line n r text rest h = ap (lines_read n r) (first_ends text rest h)
 
-pub lines_state : (n : ℕ) (list last : List ℕ) (items : List Item) (lines : List PlainLine) → ArePlain lines → (lines_read n (standing list last items) (lines_of (lines_text lines))).items ≡ items ++ items_from n list lines
-lines_state n list last items [] h = ap (λ (s : Reading). s.items) (no_line n (standing list last items)) ∙ sym (append-nil items)
-lines_state n list last items (Heading [] ∷ lines) h = absurd h.0
-lines_state n list last items (Setting [] value ∷ lines) h = absurd h.0.0
-lines_state n list last items (Heading (b ∷ name) ∷ lines) h =
-    let r = standing list last items in
+pub lines_state : (keys : TableKeys) (n : ℕ) (list last : List ℕ) (items : List Item) (lines : List PlainLine) → ArePlain lines → (lines_read n (standing keys list last items) (lines_of (lines_text lines))).items ≡ items ++ items_from n list lines
+lines_state keys n list last items [] h = ap (λ (s : Reading). s.items) (no_line n (standing keys list last items)) ∙ sym (append-nil items)
+lines_state keys n list last items (Heading [] ∷ lines) h = absurd h.0
+lines_state keys n list last items (Setting [] value ∷ lines) h = absurd h.0.0
+lines_state keys n list last items (Heading (b ∷ name) ∷ lines) h =
+    let r = standing keys list last items in
     let rest = lines_text lines in
     let text = line_text (Heading (b ∷ name)) in
     let t : Table = record { line = n; name = b ∷ name; is_listed = true } in
     let ends = both_go_on (b ∷ name) (codes "]]") (plain_goes_on (b ∷ name) h.0) refl in
     ap (λ (s : Reading). s.items) (one_line n r text rest ends ∙ ap (λ o. lines_read (n + 1) (head_read n r text o) (lines_of rest)) (heading n b name h.0))
-    ∙ (lines_state (n + 1) (b ∷ name) [] (items ++ Begins t ∷ []) lines h.1 ∙ append_assoc items (Begins t ∷ []) (items_from (n + 1) (b ∷ name) lines))
-lines_state n list last items (Setting (b ∷ key) value ∷ lines) h =
-    let r = standing list last items in
+    ∙ (lines_state keys (n + 1) (b ∷ name) [] (items ++ Begins t ∷ []) lines h.1 ∙ append_assoc items (Begins t ∷ []) (items_from (n + 1) (b ∷ name) lines))
+lines_state keys n list last items (Setting (b ∷ key) value ∷ lines) h =
+    let r = standing keys list last items in
     let rest = lines_text lines in
     let text = line_text (Setting (b ∷ key) value) in
     let i = stated n list (b ∷ key) value in
     let ends = both_go_on (b ∷ key) (codes " = " ++ value_text value) (plain_goes_on (b ∷ key) h.0.0) (value_goes_on value h.0.1) in
-    ap (λ (s : Reading). s.items) (one_line n r text rest ends ∙ ap (λ s. lines_read (n + 1) s (lines_of rest)) (set_read n list last items b key value h.0.0 h.0.1))
-    ∙ (lines_state (n + 1) list (b ∷ key) (items ++ i ∷ []) lines h.1 ∙ append_assoc items (i ∷ []) (items_from (n + 1) list lines))
+    ap (λ (s : Reading). s.items) (one_line n r text rest ends ∙ ap (λ s. lines_read (n + 1) s (lines_of rest)) (set_read keys n list last items b key value h.0.0 h.0.1))
+    ∙ (lines_state keys (n + 1) list (b ∷ key) (items ++ i ∷ []) lines h.1 ∙ append_assoc items (i ∷ []) (items_from (n + 1) list lines))

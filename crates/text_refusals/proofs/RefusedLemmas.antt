@@ -6,8 +6,8 @@ use Rattle.text_refusals.specs.Courses.{after}
 use Rattle.text_refusals.specs.Outline.{Item, item_of}
 use Rattle.text_refusals.specs.Refused.{Adds, Row, item_rows, row_text, rows, shown}
 use Rattle.text_refusals.specs.declared.course.Course.{Course}
-use Rattle.text_refusals.specs.declared.outline.Item.{Item as CodeItem}
-use Rattle.text_refusals.specs.declared.statements.Report.{Report}
+use Rattle.text_refusals.specs.declared.outline.OutlineItem.{OutlineItem as CodeItem}
+use Rattle.text_refusals.specs.declared.report.Report.{Report}
 
 shown_more : (n : ℕ) (row : Row) (more : List Row) → shown (suc n) (row ∷ more) ≡ row_text row ++ shown n more
 unfolding shown

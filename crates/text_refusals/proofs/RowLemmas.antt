@@ -37,26 +37,26 @@ holds_some : {A : Type 0} (test : A → Bool) (o : Option A) → holds_of test o
 holds_some test None e = absurd (false≢true e)
 holds_some test (Some a) e = (a, refl, e)
 
-in_none : {A : Type 0} (x : A) → Contains [] x → ⊥
+pub in_none : {A : Type 0} (x : A) → Contains [] x → ⊥
 in_none x h = let low : h.0 < 0 = h.1 in omega (arith, low)
 
-in_cons : {A : Type 0} (y x : A) (xs : List A) → Contains (y ∷ xs) x → (y ≡ x) ⊎ Contains xs x
+pub in_cons : {A : Type 0} (y x : A) (xs : List A) → Contains (y ∷ xs) x → (y ≡ x) ⊎ Contains xs x
 in_cons y x xs h = at h.0 h.1 h.2
   where
     at : (k : ℕ) → k < length (y ∷ xs) → get_or (y ∷ xs) k x ≡ x → (y ≡ x) ⊎ Contains xs x
     at zero low is = inl is
     at (suc k) low is = inr (k, omega arith, is)
 
-in_head : {A : Type 0} (x : A) (xs : List A) → Contains (x ∷ xs) x
+pub in_head : {A : Type 0} (x : A) (xs : List A) → Contains (x ∷ xs) x
 in_head x xs = (0, omega arith, refl)
 
-in_tail : {A : Type 0} (y x : A) (xs : List A) → Contains xs x → Contains (y ∷ xs) x
+pub in_tail : {A : Type 0} (y x : A) (xs : List A) → Contains xs x → Contains (y ∷ xs) x
 in_tail y x xs h = let low : h.0 < length xs = h.1 in (suc h.0, omega (arith, low), h.2)
 
-in_one : {A : Type 0} (y x : A) → Contains (y ∷ []) x → x ≡ y
+pub in_one : {A : Type 0} (y x : A) → Contains (y ∷ []) x → x ≡ y
 in_one y x h = elim (in_cons y x [] h) [ inl is ↦ sym is | inr none ↦ absurd (in_none x none) ]
 
-in_if : (b : Bool) (row r : Row) → Contains (row_if b row) r → (b ≡ true) × (r ≡ row)
+pub in_if : (b : Bool) (row r : Row) → Contains (row_if b row) r → (b ≡ true) × (r ≡ row)
 in_if true row r h = (refl, in_one row r h)
 in_if false row r h = absurd (in_none r h)
 

@@ -21,7 +21,7 @@ use Rattle.statement.specs.declared.stated.Loop.{Loop}
 use Rattle.loop_bounds.specs.Nest.{HasUnboundedCycle, IsPlainEdge}
 use Rattle.loop_bounds.proofs.Positions.{index_found, index_inside, places_once}
 use Rattle.text_refusals.specs.Cycles.{AreMarks, IsCleared, IsClosed, IsIdle, IsOn, IsOnceRound, IsOpen, IsPath, IsPathTo, LeadToCleared}
-use Rattle.text_refusals.specs.declared.search.Search.{Search}
+use Rattle.text_refusals.specs.declared.search.CycleSearch.{CycleSearch}
 
 -- ## Sums of marks
 
@@ -99,7 +99,7 @@ module _ (flow : Flow) (loops : List Loop) where
         let two : get_or (set all n 0) v 0 ≡ 2 = get_or-set_other all n v 0 0 (λ (same : v ≡ n). omega (arith, lt, same)) ∙ get_or-replicate (n + 1) v 2 0 (omega (arith, lt)) in
         omega (arith, is, two)
 
-    pub idle_begun : (s : Search) → s.marks.items ≡ set (replicate (length flow.places + 1) 2) (length flow.places) 0 → s.path.items ≡ [] → IsIdle flow loops s
+    pub idle_begun : (s : CycleSearch) → s.marks.items ≡ set (replicate (length flow.places + 1) 2) (length flow.places) 0 → s.path.items ≡ [] → IsIdle flow loops s
     idle_begun s marks path = record {
       marks_are = subst (AreMarks flow loops) (sym marks) marks_begun;
       empty = path;

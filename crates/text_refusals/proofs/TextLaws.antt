@@ -4,7 +4,7 @@ use Rattle.control_flow.specs.declared.edges.Edge.{Edge}
 use Rattle.control_flow.specs.declared.places.Place.{Place}
 use Rattle.asm_text.specs.Appended.{Appends}
 use Rattle.text_refusals.specs.Texts.{IsEntryFront, IsUnder}
-use Rattle.text_refusals.specs.declared.words.WordLines.{WordLines}
+use Rattle.text_refusals.specs.declared.word_lines.WordLines.{WordLines}
 
 pub entered : (words : WordLines) (place : Place) (edge : Option Edge) (e : Edge) (old mid new : List ℕ) → edge ≡ Some e
     → Appends (IsUnder words (codes "A loop is entered elsewhere than at its header. From here:\n") e.from) old mid

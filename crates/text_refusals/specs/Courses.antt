@@ -1,6 +1,6 @@
 -- Where in its document each item of a statement's text is: of which entry of which list, and which of its
 -- destinations, by the tables and values before it.
-use Rattle.std.specs.Prelude.{◌==◌, ◌&&◌, ◌+◌, ◌<◌, not, ℕ, Bool, List, codes, length, take}
+use Rattle.std.specs.Prelude.{◌==◌, ◌&&◌, ◌+◌, ◌<◌, not, ℕ, Bool, List, codes, drop, length, take}
 use Rattle.std.specs.Prelude.{Option, Some, None, if◌then◌else◌}
 use Rattle.std.specs.List.{prefix_len}
 use Rattle.std.specs.Str.{bytes_eq}
@@ -24,6 +24,10 @@ is_inner b = not (b == 46)
 -- the first part of a key with dots
 abbrev pub key_head : List ℕ → List ℕ
 key_head key = take (prefix_len is_inner key) key
+
+-- the second part, empty where there is none
+abbrev pub inner_key : List ℕ → List ℕ
+inner_key key = key_head (drop (prefix_len is_inner key + 1) key)
 
 -- the list of which the table is an entry
 abbrev pub entry_list : Table → Option TableList

@@ -10,7 +10,7 @@ use Rattle.control_flow.specs.Places.{place_at}
 use Rattle.statement.specs.declared.stated.Loop.{Loop}
 use Rattle.loop_bounds.specs.Instance.{is_back_edge_of}
 use Rattle.loop_bounds.specs.Nest.{HasUnboundedCycle, IsPlainEdge}
-use Rattle.text_refusals.specs.declared.search.Search.{Search}
+use Rattle.text_refusals.specs.declared.search.CycleSearch.{CycleSearch}
 
 -- the edges, in their order, are a cycle without a back edge
 pub record IsCycleOf (flow : Flow) (loops : List Loop) (edges : List Edge) : Type 0 where
@@ -44,7 +44,7 @@ module _ (flow : Flow) (loops : List Loop) where
         → IsCleared (place_at flow.places v)
 
   -- no path is at hand
-  pub record IsIdle (s : Search) : Type 0 where
+  pub record IsIdle (s : CycleSearch) : Type 0 where
     pub marks_are : AreMarks s.marks.items
     pub empty : s.path.items ≡ []
     pub none : (v : ℕ) → v < length flow.places → slice_index s.marks.items v ≡ 1 → ⊥
@@ -64,7 +64,7 @@ module _ (flow : Flow) (loops : List Loop) where
     pub once : IsOnceRound path
     pub apart : (e : Edge) → Contains path e → e.from ≢ place_at flow.places at
 
-  abbrev pub IsSearching : Search → Type 0
+  abbrev pub IsSearching : CycleSearch → Type 0
   IsSearching s = IsPathTo s.marks.items s.path.items s.at s.start
 
   -- the path leads back to a place where one of its edges begins, and comes to no other place twice
@@ -77,7 +77,7 @@ module _ (flow : Flow) (loops : List Loop) where
     pub once : IsOnceRound path
 
   -- the path is closed, or the place where it began is cleared
-  abbrev pub IsEnded : Search → Type 0
+  abbrev pub IsEnded : CycleSearch → Type 0
   IsEnded s =
       ((s.at < length flow.places) × IsClosed s.path.items (place_at flow.places s.at))
       ⊎ (IsIdle s × IsCleared s.start)
@@ -99,5 +99,5 @@ module _ (flow : Flow) (loops : List Loop) where
   LeadToCleared marks p = (e : Edge) → IsPlainEdge flow loops e → e.from ≡ p → EndsCleared marks e
 
 -- fewer steps than this are left
-abbrev pub steps_left : Search → ℕ
+abbrev pub steps_left : CycleSearch → ℕ
 steps_left s = 2 * sum_by (λ m. m) s.marks.items + length s.path.items

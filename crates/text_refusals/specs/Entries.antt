@@ -8,7 +8,7 @@ use Rattle.statement.specs.declared.stated.Loop.{Loop}
 use Rattle.loop_bounds.specs.Extents.{found_instance}
 use Rattle.loop_bounds.specs.Instance.{Instance, instance_of, is_header, is_member}
 use Rattle.loop_bounds.specs.Nest.{HasMidEntry}
-use Rattle.text_refusals.specs.declared.entries.MidEntry.{MidEntry}
+use Rattle.text_refusals.specs.declared.mid_entries.MidEntry.{MidEntry}
 
 -- the handler begins at the place, or the edge leads to it from no member
 abbrev pub IsEnteredBy : Flow → Instance → Place → Option Edge → Type 0

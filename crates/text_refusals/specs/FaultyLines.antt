@@ -14,7 +14,7 @@ use Rattle.assembler.specs.declared.fault.LineFault.TheVariants.{LabelTwice, Too
 use Rattle.image.specs.Image.{Words}
 use Rattle.text_rows.specs.LineLabels.{first_word}
 use Rattle.text_refusals.specs.declared.source_faults.FaultyLine.{FaultyLine}
-use Rattle.text_refusals.specs.declared.rows.TheConstants.{MOST_LINES}
+use Rattle.text_refusals.specs.declared.word_rows.TheConstants.{MOST_LINES}
 
 -- ## A source without a fault that was found
 

@@ -5,10 +5,15 @@ pub mod Entries
 pub mod Extents
 pub mod FaultyItems
 pub mod FaultyLines
+pub mod FileCourses
+pub mod FileRows
+pub mod FileTexts
+pub mod MachineSpots
 pub mod Nested
 pub mod Outline
 pub mod Placed
 pub mod PlainLines
+pub mod ProfileSpots
 pub mod Reasons
 pub mod Refused
 pub mod Rows

@@ -1,6 +1,6 @@
--- The tables and the values of a statement's text, line by line, as its words say. A key is taken to be one
--- word or one text in quotes, as in the statements that we print. What that amounts to for plain lines is
--- said by `PlainLines`.
+-- The tables and the values of the text of a statement, a machine file or a cycle profile, line by line, as
+-- its words say. A key is taken to be one word or one text in quotes, as in the statements that we print.
+-- What that amounts to for plain lines is said by `PlainLines`.
 use Rattle.std.specs.Prelude.{◌==◌, ◌&&◌, ◌||◌, ◌+◌, not, zero, suc, Bool, true, false, ℕ}
 use Rattle.std.specs.Prelude.{List, [], ◌∷◌, ◌++◌, codes, length, take, drop, map, nat_eq, reverse}
 use Rattle.std.specs.Prelude.{Option, Some, None, if◌then◌else◌}
@@ -9,16 +9,17 @@ use Rattle.std.specs.List.{prefix_len, starts_with}
 use Rattle.asm_text.specs.Pieces.{is_blank}
 use Rattle.asm_text.specs.Source.{lines_of}
 use Rattle.toml_reading.specs.Documents.{is_one_of}
-use Rattle.text_refusals.specs.declared.outline.Item.{Item as CodeItem}
-use Rattle.text_refusals.specs.declared.outline.Item.TheVariants as code_item
+use Rattle.text_refusals.specs.declared.outline.OutlineItem.{OutlineItem as CodeItem}
+use Rattle.text_refusals.specs.declared.outline.OutlineItem.TheVariants as code_item
 use Rattle.text_refusals.specs.declared.outline.KeyValue.{KeyValue as CodeKeyValue}
-use Rattle.text_refusals.specs.declared.outline.Reading.{Reading as CodeReading}
-use Rattle.text_refusals.specs.declared.outline.Spot.{Spot as CodeSpot}
-use Rattle.text_refusals.specs.declared.outline.Table.{Table as CodeTable}
-use Rattle.text_refusals.specs.declared.tokens.Token.{Token as CodeToken}
-use Rattle.text_refusals.specs.declared.tokens.Token.TheVariants as code_token
-use Rattle.text_refusals.specs.declared.tokens.Value.{Value as CodeValue}
-use Rattle.text_refusals.specs.declared.tokens.Value.TheVariants as code_value
+use Rattle.text_refusals.specs.declared.outline.OutlineReading.{OutlineReading as CodeReading}
+use Rattle.text_refusals.specs.declared.outline.OutlineCursor.{OutlineCursor as CodeSpot}
+use Rattle.text_refusals.specs.declared.outline.OutlineTable.{OutlineTable as CodeTable}
+use Rattle.text_refusals.specs.declared.outline.TableKeys.{TableKeys as CodeTableKeys}
+use Rattle.text_refusals.specs.declared.outline_tokens.OutlineToken.{OutlineToken as CodeToken}
+use Rattle.text_refusals.specs.declared.outline_tokens.OutlineToken.TheVariants as code_token
+use Rattle.text_refusals.specs.declared.outline_tokens.OutlineValue.{OutlineValue as CodeValue}
+use Rattle.text_refusals.specs.declared.outline_tokens.OutlineValue.TheVariants as code_value
 
 -- ## The words of a line
 
@@ -159,14 +160,14 @@ tokens (suc n) (b ∷ rest) = (token_at b rest).0 ∷ tokens n (token_at b rest)
 
 -- ## The tables and values
 
--- a table begins: the line, the name of its list, and whether it is one of a list, as after [[ or in braces
+-- a table begins: the line, its name, and whether it is one of a list, as after [[ or in braces in an array
 pub record Table : Type 0 where
   pub line : ℕ
   pub name : List ℕ
   pub is_listed : Bool
 
--- a value: its line, the name of its table's list, empty for the statement itself, its key, and how many
--- arrays it is in, where 2 stands for more
+-- a value: its line, the name of its table, empty for the file itself, its key, and how many arrays it is in,
+-- where 2 stands for more
 pub record KeyValue : Type 0 where
   pub line : ℕ
   pub list : List ℕ
@@ -180,17 +181,23 @@ pub data Item : Type 0 where
   States : KeyValue → Item
   Ends : Item
 
--- the name of a table's list, the last key, the arrays around, and whether it is a table that a statement
--- may have
+-- the name of a table, the last key, the arrays around, and whether it is a table that the file may have
 pub record Spot : Type 0 where
   pub list : List ℕ
   pub key : List ℕ
   pub depth : ℕ
   pub is_part : Bool
 
+-- the keys of a file whose values are tables: those whose values are lists of tables, and those whose value
+-- is one table
+pub record TableKeys : Type 0 where
+  pub lists : List (List ℕ)
+  pub tables : List (List ℕ)
+
 -- what was read, the spot at hand, those around the brackets that are open, the nearest first, and the quotes
 -- of a text that goes on
 pub record Reading : Type 0 where
+  pub keys : TableKeys
   pub at : Spot
   pub around : List Spot
   pub quotes : List ℕ
@@ -207,13 +214,13 @@ nowhere = record { list = []; key = []; depth = 0; is_part = false }
 abbrev pub in_array : Spot → Spot
 in_array s = record s { depth = if s.depth == 0 then 1 else 2 }
 
--- the keys whose values are arrays of tables
-abbrev pub list_keys : List (List ℕ)
-list_keys = codes "loop" ∷ codes "target" ∷ codes "access" ∷ []
+-- the keys whose values, in so many arrays, are tables of the file
+abbrev pub keys_at : TableKeys → (depth : ℕ) → List (List ℕ)
+keys_at keys depth = if depth == 0 then keys.tables else (if depth == 1 then keys.lists else [])
 
--- a table in braces there is one of a list of the statement
-abbrev pub is_in_list : Spot → Bool
-is_in_list s = s.is_part && (length s.list == 0 && (s.depth == 1 && is_one_of list_keys s.key))
+-- a table in braces there is one of the file's
+abbrev pub is_table_at : TableKeys → Spot → Bool
+is_table_at keys s = s.is_part && (length s.list == 0 && is_one_of (keys_at keys s.depth) s.key)
 
 abbrev pub item_if : Bool → Reading → Item → Reading
 item_if b r i = record r { items = if b then r.items ++ (i ∷ []) else r.items }
@@ -244,11 +251,13 @@ closed r = closed_to r r.around
 abbrev pub array_begun : ℕ → Reading → (is_empty : Bool) → Reading
 array_begun line r is_empty = opened (with_value line r (Array is_empty)) (in_array r.at)
 
--- a table in braces begins: its list is that of its key
+-- a table in braces begins: its name is its key
 abbrev pub table_begun : ℕ → Reading → (is_empty : Bool) → Reading
 table_begun line r is_empty =
-    if is_in_list r.at
-    then opened (item_if true r (Begins (record { line = line; name = (r.at).key; is_listed = true })))
+    if is_table_at r.keys r.at
+    then
+    opened
+    (item_if true r (Begins (record { line = line; name = (r.at).key; is_listed = (r.at).depth == 1 })))
     (in_list (r.at).key)
     else opened (with_value line r (InlineTable is_empty)) nowhere
 
@@ -323,12 +332,12 @@ unfoldable pub lines_read : ℕ → Reading → List (List ℕ) → Reading
 lines_read line r [] = r
 lines_read line r (text ∷ texts) = lines_read (line + 1) (line_read line r text) texts
 
-abbrev pub nothing_read : Reading
-nothing_read = record { at = in_list []; around = []; quotes = []; items = [] }
+abbrev pub nothing_read : TableKeys → Reading
+nothing_read keys = record { keys = keys; at = in_list []; around = []; quotes = []; items = [] }
 
 -- the tables and values of a text, in its order
-abbrev pub items_of : List ℕ → List Item
-items_of text = (lines_read 1 nothing_read (lines_of text)).items
+abbrev pub items_of : TableKeys → List ℕ → List Item
+items_of keys text = (lines_read 1 (nothing_read keys) (lines_of text)).items
 
 -- ## As the code has them
 
@@ -367,9 +376,14 @@ item_of code_item.Ends = Ends
 abbrev pub spot_of : CodeSpot → Spot
 spot_of s = record { list = s.list.now; key = s.key.now; depth = s.depth; is_part = s.is_part }
 
+abbrev pub table_keys_of : CodeTableKeys → TableKeys
+table_keys_of keys =
+    record { lists = map (λ k. k.now) keys.lists.now; tables = map (λ k. k.now) keys.tables.now }
+
 abbrev pub reading_of : CodeReading → Reading
 reading_of r =
     record {
+      keys = table_keys_of r.keys;
       at = spot_of r.at;
       around = reverse (map spot_of r.around.items);
       quotes = r.quotes.now;

@@ -1,7 +1,7 @@
 -- Which items of a statement's text show which spots of its document, and when a document is that of the
 -- items: so it is for plain lines.
-use Rattle.std.specs.Prelude.{◌≡◌, ◌==◌, ◌<◌, ◌≤◌, ◌⊎◌, ℕ, true, false, List, [], ◌∷◌, codes, length, Contains}
-use Rattle.std.specs.Prelude.{Some, None, IsSome, IsSomeAnd}
+use Rattle.std.specs.Prelude.{◌≡◌, ◌==◌, ◌<◌, ◌≤◌, ◌⊎◌, ℕ, true, false, List, [], ◌∷◌, codes, length}
+use Rattle.std.specs.Prelude.{Contains, Some, None, IsSome, IsSomeAnd}
 use Rattle.std.specs.List.{slice_get}
 use Rattle.toml.specs.Data.{Members, as_table, get_member, member, no_members, string}
 use Rattle.toml_reading.specs.Lowest.{entries_at}
@@ -13,8 +13,8 @@ use Rattle.statement.specs.declared.spots.Spot.{Spot}
 use Rattle.statement.specs.declared.spots.Spot.TheVariants as spot
 use Rattle.statement.specs.declared.spots.TableList.{TableList}
 use Rattle.statement.specs.declared.spots.TableList.TheVariants.{Loops, Targets}
-use Rattle.text_refusals.specs.Courses.{after, at_front, begun, entry_list, is_at_key, is_destination, key_head}
-use Rattle.text_refusals.specs.Courses.{named_list, value_list}
+use Rattle.text_refusals.specs.Courses.{after, at_front, begun, entry_list, is_at_key, is_destination}
+use Rattle.text_refusals.specs.Courses.{key_head, named_list, value_list}
 use Rattle.text_refusals.specs.FaultyItems.{is_hidden}
 use Rattle.text_refusals.specs.Outline.{Begins, Ends, Item, KeyValue, Quoted, States, Table}
 use Rattle.text_refusals.specs.PlainLines.{PlainLine, Setting}

@@ -23,8 +23,8 @@ use Rattle.text_refusals.specs.Rows.{IsRow}
 use Rattle.text_refusals.specs.SharedHeaders.{IsSharedBy}
 use Rattle.text_refusals.specs.Texts.{IsCrossingText, IsCycleText, IsDeepText, IsEntryText, IsFaultText}
 use Rattle.text_refusals.specs.Texts.{shared_text}
-use Rattle.text_refusals.specs.declared.extents.Extent.{Extent}
-use Rattle.text_refusals.specs.declared.words.WordLines.{WordLines}
+use Rattle.text_refusals.specs.declared.extents.CycleExtent.{CycleExtent}
+use Rattle.text_refusals.specs.declared.word_lines.WordLines.{WordLines}
 
 -- something that shows why, and the text of it; or there is no such thing, and nothing is printed
 abbrev pub Shows : {A : Type 0} → (A → Type 0) → (A → List ℕ → Type 0) → Type 0 → List ℕ → Type 0
@@ -33,7 +33,7 @@ Shows {A} Is IsText IsNone text = ((a : A) × Is a × IsText a text) ⊎ (IsNone
 -- ## Loops
 
 -- a cycle, and the extent of the loop that would bound it
-pub record IsUnbounded (flow : Flow) (loops : List Loop) (found : List Edge × Extent) : Type 0 where
+pub record IsUnbounded (flow : Flow) (loops : List Loop) (found : List Edge × CycleExtent) : Type 0 where
   pub cycle : IsCycleOf flow loops found.0
   pub once : IsOnceRound found.0
   pub extent : IsExtentOf found.0 found.1

@@ -24,11 +24,11 @@ use Rattle.statement.specs.declared.spots.TableList.TheVariants.{Loops, Targets,
 use Rattle.text_refusals.specs.Courses.{after, at_front, begun, entry_list, is_at_key, key_head, named_list}
 use Rattle.text_refusals.specs.FaultyItems.{is_faulty, lent}
 use Rattle.text_refusals.specs.Outline.{Array, Bare, Begins, Cut, Ends, InlineTable, Item, KeyValue, Quoted}
-use Rattle.text_refusals.specs.Outline.{States, Table, Value, items_of}
+use Rattle.text_refusals.specs.Outline.{States, Table, TableKeys, Value, items_of}
 use Rattle.text_refusals.specs.declared.course.Course.{Course}
 use Rattle.text_refusals.specs.declared.statements.Limit as declared
-use Rattle.text_refusals.specs.declared.statements.Report.{Report}
-use Rattle.text_refusals.specs.declared.rows.TheConstants.{MOST_LINES}
+use Rattle.text_refusals.specs.declared.report.Report.{Report}
+use Rattle.text_refusals.specs.declared.word_rows.TheConstants.{MOST_LINES}
 
 -- ## Rows
 
@@ -227,18 +227,25 @@ module _ (has : Spot → Bool) where
   abbrev pub all_rows : List Item → List Row
   all_rows items = whole_rows items ++ rows has at_front items
 
--- the rows of the text of a document, by where that has the fault
-pub record AreRows (names : NamedAddresses) (text : List ℕ) (fault : StatementFault)
+-- the keys of a statement whose values are tables
+abbrev pub statement_tables : TableKeys
+statement_tables = record { lists = codes "loop" ∷ codes "target" ∷ codes "access" ∷ []; tables = [] }
+
+-- of the text of a document the rows where that has the fault
+pub record AreRows {S F : Type 0} (IsAt : Members → S → F → Type 0)
+    (rows : (S → Bool) → List Item → List Row) (keys : TableKeys) (text : List ℕ) (fault : F)
     (out : List ℕ) : Type 0 where
   pub members : Members
   pub document : IsDocument text members
-  pub has : Spot → Bool
-  pub tells : (s : Spot) → has s ≡ true ↔ IsFaultAt (address_of names) members s fault
-  pub out_is : out ≡ shown MOST_LINES (all_rows has (items_of text))
+  pub has : S → Bool
+  pub tells : (s : S) → has s ≡ true ↔ IsAt members s fault
+  pub out_is : out ≡ shown MOST_LINES (rows has (items_of keys text))
 
 -- those, or none of a text that is no document
-abbrev pub IsRowsText : NamedAddresses → List ℕ → StatementFault → List ℕ → Type 0
-IsRowsText names text fault out = AreRows names text fault out ⊎ (IsNoDocument text × (out ≡ []))
+abbrev pub IsRowsText : {S F : Type 0} → (Members → S → F → Type 0) → ((S → Bool) → List Item → List Row)
+    → TableKeys → List ℕ → F → List ℕ → Type 0
+IsRowsText IsAt rows keys text fault out =
+    AreRows IsAt rows keys text fault out ⊎ (IsNoDocument text × (out ≡ []))
 
 -- ## Of a text that is no TOML: a line of it
 
@@ -271,7 +278,8 @@ IsTomlText text out = IsTomlFaultText text out ⊎ IsNoFaultText text out
 
 abbrev pub IsStatementText : NamedAddresses → List ℕ → StatementFault → List ℕ → Type 0
 IsStatementText names text NotToml out = IsTomlText text out
-IsStatementText names text fault out = IsRowsText names text fault out
+IsStatementText names text fault out =
+    IsRowsText (IsFaultAt (address_of names)) all_rows statement_tables text fault out
 
 -- ## As the code has them
 

@@ -7,7 +7,7 @@ use Rattle.image.specs.Image.{Words, word_of}
 use Rattle.text_rows.specs.Rows.{IsShownRow, address_row, named_row}
 use Rattle.text_rows.specs.declared.line_labels.SourceLine.{SourceLine}
 use Rattle.text_rows.specs.WordLines.{line_at}
-use Rattle.text_refusals.specs.declared.words.WordLines.{WordLines}
+use Rattle.text_refusals.specs.declared.word_lines.WordLines.{WordLines}
 
 -- ## Rows
 

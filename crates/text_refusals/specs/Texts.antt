@@ -16,11 +16,11 @@ use Rattle.text_rows.specs.declared.line_labels.SourceLine.{SourceLine}
 use Rattle.text_rows.specs.WordLines.{label_at}
 use Rattle.text_refusals.specs.Rows.{IsPlaceRow, IsRow}
 use Rattle.text_refusals.specs.declared.crossings.Crossing.{Crossing}
-use Rattle.text_refusals.specs.declared.entries.MidEntry.{MidEntry}
-use Rattle.text_refusals.specs.declared.extents.Extent.{Extent}
+use Rattle.text_refusals.specs.declared.mid_entries.MidEntry.{MidEntry}
+use Rattle.text_refusals.specs.declared.extents.CycleExtent.{CycleExtent}
 use Rattle.text_refusals.specs.declared.nested.DeepPlace.{DeepPlace}
 use Rattle.text_refusals.specs.declared.source_faults.FaultyLine.{FaultyLine}
-use Rattle.text_refusals.specs.declared.words.WordLines.{WordLines}
+use Rattle.text_refusals.specs.declared.word_lines.WordLines.{WordLines}
 
 -- ## A cycle
 
@@ -29,14 +29,14 @@ key_text lines key at =
     codes "  " ++ (key ++ (codes " = " ++ (name_text (label_at lines at) at ++ codes "\n")))
 
 -- a loop of a statement without its bound
-abbrev pub addresses_text : BTreeMap ℕ SourceLine → Extent → List ℕ
+abbrev pub addresses_text : BTreeMap ℕ SourceLine → CycleExtent → List ℕ
 addresses_text lines extent =
     codes "  [[loop]]\n"
     ++ (key_text lines (codes "header") extent.header
     ++ (key_text lines (codes "first") extent.first ++ key_text lines (codes "last") extent.last))
 
 -- with a question mark for its bound
-abbrev pub loop_text : BTreeMap ℕ SourceLine → Extent → List ℕ
+abbrev pub loop_text : BTreeMap ℕ SourceLine → CycleExtent → List ℕ
 loop_text lines extent = addresses_text lines extent ++ codes "  bound = \"?\"\n"
 
 -- the row of the place where an edge begins
@@ -44,7 +44,8 @@ abbrev pub IsStartRow : WordLines → Edge → List ℕ → Type 0
 IsStartRow words e row = IsPlaceRow words e.from row
 
 -- the rows of the cycle's places, and then its loop
-pub record IsCycleText (words : WordLines) (cycle : List Edge) (found : Extent) (text : List ℕ) : Type 0 where
+pub record IsCycleText (words : WordLines) (cycle : List Edge) (found : CycleExtent)
+    (text : List ℕ) : Type 0 where
   pub rows : List ℕ
   pub are_rows : AreRows (IsStartRow words) cycle rows
   pub text_is : text

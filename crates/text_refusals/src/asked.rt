@@ -4,14 +4,14 @@ ghost use Rattle.text_refusals.specs.Outline.{key_value_of, value_of};
 
 use crate::course::{Course, is_at_key, is_destination, key_head, named_list, value_list};
 use crate::outline::KeyValue;
-use crate::tokens::Value;
+use crate::outline_tokens::OutlineValue;
 use statement::{Document, Key, Part, Spot, StatementFault, TableList, named_key};
 
 // Whether the value is a text that goes on after its line.
-fn is_cut(value: Value<'_>) -> bool
+fn is_cut(value: OutlineValue<'_>) -> bool
     ensures { result ≡ is_cut (value_of value.entry) }
 {
-    matches!(value, Value::Cut(_, _))
+    matches!(value, OutlineValue::Cut(_, _))
 }
 
 fn may_be_text(depth: u8, key: Option<Key>) -> bool

@@ -1,12 +1,13 @@
 ghost use Rattle.std.specs.Prelude.{◌≡◌, ◌≤◌, length};
 ghost use Rattle.std.specs.List.{prefix_len};
 ghost use Rattle.text_refusals.specs.Courses.{HasRoom, after, at_front, begun, counted, entered, entry_list};
-ghost use Rattle.text_refusals.specs.Courses.{is_inner};
+ghost use Rattle.text_refusals.specs.Courses.{inner_key, is_inner};
 ghost use Rattle.text_refusals.specs.Courses.{is_at_key, is_destination, key_head, named_list, passed};
 ghost use Rattle.text_refusals.specs.Courses.{value_list};
 ghost use Rattle.text_refusals.specs.Outline.{item_of, key_value_of, table_of};
 
-use crate::outline::{Item, KeyValue, Table};
+use crate::outline::{KeyValue, OutlineItem, OutlineTable};
+use crate::outline_tokens::after;
 use statement::{TableList, list_key};
 
 /// Where in its document an item of a statement's text is, by the items before it.
@@ -58,8 +59,15 @@ pub(crate) fn key_head(key: &[u8]) -> &[u8]
     &key[..head_len(key)]
 }
 
+/// The second part of a key with dots, empty where there is none.
+pub(crate) fn inner_key(key: &[u8]) -> &[u8]
+    ensures { result.now ≡ inner_key key.now }
+{
+    key_head(after(key, head_len(key) + 1))
+}
+
 /// The list of which the table is an entry.
-pub(crate) fn entry_list(table: &Table<'_>) -> Option<TableList>
+pub(crate) fn entry_list(table: &OutlineTable<'_>) -> Option<TableList>
     ensures { result ≡ entry_list (table_of table.now) }
 {
     if table.is_listed {
@@ -167,14 +175,14 @@ impl Course {
     }
 
     /// After the item.
-    pub(crate) fn after(self, item: &Item<'_>) -> Course
+    pub(crate) fn after(self, item: &OutlineItem<'_>) -> Course
         requires { HasRoom self }
         ensures { result ≡ after self (item_of item.now) }
     {
         match item {
-            Item::Begins(table) => self.entered(entry_list(table)),
-            Item::States(pair) => self.passed(pair),
-            Item::Ends => self,
+            OutlineItem::Begins(table) => self.entered(entry_list(table)),
+            OutlineItem::States(pair) => self.passed(pair),
+            OutlineItem::Ends => self,
         }
     }
 }

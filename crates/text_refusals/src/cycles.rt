@@ -2,7 +2,7 @@ ghost use Rattle.std.specs.Prelude.{IfNone, IfOk, IfSome};
 ghost use Rattle.loop_bounds.specs.Nest.{HasUnboundedCycle};
 ghost use Rattle.text_refusals.specs.Cycles.{IsCycleOf, IsOnceRound};
 
-use crate::search::Search;
+use crate::search::CycleSearch;
 use control_flow::{Edge, Graph};
 use statement::Loop;
 use std::alloc::{AllocError, Global};
@@ -26,7 +26,7 @@ pub fn unbounded_cycle(
     ensures once { IfOk result (λ found. IfSome found (λ cycle. IsOnceRound cycle.items)) }
     ensures none { IfOk result (λ found. IfNone found (HasUnboundedCycle graph.now loops.now → ⊥)) }
 {
-    let mut search = Search::new(alloc, graph)?;
+    let mut search = CycleSearch::new(alloc, graph)?;
     let found = search.visit(alloc, graph, loops, &graph.entry())?;
     if found.is_some() {
         return Ok(found);

@@ -7,7 +7,7 @@ use control_flow::{Calls, Edge, Place};
 
 /// A loop as a statement has it, but for its bound.
 #[derive(Clone, Copy)]
-pub struct Extent {
+pub struct CycleExtent {
     /// The address of its header.
     pub header: u32,
     /// The least address of its members in the header's routine.
@@ -17,10 +17,10 @@ pub struct Extent {
 }
 
 // The extent with an address.
-fn with_address(extent: Extent, address: u32) -> Extent
+fn with_address(extent: CycleExtent, address: u32) -> CycleExtent
     ensures { WidensTo (λ a. a ≡ address) extent result }
 {
-    Extent {
+    CycleExtent {
         header: extent.header,
         first: extent.first.min(address),
         last: extent.last.max(address),
@@ -28,7 +28,7 @@ fn with_address(extent: Extent, address: u32) -> Extent
 }
 
 // The extent with the place's address, if the place has the list of calls.
-fn widened(extent: Extent, list: Calls, place: &Place) -> Extent
+fn widened(extent: CycleExtent, list: Calls, place: &Place) -> CycleExtent
     ensures { WidensTo (λ a. place.now ≡ At list a) extent result }
 {
     let Place::At(calls, address) = place else {
@@ -41,7 +41,7 @@ fn widened(extent: Extent, list: Calls, place: &Place) -> Extent
 }
 
 /// The extent of a cycle, whose header is its first place. None where it has no edge, or begins at Exit.
-pub fn extent_of(cycle: &[Edge]) -> Option<Extent>
+pub fn extent_of(cycle: &[Edge]) -> Option<CycleExtent>
     ensures extent { IfSome result (λ extent. IsExtentOf cycle.now extent) }
     ensures none { IfNone result (HasNoStart cycle.now) }
 {
@@ -49,7 +49,7 @@ pub fn extent_of(cycle: &[Edge]) -> Option<Extent>
     let Place::At(list, header) = start.from else {
         return None;
     };
-    let mut extent = Extent {
+    let mut extent = CycleExtent {
         header,
         first: header,
         last: header,

@@ -1,38 +1,49 @@
 //! What the one line of a refusal has no room for: a cycle that no loop bounds, an edge that enters a loop
-//! elsewhere than at its header, how a place without edges is reached, and where these are in the source.
+//! elsewhere than at its header, how a place without edges is reached, and where these are in the source; and
+//! which lines of a statement, a machine file or a cycle profile are wrong.
 #![tactic(auto)]
 
 mod asked;
+mod asked_file;
+mod asked_profile;
 mod course;
 mod crossings;
 mod cycles;
-mod entries;
 mod extents;
+mod file_course;
+mod file_rows;
+mod file_texts;
 mod law;
+mod machine_spots;
 mod members;
+mod mid_entries;
 mod nested;
+mod no_toml;
 mod outline;
+mod outline_tokens;
+mod profile_spots;
+mod reason_texts;
 mod reasons;
-mod rows;
+mod report;
 mod search;
 mod shared_headers;
 mod source_faults;
 mod statements;
-mod texts;
-mod tokens;
-mod words;
+mod word_lines;
+mod word_rows;
 
 pub use crossings::{Crossing, loops_that_cross};
 pub use cycles::unbounded_cycle;
-pub use entries::{MidEntry, mid_entry};
-pub use extents::{Extent, extent_of};
-pub use law::{most_lines, plain_lines_are_seen, rows_show_faults};
+pub use extents::{CycleExtent, extent_of};
+pub use file_texts::{machine_text, profile_text};
+pub use law::{file_rows_show_faults, most_lines, plain_lines_are_seen, rows_show_faults};
+pub use mid_entries::{MidEntry, mid_entry};
 pub use nested::{DeepPlace, deep_place};
+pub use reason_texts::{
+    crossing_text, cycle_text, deep_text, entry_text, place_text, shared_text, word_text,
+};
 pub use reasons::{graph_reason, loops_reason};
 pub use shared_headers::shared_header;
 pub use source_faults::{FaultyLine, faulty_lines, faulty_text};
 pub use statements::statement_text;
-pub use texts::{
-    crossing_text, cycle_text, deep_text, entry_text, place_text, shared_text, word_text,
-};
-pub use words::{WordLines, words_of};
+pub use word_lines::{WordLines, words_of};

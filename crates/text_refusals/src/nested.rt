@@ -4,7 +4,8 @@ ghost use Rattle.std.specs.List.Sorted.{IsNonDecreasingBy, IsPermutation};
 ghost use Rattle.loop_bounds.specs.Extents.{found_instance};
 ghost use Rattle.loop_bounds.specs.Nest.{HasDeepPlace};
 ghost use Rattle.statement.specs.declared.stated.Loop.{Loop};
-ghost use Rattle.text_refusals.specs.Nested.{AreInstancesOf, HasAllUpTo, HasAllWith, HasPlace, HavePlace, IsDeep};
+ghost use Rattle.text_refusals.specs.Nested.{AreInstancesOf, HasAllUpTo, HasAllWith, HasPlace};
+ghost use Rattle.text_refusals.specs.Nested.{HavePlace, IsDeep};
 ghost use Rattle.text_refusals.specs.Nested.{KeepsAll, others};
 
 use control_flow::{Calls, Graph, Place};

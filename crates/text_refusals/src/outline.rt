@@ -1,71 +1,91 @@
 ghost use Rattle.std.specs.Prelude.{◌≡◌, IfOk, OnOk, length, map, option_map};
 ghost use Rattle.text_refusals.specs.Outline.{all_taken, array_begun, begun, closed, header_of, in_array};
 ghost use Rattle.text_refusals.specs.Outline.{item_of, items_of, line_read, nowhere, opened, tokens};
-ghost use Rattle.text_refusals.specs.Outline.{bare_word, in_list, is_in_list, reading_of, rest_read, spot_of};
+ghost use Rattle.text_refusals.specs.Outline.{bare_word, in_list, is_table_at, keys_at, reading_of};
+ghost use Rattle.text_refusals.specs.Outline.{rest_read, spot_of, table_keys_of};
 ghost use Rattle.text_refusals.specs.Outline.{past_end, table_begun, table_ended, table_of, taken, token_of};
 ghost use Rattle.text_refusals.specs.Outline.{value_of, wanted, with_value};
 
-use crate::tokens::{Token, Value, bare_front, first_token, past_end};
+use crate::outline_tokens::{OutlineToken, OutlineValue, bare_front, first_token, past_end};
 use asm_text::{after_blanks, first_line};
 use std::alloc::{AllocError, Global};
 use toml_reading::is_one_of;
 
-/// Where a table of a statement's text begins.
+/// Where a table of a text begins.
 #[derive(Clone, Copy)]
-pub(crate) struct Table<'a> {
+pub(crate) struct OutlineTable<'a> {
     /// The number of its line, from 1.
     pub line: usize,
-    /// The name of its list.
+    /// Its name: the key of which it is the value, or one of the values.
     pub name: &'a [u8],
-    /// Whether it is one of a list, as after `[[` or in braces.
+    /// Whether it is one of a list, as after `[[`, or in braces in an array.
     pub is_listed: bool,
 }
 
-/// A key of a statement's text, and its value.
+/// A key of a text, and its value.
 #[derive(Clone, Copy)]
 pub(crate) struct KeyValue<'a> {
     /// The number of its line, from 1.
     pub line: usize,
-    /// The name of its table's list, empty for the statement itself.
+    /// The name of its table, empty for the file itself.
     pub list: &'a [u8],
     pub key: &'a [u8],
     /// How many arrays the value is in, 0 to 2, which stands for more.
     pub depth: u8,
-    pub value: Value<'a>,
+    pub value: OutlineValue<'a>,
 }
 
-/// What a part of a statement's text says.
+/// What a part of a text says.
 #[derive(Clone, Copy)]
-pub(crate) enum Item<'a> {
+pub(crate) enum OutlineItem<'a> {
     /// A table begins.
-    Begins(Table<'a>),
+    Begins(OutlineTable<'a>),
     /// A key has a value.
     States(KeyValue<'a>),
     /// A table in braces ends.
     Ends,
 }
 
-/// The keys of a statement whose values are arrays of tables.
-pub(crate) const LIST_KEYS: &[&str] = &["loop", "target", "access"];
-
-/// The table at hand, by the name of its list and its last key.
+/// The keys of a file whose values are tables.
 #[derive(Clone, Copy)]
-pub(crate) struct Spot<'a> {
-    // the name of its list
+pub(crate) struct TableKeys {
+    /// Those whose values are lists of tables.
+    pub lists: &'static [&'static str],
+    /// Those whose value is one table.
+    pub tables: &'static [&'static str],
+}
+
+impl TableKeys {
+    // Those whose values, in so many arrays, are tables of the file.
+    fn at(self, depth: u8) -> &'static [&'static str]
+        ensures { map (λ k. k.now) result.now ≡ keys_at (table_keys_of self) depth }
+    {
+        match depth {
+            0 => self.tables,
+            1 => self.lists,
+            _ => &[],
+        }
+    }
+}
+
+/// The table at hand, by its name and its last key.
+#[derive(Clone, Copy)]
+pub(crate) struct OutlineCursor<'a> {
+    // its name
     list: &'a [u8],
     // the last key
     key: &'a [u8],
     // how many arrays are open after the key, 0 to 2, which stands for more
     depth: u8,
-    // whether it is a table that a statement may have
+    // whether it is a table that the file may have
     is_part: bool,
 }
 
-impl<'a> Spot<'a> {
-    fn in_list(name: &'a [u8]) -> Spot<'a>
+impl<'a> OutlineCursor<'a> {
+    fn in_list(name: &'a [u8]) -> OutlineCursor<'a>
         ensures { spot_of result ≡ in_list name.now }
     {
-        Spot {
+        OutlineCursor {
             list: name,
             key: b"",
             depth: 0,
@@ -73,10 +93,10 @@ impl<'a> Spot<'a> {
         }
     }
 
-    fn nowhere() -> Spot<'a>
+    fn nowhere() -> OutlineCursor<'a>
         ensures { spot_of result ≡ nowhere }
     {
-        Spot {
+        OutlineCursor {
             list: b"",
             key: b"",
             depth: 0,
@@ -85,11 +105,11 @@ impl<'a> Spot<'a> {
     }
 
     // In one array more.
-    fn in_array(self) -> Spot<'a>
+    fn in_array(self) -> OutlineCursor<'a>
         ensures { spot_of result ≡ in_array (spot_of self.entry) }
     {
         let depth = if self.depth == 0 { 1 } else { 2 };
-        Spot {
+        OutlineCursor {
             list: self.list,
             key: self.key,
             depth,
@@ -97,51 +117,55 @@ impl<'a> Spot<'a> {
         }
     }
 
-    // Whether a table in braces there is one of a list of the statement.
-    fn is_in_list(&self) -> bool
-        ensures { result ≡ is_in_list (spot_of self.now) }
+    // Whether a table in braces there is one of the file's.
+    fn is_table_at(&self, keys: TableKeys) -> bool
+        ensures { result ≡ is_table_at (table_keys_of keys) (spot_of self.now) }
     {
-        self.is_part && self.list.is_empty() && self.depth == 1 && is_one_of(LIST_KEYS, self.key)
+        self.is_part && self.list.is_empty() && is_one_of(keys.at(self.depth), self.key)
     }
 }
 
-/// What was read of a statement's text.
+/// What was read of a text.
 #[derive(Drop)]
-pub(crate) struct Reading<'a> {
-    at: Spot<'a>,
+pub(crate) struct OutlineReading<'a> {
+    keys: TableKeys,
+    at: OutlineCursor<'a>,
     // the spots outside the brackets that are open, the last of them the nearest
-    around: Vec<Spot<'a>>,
+    around: Vec<OutlineCursor<'a>>,
     // the quotes of a text that goes on
     quotes: &'static [u8],
-    items: Vec<Item<'a>>,
+    items: Vec<OutlineItem<'a>>,
 }
 
 // The quotes that a text still wants.
-fn wanted(value: Value<'_>) -> &'static [u8]
+fn wanted(value: OutlineValue<'_>) -> &'static [u8]
     ensures { result.now ≡ wanted (value_of value.entry) }
 {
     match value {
-        Value::Cut(quotes, _) => quotes,
-        Value::Bare(_) | Value::Quoted(_, _) | Value::Array(_) | Value::InlineTable(_) => b"",
+        OutlineValue::Cut(quotes, _) => quotes,
+        OutlineValue::Bare(_)
+        | OutlineValue::Quoted(_, _)
+        | OutlineValue::Array(_)
+        | OutlineValue::InlineTable(_) => b"",
     }
 }
 
-impl<'a> Reading<'a> {
-    fn begin(&mut self, table: Table<'a>) -> Result<(), AllocError>
+impl<'a> OutlineReading<'a> {
+    fn begin(&mut self, table: OutlineTable<'a>) -> Result<(), AllocError>
         ensures { OnOk result (reading_of self.new ≡ begun (reading_of self.old) (table_of table.entry)) }
     {
-        self.items.push(Item::Begins(table))?;
-        self.at = Spot::in_list(table.name);
+        self.items.push(OutlineItem::Begins(table))?;
+        self.at = OutlineCursor::in_list(table.name);
         Ok(())
     }
 
-    // Adds a value, if it is in a table that a statement may have.
-    fn value(&mut self, line: usize, value: Value<'a>) -> Result<(), AllocError>
+    // Adds a value, if it is in a table that the file may have.
+    fn value(&mut self, line: usize, value: OutlineValue<'a>) -> Result<(), AllocError>
         ensures { OnOk result
             (reading_of self.new ≡ with_value line (reading_of self.old) (value_of value.entry)) }
     {
         if self.at.is_part {
-            self.items.push(Item::States(KeyValue {
+            self.items.push(OutlineItem::States(KeyValue {
                 line,
                 list: self.at.list,
                 key: self.at.key,
@@ -153,7 +177,7 @@ impl<'a> Reading<'a> {
     }
 
     // A bracket opens.
-    fn open(&mut self, spot: Spot<'a>) -> Result<(), AllocError>
+    fn open(&mut self, spot: OutlineCursor<'a>) -> Result<(), AllocError>
         ensures { OnOk result (reading_of self.new ≡ opened (reading_of self.old) (spot_of spot.entry)) }
     {
         self.around.push(self.at)?;
@@ -173,54 +197,54 @@ impl<'a> Reading<'a> {
     fn begin_array(&mut self, line: usize, is_empty: bool) -> Result<(), AllocError>
         ensures { OnOk result (reading_of self.new ≡ array_begun line (reading_of self.old) is_empty) }
     {
-        self.value(line, Value::Array(is_empty))?;
+        self.value(line, OutlineValue::Array(is_empty))?;
         self.open(self.at.in_array())
     }
 
     fn begin_table(&mut self, line: usize, is_empty: bool) -> Result<(), AllocError>
         ensures { OnOk result (reading_of self.new ≡ table_begun line (reading_of self.old) is_empty) }
     {
-        if self.at.is_in_list() {
+        if self.at.is_table_at(self.keys) {
             let name = self.at.key;
-            self.items.push(Item::Begins(Table {
+            self.items.push(OutlineItem::Begins(OutlineTable {
                 line,
                 name,
-                is_listed: true,
+                is_listed: self.at.depth == 1,
             }))?;
-            return self.open(Spot::in_list(name));
+            return self.open(OutlineCursor::in_list(name));
         }
-        self.value(line, Value::InlineTable(is_empty))?;
-        self.open(Spot::nowhere())
+        self.value(line, OutlineValue::InlineTable(is_empty))?;
+        self.open(OutlineCursor::nowhere())
     }
 
     fn end_table(&mut self) -> Result<(), AllocError>
         ensures { OnOk result (reading_of self.new ≡ table_ended (reading_of self.old)) }
     {
         if self.at.is_part {
-            self.items.push(Item::Ends)?;
+            self.items.push(OutlineItem::Ends)?;
         }
         self.close();
         Ok(())
     }
 
-    fn take(&mut self, line: usize, token: Token<'a>) -> Result<(), AllocError>
+    fn take(&mut self, line: usize, token: OutlineToken<'a>) -> Result<(), AllocError>
         ensures { OnOk result
             (reading_of self.new ≡ taken line (reading_of self.old) (token_of token.entry)) }
     {
         match token {
-            Token::Gap => Ok(()),
-            Token::OpensArray(is_empty) => self.begin_array(line, is_empty),
-            Token::ClosesArray => {
+            OutlineToken::Gap => Ok(()),
+            OutlineToken::OpensArray(is_empty) => self.begin_array(line, is_empty),
+            OutlineToken::ClosesArray => {
                 self.close();
                 Ok(())
             }
-            Token::OpensTable(is_empty) => self.begin_table(line, is_empty),
-            Token::ClosesTable => self.end_table(),
-            Token::Key(key) => {
+            OutlineToken::OpensTable(is_empty) => self.begin_table(line, is_empty),
+            OutlineToken::ClosesTable => self.end_table(),
+            OutlineToken::Key(key) => {
                 self.at.key = key;
                 Ok(())
             }
-            Token::OfValue(value) => {
+            OutlineToken::OfValue(value) => {
                 self.quotes = wanted(value);
                 self.value(line, value)
             }
@@ -282,16 +306,16 @@ fn bare_word(text: &[u8]) -> &[u8]
 }
 
 // The table that a line begins, if it begins one.
-fn header_of(line: usize, text: &[u8]) -> Option<Table<'_>>
+fn header_of(line: usize, text: &[u8]) -> Option<OutlineTable<'_>>
     ensures { option_map table_of result ≡ header_of line text.now }
 {
     match after_blanks(text) {
-        [b'[', b'[', rest @ ..] => Some(Table {
+        [b'[', b'[', rest @ ..] => Some(OutlineTable {
             line,
             name: bare_word(rest),
             is_listed: true,
         }),
-        [b'[', rest @ ..] => Some(Table {
+        [b'[', rest @ ..] => Some(OutlineTable {
             line,
             name: bare_word(rest),
             is_listed: false,
@@ -300,17 +324,23 @@ fn header_of(line: usize, text: &[u8]) -> Option<Table<'_>>
     }
 }
 
-/// The tables and values of a statement's text, as its words say.
+/// The tables and values of a text, as its words say.
 ///
 /// # Errors
 ///
 /// An allocation failed.
 #[tactic(auto, unfolding(crate::specs::Outline::lines_read))]
-pub(crate) fn items_of(alloc: Global, text: &[u8]) -> Result<Vec<Item<'_>>, AllocError>
-    ensures { IfOk result (λ items. map item_of items.items ≡ items_of text.now) }
+pub(crate) fn items_of(
+    alloc: Global,
+    keys: TableKeys,
+    text: &[u8],
+) -> Result<Vec<OutlineItem<'_>>, AllocError>
+    ensures { IfOk result
+        (λ items. map item_of items.items ≡ items_of (table_keys_of keys) text.now) }
 {
-    let mut read = Reading {
-        at: Spot::in_list(b""),
+    let mut read = OutlineReading {
+        keys,
+        at: OutlineCursor::in_list(b""),
         around: Vec::new(alloc),
         quotes: b"",
         items: Vec::new(alloc),

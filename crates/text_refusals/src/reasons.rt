@@ -15,14 +15,14 @@ ghost use Rattle.text_refusals.specs.Texts.{IsFaultText, shared_text};
 
 use crate::crossings::loops_that_cross;
 use crate::cycles::unbounded_cycle;
-use crate::entries::mid_entry;
 use crate::extents::extent_of;
+use crate::mid_entries::mid_entry;
 use crate::nested::deep_place;
-use crate::shared_headers::shared_header;
-use crate::texts::{
+use crate::reason_texts::{
     crossing_text, cycle_text, deep_text, entry_text, place_text, shared_text, word_text,
 };
-use crate::words::WordLines;
+use crate::shared_headers::shared_header;
+use crate::word_lines::WordLines;
 use bus_ticks::Profile;
 use control_flow::{BuildFault, FaultyPlace, Graph, faulty_place, graphs_are_well_formed};
 use loop_bounds::NestFault;

@@ -16,7 +16,7 @@ use std::alloc::{AllocError, Global};
 
 /// A depth-first search for a cycle, along the edges that are no back edges.
 #[derive(Drop)]
-pub(crate) struct Search {
+pub(crate) struct CycleSearch {
     // of each place, and then of Exit: 0 where no cycle goes through it, 1 on the path, 2 elsewhere
     marks: Vec<u8>,
     // where the path begins, and its edges
@@ -91,9 +91,9 @@ fn cycle_of(alloc: Global, path: &[Edge], end: &Place) -> Result<Vec<Edge>, Allo
     Ok(Vec::new(alloc))
 }
 
-impl Search {
+impl CycleSearch {
     /// No place is met.
-    pub(crate) fn new(alloc: Global, graph: &Graph) -> Result<Search, AllocError>
+    pub(crate) fn new(alloc: Global, graph: &Graph) -> Result<CycleSearch, AllocError>
         ensures marks { IfOk result
             (λ search. search.marks.items
             ≡ slice_set (replicate (length graph.now.places + 1) 2) (length graph.now.places) 0) }
@@ -102,7 +102,7 @@ impl Search {
         let count = graph.places().len();
         let mut marks = vec![in alloc; 2; count + 1]?;
         marks[count] = 0;
-        Ok(Search {
+        Ok(CycleSearch {
             marks,
             start: Place::Exit,
             path: Vec::new(alloc),

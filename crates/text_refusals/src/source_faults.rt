@@ -5,7 +5,7 @@ ghost use Rattle.asm_text.specs.Appended.{Appends};
 ghost use Rattle.text_rows.specs.Rows.{AreRows};
 ghost use Rattle.text_refusals.specs.Texts.{IsFaultyRow};
 
-use crate::rows::MOST_LINES;
+use crate::word_rows::MOST_LINES;
 use asm_text::{TextFault, first_line, read_line};
 use assembler::{AsmFault, LineFault, assemble};
 use std::alloc::{AllocError, Global};

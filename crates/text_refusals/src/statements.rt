@@ -1,123 +1,47 @@
-ghost use Rattle.std.specs.Prelude.{◌≡◌, ◌≤◌, ◌++◌, ◌∷◌, [], IfOk, OnOk, codes, length, map};
-ghost use Rattle.std.specs.Prelude.{option_map};
+ghost use Rattle.std.specs.Prelude.{◌≡◌, [], IfOk, OnOk, codes, map, option_map};
+ghost use Rattle.image.specs.Labels.{address_of};
 ghost use Rattle.statement.specs.PlaceTests.{holds_of};
-ghost use Rattle.statement.specs.Places.{key_name, named_key};
+ghost use Rattle.statement.specs.Places.{IsFaultAt, named_key};
 ghost use Rattle.text_refusals.specs.Courses.{at_front, key_head, named_list};
 ghost use Rattle.text_refusals.specs.FaultyItems.{has_in, lent};
-ghost use Rattle.text_refusals.specs.Outline.{item_of, items_of, key_value_of, table_of, value_of};
-ghost use Rattle.text_refusals.specs.Refused.{Adds, IsRowsText, IsStatementText, IsTomlText, all_rows};
-ghost use Rattle.text_refusals.specs.Refused.{entry_rows, extra_destination_row, missing_row, target_rows};
-ghost use Rattle.text_refusals.specs.Refused.{extra_row, extra_rows, feeds, first_after};
-ghost use Rattle.text_refusals.specs.Refused.{header_rows, item_rows, limit_of, list_rows, missing_rows};
-ghost use Rattle.text_refusals.specs.Refused.{name_text, row_if, row_text, rows, shown, stated_at};
-ghost use Rattle.text_refusals.specs.Refused.{table_row, table_rows, tables_in, toml_row, toml_row_at};
-ghost use Rattle.text_refusals.specs.Refused.{long_rows, misplaced_rows, no_list_rows, no_table_rows};
-ghost use Rattle.text_refusals.specs.Refused.{unknown_rows, unwanted_rows, value_row, value_table_rows};
-ghost use Rattle.text_refusals.specs.Refused.{value_text, whole_rows};
+ghost use Rattle.text_refusals.specs.Outline.{item_of, items_of, key_value_of, table_of};
+ghost use Rattle.text_refusals.specs.Refused.{Adds, IsRowsText, IsStatementText, all_rows, entry_rows};
+ghost use Rattle.text_refusals.specs.Refused.{extra_destination_row, extra_row, extra_rows, first_after};
+ghost use Rattle.text_refusals.specs.Refused.{header_rows, item_rows, limit_of, list_rows, long_rows};
+ghost use Rattle.text_refusals.specs.Refused.{misplaced_rows, missing_row, missing_rows, no_list_rows};
+ghost use Rattle.text_refusals.specs.Refused.{no_table_rows, rows, shown, stated_at, statement_tables};
+ghost use Rattle.text_refusals.specs.Refused.{table_rows, tables_in, target_rows, unknown_rows};
+ghost use Rattle.text_refusals.specs.Refused.{unwanted_rows, value_table_rows, whole_rows};
 
 use crate::asked::Asked;
 use crate::course::{Course, entry_list, is_at_key, key_head, named_list};
-use crate::outline::{Item, KeyValue, Table, items_of};
-use crate::rows::{MOST_LINES, around_number};
-use crate::tokens::Value;
+use crate::no_toml::no_toml_text;
+use crate::outline::{KeyValue, OutlineItem, OutlineTable, TableKeys, items_of};
+use crate::report::{Report, value_text};
+use crate::word_rows::MOST_LINES;
 use image::Labels;
 use statement::{
     Document, KEYS, Key, MOST_DESTINATIONS, Part, Spot, StatementFault, TableList, key_name,
     list_key, most_of, named_key,
 };
 use std::alloc::{AllocError, Global};
-use text_rows::{put, put_decimal};
+use text_rows::put;
 use toml_reading::document;
+
+// The keys of a statement whose values are tables.
+const STATEMENT_TABLES: TableKeys = TableKeys {
+    lists: &["loop", "target", "access"],
+    tables: &[],
+};
 
 const NO_ENTRY: &[u8] = b"the statement has no entry";
 
 /// A table that is an entry of a list, with the list and its number, from 0.
 #[derive(Clone, Copy)]
-pub(crate) struct Entry<'a> {
+pub(crate) struct RefusedEntry<'a> {
     list: TableList,
     index: usize,
-    table: &'a Table<'a>,
-}
-
-/// What is printed of the lines of a statement's text, and how many more may be named.
-#[derive(Drop)]
-pub(crate) struct Report {
-    text: Vec<u8>,
-    left: usize,
-    alloc: Global,
-}
-
-// Adds a value as it is in the text.
-fn put_word(out: &mut Vec<u8>, value: Value<'_>) -> Result<(), AllocError>
-    ensures { OnOk result (out.new.items ≡ out.old.items ++ value_text (value_of value.entry)) }
-{
-    match value {
-        Value::Bare(text) => put(out, text),
-        Value::Quoted(quotes, text) => {
-            put(out, quotes)?;
-            put(out, text)?;
-            put(out, quotes)
-        }
-        Value::Cut(quotes, text) => {
-            put(out, quotes)?;
-            put(out, text)
-        }
-        Value::Array(is_empty) => put(out, if is_empty { b"[]" } else { b"[..]" }),
-        Value::InlineTable(is_empty) => put(out, if is_empty { b"{}" } else { b"{..}" }),
-    }
-}
-
-// Adds the name of a table, with the brackets that it has in the text.
-fn put_name(out: &mut Vec<u8>, table: &Table<'_>) -> Result<(), AllocError>
-    ensures { OnOk result (out.new.items ≡ out.old.items ++ name_text (table_of table.now)) }
-{
-    if !table.is_listed {
-        put(out, b"[")?;
-        put(out, table.name)?;
-        return put(out, b"]");
-    }
-    put(out, b"[[")?;
-    put(out, table.name)?;
-    put(out, b"]]")
-}
-
-// What is said of a value.
-fn value_text(alloc: Global, pair: &KeyValue<'_>) -> Result<Vec<u8>, AllocError>
-    ensures { IfOk result (λ text. text.items ≡ (value_row (key_value_of pair.now)).text) }
-{
-    let mut out = Vec::from_slice(alloc, pair.key)?;
-    put(&mut out, b" = ")?;
-    put_word(&mut out, pair.value)?;
-    Ok(out)
-}
-
-// What is said of a table.
-fn table_text(
-    alloc: Global,
-    table: &Table<'_>,
-    words: &[u8],
-    key: &[u8],
-) -> Result<Vec<u8>, AllocError>
-    ensures { IfOk result
-        (λ text. text.items ≡ (table_row (table_of table.now) words.now key.now).text) }
-{
-    let mut out = Vec::new(alloc);
-    put_name(&mut out, table)?;
-    put(&mut out, words)?;
-    put(&mut out, key)?;
-    Ok(out)
-}
-
-// Adds a row.
-fn put_line(out: &mut Vec<u8>, line: usize, text: &[u8]) -> Result<(), AllocError>
-    ensures { OnOk result
-        (out.new.items ≡ out.old.items ++ row_text (record { line = line; text = text.now })) }
-{
-    put(out, b"line ")?;
-    put_decimal(out, line as u64)?;
-    put(out, b": ")?;
-    put(out, text)?;
-    put(out, b"\n")
+    table: &'a OutlineTable<'a>,
 }
 
 /// A list, and what is said of the first of its tables after those that a statement may have.
@@ -144,13 +68,13 @@ const ACCESSES: Limit = Limit {
 
 // The first table of the list after so many.
 #[tactic(auto, unfolding(crate::specs::Refused::tables_in))]
-fn table_after<'a>(most: usize, list: &[u8], items: &[Item<'a>]) -> Option<Table<'a>>
+fn table_after<'a>(most: usize, list: &[u8], items: &[OutlineItem<'a>]) -> Option<OutlineTable<'a>>
     ensures { option_map table_of result
         ≡ first_after most (tables_in list.now (map item_of items.now)) }
 {
     let mut left = most;
     for item in items {
-        let Item::Begins(table) = item else {
+        let OutlineItem::Begins(table) = item else {
             continue;
         };
         if table.name != list {
@@ -166,13 +90,18 @@ fn table_after<'a>(most: usize, list: &[u8], items: &[Item<'a>]) -> Option<Table
 
 // The first value at the key, in so many arrays, after so many and before the next table.
 #[tactic(auto, unfolding(crate::specs::Refused::stated_at))]
-fn value_after<'a>(most: usize, depth: u8, key: &[u8], items: &[Item<'a>]) -> Option<KeyValue<'a>>
+fn value_after<'a>(
+    most: usize,
+    depth: u8,
+    key: &[u8],
+    items: &[OutlineItem<'a>],
+) -> Option<KeyValue<'a>>
     ensures { option_map key_value_of result
         ≡ first_after most (stated_at depth key.now (map item_of items.now)) }
 {
     let mut left = most;
     for item in items {
-        let Item::States(pair) = item else {
+        let OutlineItem::States(pair) = item else {
             return None;
         };
         if !is_at_key(depth, key, pair) {
@@ -187,61 +116,11 @@ fn value_after<'a>(most: usize, depth: u8, key: &[u8], items: &[Item<'a>]) -> Op
 }
 
 impl Report {
-    fn new(alloc: Global) -> Report
-        ensures text { result.text.items ≡ [] }
-        ensures left { result.left ≡ MOST_LINES }
-    {
-        Report {
-            text: Vec::new(alloc),
-            left: MOST_LINES,
-            alloc,
-        }
-    }
-
-    // Adds a row, if there is room for one more.
-    fn put_row(&mut self, line: usize, text: &[u8]) -> Result<(), AllocError>
-        ensures { OnOk result
-            (Adds (record { line = line; text = text.now } ∷ []) self.old self.new) }
-    {
-        if self.left == 0 {
-            return Ok(());
-        }
-        put_line(&mut self.text, line, text)?;
-        self.left -= 1;
-        Ok(())
-    }
-
-    fn put_row_if(&mut self, holds: bool, line: usize, text: &[u8]) -> Result<(), AllocError>
-        ensures { OnOk result
-            (Adds (row_if holds (record { line = line; text = text.now })) self.old self.new) }
-    {
-        if holds {
-            return self.put_row(line, text);
-        }
-        Ok(())
-    }
-
-    fn put_value(&mut self, pair: &KeyValue<'_>) -> Result<(), AllocError>
-        ensures { OnOk result (Adds (value_row (key_value_of pair.now) ∷ []) self.old self.new) }
-    {
-        let text = value_text(self.alloc, pair)?;
-        self.put_row(pair.line, &text)
-    }
-
-    // Adds what is said of a table.
-    fn put_table(&mut self, table: &Table<'_>, words: &[u8], key: &[u8]) -> Result<(), AllocError>
-        ensures { OnOk result
-            (Adds (table_row (table_of table.now) words.now key.now ∷ []) self.old self.new) }
-    {
-        let text = table_text(self.alloc, table, words, key)?;
-        self.put_row(table.line, &text)
-    }
-
     // Adds that an entry of a list has no such key, where that is a fault.
     fn put_if_missing(
         &mut self,
         asked: &Asked<'_>,
-        entry: &Entry<'_>,
+        entry: &RefusedEntry<'_>,
         key: Key,
     ) -> Result<(), AllocError>
         ensures { OnOk result
@@ -258,7 +137,7 @@ impl Report {
     fn put_missing(
         &mut self,
         asked: &Asked<'_>,
-        entry: &Entry<'_>,
+        entry: &RefusedEntry<'_>,
         keys: &[Key],
     ) -> Result<(), AllocError>
         ensures { OnOk result
@@ -272,7 +151,7 @@ impl Report {
     }
 
     // Adds the first destination after those that a target may have, if there is one.
-    fn put_extra_destination(&mut self, rest: &[Item<'_>]) -> Result<(), AllocError>
+    fn put_extra_destination(&mut self, rest: &[OutlineItem<'_>]) -> Result<(), AllocError>
         ensures { OnOk result
             (Adds (extra_destination_row (first_after MOST_DESTINATIONS
             (stated_at 1 (codes "to") (map item_of rest.now)))) self.old self.new) }
@@ -289,7 +168,11 @@ impl Report {
     }
 
     // Adds that a target has destinations and may have none.
-    fn put_if_unwanted(&mut self, asked: &Asked<'_>, entry: &Entry<'_>) -> Result<(), AllocError>
+    fn put_if_unwanted(
+        &mut self,
+        asked: &Asked<'_>,
+        entry: &RefusedEntry<'_>,
+    ) -> Result<(), AllocError>
         ensures { OnOk result
             (Adds (unwanted_rows (has_in asked.now) entry.now.index (table_of entry.now.table.now))
             self.old self.new) }
@@ -304,8 +187,8 @@ impl Report {
     fn put_if_too_long(
         &mut self,
         asked: &Asked<'_>,
-        entry: &Entry<'_>,
-        rest: &[Item<'_>],
+        entry: &RefusedEntry<'_>,
+        rest: &[OutlineItem<'_>],
     ) -> Result<(), AllocError>
         ensures { OnOk result
             (Adds (long_rows (has_in asked.now) entry.now.index (map item_of rest.now))
@@ -322,8 +205,8 @@ impl Report {
     fn put_of_target(
         &mut self,
         asked: &Asked<'_>,
-        entry: &Entry<'_>,
-        rest: &[Item<'_>],
+        entry: &RefusedEntry<'_>,
+        rest: &[OutlineItem<'_>],
     ) -> Result<(), AllocError>
         ensures { OnOk result
             (Adds (target_rows (has_in asked.now) entry.now.index (table_of entry.now.table.now)
@@ -334,7 +217,11 @@ impl Report {
     }
 
     // Adds that the header of a loop lies outside it.
-    fn put_if_misplaced(&mut self, asked: &Asked<'_>, entry: &Entry<'_>) -> Result<(), AllocError>
+    fn put_if_misplaced(
+        &mut self,
+        asked: &Asked<'_>,
+        entry: &RefusedEntry<'_>,
+    ) -> Result<(), AllocError>
         ensures { OnOk result
             (Adds (misplaced_rows (has_in asked.now) entry.now.index (table_of entry.now.table.now))
             self.old self.new) }
@@ -350,8 +237,8 @@ impl Report {
     fn put_of_list(
         &mut self,
         asked: &Asked<'_>,
-        entry: &Entry<'_>,
-        rest: &[Item<'_>],
+        entry: &RefusedEntry<'_>,
+        rest: &[OutlineItem<'_>],
     ) -> Result<(), AllocError>
         ensures { OnOk result
             (Adds (list_rows (has_in asked.now) entry.now.list entry.now.index
@@ -369,8 +256,8 @@ impl Report {
     fn put_of_entry(
         &mut self,
         asked: &Asked<'_>,
-        entry: &Entry<'_>,
-        rest: &[Item<'_>],
+        entry: &RefusedEntry<'_>,
+        rest: &[OutlineItem<'_>],
     ) -> Result<(), AllocError>
         ensures { OnOk result
             (Adds (entry_rows (has_in asked.now) entry.now.list entry.now.index
@@ -380,7 +267,11 @@ impl Report {
         self.put_of_list(asked, entry, rest)
     }
 
-    fn put_if_unknown(&mut self, asked: &Asked<'_>, table: &Table<'_>) -> Result<(), AllocError>
+    fn put_if_unknown(
+        &mut self,
+        asked: &Asked<'_>,
+        table: &OutlineTable<'_>,
+    ) -> Result<(), AllocError>
         ensures { OnOk result
             (Adds (unknown_rows (has_in asked.now) (table_of table.now)) self.old self.new) }
     {
@@ -390,7 +281,11 @@ impl Report {
         Ok(())
     }
 
-    fn put_if_no_table(&mut self, asked: &Asked<'_>, table: &Table<'_>) -> Result<(), AllocError>
+    fn put_if_no_table(
+        &mut self,
+        asked: &Asked<'_>,
+        table: &OutlineTable<'_>,
+    ) -> Result<(), AllocError>
         ensures { OnOk result
             (Adds (no_table_rows (has_in asked.now) (table_of table.now)) self.old self.new) }
     {
@@ -400,7 +295,11 @@ impl Report {
         Ok(())
     }
 
-    fn put_if_no_list(&mut self, asked: &Asked<'_>, table: &Table<'_>) -> Result<(), AllocError>
+    fn put_if_no_list(
+        &mut self,
+        asked: &Asked<'_>,
+        table: &OutlineTable<'_>,
+    ) -> Result<(), AllocError>
         ensures { OnOk result
             (Adds (no_list_rows (has_in asked.now) (table_of table.now)) self.old self.new) }
     {
@@ -412,7 +311,11 @@ impl Report {
 
     // Adds that a table stands for a value that is none.
     #[tactic(auto, using(crate::proofs::RefusedLemmas::adds_both))]
-    fn put_if_table(&mut self, asked: &Asked<'_>, table: &Table<'_>) -> Result<(), AllocError>
+    fn put_if_table(
+        &mut self,
+        asked: &Asked<'_>,
+        table: &OutlineTable<'_>,
+    ) -> Result<(), AllocError>
         ensures { OnOk result
             (Adds (value_table_rows (has_in asked.now) (table_of table.now)) self.old self.new) }
     {
@@ -422,7 +325,11 @@ impl Report {
 
     // Adds what is wrong with a table that is no entry of a list.
     #[tactic(auto, using(crate::proofs::RefusedLemmas::adds_both))]
-    fn put_of_header(&mut self, asked: &Asked<'_>, table: &Table<'_>) -> Result<(), AllocError>
+    fn put_of_header(
+        &mut self,
+        asked: &Asked<'_>,
+        table: &OutlineTable<'_>,
+    ) -> Result<(), AllocError>
         ensures { OnOk result
             (Adds (header_rows (has_in asked.now) (table_of table.now)) self.old self.new) }
     {
@@ -435,8 +342,8 @@ impl Report {
         &mut self,
         asked: &Asked<'_>,
         course: &Course,
-        table: &Table<'_>,
-        rest: &[Item<'_>],
+        table: &OutlineTable<'_>,
+        rest: &[OutlineItem<'_>],
     ) -> Result<(), AllocError>
         ensures { OnOk result
             (Adds (table_rows (has_in asked.now) course.now (table_of table.now) (map item_of rest.now))
@@ -444,7 +351,7 @@ impl Report {
     {
         match entry_list(table) {
             Some(list) => {
-                let entry = Entry {
+                let entry = RefusedEntry {
                     list,
                     index: course.begun(list),
                     table,
@@ -459,28 +366,28 @@ impl Report {
         &mut self,
         asked: &Asked<'_>,
         course: &Course,
-        item: &Item<'_>,
-        rest: &[Item<'_>],
+        item: &OutlineItem<'_>,
+        rest: &[OutlineItem<'_>],
     ) -> Result<(), AllocError>
         ensures { OnOk result
             (Adds (item_rows (has_in asked.now) course.now (item_of item.now) (map item_of rest.now))
             self.old self.new) }
     {
         match item {
-            Item::Begins(table) => self.put_of_table(asked, course, table, rest),
-            Item::States(pair) => {
+            OutlineItem::Begins(table) => self.put_of_table(asked, course, table, rest),
+            OutlineItem::States(pair) => {
                 if asked.is_faulty(course, pair) {
                     return self.put_value(pair);
                 }
                 Ok(())
             }
-            Item::Ends => Ok(()),
+            OutlineItem::Ends => Ok(()),
         }
     }
 
     // Adds what is wrong with the tables and values.
     #[tactic(auto, unfolding(crate::specs::Refused::rows))]
-    fn put_rows(&mut self, asked: &Asked<'_>, items: &[Item<'_>]) -> Result<(), AllocError>
+    fn put_rows(&mut self, asked: &Asked<'_>, items: &[OutlineItem<'_>]) -> Result<(), AllocError>
         ensures { OnOk result
             (Adds (rows (has_in asked.now) at_front (map item_of items.now)) self.old self.new) }
     {
@@ -496,7 +403,7 @@ impl Report {
     fn put_if_too_many(
         &mut self,
         asked: &Asked<'_>,
-        items: &[Item<'_>],
+        items: &[OutlineItem<'_>],
         limit: &Limit,
     ) -> Result<(), AllocError>
         ensures { OnOk result
@@ -513,7 +420,11 @@ impl Report {
     }
 
     // Adds of each list that is too long the first table after those that there may be.
-    fn put_extra_tables(&mut self, asked: &Asked<'_>, items: &[Item<'_>]) -> Result<(), AllocError>
+    fn put_extra_tables(
+        &mut self,
+        asked: &Asked<'_>,
+        items: &[OutlineItem<'_>],
+    ) -> Result<(), AllocError>
         ensures { OnOk result
             (Adds (extra_rows (has_in asked.now) (map item_of items.now)) self.old self.new) }
     {
@@ -524,7 +435,11 @@ impl Report {
 
     // Adds what is wrong with the whole.
     #[tactic(auto, using(crate::proofs::RefusedLemmas::adds_both))]
-    fn put_of_whole(&mut self, asked: &Asked<'_>, items: &[Item<'_>]) -> Result<(), AllocError>
+    fn put_of_whole(
+        &mut self,
+        asked: &Asked<'_>,
+        items: &[OutlineItem<'_>],
+    ) -> Result<(), AllocError>
         ensures { OnOk result
             (Adds (whole_rows (has_in asked.now) (map item_of items.now)) self.old self.new) }
     {
@@ -535,7 +450,7 @@ impl Report {
 }
 
 // Whether the statement may not have the key that the table stands for.
-fn has_unknown(asked: &Asked<'_>, table: &Table<'_>) -> bool
+fn has_unknown(asked: &Asked<'_>, table: &OutlineTable<'_>) -> bool
     ensures { result
         ≡ has_in asked.now (Spot.Own (Part.Unknown (lent (key_head (table_of table.now).name)))) }
 {
@@ -543,7 +458,7 @@ fn has_unknown(asked: &Asked<'_>, table: &Table<'_>) -> bool
 }
 
 // Whether the table stands for a value that has the fault.
-fn has_key(asked: &Asked<'_>, table: &Table<'_>) -> bool
+fn has_key(asked: &Asked<'_>, table: &OutlineTable<'_>) -> bool
     ensures { result
         ≡ holds_of (λ key. has_in asked.now (Spot.Own (Part.Value key)))
         (named_key (key_head (table_of table.now).name)) }
@@ -555,7 +470,7 @@ fn has_key(asked: &Asked<'_>, table: &Table<'_>) -> bool
 }
 
 // Whether the table stands for a list, which it is not.
-fn has_list(asked: &Asked<'_>, table: &Table<'_>) -> bool
+fn has_list(asked: &Asked<'_>, table: &OutlineTable<'_>) -> bool
     ensures { result
         ≡ holds_of (λ list. has_in asked.now (Spot.NoList list))
         (named_list (key_head (table_of table.now).name)) }
@@ -566,13 +481,22 @@ fn has_list(asked: &Asked<'_>, table: &Table<'_>) -> bool
     }
 }
 
+// The tables and values of a statement's text.
+fn statement_items(alloc: Global, text: &[u8]) -> Result<Vec<OutlineItem<'_>>, AllocError>
+    ensures { IfOk result
+        (λ items. map item_of items.items ≡ items_of statement_tables text.now) }
+{
+    items_of(alloc, STATEMENT_TABLES, text)
+}
+
 // The rows of the text where the spots of its document are that have the fault.
 #[tactic(auto, using(crate::proofs::RefusedLemmas::adds_both, crate::proofs::RefusedLemmas::all_added))]
 fn rows_text(alloc: Global, asked: &Asked<'_>, text: &[u8]) -> Result<Vec<u8>, AllocError>
     ensures { IfOk result
-        (λ out. out.items ≡ shown MOST_LINES (all_rows (has_in asked.now) (items_of text.now))) }
+        (λ out. out.items
+        ≡ shown MOST_LINES (all_rows (has_in asked.now) (items_of statement_tables text.now))) }
 {
-    let items = items_of(alloc, text)?;
+    let items = statement_items(alloc, text)?;
     let mut report = Report::new(alloc);
     report.put_of_whole(asked, &items)?;
     report.put_rows(asked, &items)?;
@@ -586,7 +510,9 @@ fn faulty_rows(
     labels: &Labels,
     fault: StatementFault,
 ) -> Result<Vec<u8>, AllocError>
-    ensures { IfOk result (λ out. IsRowsText labels.now text.now fault out.items) }
+    ensures { IfOk result
+        (λ out. IsRowsText (IsFaultAt (address_of labels.now)) all_rows statement_tables text.now fault
+        out.items) }
 {
     let Some(table) = document(alloc, text)? else {
         return Ok(Vec::new(alloc));
@@ -597,42 +523,6 @@ fn faulty_rows(
         fault,
     };
     rows_text(alloc, &asked, text)
-}
-
-// How many lines end in the text.
-fn feeds(text: &[u8]) -> usize
-    ensures count { result ≡ feeds text.now }
-    ensures within { result ≤ length text.now }
-{
-    text.iter().filter(|byte| **byte == b'\n').count()
-}
-
-fn toml_row(alloc: Global, number: usize) -> Result<Vec<u8>, AllocError>
-    ensures { IfOk result (λ out. out.items ≡ toml_row number) }
-{
-    around_number(alloc, b"line ", number, b" is no TOML\n")
-}
-
-// The row of the line that holds the byte at an index, or the end of the text.
-fn toml_row_at(alloc: Global, text: &[u8], at: usize) -> Result<Vec<u8>, AllocError>
-    requires { at ≤ length text.now }
-    ensures { IfOk result (λ out. out.items ≡ toml_row_at text.now at) }
-{
-    let number = feeds(&text[..at]) + 1;
-    toml_row(alloc, number)
-}
-
-// The line of the statement's text where it is no TOML.
-fn no_toml_text(alloc: Global, text: &[u8]) -> Result<Vec<u8>, AllocError>
-    ensures { IfOk result (λ out. IsTomlText text.now out.items) }
-{
-    let Err(error) = toml::table_from_slice(alloc, text) else {
-        return Ok(Vec::new(alloc));
-    };
-    match error.span() {
-        Some(span) => toml_row_at(alloc, text, span.start),
-        None => Err(AllocError),
-    }
 }
 
 /// The lines of a statement's text that show where its document has the fault: at most twenty, each with its

@@ -1,7 +1,7 @@
 ghost use Rattle.std.specs.Prelude.{◌≡◌, ◌++◌, OnOk};
 ghost use Rattle.text_rows.specs.Addresses.{label_or_number, toml_number, quoted};
 
-use crate::columns::put;
+use crate::text_columns::put;
 use asm_text::hex8;
 use std::alloc::AllocError;
 

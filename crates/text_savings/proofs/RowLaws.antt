@@ -3,8 +3,8 @@ use Rattle.std.proofs.Common.{◌≡◌, ◌∙◌, ℕ, ◌+◌, ◌-◌, Bor, 
 use Rattle.std.proofs.lemmas.List.{length-append}
 use Rattle.std.specs.Global.{Global}
 use Rattle.assembler.specs.declared.placed_line.PlacedLine.{PlacedLine}
-use Rattle.sources.specs.declared.read.Text.{Text}
-use Rattle.sources.specs.declared.read.Text.TheVariants.{Lines, Image}
+use Rattle.sources.specs.declared.read.SourceText.{SourceText}
+use Rattle.sources.specs.declared.read.SourceText.TheVariants.{Lines, Image}
 use Rattle.asm_text.specs.Appended.{Appends}
 use Rattle.text_rows.specs.Rows.{AreRows}
 use Rattle.text_rows.specs.WordLines.{Numbered}
@@ -24,12 +24,12 @@ whole_row IsEnd s used old mid new front is adds =
     )
 
 -- by the lines of a text that are found beforehand
-pub by_lines : (text : Text) (bytes : Bor (List ℕ)) (placed : Vec PlacedLine Global) (lines found : ℕ → Option Numbered) (list : List Saving) (rows : List ℕ) → text ≡ Lines bytes placed
+pub by_lines : (text : SourceText) (bytes : Bor (List ℕ)) (placed : Vec PlacedLine Global) (lines found : ℕ → Option Numbered) (list : List Saving) (rows : List ℕ) → text ≡ Lines bytes placed
     → ((at : ℕ) → lines at ≡ found at) → AreRows (IsSavingRow (IsLineEnd lines)) list rows → AreRows (IsSavingRow (IsEndIn text found)) list rows
 by_lines text bytes placed lines found list rows is are_lines are =
-    subst (λ (t : Text). AreRows (IsSavingRow (IsEndIn t found)) list rows) (sym is)
+    subst (λ (t : SourceText). AreRows (IsSavingRow (IsEndIn t found)) list rows) (sym is)
     (subst (λ (f : ℕ → Option Numbered). AreRows (IsSavingRow (IsLineEnd f)) list rows) (λ i x. are_lines x i) are)
 
 -- by the words of an image
-pub by_words : (text : Text) (line : ℕ → Option Numbered) (list : List Saving) (rows : List ℕ) → text ≡ Image → AreRows (IsSavingRow IsImageEnd) list rows → AreRows (IsSavingRow (IsEndIn text line)) list rows
-by_words text line list rows is are = subst (λ (t : Text). AreRows (IsSavingRow (IsEndIn t line)) list rows) (sym is) are
+pub by_words : (text : SourceText) (line : ℕ → Option Numbered) (list : List Saving) (rows : List ℕ) → text ≡ Image → AreRows (IsSavingRow IsImageEnd) list rows → AreRows (IsSavingRow (IsEndIn text line)) list rows
+by_words text line list rows is are = subst (λ (t : SourceText). AreRows (IsSavingRow (IsEndIn t line)) list rows) (sym is) are

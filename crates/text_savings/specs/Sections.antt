@@ -2,8 +2,8 @@
 use Rattle.std.specs.Prelude.{◌≡◌, ℕ, List, ◌++◌, codes, decimal, length, Option, Some, None}
 use Rattle.sources.specs.Lines.{line_of}
 use Rattle.sources.specs.declared.read.Source.{Source}
-use Rattle.sources.specs.declared.read.Text.{Text}
-use Rattle.sources.specs.declared.read.Text.TheVariants.{Lines, Image}
+use Rattle.sources.specs.declared.read.SourceText.{SourceText}
+use Rattle.sources.specs.declared.read.SourceText.TheVariants.{Lines, Image}
 use Rattle.text_rows.specs.Columns.{in_columns}
 use Rattle.statement.specs.Statement.{class_name}
 use Rattle.text_rows.specs.Rows.{IsShownRow, address_row, named_row, section}
@@ -58,7 +58,7 @@ IsImageEnd used (Word at word) end = IsShownRow used (at, word) end
 IsImageEnd used Leave end = end ≡ codes "\n"
 
 -- where these are the lines of the words: by a text's lines, or by an image's words
-abbrev pub IsEndIn : Text → (ℕ → Option Numbered) → (used : ℕ) → Subject → List ℕ → Type 0
+abbrev pub IsEndIn : SourceText → (ℕ → Option Numbered) → (used : ℕ) → Subject → List ℕ → Type 0
 IsEndIn (Lines bytes placed) line = IsLineEnd line
 IsEndIn Image line = IsImageEnd
 

@@ -11,7 +11,7 @@ ghost use Rattle.text_rows.specs.WordLines.{numbered_at};
 use crate::gains::Refinement;
 use crate::saving::{Saving, Subject, savings};
 use longest_walk::Longest;
-use sources::{Source, Text};
+use sources::{Source, SourceText};
 use statement::class_name;
 use std::alloc::{AllocError, Global};
 use std::collections::BTreeMap;
@@ -143,11 +143,11 @@ fn source_rows(alloc: Global, source: &Source<'_>, list: &[Saving]) -> Result<Ve
     ensures { IfOk result (λ rows. AreSavingRows source.now list.now rows.items) }
 {
     match &source.text {
-        Text::Lines(_, _) => {
+        SourceText::Lines(_, _) => {
             let lines = source.lines(alloc)?;
             rows_of(alloc, &lines, list)
         }
-        Text::Image => rows_of(alloc, &ByWords, list),
+        SourceText::Image => rows_of(alloc, &ByWords, list),
     }
 }
 

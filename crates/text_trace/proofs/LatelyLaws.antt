@@ -9,7 +9,7 @@ use Rattle.std.proofs.lemmas.List.{length-replicate, length-set}
 use Rattle.std.proofs.lemmas.Option.{none-some}
 use Rattle.assembler.specs.ShownLines.{IsShown}
 use Rattle.text_trace.specs.Lately.{AreRight, IsRight}
-use Rattle.text_trace.specs.declared.shown.Shown.{Shown}
+use Rattle.text_trace.specs.declared.shown.ShownLine.{ShownLine}
 
 pub right_of : (word at n : ℕ) (line part rest : List ℕ) → IsShown word at line → part ≡ line
     → n ≡ length line → length line ≤ 64
@@ -28,7 +28,7 @@ pub none_right : (n : ℕ) → AreRight (replicate n None)
 none_right n place row is = absurd (none-some row (sym (alike n place None (cases_lt place n)) ∙ is))
 
 -- what is put somewhere is there, if anything is
-set_there : (rows : List (Option Shown)) (n : ℕ) (row other : Shown)
+set_there : (rows : List (Option ShownLine)) (n : ℕ) (row other : ShownLine)
     → get_or (set rows n (Some row)) n None ≡ Some other
     → (n < length rows) ⊎ (length rows ≤ n) → row ≡ other
 set_there rows n row other is (inl lt) =
@@ -37,7 +37,7 @@ set_there rows n row other is (inr past) = absurd (none-some other
     (sym (get_or_past (set rows n (Some row)) n None
     (subst (λ m. m ≤ n) (sym (length-set rows n (Some row))) past)) ∙ is))
 
-pub set_right : (rows : List (Option Shown)) (n : ℕ) (row : Shown) → AreRight rows → IsRight row
+pub set_right : (rows : List (Option ShownLine)) (n : ℕ) (row : ShownLine) → AreRight rows → IsRight row
     → AreRight (set rows n (Some row))
 set_right rows n row known right place other is = ⊎_elim
     (λ (here : place ≡ n).

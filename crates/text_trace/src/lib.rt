@@ -2,12 +2,12 @@
 #![tactic(auto)]
 
 mod figures;
-mod registers;
+mod register_lines;
 mod run;
 mod shown;
-mod trace;
+mod trace_lines;
 
 pub use figures::{hex_word, why_name, write_stop, write_ticks};
-pub use registers::write_registers;
+pub use register_lines::write_registers;
 pub use run::write_run;
-pub use trace::{LINE_ROOM, exception_name, trace_line};
+pub use trace_lines::{LINE_ROOM, exception_name, trace_line};

@@ -4,7 +4,7 @@ ghost use Rattle.asm_text.specs.Appended.{Appends};
 ghost use Rattle.text_trace.specs.TraceText.{RefusedRun, TracesRun};
 
 use crate::shown::ShownLately;
-use crate::trace::put_trace;
+use crate::trace_lines::put_trace;
 use arm2_exec::{Input, Kind, Machine, Ran};
 use std::alloc::AllocError;
 

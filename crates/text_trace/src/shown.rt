@@ -5,7 +5,7 @@ ghost use Rattle.assembler.specs.ShownLines.{IsShown};
 ghost use Rattle.text_trace.specs.Lately.{AreRight, IsRight};
 ghost use Rattle.asm_text.specs.Appended.{Appends};
 
-use crate::trace::LINE_ROOM;
+use crate::trace_lines::LINE_ROOM;
 use arrayvec::ArrayString;
 use asm_text::WORD_LINE_ROOM;
 use assembler::disassemble;
@@ -15,7 +15,7 @@ const ROWS: usize = 64;
 
 // The line of a word at an address.
 #[derive(Clone, Copy)]
-struct Shown {
+struct ShownLine {
     word: u32,
     at: u32,
     bytes: [u8; WORD_LINE_ROOM],
@@ -25,11 +25,11 @@ struct Shown {
 /// The lines of words that were shown lately, one for each place that an address names by its bits 7 to 2.
 #[derive(Drop)]
 pub(crate) struct ShownLately {
-    rows: [Option<Shown>; ROWS],
+    rows: [Option<ShownLine>; ROWS],
 }
 
-impl Shown {
-    fn of(word: u32, at: u32) -> Shown
+impl ShownLine {
+    fn of(word: u32, at: u32) -> ShownLine
         ensures word { result.word ≡ word }
         ensures at { result.at ≡ at }
         ensures right { IsRight result }
@@ -38,7 +38,7 @@ impl Shown {
         let items = line.items();
         let mut bytes = [0; WORD_LINE_ROOM];
         bytes[..items.len()].copy_from_slice(items);
-        Shown {
+        ShownLine {
             word,
             at,
             bytes,
@@ -88,7 +88,7 @@ impl ShownLately {
                 return;
             }
         }
-        let row = Shown::of(word, at);
+        let row = ShownLine::of(word, at);
         row.put(out);
         self.rows[place] = Some(row);
     }

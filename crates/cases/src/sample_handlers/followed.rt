@@ -1,5 +1,7 @@
 use crate::sample_handlers::judgement::{Files, HandlerFault, number_after};
-use arcwcet::{FollowedRun, FollowedVisits, MemoryOutput, follow_report, follow_visits_report};
+use arcwcet::{
+    FollowedRun, FollowedVisits, MemoryOutput, fault_only, follow_report, follow_visits_report,
+};
 use std::alloc::Global;
 use std::str;
 
@@ -70,7 +72,7 @@ fn print_followed(
             statement: &files.statement,
             machine: &files.machine,
         };
-        return Ok(follow_report(alloc, run, None, report)?);
+        return Ok(fault_only(follow_report(alloc, run, None, report))?);
     };
     let run = FollowedVisits {
         source: &files.source,
@@ -78,7 +80,7 @@ fn print_followed(
         fiq_statement,
         machine: &files.machine,
     };
-    Ok(follow_visits_report(alloc, run, None, report)?)
+    Ok(fault_only(follow_visits_report(alloc, run, None, report))?)
 }
 
 /// Follows a handler's run, with the visits of FIQ's handler where its statement is given.

@@ -4,8 +4,14 @@ use Rattle.outputs.specs.Output.{TakesFront}
 use Rattle.command_line.specs.Rows.{asked_of}
 use Rattle.arcwcet.specs.Kept.{inputs_lent}
 use Rattle.arcwcet.specs.Refusals.{Says, store_fault_name}
-use Rattle.arcwcet.proofs.RunLemmas.{asm_unprinted, asm_unwritten, says_line}
+use Rattle.arcwcet.proofs.RunLemmas.{asm_refused, asm_unprinted, asm_unwritten, says_line}
 use Rattle.arcwcet.proofs.commands.run_asm.Goals as goal
+
+pub returns-in-Err-clause-ran : goal.returns-in-Err-clause-ran
+returns-in-Err-clause-ran g c = λ old files read split is_asm.
+    let asked = asked_of c.args.job.request.now in
+    asm_refused g.S.Store.read_gives g.S.Store.write_gives g.O.Output.taken g.O.Output.failures (Says g.E.Output.taken g.E.Output.failures asked c.args.err.now c.alone_status.new.err) asked old c.args.store.now files c.args.out.now read is_asm
+    (inputs_lent c.args.job.inputs) split c.in-Err.fault c.in-Err.ensures.fault c.alone_status.ensures.says c.alone_status.result c.alone_status.ensures.status
 
 pub returns-in-Err-write-clause-ran : goal.returns-in-Err-write-clause-ran
 returns-in-Err-write-clause-ran g c = λ old files read split is_asm.

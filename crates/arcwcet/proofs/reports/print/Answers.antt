@@ -1,6 +1,7 @@
-use Rattle.std.proofs.Common.{List, ℕ, subst}
+use Rattle.std.proofs.Common.{◌∙◌, List, ℕ, ap, subst}
 use Rattle.handlers.specs.Answers.{Answers}
 use Rattle.handlers.specs.Placing.{IsRunRefused, IsRunnable}
+use Rattle.handlers.specs.Refusal.{fault_only}
 use Rattle.handlers.specs.Report.{IsAccepted, IsRefused, IsReport}
 use Rattle.source_reports.specs.Assembly.{IsAsmReport, IsSource, IsSourceRefused}
 use Rattle.source_reports.specs.DraftReport.{IsDraftRefused, IsDraftReport, IsDraftable}
@@ -12,32 +13,36 @@ use Rattle.handler_reports.specs.ExplainReport.{IsExplainReport}
 use Rattle.handler_reports.specs.FollowReport.{IsFollowRefused, IsFollowReport, IsFollowable}
 use Rattle.handler_reports.specs.FollowVisits.{AreFollowable, AreNotFollowed, IsFollowVisitsReport}
 use Rattle.handler_reports.specs.GraphReport.{IsGraphReport}
-use Rattle.handler_reports.specs.TightReport.{HasTightReport, IsTightRefused, IsTightReport}
 use Rattle.handler_reports.specs.Verdict.{IsVerdictReport}
-use Rattle.handler_reports.specs.VisitsReport.{AreAccepted, AreRefused, IsVisitsReport}
 use Rattle.arcwcet.specs.Kept.{inputs_lent}
-use Rattle.arcwcet.specs.Reports.{bursts_of}
-use Rattle.arcwcet.proofs.RunLemmas.{answered_clauses, answered_judged, answered_unpriced_report, answered_yes}
+use Rattle.arcwcet.specs.Reports.{answered, bursts_of, judged, report_by, version_report}
+use Rattle.arcwcet.proofs.RunLemmas.{answered_judged, answered_unpriced_report, answered_yes, same_answer}
 use Rattle.arcwcet.proofs.reports.print.Goals as goal
 
 pub returns-in-Version : goal.returns-in-Version
-returns-in-Version g c = rw (c.in-Version.is) c.print_version.ensures
+unfolding report_by
+returns-in-Version g c =
+    rw (c.in-Version.is)
+    (same_answer g.O.Output.taken g.O.Output.failures c.args.out.now c.print_version.new.out version_report c.print_version.result (fault_only c.alone.result) c.alone.ensures c.print_version.ensures)
 
 pub returns-in-Asm : goal.returns-in-Asm
+unfolding report_by
 returns-in-Asm g c =
     let i = inputs_lent c.args.job.inputs in
     rw (c.in-Asm.is)
     (answered_unpriced_report g.O.Output.taken g.O.Output.failures c.args.out.now c.asm_report.new.out (IsAsmReport i.source) (IsSource i.source) (IsSourceRefused i.source)
-    c.asm_report.result c.asm_report.ensures c.answered.result c.answered.ensures)
+    c.asm_report.result c.asm_report.ensures (fault_only c.answered.result) (c.answered.ensures ∙ ap answered c.alone-in-Asm.ensures))
 
 pub returns-in-List : goal.returns-in-List
+unfolding report_by
 returns-in-List g c =
     let i = inputs_lent c.args.job.inputs in
     rw (c.in-List.is)
     (answered_unpriced_report g.O.Output.taken g.O.Output.failures c.args.out.now c.list_report.new.out (IsListReport i.source) (IsSource i.source) (IsSourceRefused i.source)
-    c.list_report.result c.list_report.ensures c.answered-in-List.result c.answered-in-List.ensures)
+    c.list_report.result c.list_report.ensures (fault_only c.answered-in-List.result) (c.answered-in-List.ensures ∙ ap answered c.alone-in-List.ensures))
 
 pub returns-in-Draft : goal.returns-in-Draft
+unfolding report_by
 returns-in-Draft g c =
     let i = inputs_lent c.args.job.inputs in
     let word = c.args.job.request.now.word.now in
@@ -45,89 +50,98 @@ returns-in-Draft g c =
     c.as_bytes-entry.ensures.value c.draft_report.ensures in
     rw (c.in-Draft.is)
     (answered_unpriced_report g.O.Output.taken g.O.Output.failures c.args.out.now c.draft_report.new.out (IsDraftReport i.source word) (IsDraftable i.source word) (IsDraftRefused i.source word)
-    c.draft_report.result answers c.answered-in-Draft.result c.answered-in-Draft.ensures)
+    c.draft_report.result answers (fault_only c.answered-in-Draft.result) (c.answered-in-Draft.ensures ∙ ap answered c.alone-in-Draft.ensures))
 
 pub returns-in-Run : goal.returns-in-Run
+unfolding report_by
 returns-in-Run g c =
     let i = inputs_lent c.args.job.inputs in
     rw (c.in-Run.is)
+    (same_answer g.O.Output.taken g.O.Output.failures c.args.out.now c.machine_report.new.out (judged i.profile (IsMachineReport ShowsRegisters i.source i.second) (IsRunRefused i.source i.second)) c.machine_report.result (fault_only c.alone-in-Run.result) c.alone-in-Run.ensures
     (answered_judged g.O.Output.taken g.O.Output.failures c.args.out.now c.machine_report.new.out i.profile (IsMachineReport ShowsRegisters i.source i.second) (IsRunnable i.source i.second) (IsRunRefused i.source i.second)
-    c.machine_report.result c.machine_report.ensures)
+    c.machine_report.result c.machine_report.ensures))
 
 pub returns-in-Trace : goal.returns-in-Trace
+unfolding report_by
 returns-in-Trace g c =
     let i = inputs_lent c.args.job.inputs in
     rw (c.in-Trace.is)
+    (same_answer g.O.Output.taken g.O.Output.failures c.args.out.now c.machine_report-in-Trace.new.out (judged i.profile (IsMachineReport ShowsSteps i.source i.second) (IsRunRefused i.source i.second)) c.machine_report-in-Trace.result (fault_only c.alone-in-Trace.result) c.alone-in-Trace.ensures
     (answered_judged g.O.Output.taken g.O.Output.failures c.args.out.now c.machine_report-in-Trace.new.out i.profile (IsMachineReport ShowsSteps i.source i.second) (IsRunnable i.source i.second) (IsRunRefused i.source i.second)
-    c.machine_report-in-Trace.result c.machine_report-in-Trace.ensures)
+    c.machine_report-in-Trace.result c.machine_report-in-Trace.ensures))
 
 pub returns-in-Debug : goal.returns-in-Debug
+unfolding report_by
 returns-in-Debug g c =
     let i = inputs_lent c.args.job.inputs in
     rw (c.in-Debug.is)
     (answered_yes g.O.Output.taken g.O.Output.failures c.args.out.now c.debug_report.new.out i.profile (IsDebugReport i.source i.second c.args.typed.now) (IsRunnable i.source i.second) (IsRunRefused i.source i.second)
-    c.debug_report.result c.debug_report.ensures c.answered-in-Debug.result c.answered-in-Debug.ensures)
+    c.debug_report.result c.debug_report.ensures (fault_only c.answered-in-Debug.result) (c.answered-in-Debug.ensures ∙ ap answered c.alone-in-Debug.ensures))
 
 pub returns-in-Bound : goal.returns-in-Bound
+unfolding report_by
 returns-in-Bound g c =
     let i = inputs_lent c.args.job.inputs in
-    let is = c.bound_report.ensures in
     rw (c.in-Bound.is)
-    (answered_clauses g.O.Output.taken g.O.Output.failures c.args.out.now c.bound_report.new.out i.profile (IsReport i.source i.second) (IsRefused i.source i.second)
-    c.bound_report.result is.printed is.refused is.quiet is.cut c.answered-in-Bound.result c.answered-in-Bound.ensures)
+    (answered_yes g.O.Output.taken g.O.Output.failures c.args.out.now c.print_bound.new.out i.profile (IsReport i.source i.second) (IsAccepted i.source i.second) (IsRefused i.source i.second)
+    (fault_only c.print_bound.result) c.print_bound.ensures.answers (fault_only c.answered-in-Bound.result) c.answered-in-Bound.ensures)
 
 pub returns-in-Tight : goal.returns-in-Tight
+unfolding report_by
 returns-in-Tight g c =
-    let i = inputs_lent c.args.job.inputs in
     rw (c.in-Tight.is)
-    (answered_yes g.O.Output.taken g.O.Output.failures c.args.out.now c.tight_report.new.out i.profile (IsTightReport i.source i.second c.args.job.request.now.numbers.edge) (HasTightReport i.source i.second c.args.job.request.now.numbers.edge) (IsTightRefused i.source i.second c.args.job.request.now.numbers.edge)
-    c.tight_report.result c.tight_report.ensures c.answered-in-Tight.result c.answered-in-Tight.ensures)
+    c.print_edge.ensures
+
+pub returns-in-Visits : goal.returns-in-Visits
+unfolding report_by
+returns-in-Visits g c =
+    rw (c.in-Visits.is)
+    c.print_visited.ensures
 
 pub returns-in-Check : goal.returns-in-Check
+unfolding report_by
 returns-in-Check g c =
     let i = inputs_lent c.args.job.inputs in
     rw (c.in-Check.is)
-    (answered_judged g.O.Output.taken g.O.Output.failures c.args.out.now c.check_report.new.out i.profile (IsAnswer i.source i.second i.third) (IsCheckable i.source i.second i.third) (IsCheckRefused i.source i.second i.third)
-    c.check_report.result c.check_report.ensures)
-
-pub returns-in-Visits : goal.returns-in-Visits
-returns-in-Visits g c =
-    let i = inputs_lent c.args.job.inputs in
-    rw (c.in-Visits.is)
-    (answered_yes g.O.Output.taken g.O.Output.failures c.args.out.now c.visits_report.new.out i.profile (IsVisitsReport i.source i.second i.third c.args.job.request.now.numbers.visits) (AreAccepted i.source i.second i.third c.args.job.request.now.numbers.visits) (AreRefused i.source i.second i.third c.args.job.request.now.numbers.visits)
-    c.visits_report.result c.visits_report.ensures c.answered-in-Visits.result c.answered-in-Visits.ensures)
+    (answered_judged g.O.Output.taken g.O.Output.failures c.args.out.now c.print_checked.new.out i.profile (IsAnswer i.source i.second i.third) (IsCheckable i.source i.second i.third) (IsCheckRefused i.source i.second i.third)
+    (fault_only c.print_checked.result) c.print_checked.ensures)
 
 pub returns-in-Explain : goal.returns-in-Explain
+unfolding report_by
 returns-in-Explain g c =
     let i = inputs_lent c.args.job.inputs in
     rw (c.in-Explain.is)
     (answered_judged g.O.Output.taken g.O.Output.failures c.args.out.now c.print_explanation.new.out i.profile (IsExplainReport i.source i.second c.args.job.request.now.numbers.at_most (bursts_of c.args.job.request.now.numbers)) (IsAccepted i.source i.second) (IsRefused i.source i.second)
-    c.print_explanation.result c.print_explanation.ensures)
+    (fault_only c.print_explanation.result) c.print_explanation.ensures)
 
 pub returns-in-Verdict : goal.returns-in-Verdict
+unfolding report_by
 returns-in-Verdict g c =
     let i = inputs_lent c.args.job.inputs in
     rw (c.in-Verdict.is)
     (answered_judged g.O.Output.taken g.O.Output.failures c.args.out.now c.print_verdict.new.out i.profile (IsVerdictReport i.source i.second i.third) (IsCheckable i.source i.second i.third) (IsCheckRefused i.source i.second i.third)
-    c.print_verdict.result c.print_verdict.ensures)
+    (fault_only c.print_verdict.result) c.print_verdict.ensures)
 
 pub returns-in-Follow : goal.returns-in-Follow
+unfolding report_by
 returns-in-Follow g c =
     let i = inputs_lent c.args.job.inputs in
     rw (c.in-Follow.is)
     (answered_judged g.O.Output.taken g.O.Output.failures c.args.out.now c.print_followed.new.out i.profile (IsFollowReport i.source i.second i.third) (IsFollowable i.source i.second i.third) (IsFollowRefused i.source i.second i.third)
-    c.print_followed.result c.print_followed.ensures)
+    (fault_only c.print_followed.result) c.print_followed.ensures)
 
 pub returns-in-FollowVisits : goal.returns-in-FollowVisits
+unfolding report_by
 returns-in-FollowVisits g c =
     let i = inputs_lent c.args.job.inputs in
     rw (c.in-FollowVisits.is)
     (answered_judged g.O.Output.taken g.O.Output.failures c.args.out.now c.print_followed_visits.new.out i.profile (IsFollowVisitsReport i.source i.second i.third i.fourth) (AreFollowable i.source i.second i.third i.fourth) (AreNotFollowed i.source i.second i.third i.fourth)
-    c.print_followed_visits.result c.print_followed_visits.ensures)
+    (fault_only c.print_followed_visits.result) c.print_followed_visits.ensures)
 
 pub returns-in-Graph : goal.returns-in-Graph
+unfolding report_by
 returns-in-Graph g c =
     let i = inputs_lent c.args.job.inputs in
     rw (c.in-Graph.is)
     (answered_yes g.O.Output.taken g.O.Output.failures c.args.out.now c.graph_report.new.out i.profile (IsGraphReport i.source i.second) (IsAccepted i.source i.second) (IsRefused i.source i.second)
-    c.graph_report.result c.graph_report.ensures c.answered-in-Graph.result c.answered-in-Graph.ensures)
+    (fault_only c.graph_report.result) c.graph_report.ensures.answers (fault_only c.answered-in-Graph.result) c.answered-in-Graph.ensures)

@@ -3,7 +3,7 @@ use Rattle.std.proofs.lemmas.List.{at_drop_more}
 use Rattle.clap.specs.Simple.{App, app_of, with_subcommand}
 use Rattle.command_line.specs.Line.{with_commands}
 use Rattle.command_line.specs.Rows.{usage_of}
-use Rattle.command_line.specs.declared.rows.CommandRow.{CommandRow}
+use Rattle.command_line.specs.declared.command_rows.CommandRow.{CommandRow}
 use Rattle.command_line.proofs.commands.with_commands.Goals as goal
 
 pub loop-row-preserved : goal.loop-row-preserved

@@ -1,7 +1,7 @@
 use Rattle.std.proofs.Common.{◌≡◌, ◌+◌, ◌-◌, ◌*◌, ◌≤◌, None, length, vec_capacity}
 use Rattle.arm2_exec.proofs.RunLemmas.{SoFar}
 use Rattle.asm_text.specs.Appended.{Appends}
-use Rattle.text_trace.specs.declared.trace.TheConstants.{LINE_ROOM}
+use Rattle.text_trace.specs.declared.trace_lines.TheConstants.{LINE_ROOM}
 use Rattle.text_trace.proofs.RunLaws.{PrintedSoFar}
 use Rattle.arm2_exec.specs.Run.{IsWithin}
 use Rattle.debugger.specs.Watching.{inputs_of}

@@ -1,19 +1,24 @@
 use Rattle.handlers.specs.Report.{BeforeOutput, IsRefused}
 use Rattle.handlers.proofs.HandlerLemmas.{refused_as}
+use Rattle.handlers.proofs.RefusalLemmas.{stop_err}
 use Rattle.handlers.proofs.ReportLemmas.{report_refusal}
+use Rattle.handlers.specs.Refusal.{stop_fault}
 use Rattle.handler_reports.proofs.explain.source_explanation.Goals as goal
 
-pub returns-in_err-read-clause-fault : goal.returns-in_err-read-clause-fault
-returns-in_err-read-clause-fault c =
-    let x = c.args.explained in
-    let profile = c.args.profile.now in
-    let e = c.in_err-read.field-0.0 in
-    refused_as c.from_residual.result e (BeforeOutput (IsRefused x.source.now x.statement.now profile)) c.from_residual.ensures.1
-    (report_refusal x.source.now x.statement.now profile e c.in_err-read.ensures.fault)
+pub returns-in_err-handler-clause-fault : goal.returns-in_err-handler-clause-fault
+returns-in_err-handler-clause-fault c = λ source is.
+    let statement = c.args.explained.statement.now in
+    let s = c.in_err-handler.field-0.0 in
+    refused_as c.from_residual.result s (λ s. BeforeOutput (IsRefused source statement c.args.profile.now) (stop_fault s)) c.from_residual.ensures.1
+    (report_refusal source statement c.args.profile.now (stop_fault s) (c.in_err-handler.ensures.fault source is))
+
+pub returns-in_err-explanation_of-clause-fault : goal.returns-in_err-explanation_of-clause-fault
+returns-in_err-explanation_of-clause-fault c = λ source is.
+    let statement = c.args.explained.statement.now in
+    let e = c.in_err-explanation_of.field-0.0 in
+    stop_err c.from_residual-in_err-explanation_of.result e (BeforeOutput (IsRefused source statement c.args.profile.now)) c.from_residual-in_err-explanation_of.ensures.1
+    (c.in_err-explanation_of.ensures.fault source statement (c.in_ok-handler.ensures.is.loops source is))
 
 pub returns-clause-explains : goal.returns-clause-explains
-returns-clause-explains c =
-    c.explanation_of.ensures.explains c.args.explained.source.now c.args.explained.statement.now c.in_ok-read.ensures.is c.in_ok-read.ensures.loops
-
-pub returns-clause-fault : goal.returns-clause-fault
-returns-clause-fault c = c.explanation_of.ensures.fault c.args.explained.source.now c.args.explained.statement.now c.in_ok-read.ensures.loops
+returns-clause-explains c = λ source is.
+    c.in_ok-explanation_of.ensures.explains source c.args.explained.statement.now is (c.in_ok-handler.ensures.is.loops source is.said)

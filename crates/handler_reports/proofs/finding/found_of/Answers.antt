@@ -1,23 +1,22 @@
-use Rattle.std.proofs.Common.{◌≡◌}
+use Rattle.std.proofs.Common.{◌≡◌, ◌∷◌, []}
 use Rattle.handlers.specs.declared.fault.ReportFault.TheVariants.{Memory}
-use Rattle.handler_reports.proofs.CheckLemmas.{checkable_refusal}
-use Rattle.handlers.proofs.HandlerLemmas.{refused_as}
+use Rattle.std.proofs.lemmas.Result.{IfErr-weaker}
+use Rattle.handlers.proofs.RefusalLemmas.{first_carries, told_err, told_ok, told_carries}
 use Rattle.handler_reports.proofs.finding.found_of.Goals as goal
 
-pub returns-in_err-handler-clause-only : goal.returns-in_err-handler-clause-only
-returns-in_err-handler-clause-only g c = λ able.
-    let e = c.in_err-handler.field-0.0 in
-    refused_as c.from_residual.result e (λ e. e ≡ Memory) c.from_residual.ensures.1
-    (checkable_refusal c.args.inputs.source.now c.args.inputs.statement.now c.args.inputs.cert.now c.args.profile.now e c.in_err-handler.ensures.fault able)
+pub returns-clause-found : goal.returns-clause-found
+returns-clause-found g c =
+    let said = c.in_ok-said.said in
+    told_ok said c.source_found-found.result c.with_source.result c.with_source.ensures _
+    (c.source_found-found.ensures.found c.args.inputs.source.now c.in_ok-said.ensures.is.said)
 
-pub returns : goal.returns
-returns g c =
-    let source = c.args.inputs.source.now in
-    let statement = c.args.inputs.statement.now in
-    let profile = c.args.profile.now in
-    let loops = c.in_ok-handler.ensures.loops in
-    record {
-      found = c.found_on.ensures.found source statement profile loops;
-      fault = c.found_on.ensures.fault source statement profile loops;
-      only = c.found_on.ensures.only source statement profile;
-    }
+pub returns-clause-carries : goal.returns-clause-carries
+returns-clause-carries g c =
+    let said = c.in_ok-said.said in
+    told_carries said c.source_found-found.result c.with_source.result c.with_source.ensures c.args.inputs.source.now (c.args.inputs.statement.now ∷ []) c.args.profile.now c.in_ok-said.ensures.is
+    (IfErr-weaker c.source_found-found.result _ _ (first_carries said c.args.inputs.statement.now c.args.profile.now c.args.inputs.source.now []) c.source_found-found.ensures.carries)
+
+pub returns-clause-only : goal.returns-clause-only
+returns-clause-only g c = λ able.
+    told_err c.in_ok-said.said c.source_found-found.result c.with_source.result c.with_source.ensures (λ e. e ≡ Memory)
+    (c.source_found-found.ensures.only c.args.inputs.source.now c.in_ok-said.ensures.is.said able)

@@ -1,6 +1,9 @@
+use Rattle.std.proofs.Common.{subst, sym}
 use Rattle.std.proofs.lemmas.Result.{IfErr-weaker, IfOk-weaker}
+use Rattle.handlers.specs.Refusal.{ComesAlone}
+use Rattle.handlers.specs.declared.fault.ReportFault.TheVariants.{Memory}
+use Rattle.handlers.proofs.RefusalLemmas.{run_alone}
 use Rattle.image.specs.Labels.{address_of}
-use Rattle.handler_reports.proofs.ExplainLemmas.{source_unexplained}
 use Rattle.handler_reports.proofs.FollowLemmas.{Refused, followed, handler_refused, machine_for, machine_refused, own_graph}
 use Rattle.handlers.proofs.HandlerLemmas.{refused_as}
 use Rattle.handlers.proofs.ReportLemmas.{accepted}
@@ -55,5 +58,17 @@ returns-clause-fault c =
     let r = c.args.run in
     let profile = c.args.profile.now in
     IfErr-weaker c.judged_run.result _ _
-    (λ e h. handler_refused r.source.now r.statement.now r.machine.now profile e (source_unexplained r.source.now r.statement.now profile e h))
+    (λ e memory. subst (Refused r.source.now r.statement.now r.machine.now profile) (sym memory) (handler_refused r.source.now r.statement.now r.machine.now profile Memory (λ e. cc e, tt)))
     c.judged_run.ensures.fault
+
+pub returns-in_err-placed-clause-alone : goal.returns-in_err-placed-clause-alone
+returns-in_err-placed-clause-alone c =
+    let r = c.args.run in
+    let e = c.in_err-placed.field-0.0 in
+    let h = c.in_err-placed.ensures.fault r.source.now c.requires.said.said in
+    refused_as c.from_residual-in_err-placed.result e ComesAlone c.from_residual-in_err-placed.ensures.1
+    (run_alone r.source.now r.machine.now c.args.profile.now e h.1)
+
+pub returns-clause-alone : goal.returns-clause-alone
+returns-clause-alone c =
+    IfErr-weaker c.judged_run.result _ _ (λ e memory. subst ComesAlone (sym memory) tt) c.judged_run.ensures.fault

@@ -1,5 +1,4 @@
 use Rattle.std.proofs.Common.{ℕ, List, subst}
-use Rattle.std.proofs.lemmas.Result.{IfOk-weaker}
 use Rattle.arm2_exec.specs.declared.machine.Input.{Input}
 use Rattle.kept_runs.specs.Keeping.{IsFollowed}
 use Rattle.handler_reports.specs.FollowWork.{IsFollowedText}
@@ -25,10 +24,9 @@ returns-clause-judged c =
     let f = c.in_ok-followed.followed in
     let is : IsFollowed b.read.now.image h.statement h.graph h.tree start inputs after f =
     subst (λ (is : List Input). IsFollowed b.read.now.image h.statement h.graph h.tree start is after f) c.deref.ensures.value c.in_ok-followed.ensures.followed in
-    IfOk-weaker c.judgement.result _ _
-    (λ j text. record {
+    let j = c.in_ok-judgement.field-0 in
+    record {
       inputs = inputs;
       inputs_are = c.in_ok-inputs.ensures;
-      is_text = run_text b.read.now.image h.statement h.graph h.tree c.requires.tree b.source.now b.longest.now start inputs c.graphs_are_well_formed.ensures c.step_law.ensures.cost c.run_law.ensures c.requires.longest c.requires.greatest after f j.kept j.text.items is (subst (λ (at : ℕ). IsFollowedText b.source.now b.read.now.image h.statement h.graph b.longest.now at f j.kept j.text.items) c.address-after.ensures.address text);
-    })
-    c.judgement.ensures.text
+      is_text = run_text b.read.now.image h.statement h.graph h.tree c.requires.tree b.source.now b.longest.now start inputs c.graphs_are_well_formed.ensures c.step_law.ensures.cost c.run_law.ensures c.requires.longest c.requires.greatest after f j.kept j.text.items is (subst (λ (at : ℕ). IsFollowedText b.source.now b.read.now.image h.statement h.graph b.longest.now at f j.kept j.text.items) c.address-after.ensures.address c.in_ok-judgement.ensures);
+    }

@@ -3,8 +3,8 @@ use Rattle.handler_reports.specs.FollowText.{kept_text}
 use Rattle.handler_reports.proofs.FollowLemmas.{told_in_pieces}
 use Rattle.handler_reports.proofs.follow.kept_run.Goals as goal
 
-pub returns-clause-text : goal.returns-clause-text
-returns-clause-text c =
+pub returns : goal.returns
+returns c =
     let source = c.args.bounded.source.now in
     record {
       left = c.in_ok-rest.rest.items;

@@ -1,6 +1,6 @@
 use Rattle.std.proofs.Common.{refl}
 use Rattle.handlers.proofs.FiqLemmas.{enters_there, fiq_refusal}
-use Rattle.handlers.proofs.HandlerLemmas.{refused_as}
+use Rattle.handlers.proofs.RefusalLemmas.{stop_err}
 use Rattle.handlers.specs.FiqHandler.{IsFiqRefused}
 use Rattle.handlers.specs.Report.{BeforeOutput}
 use Rattle.handler_reports.proofs.follow_visits.fiq_bounded.Goals as goal
@@ -23,7 +23,7 @@ returns-in_err-longest-clause-fault c = λ source is.
     let loops = c.in_ok-handler.ensures.is.loops source is in
     let g = loops.graph in
     let e = c.in_err-longest.field-0.0 in
-    refused_as c.from_residual-in_err-longest.result e (BeforeOutput (IsFiqRefused source statement profile)) c.from_residual-in_err-longest.ensures.1
+    stop_err c.from_residual-in_err-longest.result e (BeforeOutput (IsFiqRefused source statement profile)) c.from_residual-in_err-longest.ensures.1
     (fiq_refusal source statement profile e
     (enters_there source statement profile g.words g.names g.source_is h.statement g.statement_is c.in_ok-handler.ensures.entry)
     (c.in_err-longest.ensures.fault source statement profile loops))

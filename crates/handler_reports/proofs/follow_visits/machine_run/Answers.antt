@@ -2,10 +2,11 @@ use Rattle.std.proofs.Common.{ℕ, List, IfOk, subst, sym}
 use Rattle.std.proofs.lemmas.Result.{IfErr-weaker, IfOk-weaker}
 use Rattle.image.specs.Labels.{address_of}
 use Rattle.handler_reports.specs.VisitedWork.{IsVisitsJudged}
-use Rattle.handler_reports.proofs.ExplainLemmas.{source_unexplained}
 use Rattle.handler_reports.proofs.VisitedLemmas.{Refused, both_accepted, irq_refused, machine_refused, visits_reported}
 use Rattle.handlers.proofs.HandlerLemmas.{refused_as}
-use Rattle.handlers.specs.Source.{IsSourceFault}
+use Rattle.handlers.specs.Refusal.{ComesAlone}
+use Rattle.handlers.specs.declared.fault.ReportFault.TheVariants.{Memory}
+use Rattle.handlers.proofs.RefusalLemmas.{run_alone}
 use Rattle.sources.specs.Source.{IsSource}
 use Rattle.handler_reports.proofs.follow_visits.machine_run.Goals as goal
 
@@ -40,9 +41,19 @@ returns-clause-judged c =
 pub returns-clause-fault : goal.returns-clause-fault
 returns-clause-fault c =
     let r = c.args.run in
-    let b = c.args.both in
     let profile = c.args.profile.now in
     IfErr-weaker c.visits_judged.result _ _
-    (λ e h. irq_refused r.source.now r.statement.now r.fiq_statement.now r.machine.now profile e
-    (source_unexplained r.source.now r.statement.now profile e (subst (λ (text : List ℕ). IsSourceFault text e) c.requires.source h)))
+    (λ e memory. subst (Refused r.source.now r.statement.now r.fiq_statement.now r.machine.now profile) (sym memory) (irq_refused r.source.now r.statement.now r.fiq_statement.now r.machine.now profile Memory (λ e. cc e, tt)))
     c.visits_judged.ensures.fault
+
+pub returns-in_err-placed-clause-alone : goal.returns-in_err-placed-clause-alone
+returns-in_err-placed-clause-alone c =
+    let r = c.args.run in
+    let e = c.in_err-placed.field-0.0 in
+    let h = c.in_err-placed.ensures.fault r.source.now c.requires.read.said in
+    refused_as c.from_residual.result e ComesAlone c.from_residual.ensures.1
+    (run_alone r.source.now r.machine.now c.args.profile.now e h.1)
+
+pub returns-clause-alone : goal.returns-clause-alone
+returns-clause-alone c =
+    IfErr-weaker c.visits_judged.result _ _ (λ e memory. subst ComesAlone (sym memory) tt) c.visits_judged.ensures.fault

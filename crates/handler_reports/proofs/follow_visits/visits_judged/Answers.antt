@@ -1,6 +1,5 @@
 use Rattle.std.proofs.Common.{◌≡◌, ◌∙◌, ◌-◌, ℕ, List, ap, arith, drop, inl, length, subst, sym}
 use Rattle.std.proofs.lemmas.List.{length-drop, take_all}
-use Rattle.std.proofs.lemmas.Result.{IfOk-weaker}
 use Rattle.arm2_exec.specs.declared.machine.Input.{Input}
 use Rattle.control_flow.specs.Flow.{Flow}
 use Rattle.kept_runs.specs.Arriving.{ArrivesAfter}
@@ -38,8 +37,8 @@ returns-clause-judged c =
     subst (λ (h : Handled). IsVisitedRun h (handled c.accepted-2.result) now (drop before inputs) after run) irq first in
     let judged : IsVisitedRun (handled_by b.read.now.image b.irq.now.handler) (handled_by b.read.now.image b.fiq.now.handler) now (drop before inputs) after run =
     subst (λ (h : Handled). IsVisitedRun (handled_by b.read.now.image b.irq.now.handler) h now (drop before inputs) after run) fiq second in
-    IfOk-weaker c.run_answer.result _ _
-    (λ j text. record {
+    let j = c.in_ok-run_answer.field-0 in
+    record {
       inputs = inputs;
       inputs_are = c.in_ok-inputs.ensures;
       is_text = inl (record {
@@ -49,7 +48,6 @@ returns-clause-judged c =
         after = after;
         run = run;
         judged = judged;
-        is_text = subst (λ (at : ℕ). IsRunText b.source.now b.read.now.image c.args.profile.now b.irq.now b.fiq.now before at run j.kept j.text.items) c.address-after.ensures.address text;
+        is_text = subst (λ (at : ℕ). IsRunText b.source.now b.read.now.image c.args.profile.now b.irq.now b.fiq.now before at run j.kept j.text.items) c.address-after.ensures.address c.in_ok-run_answer.ensures;
       });
-    })
-    c.run_answer.ensures.text
+    }

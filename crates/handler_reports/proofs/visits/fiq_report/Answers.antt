@@ -1,20 +1,20 @@
-use Rattle.std.proofs.lemmas.Result.{IfOk-weaker}
-use Rattle.handlers.proofs.FiqLemmas.{enters_there, fiq_answer}
+use Rattle.handlers.specs.FiqHandler.{IsFiqRefused}
+use Rattle.handlers.specs.Report.{BeforeOutput}
+use Rattle.handlers.proofs.FiqLemmas.{enters_there, fiq_refusal}
+use Rattle.handlers.proofs.RefusalLemmas.{stop_err}
 use Rattle.handler_reports.proofs.visits.fiq_report.Goals as goal
+
+pub returns-in_err-longest_report-clause-fault : goal.returns-in_err-longest_report-clause-fault
+returns-in_err-longest_report-clause-fault c = λ source is.
+    let h = c.in_ok-handler.handler in
+    let e = c.in_err-longest_report.field-0.0 in
+    let loops = c.in_ok-handler.ensures.is.loops source is in
+    let g = loops.graph in
+    stop_err c.from_residual-in_err-longest_report.result e (BeforeOutput (IsFiqRefused source c.args.statement.now c.args.profile.now)) c.from_residual-in_err-longest_report.ensures.1
+    (fiq_refusal source c.args.statement.now c.args.profile.now e
+    (enters_there source c.args.statement.now c.args.profile.now g.words g.names g.source_is h.statement g.statement_is c.in_ok-handler.ensures.entry)
+    (c.in_err-longest_report.ensures.fault source c.args.statement.now c.args.profile.now loops))
 
 pub returns-clause-report : goal.returns-clause-report
 returns-clause-report c = λ source is.
-    let h = c.in_ok-handler.handler in
-    let loops = c.in_ok-handler.ensures.is.loops source is in
-    IfOk-weaker c.longest_report.result _ _ (λ r bound. (h.statement, bound, c.in_ok-handler.ensures.entry)) (c.longest_report.ensures.report source c.args.statement.now c.args.profile.now loops)
-
-pub returns-clause-fault : goal.returns-clause-fault
-returns-clause-fault c = λ source is.
-    let h = c.in_ok-handler.handler in
-    let statement = c.args.statement.now in
-    let profile = c.args.profile.now in
-    let loops = c.in_ok-handler.ensures.is.loops source is in
-    let g = loops.graph in
-    fiq_answer source statement profile c.longest_report.result
-    (enters_there source statement profile g.words g.names g.source_is h.statement g.statement_is c.in_ok-handler.ensures.entry)
-    (c.longest_report.ensures.fault source statement profile loops)
+    (c.in_ok-handler.handler.statement, c.in_ok-longest_report.ensures.report source c.args.statement.now c.args.profile.now (c.in_ok-handler.ensures.is.loops source is), c.in_ok-handler.ensures.entry)

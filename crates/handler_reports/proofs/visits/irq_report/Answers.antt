@@ -1,11 +1,22 @@
-use Rattle.std.proofs.lemmas.Result.{IfOk-weaker}
+use Rattle.handlers.specs.Refusal.{stop_fault}
+use Rattle.handlers.specs.Report.{BeforeOutput, IsRefused}
+use Rattle.handlers.proofs.HandlerLemmas.{refused_as}
+use Rattle.handlers.proofs.RefusalLemmas.{stop_err}
+use Rattle.handlers.proofs.ReportLemmas.{report_refusal}
 use Rattle.handler_reports.proofs.visits.irq_report.Goals as goal
+
+pub returns-in_err-handler-clause-fault : goal.returns-in_err-handler-clause-fault
+returns-in_err-handler-clause-fault c = λ source is.
+    let s = c.in_err-handler.field-0.0 in
+    refused_as c.from_residual.result s (λ s. BeforeOutput (IsRefused source c.args.statement.now c.args.profile.now) (stop_fault s)) c.from_residual.ensures.1
+    (report_refusal source c.args.statement.now c.args.profile.now (stop_fault s) (c.in_err-handler.ensures.fault source is))
+
+pub returns-in_err-longest_report-clause-fault : goal.returns-in_err-longest_report-clause-fault
+returns-in_err-longest_report-clause-fault c = λ source is.
+    let e = c.in_err-longest_report.field-0.0 in
+    stop_err c.from_residual-in_err-longest_report.result e (BeforeOutput (IsRefused source c.args.statement.now c.args.profile.now)) c.from_residual-in_err-longest_report.ensures.1
+    (c.in_err-longest_report.ensures.fault source c.args.statement.now c.args.profile.now (c.in_ok-handler.ensures.is.loops source is))
 
 pub returns-clause-report : goal.returns-clause-report
 returns-clause-report c = λ source is.
-    let h = c.in_ok-handler.handler in
-    let loops = c.in_ok-handler.ensures.is.loops source is in
-    IfOk-weaker c.longest_report.result _ _ (λ r bound. (h.statement, bound)) (c.longest_report.ensures.report source c.args.statement.now c.args.profile.now loops)
-
-pub returns-clause-fault : goal.returns-clause-fault
-returns-clause-fault c = λ source is. c.longest_report.ensures.fault source c.args.statement.now c.args.profile.now (c.in_ok-handler.ensures.is.loops source is)
+    (c.in_ok-handler.handler.statement, c.in_ok-longest_report.ensures.report source c.args.statement.now c.args.profile.now (c.in_ok-handler.ensures.is.loops source is))

@@ -3,7 +3,7 @@ use Rattle.std.proofs.lemmas.Result.{on_ok_weaker}
 use Rattle.asm_text.specs.Hex.{hex8}
 use Rattle.text_explained.specs.Columns.{gap_text, in_column}
 use Rattle.text_explained.specs.Table.{figures_text}
-use Rattle.text_explained.specs.declared.columns.Column.TheVariants.{Address, Text}
+use Rattle.text_explained.specs.declared.cost_columns.Column.TheVariants.{Address, Text}
 use Rattle.text_explained.proofs.RowLaws.{counted_row}
 use Rattle.text_explained.proofs.image_rows.put_line.Goals as goal
 

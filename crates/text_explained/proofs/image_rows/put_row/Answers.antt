@@ -3,7 +3,7 @@ use Rattle.std.proofs.lemmas.Result.{on_ok_weaker}
 use Rattle.assembler.specs.ShownLines.{IsShown}
 use Rattle.text_explained.specs.Costing.{figures_of}
 use Rattle.text_explained.specs.Table.{row_figures}
-use Rattle.text_explained.specs.declared.tally.Taken.{Taken}
+use Rattle.text_explained.specs.declared.walk_tally.Taken.{Taken}
 use Rattle.text_explained.proofs.ImageLaws.{row_written}
 use Rattle.text_explained.proofs.image_rows.put_row.Goals as goal
 

@@ -1,6 +1,6 @@
 use Rattle.std.proofs.Common.{rules, [], append-nil, inl, inr, subst, arith}
 use Rattle.text_refusals.specs.FaultyLines.{AreFaults, IsAssembled}
-use Rattle.text_refusals.specs.declared.rows.TheConstants.{MOST_LINES}
+use Rattle.text_refusals.specs.declared.word_rows.TheConstants.{MOST_LINES}
 use Rattle.text_refusals.proofs.source_faults.faults_of.Goals as goal
 
 pub returns-in_default : goal.returns-in_default

@@ -1,7 +1,7 @@
 use Rattle.std.proofs.Common.{◌++◌, List}
 use Rattle.text_refusals.specs.FaultyLines.{AreFaults}
 use Rattle.text_refusals.specs.declared.source_faults.FaultyLine.{FaultyLine}
-use Rattle.text_refusals.specs.declared.rows.TheConstants.{MOST_LINES}
+use Rattle.text_refusals.specs.declared.word_rows.TheConstants.{MOST_LINES}
 use Rattle.text_refusals.proofs.source_faults.faults_of.Given as goal
 
 abbrev pub invariant-loop-left : goal.invariant-loop-left

@@ -5,7 +5,8 @@ use Rattle.toml.specs.View.{table_view}
 use Rattle.toml_reading.specs.Documents.{IsDocument, IsNoDocument}
 use Rattle.image.specs.Labels.{address_of}
 use Rattle.statement.specs.PlaceTests.{found}
-use Rattle.text_refusals.specs.Refused.{IsRowsText}
+use Rattle.statement.specs.Places.{IsFaultAt}
+use Rattle.text_refusals.specs.Refused.{IsRowsText, all_rows, statement_tables}
 use Rattle.text_refusals.proofs.AskedLemmas.{tells_of}
 use Rattle.text_refusals.proofs.statements.faulty_rows.Goals as goal
 
@@ -14,7 +15,7 @@ returns c =
     let d = c.in_ok-document.document in
     let text = c.args.text.now in
     let table = c.in-Some.table in
-    IfOk-weaker c.rows_text.result _ (λ out. IsRowsText c.args.labels.now text c.args.fault out.items)
+    IfOk-weaker c.rows_text.result _ (λ out. IsRowsText (IsFaultAt (address_of c.args.labels.now)) all_rows statement_tables text c.args.fault out.items)
     (λ out is. inl (record {
       members = table_view table;
       document = MatchOption-at_some (IsNoDocument text) (λ t. IsDocument text (table_view t)) table c.in-Some.is c.in_ok-table.ensures;

@@ -1,0 +1,55 @@
+-- What is printed after the line of a refusal: what shows why.
+use Rattle.std.specs.Prelude.{◌≡◌, ℕ, List, []}
+use Rattle.sources.specs.Lines.{AreLines}
+use Rattle.sources.specs.declared.read.Source.{Source}
+use Rattle.text_refusals.specs.FaultyLines.{AreFaultyLines}
+use Rattle.text_refusals.specs.FileTexts.{IsMachineText, IsProfileText}
+use Rattle.text_refusals.specs.Reasons.{IsGraphReason, IsLoopsReason}
+use Rattle.text_refusals.specs.Refused.{IsStatementText}
+use Rattle.text_refusals.specs.Texts.{IsFaultyRow}
+use Rattle.text_rows.specs.Rows.{AreRows}
+use Rattle.text_refusals.specs.declared.source_faults.FaultyLine.{FaultyLine}
+use Rattle.text_refusals.specs.declared.word_lines.WordLines.{WordLines}
+use Rattle.handlers.specs.declared.fault.ReportFault.{ReportFault}
+use Rattle.handlers.specs.declared.fault.ReportFault.TheVariants as report_fault
+use Rattle.handlers.specs.declared.refusal.Refusal.{Refusal}
+use Rattle.handlers.specs.declared.refusal.Refusal.TheVariants as refusal
+use Rattle.handlers.specs.declared.refusal.Stop.{Stop}
+use Rattle.handlers.specs.declared.refusal.Stop.TheVariants as stop
+use Rattle.arcwcet.specs.declared.diagnose.RefusedFiles.{RefusedFiles}
+
+-- the words of the source with their lines
+pub record AreWordsOf (source : Source) (words : WordLines) : Type 0 where
+  pub lines : AreLines source words.lines
+  pub image : words.image.now ≡ source.image
+
+-- it shows why, by some words of the source
+abbrev pub ByWords : Source → (WordLines → Type 0) → Type 0
+ByWords source Is = (words : WordLines) × AreWordsOf source words × Is words
+
+-- the lines of the source's bytes that have faults
+abbrev pub IsSourceReason : List ℕ → List ℕ → Type 0
+IsSourceReason bytes text =
+    (lines : List FaultyLine) × AreFaultyLines bytes lines × AreRows IsFaultyRow lines text
+
+-- of a file that is refused; nothing where the one line says all
+abbrev pub IsFileReason : RefusedFiles → ReportFault → List ℕ → Type 0
+IsFileReason files (report_fault.Source fault) text = IsSourceReason files.source.now text
+IsFileReason files (report_fault.MachineFile fault) text = IsMachineText files.machine.now fault text
+IsFileReason files (report_fault.Profile fault) text = IsProfileText files.profile.now fault text
+IsFileReason files fault text = text ≡ []
+
+-- of work on a source that has stopped
+abbrev pub IsStopReason : RefusedFiles → Source → Stop → List ℕ → Type 0
+IsStopReason files source (stop.Alone fault) text = IsFileReason files fault text
+IsStopReason files source (stop.Statement shown fault) text =
+    IsStatementText source.labels shown.now fault text
+IsStopReason files source (stop.Graph stated profile fault) text =
+    ByWords source (λ words. IsGraphReason words stated profile fault text)
+IsStopReason files source (stop.Loops stated flow fault) text =
+    ByWords source (λ words. IsLoopsReason words flow stated.loops fault text)
+
+-- of a refusal, by what was read before it, or by the file that could not be read
+abbrev pub AreReasons : RefusedFiles → Refusal → List ℕ → Type 0
+AreReasons files (refusal.Alone fault) text = IsFileReason files fault text
+AreReasons files (refusal.OnSource source stopped) text = IsStopReason files source stopped text

@@ -1,0 +1,242 @@
+//! The program's commands and their arguments, a row for each.
+
+use crate::line::Command;
+
+/// The program's version, which `--version` prints.
+pub const VERSION: &str = "1.0.0";
+
+/// How an argument is given, and what it is.
+pub(crate) enum Form {
+    /// The name of a file to be read, in its place.
+    File,
+    /// A word that names no file to be read, in its place.
+    Word,
+    /// A whole number of 32 bits, in its place.
+    Number,
+    /// The name of the cycle profile's file, by an option.
+    ProfileOption,
+    /// The name of a file to be read, by an option.
+    FileOption,
+    /// A whole number of 32 bits, by an option.
+    NumberOption,
+    /// A number of ticks, to 2^63 - 1, by an option.
+    TicksOption,
+    /// The option that asks for what shows the reason of a refusal.
+    Why,
+}
+
+/// An argument, what the help says of it, and what is asked for instead where it is given, if that is another
+/// command than its row's.
+pub(crate) struct ArgumentRow {
+    pub id: &'static str,
+    pub form: Form,
+    pub help: &'static str,
+    pub instead: Option<Command>,
+}
+
+/// A command: its name, what it asks for, what the help says of it, and its arguments, with the files in the
+/// order in which they are read: an option's too, so that `--fiq` stands before the machine file. Each
+/// command has [`WHY`] too.
+pub(crate) struct CommandRow {
+    pub name: &'static str,
+    pub command: Command,
+    pub summary: &'static str,
+    pub arguments: &'static [ArgumentRow],
+}
+
+/// The option that each command has.
+pub(crate) const WHY: ArgumentRow = ArgumentRow {
+    id: "why",
+    form: Form::Why,
+    help: "Print after a refusal what shows its reason",
+    instead: None,
+};
+
+const PROFILE: ArgumentRow = ArgumentRow {
+    id: "profile",
+    form: Form::ProfileOption,
+    help: "Cycle profile file [default: the first profile]",
+    instead: None,
+};
+
+const SOURCE: ArgumentRow = ArgumentRow {
+    id: "source",
+    form: Form::File,
+    help: "Assembly source, or an image",
+    instead: None,
+};
+
+const MACHINE: ArgumentRow = ArgumentRow {
+    id: "machine",
+    form: Form::File,
+    help: "Machine file",
+    instead: None,
+};
+
+const STATEMENT: ArgumentRow = ArgumentRow {
+    id: "statement",
+    form: Form::File,
+    help: "Statement on the handler",
+    instead: None,
+};
+
+const IMAGE: ArgumentRow = ArgumentRow {
+    id: "image",
+    form: Form::Word,
+    help: "File of the image, to be written",
+    instead: None,
+};
+
+const ENTRY: ArgumentRow = ArgumentRow {
+    id: "entry",
+    form: Form::Word,
+    help: "Where the handler begins: a label or an address",
+    instead: None,
+};
+
+const TIGHT: ArgumentRow = ArgumentRow {
+    id: "tight",
+    form: Form::NumberOption,
+    help: "Print a machine file that takes the graph's edge N at its price",
+    instead: Some(Command::Tight),
+};
+
+const AT_MOST: ArgumentRow = ArgumentRow {
+    id: "at-most",
+    form: Form::TicksOption,
+    help: "Status 1 where the bound, without bursts, is more than N ticks",
+    instead: None,
+};
+
+const BURSTS: ArgumentRow = ArgumentRow {
+    id: "bursts",
+    form: Form::NumberOption,
+    help: "Print the bound with N DMA bursts too",
+    instead: None,
+};
+
+const BURST_EVERY: ArgumentRow = ArgumentRow {
+    id: "burst-every",
+    form: Form::NumberOption,
+    help: "Print the bound with a DMA burst every N ticks too",
+    instead: None,
+};
+
+const CERTIFICATE: ArgumentRow = ArgumentRow {
+    id: "certificate",
+    form: Form::FileOption,
+    help: "Print instead the verdict on this certificate, and what fails in it",
+    instead: Some(Command::Verdict),
+};
+
+const CERT: ArgumentRow = ArgumentRow {
+    id: "cert",
+    form: Form::File,
+    help: "Certificate",
+    instead: None,
+};
+
+const FIQ_STATEMENT: ArgumentRow = ArgumentRow {
+    id: "fiq_statement",
+    form: Form::File,
+    help: "Statement on FIQ's handler",
+    instead: None,
+};
+
+const FIQ: ArgumentRow = ArgumentRow {
+    id: "fiq",
+    form: Form::FileOption,
+    help: "Statement on FIQ's handler, whose visits of the handler are judged too",
+    instead: Some(Command::FollowVisits),
+};
+
+const VISITS: ArgumentRow = ArgumentRow {
+    id: "visits",
+    form: Form::Number,
+    help: "How often FIQ interrupts it, at most",
+    instead: None,
+};
+
+/// The commands, in the order of the help.
+pub(crate) const COMMANDS: [CommandRow; 12] = [
+    CommandRow {
+        name: "asm",
+        command: Command::Asm,
+        summary: "Write a source's image, and print its size",
+        arguments: &[SOURCE, IMAGE],
+    },
+    CommandRow {
+        name: "list",
+        command: Command::List,
+        summary: "Print addresses, words and lines of a source, or an image's words",
+        arguments: &[SOURCE],
+    },
+    CommandRow {
+        name: "draft",
+        command: Command::Draft,
+        summary: "Print a statement on a handler, to be filled in",
+        arguments: &[SOURCE, ENTRY],
+    },
+    CommandRow {
+        name: "run",
+        command: Command::Run,
+        summary: "Run a machine, and print its registers and ticks",
+        arguments: &[PROFILE, SOURCE, MACHINE],
+    },
+    CommandRow {
+        name: "trace",
+        command: Command::Trace,
+        summary: "Run a machine, and print a line for each step",
+        arguments: &[PROFILE, SOURCE, MACHINE],
+    },
+    CommandRow {
+        name: "debug",
+        command: Command::Debug,
+        summary: "Obey the debugger's commands on standard input",
+        arguments: &[PROFILE, SOURCE, MACHINE],
+    },
+    CommandRow {
+        name: "bound",
+        command: Command::Bound,
+        summary: "Print the greatest run time of a handler, as a certificate",
+        arguments: &[PROFILE, SOURCE, STATEMENT, TIGHT],
+    },
+    CommandRow {
+        name: "check",
+        command: Command::Check,
+        summary: "Judge a certificate of a handler's run time",
+        arguments: &[PROFILE, SOURCE, STATEMENT, CERT],
+    },
+    CommandRow {
+        name: "visits",
+        command: Command::Visits,
+        summary: "Print the greatest run time of a handler that FIQ interrupts",
+        arguments: &[PROFILE, SOURCE, STATEMENT, FIQ_STATEMENT, VISITS],
+    },
+    CommandRow {
+        name: "explain",
+        command: Command::Explain,
+        summary: "Print where the ticks of a handler's greatest run time go",
+        arguments: &[
+            PROFILE,
+            SOURCE,
+            STATEMENT,
+            AT_MOST,
+            BURSTS,
+            BURST_EVERY,
+            CERTIFICATE,
+        ],
+    },
+    CommandRow {
+        name: "follow",
+        command: Command::Follow,
+        summary: "Judge a machine's run through a handler by its statement",
+        arguments: &[PROFILE, SOURCE, STATEMENT, FIQ, MACHINE],
+    },
+    CommandRow {
+        name: "graph",
+        command: Command::Graph,
+        summary: "Print a handler's flow graph in DOT, the language of Graphviz",
+        arguments: &[PROFILE, SOURCE, STATEMENT],
+    },
+];

@@ -1,0 +1,254 @@
+ghost use Rattle.std.specs.Prelude.{◌≡◌, ◌≢◌, IfErr, IfOk, OnOk, Some, None, map, option_map};
+ghost use Rattle.std.specs.Prelude.{find, option_and_then, string_bytes};
+ghost use Rattle.std.specs.List.{list_any};
+ghost use Rattle.std.specs.Str.{bytes_eq};
+ghost use Rattle.clap.specs.Matches.{found_of};
+ghost use Rattle.clap.specs.Walk.{rows_of};
+ghost use Rattle.clap.specs.Words.{kind_of, subcommand_rows_of};
+ghost use Rattle.command_line.specs.Line.{asked_as, asked_by, asked_in, asks_version, is_allowed};
+ghost use Rattle.command_line.specs.Line.{no_numbers, number_at, numbers_in, plainly, ticks_at};
+ghost use Rattle.command_line.specs.Line.{with_argument, with_value};
+ghost use Rattle.command_line.specs.Rows.{argument_of, asked_of, usage_of};
+
+use crate::command_rows::{ArgumentRow, COMMANDS, CommandRow, Form, WHY};
+use crate::commands::arcwcet;
+use crate::line::{Command, CommandLineFault, CommandNumbers, Request};
+use clap::error::ErrorKind;
+use clap::{ArgMatches, Error};
+use std::alloc::{AllocError, Global};
+
+// The number of an option or of an argument.
+fn number_at(values: &ArgMatches<'_>, id: &str) -> Option<u32>
+    ensures { result ≡ number_at id.now (rows_of (found_of values.now)) }
+{
+    values.get_one(id)
+}
+
+// The number of ticks of an option.
+fn ticks_at(values: &ArgMatches<'_>, id: &str) -> Option<u64>
+    ensures { result ≡ ticks_at id.now (rows_of (found_of values.now)) }
+{
+    values.get_one(id)
+}
+
+fn numbers_in(values: &ArgMatches<'_>) -> CommandNumbers
+    ensures { result ≡ numbers_in (rows_of (found_of values.now)) }
+{
+    CommandNumbers {
+        edge: number_at(values, "tight").unwrap_or(0),
+        visits: number_at(values, "visits").unwrap_or(0),
+        at_most: ticks_at(values, "at-most"),
+        bursts: number_at(values, "bursts"),
+        burst_every: number_at(values, "burst-every"),
+    }
+}
+
+// Adds to what is asked the value of an argument.
+fn add_value<'a>(
+    request: &mut Request<'a>,
+    row: &ArgumentRow,
+    value: &'a str,
+) -> Result<(), AllocError>
+    ensures { OnOk result (asked_of request.new
+        ≡ with_value (argument_of row.now) value.now (asked_of request.old)) }
+{
+    request.command = row.instead.unwrap_or(request.command);
+    match row.form {
+        Form::File | Form::FileOption => request.files.push(value)?,
+        Form::Word => request.word = value,
+        Form::ProfileOption => request.profile = Some(value),
+        Form::Why => request.why = value == "true",
+        Form::Number | Form::NumberOption | Form::TicksOption => {}
+    }
+    Ok(())
+}
+
+// The same of an argument that may be given.
+fn add_argument<'a>(
+    request: &mut Request<'a>,
+    row: &ArgumentRow,
+    values: &ArgMatches<'a>,
+) -> Result<(), AllocError>
+    ensures { OnOk result (asked_of request.new
+        ≡ with_argument (rows_of (found_of values.now)) (asked_of request.old) (argument_of row.now)) }
+{
+    match values.get_str(row.id) {
+        Some(value) => add_value(request, row, value),
+        None => Ok(()),
+    }
+}
+
+// What the command of a row is asked with.
+fn asked<'a>(
+    alloc: Global,
+    row: &CommandRow,
+    values: &ArgMatches<'a>,
+) -> Result<Request<'a>, AllocError>
+    ensures { IfOk result
+        (λ q. asked_of q ≡ asked_as (usage_of row.now) (rows_of (found_of values.now))) }
+{
+    let mut request = Request {
+        command: row.command,
+        why: false,
+        profile: None,
+        files: Vec::new(alloc),
+        word: "",
+        numbers: numbers_in(values),
+    };
+    for argument in row.arguments {
+        add_argument(&mut request, argument, values)?;
+    }
+    add_argument(&mut request, &WHY, values)?;
+    Ok(request)
+}
+
+// Whether a name is among others.
+fn is_among(names: &[&str], word: &str) -> bool
+    ensures { result ≡ list_any (λ name. bytes_eq name.now word.now) names.now }
+{
+    names.iter().any(|name| *name == word)
+}
+
+// Whether what is asked may be: the image of `asm` is no file that it reads, and no option that has no effect
+// stands beside the certificate of a verdict.
+fn is_allowed(request: &Request<'_>) -> bool
+    ensures { result ≡ is_allowed (asked_of request.now) }
+{
+    match request.command {
+        Command::Asm => !is_among(&request.files, request.word),
+        Command::Verdict => {
+            let numbers = request.numbers;
+            numbers.at_most.is_none() && numbers.bursts.is_none() && numbers.burst_every.is_none()
+        }
+        _ => true,
+    }
+}
+
+fn first_row<'a>(rows: &'a [CommandRow], name: &str) -> Option<&'a CommandRow>
+    ensures { option_map (λ row. row.now) result
+        ≡ find (λ row. bytes_eq name.now row.name.now) rows.now }
+{
+    rows.iter().find(|row| name == row.name)
+}
+
+// The row of a command's name.
+fn row_named<'a>(rows: &'a [CommandRow], name: &str) -> Option<&'a CommandRow>
+    ensures { option_map (λ row. usage_of row.now) result
+        ≡ find (λ usage. bytes_eq name.now usage.name) (map usage_of rows.now) }
+{
+    first_row(rows, name)
+}
+
+// What a command's name and its values ask for, if they may.
+fn asked_by<'a>(
+    alloc: Global,
+    name: &str,
+    values: &ArgMatches<'a>,
+) -> Result<Option<Request<'a>>, AllocError>
+    ensures { IfOk result
+        (λ q. option_map asked_of q ≡ asked_by (name.now, rows_of (found_of values.now))) }
+{
+    let rows = &COMMANDS;
+    let Some(row) = row_named(rows, name) else {
+        return Ok(None);
+    };
+    let request = asked(alloc, row, values)?;
+    if is_allowed(&request) {
+        Ok(Some(request))
+    } else {
+        Ok(None)
+    }
+}
+
+// What the matches ask for.
+fn request_in<'a>(
+    alloc: Global,
+    matches: &ArgMatches<'a>,
+) -> Result<Option<Request<'a>>, AllocError>
+    ensures { IfOk result
+        (λ q. option_map asked_of q ≡ option_and_then asked_by (subcommand_rows_of matches.now)) }
+{
+    match matches.subcommand() {
+        Some((name, values)) => asked_by(alloc, name, values),
+        None => Ok(None),
+    }
+}
+
+fn line_fault(error: Error) -> CommandLineFault
+    ensures { result ≢ CommandLineFault.Memory → kind_of error ≢ ErrorKind.OutOfMemory }
+{
+    if error.kind() == ErrorKind::OutOfMemory {
+        CommandLineFault::Memory
+    } else {
+        CommandLineFault::Usage(error)
+    }
+}
+
+// Why words that the command-line crate takes ask for nothing.
+fn unasked(matches: &ArgMatches<'_>) -> CommandLineFault {
+    match matches.subcommand() {
+        Some(("explain", _)) => CommandLineFault::OptionBesideCertificate,
+        _ => CommandLineFault::SourceReplaced,
+    }
+}
+
+// Whether the words ask for the program's version.
+fn asks_version(words: &[String]) -> bool
+    ensures { result ≡ asks_version (map (λ s. string_bytes s) words.now) }
+{
+    match words {
+        [_, word] => {
+            let word = word.as_str();
+            word == "--version" || word == "-V"
+        }
+        _ => false,
+    }
+}
+
+fn version<'a>(alloc: Global) -> Request<'a>
+    ensures { asked_of result ≡ plainly Command.Version no_numbers }
+{
+    Request {
+        command: Command::Version,
+        why: false,
+        profile: None,
+        files: Vec::new(alloc),
+        word: "",
+        numbers: CommandNumbers {
+            edge: 0,
+            visits: 0,
+            at_most: None,
+            bursts: None,
+            burst_every: None,
+        },
+    }
+}
+
+/// What the words ask for, the program's name first.
+///
+/// # Errors
+///
+/// Where the words ask for nothing: `Usage` with the command-line crate's own refusal, or its help;
+/// `SourceReplaced` where `asm` would write the image over its source; `OptionBesideCertificate` where
+/// `explain` has a certificate and an option for bounds. `Memory`: an allocation failed.
+pub fn request<'a>(alloc: Global, words: &'a [String]) -> Result<Request<'a>, CommandLineFault>
+    ensures read { IfOk result (λ q. asked_in words.entry.now ≡ Some (asked_of q)) }
+    ensures refused { IfErr result
+        (λ e. e ≢ CommandLineFault.Memory → asked_in words.entry.now ≡ None) }
+{
+    if asks_version(words) {
+        return Ok(version(alloc));
+    }
+    let command = match arcwcet(alloc) {
+        Ok(command) => command,
+        Err(_) => return Err(CommandLineFault::Memory),
+    };
+    match command.try_get_matches_from(words) {
+        Ok(matches) => match request_in(alloc, &matches) {
+            Ok(Some(asked)) => Ok(asked),
+            Ok(None) => Err(unasked(&matches)),
+            Err(_) => Err(CommandLineFault::Memory),
+        },
+        Err(error) => Err(line_fault(error)),
+    }
+}

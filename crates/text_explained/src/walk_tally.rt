@@ -1,0 +1,132 @@
+ghost use Rattle.std.specs.Prelude.{◌≡◌, IfOk, OnOk};
+ghost use Rattle.std.specs.BTreeMap.{get};
+ghost use Rattle.std.specs.Ordering.{nat_cmp};
+ghost use Rattle.longest_walk.specs.Folded.{unfolded};
+ghost use Rattle.text_explained.specs.Taken.{Adds, IsTally, Puts, Starts, with_edge, widened};
+
+use control_flow::{Edge, Graph, Place};
+use longest_walk::FoldedWalk;
+use std::alloc::{AllocError, Global};
+use std::collections::BTreeMap;
+use walk_counts::{capped_product, capped_sum, edge_counts};
+
+/// The least and the greatest cost in ticks of the edges that a walk takes from an instruction.
+#[derive(Clone, Copy)]
+pub struct Costs {
+    pub least: u32,
+    pub greatest: u32,
+}
+
+/// How often a walk passes an instruction, and what that costs in ticks, each counted up to 2^64 - 1; and
+/// what it costs each time, unless the walk never passes it.
+#[derive(Clone, Copy)]
+pub struct Taken {
+    pub passes: u64,
+    pub ticks: u64,
+    pub costs: Option<Costs>,
+}
+
+/// What a walk takes at each address where the graph has a place.
+#[derive(Drop)]
+pub struct WalkTally {
+    by_address: BTreeMap<u32, Taken>,
+}
+
+// A cost more.
+fn widened(costs: Option<Costs>, cost: u32) -> Option<Costs>
+    ensures { result ≡ widened costs cost }
+{
+    match costs {
+        None => Some(Costs {
+            least: cost,
+            greatest: cost,
+        }),
+        Some(costs) => Some(Costs {
+            least: costs.least.min(cost),
+            greatest: costs.greatest.max(cost),
+        }),
+    }
+}
+
+impl Taken {
+    const NOTHING: Taken = Taken {
+        passes: 0,
+        ticks: 0,
+        costs: None,
+    };
+
+    // The costs with an edge's, if that is taken.
+    fn costs_with(self, edge: &Edge, count: u64) -> Option<Costs>
+        ensures { result ≡ (with_edge self edge.now count).costs }
+    {
+        if count == 0 {
+            return self.costs;
+        }
+        widened(self.costs, edge.cost)
+    }
+}
+
+impl WalkTally {
+    // Sets what is taken at a place's address.
+    fn put(&mut self, place: &Place, taken: Taken) -> Result<(), AllocError>
+        ensures { OnOk result (Puts place.now taken self.old self.new) }
+    {
+        let Place::At(_, address) = place else {
+            return Ok(());
+        };
+        self.by_address.insert(*address, taken)?;
+        Ok(())
+    }
+
+    // Nothing at the places.
+    fn of_places(alloc: Global, places: &[Place]) -> Result<WalkTally, AllocError>
+        ensures { IfOk result (Starts places.now) }
+    {
+        let mut tally = WalkTally {
+            by_address: BTreeMap::new(alloc),
+        };
+        for place in places {
+            tally.put(place, Taken::NOTHING)?;
+        }
+        Ok(tally)
+    }
+
+    // Adds an edge that is taken so many times.
+    fn add(&mut self, edge: &Edge, count: u64) -> Result<(), AllocError>
+        ensures { OnOk result (Adds edge.now count self.old self.new) }
+    {
+        let Place::At(_, address) = edge.from else {
+            return Ok(());
+        };
+        let before = self.at(address).unwrap_or(Taken::NOTHING);
+        let after = Taken {
+            passes: capped_sum(before.passes, count),
+            ticks: capped_sum(before.ticks, capped_product(count, edge.cost)),
+            costs: before.costs_with(edge, count),
+        };
+        self.put(&edge.from, after)
+    }
+
+    /// What the walk takes at the graph's places, in time linear in the walk as it is folded.
+    ///
+    /// # Errors
+    ///
+    /// An allocation failed.
+    pub fn of_walk(alloc: Global, graph: &Graph, walk: &FoldedWalk) -> Result<WalkTally, AllocError>
+        ensures { IfOk result (IsTally graph.now (unfolded walk.now)) }
+    {
+        let counts = edge_counts(alloc, graph, walk)?;
+        let mut tally = WalkTally::of_places(alloc, graph.places())?;
+        for number in 0..graph.edges().len() {
+            tally.add(&graph.edges()[number], counts[number])?;
+        }
+        Ok(tally)
+    }
+
+    /// What the walk takes at the address; None where the graph has no place.
+    pub fn at(&self, address: u32) -> Option<Taken>
+        ensures { result ≡ get nat_cmp self.now.by_address address }
+    {
+        self.by_address.get(&address).copied()
+    }
+}

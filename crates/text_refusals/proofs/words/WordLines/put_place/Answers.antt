@@ -1,4 +1,0 @@
-use Rattle.text_refusals.proofs.words.WordLines.put_place.Goals as goal
-
-pub returns-in-At : goal.returns-in-At
-returns-in-At c = rw c.in-At.is c.put_row.ensures
