@@ -280,13 +280,27 @@ def changed(text):
             yield f"byte {at} made {value:02X}", text[:at] + bytes([value]) + text[at + 1 :]
 
 
+OFFSETS = (b"turn+4", b"turn-0008", b"turn+0", b"start-32768", b"start-32772", b"start+67076092")
+OFFSETS += (b"start+67076096", b"start+6", b"start-4294967296", b"start+9999999999999999999996", b"start+x")
+OFFSETS += (b"start+", b"+4", b"start+-4", b"start-4+4", b"start +4", b"start+ 4", b"start+4 ", b"start+0x4")
+OFFSETS += (b"stark+4", b"start+1_0", "start+\u0664".encode(), b"start\\u002B4")
+
+
+def offsets(text):
+    """A statement with a label and a number of bytes, or what looks like them, for each of its addresses."""
+    places = [it.span() for it in re.finditer(rb"0x8[0-9A-F]+", text)]
+    for at, (begin, end) in enumerate(places):
+        for it in OFFSETS:
+            yield f"{it.decode()} for address {at}", text[:begin] + b'"' + it + b'"' + text[end:]
+
+
 def statements(bench):
     """Statements of the worked handler and of a sample, judged by a reader of statements."""
     dispatch = worked.sample("dispatch")
     words = ["bound", "handler.s", "handler.toml"]
     wanted = readers.Faults.ORDER
     for source, text, rows in (
-        (worked.SOURCE, worked.STATEMENT, changed(worked.STATEMENT)),
+        (worked.SOURCE, worked.STATEMENT, [*changed(worked.STATEMENT), *offsets(worked.STATEMENT)]),
         (dispatch["handler.s"], dispatch["handler.toml"], cuts(dispatch["handler.toml"])),
     ):
         known = labels_of(bench, source)
@@ -393,7 +407,7 @@ def odd_documents(key):
     wrong, none = ("WrongKind",), ("NotToml",)
     either = ("NotToml", "WrongKind")
     unknown, any_name = ("UnknownKey",), ("NotToml", "UnknownKey", "WrongKind")
-    no_label = ("UnknownLabel", "WrongKind")
+    no_label, no_place = ("UnknownLabel", "WrongKind"), ("OutOfRange", "WrongKind")
     name = key.encode()
     start = name + b" = "
     for depth in (10, 100, 1_000, 100_000, 8_000_000):
@@ -433,6 +447,9 @@ def odd_documents(key):
     yield "a text of a million lines", start + b'"""' + b"\n" * 1_000_000 + b'"""\n', no_label
     yield "a text that is not closed", start + b'"' + million, none
     yield "a text of a million escapes", start + b'"' + b"\\u0041" * 1_000_000 + b'"\n', no_label
+    yield "a text of a million signs", start + b'"' + b"+" * 1_000_000 + b'"\n', no_label
+    yield "a million digits behind no label", start + b'"l+' + b"1" * 1_000_000 + b'"\n', no_label
+    yield "a million digits behind a label", start + b'"turn+' + b"4" * 1_000_000 + b'"\n', no_place
     for byte in NO_TEXT:
         for how, text in (
             ("by itself", b"%s"),

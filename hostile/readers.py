@@ -9,7 +9,8 @@ MOST_WORDS, MOST_SEGMENTS = 65_536, 16
 DEVICES, ROM, END = 0x3000000, 0x3400000, 0x4000000
 MOST = {"loop": 256, "target": 1_024, "access": 4_096}
 LINES = {"IL0", *(f"A{n}" for n in range(3)), *(f"B{n}" for n in range(1, 8)), *(f"F{n}" for n in range(6))}
-MODES, CLASSES = ("user", "fiq", "irq", "svc"), ("any", "ram", "rom", "io")
+MODES, LEAVES = ("user", "fiq", "irq", "svc"), ("any", "ram", "rom", "io")
+CLASSES = (*LEAVES, "slow", "medium", "fast", "synchronous")
 REGISTERS = {
     *(f"r{n}" for n in range(15)),
     *(f"r{n}_fiq" for n in range(8, 15)),
@@ -178,10 +179,25 @@ class StatementFaults(Faults):
         super().__init__()
         self.known = known
 
+    def place(self, text):
+        """The address of a label, or of one with bytes added or taken away, which may lie outside memory."""
+        if text in self.known:
+            return self.known[text]
+        found = re.fullmatch(r"(.*)([+-])([0-9]+)", text, re.DOTALL)
+        if self.of("UnknownLabel", not found or found[1] not in self.known):
+            return None
+        digits = found[3].lstrip("0") or "0"
+        # So many bytes lead out of memory from anywhere.
+        number = int(digits) if len(digits) < 10 else END
+        self.of("OutOfRange", number % 4 != 0)
+        return self.known[found[1]] + (number if found[2] == "+" else -number)
+
     def address(self, value):
         if isinstance(value, str):
-            return None if self.of("UnknownLabel", value not in self.known) else self.known[value]
-        if self.of("WrongKind", not is_whole(value)):
+            value = self.place(value)
+            if value is None:
+                return None
+        elif self.of("WrongKind", not is_whole(value)):
             return None
         return None if self.of("OutOfRange", value % 4 != 0 or not 0 <= value < END) else value
 
@@ -218,7 +234,7 @@ def statement_fault(text, known):
     faults = StatementFaults(known)
     faults.keys(read, ("entry", "leave", "returns", "loop", "target", "access"))
     faults.address(read.get("entry"))
-    faults.word(read, "leave", CLASSES, "any")
+    faults.word(read, "leave", LEAVES, "any")
     faults.word(read, "returns", ("assumed", "stated"), "assumed")
     for it in faults.list_of_tables(read, "loop", ("header", "first", "last", "bound")):
         faults.loop(it)

@@ -1,6 +1,6 @@
 use bus_ticks::Class;
 use loader::{LabelFault, Labels};
-use statement::{Loop, Statement, TargetKind, read_statement};
+use statement::{Loop, Statement, StatementFault, TargetKind, read_statement};
 use std::alloc::Global;
 use std::test::Fail;
 
@@ -77,5 +77,58 @@ fn reads_statements(rt: HostRuntime) -> Result<(), Fail> {
     let classes = [statement.class_at(0x8000), statement.class_at(0x8010)];
     assert!(rt; classes == [Class::Rom, Class::Any]);
     drop(statement);
+    Ok(())
+}
+
+// What is read of an entry, by its text between quotes.
+fn entry_of(alloc: Global, entry: &str) -> Result<Result<u32, StatementFault>, Fail> {
+    let text = format!(in alloc; "entry = \"{entry}\"\n")?;
+    let labels = labels(alloc)?;
+    let statement = read_statement(alloc, text.as_bytes(), &labels);
+    drop(labels);
+    drop(text);
+    Ok(match statement {
+        Ok(statement) => Ok(statement.entry()),
+        Err(fault) => Err(fault),
+    })
+}
+
+#[test]
+fn adds_and_takes_away_bytes(rt: HostRuntime) -> Result<(), Fail> {
+    for (entry, address) in [
+        ("start", 0x8000),
+        ("start+8", 0x8008),
+        ("start-4", 0x7FFC),
+        ("start+0012", 0x800C),
+        ("start-0", 0x8000),
+        ("start-32768", 0),
+        ("start+67076092", 0x3FF_FFFC),
+    ] {
+        let read = entry_of(rt.alloc(), entry)?;
+        assert!(rt; read == Ok(address));
+    }
+    Ok(())
+}
+
+#[test]
+fn refuses_bytes_behind_labels(rt: HostRuntime) -> Result<(), Fail> {
+    for (entry, fault) in [
+        ("stop+8", StatementFault::UnknownLabel),
+        ("+8", StatementFault::UnknownLabel),
+        ("start+", StatementFault::UnknownLabel),
+        ("start+8x", StatementFault::UnknownLabel),
+        ("start++8", StatementFault::UnknownLabel),
+        ("start+2", StatementFault::OutOfRange),
+        ("start-32772", StatementFault::OutOfRange),
+        ("start+67076096", StatementFault::OutOfRange),
+        ("start-4294967296", StatementFault::OutOfRange),
+        (
+            "start+400000000000000000000000000000",
+            StatementFault::OutOfRange,
+        ),
+    ] {
+        let read = entry_of(rt.alloc(), entry)?;
+        assert!(rt; read == Err(fault));
+    }
     Ok(())
 }

@@ -3,6 +3,7 @@ use Rattle.std.proofs.Common.{ℕ, ◌%◌, ◌≤◌, ◌≡◌, ap, arith, eqb
 use Rattle.bus_ticks.specs.declared.profile.Profile.{Profile}
 use Rattle.bus_ticks.specs.declared.profile.Class.{Class}
 use Rattle.bus_ticks.specs.declared.profile.Class.TheVariants.{Ram, Rom, Io, Any}
+use Rattle.bus_ticks.specs.declared.profile.Class.TheVariants.{Slow, Medium, Fast, Synchronous}
 use Rattle.bus_ticks.specs.Prices.{class_of, by_class, rom_price, fetch_n, fetch_s}
 use Rattle.bus_ticks.specs.Worst.{IsAnyTimes, IsGreatest, worst_rom, worst_fetch_n, worst_fetch_s}
 use Rattle.bus_ticks.proofs.WorstLemmas.{dearest_times, rom_le}
@@ -12,6 +13,10 @@ by_class_rises Ram ram rom top io h = omega arith
 by_class_rises Rom ram rom top io h = h
 by_class_rises Io ram rom top io h = omega arith
 by_class_rises Any ram rom top io h = omega arith
+by_class_rises Slow ram rom top io h = omega arith
+by_class_rises Medium ram rom top io h = omega arith
+by_class_rises Fast ram rom top io h = omega arith
+by_class_rises Synchronous ram rom top io h = omega arith
 
 -- a price that differs in Rom alone
 dearest : (p : Profile) (x ram io top : ℕ) → top ≡ by_class (class_of x) ram (worst_rom p) io

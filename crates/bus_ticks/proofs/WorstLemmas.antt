@@ -8,10 +8,12 @@ use Rattle.bus_ticks.specs.declared.profile.Profile.{Profile}
 use Rattle.bus_ticks.specs.declared.profile.RomTimes.{RomTimes}
 use Rattle.bus_ticks.specs.declared.profile.Class.{Class}
 use Rattle.bus_ticks.specs.declared.profile.Class.TheVariants.{Ram, Rom, Io, Any}
+use Rattle.bus_ticks.specs.declared.profile.Class.TheVariants.{Slow, Medium, Fast, Synchronous}
 use Rattle.bus_ticks.specs.Ranges.{greatest}
 use Rattle.bus_ticks.specs.Prices.{class_of, by_class, choice, rom_price, io_price, word_price, word_address}
 use Rattle.bus_ticks.specs.Prices.{transfer}
-use Rattle.bus_ticks.specs.Worst.{AtTimes, IsBlockOf, IsGreatest, transfer_price, worst_rom, worst_io}
+use Rattle.bus_ticks.specs.Worst.{AtTimes, IsBlockOf, IsDevice, IsGreatest, IsOf, IsSpeed, transfer_price}
+use Rattle.bus_ticks.specs.Worst.{worst_rom, worst_io}
 use Rattle.bus_ticks.specs.Worst.{worst_transfer}
 use Rattle.bus_ticks.specs.Dearest.{AreDearest, IsDearestBlock}
 
@@ -45,6 +47,10 @@ by_class_le Ram ram rom io top x y z = x
 by_class_le Rom ram rom io top x y z = y
 by_class_le Io ram rom io top x y z = z
 by_class_le Any ram rom io top x y z = z
+by_class_le Slow ram rom io top x y z = z
+by_class_le Medium ram rom io top x y z = z
+by_class_le Fast ram rom io top x y z = z
+by_class_le Synchronous ram rom io top x y z = z
 
 cond_le : (b : Bool) (x y top : ℕ) → x ≤ top → y ≤ top → cond b x y ≤ top
 cond_le true x y top p q = p
@@ -277,6 +283,55 @@ any_block p k store b io = record {
   price = io.price;
 }
 
+-- a word of a device of a speed, and of a block of such words
+speed_word : (p : Profile) (rom : RomTimes) (store first : Bool) (x f : ℕ) → IsDevice f x
+    → word_price p x first store rom ≡ choice f p.slow p.medium p.fast p.synchronous
+speed_word p rom store first x f d =
+    word_at p rom store first x Io d.0 ∙ ap (λ f. choice f p.slow p.medium p.fast p.synchronous) d.1
+
+speed_price : (p : Profile) (f k : ℕ) (store : Bool) (b : AtTimes)
+    → ((i : ℕ) → i < k → IsDevice f (word_address b.address i))
+    → transfer_price p k store b ≡ k * choice f p.slow p.medium p.fast p.synchronous
+speed_price p f k store b each =
+    block_is p b.rom store b.address (choice f p.slow p.medium p.fast p.synchronous) k
+    (λ i l first. speed_word p b.rom store first (word_address b.address i) f (each i l))
+
+-- wherever it starts
+pub slow_block : (p : Profile) (k : ℕ) (store : Bool) (b : AtTimes) → IsBlockOf Slow k b
+    → IsDearestBlock p Slow k store b
+slow_block p k store b h = record { of_class = h; price = speed_price p 0 k store b h.each }
+
+pub medium_block : (p : Profile) (k : ℕ) (store : Bool) (b : AtTimes) → IsBlockOf Medium k b
+    → IsDearestBlock p Medium k store b
+medium_block p k store b h = record { of_class = h; price = speed_price p 1 k store b h.each }
+
+pub fast_block : (p : Profile) (k : ℕ) (store : Bool) (b : AtTimes) → IsBlockOf Fast k b
+    → IsDearestBlock p Fast k store b
+fast_block p k store b h = record { of_class = h; price = speed_price p 2 k store b h.each }
+
+pub synchronous_block : (p : Profile) (k : ℕ) (store : Bool) (b : AtTimes) → IsBlockOf Synchronous k b
+    → IsDearestBlock p Synchronous k store b
+synchronous_block p k store b h = record { of_class = h; price = speed_price p 3 k store b h.each }
+
+pub speed_block : (p : Profile) (class : Class) (k : ℕ) (store : Bool) (b : AtTimes) → IsSpeed class
+    → IsBlockOf class k b → IsDearestBlock p class k store b
+speed_block p Slow k store b is h = slow_block p k store b h
+speed_block p Medium k store b is h = medium_block p k store b h
+speed_block p Fast k store b is h = fast_block p k store b h
+speed_block p Synchronous k store b is h = synchronous_block p k store b h
+speed_block p Ram k store b is h = absurd is
+speed_block p Rom k store b is h = absurd is
+speed_block p Io k store b is h = absurd is
+speed_block p Any k store b is h = absurd is
+
+-- a block at the start of the devices of a speed
+pub at_page : (class : Class) (f : ℕ) → f < 4 → ((x : ℕ) → IsDevice f x → IsOf class x) → (k : ℕ) → k ≤ 16
+    → (rom : RomTimes) → IsBlockOf class k (record { address = page f; rom = rom })
+at_page class f g is k few rom = record {
+  below = omega (arith, g);
+  each = λ i l. is (word_address (page f) i) (from_io f k g few i l);
+}
+
 -- some time fields
 abbrev some_times : RomTimes
 some_times = times 0 (omega arith)
@@ -302,6 +357,15 @@ dearest_block p Io k store few = dearest_io p (suc k) store few
 dearest_block p Any k store few =
     let best = dearest_io p (suc k) store few in
     (best.0, any_block p (suc k) store best.0 best.1)
+dearest_block p Slow k store few =
+    (_, slow_block p (suc k) store _ (at_page Slow 0 (omega arith) (λ x d. d) (suc k) few some_times))
+dearest_block p Medium k store few =
+    (_, medium_block p (suc k) store _ (at_page Medium 1 (omega arith) (λ x d. d) (suc k) few some_times))
+dearest_block p Fast k store few =
+    (_, fast_block p (suc k) store _ (at_page Fast 2 (omega arith) (λ x d. d) (suc k) few some_times))
+dearest_block p Synchronous k store few =
+    let at = at_page Synchronous 3 (omega arith) (λ x d. d) (suc k) few some_times in
+    (_, synchronous_block p (suc k) store _ at)
 
 above : (p : Profile) (class : Class) (k : ℕ) (store : Bool) (b : AtTimes) → IsBlockOf class (suc k) b
     → transfer_price p (suc k) store b ≤ worst_transfer p class (suc k) store
@@ -309,6 +373,10 @@ above p Ram k store b h = ram_above p store k b h
 above p Rom k store b h = rom_above p store (suc k) b h
 above p Io k store b h = io_above p store (suc k) b
 above p Any k store b h = io_above p store (suc k) b
+above p Slow k store b h = omega (arith, speed_price p 0 (suc k) store b h.each)
+above p Medium k store b h = omega (arith, speed_price p 1 (suc k) store b h.each)
+above p Fast k store b h = omega (arith, speed_price p 2 (suc k) store b h.each)
+above p Synchronous k store b h = omega (arith, speed_price p 3 (suc k) store b h.each)
 
 pub worst_block_greatest : (p : Profile) (class : Class) (k : ℕ) (store : Bool) → suc k ≤ 16
     → IsGreatest (IsBlockOf class (suc k)) (transfer_price p (suc k) store) (worst_transfer p class (suc k) store)

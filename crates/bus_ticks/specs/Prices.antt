@@ -6,17 +6,22 @@ use Rattle.bus_ticks.specs.declared.profile.Profile.{Profile}
 use Rattle.bus_ticks.specs.declared.profile.RomTimes.{RomTimes}
 use Rattle.bus_ticks.specs.declared.profile.Class.{Class}
 use Rattle.bus_ticks.specs.declared.profile.Class.TheVariants.{Ram, Rom, Io, Any}
+use Rattle.bus_ticks.specs.declared.profile.Class.TheVariants.{Slow, Medium, Fast, Synchronous}
 
 -- Ram 0000000 to 2FFFFFF; Io 3000000 to 33FFFFF; Rom 3400000 to 3FFFFFF
 abbrev pub class_of : ℕ → Class
 class_of x = if nat_lt x IO_START then Ram else (if nat_lt x ROM_START then Io else Rom)
 
--- a choice by the class of an address, which is never Any
+-- a choice by the class of an address, which is Ram, Rom or Io
 abbrev pub by_class : {A : Type 0} → Class → A → A → A → A
 by_class Ram ram rom io = ram
 by_class Rom ram rom io = rom
 by_class Io ram rom io = io
 by_class Any ram rom io = io
+by_class Slow ram rom io = io
+by_class Medium ram rom io = io
+by_class Fast ram rom io = io
+by_class Synchronous ram rom io = io
 
 -- the fourth of four numbers is taken for every number from 3 on
 abbrev pub choice : ℕ → ℕ → ℕ → ℕ → ℕ → ℕ
@@ -27,9 +32,23 @@ abbrev pub rom_price : Profile → ℕ → RomTimes → ℕ
 rom_price p x rom =
     choice (if nat_lt x HIGH_ROM_START then rom.low else rom.high) p.rom_0 p.rom_1 p.rom_2 p.rom_3
 
--- an access to a device, by address bits 20 and 19
+-- the speed of a device, by address bits 20 and 19: 0 slow, 1 medium, 2 fast, 3 synchronous (VL86C410 data
+-- sheet)
+abbrev pub speed_of : ℕ → ℕ
+speed_of x = x / 0x80000 % 4
+
+-- the class of the devices of a speed
+abbrev pub speed_class : (speed : ℕ) → Class
+speed_class speed =
+    if speed == 0 then Slow else (if speed == 1 then Medium else (if speed == 2 then Fast else Synchronous))
+
+-- the narrowest class of an address: Ram, Rom, or that of the devices of one speed
+abbrev pub narrowest_class : ℕ → Class
+narrowest_class x = by_class (class_of x) Ram Rom (speed_class (speed_of x))
+
+-- an access to a device, by its speed
 abbrev pub io_price : Profile → ℕ → ℕ
-io_price p x = choice (x / 0x80000 % 4) p.slow p.medium p.fast p.synchronous
+io_price p x = choice (speed_of x) p.slow p.medium p.fast p.synchronous
 
 -- an access to Ram that follows the one before
 abbrev pub ram_price : Profile → ℕ → ℕ

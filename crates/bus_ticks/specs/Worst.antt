@@ -5,9 +5,14 @@ use Rattle.bus_ticks.specs.declared.profile.Profile.{Profile}
 use Rattle.bus_ticks.specs.declared.profile.RomTimes.{RomTimes}
 use Rattle.bus_ticks.specs.declared.profile.Class.{Class}
 use Rattle.bus_ticks.specs.declared.profile.Class.TheVariants.{Ram, Rom, Io, Any}
-use Rattle.bus_ticks.specs.Prices.{ahead_of, class_of, by_class, fetch_n, ram_price, fetch_s, transfer}
-use Rattle.bus_ticks.specs.Prices.{word_address}
+use Rattle.bus_ticks.specs.declared.profile.Class.TheVariants.{Slow, Medium, Fast, Synchronous}
+use Rattle.bus_ticks.specs.Prices.{ahead_of, class_of, by_class, fetch_n, ram_price, fetch_s, speed_of}
+use Rattle.bus_ticks.specs.Prices.{transfer, word_address}
 use Rattle.bus_ticks.specs.Ranges.{greatest}
+
+-- a device of the speed
+abbrev pub IsDevice : (speed : ℕ) → ℕ → Type 0
+IsDevice speed x = (class_of x ≡ Io) × (speed_of x ≡ speed)
 
 -- an address of the class; each is of Any
 abbrev pub IsOf : Class → ℕ → Type 0
@@ -15,6 +20,21 @@ IsOf Any x = Unit {0}
 IsOf Ram x = class_of x ≡ Ram
 IsOf Rom x = class_of x ≡ Rom
 IsOf Io x = class_of x ≡ Io
+IsOf Slow x = IsDevice 0 x
+IsOf Medium x = IsDevice 1 x
+IsOf Fast x = IsDevice 2 x
+IsOf Synchronous x = IsDevice 3 x
+
+-- a class of devices of one speed
+abbrev pub IsSpeed : Class → Type 0
+IsSpeed Ram = ⊥
+IsSpeed Rom = ⊥
+IsSpeed Io = ⊥
+IsSpeed Any = ⊥
+IsSpeed Slow = Unit {0}
+IsSpeed Medium = Unit {0}
+IsSpeed Fast = Unit {0}
+IsSpeed Synchronous = Unit {0}
 
 -- where an access begins, and the time fields while it lasts
 pub record AtTimes : Type 0 where
@@ -68,8 +88,13 @@ worst_transfer p Ram k store = p.n + (k - 1) * p.s + (k + 2) / 4 * (p.quad - p.s
 worst_transfer p Rom k store = if store then k * p.control else k * worst_rom p
 worst_transfer p Io k store = k * worst_io p
 worst_transfer p Any k store = k * worst_io p
+worst_transfer p Slow k store = k * p.slow
+worst_transfer p Medium k store = k * p.medium
+worst_transfer p Fast k store = k * p.fast
+worst_transfer p Synchronous k store = k * p.synchronous
 
--- the greatest price of the two fetches at a target: the second may be of the class that follows
+-- the greatest price of the two fetches at a target: the second may be of the class that follows, which after
+-- the last synchronous device is Rom
 abbrev pub worst_leave : Profile → Class → ℕ
 worst_leave p Ram = p.n + max p.quad p.unfitted
 worst_leave p Rom = worst_rom p + max (worst_rom p) p.quad
@@ -77,6 +102,10 @@ worst_leave p Io = p.unfitted + max p.unfitted (worst_rom p)
 worst_leave p Any =
     max (max (p.n + max p.quad p.unfitted) (worst_rom p + max (worst_rom p) p.quad))
     (p.unfitted + max p.unfitted (worst_rom p))
+worst_leave p Slow = p.unfitted + p.unfitted
+worst_leave p Medium = p.unfitted + p.unfitted
+worst_leave p Fast = p.unfitted + p.unfitted
+worst_leave p Synchronous = p.unfitted + max p.unfitted (worst_rom p)
 
 -- taking FIQ before the instruction at an address: the fetch 8 bytes on, and the two at FIQ's vector
 abbrev pub fiq_entry_price : Profile → AtTimes → ℕ

@@ -6,12 +6,15 @@ ghost use Rattle.bus_ticks.specs.Worst.{worst_fetch_n, worst_fetch_s};
 ghost use Rattle.bus_ticks.specs.Dearest.{AreDearest, IsDearestBlock, IsDearestLeave, IsDearestOf};
 
 use crate::profile::{Class, Profile, RomTimes};
-use crate::space::{IO_START, ROM_START, SPACE_END};
+use crate::space::{FAST_START, IO_START, MEDIUM_START, ROM_START, SPACE_END, SYNCHRONOUS_START};
 use crate::worst::{greatest, worst_leave, worst_rom};
 
 // Where the last word before a multiple of 16 is, in bytes after the multiple before it: the word that
 // follows costs quad.
 const BEFORE_QUAD: u32 = 12;
+
+// The last word among the devices: the word that follows is in ROM.
+const LAST_DEVICE: u32 = ROM_START - 4;
 
 // Which of the four is the greatest, from 0: the first of those that are.
 fn dearest_of(a: u32, b: u32, c: u32, d: u32) -> u32
@@ -111,7 +114,18 @@ fn dearest_leave_to_io(profile: &Profile) -> u32
     if worst_rom(profile) < profile.unfitted {
         IO_START
     } else {
-        ROM_START - 4
+        LAST_DEVICE
+    }
+}
+
+// Among the synchronous devices, which end where ROM begins.
+fn dearest_leave_to_synchronous(profile: &Profile) -> u32
+    ensures { IsDearestLeave profile.now Class.Synchronous result }
+{
+    if worst_rom(profile) < profile.unfitted {
+        SYNCHRONOUS_START
+    } else {
+        LAST_DEVICE
     }
 }
 
@@ -139,5 +153,9 @@ pub fn dearest_leave(profile: &Profile, class: Class) -> u32
         Class::Rom => dearest_leave_to_rom(profile),
         Class::Io => dearest_leave_to_io(profile),
         Class::Any => dearest_leave_to_any(profile),
+        Class::Slow => IO_START,
+        Class::Medium => MEDIUM_START,
+        Class::Fast => FAST_START,
+        Class::Synchronous => dearest_leave_to_synchronous(profile),
     }
 }

@@ -1,6 +1,7 @@
 ghost use Rattle.std.specs.Prelude.{◌≡◌, ◌↔◌, ◌<◌, ◌≤◌, ◌*◌, IsTrue, nat_lt};
 ghost use Rattle.bus_ticks.specs.Prices.{class_of, rom_price, io_price, fetch_n, ram_price, fetch_s};
-ghost use Rattle.bus_ticks.specs.Prices.{word_price, transfer};
+ghost use Rattle.bus_ticks.specs.Prices.{narrowest_class, speed_of, word_price, transfer};
+ghost use Rattle.bus_ticks.specs.Worst.{IsOf};
 
 use crate::profile::{Class, Profile, RomTimes};
 use crate::space::{HIGH_ROM_START, IO_START, ROM_START, SPACE_END, word_address};
@@ -22,7 +23,23 @@ fn is_io(address: u32) -> bool
     address < ROM_START
 }
 
-/// The class of an address: Ram below 3000000, Io from there and Rom from 3400000 on, never `Any`.
+// Whether an address is in I/O.
+fn is_device(address: u32) -> bool
+    ensures { IsTrue result ↔ (class_of address ≡ Class.Io) }
+{
+    !is_ram(address) && is_io(address)
+}
+
+// The speed of a device, from 0 (slow) to 3 (synchronous), as address bits 20 and 19 have it.
+#[inline(always)]
+fn speed_of(address: u32) -> u32
+    ensures { result ≡ speed_of address }
+{
+    address / 0x80000 % 4
+}
+
+/// The class of an address: Ram below 3000000, Io from there and Rom from 3400000 on, and none of the
+/// others.
 #[inline(always)]
 pub fn class_of(address: u32) -> Class
     ensures { result ≡ class_of address }
@@ -36,24 +53,7 @@ pub fn class_of(address: u32) -> Class
     }
 }
 
-impl Class {
-    ghost use Rattle.bus_ticks.specs.Worst.{IsOf};
-
-    /// Whether an address is of the class; each is of `Any`.
-    pub fn is_of(self, address: u32) -> bool
-        ensures { IsTrue result ↔ IsOf self address }
-    {
-        match (self, class_of(address)) {
-            (Class::Any, _)
-            | (Class::Ram, Class::Ram)
-            | (Class::Rom, Class::Rom)
-            | (Class::Io, Class::Io) => true,
-            _ => false,
-        }
-    }
-}
-
-// The price of a field of two bits.
+// A choice by a field of two bits.
 macro_rules! pick {
     ($field:expr, $($number:literal => $price:expr),+; $last:expr) => {
         match $field {
@@ -61,6 +61,38 @@ macro_rules! pick {
             _ => $last,
         }
     };
+}
+
+/// The narrowest class of an address: Ram, Rom, or that of the devices of one speed.
+pub fn narrowest_class(address: u32) -> Class
+    ensures class { result ≡ narrowest_class address }
+    ensures is_of { IsOf result address }
+{
+    match class_of(address) {
+        Class::Io => pick!(
+            speed_of(address),
+            0 => Class::Slow, 1 => Class::Medium, 2 => Class::Fast; Class::Synchronous
+        ),
+        class => class,
+    }
+}
+
+impl Class {
+    /// Whether an address is of the class; each is of `Any`.
+    pub fn is_of(self, address: u32) -> bool
+        ensures { IsTrue result ↔ IsOf self address }
+    {
+        match self {
+            Class::Any => true,
+            Class::Ram => is_ram(address),
+            Class::Rom => !is_ram(address) && !is_io(address),
+            Class::Io => is_device(address),
+            Class::Slow => is_device(address) && speed_of(address) == 0,
+            Class::Medium => is_device(address) && speed_of(address) == 1,
+            Class::Fast => is_device(address) && speed_of(address) == 2,
+            Class::Synchronous => is_device(address) && speed_of(address) == 3,
+        }
+    }
 }
 
 #[inline(never)]
@@ -126,7 +158,7 @@ fn io_price(profile: &Profile, address: u32) -> u32
     ensures price { result ≡ io_price profile.now address }
     ensures small { result < 256 }
 {
-    let field = address / 0x80000 % 4;
+    let field = speed_of(address);
     pick!(field, 0 => profile.slow, 1 => profile.medium, 2 => profile.fast; profile.synchronous)
 }
 

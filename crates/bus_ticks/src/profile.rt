@@ -15,6 +15,14 @@ pub enum Class {
     Io,
     /// Any of the others, in a statement of what an instruction may reach. No address has this class.
     Any,
+    /// The slow devices, by address bits 20 and 19: 3000000 to 307FFFF, and again each 200000 bytes.
+    Slow,
+    /// The medium devices, 80000 bytes further on.
+    Medium,
+    /// The fast devices, 100000 bytes further on.
+    Fast,
+    /// The synchronous devices, 180000 bytes further on.
+    Synchronous,
 }
 
 /// The time fields of the two halves of ROM, as the memory controller holds them.

@@ -9,8 +9,17 @@ pub const FIQ_VECTOR: u32 = 0x1C;
 /// Where logical RAM ends, and physical RAM begins.
 pub const PHYSICAL_START: u32 = 0x200_0000;
 
-/// Where I/O begins, and RAM ends.
+/// Where I/O begins with its slow devices, and RAM ends.
 pub const IO_START: u32 = 0x300_0000;
+
+/// Where the first medium devices begin.
+pub const MEDIUM_START: u32 = 0x308_0000;
+
+/// Where the first fast devices begin.
+pub const FAST_START: u32 = 0x310_0000;
+
+/// Where the first synchronous devices begin.
+pub const SYNCHRONOUS_START: u32 = 0x318_0000;
 
 /// Where ROM begins, and I/O ends.
 pub const ROM_START: u32 = 0x340_0000;

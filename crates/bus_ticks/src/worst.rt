@@ -44,7 +44,8 @@ fn worst_fetch(profile: &Profile, address: u32, ram: u32) -> u32
     match class_of(address) {
         Class::Ram => ram,
         Class::Rom => worst_rom(profile),
-        Class::Io | Class::Any => profile.unfitted,
+        Class::Io | Class::Any | Class::Slow | Class::Medium | Class::Fast | Class::Synchronous =>
+            profile.unfitted,
     }
 }
 
@@ -89,6 +90,10 @@ fn worst_transfer_number(profile: &Profile, class: Class, words: u32, store: boo
             }
         }
         Class::Io | Class::Any => { words * worst_io(profile) }
+        Class::Slow => { words * profile.slow }
+        Class::Medium => { words * profile.medium }
+        Class::Fast => { words * profile.fast }
+        Class::Synchronous => { words * profile.synchronous }
     }
 }
 
@@ -115,8 +120,9 @@ fn worst_leave_number(profile: &Profile, class: Class) -> u32
     match class {
         Class::Ram => ram,
         Class::Rom => rom,
-        Class::Io => io,
         Class::Any => ram.max(rom).max(io),
+        Class::Io | Class::Synchronous => io,
+        Class::Slow | Class::Medium | Class::Fast => profile.unfitted + profile.unfitted,
     }
 }
 

@@ -15,6 +15,7 @@ use Rattle.bus_ticks.specs.Ranges.{IsPrice}
 use Rattle.bus_ticks.specs.Worst.{worst_transfer, worst_fetch_n, worst_fetch_s, worst_rom, worst_leave}
 use Rattle.bus_ticks.specs.declared.profile.Class.{Class}
 use Rattle.bus_ticks.specs.declared.profile.Class.TheVariants.{Any, Ram, Rom, Io}
+use Rattle.bus_ticks.specs.declared.profile.Class.TheVariants.{Slow, Medium, Fast, Synchronous}
 use Rattle.bus_ticks.specs.declared.profile.Profile.{Profile}
 use Rattle.image.specs.Image.{Words}
 use Rattle.control_flow.specs.Edges.{AreEdgesOf, HasAction, IsEdge, arrival_ticks, call_places, do_edge, landing_edges, do_edges, fetch_ticks, places_at, jump_ticks, landings, return_place, skip_edge, skip_edges, stated_landings, word_edges, work_ticks, writer_landings}
@@ -67,6 +68,10 @@ by_class_all P Ram a b d h k l = h
 by_class_all P Rom a b d h k l = k
 by_class_all P Io a b d h k l = l
 by_class_all P Any a b d h k l = l
+by_class_all P Slow a b d h k l = l
+by_class_all P Medium a b d h k l = l
+by_class_all P Fast a b d h k l = l
+by_class_all P Synchronous a b d h k l = l
 
 cond_all : {A : Type 0} (P : A → Type 0) (t : Bool) (a b : A) → P a → P b → P (cond t a b)
 cond_all P true a b h k = h
@@ -95,6 +100,10 @@ leave_small p Ram = omega (arith, p.n_price, p.quad_price, p.unfitted_price)
 leave_small p Rom = omega (arith, rom_is_price p, p.quad_price)
 leave_small p Io = omega (arith, rom_is_price p, p.unfitted_price)
 leave_small p Any = omega (arith, rom_is_price p, p.n_price, p.quad_price, p.unfitted_price)
+leave_small p Slow = omega (arith, p.unfitted_price)
+leave_small p Medium = omega (arith, p.unfitted_price)
+leave_small p Fast = omega (arith, p.unfitted_price)
+leave_small p Synchronous = omega (arith, rom_is_price p, p.unfitted_price)
 
 jumping_small : (leave : Class) (p : Profile) (to : Place) → jump_ticks p leave to < 512
 jumping_small leave p (At calls t) = omega (arith, n_is_price p t, s_is_price p (ahead_of t 4))

@@ -3,6 +3,7 @@ use Rattle.std.proofs.Common.{◌≡◌, ℕ, ◌+◌, ◌*◌, ◌-◌, ◌/◌
 use Rattle.std.proofs.lemmas.Bool.{le-ltb, lt-ltb, lt-leb, ne_eqb, false≢true}
 use Rattle.bus_ticks.specs.declared.profile.Class.{Class}
 use Rattle.bus_ticks.specs.declared.profile.Class.TheVariants.{Any, Ram, Rom, Io}
+use Rattle.bus_ticks.specs.declared.profile.Class.TheVariants.{Slow, Medium, Fast, Synchronous}
 use Rattle.bus_ticks.specs.declared.profile.RomTimes.{RomTimes}
 use Rattle.bus_ticks.specs.Dearest.{AreDearest, IsDearestBlock}
 use Rattle.bus_ticks.specs.Prices.{word_address}
@@ -13,6 +14,17 @@ use Rattle.memc.specs.declared.spots.Spot.TheVariants as spot
 use Rattle.ioc.specs.Registers.{is_register}
 use Rattle.flow_graph.specs.Setting.{IsDataOf, IsSource, MayStart}
 use Rattle.flow_graph.specs.declared.tight_setting.Aim.{Aim}
+
+-- the classes whose dearest addresses are among the devices
+abbrev pub AreDevices : Class → Type 0
+AreDevices Ram = ⊥
+AreDevices Rom = ⊥
+AreDevices Io = Unit {0}
+AreDevices Any = Unit {0}
+AreDevices Slow = Unit {0}
+AreDevices Medium = Unit {0}
+AreDevices Fast = Unit {0}
+AreDevices Synchronous = Unit {0}
 
 -- ## Where accesses of a privileged mode go
 
@@ -74,7 +86,7 @@ module _ (aim : Aim) (load : Bool) (words : ℕ) (some : 1 ≤ words) (few : wor
         data_at = λ l i h. rw class (omega (arith, at i h), inl (omega (arith, at i h, h, few, below)));
       }
 
-  pub starts_at_device : (lowest : ℕ) (class : Class) → aim.class ≡ class → (class ≡ Io) ⊎ (class ≡ Any) → lowest % 4 ≡ 0 → 0x3000000 ≤ lowest → lowest + 64 ≤ 0x3200000 → Dearest class lowest → MayStart aim load words lowest
+  pub starts_at_device : (lowest : ℕ) (class : Class) → aim.class ≡ class → AreDevices class → lowest % 4 ≡ 0 → 0x3000000 ≤ lowest → lowest + 64 ≤ 0x3200000 → Dearest class lowest → MayStart aim load words lowest
   starts_at_device lowest class is device whole from to dearest =
       let at : (i : ℕ) → i < words → word_address lowest i ≡ lowest + 4 * i = λ i h. next_word lowest i whole (omega (arith, h, to, few)) in
       record {
@@ -83,17 +95,29 @@ module _ (aim : Aim) (load : Bool) (words : ℕ) (some : 1 ≤ words) (few : wor
         block = subst (λ c. (rom : RomTimes) → AreDearest aim.profile rom → IsDearestBlock aim.profile c words (not load) (record { address = lowest; rom = rom })) (sym is) dearest;
         spots = λ i. spot.Io (word_address lowest i);
         located_at = λ m shift i h. located_io m (word_address lowest i) (not load) (omega (arith, at i h, from)) (omega (arith, at i h, h, few, to));
-        sources = λ l i h. source (word_address lowest i) device (no_register (word_address lowest i) (omega (arith, at i h, h, few, to)));
-        data_at = λ l i h. nothing (word_address lowest i) device;
+        sources = λ l i h. source class device is (word_address lowest i) (no_register (word_address lowest i) (omega (arith, at i h, h, few, to)));
+        data_at = λ l i h. nothing class device is (word_address lowest i);
       }
     where
-      source : (a : ℕ) → (class ≡ Io) ⊎ (class ≡ Any) → is_register a ≡ false → IsSource aim.class (spot.Io a)
-      source a (inl e) h = rw (is, e) h
-      source a (inr e) h = rw (is, e) h
+      source : (c : Class) → AreDevices c → aim.class ≡ c → (a : ℕ) → is_register a ≡ false → IsSource aim.class (spot.Io a)
+      source Ram d e a h = absurd d
+      source Rom d e a h = absurd d
+      source Io d e a h = rw e h
+      source Any d e a h = rw e h
+      source Slow d e a h = rw e h
+      source Medium d e a h = rw e h
+      source Fast d e a h = rw e h
+      source Synchronous d e a h = rw e h
 
-      nothing : (a : ℕ) → (class ≡ Io) ⊎ (class ≡ Any) → IsDataOf aim.class aim.spare aim.address a
-      nothing a (inl e) = rw (is, e) tt
-      nothing a (inr e) = rw (is, e) tt
+      nothing : (c : Class) → AreDevices c → aim.class ≡ c → (a : ℕ) → IsDataOf aim.class aim.spare aim.address a
+      nothing Ram d e a = absurd d
+      nothing Rom d e a = absurd d
+      nothing Io d e a = rw e tt
+      nothing Any d e a = rw e tt
+      nothing Slow d e a = rw e tt
+      nothing Medium d e a = rw e tt
+      nothing Fast d e a = rw e tt
+      nothing Synchronous d e a = rw e tt
 
   rom_words : (lowest : ℕ) → lowest % 4 ≡ 0 → 0x3400000 ≤ lowest → lowest + 64 ≤ 2 ^ 26 → (rom : RomTimes) → IsBlockOf Rom words (record { address = lowest; rom = rom })
   rom_words lowest whole from to rom = record {

@@ -6,6 +6,7 @@ use Rattle.std.proofs.lemmas.List.{length-append, length-drop, length-take-le}
 use Rattle.std.proofs.lemmas.Bool.{eqb-true, false≢true, not-true}
 use Rattle.bus_ticks.specs.declared.profile.Class.{Class}
 use Rattle.bus_ticks.specs.declared.profile.Class.TheVariants.{Any, Ram, Rom, Io}
+use Rattle.bus_ticks.specs.declared.profile.Class.TheVariants.{Slow, Medium, Fast, Synchronous}
 use Rattle.bus_ticks.specs.declared.profile.Profile.{Profile}
 use Rattle.bus_ticks.specs.Prices.{word_address}
 use Rattle.arm2_transfer.specs.Registers.{address_by}
@@ -103,6 +104,10 @@ module _ (aim : Aim) (s : State) (i : Input) (base : Held) (last : ℕ) where
   source_gives Rom place is has at = memory_gives place is (has.word place at)
   source_gives Io place is has at = port_gives place is has.port
   source_gives Any place is has at = port_gives place is has.port
+  source_gives Slow place is has at = port_gives place is has.port
+  source_gives Medium place is has at = port_gives place is has.port
+  source_gives Fast place is has at = port_gives place is has.port
+  source_gives Synchronous place is has at = port_gives place is has.port
 
   -- whether or not it loads R15, the base is there
   has_base : (loads_pc : Bool) → HasSetting aim.profile (transfer_setting aim base loads_pc last) s i → register_in Svc (register_number base.register) s.regs ≡ base.word
@@ -114,6 +119,10 @@ module _ (aim : Aim) (s : State) (i : Input) (base : Held) (last : ℕ) where
       of_class Rom h = h.register
       of_class Io h = h.register
       of_class Any h = h.register
+      of_class Slow h = h.register
+      of_class Medium h = h.register
+      of_class Fast h = h.register
+      of_class Synchronous h = h.register
 
 module _ (aim : Aim) (st : Stated) (to : Place) (s : State) (i : Input) (class_is : aim.class ≡ class_at st aim.address) (target : IsDearestTarget st aim.profile to aim.target) where
   gives_target : (load loads_pc : Bool) (words lowest : ℕ) (base : Held) → 1 ≤ words → (may : MayStart aim load words lowest)
@@ -148,6 +157,10 @@ module _ (aim : Aim) (words lowest : ℕ) (base : Held) (some : 1 ≤ words) whe
   apart_of Rom last h = h
   apart_of Io last h = tt
   apart_of Any last h = tt
+  apart_of Slow last h = tt
+  apart_of Medium last h = tt
+  apart_of Fast last h = tt
+  apart_of Synchronous last h = tt
 
   apart : (load loads_pc : Bool) → MayStart aim load words lowest → Apart (transfer_setting aim base (load && loads_pc) (word_address lowest (words - 1)))
   apart false loads_pc may = tt
@@ -159,6 +172,10 @@ module _ (aim : Aim) (words lowest : ℕ) (base : Held) (some : 1 ≤ words) whe
   other_of Rom last h = h
   other_of Io last h = h
   other_of Any last h = h
+  other_of Slow last h = h
+  other_of Medium last h = h
+  other_of Fast last h = h
+  other_of Synchronous last h = h
 
   other : (loads_pc : Bool) (last : ℕ) → is_pc base.register ≡ false → IfSome (transfer_setting aim base loads_pc last).register (λ held. is_pc held.register ≡ false)
   other false last h = h

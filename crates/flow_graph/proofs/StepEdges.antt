@@ -9,10 +9,11 @@ use Rattle.arm2_decode.specs.Names.{is_always, is_never}
 use Rattle.arm2_effect.specs.ProgramCounter.{branch_target}
 use Rattle.bus_ticks.specs.declared.profile.Class.{Class}
 use Rattle.bus_ticks.specs.declared.profile.Class.TheVariants.{Any, Ram, Rom, Io}
+use Rattle.bus_ticks.specs.declared.profile.Class.TheVariants.{Slow, Medium, Fast, Synchronous}
 use Rattle.bus_ticks.specs.declared.profile.Profile.{Profile}
 use Rattle.bus_ticks.specs.declared.profile.RomTimes.{RomTimes}
-use Rattle.bus_ticks.specs.Prices.{ahead_of, class_of, fetch_n, fetch_s}
-use Rattle.bus_ticks.specs.Worst.{IsOf, worst_leave, worst_fetch_n, worst_fetch_s}
+use Rattle.bus_ticks.specs.Prices.{ahead_of, class_of, fetch_n, fetch_s, speed_of}
+use Rattle.bus_ticks.specs.Worst.{IsDevice, IsOf, worst_leave, worst_fetch_n, worst_fetch_s}
 use Rattle.bus_ticks.proofs.LeaveLemmas.{worst_leave_greatest}
 use Rattle.arm2_decode.specs.Conditions.{condition_holds}
 use Rattle.arm2_decode.specs.declared.flags.Flags.{Flags}
@@ -42,13 +43,27 @@ same_class Any Any = inl refl
 same_class Ram Ram = inl refl
 same_class Rom Rom = inl refl
 same_class Io Io = inl refl
+same_class Slow Slow = inl refl
+same_class Medium Medium = inl refl
+same_class Fast Fast = inl refl
+same_class Synchronous Synchronous = inl refl
 same_class _ _ = inr (λ e. cc)
+
+device_or : (speed t : ℕ) → IsDevice speed t ⊎ (IsDevice speed t → ⊥)
+device_or speed t = elim (same_class (class_of t) Io) [
+  | inl io ↦ elim (eqb_tells (speed_of t) speed) [ inl is ↦ inl (io, is.1) | inr other ↦ inr (λ d. other.1 d.1) ]
+  | inr apart ↦ inr (λ d. apart d.0)
+]
 
 of_class_or : (c : Class) (t : ℕ) → IsOf c t ⊎ (IsOf c t → ⊥)
 of_class_or Any t = inl tt
 of_class_or Ram t = same_class (class_of t) Ram
 of_class_or Rom t = same_class (class_of t) Rom
 of_class_or Io t = same_class (class_of t) Io
+of_class_or Slow t = device_or 0 t
+of_class_or Medium t = device_or 1 t
+of_class_or Fast t = device_or 2 t
+of_class_or Synchronous t = device_or 3 t
 
 place_or : (st : Stated) (t : ℕ) (p : Place) → IsPlaceOf st.leave t p ⊎ (IsPlaceOf st.leave t p → ⊥)
 place_or st t (At calls a) = elim (eqb_tells a t) [ inl e ↦ inl e.1 | inr e ↦ inr e.1 ]

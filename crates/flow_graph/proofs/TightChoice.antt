@@ -5,14 +5,15 @@ use Rattle.std.specs.Prelude.{IfSome}
 use Rattle.std.proofs.lemmas.Bool.{cases_lt, false≢true, not-true}
 use Rattle.bus_ticks.specs.declared.profile.Class.{Class}
 use Rattle.bus_ticks.specs.declared.profile.Class.TheVariants.{Any, Ram, Rom, Io}
+use Rattle.bus_ticks.specs.declared.profile.Class.TheVariants.{Slow, Medium, Fast, Synchronous}
 use Rattle.bus_ticks.specs.declared.profile.Profile.{Profile}
 use Rattle.bus_ticks.specs.declared.profile.RomTimes.{RomTimes}
 use Rattle.bus_ticks.specs.Dearest.{IsDearestBlock, IsDearestLeave}
 use Rattle.bus_ticks.specs.Prices.{choice, word_address}
 use Rattle.bus_ticks.specs.Ranges.{greatest}
-use Rattle.bus_ticks.specs.Worst.{worst_leave, worst_rom}
-use Rattle.bus_ticks.proofs.LeaveLemmas.{any_of, io_far, io_near, ram_far, ram_near, rom_far, rom_near}
-use Rattle.bus_ticks.proofs.WorstLemmas.{any_block, io_block, ram_block_at}
+use Rattle.bus_ticks.specs.Worst.{IsDevice, IsOf, IsSpeed, worst_leave, worst_rom}
+use Rattle.bus_ticks.proofs.LeaveLemmas.{any_of, fast_first, io_far, io_near, medium_first, ram_far, ram_near, rom_far, rom_near, slow_first, synchronous_far, synchronous_near}
+use Rattle.bus_ticks.proofs.WorstLemmas.{any_block, at_page, io_block, ram_block_at, speed_block}
 use Rattle.arm2_decode.proofs.Listed.{few_words, some_words}
 use Rattle.arm2_decode.specs.Names.{is_pc}
 use Rattle.arm2_decode.specs.Transfers.{is_listed, word_count}
@@ -35,7 +36,7 @@ use Rattle.flow_graph.specs.declared.tight_setting.Aim.{Aim}
 use Rattle.flow_graph.specs.declared.tight_setting.Held.{Held}
 use Rattle.flow_graph.specs.declared.tight_setting.Setting.{Setting}
 use Rattle.statement.specs.Stated.{Stated}
-use Rattle.flow_graph.proofs.SettingLemmas.{loads_in_rom, starts_at_device, starts_in_ram, stores_in_rom}
+use Rattle.flow_graph.proofs.SettingLemmas.{AreDevices, loads_in_rom, starts_at_device, starts_in_ram, stores_in_rom}
 use Rattle.flow_graph.proofs.SettingSets.{block_sets, copy_sets, either, moved_back, multiply_sets, single_sets_at, some_addend, sum_sets}
 
 -- ## Where a jump out of the handler costs the most
@@ -54,6 +55,10 @@ pub dearest_leave : (p : Profile) (c : Class) → (x : ℕ) × IsDearestLeave p 
 dearest_leave p Ram = leave_to_ram p
 dearest_leave p Rom = leave_to_rom p
 dearest_leave p Io = leave_to_io p
+dearest_leave p Slow = (0x3000000, slow_first p)
+dearest_leave p Medium = (0x3080000, medium_first p)
+dearest_leave p Fast = (0x3100000, fast_first p)
+dearest_leave p Synchronous = elim (cases_lt (worst_rom p) p.unfitted) [ inl h ↦ (0x3180000, synchronous_near p h) | inr h ↦ (0x33FFFFC, synchronous_far p h) ]
 dearest_leave p Any =
     elim (cases_lt (max (worst_leave p Ram) (worst_leave p Rom)) (worst_leave p Io)) [
       | inl h ↦ let best = leave_to_io p in (best.0, any_of p Io best.0 (omega arith) best.1)
@@ -94,7 +99,7 @@ module _ (aim : Aim) (load : Bool) (words : ℕ) (some : 1 ≤ words) (few : wor
       let best = some_greatest aim.profile.slow aim.profile.medium aim.profile.fast aim.profile.synchronous in
       let small = best.1 in (
         0x3000000 + 0x80000 * best.0,
-        starts_at_device aim load words some few (0x3000000 + 0x80000 * best.0) Io class (inl refl) (omega arith) (omega arith) (omega (arith, small))
+        starts_at_device aim load words some few (0x3000000 + 0x80000 * best.0) Io class tt (omega arith) (omega arith) (omega (arith, small))
             (λ rom dear. io_block aim.profile best.0 best.1 best.2 words few (not load) rom),
       )
 
@@ -103,7 +108,7 @@ module _ (aim : Aim) (load : Bool) (words : ℕ) (some : 1 ≤ words) (few : wor
       let best = some_greatest aim.profile.slow aim.profile.medium aim.profile.fast aim.profile.synchronous in
       let small = best.1 in (
         0x3000000 + 0x80000 * best.0,
-        starts_at_device aim load words some few (0x3000000 + 0x80000 * best.0) Any class (inr refl) (omega arith) (omega arith) (omega (arith, small))
+        starts_at_device aim load words some few (0x3000000 + 0x80000 * best.0) Any class tt (omega arith) (omega arith) (omega (arith, small))
             (λ rom dear. any_block aim.profile words (not load) _ (io_block aim.profile best.0 best.1 best.2 words few (not load) rom)),
       )
 
@@ -114,11 +119,22 @@ module _ (aim : Aim) (load : Bool) (words : ℕ) (some : 1 ≤ words) (few : wor
     | inr high ↦ (0x3FFFE00, loads_in_rom aim load words some few 0x3FFFE00 is class refl (omega arith) (omega arith) (inl (omega (arith, high))))
   ]
 
+  at_speed : (c : Class) (speed : ℕ) → speed < 4 → IsSpeed c → AreDevices c → ((x : ℕ) → IsDevice speed x → IsOf c x) → aim.class ≡ c → Start
+  at_speed c speed small is devices within class = (
+    0x3000000 + 0x80000 * speed,
+    starts_at_device aim load words some few (0x3000000 + 0x80000 * speed) c class devices (omega arith) (omega arith) (omega (arith, small))
+        (λ rom dear. speed_block aim.profile c words (not load) _ is (at_page c speed small within words few rom)),
+  )
+
   start : (c : Class) → aim.class ≡ c → Start
   start Ram class = in_ram class
   start Rom class = in_rom load refl class
   start Io class = in_io class
   start Any class = in_any class
+  start Slow class = at_speed Slow 0 (omega arith) tt tt (λ x d. d) class
+  start Medium class = at_speed Medium 1 (omega arith) tt tt (λ x d. d) class
+  start Fast class = at_speed Fast 2 (omega arith) tt tt (λ x d. d) class
+  start Synchronous class = at_speed Synchronous 3 (omega arith) tt tt (λ x d. d) class
 
 -- ## Bases
 
@@ -170,6 +186,10 @@ module _ (aim : Aim) (spare : aim.spare < 128) (small : aim.target < 2 ^ 26) whe
   source_small Rom base last fits = record { register = fits; port = omega arith; word = omega (arith, small) }
   source_small Io base last fits = record { register = fits; port = omega (arith, small); word = tt }
   source_small Any base last fits = record { register = fits; port = omega (arith, small); word = tt }
+  source_small Slow base last fits = record { register = fits; port = omega (arith, small); word = tt }
+  source_small Medium base last fits = record { register = fits; port = omega (arith, small); word = tt }
+  source_small Fast base last fits = record { register = fits; port = omega (arith, small); word = tt }
+  source_small Synchronous base last fits = record { register = fits; port = omega (arith, small); word = tt }
 
   transfer_small : (base : Held) (loads_pc : Bool) (last : ℕ) → base.word < 2 ^ 32 → IsSmall (transfer_setting aim base loads_pc last)
   transfer_small base false last fits = register_small base fits

@@ -5,6 +5,7 @@ use Rattle.std.specs.Prelude.{Some, None, Ok, IfSome, if◌then◌else◌}
 use Rattle.bus_ticks.specs.declared.space.TheConstants.{ROM_START, SPACE_END}
 use Rattle.bus_ticks.specs.declared.profile.Class.{Class}
 use Rattle.bus_ticks.specs.declared.profile.Class.TheVariants.{Any, Ram, Rom, Io}
+use Rattle.bus_ticks.specs.declared.profile.Class.TheVariants.{Slow, Medium, Fast, Synchronous}
 use Rattle.bus_ticks.specs.declared.profile.Profile.{Profile}
 use Rattle.bus_ticks.specs.declared.profile.RomTimes.{RomTimes}
 use Rattle.bus_ticks.specs.Dearest.{AreDearest, IsDearestBlock}
@@ -49,12 +50,16 @@ abbrev pub IsPort : Spot → Type 0
 IsPort (spot.Io address) = is_register address ≡ false
 IsPort _ = ⊥
 
--- where a load finds the words of a class: of any class, among the devices
+-- where a load finds the words of a class: of Ram and Rom in memory; of all others, Any too, among the devices
 abbrev pub IsSource : Class → Spot → Type 0
 IsSource Ram place = IsMemory place
 IsSource Rom place = IsMemory place
 IsSource Io place = IsPort place
 IsSource Any place = IsPort place
+IsSource Slow place = IsPort place
+IsSource Medium place = IsPort place
+IsSource Fast place = IsPort place
+IsSource Synchronous place = IsPort place
 
 -- a word's address on the spare page, or one in ROM that is not that of the word that is executed
 abbrev pub IsData : (spare address : ℕ) → ℕ → Type 0
@@ -68,6 +73,10 @@ IsDataOf Ram spare address at = IsData spare address at
 IsDataOf Rom spare address at = IsData spare address at
 IsDataOf Io spare address at = Unit {0}
 IsDataOf Any spare address at = Unit {0}
+IsDataOf Slow spare address at = Unit {0}
+IsDataOf Medium spare address at = Unit {0}
+IsDataOf Fast spare address at = Unit {0}
+IsDataOf Synchronous spare address at = Unit {0}
 
 -- a transfer that starts there costs the most of its class, and with pages of 32 KB each of its words has a
 -- spot; of a load, one from where a word can be loaded
@@ -98,6 +107,10 @@ with_source Ram base last target = record { register = Some base; port = 0; word
 with_source Rom base last target = record { register = Some base; port = 0; word = Some (last, target) }
 with_source Io base last target = record { register = Some base; port = target; word = None }
 with_source Any base last target = record { register = Some base; port = target; word = None }
+with_source Slow base last target = record { register = Some base; port = target; word = None }
+with_source Medium base last target = record { register = Some base; port = target; word = None }
+with_source Fast base last target = record { register = Some base; port = target; word = None }
+with_source Synchronous base last target = record { register = Some base; port = target; word = None }
 
 abbrev pub transfer_setting : Aim → Held → (loads_pc : Bool) → (last : ℕ) → Setting
 transfer_setting aim base loads_pc last =

@@ -13,7 +13,8 @@ ghost use Rattle.flow_graph.specs.Setting.{MayStart, Sets, of_register, rotated,
 use arm2_decode::{Block, DataImmediate, Opcode, Operation, Register, SingleImmediate};
 use arm2_transfer::address_by;
 use bus_ticks::{
-    Class, PHYSICAL_START, Profile, ROM_START, dearest_device, dearest_ram_start, word_address,
+    Class, FAST_START, IO_START, MEDIUM_START, PHYSICAL_START, Profile, ROM_START,
+    SYNCHRONOUS_START, dearest_device, dearest_ram_start, word_address,
 };
 use image::PAGE_BYTES;
 use shifter::rotate_imm;
@@ -83,6 +84,10 @@ fn start(aim: &Aim, load: bool, words: u32) -> u32
         Class::Ram => PHYSICAL_START + aim.spare * PAGE_BYTES + dearest_ram_start(),
         Class::Io => dearest_device(&aim.profile),
         Class::Any => dearest_device(&aim.profile),
+        Class::Slow => IO_START,
+        Class::Medium => MEDIUM_START,
+        Class::Fast => FAST_START,
+        Class::Synchronous => SYNCHRONOUS_START,
         Class::Rom if !load => ROM_START,
         Class::Rom if aim.address < ROM_DATA => ROM_DATA,
         Class::Rom => OTHER_ROM_DATA,
@@ -120,10 +125,11 @@ fn transfer_setting(aim: &Aim, base: Held, loads_pc: bool, last: u32) -> Setting
         return found;
     }
     match aim.class {
-        Class::Io | Class::Any => Setting {
-            port: aim.target,
-            ..found
-        },
+        Class::Io | Class::Any | Class::Slow | Class::Medium | Class::Fast | Class::Synchronous =>
+            Setting {
+                port: aim.target,
+                ..found
+            },
         Class::Ram | Class::Rom => Setting {
             word: Some((last, aim.target)),
             ..found

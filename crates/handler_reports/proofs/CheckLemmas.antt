@@ -16,6 +16,7 @@ use Rattle.cert_check.specs.Verdict.{IsVerdict}
 use Rattle.cert_check.specs.declared.verdict.Verdict.{Verdict}
 use Rattle.cert_check.specs.declared.verdict.Verdict.TheVariants.{Yes}
 use Rattle.cert_check.proofs.OneVerdict.{one_verdict}
+use Rattle.loop_bounds.specs.Handler.{IsTreeOf}
 use Rattle.handler_reports.specs.Found.{FindsVerdict, IsFound}
 use Rattle.handler_reports.specs.Check.{IsCheckRefused, IsCheckable, IsJudged}
 use Rattle.handlers.specs.Answers.{Answers}
@@ -23,7 +24,7 @@ use Rattle.handlers.specs.Faults.{of_cert}
 use Rattle.handlers.specs.Refusal.{refusal_fault, fault_only}
 use Rattle.handlers.specs.declared.refusal.Refusal.{Refusal}
 use Rattle.handlers.proofs.RefusalLemmas.{ends_refused, only_err}
-use Rattle.handlers.specs.Report.{BeforeOutput, HasLoops, IsHandlerRefused, IsReport, IsTreeOf}
+use Rattle.handlers.specs.Report.{BeforeOutput, HasLoops, IsHandlerRefused, IsReport}
 use Rattle.handlers.specs.declared.fault.ReportFault.{ReportFault}
 use Rattle.handlers.specs.declared.fault.ReportFault.TheVariants.{Memory, Device}
 use Rattle.handlers.specs.declared.fault.ReportFault.TheVariants as report_fault

@@ -9,13 +9,14 @@ use Rattle.control_flow.specs.Flow.{Flow, IsWellFormed}
 use Rattle.flow_graph.specs.StepLaw.{RunLaw}
 use Rattle.control_flow.specs.declared.places.Place.TheVariants.{Exit}
 use Rattle.longest_walk.specs.Folded.{unfolded}
+use Rattle.loop_bounds.specs.Handler.{IsTreeOf}
 use Rattle.loop_bounds.specs.Tree.{Tree}
 use Rattle.longest_walk.specs.Longest.{IsLongest, IsWalkFault}
 use Rattle.longest_walk.specs.declared.folded.Longest.{Longest}
 use Rattle.numbered_walks.specs.declared.fault.WalkFault.{WalkFault}
 use Rattle.numbered_walks.specs.declared.fault.WalkFault.TheVariants as walk_fault
 use Rattle.handler_reports.specs.ExplainReport.{IsExplanation, IsTextOf, IsTotal}
-use Rattle.handlers.specs.Report.{BeforeOutput, HasLoops, IsRefused, IsTreeOf}
+use Rattle.handlers.specs.Report.{BeforeOutput, HasLoops, IsRefused}
 use Rattle.handlers.specs.Source.{IsSourceFault}
 use Rattle.sources.specs.Source.{IsSource}
 use Rattle.sources.specs.declared.read.Source.{Source}

@@ -13,6 +13,7 @@ use Rattle.control_flow.specs.Flow.{Flow, IsWellFormed}
 use Rattle.control_flow.specs.Graph.{IsFlowGraph}
 use Rattle.flow_graph.specs.StepLaw.{RunLaw, StepCost}
 use Rattle.loop_bounds.specs.Bounds.{IsGreatestCost}
+use Rattle.loop_bounds.specs.Handler.{IsTreeOf}
 use Rattle.loop_bounds.specs.Tree.{Tree}
 use Rattle.longest_walk.specs.Longest.{IsLongest, IsWalkFault}
 use Rattle.longest_walk.specs.declared.folded.Longest.{Longest}
@@ -30,7 +31,7 @@ use Rattle.handler_reports.specs.FollowReport.{IsFollowRefused, IsFollowReport, 
 use Rattle.handler_reports.specs.FollowWork.{HasAllPlaces, IsJudgedRun, IsFollowedText}
 use Rattle.handlers.specs.Keeping.{KeepsStatement, TakesAtMost}
 use Rattle.handlers.specs.Placing.{IsPlaced, IsRunRefused}
-use Rattle.handlers.specs.Report.{BeforeOutput, HasLoops, IsAccepted, IsRefused, IsTreeOf}
+use Rattle.handlers.specs.Report.{BeforeOutput, HasLoops, IsAccepted, IsRefused}
 use Rattle.sources.specs.Source.{source_of}
 use Rattle.handlers.specs.declared.fault.ReportFault.{ReportFault}
 use Rattle.handlers.specs.declared.fault.ReportFault.TheVariants.{Memory, Source, Image, MachineFile, Load, Device}

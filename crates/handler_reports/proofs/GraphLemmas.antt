@@ -6,6 +6,7 @@ use Rattle.statement.specs.Stated.{Stated}
 use Rattle.control_flow.specs.Flow.{Flow}
 use Rattle.longest_walk.specs.Longest.{IsLongest, IsWalkFault}
 use Rattle.longest_walk.specs.declared.folded.Longest.{Longest}
+use Rattle.loop_bounds.specs.Handler.{IsTreeOf}
 use Rattle.loop_bounds.specs.Tree.{Tree}
 use Rattle.numbered_walks.specs.declared.fault.WalkFault.{WalkFault}
 use Rattle.numbered_walks.specs.declared.fault.WalkFault.TheVariants as walk_fault
@@ -13,7 +14,7 @@ use Rattle.text_graph.specs.Nodes.{HoldEachOnce, LeadToNodes, all_ticks}
 use Rattle.text_graph.specs.Text.{IsDrawing}
 use Rattle.text_graph.specs.Labels.{AreLabels}
 use Rattle.handler_reports.specs.GraphReport.{IsGraphReport}
-use Rattle.handlers.specs.Report.{HasLoops, IsTreeOf}
+use Rattle.handlers.specs.Report.{HasLoops}
 use Rattle.sources.specs.Source.{IsSource}
 use Rattle.sources.specs.declared.read.Source.{Source}
 use Rattle.handlers.proofs.ReportLemmas.{accepted, bounded}

@@ -12,22 +12,25 @@ use Rattle.arm2_exec.specs.State.{State}
 use Rattle.arm2_exec.specs.Step.{address_in}
 use Rattle.arm2_exec.specs.declared.machine.Input.{Input}
 use Rattle.control_flow.specs.Flow.{Flow}
+use Rattle.control_flow.specs.Graph.{IsFlowGraph}
 use Rattle.control_flow.specs.declared.edges.Edge.{Edge}
 use Rattle.loop_bounds.specs.Bounds.{IsGreatestCost}
+use Rattle.loop_bounds.specs.Handler.{IsTreeOf}
 use Rattle.loop_bounds.specs.Tree.{Tree}
+use Rattle.loop_bounds.specs.declared.handler.Handler.{Handler}
 use Rattle.longest_walk.specs.Visits.{visits_bound}
 use Rattle.machine_file.specs.Stated as machine_file
 use Rattle.kept_runs.specs.Keeping.{IsHandler, KeepsTo}
-use Rattle.kept_runs.specs.Visited.{AreVisits, FollowsVisited, Handled, IsKeptVisited, IsStrayedVisited, IsVisit, IsVisitedRun, KeepsBoth, MainStep, Visit, inputs_of, visits_of}
+use Rattle.kept_runs.specs.Visited.{AreVisits, FollowsVisited, Handled, IsKeptVisited, IsStrayedVisited, IsVisit, IsVisitedRun, KeepsBoth, MainStep, Visit, handled, inputs_of, visits_of}
 use Rattle.kept_runs.specs.declared.visited.VisitedRun.{VisitedRun}
 use Rattle.kept_runs.specs.declared.visited.VisitedRun.TheVariants.{Kept, Strayed}
 use Rattle.handler_reports.specs.FollowVisits.{AreBothAccepted, AreFollowable, AreNotFollowed, BoundHandler, IsArrivalText, IsFollowVisitsReport, IsVisitsText, KeepsWithinTotal, NoneKeepsStatements}
-use Rattle.handler_reports.specs.VisitedWork.{IsArrivedRun, IsBoundOf, IsRunElsewhere, IsRunText, IsVisitsJudged, handled_by}
+use Rattle.handler_reports.specs.VisitedWork.{IsArrivedRun, IsBoundOf, IsRunElsewhere, IsRunText, IsVisitsJudged}
 use Rattle.handler_reports.specs.declared.follow_visits.BoundedHandler.{BoundedHandler}
 use Rattle.handlers.specs.FiqHandler.{IsFiqRefused}
 use Rattle.handlers.specs.Keeping.{KeepsStatement, TakesAtMost}
 use Rattle.handlers.specs.Placing.{IsPlaced, IsRunRefused}
-use Rattle.handlers.specs.Report.{BeforeOutput, IsAccepted, IsRefused, IsTreeOf}
+use Rattle.handlers.specs.Report.{BeforeOutput, IsAccepted, IsRefused}
 use Rattle.sources.specs.Source.{source_of}
 use Rattle.handlers.specs.Visits.{KeepsVisited}
 use Rattle.handlers.specs.declared.fault.ReportFault.{ReportFault}
@@ -159,11 +162,34 @@ module _ (source statement fiq machine : List ℕ) (profile : Profile) (words : 
   pub same_prices : fiq_flow.profile ≡ flow.profile
   same_prices = second.loops.graph.graph_is.profile_is ∙ sym profile_is
 
-  pub irq_handler_is : IsHandler words st flow irq.handler.tree
-  irq_handler_is = record { graph_is = own_graph source statement machine profile words names said st flow irq.handler.tree first.loops first.tree; tree_is = first.tree.tree_is }
+  own_words : first.loops.graph.words ≡ words
+  own_words = sym (same_words source statement profile words names st flow said first.loops)
 
-  pub fiq_handler_is : IsHandler words fiq_st fiq_flow other.handler.tree
-  fiq_handler_is = record { graph_is = own_graph source fiq machine profile words names said fiq_st fiq_flow other.handler.tree second.loops second.tree; tree_is = second.tree.tree_is }
+  fiq_words : second.loops.graph.words ≡ words
+  fiq_words = sym (same_words source fiq profile words names fiq_st fiq_flow said second.loops)
+
+  -- the images are of the words that the source says
+  irq_image : irq.handler.image.now ≡ words
+  irq_image = first.image ∙ own_words
+
+  fiq_image : other.handler.image.now ≡ words
+  fiq_image = second.image ∙ fiq_words
+
+  pub irq_handler_is : IsHandler irq.handler.image.now st flow irq.handler.tree
+  irq_handler_is = record {
+    graph_is =
+        subst (λ (w : Words). IsFlowGraph w st flow.profile flow) (sym irq_image)
+        (own_graph source statement machine profile words names said st flow irq.handler.tree first.loops first.tree);
+    tree_is = first.tree.tree_is;
+  }
+
+  pub fiq_handler_is : IsHandler other.handler.image.now fiq_st fiq_flow other.handler.tree
+  fiq_handler_is = record {
+    graph_is =
+        subst (λ (w : Words). IsFlowGraph w fiq_st fiq_flow.profile fiq_flow) (sym fiq_image)
+        (own_graph source fiq machine profile words names said fiq_st fiq_flow other.handler.tree second.loops second.tree);
+    tree_is = second.tree.tree_is;
+  }
 
   pub fiq_bound_small : other.bound < 2 ^ 63
   fiq_bound_small = subst (λ (n : ℕ). n < 2 ^ 63) (sym second.bound_is) (bound_is_allowed fiq_flow other.handler.tree second.longest second.longest_is)
@@ -177,6 +203,9 @@ module _ (source statement fiq machine : List ℕ) (profile : Profile) (words : 
   fiq_greatest = subst (IsGreatestCost fiq_flow fiq_st.loops) (sym second.bound_is) (tree_is_greatest fiq_flow fiq_st.loops other.handler.tree second.tree.instances second.longest.bound second.longest_is.greatest)
 
   -- both handlers, by words and bounds that may be other names of theirs
+  abbrev handled_by : Words → Handler → Handled
+  handled_by w h = record { words = w; stated = h.statement; flow = h.graph; tree = h.tree }
+
   abbrev side : Words → ℕ → BoundHandler
   side w n = record { handled = handled_by w irq.handler; bound = n }
 
@@ -220,15 +249,15 @@ module _ (source statement fiq machine : List ℕ) (profile : Profile) (words : 
     before = a.before;
     now = a.now;
     arrives = a.arrives;
-    is_text = visits_said a.before a.now (drop a.before inputs) a.run a.after kept text a.judged a.is_text;
+    is_text =
+        let rest = drop a.before inputs in
+        let by_irq : IsVisitedRun (handled_by words irq.handler) (handled other.handler) a.now rest a.after a.run =
+        subst (λ (w : Words). IsVisitedRun (handled_by w irq.handler) (handled other.handler) a.now rest a.after a.run) irq_image a.judged in
+        let judged : IsVisitedRun (handled_by words irq.handler) (handled_by words other.handler) a.now rest a.after a.run =
+        subst (λ (w : Words). IsVisitedRun (handled_by words irq.handler) (handled_by w other.handler) a.now rest a.after a.run) fiq_image by_irq in
+        visits_said a.before a.now rest a.run a.after kept text judged a.is_text;
   })
   arrival_said s inputs kept text (inr e) = inr (record { never = e.never; kept_is = e.kept_is; text_is = e.text_is })
-
-  own_words : first.loops.graph.words ≡ words
-  own_words = sym (same_words source statement profile words names st flow said first.loops)
-
-  fiq_words : second.loops.graph.words ≡ words
-  fiq_words = sym (same_words source fiq profile words names fiq_st fiq_flow said second.loops)
 
   pub visits_reported : other.handler.statement.entry ≡ 0x1C → (file : machine_file.Stated) (state : State) (kept : Bool) (text : List ℕ) → IsPlaced source machine profile file state
       → IsVisitsJudged source words profile irq other file state kept text → IsFollowVisitsReport source statement fiq machine profile kept text

@@ -4,6 +4,7 @@ use Rattle.bus_ticks.specs.declared.profile.Profile.{Profile}
 use Rattle.control_flow.specs.Flow.{Flow}
 use Rattle.statement.specs.Stated.{Stated}
 use Rattle.loop_bounds.specs.Bounds.{IsGreatestCost}
+use Rattle.loop_bounds.specs.Handler.{IsTreeOf}
 use Rattle.loop_bounds.specs.Tree.{Tree}
 use Rattle.certificate.specs.Faults.{EndsEarly, GoesOn, HasBadLine}
 use Rattle.certificate.specs.Lines.{CanSpell, Said, cert_text, said_by}
@@ -16,7 +17,7 @@ use Rattle.cert_check.specs.declared.verdict.Objection.TheVariants as o
 use Rattle.cert_check.specs.declared.verdict.Verdict.{Verdict}
 use Rattle.cert_check.specs.declared.verdict.Verdict.TheVariants.{Yes, No}
 use Rattle.handlers.specs.Answers.{Answers}
-use Rattle.handlers.specs.Report.{HasLoops, IsHandlerRefused, IsTreeOf}
+use Rattle.handlers.specs.Report.{HasLoops, IsHandlerRefused}
 use Rattle.handlers.specs.declared.fault.ReportFault.{ReportFault}
 use Rattle.handlers.specs.declared.fault.ReportFault.TheVariants as report_fault
 

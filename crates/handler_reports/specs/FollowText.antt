@@ -2,7 +2,9 @@
 use Rattle.std.specs.Prelude.{◌≡◌, ℕ, ◌+◌, ◌-◌, Bool, true, false, if◌then◌else◌}
 use Rattle.std.specs.Prelude.{nat_eq, List, [], ◌++◌, codes, decimal}
 use Rattle.std.specs.Prelude.{Contains, MatchOption, Option, Some, None, option_map}
-use Rattle.bus_ticks.specs.Prices.{class_of}
+use Rattle.bus_ticks.specs.Prices.{class_of, narrowest_class}
+use Rattle.bus_ticks.specs.declared.profile.Class.TheVariants.{Any, Ram, Rom, Io}
+use Rattle.bus_ticks.specs.declared.profile.Class.TheVariants.{Slow, Medium, Fast, Synchronous}
 use Rattle.bus_ticks.specs.declared.profile.Class.{Class}
 use Rattle.asm_text.specs.Hex.{hex}
 use Rattle.statement.specs.Stated.{Stated, class_at}
@@ -42,13 +44,24 @@ abbrev pub access_name : (store : Bool) → List ℕ
 access_name true = codes "stored to "
 access_name false = codes "loaded from "
 
+-- the class of an address, with its speed where a speed is stated
+abbrev pub class_shown : (stated : Class) → ℕ → Class
+class_shown Ram a = class_of a
+class_shown Rom a = class_of a
+class_shown Io a = class_of a
+class_shown Any a = class_of a
+class_shown Slow a = narrowest_class a
+class_shown Medium a = narrowest_class a
+class_shown Fast a = narrowest_class a
+class_shown Synchronous a = narrowest_class a
+
 -- which word is transferred, of which class, and the class that is stated
 abbrev pub access_text : Class → Access → List ℕ
 access_text stated a =
     access_name a.store
     ++ (hex a.address
     ++ (codes ", "
-    ++ (class_name (class_of a.address) ++ (codes "; " ++ (class_name stated ++ codes " is stated")))))
+    ++ (class_name (class_shown stated a.address) ++ (codes "; " ++ (class_name stated ++ codes " is stated")))))
 
 -- of a word for which this class is stated
 abbrev pub stray_text : Class → Stray → List ℕ

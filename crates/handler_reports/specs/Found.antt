@@ -5,6 +5,7 @@ use Rattle.walks.specs.Greatest.{IsGreatest}
 use Rattle.control_flow.specs.Flow.{Flow, HasEdge, IsWellFormed, edge_shape}
 use Rattle.control_flow.specs.declared.places.Place.TheVariants.{Exit}
 use Rattle.statement.specs.Stated.{Stated}
+use Rattle.loop_bounds.specs.Handler.{IsTreeOf}
 use Rattle.loop_bounds.specs.Tree.{Tree}
 use Rattle.longest_walk.specs.Longest.{KeepsTree}
 use Rattle.certificate.specs.Lines.{CanSpell, cert_text, said_by}
@@ -14,7 +15,7 @@ use Rattle.cert_check.specs.Verdict.{IsVerdict, objections}
 use Rattle.cert_check.specs.declared.failing.FailingRow.{FailingRow}
 use Rattle.cert_check.specs.declared.verdict.Verdict.{Verdict}
 use Rattle.cert_check.specs.declared.verdict.Verdict.TheVariants.{Yes}
-use Rattle.handlers.specs.Report.{HasLoops, IsTreeOf}
+use Rattle.handlers.specs.Report.{HasLoops}
 
 -- a finding on a graph, the tree of its loops and a certificate
 abbrev pub Finds : Type 0 → Type 1

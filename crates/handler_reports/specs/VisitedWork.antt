@@ -13,7 +13,7 @@ use Rattle.numbered_walks.specs.declared.fault.WalkFault.TheVariants as walk_fau
 use Rattle.machine_file.specs.Inputs.{AreInputs}
 use Rattle.machine_file.specs.Stated as machine_file
 use Rattle.kept_runs.specs.Arriving.{ArrivesAfter, NeverArrives}
-use Rattle.kept_runs.specs.Visited.{Handled, IsVisitedRun}
+use Rattle.kept_runs.specs.Visited.{IsVisitedRun, handled}
 use Rattle.kept_runs.specs.declared.visited.VisitedRun.{VisitedRun}
 use Rattle.kept_runs.specs.declared.visited.VisitedRun.TheVariants.{Kept, Strayed}
 use Rattle.handler_reports.specs.FollowText.{IsLeftText, IsLineNumberAt, strayed_text}
@@ -21,23 +21,20 @@ use Rattle.handler_reports.specs.FollowVisits.{AreNotFollowed, IsFollowVisitsRep
 use Rattle.handler_reports.specs.VisitedText.{kept_visits_text, never_text, visit_why_text}
 use Rattle.handler_reports.specs.declared.follow_visits.BoundedHandler.{BoundedHandler}
 use Rattle.handler_reports.specs.declared.follow_visits.FollowedVisits.{FollowedVisits}
-use Rattle.handlers.specs.Report.{HasItsTree, HasLoops}
-use Rattle.handlers.specs.declared.handler.Handler.{Handler}
+use Rattle.handlers.specs.Report.{HasLoops}
+use Rattle.loop_bounds.specs.Handler.{HasItsTree}
 use Rattle.handlers.specs.declared.fault.ReportFault.{ReportFault}
 
 -- the handler of a source and a statement, and its bound
 pub record IsBoundOf (source statement : List ℕ) (profile : Profile) (b : BoundedHandler) : Type 0 where
   pub loops : HasLoops source statement profile b.handler.statement b.handler.graph
+  pub image : b.handler.image.now ≡ loops.graph.words
   pub tree : HasItsTree b.handler
   pub longest : Longest
   pub longest_is : IsLongest b.handler.graph b.handler.tree longest
   pub allowed : (fault : WalkFault) → fault ≢ walk_fault.Memory
       → IsWalkFault b.handler.graph b.handler.tree fault → ⊥
   pub bound_is : b.bound ≡ longest.bound
-
--- a handler, by the words of its source
-abbrev pub handled_by : Words → Handler → Handled
-handled_by words h = record { words = words; stated = h.statement; flow = h.graph; tree = h.tree }
 
 -- the answer on a judged run: so many steps come before the entry, and the machine is at the address after it
 abbrev pub IsRunText : (source : List ℕ) → Words → Profile → (irq fiq : BoundedHandler) → (before after : ℕ)
@@ -61,8 +58,7 @@ pub record IsArrivedRun (source : List ℕ) (words : Words) (profile : Profile) 
   pub arrives : ArrivesAfter irq.handler.statement.entry s inputs before now
   pub after : State
   pub run : VisitedRun
-  pub judged : IsVisitedRun (handled_by words irq.handler) (handled_by words fiq.handler) now
-      (drop before inputs) after run
+  pub judged : IsVisitedRun (handled irq.handler) (handled fiq.handler) now (drop before inputs) after run
   pub is_text : IsRunText source words profile irq fiq before (address_in after.regs) run kept text
 
 -- it never comes to the entry

@@ -1,11 +1,12 @@
 ghost use Rattle.std.specs.Prelude.{◌≡◌, ◌≢◌, ◌⊎◌, ◌∷◌, [], ℕ, List, Err, IfErr, IfOk, OnOk};
+ghost use Rattle.loop_bounds.specs.Handler.{HasItsTree};
 ghost use Rattle.handler_reports.specs.Bound.{AreAcceptedBy, AreRefusedBy, IsReportBy, Reports, given};
 ghost use Rattle.certificate.specs.Lines.{cert_text, said_of};
 ghost use Rattle.handlers.specs.Answers.{FailsWithin, Prints};
 ghost use Rattle.handlers.specs.Priced.{Priced};
 ghost use Rattle.handlers.specs.Refusal.{Carries, CarriesRead, CarriesReadBy, ComesAlone, fault_only};
 ghost use Rattle.handlers.specs.Refusal.{stop_fault};
-ghost use Rattle.handlers.specs.Report.{BeforeOutput, HasItsTree, IsAccepted, IsBoundReport};
+ghost use Rattle.handlers.specs.Report.{BeforeOutput, IsAccepted, IsBoundReport};
 ghost use Rattle.handlers.specs.Report.{IsRefused, IsReport, OfHandler};
 ghost use Rattle.sources.specs.Source.{Says};
 
@@ -24,7 +25,7 @@ use sources::Source;
 use std::alloc::Global;
 
 // The greatest walk of a handler that was read, whose certificate is judged yes.
-fn certified_longest(alloc: Global, handler: &Handler) -> Result<Longest, ReportFault>
+fn certified_longest(alloc: Global, handler: &Handler<'_>) -> Result<Longest, ReportFault>
     requires { HasItsTree handler.now }
     ensures report { OfHandler handler.now
         (λ source statement profile. IfOk result
@@ -55,7 +56,7 @@ pub struct BoundReport {
 /// # Errors
 ///
 /// Those of [`longest_of`].
-pub fn longest_report(alloc: Global, handler: &Handler) -> Result<BoundReport, ReportFault>
+pub fn longest_report(alloc: Global, handler: &Handler<'_>) -> Result<BoundReport, ReportFault>
     requires { HasItsTree handler.now }
     ensures report { OfHandler handler.now
         (λ source statement profile. IfOk result

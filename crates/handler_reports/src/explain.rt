@@ -3,12 +3,13 @@
 ghost use Rattle.std.specs.Prelude.{◌≡◌, ◌∷◌, [], ℕ, List, IfErr, IfOk};
 ghost use Rattle.bus_ticks.specs.declared.profile.Profile.{Profile};
 ghost use Rattle.text_explained.specs.Starts.{latest_at};
+ghost use Rattle.loop_bounds.specs.Handler.{HasItsTree};
 ghost use Rattle.handler_reports.specs.Bound.{given};
 ghost use Rattle.handler_reports.specs.ExplainReport.{Explains, IsExplanation, IsTextOf, is_enough};
 ghost use Rattle.handlers.specs.Priced.{Priced};
 ghost use Rattle.handlers.specs.Refusal.{Carries, CarriesRead, CarriesReadBy, ComesAlone, fault_only};
 ghost use Rattle.handlers.specs.Refusal.{stop_fault};
-ghost use Rattle.handlers.specs.Report.{BeforeOutput, HasItsTree, HasLoops, IsRefused};
+ghost use Rattle.handlers.specs.Report.{BeforeOutput, HasLoops, IsRefused};
 ghost use Rattle.sources.specs.Source.{IsSource, Says};
 
 use bus_ticks::Profile;
@@ -23,7 +24,7 @@ use outputs::Output;
 use sources::Source;
 use std::alloc::{AllocError, Global};
 use text_explained::{
-    Bursts, StatedGraph, TimedWalk, assumed_text, burst_lines, cost_table, idle_entries,
+    Bursts, TimedWalk, assumed_text, burst_lines, cost_table, idle_entries,
     latest_starts_are_of_walks, places_are_listed_once, totals_are_the_bound,
 };
 use text_savings::savings_text;
@@ -69,22 +70,23 @@ fn is_enough(at_most: Option<u64>, bound: u64) -> bool
 // The explanation by a greatest walk.
 fn text_of(
     alloc: Global,
-    stated: StatedGraph<'_>,
+    read: &Source<'_>,
+    handler: &Handler<'_>,
     walk: BurstWalk<'_, '_>,
 ) -> Result<Vec<u8>, AllocError>
+    requires { handler.now.image.now ≡ read.now.image }
     ensures { IfOk result
-        (λ text. IsTextOf stated.entry.source.now stated.entry.statement.now stated.entry.graph.now
-        walk.entry.timed.longest.now
-        (latest_at stated.entry.graph.now.places walk.entry.timed.starts.now)
-        walk.entry.profile.now.burst walk.entry.bursts text.items) }
+        (λ text. IsTextOf read.now handler.now.statement handler.now.graph walk.entry.timed.longest.now
+        (latest_at handler.now.graph.places walk.entry.timed.starts.now) walk.entry.profile.now.burst
+        walk.entry.bursts text.items) }
 {
-    let mut text = cost_table(alloc, stated, walk.timed)?;
+    let mut text = cost_table(alloc, read, handler, walk.timed)?;
     let mut rest = burst_lines(alloc, walk.profile, walk.timed.longest.bound, walk.bursts)?;
-    let assumptions = assumed_text(alloc, stated)?;
+    let assumptions = assumed_text(alloc, read, handler)?;
     rest.extend_from_slice(&assumptions)?;
-    let idle = idle_entries(alloc, stated)?;
+    let idle = idle_entries(alloc, handler)?;
     rest.extend_from_slice(&idle)?;
-    let saved = savings_text(alloc, stated, walk.timed.longest)?;
+    let saved = savings_text(alloc, read, handler, walk.timed.longest)?;
     rest.extend_from_slice(&saved)?;
     text.extend_from_slice(&rest)?;
     Ok(text)
@@ -96,9 +98,10 @@ fn explanation_of(
     read: &Source<'_>,
     bursts: Bursts,
     profile: &Profile,
-    handler: &Handler,
+    handler: &Handler<'_>,
 ) -> Result<Explanation, ReportFault>
-    requires { HasItsTree handler.now }
+    requires image { handler.now.image.now ≡ read.now.image }
+    requires tree { HasItsTree handler.now }
     ensures explains { (source statement : List ℕ) → IsSource source read.now
         → HasLoops source statement profile.now handler.now.statement handler.now.graph
         → IfOk result (λ e. IsExplanation source statement bursts profile.now e.bound e.text.items) }
@@ -114,11 +117,6 @@ fn explanation_of(
     totals_are_the_bound();
     latest_starts_are_of_walks();
     run_law();
-    let stated = StatedGraph {
-        source: read,
-        statement: &handler.statement,
-        graph: &handler.graph,
-    };
     let walk = BurstWalk {
         timed: TimedWalk {
             longest: &found,
@@ -127,7 +125,7 @@ fn explanation_of(
         profile,
         bursts,
     };
-    let text = text_of(alloc, stated, walk)?;
+    let text = text_of(alloc, read, handler, walk)?;
     Ok(Explanation {
         bound: found.bound,
         text,

@@ -3,11 +3,12 @@
 ghost use Rattle.std.specs.Prelude.{◌≡◌, ◌∷◌, [], List, ℕ, Option, IfErr, IfOk};
 ghost use Rattle.bus_ticks.specs.declared.profile.Profile.{Profile};
 ghost use Rattle.cert_check.specs.Columns.{Ascends};
+ghost use Rattle.loop_bounds.specs.Handler.{HasItsTree};
 ghost use Rattle.loop_bounds.specs.Tree.{IsTree};
 ghost use Rattle.handler_reports.specs.Check.{IsCheckRefused, IsCheckable};
 ghost use Rattle.handler_reports.specs.Found.{Finds, FindsRow, FindsVerdict, IsFound};
 ghost use Rattle.handlers.specs.Refusal.{ComesAlone, Carries, CarriesRead, stop_fault, fault_only};
-ghost use Rattle.handlers.specs.Report.{BeforeOutput, HasItsTree, OfHandler};
+ghost use Rattle.handlers.specs.Report.{BeforeOutput, OfHandler};
 ghost use Rattle.sources.specs.Source.{Says};
 
 use crate::check::CheckInputs;
@@ -59,7 +60,7 @@ impl Finding for Option<FailingRow> {
 }
 
 // What is found of a certificate by a handler.
-fn found_on<F: Finding>(alloc: Global, handler: &Handler, cert: &[u8]) -> Result<F, ReportFault>
+fn found_on<F: Finding>(alloc: Global, handler: &Handler<'_>, cert: &[u8]) -> Result<F, ReportFault>
     requires { HasItsTree handler.now }
     ensures found { OfHandler handler.now
         (λ source statement profile. IfOk result (IsFound F.says source statement cert.now profile)) }

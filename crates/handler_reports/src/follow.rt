@@ -5,6 +5,7 @@ ghost use Rattle.control_flow.specs.Graph.{IsFlowGraph};
 ghost use Rattle.kept_runs.specs.Judging.{IsMachineFor};
 ghost use Rattle.longest_walk.specs.Longest.{IsLongest};
 ghost use Rattle.loop_bounds.specs.Bounds.{IsGreatestCost};
+ghost use Rattle.loop_bounds.specs.Handler.{HasItsTree};
 ghost use Rattle.handler_reports.specs.FollowReport.{FollowsRun};
 ghost use Rattle.handler_reports.specs.FollowText.{IsLineNumberAt, strayed_text, why_text};
 ghost use Rattle.handler_reports.specs.FollowWork.{HasAllPlaces, IsJudgedRun, IsRefusalOf, IsReportOn};
@@ -13,7 +14,7 @@ ghost use Rattle.handlers.specs.Priced.{Priced};
 ghost use Rattle.handlers.specs.Refusal.{Carries, CarriesRead, CarriesReadBy, ComesAlone, fault_only};
 ghost use Rattle.handlers.specs.Refusal.{stop_fault};
 ghost use Rattle.handler_reports.specs.Bound.{given};
-ghost use Rattle.handlers.specs.Report.{BeforeOutput, HasItsTree, HasLoops};
+ghost use Rattle.handlers.specs.Report.{BeforeOutput, HasLoops};
 ghost use Rattle.sources.specs.Source.{IsSource};
 
 use crate::differences::differences;
@@ -26,13 +27,12 @@ use handlers::{
     Handler, Placed, Refusal, ReportFault, Stop, longest_of, place_image, print_or_refuse,
     profile_of, read_handler, read_source, with_source,
 };
-use kept_runs::{AcceptedHandler, Followed, Passed, Unkept, follow};
+use kept_runs::{Followed, Passed, Unkept, follow};
 use longest_walk::Longest;
 use machine_file::MachineFile;
 use outputs::Output;
 use sources::Source;
 use std::alloc::{AllocError, Global};
-use text_explained::StatedGraph;
 
 /// A handler, and a machine whose run through it is judged.
 #[derive(Clone, Copy)]
@@ -57,7 +57,7 @@ pub(crate) struct Judged {
 struct Bounded<'a> {
     source: &'a [u8],
     read: &'a Source<'a>,
-    handler: &'a Handler,
+    handler: &'a Handler<'a>,
     longest: &'a Longest,
 }
 
@@ -70,22 +70,18 @@ fn kept_run(
     by_place: &[Passed],
 ) -> Result<Vec<u8>, AllocError>
     requires read { IsSource bounded.source.now bounded.read.now }
+    requires image { bounded.handler.now.image.now ≡ bounded.read.now.image }
     requires places { length by_place.now ≡ length bounded.handler.now.graph.places }
     ensures { IfOk result
         (λ text. IsTallyText bounded.entry.source.now bounded.entry.read.now.image
         bounded.entry.handler.now.statement bounded.entry.handler.now.graph bounded.entry.longest.now at
         ticks by_place.now text.items) }
 {
-    let stated = StatedGraph {
-        source: bounded.read,
-        statement: &bounded.handler.statement,
-        graph: &bounded.handler.graph,
-    };
-    let warned = warnings(alloc, stated, by_place)?;
+    let warned = warnings(alloc, bounded.read, bounded.handler, by_place)?;
     let table = differences(
         alloc,
         bounded.read,
-        stated.graph,
+        &bounded.handler.graph,
         by_place,
         &bounded.longest.walk,
     )?;
@@ -125,6 +121,7 @@ fn judgement(
     followed: &Followed,
 ) -> Result<Judged, AllocError>
     requires read { IsSource bounded.source.now bounded.read.now }
+    requires image { bounded.handler.now.image.now ≡ bounded.read.now.image }
     requires places { HasAllPlaces bounded.handler.now.graph followed.now }
     ensures { IfOk result
         (λ j. IsFollowedText bounded.entry.source.now bounded.entry.read.now.image
@@ -154,6 +151,7 @@ fn judged_run(
     placed: &mut Placed,
 ) -> Result<Judged, ReportFault>
     requires read { IsSource bounded.source.now bounded.read.now }
+    requires image { bounded.handler.now.image.now ≡ bounded.read.now.image }
     requires graph { IsFlowGraph bounded.read.now.image bounded.handler.now.statement
         bounded.handler.now.graph.profile bounded.handler.now.graph }
     requires tree { HasItsTree bounded.handler.now }
@@ -168,16 +166,10 @@ fn judged_run(
     ensures fault { IfErr result (λ e. e ≡ ReportFault.Memory) }
 {
     let inputs = placed.file.inputs(alloc)?;
-    let handler = AcceptedHandler {
-        image: &bounded.read.image,
-        statement: &bounded.handler.statement,
-        graph: &bounded.handler.graph,
-        tree: &bounded.handler.tree,
-    };
     run_law();
     step_law();
     graphs_are_well_formed(&bounded.handler.graph);
-    let followed = follow(alloc, handler, &mut placed.machine, &inputs)?;
+    let followed = follow(alloc, bounded.handler, &mut placed.machine, &inputs)?;
     let after = placed.machine.address();
     Ok(judgement(alloc, bounded, after, &followed)?)
 }
@@ -194,10 +186,11 @@ fn handler_run(
     alloc: Global,
     run: FollowedRun<'_>,
     said: &Source<'_>,
-    handler: &Handler,
+    handler: &Handler<'_>,
     profile: &Profile,
 ) -> Result<Judged, ReportFault>
     requires said { IsSource run.source.now said.now }
+    requires image { handler.now.image.now ≡ said.now.image }
     requires loops { HasLoops run.source.now run.statement.now profile.now handler.now.statement
         handler.now.graph }
     requires tree { HasItsTree handler.now }

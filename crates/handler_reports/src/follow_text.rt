@@ -2,12 +2,12 @@
 
 ghost use Rattle.std.specs.Prelude.{◌≡◌, ℕ, List, IfOk, string_bytes};
 ghost use Rattle.handler_reports.specs.FollowText.{IsLeftText, IsLineNumberAt, access_name, access_text};
-ghost use Rattle.handler_reports.specs.FollowText.{kept_text, left_line, less_text, line_text};
+ghost use Rattle.handler_reports.specs.FollowText.{class_shown, kept_text, left_line, less_text, line_text};
 ghost use Rattle.handler_reports.specs.FollowText.{stray_text, strayed_text, times_text, turned_text};
 ghost use Rattle.handler_reports.specs.FollowText.{why_text};
 ghost use Rattle.sources.specs.Source.{IsSource};
 
-use bus_ticks::{Class, class_of};
+use bus_ticks::{Class, class_of, narrowest_class};
 use kept_runs::{Access, Stray, Unkept};
 use sources::Source;
 use statement::{Statement, class_name};
@@ -44,12 +44,22 @@ fn access_name(store: bool) -> &'static str
     if store { "stored to " } else { "loaded from " }
 }
 
+// The class of an address, by its speed where one is stated.
+fn class_shown(stated: Class, address: u32) -> Class
+    ensures { result ≡ class_shown stated address }
+{
+    match stated {
+        Class::Ram | Class::Rom | Class::Io | Class::Any => class_of(address),
+        Class::Slow | Class::Medium | Class::Fast | Class::Synchronous => narrowest_class(address),
+    }
+}
+
 fn access_text(alloc: Global, stated: Class, access: Access) -> Result<String, AllocError>
     ensures { IfOk result (λ text. string_bytes text ≡ access_text stated access) }
 {
     let name = access_name(access.store);
     let address = access.address;
-    let class = class_name(class_of(address));
+    let class = class_name(class_shown(stated, address));
     let stated = class_name(stated);
     format!(in alloc; "{name}{address:X}, {class}; {stated} is stated")
 }

@@ -26,10 +26,7 @@ use handlers::{
     Handler, Placed, Refusal, ReportFault, Stop, fiq_handler, longest_of, place_image,
     print_or_refuse, profile_of, read_handler, read_source, with_source,
 };
-use image::Image;
-use kept_runs::{
-    AcceptedHandler, VisitUnkept, VisitedHandlers, VisitedRun, arrive, follow_visited,
-};
+use kept_runs::{VisitUnkept, VisitedHandlers, VisitedRun, arrive, follow_visited};
 use outputs::Output;
 use sources::Source;
 use std::alloc::{AllocError, Global};
@@ -49,8 +46,8 @@ pub struct FollowedVisits<'a> {
 
 // A handler that was read, and its bound, in ticks.
 #[derive(Drop)]
-struct BoundedHandler {
-    handler: Handler,
+struct BoundedHandler<'s> {
+    handler: Handler<'s>,
     bound: u64,
 }
 
@@ -59,8 +56,8 @@ struct BoundedHandler {
 struct Both<'a> {
     source: &'a [u8],
     read: &'a Source<'a>,
-    irq: &'a BoundedHandler,
-    fiq: &'a BoundedHandler,
+    irq: &'a BoundedHandler<'a>,
+    fiq: &'a BoundedHandler<'a>,
 }
 
 // How a run came out: its steps before the entry, what it did from there on, and the address, in bytes, where
@@ -73,12 +70,12 @@ struct Outcome {
 }
 
 // The handler that FIQ interrupts.
-fn irq_bounded<'a>(
+fn irq_bounded<'s, 'a>(
     alloc: Global,
-    said: &Source<'_>,
+    said: &'s Source<'_>,
     statement: &'a [u8],
     profile: &Profile,
-) -> Result<BoundedHandler, Stop<'a>>
+) -> Result<BoundedHandler<'s>, Stop<'a>>
     ensures is { (source : List ℕ) → Says source said.now
         → IfOk result (IsBoundOf source statement.now profile.now) }
     ensures fault { (source : List ℕ) → Says source said.now
@@ -92,12 +89,12 @@ fn irq_bounded<'a>(
 }
 
 // FIQ's handler.
-fn fiq_bounded<'a>(
+fn fiq_bounded<'s, 'a>(
     alloc: Global,
-    said: &Source<'_>,
+    said: &'s Source<'_>,
     statement: &'a [u8],
     profile: &Profile,
-) -> Result<BoundedHandler, Stop<'a>>
+) -> Result<BoundedHandler<'s>, Stop<'a>>
     ensures is { (source : List ℕ) → Says source said.now
         → IfOk result (IsBoundOf source statement.now profile.now) }
     ensures entry { IfOk result (λ b. b.handler.statement.entry ≡ FIQ_VECTOR) }
@@ -118,20 +115,6 @@ fn visits_total(profile: &Profile, irq: u64, fiq: u64, visits: u64) -> u128
 {
     let visit = u128::from(fiq) + u128::from(fiq_entry(profile));
     u128::from(irq) + u128::from(visits) * visit
-}
-
-fn accepted<'a>(image: &'a Image, handler: &'a Handler) -> AcceptedHandler<'a>
-    ensures image { result.image.now ≡ image.now }
-    ensures statement { result.statement.now ≡ handler.now.statement }
-    ensures graph { result.graph.now ≡ handler.now.graph }
-    ensures tree { result.tree.now ≡ handler.now.tree }
-{
-    AcceptedHandler {
-        image,
-        statement: &handler.statement,
-        graph: &handler.graph,
-        tree: &handler.tree,
-    }
 }
 
 // The answer on a run whose step after so many strays.
@@ -220,10 +203,10 @@ fn visits_judged(
     placed: &mut Placed,
 ) -> Result<Judged, ReportFault>
     requires read { IsSource both.source.now both.read.now }
-    requires irq { IsHandler both.read.now.image both.irq.now.handler.statement both.irq.now.handler.graph
-        both.irq.now.handler.tree }
-    requires fiq { IsHandler both.read.now.image both.fiq.now.handler.statement both.fiq.now.handler.graph
-        both.fiq.now.handler.tree }
+    requires irq { IsHandler both.irq.now.handler.image.now both.irq.now.handler.statement
+        both.irq.now.handler.graph both.irq.now.handler.tree }
+    requires fiq { IsHandler both.fiq.now.handler.image.now both.fiq.now.handler.statement
+        both.fiq.now.handler.graph both.fiq.now.handler.tree }
     requires prices { both.fiq.now.handler.graph.profile ≡ both.irq.now.handler.graph.profile }
     requires machine { IsMachineFor both.irq.now.handler.graph placed.old.machine }
     requires small { both.fiq.now.bound < 2 ^ 63 }
@@ -238,8 +221,8 @@ fn visits_judged(
         return Ok(never_answer(alloc, entry)?);
     };
     let handlers = VisitedHandlers {
-        irq: accepted(&both.read.image, &both.irq.handler),
-        fiq: accepted(&both.read.image, &both.fiq.handler),
+        irq: &both.irq.handler,
+        fiq: &both.fiq.handler,
     };
     let run = follow_visited(alloc, handlers, &mut placed.machine, &inputs[before..])?;
     let after = placed.machine.address();

@@ -2,12 +2,13 @@
 
 ghost use Rattle.std.specs.Prelude.{◌∷◌, [], ℕ, List, IfErr, IfOk};
 ghost use Rattle.bus_ticks.specs.declared.profile.Profile.{Profile};
+ghost use Rattle.loop_bounds.specs.Handler.{HasItsTree};
 ghost use Rattle.handler_reports.specs.Bound.{given};
 ghost use Rattle.handler_reports.specs.GraphReport.{Draws, IsGraphReport};
 ghost use Rattle.handlers.specs.Priced.{Priced};
 ghost use Rattle.handlers.specs.Refusal.{Carries, CarriesRead, CarriesReadBy, ComesAlone, fault_only};
 ghost use Rattle.handlers.specs.Refusal.{stop_fault};
-ghost use Rattle.handlers.specs.Report.{BeforeOutput, HasItsTree, HasLoops, IsRefused, OfHandler};
+ghost use Rattle.handlers.specs.Report.{BeforeOutput, HasLoops, IsRefused, OfHandler};
 ghost use Rattle.sources.specs.Source.{IsSource, Says};
 
 use bus_ticks::Profile;
@@ -22,7 +23,11 @@ use std::alloc::Global;
 use text_graph::{drawing, node_ticks_are_the_bound, place_labels, places_are_drawn_once};
 
 // The drawing of a handler that was read, with its source.
-fn drawing_of(alloc: Global, read: &Source<'_>, handler: &Handler) -> Result<Vec<u8>, ReportFault>
+fn drawing_of(
+    alloc: Global,
+    read: &Source<'_>,
+    handler: &Handler<'_>,
+) -> Result<Vec<u8>, ReportFault>
     requires { HasItsTree handler.now }
     ensures draws { (source statement : List ℕ) (profile : Profile)
         → IsSource source read.now

@@ -31,7 +31,14 @@ use outputs::Output;
 use sources::Source;
 use statement::Statement;
 use std::alloc::{AllocError, Global};
-use text_explained::StatedGraph;
+
+// The flow graph of a source's words by a statement. No `Handler`, as the loops may be refused.
+#[derive(Clone, Copy)]
+struct StatedGraph<'a> {
+    source: &'a Source<'a>,
+    statement: &'a Statement,
+    graph: &'a Graph,
+}
 
 // The edge of a number, in the order of the graph's edges.
 fn edge_at(graph: &Graph, number: u32) -> Option<&Edge>

@@ -9,10 +9,12 @@ ghost use Rattle.handler_reports.specs.FollowWork.{HasDone, NotesDone};
 ghost use Rattle.sources.specs.Source.{IsSource};
 
 use control_flow::{Graph, Place};
+use handlers::Handler;
 use kept_runs::Passed;
+use sources::Source;
 use std::alloc::{AllocError, Global};
 use std::collections::BTreeSet;
-use text_explained::{StatedGraph, done_text};
+use text_explained::done_text;
 
 // Adds the address of the place, if some of the steps there do its word.
 fn note(done: &mut BTreeSet<u32>, place: &Place, passed: Passed) -> Result<(), AllocError>
@@ -50,16 +52,18 @@ fn done_words(
 /// run does none of them.
 pub(crate) fn warnings(
     alloc: Global,
-    stated: StatedGraph<'_>,
+    read: &Source<'_>,
+    handler: &Handler<'_>,
     by_place: &[Passed],
 ) -> Result<Vec<u8>, AllocError>
-    requires { length by_place.now ≡ length stated.graph.now.places }
-    ensures { (source : List ℕ) (passes : List Pass) → IsSource source stated.entry.source.now
-        → IsTally stated.entry.graph.now passes by_place.now
+    requires image { handler.now.image.now ≡ read.now.image }
+    requires places { length by_place.now ≡ length handler.now.graph.places }
+    ensures { (source : List ℕ) (passes : List Pass) → IsSource source read.now
+        → IsTally handler.now.graph passes by_place.now
         → IfOk result
-        (λ text. AreWarnings source stated.entry.source.now.image stated.entry.statement.now
-        stated.entry.graph.now passes text.items) }
+        (λ text. AreWarnings source read.now.image handler.now.statement handler.now.graph passes
+        text.items) }
 {
-    let done = done_words(alloc, stated.graph, by_place)?;
-    done_text(alloc, stated, &done)
+    let done = done_words(alloc, &handler.graph, by_place)?;
+    done_text(alloc, read, handler, &done)
 }

@@ -12,6 +12,7 @@ use Rattle.statement.specs.Stated.{Stated}
 use Rattle.statement.specs.declared.stated.Loop.{Loop}
 use Rattle.control_flow.specs.declared.edges.Edge.{Edge}
 use Rattle.loop_bounds.specs.Bounds.{IsGreatestCost, IsTooLarge, KeepsTheBounds}
+use Rattle.loop_bounds.specs.Handler.{IsTreeOf}
 use Rattle.loop_bounds.specs.Instance.{Instance, IsInstance}
 use Rattle.loop_bounds.specs.Tree.{Tree}
 use Rattle.longest_walk.specs.Folded.{unfolded}
@@ -27,7 +28,7 @@ use Rattle.certificate.proofs.LongestLaws.{longest_is_spelled}
 use Rattle.cert_check.proofs.OtherTree.{longest_by_other}
 use Rattle.handlers.specs.Faults.{of_walk}
 use Rattle.handlers.specs.Keeping.{BoundsRuns}
-use Rattle.handlers.specs.Report.{BeforeOutput, HasLoops, IsAccepted, IsBounded, IsBoundReport, IsGreatestWalk, IsHandlerRefused, IsRefused, IsReport, IsTreeOf, IsWalkRefusal}
+use Rattle.handlers.specs.Report.{BeforeOutput, HasLoops, IsAccepted, IsBounded, IsBoundReport, IsGreatestWalk, IsHandlerRefused, IsRefused, IsReport, IsWalkRefusal}
 use Rattle.handlers.specs.declared.fault.ReportFault.{ReportFault}
 use Rattle.handlers.specs.declared.fault.ReportFault.TheVariants.{Memory, Walk, Device}
 use Rattle.handlers.proofs.HandlerLemmas.{handler_refusals, one_graph}

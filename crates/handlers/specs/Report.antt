@@ -1,6 +1,6 @@
 -- Reports of a handler's greatest run time, which sources and statements have one, and why the others have
 -- none.
-use Rattle.std.specs.Prelude.{◌≡◌, ◌≢◌, ◌↔◌, ℕ, List, Ok, Err, Contains}
+use Rattle.std.specs.Prelude.{◌≡◌, ◌≢◌, ℕ, List, Ok, Err}
 use Rattle.bus_ticks.specs.declared.profile.Profile.{Profile}
 use Rattle.image.specs.Image.{Words}
 use Rattle.control_flow.specs.declared.edges.Edge.{Edge}
@@ -16,11 +16,12 @@ use Rattle.statement.specs.declared.faults.StatementFault.TheVariants as stateme
 use Rattle.statement.specs.declared.stated.Loop.{Loop}
 use Rattle.walks.specs.Walk.{cost_of}
 use Rattle.loop_bounds.specs.Bounds.{IsCompleteWalk, IsGreatestCost, IsTooLarge, KeepsTheBounds}
-use Rattle.loop_bounds.specs.Instance.{Instance, IsInstance}
+use Rattle.loop_bounds.specs.Handler.{HasItsTree, IsTreeOf}
 use Rattle.loop_bounds.specs.Nest.{Applies, IsNestFault}
-use Rattle.loop_bounds.specs.Tree.{IsTree, Tree}
+use Rattle.loop_bounds.specs.Tree.{Tree}
 use Rattle.loop_bounds.specs.declared.fault.NestFault.{NestFault}
 use Rattle.loop_bounds.specs.declared.fault.NestFault.TheVariants as nest_fault
+use Rattle.loop_bounds.specs.declared.handler.Handler.{Handler}
 use Rattle.longest_walk.specs.Folded.{unfolded}
 use Rattle.longest_walk.specs.Longest.{IsLongest}
 use Rattle.longest_walk.specs.declared.folded.Item.{Item}
@@ -33,7 +34,6 @@ use Rattle.cert_check.specs.Verdict.{IsVerdict}
 use Rattle.cert_check.specs.declared.verdict.Verdict.TheVariants.{Yes}
 use Rattle.handlers.specs.Keeping.{BoundsRuns}
 use Rattle.handlers.specs.Source.{IsSourceFault}
-use Rattle.handlers.specs.declared.handler.Handler.{Handler}
 use Rattle.handlers.specs.declared.fault.ReportFault.{ReportFault}
 use Rattle.handlers.specs.declared.fault.ReportFault.TheVariants as report_fault
 use Rattle.sources.specs.Source.{Says, source_of}
@@ -77,18 +77,10 @@ OfHandler handler Holds =
     (source statement : List ℕ) (profile : Profile)
     → HasLoops source statement profile handler.statement handler.graph → Holds source statement profile
 
--- the tree has exactly the instances of the stated loops
-pub record IsTreeOf (flow : Flow) (loops : List Loop) (tree : Tree) : Type 0 where
-  pub tree_is : IsTree flow tree
-  pub instances : (i : Instance) → Contains tree.instances i ↔ IsInstance flow loops i
-
--- its tree is of its graph and the loops of its statement
-abbrev pub HasItsTree : Handler → Type 0
-HasItsTree handler = IsTreeOf handler.graph handler.statement.loops handler.tree
-
 -- it is the handler of each source that says this, and of the statement
 pub record IsHandlerOf (said : Source) (statement : List ℕ) (profile : Profile)
     (handler : Handler) : Type 0 where
+  pub image : handler.image.now ≡ said.image
   pub loops : (source : List ℕ) → Says source said
       → HasLoops source statement profile handler.statement handler.graph
   pub tree : HasItsTree handler

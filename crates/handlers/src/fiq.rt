@@ -5,9 +5,10 @@ ghost use Rattle.handlers.specs.Report.{BeforeOutput, IsHandlerOf};
 ghost use Rattle.sources.specs.Source.{Says};
 
 use crate::fault::ReportFault;
-use crate::handler::{Handler, stated_handler, stated_on};
+use crate::handler::{stated_handler, stated_on};
 use crate::refusal::Stop;
 use bus_ticks::{FIQ_VECTOR, Profile};
+use loop_bounds::Handler;
 use sources::Source;
 use std::alloc::Global;
 
@@ -17,12 +18,12 @@ use std::alloc::Global;
 ///
 /// The first in the order of the work: statement, `NotFiqEntry` where its entry is elsewhere, graph, loops.
 /// `Memory`: an allocation failed.
-pub fn fiq_handler<'a>(
+pub fn fiq_handler<'s, 'a>(
     alloc: Global,
-    source: &Source<'_>,
+    source: &'s Source<'_>,
     text: &'a [u8],
     profile: &Profile,
-) -> Result<Handler, Stop<'a>>
+) -> Result<Handler<'s>, Stop<'a>>
     ensures is { IfOk result (IsHandlerOf source.now text.now profile.now) }
     ensures entry { IfOk result (λ h. h.statement.entry ≡ FIQ_VECTOR) }
     ensures fault { (bytes : List ℕ) → Says bytes source.now

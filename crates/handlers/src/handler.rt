@@ -2,12 +2,13 @@ ghost use Rattle.std.specs.Prelude.{◌≡◌, ◌≢◌, List, ℕ, Ok, IfErr, 
 ghost use Rattle.image.specs.Labels.{address_of};
 ghost use Rattle.longest_walk.specs.Longest.{IsLongest, IsWalkFault};
 ghost use Rattle.loop_bounds.specs.Bounds.{IsGreatestCost};
+ghost use Rattle.loop_bounds.specs.Handler.{HasItsTree};
 ghost use Rattle.numbered_walks.specs.declared.fault.WalkFault.{WalkFault};
 ghost use Rattle.statement.specs.Statement.{IsStatement};
 ghost use Rattle.handlers.specs.Priced.{HasNoProfile, IsProfile};
 ghost use Rattle.handlers.specs.Refusal.{Carries, ComesAlone, HasNoHandler, HasNoStatement};
 ghost use Rattle.handlers.specs.Refusal.{stop_fault};
-ghost use Rattle.handlers.specs.Report.{BeforeOutput, HasItsTree, IsHandlerOf};
+ghost use Rattle.handlers.specs.Report.{BeforeOutput, IsHandlerOf};
 ghost use Rattle.handlers.specs.Report.{IsHandlerRefused, IsRefused, OfHandler};
 ghost use Rattle.handlers.specs.Source.{IsSourceFault};
 ghost use Rattle.sources.specs.Source.{IsSource, Says};
@@ -15,9 +16,9 @@ ghost use Rattle.sources.specs.Source.{IsSource, Says};
 use crate::fault::ReportFault;
 use crate::refusal::Stop;
 use bus_ticks::Profile;
-use control_flow::{BuildFault, Graph, build};
+use control_flow::{BuildFault, build};
 use longest_walk::{Longest, longest};
-use loop_bounds::{LoopTree, NestFault, nest};
+use loop_bounds::{Handler, NestFault, nest};
 use machine_file::read_profile;
 use sources::Source;
 use statement::{Statement, StatementFault, read_statement};
@@ -54,14 +55,6 @@ pub fn read_source<'a>(alloc: Global, source: &'a [u8]) -> Result<Source<'a>, Re
     Ok(read)
 }
 
-/// A handler's statement, its flow graph and the tree of its loops.
-#[derive(Drop)]
-pub struct Handler {
-    pub statement: Statement,
-    pub graph: Graph,
-    pub tree: LoopTree,
-}
-
 /// The statement on a source that the text says.
 ///
 /// # Errors
@@ -87,12 +80,12 @@ pub(crate) fn stated_on<'a>(
 /// # Errors
 ///
 /// The first in the order of the work: statement, graph, loops. `Memory`: an allocation failed.
-pub fn read_handler<'a>(
+pub fn read_handler<'s, 'a>(
     alloc: Global,
-    source: &Source<'_>,
+    source: &'s Source<'_>,
     text: &'a [u8],
     profile: &Profile,
-) -> Result<Handler, Stop<'a>>
+) -> Result<Handler<'s>, Stop<'a>>
     ensures is { IfOk result (IsHandlerOf source.now text.now profile.now) }
     ensures fault { (bytes : List ℕ) → Says bytes source.now
         → IfErr result (λ s. IsHandlerRefused bytes text.now profile.now (stop_fault s)) }
@@ -108,12 +101,12 @@ pub fn read_handler<'a>(
 /// # Errors
 ///
 /// The first in the order of the work: graph, loops. `Memory`: an allocation failed.
-pub(crate) fn stated_handler<'a>(
+pub(crate) fn stated_handler<'s, 'a>(
     alloc: Global,
-    source: &Source<'_>,
+    source: &'s Source<'_>,
     statement: Statement,
     profile: &Profile,
-) -> Result<Handler, Stop<'a>>
+) -> Result<Handler<'s>, Stop<'a>>
     ensures is { (text : List ℕ) → IsStatement text (address_of source.now.labels) (Ok statement)
         → IfOk result (IsHandlerOf source.now text profile.now) }
     ensures same { IfOk result (λ h. h.statement ≡ statement) }
@@ -127,6 +120,7 @@ pub(crate) fn stated_handler<'a>(
     };
     match nest(alloc, &graph, &statement) {
         Ok(tree) => Ok(Handler {
+            image: &source.image,
             statement,
             graph,
             tree,
@@ -143,7 +137,7 @@ pub(crate) fn stated_handler<'a>(
 /// `Walk` with `NoCompleteWalk` where no walk from the entry leaves the handler, else with `BoundTooLarge`
 /// where a walk from the entry that keeps the bounds costs 2^63 ticks or more, wherever it ends. `Memory`: an
 /// allocation failed.
-pub fn longest_of(alloc: Global, handler: &Handler) -> Result<Longest, ReportFault>
+pub fn longest_of(alloc: Global, handler: &Handler<'_>) -> Result<Longest, ReportFault>
     requires { HasItsTree handler.now }
     ensures longest { IfOk result (IsLongest handler.now.graph handler.now.tree) }
     ensures greatest { IfOk result

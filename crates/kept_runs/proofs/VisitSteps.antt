@@ -54,7 +54,7 @@ module _ (b : Both) (x : Followers) (s : State) (i : Input) (rest : List Input) 
   pub halt_few : (steps at : ℕ) (why : VisitUnkept) → IsHalt b x s i rest after steps at why → steps ≤ 1 + length rest
   halt_few steps at (InMain why) (none, h) = omega (arith, none)
   halt_few steps at (InVisit why) (k, is, h) =
-      let few = strayed_few b.fiq.image.now b.fiq.statement.now b.fiq.graph.now b.fiq.tree.now h.entered rest k at why after h.strays in
+      let few = strayed_few b.fiq.now.image.now b.fiq.now.statement b.fiq.now.graph b.fiq.now.tree h.entered rest k at why after h.strays in
       omega (arith, is, few)
   halt_few steps at (NotBack address) (k, is, h) = let few = h.leaves.run.few in let same = h.handling_is in omega (arith, is, few, same)
 
@@ -129,7 +129,7 @@ module _ (words : Words) (st : Stated) (flow : Flow) (tree : Tree) (well : IsWel
 
 -- a run is followed as far as so many inputs
 pub record IsFollowing (b : Both) (start : State) (inputs : List Input) (n : ℕ) (x : Followers) (now : State) : Type 0 where
-  pub so_far : SoFar (handled b.irq) (handled b.fiq) start inputs n x now
+  pub so_far : SoFar (handled b.irq.now) (handled b.fiq.now) start inputs n x now
   pub can : CanAdvance b x now
   pub counted : IsCounted n x
   pub within : n ≤ length inputs
@@ -137,7 +137,7 @@ pub record IsFollowing (b : Both) (start : State) (inputs : List Input) (n : ℕ
 module _ (b : Both) (ready : AreReady b) (start : State) (inputs : List Input) where
   pub begins_following : (x : Followers) → IsBegun b x → CanAdvance b x start → IsFollowing b start inputs 0 x start
   begins_following x begun can = record {
-    so_far = begins (handled b.irq) (handled b.fiq) ready.irq_well ready.irq start inputs x begun.main begun.visits begun.ticks;
+    so_far = begins (handled b.irq.now) (handled b.fiq.now) ready.irq_well ready.irq start inputs x begun.main begun.visits begun.ticks;
     can = can;
     counted = record {
       steps = let is = begun.main.steps_are in omega (arith, is);
@@ -150,39 +150,39 @@ module _ (b : Both) (ready : AreReady b) (start : State) (inputs : List Input) w
 
   module _ (n : ℕ) (i : Input) (n_in : n < length inputs) (at : get_or inputs n i ≡ i) (x : Followers) (now : State) (so : IsFollowing b start inputs n x now) where
     -- where it ends
-    pub halts_there : (steps a : ℕ) (why : VisitUnkept) (after : State) → IsHalt b x now i (drop (n + 1) inputs) after steps a why → IsStrayedVisited (handled b.irq) (handled b.fiq) start inputs (n + steps) a why after
+    pub halts_there : (steps a : ℕ) (why : VisitUnkept) (after : State) → IsHalt b x now i (drop (n + 1) inputs) after steps a why → IsStrayedVisited (handled b.irq.now) (handled b.fiq.now) start inputs (n + steps) a why after
     halts_there steps a (InMain why) after (none, h) =
         let total : n ≡ n + steps = omega (arith, none) in
-        subst (λ (k : ℕ). IsStrayedVisited (handled b.irq) (handled b.fiq) start inputs k a (InMain why) after) total
-        (strays_in_main (handled b.irq) (handled b.fiq) ready.irq_well ready.irq start inputs n i n_in at x now so.can.can so.so_far h.stepped after h.step h.no_fiq h.judged why h.halts a h.at_is)
+        subst (λ (k : ℕ). IsStrayedVisited (handled b.irq.now) (handled b.fiq.now) start inputs k a (InMain why) after) total
+        (strays_in_main (handled b.irq.now) (handled b.fiq.now) ready.irq_well ready.irq start inputs n i n_in at x now so.can.can so.so_far h.stepped after h.step h.no_fiq h.judged why h.halts a h.at_is)
     halts_there steps a (InVisit why) after (k, is, h) =
         let total : n + 1 + k ≡ n + steps = omega (arith, is) in
-        subst (λ (j : ℕ). IsStrayedVisited (handled b.irq) (handled b.fiq) start inputs j a (InVisit why) after) total
-        (strays_in (handled b.irq) (handled b.fiq) ready.irq_well ready.irq start inputs n i n_in at x now so.can.can so.so_far h.entered h.takes k a why after h.strays)
+        subst (λ (j : ℕ). IsStrayedVisited (handled b.irq.now) (handled b.fiq.now) start inputs j a (InVisit why) after) total
+        (strays_in (handled b.irq.now) (handled b.fiq.now) ready.irq_well ready.irq start inputs n i n_in at x now so.can.can so.so_far h.entered h.takes k a why after h.strays)
     halts_there steps a (NotBack address) after (k, is, h) =
         let same = h.handling_is in
         let total : n + 1 + h.visit.steps ≡ n + steps = omega (arith, is, same) in
-        subst (λ (j : ℕ). IsStrayedVisited (handled b.irq) (handled b.fiq) start inputs j a (NotBack address) after) total
-        (leaves_elsewhere (handled b.irq) (handled b.fiq) ready.irq_well ready.irq start inputs n i n_in at x now so.can.can so.so_far h.entered h.takes h.visit.steps h.visit.ticks h.visit.by_place.items after h.leaves.run a address h.at_is h.interrupted h.elsewhere)
+        subst (λ (j : ℕ). IsStrayedVisited (handled b.irq.now) (handled b.fiq.now) start inputs j a (NotBack address) after) total
+        (leaves_elsewhere (handled b.irq.now) (handled b.fiq.now) ready.irq_well ready.irq start inputs n i n_in at x now so.can.can so.so_far h.entered h.takes h.visit.steps h.visit.ticks h.visit.by_place.items after h.leaves.run a address h.at_is h.interrupted h.elsewhere)
 
     module _ (y : Followers) (steps : ℕ) (after : State) where
       -- the interrupted handler is left
-      pub leaves_there : Advances b x now i (drop (n + 1) inputs) after y steps → y.main.number ≡ length b.irq.graph.now.places
-          → IsKeptVisited (handled b.irq) (handled b.fiq) start inputs (n + steps) (y.main.ticks + y.ticks) y.visits after
+      pub leaves_there : Advances b x now i (drop (n + 1) inputs) after y steps → y.main.number ≡ length b.irq.now.graph.places
+          → IsKeptVisited (handled b.irq.now) (handled b.fiq.now) start inputs (n + steps) (y.main.ticks + y.ticks) y.visits after
       leaves_there (inl (one, makes)) at_exit =
-          let more = one_more (handled b.irq) (handled b.fiq) ready.irq_well ready.irq start inputs n i n_in at x now so.can.can so.so_far y after makes.goes makes.visits_are makes.ticks_are in
+          let more = one_more (handled b.irq.now) (handled b.fiq.now) ready.irq_well ready.irq start inputs n i n_in at x now so.can.can so.so_far y after makes.goes makes.visits_are makes.ticks_are in
           let total : n + 1 ≡ n + steps = omega (arith, one) in
-          subst (λ (k : ℕ). IsKeptVisited (handled b.irq) (handled b.fiq) start inputs k (y.main.ticks + y.ticks) y.visits after) total
-          (left_both (handled b.irq) (handled b.fiq) ready.irq_well ready.irq start inputs (n + 1) y after more.0 more.1 (let lt = n_in in omega (arith, lt)) at_exit (y.main.ticks + y.ticks) refl)
+          subst (λ (k : ℕ). IsKeptVisited (handled b.irq.now) (handled b.fiq.now) start inputs k (y.main.ticks + y.ticks) y.visits after) total
+          (left_both (handled b.irq.now) (handled b.fiq.now) ready.irq_well ready.irq start inputs (n + 1) y after more.0 more.1 (let lt = n_in in omega (arith, lt)) at_exit (y.main.ticks + y.ticks) refl)
       leaves_there (inr (is, makes)) at_exit =
           let same : y.main.number ≡ x.main.number = ap (λ (f : Follower). f.number) makes.main_is in
           let inner = so.can.can.known in
           absurd (omega (arith, same, inner, at_exit))
 
       -- the run goes on
-      pub goes_there : Advances b x now i (drop (n + 1) inputs) after y steps → (y.main.number ≡ length b.irq.graph.now.places → ⊥) → IsFollowing b start inputs (n + steps) y after
+      pub goes_there : Advances b x now i (drop (n + 1) inputs) after y steps → (y.main.number ≡ length b.irq.now.graph.places → ⊥) → IsFollowing b start inputs (n + steps) y after
       goes_there (inl (one, makes)) other =
-          let more = one_more (handled b.irq) (handled b.fiq) ready.irq_well ready.irq start inputs n i n_in at x now so.can.can so.so_far y after makes.goes makes.visits_are makes.ticks_are in
+          let more = one_more (handled b.irq.now) (handled b.fiq.now) ready.irq_well ready.irq start inputs n i n_in at x now so.can.can so.so_far y after makes.goes makes.visits_are makes.ticks_are in
           let total : n + 1 ≡ n + steps = omega (arith, one) in
           let c = so.counted in
           let main_steps = makes.goes.steps_are in
@@ -191,10 +191,10 @@ module _ (b : Both) (ready : AreReady b) (start : State) (inputs : List Input) w
           let visits = makes.visits_are in
           let ticks = makes.ticks_are in
           record {
-            so_far = subst (λ (k : ℕ). SoFar (handled b.irq) (handled b.fiq) start inputs k y after) total more.0;
+            so_far = subst (λ (k : ℕ). SoFar (handled b.irq.now) (handled b.fiq.now) start inputs k y after) total more.0;
             can = record {
-              can = can_go_on b.irq.image.now b.irq.statement.now b.irq.graph.now b.irq.tree.now ready.irq_well ready.irq.tree_is x.main y.main now i after so.can.can makes.goes other;
-              room = subst (HasRoom (length b.fiq.graph.now.places)) (sym makes.visit_is) so.can.room;
+              can = can_go_on b.irq.now.image.now b.irq.now.statement b.irq.now.graph b.irq.now.tree ready.irq_well ready.irq.tree_is x.main y.main now i after so.can.can makes.goes other;
+              room = subst (HasRoom (length b.fiq.now.graph.places)) (sym makes.visit_is) so.can.room;
             };
             counted = record {
               steps = let most = c.steps in omega (arith, one, main_steps, most);
@@ -217,11 +217,11 @@ module _ (b : Both) (ready : AreReady b) (start : State) (inputs : List Input) w
           let ticks = makes.ticks_are in
           record {
             so_far =
-                subst (λ (k : ℕ). SoFar (handled b.irq) (handled b.fiq) start inputs k y after) total
-                (one_visit_on (handled b.irq) (handled b.fiq) ready.irq_well ready.irq start inputs n i n_in at x now so.can.can so.so_far makes.entered makes.takes y.visit.steps y.visit.ticks y.visit.by_place.items after makes.leaves.run
+                subst (λ (k : ℕ). SoFar (handled b.irq.now) (handled b.fiq.now) start inputs k y after) total
+                (one_visit_on (handled b.irq.now) (handled b.fiq.now) ready.irq_well ready.irq start inputs n i n_in at x now so.can.can so.so_far makes.entered makes.takes y.visit.steps y.visit.ticks y.visit.by_place.items after makes.leaves.run
                 y makes.back makes.main_is makes.visits_are makes.ticks_are);
             can = record {
-              can = subst (λ (f : Follower). CanGo b.irq.graph.now b.irq.tree.now f after) (sym makes.main_is) (record {
+              can = subst (λ (f : Follower). CanGo b.irq.now.graph b.irq.now.tree f after) (sym makes.main_is) (record {
                 machine = record { registers = makes.leaves.machine.registers; prices = makes.leaves.machine.prices ∙ ready.prices };
                 known = can.known;
                 at = (can.at.0, can.at.1 ∙ ap (λ (a : ℕ). At can.at.0 a) (sym makes.back));

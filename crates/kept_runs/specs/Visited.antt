@@ -20,11 +20,11 @@ use Rattle.flow_graph.specs.StepLaw.{IsEdgeOf}
 use Rattle.numbered_walks.specs.declared.span.Span.{Span}
 use Rattle.loop_bounds.specs.Bounds.{IsCompleteWalk}
 use Rattle.loop_bounds.specs.Tree.{Tree, place_in}
+use Rattle.loop_bounds.specs.declared.handler.Handler.{Handler}
 use Rattle.longest_walk.specs.Longest.{KeepsTree}
 use Rattle.kept_runs.specs.declared.following.Unkept.{Unkept}
 use Rattle.kept_runs.specs.declared.following.Unkept.TheVariants as unkept
 use Rattle.kept_runs.specs.declared.following.Unkept.TheVariants.{NotAtEntry, TurnedBack, Unfinished}
-use Rattle.kept_runs.specs.declared.handler.AcceptedHandler.{AcceptedHandler}
 use Rattle.kept_runs.specs.declared.judging.Stray.{Stray}
 use Rattle.kept_runs.specs.declared.visited.VisitedRun.{VisitedRun}
 use Rattle.kept_runs.specs.declared.visited.VisitedRun.TheVariants.{Kept, Strayed}
@@ -110,8 +110,8 @@ pub record Handled : Type 0 where
   pub flow : Flow
   pub tree : Tree
 
-abbrev pub handled : AcceptedHandler → Handled
-handled h = record { words = h.image.now; stated = h.statement.now; flow = h.graph.now; tree = h.tree.now }
+abbrev pub handled : Handler → Handled
+handled h = record { words = h.image.now; stated = h.statement; flow = h.graph; tree = h.tree }
 
 module _ (irq fiq : Handled) where
   abbrev pub KeepsFiq : State → List Input → Type 0

@@ -22,12 +22,12 @@ use Rattle.kept_runs.specs.Whole.{Leaves}
 
 -- both handlers are as they should be, over the same prices
 pub record AreReady (b : Both) : Type 0 where
-  pub irq : IsHandler b.irq.image.now b.irq.statement.now b.irq.graph.now b.irq.tree.now
-  pub irq_well : IsWellFormed b.irq.graph.now
-  pub fiq : IsHandler b.fiq.image.now b.fiq.statement.now b.fiq.graph.now b.fiq.tree.now
-  pub irq_headers : AreHeadersOf b.irq.graph.now b.irq.tree.now b.irq_headers.now
-  pub fiq_headers : AreHeadersOf b.fiq.graph.now b.fiq.tree.now b.fiq_headers.now
-  pub prices : b.fiq.graph.now.profile ≡ b.irq.graph.now.profile
+  pub irq : IsHandler b.irq.now.image.now b.irq.now.statement b.irq.now.graph b.irq.now.tree
+  pub irq_well : IsWellFormed b.irq.now.graph
+  pub fiq : IsHandler b.fiq.now.image.now b.fiq.now.statement b.fiq.now.graph b.fiq.now.tree
+  pub irq_headers : AreHeadersOf b.irq.now.graph b.irq.now.tree b.irq_headers.now
+  pub fiq_headers : AreHeadersOf b.fiq.now.graph b.fiq.now.tree b.fiq_headers.now
+  pub prices : b.fiq.now.graph.profile ≡ b.irq.now.graph.profile
 
 -- what is followed of a run has as many places as the graph
 pub record HasRoom (exit : ℕ) (x : Follower) : Type 0 where
@@ -36,8 +36,8 @@ pub record HasRoom (exit : ℕ) (x : Follower) : Type 0 where
 
 -- a step may be made
 pub record CanAdvance (b : Both) (x : Followers) (s : State) : Type 0 where
-  pub can : CanGo b.irq.graph.now b.irq.tree.now x.main s
-  pub room : HasRoom (length b.fiq.graph.now.places) x.visit
+  pub can : CanGo b.irq.now.graph b.irq.now.tree x.main s
+  pub room : HasRoom (length b.fiq.now.graph.places) x.visit
 
 -- no more has been counted than by so many inputs
 pub record IsCounted (n : ℕ) (x : Followers) : Type 0 where
@@ -48,7 +48,7 @@ pub record IsCounted (n : ℕ) (x : Followers) : Type 0 where
 
 -- nothing is followed yet
 pub record IsBegun (b : Both) (x : Followers) : Type 0 where
-  pub main : IsFresh (length b.irq.graph.now.places) x.main
+  pub main : IsFresh (length b.irq.now.graph.places) x.main
   pub visits : x.visits ≡ 0
   pub ticks : x.ticks ≡ 0
 
@@ -64,8 +64,8 @@ pub record TakesFiq (s : State) (i : Input) (entered : State) : Type 0 where
 module _ (b : Both) (old : Followers) (s : State) (i : Input) (rest : List Input) (after : State) where
   -- a step of the interrupted handler
   pub record MakesMainStep (new : Followers) : Type 0 where
-    pub goes : Goes b.irq.image.now b.irq.statement.now b.irq.graph.now b.irq.tree.now old.main new.main s i
-        after
+    pub goes : Goes b.irq.now.image.now b.irq.now.statement b.irq.now.graph b.irq.now.tree old.main new.main s
+        i after
     pub visit_is : new.visit ≡ old.visit
     pub visits_are : new.visits ≡ old.visits
     pub ticks_are : new.ticks ≡ old.ticks
@@ -74,8 +74,8 @@ module _ (b : Both) (old : Followers) (s : State) (i : Input) (rest : List Input
   pub record MakesVisit (new : Followers) : Type 0 where
     pub entered : State
     pub takes : TakesFiq s i entered
-    pub leaves : Leaves b.fiq.image.now b.fiq.statement.now b.fiq.graph.now b.fiq.tree.now entered rest after
-        new.visit
+    pub leaves : Leaves b.fiq.now.image.now b.fiq.now.statement b.fiq.now.graph b.fiq.now.tree entered rest
+        after new.visit
     pub back : address_in after.regs ≡ address_in s.regs
     pub main_is : new.main ≡ old.main
     pub visits_are : new.visits ≡ old.visits + 1
@@ -94,24 +94,24 @@ module _ (b : Both) (old : Followers) (s : State) (i : Input) (rest : List Input
     pub step : Step s i stepped after
     pub no_fiq : stepped.kind ≢ Taken Fiq
     pub judged : State
-    pub halts : Halts b.irq.image.now b.irq.statement.now b.irq.graph.now b.irq.tree.now old.main s i judged
-        why
+    pub halts : Halts b.irq.now.image.now b.irq.now.statement b.irq.now.graph b.irq.now.tree old.main s i
+        judged why
     pub at_is : at ≡ address_in s.regs
 
   -- the step takes FIQ, and FIQ's handler does not keep its statement
   pub record HaltsInVisit (handling at : ℕ) (why : Unkept) : Type 0 where
     pub entered : State
     pub takes : TakesFiq s i entered
-    pub strays : IsStrayedRun b.fiq.image.now b.fiq.statement.now b.fiq.graph.now b.fiq.tree.now entered rest
-        handling at why after
+    pub strays : IsStrayedRun b.fiq.now.image.now b.fiq.now.statement b.fiq.now.graph b.fiq.now.tree entered
+        rest handling at why after
 
   -- the step takes FIQ, and FIQ's handler leaves to another address
   pub record HaltsElsewhere (handling at address : ℕ) : Type 0 where
     pub entered : State
     pub takes : TakesFiq s i entered
     pub visit : Follower
-    pub leaves : Leaves b.fiq.image.now b.fiq.statement.now b.fiq.graph.now b.fiq.tree.now entered rest after
-        visit
+    pub leaves : Leaves b.fiq.now.image.now b.fiq.now.statement b.fiq.now.graph b.fiq.now.tree entered rest
+        after visit
     pub handling_is : handling ≡ visit.steps
     pub at_is : at ≡ address_in after.regs
     pub interrupted : address ≡ address_in s.regs

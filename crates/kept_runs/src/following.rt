@@ -5,12 +5,12 @@ ghost use Rattle.kept_runs.specs.Judging.{IsMachineFor};
 ghost use Rattle.kept_runs.specs.Keeping.{IsFollowed, IsHandler};
 ghost use Rattle.kept_runs.specs.Whole.{IsStraying, Leaves};
 
-use crate::handler::AcceptedHandler;
 use crate::judging::{Stray, judge};
 use crate::stays::turn;
 use crate::tally::{Passed, count};
 use arm2_exec::{Input, Machine, Stepped};
 use control_flow::Label;
+use loop_bounds::Handler;
 use numbered_walks::Span;
 use std::alloc::{AllocError, Global};
 use walk_counts::{headers, is_same_label};
@@ -88,23 +88,24 @@ pub(crate) struct Halt {
 
 // One step from where the run is, or how it does not keep the statement.
 pub(crate) fn take_step(
-    handler: AcceptedHandler<'_>,
+    handler: &Handler<'_>,
     headers: &[Option<Span>],
     follower: &mut Follower,
     machine: &mut Machine,
     input: Input,
 ) -> Option<Halt>
-    requires handler { IsHandler handler.image.now handler.statement.now handler.graph.now handler.tree.now }
-    requires headers { AreHeadersOf handler.graph.now handler.tree.now headers.now }
-    requires can { CanGo handler.graph.now handler.tree.now follower.old machine.old }
-    requires well_formed { IsWellFormed handler.graph.now }
+    requires handler { IsHandler handler.now.image.now handler.now.statement handler.now.graph
+        handler.now.tree }
+    requires headers { AreHeadersOf handler.now.graph handler.now.tree headers.now }
+    requires can { CanGo handler.now.graph handler.now.tree follower.old machine.old }
+    requires well_formed { IsWellFormed handler.now.graph }
     requires few { follower.old.steps + 1 < 2 ^ 64 }
     requires small { follower.old.ticks < 2 ^ 100 }
     ensures { MatchOption result
-        (Goes handler.entry.image.now handler.entry.statement.now handler.entry.graph.now
-        handler.entry.tree.now follower.old follower.new machine.old input machine.new)
-        (HaltsBy handler.entry.image.now handler.entry.statement.now handler.entry.graph.now
-        handler.entry.tree.now follower.old follower.new machine.old input machine.new) }
+        (Goes handler.now.image.now handler.now.statement handler.now.graph handler.now.tree follower.old
+        follower.new machine.old input machine.new)
+        (HaltsBy handler.now.image.now handler.now.statement handler.now.graph handler.now.tree follower.old
+        follower.new machine.old input machine.new) }
 {
     let place = handler.tree.order()[follower.number];
     let taken = match judge(handler, machine, place, input) {
@@ -142,21 +143,22 @@ pub(crate) struct Straying {
 /// Steps, one for each input, from the handler's entry until it is left, or where the run does not keep the
 /// statement.
 pub(crate) fn follow_whole(
-    handler: AcceptedHandler<'_>,
+    handler: &Handler<'_>,
     headers: &[Option<Span>],
     follower: &mut Follower,
     machine: &mut Machine,
     inputs: &[Input],
 ) -> Option<Straying>
-    requires handler { IsHandler handler.image.now handler.statement.now handler.graph.now handler.tree.now }
-    requires headers { AreHeadersOf handler.graph.now handler.tree.now headers.now }
-    requires fresh { IsFresh (length handler.graph.now.places) follower.old }
-    requires machine { IsMachineFor handler.graph.now machine.old }
+    requires handler { IsHandler handler.now.image.now handler.now.statement handler.now.graph
+        handler.now.tree }
+    requires headers { AreHeadersOf handler.now.graph handler.now.tree headers.now }
+    requires fresh { IsFresh (length handler.now.graph.places) follower.old }
+    requires machine { IsMachineFor handler.now.graph machine.old }
     ensures { MatchOption result
-        (Leaves handler.entry.image.now handler.entry.statement.now handler.entry.graph.now
-        handler.entry.tree.now machine.old inputs.now machine.new follower.new)
-        (IsStraying handler.entry.image.now handler.entry.statement.now handler.entry.graph.now
-        handler.entry.tree.now machine.old inputs.now machine.new) }
+        (Leaves handler.now.image.now handler.now.statement handler.now.graph handler.now.tree machine.old
+        inputs.now machine.new follower.new)
+        (IsStraying handler.now.image.now handler.now.statement handler.now.graph handler.now.tree machine.old
+        inputs.now machine.new) }
 {
     let exit = handler.graph.places().len();
     let at = machine.address();
@@ -219,15 +221,16 @@ fn kept(follower: Follower) -> Followed
 /// `AllocError` where an allocation failed. The machine is as it was then.
 pub fn follow(
     alloc: Global,
-    handler: AcceptedHandler<'_>,
+    handler: &Handler<'_>,
     machine: &mut Machine,
     inputs: &[Input],
 ) -> Result<Followed, AllocError>
-    requires handler { IsHandler handler.image.now handler.statement.now handler.graph.now handler.tree.now }
-    requires machine { IsMachineFor handler.graph.now machine.old }
+    requires handler { IsHandler handler.now.image.now handler.now.statement handler.now.graph
+        handler.now.tree }
+    requires machine { IsMachineFor handler.now.graph machine.old }
     ensures followed { IfOk result
-        (IsFollowed handler.entry.image.now handler.entry.statement.now handler.entry.graph.now
-        handler.entry.tree.now machine.old inputs.now machine.new) }
+        (IsFollowed handler.now.image.now handler.now.statement handler.now.graph handler.now.tree machine.old
+        inputs.now machine.new) }
     ensures refused { IfErr result (λ _. machine.new ≡ machine.old) }
 {
     let exit = handler.graph.places().len();

@@ -4,11 +4,11 @@ ghost use Rattle.control_flow.specs.Places.{place_at};
 ghost use Rattle.kept_runs.specs.Judging.{IsAtPlace, Strays, StraysBy, Takes, label_if, made};
 
 use crate::edges::{Going, edge_taken};
-use crate::handler::AcceptedHandler;
 use crate::reading::{own_word, read_word};
 use crate::transfers::{Access, other_of};
 use arm2_exec::{Input, Kind, Machine, Stepped, Vector, Why};
 use control_flow::Label;
+use loop_bounds::Handler;
 
 /// How a step is along no edge of its place, by the statement.
 #[derive(Clone, Copy, Debug, PartialEq, Eq)]
@@ -58,20 +58,20 @@ fn made(stray: Stray, stepped: Stepped) -> StrayStep
 
 // The same as `judge_step`, with the step that strays.
 pub(crate) fn judge(
-    handler: AcceptedHandler<'_>,
+    handler: &Handler<'_>,
     machine: &mut Machine,
     place: usize,
     input: Input,
 ) -> Result<EdgeTaken, StrayStep>
-    requires graph { IsFlowGraph handler.image.now handler.statement.now handler.graph.now.profile
-        handler.graph.now }
-    requires known { place < length handler.graph.now.places }
-    requires is_there { IsAtPlace handler.graph.now (place_at handler.graph.now.places place) machine.old }
+    requires graph { IsFlowGraph handler.now.image.now handler.now.statement handler.now.graph.profile
+        handler.now.graph }
+    requires known { place < length handler.now.graph.places }
+    requires is_there { IsAtPlace handler.now.graph (place_at handler.now.graph.places place) machine.old }
     ensures { MatchResult result
-        (Takes handler.entry.image.now handler.entry.statement.now handler.entry.graph.now
-        (place_at handler.entry.graph.now.places place) machine.old input machine.new)
-        (StraysBy handler.entry.image.now handler.entry.statement.now handler.entry.graph.now
-        (place_at handler.entry.graph.now.places place) machine.old input machine.new) }
+        (Takes handler.now.image.now handler.now.statement handler.now.graph
+        (place_at handler.now.graph.places place) machine.old input machine.new)
+        (StraysBy handler.now.image.now handler.now.statement handler.now.graph
+        (place_at handler.now.graph.places place) machine.old input machine.new) }
 {
     let Some(word) = own_word(handler.image, machine) else {
         return Err(StrayStep {
@@ -96,7 +96,7 @@ pub(crate) fn judge(
         to: stepped.to,
         leave: handler.statement.leave(),
     };
-    match edge_taken(handler.graph, place, going) {
+    match edge_taken(&handler.graph, place, going) {
         Some(edge) => Ok(EdgeTaken { edge, stepped }),
         None => Err(made(Stray::Elsewhere(stepped.to), stepped)),
     }
@@ -112,20 +112,20 @@ pub(crate) fn judge(
 /// A [`Stray`] where no edge of the place is that of the step. The step is made all the same, but where the
 /// machine does not fetch the image's word.
 pub fn judge_step(
-    handler: AcceptedHandler<'_>,
+    handler: &Handler<'_>,
     machine: &mut Machine,
     place: usize,
     input: Input,
 ) -> Result<EdgeTaken, Stray>
-    requires graph { IsFlowGraph handler.image.now handler.statement.now handler.graph.now.profile
-        handler.graph.now }
-    requires known { place < length handler.graph.now.places }
-    requires is_there { IsAtPlace handler.graph.now (place_at handler.graph.now.places place) machine.old }
+    requires graph { IsFlowGraph handler.now.image.now handler.now.statement handler.now.graph.profile
+        handler.now.graph }
+    requires known { place < length handler.now.graph.places }
+    requires is_there { IsAtPlace handler.now.graph (place_at handler.now.graph.places place) machine.old }
     ensures { MatchResult result
-        (Takes handler.entry.image.now handler.entry.statement.now handler.entry.graph.now
-        (place_at handler.entry.graph.now.places place) machine.old input machine.new)
-        (Strays handler.entry.image.now handler.entry.statement.now handler.entry.graph.now
-        (place_at handler.entry.graph.now.places place) machine.old input machine.new) }
+        (Takes handler.now.image.now handler.now.statement handler.now.graph
+        (place_at handler.now.graph.places place) machine.old input machine.new)
+        (Strays handler.now.image.now handler.now.statement handler.now.graph
+        (place_at handler.now.graph.places place) machine.old input machine.new) }
 {
     match judge(handler, machine, place, input) {
         Ok(taken) => Ok(taken),

@@ -7,7 +7,6 @@
 mod arriving;
 mod edges;
 mod following;
-mod handler;
 mod judging;
 mod law;
 mod reading;
@@ -18,7 +17,6 @@ mod visited;
 
 pub use arriving::arrive;
 pub use following::{Followed, Unkept, follow};
-pub use handler::AcceptedHandler;
 pub use judging::{EdgeTaken, Stray, judge_step};
 pub use law::one_kept_answer;
 pub use tally::Passed;

@@ -13,10 +13,10 @@ ghost use Rattle.kept_runs.specs.Visiting.{Advances, AreReady, CanAdvance, Halts
 ghost use Rattle.kept_runs.specs.Visiting.{IsBegun, IsCounted};
 
 use crate::following::{Follower, Straying, Unkept, follow_whole, start, take_step};
-use crate::handler::AcceptedHandler;
 use crate::tally::Passed;
 use arm2_effect::{Kind, Vector};
 use arm2_exec::{Input, Machine, Stepped};
+use loop_bounds::Handler;
 use numbered_walks::Span;
 use std::alloc::{AllocError, Global};
 use walk_counts::headers;
@@ -24,8 +24,8 @@ use walk_counts::headers;
 /// An interrupt handler, and FIQ's handler, which interrupts it.
 #[derive(Clone, Copy)]
 pub struct VisitedHandlers<'a> {
-    pub irq: AcceptedHandler<'a>,
-    pub fiq: AcceptedHandler<'a>,
+    pub irq: &'a Handler<'a>,
+    pub fiq: &'a Handler<'a>,
 }
 
 /// How a run does not keep the statements of an interrupt handler and of FIQ's handler.
@@ -64,8 +64,8 @@ pub enum VisitedRun {
 /// Both handlers, and the spans of their loops by the numbers of headers.
 #[derive(Clone, Copy)]
 pub(crate) struct Both<'a> {
-    pub(crate) irq: AcceptedHandler<'a>,
-    pub(crate) fiq: AcceptedHandler<'a>,
+    pub(crate) irq: &'a Handler<'a>,
+    pub(crate) fiq: &'a Handler<'a>,
     pub(crate) irq_headers: &'a [Option<Span>],
     pub(crate) fiq_headers: &'a [Option<Span>],
 }
@@ -181,7 +181,7 @@ fn follow_both(
     requires ready { AreReady both }
     requires begun { IsBegun both followers }
     requires can { CanAdvance both followers machine.old }
-    ensures { IsVisitedRun (handled both.entry.irq) (handled both.entry.fiq) machine.old inputs.now
+    ensures { IsVisitedRun (handled both.entry.irq.now) (handled both.entry.fiq.now) machine.old inputs.now
         machine.new result }
 {
     let exit = both.irq.graph.places().len();
@@ -240,14 +240,14 @@ pub fn follow_visited(
     machine: &mut Machine,
     inputs: &[Input],
 ) -> Result<VisitedRun, AllocError>
-    requires irq { IsHandler handlers.irq.image.now handlers.irq.statement.now handlers.irq.graph.now
-        handlers.irq.tree.now }
-    requires fiq { IsHandler handlers.fiq.image.now handlers.fiq.statement.now handlers.fiq.graph.now
-        handlers.fiq.tree.now }
-    requires prices { handlers.fiq.graph.now.profile ≡ handlers.irq.graph.now.profile }
-    requires machine { IsMachineFor handlers.irq.graph.now machine.old }
+    requires irq { IsHandler handlers.irq.now.image.now handlers.irq.now.statement handlers.irq.now.graph
+        handlers.irq.now.tree }
+    requires fiq { IsHandler handlers.fiq.now.image.now handlers.fiq.now.statement handlers.fiq.now.graph
+        handlers.fiq.now.tree }
+    requires prices { handlers.fiq.now.graph.profile ≡ handlers.irq.now.graph.profile }
+    requires machine { IsMachineFor handlers.irq.now.graph machine.old }
     ensures followed { IfOk result
-        (IsVisitedRun (handled handlers.entry.irq) (handled handlers.entry.fiq) machine.old inputs.now
+        (IsVisitedRun (handled handlers.entry.irq.now) (handled handlers.entry.fiq.now) machine.old inputs.now
         machine.new) }
     ensures refused { IfErr result (λ _. machine.new ≡ machine.old) }
 {

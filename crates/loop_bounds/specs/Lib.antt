@@ -8,6 +8,7 @@ pub mod Keys
 pub mod Extents
 pub mod Layout
 pub mod Tree
+pub mod Handler
 pub mod InPositions
 pub mod TreeParts
 pub mod Nested

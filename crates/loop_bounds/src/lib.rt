@@ -17,6 +17,7 @@ mod compare_pushed;
 mod crossing;
 mod extents;
 mod fault;
+mod handler;
 mod handler_positions;
 mod layout;
 mod loop_instances;
@@ -30,6 +31,7 @@ mod ranks;
 mod tree;
 
 pub use fault::NestFault;
+pub use handler::Handler;
 pub use loop_instances::LoopInstance;
 pub use members::is_back_edge_of;
 pub use nested::{Instance, Instances};

@@ -1,3 +1,6 @@
+ghost use Rattle.std.specs.Prelude.{◌≡◌, IfOk};
+ghost use Rattle.kept_runs.specs.Keeping.{IsHandler};
+
 use crate::puts::Puts;
 use crate::trial::Answer;
 use arcwcet::ReportFault;
@@ -9,7 +12,7 @@ use flow_graph::{
 };
 use loader::Image;
 use longest_walk::{FoldedWalk, Item, Longest, WalkFault, longest};
-use loop_bounds::{Instances, LoopTree, NestFault, nest};
+use loop_bounds::{Handler, Instances, LoopTree, NestFault, nest};
 use samples::nested_countdown::{SOURCE, STATEMENT};
 use sources::{Source, SourceText};
 use std::alloc::Global;
@@ -65,6 +68,29 @@ pub(crate) fn handler_of(
             Err(fault.into())
         }
     }
+}
+
+/// The handler of a source that was read, and a statement.
+pub(crate) fn accepted_on<'s>(
+    alloc: Global,
+    said: &'s Source<'_>,
+    statement: &[u8],
+    profile: &Profile,
+) -> Result<Handler<'s>, ReportFault>
+    ensures image { IfOk result (λ h. h.image.now ≡ said.now.image) }
+    ensures handler { IfOk result (λ h. IsHandler h.image.now h.statement h.graph h.tree) }
+    ensures prices { IfOk result (λ h. h.graph.profile ≡ profile.now) }
+{
+    let image = &said.image;
+    let statement = read_statement(alloc, statement, &said.labels)?;
+    let graph = build(alloc, image, &statement, profile)?;
+    let tree = nest(alloc, &graph, &statement)?;
+    Ok(Handler {
+        image,
+        statement,
+        graph,
+        tree,
+    })
 }
 
 /// Makes a call on the handler of a source and a statement.

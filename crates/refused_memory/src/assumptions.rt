@@ -1,10 +1,14 @@
-use crate::analysis::{HandlerCall, Stated, graph_of, image_of, on_handler};
+ghost use Rattle.std.specs.Prelude.{◌≡◌};
+
+use crate::analysis::{accepted_on, image_of};
 use crate::trial::Answer;
 use arcwcet::ReportFault;
+use bus_ticks::Profile;
+use loop_bounds::Handler;
 use sources::Source;
 use std::alloc::{AllocError, Global};
 use std::collections::BTreeSet;
-use text_explained::{StatedGraph, assumed_text, done_text};
+use text_explained::{assumed_text, done_text};
 
 // Transfers for which no class is stated. Two may write R15, and no target is stated for them; the first is
 // done.
@@ -68,40 +72,38 @@ fn done_words(alloc: Global) -> Result<BTreeSet<u32>, AllocError> {
 
 fn assumed(
     alloc: Global,
-    stated: StatedGraph<'_>,
+    source: &Source<'_>,
+    handler: &Handler<'_>,
     expected: &'static [u8],
-) -> Result<Answer, ReportFault> {
-    Ok(Answer::of_text(assumed_text(alloc, stated), expected))
+) -> Result<Answer, ReportFault>
+    requires { handler.now.image.now ≡ source.now.image }
+{
+    Ok(Answer::of_text(assumed_text(alloc, source, handler), expected))
 }
 
 fn done(
     alloc: Global,
-    stated: StatedGraph<'_>,
+    source: &Source<'_>,
+    handler: &Handler<'_>,
     expected: &'static [u8],
-) -> Result<Answer, ReportFault> {
+) -> Result<Answer, ReportFault>
+    requires { handler.now.image.now ≡ source.now.image }
+{
     let words = done_words(alloc)?;
-    Ok(Answer::of_text(done_text(alloc, stated, &words), expected))
-}
-
-impl HandlerCall for AssumedCall {
-    fn on(self, alloc: Global, handler: &Stated) -> Result<Answer, ReportFault> {
-        let graph = graph_of(alloc, handler)?;
-        let source = self.source(alloc)?;
-        let stated = StatedGraph {
-            source: &source,
-            statement: &handler.statement,
-            graph: &graph,
-        };
-        match self {
-            AssumedCall::Source => assumed(alloc, stated, SOURCE_ASSUMPTIONS),
-            AssumedCall::Image => assumed(alloc, stated, IMAGE_ASSUMPTIONS),
-            AssumedCall::SourceDone => done(alloc, stated, SOURCE_DONE),
-            AssumedCall::ImageDone => done(alloc, stated, IMAGE_DONE),
-        }
-    }
+    Ok(Answer::of_text(done_text(alloc, source, handler, &words), expected))
 }
 
 impl AssumedCall {
+    fn on(self, alloc: Global, source: &Source<'_>) -> Result<Answer, ReportFault> {
+        let handler = accepted_on(alloc, source, STATEMENT, &Profile::one())?;
+        match self {
+            AssumedCall::Source => assumed(alloc, source, &handler, SOURCE_ASSUMPTIONS),
+            AssumedCall::Image => assumed(alloc, source, &handler, IMAGE_ASSUMPTIONS),
+            AssumedCall::SourceDone => done(alloc, source, &handler, SOURCE_DONE),
+            AssumedCall::ImageDone => done(alloc, source, &handler, IMAGE_DONE),
+        }
+    }
+
     // The source that the call reports by.
     fn source(self, alloc: Global) -> Result<Source<'static>, ReportFault> {
         let source = Source::read(alloc, SOURCE)?;
@@ -113,6 +115,9 @@ impl AssumedCall {
 
     /// Makes the call, and answers what it did.
     pub(crate) fn made(self, alloc: Global) -> Result<Answer, ReportFault> {
-        on_handler(alloc, SOURCE, STATEMENT, self)
+        let source = self.source(alloc)?;
+        let answer = self.on(alloc, &source);
+        drop(source);
+        answer
     }
 }

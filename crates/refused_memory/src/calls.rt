@@ -48,7 +48,7 @@ impl Trial for Pure {
             Pure::Listing(call) => call.made(alloc),
             Pure::Analysis(call) => on_nested(alloc, call),
             Pure::Certificate(call) => call.made(alloc),
-            Pure::Explained(call) => on_nested(alloc, call),
+            Pure::Explained(call) => call.made(alloc),
             Pure::Assumed(call) => call.made(alloc),
             Pure::Draft => Drafted.made(alloc),
             Pure::Follow(call) => call.made(alloc),

@@ -15,7 +15,8 @@ entry = \"start\"  # line 1: start MOV R1,#&3200000
 # leave = \"ram\"  # where it returns to, if always to one: \"ram\", \"rom\" or \"io\"
 returns = \"stated\"
 
-# What loads and stores reach: \"any\", \"ram\", \"rom\" or \"io\".
+# What loads and stores reach: \"any\", \"ram\", \"rom\" or \"io\"; for devices of one speed
+# \"slow\", \"medium\", \"fast\" or \"synchronous\".
 access = [
   {at = \"read\", class = \"any\"},  # line 2: read LDRB R0,[R1]
 ]

@@ -1,12 +1,17 @@
-use crate::analysis::{HandlerCall, Stated, graph_of, image_of, walk_of};
+ghost use Rattle.std.specs.Prelude.{◌≡◌};
+ghost use Rattle.loop_bounds.specs.Tree.{IsTree};
+
+use crate::analysis::{accepted_on, image_of};
 use crate::trial::Answer;
 use arcwcet::ReportFault;
+use bus_ticks::Profile;
 use flow_graph::Graph;
-use longest_walk::Longest;
-use samples::nested_countdown::SOURCE;
+use longest_walk::{Longest, longest};
+use loop_bounds::Handler;
+use samples::nested_countdown::{SOURCE, STATEMENT};
 use sources::Source;
 use std::alloc::Global;
-use text_explained::{StatedGraph, TimedWalk, cost_table};
+use text_explained::{TimedWalk, cost_table};
 use walk_counts::edge_counts;
 
 /// The bound of the nested countdown, by the lines of its source.
@@ -52,11 +57,14 @@ pub(crate) enum ExplainedCall {
 
 fn table(
     alloc: Global,
-    handler: StatedGraph<'_>,
+    source: &Source<'_>,
+    handler: &Handler<'_>,
     walk: TimedWalk<'_>,
     expected: &'static [u8],
-) -> Answer {
-    Answer::of_text(cost_table(alloc, handler, walk), expected)
+) -> Answer
+    requires { handler.now.image.now ≡ source.now.image }
+{
+    Answer::of_text(cost_table(alloc, source, handler, walk), expected)
 }
 
 fn counted(alloc: Global, graph: &Graph, found: &Longest) -> Answer {
@@ -67,29 +75,41 @@ fn counted(alloc: Global, graph: &Graph, found: &Longest) -> Answer {
 }
 
 impl ExplainedCall {
-    fn on_graph(
+    fn on_handler(
         self,
         alloc: Global,
-        handler: &Stated,
-        graph: &Graph,
-    ) -> Result<Answer, ReportFault> {
-        let found = walk_of(alloc, handler, graph)?;
-        let source = self.source(alloc)?;
-        let stated = StatedGraph {
-            source: &source,
-            statement: &handler.statement,
-            graph,
-        };
+        source: &Source<'_>,
+        handler: &Handler<'_>,
+    ) -> Result<Answer, ReportFault>
+        requires image { handler.now.image.now ≡ source.now.image }
+        requires tree { IsTree handler.now.graph handler.now.tree }
+    {
+        let found = longest(alloc, &handler.graph, &handler.tree)?;
         let starts = NESTED_STARTS;
         let timed = TimedWalk {
             longest: &found,
             starts: starts.as_slice(),
         };
         match self {
-            ExplainedCall::Lines => Ok(table(alloc, stated, timed, NESTED_LINES)),
-            ExplainedCall::Words => Ok(table(alloc, stated, timed, NESTED_WORDS)),
-            ExplainedCall::Counts => Ok(counted(alloc, graph, &found)),
+            ExplainedCall::Lines => Ok(table(alloc, source, handler, timed, NESTED_LINES)),
+            ExplainedCall::Words => Ok(table(alloc, source, handler, timed, NESTED_WORDS)),
+            ExplainedCall::Counts => Ok(counted(alloc, &handler.graph, &found)),
         }
+    }
+
+    fn on(self, alloc: Global, source: &Source<'_>) -> Result<Answer, ReportFault> {
+        let handler = accepted_on(alloc, source, STATEMENT, &Profile::one())?;
+        let answer = self.on_handler(alloc, source, &handler);
+        drop(handler);
+        answer
+    }
+
+    /// Makes the call, and answers what it did.
+    pub(crate) fn made(self, alloc: Global) -> Result<Answer, ReportFault> {
+        let source = self.source(alloc)?;
+        let answer = self.on(alloc, &source);
+        drop(source);
+        answer
     }
 
     // The source that the call explains by.
@@ -99,14 +119,5 @@ impl ExplainedCall {
             ExplainedCall::Words => Ok(image_of(source)),
             ExplainedCall::Lines | ExplainedCall::Counts => Ok(source),
         }
-    }
-}
-
-impl HandlerCall for ExplainedCall {
-    fn on(self, alloc: Global, handler: &Stated) -> Result<Answer, ReportFault> {
-        let graph = graph_of(alloc, handler)?;
-        let answer = self.on_graph(alloc, handler, &graph);
-        drop(graph);
-        answer
     }
 }

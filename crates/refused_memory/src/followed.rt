@@ -2,7 +2,7 @@ ghost use Rattle.std.specs.Prelude.{◌≡◌, IfOk, length};
 ghost use Rattle.kept_runs.specs.Judging.{IsMachineFor};
 ghost use Rattle.kept_runs.specs.Keeping.{IsHandler};
 
-use crate::analysis::{Stated, handler_of};
+use crate::analysis::accepted_on;
 use crate::machine::word_in;
 use crate::machine_files::input;
 use crate::trial::Answer;
@@ -10,12 +10,12 @@ use arcwcet::ReportFault;
 use arm2_exec::{Input, Machine, Reg};
 use bitflags::Flags;
 use bus_ticks::Profile;
-use flow_graph::{Graph, build};
 use ioc::Lines;
-use kept_runs::{AcceptedHandler, Followed, VisitedHandlers, VisitedRun, follow, follow_visited};
+use kept_runs::{Followed, VisitedHandlers, VisitedRun, follow, follow_visited};
 use loader::{Image, load};
-use loop_bounds::{LoopTree, nest};
+use loop_bounds::Handler;
 use memc::PageSize;
+use sources::Source;
 use std::alloc::Global;
 
 /// A countdown from 3 at the address of a machine that was reset. It lets FIQ interrupt it, in R15 and in
@@ -56,42 +56,6 @@ pub(crate) enum FollowCall {
     Visited,
 }
 
-// A handler that was accepted.
-#[derive(Drop)]
-struct Accepted {
-    stated: Stated,
-    graph: Graph,
-    tree: LoopTree,
-}
-
-fn accepted_of(alloc: Global, statement: &[u8], profile: &Profile) -> Result<Accepted, ReportFault>
-    ensures handler { IfOk result (λ a. IsHandler a.stated.image a.stated.statement a.graph a.tree) }
-    ensures prices { IfOk result (λ a. a.graph.profile ≡ profile.now) }
-{
-    let stated = handler_of(alloc, SOURCE, statement)?;
-    let graph = build(alloc, &stated.image, &stated.statement, profile)?;
-    let tree = nest(alloc, &graph, &stated.statement)?;
-    Ok(Accepted {
-        stated,
-        graph,
-        tree,
-    })
-}
-
-fn lent<'a>(handler: &'a Accepted) -> AcceptedHandler<'a>
-    ensures image { result.image.now ≡ handler.now.stated.image }
-    ensures statement { result.statement.now ≡ handler.now.stated.statement }
-    ensures graph { result.graph.now ≡ handler.now.graph }
-    ensures tree { result.tree.now ≡ handler.now.tree }
-{
-    AcceptedHandler {
-        image: &handler.stated.image,
-        statement: &handler.stated.statement,
-        graph: &handler.graph,
-        tree: &handler.tree,
-    }
-}
-
 fn shown(machine: &Machine) -> [Option<u32>; 3] {
     let registers = [machine.get(Reg::R15), machine.get(Reg::R0)];
     [
@@ -123,9 +87,10 @@ fn machine_of(alloc: Global, image: &Image, profile: Profile) -> Result<Machine,
     Ok(machine)
 }
 
-fn without_visit(alloc: Global, handler: AcceptedHandler<'_>, machine: &mut Machine) -> Answer
-    requires handler { IsHandler handler.image.now handler.statement.now handler.graph.now handler.tree.now }
-    requires machine { IsMachineFor handler.graph.now machine.old }
+fn without_visit(alloc: Global, handler: &Handler<'_>, machine: &mut Machine) -> Answer
+    requires handler { IsHandler handler.now.image.now handler.now.statement handler.now.graph
+        handler.now.tree }
+    requires machine { IsMachineFor handler.now.graph machine.old }
 {
     match follow(alloc, handler, machine, &inputs(Lines::empty())) {
         Ok(found) => Answer::of(is_kept(&found) && shown(machine) == AFTER),
@@ -134,12 +99,12 @@ fn without_visit(alloc: Global, handler: AcceptedHandler<'_>, machine: &mut Mach
 }
 
 fn with_visit(alloc: Global, handlers: VisitedHandlers<'_>, machine: &mut Machine) -> Answer
-    requires irq { IsHandler handlers.irq.image.now handlers.irq.statement.now handlers.irq.graph.now
-        handlers.irq.tree.now }
-    requires fiq { IsHandler handlers.fiq.image.now handlers.fiq.statement.now handlers.fiq.graph.now
-        handlers.fiq.tree.now }
-    requires prices { handlers.fiq.graph.now.profile ≡ handlers.irq.graph.now.profile }
-    requires machine { IsMachineFor handlers.irq.graph.now machine.old }
+    requires irq { IsHandler handlers.irq.now.image.now handlers.irq.now.statement handlers.irq.now.graph
+        handlers.irq.now.tree }
+    requires fiq { IsHandler handlers.fiq.now.image.now handlers.fiq.now.statement handlers.fiq.now.graph
+        handlers.fiq.now.tree }
+    requires prices { handlers.fiq.now.graph.profile ≡ handlers.irq.now.graph.profile }
+    requires machine { IsMachineFor handlers.irq.now.graph machine.old }
 {
     match follow_visited(alloc, handlers, machine, &inputs(Lines::F0)) {
         Ok(found) => Answer::of(found == VISITED && shown(machine) == AFTER),
@@ -150,16 +115,23 @@ fn with_visit(alloc: Global, handlers: VisitedHandlers<'_>, machine: &mut Machin
 impl FollowCall {
     /// Makes the call, and answers what it did. Where it is refused, it compares the machine.
     pub(crate) fn made(self, alloc: Global) -> Result<Answer, ReportFault> {
+        let said = Source::read(alloc, SOURCE)?;
+        let answer = self.on(alloc, &said);
+        drop(said);
+        answer
+    }
+
+    fn on(self, alloc: Global, said: &Source<'_>) -> Result<Answer, ReportFault> {
         let profile = Profile::one();
-        let irq = accepted_of(alloc, STATEMENT, &profile)?;
-        let mut machine = machine_of(alloc, &irq.stated.image, profile)?;
+        let irq = accepted_on(alloc, said, STATEMENT, &profile)?;
+        let mut machine = machine_of(alloc, &said.image, profile)?;
         match self {
-            FollowCall::Alone => Ok(without_visit(alloc, lent(&irq), &mut machine)),
+            FollowCall::Alone => Ok(without_visit(alloc, &irq, &mut machine)),
             FollowCall::Visited => {
-                let fiq = accepted_of(alloc, FIQ_STATEMENT, &profile)?;
+                let fiq = accepted_on(alloc, said, FIQ_STATEMENT, &profile)?;
                 let handlers = VisitedHandlers {
-                    irq: lent(&irq),
-                    fiq: lent(&fiq),
+                    irq: &irq,
+                    fiq: &fiq,
                 };
                 Ok(with_visit(alloc, handlers, &mut machine))
             }

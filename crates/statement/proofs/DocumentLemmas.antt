@@ -17,7 +17,7 @@ use Rattle.toml_reading.proofs.TwiceLemmas.{keys_not_distinct}
 use Rattle.statement.specs.StatementRules.{AccessFault, AddressFault, HasAccess, HasFault, HasParts, HasTarget, HasTwo, IsAddress, IsAt, IsSingle, LoopFault, PartsFault, RequiredFault, States, StatesAccess, StatesLoop, StatesTarget, TargetFault}
 use Rattle.statement.specs.Stated.{Stated}
 use Rattle.image.specs.Labels.{Names}
-use Rattle.statement.specs.Statement.{Parts, access_at, access_keys, class_named_at, leave_in, loop_at, named_class, named_returns, parts_of, returns_in, returns_named_at, statement_keys, statement_of, target_at, target_keys, stated_once}
+use Rattle.statement.specs.Statement.{Parts, access_at, access_keys, leave_named_at, leave_in, loop_at, named_leave, named_returns, parts_of, returns_in, returns_named_at, statement_keys, statement_of, target_at, target_keys, stated_once}
 use Rattle.statement.specs.StatementFaults.{number_of, statement_faults}
 use Rattle.statement.specs.declared.faults.StatementFault.{StatementFault}
 use Rattle.statement.specs.declared.stated.Returns.TheVariants.{Assumed}
@@ -39,16 +39,16 @@ pub leave_judged :
     (ms : Members)
     → Judges
     statement_faults
-    (λ c. AtKeyOr (codes "leave") ms (c ≡ Any) (λ d. IsNamed named_class d c))
-    (λ f. AtKey (codes "leave") ms (λ d. NameFault statement_faults named_class d f))
+    (λ c. AtKeyOr (codes "leave") ms (c ≡ Any) (λ d. IsNamed named_leave d c))
+    (λ f. AtKey (codes "leave") ms (λ d. NameFault statement_faults named_leave d f))
     (leave_in ms)
 leave_judged ms =
     optional_judged
     statement_faults
-    (IsNamed named_class)
-    (NameFault statement_faults named_class)
-    class_named_at
-    (named_judged statement_faults named_class)
+    (IsNamed named_leave)
+    (NameFault statement_faults named_leave)
+    leave_named_at
+    (named_judged statement_faults named_leave)
     Any
     (get_member (codes "leave") ms)
 
@@ -123,7 +123,7 @@ module _ (names : Names) where
   abbrev HasEach : Members → Parts → Type 0
   HasEach ms p =
       ((AtKey (codes "entry") ms (λ d. IsAddress names d p.0.0.0)
-      × (AtKeyOr (codes "leave") ms (p.0.0.1.0 ≡ Any) (λ d. IsNamed named_class d p.0.0.1.0)
+      × (AtKeyOr (codes "leave") ms (p.0.0.1.0 ≡ Any) (λ d. IsNamed named_leave d p.0.0.1.0)
       × AtKeyOr (codes "returns") ms (p.0.0.1.1 ≡ Assumed) (λ d. IsNamed named_returns d p.0.0.1.1)))
       × AtKeyOr (codes "loop") ms (p.0.1 ≡ []) (λ d. IsListUpTo 256 (StatesLoop names) d p.0.1))
       × (AtKeyOr (codes "target") ms (p.1.0 ≡ []) (λ d. IsListUpTo 1024 (StatesTarget names) d p.1.0)
@@ -132,7 +132,7 @@ module _ (names : Names) where
   abbrev EachFault : Members → StatementFault → Type 0
   EachFault ms f =
       ((RequiredFault (codes "entry") ms (AddressFault names) f
-      ⊎ (AtKey (codes "leave") ms (λ d. NameFault statement_faults named_class d f)
+      ⊎ (AtKey (codes "leave") ms (λ d. NameFault statement_faults named_leave d f)
       ⊎ AtKey (codes "returns") ms (λ d. NameFault statement_faults named_returns d f)))
       ⊎ AtKey (codes "loop") ms (λ d. ListUpToFault statement_faults 256 (LoopFault names) d f))
       ⊎ (AtKey (codes "target") ms (λ d. ListUpToFault statement_faults 1024 (TargetFault names) d f)
@@ -142,13 +142,13 @@ module _ (names : Names) where
   each_judged ms =
       pair_judged
       statement_faults
-      (λ p. (AtKey (codes "entry") ms (λ d. IsAddress names d p.0.0) × (AtKeyOr (codes "leave") ms (p.0.1.0 ≡ Any) (λ d. IsNamed named_class d p.0.1.0) × AtKeyOr (codes "returns") ms (p.0.1.1 ≡ Assumed) (λ d. IsNamed named_returns d p.0.1.1))) × AtKeyOr (codes "loop") ms (p.1 ≡ []) (λ d. IsListUpTo 256 (StatesLoop names) d p.1))
+      (λ p. (AtKey (codes "entry") ms (λ d. IsAddress names d p.0.0) × (AtKeyOr (codes "leave") ms (p.0.1.0 ≡ Any) (λ d. IsNamed named_leave d p.0.1.0) × AtKeyOr (codes "returns") ms (p.0.1.1 ≡ Assumed) (λ d. IsNamed named_returns d p.0.1.1))) × AtKeyOr (codes "loop") ms (p.1 ≡ []) (λ d. IsListUpTo 256 (StatesLoop names) d p.1))
       (λ p. AtKeyOr (codes "target") ms (p.0 ≡ []) (λ d. IsListUpTo 1024 (StatesTarget names) d p.0) × AtKeyOr (codes "access") ms (p.1 ≡ []) (λ d. IsListUpTo 4096 (StatesAccess names) d p.1))
       _
       _
       _
       _
-      (pair_judged statement_faults (λ p. AtKey (codes "entry") ms (λ d. IsAddress names d p.0) × (AtKeyOr (codes "leave") ms (p.1.0 ≡ Any) (λ d. IsNamed named_class d p.1.0) × AtKeyOr (codes "returns") ms (p.1.1 ≡ Assumed) (λ d. IsNamed named_returns d p.1.1))) _ _ _ _ _ (pair_judged statement_faults _ _ _ _ _ _ (address_in_judged names (codes "entry") ms) (pair_judged statement_faults _ _ _ _ _ _ (leave_judged ms) (returns_judged ms))) (tables_up_to_judged statement_faults 256 (StatesLoop names) (LoopFault names) (loop_at names) (loop_judged names) (get_member (codes "loop") ms)))
+      (pair_judged statement_faults (λ p. AtKey (codes "entry") ms (λ d. IsAddress names d p.0) × (AtKeyOr (codes "leave") ms (p.1.0 ≡ Any) (λ d. IsNamed named_leave d p.1.0) × AtKeyOr (codes "returns") ms (p.1.1 ≡ Assumed) (λ d. IsNamed named_returns d p.1.1))) _ _ _ _ _ (pair_judged statement_faults _ _ _ _ _ _ (address_in_judged names (codes "entry") ms) (pair_judged statement_faults _ _ _ _ _ _ (leave_judged ms) (returns_judged ms))) (tables_up_to_judged statement_faults 256 (StatesLoop names) (LoopFault names) (loop_at names) (loop_judged names) (get_member (codes "loop") ms)))
       (pair_judged statement_faults _ _ _ _ _ _ (tables_up_to_judged statement_faults 1024 (StatesTarget names) (TargetFault names) (target_at names) (target_judged names) (get_member (codes "target") ms)) (tables_up_to_judged statement_faults 4096 (StatesAccess names) (AccessFault names) (access_at names) (access_judged names) (get_member (codes "access") ms)))
 
   -- ## The whole

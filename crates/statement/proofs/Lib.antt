@@ -1,3 +1,4 @@
+pub mod OffsetLemmas
 pub mod StatementLemmas
 pub mod Unique
 pub mod RuleLemmas

@@ -1,5 +1,5 @@
 -- What is tested at a spot, against the fault that the document has there.
-use Rattle.std.proofs.Common.{◌≡◌, ℕ, ℤ, ◌||◌, ◌<◌, ◌≤◌, ◌↔◌, Bool, true, false, not, ◌&&◌, cond, eqb, leb, ltb, List, [], length, map, Option, Some, None, Ok, Err, IsSomeAnd, MatchOption, inl, inr, refl, sym, ap, subst, ◌∙◌, option_map}
+use Rattle.std.proofs.Common.{◌≡◌, ◌⊎◌, ℕ, ℤ, ◌||◌, ◌<◌, ◌≤◌, ◌↔◌, Bool, true, false, not, ◌&&◌, cond, eqb, leb, ltb, List, [], length, map, Option, Some, None, Ok, Err, IsSomeAnd, MatchOption, inl, inr, refl, sym, ap, subst, ◌∙◌, option_map}
 use Rattle.std.specs.Prelude.{codes, is_none, is_some, IsSome}
 use Rattle.std.specs.Cmp.Derive.{both_true}
 use Rattle.std.specs.List.{slice_get}
@@ -18,9 +18,9 @@ use Rattle.toml_reading.proofs.LowestParts.{number_in_judged}
 use Rattle.image.specs.Labels.{Names}
 use Rattle.statement.specs.PlaceTests.{address_of_entry, address_of_table, address_of_value, destination_gives, destinations_of, entry_at, found, gives, goes_on, has_no_destinations, holds_of, is_no_list, is_no_table, is_outside, is_same, is_set, is_too_long, is_unwanted, key_gives, kind_goes, lies_outside, part_gives, repeats, repeats_of, stays, table_at}
 use Rattle.statement.specs.Places.{DestinationFault, GoesOn, InTable, IsFaultAt, IsRepeatAt, KeyFault, PartFault, has_destinations, key_name, keys_of, list_key, most_of}
-use Rattle.statement.specs.Statement.{Read, address_at, address_in, kind_in, named_class, named_kind, named_returns}
+use Rattle.statement.specs.Statement.{Read, address_at, address_in, kind_in, named_class, named_kind, named_leave, named_returns}
 use Rattle.statement.specs.StatementFaults.{number_of, statement_faults}
-use Rattle.statement.specs.StatementRules.{AddressFault, IsAddress, IsAt, IsMisplaced, RequiredFault}
+use Rattle.statement.specs.StatementRules.{AddressFault, IsAddress, IsAt, IsMisplaced, NamesLabel, RequiredFault}
 use Rattle.statement.specs.declared.faults.StatementFault.{StatementFault}
 use Rattle.statement.specs.declared.faults.StatementFault.TheVariants.{OutOfRange, Twice, UnknownKey, UnknownLabel, WrongKind}
 use Rattle.statement.specs.declared.spots.Key.{Key}
@@ -69,11 +69,13 @@ module _ {A : Type 0} (S : A → Type 0) (H : StatementFault → Type 0) where
       → gives r f ≡ true ↔ H f
   gives_is r h one f = gives_by r h.answers one f
 
-single_label :
-    (o : Option ℕ) (P : ℕ → Type 0)
-    → Single (λ f. MatchOption o (f ≡ UnknownLabel) (λ a. P a × (f ≡ OutOfRange)))
-single_label None P f g h k = h ∙ sym k
-single_label (Some a) P f g h k = h.1 ∙ sym k.1
+single_text :
+    (Named Out : Type 0)
+    → Single (λ f. ((¬ Named) × (f ≡ UnknownLabel)) ⊎ (Named × Out × (f ≡ OutOfRange)))
+single_text Named Out f g (inl h) (inl k) = h.1 ∙ sym k.1
+single_text Named Out f g (inl h) (inr k) = absurd (h.0 k.0)
+single_text Named Out f g (inr h) (inl k) = absurd (k.0 h.0)
+single_text Named Out f g (inr h) (inr k) = h.2 ∙ sym k.2
 
 single_number : (o : Option ℤ) (P : ℤ → Type 0) → Single (λ f. MatchOption o (f ≡ WrongKind) (λ z. P z × (f ≡ OutOfRange)))
 single_number None P f g h k = h ∙ sym k
@@ -167,7 +169,7 @@ module _ (names : Names) where
 
   single_address : (d : Data) → Single (AddressFault names d)
   single_address (integer z) f g h k = h.1 ∙ sym k.1
-  single_address (string name) f g h k = single_label (names name) _ f g h k
+  single_address (string text) f g h k = single_text (NamesLabel names text) _ f g h k
   single_address _ f g h k = h ∙ sym k
 
   address_gives : (d : Data) (f : StatementFault) → gives (address_at names d) f ≡ true ↔ AddressFault names d f
@@ -186,8 +188,8 @@ module _ (names : Names) where
   key_is : (of : Option TableList) (key : Key) (ms : Members) (f : StatementFault) → key_gives names of key ms f ≡ true ↔ KeyFault names of key ms f
   key_is None Entry ms f = address_key (codes "entry") ms f
   key_is None Leave ms f =
-      gives_is _ (λ g. AtKey (codes "leave") ms (λ d. NameFault statement_faults named_class d g)) _ (leave_judged ms)
-      (single_optional (NameFault statement_faults named_class) (single_name named_class) (get_member (codes "leave") ms)) f
+      gives_is _ (λ g. AtKey (codes "leave") ms (λ d. NameFault statement_faults named_leave d g)) _ (leave_judged ms)
+      (single_optional (NameFault statement_faults named_leave) (single_name named_leave) (get_member (codes "leave") ms)) f
   key_is None Returns ms f =
       gives_is _ (λ g. AtKey (codes "returns") ms (λ d. NameFault statement_faults named_returns d g)) _ (returns_judged ms)
       (single_optional (NameFault statement_faults named_returns) (single_name named_returns) (get_member (codes "returns") ms)) f

@@ -1,21 +1,24 @@
 -- What holds of all that is read.
-use Rattle.std.proofs.Common.{◌≡◌, ℕ, ℤ, pos, ◌^◌, ◌<◌, ◌≤◌, Bool, true, false, ◌&&◌, cond, eqb, leb, List, [], length, Option, Some, None, Ok, Err, Vec, is_none, sym, ap, ◌∙◌, subst}
+use Rattle.std.proofs.Common.{◌≡◌, ℕ, ℤ, pos, ◌+◌, ◌-◌, ◌%◌, ◌^◌, ◌<◌, ◌≤◌, Bool, true, false, ◌&&◌, cond, eqb, leb, List, [], length, take, drop, Option, Some, None, Ok, Err, Vec, is_none, sym, ap, ◌∙◌, subst}
 use Rattle.std.specs.Prelude.{All, IfOk, codes}
 use Rattle.std.specs.declared.alloc.Global.{Global}
 use Rattle.std.proofs.lemmas.Bool.{and_parts, leb-true}
 use Rattle.std.proofs.lemmas.List.Elements.{All-nil}
+use Rattle.std.specs.Str.Parse.{digits_value}
 use Rattle.toml.specs.Data.{Data, Members, as_integer, as_str, as_table, get_member}
 use Rattle.bus_ticks.specs.declared.profile.Class.{Class}
 use Rattle.walks.specs.declared.limits.TheConstants.{MOST_ROUNDS}
-use Rattle.toml_reading.specs.Documents.{are_distinct, items_at, listed_up_to, number_in, once}
+use Rattle.toml_reading.specs.Documents.{are_distinct, in_space, items_at, listed_up_to, number_in, once}
 use Rattle.toml_reading.specs.Readings.{and_then, pair, items_in, required, reading_map}
 use Rattle.toml_reading.proofs.ReadingLemmas.{also_holds, and_then_holds, pair_holds, check_holds, first_holds, follows_holds, implied, in_space_holds, listed_up_to_holds, number_in_holds, required_holds, second_holds, map_pair, map_second, tables_few, tables_up_to_hold, test_holds}
 use Rattle.statement.specs.ReadingParts.{parts_in}
 use Rattle.statement.specs.Stated.{IsLoop, IsStated, IsTarget, Target}
 use Rattle.image.specs.Labels.{Names}
-use Rattle.statement.specs.Statement.{Parts, Read, accesses_in, address_at, address_in, destinations, destinations_at, target_of_kind, ends_in, kind_in, label_address, leaving_in, loop_at, loop_in, loop_parts, loops_in, number_or_name, parts_of, placed_loop, some_destinations, stated_by, target_at, target_in, targets_in}
+use Rattle.statement.specs.Statement.{Parts, Read, accesses_in, address_at, address_in, at_offset, destinations, destinations_at, target_of_kind, ends_in, kind_in, from_label, is_number, label_or_offset, last_sign, leaving_in, loop_at, loop_in, loop_parts, loops_in, moved, number_or_text, parts_of, placed_loop, sign_at, some_destinations, stated_by, target_at, target_in, targets_in}
 use Rattle.statement.specs.StatementFaults.{statement_faults}
-use Rattle.statement.specs.declared.faults.StatementFault.TheVariants.{OutOfRange, WrongKind, Twice}
+use Rattle.statement.specs.declared.faults.StatementFault.TheVariants.{OutOfRange, UnknownLabel, WrongKind, Twice}
+use Rattle.statement.specs.declared.offsets.Sign.{Sign}
+use Rattle.statement.specs.declared.offsets.Sign.TheVariants.{Plus, Minus}
 use Rattle.statement.specs.declared.stated.Loop.{Loop}
 use Rattle.statement.specs.declared.stated.Returns.{Returns}
 use Rattle.statement.specs.declared.stated.TargetKind.{TargetKind}
@@ -26,19 +29,53 @@ use Rattle.statement.specs.declared.stated.TargetKind.TheVariants.{Jump, Call, R
 abbrev pub IsSmall : ℕ → Type 0
 IsSmall a = a < 2 ^ 26
 
-label_address_small : (o : Option ℕ) → IfOk (label_address o) IsSmall
-label_address_small (Some n) = in_space_holds statement_faults (pos n)
-label_address_small None = tt
+moved_small : (sign : Sign) (bytes label : ℕ) → IfOk (moved sign bytes label) IsSmall
+moved_small Plus bytes label = in_space_holds statement_faults (pos (label + bytes))
+moved_small Minus bytes label = by_order (leb bytes label)
+  where
+    by_order :
+        (b : Bool)
+        → IfOk (cond b (in_space statement_faults (pos (label - bytes))) (Err OutOfRange)) IsSmall
+    by_order true = in_space_holds statement_faults (pos (label - bytes))
+    by_order false = tt
 
-number_or_name_small :
-    (names : Names) (o : Option ℤ) (name : Option (List ℕ))
-    → IfOk (number_or_name names o name) IsSmall
-number_or_name_small names (Some z) name = in_space_holds statement_faults z
-number_or_name_small names None (Some name) = label_address_small (names name)
-number_or_name_small names None None = tt
+from_label_small :
+    (sign : Sign) (bytes : ℕ) (label : Option ℕ) → IfOk (from_label sign bytes label) IsSmall
+from_label_small sign bytes None = tt
+from_label_small sign bytes (Some label) = by_rest (eqb (bytes % 4) 0)
+  where
+    by_rest : (b : Bool) → IfOk (cond b (moved sign bytes label) (Err OutOfRange)) IsSmall
+    by_rest true = moved_small sign bytes label
+    by_rest false = tt
+
+at_offset_small :
+    (names : Names) (text : List ℕ) (at : Option ℕ) → IfOk (at_offset names text at) IsSmall
+at_offset_small names text None = tt
+at_offset_small names text (Some at) = by_digits (is_number (drop (at + 1) text))
+  where
+    by_digits :
+        (b : Bool)
+        → IfOk
+        (cond b (from_label (sign_at text at) (digits_value 10 (drop (at + 1) text)) (names (take at text))) (Err UnknownLabel))
+        IsSmall
+    by_digits true =
+        from_label_small (sign_at text at) (digits_value 10 (drop (at + 1) text)) (names (take at text))
+    by_digits false = tt
+
+label_or_offset_small :
+    (names : Names) (text : List ℕ) (label : Option ℕ) → IfOk (label_or_offset names text label) IsSmall
+label_or_offset_small names text (Some label) = in_space_holds statement_faults (pos label)
+label_or_offset_small names text None = at_offset_small names text (last_sign text)
+
+number_or_text_small :
+    (names : Names) (o : Option ℤ) (text : Option (List ℕ))
+    → IfOk (number_or_text names o text) IsSmall
+number_or_text_small names (Some z) text = in_space_holds statement_faults z
+number_or_text_small names None (Some text) = label_or_offset_small names text (names text)
+number_or_text_small names None None = tt
 
 address_small : (names : Names) (d : Data) → IfOk (address_at names d) IsSmall
-address_small names d = number_or_name_small names (as_integer d) (as_str d)
+address_small names d = number_or_text_small names (as_integer d) (as_str d)
 
 address_in_small : (names : Names) (key : List ℕ) (ms : Members) → IfOk (address_in names key ms) IsSmall
 address_in_small names key ms =

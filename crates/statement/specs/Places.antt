@@ -8,7 +8,8 @@ use Rattle.toml_reading.specs.Documents.{is_one_of, items_at}
 use Rattle.toml_reading.specs.Lowest.{AtKey, IsNamed, NameFault, NumberFault, entries_at}
 use Rattle.image.specs.Labels.{Names}
 use Rattle.walks.specs.declared.limits.TheConstants.{MOST_ROUNDS}
-use Rattle.statement.specs.Statement.{access_keys, loop_keys, named_class, named_kind, named_returns}
+use Rattle.statement.specs.Statement.{access_keys, loop_keys, named_class, named_kind, named_leave}
+use Rattle.statement.specs.Statement.{named_returns}
 use Rattle.statement.specs.Statement.{statement_keys, target_keys}
 use Rattle.statement.specs.StatementFaults.{statement_faults}
 use Rattle.statement.specs.StatementRules.{AddressFault, IsAddress, IsAt, IsMisplaced, RequiredFault}
@@ -109,7 +110,7 @@ module _ (names : Names) where
   -- the fault of a key that the statement may have, but for its lists: of its value, or that there is none
   abbrev pub OwnKeyFault : Key → Members → StatementFault → Type 0
   OwnKeyFault Entry ms fault = RequiredFault (codes "entry") ms (AddressFault names) fault
-  OwnKeyFault Leave ms fault = AtKey (codes "leave") ms (λ d. NameFault statement_faults named_class d fault)
+  OwnKeyFault Leave ms fault = AtKey (codes "leave") ms (λ d. NameFault statement_faults named_leave d fault)
   OwnKeyFault Returns ms fault =
       AtKey (codes "returns") ms (λ d. NameFault statement_faults named_returns d fault)
   OwnKeyFault _ ms fault = ⊥

@@ -1,12 +1,18 @@
 -- Which statement a text states, and its faults, of which the lowest over the whole text is answered (over
 -- the documents of TOML).
-use Rattle.std.specs.Prelude.{◌&&◌, ◌==◌, ℕ, ℤ, pos, List, [], ◌∷◌, length, codes, is_none, Option, Some}
-use Rattle.std.specs.Prelude.{None, Ok, Err, nat_le, if◌then◌else◌}
+use Rattle.std.specs.Prelude.{◌&&◌, ◌==◌, ◌+◌, ◌-◌, ◌%◌, ℕ, ℤ, pos, Bool, List, [], ◌∷◌, length, take, drop}
+use Rattle.std.specs.Prelude.{slice_index, codes, is_none, Option, Some, None, Ok, Err, nat_le, nat_lt}
+use Rattle.std.specs.Prelude.{if◌then◌else◌}
+use Rattle.std.specs.Char.{is_ascii_digit}
+use Rattle.std.specs.List.{list_all}
 use Rattle.std.specs.Map.{keys_of}
 use Rattle.std.specs.Str.{bytes_eq}
+use Rattle.std.specs.Str.Parse.{digits_value}
+use Rattle.memchr.specs.Find.{is_byte2, last_of, places}
 use Rattle.toml.specs.Data.{Data, Members, get_member, as_integer, as_str, as_table}
 use Rattle.bus_ticks.specs.declared.profile.Class.{Class}
 use Rattle.bus_ticks.specs.declared.profile.Class.TheVariants.{Any, Ram, Rom, Io}
+use Rattle.bus_ticks.specs.declared.profile.Class.TheVariants.{Slow, Medium, Fast, Synchronous}
 use Rattle.image.specs.Labels.{Names}
 use Rattle.walks.specs.declared.limits.TheConstants.{MOST_ROUNDS}
 use Rattle.toml_reading.specs.Documents.{IsAnswer, are_distinct, in_space, items_at, listed_up_to, name_at}
@@ -17,6 +23,8 @@ use Rattle.statement.specs.StatementFaults.{statement_faults}
 use Rattle.statement.specs.declared.faults.StatementFault.{StatementFault}
 use Rattle.statement.specs.declared.faults.StatementFault.TheVariants.{NotToml, WrongKind, UnknownLabel}
 use Rattle.statement.specs.declared.faults.StatementFault.TheVariants.{OutOfRange, Twice}
+use Rattle.statement.specs.declared.offsets.Sign.{Sign}
+use Rattle.statement.specs.declared.offsets.Sign.TheVariants.{Plus, Minus}
 use Rattle.statement.specs.declared.stated.Loop.{Loop}
 use Rattle.statement.specs.declared.stated.Returns.{Returns}
 use Rattle.statement.specs.declared.stated.Returns.TheVariants as returns
@@ -48,13 +56,26 @@ class_name Any = codes "any"
 class_name Ram = codes "ram"
 class_name Rom = codes "rom"
 class_name Io = codes "io"
+class_name Slow = codes "slow"
+class_name Medium = codes "medium"
+class_name Fast = codes "fast"
+class_name Synchronous = codes "synchronous"
 
-abbrev pub named_class : List ℕ → Option Class
-named_class w =
+-- the class of the addresses to which a handler leaves, by its name: no speed
+abbrev pub named_leave : List ℕ → Option Class
+named_leave w =
     if bytes_eq w (class_name Any) then Some Any
     else (if bytes_eq w (class_name Ram) then Some Ram
     else (if bytes_eq w (class_name Rom) then Some Rom
     else (if bytes_eq w (class_name Io) then Some Io else None)))
+
+-- the class of the addresses that a word loads or stores, by its name
+abbrev pub named_class : List ℕ → Option Class
+named_class w =
+    if bytes_eq w (class_name Slow) then Some Slow
+    else (if bytes_eq w (class_name Medium) then Some Medium
+    else (if bytes_eq w (class_name Fast) then Some Fast
+    else (if bytes_eq w (class_name Synchronous) then Some Synchronous else named_leave w)))
 
 abbrev pub named_kind : List ℕ → Option TargetKind
 named_kind w = if bytes_eq w (codes "jump") then Some Jump else (if bytes_eq w (codes "call") then Some Call
@@ -67,7 +88,10 @@ abbrev pub named_returns : List ℕ → Option Returns
 named_returns w = if bytes_eq w (codes "assumed") then Some returns.Assumed
     else (if bytes_eq w (codes "stated") then Some returns.Stated else None)
 
--- the class that a value names
+-- the class to leave to that a value names, and the class of a transfer
+abbrev pub leave_named_at : Data → Read Class
+leave_named_at d = name_at statement_faults named_leave d
+
 abbrev pub class_named_at : Data → Read Class
 class_named_at d = name_at statement_faults named_class d
 
@@ -79,18 +103,60 @@ kind_at d = name_at statement_faults named_kind d
 
 -- ## Addresses
 
-abbrev pub label_address : Option ℕ → Read ℕ
-label_address (Some n) = in_space statement_faults (pos n)
-label_address None = Err UnknownLabel
+-- `+` and `-`
+abbrev pub sign_byte : Sign → ℕ
+sign_byte Plus = 43
+sign_byte Minus = 45
 
--- an integer, or a text that names a label
-abbrev pub number_or_name : Names → Option ℤ → Option (List ℕ) → Read ℕ
-number_or_name names (Some z) name = in_space statement_faults z
-number_or_name names None (Some name) = label_address (names name)
-number_or_name names None None = Err WrongKind
+-- the index of the last sign in a text
+abbrev pub last_sign : List ℕ → Option ℕ
+last_sign text = last_of (places (is_byte2 (sign_byte Plus) (sign_byte Minus)) text)
+
+abbrev pub sign_at : List ℕ → ℕ → Sign
+sign_at text at = if slice_index text at == sign_byte Plus then Plus else Minus
+
+-- one decimal digit or more
+abbrev pub is_number : List ℕ → Bool
+is_number digits = nat_lt 0 (length digits) && list_all is_ascii_digit digits
+
+-- the address so many bytes past a label, or before it
+abbrev pub moved : Sign → ℕ → ℕ → Read ℕ
+moved Plus bytes label = in_space statement_faults (pos (label + bytes))
+moved Minus bytes label =
+    if nat_le bytes label then in_space statement_faults (pos (label - bytes)) else Err OutOfRange
+
+-- by whole words
+abbrev pub by_words : Sign → ℕ → ℕ → Read ℕ
+by_words sign bytes label = if bytes % 4 == 0 then moved sign bytes label else Err OutOfRange
+
+abbrev pub from_label : Sign → ℕ → Option ℕ → Read ℕ
+from_label sign bytes None = Err UnknownLabel
+from_label sign bytes (Some label) = by_words sign bytes label
+
+-- a label's name before the sign at an index, and a number of bytes after it
+abbrev pub at_offset : Names → List ℕ → Option ℕ → Read ℕ
+at_offset names text None = Err UnknownLabel
+at_offset names text (Some at) =
+    if is_number (drop (at + 1) text)
+    then from_label (sign_at text at) (digits_value 10 (drop (at + 1) text)) (names (take at text))
+    else Err UnknownLabel
+
+-- a label's address, where the text is a label
+abbrev pub label_or_offset : Names → List ℕ → Option ℕ → Read ℕ
+label_or_offset names text (Some label) = in_space statement_faults (pos label)
+label_or_offset names text None = at_offset names text (last_sign text)
+
+abbrev pub text_address : Names → List ℕ → Read ℕ
+text_address names text = label_or_offset names text (names text)
+
+-- an integer, or a text
+abbrev pub number_or_text : Names → Option ℤ → Option (List ℕ) → Read ℕ
+number_or_text names (Some z) text = in_space statement_faults z
+number_or_text names None (Some text) = text_address names text
+number_or_text names None None = Err WrongKind
 
 abbrev pub address_at : Names → Data → Read ℕ
-address_at names d = number_or_name names (as_integer d) (as_str d)
+address_at names d = number_or_text names (as_integer d) (as_str d)
 
 -- ## Parts without addresses
 
@@ -108,7 +174,7 @@ class_in ms = required statement_faults (get_member (codes "class") ms) class_na
 
 -- the class to leave to: any where the key is missing
 abbrev pub leave_in : Members → Read Class
-leave_in ms = optional Any (get_member (codes "leave") ms) class_named_at
+leave_in ms = optional Any (get_member (codes "leave") ms) leave_named_at
 
 -- what such a word does: it returns where the key is missing
 abbrev pub returns_in : Members → Read Returns

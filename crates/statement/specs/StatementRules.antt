@@ -1,7 +1,8 @@
 -- What a document states of a handler and which faults it has, key by key (over the documents of TOML).
-use Rattle.std.specs.Prelude.{◌≡◌, ◌≢◌, ◌≤◌, ◌⊎◌, ℕ, pos, true, List, [], codes, Option, Some, IsTrue}
-use Rattle.std.specs.Prelude.{None, IsSomeAnd, MatchOption}
+use Rattle.std.specs.Prelude.{◌≡◌, ◌≢◌, ◌≤◌, ◌⊎◌, ◌+◌, ◌%◌, ℕ, pos, true, List, [], ◌∷◌, ◌++◌, codes, IsTrue}
+use Rattle.std.specs.Prelude.{Option, Some, None, IsSomeAnd, MatchOption, ⊤}
 use Rattle.std.specs.Map.{keys_of}
+use Rattle.std.specs.Str.Parse.{IsNumeral, digits_value}
 use Rattle.toml.specs.Data.{Data, Members, integer, string, get_member, as_table}
 use Rattle.bus_ticks.specs.declared.profile.Class.{Class}
 use Rattle.bus_ticks.specs.declared.profile.Class.TheVariants.{Any}
@@ -13,12 +14,15 @@ use Rattle.toml_reading.specs.Lowest.{AtKey, AtKeyOr, IsNamed, IsNoAddress, IsNu
 use Rattle.toml_reading.specs.Lowest.{KeysFault, NameFault, NumberFault, TableFault}
 use Rattle.statement.specs.Stated.{Stated, Target}
 use Rattle.image.specs.Labels.{Names}
-use Rattle.statement.specs.Statement.{access_keys, loop_keys, named_class, named_kind, named_returns}
+use Rattle.statement.specs.Statement.{access_keys, loop_keys, named_class, named_kind, named_leave}
+use Rattle.statement.specs.Statement.{named_returns, sign_byte}
 use Rattle.statement.specs.Statement.{statement_keys, target_keys}
 use Rattle.statement.specs.StatementFaults.{statement_faults}
 use Rattle.statement.specs.declared.faults.StatementFault.{StatementFault}
 use Rattle.statement.specs.declared.faults.StatementFault.TheVariants.{WrongKind, UnknownLabel, OutOfRange}
 use Rattle.statement.specs.declared.faults.StatementFault.TheVariants.{Twice}
+use Rattle.statement.specs.declared.offsets.Sign.{Sign}
+use Rattle.statement.specs.declared.offsets.Sign.TheVariants.{Plus, Minus}
 use Rattle.statement.specs.declared.stated.Loop.{Loop}
 use Rattle.statement.specs.declared.stated.Returns.TheVariants.{Assumed}
 use Rattle.statement.specs.declared.stated.TargetKind.{TargetKind}
@@ -26,18 +30,58 @@ use Rattle.statement.specs.declared.stated.TargetKind.TheVariants.{Jump, Call, R
 
 -- ## Values
 
--- an integer is an address itself, and a text names a label at one
+-- the name of a label, a sign, and a number of bytes in decimal
+pub record IsOffset (names : Names) (text : List ℕ) (sign : Sign) (bytes label : ℕ) : Type 0 where
+  pub name : List ℕ
+  pub digits : List ℕ
+  pub spelled : text ≡ name ++ sign_byte sign ∷ digits
+  pub decimal : IsNumeral 10 digits
+  pub number : bytes ≡ digits_value 10 digits
+  pub named : names name ≡ Some label
+
+-- so many bytes past a label's address, or before it
+abbrev pub IsMoved : Sign → ℕ → ℕ → ℕ → Type 0
+IsMoved Plus bytes label a = label + bytes ≡ a
+IsMoved Minus bytes label a = a + bytes ≡ label
+
+-- whole words past a label, or before it
+abbrev pub IsAtOffset : Names → List ℕ → ℕ → Type 0
+IsAtOffset names text a =
+    (sign : Sign)
+    × (bytes : ℕ)
+    × (label : ℕ)
+    × IsOffset names text sign bytes label
+    × (bytes % 4 ≡ 0)
+    × IsMoved sign bytes label a
+
+-- the address of a text: a label's own, or where it is no label, that of whole words from one
+abbrev pub IsPlace : Names → List ℕ → ℕ → Type 0
+IsPlace names text a = MatchOption (names text) (IsAtOffset names text a) (λ label. label ≡ a)
+
+-- a label, or a label with a sign and a number of bytes
+abbrev pub NamesLabel : Names → List ℕ → Type 0
+NamesLabel names text =
+    MatchOption (names text)
+    ((sign : Sign) × (bytes : ℕ) × (label : ℕ) × IsOffset names text sign bytes label) (λ label. ⊤)
+
+-- an integer is an address itself; a text gives one by a label, or by a label and whole words
 abbrev pub IsAddress : Names → Data → ℕ → Type 0
 IsAddress names (integer z) a = (z ≡ pos a) × IsTrue (is_word_address a)
-IsAddress names (string name) a = (names name ≡ Some a) × IsTrue (is_word_address a)
+IsAddress names (string text) a = IsPlace names text a × IsTrue (is_word_address a)
 IsAddress names _ a = ⊥
 
--- an integer or a label's address out of range, a text that names no label, or another type
+-- a text that names no label, or one that names a label and no address of a word
+abbrev pub TextFault : Names → List ℕ → StatementFault → Type 0
+TextFault names text fault =
+    ((¬ NamesLabel names text) × (fault ≡ UnknownLabel))
+    ⊎ (NamesLabel names text
+    × ((a : ℕ) → IsPlace names text a → ¬ IsTrue (is_word_address a))
+    × (fault ≡ OutOfRange))
+
+-- an integer out of range, a text that has a fault, or another type
 abbrev pub AddressFault : Names → Data → StatementFault → Type 0
 AddressFault names (integer z) fault = IsNoAddress z × (fault ≡ OutOfRange)
-AddressFault names (string name) fault =
-    MatchOption (names name) (fault ≡ UnknownLabel)
-    (λ a. (¬ IsTrue (is_word_address a)) × (fault ≡ OutOfRange))
+AddressFault names (string text) fault = TextFault names text fault
 AddressFault names _ fault = fault ≡ WrongKind
 
 -- the fault of a key that must be there: it is missing, or its value has the fault
@@ -157,7 +201,7 @@ module _ (names : Names) where
   -- list is missing
   pub record HasParts (ms : Members) (st : Stated) : Type 0 where
     pub entry : AtKey (codes "entry") ms (λ d. IsAddress names d st.entry)
-    pub leave : AtKeyOr (codes "leave") ms (st.leave ≡ Any) (λ d. IsNamed named_class d st.leave)
+    pub leave : AtKeyOr (codes "leave") ms (st.leave ≡ Any) (λ d. IsNamed named_leave d st.leave)
     pub returns : AtKeyOr (codes "returns") ms (st.returns ≡ Assumed)
         (λ d. IsNamed named_returns d st.returns)
     pub loops : AtKeyOr (codes "loop") ms (st.loops ≡ []) (λ d. IsListUpTo 256 StatesLoop d st.loops)
@@ -188,7 +232,7 @@ module _ (names : Names) where
   abbrev pub PartsFault : Members → StatementFault → Type 0
   PartsFault ms fault =
       RequiredFault (codes "entry") ms (AddressFault names) fault
-      ⊎ AtKey (codes "leave") ms (λ d. NameFault statement_faults named_class d fault)
+      ⊎ AtKey (codes "leave") ms (λ d. NameFault statement_faults named_leave d fault)
       ⊎ AtKey (codes "returns") ms (λ d. NameFault statement_faults named_returns d fault)
       ⊎ AtKey (codes "loop") ms (λ d. ListUpToFault statement_faults 256 LoopFault d fault)
       ⊎ AtKey (codes "target") ms (λ d. ListUpToFault statement_faults 1024 TargetFault d fault)

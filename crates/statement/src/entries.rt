@@ -6,11 +6,13 @@ ghost use Rattle.toml_reading.specs.Readings.{and_then, items_in};
 ghost use Rattle.statement.specs.Statement.{access_at, access_in, address_at, address_in, class_named_at};
 ghost use Rattle.statement.specs.Statement.{class_in, class_name};
 ghost use Rattle.statement.specs.Statement.{destinations, destinations_at, target_of_kind, kind_at, kind_in};
-ghost use Rattle.statement.specs.Statement.{label_address, loop_at, loop_in, loop_parts, named_class};
-ghost use Rattle.statement.specs.Statement.{named_kind, named_returns, placed_loop, returns_named_at};
+ghost use Rattle.statement.specs.Statement.{leave_named_at, loop_at, loop_in, loop_parts, named_class};
+ghost use Rattle.statement.specs.Statement.{named_kind, named_leave, named_returns, placed_loop};
+ghost use Rattle.statement.specs.Statement.{returns_named_at};
 ghost use Rattle.statement.specs.Statement.{some_destinations, target_at, target_in};
 
 use crate::faults::{Read, StatementFault};
+use crate::offsets::text_address;
 use crate::stated::{Loop, Returns, Target, TargetKind};
 use bus_ticks::Class;
 use image::Labels;
@@ -34,26 +36,14 @@ pub const ACCESS_KEYS: &[&str] = &["at", "class"];
 /// The most destinations of a target.
 pub const MOST_DESTINATIONS: usize = 64;
 
-fn label_address(address: Option<u32>) -> Read<u32>
-    ensures { result ≡ label_address address }
-{
-    match address {
-        Some(address) => in_space(i64::from(address)),
-        None => Err(StatementFault::UnknownLabel),
-    }
-}
-
-/// An address, as an integer or as a label's name.
+/// An address, as an integer or as a text that names a label.
 pub(crate) fn address_at(labels: &Labels, value: &Value) -> Read<u32>
     ensures { result ≡ address_at (address_of labels.now) (view value.now) }
 {
     if let Some(number) = value.as_integer() {
         return in_space(number);
     }
-    required(
-        value.as_str(),
-        |name| label_address(labels.get(name.as_bytes())),
-    )
+    required(value.as_str(), |text| text_address(labels, text.as_bytes()))
 }
 
 /// The address at a key that must be there.
@@ -127,12 +117,17 @@ pub fn class_name(class: Class) -> &'static str
         Class::Ram => "ram",
         Class::Rom => "rom",
         Class::Io => "io",
+        Class::Slow => "slow",
+        Class::Medium => "medium",
+        Class::Fast => "fast",
+        Class::Synchronous => "synchronous",
     }
 }
 
-/// The class that a word names in a statement.
-pub fn named_class(word: &[u8]) -> Option<Class>
-    ensures { result ≡ named_class word.now }
+/// The class that a word names for the addresses to which a handler leaves. No handler leaves to the devices
+/// of one speed.
+pub fn named_leave(word: &[u8]) -> Option<Class>
+    ensures { result ≡ named_leave word.now }
 {
     if word == class_name(Class::Any).as_bytes() {
         return Some(Class::Any);
@@ -149,7 +144,34 @@ pub fn named_class(word: &[u8]) -> Option<Class>
     None
 }
 
-/// The class that a value names.
+/// The class that a word names for the addresses that a word loads or stores.
+pub fn named_class(word: &[u8]) -> Option<Class>
+    ensures { result ≡ named_class word.now }
+{
+    if word == class_name(Class::Slow).as_bytes() {
+        return Some(Class::Slow);
+    }
+    if word == class_name(Class::Medium).as_bytes() {
+        return Some(Class::Medium);
+    }
+    if word == class_name(Class::Fast).as_bytes() {
+        return Some(Class::Fast);
+    }
+    if word == class_name(Class::Synchronous).as_bytes() {
+        return Some(Class::Synchronous);
+    }
+    named_leave(word)
+}
+
+/// The class that a value names for the addresses to which a handler leaves.
+pub(crate) fn leave_named_at(value: &Value) -> Read<Class>
+    ensures { result ≡ leave_named_at (view value.now) }
+{
+    let word = value.as_str().map(str::as_bytes);
+    required(word.and_then(named_leave), Ok)
+}
+
+/// The class that a value names for the addresses that a word loads or stores.
 pub(crate) fn class_named_at(value: &Value) -> Read<Class>
     ensures { result ≡ class_named_at (view value.now) }
 {

@@ -25,12 +25,12 @@ pub enum StatementFault {
     /// misplaced.
     #[error("WrongKind")]
     WrongKind,
-    /// A text in place of an address names no label.
+    /// A text in place of an address is no label, nor one with `+` or `-` and a number of bytes.
     #[error("UnknownLabel")]
     UnknownLabel,
-    /// An address is no multiple of 4 or not from 0 to 3FFFFFC, a bound is not from 0 to 1,048,576, a header
-    /// lies outside first to last, or there are more than 256 loops, 1,024 targets, 64 destinations or 4,096
-    /// accesses.
+    /// An address, or a number of bytes behind a label, is no multiple of 4, an address is not from 0 to
+    /// 3FFFFFC, a bound is not from 0 to 1,048,576, a header lies outside first to last, or there are more
+    /// than 256 loops, 1,024 targets, 64 destinations or 4,096 accesses.
     #[error("OutOfRange")]
     OutOfRange,
     /// Two targets or two accesses are stated for one address, or a destination twice.

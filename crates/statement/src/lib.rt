@@ -5,6 +5,7 @@
 mod entries;
 mod faults;
 mod law;
+mod offsets;
 mod parts;
 mod places;
 mod reading;
@@ -14,7 +15,7 @@ mod stated;
 
 pub use entries::{
     ACCESS_KEYS, LOOP_KEYS, MOST_DESTINATIONS, TARGET_KEYS, class_name, named_class, named_kind,
-    named_returns,
+    named_leave, named_returns,
 };
 pub use faults::StatementFault;
 pub use law::{faults_have_spots, statements_are_read, statements_are_stated};

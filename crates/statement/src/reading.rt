@@ -7,7 +7,7 @@ ghost use Rattle.statement.specs.Stated.{IsStated};
 ghost use Rattle.statement.specs.Statement.{IsStatement, ends_in, leave_in, leaving_in, parts_of, returns_in};
 ghost use Rattle.statement.specs.Statement.{stated_by, stated_once, statement_of};
 
-use crate::entries::{address_in, class_named_at, returns_named_at};
+use crate::entries::{address_in, leave_named_at, returns_named_at};
 use crate::faults::{Read, StatementFault};
 use crate::stated::{Loop, Returns, Statement, Target};
 use bus_ticks::Class;
@@ -32,7 +32,7 @@ pub const MOST_ACCESSES: usize = 4096;
 pub(crate) fn leave_in(table: &Table) -> Read<Class>
     ensures { result ≡ leave_in (table_view table.now) }
 {
-    value_at(table, "leave").map_or(Ok(Class::Any), class_named_at)
+    value_at(table, "leave").map_or(Ok(Class::Any), leave_named_at)
 }
 
 /// What a word does that writes R15 and has no stated target.

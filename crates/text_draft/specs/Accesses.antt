@@ -8,20 +8,20 @@ use Rattle.arm2_decode.specs.declared.instr.Operation.{Operation}
 use Rattle.arm2_decode.specs.declared.instr.Operation.TheVariants as operation
 use Rattle.arm2_decode.specs.declared.instr.SingleImmediate.{SingleImmediate}
 use Rattle.arm2_transfer.specs.Registers.{address_by}
-use Rattle.bus_ticks.specs.Prices.{ahead_of, class_of}
+use Rattle.bus_ticks.specs.Prices.{ahead_of, narrowest_class}
 use Rattle.bus_ticks.specs.declared.profile.Class.{Class}
 use Rattle.bus_ticks.specs.declared.profile.Class.TheVariants.{Any}
 use Rattle.text_draft.specs.Picks.{Picks}
 use Rattle.image.specs.Image.{Words}
 use Rattle.word_shapes.specs.Words.{HasInstr, MayDo}
 
--- it loads or stores one word or byte so many bytes from PC, and that is at an address of the class
+-- it loads or stores one word or byte so many bytes from PC, and the class is the narrowest of that address
 pub record IsByPc (at : ℕ) (o : Operation) (class : Class) : Type 0 where
   pub transfer : SingleImmediate
   pub single : o ≡ operation.SingleImmediate transfer
   pub by_pc : is_pc transfer.rn ≡ true
   pub class_is : class
-      ≡ class_of (address_by transfer.before transfer.up (ahead_of at 8) transfer.offset)
+      ≡ narrowest_class (address_by transfer.before transfer.up (ahead_of at 8) transfer.offset)
 
 -- the class rests on the operation alone: it is any, or the operation shows the address
 abbrev pub RestsOn : (at : ℕ) → Operation → Class → Type 0

@@ -81,8 +81,9 @@ module _ (lines : BTreeMap ℕ SourceLine) where
 
   abbrev pub access_list_text : List (ℕ × Class) → List ℕ
   access_list_text accesses =
-      codes "\n# What loads and stores reach: \"any\", \"ram\", \"rom\" or \"io\".\naccess = [\n"
-      ++ (flat_map access_text accesses ++ codes "]\n")
+      codes "\n# What loads and stores reach: \"any\", \"ram\", \"rom\" or \"io\"; for devices of one speed\n"
+      ++ (codes "# \"slow\", \"medium\", \"fast\" or \"synchronous\".\naccess = [\n"
+      ++ (flat_map access_text accesses ++ codes "]\n"))
 
   -- all loads and stores, if there are any
   abbrev pub accesses_text : List (ℕ × Class) → List ℕ

@@ -3,7 +3,7 @@ ghost use Rattle.std.specs.Map.{keys_of};
 ghost use Rattle.text_draft.specs.Accesses.{AreAccesses, RestsOn, RestsOnWord};
 ghost use Rattle.text_draft.specs.Picks.{Keeps};
 ghost use Rattle.arm2_decode.specs.Writers.{is_transfer};
-ghost use Rattle.bus_ticks.specs.Prices.{class_of};
+ghost use Rattle.bus_ticks.specs.Prices.{narrowest_class};
 ghost use Rattle.bus_ticks.specs.declared.profile.Class.{Class};
 ghost use Rattle.word_shapes.specs.Words.{MayDo};
 
@@ -12,17 +12,21 @@ use crate::reach::Reached;
 use crate::ways::before;
 use arm2_decode::{Block, Operation, SingleImmediate};
 use arm2_transfer::address_by;
-use bus_ticks::{Class, SPACE_END, ahead_of, class_of};
+use bus_ticks::{Class, SPACE_END, ahead_of, class_of, narrowest_class};
 use image::Image;
 use std::alloc::{AllocError, Global};
 use word_shapes::{instr_at, may_transfer_at};
 
-// The class of both addresses, where they are of one.
+// The narrowest class of both addresses, where they are of one.
 fn class_from(first: u32, last: u32) -> Class
-    ensures { (result ≡ Class.Any) ⊎ (result ≡ class_of first) }
+    ensures { (first ≡ last) → (result ≡ Class.Any) ⊎ (result ≡ narrowest_class first) }
 {
     if first >= SPACE_END || last >= SPACE_END {
         return Class::Any;
+    }
+    let narrow = narrowest_class(first);
+    if narrow == narrowest_class(last) {
+        return narrow;
     }
     let class = class_of(first);
     if class == class_of(last) {

@@ -130,7 +130,8 @@ impl<'a> Sheet<'_, 'a> {
     {
         put(
             out,
-            b"\n# What loads and stores reach: \"any\", \"ram\", \"rom\" or \"io\".\naccess = [\n",
+            b"\n# What loads and stores reach: \"any\", \"ram\", \"rom\" or \"io\"; for devices of one speed\n\
+# \"slow\", \"medium\", \"fast\" or \"synchronous\".\naccess = [\n",
         )?;
         self.put_each_access(out, accesses)?;
         put(out, b"]\n")

@@ -19,7 +19,7 @@ layout Each = record { name = codes "each"; gap = 1; width = 5 }
 layout Ticks = record { name = codes "ticks"; gap = 1; width = 6 }
 layout Share = record { name = codes "share"; gap = 1; width = 6 }
 layout Latest = record { name = codes "latest"; gap = 1; width = 6 }
-layout PricedAs = record { name = codes "priced as"; gap = 0; width = 10 }
+layout PricedAs = record { name = codes "priced as"; gap = 1; width = 9 }
 layout Line = record { name = codes "line"; gap = 1; width = 4 }
 layout Address = record { name = codes "address"; gap = 2; width = 8 }
 layout Text = record { name = codes "text"; gap = 2; width = 0 }

@@ -5,6 +5,8 @@ use Rattle.arm2_decode.specs.Writers.{is_transfer}
 use Rattle.arm2_decode.specs.declared.instr.Instr.{Instr}
 use Rattle.arm2_decode.specs.declared.instr.Operation.{Operation}
 use Rattle.bus_ticks.specs.declared.profile.Class.{Class}
+use Rattle.bus_ticks.specs.declared.profile.Class.TheVariants.{Any, Ram, Rom, Io}
+use Rattle.bus_ticks.specs.declared.profile.Class.TheVariants.{Slow, Medium, Fast, Synchronous}
 use Rattle.control_flow.specs.Flow.{Flow}
 use Rattle.control_flow.specs.Kinds.{is_multiply}
 use Rattle.image.specs.Image.{Words}
@@ -47,10 +49,21 @@ pub record ArePriced (words : Words) (st : Stated) (flow : Flow) (priced : ℕ �
 
 -- ## Texts
 
+-- the name of a class in a column, which has no room for `synchronous`
+abbrev pub column_name : Class → List ℕ
+column_name Synchronous = codes "sync"
+column_name Any = class_name Any
+column_name Ram = class_name Ram
+column_name Rom = class_name Rom
+column_name Io = class_name Io
+column_name Slow = class_name Slow
+column_name Medium = class_name Medium
+column_name Fast = class_name Fast
+
 abbrev pub granted_text : Granted → List ℕ
 granted_text Nothing = []
 granted_text Multiplier = codes "m = 16"
-granted_text (Access class) = class_name class
+granted_text (Access class) = column_name class
 
 -- with a way out of the handler
 abbrev pub leave_text : Granted → Class → List ℕ

@@ -9,10 +9,10 @@ ghost use Rattle.text_explained.specs.Leaving.{is_left_on};
 ghost use Rattle.text_explained.specs.declared.leaving.EdgeKind.TheVariants.{LeadsOut};
 
 use crate::leaving::{EdgeKind, addresses_left};
-use crate::sections::StatedGraph;
 use bus_ticks::{Class, FIQ_VECTOR};
 use control_flow::Place;
 use image::Image;
+use loop_bounds::Handler;
 use statement::Statement;
 use std::alloc::{AllocError, Global};
 use std::collections::BTreeSet;
@@ -58,11 +58,10 @@ fn is_interrupt_vector(address: u32) -> bool
 }
 
 // Whether a word leaves a handler of IRQ or FIQ, by the addresses that are left, and restores no flags.
-fn is_left_without_flags(handler: StatedGraph<'_>, left: &BTreeSet<u32>, at: u32) -> bool
-    requires { (a : ℕ) → contains nat_cmp left.now a ≡ is_left_on LeadsOut handler.graph.now.edges a }
+fn is_left_without_flags(handler: &Handler<'_>, left: &BTreeSet<u32>, at: u32) -> bool
+    requires { (a : ℕ) → contains nat_cmp left.now a ≡ is_left_on LeadsOut handler.now.graph.edges a }
     ensures { IsTrue result
-        ↔ IsLeftWithoutFlags handler.entry.source.now.image handler.entry.statement.now
-        handler.entry.graph.now at }
+        ↔ IsLeftWithoutFlags handler.now.image.now handler.now.statement handler.now.graph at }
 {
     if !is_interrupt_vector(handler.statement.entry()) {
         return false;
@@ -70,26 +69,18 @@ fn is_left_without_flags(handler: StatedGraph<'_>, left: &BTreeSet<u32>, at: u32
     if !left.contains(&at) {
         return false;
     }
-    leaves_flags_at(&handler.source.image, at)
+    leaves_flags_at(handler.image, at)
 }
 
 // Whether that is assumed of the word at the address, by the addresses that are left.
-fn is_assumed(handler: StatedGraph<'_>, left: &BTreeSet<u32>, what: Assumption, at: u32) -> bool
-    requires { (a : ℕ) → contains nat_cmp left.now a ≡ is_left_on LeadsOut handler.graph.now.edges a }
+fn is_assumed(handler: &Handler<'_>, left: &BTreeSet<u32>, what: Assumption, at: u32) -> bool
+    requires { (a : ℕ) → contains nat_cmp left.now a ≡ is_left_on LeadsOut handler.now.graph.edges a }
     ensures { IsTrue result
-        ↔ Assumes handler.entry.source.now.image handler.entry.statement.now handler.entry.graph.now what at }
+        ↔ Assumes handler.now.image.now handler.now.statement handler.now.graph what at }
 {
     match what {
-        Assumption::LooseTransfer => is_loose_transfer(
-            &handler.source.image,
-            handler.statement,
-            at,
-        ),
-        Assumption::TakenForReturn => is_taken_for_return(
-            &handler.source.image,
-            handler.statement,
-            at,
-        ),
+        Assumption::LooseTransfer => is_loose_transfer(handler.image, &handler.statement, at),
+        Assumption::TakenForReturn => is_taken_for_return(handler.image, &handler.statement, at),
         Assumption::LeavesFlags => is_left_without_flags(handler, left, at),
     }
 }
@@ -98,15 +89,14 @@ fn is_assumed(handler: StatedGraph<'_>, left: &BTreeSet<u32>, what: Assumption, 
 fn note(
     named: &mut BTreeSet<u32>,
     place: &Place,
-    handler: StatedGraph<'_>,
+    handler: &Handler<'_>,
     left: &BTreeSet<u32>,
     what: Assumption,
 ) -> Result<(), AllocError>
-    requires { (a : ℕ) → contains nat_cmp left.now a ≡ is_left_on LeadsOut handler.graph.now.edges a }
+    requires { (a : ℕ) → contains nat_cmp left.now a ≡ is_left_on LeadsOut handler.now.graph.edges a }
     ensures { OnOk result
-        (Notes (Assumes handler.entry.source.now.image handler.entry.statement.now handler.entry.graph.now
-        what)
-        place.now (contains nat_cmp named.old) (contains nat_cmp named.new)) }
+        (Notes (Assumes handler.now.image.now handler.now.statement handler.now.graph what) place.now
+        (contains nat_cmp named.old) (contains nat_cmp named.new)) }
 {
     let Place::At(_, address) = place else {
         return Ok(());
@@ -142,15 +132,13 @@ pub(crate) fn sorted(alloc: Global, named: &BTreeSet<u32>) -> Result<Vec<u32>, A
 /// An allocation failed.
 pub(crate) fn assumed(
     alloc: Global,
-    handler: StatedGraph<'_>,
+    handler: &Handler<'_>,
     what: Assumption,
 ) -> Result<Vec<u32>, AllocError>
     ensures { IfOk result
-        (λ named. AreAssumed handler.entry.source.now.image handler.entry.statement.now
-        handler.entry.graph.now what
-        named.items) }
+        (λ named. AreAssumed handler.now.image.now handler.now.statement handler.now.graph what named.items) }
 {
-    let left = addresses_left(alloc, handler.graph, EdgeKind::LeadsOut)?;
+    let left = addresses_left(alloc, &handler.graph, EdgeKind::LeadsOut)?;
     let mut named = BTreeSet::new(alloc);
     for place in handler.graph.places() {
         note(&mut named, place, handler, &left, what)?;

@@ -7,7 +7,7 @@ ghost use Rattle.text_explained.specs.Assumed.{AreSubjectTo, caveat_heading};
 
 use crate::assumptions::{Assumption, assumed};
 use crate::links::{Overwrite, lost_links};
-use crate::sections::StatedGraph;
+use loop_bounds::Handler;
 use std::alloc::{AllocError, Global};
 
 const RETURNS: &[u8] =
@@ -47,14 +47,10 @@ impl Caveat {
     }
 
     /// The addresses of the words, ascending. `AllocError`: an allocation failed.
-    pub(crate) fn words(
-        self,
-        alloc: Global,
-        handler: StatedGraph<'_>,
-    ) -> Result<Vec<u32>, AllocError>
+    pub(crate) fn words(self, alloc: Global, handler: &Handler<'_>) -> Result<Vec<u32>, AllocError>
         ensures named { IfOk result
-            (λ named. AreSubjectTo handler.entry.source.now.image handler.entry.statement.now
-            handler.entry.graph.now self named.items) }
+            (λ named. AreSubjectTo handler.now.image.now handler.now.statement handler.now.graph self
+            named.items) }
         ensures ascending { IfOk result (λ named. IsStrictlySortedBy nat_cmp named.items) }
     {
         match self {

@@ -75,7 +75,7 @@ impl Column {
             Column::Ticks => Layout::new(b"ticks", 1, 6),
             Column::Share => Layout::new(b"share", 1, 6),
             Column::Latest => Layout::new(b"latest", 1, 6),
-            Column::PricedAs => Layout::new(b"priced as", 0, 10),
+            Column::PricedAs => Layout::new(b"priced as", 1, 9),
             Column::Line => Layout::new(b"line", 1, 4),
             Column::Address => Layout::new(b"address", 2, 8),
             Column::Text => Layout::new(b"text", 2, 0),

@@ -13,10 +13,10 @@ ghost use Rattle.text_explained.specs.declared.cost_columns.Column.TheVariants.{
 
 use crate::cost_columns::{Column, put_ticks};
 use crate::pricing::{Pricing, priced, put_pricing};
-use crate::sections::StatedGraph;
 use crate::starts::{TimedWalk, latest_starts};
 use crate::walk_tally::{Costs, Taken, WalkTally};
 use assembler::PlacedLine;
+use loop_bounds::Handler;
 use std::alloc::{AllocError, Global};
 use std::collections::BTreeMap;
 use text_rows::put_right;
@@ -50,15 +50,15 @@ impl Costing {
     /// Those of a greatest walk. `AllocError`: an allocation failed.
     pub(crate) fn of_walk(
         alloc: Global,
-        handler: StatedGraph<'_>,
+        handler: &Handler<'_>,
         walk: TimedWalk<'_>,
     ) -> Result<Costing, AllocError>
         ensures { IfOk result
-            (IsCosting handler.entry.source.now.image handler.entry.statement.now handler.entry.graph.now
-            walk.entry.longest.now walk.entry.starts.now) }
+            (IsCosting handler.now.image.now handler.now.statement handler.now.graph walk.entry.longest.now
+            walk.entry.starts.now) }
     {
-        let tally = WalkTally::of_walk(alloc, handler.graph, &walk.longest.walk)?;
-        let latest = latest_starts(alloc, handler.graph, walk.starts)?;
+        let tally = WalkTally::of_walk(alloc, &handler.graph, &walk.longest.walk)?;
+        let latest = latest_starts(alloc, &handler.graph, walk.starts)?;
         let prices = priced(alloc, handler)?;
         Ok(Costing {
             tally,

@@ -11,7 +11,9 @@ use crate::assumptions::Assumption::{LeavesFlags, TakenForReturn};
 use crate::caveats::Caveat;
 use crate::caveats::Caveat::{Assumed, LinkLost};
 use crate::links::Overwrite::{ByAddress, ByCall};
-use crate::sections::{StatedGraph, section_of};
+use crate::sections::section_of;
+use loop_bounds::Handler;
+use sources::Source;
 use std::alloc::{AllocError, Global};
 use std::collections::BTreeSet;
 use text_rows::put;
@@ -29,15 +31,13 @@ fn members_of(alloc: Global, all: &[u32], done: &BTreeSet<u32>) -> Result<Vec<u3
 // The words with that caveat that are done.
 fn done_words(
     alloc: Global,
-    handler: StatedGraph<'_>,
+    handler: &Handler<'_>,
     caveat: Caveat,
     done: &BTreeSet<u32>,
 ) -> Result<Vec<u32>, AllocError>
     ensures { IfOk result
         (λ named. AreDone (λ a. contains nat_cmp done.now a ≡ true)
-        (AreSubjectTo handler.entry.source.now.image handler.entry.statement.now handler.entry.graph.now
-        caveat)
-        named.items) }
+        (AreSubjectTo handler.now.image.now handler.now.statement handler.now.graph caveat) named.items) }
 {
     let all = caveat.words(alloc, handler)?;
     members_of(alloc, &all, done)
@@ -46,41 +46,45 @@ fn done_words(
 // The section of the words with that caveat that are done.
 fn done_section(
     alloc: Global,
-    handler: StatedGraph<'_>,
+    source: &Source<'_>,
+    handler: &Handler<'_>,
     caveat: Caveat,
     done: &BTreeSet<u32>,
 ) -> Result<Vec<u8>, AllocError>
+    requires { handler.now.image.now ≡ source.now.image }
     ensures { IfOk result
-        (λ text. IsSection handler.entry.source.now (caveat_heading caveat)
+        (λ text. IsSection source.now (caveat_heading caveat)
         (AreDone (λ a. contains nat_cmp done.now a ≡ true)
-        (AreSubjectTo handler.entry.source.now.image handler.entry.statement.now handler.entry.graph.now
-        caveat)) text.items) }
+        (AreSubjectTo source.now.image handler.now.statement handler.now.graph caveat)) text.items) }
 {
     let named = done_words(alloc, handler, caveat, done)?;
-    section_of(alloc, caveat, handler.source, &named)
+    section_of(alloc, caveat, source, &named)
 }
 
 /// The returns and ways out of which [`assumed_text`](crate::assumed_text) warns, of those words alone whose
-/// addresses are done, under the same headings. No text where there are none.
+/// addresses are done, under the same headings. No text where there are none. The handler's image is the
+/// source's.
 ///
 /// # Errors
 ///
 /// An allocation failed.
 pub fn done_text(
     alloc: Global,
-    handler: StatedGraph<'_>,
+    source: &Source<'_>,
+    handler: &Handler<'_>,
     done: &BTreeSet<u32>,
 ) -> Result<Vec<u8>, AllocError>
+    requires { handler.now.image.now ≡ source.now.image }
     ensures { IfOk result
-        (λ text. AreDoneReturns handler.entry.source.now handler.entry.statement.now
-        handler.entry.graph.now (λ a. contains nat_cmp done.now a ≡ true) text.items) }
+        (λ text. AreDoneReturns source.now handler.now.statement handler.now.graph
+        (λ a. contains nat_cmp done.now a ≡ true) text.items) }
 {
-    let mut text = done_section(alloc, handler, Assumed(TakenForReturn), done)?;
-    let flags = done_section(alloc, handler, Assumed(LeavesFlags), done)?;
+    let mut text = done_section(alloc, source, handler, Assumed(TakenForReturn), done)?;
+    let flags = done_section(alloc, source, handler, Assumed(LeavesFlags), done)?;
     put(&mut text, &flags)?;
-    let called = done_section(alloc, handler, LinkLost(ByCall), done)?;
+    let called = done_section(alloc, source, handler, LinkLost(ByCall), done)?;
     put(&mut text, &called)?;
-    let addressed = done_section(alloc, handler, LinkLost(ByAddress), done)?;
+    let addressed = done_section(alloc, source, handler, LinkLost(ByAddress), done)?;
     put(&mut text, &addressed)?;
     Ok(text)
 }

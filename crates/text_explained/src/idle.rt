@@ -10,12 +10,11 @@ ghost use Rattle.asm_text.specs.Appended.{Appends};
 ghost use Rattle.text_rows.specs.Rows.{AreRows};
 
 use crate::leaving::{EdgeKind, addresses_left};
-use crate::sections::StatedGraph;
 use asm_text::hex8;
 use control_flow::Graph;
 use image::Image;
 use indexmap::IndexMap;
-use loop_bounds::is_back_edge_of;
+use loop_bounds::{Handler, is_back_edge_of};
 use statement::Loop;
 use std::alloc::{AllocError, Global};
 use std::collections::BTreeSet;
@@ -137,19 +136,17 @@ fn addresses<V>(alloc: Global, stated: &IndexMap<u32, V>) -> Result<Vec<u32>, Al
 }
 
 // The rows of the entries without effect.
-fn idle_rows(alloc: Global, handler: StatedGraph<'_>) -> Result<Vec<u8>, AllocError>
+fn idle_rows(alloc: Global, handler: &Handler<'_>) -> Result<Vec<u8>, AllocError>
     ensures { IfOk result
-        (λ rows. AreIdleRows handler.entry.source.now.image handler.entry.statement.now
-        handler.entry.graph.now
-        rows.items) }
+        (λ rows. AreIdleRows handler.now.image.now handler.now.statement handler.now.graph rows.items) }
 {
-    let done = addresses_left(alloc, handler.graph, EdgeKind::CarriesOut)?;
+    let done = addresses_left(alloc, &handler.graph, EdgeKind::CarriesOut)?;
     let targets = addresses(alloc, handler.statement.targets())?;
     let accesses = addresses(alloc, handler.statement.accesses())?;
     let mut rows = Vec::new(alloc);
-    put_loops(&mut rows, handler.graph, handler.statement.loops())?;
+    put_loops(&mut rows, &handler.graph, handler.statement.loops())?;
     put_targets(&mut rows, &done, &targets)?;
-    put_accesses(&mut rows, &handler.source.image, &done, &accesses)?;
+    put_accesses(&mut rows, handler.image, &done, &accesses)?;
     Ok(rows)
 }
 
@@ -161,10 +158,9 @@ fn idle_rows(alloc: Global, handler: StatedGraph<'_>) -> Result<Vec<u8>, AllocEr
 /// # Errors
 ///
 /// An allocation failed.
-pub fn idle_entries(alloc: Global, handler: StatedGraph<'_>) -> Result<Vec<u8>, AllocError>
+pub fn idle_entries(alloc: Global, handler: &Handler<'_>) -> Result<Vec<u8>, AllocError>
     ensures { IfOk result
-        (λ text. AreIdleEntries handler.entry.source.now.image handler.entry.statement.now
-        handler.entry.graph.now text.items) }
+        (λ text. AreIdleEntries handler.now.image.now handler.now.statement handler.now.graph text.items) }
 {
     let rows = idle_rows(alloc, handler)?;
     section(alloc, HEADING, &rows)

@@ -29,7 +29,7 @@ pub use law::{
     unreached_lines_have_no_place,
 };
 pub use links::{Overwrite, lost_links};
-pub use sections::{StatedGraph, assumed_text};
+pub use sections::assumed_text;
 pub use starts::TimedWalk;
 pub use table::cost_table;
 pub use walk_tally::{Costs, Taken, WalkTally};

@@ -18,12 +18,12 @@ ghost use Rattle.text_explained.specs.Losing.{ByEdge, HasRoom, LeadsTo};
 ghost use Rattle.text_explained.specs.Taken.{is_reached};
 
 use crate::assumptions::{add, sorted};
-use crate::sections::StatedGraph;
 use arm2_decode::{Instr, Operation, Register, SingleImmediate};
 use arm2_effect::address_of;
 use bus_ticks::{SPACE_END, ahead_of};
 use control_flow::{Calls, Edge, Graph, Place};
 use image::Image;
+use loop_bounds::Handler;
 use statement::{Statement, Target, TargetKind};
 use std::alloc::{AllocError, Global};
 use std::collections::BTreeSet;
@@ -359,14 +359,13 @@ fn returning(
 /// An allocation failed.
 pub fn lost_links(
     alloc: Global,
-    handler: StatedGraph<'_>,
+    handler: &Handler<'_>,
     by: Overwrite,
 ) -> Result<Vec<u32>, AllocError>
     ensures { IfOk result
-        (λ named. AreLostLinks handler.entry.source.now.image handler.entry.graph.now by
-        handler.entry.statement.now named.items) }
+        (λ named. AreLostLinks handler.now.image.now handler.now.graph by handler.now.statement named.items) }
 {
-    let places = lost_places(alloc, &handler.source.image, handler.graph, by)?;
-    let named = returning(alloc, &handler.source.image, handler.statement, &places)?;
+    let places = lost_places(alloc, handler.image, &handler.graph, by)?;
+    let named = returning(alloc, handler.image, &handler.statement, &places)?;
     sorted(alloc, &named)
 }

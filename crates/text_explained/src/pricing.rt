@@ -3,18 +3,18 @@ ghost use Rattle.std.specs.BTreeMap.{get};
 ghost use Rattle.std.specs.BTreeSet.{contains};
 ghost use Rattle.std.specs.Ordering.{nat_cmp};
 ghost use Rattle.text_explained.specs.Columns.{in_column};
-ghost use Rattle.text_explained.specs.Pricing.{ArePriced, IsGranted, both_text, granted_text};
+ghost use Rattle.text_explained.specs.Pricing.{ArePriced, IsGranted, both_text, column_name, granted_text};
 ghost use Rattle.text_explained.specs.Pricing.{instr_granted, leave_text, operation_granted, pricing_text};
 ghost use Rattle.text_explained.specs.PricingParts.{Prices, IsPricedBy};
 ghost use Rattle.text_explained.specs.declared.cost_columns.Column.TheVariants.{PricedAs};
 
 use crate::cost_columns::Column;
 use crate::leaving::{EdgeKind, addresses_left};
-use crate::sections::StatedGraph;
 use arm2_decode::{Instr, Operation};
 use bus_ticks::Class;
 use control_flow::{Place, is_multiply};
 use image::Image;
+use loop_bounds::Handler;
 use statement::{Statement, class_name};
 use std::alloc::{AllocError, Global};
 use std::collections::{BTreeMap, BTreeSet};
@@ -80,13 +80,12 @@ fn leave_at(leaving: &BTreeSet<u32>, leave: Class, at: u32) -> Option<Class>
     }
 }
 
-fn pricing_at(handler: StatedGraph<'_>, leaving: &BTreeSet<u32>, at: u32) -> Pricing
-    ensures { IsPricedBy handler.entry.source.now.image handler.entry.statement.now
-        (contains nat_cmp leaving.now)
+fn pricing_at(handler: &Handler<'_>, leaving: &BTreeSet<u32>, at: u32) -> Pricing
+    ensures { IsPricedBy handler.now.image.now handler.now.statement (contains nat_cmp leaving.now)
         at result }
 {
     Pricing {
-        granted: granted_at(&handler.source.image, handler.statement, at),
+        granted: granted_at(handler.image, &handler.statement, at),
         leave: leave_at(leaving, handler.statement.leave(), at),
     }
 }
@@ -94,13 +93,12 @@ fn pricing_at(handler: StatedGraph<'_>, leaving: &BTreeSet<u32>, at: u32) -> Pri
 // Puts what is said of the price at a place's address.
 fn put_pricing_of(
     prices: &mut BTreeMap<u32, Pricing>,
-    handler: StatedGraph<'_>,
+    handler: &Handler<'_>,
     leaving: &BTreeSet<u32>,
     place: &Place,
 ) -> Result<(), AllocError>
     ensures { OnOk result
-        (Prices handler.entry.source.now.image handler.entry.statement.now (contains nat_cmp leaving.now)
-        place.now
+        (Prices handler.now.image.now handler.now.statement (contains nat_cmp leaving.now) place.now
         (get nat_cmp prices.old) (get nat_cmp prices.new)) }
 {
     let Place::At(_, address) = place else {
@@ -114,19 +112,34 @@ fn put_pricing_of(
 /// `AllocError`: an allocation failed.
 pub(crate) fn priced(
     alloc: Global,
-    handler: StatedGraph<'_>,
+    handler: &Handler<'_>,
 ) -> Result<BTreeMap<u32, Pricing>, AllocError>
     ensures { IfOk result
-        (λ prices. ArePriced handler.entry.source.now.image handler.entry.statement.now
-        handler.entry.graph.now
+        (λ prices. ArePriced handler.now.image.now handler.now.statement handler.now.graph
         (get nat_cmp prices)) }
 {
-    let leaving = addresses_left(alloc, handler.graph, EdgeKind::LeadsOut)?;
+    let leaving = addresses_left(alloc, &handler.graph, EdgeKind::LeadsOut)?;
     let mut prices = BTreeMap::new(alloc);
     for place in handler.graph.places() {
         put_pricing_of(&mut prices, handler, &leaving, place)?;
     }
     Ok(prices)
+}
+
+// The name of a class in a column, which has no room for `synchronous`.
+fn column_name(class: Class) -> &'static str
+    ensures { result.now ≡ column_name class }
+{
+    match class {
+        Class::Synchronous => "sync",
+        Class::Any
+        | Class::Ram
+        | Class::Rom
+        | Class::Io
+        | Class::Slow
+        | Class::Medium
+        | Class::Fast => class_name(class),
+    }
 }
 
 fn granted_text(granted: Granted) -> &'static [u8]
@@ -135,7 +148,7 @@ fn granted_text(granted: Granted) -> &'static [u8]
     match granted {
         Granted::Nothing => b"",
         Granted::Multiplier => b"m = 16",
-        Granted::Access(class) => class_name(class).as_bytes(),
+        Granted::Access(class) => column_name(class).as_bytes(),
     }
 }
 
@@ -147,7 +160,7 @@ fn leave_text(alloc: Global, granted: Granted, class: Class) -> Result<Vec<u8>, 
         Granted::Nothing => put(&mut out, b"> ")?,
         Granted::Multiplier => put(&mut out, b"m = 16 > ")?,
         Granted::Access(access) => {
-            put(&mut out, class_name(access).as_bytes())?;
+            put(&mut out, column_name(access).as_bytes())?;
             put(&mut out, b" > ")?;
         }
     }

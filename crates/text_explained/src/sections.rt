@@ -10,19 +10,10 @@ use crate::caveats::Caveat;
 use crate::caveats::Caveat::{Assumed, LinkLost};
 use crate::links::Overwrite::{ByAddress, ByCall};
 use crate::named_words::named_rows;
-use control_flow::Graph;
+use loop_bounds::Handler;
 use sources::Source;
-use statement::Statement;
 use std::alloc::{AllocError, Global};
 use text_rows::{put, section};
-
-/// The flow graph of a source's words by a statement.
-#[derive(Clone, Copy)]
-pub struct StatedGraph<'a> {
-    pub source: &'a Source<'a>,
-    pub statement: &'a Statement,
-    pub graph: &'a Graph,
-}
 
 /// The rows of the named words, under the heading of their caveat. `AllocError`: an allocation failed.
 pub(crate) fn section_of(
@@ -43,40 +34,45 @@ pub(crate) fn section_of(
 // The section of the words with that caveat.
 fn caveat_section(
     alloc: Global,
-    handler: StatedGraph<'_>,
+    source: &Source<'_>,
+    handler: &Handler<'_>,
     caveat: Caveat,
 ) -> Result<Vec<u8>, AllocError>
+    requires { handler.now.image.now ≡ source.now.image }
     ensures { IfOk result
-        (λ text. IsSection handler.entry.source.now (caveat_heading caveat)
-        (AreSubjectTo handler.entry.source.now.image handler.entry.statement.now handler.entry.graph.now
-        caveat) text.items) }
+        (λ text. IsSection source.now (caveat_heading caveat)
+        (AreSubjectTo source.now.image handler.now.statement handler.now.graph caveat) text.items) }
 {
     let named = caveat.words(alloc, handler)?;
-    section_of(alloc, caveat, handler.source, &named)
+    section_of(alloc, caveat, source, &named)
 }
 
 /// What a bound takes for granted of the words that its handler reaches, by the lines of its source, or by
 /// the words of an image: those that count as returns but do not look like returns, those that leave the
 /// handler of an interrupt and restore no flags, those that return by R14 after a call, or an address of the
 /// source, has overwritten it, and then the loads and stores of which no class is stated. None has any text
-/// where there are none.
+/// where there are none. The handler's image is the source's.
 ///
 /// # Errors
 ///
 /// An allocation failed.
-pub fn assumed_text(alloc: Global, handler: StatedGraph<'_>) -> Result<Vec<u8>, AllocError>
+pub fn assumed_text(
+    alloc: Global,
+    source: &Source<'_>,
+    handler: &Handler<'_>,
+) -> Result<Vec<u8>, AllocError>
+    requires { handler.now.image.now ≡ source.now.image }
     ensures { IfOk result
-        (λ text. AreAssumptions handler.entry.source.now handler.entry.statement.now
-        handler.entry.graph.now text.items) }
+        (λ text. AreAssumptions source.now handler.now.statement handler.now.graph text.items) }
 {
-    let mut text = caveat_section(alloc, handler, Assumed(TakenForReturn))?;
-    let flags = caveat_section(alloc, handler, Assumed(LeavesFlags))?;
+    let mut text = caveat_section(alloc, source, handler, Assumed(TakenForReturn))?;
+    let flags = caveat_section(alloc, source, handler, Assumed(LeavesFlags))?;
     put(&mut text, &flags)?;
-    let called = caveat_section(alloc, handler, LinkLost(ByCall))?;
+    let called = caveat_section(alloc, source, handler, LinkLost(ByCall))?;
     put(&mut text, &called)?;
-    let addressed = caveat_section(alloc, handler, LinkLost(ByAddress))?;
+    let addressed = caveat_section(alloc, source, handler, LinkLost(ByAddress))?;
     put(&mut text, &addressed)?;
-    let transfers = caveat_section(alloc, handler, Assumed(LooseTransfer))?;
+    let transfers = caveat_section(alloc, source, handler, Assumed(LooseTransfer))?;
     put(&mut text, &transfers)?;
     Ok(text)
 }

@@ -10,10 +10,10 @@ ghost use Rattle.text_explained.specs.Table.{source_ticks};
 use crate::cost_columns::{Column, heading, put_end};
 use crate::cost_figures::{Costing, RowFigures, line_taken, put_figures, ticks_in, told_at};
 use crate::image_rows::{image_ticks, put_row};
-use crate::sections::StatedGraph;
 use crate::starts::TimedWalk;
 use crate::walk_tally::WalkTally;
 use assembler::PlacedLine;
+use loop_bounds::Handler;
 use sources::{ImageRows, Source, SourceText};
 use std::alloc::{AllocError, Global};
 use text_rows::{LineRows, NumberedLine, put_cut_row};
@@ -122,26 +122,28 @@ fn rows_by(text: &SourceText<'_>) -> Column
 /// most cycles (m = 16), and that of a way out of the handler the class of the addresses to which it leaves,
 /// after `>`.
 ///
-/// Where no place of the graph is on a line, or at a word, the row says so in place of the numbers.
+/// Where no place of the graph is on a line, or at a word, the row says so in place of the numbers. The
+/// handler's image is the source's.
 ///
 /// # Errors
 ///
 /// An allocation failed.
 pub fn cost_table(
     alloc: Global,
-    handler: StatedGraph<'_>,
+    source: &Source<'_>,
+    handler: &Handler<'_>,
     walk: TimedWalk<'_>,
 ) -> Result<Vec<u8>, AllocError>
+    requires { handler.now.image.now ≡ source.now.image }
     ensures { IfOk result
-        (λ text. IsTable handler.entry.source.now handler.entry.statement.now handler.entry.graph.now
+        (λ text. IsTable source.now handler.now.statement handler.now.graph
         (unfolded walk.entry.longest.now.walk)
-        (latest_at handler.entry.graph.now.places walk.entry.starts.now) walk.entry.longest.now.bound
-        text.items) }
+        (latest_at handler.now.graph.places walk.entry.starts.now) walk.entry.longest.now.bound text.items) }
 {
     let costing = Costing::of_walk(alloc, handler, walk)?;
-    let ticks = all_ticks(alloc, &costing.tally, handler.source)?;
-    let mut out = heading(alloc, rows_by(&handler.source.text))?;
-    handler.source.put_rows(&mut out, &costing)?;
+    let ticks = all_ticks(alloc, &costing.tally, source)?;
+    let mut out = heading(alloc, rows_by(&source.text))?;
+    source.put_rows(&mut out, &costing)?;
     put_end(&mut out, ticks, walk.longest.bound)?;
     Ok(out)
 }

@@ -12,7 +12,7 @@ use Rattle.toml_reading.proofs.LowestParts.{some_weaker}
 use Rattle.image.specs.Labels.{NamedAddresses, address_of}
 use Rattle.statement.specs.PlaceTests.{holds_of}
 use Rattle.statement.proofs.SpotLemmas.{fault_spot}
-use Rattle.statement.specs.Statement.{named_class, named_returns}
+use Rattle.statement.specs.Statement.{named_leave, named_returns}
 use Rattle.statement.specs.StatementFaults.{statement_faults}
 use Rattle.statement.specs.StatementRules.{AddressFault, HasFault, IsAddress, IsAt, IsMisplaced}
 use Rattle.statement.specs.Places.{DestinationFault, GoesOn, InTable, IsFaultAt, IsRepeatAt, PartFault, all_keys, key_name, keys_of, list_key, most_of, named_key}
@@ -316,7 +316,7 @@ module _ (names : NamedAddresses) (ms : Members) (f : StatementFault) (has : Spo
     own_missing : (k : Key) → At (spot.Own (Missing k)) → HasRow (all_rows has items)
     own_missing key.Entry h =
         whole_row (in_first _ (extra_rows has items) (row_of_if (has (spot.Own (Missing key.Entry))) _ (found (spot.Own (Missing key.Entry)) h)))
-    own_missing key.Leave h = absurd (no_key (λ d. NameFault statement_faults named_class d f) (get_member (codes "leave") ms) h.0 h.1)
+    own_missing key.Leave h = absurd (no_key (λ d. NameFault statement_faults named_leave d f) (get_member (codes "leave") ms) h.0 h.1)
     own_missing key.Returns h = absurd (no_key (λ d. NameFault statement_faults named_returns d f) (get_member (codes "returns") ms) h.0 h.1)
     own_missing _ h = absurd h.1
 

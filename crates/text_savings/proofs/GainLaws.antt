@@ -1,138 +1,151 @@
 -- What a gain is: the difference of two prices.
-use Rattle.std.proofs.Common.{◌≡◌, ◌≢◌, ◌∙◌, ℕ, ◌+◌, ◌-◌, ◌<◌, ◌≤◌, max, Bool, true, false, eqb, Some, None, ◌⊎◌, inl, inr, ⊎_elim, refl, sym, ap, subst, arith}
+use Rattle.std.proofs.Common.{◌≡◌, ◌∙◌, ℕ, ◌+◌, ◌-◌, ◌<◌, ◌≤◌, max, true, false, cond, eqb, nat_lt, ◌==◌, List, [], ◌∷◌, map, filter, find, fold, All, Contains, Some, None, option_map, ⊎_elim, refl, sym, ap, subst, arith}
 use Rattle.std.specs.Prelude.{if◌then◌else◌, unwrap_or}
 use Rattle.std.specs.Map.{lookup}
-use Rattle.std.proofs.lemmas.Bool.{cases_Bool, cases_lt, eq-eqb, eqb-true, le-ltb, lt-ltb}
+use Rattle.std.proofs.lemmas.Bool.{cases_lt, eq-eqb, eqb-false, eqb-true, le-ltb, lt-ltb}
+use Rattle.std.proofs.lemmas.List.Elements.{All-contains, All-from_recursion}
 use Rattle.arm2_decode.specs.Transfers.{word_count}
 use Rattle.arm2_decode.specs.declared.instr.Instr.{Instr}
 use Rattle.arm2_decode.specs.declared.instr.Operation.{Operation}
 use Rattle.arm2_decode.specs.declared.instr.Operation.TheVariants as operation
 use Rattle.arm2_decode.specs.declared.names.Cond.{Cond}
+use Rattle.asm_text.proofs.WordLaws.{chosen, map_is}
 use Rattle.bus_ticks.specs.declared.profile.Class.{Class}
 use Rattle.bus_ticks.specs.declared.profile.Class.TheVariants.{Any, Io, Ram, Rom}
+use Rattle.bus_ticks.specs.declared.profile.Class.TheVariants.{Slow, Medium, Fast, Synchronous}
 use Rattle.bus_ticks.specs.declared.profile.Profile.{Profile}
-use Rattle.bus_ticks.specs.Worst.{worst_leave}
+use Rattle.bus_ticks.specs.Worst.{IsOf, worst_leave}
 use Rattle.control_flow.specs.declared.actions.Action.{Action}
 use Rattle.control_flow.specs.declared.actions.Work.{Work}
 use Rattle.control_flow.specs.declared.places.Place.{Place}
 use Rattle.control_flow.specs.declared.places.Place.TheVariants.{Exit}
 use Rattle.control_flow.specs.Edges.{arrival_ticks, do_ticks, fetch_ticks, jump_ticks, work_ticks}
+use Rattle.control_flow.proofs.LabelLemmas.{from_map}
+use Rattle.control_flow.proofs.SortedLemmas.{cons_cases, no_member}
 use Rattle.control_flow.specs.Kinds.{action, instr_action, kind_of, transfer_work, work_of}
 use Rattle.statement.specs.Stated.{Stated, class_at}
+use Rattle.walks.proofs.RowLemmas.{find_some}
 use Rattle.text_savings.specs.Changed.{with_access, with_leave}
-use Rattle.text_savings.specs.Gains.{IsDearestBelow, class_gain, if_less, leave_gain, leave_prices, multiply_gain, next_class, next_gain, next_price, operation_gain, transfer_gain, transfer_prices}
+use Rattle.text_savings.specs.Gains.{IsDearestBelow, class_gain, leave_gain, multiply_gain, next_class, next_gain, next_price, offered, offered_ways_out, operation_gain, priced, transfer_gain}
 use Rattle.text_savings.specs.declared.classes.ClassChange.{ClassChange}
-use Rattle.text_savings.specs.declared.classes.ClassPrices.{ClassPrices}
+use Rattle.text_savings.specs.declared.classes.PricedClass.{PricedClass}
 use Rattle.text_savings.specs.declared.gains.Gain.{Gain}
 use Rattle.text_savings.specs.declared.gains.Refinement.TheVariants.{Addresses, Multiplier}
 
 -- ## The next better class
 
-one_of : (present price : ℕ) → ((if_less present price ≡ price) × (price < present)) ⊎ (if_less present price ≡ 0)
-one_of present price = ⊎_elim
-    (λ (less : price < present). inl (ap (λ b. if b then price else 0) (lt-ltb price present less), less))
-    (λ (le : present ≤ price). inr (ap (λ b. if b then price else 0) (le-ltb price present le)))
-    (cases_lt price present)
+not_none : (g : Gain) → None ≡ Some g → ⊥
+not_none g gain = cc
 
-under : (present price : ℕ) → if_less present price < max present 1
-under present price = ⊎_elim
-    (λ less. let same : if_less present price ≡ price = less.0 in let lt : price < present = less.1 in let goal : if_less present price < max present 1 = omega arith in goal)
-    (λ (none : if_less present price ≡ 0). let goal : if_less present price < max present 1 = omega arith in goal)
-    (one_of present price)
+-- the greatest of those below the present price, from a on
+module _ (price : Class → ℕ) (present : ℕ) where
+  below : List Class → List ℕ
+  below cs = filter (λ t. nat_lt t present) (map (λ (c : PricedClass). c.ticks) (map (priced price) cs))
 
-not_more : (present price : ℕ) → if_less present price ≤ present
-not_more present price = omega (arith, under present price)
+  top : ℕ → List Class → ℕ
+  top a cs = fold max a (below cs)
 
-includes : (present price : ℕ) → price < present → price ≤ if_less present price
-includes present price less = let same : if_less present price ≡ price = ap (λ b. if b then price else 0) (lt-ltb price present less) in omega arith
+  -- a class more
+  if_below : (a : ℕ) (c : Class) (cs : List Class) → price c < present → top a (c ∷ cs) ≡ top (max a (price c)) cs
+  unfolding below top
+  if_below a c cs less = ap (λ b. fold max a (cond b (price c ∷ below cs) (below cs))) (lt-ltb (price c) present less)
 
-module _ (p : ClassPrices) where
-  at_most : next_price p ≤ p.present
-  at_most = omega (arith, not_more p.present p.ram, not_more p.present p.rom, not_more p.present p.io)
+  if_not : (a : ℕ) (c : Class) (cs : List Class) → present ≤ price c → top a (c ∷ cs) ≡ top a cs
+  unfolding below top
+  if_not a c cs le = ap (λ b. fold max a (cond b (price c ∷ below cs) (below cs))) (le-ltb (price c) present le)
 
-  its_own : (price : ℕ) → if_less p.present price ≡ next_price p → 0 < next_price p → price ≡ next_price p
-  its_own price is some = ⊎_elim
-      (λ less. sym less.0 ∙ is)
-      (λ (none : if_less p.present price ≡ 0). absurd (let zero_is : 0 ≡ next_price p = sym none ∙ is in omega arith))
-      (one_of p.present price)
+  if_none : (a : ℕ) → top a [] ≡ a
+  unfolding below top
+  if_none a = refl
 
-  last_one : p.ram ≢ next_price p → p.rom ≢ next_price p → 0 < next_price p → p.io ≡ next_price p
-  last_one not_ram not_rom some =
-      let r : if_less p.present p.ram ≢ next_price p = λ is. not_ram (its_own p.ram is some) in
-      let o : if_less p.present p.rom ≢ next_price p = λ is. not_rom (its_own p.rom is some) in
-      let i : if_less p.present p.io ≡ next_price p = omega arith in
-      its_own p.io i some
+  rises : (cs : List Class) (a : ℕ) → a ≤ top a cs
+  rises [] a = omega (arith, if_none a)
+  rises (c ∷ cs) a = ⊎_elim
+      (λ (less : price c < present). let same = if_below a c cs less in let more = rises cs (max a (price c)) in let goal : a ≤ top a (c ∷ cs) = omega arith in goal)
+      (λ (le : present ≤ price c). let same = if_not a c cs le in let more = rises cs a in let goal : a ≤ top a (c ∷ cs) = omega arith in goal)
+      (cases_lt (price c) present)
 
-  module _ (price : Class → ℕ) (ram : price Ram ≡ p.ram) (rom : price Rom ≡ p.rom) (io : price Io ≡ p.io) where
-    class_price : 0 < next_price p → price (next_class p (next_price p)) ≡ next_price p
-    class_price some = ⊎_elim
-        (λ (is : eqb p.ram (next_price p) ≡ true). ap (λ b. price (if b then Ram else (if eqb p.rom (next_price p) then Rom else Io))) is ∙ ram ∙ eqb-true p.ram (next_price p) is)
-        (λ (differs : eqb p.ram (next_price p) ≡ false).
-        ap (λ b. price (if b then Ram else (if eqb p.rom (next_price p) then Rom else Io))) differs
-        ∙ ⊎_elim
-        (λ (is : eqb p.rom (next_price p) ≡ true). ap (λ b. price (if b then Rom else Io)) is ∙ rom ∙ eqb-true p.rom (next_price p) is)
-        (λ (other : eqb p.rom (next_price p) ≡ false).
-        ap (λ b. price (if b then Rom else Io)) other ∙ io ∙ last_one (apart p.ram differs) (apart p.rom other) some)
-        (cases_Bool (eqb p.rom (next_price p))))
-        (cases_Bool (eqb p.ram (next_price p)))
-      where
-        apart : (n : ℕ) → eqb n (next_price p) ≡ false → n ≢ next_price p
-        apart n differs same = absurd (let both : true ≡ false = sym (eq-eqb n (next_price p) same) ∙ differs in cc)
+  under : (cs : List Class) (a : ℕ) → top a cs < max present (a + 1)
+  under [] a = omega (arith, if_none a)
+  under (c ∷ cs) a = ⊎_elim
+      (λ (less : price c < present). let same = if_below a c cs less in let more = under cs (max a (price c)) in let goal : top a (c ∷ cs) < max present (a + 1) = omega arith in goal)
+      (λ (le : present ≤ price c). let same = if_not a c cs le in let more = under cs a in let goal : top a (c ∷ cs) < max present (a + 1) = omega arith in goal)
+      (cases_lt (price c) present)
+
+  includes : (cs : List Class) (a : ℕ) (other : Class) → Contains cs other → price other < present → price other ≤ top a cs
+  includes [] a other at cheaper = absurd (no_member other at)
+  includes (c ∷ cs) a other at cheaper = ⊎_elim
+      (λ (is : c ≡ other).
+      let same_price : price c ≡ price other = ap price is in
+      let same = if_below a c cs (omega arith) in
+      let more = rises cs (max a (price c)) in
+      let goal : price other ≤ top a (c ∷ cs) = omega arith in
+      goal)
+      (λ (later : Contains cs other). ⊎_elim
+      (λ (less : price c < present). let same = if_below a c cs less in let more = includes cs (max a (price c)) other later cheaper in let goal : price other ≤ top a (c ∷ cs) = omega arith in goal)
+      (λ (le : present ≤ price c). let same = if_not a c cs le in let more = includes cs a other later cheaper in let goal : price other ≤ top a (c ∷ cs) = omega arith in goal)
+      (cases_lt (price c) present))
+      (cons_cases c cs other at)
+
+  -- the class that is found is one of them, and has the price
+  found : (cs : List Class) (n : ℕ) (class : Class) → next_class (map (priced price) cs) n ≡ Some class → Contains cs class × (price class ≡ n)
+  found cs n class is =
+      let named = map_is (λ (p : PricedClass). p.class) (find (λ (p : PricedClass). p.ticks == n) (map (priced price) cs)) class is in
+      let one = find_some (λ (p : PricedClass). p.ticks == n) (map (priced price) cs) named.0 named.1 in
+      let of = from_map (priced price) cs named.0 one.0 in
+      let class_is : of.0 ≡ class = ap (λ (p : PricedClass). p.class) of.2 ∙ named.2 in
+      (subst (Contains cs) class_is of.1, sym (ap price class_is) ∙ ap (λ (p : PricedClass). p.ticks) of.2 ∙ eqb-true named.0.ticks n one.1)
+
+  module _ (class : Class) (cs : List Class) (g : Gain) (change : ClassChange) (gain : class_gain class present (map (priced price) cs) ≡ Some g) (is : g.refinement ≡ Addresses change) where
+    next : ℕ
+    next = next_price present (map (priced price) cs)
+
+    greatest : next ≡ top 0 cs
+    unfolding next below top
+    greatest = refl
 
     -- a gain by another class
-    pub record IsNextClass (g : Gain) (change : ClassChange) : Type 0 where
-      pub some : 0 < next_price p
-      pub class : change.better ≡ next_class p (next_price p)
-      pub better : price change.better ≡ next_price p
-      pub ticks : g.ticks ≡ p.present - next_price p
+    record IsNextClass : Type 0 where
+      pub some : 0 < next
+      pub at : Contains cs change.better
+      pub better : price change.better ≡ next
+      pub ticks : g.ticks ≡ present - next
 
-    pub next_is : (g : Gain) (change : ClassChange) → class_gain p ≡ Some g → g.refinement ≡ Addresses change → IsNextClass g change
-    next_is g change gain is = ⊎_elim
-        (λ (none : eqb (next_price p) 0 ≡ true).
-        absurd (let both : None ≡ Some g = sym (ap (λ b. if b then None else Some (next_gain p (next_price p))) none) ∙ gain in cc))
-        (λ (some : eqb (next_price p) 0 ≡ false).
-        let both : Some (next_gain p (next_price p)) ≡ Some g = sym (ap (λ b. if b then None else Some (next_gain p (next_price p))) some) ∙ gain in
-        let same : next_gain p (next_price p) ≡ g = cc in
-        let changed : Addresses (record { present = Any; better = next_class p (next_price p) }) ≡ Addresses change = ap (λ (x : Gain). x.refinement) same ∙ is in
-        let change_is : record { present = Any; better = next_class p (next_price p) } ≡ change = cc in
-        let class_is : change.better ≡ next_class p (next_price p) = sym (ap (λ (x : ClassChange). x.better) change_is) in
-        let positive : 0 < next_price p = ⊎_elim
-        (λ (z : next_price p < 1). absurd (let zero_is : next_price p ≡ 0 = omega arith in let t : true ≡ false = sym (eq-eqb (next_price p) 0 zero_is) ∙ some in cc))
-        (λ (le : 1 ≤ next_price p). let goal : 0 < next_price p = omega arith in goal)
-        (cases_lt (next_price p) 1) in
+    by_class : eqb next 0 ≡ false → (x : Class) × (next_class (map (priced price) cs) next ≡ Some x) × (next_gain class present next x ≡ g) → IsNextClass
+    by_class some by =
+        let named : Addresses (record { present = class; better = by.0 }) ≡ Addresses change = ap (λ (k : Gain). k.refinement) by.2 ∙ is in
+        let change_is : record { present = class; better = by.0 } ≡ change = cc in
+        let better_is : by.0 ≡ change.better = ap (λ (k : ClassChange). k.better) change_is in
+        let of = found cs next by.0 by.1 in
         record {
-          some = positive;
-          class = class_is;
-          better = ap price class_is ∙ class_price positive;
-          ticks = sym (ap (λ (x : Gain). x.ticks) same);
-        })
-        (cases_Bool (eqb (next_price p) 0))
+          some = omega (arith, eqb-false next 0 some);
+          at = subst (Contains cs) better_is of.0;
+          better = ap price (sym better_is) ∙ of.1;
+          ticks = sym (ap (λ (k : Gain). k.ticks) by.2);
+        }
+
+    next_is : IsNextClass
+    unfolding next
+    next_is = ⊎_elim
+        (λ (none : (eqb next 0 ≡ true) × (None ≡ Some g)). absurd (not_none g none.1))
+        (λ (some : (eqb next 0 ≡ false) × (option_map (next_gain class present next) (next_class (map (priced price) cs) next) ≡ Some g)).
+        by_class some.0 (map_is (next_gain class present next) (next_class (map (priced price) cs) next) g some.1))
+        (chosen (eqb next 0) None (option_map (next_gain class present next) (next_class (map (priced price) cs) next)) (Some g) gain)
+
+    less : next < present
+    less = omega (arith, greatest, under cs 0, next_is.some)
 
     -- the price by the better class, and the gain, are the present price
-    pub falls : (g : Gain) (change : ClassChange) → class_gain p ≡ Some g → g.refinement ≡ Addresses change → price change.better + g.ticks ≡ p.present
-    falls g change gain is = let n = next_is g change gain is in omega (arith, at_most, n.better, n.ticks)
+    pub falls : price change.better + g.ticks ≡ present
+    falls = omega (arith, less, next_is.better, next_is.ticks)
 
     -- it is the dearest of the cheaper classes
-    pub dearest : (g : Gain) (change : ClassChange) → class_gain p ≡ Some g → g.refinement ≡ Addresses change → IsDearestBelow price p.present change.better
-    dearest g change gain is =
-        let n = next_is g change gain is in
-        let below : next_price p < p.present = omega (arith, n.some, under p.present p.ram, under p.present p.rom, under p.present p.io) in
-        record {
-          named = λ any. named (eqb p.ram (next_price p)) (eqb p.rom (next_price p)) (sym n.class ∙ any);
-          less = omega (arith, n.better, below);
-          next = λ other is_named cheaper. let le = no_more other is_named cheaper in let same = n.better in omega (arith, le, same);
-        }
-      where
-        named : (b c : Bool) → (if b then Ram else (if c then Rom else Io)) ≡ Any → ⊥
-        named true c any = cc
-        named false true any = cc
-        named false false any = cc
-
-        no_more : (other : Class) → other ≢ Any → price other < p.present → price other ≤ next_price p
-        no_more Ram is_named cheaper = let lt : p.ram < p.present = omega (arith, ram, cheaper) in omega (arith, ram, includes p.present p.ram lt)
-        no_more Rom is_named cheaper = let lt : p.rom < p.present = omega (arith, rom, cheaper) in omega (arith, rom, includes p.present p.rom lt)
-        no_more Io is_named cheaper = let lt : p.io < p.present = omega (arith, io, cheaper) in omega (arith, io, includes p.present p.io lt)
-        no_more Any is_named cheaper = absurd (is_named refl)
+    pub dearest : IsDearestBelow price present cs change.better
+    dearest = record {
+      offered = next_is.at;
+      less = omega (arith, less, next_is.better);
+      next = λ other at cheaper. omega (arith, includes cs 0 other at cheaper, greatest, next_is.better);
+    }
 
 -- ## Edges
 
@@ -140,34 +153,14 @@ module _ (p : ClassPrices) where
 first_class : (st : Stated) (a : ℕ) (class : Class) → class_at (with_access st a class) a ≡ class
 first_class st a class = ap (λ b. unwrap_or (if b then Some class else lookup (eqb a) st.accesses) Any) (eq-eqb a a refl)
 
-not_none : (g : Gain) → None ≡ Some g → ⊥
-not_none g gain = cc
-
--- only what has no stated class gains by one
-unstated : (profile : Profile) (class : Class) (work : Work) (g : Gain) → transfer_gain profile class work ≡ Some g
-    → (class ≡ Any) × (class_gain (transfer_prices profile work) ≡ Some g)
-unstated profile Any work g gain = (refl, gain)
-unstated profile Ram work g gain = absurd (not_none g gain)
-unstated profile Rom work g gain = absurd (not_none g gain)
-unstated profile Io work g gain = absurd (not_none g gain)
-
-unstated_leave : (profile : Profile) (class : Class) (g : Gain) → leave_gain profile class ≡ Some g
-    → (class ≡ Any) × (class_gain (leave_prices profile) ≡ Some g)
-unstated_leave profile Any g gain = (refl, gain)
-unstated_leave profile Ram g gain = absurd (not_none g gain)
-unstated_leave profile Rom g gain = absurd (not_none g gain)
-unstated_leave profile Io g gain = absurd (not_none g gain)
-
 by_work : (st : Stated) (profile : Profile) (a : ℕ) (action : Action) (to : Place) (g : Gain) (change : ClassChange)
     → transfer_gain profile (class_at st a) action.work ≡ Some g → g.refinement ≡ Addresses change
     → do_ticks (with_access st a change.better) profile a action to + g.ticks ≡ do_ticks st profile a action to
 by_work st profile a action to g change gain is =
-    let of_any = unstated profile (class_at st a) action.work g gain in
-    let less = falls (transfer_prices profile action.work) (λ c. work_ticks profile c action.work) refl refl refl g change of_any.1 is in
+    let less = falls (λ c. work_ticks profile c action.work) (work_ticks profile (class_at st a) action.work) (class_at st a) (offered (class_at st a)) g change gain is in
     let fetch = fetch_ticks profile a action.work in
     let arrival = arrival_ticks profile st.leave action.kind to in
     ap (λ (c : Class). fetch + work_ticks profile c action.work + arrival + g.ticks) (first_class st a change.better) ∙ sums fetch _ _ arrival g.ticks less
-    ∙ ap (λ (c : Class). fetch + work_ticks profile c action.work + arrival) (sym of_any.0)
   where
     sums : (fetch better any arrival ticks : ℕ) → better + ticks ≡ any → fetch + better + arrival + ticks ≡ fetch + any + arrival
     sums fetch better any arrival ticks less = omega arith
@@ -203,22 +196,39 @@ access_gains st profile a i to g change gain is = of_operation st profile a i.co
 
 pub leave_gains : (st : Stated) (profile : Profile) (g : Gain) (change : ClassChange) → leave_gain profile st.leave ≡ Some g → g.refinement ≡ Addresses change
     → jump_ticks profile (with_leave st change.better).leave Exit + g.ticks ≡ jump_ticks profile st.leave Exit
-leave_gains st profile g change gain is =
-    let of_any = unstated_leave profile st.leave g gain in
-    falls (leave_prices profile) (worst_leave profile) refl refl refl g change of_any.1 is ∙ ap (worst_leave profile) (sym of_any.0)
+leave_gains st profile g change gain is = falls (worst_leave profile) (worst_leave profile st.leave) st.leave (offered_ways_out st.leave) g change gain is
 
 -- ## Which class is next
 
 pub next_access : (profile : Profile) (class : Class) (work : Work) (g : Gain) (change : ClassChange) → transfer_gain profile class work ≡ Some g → g.refinement ≡ Addresses change
-    → IsDearestBelow (λ c. work_ticks profile c work) (work_ticks profile class work) change.better
-next_access profile class work g change gain is =
-    let of_any = unstated profile class work g gain in
-    let found = dearest (transfer_prices profile work) (λ c. work_ticks profile c work) refl refl refl g change of_any.1 is in
-    subst (λ (c : Class). IsDearestBelow (λ k. work_ticks profile k work) (work_ticks profile c work) change.better) (sym of_any.0) found
+    → IsDearestBelow (λ c. work_ticks profile c work) (work_ticks profile class work) (offered class) change.better
+next_access profile class work g change gain is = dearest (λ c. work_ticks profile c work) (work_ticks profile class work) class (offered class) g change gain is
 
 pub next_leave : (profile : Profile) (class : Class) (g : Gain) (change : ClassChange) → leave_gain profile class ≡ Some g → g.refinement ≡ Addresses change
-    → IsDearestBelow (worst_leave profile) (worst_leave profile class) change.better
-next_leave profile class g change gain is =
-    let of_any = unstated_leave profile class g gain in
-    let found = dearest (leave_prices profile) (worst_leave profile) refl refl refl g change of_any.1 is in
-    subst (λ (c : Class). IsDearestBelow (worst_leave profile) (worst_leave profile c) change.better) (sym of_any.0) found
+    → IsDearestBelow (worst_leave profile) (worst_leave profile class) (offered_ways_out class) change.better
+next_leave profile class g change gain is = dearest (worst_leave profile) (worst_leave profile class) class (offered_ways_out class) g change gain is
+
+-- ## Where the classes offered lie
+
+pub within : (class better : Class) (x : ℕ) → Contains (offered class) better → IsOf better x → IsOf class x
+within Any better x at is_of = tt
+within Io better x at is_of = All-contains (λ (k : Class). IsOf k x → IsOf Io x) (offered Io) better each at is_of
+  where
+    each : All (λ (k : Class). IsOf k x → IsOf Io x) (offered Io)
+    each = All-from_recursion (λ (k : Class). IsOf k x → IsOf Io x) (offered Io) (λ d. d.0, (λ d. d.0, (λ d. d.0, (λ d. d.0, tt))))
+within Ram better x at is_of = absurd (no_member better at)
+within Rom better x at is_of = absurd (no_member better at)
+within Slow better x at is_of = absurd (no_member better at)
+within Medium better x at is_of = absurd (no_member better at)
+within Fast better x at is_of = absurd (no_member better at)
+within Synchronous better x at is_of = absurd (no_member better at)
+
+pub way_out_within : (class better : Class) (x : ℕ) → Contains (offered_ways_out class) better → IsOf better x → IsOf class x
+way_out_within Any better x at is_of = tt
+way_out_within Io better x at is_of = absurd (no_member better at)
+way_out_within Ram better x at is_of = absurd (no_member better at)
+way_out_within Rom better x at is_of = absurd (no_member better at)
+way_out_within Slow better x at is_of = absurd (no_member better at)
+way_out_within Medium better x at is_of = absurd (no_member better at)
+way_out_within Fast better x at is_of = absurd (no_member better at)
+way_out_within Synchronous better x at is_of = absurd (no_member better at)

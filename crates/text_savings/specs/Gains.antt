@@ -1,71 +1,75 @@
 -- What the next better entry of a statement takes off a price, in ticks.
-use Rattle.std.specs.Prelude.{◌≢◌, ℕ, ◌-◌, ◌*◌, ◌<◌, ◌≤◌, ◌==◌, max, nat_lt, if◌then◌else◌}
-use Rattle.std.specs.Prelude.{Option, Some, None}
+use Rattle.std.specs.Prelude.{ℕ, ◌-◌, ◌*◌, ◌<◌, ◌≤◌, ◌==◌, max, nat_lt, if◌then◌else◌}
+use Rattle.std.specs.Prelude.{List, [], ◌∷◌, Contains, filter, find, fold, map}
+use Rattle.std.specs.Prelude.{Option, Some, None, option_map}
 use Rattle.arm2_decode.specs.Writers.{moved}
 use Rattle.arm2_decode.specs.declared.instr.Operation.{Operation}
 use Rattle.arm2_decode.specs.declared.transfers.Moved.{Moved}
 use Rattle.bus_ticks.specs.declared.profile.Class.{Class}
 use Rattle.bus_ticks.specs.declared.profile.Class.TheVariants.{Any, Ram, Rom, Io}
+use Rattle.bus_ticks.specs.declared.profile.Class.TheVariants.{Slow, Medium, Fast, Synchronous}
 use Rattle.bus_ticks.specs.declared.profile.Profile.{Profile}
 use Rattle.bus_ticks.specs.Worst.{worst_leave}
 use Rattle.shifter.specs.declared.shifts.TheConstants.{MOST_MULTIPLY_CYCLES}
 use Rattle.control_flow.specs.Edges.{work_ticks}
 use Rattle.control_flow.specs.Kinds.{is_multiply, transfer_work}
 use Rattle.control_flow.specs.declared.actions.Work.{Work}
-use Rattle.text_savings.specs.declared.classes.ClassPrices.{ClassPrices}
+use Rattle.text_savings.specs.declared.classes.PricedClass.{PricedClass}
 use Rattle.text_savings.specs.declared.gains.Gain.{Gain}
 use Rattle.text_savings.specs.declared.gains.Refinement.TheVariants.{Addresses, Multiplier}
 
 -- ## The next better class
 
--- a price, if it is less than the present one, else 0, which is no price
-abbrev pub if_less : (present price : ℕ) → ℕ
-if_less present price = if nat_lt price present then price else 0
+-- a class with its price
+abbrev pub priced : (price : Class → ℕ) → Class → PricedClass
+priced price class = record { class = class; ticks = price class }
 
--- the greatest price of a class that is less than the present one, 0 where there is none
-abbrev pub next_price : ClassPrices → ℕ
-next_price p = max (if_less p.present p.ram) (max (if_less p.present p.rom) (if_less p.present p.io))
+-- the greatest of the candidates' prices below the present one, 0 (no price) where there is none
+abbrev pub next_price : (present : ℕ) → List PricedClass → ℕ
+next_price present candidates =
+    fold max 0 (filter (λ ticks. nat_lt ticks present) (map (λ c. c.ticks) candidates))
 
--- the first class of that price
-abbrev pub next_class : ClassPrices → (next : ℕ) → Class
-next_class p next = if p.ram == next then Ram else (if p.rom == next then Rom else Io)
+-- the class of the first candidate of that price
+abbrev pub next_class : List PricedClass → (next : ℕ) → Option Class
+next_class candidates next = option_map (λ c. c.class) (find (λ c. c.ticks == next) candidates)
 
--- what it takes off the present price, that of any
-abbrev pub next_gain : ClassPrices → (next : ℕ) → Gain
-next_gain p next =
-    record {
-      refinement = Addresses (record { present = Any; better = next_class p next });
-      ticks = p.present - next;
-    }
+-- what a class of the next price takes off
+abbrev pub next_gain : (class : Class) → (present next : ℕ) → (better : Class) → Gain
+next_gain class present next better =
+    record { refinement = Addresses (record { present = class; better = better }); ticks = present - next }
 
--- None where no class costs less
-abbrev pub class_gain : ClassPrices → Option Gain
-class_gain p = if next_price p == 0 then None else Some (next_gain p (next_price p))
+-- what the next better candidate takes off; None where none costs less
+abbrev pub class_gain : (class : Class) → (present : ℕ) → List PricedClass → Option Gain
+class_gain class present candidates =
+    if next_price present candidates == 0 then None
+    else option_map (next_gain class present (next_price present candidates))
+    (next_class candidates (next_price present candidates))
 
--- a class that a statement may name is below the present price, and none that is below it is dearer
-pub record IsDearestBelow (price : Class → ℕ) (present : ℕ) (class : Class) : Type 0 where
-  pub named : class ≢ Any
+-- one of the classes is below the present price, and none of them that is below it is dearer
+pub record IsDearestBelow (price : Class → ℕ) (present : ℕ) (classes : List Class) (class : Class)
+    : Type 0 where
+  pub offered : Contains classes class
   pub less : price class < present
-  pub next : (other : Class) → other ≢ Any → price other < present → price other ≤ price class
+  pub next : (other : Class) → Contains classes other → price other < present → price other ≤ price class
 
 -- ## What a word and a way out gain
 
--- what a transfer costs besides its fetches, by the class of its addresses
-abbrev pub transfer_prices : Profile → Work → ClassPrices
-transfer_prices p w =
-    record {
-      present = work_ticks p Any w;
-      ram = work_ticks p Ram w;
-      rom = work_ticks p Rom w;
-      io = work_ticks p Io w;
-    }
+-- what a statement may say in place of a transfer's class, all within it, since what is stated is true: memory
+-- or the devices for any, a speed for the devices
+abbrev pub offered : Class → List Class
+offered Any = Ram ∷ Rom ∷ Io ∷ []
+offered Io = Slow ∷ Medium ∷ Fast ∷ Synchronous ∷ []
+offered Ram = []
+offered Rom = []
+offered Slow = []
+offered Medium = []
+offered Fast = []
+offered Synchronous = []
 
--- a stated class is true, so none is better
+-- what a transfer gains, by what each class costs besides its fetches
 abbrev pub transfer_gain : Profile → Class → Work → Option Gain
-transfer_gain p Any w = class_gain (transfer_prices p w)
-transfer_gain p Ram w = None
-transfer_gain p Rom w = None
-transfer_gain p Io w = None
+transfer_gain p class w =
+    class_gain class (work_ticks p class w) (map (priced (λ c. work_ticks p c w)) (offered class))
 
 -- a multiply is priced at its most internal cycles, and takes one less with the next better multiplier
 abbrev pub multiply_gain : Profile → Gain
@@ -84,18 +88,18 @@ moved_gain p class (Some m) = transfer_gain p class (transfer_work m.load m.word
 abbrev pub operation_gain : Profile → Class → Operation → Option Gain
 operation_gain p class o = if is_multiply o then Some (multiply_gain p) else moved_gain p class (moved o)
 
--- of the two fetches after the handler leaves, by the class of the addresses to which it does
-abbrev pub leave_prices : Profile → ClassPrices
-leave_prices p =
-    record {
-      present = worst_leave p Any;
-      ram = worst_leave p Ram;
-      rom = worst_leave p Rom;
-      io = worst_leave p Io;
-    }
+-- what a statement may say in place of the class to which the handler leaves: no speed
+abbrev pub offered_ways_out : Class → List Class
+offered_ways_out Any = Ram ∷ Rom ∷ Io ∷ []
+offered_ways_out Ram = []
+offered_ways_out Rom = []
+offered_ways_out Io = []
+offered_ways_out Slow = []
+offered_ways_out Medium = []
+offered_ways_out Fast = []
+offered_ways_out Synchronous = []
 
+-- what the way out gains, by what the two fetches after it cost
 abbrev pub leave_gain : Profile → Class → Option Gain
-leave_gain p Any = class_gain (leave_prices p)
-leave_gain p Ram = None
-leave_gain p Rom = None
-leave_gain p Io = None
+leave_gain p class =
+    class_gain class (worst_leave p class) (map (priced (worst_leave p)) (offered_ways_out class))

@@ -1,5 +1,5 @@
-ghost use Rattle.std.specs.Prelude.{◌≡◌};
-ghost use Rattle.text_savings.specs.Gains.{class_gain, if_less, next_class, next_price};
+ghost use Rattle.std.specs.Prelude.{◌≡◌, option_map};
+ghost use Rattle.text_savings.specs.Gains.{class_gain, next_class, next_price};
 
 use crate::gains::{Gain, Refinement};
 use bus_ticks::Class;
@@ -11,60 +11,50 @@ pub(crate) struct ClassChange {
     pub(crate) better: Class,
 }
 
-/// What an access costs in ticks by the class of its addresses: by any, which is the present one, and by
-/// each that a statement may name.
+/// A class of addresses, and what an access costs by it.
 #[derive(Clone, Copy)]
-pub(crate) struct ClassPrices {
-    pub(crate) present: u32,
-    pub(crate) ram: u32,
-    pub(crate) rom: u32,
-    pub(crate) io: u32,
+pub(crate) struct PricedClass {
+    pub(crate) class: Class,
+    pub(crate) ticks: u32,
 }
 
-// The price, if it is less than the present one, else 0, which is no price.
-fn if_less(present: u32, price: u32) -> u32
-    ensures { result ≡ if_less present price }
+// The greatest of the candidates' prices that are below the present one, 0 (no price) where there is none.
+fn next_price(present: u32, candidates: &[PricedClass]) -> u32
+    ensures { result ≡ next_price present candidates.now }
 {
-    if price < present { price } else { 0 }
+    candidates
+        .iter()
+        .map(|candidate| candidate.ticks)
+        .filter(|ticks| *ticks < present)
+        .fold(0, u32::max)
 }
 
-// The greatest price of a class that is less than the present one.
-fn next_price(prices: ClassPrices) -> u32
-    ensures { result ≡ next_price prices }
+// The class of the first candidate of that price.
+fn next_class(candidates: &[PricedClass], next: u32) -> Option<Class>
+    ensures { result ≡ next_class candidates.now next }
 {
-    let ram = if_less(prices.present, prices.ram);
-    let rom = if_less(prices.present, prices.rom);
-    let io = if_less(prices.present, prices.io);
-    ram.max(rom.max(io))
+    candidates
+        .iter()
+        .find(|candidate| candidate.ticks == next)
+        .map(|candidate| candidate.class)
 }
 
-fn next_class(prices: ClassPrices, next: u32) -> Class
-    ensures { result ≡ next_class prices next }
+/// What the next better of the candidates takes off the present price: the one whose price is the greatest
+/// below that, and the first of this price. None where no candidate costs less.
+pub(crate) fn class_gain(class: Class, present: u32, candidates: &[PricedClass]) -> Option<Gain>
+    ensures { result ≡ class_gain class present candidates.now }
 {
-    if prices.ram == next {
-        Class::Ram
-    } else if prices.rom == next {
-        Class::Rom
-    } else {
-        Class::Io
-    }
-}
-
-/// What the next better class takes off the price where the class is any: that whose price is the greatest
-/// below the present one. None where no class costs less.
-pub(crate) fn class_gain(prices: ClassPrices) -> Option<Gain>
-    ensures { result ≡ class_gain prices }
-{
-    let next = next_price(prices);
+    let next = next_price(present, candidates);
     if next == 0 {
         return None;
     }
+    let better = next_class(candidates, next)?;
     let change = ClassChange {
-        present: Class::Any,
-        better: next_class(prices, next),
+        present: class,
+        better,
     };
     Some(Gain {
         refinement: Refinement::Addresses(change),
-        ticks: prices.present.saturating_sub(next),
+        ticks: present.saturating_sub(next),
     })
 }

@@ -1,6 +1,6 @@
-ghost use Rattle.std.specs.Prelude.{◌≡◌, ◌+◌, ◌<◌, ◌^◌, ℕ, List, Some, count_by};
+ghost use Rattle.std.specs.Prelude.{◌≡◌, ◌+◌, ◌<◌, ◌^◌, ℕ, Contains, List, Some, count_by};
 ghost use Rattle.arm2_decode.specs.declared.instr.Instr.{Instr};
-ghost use Rattle.bus_ticks.specs.Worst.{worst_leave};
+ghost use Rattle.bus_ticks.specs.Worst.{IsOf, worst_leave};
 ghost use Rattle.bus_ticks.specs.declared.profile.Class.{Class};
 ghost use Rattle.bus_ticks.specs.declared.profile.Profile.{Profile};
 ghost use Rattle.control_flow.specs.declared.actions.Work.{Work};
@@ -10,7 +10,8 @@ ghost use Rattle.control_flow.specs.declared.places.Place.{Place};
 ghost use Rattle.control_flow.specs.declared.places.Place.TheVariants.{Exit};
 ghost use Rattle.statement.specs.Stated.{Stated, class_at};
 ghost use Rattle.text_savings.specs.Changed.{with_access, with_leave};
-ghost use Rattle.text_savings.specs.Gains.{IsDearestBelow, leave_gain, operation_gain, transfer_gain};
+ghost use Rattle.text_savings.specs.Gains.{IsDearestBelow, leave_gain, offered, offered_ways_out};
+ghost use Rattle.text_savings.specs.Gains.{operation_gain, transfer_gain};
 ghost use Rattle.text_savings.specs.declared.classes.ClassChange.{ClassChange};
 ghost use Rattle.text_savings.specs.declared.gains.Gain.{Gain};
 ghost use Rattle.text_savings.specs.declared.gains.Refinement.TheVariants.{Addresses};
@@ -44,13 +45,24 @@ pub fn gains_are_of_the_prices()
         ≡ jump_ticks profile st.leave Exit }
 {}
 
-/// States which class is the next better: one that a statement may name and whose price is below the present
-/// one's, and no such class has a greater price. It does nothing.
+/// States which class is the next better: one of those offered whose price is below the present one's, and
+/// none of those below it has a greater price. It does nothing.
 pub fn next_class_is_the_dearest_below()
     ensures access { (profile : Profile) (class : Class) (work : Work) (gain : Gain) (change : ClassChange)
         → transfer_gain profile class work ≡ Some gain → gain.refinement ≡ Addresses change
-        → IsDearestBelow (λ c. work_ticks profile c work) (work_ticks profile class work) change.better }
+        → IsDearestBelow (λ c. work_ticks profile c work) (work_ticks profile class work) (offered class)
+        change.better }
     ensures leave { (profile : Profile) (class : Class) (gain : Gain) (change : ClassChange)
         → leave_gain profile class ≡ Some gain → gain.refinement ≡ Addresses change
-        → IsDearestBelow (worst_leave profile) (worst_leave profile class) change.better }
+        → IsDearestBelow (worst_leave profile) (worst_leave profile class) (offered_ways_out class)
+        change.better }
+{}
+
+/// States that a class is offered in place of one that contains it: each address of the class offered is of
+/// the present one. It does nothing.
+pub fn offered_classes_lie_within()
+    ensures access { (class better : Class) (x : ℕ)
+        → Contains (offered class) better → IsOf better x → IsOf class x }
+    ensures leave { (class better : Class) (x : ℕ)
+        → Contains (offered_ways_out class) better → IsOf better x → IsOf class x }
 {}

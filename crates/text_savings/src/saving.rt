@@ -10,11 +10,11 @@ use crate::gains::{Gain, Refinement, leave_gain, operation_gain};
 use arm2_decode::decode;
 use bus_ticks::Profile;
 use longest_walk::Longest;
+use loop_bounds::Handler;
 use statement::Statement;
 use std::alloc::{AllocError, Global};
 use std::cmp::Reverse;
 use std::collections::BTreeMap;
-use text_explained::StatedGraph;
 
 /// Whose price would be less.
 #[derive(Clone, Copy)]
@@ -112,18 +112,18 @@ fn saved_at(
 // What is saved at each word, and then on the way out.
 fn found_savings(
     alloc: Global,
-    handler: StatedGraph<'_>,
+    handler: &Handler<'_>,
     longest: &Longest,
 ) -> Result<Vec<Saving>, AllocError>
     ensures { IfOk result
-        (λ found. AreFound handler.entry.source.now.image handler.entry.statement.now handler.entry.graph.now
+        (λ found. AreFound handler.now.image.now handler.now.statement handler.now.graph
         (unfolded longest.now.walk) found.items) }
 {
-    let times = times_carried_out(alloc, handler.graph, &longest.walk)?;
-    let words = handler.source.image.listed(alloc)?;
+    let times = times_carried_out(alloc, &handler.graph, &longest.walk)?;
+    let words = handler.image.listed(alloc)?;
     let profile = handler.graph.profile();
     let carried = Carried {
-        statement: handler.statement,
+        statement: &handler.statement,
         profile: &profile,
         times: &times,
     };
@@ -134,10 +134,10 @@ fn found_savings(
 }
 
 /// What better entries of a statement would save by a greatest walk: for each load and store whose class is
-/// any, and for the way out of the handler if its class is any, the next better class, and for each
-/// multiply one of 15 cycles. The next better class is the one whose price is the greatest below the
-/// present one's. A stated class is true, so none is better. Another walk may then be the greatest, so the
-/// bound would be less by that at most.
+/// any or io, and for the way out of the handler if its class is any, the next better class, and for each
+/// multiply one of 15 cycles. The next better class is, of those that may be stated there and lie within the
+/// present one, the one whose price is the greatest below the present one's. A stated class is true, so none
+/// outside it is better. Another walk may then be the greatest, so the bound would be less by that at most.
 ///
 /// Those that save most come first; of equals the lowest address, and the way out last. What saves nothing is
 /// not there.
@@ -147,11 +147,11 @@ fn found_savings(
 /// An allocation failed.
 pub(crate) fn savings(
     alloc: Global,
-    handler: StatedGraph<'_>,
+    handler: &Handler<'_>,
     longest: &Longest,
 ) -> Result<Vec<Saving>, AllocError>
     ensures { IfOk result
-        (λ list. AreSavings handler.entry.source.now.image handler.entry.statement.now handler.entry.graph.now
+        (λ list. AreSavings handler.now.image.now handler.now.statement handler.now.graph
         (unfolded longest.now.walk) list.items) }
 {
     let mut list = found_savings(alloc, handler, longest)?;

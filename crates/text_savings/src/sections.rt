@@ -11,11 +11,11 @@ ghost use Rattle.text_rows.specs.WordLines.{numbered_at};
 use crate::gains::Refinement;
 use crate::saving::{Saving, Subject, savings};
 use longest_walk::Longest;
+use loop_bounds::Handler;
 use sources::{Source, SourceText};
 use statement::class_name;
 use std::alloc::{AllocError, Global};
 use std::collections::BTreeMap;
-use text_explained::StatedGraph;
 use text_rows::{
     NumberedLine, SourceLine, put, put_address_row, put_named_row, put_number, put_right,
     put_shown_row, section,
@@ -154,21 +154,23 @@ fn source_rows(alloc: Global, source: &Source<'_>, list: &[Saving]) -> Result<Ve
 /// What better entries of a statement would save by a greatest walk: under a heading a row for each of the
 /// [`savings`], with the ticks, the better entry, and the address, the number and the text of its line,
 /// or, of an image, the address, the word and the line that [`disassemble`](assembler::disassemble) shows.
-/// A row ends at column 80. Nothing where there are no savings.
+/// A row ends at column 80. Nothing where there are no savings. The handler's image is the source's.
 ///
 /// # Errors
 ///
 /// An allocation failed.
 pub fn savings_text(
     alloc: Global,
-    handler: StatedGraph<'_>,
+    source: &Source<'_>,
+    handler: &Handler<'_>,
     longest: &Longest,
 ) -> Result<Vec<u8>, AllocError>
+    requires { handler.now.image.now ≡ source.now.image }
     ensures { IfOk result
-        (λ text. IsSavingsText handler.entry.source.now handler.entry.statement.now
-        handler.entry.graph.now (unfolded longest.now.walk) text.items) }
+        (λ text. IsSavingsText source.now handler.now.statement handler.now.graph (unfolded longest.now.walk)
+        text.items) }
 {
     let list = savings(alloc, handler, longest)?;
-    let rows = source_rows(alloc, handler.source, &list)?;
+    let rows = source_rows(alloc, source, &list)?;
     section(alloc, HEADING, &rows)
 }

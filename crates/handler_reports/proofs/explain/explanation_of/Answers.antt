@@ -24,7 +24,7 @@ returns-in_err-starts-clause-fault c = λ source statement loops.
     let h = c.args.handler.now in
     let f = c.in_err-starts.field-0.0 in
     refused_as c.from_residual-in_err-starts.result (of_walk f) (BeforeOutput (IsRefused source statement profile)) c.from_residual-in_err-starts.ensures.1
-    (walk_refusal source statement profile h.statement h.graph h.tree loops c.requires f c.in_err-starts.ensures.fault)
+    (walk_refusal source statement profile h.statement h.graph h.tree loops c.requires.tree f c.in_err-starts.ensures.fault)
 
 pub returns-clause-explains : goal.returns-clause-explains
 returns-clause-explains c = λ source statement is_read loops.
@@ -41,6 +41,6 @@ returns-clause-explains c = λ source statement is_read loops.
     let total : IsTotal read h.graph found =
     c.totals_are_the_bound.ensures h.graph h.tree found.bound found.walk read.image read.text formed walk fits (c.places_are_listed_once.ensures.source source read h.graph formed is_read on) in
     let starts = subst (AreWorstStarts h.graph h.tree) (sym c.deref.ensures.value) c.in_ok-starts.ensures.starts in
-    explained source statement profile read is_read h.statement h.graph h.tree loops c.requires c.run_law.ensures formed
+    explained source statement profile read is_read h.statement h.graph h.tree loops c.requires.tree c.run_law.ensures formed
     c.args.bursts found (latest_at h.graph.places c.deref.result.now) c.in_ok-text.text.items c.in_ok-found.ensures.longest
     (λ a. c.latest_starts_are_of_walks.ensures h.graph h.tree c.deref.result.now a formed starts) c.in_ok-found.ensures.allowed c.in_ok-text.ensures total

@@ -1,13 +1,20 @@
-use Rattle.std.proofs.Common.{refl}
+use Rattle.std.proofs.Common.{◌∙◌, refl}
+use Rattle.image.specs.Labels.{address_of}
 use Rattle.handlers.proofs.FiqLemmas.{enters_there, fiq_refusal}
 use Rattle.handlers.proofs.RefusalLemmas.{stop_err}
 use Rattle.handlers.specs.FiqHandler.{IsFiqRefused}
 use Rattle.handlers.specs.Report.{BeforeOutput}
+use Rattle.handler_reports.proofs.SaidLemmas.{same_words}
 use Rattle.handler_reports.proofs.follow_visits.fiq_bounded.Goals as goal
 
 pub returns-clause-is : goal.returns-clause-is
 returns-clause-is c = λ source is. record {
   loops = c.in_ok-handler.ensures.is.loops source is;
+  image =
+      let said = c.args.said.now in
+      let h = c.in_ok-handler.handler in
+      c.in_ok-handler.ensures.is.image
+      ∙ same_words source c.args.statement.now c.args.profile.now said.image (address_of said.labels) h.statement h.graph is (c.in_ok-handler.ensures.is.loops source is);
   tree = c.in_ok-handler.ensures.is.tree;
   longest = c.in_ok-longest.longest;
   longest_is = c.in_ok-longest.ensures.longest;

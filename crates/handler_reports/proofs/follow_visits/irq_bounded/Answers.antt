@@ -1,9 +1,11 @@
-use Rattle.std.proofs.Common.{refl}
+use Rattle.std.proofs.Common.{◌∙◌, refl}
+use Rattle.image.specs.Labels.{address_of}
 use Rattle.handlers.specs.Refusal.{stop_fault}
 use Rattle.handlers.specs.Report.{BeforeOutput, IsRefused}
 use Rattle.handlers.proofs.HandlerLemmas.{refused_as}
 use Rattle.handlers.proofs.RefusalLemmas.{stop_err}
 use Rattle.handlers.proofs.ReportLemmas.{report_refusal}
+use Rattle.handler_reports.proofs.SaidLemmas.{same_words}
 use Rattle.handler_reports.proofs.follow_visits.irq_bounded.Goals as goal
 
 pub returns-in_err-handler-clause-fault : goal.returns-in_err-handler-clause-fault
@@ -21,6 +23,11 @@ returns-in_err-longest-clause-fault c = λ source is.
 pub returns-clause-is : goal.returns-clause-is
 returns-clause-is c = λ source is. record {
   loops = c.in_ok-handler.ensures.is.loops source is;
+  image =
+      let said = c.args.said.now in
+      let h = c.in_ok-handler.handler in
+      c.in_ok-handler.ensures.is.image
+      ∙ same_words source c.args.statement.now c.args.profile.now said.image (address_of said.labels) h.statement h.graph is (c.in_ok-handler.ensures.is.loops source is);
   tree = c.in_ok-handler.ensures.is.tree;
   longest = c.in_ok-longest.longest;
   longest_is = c.in_ok-longest.ensures.longest;

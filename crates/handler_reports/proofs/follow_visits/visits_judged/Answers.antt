@@ -1,16 +1,13 @@
-use Rattle.std.proofs.Common.{◌≡◌, ◌∙◌, ◌-◌, ℕ, List, ap, arith, drop, inl, length, subst, sym}
+use Rattle.std.proofs.Common.{◌∙◌, ◌-◌, ℕ, List, ap, arith, drop, inl, length, subst}
 use Rattle.std.proofs.lemmas.List.{length-drop, take_all}
 use Rattle.arm2_exec.specs.declared.machine.Input.{Input}
-use Rattle.control_flow.specs.Flow.{Flow}
 use Rattle.kept_runs.specs.Arriving.{ArrivesAfter}
-use Rattle.kept_runs.specs.Judging.{IsMachineFor}
-use Rattle.kept_runs.specs.Visited.{Handled, IsVisitedRun, handled}
-use Rattle.handler_reports.specs.VisitedWork.{IsRunText, handled_by}
+use Rattle.kept_runs.specs.Visited.{IsVisitedRun, handled}
+use Rattle.handler_reports.specs.VisitedWork.{IsRunText}
 use Rattle.handler_reports.proofs.follow_visits.visits_judged.Goals as goal
 
 pub follow_visited-requires-clause-machine : goal.follow_visited-requires-clause-machine
-follow_visited-requires-clause-machine c =
-    subst (λ (g : Flow). IsMachineFor g c.arrive.new.machine) (sym c.accepted.ensures.graph) (c.arrive.ensures.machine c.args.both.irq.now.handler.graph c.requires.machine)
+follow_visited-requires-clause-machine c = c.arrive.ensures.machine c.args.both.irq.now.handler.graph c.requires.machine
 
 pub returns-clause-judged : goal.returns-clause-judged
 returns-clause-judged c =
@@ -25,18 +22,10 @@ returns-clause-judged c =
     subst (λ (e : ℕ). ArrivesAfter e start c.deref.result.now before now) c.entry-entry.ensures.value c.in-Some.ensures.arrives in
     let arrives : ArrivesAfter b.irq.now.handler.statement.entry start inputs before now =
     subst (λ (is : List Input). ArrivesAfter b.irq.now.handler.statement.entry start is before now) c.deref.ensures.value at_entry in
-    let irq : handled c.accepted.result ≡ handled_by b.read.now.image b.irq.now.handler =
-    λ i. record { words = c.accepted.ensures.image i; stated = c.accepted.ensures.statement i; flow = c.accepted.ensures.graph i; tree = c.accepted.ensures.tree i } in
-    let fiq : handled c.accepted-2.result ≡ handled_by b.read.now.image b.fiq.now.handler =
-    λ i. record { words = c.accepted-2.ensures.image i; stated = c.accepted-2.ensures.statement i; flow = c.accepted-2.ensures.graph i; tree = c.accepted-2.ensures.tree i } in
     let xs = c.deref-2.result.now in
     let rest = take_all (length xs - before) (drop before xs) (omega (arith, length-drop before xs)) ∙ ap (drop before) c.deref-2.ensures.value in
-    let first : IsVisitedRun (handled c.accepted.result) (handled c.accepted-2.result) now (drop before inputs) after run =
-    subst (λ (is : List Input). IsVisitedRun (handled c.accepted.result) (handled c.accepted-2.result) now is after run) rest c.in_ok-run.ensures.followed in
-    let second : IsVisitedRun (handled_by b.read.now.image b.irq.now.handler) (handled c.accepted-2.result) now (drop before inputs) after run =
-    subst (λ (h : Handled). IsVisitedRun h (handled c.accepted-2.result) now (drop before inputs) after run) irq first in
-    let judged : IsVisitedRun (handled_by b.read.now.image b.irq.now.handler) (handled_by b.read.now.image b.fiq.now.handler) now (drop before inputs) after run =
-    subst (λ (h : Handled). IsVisitedRun (handled_by b.read.now.image b.irq.now.handler) h now (drop before inputs) after run) fiq second in
+    let judged : IsVisitedRun (handled b.irq.now.handler) (handled b.fiq.now.handler) now (drop before inputs) after run =
+    subst (λ (is : List Input). IsVisitedRun (handled b.irq.now.handler) (handled b.fiq.now.handler) now is after run) rest c.in_ok-run.ensures.followed in
     let j = c.in_ok-run_answer.field-0 in
     record {
       inputs = inputs;

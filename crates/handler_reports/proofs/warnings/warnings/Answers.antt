@@ -7,13 +7,13 @@ use Rattle.handler_reports.proofs.warnings.warnings.Goals as goal
 
 pub returns : goal.returns
 returns c = λ source passes is_read tally.
-    let h = c.args.stated in
-    let read = h.source.now in
+    let h = c.args.handler.now in
+    let read = c.args.read.now in
     IfOk-weaker c.done_text.result _ _
     (λ text is. record {
       read = read;
       is_read = is_read;
       words_are = refl;
-      are_done = returns_as _ _ (done_exactly h.graph.now passes c.args.by_place.now tally (contains nat_cmp c.in_ok-done.done) c.in_ok-done.ensures) read h.statement.now h.graph.now text.items is;
+      are_done = returns_as _ _ (done_exactly h.graph passes c.args.by_place.now tally (contains nat_cmp c.in_ok-done.done) c.in_ok-done.ensures) read h.statement h.graph text.items is;
     })
     c.done_text.ensures

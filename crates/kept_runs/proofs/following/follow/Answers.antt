@@ -7,7 +7,7 @@ use Rattle.kept_runs.proofs.following.follow.Goals as goal
 
 pub headers-requires-clause-ended : goal.headers-requires-clause-ended
 headers-requires-clause-ended c =
-    spans_end c.args.handler.graph.now c.args.handler.tree.now c.requires.handler.tree_is c.spans.result.now (length c.places-exit.result.now) c.spans.ensures (ap length c.places-exit.ensures.value)
+    spans_end c.args.handler.now.graph c.args.handler.now.tree c.requires.handler.tree_is c.spans.result.now (length c.places-exit.result.now) c.spans.ensures (ap length c.places-exit.ensures.value)
 
 pub headers-requires-clause-small : goal.headers-requires-clause-small
 headers-requires-clause-small c =
@@ -21,7 +21,7 @@ pub follow_whole-requires-clause-headers : goal.follow_whole-requires-clause-hea
 follow_whole-requires-clause-headers c = record {
   whole = ap length c.deref.ensures.value ∙ c.in_ok-headers.ensures.0 ∙ ap (λ (n : ℕ). n + 1) (ap length c.places-exit.ensures.value);
   are =
-      subst (λ (xs : List (Option Span)). AreHeaders c.args.handler.tree.now.spans xs) (sym c.deref.ensures.value)
+      subst (λ (xs : List (Option Span)). AreHeaders c.args.handler.now.tree.spans xs) (sym c.deref.ensures.value)
       (subst (λ (ss : List Span). AreHeaders ss c.in_ok-headers.headers.items) c.spans.ensures c.in_ok-headers.ensures.1);
 }
 

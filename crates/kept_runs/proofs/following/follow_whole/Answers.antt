@@ -9,7 +9,7 @@ none = record { bursts = 0; lines = record { 0 = 0 }; port = 0 }
 
 pub returns-then-at-entry : goal.returns-then-at-entry
 returns-then-at-entry c =
-    elsewhere c.args.handler.image.now c.args.handler.statement.now c.args.handler.graph.now c.args.handler.tree.now c.places-exit.ensures.well_formed c.requires.handler c.args.machine.now c.args.inputs.now
+    elsewhere c.args.handler.now.image.now c.args.handler.now.statement c.args.handler.now.graph c.args.handler.now.tree c.places-exit.ensures.well_formed c.requires.handler c.args.machine.now c.args.inputs.now
     c.address-at.result c.address-at.ensures.address (λ is. c.if-at-entry.true (c.address-at.ensures.address ∙ is ∙ sym c.entry.ensures.value))
 
 pub loop-input-init : goal.loop-input-init
@@ -18,9 +18,9 @@ loop-input-init c =
     let steps = fresh.steps_are in
     let ticks = fresh.ticks_are in
     let can =
-    can_begin c.args.handler.image.now c.args.handler.statement.now c.args.handler.graph.now c.args.handler.tree.now c.places-exit.ensures.well_formed c.requires.handler c.args.machine.now c.args.inputs.now
+    can_begin c.args.handler.now.image.now c.args.handler.now.statement c.args.handler.now.graph c.args.handler.now.tree c.places-exit.ensures.well_formed c.requires.handler c.args.machine.now c.args.inputs.now
     c.args.follower.now c.requires.machine (sym c.address-at.ensures.address ∙ c.if-at-entry.false ∙ c.entry.ensures.value) c.requires.fresh refl in (
-      begins c.args.handler.image.now c.args.handler.statement.now c.args.handler.graph.now c.args.handler.tree.now c.places-exit.ensures.well_formed c.requires.handler c.args.machine.now c.args.inputs.now c.args.follower.now fresh can,
+      begins c.args.handler.now.image.now c.args.handler.now.statement c.args.handler.now.graph c.args.handler.now.tree c.places-exit.ensures.well_formed c.requires.handler c.args.machine.now c.args.inputs.now c.args.follower.now fresh can,
       can,
       omega (arith, steps),
       omega (arith, ticks),
@@ -42,7 +42,7 @@ pub returns-in-Some : goal.returns-in-Some
 returns-in-Some c =
     let n = c.loop-input.input-index in
     let inputs = c.args.inputs.now in
-    strays c.args.handler.image.now c.args.handler.statement.now c.args.handler.graph.now c.args.handler.tree.now c.places-exit.ensures.well_formed c.requires.handler c.args.machine.now c.args.inputs.now
+    strays c.args.handler.now.image.now c.args.handler.now.statement c.args.handler.now.graph c.args.handler.now.tree c.places-exit.ensures.well_formed c.requires.handler c.args.machine.now c.args.inputs.now
     c.loop-input.input-index (get_or inputs n none) c.loop-input-test.true (get_or_default inputs n (get_or inputs n none) none c.loop-input-test.true)
     c.loop-input.follower c.loop-input.machine c.loop-input.invariant.1 c.loop-input.invariant.0 c.take_step.new.machine c.address-here.result c.in-Some.halt.why c.address-here.ensures.address c.in-Some.ensures.halts
 
@@ -58,9 +58,9 @@ returns-then-follower-exit c =
     let spent = c.loop-input.invariant.3 in
     let count = c.loop-input.invariant.0.steps_count in record {
       run =
-          left c.args.handler.image.now c.args.handler.statement.now c.args.handler.graph.now c.args.handler.tree.now c.places-exit.ensures.well_formed c.requires.handler c.args.machine.now c.args.inputs.now
+          left c.args.handler.now.image.now c.args.handler.now.statement c.args.handler.now.graph c.args.handler.now.tree c.places-exit.ensures.well_formed c.requires.handler c.args.machine.now c.args.inputs.now
           (c.loop-input.input-index + 1) c.take_step.new.follower c.take_step.new.machine
-          (more c.args.handler.image.now c.args.handler.statement.now c.args.handler.graph.now c.args.handler.tree.now c.places-exit.ensures.well_formed c.requires.handler c.args.machine.now c.args.inputs.now
+          (more c.args.handler.now.image.now c.args.handler.now.statement c.args.handler.now.graph c.args.handler.now.tree c.places-exit.ensures.well_formed c.requires.handler c.args.machine.now c.args.inputs.now
           c.loop-input.input-index (get_or inputs n none) c.loop-input-test.true (get_or_default inputs n (get_or inputs n none) none c.loop-input-test.true)
           c.loop-input.follower c.loop-input.machine c.loop-input.invariant.1 c.loop-input.invariant.0 c.take_step.new.follower c.take_step.new.machine c.in_default.ensures)
           (omega (arith, lt))
@@ -80,10 +80,10 @@ loop-input-preserved c =
     let small = goes.small in
     let few = c.loop-input.invariant.2 in
     let spent = c.loop-input.invariant.3 in (
-      more c.args.handler.image.now c.args.handler.statement.now c.args.handler.graph.now c.args.handler.tree.now c.places-exit.ensures.well_formed c.requires.handler c.args.machine.now c.args.inputs.now
+      more c.args.handler.now.image.now c.args.handler.now.statement c.args.handler.now.graph c.args.handler.now.tree c.places-exit.ensures.well_formed c.requires.handler c.args.machine.now c.args.inputs.now
           c.loop-input.input-index (get_or inputs n none) c.loop-input-test.true (get_or_default inputs n (get_or inputs n none) none c.loop-input-test.true)
           c.loop-input.follower c.loop-input.machine c.loop-input.invariant.1 c.loop-input.invariant.0 c.take_step.new.follower c.take_step.new.machine c.in_default.ensures,
-      can_more c.args.handler.image.now c.args.handler.statement.now c.args.handler.graph.now c.args.handler.tree.now c.places-exit.ensures.well_formed c.requires.handler c.args.machine.now c.args.inputs.now
+      can_more c.args.handler.now.image.now c.args.handler.now.statement c.args.handler.now.graph c.args.handler.now.tree c.places-exit.ensures.well_formed c.requires.handler c.args.machine.now c.args.inputs.now
           c.loop-input.input-index (get_or inputs n none) c.loop-input-test.true (get_or_default inputs n (get_or inputs n none) none c.loop-input-test.true)
           c.loop-input.follower c.loop-input.machine c.loop-input.invariant.1 c.loop-input.invariant.0 c.take_step.new.follower c.take_step.new.machine c.in_default.ensures
           (λ is. c.if-follower-exit.false (is ∙ sym (ap length c.places-exit.ensures.value))),
@@ -93,5 +93,5 @@ loop-input-preserved c =
 
 pub returns : goal.returns
 returns c =
-    unfinished c.args.handler.image.now c.args.handler.statement.now c.args.handler.graph.now c.args.handler.tree.now c.places-exit.ensures.well_formed c.requires.handler c.args.machine.now c.args.inputs.now
+    unfinished c.args.handler.now.image.now c.args.handler.now.statement c.args.handler.now.graph c.args.handler.now.tree c.places-exit.ensures.well_formed c.requires.handler c.args.machine.now c.args.inputs.now
     c.loop-input.input-index c.loop-input.follower c.loop-input.machine c.loop-input.invariant.1 c.loop-input.invariant.0 c.loop-input-test.false c.loop-input.auto.input-index-end c.address.result c.address.ensures.address

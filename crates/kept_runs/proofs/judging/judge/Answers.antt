@@ -13,53 +13,53 @@ use Rattle.kept_runs.proofs.judging.judge.Goals as goal
 
 pub returns-in_default : goal.returns-in_default
 returns-in_default c =
-    let place = place_at c.args.handler.graph.now.places c.args.place in
-    record { strays = other_word c.args.handler.image.now c.args.handler.statement.now c.args.handler.graph.now c.requires.graph place c.args.machine.now c.args.input c.requires.is_there c.in_default.ensures; step = refl }
+    let place = place_at c.args.handler.now.graph.places c.args.place in
+    record { strays = other_word c.args.handler.now.image.now c.args.handler.now.statement c.args.handler.now.graph c.requires.graph place c.args.machine.now c.args.input c.requires.is_there c.in_default.ensures; step = refl }
 
 pub other_of-other-requires : goal.other_of-other-requires
 other_of-other-requires c = c.read_word-reading.ensures.few
 
 pub returns-in-Taken : goal.returns-in-Taken
 returns-in-Taken c =
-    let place = place_at c.args.handler.graph.now.places c.args.place in
-    made_by c.args.handler.image.now c.args.handler.statement.now c.args.handler.graph.now place c.args.machine.now c.args.input c.step-stepped.new.self (stray.Exception c.in-Taken.vector) c.step-stepped.result c.made.result c.made.ensures c.step-stepped.ensures.step c.step-stepped.ensures.bound
-    (exception c.args.handler.image.now c.args.handler.statement.now c.args.handler.graph.now c.requires.graph place c.args.machine.now c.args.input c.requires.is_there
+    let place = place_at c.args.handler.now.graph.places c.args.place in
+    made_by c.args.handler.now.image.now c.args.handler.now.statement c.args.handler.now.graph place c.args.machine.now c.args.input c.step-stepped.new.self (stray.Exception c.in-Taken.vector) c.step-stepped.result c.made.result c.made.ensures c.step-stepped.ensures.step c.step-stepped.ensures.bound
+    (exception c.args.handler.now.image.now c.args.handler.now.statement c.args.handler.now.graph c.requires.graph place c.args.machine.now c.args.input c.requires.is_there
     c.step-stepped.result c.step-stepped.new.self c.step-stepped.ensures.step c.in-Some.word c.in-Some.ensures c.in-Taken.vector c.in-Taken.is)
 
 pub returns-in-Stopped : goal.returns-in-Stopped
 returns-in-Stopped c =
-    let place = place_at c.args.handler.graph.now.places c.args.place in
-    made_by c.args.handler.image.now c.args.handler.statement.now c.args.handler.graph.now place c.args.machine.now c.args.input c.step-stepped.new.self (stray.Stopped c.in-Stopped.why) c.step-stepped.result c.made-in-Stopped.result c.made-in-Stopped.ensures c.step-stepped.ensures.step c.step-stepped.ensures.bound
-    (stop c.args.handler.image.now c.args.handler.statement.now c.args.handler.graph.now c.requires.graph place c.args.machine.now c.args.input c.requires.is_there
+    let place = place_at c.args.handler.now.graph.places c.args.place in
+    made_by c.args.handler.now.image.now c.args.handler.now.statement c.args.handler.now.graph place c.args.machine.now c.args.input c.step-stepped.new.self (stray.Stopped c.in-Stopped.why) c.step-stepped.result c.made-in-Stopped.result c.made-in-Stopped.ensures c.step-stepped.ensures.step c.step-stepped.ensures.bound
+    (stop c.args.handler.now.image.now c.args.handler.now.statement c.args.handler.now.graph c.requires.graph place c.args.machine.now c.args.input c.requires.is_there
     c.step-stepped.result c.step-stepped.new.self c.step-stepped.ensures.step c.in-Some.word c.in-Some.ensures c.in-Stopped.why c.in-Stopped.is)
 
 pub returns-in-Some-other : goal.returns-in-Some-other
 returns-in-Some-other c =
-    let place = place_at c.args.handler.graph.now.places c.args.place in
-    made_by c.args.handler.image.now c.args.handler.statement.now c.args.handler.graph.now place c.args.machine.now c.args.input c.step-stepped.new.self (stray.OtherClass c.in-Some-other.access) c.step-stepped.result c.made-in-Some-other.result c.made-in-Some-other.ensures c.step-stepped.ensures.step c.step-stepped.ensures.bound
-    (other_class c.args.handler.image.now c.args.handler.statement.now c.args.handler.graph.now c.requires.graph place c.args.machine.now c.args.input c.requires.is_there
+    let place = place_at c.args.handler.now.graph.places c.args.place in
+    made_by c.args.handler.now.image.now c.args.handler.now.statement c.args.handler.now.graph place c.args.machine.now c.args.input c.step-stepped.new.self (stray.OtherClass c.in-Some-other.access) c.step-stepped.result c.made-in-Some-other.result c.made-in-Some-other.ensures c.step-stepped.ensures.step c.step-stepped.ensures.bound
+    (other_class c.args.handler.now.image.now c.args.handler.now.statement c.args.handler.now.graph c.requires.graph place c.args.machine.now c.args.input c.requires.is_there
     c.step-stepped.result c.step-stepped.new.self c.step-stepped.ensures.step c.in-Plain.is c.in-Some.word c.in-Some.ensures c.read_word-reading.result c.read_word-reading.ensures.reading
     c.in-Some-other.access
-    (subst (λ (k : Class). HasOther k c.read_word-reading.result.transfer c.in-Some-other.access) (c.class_at.ensures ∙ ap (class_at c.args.handler.statement.now) c.address-address.ensures.address) c.in-Some-other.ensures))
+    (subst (λ (k : Class). HasOther k c.read_word-reading.result.transfer c.in-Some-other.access) (c.class_at.ensures ∙ ap (class_at c.args.handler.now.statement) c.address-address.ensures.address) c.in-Some-other.ensures))
 
 pub edge_taken-requires : goal.edge_taken-requires
 edge_taken-requires c = c.requires.known
 
 pub returns-in-Some-edge_taken : goal.returns-in-Some-edge_taken
 returns-in-Some-edge_taken c =
-    let place = place_at c.args.handler.graph.now.places c.args.place in
-    takes c.args.handler.image.now c.args.handler.statement.now c.args.handler.graph.now c.requires.graph place c.args.machine.now c.args.input c.requires.is_there
+    let place = place_at c.args.handler.now.graph.places c.args.place in
+    takes c.args.handler.now.image.now c.args.handler.now.statement c.args.handler.now.graph c.requires.graph place c.args.machine.now c.args.input c.requires.is_there
     c.step-stepped.result c.step-stepped.new.self c.step-stepped.ensures.step c.in-Plain.is c.in-Some.word c.in-Some.ensures c.read_word-reading.result c.read_word-reading.ensures.reading
-    (subst (λ (k : Class). HasNoOther k c.read_word-reading.result.transfer) (c.class_at.ensures ∙ ap (class_at c.args.handler.statement.now) c.address-address.ensures.address) c.in_default-other.ensures)
+    (subst (λ (k : Class). HasNoOther k c.read_word-reading.result.transfer) (c.class_at.ensures ∙ ap (class_at c.args.handler.now.statement) c.address-address.ensures.address) c.in_default-other.ensures)
     c.step-stepped.ensures.bound c.in-Some-edge_taken.edge
-    (subst (λ (g : Going). IsFound c.args.handler.graph.now place g c.in-Some-edge_taken.edge) (λ j. record { label = c.label_if.ensures j; to = c.step-stepped.result.to; leave = c.leave.ensures j }) c.in-Some-edge_taken.ensures)
+    (subst (λ (g : Going). IsFound c.args.handler.now.graph place g c.in-Some-edge_taken.edge) (λ j. record { label = c.label_if.ensures j; to = c.step-stepped.result.to; leave = c.leave.ensures j }) c.in-Some-edge_taken.ensures)
 
 pub returns-in-None : goal.returns-in-None
 returns-in-None c =
-    let place = place_at c.args.handler.graph.now.places c.args.place in
-    made_by c.args.handler.image.now c.args.handler.statement.now c.args.handler.graph.now place c.args.machine.now c.args.input c.step-stepped.new.self (stray.Elsewhere c.step-stepped.result.to) c.step-stepped.result c.made-in-None.result c.made-in-None.ensures c.step-stepped.ensures.step c.step-stepped.ensures.bound
-    (elsewhere c.args.handler.image.now c.args.handler.statement.now c.args.handler.graph.now c.requires.graph place c.args.machine.now c.args.input c.requires.is_there
+    let place = place_at c.args.handler.now.graph.places c.args.place in
+    made_by c.args.handler.now.image.now c.args.handler.now.statement c.args.handler.now.graph place c.args.machine.now c.args.input c.step-stepped.new.self (stray.Elsewhere c.step-stepped.result.to) c.step-stepped.result c.made-in-None.result c.made-in-None.ensures c.step-stepped.ensures.step c.step-stepped.ensures.bound
+    (elsewhere c.args.handler.now.image.now c.args.handler.now.statement c.args.handler.now.graph c.requires.graph place c.args.machine.now c.args.input c.requires.is_there
     c.step-stepped.result c.step-stepped.new.self c.step-stepped.ensures.step c.in-Plain.is c.in-Some.word c.in-Some.ensures c.read_word-reading.result c.read_word-reading.ensures.reading
-    (subst (λ (k : Class). HasNoOther k c.read_word-reading.result.transfer) (c.class_at.ensures ∙ ap (class_at c.args.handler.statement.now) c.address-address.ensures.address) c.in_default-other.ensures)
-    (Contains-get_or c.args.handler.graph.now.places c.args.place Exit c.requires.known)
-    (subst (λ (g : Going). HasNoEdge c.args.handler.graph.now place g) (λ j. record { label = c.label_if.ensures j; to = c.step-stepped.result.to; leave = c.leave.ensures j }) c.in-None.ensures))
+    (subst (λ (k : Class). HasNoOther k c.read_word-reading.result.transfer) (c.class_at.ensures ∙ ap (class_at c.args.handler.now.statement) c.address-address.ensures.address) c.in_default-other.ensures)
+    (Contains-get_or c.args.handler.now.graph.places c.args.place Exit c.requires.known)
+    (subst (λ (g : Going). HasNoEdge c.args.handler.now.graph place g) (λ j. record { label = c.label_if.ensures j; to = c.step-stepped.result.to; leave = c.leave.ensures j }) c.in-None.ensures))

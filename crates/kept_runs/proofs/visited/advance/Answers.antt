@@ -20,13 +20,13 @@ returns-then-not-takes_fiq c = record {
 
 pub follow_whole-strayed-requires-clause-machine : goal.follow_whole-strayed-requires-clause-machine
 follow_whole-strayed-requires-clause-machine c =
-    fit_for_fiq c.args.both.irq.graph.now c.args.both.fiq.graph.now c.args.machine.now c.args.input c.step_of-taking.result c.step_of-taking.new.machine
+    fit_for_fiq c.args.both.irq.now.graph c.args.both.fiq.now.graph c.args.machine.now c.args.input c.step_of-taking.result c.step_of-taking.new.machine
     c.requires.ready.prices c.requires.can.can.machine (c.step_of-taking.ensures.step c.args.machine.now c.in-Some.ensures.step) (c.takes_fiq.ensures.0 c.if-not-takes_fiq.false)
 
 pub overflow_add-result : goal.overflow_add-result
 overflow_add-result c =
     let f = c.in-Some-strayed.field-0 in
-    let few = strayed_few c.args.both.fiq.image.now c.args.both.fiq.statement.now c.args.both.fiq.graph.now c.args.both.fiq.tree.now c.step_of-taking.new.machine c.args.rest.now f.steps f.at f.why c.follow_whole-strayed.new.machine c.in-Some-strayed.ensures in
+    let few = strayed_few c.args.both.fiq.now.image.now c.args.both.fiq.now.statement c.args.both.fiq.now.graph c.args.both.fiq.now.tree c.step_of-taking.new.machine c.args.rest.now f.steps f.at f.why c.follow_whole-strayed.new.machine c.in-Some-strayed.ensures in
     let room = c.requires.room in
     omega (arith, few, room)
 
@@ -86,7 +86,7 @@ returns c = record {
       leaves = c.in_default-strayed.ensures;
       back = sym c.address-back.ensures.address ∙ c.if-back-at.false ∙ c.address-at.ensures.address;
       main_is =
-          unchanged c.args.both.irq.image.now c.args.both.irq.statement.now c.args.both.irq.graph.now c.args.both.irq.tree.now c.args.followers.now.main c.take_step.new.follower c.args.machine.now c.args.input c.take_step.new.machine c.in-Some.halt
+          unchanged c.args.both.irq.now.image.now c.args.both.irq.now.statement c.args.both.irq.now.graph c.args.both.irq.now.tree c.args.followers.now.main c.take_step.new.follower c.args.machine.now c.args.input c.take_step.new.machine c.in-Some.halt
           c.in-Some.ensures c.step_of-taking.result c.step_of-taking.new.machine (c.step_of-taking.ensures.step c.args.machine.now c.in-Some.ensures.step) (c.takes_fiq.ensures.0 c.if-not-takes_fiq.false);
       visits_are = refl;
       ticks_are = ap (λ (t : ℕ). c.args.followers.now.ticks + (t + c.follow_whole-strayed.new.follower.ticks)) c.from.ensures;

@@ -63,5 +63,5 @@ loop-done-preserved c =
 
 pub returns : goal.returns
 returns c =
-    unfinished_both (handled c.args.both.irq) (handled c.args.both.fiq) c.requires.ready.irq_well c.requires.ready.irq c.args.machine.now c.args.inputs.now
+    unfinished_both (handled c.args.both.irq.now) (handled c.args.both.fiq.now) c.requires.ready.irq_well c.requires.ready.irq c.args.machine.now c.args.inputs.now
     c.loop-done.done c.loop-done.followers c.loop-done.machine c.loop-done.invariant.can.can c.loop-done.invariant.so_far c.loop-done-test.false c.loop-done.invariant.within c.address.result c.address.ensures.address

@@ -8,15 +8,15 @@ use Rattle.kept_runs.proofs.visited.follow_visited.Goals as goal
 
 pub headers-requires-clause-ended : goal.headers-requires-clause-ended
 headers-requires-clause-ended c =
-    spans_end c.args.handlers.irq.graph.now c.args.handlers.irq.tree.now c.requires.irq.tree_is c.spans.result.now (length c.places-irq_exit.result.now) c.spans.ensures (ap length c.places-irq_exit.ensures.value)
+    spans_end c.args.handlers.irq.now.graph c.args.handlers.irq.now.tree c.requires.irq.tree_is c.spans.result.now (length c.places-irq_exit.result.now) c.spans.ensures (ap length c.places-irq_exit.ensures.value)
 
 pub headers-requires-2-clause-ended : goal.headers-requires-2-clause-ended
 headers-requires-2-clause-ended c =
-    spans_end c.args.handlers.fiq.graph.now c.args.handlers.fiq.tree.now c.requires.fiq.tree_is c.spans-2.result.now (length c.places-fiq_exit.result.now) c.spans-2.ensures (ap length c.places-fiq_exit.ensures.value)
+    spans_end c.args.handlers.fiq.now.graph c.args.handlers.fiq.now.tree c.requires.fiq.tree_is c.spans-2.result.now (length c.places-fiq_exit.result.now) c.spans-2.ensures (ap length c.places-fiq_exit.ensures.value)
 
 pub returns-then-at-entry-clause-followed : goal.returns-then-at-entry-clause-followed
 returns-then-at-entry-clause-followed c =
-    not_at_entry (handled c.args.handlers.irq) (handled c.args.handlers.fiq) c.places-irq_exit.ensures.well_formed c.requires.irq c.args.machine.now c.args.inputs.now
+    not_at_entry (handled c.args.handlers.irq.now) (handled c.args.handlers.fiq.now) c.places-irq_exit.ensures.well_formed c.requires.irq c.args.machine.now c.args.inputs.now
     c.address-at.result c.address-at.ensures.address (λ is. c.if-at-entry.true (c.address-at.ensures.address ∙ is ∙ sym c.entry.ensures.value))
 
 pub follow_both-requires-clause-can : goal.follow_both-requires-clause-can
@@ -24,7 +24,7 @@ follow_both-requires-clause-can c =
     let fresh = c.in_ok-start-2.ensures in
     record {
       can =
-          can_begin c.args.handlers.irq.image.now c.args.handlers.irq.statement.now c.args.handlers.irq.graph.now c.args.handlers.irq.tree.now c.places-irq_exit.ensures.well_formed c.requires.irq c.args.machine.now c.args.inputs.now
+          can_begin c.args.handlers.irq.now.image.now c.args.handlers.irq.now.statement c.args.handlers.irq.now.graph c.args.handlers.irq.now.tree c.places-irq_exit.ensures.well_formed c.requires.irq c.args.machine.now c.args.inputs.now
           c.in_ok-start.field-0 c.requires.machine (sym c.address-at.ensures.address ∙ c.if-at-entry.false ∙ c.entry.ensures.value)
           c.in_ok-start.ensures (ap length c.places-irq_exit.ensures.value);
       room = record {

@@ -9,4 +9,4 @@ use Rattle.text_explained.proofs.assumptions.assumed.Given as goal
 abbrev pub invariant-loop-place : goal.invariant-loop-place
 invariant-loop-place l =
     (a : ℕ) → (contains nat_cmp l.named a ≡ true)
-    ↔ ((is_reached (take l.place-index l.place-items) a ≡ true) × Assumes l.handler.source.now.image l.handler.statement.now l.handler.graph.now l.what a)
+    ↔ ((is_reached (take l.place-index l.place-items) a ≡ true) × Assumes l.handler.image.now l.handler.statement l.handler.graph l.what a)

@@ -9,7 +9,7 @@ use Rattle.text_explained.proofs.done_returns.done_words.Goals as goal
 
 pub returns : goal.returns
 returns c =
-    let Named = AreSubjectTo c.args.handler.source.now.image c.args.handler.statement.now c.args.handler.graph.now c.args.caveat in
+    let Named = AreSubjectTo c.args.handler.now.image.now c.args.handler.now.statement c.args.handler.now.graph c.args.caveat in
     let same = sym c.deref.ensures.value in
     IfOk-weaker c.members_of.result _ _
     (λ v is. are_done (contains nat_cmp c.args.done.now) c.deref.result.now v.items Named (subst Named same c.in_ok-all.ensures.named)

@@ -9,7 +9,7 @@ use Rattle.text_explained.proofs.idle.idle_rows.Goals as goal
 
 pub returns : goal.returns
 returns c =
-    all_idle c.args.handler.source.now.image c.args.handler.statement.now c.args.handler.graph.now (contains nat_cmp c.in_ok-done.done)
+    all_idle c.args.handler.now.image.now c.args.handler.now.statement c.args.handler.now.graph (contains nat_cmp c.in_ok-done.done)
     c.loops.result.now c.deref.result.now c.deref-2.result.now c.new-rows.result.items c.put_loops.new.out.items c.put_targets.new.out.items
     c.put_accesses.new.out.items c.in_ok-done.ensures c.loops.ensures.value
     (c.deref.ensures.value ∙ c.in_ok-targets.ensures ∙ ap (λ (ts : List (ℕ × Target)). keys_of ts) c.targets.ensures)

@@ -7,4 +7,4 @@ use Rattle.text_explained.proofs.pricing.priced.Given as goal
 
 abbrev pub invariant-loop-place : goal.invariant-loop-place
 invariant-loop-place l =
-    ArePricedSoFar l.handler.source.now.image l.handler.statement.now (contains nat_cmp l.leaving) (take l.place-index l.place-items) (get nat_cmp l.prices)
+    ArePricedSoFar l.handler.image.now l.handler.statement (contains nat_cmp l.leaving) (take l.place-index l.place-items) (get nat_cmp l.prices)

@@ -1,0 +1,1 @@
+start    SUBS   PC,R14,#4

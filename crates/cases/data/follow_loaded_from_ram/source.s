@@ -1,0 +1,3 @@
+; Reads a word, and returns from the interrupt.
+start    LDR    R0,[R1]
+         SUBS   PC,R14,#4

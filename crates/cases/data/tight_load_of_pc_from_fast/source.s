@@ -1,0 +1,1 @@
+start    LDR    PC,[R0]

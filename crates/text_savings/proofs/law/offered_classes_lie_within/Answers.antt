@@ -1,0 +1,8 @@
+use Rattle.text_savings.proofs.GainLaws.{way_out_within, within}
+use Rattle.text_savings.proofs.law.offered_classes_lie_within.Goals as goal
+
+pub returns-clause-access : goal.returns-clause-access
+returns-clause-access c = within
+
+pub returns-clause-leave : goal.returns-clause-leave
+returns-clause-leave c = way_out_within
