@@ -4,7 +4,7 @@ ghost use Rattle.std.specs.Prelude.{Some};
 
 use crate::files::{Files, line};
 use crate::reports::{Cut, REPORTS, Report, first_wrong, on_room};
-use arcwcet::{MemoryOutput, Output, OutputFault, program, write_whole};
+use arcwcet::{MemoryOutput, Output, OutputFault, StreamInput, program, write_whole};
 use samples::lone_return::{SOURCE, STATEMENT};
 use std::alloc::Global;
 use std::process::Abort;
@@ -130,7 +130,7 @@ fn program_at_cuts(
             second: (STATEMENT, 0),
             profile: (b"", 0),
         };
-        let mut input: &[u8] = b"";
+        let mut input = StreamInput::new(b"".as_slice());
         let found = program(alloc, words, &mut files, &mut input, &mut out, &mut err);
         assert_eq!(rt;
             (found, out.bytes.as_slice()),

@@ -1,6 +1,6 @@
 //! Files in memory, for runs of the program.
 
-use arcwcet::{Store, StoreFault, read_limited};
+use arcwcet::{Store, StoreFault, StreamInput, read_limited};
 use std::alloc::{AllocError, Global};
 
 /// A text, and the length in bytes to which the comment at its end is drawn out, if that is longer.
@@ -30,7 +30,7 @@ impl Store for Files {
             _ => return Err(StoreFault::Device),
         };
         match bytes_of(alloc, file) {
-            Ok(bytes) => read_limited(alloc, &mut bytes.as_slice()),
+            Ok(bytes) => read_limited(alloc, &mut StreamInput::new(bytes.as_slice())),
             Err(_) => Err(StoreFault::Memory),
         }
     }

@@ -1,7 +1,7 @@
 //! Runs of the program over files and a standard input that are too long or fail.
 
 use crate::files::{File, Files, line};
-use arcwcet::{MOST_INPUT_BYTES, MemoryOutput, ReportFault, program};
+use arcwcet::{MOST_INPUT_BYTES, MemoryOutput, ReportFault, StreamInput, program};
 use samples::countdown;
 use std::alloc::Global;
 use std::io;
@@ -140,16 +140,18 @@ fn is_answered(alloc: Global, words: &[String], row: &Row) -> Result<bool, Repor
         second: *second,
         profile: *profile,
     };
-    let mut input = Bytes {
+    let mut bytes = Bytes {
         byte: *byte,
         left: *left,
         fails: *fails,
     };
+    let mut input = StreamInput::new(&mut bytes);
     let mut out = MemoryOutput::with_room(alloc, 0)?;
     let mut err = MemoryOutput::with_room(alloc, 0)?;
     let status = program(alloc, words, &mut files, &mut input, &mut out, &mut err);
     let answer = (status, out.bytes(), err.bytes());
-    Ok(answer == *wanted && input.left == *fault_only)
+    drop(input);
+    Ok(answer == *wanted && bytes.left == *fault_only)
 }
 
 // The number of the first row whose answer is another.

@@ -399,10 +399,10 @@ module _ {O : Type 0} (taken : O → Option (List ℕ)) (failures : O → ℕ) (
 
 -- ## Any command
 
-module _ {S I O : Type 0} (reads : Reading S) (writes : Writing S) (remaining : I → Option (List ℕ)) (taken : O → Option (List ℕ)) (failures : O → ℕ) (Said : Saying) (asked : Asked) where
+module _ {S I O : Type 0} (reads : Reading S) (writes : Writing S) (remaining : I → Option (List ℕ)) (input_failures : I → ℕ) (taken : O → Option (List ℕ)) (failures : O → ℕ) (Said : Saying) (asked : Asked) where
   module _ (old new : S) (input_old input_new : I) (before after : O) (status : ℕ) where
     abbrev pub RunsAs : Command → Type 0
-    RunsAs c = RunsBy reads writes remaining taken failures Said asked c old new input_old input_new before after status
+    RunsAs c = RunsBy reads writes remaining input_failures taken failures Said asked c old new input_old input_new before after status
 
     -- a command, by its own form if it has one
     pub by_form : (c : Command) → (c ≡ command.Asm → RunsAs command.Asm) → (c ≡ command.Debug → RunsAs command.Debug)

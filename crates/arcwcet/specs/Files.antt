@@ -3,6 +3,7 @@ use Rattle.std.specs.Prelude.{◌≡◌, ◌≤◌, ◌+◌, ◌⊎◌, ℕ, Lis
 use Rattle.std.specs.Prelude.{Err, slice_index_or}
 use Rattle.std.specs.Io.KnownBytes.{Consumes}
 use Rattle.std.specs.List.{cons_option}
+use Rattle.outputs.specs.Output.{FailsSince}
 use Rattle.command_line.specs.Line.{Asked}
 use Rattle.arcwcet.specs.declared.fault.StoreFault.{StoreFault}
 use Rattle.arcwcet.specs.declared.fault.StoreFault.TheVariants as store_fault
@@ -64,11 +65,11 @@ module _ {S : Type 0} (reads : Reading S) where
       ⊎ ((between : S) × (file : List ℕ) × reads old name (Ok file) between
       × FailsToRead between names fault new)
 
--- a front of what was left was read and nothing more: a byte more than the limit of what is too long, and of
--- what failed within the limit
-pub record StopsReading (fault : StoreFault) (old new : Option (List ℕ)) : Type 0 where
+-- a front of what was left was read and nothing more: a byte more than the limit of what is too long, and
+-- within the limit where the input failed
+pub record StopsReading (fault : StoreFault) (old new : Option (List ℕ)) (before after : ℕ) : Type 0 where
   pub front : List ℕ
   pub consumed : Consumes old new front
   pub few : length front ≤ MOST_INPUT_BYTES + 1
   pub too_long : fault ≡ store_fault.InputTooLong → length front ≡ MOST_INPUT_BYTES + 1
-  pub failed : fault ≡ store_fault.Device → length front ≤ MOST_INPUT_BYTES
+  pub failed : fault ≡ store_fault.Device → (length front ≤ MOST_INPUT_BYTES) × FailsSince before after

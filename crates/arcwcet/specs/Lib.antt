@@ -1,4 +1,5 @@
 pub mod Files
+pub mod Input
 pub mod FileFaults
 pub mod Kept
 pub mod Reasons

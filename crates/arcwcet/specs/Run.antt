@@ -184,8 +184,8 @@ pub record RunsAsm {S O : Type 0} (reads : Reading S) (writes : Writing S) (take
 
 -- ## `debug SOURCE MACHINE`
 
-module _ {S I : Type 0} (reads : Reading S) (remaining : I → Option (List ℕ)) (names : Texts) (old new : S)
-    (input_old input_new : I) where
+module _ {S I : Type 0} (reads : Reading S) (remaining : I → Option (List ℕ)) (input_failures : I → ℕ)
+    (names : Texts) (old new : S) (input_old input_new : I) where
   -- all files were read, and standard input to its end, which these commands are
   pub record HasReadInput (commands : List ℕ) : Type 0 where
     pub files : Texts
@@ -208,30 +208,35 @@ module _ {S I : Type 0} (reads : Reading S) (remaining : I → Option (List ℕ)
     pub read : ReadsAll reads old names files new
     pub fault : StoreFault
     pub status_is : status ≡ store_status fault
-    pub stops : StopsReading fault (remaining input_old) (remaining input_new)
+    pub stops : StopsReading fault (remaining input_old) (remaining input_new) (input_failures input_old)
+        (input_failures input_new)
     pub said : Says (Some (store_fault_name fault))
 
-module _ {S I O : Type 0} (reads : Reading S) (remaining : I → Option (List ℕ))
+module _ {S I O : Type 0} (reads : Reading S) (remaining : I → Option (List ℕ)) (input_failures : I → ℕ)
     (taken : O → Option (List ℕ)) (failures : O → ℕ) (Says : Saying) (asked : Asked) where
   -- What `debug` did: the files were read, and then standard input to its end, and the session with these
   -- commands is the report.
   abbrev pub RunsDebug : S → S → I → I → O → O → ℕ → Type 0
   RunsDebug old new input_old input_new before after status =
       ((commands : List ℕ)
-      × HasReadInput reads remaining (names_of asked) old new input_old input_new commands
+      × HasReadInput reads remaining input_failures (names_of asked) old new input_old input_new commands
       × RunsOf reads taken failures Says asked commands old new before after status)
-      ⊎ ((FailsBeforeInput reads remaining (names_of asked) old new input_old input_new Says status
-      ⊎ (FailsToReadInput reads remaining (names_of asked) old new input_old input_new Says status
+      ⊎ ((FailsBeforeInput reads remaining input_failures (names_of asked) old new input_old input_new Says
+      status
+      ⊎ (FailsToReadInput reads remaining input_failures (names_of asked) old new input_old input_new Says
+      status
       ⊎ ((status ≡ 3) × (new ≡ old) × (input_new ≡ input_old) × Says (Some (codes "Memory")))))
       × (after ≡ before))
 
 -- ## Any command
 
 module _ {S I O : Type 0} (reads : Reading S) (writes : Writing S) (remaining : I → Option (List ℕ))
-    (taken : O → Option (List ℕ)) (failures : O → ℕ) (Says : Saying) (asked : Asked) where
+    (input_failures : I → ℕ) (taken : O → Option (List ℕ)) (failures : O → ℕ) (Says : Saying)
+    (asked : Asked) where
   abbrev pub RunsBy : Command → S → S → I → I → O → O → ℕ → Type 0
   RunsBy command.Debug old new input_old input_new before after status =
-      RunsDebug reads remaining taken failures Says asked old new input_old input_new before after status
+      RunsDebug reads remaining input_failures taken failures Says asked old new input_old input_new before
+      after status
   RunsBy command.Asm old new input_old input_new before after status =
       RunsAsm reads writes taken failures Says asked old new before after status × (input_new ≡ input_old)
   RunsBy c old new input_old input_new before after status =

@@ -10,6 +10,7 @@ ghost use Rattle.arcwcet.specs.Run.{HasAnswered, RunsAsked, RunsAsm};
 
 use crate::diagnose::{alone_status, answered_status};
 use crate::files::{Store, read_files, read_limited};
+use crate::input::Input;
 use crate::reports::{Job, print};
 use crate::status::{line_status, report_status, store_status, unread_status};
 use command_line::{Command, Request, request};
@@ -17,7 +18,6 @@ use handlers::ReportFault;
 use outputs::{Output, write_whole};
 use source_reports::image_written;
 use std::alloc::Global;
-use std::io::Read;
 
 // Prints the report of a job, with the commands that were typed for `debug`, or why there is none.
 fn run_report<O: Output, E: Output>(
@@ -65,7 +65,7 @@ fn run_asm<S: Store, O: Output, E: Output>(
 }
 
 // Reads the files of what is asked, in their order, and does it.
-fn obey<S: Store, I: Read, O: Output, E: Output>(
+fn obey<S: Store, I: Input, O: Output, E: Output>(
     alloc: Global,
     asked: Request<'_>,
     store: &mut S,
@@ -73,7 +73,7 @@ fn obey<S: Store, I: Read, O: Output, E: Output>(
     out: &mut O,
     err: &mut E,
 ) -> u8
-    ensures done { RunsAsked S.read_gives S.write_gives I.remaining O.taken O.failures
+    ensures done { RunsAsked S.read_gives S.write_gives I.remaining I.failures O.taken O.failures
         (Says E.taken E.failures (asked_of asked.entry) err.old err.new) (asked_of asked.entry)
         store.old store.new input.old input.new out.old out.new result }
     ensures silent { result ≡ 0 → err.new ≡ err.old }
@@ -106,7 +106,7 @@ fn obey<S: Store, I: Read, O: Output, E: Output>(
 /// file, the others as the words name them, then for `debug` alone standard input, each up to
 /// [`MOST_INPUT_BYTES`](crate::MOST_INPUT_BYTES); a longer one is refused with status 1. No memory is taken
 /// once the words are refused. With `--version` or `-V` alone it prints its name and version.
-pub fn program<S: Store, I: Read, O: Output, E: Output>(
+pub fn program<S: Store, I: Input, O: Output, E: Output>(
     alloc: Global,
     words: &[String],
     store: &mut S,
@@ -123,7 +123,7 @@ pub fn program<S: Store, I: Read, O: Output, E: Output>(
 
     // What the words ask for was done, and standard error says what was refused.
     ensures done { (asked : Asked) → asked_in words.now ≡ Some asked
-        → RunsAsked S.read_gives S.write_gives I.remaining O.taken O.failures
+        → RunsAsked S.read_gives S.write_gives I.remaining I.failures O.taken O.failures
         (Says E.taken E.failures asked err.old err.new) asked store.old store.new input.old input.new
         out.old out.new result }
 

@@ -13,6 +13,7 @@ ghost use Rattle.arcwcet.specs.Store.{bytes_read};
 ghost use Rattle.arcwcet.specs.declared.fault.StoreFault.{StoreFault};
 
 use crate::fault::{FileFault, StoreFault};
+use crate::input::{Input, StreamInput};
 use command_line::Request;
 use std::alloc::Global;
 use std::io::{ErrorKind, Read, Write};
@@ -69,7 +70,7 @@ impl<'a, R: Files> HostStore<'a, R> {
 impl<R: Files> Store for HostStore<'_, R> {
     fn read(&mut self, alloc: Global, name: &str) -> Result<Vec<u8>, StoreFault> {
         match fs::open(self.rt, name) {
-            Ok(mut file) => read_limited(alloc, &mut file),
+            Ok(file) => read_limited(alloc, &mut StreamInput::new(file)),
             Err(_) => Err(StoreFault::Device),
         }
     }
@@ -130,25 +131,27 @@ pub const MOST_INPUT_BYTES: usize = 16_777_216;
 // How many bytes are asked for at once.
 const CHUNK: usize = 4096;
 
-/// What a reader has left, to its end.
+/// What an input has left, to its end.
 ///
 /// # Errors
 ///
 /// `InputTooLong`: more than 16,777,216 bytes are left, of which 16,777,217 were then read. `Device`: a read
 /// failed, after at most 16,777,216 bytes. `Memory`: an allocation failed, after at most 16,777,217.
-pub fn read_limited<R: Read>(alloc: Global, reader: &mut R) -> Result<Vec<u8>, StoreFault>
+pub fn read_limited<I: Input>(alloc: Global, input: &mut I) -> Result<Vec<u8>, StoreFault>
     ensures limit { IfOk result (λ v. vec_len v ≤ MOST_INPUT_BYTES) }
-    ensures consumed { IfOk result (λ v. Consumes (R.remaining reader.old) (R.remaining reader.new) v.items) }
-    ensures at_end { OnOk result (IsAtEnd (R.remaining reader.new)) }
-    ensures whole { IfOk result (λ v. IfSome (R.remaining reader.old) (λ xs. v.items ≡ xs)) }
-    ensures stops { IfErr result (λ e. StopsReading e (R.remaining reader.old) (R.remaining reader.new)) }
+    ensures consumed { IfOk result (λ v. Consumes (I.remaining input.old) (I.remaining input.new) v.items) }
+    ensures at_end { OnOk result (IsAtEnd (I.remaining input.new)) }
+    ensures whole { IfOk result (λ v. IfSome (I.remaining input.old) (λ xs. v.items ≡ xs)) }
+    ensures quiet { OnOk result (I.failures input.new ≡ I.failures input.old) }
+    ensures stops { IfErr result (λ e. StopsReading e (I.remaining input.old) (I.remaining input.new)
+        (I.failures input.old) (I.failures input.new)) }
 {
     let mut bytes = Vec::new(alloc);
     let mut chunk = [0u8; CHUNK];
     while bytes.len() <= MOST_INPUT_BYTES {
         let want = (MOST_INPUT_BYTES + 1 - bytes.len()).min(CHUNK);
         let part = &mut chunk[..want];
-        let n = match reader.read(part) {
+        let n = match input.read(part) {
             Ok(n) => n,
             Err(_) => return Err(StoreFault::Device),
         };

@@ -6,6 +6,7 @@ mod commands;
 mod diagnose;
 mod fault;
 mod files;
+mod input;
 mod law;
 mod reports;
 mod status;
@@ -21,6 +22,7 @@ pub use handler_reports::{
     verdict_report, visits_report,
 };
 pub use handlers::{MemoryOutput, Refusal, ReportFault, Stop, StreamOutput, fault_only};
+pub use input::{Input, InputFault, StreamInput};
 pub use law::{input_limit, some_run_has_visits, some_run_keeps};
 pub use machine_file::{MachineFile, read_machine, read_profile};
 pub use machine_reports::{debug_report, run_report, trace_report};

@@ -1,7 +1,7 @@
 //! Bounds the run time of interrupt handlers.
 #![tactic(auto)]
 
-use arcwcet::{HostStore, StreamOutput, program};
+use arcwcet::{HostStore, StreamInput, StreamOutput, program};
 use std::process::ExitCode;
 use std::rt::Env;
 use std::{env, io};
@@ -47,7 +47,7 @@ fn main(rt: HostRuntime) -> ExitCode {
         }
     };
     let mut store = HostStore::new(&rt);
-    let mut input = rt.reader();
+    let mut input = StreamInput::new(rt.reader());
     let mut out = StreamOutput::new(rt.stdout());
     let mut err = StreamOutput::new(rt.stderr());
     ExitCode::from(program(

@@ -3,7 +3,7 @@
 
 mod full_disc;
 
-use arcwcet::{HostStore, Store, StreamOutput, program};
+use arcwcet::{HostStore, Store, StreamInput, StreamOutput, program};
 use full_disc::FullDisc;
 use std::alloc::{AllocError, Global};
 use std::{fs, io};
@@ -35,7 +35,7 @@ fn words_of(alloc: Global, command: &str) -> Result<Vec<String>, AllocError> {
 fn run<S: Store>(rt: &HostRuntime, store: &mut S, command: &str) -> io::Result<()> {
     let alloc = rt.alloc();
     let words = words_of(alloc, command)?;
-    let mut input = rt.reader();
+    let mut input = StreamInput::new(rt.reader());
     let mut out = StreamOutput::new(rt.stdout());
     let mut err = StreamOutput::new(rt.stderr());
     let status = program(alloc, &words, store, &mut input, &mut out, &mut err);

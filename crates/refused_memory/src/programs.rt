@@ -1,6 +1,6 @@
 use crate::reports::ROOM;
 use crate::trial::{Answer, Trial};
-use arcwcet::{MemoryOutput, ReportFault, Store, StoreFault, program, read_limited};
+use arcwcet::{MemoryOutput, ReportFault, Store, StoreFault, StreamInput, program, read_limited};
 use samples::{countdown, nested_countdown};
 use std::alloc::{AllocError, Global};
 
@@ -52,13 +52,13 @@ struct Files {
 
 impl Store for Files {
     fn read(&mut self, alloc: Global, name: &str) -> Result<Vec<u8>, StoreFault> {
-        let mut bytes = match name {
+        let bytes = match name {
             "countdown.s" => countdown::SOURCE,
             "nested.s" => nested_countdown::SOURCE,
             "nested.toml" => nested_countdown::STATEMENT,
             _ => return Err(StoreFault::Device),
         };
-        read_limited(alloc, &mut bytes)
+        read_limited(alloc, &mut StreamInput::new(bytes))
     }
 
     fn write(&mut self, name: &str, bytes: &[u8]) -> Result<(), StoreFault> {
@@ -103,7 +103,7 @@ impl Started {
     }
 
     fn run(&mut self, alloc: Global, err: &mut MemoryOutput) -> u8 {
-        let mut input: &[u8] = b"";
+        let mut input = StreamInput::new(b"".as_slice());
         program(
             alloc,
             &self.words,

@@ -1,5 +1,5 @@
 use crate::cases::wanted::Wanted;
-use arcwcet::{ReportFault, StoreFault, read_limited};
+use arcwcet::{ReportFault, StoreFault, StreamInput, read_limited};
 use std::alloc::{AllocError, Global};
 use std::io::ErrorKind;
 use std::rt::Files;
@@ -69,7 +69,10 @@ impl<R: Files + AllocGlobal> Folder<'_, R> {
     fn read_if_any(&self, file: &str) -> Result<Option<Vec<u8>>, CaseFault> {
         let path = format!(in self.rt.alloc(); "{}/{file}", self.name)?;
         match fs::open(self.rt, path.as_str()) {
-            Ok(mut reader) => Ok(Some(read_limited(self.rt.alloc(), &mut reader)?)),
+            Ok(reader) => {
+                let mut input = StreamInput::new(reader);
+                Ok(Some(read_limited(self.rt.alloc(), &mut input)?))
+            }
             Err(error) if error.kind() == ErrorKind::NotFound => Ok(None),
             Err(_) => Err(CaseFault::File(StoreFault::Device)),
         }

@@ -2,7 +2,7 @@ use crate::cases::case::{Case, CaseFault, read_case};
 use crate::cases::case_store::CaseStore;
 use crate::cases::difference::Difference;
 use crate::cases::wanted::first_difference;
-use arcwcet::{MemoryOutput, program};
+use arcwcet::{MemoryOutput, StreamInput, program};
 use std::rt::Files;
 
 // The results of a run of the program.
@@ -47,7 +47,7 @@ pub(crate) fn judge<R: Files + AllocGlobal>(
     let alloc = rt.alloc();
     let case = read_case(rt, name)?;
     let mut store = CaseStore::new(rt, name);
-    let mut input = case.input.as_slice();
+    let mut input = StreamInput::new(case.input.as_slice());
     let mut out = MemoryOutput::with_room(alloc, 0)?;
     let mut err = MemoryOutput::with_room(alloc, 0)?;
     let status = program(

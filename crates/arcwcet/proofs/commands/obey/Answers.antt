@@ -17,14 +17,14 @@ returns-in-Ok-read_limited-clause-done g c =
     let says = Says g.E.Output.taken g.E.Output.failures asked c.args.err.now c.run_report.new.err in
     let split = c.inputs.ensures ∙ inputs_split (λ n. n.now) (λ v. v.items) c.args.asked.profile files.profile (bytes_kept files.others.items) c.in-Ok.ensures.named in
     let limit : length c.in-Ok-read_limited.typed.items ≤ 16777216 = search (rules, input_read.limit, c.in-Ok-read_limited.typed.ok) in
-    subst (λ (k : Command). RunsAs g.S.Store.read_gives g.S.Store.write_gives g.I.Read.remaining g.O.Output.taken g.O.Output.failures says asked c.args.store.now c.read_files.new.store c.args.input.now c.read_limited.new.reader c.args.out.now c.run_report.new.out c.run_report.result k)
+    subst (λ (k : Command). RunsAs g.S.Store.read_gives g.S.Store.write_gives g.I.Input.remaining g.I.Input.failures g.O.Output.taken g.O.Output.failures says asked c.args.store.now c.read_files.new.store c.args.input.now c.read_limited.new.input c.args.out.now c.run_report.new.out c.run_report.result k)
     (sym c.in-Debug.is)
     (inl (
       typed,
       record {
         files = kept_of files;
         read = c.in-Ok.ensures.read;
-        consumed = subst (λ (xs : List ℕ). Consumes (g.I.Read.remaining c.args.input.now) (g.I.Read.remaining c.read_limited.new.reader) xs) (sym c.deref.ensures.value) input_read.consumed;
+        consumed = subst (λ (xs : List ℕ). Consumes (g.I.Input.remaining c.args.input.now) (g.I.Input.remaining c.read_limited.new.input) xs) (sym c.deref.ensures.value) input_read.consumed;
         at_end = input_read.at_end;
         few = subst (λ (xs : List ℕ). length xs ≤ 16777216) (sym c.deref.ensures.value) limit;
       },
@@ -36,7 +36,7 @@ returns-in-Debug-clause-done g c =
     let asked = asked_of c.args.asked in
     let fault = c.in-Err-read_limited.fault in
     let says = Says g.E.Output.taken g.E.Output.failures asked c.args.err.now c.store_status.new.err in
-    subst (λ (k : Command). RunsAs g.S.Store.read_gives g.S.Store.write_gives g.I.Read.remaining g.O.Output.taken g.O.Output.failures says asked c.args.store.now c.read_files.new.store c.args.input.now c.read_limited.new.reader c.args.out.now c.args.out.now c.store_status.result k)
+    subst (λ (k : Command). RunsAs g.S.Store.read_gives g.S.Store.write_gives g.I.Input.remaining g.I.Input.failures g.O.Output.taken g.O.Output.failures says asked c.args.store.now c.read_files.new.store c.args.input.now c.read_limited.new.input c.args.out.now c.args.out.now c.store_status.result k)
     (sym c.in-Debug.is)
     (inr (
       inr (inl (record {
@@ -58,7 +58,7 @@ returns g c =
     let says = Says g.E.Output.taken g.E.Output.failures asked c.args.err.now ran.new.err in
     let split = c.inputs.ensures ∙ inputs_split (λ n. n.now) (λ v. v.items) c.args.asked.profile files.profile (bytes_kept files.others.items) c.in-Ok.ensures.named in
     record {
-      done = by_form g.S.Store.read_gives g.S.Store.write_gives g.I.Read.remaining g.O.Output.taken g.O.Output.failures says asked c.args.store.now c.read_files.new.store c.args.input.now c.args.input.now c.args.out.now ran.new.out ran.result asked.command
+      done = by_form g.S.Store.read_gives g.S.Store.write_gives g.I.Input.remaining g.I.Input.failures g.O.Output.taken g.O.Output.failures says asked c.args.store.now c.read_files.new.store c.args.input.now c.args.input.now c.args.out.now ran.new.out ran.result asked.command
           (λ e. absurd (c.in_default.not-Asm e)) (λ e. absurd (c.in_default.not-Debug e))
           (ran_of g.S.Store.read_gives g.O.Output.taken g.O.Output.failures says asked [] c.args.store.now c.read_files.new.store c.args.out.now ran.new.out (kept_of files) (inputs_lent c.inputs.result) split c.in-Ok.ensures.read ran.result ran.ensures.ran, refl);
       silent = ran.ensures.silent;
