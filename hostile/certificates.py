@@ -15,6 +15,8 @@ CASES = TOP / "crates/cases/data"
 TOO_GREAT = 2**63
 # The cases of these names, with their bounds.
 WORKED = {"bound_countdown": 25, "bound_nested_countdown": 50, "bound_call_twice_certificate": 28}
+# With entries of all kinds in its statement.
+WORKED["bound_statement_all_together"] = 88
 
 
 @dataclasses.dataclass(frozen=True)

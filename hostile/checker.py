@@ -1,4 +1,4 @@
-"""A checker of certificates that shares nothing with the program, for three handlers with their graphs."""
+"""A checker of certificates that shares nothing with the program, for four handlers with their graphs."""
 
 import dataclasses
 import re
@@ -91,7 +91,31 @@ CALLED_TWICE = Graph(
     (),
     ((), 0x8000),
 )
+
+
+def scaled(call):
+    """The edges of a routine that is called from an address and returns behind it, with a loop inside."""
+    rows = ((0x800C, "do", 0x8010, 1), (0x8010, "do", 0x8014, 4), (0x8014, "do", 0x8018, 5))
+    # The multiply takes four cycles, and the word after it is never done.
+    rows += ((0x8018, "skip", 0x801C, 2), (0x801C, "do", 0x8020, 1))
+    rows += ((0x8020, "do", 0x8010, 4), (0x8020, "skip", 0x8024, 1))
+    inside = tuple((((call,), at), label, ((call,), to), cost) for at, label, to, cost in rows)
+    enter = (((), call), "do", ((call,), 0x800C), 5)
+    return (enter, *inside, (((call,), 0x8024), "do", ((), call + 4), 4))
+
+
+def scaling(call):
+    members = frozenset(((call,), at) for at in range(0x8010, 0x8024, 4))
+    return Loop(((call,), 0x8010), members, 1)
+
+
+STATED = Graph(
+    (*scaled(0x8000), *scaled(0x8004), (((), 0x8008), "do", None, 10)),
+    (scaling(0x8000), scaling(0x8004)),
+    ((), 0x8000),
+)
 GRAPHS = {"countdown": COUNTDOWN, "nested_countdown": NESTED, "call_twice_certificate": CALLED_TWICE}
+GRAPHS["statement_all_together"] = STATED
 
 
 @dataclasses.dataclass

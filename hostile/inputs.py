@@ -301,6 +301,7 @@ def statements(bench):
     wanted = readers.Faults.ORDER
     for source, text, rows in (
         (worked.SOURCE, worked.STATEMENT, [*changed(worked.STATEMENT), *offsets(worked.STATEMENT)]),
+        (worked.SOURCE, worked.ENTRIES, [*changed(worked.ENTRIES), *offsets(worked.ENTRIES)]),
         (dispatch["handler.s"], dispatch["handler.toml"], cuts(dispatch["handler.toml"])),
     ):
         known = labels_of(bench, source)
@@ -356,8 +357,11 @@ def many(key, row, number):
 def limits():
     """As many entries of a statement as there may be, and one more, and the name that is answered or None."""
     loop = "{header = %(at)d, first = %(at)d, last = %(at)d, bound = 0}"
-    target, access = '{at = %(at)d, kind = "return"}', '{at = %(at)d, class = "ram"}'
-    for key, row, most in (("loop", loop, 256), ("target", target, 1024), ("access", access, 4096)):
+    rows = {"loop": loop, "target": '{at = %(at)d, kind = "return"}', "access": '{at = %(at)d, class = "ram"}'}
+    rows["base"] = '{register = "R1", class = "ram", first = %(at)d, last = %(at)d}'
+    rows["multiply"], rows["branch"] = "{at = %(at)d, cycles = 4}", '{at = %(at)d, taken = "never"}'
+    for key, row in rows.items():
+        most = readers.MOST[key]
         yield f"{most} under {key}", many(key, row, most), None
         yield f"{most + 1} under {key}", many(key, row, most + 1), "OutOfRange"
     for number, name in ((64, None), (65, "OutOfRange")):

@@ -7,10 +7,12 @@ import tomllib
 MAGIC = b"ARC2IMG1"
 MOST_WORDS, MOST_SEGMENTS = 65_536, 16
 DEVICES, ROM, END = 0x3000000, 0x3400000, 0x4000000
-MOST = {"loop": 256, "target": 1_024, "access": 4_096}
+MOST = {"loop": 256, "target": 1_024, "access": 4_096, "base": 256, "multiply": 1_024, "branch": 1_024}
 LINES = {"IL0", *(f"A{n}" for n in range(3)), *(f"B{n}" for n in range(1, 8)), *(f"F{n}" for n in range(6))}
 MODES, LEAVES = ("user", "fiq", "irq", "svc"), ("any", "ram", "rom", "io")
 CLASSES = (*LEAVES, "slow", "medium", "fast", "synchronous")
+BASES = {f"R{n}": n for n in range(16)} | {"SP": 13, "LR": 14, "PC": 15}
+BASES |= {name.lower(): number for name, number in BASES.items()}
 REGISTERS = {
     *(f"r{n}" for n in range(15)),
     *(f"r{n}_fiq" for n in range(8, 15)),
@@ -220,6 +222,19 @@ class StatementFaults(Faults):
         elif kind:
             self.of("WrongKind", to is not None)
 
+    def rules(self, found):
+        """Rules for base registers, of which no two may hold for one register at one address."""
+        parts = []
+        for it in found:
+            base = self.word(it, "register", BASES)
+            self.word(it, "class", CLASSES)
+            first, last = (self.address(it.get(key, absent)) for key, absent in (("first", 0), ("last", END - 4)))
+            if None not in (first, last) and not self.of("OutOfRange", last < first) and base:
+                parts.append((BASES[base], first, last))
+        parts.sort()
+        shared = any(one[0] == other[0] and other[1] <= one[2] for one, other in zip(parts, parts[1:]))
+        self.of("Twice", shared)
+
     def distinct(self, found):
         """The key `at` of tables that may not say the same twice."""
         places = [place for place in (self.address(it.get("at")) for it in found) if place is not None]
@@ -232,7 +247,7 @@ def statement_fault(text, known):
     if read is None:
         return "NotToml"
     faults = StatementFaults(known)
-    faults.keys(read, ("entry", "leave", "returns", "loop", "target", "access"))
+    faults.keys(read, ("entry", "leave", "returns", *MOST))
     faults.address(read.get("entry"))
     faults.word(read, "leave", LEAVES, "any")
     faults.word(read, "returns", ("assumed", "stated"), "assumed")
@@ -246,6 +261,15 @@ def statement_fault(text, known):
     for it in accesses:
         faults.word(it, "class", CLASSES)
     faults.distinct(accesses)
+    faults.rules(faults.list_of_tables(read, "base", ("register", "class", "first", "last")))
+    multiplies = faults.list_of_tables(read, "multiply", ("at", "cycles"))
+    for it in multiplies:
+        faults.number(it, "cycles", 1, 16)
+    faults.distinct(multiplies)
+    branches = faults.list_of_tables(read, "branch", ("at", "taken"))
+    for it in branches:
+        faults.word(it, "taken", ("always", "never"))
+    faults.distinct(branches)
     for key, most in MOST.items():
         faults.of("OutOfRange", len(tables(read.get(key))) > most)
     return faults.first()

@@ -25,6 +25,22 @@ first = 0x8004
 last = 0x8008
 bound = 2
 """
+# Entries of all kinds.
+ENTRIES = STATEMENT + b"""
+[[base]]
+register = "R12"
+class = "ram"
+first = 0x8000
+last = 0x800C
+
+[[multiply]]
+at = 0x8004
+cycles = 4
+
+[[branch]]
+at = 0x8008
+taken = "never"
+"""
 FIQ = b"""\
 entry = 0x1C
 leave = "ram"

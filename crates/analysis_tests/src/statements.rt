@@ -1,6 +1,7 @@
+use arm2_decode::Register;
 use bus_ticks::Class;
 use loader::{LabelFault, Labels};
-use statement::{Loop, Statement, StatementFault, TargetKind, read_statement};
+use statement::{BaseRule, Loop, Statement, StatementFault, Taken, TargetKind, read_statement};
 use std::alloc::Global;
 use std::test::Fail;
 
@@ -74,8 +75,53 @@ fn reads_statements(rt: HostRuntime) -> Result<(), Fail> {
     assert!(rt; statement.loops() == [stated].as_slice());
     assert!(rt; is_call(&statement, 0x8010, [0x8020, 0x8000]));
     assert!(rt; statement.target_at(0x8000).is_none());
-    let classes = [statement.class_at(0x8000), statement.class_at(0x8010)];
+    let base = Some(Register::R1);
+    let classes = [
+        statement.class_at(0x8000, base),
+        statement.class_at(0x8010, base),
+    ];
     assert!(rt; classes == [Class::Rom, Class::Any]);
+    drop(statement);
+    Ok(())
+}
+
+const PRICED: &[u8] = b"entry = \"start\"\n\
+    [[access]]\nat = \"start\"\nclass = \"rom\"\n\
+    [[base]]\nregister = \"PC\"\nclass = \"slow\"\n\
+    [[base]]\nregister = \"r12\"\nclass = \"ram\"\nfirst = \"start\"\nlast = 0x8010\n\
+    [[multiply]]\nat = 0x8018\ncycles = 4\n\
+    [[branch]]\nat = 0x8008\ntaken = \"never\"\n";
+
+// The classes of some words that load by R12, by PC, and by no register.
+fn classes(statement: &Statement) -> [Class; 5] {
+    let (own, pointer) = (Some(Register::R12), Some(Register::R15));
+    [
+        statement.class_at(0x8000, own),
+        statement.class_at(0x8010, own),
+        statement.class_at(0x8014, own),
+        statement.class_at(0x8014, pointer),
+        statement.class_at(0x8010, None),
+    ]
+}
+
+#[test]
+fn reads_rules_cycles_and_ways(rt: HostRuntime) -> Result<(), Fail> {
+    let statement = read(rt.alloc(), PRICED)?;
+    let wanted = [Class::Rom, Class::Ram, Class::Any, Class::Slow, Class::Any];
+    assert!(rt; classes(&statement) == wanted);
+    let rule = BaseRule {
+        register: Register::R15,
+        first: 0,
+        last: 0x3FF_FFFC,
+        class: Class::Slow,
+    };
+    assert!(rt; statement.rules().first() == Some(&rule));
+    let cycles = [statement.cycles_at(0x8018), statement.cycles_at(0x8000)];
+    assert!(rt; cycles == [4, 16]);
+    let ways = [statement.taken_at(0x8008), statement.taken_at(0x8000)];
+    assert!(rt; ways == [Some(Taken::Never), None]);
+    let counts = (statement.multiplies().len(), statement.branches().len());
+    assert!(rt; counts == (1, 1));
     drop(statement);
     Ok(())
 }

@@ -16,6 +16,7 @@ use Rattle.arm2_decode.specs.Table.{IsUnallocated, Means}
 use Rattle.arm2_decode.proofs.Unique.{never_both, one_instr}
 use Rattle.arm2_effect.specs.Operations.{data_immediate_effect, jumped, operation_effect, outcome_effect}
 use Rattle.arm2_effect.specs.Modes.{r15_in}
+use Rattle.arm2_effect.specs.ProgramCounter.{address_of}
 use Rattle.arm2_effect.specs.declared.step_end.Kind.TheVariants.{Plain}
 use Rattle.arm2_effect.specs.declared.exceptions.Vector.{Vector}
 use Rattle.arm2_transfer.specs.Moved.{Moved}
@@ -25,13 +26,14 @@ use Rattle.arm2_exec.specs.declared.machine.Ran.{Ran}
 use Rattle.arm2_exec.specs.Step.{ObeysFetched, Step, Works, address_in, answer_of, fetched, instruction_moved, interrupt_due, state_after, with_lines}
 use Rattle.arm2_exec.specs.declared.machine.Input.{Input}
 use Rattle.arm2_exec.specs.declared.machine.Stepped.{Stepped}
-use Rattle.statement.specs.Stated.{Stated}
+use Rattle.statement.specs.Stated.{Stated, cycles_at}
 use Rattle.statement.specs.declared.stated.Returns.TheVariants.{Assumed}
 use Rattle.control_flow.specs.Edges.{AreEdgesOf, HasAction, IsEdge, do_edge, word_edges}
 use Rattle.control_flow.specs.Flow.{Flow, edge_shape}
 use Rattle.control_flow.specs.Graph.{IsFlowGraph}
 use Rattle.walks.specs.Walk.{Leads}
 use Rattle.control_flow.specs.Kinds.{instr_action}
+use Rattle.flow_graph.proofs.TightTicks.{onward_short, takes_within}
 use Rattle.flow_graph.specs.StepLaw.{Executes, Follows, IsEdgeOf, IsTaken}
 use Rattle.loop_bounds.specs.Bounds.{IsCompleteWalk, KeepsTheBounds}
 use Rattle.control_flow.specs.declared.edges.Edge.{Edge}
@@ -67,7 +69,18 @@ quiet = record { bursts = 0; lines = record { 0 = 0 }; port = 0 }
 -- the image has the word at the entry
 module _ (words : Words) (entry : ℕ) (word_there : word_of words entry ≡ Some word) (profile : Profile) where
   abbrev pub stated : Stated
-  stated = record { entry = entry; leave = Any; returns = Assumed; loops = []; targets = []; accesses = [] }
+  stated =
+      record {
+        entry = entry;
+        leave = Any;
+        returns = Assumed;
+        loops = [];
+        targets = [];
+        accesses = [];
+        rules = [];
+        multiplies = [];
+        branches = [];
+      }
 
   pub edge : Edge
   edge = do_edge stated profile [] entry (instr_action instr) Exit
@@ -164,6 +177,10 @@ module _ (words : Words) (entry : ℕ) (word_there : word_of words entry ≡ Som
       step = step;
       plain = plain;
       transfers = λ store first address is. tt;
+      cycles =
+          let most = cycles_at stated (address_in s.regs) in
+          takes_within most step.moved.accesses (onward_short most (address_of (r15_in s.regs)) _);
+      way = refl;
     }
 
     taken : IsTaken words stated profile [] (instr_action instr) s stepped edge

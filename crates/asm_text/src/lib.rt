@@ -39,6 +39,7 @@ pub use lines::{Line, first_line, read_line};
 pub use names::{Head, Suffix, cond_name, opcode_name};
 pub use number::{read_hex, read_number};
 pub use printed_lines::{Shown, WORD_LINE_ROOM, read_shown};
+pub use register::register_of;
 pub use statement::TextFault;
 pub use syntax::{
     Address, Amount, BlockTransfer, Code, Data, Distance, Operand, Product, Reference, Shifting,

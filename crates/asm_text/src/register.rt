@@ -61,9 +61,9 @@ const SHIFTS: [(&[u8], Shift); 8] = [
     (b"ror", Shift::Ror),
 ];
 
-/// The register that a text names.
+/// The register that a text names: `R0` to `R15`, `SP`, `LR` or `PC`, wholly in upper or in lower case.
 #[tactic(auto, unfolding(crate::specs::Registers::register_of))]
-pub(crate) fn register_of(text: &[u8]) -> Option<Register>
+pub fn register_of(text: &[u8]) -> Option<Register>
     ensures { result ≡ register_of text.now }
 {
     named_in(&REGISTERS, text)

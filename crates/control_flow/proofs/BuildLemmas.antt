@@ -8,16 +8,15 @@ use Rattle.std.specs.List.Sorted.{IsStrictlySortedBy}
 use Rattle.std.proofs.lemmas.Bool.{ltb-false, le-ltb}
 use Rattle.std.proofs.lemmas.List.{get_or_append_left, get_or_read}
 use Rattle.std.proofs.lemmas.List.Elements.{Contains-append_left}
-use Rattle.arm2_decode.specs.Names.{is_never}
 use Rattle.bus_ticks.specs.declared.profile.Profile.{Profile}
 use Rattle.image.specs.Image.{Words}
 use Rattle.walks.specs.Walk.{Leads}
-use Rattle.control_flow.specs.Edges.{AreEdgesOf, HasAction, IsEdge}
+use Rattle.control_flow.specs.Edges.{AreEdgesOf, HasAction, IsEdge, may_do}
 use Rattle.control_flow.specs.Flow.{edge_shape}
 use Rattle.control_flow.specs.Graph.{ArePlaces, IsBuildFault, IsCrowd, IsFlowGraph, IsReached, IsStray, IsUnstated, MayDo, is_call, makes_call, start_of, states_call}
 use Rattle.control_flow.specs.Places.{place_cmp}
 use Rattle.control_flow.specs.Search.{AddsEdges, AreInTurn, EndsOne, Grows, IsAllowed, IsCrowded, IsCrowdedBy, IsDone, IsEdgeFault, IsFound, IsIn, IsPlaceFault, IsSearch, IsSound, IsTurnFault, IsVisited, IsVisitFault, places_in, action_fault, call_fault, kind_fault, stated_fault, unstated_fault, writer_fault}
-use Rattle.statement.specs.Stated.{Stated, Target, target_of}
+use Rattle.statement.specs.Stated.{Stated, Target, taken_at, target_of}
 use Rattle.control_flow.specs.declared.edges.Edge.{Edge}
 use Rattle.control_flow.specs.declared.faults.BuildFault.{BuildFault}
 use Rattle.control_flow.specs.declared.faults.BuildFault.TheVariants as fault
@@ -128,7 +127,7 @@ module _ (words : Words) (st : Stated) (profile : Profile) where
   writer_refused returns.Stated calls address None f h = inl (refl, refl, cc)
   writer_refused asked calls address (Some t) f h = inr (stated_calls calls t.kind f h)
 
-  too_deep : (calls : List ℕ) (address : ℕ) (f : BuildFault) → IsReached words st profile (At calls address) → (a : Action) → HasAction words address a → is_never a.cond ≡ false → makes_call a.kind (target_of st address) ≡ true → call_fault calls ≡ Some f → IsBuildFault words st profile f
+  too_deep : (calls : List ℕ) (address : ℕ) (f : BuildFault) → IsReached words st profile (At calls address) → (a : Action) → HasAction words address a → may_do a.cond (taken_at st address) ≡ true → makes_call a.kind (target_of st address) ≡ true → call_fault calls ≡ Some f → IsBuildFault words st profile f
   too_deep calls address f r a has may call h =
       let d = deep_call calls f (ltb (length calls) 8) refl h in
       subst (IsBuildFault words st profile) d.0 (record {
@@ -142,29 +141,29 @@ module _ (words : Words) (st : Stated) (profile : Profile) where
         may = may;
       })
 
-  action_refused : (calls : List ℕ) (address : ℕ) (f : BuildFault) (k : Kind) (never : Bool) → IsReached words st profile (At calls address) → (a : Action) → HasAction words address a → a.kind ≡ k → is_never a.cond ≡ never → cond never None (kind_fault st calls address k) ≡ Some f → IsBuildFault words st profile f
-  action_refused calls address f k true r a has is never h = cc
-  action_refused calls address f Plain false r a has is never h = cc
-  action_refused calls address f (Branch offset) false r a has is never h = cc
-  action_refused calls address f (Call offset) false r a has is never h =
-      too_deep calls address f r a has never (subst (λ x. makes_call x (target_of st address) ≡ true) (sym is) refl) h
-  action_refused calls address f Writer false r a has is never h =
+  action_refused : (calls : List ℕ) (address : ℕ) (f : BuildFault) (k : Kind) (may : Bool) → IsReached words st profile (At calls address) → (a : Action) → HasAction words address a → a.kind ≡ k → may_do a.cond (taken_at st address) ≡ may → cond may (kind_fault st calls address k) None ≡ Some f → IsBuildFault words st profile f
+  action_refused calls address f k false r a has is may h = cc
+  action_refused calls address f Plain true r a has is may h = cc
+  action_refused calls address f (Branch offset) true r a has is may h = cc
+  action_refused calls address f (Call offset) true r a has is may h =
+      too_deep calls address f r a has may (subst (λ x. makes_call x (target_of st address) ≡ true) (sym is) refl) h
+  action_refused calls address f Writer true r a has is may h =
       ⊎_elim
-      (λ u. subst (IsBuildFault words st profile) u.2 ((calls, r), record { asked = u.0; writer = (a, has, is, never); none = u.1 }))
-      (λ w. too_deep calls address f r a has never (subst (λ x. makes_call x (target_of st address) ≡ true) (sym is) w.1) w.0)
+      (λ u. subst (IsBuildFault words st profile) u.2 ((calls, r), record { asked = u.0; writer = (a, has, is, may); none = u.1 }))
+      (λ w. too_deep calls address f r a has may (subst (λ x. makes_call x (target_of st address) ≡ true) (sym is) w.1) w.0)
       (writer_refused st.returns calls address (target_of st address) f h)
-  action_refused calls address f Trap false r a has is never h =
+  action_refused calls address f Trap true r a has is may h =
       let e : fault.TrapInHandler address ≡ f = cc in
-      subst (IsBuildFault words st profile) e ((calls, r), (a, has, is, never))
-  action_refused calls address f Unallocated false r a has is never h =
+      subst (IsBuildFault words st profile) e ((calls, r), (a, has, is, may))
+  action_refused calls address f Unallocated true r a has is may h =
       let e : fault.UnallocatedWord address ≡ f = cc in
-      subst (IsBuildFault words st profile) e ((calls, r), (a, has, is, never))
+      subst (IsBuildFault words st profile) e ((calls, r), (a, has, is, may))
 
   place_refused : (p : Place) (f : BuildFault) → IsReached words st profile p → IsPlaceFault words st p f → IsBuildFault words st profile f
   place_refused (At calls address) f r h =
       ⊎_elim
       (λ out. subst (IsBuildFault words st profile) (sym out.1) ((calls, r), out.0))
-      (λ act. action_refused calls address f (act.0).kind (is_never (act.0).cond) r act.0 act.1 refl refl act.2)
+      (λ act. action_refused calls address f (act.0).kind (may_do (act.0).cond (taken_at st address)) r act.0 act.1 refl refl act.2)
       h
   place_refused Exit f r h = absurd h
 
@@ -241,11 +240,11 @@ module _ (words : Words) (st : Stated) (profile : Profile) where
 
   -- ## No reason to refuse
 
-  kind_allowed : (calls : List ℕ) (address : ℕ) (k : Kind) (f : BuildFault) (a b : Action) → kind_fault st calls address k ≡ Some f → HasAction words address a → a.kind ≡ k → is_never a.cond ≡ false → HasAction words address b → action_fault st calls address b ≡ None → ⊥
-  kind_allowed calls address k f a b some has is never sound none =
+  kind_allowed : (calls : List ℕ) (address : ℕ) (k : Kind) (f : BuildFault) (a b : Action) → kind_fault st calls address k ≡ Some f → HasAction words address a → a.kind ≡ k → may_do a.cond (taken_at st address) ≡ true → HasAction words address b → action_fault st calls address b ≡ None → ⊥
+  kind_allowed calls address k f a b some has is may sound none =
       let same : b ≡ a = one_action_at words address b a sound has in
-      let at_a : cond (is_never a.cond) None (kind_fault st calls address a.kind) ≡ None = subst (λ x. action_fault st calls address x ≡ None) same none in
-      let at_k : kind_fault st calls address k ≡ None = rw (never, is) at at_a in
+      let at_a : cond (may_do a.cond (taken_at st address)) (kind_fault st calls address a.kind) None ≡ None = subst (λ x. action_fault st calls address x ≡ None) same none in
+      let at_k : kind_fault st calls address k ≡ None = rw (may, is) at at_a in
       let both : Some f ≡ None = sym some ∙ at_k in
       cc
 

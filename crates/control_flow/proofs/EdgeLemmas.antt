@@ -6,7 +6,7 @@ use Rattle.std.proofs.lemmas.List.Elements.{All-nil, All-cons, All-head, All-tai
 use Rattle.std.proofs.lemmas.Map.Entries.{All-lookup}
 use Rattle.std.proofs.lemmas.Bool.{ltb-true}
 use Rattle.std.proofs.lemmas.Nat.{mul-le}
-use Rattle.arm2_decode.specs.Names.{is_always, is_never}
+use Rattle.std.proofs.Math.Nat.{min-le_left}
 use Rattle.arm2_decode.proofs.Unique.{one_instr, never_both, one_unallocated}
 use Rattle.bus_ticks.proofs.WorstLemmas.{worst_block_small}
 use Rattle.arm2_effect.specs.ProgramCounter.{branch_target}
@@ -18,10 +18,10 @@ use Rattle.bus_ticks.specs.declared.profile.Class.TheVariants.{Any, Ram, Rom, Io
 use Rattle.bus_ticks.specs.declared.profile.Class.TheVariants.{Slow, Medium, Fast, Synchronous}
 use Rattle.bus_ticks.specs.declared.profile.Profile.{Profile}
 use Rattle.image.specs.Image.{Words}
-use Rattle.control_flow.specs.Edges.{AreEdgesOf, HasAction, IsEdge, arrival_ticks, call_places, do_edge, landing_edges, do_edges, fetch_ticks, places_at, jump_ticks, landings, return_place, skip_edge, skip_edges, stated_landings, word_edges, work_ticks, writer_landings}
+use Rattle.control_flow.specs.Edges.{AreEdgesOf, HasAction, IsEdge, arrival_ticks, call_places, do_edge, landing_edges, do_edges, fetch_ticks, places_at, jump_ticks, landings, may_do, may_skip, return_place, skip_edge, skip_edges, stated_landings, stated_work, word_edges, work_ticks, writer_landings}
 use Rattle.control_flow.specs.Kinds.{IsAction, IsWork, instr_action, unallocated_action}
 use Rattle.control_flow.specs.Places.{IsInRange}
-use Rattle.statement.specs.Stated.{IsStated, IsTarget, Stated, Target, class_at, target_of}
+use Rattle.statement.specs.Stated.{IsStated, IsTarget, Stated, Target, class_at, cycles_at, taken_at, target_of}
 use Rattle.control_flow.specs.declared.edges.Edge.{Edge}
 use Rattle.control_flow.specs.declared.actions.Action.{Action}
 use Rattle.control_flow.specs.declared.actions.Kind.{Kind}
@@ -127,6 +127,12 @@ working_small p c (Internal cycles) few = omega (arith, mul-le cycles p.internal
 working_small p c (Load words) fits = omega (arith, worst_block_small p c words false (worst_transfer p c words false) fits.0 fits.1 refl, fits.1, p.internal_price)
 working_small p c (Store words) fits = omega (arith, worst_block_small p c words true (worst_transfer p c words true) fits.0 fits.1 refl, fits.1)
 
+-- what is stated of a multiply is within its limits
+stated_fits : (st : Stated) (address : ℕ) (w : Work) → IsWork w → IsWork (stated_work st address w)
+stated_fits st address (Internal cycles) few = omega (arith, min-le_left cycles (cycles_at st address))
+stated_fits st address (Load words) fits = fits
+stated_fits st address (Store words) fits = fits
+
 -- ## Places are in range
 
 abbrev pub IsSmall : Place → Type 0
@@ -216,7 +222,7 @@ module _ (st : Stated) (profile : Profile) (calls : List ℕ) (address : ℕ) wh
   do_leaves a fits to ends = record {
     from = refl;
     some = omega (arith, (fetching_is_price profile address a.work).0);
-    small = omega (arith, (fetching_is_price profile address a.work).1, working_small profile (class_at st address) a.work fits, arriving_small st.leave profile a.kind to);
+    small = omega (arith, (fetching_is_price profile address a.work).1, working_small profile (class_at st address a.base) (stated_work st address a.work) (stated_fits st address a.work fits), arriving_small st.leave profile a.kind to);
     ends = ends;
   }
 
@@ -234,10 +240,10 @@ module _ (st : Stated) (profile : Profile) (calls : List ℕ) (address : ℕ) wh
   word_leaves a fits =
       All-append
       (Leaves st (At calls address))
-      (skip_edges profile calls address a)
+      (skip_edges st profile calls address a)
       (do_edges st profile calls address a)
-      (cond_all AllLeave (is_always a.cond) [] (skip_edge profile calls address ∷ []) none_leaves skip_leaves)
-      (cond_all AllLeave (is_never a.cond) [] (landing_edges st profile calls address a) none_leaves (done_leaves a fits (landings st calls address a.kind) (λ s h. landings_in_range st calls address a.kind s h)))
+      (cond_all AllLeave (may_skip a.cond (taken_at st address)) (skip_edge profile calls address ∷ []) [] skip_leaves none_leaves)
+      (cond_all AllLeave (may_do a.cond (taken_at st address)) (landing_edges st profile calls address a) [] (done_leaves a fits (landings st calls address a.kind) (λ s h. landings_in_range st calls address a.kind s h)) none_leaves)
 
 module _ (words : Words) (st : Stated) (profile : Profile) where
   pub leaves : (p : Place) (edges : List Edge) (e : Edge) → AreEdgesOf words st profile p edges → Contains edges e → Leaves st p e

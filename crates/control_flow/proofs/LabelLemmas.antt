@@ -11,7 +11,7 @@ use Rattle.arm2_decode.specs.Conditions.{condition_holds}
 use Rattle.arm2_decode.specs.declared.flags.Flags.{Flags}
 use Rattle.arm2_decode.specs.declared.names.Cond.{Cond}
 use Rattle.arm2_decode.specs.declared.names.Cond.TheVariants as condition
-use Rattle.control_flow.specs.Edges.{call_places, do_edge, landing_edges, do_edges, places_at, landings, return_place, skip_edge, skip_edges, stated_landings, word_edges, writer_landings}
+use Rattle.control_flow.specs.Edges.{call_places, do_edge, landing_edges, do_edges, places_at, landings, may_do, may_skip, return_place, skip_edge, skip_edges, stated_landings, word_edges, writer_landings}
 use Rattle.control_flow.specs.declared.edges.Edge.{Edge}
 use Rattle.control_flow.specs.declared.edges.Label.{Label}
 use Rattle.control_flow.specs.declared.edges.Label.TheVariants.{Skip, Do}
@@ -20,7 +20,7 @@ use Rattle.control_flow.specs.declared.actions.Kind.{Kind}
 use Rattle.control_flow.specs.declared.actions.Kind.TheVariants as kind
 use Rattle.control_flow.specs.declared.places.Place.{Place}
 use Rattle.control_flow.specs.declared.places.Place.TheVariants.{At, Exit}
-use Rattle.statement.specs.Stated.{Stated, Target, target_of}
+use Rattle.statement.specs.Stated.{Stated, Target, taken_at, target_of}
 use Rattle.statement.specs.declared.stated.TargetKind.{TargetKind}
 use Rattle.statement.specs.declared.stated.TargetKind.TheVariants as stated
 use Rattle.control_flow.proofs.SortedLemmas.{cons_cases, here, no_member, there}
@@ -46,12 +46,12 @@ from_map f (x ∷ xs) y (suc k, lt, at) = let w = from_map f xs y (k, omega arit
 pub into_map : {X Y : Type 0} (f : X → Y) (xs : List X) (x : X) → Contains xs x → Contains (map f xs) (f x)
 into_map f xs x h = (h.0, omega (arith, h.1, length-map xs f), get_or-map f xs h.0 x (f x) h.1 ∙ ap f h.2)
 
-cond_contains : (b : Bool) (xs : List Edge) (e : Edge) → Contains (cond b [] xs) e → Contains xs e
-cond_contains true xs e h = absurd (no_member e h)
-cond_contains false xs e h = h
+cond_contains : (b : Bool) (xs : List Edge) (e : Edge) → Contains (cond b xs []) e → Contains xs e
+cond_contains true xs e h = h
+cond_contains false xs e h = absurd (no_member e h)
 
-contains_cond : (b : Bool) (xs : List Edge) (e : Edge) → b ≡ false → Contains xs e → Contains (cond b [] xs) e
-contains_cond b xs e off h = subst (λ t. Contains (cond t [] xs) e) (sym off) h
+contains_cond : (b : Bool) (xs : List Edge) (e : Edge) → b ≡ true → Contains xs e → Contains (cond b xs []) e
+contains_cond b xs e on h = subst (λ t. Contains (cond t xs []) e) (sym on) h
 
 pub only_one : {X : Type 0} (x e : X) → Contains (x ∷ []) e → x ≡ e
 only_one x e h = by_place (cons_cases x [] e h)
@@ -100,11 +100,11 @@ module _ (st : Stated) (profile : Profile) (calls : List ℕ) (a : ℕ) (action 
   Which e = (skip_edge profile calls a ≡ e) ⊎ ((to : Place) × Contains (landings st calls a action.kind) to × (do_edge st profile calls a action to ≡ e))
 
   pub which_edge : (e : Edge) → Contains (word_edges st profile calls a action) e → Which e
-  which_edge e h = by_part (Contains-append_cases (skip_edges profile calls a action) (do_edges st profile calls a action) e h)
+  which_edge e h = by_part (Contains-append_cases (skip_edges st profile calls a action) (do_edges st profile calls a action) e h)
     where
-      by_part : Contains (skip_edges profile calls a action) e ⊎ Contains (do_edges st profile calls a action) e → Which e
-      by_part (inl skip) = inl (only_one (skip_edge profile calls a) e (cond_contains (is_always action.cond) (skip_edge profile calls a ∷ []) e skip))
-      by_part (inr more) = inr (from_map (do_edge st profile calls a action) (landings st calls a action.kind) e (cond_contains (is_never action.cond) (landing_edges st profile calls a action) e more))
+      by_part : Contains (skip_edges st profile calls a action) e ⊎ Contains (do_edges st profile calls a action) e → Which e
+      by_part (inl skip) = inl (only_one (skip_edge profile calls a) e (cond_contains (may_skip action.cond (taken_at st a)) (skip_edge profile calls a ∷ []) e skip))
+      by_part (inr more) = inr (from_map (do_edge st profile calls a action) (landings st calls a action.kind) e (cond_contains (may_do action.cond (taken_at st a)) (landing_edges st profile calls a action) e more))
 
   -- two edges with one label are the same where both lead to the same place
   pub same_by_label : (d e : Edge) → d.label ≡ e.label → Which d → Which e
@@ -116,13 +116,13 @@ module _ (st : Stated) (profile : Profile) (calls : List ℕ) (a : ℕ) (action 
       let one : x.0 ≡ y.0 = same x.0 y.0 x.1 y.1 (ap (λ (z : Edge). z.to) x.2) (ap (λ (z : Edge). z.to) y.2) in
       sym x.2 ∙ ap (do_edge st profile calls a action) one ∙ y.2
 
-  pub skip_among : is_always action.cond ≡ false → Contains (word_edges st profile calls a action) (skip_edge profile calls a)
+  pub skip_among : may_skip action.cond (taken_at st a) ≡ true → Contains (word_edges st profile calls a action) (skip_edge profile calls a)
   skip_among may =
-      Contains-append_left (skip_edges profile calls a action) (do_edges st profile calls a action) (skip_edge profile calls a)
-      (contains_cond (is_always action.cond) (skip_edge profile calls a ∷ []) (skip_edge profile calls a) may (here (skip_edge profile calls a) []))
+      Contains-append_left (skip_edges st profile calls a action) (do_edges st profile calls a action) (skip_edge profile calls a)
+      (contains_cond (may_skip action.cond (taken_at st a)) (skip_edge profile calls a ∷ []) (skip_edge profile calls a) may (here (skip_edge profile calls a) []))
 
-  pub do_among : (to : Place) → is_never action.cond ≡ false → Contains (landings st calls a action.kind) to → Contains (word_edges st profile calls a action) (do_edge st profile calls a action to)
+  pub do_among : (to : Place) → may_do action.cond (taken_at st a) ≡ true → Contains (landings st calls a action.kind) to → Contains (word_edges st profile calls a action) (do_edge st profile calls a action to)
   do_among to may lands =
-      Contains-append_right (skip_edges profile calls a action) (do_edges st profile calls a action) (do_edge st profile calls a action to)
-      (contains_cond (is_never action.cond) (landing_edges st profile calls a action) (do_edge st profile calls a action to) may
+      Contains-append_right (skip_edges st profile calls a action) (do_edges st profile calls a action) (do_edge st profile calls a action to)
+      (contains_cond (may_do action.cond (taken_at st a)) (landing_edges st profile calls a action) (do_edge st profile calls a action to) may
       (into_map (do_edge st profile calls a action) (landings st calls a action.kind) to lands))

@@ -4,15 +4,14 @@ use Rattle.std.specs.Prelude.{None, Contains, ◌↔◌}
 use Rattle.std.specs.List.{AllZip, flat_map}
 use Rattle.std.specs.List.Sorted.{IsStrictlySortedBy}
 use Rattle.std.specs.Map.{keys_of}
-use Rattle.arm2_decode.specs.Names.{is_never}
 use Rattle.walks.specs.Walk as walks
 use Rattle.bus_ticks.specs.declared.profile.Profile.{Profile}
 use Rattle.image.specs.Image.{Words, word_of}
-use Rattle.control_flow.specs.Edges.{AreEdgesOf, HasAction, IsEdge}
+use Rattle.control_flow.specs.Edges.{AreEdgesOf, HasAction, IsEdge, may_do}
 use Rattle.control_flow.specs.Flow.{Flow, edge_shape}
 use Rattle.control_flow.specs.Kinds.{is_writer}
 use Rattle.control_flow.specs.Places.{place_cmp}
-use Rattle.statement.specs.Stated.{Stated, Target, target_of}
+use Rattle.statement.specs.Stated.{Stated, Target, taken_at, target_of}
 use Rattle.control_flow.specs.declared.call_list.TheConstants.{MOST_CALLS}
 use Rattle.control_flow.specs.declared.edges.Edge.{Edge}
 use Rattle.control_flow.specs.declared.faults.BuildFault.{BuildFault}
@@ -97,7 +96,9 @@ module _ (words : Words) (st : Stated) (profile : Profile) where
 
   -- the word at the address is of the kind, and may be done
   abbrev pub MayDo : ℕ → Kind → Type 0
-  MayDo address k = (a : Action) × HasAction words address a × (a.kind ≡ k) × (is_never a.cond ≡ false)
+  MayDo address k =
+      (a : Action) × HasAction words address a × (a.kind ≡ k)
+      × (may_do a.cond (taken_at st address) ≡ true)
 
   -- returns have to be stated, and the word at the address may be done, writes R15 and has no stated target
   pub record IsUnstated (address : ℕ) : Type 0 where
@@ -114,7 +115,7 @@ module _ (words : Words) (st : Stated) (profile : Profile) where
     pub action : Action
     pub has : HasAction words address action
     pub is_call : makes_call action.kind (target_of st address) ≡ true
-    pub may : is_never action.cond ≡ false
+    pub may : may_do action.cond (taken_at st address) ≡ true
 
   -- more places are reached than a graph may have
   pub record IsCrowd : Type 0 where

@@ -1,7 +1,7 @@
 -- What a word does: to the flow of control, and besides its fetches (VL86C010 data sheet, by the table of
 -- instruction words, but for the cycles, of which a multiply has its most).
 use Rattle.std.specs.Prelude.{◌≡◌, ℕ, ◌≤◌, Bool, true, false}
-use Rattle.std.specs.Prelude.{if◌then◌else◌, ◌⊎◌, Option, Some, None}
+use Rattle.std.specs.Prelude.{if◌then◌else◌, ◌⊎◌, Option, Some, None, option_map}
 use Rattle.arm2_decode.specs.Table.{Means, IsUnallocated}
 use Rattle.arm2_decode.specs.Writers.{moved, writes_pc}
 use Rattle.arm2_decode.specs.declared.instr.Instr.{Instr}
@@ -9,6 +9,7 @@ use Rattle.arm2_decode.specs.declared.instr.Unallocated.{Unallocated}
 use Rattle.arm2_decode.specs.declared.instr.Operation.{Operation}
 use Rattle.arm2_decode.specs.declared.instr.Operation.TheVariants as operation
 use Rattle.arm2_decode.specs.declared.names.Cond.{Cond}
+use Rattle.arm2_decode.specs.declared.names.Register.{Register}
 use Rattle.arm2_decode.specs.declared.transfers.Moved.{Moved}
 use Rattle.shifter.specs.declared.shifts.TheConstants.{MOST_MULTIPLY_CYCLES}
 use Rattle.control_flow.specs.declared.actions.Kind.{Kind}
@@ -96,14 +97,18 @@ IsWork (work.Store words) = (1 ≤ words) × (words ≤ 16)
 
 -- ## Words
 
-abbrev pub action : Cond → Kind → Work → Action
-action c k w = record { cond = c; kind = k; work = w }
+abbrev pub action : Cond → Kind → Work → Option Register → Action
+action c k w base = record { cond = c; kind = k; work = w; base = base }
+
+-- the base register of a load or a store
+abbrev pub base_of : Operation → Option Register
+base_of o = option_map (λ m. m.base) (moved o)
 
 abbrev pub instr_action : Instr → Action
-instr_action i = action i.cond (kind_of i.operation) (work_of i.operation)
+instr_action i = action i.cond (kind_of i.operation) (work_of i.operation) (base_of i.operation)
 
 abbrev pub unallocated_action : Unallocated → Action
-unallocated_action u = action u.cond kind.Unallocated (work.Internal 0)
+unallocated_action u = action u.cond kind.Unallocated (work.Internal 0) None
 
 -- when a word is carried out and what it then does; it is an instruction or unallocated
 abbrev pub IsAction : ℕ → Action → Type 0

@@ -7,13 +7,12 @@ use Rattle.std.specs.List.Sorted.{IsStrictlySortedBy}
 use Rattle.std.specs.BTreeSet.{BTreeSet, contains, btree_set_len}
 use Rattle.std.specs.declared.cmp.Ordering.{Ordering}
 use Rattle.std.specs.declared.cmp.Reverse.{Reverse}
-use Rattle.arm2_decode.specs.Names.{is_never}
 use Rattle.bus_ticks.specs.declared.profile.Profile.{Profile}
 use Rattle.image.specs.Image.{Words, word_of}
-use Rattle.control_flow.specs.Edges.{AreEdgesOf, HasAction}
+use Rattle.control_flow.specs.Edges.{AreEdgesOf, HasAction, may_do}
 use Rattle.control_flow.specs.Graph.{IsReached, start_of, starts_from}
 use Rattle.control_flow.specs.Places.{place_cmp}
-use Rattle.statement.specs.Stated.{Stated, Target, target_of}
+use Rattle.statement.specs.Stated.{Stated, Target, taken_at, target_of}
 use Rattle.control_flow.specs.contracts.places.PlaceOrd.TheImpl as PlaceOrder
 use Rattle.control_flow.specs.declared.call_list.TheConstants.{MOST_CALLS}
 use Rattle.control_flow.specs.declared.edges.Edge.{Edge}
@@ -124,7 +123,7 @@ kind_fault st calls address kind.Unallocated = Some (fault.UnallocatedWord addre
 
 abbrev pub action_fault : Stated → List ℕ → ℕ → Action → Option BuildFault
 action_fault st calls address action =
-    cond (is_never action.cond) None (kind_fault st calls address action.kind)
+    cond (may_do action.cond (taken_at st address)) (kind_fault st calls address action.kind) None
 
 -- the place has an image word that is not refused
 abbrev pub IsSound : Words → Stated → Place → Type 0

@@ -1,8 +1,8 @@
 ghost use Rattle.std.specs.Prelude.{◌≡◌};
-ghost use Rattle.control_flow.specs.Kinds.{IsAction, IsWork, internal_cycles, is_multiply, is_writer, kind_of};
-ghost use Rattle.control_flow.specs.Kinds.{transfer_work, work_of, writer_if};
+ghost use Rattle.control_flow.specs.Kinds.{IsAction, IsWork, base_of, internal_cycles, is_multiply};
+ghost use Rattle.control_flow.specs.Kinds.{is_writer, kind_of, transfer_work, work_of, writer_if};
 
-use arm2_decode::{Cond, Operation, decode};
+use arm2_decode::{Cond, Operation, Register, decode};
 use shifter::MOST_MULTIPLY_CYCLES;
 
 /// What a word does to the flow of control where its condition holds.
@@ -39,6 +39,8 @@ pub struct Action {
     pub cond: Cond,
     pub kind: Kind,
     pub work: Work,
+    /// The register that holds the address from which it loads or stores, if it does.
+    pub base: Option<Register>,
 }
 
 fn writer_if(writes: bool) -> Kind
@@ -119,6 +121,13 @@ fn work_of(operation: &Operation) -> Work
     }
 }
 
+/// The register that holds the address from which an operation loads or stores, if it does.
+pub fn base_of(operation: &Operation) -> Option<Register>
+    ensures { result ≡ base_of operation.now }
+{
+    operation.moved().map(|moved| moved.base)
+}
+
 /// When a word is carried out, and what it then does.
 pub fn action_of(word: u32) -> Action
     ensures value { IsAction word result }
@@ -129,11 +138,13 @@ pub fn action_of(word: u32) -> Action
             cond: instr.cond,
             kind: kind_of(&instr.operation),
             work: work_of(&instr.operation),
+            base: base_of(&instr.operation),
         },
         Err(unallocated) => Action {
             cond: unallocated.cond,
             kind: Kind::Unallocated,
             work: Work::Internal(0),
+            base: None,
         },
     }
 }

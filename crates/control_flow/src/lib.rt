@@ -17,8 +17,9 @@ mod search;
 mod sites;
 mod strays;
 mod ticks;
+mod ways;
 
-pub use actions::{Action, Kind, Work, action_of, is_multiply, transfer_work};
+pub use actions::{Action, Kind, Work, action_of, base_of, is_multiply, transfer_work};
 pub use building::build;
 pub use call_list::{Calls, MOST_CALLS};
 pub use edges::{Edge, Label};
@@ -31,3 +32,4 @@ pub use law::{graphs_are_well_formed, order_of_places, place_limits};
 pub use places::Place;
 pub use search::MOST_PLACES;
 pub use ticks::work_ticks;
+pub use ways::{may_do, may_skip};

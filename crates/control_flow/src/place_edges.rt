@@ -4,7 +4,8 @@ ghost use Rattle.control_flow.specs.Edges.{call_places, places_at, return_place,
 ghost use Rattle.control_flow.specs.Kinds.{IsWork};
 ghost use Rattle.control_flow.specs.Places.{IsInSpace};
 ghost use Rattle.control_flow.specs.Search.{AddsEdges, IsEdgeFault, IsSound, call_fault, unstated_fault};
-ghost use Rattle.control_flow.specs.Sites.{IsMemoryOr, all_edges, done_edges, done_fault, edge_to, site_fault};
+ghost use Rattle.control_flow.specs.Sites.{IsMemoryOr, all_edges, done_edges, done_fault, edge_to};
+ghost use Rattle.control_flow.specs.Sites.{site_fault};
 ghost use Rattle.control_flow.specs.Sites.{site_writer_fault, writer_places};
 
 use crate::actions::{Kind, action_of};
@@ -15,6 +16,7 @@ use crate::graph_inputs::GraphInputs;
 use crate::places::Place;
 use crate::sites::Site;
 use crate::ticks::{do_ticks, passing_ticks};
+use crate::ways::{may_do, may_skip};
 use arm2_effect::branch_target;
 use bus_ticks::ahead_of;
 use statement::{Returns, TargetKind};
@@ -177,10 +179,11 @@ fn push_word(out: &mut Vec<Edge>, site: &Site) -> Result<(), BuildFault>
     ensures sound { OnOk result (site_fault site.now ≡ None) }
     ensures fault { IfErr result (IsMemoryOr (site_fault site.now)) }
 {
-    if !site.action.cond.is_always() {
+    let taken = site.inputs.statement.taken_at(site.address);
+    if may_skip(site.action.cond, taken) {
         push_skip(out, site)?;
     }
-    if !site.action.cond.is_never() {
+    if may_do(site.action.cond, taken) {
         push_done(out, site)?;
     }
     Ok(())

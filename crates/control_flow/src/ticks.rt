@@ -1,6 +1,6 @@
 ghost use Rattle.std.specs.Prelude.{◌≡◌, ◌+◌, ◌*◌, ◌<◌};
 ghost use Rattle.control_flow.specs.Edges.{arrival_ticks, do_ticks, fetch_ticks, jump_ticks};
-ghost use Rattle.control_flow.specs.Edges.{passing_ticks, work_ticks};
+ghost use Rattle.control_flow.specs.Edges.{passing_ticks, stated_work, work_ticks};
 ghost use Rattle.control_flow.specs.Kinds.{IsWork};
 ghost use Rattle.control_flow.specs.Places.{IsInSpace};
 
@@ -10,6 +10,7 @@ use crate::sites::Site;
 use bus_ticks::{
     Class, Profile, ahead_of, worst_fetch_n, worst_fetch_s, worst_leave, worst_transfer,
 };
+use statement::Statement;
 
 /// The cost of a word that is skipped: the fetch of the word after the next.
 pub(crate) fn passing_ticks(profile: &Profile, address: u32) -> u32
@@ -68,6 +69,21 @@ fn arrival_ticks(profile: &Profile, leave: Class, kind: Kind, to: &Place) -> u32
     }
 }
 
+// What a word does by what is stated of it.
+fn stated_work(statement: &Statement, address: u32, work: Work) -> Work
+    requires { IsWork work }
+    ensures value { result ≡ stated_work statement.now address work }
+    ensures fits { IsWork result }
+{
+    match work {
+        // Only a multiply takes more than one, and nothing less than one can be stated.
+        Work::Internal(cycles) if cycles > 1 => {
+            Work::Internal(cycles.min(statement.cycles_at(address)))
+        }
+        Work::Internal(_) | Work::Load(_) | Work::Store(_) => work,
+    }
+}
+
 /// The cost of a word that is done and goes on to that place.
 pub(crate) fn do_ticks(site: &Site, to: &Place) -> u32
     requires work { IsWork site.now.action.work }
@@ -76,8 +92,9 @@ pub(crate) fn do_ticks(site: &Site, to: &Place) -> u32
         site.now.address site.now.action to.now }
 {
     let (statement, profile) = (site.inputs.statement, site.inputs.profile);
-    let work = site.action.work;
-    fetch_ticks(profile, site.address, work)
-        + work_ticks(profile, statement.class_at(site.address), work)
-        + arrival_ticks(profile, statement.leave(), site.action.kind, to)
+    let (action, address) = (site.action, site.address);
+    let class = statement.class_at(address, action.base);
+    fetch_ticks(profile, address, action.work)
+        + work_ticks(profile, class, stated_work(statement, address, action.work))
+        + arrival_ticks(profile, statement.leave(), action.kind, to)
 }

@@ -1,5 +1,5 @@
 -- A machine that has what is chosen for an operation is set for it.
-use Rattle.std.proofs.Common.{◌≡◌, ℕ, suc, ◌+◌, ◌*◌, ◌-◌, ◌%◌, ◌^◌, ◌<◌, ◌≤◌, ◌==◌, ◌&&◌, ◌||◌, Bool, true, false, cond, not, List, [], ◌∷◌, ◌++◌, take, drop, length, Ok, IsTrue, refl, sym, ap, subst, ◌∙◌, arith}
+use Rattle.std.proofs.Common.{◌≡◌, ℕ, suc, ◌+◌, ◌*◌, ◌-◌, ◌%◌, ◌^◌, ◌<◌, ◌≤◌, ◌==◌, ◌&&◌, ◌||◌, Bool, true, false, cond, not, List, [], ◌∷◌, ◌++◌, take, drop, length, Ok, Some, IsTrue, refl, sym, ap, subst, ◌∙◌, arith}
 use Rattle.std.specs.Prelude.{IfSome}
 use Rattle.std.proofs.Math.Nat.{pow-suc}
 use Rattle.std.proofs.lemmas.List.{length-append, length-drop, length-take-le}
@@ -18,7 +18,6 @@ use Rattle.arm2_decode.proofs.Listed.{some_words}
 use Rattle.arm2_decode.proofs.WordLemmas.{bit_fits}
 use Rattle.shifter.specs.Shifts.{Has, by_register, by_nonzero, multiply_cycles, rotated_bits}
 use Rattle.shifter.proofs.BitLists.{length-bits_from}
-use Rattle.shifter.proofs.ShiftLemmas.{greatest_cycles}
 use Rattle.shifter.specs.Word.{word_bits}
 use Rattle.arm2_decode.specs.Allowed.{bit_of}
 use Rattle.arm2_decode.specs.Names.{is_lsl, is_mov, is_pc, register_number}
@@ -124,7 +123,7 @@ module _ (aim : Aim) (s : State) (i : Input) (base : Held) (last : ℕ) where
       of_class Fast h = h.register
       of_class Synchronous h = h.register
 
-module _ (aim : Aim) (st : Stated) (to : Place) (s : State) (i : Input) (class_is : aim.class ≡ class_at st aim.address) (target : IsDearestTarget st aim.profile to aim.target) where
+module _ (aim : Aim) (st : Stated) (to : Place) (s : State) (i : Input) (of : Register) (class_is : aim.class ≡ class_at st aim.address (Some of)) (target : IsDearestTarget st aim.profile to aim.target) where
   gives_target : (load loads_pc : Bool) (words lowest : ℕ) (base : Held) → 1 ≤ words → (may : MayStart aim load words lowest)
       → HasSetting aim.profile (transfer_setting aim base (load && loads_pc) (word_address lowest (words - 1))) s i → IsTrue (load && loads_pc)
       → seen (with_lines i.lines.0 s.bus) i.port (may.spots (words - 1)) ≡ aim.target
@@ -136,7 +135,7 @@ module _ (aim : Aim) (st : Stated) (to : Place) (s : State) (i : Input) (class_i
 
   transfers : (load loads_pc : Bool) (words lowest : ℕ) (base : Held) → 1 ≤ words → MayStart aim load words lowest
       → HasSetting aim.profile (transfer_setting aim base (load && loads_pc) (word_address lowest (words - 1))) s i
-      → TransfersDearest st aim.profile aim.address to s i load loads_pc words lowest
+      → TransfersDearest st aim.profile aim.address to s i of load loads_pc words lowest
   transfers load loads_pc words lowest base some may has = record {
     spot = may.spots;
     transfer = record {
@@ -188,13 +187,13 @@ single_sets aim x lowest base rn user may at =
     record {
       register_other = other aim 1 lowest held (omega arith) (x.load && is_pc x.rd) (word_address lowest 0) rn;
       word_apart = apart aim 1 lowest held (omega arith) x.load (is_pc x.rd) may;
-      set = λ st to s i class_is target has. (
+      set = λ st to s i class_is cycles_are target has. (
         rn,
         user,
-        subst (λ r. TransfersDearest st aim.profile aim.address to s i x.load (is_pc x.rd) 1 (address_for (of_immediate x) r))
+        subst (λ r. TransfersDearest st aim.profile aim.address to s i x.rn x.load (is_pc x.rd) 1 (address_for (of_immediate x) r))
             (sym (has_base aim s i held (word_address lowest 0) (x.load && is_pc x.rd) has))
-            (subst (TransfersDearest st aim.profile aim.address to s i x.load (is_pc x.rd) 1) (sym at)
-            (transfers aim st to s i class_is target x.load (is_pc x.rd) 1 lowest held (omega arith) may has)),
+            (subst (TransfersDearest st aim.profile aim.address to s i x.rn x.load (is_pc x.rd) 1) (sym at)
+            (transfers aim st to s i x.rn class_is target x.load (is_pc x.rd) 1 lowest held (omega arith) may has)),
       );
     }
 
@@ -218,11 +217,11 @@ block_sets aim x lowest base may at =
     record {
       register_other = other aim (word_count x.list) lowest held (some_words x) (x.load && is_listed x.list R15) last (no_clash (is_pc x.rn) 7 _ (omega arith) x.allocated);
       word_apart = apart aim (word_count x.list) lowest held (some_words x) x.load (is_listed x.list R15) may;
-      set = λ st to s i class_is target has.
-          subst (λ r. TransfersDearest st aim.profile aim.address to s i x.load (is_listed x.list R15) (word_count x.list) (lowest_of x r (word_count x.list)))
+      set = λ st to s i class_is cycles_are target has.
+          subst (λ r. TransfersDearest st aim.profile aim.address to s i x.rn x.load (is_listed x.list R15) (word_count x.list) (lowest_of x r (word_count x.list)))
           (sym (has_base aim s i held last (x.load && is_listed x.list R15) has))
-          (subst (TransfersDearest st aim.profile aim.address to s i x.load (is_listed x.list R15) (word_count x.list)) (sym at)
-          (transfers aim st to s i class_is target x.load (is_listed x.list R15) (word_count x.list) lowest held (some_words x) may has));
+          (subst (TransfersDearest st aim.profile aim.address to s i x.rn x.load (is_listed x.list R15) (word_count x.list)) (sym at)
+          (transfers aim st to s i x.rn class_is target x.load (is_listed x.list R15) (word_count x.list) lowest held (some_words x) may has));
     }
 
 -- ## Data processing, and multiplies
@@ -265,7 +264,7 @@ copy_sets aim x free writes =
     record {
       register_other = other;
       word_apart = tt;
-      set = λ st to s i class_is target has written.
+      set = λ st to s i class_is cycles_are target has written.
           leads st aim.profile to aim.target _
           (copied (omega (arith, target.below)) x.opcode x.shift x.amount (is_the_mov x.opcode head.0) (is_the_lsl x.shift front.1) (eqb-true x.amount 0 parts.1) s
           (operand_is x.rm s aim.target 8 other (current_is x.rm s aim.target has.mode has.register)))
@@ -285,7 +284,7 @@ sum_sets aim x addend free writes gives =
     record {
       register_other = other;
       word_apart = tt;
-      set = λ st to s i class_is target has written.
+      set = λ st to s i class_is cycles_are target has written.
           leads st aim.profile to aim.target _
           (ap (λ n. (outcome_of x.opcode n (rotated x (flags_of (r15_in s.regs)).carry) (flags_of (r15_in s.regs))).value) (first_is x.rn s addend 8 other (current_is x.rn s addend has.mode has.register))
           ∙ gives (flags_of (r15_in s.regs)) (flags_of (r15_in s.regs)).carry)
@@ -304,11 +303,12 @@ rs_other x =
     fourth (register_number x.rd == register_number x.rm) (register_number x.rd == 15) (register_number x.rm == 15) (is_pc x.rs) ((bit_of x.accumulate == 1) && (register_number x.rn == 15))
     (no_clash _ 3 0 (omega arith) x.allocated)
 
-pub multiply_sets : (aim : Aim) (x : Multiply) → Sets aim (operation.Multiply x) (of_register (record { register = x.rs; word = 0xFFFFFFFF }))
-multiply_sets aim x = record {
+pub multiply_sets : (aim : Aim) (x : Multiply) (number : ℕ) → multiply_cycles number ≡ aim.cycles
+    → Sets aim (operation.Multiply x) (of_register (record { register = x.rs; word = number }))
+multiply_sets aim x number takes = record {
   register_other = rs_other x;
   word_apart = tt;
-  set = λ st to s i class_is target has. ap multiply_cycles has.register ∙ greatest_cycles;
+  set = λ st to s i class_is cycles_are target has. ap multiply_cycles has.register ∙ takes ∙ cycles_are;
 }
 
 -- ## Sums and differences

@@ -1,11 +1,9 @@
--- Where edges end, and what their jumps cost.
-use Rattle.std.proofs.Common.{◌≡◌, ℕ, zero, suc, ◌+◌, ◌^◌, ◌<◌, ◌≤◌, ◌⊎◌, inl, inr, Bool, true, false, cond, List, [], ◌∷◌, ◌++◌, length, map, nat_lt, Option, Some, None, refl, sym, ap, subst, ◌∙◌, arith}
+-- Where edges end, which ways they go, and what their jumps cost.
+use Rattle.std.proofs.Common.{◌≡◌, ℕ, ◌+◌, ◌^◌, ◌<◌, ◌≤◌, ◌⊎◌, inl, inr, Bool, true, false, cond, List, [], ◌∷◌, ◌++◌, length, refl, sym, subst, arith}
 use Rattle.std.specs.Prelude.{Contains}
 use Rattle.std.proofs.lemmas.Bool.{lt-ltb}
 use Rattle.std.proofs.lemmas.Bool.Decides.{eqb_tells}
-use Rattle.std.proofs.lemmas.List.{get_or-map, length-map}
-use Rattle.std.proofs.lemmas.List.Elements.{Contains-append_cases, Contains-append_left, Contains-append_right}
-use Rattle.arm2_decode.specs.Names.{is_always, is_never}
+use Rattle.std.proofs.lemmas.List.Elements.{Contains-append_cases}
 use Rattle.arm2_effect.specs.ProgramCounter.{branch_target}
 use Rattle.bus_ticks.specs.declared.profile.Class.{Class}
 use Rattle.bus_ticks.specs.declared.profile.Class.TheVariants.{Any, Ram, Rom, Io}
@@ -15,24 +13,17 @@ use Rattle.bus_ticks.specs.declared.profile.RomTimes.{RomTimes}
 use Rattle.bus_ticks.specs.Prices.{ahead_of, class_of, fetch_n, fetch_s, speed_of}
 use Rattle.bus_ticks.specs.Worst.{IsDevice, IsOf, worst_leave, worst_fetch_n, worst_fetch_s}
 use Rattle.bus_ticks.proofs.LeaveLemmas.{worst_leave_greatest}
-use Rattle.arm2_decode.specs.Conditions.{condition_holds}
-use Rattle.arm2_decode.specs.declared.flags.Flags.{Flags}
-use Rattle.arm2_decode.specs.declared.names.Cond.{Cond}
-use Rattle.arm2_decode.specs.declared.names.Cond.TheVariants as condition
-use Rattle.control_flow.specs.Edges.{arrival_ticks, call_places, do_edge, landing_edges, do_edges, places_at, jump_ticks, landings, return_place, skip_edge, skip_edges, stated_landings, word_edges, writer_landings}
+use Rattle.control_flow.specs.Edges.{arrival_ticks, call_places, do_edge, landing_edges, do_edges, places_at, jump_ticks, landings, may_do, may_go, may_skip, skip_edge, skip_edges, word_edges, writer_landings}
 use Rattle.control_flow.specs.Kinds.{is_writer}
 use Rattle.flow_graph.specs.StepLaw.{IsPlaceOf}
 use Rattle.control_flow.specs.declared.edges.Edge.{Edge}
-use Rattle.control_flow.specs.declared.edges.Label.{Label}
-use Rattle.control_flow.specs.declared.edges.Label.TheVariants.{Skip, Do}
 use Rattle.control_flow.specs.declared.actions.Action.{Action}
 use Rattle.control_flow.specs.declared.actions.Kind.{Kind}
 use Rattle.control_flow.specs.declared.actions.Kind.TheVariants as kind
 use Rattle.control_flow.specs.declared.places.Place.{Place}
 use Rattle.control_flow.specs.declared.places.Place.TheVariants.{At, Exit}
-use Rattle.statement.specs.Stated.{Stated, Target, target_of}
-use Rattle.statement.specs.declared.stated.TargetKind.{TargetKind}
-use Rattle.statement.specs.declared.stated.TargetKind.TheVariants as stated
+use Rattle.statement.specs.Stated.{Stated, taken_at, target_of}
+use Rattle.control_flow.proofs.LabelLemmas.{from_map, only_one}
 use Rattle.control_flow.proofs.SortedLemmas.{cons_cases, here, no_member, there}
 use Rattle.flow_graph.proofs.StepTicks.{Reaches, jump_price, n_most, s_most}
 
@@ -100,6 +91,29 @@ lands st p rom class calls a (kind.Call offset) t e few = inl (At (calls ++ a �
 lands st p rom class calls a kind.Writer t e few = elim (find_place st t (writer_landings calls a (target_of st a))) [ inl w ↦ inl w | inr none ↦ inr (refl, none) ]
 lands st p rom class calls a kind.Trap t e few = absurd e
 lands st p rom class calls a kind.Unallocated t e few = absurd e
+
+-- ## Which ways a word may go
+
+module _ (st : Stated) (profile : Profile) (calls : List ℕ) (a : ℕ) (action : Action) where
+  abbrev MayGo : Edge → Type 0
+  MayGo e = may_go e.label action.cond (taken_at st a) ≡ true
+
+  listed_by : (may : Bool) (xs : List Edge) (e : Edge) → Contains (cond may xs []) e → (may ≡ true) × Contains xs e
+  listed_by true xs e h = (refl, h)
+  listed_by false xs e h = absurd (no_member e h)
+
+  -- an edge of the word has a label by which the word may go
+  pub edge_goes : (e : Edge) → Contains (word_edges st profile calls a action) e → MayGo e
+  edge_goes e h = by_part (Contains-append_cases (skip_edges st profile calls a action) (do_edges st profile calls a action) e h)
+    where
+      by_part : Contains (skip_edges st profile calls a action) e ⊎ Contains (do_edges st profile calls a action) e → MayGo e
+      by_part (inl skip) =
+          let listed = listed_by (may_skip action.cond (taken_at st a)) (skip_edge profile calls a ∷ []) e skip in
+          subst MayGo (only_one (skip_edge profile calls a) e listed.1) listed.0
+      by_part (inr done) =
+          let listed = listed_by (may_do action.cond (taken_at st a)) (landing_edges st profile calls a action) e done in
+          let to = from_map (do_edge st profile calls a action) (landings st calls a action.kind) e listed.1 in
+          subst MayGo to.2 listed.0
 
 -- ## What a jump costs
 

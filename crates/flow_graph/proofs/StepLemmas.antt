@@ -3,7 +3,6 @@ use Rattle.std.proofs.Common.{◌≡◌, ℕ, ◌+◌, ◌*◌, ◌^◌, ◌<◌
 use Rattle.std.proofs.Math.Nat.{mul-add}
 use Rattle.std.proofs.lemmas.Bool.{cases_lt, false≢true}
 use Rattle.std.proofs.lemmas.List.Sums.{sum_by-cons}
-use Rattle.arm2_decode.specs.Names.{is_never}
 use Rattle.bus_ticks.specs.declared.profile.Class.{Class}
 use Rattle.bus_ticks.specs.declared.profile.Profile.{Profile}
 use Rattle.bus_ticks.specs.declared.profile.RomTimes.{RomTimes}
@@ -18,7 +17,6 @@ use Rattle.arm2_effect.specs.declared.exceptions.Vector.{Vector}
 use Rattle.arm2_effect.specs.Effects.{is_stopped, skipped, stopped, ticks_of}
 use Rattle.arm2_effect.specs.Exceptions.{taken}
 use Rattle.arm2_effect.specs.Modes.{r15_in}
-use Rattle.arm2_effect.specs.ProgramCounter.{flags_of}
 use Rattle.arm2_transfer.specs.declared.bus.Bus.{Bus}
 use Rattle.arm2_transfer.specs.Moved.{Moved, on_bus}
 use Rattle.arm2_transfer.specs.Operations.{operation_moved}
@@ -29,7 +27,7 @@ use Rattle.arm2_exec.specs.Run.{Ends, Runs, at_rest, counted, why_stopped}
 use Rattle.arm2_exec.specs.State.{State}
 use Rattle.arm2_exec.specs.Step.{Obeys, ObeysFetched, Step, Works, address_in, answer_of, fetched, instruction_moved, interrupt_due, ticks_in, unallocated_moved, with_lines}
 use Rattle.arm2_exec.proofs.StepLemmas.{one_step}
-use Rattle.control_flow.specs.Edges.{HasAction, do_ticks, do_edge, passing_ticks, skip_edge, word_edges}
+use Rattle.control_flow.specs.Edges.{HasAction, do_ticks, do_edge, may_do, may_go, passing_ticks, skip_edge, stated_work, word_edges}
 use Rattle.control_flow.specs.Flow.{edge_shape}
 use Rattle.control_flow.specs.Graph.{IsReached, IsTooDeep, makes_call}
 use Rattle.control_flow.specs.Kinds.{IsAction, instr_action, kind_of, unallocated_action, work_of}
@@ -44,13 +42,13 @@ use Rattle.control_flow.specs.declared.actions.Work.{Work}
 use Rattle.control_flow.specs.declared.actions.Work.TheVariants as work
 use Rattle.control_flow.specs.declared.places.Place.{Place}
 use Rattle.control_flow.specs.declared.places.Place.TheVariants.{At}
-use Rattle.statement.specs.Stated.{Stated, class_at, target_of}
+use Rattle.statement.specs.Stated.{Stated, class_at, taken_at, target_of}
 use Rattle.control_flow.proofs.EdgeLemmas.{among_edges, one_action}
-use Rattle.control_flow.proofs.LabelLemmas.{Which, always_holds, do_among, never_holds, skip_among, which_edge}
+use Rattle.control_flow.proofs.LabelLemmas.{Which, do_among, skip_among, which_edge}
 use Rattle.flow_graph.proofs.StepEdges.{Lands, arrives, lands}
 use Rattle.flow_graph.proofs.StepOperations.{MovedCosts, either_done, operation_costs, skipped_costs, stopped_costs}
 use Rattle.flow_graph.proofs.StepRegisters.{word_address_of}
-use Rattle.flow_graph.proofs.StepTicks.{Costs}
+use Rattle.flow_graph.proofs.StepTicks.{Costs, fetch_stated}
 use Rattle.control_flow.proofs.WorkLemmas.{action_fits}
 
 -- ## What a plain step reports
@@ -91,28 +89,28 @@ works_plain (Some vector) port regs bus m works plain =
 
 -- ## What the word does
 
--- the kind and the work of a word that is done, or of one that is passed over
+-- the kind and the stated work of a word that is done, or those of one that is passed over
 abbrev kind_by : Bool → Action → Kind
 kind_by holds action = cond holds action.kind kind.Plain
 
-abbrev work_by : Bool → Action → Work
-work_by holds action = cond holds action.work (work.Internal 0)
+abbrev work_by : Stated → ℕ → Bool → Action → Work
+work_by st a holds action = cond holds (stated_work st a action.work) (work.Internal 0)
 
-module _ (p : Profile) (rom : RomTimes) (class : Class) (regs : List ℕ) (long : 26 < length regs) where
+module _ (st : Stated) (p : Profile) (rom : RomTimes) (class : Class) (regs : List ℕ) (long : 26 < length regs) where
   abbrev ActionCosts : Action → Moved → Type 0
-  ActionCosts action m = MovedCosts p rom class regs long (kind_by (holds_in regs action.cond) action) (work_by (holds_in regs action.cond) action) m
+  ActionCosts action m = MovedCosts st p rom class regs long (kind_by (holds_in regs action.cond) action) (work_by st (address_in regs) (holds_in regs action.cond) action) m
 
   instr_costs : (word : ℕ) (i : Instr) (port : ℕ) (bus : Bus) → Means word i → ActionCosts (instr_action i) (instruction_moved i port regs bus)
   instr_costs word i port bus means =
-      either_done p rom class regs long (holds_in regs i.cond) (kind_of i.operation) (work_of i.operation) (operation_moved i.operation port regs bus) (on_bus bus (skipped regs))
-      (operation_costs p rom class regs long i.operation port bus (action_fits word (instr_action i) (inl (i, means, refl))))
-      (skipped_costs p rom class regs long bus)
+      either_done st p rom class regs long (holds_in regs i.cond) (kind_of i.operation) (stated_work st (address_in regs) (work_of i.operation)) (operation_moved i.operation port regs bus) (on_bus bus (skipped regs))
+      (operation_costs st p rom class regs long i.operation port bus (action_fits word (instr_action i) (inl (i, means, refl))))
+      (skipped_costs st p rom class regs long bus)
 
   unallocated_costs : (u : Unallocated) (bus : Bus) → ActionCosts (unallocated_action u) (unallocated_moved u regs bus)
   unallocated_costs u bus =
-      either_done p rom class regs long (holds_in regs u.cond) kind.Unallocated (work.Internal 0) (on_bus bus (stopped why.Unallocated regs)) (on_bus bus (skipped regs))
-      (stopped_costs p rom class regs long kind.Unallocated (work.Internal 0) why.Unallocated bus)
-      (skipped_costs p rom class regs long bus)
+      either_done st p rom class regs long (holds_in regs u.cond) kind.Unallocated (stated_work st (address_in regs) (work.Internal 0)) (on_bus bus (stopped why.Unallocated regs)) (on_bus bus (skipped regs))
+      (stopped_costs st p rom class regs long kind.Unallocated (stated_work st (address_in regs) (work.Internal 0)) why.Unallocated bus)
+      (skipped_costs st p rom class regs long bus)
 
   obeys_costs : (word : ℕ) (action : Action) (port : ℕ) (bus : Bus) (m : Moved) → IsAction word action → Obeys word port regs bus m → ActionCosts action m
   obeys_costs word action port bus m is (inl (i, means, e)) =
@@ -134,7 +132,7 @@ which_taken words st profile calls action s stepped has e taken =
 module _ (words : Words) (st : Stated) (profile : Profile) (calls : List ℕ) (action : Action) (s : State) (i : Input) (stepped : Stepped) (after : State) (h : Executes words st profile action s i stepped after) where
   -- what the step costs, and where it goes
   abbrev StepCosts : Bool → Type 0
-  StepCosts holds = Costs profile s.bus.memc.control.rom_times (class_at st (address_in s.regs)) (address_in s.regs) (kind_by holds action) (work_by holds action) h.step.moved.accesses stepped.to
+  StepCosts holds = Costs profile s.bus.memc.control.rom_times (class_at st (address_in s.regs) action.base) (address_in s.regs) (kind_by holds action) (work_by st (address_in s.regs) holds action) h.step.moved.accesses stepped.to
 
   plain_is : IsPlainStep s h.step.moved stepped
   plain_is = plain_step s h.step.moved stepped h.step.stepped_is h.plain
@@ -151,9 +149,9 @@ module _ (words : Words) (st : Stated) (profile : Profile) (calls : List ℕ) (a
       let obeyed : ObeysFetched (fetched bus.memc (r15_in s.regs)) i.port s.regs bus h.step.moved = works_plain (interrupt_due bus (r15_in s.regs)) i.port s.regs bus h.step.moved h.step.works (plain_is.kind) in
       let fetches : fetched s.bus.memc (r15_in s.regs) ≡ Some h.has.word = h.fetches ∙ h.has.word_is in
       let obeys : Obeys h.has.word i.port s.regs bus h.step.moved = subst (λ o. ObeysFetched o i.port s.regs bus h.step.moved) fetches obeyed in
-      subst (λ t. Costs profile s.bus.memc.control.rom_times (class_at st (address_in s.regs)) (address_in s.regs) (kind_by (holds_in s.regs action.cond) action) (work_by (holds_in s.regs action.cond) action) h.step.moved.accesses t) (sym plain_is.to)
-      (obeys_costs profile s.bus.memc.control.rom_times (class_at st (address_in s.regs)) s.regs (let n : length s.regs ≡ 27 = h.registers in omega arith)
-      h.has.word action i.port bus h.step.moved h.has.is obeys h.transfers (plain_is.kind))
+      subst (λ t. Costs profile s.bus.memc.control.rom_times (class_at st (address_in s.regs) action.base) (address_in s.regs) (kind_by (holds_in s.regs action.cond) action) (work_by st (address_in s.regs) (holds_in s.regs action.cond) action) h.step.moved.accesses t) (sym plain_is.to)
+      (obeys_costs st profile s.bus.memc.control.rom_times (class_at st (address_in s.regs) action.base) s.regs (let n : length s.regs ≡ 27 = h.registers in omega arith)
+      h.has.word action i.port bus h.step.moved h.has.is obeys h.transfers h.cycles (plain_is.kind))
 
   -- ## Each edge of the step
 
@@ -175,9 +173,9 @@ module _ (words : Words) (st : Stated) (profile : Profile) (calls : List ℕ) (a
   cost_by : (holds : Bool) → StepCosts holds → (e : Edge) → IsOne e → e.label ≡ cond holds Do Skip → IsPlaceOf st.leave stepped.to e.to → stepped.ticks ≤ e.cost
   cost_by true costs e (inl skip) label to = absurd (no_label (skip_edge profile calls (address_in s.regs)) e refl label skip)
   cost_by true costs e (inr (p, among, is)) label to =
-      let jump = arrives st profile s.bus.memc.control.rom_times (class_at st (address_in s.regs)) (address_in s.regs) action.kind p stepped.to small (ends_at p e is to) in
+      let jump = arrives st profile s.bus.memc.control.rom_times (class_at st (address_in s.regs) action.base) (address_in s.regs) action.kind p stepped.to small (ends_at p e is to) in
       let cost : do_ticks st profile (address_in s.regs) action p ≡ e.cost = ap (λ (x : Edge). x.cost) is in
-      omega (arith, jump, costs.most, ticks, cost)
+      omega (arith, jump, costs.most, fetch_stated profile st (address_in s.regs) action.work, ticks, cost)
   cost_by false costs e (inl skip) label to =
       let cost : passing_ticks profile (address_in s.regs) ≡ e.cost = ap (λ (x : Edge). x.cost) skip in
       omega (arith, costs.most, ticks, cost)
@@ -188,7 +186,11 @@ module _ (words : Words) (st : Stated) (profile : Profile) (calls : List ℕ) (a
 
   -- ## Some edge of the step
 
-  few_calls : IsAccepted words st profile → IsReached words st profile (At calls (address_in s.regs)) → is_never action.cond ≡ false → (offset : ℕ) → action.kind ≡ kind.Call offset → length calls < 8
+  -- the step's way is one of the word's
+  way_by : (holds : Bool) → holds_in s.regs action.cond ≡ holds → may_go (cond holds Do Skip) action.cond (taken_at st (address_in s.regs)) ≡ true
+  way_by holds is = subst (λ b. may_go (cond b Do Skip) action.cond (taken_at st (address_in s.regs)) ≡ true) is h.way
+
+  few_calls : IsAccepted words st profile → IsReached words st profile (At calls (address_in s.regs)) → may_do action.cond (taken_at st (address_in s.regs)) ≡ true → (offset : ℕ) → action.kind ≡ kind.Call offset → length calls < 8
   few_calls accepted reached may offset is =
       elim (cases_lt (length calls) 8) [
         | inl few ↦ few
@@ -207,7 +209,7 @@ module _ (words : Words) (st : Stated) (profile : Profile) (calls : List ℕ) (a
   done_by : holds_in s.regs action.cond ≡ true → Lands st calls (address_in s.regs) action.kind stepped.to → Conclusion
   done_by holds (inl (p, among, is)) =
       takes (do_edge st profile calls (address_in s.regs) action p) (record {
-        is_edge = (word_edges st profile calls (address_in s.regs) action, (action, h.has, refl), do_among st profile calls (address_in s.regs) action p (never_holds action.cond (flags_of (r15_in s.regs)) holds) among);
+        is_edge = (word_edges st profile calls (address_in s.regs) action, (action, h.has, refl), do_among st profile calls (address_in s.regs) action p (way_by true holds) among);
         from = refl;
         label = sym (ap (λ b. cond b Do Skip) holds);
         to = is;
@@ -225,11 +227,11 @@ module _ (words : Words) (st : Stated) (profile : Profile) (calls : List ℕ) (a
   law_by : (holds : Bool) → holds_in s.regs action.cond ≡ holds → StepCosts holds → IsAccepted words st profile → IsReached words st profile (At calls (address_in s.regs)) → Conclusion
   law_by true holds costs accepted reached =
       done_by holds
-      (lands st profile s.bus.memc.control.rom_times (class_at st (address_in s.regs)) calls (address_in s.regs) action.kind stepped.to costs.reaches
-      (few_calls accepted reached (never_holds action.cond (flags_of (r15_in s.regs)) holds)))
+      (lands st profile s.bus.memc.control.rom_times (class_at st (address_in s.regs) action.base) calls (address_in s.regs) action.kind stepped.to costs.reaches
+      (few_calls accepted reached (way_by true holds)))
   law_by false fails costs accepted reached =
       takes (skip_edge profile calls (address_in s.regs)) (record {
-        is_edge = (word_edges st profile calls (address_in s.regs) action, (action, h.has, refl), skip_among st profile calls (address_in s.regs) action (always_holds action.cond (flags_of (r15_in s.regs)) fails));
+        is_edge = (word_edges st profile calls (address_in s.regs) action, (action, h.has, refl), skip_among st profile calls (address_in s.regs) action (way_by false fails));
         from = refl;
         label = sym (ap (λ b. cond b Do Skip) fails);
         to = sym costs.reaches;

@@ -1,5 +1,5 @@
 -- What each instruction does, against the kind and the work of its word.
-use Rattle.std.proofs.Common.{◌≡◌, ℕ, suc, ◌+◌, ◌*◌, ◌^◌, ◌<◌, ◌≤◌, ◌==◌, ◌&&◌, not, nat_lt, Bool, true, false, cond, List, length, Result, Ok, Err, refl, sym, ap, subst, ◌∙◌, arith}
+use Rattle.std.proofs.Common.{◌≡◌, ℕ, suc, ◌+◌, ◌*◌, ◌^◌, ◌<◌, ◌≤◌, ◌==◌, ◌&&◌, not, min, nat_lt, Bool, true, false, cond, List, length, Result, Ok, Err, refl, sym, ap, subst, ◌∙◌, arith}
 use Rattle.std.proofs.lemmas.Bool.{ltb-true}
 use Rattle.bus_ticks.specs.declared.profile.Class.{Class}
 use Rattle.bus_ticks.specs.declared.profile.Profile.{Profile}
@@ -23,7 +23,7 @@ use Rattle.shifter.proofs.ShiftLemmas.{most_cycles}
 use Rattle.arm2_effect.specs.declared.step_end.Kind.TheVariants as ended
 use Rattle.arm2_effect.specs.declared.exceptions.Vector.{Vector}
 use Rattle.arm2_effect.specs.declared.step_end.Why.{Why}
-use Rattle.arm2_effect.specs.Effects.{Effect, onward, skipped, stopped}
+use Rattle.arm2_effect.specs.Effects.{Effect, Internal, onward, skipped, stopped}
 use Rattle.arm2_effect.specs.Exceptions.{taken}
 use Rattle.arm2_effect.specs.Modes.{r15_in, register_in, with_r15, with_register, is_user}
 use Rattle.arm2_effect.specs.Operations.{branch_effect, compared, data_immediate_effect, data_register_effect, data_register_shift_effect, entered, jumped, multiply_effect, next_r15, operation_effect, outcome_effect, product_of}
@@ -40,14 +40,17 @@ use Rattle.arm2_transfer.specs.Moved.{Moved, on_bus, faulted}
 use Rattle.arm2_transfer.specs.Operations.{operation_moved}
 use Rattle.arm2_transfer.specs.Registers.{moved_by, passed, with_base}
 use Rattle.arm2_transfer.specs.Single.{address_for, base_after, of_immediate, of_register, single_at, single_by, single_carried_out, single_loaded, single_loads, single_stores}
-use Rattle.control_flow.specs.Kinds.{IsWork, kind_of, transfer_work, work_of, writer_if}
-use Rattle.flow_graph.specs.StepLaw.{TransfersIn}
+use Rattle.control_flow.specs.Edges.{stated_work}
+use Rattle.control_flow.specs.Kinds.{IsWork, is_multiply, kind_of, transfer_work, work_of, writer_if}
+use Rattle.flow_graph.specs.StepLaw.{TakesWithin, TransfersIn}
+use Rattle.statement.specs.Stated.{Stated, cycles_at}
+use Rattle.control_flow.proofs.SortedLemmas.{here}
 use Rattle.control_flow.specs.declared.actions.Kind.{Kind}
 use Rattle.control_flow.specs.declared.actions.Kind.TheVariants as kind
 use Rattle.control_flow.specs.declared.actions.Work.{Work}
 use Rattle.control_flow.specs.declared.actions.Work.TheVariants as work
 use Rattle.flow_graph.proofs.StepRegisters.{IsWordAddress, address_ahead, address_jumped, address_put, address_restored, base_stays, goes, loaded_stays, long_based, long_with, passed_goes, word_address_ahead, word_address_of}
-use Rattle.flow_graph.proofs.StepTicks.{Costs, branch_costs, call_costs, delayed_costs, jump_costs, load_block, load_costs, store_block, store_costs, straight_costs}
+use Rattle.flow_graph.proofs.StepTicks.{Costs, branch_costs, call_costs, delayed_costs, jump_costs, load_block, load_costs, stated_other, store_block, store_costs, straight_costs}
 use Rattle.flow_graph.proofs.StepWords.{AllMoveOther, all_stay, verdict_others}
 
 -- ## What the words of the table rule out
@@ -75,14 +78,19 @@ words_fit : (load : Bool) (words : ℕ) → IsWork (transfer_work load words) �
 words_fit true words h = h
 words_fit false words h = h
 
-module _ (p : Profile) (rom : RomTimes) (class : Class) (regs : List ℕ) (long : 26 < length regs) where
+module _ (st : Stated) (p : Profile) (rom : RomTimes) (class : Class) (regs : List ℕ) (long : 26 < length regs) where
+  -- the most cycles of a multiply there
+  abbrev most : ℕ
+  most = cycles_at st (address_of (r15_in regs))
+
   -- the effect is one of a word of the kind and the work
   abbrev EffectCosts : Kind → Work → Effect → Type 0
   EffectCosts k w e = Costs p rom class (address_of (r15_in regs)) k w e.accesses (address_of (r15_in e.regs))
 
-  -- so is the transfer, where it ends as other instructions do, and its words are of the class
+  -- so is the transfer, where it ends as other instructions do, its words are of the class, and it takes no more
+  -- cycles
   abbrev pub MovedCosts : Kind → Work → Moved → Type 0
-  MovedCosts k w m = TransfersIn class m.accesses → m.kind ≡ ended.Plain → Costs p rom class (address_of (r15_in regs)) k w m.accesses (address_of (r15_in m.regs))
+  MovedCosts k w m = TransfersIn class m.accesses → TakesWithin most m.accesses → m.kind ≡ ended.Plain → Costs p rom class (address_of (r15_in regs)) k w m.accesses (address_of (r15_in m.regs))
 
   -- ## Data processing
 
@@ -136,11 +144,13 @@ module _ (p : Profile) (rom : RomTimes) (class : Class) (regs : List ℕ) (long 
       placed_by (is_compare o) (is_pc rd) (compared rd out regs) (jumped sets_flags out regs) (entered sets_flags rd out regs)
       (compared_costs rd out) (jumped_costs sets_flags out) (entered_costs sets_flags rd out)
 
-  multiply_costs : (x : Multiply) → EffectCosts kind.Plain (work.Internal 16) (multiply_effect x regs)
+  multiply_costs : (x : Multiply) → TakesWithin most (multiply_effect x regs).accesses → EffectCosts kind.Plain (work.Internal (min 16 most)) (multiply_effect x regs)
   unfolding multiply_effect
-  multiply_costs x =
+  multiply_costs x within =
       let number : ℕ = register_in (mode_of (r15_in regs)) (register_number x.rs) regs in
-      delayed_costs p rom class (address_of (r15_in regs)) (multiply_cycles number) 16 kind.Plain _ _ (most_cycles number) (entered_costs x.sets_flags x.rd (product_of x regs))
+      let stated : multiply_cycles number ≤ most = within (multiply_cycles number) (here (Internal (multiply_cycles number)) _) in
+      delayed_costs p rom class (address_of (r15_in regs)) (multiply_cycles number) (min 16 most) kind.Plain _ _ (omega (arith, most_cycles number, stated))
+      (entered_costs x.sets_flags x.rd (product_of x regs))
 
   -- ## Branches
 
@@ -177,12 +187,12 @@ module _ (p : Profile) (rom : RomTimes) (class : Class) (regs : List ℕ) (long 
 
   taken_costs : (k : Kind) (w : Work) (vector : Vector) (bus : Bus) → MovedCosts k w (on_bus bus (taken vector regs))
   unfolding taken
-  taken_costs k w vector bus in_class plain = absurd (cc)
+  taken_costs k w vector bus in_class within plain = absurd (cc)
 
   faulted_costs : (k : Kind) (w : Work) (why : TransferFault) (bus : Bus) → MovedCosts k w (faulted why regs bus)
   unfolding taken stopped
-  faulted_costs k w fault.DataAbort bus in_class plain = absurd (cc)
-  faulted_costs k w fault.UnsupportedWrite bus in_class plain = absurd (cc)
+  faulted_costs k w fault.DataAbort bus in_class within plain = absurd (cc)
+  faulted_costs k w fault.UnsupportedWrite bus in_class within plain = absurd (cc)
 
   -- ## Single transfers
 
@@ -193,7 +203,7 @@ module _ (p : Profile) (rom : RomTimes) (class : Class) (regs : List ℕ) (long 
   single_loads_cost : (x : Single) (base port : ℕ) (spot : Spot) (bus : Bus) → (writes_base x.before x.write_back ≡ true → is_pc x.rn ≡ false) → address_for x base < 2 ^ 26 →
       MovedCosts (writer_if (is_pc x.rd)) (work.Load 1) (single_loads x base port spot regs bus)
   unfolding single_loads single_loaded
-  single_loads_cost x base port spot bus other below in_class plain =
+  single_loads_cost x base port spot bus other below in_class within plain =
       load_costs p rom class (address_of (r15_in regs)) (address_for x base) 1 (is_pc x.rd) _ (omega arith) (omega arith)
       (load_block class rom (address_of (r15_in regs)) (address_for x base) 1 (is_pc x.rd) _ below in_class)
       (λ stays. ap address_of (loaded_stays false (mode_of (r15_in regs)) (r15_in regs) x.rd _ (base_after x base regs) stays) ∙ base_passed x base other)
@@ -201,7 +211,7 @@ module _ (p : Profile) (rom : RomTimes) (class : Class) (regs : List ℕ) (long 
   single_stores_cost : (x : Single) (base : ℕ) (spot : Spot) (bus : Bus) → (writes_base x.before x.write_back ≡ true → is_pc x.rn ≡ false) → address_for x base < 2 ^ 26 →
       MovedCosts kind.Plain (work.Store 1) (single_stores x base spot regs bus)
   unfolding single_stores
-  single_stores_cost x base spot bus other below in_class plain =
+  single_stores_cost x base spot bus other below in_class within plain =
       store_costs p rom class (address_of (r15_in regs)) (address_for x base) 1 _ (omega arith) (omega arith)
       (store_block class rom (address_of (r15_in regs)) (address_for x base) 1 below in_class)
       (base_passed x base other)
@@ -232,7 +242,7 @@ module _ (p : Profile) (rom : RomTimes) (class : Class) (regs : List ℕ) (long 
   block_loads_cost : (x : Block) (span : Span) (port : ℕ) (moves : List Move) (bus : Bus) → is_pc x.rn ≡ false → span.lowest < 2 ^ 26 → 1 ≤ span.words → span.words ≤ 16 → (is_listed x.list R15 ≡ false → AllMoveOther moves) →
       MovedCosts (writer_if (is_listed x.list R15)) (work.Load span.words) (block_loads x span port moves regs bus)
   unfolding block_loads
-  block_loads_cost x span port moves bus other below some few others in_class plain =
+  block_loads_cost x span port moves bus other below some few others in_class within plain =
       load_costs p rom class (address_of (r15_in regs)) span.lowest span.words (is_listed x.list R15) _ some few
       (load_block class rom (address_of (r15_in regs)) span.lowest span.words (is_listed x.list R15) _ below in_class)
       (λ none.
@@ -244,7 +254,7 @@ module _ (p : Profile) (rom : RomTimes) (class : Class) (regs : List ℕ) (long 
   block_stores_cost : (x : Block) (span : Span) (moves : List Move) (bus : Bus) → is_pc x.rn ≡ false → span.lowest < 2 ^ 26 → 1 ≤ span.words → span.words ≤ 16 →
       MovedCosts kind.Plain (work.Store span.words) (block_stores x span moves regs bus)
   unfolding block_stores
-  block_stores_cost x span moves bus other below some few in_class plain =
+  block_stores_cost x span moves bus other below some few in_class within plain =
       store_costs p rom class (address_of (r15_in regs)) span.lowest span.words _ some few
       (store_block class rom (address_of (r15_in regs)) span.lowest span.words below in_class)
       (passed_goes (with_base x.write_back (mode_of (r15_in regs)) x.rn span.base regs) (long_based x.write_back (mode_of (r15_in regs)) x.rn span.base regs long)
@@ -279,19 +289,29 @@ module _ (p : Profile) (rom : RomTimes) (class : Class) (regs : List ℕ) (long 
 
   -- ## Any instruction
 
-  pub operation_costs : (o : Operation) (port : ℕ) (bus : Bus) → IsWork (work_of o) → MovedCosts (kind_of o) (work_of o) (operation_moved o port regs bus)
+  -- what is stated of multiplies says nothing of another instruction
+  stated_costs : (o : Operation) (port : ℕ) (bus : Bus) → is_multiply o ≡ false → MovedCosts (kind_of o) (work_of o) (operation_moved o port regs bus) →
+      MovedCosts (kind_of o) (stated_work st (address_of (r15_in regs)) (work_of o)) (operation_moved o port regs bus)
+  stated_costs o port bus other = subst (λ w. MovedCosts (kind_of o) w (operation_moved o port regs bus)) (sym (stated_other st (address_of (r15_in regs)) o other))
+
+  pub operation_costs : (o : Operation) (port : ℕ) (bus : Bus) → IsWork (work_of o) → MovedCosts (kind_of o) (stated_work st (address_of (r15_in regs)) (work_of o)) (operation_moved o port regs bus)
   unfolding operation_effect data_register_effect data_register_shift_effect data_immediate_effect
-  operation_costs (operation.Multiply x) port bus fits = λ in_class plain. multiply_costs x
-  operation_costs (operation.DataRegister x) port bus fits = λ in_class plain. placed_costs x.opcode x.sets_flags x.rd _
+  operation_costs (operation.Multiply x) port bus fits = λ in_class within plain. multiply_costs x within
+  operation_costs (operation.DataRegister x) port bus fits =
+      stated_costs (operation.DataRegister x) port bus refl (λ in_class within plain. placed_costs x.opcode x.sets_flags x.rd _)
   operation_costs (operation.DataRegisterShift x) port bus fits =
-      λ in_class plain. delayed_costs p rom class (address_of (r15_in regs)) 1 1 (writer_if (data_writes_pc x.opcode x.rd)) _ _ (omega arith) (placed_costs x.opcode x.sets_flags x.rd _)
-  operation_costs (operation.DataImmediate x) port bus fits = λ in_class plain. placed_costs x.opcode x.sets_flags x.rd _
+      stated_costs (operation.DataRegisterShift x) port bus refl
+      (λ in_class within plain. delayed_costs p rom class (address_of (r15_in regs)) 1 1 (writer_if (data_writes_pc x.opcode x.rd)) _ _ (omega arith) (placed_costs x.opcode x.sets_flags x.rd _))
+  operation_costs (operation.DataImmediate x) port bus fits =
+      stated_costs (operation.DataImmediate x) port bus refl (λ in_class within plain. placed_costs x.opcode x.sets_flags x.rd _)
   operation_costs (operation.SingleImmediate x) port bus fits =
-      single_costs (of_immediate x) _ port bus (base_other x.before x.byte x.write_back x.load x.rn x.rd x.allocated)
+      stated_costs (operation.SingleImmediate x) port bus refl
+      (single_costs (of_immediate x) _ port bus (base_other x.before x.byte x.write_back x.load x.rn x.rd x.allocated))
   operation_costs (operation.SingleRegister x) port bus fits =
-      single_costs (of_register x regs) _ port bus (base_other x.before x.byte x.write_back x.load x.rn x.rd (refused_else (register_number x.rm == 15) 4 _ x.allocated))
-  operation_costs (operation.Block x) port bus fits = block_done x port bus fits
-  operation_costs (operation.Branch x) port bus fits = λ in_class plain. branch_goes x
+      stated_costs (operation.SingleRegister x) port bus refl
+      (single_costs (of_register x regs) _ port bus (base_other x.before x.byte x.write_back x.load x.rn x.rd (refused_else (register_number x.rm == 15) 4 _ x.allocated)))
+  operation_costs (operation.Block x) port bus fits = stated_costs (operation.Block x) port bus refl (block_done x port bus fits)
+  operation_costs (operation.Branch x) port bus fits = stated_costs (operation.Branch x) port bus refl (λ in_class within plain. branch_goes x)
   operation_costs (operation.Swi x) port bus fits = taken_costs _ _ _ bus
   operation_costs (operation.UndefinedTransfer x) port bus fits = taken_costs _ _ _ bus
   operation_costs (operation.CoprocessorTransfer x) port bus fits = taken_costs _ _ _ bus
@@ -300,13 +320,13 @@ module _ (p : Profile) (rom : RomTimes) (class : Class) (regs : List ℕ) (long 
   -- a word that is passed over
   pub skipped_costs : (bus : Bus) → MovedCosts kind.Plain (work.Internal 0) (on_bus bus (skipped regs))
   unfolding skipped
-  skipped_costs bus in_class plain =
+  skipped_costs bus in_class within plain =
       straight_costs p rom class (address_of (r15_in regs)) _
       (goes regs (r15_ahead (r15_in regs) 4) (ahead_of (address_of (r15_in regs)) 4) long (address_ahead (r15_in regs)))
 
   pub stopped_costs : (k : Kind) (w : Work) (why : Why) (bus : Bus) → MovedCosts k w (on_bus bus (stopped why regs))
   unfolding stopped
-  stopped_costs k w why bus in_class plain = absurd (cc)
+  stopped_costs k w why bus in_class within plain = absurd (cc)
 
   -- a word that is done or passed over
   pub either_done : (holds : Bool) (k : Kind) (w : Work) (m n : Moved) → MovedCosts k w m → MovedCosts kind.Plain (work.Internal 0) n → MovedCosts (cond holds k kind.Plain) (cond holds w (work.Internal 0)) (cond holds m n)

@@ -1,6 +1,7 @@
 -- What the accesses of a step cost at most.
-use Rattle.std.proofs.Common.{◌≡◌, ℕ, zero, suc, ◌+◌, ◌*◌, ◌^◌, ◌<◌, ◌≤◌, ◌==◌, ◌⊎◌, inl, inr, Bool, true, false, List, [], ◌∷◌, ◌++◌, refl, sym, subst, arith}
+use Rattle.std.proofs.Common.{◌≡◌, ℕ, zero, suc, ◌+◌, ◌*◌, ◌^◌, ◌<◌, ◌≤◌, ◌==◌, ◌⊎◌, inl, inr, min, Bool, true, false, List, [], ◌∷◌, ◌++◌, refl, sym, ap, subst, arith}
 use Rattle.std.specs.Prelude.{Contains}
+use Rattle.std.proofs.lemmas.Bool.{false≢true}
 use Rattle.std.proofs.Math.Nat.{eq-or-lt_of_le}
 use Rattle.std.proofs.lemmas.Nat.{mul-le}
 use Rattle.std.proofs.lemmas.List.Elements.{Contains-append_left, Contains-append_right, Contains-push}
@@ -16,14 +17,59 @@ use Rattle.arm2_effect.specs.Effects.{Access, FetchN, FetchS, Internal, Word, st
 use Rattle.arm2_effect.specs.ProgramCounter.{branch_target}
 use Rattle.arm2_transfer.proofs.Ticks.{end_of_load-jumps, end_of_load-passes, ticks_of-append, ticks_of-words_at}
 use Rattle.arm2_transfer.specs.Moved.{load_accesses, store_accesses, words_at}
-use Rattle.control_flow.specs.Edges.{fetch_ticks, passing_ticks, work_ticks}
-use Rattle.control_flow.specs.Kinds.{writer_if}
+use Rattle.arm2_decode.specs.Transfers.{word_count}
+use Rattle.arm2_decode.specs.declared.instr.Operation.{Operation}
+use Rattle.arm2_decode.specs.declared.instr.Operation.TheVariants as operation
+use Rattle.control_flow.specs.Edges.{fetch_ticks, passing_ticks, stated_work, work_ticks}
+use Rattle.control_flow.specs.Kinds.{is_multiply, transfer_work, work_of, writer_if}
+use Rattle.statement.specs.Stated.{Stated, cycles_at}
 use Rattle.flow_graph.specs.StepLaw.{TransfersIn}
 use Rattle.control_flow.specs.declared.actions.Kind.{Kind}
 use Rattle.control_flow.specs.declared.actions.Kind.TheVariants as kind
 use Rattle.control_flow.specs.declared.actions.Work.{Work}
 use Rattle.control_flow.specs.declared.actions.Work.TheVariants as work
 use Rattle.control_flow.proofs.SortedLemmas.{there}
+
+-- ## What is stated
+
+-- at least one cycle, and at most those that a multiply can take
+pub some_stated : (st : Stated) (a : ℕ) → 1 ≤ cycles_at st a
+some_stated st a = omega arith
+
+pub few_stated : (st : Stated) (a : ℕ) → cycles_at st a ≤ 16
+few_stated st a = omega arith
+
+-- what is stated of multiplies changes no other work
+stated_internal : (st : Stated) (a n : ℕ) → n ≤ 1 → stated_work st a (work.Internal n) ≡ work.Internal n
+stated_internal st a n few =
+    let some = some_stated st a in
+    let same : min n (cycles_at st a) ≡ n = omega (arith, few, some) in
+    ap (λ (k : ℕ). work.Internal k) same
+
+stated_transfer : (st : Stated) (a : ℕ) (load : Bool) (words : ℕ) → stated_work st a (transfer_work load words) ≡ transfer_work load words
+stated_transfer st a true words = refl
+stated_transfer st a false words = refl
+
+pub stated_other : (st : Stated) (a : ℕ) (o : Operation) → is_multiply o ≡ false → stated_work st a (work_of o) ≡ work_of o
+stated_other st a (operation.Multiply x) other = absurd (false≢true (sym other))
+stated_other st a (operation.DataRegister x) other = stated_internal st a 0 (omega arith)
+stated_other st a (operation.DataRegisterShift x) other = stated_internal st a 1 (omega arith)
+stated_other st a (operation.DataImmediate x) other = stated_internal st a 0 (omega arith)
+stated_other st a (operation.SingleImmediate x) other = stated_transfer st a x.load 1
+stated_other st a (operation.SingleRegister x) other = stated_transfer st a x.load 1
+stated_other st a (operation.Block x) other = stated_transfer st a x.load (word_count x.list)
+stated_other st a (operation.Branch x) other = stated_internal st a 0 (omega arith)
+stated_other st a (operation.Swi x) other = stated_internal st a 0 (omega arith)
+stated_other st a (operation.UndefinedTransfer x) other = stated_internal st a 0 (omega arith)
+stated_other st a (operation.CoprocessorTransfer x) other = stated_internal st a 0 (omega arith)
+stated_other st a (operation.Coprocessor x) other = stated_internal st a 0 (omega arith)
+
+pub fetch_stated : (p : Profile) (st : Stated) (a : ℕ) (w : Work) → fetch_ticks p a (stated_work st a w) ≡ fetch_ticks p a w
+fetch_stated p st a (work.Internal n) = refl
+fetch_stated p st a (work.Load words) = refl
+fetch_stated p st a (work.Store words) = refl
+
+-- ## Transfers
 
 -- the first words of a transfer are among its accesses
 pub words_there : (store : Bool) (address k i : ℕ) → i < k → Contains (words_at store address k) (Word store (i == 0) (word_address address i))

@@ -14,6 +14,7 @@ use Rattle.bus_ticks.specs.Ranges.{greatest}
 use Rattle.bus_ticks.specs.Worst.{IsDevice, IsOf, IsSpeed, worst_leave, worst_rom}
 use Rattle.bus_ticks.proofs.LeaveLemmas.{any_of, fast_first, io_far, io_near, medium_first, ram_far, ram_near, rom_far, rom_near, slow_first, synchronous_far, synchronous_near}
 use Rattle.bus_ticks.proofs.WorstLemmas.{any_block, at_page, io_block, ram_block_at, speed_block}
+use Rattle.shifter.proofs.ShiftLemmas.{some_multiplier}
 use Rattle.arm2_decode.proofs.Listed.{few_words, some_words}
 use Rattle.arm2_decode.specs.Names.{is_pc}
 use Rattle.arm2_decode.specs.Transfers.{is_listed, word_count}
@@ -172,12 +173,12 @@ pub record Chosen (aim : Aim) (o : Operation) : Type 0 where
   pub sets : Sets aim o setting
   pub small : IsSmall setting
 
-module _ (aim : Aim) (spare : aim.spare < 128) (small : aim.target < 2 ^ 26) where
+module _ (aim : Aim) (spare : aim.spare < 128) (small : aim.target < 2 ^ 26) (some : 1 ≤ aim.cycles) (few : aim.cycles ≤ 16) where
   -- nothing is set
   nothing : (o : Operation) → ((st : Stated) (to : Place) (s : State) (i : Input) → IsSetFor st aim.profile aim.address to s i o) → Chosen aim o
   nothing o always = record {
     setting = record { register = None; port = 0; word = None };
-    sets = record { register_other = tt; word_apart = tt; set = λ st to s i class_is target has. always st to s i };
+    sets = record { register_other = tt; word_apart = tt; set = λ st to s i class_is cycles_are target has. always st to s i };
     small = nothing_small;
   }
 
@@ -240,11 +241,13 @@ module _ (aim : Aim) (spare : aim.spare < 128) (small : aim.target < 2 ^ 26) whe
       }
 
   pub choose : (o : Operation) → IsTrue (is_free_operation o) → Chosen aim o
-  choose (operation.Multiply x) free = record {
-    setting = of_register (record { register = x.rs; word = 0xFFFFFFFF });
-    sets = multiply_sets aim x;
-    small = register_small (record { register = x.rs; word = 0xFFFFFFFF }) (omega arith);
-  }
+  choose (operation.Multiply x) free =
+      let number = some_multiplier aim.cycles some few in
+      record {
+        setting = of_register (record { register = x.rs; word = number.0 });
+        sets = multiply_sets aim x number.0 number.2;
+        small = register_small (record { register = x.rs; word = number.0 }) number.1;
+      }
   choose (operation.DataRegister x) free = copied x free (data_writes_pc x.opcode x.rd) refl
   choose (operation.DataRegisterShift x) free = nothing (operation.DataRegisterShift x) (λ st to s i. not-true (data_writes_pc x.opcode x.rd) free)
   choose (operation.DataImmediate x) free = summed x free (data_writes_pc x.opcode x.rd) refl

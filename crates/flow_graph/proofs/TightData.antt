@@ -1,5 +1,5 @@
 -- Data processing, multiplies and branches, where they cost the most.
-use Rattle.std.proofs.Common.{◌≡◌, ℕ, ◌+◌, ◌*◌, ◌&&◌, not, Bool, true, false, cond, refl, sym, subst}
+use Rattle.std.proofs.Common.{◌≡◌, ℕ, ◌+◌, ◌*◌, ◌≤◌, ◌&&◌, not, min, Bool, true, false, cond, refl, sym, subst, arith}
 use Rattle.std.proofs.lemmas.Bool.{false≢true}
 use Rattle.bus_ticks.specs.declared.profile.Class.{Class}
 use Rattle.bus_ticks.specs.declared.profile.Profile.{Profile}
@@ -13,6 +13,7 @@ use Rattle.arm2_decode.specs.declared.instr.Multiply.{Multiply}
 use Rattle.arm2_decode.specs.declared.names.Opcode.{Opcode}
 use Rattle.arm2_decode.specs.declared.names.Register.{Register}
 use Rattle.shifter.specs.Shifts.{multiply_cycles}
+use Rattle.shifter.proofs.ShiftLemmas.{most_cycles}
 use Rattle.arm2_effect.specs.declared.step_end.Kind.TheVariants as ended
 use Rattle.arm2_effect.specs.Effects.{Effect, onward, skipped, straight}
 use Rattle.arm2_effect.specs.Modes.{r15_in, register_in}
@@ -53,7 +54,7 @@ module _ (c : Setting) where
         plain = plain;
         pays =
             subst (λ xs. PaysFrom c kind.Plain (work.Internal 0) xs to) (sym accesses)
-            (straight_pays c.profile c.rom c.class (start c) c.dear to);
+            (straight_pays c.profile c.rom c.class c.limit (start c) c.dear c.some to);
         lands = λ w. absurd (false≢true w);
       }
 
@@ -69,7 +70,7 @@ module _ (c : Setting) where
     pays =
         subst (λ xs. PaysFrom c k (work.Internal 0) xs (address_of (r15_in e.regs))) (sym accesses)
         (subst (PaysFrom c k (work.Internal 0) (onward (start c) t)) (sym there)
-        (onward_pays c.profile c.rom c.class (start c) c.dear k t price));
+        (onward_pays c.profile c.rom c.class c.limit (start c) c.dear c.some k t price));
     lands = λ w. subst (IsDearestTarget c.st c.profile c.to) (sym there) (target w);
   }
 
@@ -96,7 +97,7 @@ module _ (c : Setting) where
   jumped_pays sets_flags o x y f target =
       let out = outcome_of o x y f in
       jumps kind.Writer (address_of out.value) (jumped sets_flags out c.regs) refl refl
-      (jumped_goes c.profile c.rom c.class c.regs c.long sets_flags out)
+      (jumped_goes c.st c.profile c.rom c.class c.regs c.long sets_flags out)
       refl (λ w. target)
 
   placed_by : (compares to_pc : Bool) (T : Type 0) (x j e : Effect)
@@ -120,19 +121,23 @@ module _ (c : Setting) where
       placed_by (is_compare o) (is_pc rd) (IsTarget c out.value) _ _ _
       (compared_pays rd out) (jumped_pays sets_flags o x y f) (entered_pays sets_flags rd out) target
 
-  pub delayed_moves : (cycles most : ℕ) (k : Kind) (e : Effect) → cycles ≡ most
+  pub delayed_moves : (cycles most : ℕ) (k : Kind) (e : Effect) → cycles ≡ most → cycles ≤ c.limit
       → EffectPays c k (work.Internal 0) e → EffectPays c k (work.Internal most) (delayed cycles e)
-  delayed_moves cycles most k e all h = record {
+  delayed_moves cycles most k e all few h = record {
     plain = h.plain;
-    pays = delayed_pays c.profile c.rom c.class (start c) c.dear cycles most k e.accesses _ all h.pays;
+    pays = delayed_pays c.profile c.rom c.class c.limit (start c) c.dear c.some cycles most k e.accesses _ all few h.pays;
     lands = h.lands;
   }
 
-  pub multiply_pays : (x : Multiply) → multiply_cycles (register_in (mode c) (register_number x.rs) c.regs) ≡ 16
-      → EffectPays c kind.Plain (work.Internal 16) (multiply_effect x c.regs)
+  pub multiply_pays : (x : Multiply)
+      → multiply_cycles (register_in (mode c) (register_number x.rs) c.regs) ≡ c.limit
+      → EffectPays c kind.Plain (work.Internal (min 16 c.limit)) (multiply_effect x c.regs)
   unfolding multiply_effect
   multiply_pays x all =
-      delayed_moves _ 16 kind.Plain (entered x.sets_flags x.rd (product_of x c.regs) c.regs) all
+      let number : ℕ = register_in (mode c) (register_number x.rs) c.regs in
+      delayed_moves (multiply_cycles number) (min 16 c.limit) kind.Plain
+      (entered x.sets_flags x.rd (product_of x c.regs) c.regs)
+      (omega (arith, all, most_cycles number)) (omega (arith, all))
       (entered_pays x.sets_flags x.rd (product_of x c.regs))
 
   -- ## Branches
@@ -143,6 +148,6 @@ module _ (c : Setting) where
   branch_pays x =
       let t : ℕ = ahead_of (start c) (8 + 4 * x.offset) in
       jumps (branch_kind x.link x.offset) t (branch_effect x c.regs) refl refl
-      (branch_lands c.profile c.rom c.class c.regs c.long x)
+      (branch_lands c.st c.profile c.rom c.class c.regs c.long x)
       (branch_jumps c.profile c.rom c.class (start c) x.link x.offset t)
       (λ w. absurd (no_writer x.link x.offset w))

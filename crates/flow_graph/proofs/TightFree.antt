@@ -1,5 +1,5 @@
 -- Each free edge of a flow graph has a machine whose one step takes it at exactly its price.
-use Rattle.std.proofs.Common.{◌≡◌, ℕ, ◌^◌, ◌<◌, ◌⊎◌, inl, inr, Option, Some, None, List, [], ◌∷◌, replicate, refl, ap, arith}
+use Rattle.std.proofs.Common.{◌≡◌, ℕ, ◌^◌, ◌<◌, ◌≤◌, ◌⊎◌, inl, inr, Option, Some, None, List, [], ◌∷◌, replicate, refl, ap, arith}
 use Rattle.std.specs.Prelude.{All, IfSome, is_some}
 use Rattle.std.specs.Option.{option_to_list}
 use Rattle.std.proofs.lemmas.List.Elements.{All-from_recursion, All-replicate, All-set}
@@ -34,8 +34,9 @@ use Rattle.flow_graph.specs.declared.tight_setting.Held.{Held}
 use Rattle.flow_graph.specs.declared.tight_setting.Setting.{Setting}
 use Rattle.flow_graph.specs.declared.tight.SetUp.{SetUp}
 use Rattle.flow_graph.specs.declared.tight.Tight.{Tight}
-use Rattle.statement.specs.Stated.{Stated, class_at}
+use Rattle.statement.specs.Stated.{Stated, class_at, cycles_at}
 use Rattle.control_flow.proofs.FlowLemmas.{has_edge_is_edge}
+use Rattle.flow_graph.proofs.StepTicks.{few_stated, some_stated}
 use Rattle.flow_graph.proofs.TightChoice.{IsSmall, choose, dearest_leave, nothing_small}
 use Rattle.flow_graph.proofs.TightMade.{edge_lands, in_range, is_set, is_tight_file, length_with, none_twice, one_word, placed_takes, same_pair}
 use Rattle.flow_graph.proofs.TightPlan.{planned}
@@ -57,14 +58,14 @@ record SettingOf (aim : Aim) (word : ℕ) (label : Label) : Type 0 where
   is : IsSettingOf aim word label setting
   small : IsSmall setting
 
-setting_of : (aim : Aim) (word : ℕ) (label : Label) → aim.spare < 128 → aim.target < 2 ^ 26 → (label ≡ Skip) ⊎ IsFreeWord word → SettingOf aim word label
-setting_of aim word label spare small (inl skip) = record {
+setting_of : (aim : Aim) (word : ℕ) (label : Label) → aim.spare < 128 → aim.target < 2 ^ 26 → 1 ≤ aim.cycles → aim.cycles ≤ 16 → (label ≡ Skip) ⊎ IsFreeWord word → SettingOf aim word label
+setting_of aim word label spare small some few (inl skip) = record {
   setting = record { register = None; port = 0; word = None };
   is = record { register_other = tt; word_apart = tt; skipped_or_set = inl skip };
   small = nothing_small;
 }
-setting_of aim word label spare small (inr (x, means, free)) =
-    let chosen = choose aim spare small x.operation free in
+setting_of aim word label spare small some few (inr (x, means, free)) =
+    let chosen = choose aim spare small some few x.operation free in
     record {
       setting = chosen.setting;
       is = set_by aim word label x chosen.setting means chosen.sets;
@@ -82,8 +83,18 @@ set_up_of words st profile e spare whole below is_edge lands free =
     let w = edge_word words st profile e free.calls free.address is_edge free.from in
     let f = some_flags words st profile e free.calls free.address w.has.word w.action is_edge free.from w.has.word_is w.has.is in
     let t = target words st profile whole e.to lands in
-    let aim : Aim = record { profile = profile; class = class_at st free.address; address = free.address; target = t.0; spare = spare } in
-    let s = setting_of aim w.has.word e.label below t.1.below (word_free words e free.calls free.address w.has.word free free.from w.has.word_is) in
+    let aim : Aim =
+    record {
+      profile = profile;
+      class = class_at st free.address w.action.base;
+      cycles = cycles_at st free.address;
+      address = free.address;
+      target = t.0;
+      spare = spare;
+    } in
+    let s =
+    setting_of aim w.has.word e.label below t.1.below (some_stated st free.address) (few_stated st free.address)
+    (word_free words e free.calls free.address w.has.word free free.from w.has.word_is) in
     record {
       set_up = record { address = free.address; flags = f.0; setting = s.setting };
       is = record {

@@ -51,7 +51,10 @@ use Rattle.control_flow.specs.declared.places.Place.{Place}
 use Rattle.control_flow.specs.declared.places.Place.TheVariants.{At, Exit}
 use Rattle.flow_graph.specs.declared.tight_setting.Held.{Held}
 use Rattle.flow_graph.specs.declared.tight.SetUp.{SetUp}
-use Rattle.statement.specs.Stated.{Stated}
+use Rattle.statement.specs.Stated.{Stated, class_at}
+use Rattle.control_flow.specs.Kinds.{instr_action}
+use Rattle.control_flow.specs.declared.actions.Action.{Action}
+use Rattle.control_flow.proofs.EdgeLemmas.{one_action}
 use Rattle.std.proofs.lemmas.List.{get_or_read}
 use Rattle.std.specs.Cmp.Derive.{both_true}
 use Rattle.control_flow.proofs.FlowLemmas.{ends_in, part_of}
@@ -227,7 +230,10 @@ module _ (words : Words) (st : Stated) (profile : Profile) (e : Edge) (spare : �
       begins = begins;
       skipped_or_set = elim h.setting.skipped_or_set [
         | inl skip ↦ inl skip
-        | inr (x, means, sets) ↦ inr (x, means, sets.set st e.to s i refl h.leads setting)
+        | inr (x, means, sets) ↦
+            let action_is : h.action ≡ instr_action x = one_action h.word h.action (instr_action x) h.is (inl (x, means, refl)) in
+            let class_is = ap (λ (a : Action). class_at st set_up.address a.base) action_is in
+            inr (x, means, sets.set st e.to s i class_is refl h.leads setting)
       ];
     }
 

@@ -1,9 +1,8 @@
 -- How a machine is set for an edge.
-use Rattle.std.proofs.Common.{◌≡◌, ℕ, ◌⊎◌, inl, inr, Bool, true, false, cond, Some, List, [], ◌∷◌, IsTrue, refl, sym, ap, subst, ◌∙◌}
+use Rattle.std.proofs.Common.{◌≡◌, ℕ, ◌⊎◌, inl, inr, Bool, true, false, not, Option, Some, List, IsTrue, refl, sym, ap, subst, ◌∙◌}
 use Rattle.std.specs.Prelude.{Contains}
-use Rattle.std.proofs.lemmas.Bool.{false≢true}
+use Rattle.std.proofs.lemmas.Bool.{and_parts, false≢true, not-true}
 use Rattle.std.proofs.lemmas.Option.{same_Some}
-use Rattle.std.proofs.lemmas.List.Elements.{Contains-append_cases}
 use Rattle.arm2_decode.specs.Names.{is_always, is_never}
 use Rattle.bus_ticks.specs.declared.profile.Class.TheVariants.{Any}
 use Rattle.bus_ticks.specs.declared.profile.Profile.{Profile}
@@ -15,8 +14,7 @@ use Rattle.arm2_decode.specs.declared.flags.Flags.{Flags}
 use Rattle.arm2_decode.specs.declared.instr.Instr.{Instr}
 use Rattle.arm2_decode.specs.declared.names.Cond.{Cond}
 use Rattle.arm2_decode.specs.declared.names.Cond.TheVariants as condition
-use Rattle.control_flow.specs.Edges.{AreEdgesOf, HasAction, IsEdge, do_edge, do_edges, landing_edges, landings}
-use Rattle.control_flow.specs.Edges.{skip_edge, skip_edges, word_edges}
+use Rattle.control_flow.specs.Edges.{AreEdgesOf, HasAction, IsEdge, may_go, word_edges}
 use Rattle.control_flow.specs.Free.{HasFreeWord, IsFree, IsFreeWord}
 use Rattle.control_flow.specs.Kinds.{IsAction}
 use Rattle.flow_graph.specs.Setting.{Sets}
@@ -31,10 +29,10 @@ use Rattle.control_flow.specs.declared.places.Place.TheVariants.{At}
 use Rattle.flow_graph.specs.declared.tight_setting.Aim.{Aim}
 use Rattle.flow_graph.specs.declared.tight_setting.Setting.{Setting}
 use Rattle.control_flow.specs.Places.{place_address}
-use Rattle.statement.specs.Stated.{Stated}
+use Rattle.statement.specs.Stated.{Stated, taken_at}
+use Rattle.statement.specs.declared.stated.Taken.{Taken}
 use Rattle.control_flow.proofs.EdgeLemmas.{one_action}
-use Rattle.control_flow.proofs.SortedLemmas.{no_member}
-use Rattle.control_flow.proofs.LabelLemmas.{from_map, only_one}
+use Rattle.flow_graph.proofs.StepEdges.{edge_goes}
 use Rattle.flow_graph.proofs.TightTicks.{n_worst, s_worst}
 
 -- ## Targets
@@ -97,25 +95,10 @@ reached condition.Le = (λ h. (none_set, refl), λ h. (all_set, refl))
 reached condition.Al = (λ h. absurd (false≢true (sym h)), λ h. (none_set, refl))
 reached condition.Nv = (λ h. (none_set, refl), λ h. absurd (false≢true (sym h)))
 
--- what is listed where a test fails
-after_test : (b : Bool) (xs : List Edge) (e : Edge) → Contains (cond b [] xs) e → (b ≡ false) × Contains xs e
-after_test true xs e h = absurd (no_member e h)
-after_test false xs e h = (refl, h)
-
--- the edge's label comes from some flags
-label_flags : (words : Words) (st : Stated) (profile : Profile) (e : Edge) (calls : List ℕ) (address : ℕ) (a : Action) → Contains (word_edges st profile calls address a) e → Reaches e.label a.cond
-label_flags words st profile e calls address a among = by_part (Contains-append_cases (skip_edges profile calls address a) (do_edges st profile calls address a) e among)
-  where
-    by_part : Contains (skip_edges profile calls address a) e ⊎ Contains (do_edges st profile calls address a) e → Reaches e.label a.cond
-    by_part (inl skip) =
-        let test = after_test (is_always a.cond) (skip_edge profile calls address ∷ []) e skip in
-        let f = (reached a.cond).0 test.0 in
-        (f.0, f.1 ∙ ap (λ (x : Edge). x.label) (only_one (skip_edge profile calls address) e test.1))
-    by_part (inr done) =
-        let test = after_test (is_never a.cond) (landing_edges st profile calls address a) e done in
-        let f = (reached a.cond).1 test.0 in
-        let to = from_map (do_edge st profile calls address a) (landings st calls address a.kind) e test.1 in
-        (f.0, f.1 ∙ ap (λ (x : Edge). x.label) to.2)
+-- some flags take a word each way that it may go
+flags_for : (label : Label) (c : Cond) (taken : Option Taken) → may_go label c taken ≡ true → Reaches label c
+flags_for Skip c taken may = (reached c).0 (not-true (is_always c) (and_parts (not (is_always c)) _ may).0)
+flags_for Do c taken may = (reached c).1 (not-true (is_never c) (and_parts (not (is_never c)) _ may).0)
 
 pub some_flags : (words : Words) (st : Stated) (profile : Profile) (e : Edge) (calls : List ℕ) (address word : ℕ) (action : Action) → IsEdge words st profile e → e.from ≡ At calls address → word_of words address ≡ Some word → IsAction word action
     → (f : Flags) × (label_by f action.cond ≡ e.label)
@@ -123,7 +106,8 @@ some_flags words st profile e calls address word action is from has is_action =
     let w = edge_word words st profile e calls address is from in
     let same : w.has.word ≡ word = same_Some _ _ (sym w.has.word_is ∙ has) in
     let one : w.action ≡ action = one_action word w.action action (subst (λ n. IsAction n w.action) same w.has.is) is_action in
-    subst (λ (a : Action). (f : Flags) × (label_by f a.cond ≡ e.label)) one (label_flags words st profile e calls address w.action w.among)
+    subst (λ (a : Action). (f : Flags) × (label_by f a.cond ≡ e.label)) one
+    (flags_for e.label w.action.cond (taken_at st address) (edge_goes st profile calls address w.action e w.among))
 
 -- ## Settings
 

@@ -1,5 +1,5 @@
 -- What a step must do to take an edge at its price.
-use Rattle.std.proofs.Common.{◌≡◌, ℕ, ◌<◌, Bool, true, List, length}
+use Rattle.std.proofs.Common.{◌≡◌, ℕ, ◌<◌, ◌≤◌, Bool, true, List, length}
 use Rattle.bus_ticks.specs.Dearest.{AreDearest}
 use Rattle.bus_ticks.specs.declared.profile.Class.{Class}
 use Rattle.bus_ticks.specs.declared.profile.Profile.{Profile}
@@ -19,18 +19,21 @@ use Rattle.control_flow.specs.declared.places.Place.{Place}
 use Rattle.statement.specs.Stated.{Stated}
 use Rattle.flow_graph.proofs.TightTicks.{AreDear, Pays}
 
--- the prices, the class of the words and the place where the edge leads; the machine before the step
+-- the prices, the class of the words, the most cycles of a multiply and the place where the edge leads; the
+-- machine before the step
 pub record Setting : Type 0 where
   pub st : Stated
   pub profile : Profile
   pub rom : RomTimes
   pub class : Class
+  pub limit : ℕ
   pub to : Place
   pub regs : List ℕ
   pub bus : Bus
   pub port : ℕ
   pub dear : AreDearest profile rom
   pub long : 26 < length regs
+  pub some : 1 ≤ limit
 
 module _ (c : Setting) where
   abbrev pub start : ℕ
@@ -48,7 +51,7 @@ module _ (c : Setting) where
 
   -- accesses pay that start there
   abbrev pub PaysFrom : Kind → Work → List Access → ℕ → Type 0
-  PaysFrom = Pays c.profile c.rom c.class start c.dear
+  PaysFrom = Pays c.profile c.rom c.class c.limit start c.dear c.some
 
   -- what is done ends as other instructions do, and pays; where it writes R15 as its word does, the address
   -- there is such a target

@@ -78,7 +78,7 @@ module _ (c : Setting) where
     unfolding single_loads single_loaded
     single_loads_pays block target = record {
       plain = refl;
-      pays = load_pays c.profile c.rom c.class (start c) c.dear (address_for x base) 1 (is_pc x.rd) _ block;
+      pays = load_pays c.profile c.rom c.class c.limit (start c) c.dear c.some (address_for x base) 1 (is_pc x.rd) _ block;
       lands = λ w.
           let writes = writer_decides (is_pc x.rd) w in
           let based = long_after (writes_base x.before x.write_back) x.rn (moved_by x.up base x.offset) in
@@ -92,7 +92,7 @@ module _ (c : Setting) where
     unfolding single_stores
     single_stores_pays block = record {
       plain = refl;
-      pays = store_pays c.profile c.rom c.class (start c) c.dear (address_for x base) 1 _ block;
+      pays = store_pays c.profile c.rom c.class c.limit (start c) c.dear c.some (address_for x base) 1 _ block;
       lands = λ w. absurd (false≢true w);
     }
 
@@ -160,7 +160,7 @@ module _ (c : Setting) where
     block_loads_pays block target = record {
       plain = refl;
       pays =
-          load_pays c.profile c.rom c.class (start c) c.dear span.lowest span.words (is_listed x.list R15) _
+          load_pays c.profile c.rom c.class c.limit (start c) c.dear c.some span.lowest span.words (is_listed x.list R15) _
           block;
       lands = λ w.
           let listed = writer_decides (is_listed x.list R15) w in
@@ -173,7 +173,7 @@ module _ (c : Setting) where
     unfolding block_stores
     block_stores_pays block = record {
       plain = refl;
-      pays = store_pays c.profile c.rom c.class (start c) c.dear span.lowest span.words _ block;
+      pays = store_pays c.profile c.rom c.class c.limit (start c) c.dear c.some span.lowest span.words _ block;
       lands = λ w. absurd (false≢true w);
     }
 

@@ -30,12 +30,13 @@ use Rattle.arm2_exec.specs.State.{State}
 use Rattle.arm2_exec.specs.declared.machine.Input.{Input}
 use Rattle.image.specs.Pages.{page_of}
 use Rattle.loader.specs.PagePlan.{physical_page}
+use Rattle.control_flow.specs.Kinds.{base_of}
 use Rattle.flow_graph.specs.TightWork.{IsDearestTarget, IsSetFor}
 use Rattle.control_flow.specs.declared.places.Place.{Place}
 use Rattle.flow_graph.specs.declared.tight_setting.Aim.{Aim}
 use Rattle.flow_graph.specs.declared.tight_setting.Held.{Held}
 use Rattle.flow_graph.specs.declared.tight_setting.Setting.{Setting}
-use Rattle.statement.specs.Stated.{Stated, class_at}
+use Rattle.statement.specs.Stated.{Stated, class_at, cycles_at}
 
 -- ## Where a transfer's words are
 
@@ -50,7 +51,8 @@ abbrev pub IsPort : Spot → Type 0
 IsPort (spot.Io address) = is_register address ≡ false
 IsPort _ = ⊥
 
--- where a load finds the words of a class: of Ram and Rom in memory; of all others, Any too, among the devices
+-- where a load finds the words of a class: of Ram and Rom in memory; of all others, Any too, among the
+-- devices
 abbrev pub IsSource : Class → Spot → Type 0
 IsSource Ram place = IsMemory place
 IsSource Rom place = IsMemory place
@@ -127,10 +129,11 @@ pub record HasSetting (profile : Profile) (setting : Setting) (s : State) (i : I
   pub word : IfSome setting.word
       (λ e. (place : Spot) → located s.bus.memc e.0 false false ≡ Ok place → word_at s.bus.memc place ≡ e.1)
 
--- such a machine is set for the operation
+-- such a machine is set for the operation, whatever is stated of which the aim has the class and the cycles
 pub record Sets (aim : Aim) (o : Operation) (setting : Setting) : Type 0 where
   pub register_other : IfSome setting.register (λ held. is_pc held.register ≡ false)
   pub word_apart : IfSome setting.word (λ e. IsData aim.spare aim.address e.0)
-  pub set : (st : Stated) (to : Place) (s : State) (i : Input) → aim.class ≡ class_at st aim.address
+  pub set : (st : Stated) (to : Place) (s : State) (i : Input)
+      → aim.class ≡ class_at st aim.address (base_of o) → aim.cycles ≡ cycles_at st aim.address
       → IsDearestTarget st aim.profile to aim.target → HasSetting aim.profile setting s i
       → IsSetFor st aim.profile aim.address to s i o

@@ -10,7 +10,7 @@ use Rattle.walks.specs.Walk.{cost_of}
 use Rattle.arm2_decode.specs.Conditions.{condition_holds}
 use Rattle.arm2_decode.specs.declared.flags.Flags.{Flags}
 use Rattle.arm2_decode.specs.declared.names.Cond.{Cond}
-use Rattle.arm2_effect.specs.Effects.{Access, Word}
+use Rattle.arm2_effect.specs.Effects.{Access, Internal, Word}
 use Rattle.arm2_effect.specs.Modes.{r15_in}
 use Rattle.arm2_effect.specs.ProgramCounter.{flags_of}
 use Rattle.arm2_effect.specs.declared.step_end.Kind.TheVariants as ended
@@ -20,7 +20,7 @@ use Rattle.arm2_exec.specs.Step.{Step, address_in, fetched}
 use Rattle.arm2_exec.specs.declared.machine.Input.{Input}
 use Rattle.arm2_exec.specs.declared.machine.Ran.{Ran}
 use Rattle.arm2_exec.specs.declared.machine.Stepped.{Stepped}
-use Rattle.control_flow.specs.Edges.{HasAction, IsEdge}
+use Rattle.control_flow.specs.Edges.{HasAction, IsEdge, may_go}
 use Rattle.control_flow.specs.Flow.{edge_shape}
 use Rattle.control_flow.specs.Graph.{IsBuildFault, IsReached}
 use Rattle.control_flow.specs.Kinds.{is_writer}
@@ -32,7 +32,7 @@ use Rattle.control_flow.specs.declared.faults.BuildFault.TheVariants as fault
 use Rattle.control_flow.specs.declared.actions.Action.{Action}
 use Rattle.control_flow.specs.declared.places.Place.{Place}
 use Rattle.control_flow.specs.declared.places.Place.TheVariants.{At, Exit}
-use Rattle.statement.specs.Stated.{Stated, class_at}
+use Rattle.statement.specs.Stated.{Stated, class_at, cycles_at, taken_at}
 
 -- whether the condition holds by the flags in R15
 abbrev pub holds_in : List ℕ → Cond → Bool
@@ -56,14 +56,19 @@ abbrev pub TransfersIn : Class → List Access → Type 0
 TransfersIn class accesses =
     (store first : Bool) (address : ℕ) → Contains accesses (Word store first address) → IsOf class address
 
+-- each number of internal cycles is at most this; only a multiply has more than 1
+abbrev pub TakesWithin : ℕ → List Access → Type 0
+TakesWithin most accesses = (cycles : ℕ) → Contains accesses (Internal cycles) → cycles ≤ most
+
 module _ (words : Words) (st : Stated) (profile : Profile) where
   -- no refusal of the graph applies, but that memory may run out
   abbrev pub IsAccepted : Type 0
   IsAccepted = (f : BuildFault) → f ≢ fault.Memory → IsBuildFault words st profile f → ⊥
 
-  -- A step that executes the image's word at its address: it takes no exception and does not stop, and its
-  -- words are of the class stated for the address. The machine has 27 registers, and the prices are those of
-  -- the profile.
+  -- A step that executes the image's word at its address as stated: it takes no exception and does not
+  -- stop; its words are of the class stated for the address and the base, a multiply takes at most the stated
+  -- cycles, and a word with a condition goes the stated way. The machine has 27 registers, and the prices are
+  -- those of the profile.
   pub record Executes (action : Action) (s : State) (i : Input) (stepped : Stepped)
       (after : State) : Type 0 where
     pub registers : length s.regs ≡ 27
@@ -72,7 +77,9 @@ module _ (words : Words) (st : Stated) (profile : Profile) where
     pub fetches : fetched s.bus.memc (r15_in s.regs) ≡ word_of words (address_in s.regs)
     pub step : Step s i stepped after
     pub plain : stepped.kind ≡ ended.Plain
-    pub transfers : TransfersIn (class_at st (address_in s.regs)) step.moved.accesses
+    pub transfers : TransfersIn (class_at st (address_in s.regs) action.base) step.moved.accesses
+    pub cycles : TakesWithin (cycles_at st (address_in s.regs)) step.moved.accesses
+    pub way : may_go (label_in s.regs action.cond) action.cond (taken_at st (address_in s.regs)) ≡ true
 
   -- the edge leaves the place of the step by the step's label, and ends where the step goes
   pub record IsTaken (calls : List ℕ) (action : Action) (s : State) (stepped : Stepped)

@@ -12,8 +12,8 @@ use Rattle.flow_graph.specs.StepLaw.{IsEdgeOf}
 use Rattle.control_flow.specs.declared.edges.Edge.{Edge}
 use Rattle.statement.specs.Stated.{Stated}
 
--- In a privileged mode, the one step executes the image's word at the edge's place, moves only words of the
--- classes stated for it, has the edge's label, leads to its target, and costs what the edge does.
+-- In a privileged mode, the one step executes the image's word at the edge's place as it is stated, has the
+-- edge's label, leads to its target, and costs what the edge does.
 pub record IsTight (words : Words) (st : Stated) (profile : Profile) (e : Edge) (s : State)
     (i : Input) : Type 0 where
   pub privileged : is_user (mode_of (r15_in s.regs)) ≡ false

@@ -47,7 +47,7 @@ use Rattle.flow_graph.specs.declared.tight_setting.Held.{Held}
 use Rattle.flow_graph.specs.declared.tight_setting.Setting.{Setting}
 use Rattle.flow_graph.specs.declared.tight.SetUp.{SetUp}
 use Rattle.flow_graph.specs.declared.tight.Tight.{Tight}
-use Rattle.statement.specs.Stated.{Stated, class_at}
+use Rattle.statement.specs.Stated.{Stated, class_at, cycles_at}
 
 -- ## What a word needs
 
@@ -78,7 +78,8 @@ module _ (words : Words) (st : Stated) (profile : Profile) (e : Edge) where
     pub setting : IsSettingOf
         (record {
           profile = profile;
-          class = class_at st set_up.address;
+          class = class_at st set_up.address action.base;
+          cycles = cycles_at st set_up.address;
           address = set_up.address;
           target = target;
           spare = spare;

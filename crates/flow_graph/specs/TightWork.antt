@@ -12,7 +12,6 @@ use Rattle.bus_ticks.specs.Worst.{leave_price}
 use Rattle.image.specs.Image.{Words, word_of}
 use Rattle.memc.specs.Memory.{Memory, located}
 use Rattle.memc.specs.declared.spots.Spot.{Spot}
-use Rattle.shifter.specs.declared.shifts.TheConstants.{MOST_MULTIPLY_CYCLES}
 use Rattle.arm2_decode.specs.Names.{is_pc, register_number}
 use Rattle.arm2_decode.specs.Table.{Means}
 use Rattle.arm2_decode.specs.Transfers.{asks_for_user, is_listed, word_count}
@@ -21,6 +20,7 @@ use Rattle.arm2_decode.specs.declared.flags.Flags.{Flags}
 use Rattle.arm2_decode.specs.declared.instr.Instr.{Instr}
 use Rattle.arm2_decode.specs.declared.instr.Operation.{Operation}
 use Rattle.arm2_decode.specs.declared.instr.Operation.TheVariants as operation
+use Rattle.arm2_decode.specs.declared.names.Register.{Register}
 use Rattle.arm2_decode.specs.declared.names.Register.TheVariants.{R15}
 use Rattle.shifter.specs.Shifts.{multiply_cycles}
 use Rattle.arm2_effect.specs.declared.modes.Mode.TheVariants.{Svc}
@@ -43,7 +43,7 @@ use Rattle.control_flow.specs.declared.edges.Label.TheVariants.{Skip}
 use Rattle.control_flow.specs.declared.actions.Action.{Action}
 use Rattle.control_flow.specs.declared.places.Place.{Place}
 use Rattle.control_flow.specs.declared.places.Place.TheVariants.{At}
-use Rattle.statement.specs.Stated.{Stated, class_at}
+use Rattle.statement.specs.Stated.{Stated, class_at, cycles_at}
 
 -- F and I set, the lowest two bits of the PSR
 abbrev pub masked : ℕ
@@ -79,10 +79,11 @@ pub record IsDearestTransfer (profile : Profile) (class : Class) (store : Bool) 
 
 -- of the word at an address and the place to which its edge leads
 module _ (st : Stated) (profile : Profile) (address : ℕ) (to : Place) (s : State) (i : Input) where
-  -- its words are such, and where it loads R15, the last of them holds a target
-  pub record TransfersDearest (load loads_pc : Bool) (words lowest : ℕ) : Type 0 where
+  -- its words are such by its base, and where it loads R15, the last of them holds a target
+  pub record TransfersDearest (base : Register) (load loads_pc : Bool) (words lowest : ℕ) : Type 0 where
     pub spot : ℕ → Spot
-    pub transfer : IsDearestTransfer profile (class_at st address) (not load) words s.bus.memc spot lowest
+    pub transfer : IsDearestTransfer profile (class_at st address (Some base)) (not load) words s.bus.memc
+        spot lowest
     pub target : IsTrue (load && loads_pc)
         → IsDearestTarget st profile to
         (address_of (seen (with_lines i.lines.0 s.bus) i.port (spot (words - 1))))
@@ -91,10 +92,11 @@ module _ (st : Stated) (profile : Profile) (address : ℕ) (to : Place) (s : Sta
   abbrev pub WritesTarget : Bool → (value : ℕ) → Type 0
   WritesTarget writes value = IsTrue writes → IsDearestTarget st profile to (address_of value)
 
-  -- the registers and memory are such that the operation costs the most, and leads to the place
+  -- the registers and memory are such that the operation costs the most that it can by what is stated, and
+  -- leads to the place
   abbrev pub IsSetFor : Operation → Type 0
   IsSetFor (operation.Multiply x) =
-      multiply_cycles (register_in Svc (register_number x.rs) s.regs) ≡ MOST_MULTIPLY_CYCLES
+      multiply_cycles (register_in Svc (register_number x.rs) s.regs) ≡ cycles_at st address
   IsSetFor (operation.DataRegister x) =
       WritesTarget (data_writes_pc x.opcode x.rd)
       (outcome_of x.opcode (first_of 8 x.rn s.regs) (shifted_by_amount x.shift x.amount x.rm s.regs)
@@ -106,11 +108,11 @@ module _ (st : Stated) (profile : Profile) (address : ℕ) (to : Place) (s : Sta
       (flags_of (r15_in s.regs))).value
   IsSetFor (operation.SingleImmediate x) =
       (is_pc x.rn ≡ false) × (asks_for_user x.before x.write_back ≡ false)
-      × TransfersDearest x.load (is_pc x.rd) 1
+      × TransfersDearest x.rn x.load (is_pc x.rd) 1
       (address_for (of_immediate x) (register_in Svc (register_number x.rn) s.regs))
   IsSetFor (operation.SingleRegister x) = ⊥
   IsSetFor (operation.Block x) =
-      TransfersDearest x.load (is_listed x.list R15) (word_count x.list)
+      TransfersDearest x.rn x.load (is_listed x.list R15) (word_count x.list)
       (lowest_of x (register_in Svc (register_number x.rn) s.regs) (word_count x.list))
   IsSetFor (operation.Branch x) = Unit {0}
   IsSetFor (operation.Swi x) = Unit {0}

@@ -17,14 +17,14 @@ pub fn run_law()
 
 /// A machine that is set for an edge takes it at exactly its price, in ticks: it is at the word in SVC
 /// mode, with both interrupts masked and ROM's time fields at their dearest, and where the word is done, its
-/// registers and memory are such that the word costs the most, and leads to the edge's target. The call does
-/// nothing.
+/// registers and memory are such that the word costs the most that it can by what is stated, and leads to the
+/// edge's target. The call does nothing.
 pub fn tight_law()
     ensures { TightLaw }
 {}
 
-/// Each free edge ([`is_free`](control_flow::is_free)) of the flow graph of an image has a machine and an input whose
-/// one step takes it at exactly its price, in ticks, and a machine file that states them, such as
+/// Each free edge ([`is_free`](control_flow::is_free)) of the flow graph of an image has a machine and an
+/// input whose one step takes it at exactly its price, in ticks, and a machine file that states them, such as
 /// [`tight_state`](crate::tight_state) returns where memory is found. The machine is set for the edge as
 /// [`tight_law`] asks. The call does nothing.
 pub fn free_edges_are_tight()

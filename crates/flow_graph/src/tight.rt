@@ -1,11 +1,12 @@
 //! A machine whose one step takes an edge at exactly its price.
 
-ghost use Rattle.std.specs.Prelude.{◌≡◌, ◌⊎◌, ◌<◌, Err, IfErr, IfOk, IfSome, IsNone, OnOk, All};
+ghost use Rattle.std.specs.Prelude.{◌≡◌, ◌⊎◌, ◌<◌, ◌≤◌, Err, IfErr, IfOk, IfSome, IsNone, OnOk, All};
 ghost use Rattle.std.specs.Prelude.{Some, [], ◌∷◌, ◌↔◌, false, length, map, slice_index_or};
 ghost use Rattle.std.specs.Option.{option_to_list};
 ghost use Rattle.bus_ticks.specs.declared.space.TheConstants.{SPACE_END};
 ghost use Rattle.loader.specs.Loading.{lacks_page, put_words};
 ghost use Rattle.memc.specs.declared.pages.TheConstants.{PHYSICAL_PAGES};
+ghost use Rattle.shifter.specs.declared.shifts.TheConstants.{MOST_MULTIPLY_CYCLES};
 ghost use Rattle.control_flow.specs.Graph.{IsFlowGraph};
 ghost use Rattle.control_flow.specs.declared.edges.Edge.{Edge};
 ghost use Rattle.arm2_decode.specs.Names.{is_pc};
@@ -94,6 +95,8 @@ fn target(inputs: &GraphInputs, to: &Place) -> Option<u32>
 fn setting_at(aim: &Aim, word: u32, label: Label) -> Setting
     requires free { (label ≡ Label.Skip) ⊎ IsFreeWord word }
     requires spare { aim.now.spare < PHYSICAL_PAGES }
+    requires some { 1 ≤ aim.now.cycles }
+    requires few { aim.now.cycles ≤ MOST_MULTIPLY_CYCLES }
     ensures { IsSettingOf aim.now word label result }
 {
     match (label, decode(word)) {
@@ -121,10 +124,12 @@ fn set_up_for(inputs: &GraphInputs, edge: &Edge, spare: u32) -> Option<SetUp>
         return None;
     };
     let word = inputs.image.word_at(address)?;
-    let flags = flags_for(action_of(word).cond, edge.label)?;
+    let action = action_of(word);
+    let flags = flags_for(action.cond, edge.label)?;
     let aim = Aim {
         profile: *inputs.profile,
-        class: inputs.statement.class_at(address),
+        class: inputs.statement.class_at(address, action.base),
+        cycles: inputs.statement.cycles_at(address),
         address,
         target: target(inputs, &edge.to)?,
         spare,

@@ -7,6 +7,7 @@ ghost use Rattle.arm2_effect.specs.Outcomes.{outcome_of};
 ghost use Rattle.arm2_transfer.specs.Block.{lowest_of};
 ghost use Rattle.arm2_transfer.specs.Single.{address_for, of_immediate};
 ghost use Rattle.memc.specs.declared.pages.TheConstants.{PHYSICAL_PAGES};
+ghost use Rattle.shifter.specs.declared.shifts.TheConstants.{MOST_MULTIPLY_CYCLES};
 ghost use Rattle.control_flow.specs.Free.{adds_an_immediate, is_free_operation};
 ghost use Rattle.flow_graph.specs.Setting.{MayStart, Sets, of_register, rotated, transfer_setting};
 
@@ -17,7 +18,7 @@ use bus_ticks::{
     SYNCHRONOUS_START, dearest_device, dearest_ram_start, word_address,
 };
 use image::PAGE_BYTES;
-use shifter::rotate_imm;
+use shifter::{multiplier_of, rotate_imm};
 
 // Where the words of a load from ROM are, in bytes: at ROM's end, or before that where the load itself is
 // there.
@@ -31,6 +32,8 @@ pub(crate) struct Aim {
     pub(crate) profile: Profile,
     /// The class that is stated for the words that it transfers.
     pub(crate) class: Class,
+    /// The most cycles that are stated of it if it multiplies, 1 to 16.
+    pub(crate) cycles: u32,
     /// Its address, in bytes.
     pub(crate) address: u32,
     /// Where it is to lead, in bytes.
@@ -178,16 +181,17 @@ fn addend(x: &DataImmediate, target: u32) -> u32
     }
 }
 
-/// What a machine has so that the operation costs the most that it can at its address, and leads to the
-/// target where it writes R15.
+/// What a machine has so that the operation costs the most that it can at its address by what is stated, and
+/// leads to the target where it writes R15.
 pub(crate) fn setting_for(aim: &Aim, operation: &Operation) -> Setting
     requires free { IsTrue (is_free_operation operation.now) }
     requires spare { aim.now.spare < PHYSICAL_PAGES }
+    requires some { 1 ≤ aim.now.cycles }
+    requires few { aim.now.cycles ≤ MOST_MULTIPLY_CYCLES }
     ensures { Sets aim.now operation.now result }
 {
     match operation {
-        // a number that takes the most cycles
-        Operation::Multiply(x) => of_register(x.rs, u32::MAX),
+        Operation::Multiply(x) => of_register(x.rs, multiplier_of(aim.cycles)),
         Operation::DataRegister(x) if operation.writes_pc() => of_register(x.rm, aim.target),
         Operation::DataImmediate(x) if operation.writes_pc() => {
             of_register(x.rn, addend(x, aim.target))

@@ -7,6 +7,7 @@ use Rattle.control_flow.specs.declared.places.Place.{Place}
 use Rattle.control_flow.specs.declared.places.Place.TheVariants.{At, Exit}
 use Rattle.control_flow.specs.Flow.{Flow}
 use Rattle.control_flow.specs.Places.{place_at}
+use Rattle.image.specs.Image.{Words}
 use Rattle.sources.specs.declared.read.Source.{Source}
 use Rattle.statement.specs.Stated.{Stated}
 use Rattle.text_explained.specs.Assumed.{AreDone, AreDoneReturns, IsSection}
@@ -97,8 +98,8 @@ module _ (Of Is : ℕ → Type 0) (same : (a : ℕ) → Of a ↔ Is a) where
       → IsSection source heading (AreDone Of AreNamed) text → IsSection source heading (AreDone Is AreNamed) text
   section_as source heading AreNamed text s = record { named = s.named; rows = s.rows; are_named = named_as AreNamed s.named s.are_named; are_rows = s.are_rows; text_is = s.text_is }
 
-  pub returns_as : (source : Source) (st : Stated) (flow : Flow) (text : List ℕ) → AreDoneReturns source st flow Of text → AreDoneReturns source st flow Is text
-  returns_as source st flow text r = record {
+  pub returns_as : (source : Source) (image : Words) (st : Stated) (flow : Flow) (text : List ℕ) → AreDoneReturns source image st flow Of text → AreDoneReturns source image st flow Is text
+  returns_as source image st flow text r = record {
     returns = r.returns;
     flags = r.flags;
     called = r.called;

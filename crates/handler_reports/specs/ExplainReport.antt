@@ -12,6 +12,7 @@ use Rattle.text_explained.specs.Assumed.{AreAssumptions}
 use Rattle.text_explained.specs.Bursts.{AreBurstLines}
 use Rattle.text_explained.specs.declared.bursts.Bursts.{Bursts}
 use Rattle.text_explained.specs.Idle.{AreIdleEntries}
+use Rattle.text_explained.specs.Rules.{AreRuleLines}
 use Rattle.text_explained.specs.Starts.{IsLatestStart}
 use Rattle.text_explained.specs.Table.{IsTable, all_ticks}
 use Rattle.text_explained.specs.Taken.{taken_at}
@@ -24,21 +25,23 @@ use Rattle.handlers.specs.declared.fault.ReportFault.{ReportFault}
 -- ## The explanation
 
 -- by the lines of a text, or by the words of an image: the table, then what bursts add to the bound, then
--- what is taken for granted, then the entries of the statement without effect, and then what better
--- entries would save
+-- what is taken for granted, then how many words each rule for a base register covers, then the entries of
+-- the statement without effect, and then what better entries would save
 pub record IsTextOf (source : Source) (stated : Stated) (flow : Flow) (longest : Longest)
     (latest : ℕ → Option ℕ) (price : ℕ) (bursts : Bursts) (text : List ℕ) : Type 0 where
   pub table : List ℕ
   pub burst_lines : List ℕ
   pub assumptions : List ℕ
+  pub rules : List ℕ
   pub idle : List ℕ
   pub savings : List ℕ
-  pub is_table : IsTable source stated flow (unfolded longest.walk) latest longest.bound table
+  pub is_table : IsTable source source.image stated flow (unfolded longest.walk) latest longest.bound table
   pub are_burst_lines : AreBurstLines price longest.bound bursts burst_lines
-  pub are_assumptions : AreAssumptions source stated flow assumptions
+  pub are_assumptions : AreAssumptions source source.image stated flow assumptions
+  pub are_rules : AreRuleLines source.image stated flow rules
   pub are_idle : AreIdleEntries source.image stated flow idle
-  pub are_savings : IsSavingsText source stated flow (unfolded longest.walk) savings
-  pub text_is : text ≡ table ++ (burst_lines ++ assumptions ++ idle ++ savings)
+  pub are_savings : IsSavingsText source source.image stated flow (unfolded longest.walk) savings
+  pub text_is : text ≡ table ++ (burst_lines ++ assumptions ++ rules ++ idle ++ savings)
 
 -- the ticks of all rows of the table are the bound
 abbrev pub IsTotal : Source → Flow → Longest → Type 0
@@ -50,7 +53,8 @@ IsTotal source flow longest =
 -- of an accepted source and statement: the table of a greatest walk, whose cost is the bound, as the ticks
 -- of all rows are, with when each word begins at the latest on any walk, and so in any run; what bursts add
 -- to the bound, and so to any run in which they come so often; what is taken for granted of the words that
--- are reached; the entries of the statement without effect; and what better entries would save
+-- are reached; what each rule for a base register covers; the entries of the statement without effect; and
+-- what better entries would save
 pub record IsExplanation (source statement : List ℕ) (bursts : Bursts) (profile : Profile) (bound : ℕ)
     (text : List ℕ) : Type 0 where
   pub bounded : IsBounded source statement profile

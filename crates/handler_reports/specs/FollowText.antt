@@ -7,8 +7,10 @@ use Rattle.bus_ticks.specs.declared.profile.Class.TheVariants.{Any, Ram, Rom, Io
 use Rattle.bus_ticks.specs.declared.profile.Class.TheVariants.{Slow, Medium, Fast, Synchronous}
 use Rattle.bus_ticks.specs.declared.profile.Class.{Class}
 use Rattle.asm_text.specs.Hex.{hex}
-use Rattle.statement.specs.Stated.{Stated, class_at}
+use Rattle.statement.specs.Stated.{Stated, cycles_at}
 use Rattle.statement.specs.Statement.{class_name}
+use Rattle.statement.specs.declared.stated.Taken.{Taken}
+use Rattle.statement.specs.declared.stated.Taken.TheVariants.{Always, Never}
 use Rattle.sources.specs.Lines.{line_of}
 use Rattle.sources.specs.Source.{IsSource}
 use Rattle.sources.specs.declared.read.Source.{Source}
@@ -63,12 +65,20 @@ access_text stated a =
     ++ (codes ", "
     ++ (class_name (class_shown stated a.address) ++ (codes "; " ++ (class_name stated ++ codes " is stated")))))
 
--- of a word for which this class is stated
-abbrev pub stray_text : Class → Stray → List ℕ
+-- which way the word went, where this one is stated
+abbrev pub way_text : (stated : Taken) → List ℕ
+way_text Always = codes "passed over, and stated always to be done"
+way_text Never = codes "done, and stated never to be"
+
+-- of a word for which at most so many cycles are stated
+abbrev pub stray_text : (stated : ℕ) → Stray → List ℕ
 stray_text stated stray.OtherWord = codes "fetches another word than the source's"
 stray_text stated (stray.Exception vector) = codes "exception " ++ exception_name vector
 stray_text stated (stray.Stopped why) = codes "stopped " ++ why_name why
-stray_text stated (stray.OtherClass access) = access_text stated access
+stray_text stated (stray.OtherWay taken) = way_text taken
+stray_text stated (stray.OtherClass access class) = access_text class access
+stray_text stated (stray.MoreCycles cycles) =
+    decimal cycles ++ (codes " cycles; " ++ (decimal stated ++ codes " stated"))
 stray_text stated (stray.Elsewhere to) = codes "went to " ++ (hex to ++ codes ", which is not stated")
 
 abbrev pub times_text : ℕ → List ℕ
@@ -81,7 +91,7 @@ turned_text bound =
 -- of the step at the address
 abbrev pub why_text : Stated → (at : ℕ) → Unkept → List ℕ
 why_text st at unkept.NotAtEntry = codes "not the entry, which is " ++ hex st.entry
-why_text st at (unkept.Stray stray) = stray_text (class_at st at) stray
+why_text st at (unkept.Stray stray) = stray_text (cycles_at st at) stray
 why_text st at (unkept.TurnedBack span) = turned_text span.bound
 why_text st at unkept.Unfinished = codes "the steps end inside the handler"
 
@@ -119,7 +129,7 @@ pub record AreWarnings (source : List ℕ) (words : Words) (st : Stated) (flow :
   pub read : Source
   pub is_read : IsSource source read
   pub words_are : read.image ≡ words
-  pub are_done : AreDoneReturns read st flow (IsDoneAt flow passes) text
+  pub are_done : AreDoneReturns read words st flow (IsDoneAt flow passes) text
 
 -- ## Where a run that keeps the statement goes on
 

@@ -25,7 +25,7 @@ use sources::Source;
 use std::alloc::{AllocError, Global};
 use text_explained::{
     Bursts, TimedWalk, assumed_text, burst_lines, cost_table, idle_entries,
-    latest_starts_are_of_walks, places_are_listed_once, totals_are_the_bound,
+    latest_starts_are_of_walks, places_are_listed_once, rule_lines, totals_are_the_bound,
 };
 use text_savings::savings_text;
 
@@ -84,6 +84,8 @@ fn text_of(
     let mut rest = burst_lines(alloc, walk.profile, walk.timed.longest.bound, walk.bursts)?;
     let assumptions = assumed_text(alloc, read, handler)?;
     rest.extend_from_slice(&assumptions)?;
+    let rules = rule_lines(alloc, handler)?;
+    rest.extend_from_slice(&rules)?;
     let idle = idle_entries(alloc, handler)?;
     rest.extend_from_slice(&idle)?;
     let saved = savings_text(alloc, read, handler, walk.timed.longest)?;
@@ -177,8 +179,9 @@ fn read_explanation<'a>(
 /// bound with DMA bursts, if any are given; then what is taken for granted: words that count as returns but
 /// do not look like returns, words that leave the handler of an interrupt and restore no flags, words that
 /// return by R14 after a call, or an address of the source, has overwritten it, and loads and stores of which
-/// no class is stated; then the entries of the statement without effect; and then what better entries would
-/// save. Answers whether the bound is enough: without bursts at most so many ticks as are wanted.
+/// no class is stated; then how many words each rule for a base register covers; then the entries of the
+/// statement without effect; and then what better entries would save. Answers whether the bound is enough:
+/// without bursts at most so many ticks as are wanted.
 ///
 /// # Errors
 ///

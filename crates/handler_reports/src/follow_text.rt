@@ -4,13 +4,13 @@ ghost use Rattle.std.specs.Prelude.{◌≡◌, ℕ, List, IfOk, string_bytes};
 ghost use Rattle.handler_reports.specs.FollowText.{IsLeftText, IsLineNumberAt, access_name, access_text};
 ghost use Rattle.handler_reports.specs.FollowText.{class_shown, kept_text, left_line, less_text, line_text};
 ghost use Rattle.handler_reports.specs.FollowText.{stray_text, strayed_text, times_text, turned_text};
-ghost use Rattle.handler_reports.specs.FollowText.{why_text};
+ghost use Rattle.handler_reports.specs.FollowText.{way_text, why_text};
 ghost use Rattle.sources.specs.Source.{IsSource};
 
 use bus_ticks::{Class, class_of, narrowest_class};
 use kept_runs::{Access, Stray, Unkept};
 use sources::Source;
-use statement::{Statement, class_name};
+use statement::{Statement, Taken, class_name};
 use std::alloc::{AllocError, Global};
 use text_trace::{exception_name, why_name};
 
@@ -64,15 +64,30 @@ fn access_text(alloc: Global, stated: Class, access: Access) -> Result<String, A
     format!(in alloc; "{name}{address:X}, {class}; {stated} is stated")
 }
 
-// How the step of a word strays for which this class is stated.
-fn stray_text(alloc: Global, stated: Class, stray: Stray) -> Result<String, AllocError>
+// Which way a word went of which this one is stated.
+fn way_text(stated: Taken) -> &'static str
+    ensures { result.now ≡ way_text stated }
+{
+    match stated {
+        Taken::Always => "passed over, and stated always to be done",
+        Taken::Never => "done, and stated never to be",
+    }
+}
+
+// How the step of a word strays for which at most so many cycles are stated.
+fn stray_text(alloc: Global, stated: u32, stray: Stray) -> Result<String, AllocError>
     ensures { IfOk result (λ text. string_bytes text ≡ stray_text stated stray) }
 {
     match stray {
         Stray::OtherWord => String::from_str(alloc, "fetches another word than the source's"),
         Stray::Exception(vector) => format!(in alloc; "exception {}", exception_name(vector)),
         Stray::Stopped(why) => format!(in alloc; "stopped {}", why_name(why)),
-        Stray::OtherClass(access) => access_text(alloc, stated, access),
+        Stray::OtherWay(taken) => String::from_str(alloc, way_text(taken)),
+        Stray::OtherClass {
+            access,
+            stated: class,
+        } => access_text(alloc, class, access),
+        Stray::MoreCycles(cycles) => format!(in alloc; "{cycles} cycles; {stated} stated"),
         Stray::Elsewhere(to) => format!(in alloc; "went to {to:X}, which is not stated"),
     }
 }
@@ -108,7 +123,7 @@ pub(crate) fn why_text(
             let entry = statement.entry();
             format!(in alloc; "not the entry, which is {entry:X}")
         }
-        Unkept::Stray(stray) => stray_text(alloc, statement.class_at(at), stray),
+        Unkept::Stray(stray) => stray_text(alloc, statement.cycles_at(at), stray),
         Unkept::TurnedBack(span) => turned_text(alloc, span.bound),
         Unkept::Unfinished => String::from_str(alloc, "the steps end inside the handler"),
     }

@@ -5,5 +5,6 @@ pub mod PricedLemmas
 pub mod RefusalLemmas
 pub mod ReportLemmas
 pub mod SourceLemmas
+pub mod StatementLemmas
 pub mod VisitLemmas
 pub mod AnswerLemmas

@@ -1,10 +1,11 @@
--- What a word that is done transfers, against what is read of it beforehand.
+-- What a word that is done transfers and the cycles that it takes, against what is read of it beforehand.
 use Rattle.std.proofs.Common.{◌≡◌, ℕ, zero, suc, ◌<◌, ◌≤◌, ◌==◌, ◌^◌, ◌⊎◌, inl, inr, not, nat_lt, Bool, true, false, cond, List, [], ◌∷◌, ◌++◌, length, Option, Some, None, Result, Ok, Err, refl, sym, ap, subst, ◌∙◌, arith, append_assoc}
-use Rattle.std.specs.Prelude.{All, Contains}
+use Rattle.std.specs.Prelude.{All, Contains, IfSome}
 use Rattle.std.proofs.Math.ListN.{length-set}
 use Rattle.std.proofs.Math.Nat.{eq-or-lt_of_le}
 use Rattle.std.proofs.lemmas.Bool.{ltb-true}
-use Rattle.std.proofs.lemmas.List.Elements.{All-append, All-from_recursion, Contains-append_left, Contains-append_right}
+use Rattle.std.proofs.lemmas.List.Elements.{All-append, All-contains, All-from_recursion, Contains-append_left, Contains-append_right}
+use Rattle.shifter.specs.Shifts.{multiply_cycles}
 use Rattle.bus_ticks.specs.Prices.{ahead_of, word_address}
 use Rattle.bus_ticks.specs.Worst.{IsOf}
 use Rattle.bus_ticks.specs.declared.profile.Class.{Class}
@@ -27,8 +28,9 @@ use Rattle.arm2_effect.specs.declared.step_end.Kind.TheVariants.{Plain}
 use Rattle.arm2_effect.specs.declared.step_end.Why.{Why}
 use Rattle.arm2_effect.specs.declared.step_end.Why.TheVariants as why
 use Rattle.arm2_effect.specs.Effects as effect
-use Rattle.arm2_effect.specs.Effects.{Effect, FetchN, Internal, Word, onward, skipped, stopped, straight}
+use Rattle.arm2_effect.specs.Effects.{Effect, FetchN, FetchS, Internal, Word, onward, skipped, stopped, straight}
 use Rattle.arm2_effect.specs.Exceptions.{taken}
+use Rattle.arm2_effect.specs.Operands.{current_in}
 use Rattle.arm2_effect.specs.Modes.{r15_in, register_in, slot_of, with_r15, with_register}
 use Rattle.arm2_effect.specs.Operations.{branch_effect, compared, data_immediate_effect, data_register_effect, data_register_shift_effect, delayed, entered, jumped, multiply_effect, operation_effect, outcome_effect, product_of}
 use Rattle.arm2_effect.specs.ProgramCounter.{address_of, mode_of, r15_ahead}
@@ -44,26 +46,34 @@ use Rattle.arm2_transfer.specs.Operations.{operation_moved}
 use Rattle.arm2_transfer.specs.Registers.{passed, with_base, with_loaded}
 use Rattle.arm2_transfer.specs.Single.{address_for, base_after, of_immediate, of_register, single_at, single_by, single_carried_out, single_loaded, single_loads, single_stores}
 use Rattle.arm2_exec.specs.Step.{Obeys, instruction_moved, unallocated_moved}
-use Rattle.flow_graph.specs.StepLaw.{TransfersIn, holds_in}
+use Rattle.flow_graph.specs.StepLaw.{TakesWithin, TransfersIn, holds_in}
 use Rattle.flow_graph.proofs.StepTicks.{words_there}
-use Rattle.flow_graph.proofs.TightTicks.{IsIn, load_in, straight_in, transfers_in, words_in}
+use Rattle.flow_graph.proofs.TightTicks.{IsIn, load_in, load_short, store_short, straight_in, takes_within, transfers_in, words_in}
 use Rattle.kept_runs.specs.declared.transfers.Access.{Access}
 use Rattle.kept_runs.specs.declared.transfers.Transfer.{Transfer}
 use Rattle.kept_runs.specs.Judging.{IsFirstOther}
 use Rattle.kept_runs.specs.Transfers.{HasNoOther, HasOther, block_words, words_of}
-use Rattle.kept_runs.specs.Reading.{IsReading, transfer_if}
+use Rattle.kept_runs.specs.Reading.{IsReading, cycles_if, multiplier_cycles, transfer_if}
 use Rattle.kept_runs.specs.declared.reading.Reading.{Reading}
+use Rattle.control_flow.proofs.SortedLemmas.{here}
 use Rattle.arm2_decode.proofs.Unique.{never_both, one_instr, one_unallocated}
 
 -- ## Accesses
 
+-- it fetches, and nothing else
+abbrev IsFetch : effect.Access → Type 0
+IsFetch (FetchN x) = Unit {0}
+IsFetch (FetchS x) = Unit {0}
+IsFetch (Word store first x) = ⊥
+IsFetch (Internal cycles) = ⊥
+
+straight_fetches : (a : ℕ) → All IsFetch (straight a)
+straight_fetches a = All-from_recursion IsFetch (straight a) (tt, tt)
+
+onward_fetches : (a t : ℕ) → All IsFetch (onward a t)
+onward_fetches a t = All-from_recursion IsFetch (onward a t) (tt, (tt, (tt, tt)))
+
 module _ (class : Class) where
-  onward_in : (a t : ℕ) → All (IsIn class) (onward a t)
-  onward_in a t = All-from_recursion (IsIn class) (onward a t) (tt, (tt, (tt, tt)))
-
-  delayed_in : (cycles : ℕ) (accesses : List effect.Access) → All (IsIn class) accesses → All (IsIn class) (Internal cycles ∷ accesses)
-  delayed_in cycles accesses all = All-append (IsIn class) (Internal cycles ∷ []) accesses (All-from_recursion (IsIn class) (Internal cycles ∷ []) (tt, tt)) all
-
   fetch_in : (a : ℕ) → All (IsIn class) (FetchN a ∷ [])
   fetch_in a = All-from_recursion (IsIn class) (FetchN a ∷ []) (tt, tt)
 
@@ -128,25 +138,30 @@ load_all_long psr mode r bus port (move ∷ rest) regs =
 -- ## What is done
 
 -- Where a step ends as other instructions do: its words are of the class where none of the transfer's is of
--- another; each of the transfer's that is of another is among its words, and the first is named; and there are
--- as many registers.
-pub record Moves (class : Class) (regs : List ℕ) (t : Option Transfer) (m : Moved) : Type 0 where
+-- another; each of the transfer's that is of another is among its words, and the first is named; it takes the
+-- multiplier's cycles, if any, and no more but single ones; and there are as many registers.
+pub record Moves (class : Class) (regs : List ℕ) (t : Option Transfer) (c : Option ℕ) (m : Moved) : Type 0 where
   pub in_class : m.kind ≡ Plain → HasNoOther class t → TransfersIn class m.accesses
   pub there : m.kind ≡ Plain → (access : Access) → HasOther class t access
       → (first : Bool) × Contains m.accesses (Word access.store first access.address)
   pub first_other : m.kind ≡ Plain → (access : Access) → HasOther class t access → IsFirstOther class m.accesses access
+  pub within : m.kind ≡ Plain → (most : ℕ) → 1 ≤ most → IfSome c (λ cycles. cycles ≤ most) → TakesWithin most m.accesses
+  pub takes : m.kind ≡ Plain → IfSome c (λ cycles. Contains m.accesses (Internal cycles))
   pub registers : m.kind ≡ Plain → length m.regs ≡ length regs
 
 module _ (class : Class) (regs : List ℕ) (bus : Bus) where
+  -- no multiplier
   abbrev IsMoved : Option Transfer → Moved → Type 0
-  IsMoved t m = Moves class regs t m
+  IsMoved t m = Moves class regs t None m
 
   -- no words
-  none : (e : Effect) → All (IsIn class) e.accesses → length e.regs ≡ length regs → IsMoved None (on_bus bus e)
+  none : (e : Effect) → All IsFetch e.accesses → length e.regs ≡ length regs → IsMoved None (on_bus bus e)
   none e all long = record {
-    in_class = λ plain no. transfers_in class e.accesses all;
+    in_class = λ plain no store first x at. absurd (All-contains IsFetch e.accesses (Word store first x) all at);
     there = λ plain access has. absurd has;
     first_other = λ plain access has. absurd has;
+    within = λ plain most some few cycles at. absurd (All-contains IsFetch e.accesses (Internal cycles) all at);
+    takes = λ plain. tt;
     registers = λ plain. long;
   }
 
@@ -156,6 +171,8 @@ module _ (class : Class) (regs : List ℕ) (bus : Bus) where
     in_class = λ plain no. absurd (other plain);
     there = λ plain access has. absurd (other plain);
     first_other = λ plain access has. absurd (other plain);
+    within = λ plain most some few. absurd (other plain);
+    takes = λ plain. tt;
     registers = λ plain. absurd (other plain);
   }
 
@@ -179,20 +196,20 @@ module _ (class : Class) (regs : List ℕ) (bus : Bus) where
 
   pub skipped_moves : IsMoved None (on_bus bus (skipped regs))
   unfolding skipped
-  skipped_moves = none (skipped regs) (straight_in class _) (r15_long regs _)
+  skipped_moves = none (skipped regs) (straight_fetches _) (r15_long regs _)
 
   entered_moves : (sets_flags : Bool) (rd : Register) (out : _) → IsMoved None (on_bus bus (entered sets_flags rd out regs))
   unfolding entered
   entered_moves sets_flags rd out =
-      none (entered sets_flags rd out regs) (straight_in class _) (r15_long (with_register (mode_of (r15_in regs)) (register_number rd) out.value regs) _ ∙ with_long regs (mode_of (r15_in regs)) (register_number rd) out.value)
+      none (entered sets_flags rd out regs) (straight_fetches _) (r15_long (with_register (mode_of (r15_in regs)) (register_number rd) out.value regs) _ ∙ with_long regs (mode_of (r15_in regs)) (register_number rd) out.value)
 
   jumped_moves : (sets_flags : Bool) (out : _) → IsMoved None (on_bus bus (jumped sets_flags out regs))
   unfolding jumped
-  jumped_moves sets_flags out = none (jumped sets_flags out regs) (onward_in class _ _) (r15_long regs _)
+  jumped_moves sets_flags out = none (jumped sets_flags out regs) (onward_fetches _ _) (r15_long regs _)
 
   compared_moves : (rd : Register) (out : _) → IsMoved None (on_bus bus (compared rd out regs))
   unfolding compared
-  compared_moves rd out = none (compared rd out regs) (straight_in class _) (r15_long regs _)
+  compared_moves rd out = none (compared rd out regs) (straight_fetches _) (r15_long regs _)
 
   placed_by : (compares to_pc : Bool) (c j e : Effect) → IsMoved None (on_bus bus c) → IsMoved None (on_bus bus j) → IsMoved None (on_bus bus e) → IsMoved None (on_bus bus (cond compares c (cond to_pc j e)))
   placed_by true to_pc c j e hc hj he = hc
@@ -210,22 +227,36 @@ module _ (class : Class) (regs : List ℕ) (bus : Bus) where
   cycles_no_word cycles accesses all store first x (zero, lt, at) = absurd (cc)
   cycles_no_word cycles accesses all store first x (suc k, lt, at) = all store first x (k, omega (arith, lt), at)
 
-  delayed_moves : (cycles : ℕ) (e : Effect) → IsMoved None (on_bus bus e) → IsMoved None (on_bus bus (delayed cycles e))
-  delayed_moves cycles e h = record {
+  cycles_within : (most cycles : ℕ) (accesses : List effect.Access) → cycles ≤ most → TakesWithin most accesses → TakesWithin most (Internal cycles ∷ accesses)
+  cycles_within most cycles accesses few all n (zero, lt, at) = let same : cycles ≡ n = cc in subst (λ k. k ≤ most) same few
+  cycles_within most cycles accesses few all n (suc k, lt, at) = all n (k, omega (arith, lt), at)
+
+  -- a multiplier's, or a single one
+  delayed_by : (c : Option ℕ) (cycles : ℕ) (e : Effect) → ((most : ℕ) → 1 ≤ most → IfSome c (λ n. n ≤ most) → cycles ≤ most) → IfSome c (λ n. Contains (Internal cycles ∷ e.accesses) (Internal n))
+      → IsMoved None (on_bus bus e) → Moves class regs None c (on_bus bus (delayed cycles e))
+  delayed_by c cycles e few there h = record {
     in_class = λ plain no. cycles_no_word cycles e.accesses (h.in_class plain no);
     there = λ plain access has. absurd has;
     first_other = λ plain access has. absurd has;
+    within = λ plain most some stated. cycles_within most cycles e.accesses (few most some stated) (h.within plain most some tt);
+    takes = λ plain. there;
     registers = λ plain. h.registers plain;
   }
 
-  multiply_moves : (x : Multiply) → IsMoved None (on_bus bus (multiply_effect x regs))
+  delayed_moves : (e : Effect) → IsMoved None (on_bus bus e) → IsMoved None (on_bus bus (delayed 1 e))
+  delayed_moves e h = delayed_by None 1 e (λ most some few. some) tt h
+
+  multiply_moves : (x : Multiply) → Moves class regs None (multiplier_cycles (operation.Multiply x) regs) (on_bus bus (multiply_effect x regs))
   unfolding multiply_effect
-  multiply_moves x = delayed_moves _ (entered x.sets_flags x.rd (product_of x regs) regs) (entered_moves x.sets_flags x.rd (product_of x regs))
+  multiply_moves x =
+      let cycles : ℕ = multiply_cycles (current_in x.rs regs) in
+      let then : Effect = entered x.sets_flags x.rd (product_of x regs) regs in
+      delayed_by (Some cycles) cycles then (λ most some few. few) (here (Internal cycles) then.accesses) (entered_moves x.sets_flags x.rd (product_of x regs))
 
   branch_moves : (x : Branch) → IsMoved None (on_bus bus (branch_effect x regs))
   unfolding branch_effect
   branch_moves x =
-      none (branch_effect x regs) (onward_in class _ _)
+      none (branch_effect x regs) (onward_fetches _ _)
       (r15_long (cond x.link (with_register (mode_of (r15_in regs)) 14 (r15_ahead (r15_in regs) 4) regs) regs) _
       ∙ either_long x.link (with_register (mode_of (r15_in regs)) 14 (r15_ahead (r15_in regs) 4) regs) regs (length regs) (with_long regs (mode_of (r15_in regs)) 14 (r15_ahead (r15_in regs) 4)) refl)
 
@@ -275,6 +306,8 @@ module _ (class : Class) (regs : List ℕ) (bus : Bus) where
         first_other = λ plain. subst (λ (xs : List effect.Access). (access : Access) → HasOther class (Some (record { address = address; words = words; store = false })) access → IsFirstOther class xs access) (sym are)
             (first_word false address words (straight (address_of (r15_in regs))) (load_accesses (address_of (r15_in regs)) address words jumps t) (straight_in class (address_of (r15_in regs)))
             (λ k lt. split_within (straight (address_of (r15_in regs))) (words_at false address words) _ _ _ (words_split false address words k lt)));
+        within = λ plain most some few. subst (TakesWithin most) (sym are) (takes_within most all (load_short most (address_of (r15_in regs)) address words jumps t some));
+        takes = λ plain. tt;
         registers = λ plain. long;
       }
 
@@ -288,6 +321,8 @@ module _ (class : Class) (regs : List ℕ) (bus : Bus) where
     first_other = λ plain. subst (λ (xs : List effect.Access). (access : Access) → HasOther class (Some (record { address = address; words = words; store = true })) access → IsFirstOther class xs access) (sym are)
         (first_word true address words (FetchN (ahead_of (address_of (r15_in regs)) 8) ∷ []) (store_accesses (address_of (r15_in regs)) address words) (fetch_in class (ahead_of (address_of (r15_in regs)) 8))
         (λ k lt. split_after (FetchN (ahead_of (address_of (r15_in regs)) 8) ∷ []) (words_at true address words) _ _ (words_split true address words k lt)));
+    within = λ plain most some few. subst (TakesWithin most) (sym are) (takes_within most (store_accesses (address_of (r15_in regs)) address words) (store_short most (address_of (r15_in regs)) address words));
+    takes = λ plain. tt;
     registers = λ plain. long;
   }
 
@@ -363,11 +398,11 @@ module _ (class : Class) (regs : List ℕ) (bus : Bus) where
 
   -- ## Any word
 
-  operation_moves : (o : Operation) (port : ℕ) → IsMoved (words_of o regs) (operation_moved o port regs bus)
+  operation_moves : (o : Operation) (port : ℕ) → Moves class regs (words_of o regs) (multiplier_cycles o regs) (operation_moved o port regs bus)
   unfolding operation_effect data_register_effect data_register_shift_effect data_immediate_effect
   operation_moves (operation.Multiply x) port = multiply_moves x
   operation_moves (operation.DataRegister x) port = placed_moves x.opcode x.sets_flags x.rd _
-  operation_moves (operation.DataRegisterShift x) port = delayed_moves 1 _ (placed_moves x.opcode x.sets_flags x.rd _)
+  operation_moves (operation.DataRegisterShift x) port = delayed_moves _ (placed_moves x.opcode x.sets_flags x.rd _)
   operation_moves (operation.DataImmediate x) port = placed_moves x.opcode x.sets_flags x.rd _
   operation_moves (operation.SingleImmediate x) port = single_moves (of_immediate x) _ port
   operation_moves (operation.SingleRegister x) port = single_moves (of_register x regs) _ port
@@ -378,11 +413,12 @@ module _ (class : Class) (regs : List ℕ) (bus : Bus) where
   operation_moves (operation.CoprocessorTransfer x) port = taken_moves None _
   operation_moves (operation.Coprocessor x) port = taken_moves None _
 
-  either_moves : (holds : Bool) (o : Operation) (m n : Moved) → IsMoved (words_of o regs) m → IsMoved None n → IsMoved (transfer_if holds o regs) (cond holds m n)
+  either_moves : (holds : Bool) (o : Operation) (m n : Moved) → Moves class regs (words_of o regs) (multiplier_cycles o regs) m → IsMoved None n
+      → Moves class regs (transfer_if holds o regs) (cycles_if holds o regs) (cond holds m n)
   either_moves true o m n h k = h
   either_moves false o m n h k = k
 
-  instr_moves : (i : Instr) (port : ℕ) → IsMoved (transfer_if (holds_in regs i.cond) i.operation regs) (instruction_moved i port regs bus)
+  instr_moves : (i : Instr) (port : ℕ) → Moves class regs (transfer_if (holds_in regs i.cond) i.operation regs) (cycles_if (holds_in regs i.cond) i.operation regs) (instruction_moved i port regs bus)
   instr_moves i port =
       either_moves (holds_in regs i.cond) i.operation (operation_moved i.operation port regs bus) (on_bus bus (skipped regs))
       (operation_moves i.operation port) skipped_moves
@@ -393,14 +429,17 @@ module _ (class : Class) (regs : List ℕ) (bus : Bus) where
       (λ holds. stopped_moves None why.Unallocated) skipped_moves
 
   -- what the word does is what is read of it
-  pub word_moves : (word : ℕ) (port : ℕ) (r : Reading) (m : Moved) → IsReading word regs r → Obeys word port regs bus m → IsMoved r.transfer m
+  abbrev DoesRead : Reading → Moved → Type 0
+  DoesRead r m = Moves class regs r.transfer r.cycles m
+
+  pub word_moves : (word : ℕ) (port : ℕ) (r : Reading) (m : Moved) → IsReading word regs r → Obeys word port regs bus m → DoesRead r m
   word_moves word port r m (inl (i, means, r_is)) (inl (j, other, m_is)) =
       let same : j ≡ i = one_instr word j i other means in
-      subst (IsMoved r.transfer) (sym (m_is ∙ ap (λ (x : Instr). instruction_moved x port regs bus) same))
-      (subst (λ (x : Reading). IsMoved x.transfer (instruction_moved i port regs bus)) (sym r_is) (instr_moves i port))
+      subst (DoesRead r) (sym (m_is ∙ ap (λ (x : Instr). instruction_moved x port regs bus) same))
+      (subst (λ (x : Reading). DoesRead x (instruction_moved i port regs bus)) (sym r_is) (instr_moves i port))
   word_moves word port r m (inl (i, means, r_is)) (inr (u, none_is, m_is)) = absurd (never_both word i u means none_is)
   word_moves word port r m (inr (u, none_is, r_is)) (inl (i, means, m_is)) = absurd (never_both word i u means none_is)
   word_moves word port r m (inr (u, is, r_is)) (inr (v, other, m_is)) =
       let same : v ≡ u = one_unallocated word v u other is in
-      subst (IsMoved r.transfer) (sym (m_is ∙ ap (λ (x : Unallocated). unallocated_moved x regs bus) same))
-      (subst (λ (x : Reading). IsMoved x.transfer (unallocated_moved u regs bus)) (sym r_is) (unallocated_moves u))
+      subst (DoesRead r) (sym (m_is ∙ ap (λ (x : Unallocated). unallocated_moved x regs bus) same))
+      (subst (λ (x : Reading). DoesRead x (unallocated_moved u regs bus)) (sym r_is) (unallocated_moves u))

@@ -1,11 +1,15 @@
 -- A step against the statement: what it executes, and along which edge.
-use Rattle.std.proofs.Common.{◌≡◌, ℕ, ◌<◌, inl, inr, Bool, true, false, cond, List, length, Option, Some, None, refl, sym, ap, subst, ◌∙◌}
-use Rattle.std.specs.Prelude.{Contains}
+use Rattle.std.proofs.Common.{◌≡◌, ℕ, ◌<◌, ◌≤◌, inl, inr, Bool, true, false, cond, List, length, Option, Some, None, refl, sym, ap, subst, ◌∙◌, arith}
+use Rattle.std.specs.Prelude.{Contains, IfSome}
 use Rattle.std.proofs.lemmas.List.Elements.{Contains-get_or}
 use Rattle.std.proofs.lemmas.Option.{same_Some}
 use Rattle.bus_ticks.specs.declared.profile.Class.{Class}
 use Rattle.image.specs.Image.{Words}
-use Rattle.statement.specs.Stated.{Stated, class_at}
+use Rattle.statement.specs.Stated.{Stated, class_at, cycles_at, taken_at}
+use Rattle.statement.specs.declared.stated.Taken.{Taken}
+use Rattle.arm2_decode.specs.Names.{is_always, is_never}
+use Rattle.arm2_decode.specs.declared.names.Cond.{Cond}
+use Rattle.arm2_decode.specs.declared.names.Register.{Register}
 use Rattle.arm2_effect.specs.declared.exceptions.Vector.{Vector}
 use Rattle.arm2_effect.specs.declared.step_end.Kind.{Kind}
 use Rattle.arm2_effect.specs.declared.step_end.Kind.TheVariants as ended
@@ -19,18 +23,22 @@ use Rattle.arm2_exec.specs.declared.machine.Input.{Input}
 use Rattle.arm2_exec.specs.declared.machine.Stepped.{Stepped}
 use Rattle.arm2_effect.specs.Effects.{is_stopped}
 use Rattle.arm2_exec.proofs.StepLemmas.{one_step, same_profile, works_one}
-use Rattle.control_flow.specs.Edges.{HasAction}
+use Rattle.arm2_effect.specs.Effects.{Internal}
+use Rattle.arm2_effect.specs.ProgramCounter.{flags_of}
+use Rattle.control_flow.specs.Edges.{HasAction, may_go}
 use Rattle.control_flow.specs.Flow.{Flow}
 use Rattle.control_flow.specs.Graph.{IsFlowGraph}
 use Rattle.control_flow.specs.Kinds.{IsAction, instr_action, unallocated_action}
-use Rattle.flow_graph.specs.StepLaw.{Executes, IsEdgeOf, IsTaken, TransfersIn, holds_in, label_in}
+use Rattle.flow_graph.specs.StepLaw.{Executes, IsEdgeOf, IsTaken, TakesWithin, TransfersIn, holds_in, label_in}
 use Rattle.control_flow.specs.declared.edges.Edge.{Edge}
 use Rattle.control_flow.specs.declared.edges.Label.{Label}
 use Rattle.control_flow.specs.declared.actions.Action.{Action}
 use Rattle.control_flow.specs.declared.places.Place.{Place}
 use Rattle.control_flow.proofs.EdgeLemmas.{one_action}
 use Rattle.control_flow.proofs.FlowLemmas.{has_edge_is_edge, is_edge_has_edge}
+use Rattle.control_flow.proofs.LabelLemmas.{always_holds, never_holds}
 use Rattle.flow_graph.proofs.StepLemmas.{IsPlainStep, plain_step, works_plain}
+use Rattle.flow_graph.proofs.StepTicks.{some_stated}
 use Rattle.longest_walk.specs.Built.{step_at}
 use Rattle.kept_runs.specs.declared.edges.Going.{Going}
 use Rattle.kept_runs.specs.declared.reading.Reading.{Reading}
@@ -43,9 +51,10 @@ use Rattle.kept_runs.specs.Edges.{HasNoEdge, IsFound, IsMet}
 use Rattle.kept_runs.specs.declared.judging.Stray.TheVariants as stray
 use Rattle.kept_runs.specs.declared.judging.Stray.{Stray}
 use Rattle.kept_runs.specs.declared.judging.StrayStep.{StrayStep}
-use Rattle.kept_runs.specs.Judging.{IsAtPlace, Strays, StraysBy, Takes, TakesNone, label_if, made}
-use Rattle.kept_runs.specs.Reading.{HasNoWord, IsReading, FetchesWord}
-use Rattle.kept_runs.specs.Transfers.{HasNoOther, HasOther}
+use Rattle.kept_runs.specs.Judging.{Does, GoesStatedWay, IsAtPlace, Strays, StraysBy, Takes, TakesNone, label_if, made}
+use Rattle.kept_runs.specs.Reading.{HasNoWord, IsByCondition, IsReading, FetchesWord}
+use Rattle.kept_runs.specs.StatedWord.{Departs, GoesAsStated, GoesOther, IsAsStated, TakesOver, TransfersUnstated}
+use Rattle.kept_runs.specs.Transfers.{HasOther}
 use Rattle.kept_runs.proofs.MovedLemmas.{Moves, word_moves}
 
 -- ## Labels and places
@@ -64,19 +73,51 @@ is_other class access (Some t) has is = has.1.other is
 pub record HasRead (word : ℕ) (regs : List ℕ) (r : Reading) : Type 0 where
   pub action : Action
   pub is : IsAction word action
+  pub cond : r.cond ≡ action.cond
   pub holds : r.holds ≡ holds_in regs action.cond
+  pub base : r.base ≡ action.base
 
 pub has_read : (word : ℕ) (regs : List ℕ) (r : Reading) → IsReading word regs r → HasRead word regs r
-has_read word regs r (inl (i, means, is)) = record { action = instr_action i; is = inl (i, means, refl); holds = ap (λ (x : Reading). x.holds) is }
-has_read word regs r (inr (u, none, is)) = record { action = unallocated_action u; is = inr (u, none, refl); holds = ap (λ (x : Reading). x.holds) is }
+has_read word regs r (inl (i, means, is)) = record {
+  action = instr_action i;
+  is = inl (i, means, refl);
+  cond = ap (λ (x : Reading). x.cond) is;
+  holds = ap (λ (x : Reading). x.holds) is;
+  base = ap (λ (x : Reading). x.base) is;
+}
+has_read word regs r (inr (u, none, is)) = record {
+  action = unallocated_action u;
+  is = inr (u, none, refl);
+  cond = ap (λ (x : Reading). x.cond) is;
+  holds = ap (λ (x : Reading). x.holds) is;
+  base = ap (λ (x : Reading). x.base) is;
+}
+
+-- what is false unless the other is true, and is true
+true_unless : (a h : Bool) → (h ≡ false → a ≡ false) → a ≡ true → h ≡ true
+true_unless a true unless is = refl
+true_unless a false unless is = let other : a ≡ false = unless refl in absurd (cc)
+
+false_unless : (a h : Bool) → (h ≡ true → a ≡ false) → a ≡ true → h ≡ false
+false_unless a false unless is = refl
+false_unless a true unless is = let other : a ≡ false = unless refl in absurd (cc)
+
+pub by_condition : (word : ℕ) (regs : List ℕ) (r : Reading) → IsReading word regs r → IsByCondition r
+by_condition word regs r reads =
+    let read : HasRead word regs r = has_read word regs r reads in
+    let holds : r.holds ≡ holds_in regs r.cond = read.holds ∙ ap (holds_in regs) (sym read.cond) in
+    record {
+      always = true_unless (is_always r.cond) r.holds (λ fails. always_holds r.cond (flags_of (r15_in regs)) (sym holds ∙ fails));
+      never = false_unless (is_never r.cond) r.holds (λ does. never_holds r.cond (flags_of (r15_in regs)) (sym holds ∙ does));
+    }
 
 pub after_regs : (stops : Bool) (s a b : State) → length a.regs ≡ length s.regs → length b.regs ≡ length s.regs → length (cond stops a b).regs ≡ length s.regs
 after_regs true s a b h k = h
 after_regs false s a b h k = k
 
 module _ (words : Words) (st : Stated) (flow : Flow) (graph : IsFlowGraph words st flow.profile flow) (place : Place) (s : State) (i : Input) (is_there : IsAtPlace flow place s) where
-  abbrev class : Class
-  class = class_at st (address_in s.regs)
+  abbrev address : ℕ
+  address = address_in s.regs
 
   abbrev calls : List ℕ
   calls = is_there.at.0
@@ -128,8 +169,8 @@ module _ (words : Words) (st : Stated) (flow : Flow) (graph : IsFlowGraph words 
           subst (λ o. ObeysFetched o i.port s.regs bus step.moved) at_word.fetches
           (works_plain (interrupt_due bus (r15_in s.regs)) i.port s.regs bus step.moved step.works plain_is.kind)
 
-      moves : Moves class s.regs r.transfer step.moved
-      moves = word_moves class s.regs bus word i.port r step.moved reads obeys
+      moves : (class : Class) → Moves class s.regs r.transfer r.cycles step.moved
+      moves class = word_moves class s.regs bus word i.port r step.moved reads obeys
 
       read : HasRead word s.regs r
       read = has_read word s.regs r reads
@@ -137,30 +178,101 @@ module _ (words : Words) (st : Stated) (flow : Flow) (graph : IsFlowGraph words 
       has : HasAction words (address_in s.regs) read.action
       has = record { word = word; word_is = at_word.word_is; is = read.is }
 
-      -- a word of another class
-      none_with_other : (access : Access) → HasOther class r.transfer access → TakesNone words st flow place s i
-      none_with_other access other other_stepped last e h from =
-          let one : h.executes.step.moved ≡ step.moved = works_one i.port s.regs bus (interrupt_due bus (r15_in s.regs)) h.executes.step.moved step.moved h.executes.step.works step.works in
-          let word = moves.there plain_is.kind access other in
-          is_other class access r.transfer other ((subst (λ (m : Moved). TransfersIn class m.accesses) one h.executes.transfers) access.store word.0 access.address word.1)
+      abbrev does : Does words st flow place s i after
+      does = record { ends = record { word = word; fetches = at_word; stepped = stepped; step = step; kind_is = plain }; action = read.action; is = read.is }
 
-      pub other_class : (access : Access) → HasOther class r.transfer access → Strays words st flow place s i after (stray.OtherClass access)
-      other_class access other =
-          record {
-            none = none_with_other access other;
-            is = record {
-              ends = record { word = word; fetches = at_word; stepped = stepped; step = step; kind_is = plain };
-              is_first = moves.first_other plain_is.kind access other;
-            };
-          }
+      -- the step of an edge is this one
+      same_action : {other : Stepped} {last : State} {e : Edge} → (h : IsEdgeOf words st flow.profile s i other last e) → h.action ≡ read.action
+      same_action h =
+          let word_is : h.executes.has.word ≡ word = same_Some h.executes.has.word word (sym h.executes.has.word_is ∙ at_word.word_is) in
+          one_action word h.action read.action (subst (λ w. IsAction w h.action) word_is h.executes.has.is) read.is
+
+      same_moved : {other : Stepped} {last : State} {e : Edge} → (h : IsEdgeOf words st flow.profile s i other last e) → h.executes.step.moved ≡ step.moved
+      same_moved h = works_one i.port s.regs bus (interrupt_due bus (r15_in s.regs)) h.executes.step.moved step.moved h.executes.step.works step.works
+
+      -- ## What is stated of the word
+
+      label_is : label_if r.holds ≡ label_in s.regs read.action.cond
+      label_is = ap label_if read.holds
+
+      way_is : (t : Option Taken) → may_go (label_if r.holds) r.cond t ≡ may_go (label_in s.regs read.action.cond) read.action.cond t
+      way_is t =
+          ap (λ (l : Label). may_go l r.cond t) label_is
+          ∙ ap (λ (k : Cond). may_go (label_in s.regs read.action.cond) k t) read.cond
+
+      goes : GoesAsStated st address r → GoesStatedWay words st flow place s i read.action
+      goes way = sym (way_is (taken_at st address)) ∙ way
+
+      class_is : class_at st address r.base ≡ class_at st address read.action.base
+      class_is = ap (class_at st address) read.base
+
+      -- a word that goes another way
+      none_other_way : (taken : Taken) → GoesOther st address r taken → TakesNone words st flow place s i
+      none_other_way taken other other_stepped last e h from =
+          let may : may_go (label_in s.regs read.action.cond) read.action.cond (taken_at st address) ≡ true
+          = subst (GoesStatedWay words st flow place s i) (same_action h) h.executes.way in
+          let stated : may_go (label_in s.regs read.action.cond) read.action.cond (Some taken) ≡ true
+          = subst (λ (t : Option Taken). may_go (label_in s.regs read.action.cond) read.action.cond t ≡ true) other.stated may in
+          let not_so : may_go (label_in s.regs read.action.cond) read.action.cond (Some taken) ≡ false = sym (way_is (Some taken)) ∙ other.other in
+          cc
+
+      -- a word of another class
+      none_other_class : (access : Access) (stated : Class) → TransfersUnstated st address r access stated → TakesNone words st flow place s i
+      none_other_class access stated unstated other_stepped last e h from =
+          let is : class_at st address h.action.base ≡ stated = ap (λ (a : Action). class_at st address a.base) (same_action h) ∙ sym class_is ∙ sym unstated.stated_is in
+          let all : TransfersIn stated step.moved.accesses =
+          subst (λ (m : Moved). TransfersIn stated m.accesses) (same_moved h)
+          (subst (λ (k : Class). TransfersIn k h.executes.step.moved.accesses) is h.executes.transfers) in
+          let word = (moves stated).there plain_is.kind access unstated.other in
+          is_other stated access r.transfer unstated.other (all access.store word.0 access.address word.1)
+
+      -- a multiply of more cycles
+      takes_cycles : (cycles : ℕ) → r.cycles ≡ Some cycles → Contains step.moved.accesses (Internal cycles)
+      takes_cycles cycles is = subst (λ (c : Option ℕ). IfSome c (λ n. Contains step.moved.accesses (Internal n))) is ((moves st.leave).takes plain_is.kind)
+
+      none_more_cycles : (cycles : ℕ) → TakesOver st address r cycles → TakesNone words st flow place s i
+      none_more_cycles cycles over other_stepped last e h from =
+          let few : TakesWithin (cycles_at st address) step.moved.accesses =
+          subst (λ (m : Moved). TakesWithin (cycles_at st address) m.accesses) (same_moved h) h.executes.cycles in
+          let at_most : cycles ≤ cycles_at st address = few cycles (takes_cycles cycles over.takes) in
+          let more : cycles_at st address < cycles = over.more in
+          omega (arith, at_most, more)
+
+      pub unstated : (why : Stray) → Departs st address r why → Strays words st flow place s i after why
+      unstated stray.OtherWord is = absurd is
+      unstated (stray.Exception vector) is = absurd is
+      unstated (stray.Stopped why) is = absurd is
+      unstated (stray.OtherWay taken) is = record {
+        none = none_other_way taken is;
+        is = record { does = does; stated = is.stated; other = sym (way_is (Some taken)) ∙ is.other };
+      }
+      unstated (stray.OtherClass access stated) (way, is) = record {
+        none = none_other_class access stated is;
+        is = record { does = does; way = goes way; stated_is = is.stated_is ∙ class_is; is_first = (moves stated).first_other plain_is.kind access is.other };
+      }
+      unstated (stray.MoreCycles cycles) (way, all, is) = record {
+        none = none_more_cycles cycles is;
+        is = record { does = does; way = goes way; takes = takes_cycles cycles is.takes; more = is.more };
+      }
+      unstated (stray.Elsewhere to) is = absurd is
+
+      executes : IsAsStated st address r → Executes words st flow.profile read.action s i stepped after
+      executes as_stated = record {
+        registers = is_there.machine.registers;
+        prices = is_there.machine.prices;
+        has = has;
+        fetches = at_word.fetches ∙ sym at_word.word_is;
+        step = step;
+        plain = plain;
+        transfers = subst (λ (k : Class). TransfersIn k step.moved.accesses) class_is ((moves (class_at st address r.base)).in_class plain_is.kind as_stated.transfers);
+        cycles = (moves st.leave).within plain_is.kind (cycles_at st address) (some_stated st address) as_stated.takes;
+        way = goes as_stated.goes;
+      }
 
       -- ## The edge
 
       abbrev going : Going
       going = record { label = label_if r.holds; to = stepped.to; leave = st.leave }
-
-      label_is : label_if r.holds ≡ label_in s.regs read.action.cond
-      label_is = ap label_if read.holds
 
       -- an edge by the step's label, to where it goes, is met
       met_by : (c : List ℕ) (e : Edge) → IsTaken words st flow.profile c read.action s stepped e → IsMet going e
@@ -171,10 +283,8 @@ module _ (words : Words) (st : Stated) (flow : Flow) (graph : IsFlowGraph words 
       -- an edge of the step is one of the place's
       met : {other : Stepped} {last : State} {e : Edge} → (h : IsEdgeOf words st flow.profile s i other last e) → IsMet going e
       met {other = other} {last = last} {e = e} h =
-          let word_is : h.executes.has.word ≡ word = same_Some h.executes.has.word word (sym h.executes.has.word_is ∙ at_word.word_is) in
-          let act : h.action ≡ read.action = one_action word h.action read.action (subst (λ w. IsAction w h.action) word_is h.executes.has.is) read.is in
           let taken : IsTaken words st flow.profile h.calls h.action s stepped e = subst (λ (x : Stepped). IsTaken words st flow.profile h.calls h.action s x e) (same h).0 h.taken in
-          met_by h.calls e (subst (λ (a : Action). IsTaken words st flow.profile h.calls a s stepped e) act taken)
+          met_by h.calls e (subst (λ (a : Action). IsTaken words st flow.profile h.calls a s stepped e) (same_action h) taken)
 
       none_elsewhere : Contains flow.places place → HasNoEdge flow place going → TakesNone words st flow place s i
       none_elsewhere place_in none other last e h from =
@@ -188,40 +298,29 @@ module _ (words : Words) (st : Stated) (flow : Flow) (graph : IsFlowGraph words 
           (is_edge_has_edge words st flow.profile flow graph e (subst (Contains flow.places) (sym from) place_in) taken.is_edge)
           from (met_by c e taken)
 
-      executes : HasNoOther class r.transfer → Executes words st flow.profile read.action s i stepped after
-      executes clean = record {
-        registers = is_there.machine.registers;
-        prices = is_there.machine.prices;
-        has = has;
-        fetches = at_word.fetches ∙ sym at_word.word_is;
-        step = step;
-        plain = plain;
-        transfers = moves.in_class plain_is.kind clean;
-      }
-
-      pub elsewhere : HasNoOther class r.transfer → Contains flow.places place → HasNoEdge flow place going → Strays words st flow place s i after (stray.Elsewhere stepped.to)
-      elsewhere clean place_in none = record {
+      pub elsewhere : IsAsStated st address r → Contains flow.places place → HasNoEdge flow place going → Strays words st flow place s i after (stray.Elsewhere stepped.to)
+      elsewhere as_stated place_in none = record {
         none = none_elsewhere place_in none;
-        is = record { action = read.action; stepped = stepped; executes = executes clean; to_is = refl; none = no_edge place_in none };
+        is = record { action = read.action; stepped = stepped; executes = executes as_stated; to_is = refl; none = no_edge place_in none };
       }
 
       long : length after.regs ≡ 27
       unfolding state_after
       long =
-          let same_long : length step.moved.regs ≡ length s.regs = moves.registers plain_is.kind in
+          let same_long : length step.moved.regs ≡ length s.regs = (moves st.leave).registers plain_is.kind in
           ap (λ (x : State). length x.regs) step.after_is
           ∙ after_regs (is_stopped step.moved.kind) s s _ refl same_long
           ∙ is_there.machine.registers
 
-      pub takes : HasNoOther class r.transfer → stepped.ticks < 65536 → (k : ℕ) → IsFound flow place going k → Takes words st flow place s i after (record { edge = k; stepped = stepped })
-      takes clean small k found =
+      pub takes : IsAsStated st address r → stepped.ticks < 65536 → (k : ℕ) → IsFound flow place going k → Takes words st flow place s i after (record { edge = k; stepped = stepped })
+      takes as_stated small k found =
           let e : Edge = step_at flow.edges k in
           record {
             known = found.known;
             is_edge_of = record {
               calls = calls;
               action = read.action;
-              executes = executes clean;
+              executes = executes as_stated;
               taken = record {
                 is_edge = has_edge_is_edge words st flow.profile flow graph e (Contains-get_or flow.edges k _ found.known);
                 from = found.from ∙ is_there.at.1;

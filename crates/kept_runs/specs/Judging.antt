@@ -1,12 +1,12 @@
 -- One step of the machine against the edges of a place.
 use Rattle.std.specs.Prelude.{◌≡◌, ℕ, ◌<◌, ◌^◌, Bool, if◌then◌else◌, List, ◌∷◌, ◌++◌, length}
-use Rattle.std.specs.Prelude.{Option, Some, None}
+use Rattle.std.specs.Prelude.{Contains, Option, Some, None, true, false}
 use Rattle.image.specs.Image.{Words}
-use Rattle.statement.specs.Stated.{Stated, class_at}
+use Rattle.statement.specs.Stated.{Stated, class_at, cycles_at, taken_at}
 use Rattle.bus_ticks.specs.Worst.{IsOf}
 use Rattle.bus_ticks.specs.declared.profile.Class.{Class}
 use Rattle.arm2_effect.specs.Effects as effect
-use Rattle.arm2_effect.specs.Effects.{Word}
+use Rattle.arm2_effect.specs.Effects.{Internal, Word}
 use Rattle.arm2_effect.specs.declared.step_end.Kind.{Kind}
 use Rattle.arm2_effect.specs.declared.step_end.Kind.TheVariants as ended
 use Rattle.arm2_exec.specs.State.{State}
@@ -20,7 +20,10 @@ use Rattle.control_flow.specs.declared.actions.Action.{Action}
 use Rattle.control_flow.specs.declared.places.Place.{Place}
 use Rattle.control_flow.specs.declared.places.Place.TheVariants.{At}
 use Rattle.control_flow.specs.Flow.{Flow}
-use Rattle.flow_graph.specs.StepLaw.{Executes, IsEdgeOf, IsTaken, TransfersIn}
+use Rattle.control_flow.specs.Edges.{may_go}
+use Rattle.control_flow.specs.Kinds.{IsAction}
+use Rattle.flow_graph.specs.StepLaw.{Executes, IsEdgeOf, IsTaken, TransfersIn, label_in}
+use Rattle.statement.specs.declared.stated.Taken.{Taken}
 use Rattle.longest_walk.specs.Built.{step_at}
 use Rattle.kept_runs.specs.declared.judging.Stray.{Stray}
 use Rattle.kept_runs.specs.declared.judging.Stray.TheVariants as stray
@@ -88,10 +91,36 @@ module _ (words : Words) (st : Stated) (flow : Flow) (place : Place) (s : State)
     pub step : Step s i stepped after
     pub kind_is : stepped.kind ≡ kind
 
-  -- the step transfers a word of another class than the one stated, and this is the first
-  pub record TransfersOther (after : State) (access : Access) : Type 0 where
+  -- the word does this, and the step ends as those of other words do
+  pub record Does (after : State) : Type 0 where
     pub ends : Ends after ended.Plain
-    pub is_first : IsFirstOther (class_at st (address_in s.regs)) ends.step.moved.accesses access
+    pub action : Action
+    pub is : IsAction ends.word action
+
+  -- the word has a condition, and is passed over or done where the other is stated of it
+  pub record GoesOtherWay (after : State) (taken : Taken) : Type 0 where
+    pub does : Does after
+    pub stated : taken_at st (address_in s.regs) ≡ Some taken
+    pub other : may_go (label_in s.regs does.action.cond) does.action.cond (Some taken) ≡ false
+
+  -- the step goes the stated way
+  abbrev pub GoesStatedWay : Action → Type 0
+  GoesStatedWay action =
+      may_go (label_in s.regs action.cond) action.cond (taken_at st (address_in s.regs)) ≡ true
+
+  -- and transfers a word of another class than the one stated, and this is the first
+  pub record TransfersOther (after : State) (access : Access) (stated : Class) : Type 0 where
+    pub does : Does after
+    pub way : GoesStatedWay does.action
+    pub stated_is : stated ≡ class_at st (address_in s.regs) does.action.base
+    pub is_first : IsFirstOther stated does.ends.step.moved.accesses access
+
+  -- or takes so many cycles without an access, more than are stated
+  pub record TakesMore (after : State) (cycles : ℕ) : Type 0 where
+    pub does : Does after
+    pub way : GoesStatedWay does.action
+    pub takes : Contains does.ends.step.moved.accesses (Internal cycles)
+    pub more : cycles_at st (address_in s.regs) < cycles
 
   -- the step executes the word as stated, and goes to the address, to which no edge of the place leads
   pub record GoesTo (after : State) (to : ℕ) : Type 0 where
@@ -108,7 +137,9 @@ module _ (words : Words) (st : Stated) (flow : Flow) (place : Place) (s : State)
   IsStray after stray.OtherWord = HasNoWord words s × (after ≡ s)
   IsStray after (stray.Exception vector) = Ends after (ended.Taken vector)
   IsStray after (stray.Stopped why) = Ends after (ended.Stopped why)
-  IsStray after (stray.OtherClass access) = TransfersOther after access
+  IsStray after (stray.OtherWay taken) = GoesOtherWay after taken
+  IsStray after (stray.OtherClass access stated) = TransfersOther after access stated
+  IsStray after (stray.MoreCycles cycles) = TakesMore after cycles
   IsStray after (stray.Elsewhere to) = GoesTo after to
 
   pub record Strays (after : State) (stray : Stray) : Type 0 where

@@ -2,6 +2,7 @@ pub mod Transfers
 pub mod Reading
 pub mod Edges
 pub mod Judging
+pub mod StatedWord
 pub mod Stays
 pub mod Following
 pub mod Keeping

@@ -5,10 +5,13 @@ ghost use Rattle.kept_runs.specs.Judging.{IsAtPlace, Strays, StraysBy, Takes, la
 
 use crate::edges::{Going, edge_taken};
 use crate::reading::{own_word, read_word};
-use crate::transfers::{Access, other_of};
+use crate::stated_word::departs;
+use crate::transfers::Access;
 use arm2_exec::{Input, Kind, Machine, Stepped, Vector, Why};
+use bus_ticks::Class;
 use control_flow::Label;
 use loop_bounds::Handler;
+use statement::Taken;
 
 /// How a step is along no edge of its place, by the statement.
 #[derive(Clone, Copy, Debug, PartialEq, Eq)]
@@ -19,8 +22,12 @@ pub enum Stray {
     Exception(Vector),
     /// The machine stops.
     Stopped(Why),
-    /// The step transfers a word of another class than the one stated, the first that it does.
-    OtherClass(Access),
+    /// The word has a condition, and goes another way than this one, which is stated.
+    OtherWay(Taken),
+    /// The step transfers a word of another class than this one, which is stated: the first that it does.
+    OtherClass { access: Access, stated: Class },
+    /// The multiply takes so many cycles, 2 to 16, more than are stated.
+    MoreCycles(u32),
     /// The step goes to an address, in bytes, to which no edge of its place leads.
     Elsewhere(u32),
 }
@@ -81,15 +88,15 @@ pub(crate) fn judge(
     };
     let address = machine.address();
     let reading = read_word(machine, word);
-    let other = other_of(handler.statement.class_at(address), reading.transfer);
+    let stray = departs(&handler.statement, address, &reading);
     let stepped = machine.step(input);
     match stepped.kind {
         Kind::Taken(vector) => return Err(made(Stray::Exception(vector), stepped)),
         Kind::Stopped(why) => return Err(made(Stray::Stopped(why), stepped)),
         Kind::Plain => {}
     }
-    if let Some(access) = other {
-        return Err(made(Stray::OtherClass(access), stepped));
+    if let Some(stray) = stray {
+        return Err(made(stray, stepped));
     }
     let going = Going {
         label: label_if(reading.holds),

@@ -10,6 +10,7 @@ mod following;
 mod judging;
 mod law;
 mod reading;
+mod stated_word;
 mod stays;
 mod tally;
 mod transfers;

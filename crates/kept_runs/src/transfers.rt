@@ -1,6 +1,6 @@
 //! The words that an instruction transfers, by the registers before it.
 
-ghost use Rattle.std.specs.Prelude.{◌≡◌, ◌≤◌, ◌<◌, IfSome, MatchOption};
+ghost use Rattle.std.specs.Prelude.{◌≡◌, ◌≤◌, ◌<◌, IfSome, MatchOption, Some};
 ghost use Rattle.kept_runs.specs.Transfers.{AllOf, HasNoOther, HasOther, HasOtherOf, words_of};
 
 use arm2_decode::Operation;
@@ -87,15 +87,12 @@ fn other_word(class: Class, transfer: &Transfer) -> Option<Access>
 }
 
 /// The first word of another class than the one stated. None of a transfer whose address is an exception.
-pub(crate) fn other_of(class: Class, transfer: Option<Transfer>) -> Option<Access>
-    requires { IfSome transfer (λ t. t.words ≤ 16) }
-    ensures { MatchOption result (HasNoOther class transfer) (HasOther class transfer) }
+pub(crate) fn other_of(class: Class, transfer: &Transfer) -> Option<Access>
+    requires { transfer.now.words ≤ 16 }
+    ensures { MatchOption result (HasNoOther class (Some transfer.now)) (HasOther class (Some transfer.now)) }
 {
-    let Some(transfer) = transfer else {
-        return None;
-    };
     if transfer.address >= SPACE_END {
         return None;
     }
-    other_word(class, &transfer)
+    other_word(class, transfer)
 }

@@ -248,6 +248,67 @@ cycles_below number = (row_of number).below
 pub cycles_reach : (number : ℕ) → 2 ≤ multiply_cycles number → 2 ^ (2 * multiply_cycles number - 3) ≤ number
 cycles_reach number = (row_of number).from
 
+-- ## A number for some cycles
+
+-- a row that ends before another begins has smaller numbers
+rows_apart : (number k m : ℕ) → IsRow number k → IsRow number m → m ≤ 16 → k < m → ⊥
+rows_apart number k m low high few h =
+    let above : 2 ^ (2 * m - 3) ≤ number = high.from (omega (arith, h, low.some)) in
+    let under : number < 2 ^ (2 * k - 1) = low.below (omega (arith, h, few)) in
+    let grows : 2 ^ (2 * k - 1) ≤ 2 ^ (2 * m - 3) = pow_mono (omega (arith, h)) in
+    omega (arith, above, under, grows)
+
+-- a number is in one row
+one_row : (number m : ℕ) → IsRow number m → m ≤ 16 → multiply_cycles number ≡ m
+one_row number m row few = elim (cases_lt (multiply_cycles number) m) [
+  | inl less ↦ absurd (rows_apart number (multiply_cycles number) m (row_of number) row few less)
+  | inr least ↦ elim (cases_lt m (multiply_cycles number)) [
+    | inl more ↦ absurd (rows_apart number m (multiply_cycles number) row (row_of number) (most_cycles number) more)
+    | inr most ↦ omega (arith, least, most)
+  ]
+]
+
+-- the least number of a row that is neither the first nor the last
+pub least_cycles : (m number : ℕ) → 2 ≤ m → m < 16 → number ≡ 2 ^ (2 * m - 3) → multiply_cycles number ≡ m
+least_cycles m number some few is =
+    one_row number m
+    (record {
+      some = omega (arith, some);
+      below = λ _.
+          let more : 2 * m - 1 ≡ suc (suc (2 * m - 3)) = omega (arith, some) in
+          let double = pow-suc 2 (2 * m - 3) in
+          let twice = pow-suc 2 (suc (2 * m - 3)) in
+          let positive = pow_pos (2 * m - 3) in
+          rw more (omega (arith, is, double, twice, positive));
+      from = λ _. omega (arith, is);
+    }) (omega (arith, few))
+
+-- it is a word
+least_fits : (m : ℕ) → m < 16 → 2 ^ (2 * m - 3) < 2 ^ 32
+least_fits m few =
+    let grows : 2 ^ (2 * m - 3) ≤ 2 ^ 31 = pow_mono {j = 31} (omega (arith, few)) in
+    omega (arith, grows)
+
+-- the same of a bit that is shifted there in a word
+pub shifted_cycles : (m : ℕ) → 2 ≤ m → m < 16 → multiply_cycles (1 * 2 ^ (2 * m - 3) % 2 ^ 32) ≡ m
+shifted_cycles m some few =
+    least_cycles m (1 * 2 ^ (2 * m - 3) % 2 ^ 32) some few (omega (arith, least_fits m few))
+
+-- one multiplier takes one cycle
+pub first_cycles : multiply_cycles 1 ≡ 1
+unfolding cycles_from
+first_cycles = refl
+
+-- for each number of cycles there is a word
+pub some_multiplier : (m : ℕ) → 1 ≤ m → m ≤ 16 → (number : ℕ) × (number < 2 ^ 32) × (multiply_cycles number ≡ m)
+some_multiplier m some few = elim (cases_lt m 2) [
+  | inl one ↦ (1, omega arith, first_cycles ∙ omega (arith, some, one))
+  | inr more ↦ elim (cases_lt m 16) [
+    | inl less ↦ (2 ^ (2 * m - 3), least_fits m less, least_cycles m (2 ^ (2 * m - 3)) more less refl)
+    | inr all ↦ (0xFFFFFFFF, omega arith, greatest_cycles ∙ omega (arith, few, all))
+  ]
+]
+
 pub lsr_zero : (k : Kind) (n : ℕ) (bits : List Bool) (carry : Bool) (r : Shifted) → k ≡ Lsr → n ≡ 0 → Has r (by_register Lsr 32 bits carry) → Has r (by_immediate k n bits carry)
 lsr_zero k n bits carry r e z h = rw (e, z) h
 

@@ -6,5 +6,5 @@ mod shifts;
 
 pub use law::{multiply_limit, multiply_table};
 pub use shifts::{
-    MOST_MULTIPLY_CYCLES, Shifted, multiply_cycles, rotate_imm, shift_imm, shift_reg,
+    MOST_MULTIPLY_CYCLES, Shifted, multiplier_of, multiply_cycles, rotate_imm, shift_imm, shift_reg,
 };

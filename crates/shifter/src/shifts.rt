@@ -149,3 +149,17 @@ pub fn multiply_cycles(number: u32) -> u32
     let significant = 32 - number.leading_zeros();
     (significant / 2 + 1).min(MOST_MULTIPLY_CYCLES)
 }
+
+/// A multiplier that takes so many cycles, from 1 to [`MOST_MULTIPLY_CYCLES`]: of those that take the most,
+/// the greatest word.
+pub fn multiplier_of(cycles: u32) -> u32
+    requires some { 1 ≤ cycles }
+    requires few { cycles ≤ MOST_MULTIPLY_CYCLES }
+    ensures { multiply_cycles result ≡ cycles }
+{
+    match cycles {
+        1 => 1,
+        MOST_MULTIPLY_CYCLES => u32::MAX,
+        _ => 1 << (2 * cycles - 3),
+    }
+}

@@ -14,16 +14,18 @@ use Rattle.toml_reading.proofs.Following.{stated_or_faulty, tables_up_to_judged,
 use Rattle.toml_reading.proofs.LowestLemmas.{Judges, pair_judged, judged_as, judged_fault, judged_value, one_by_rank, optional_judged}
 use Rattle.toml_reading.proofs.LowestParts.{keys_judged, named_judged, some_weaker}
 use Rattle.toml_reading.proofs.TwiceLemmas.{keys_not_distinct}
-use Rattle.statement.specs.StatementRules.{AccessFault, AddressFault, HasAccess, HasFault, HasParts, HasTarget, HasTwo, IsAddress, IsAt, IsSingle, LoopFault, PartsFault, RequiredFault, States, StatesAccess, StatesLoop, StatesTarget, TargetFault}
+use Rattle.statement.specs.StatementRules.{AccessFault, AddressFault, BranchFault, HasAccess, HasBranch, HasFault, HasMultiply, HasParts, HasTarget, HasTwo, HasTwoRules, IsAddress, IsAt, IsSingle, IsTwice, LoopFault, MultiplyFault, PartsFault, RequiredFault, RuleFault, States, StatesAccess, StatesBranch, StatesLoop, StatesMultiply, StatesRule, StatesTarget, TargetFault}
 use Rattle.statement.specs.Stated.{Stated}
 use Rattle.image.specs.Labels.{Names}
-use Rattle.statement.specs.Statement.{Parts, access_at, access_keys, leave_named_at, leave_in, loop_at, named_leave, named_returns, parts_of, returns_in, returns_named_at, statement_keys, statement_of, target_at, target_keys, stated_once}
+use Rattle.statement.specs.Statement.{Frame, Limits, Parts, Words, access_at, access_keys, are_apart, branch_at, branch_keys, frame_in, is_single, leave_named_at, leave_in, limits_in, loop_at, multiply_at, multiply_keys, named_leave, named_returns, parts_of, returns_in, returns_named_at, rule_at, rules_in, stated_by, stated_once, statement_keys, statement_of, target_at, target_keys, words_in}
 use Rattle.statement.specs.StatementFaults.{number_of, statement_faults}
 use Rattle.statement.specs.declared.faults.StatementFault.{StatementFault}
 use Rattle.statement.specs.declared.stated.Returns.TheVariants.{Assumed}
 use Rattle.statement.specs.declared.faults.StatementFault.TheVariants.{Memory, NotToml, UnknownKey, WrongKind, UnknownLabel, OutOfRange, Twice}
 use Rattle.statement.proofs.RuleLemmas.{address_in_judged, one_address}
-use Rattle.statement.proofs.TableLemmas.{access_judged, loop_judged, seven_in_line, target_judged, twice_last}
+use Rattle.statement.proofs.MeetLemmas.{apart_is, rules_not_apart}
+use Rattle.statement.proofs.TableLemmas.{access_judged, branch_judged, in_line, loop_judged, multiply_judged, rule_judged, target_judged, twice_last}
+use Rattle.statement.specs.declared.stated.BaseRule.{BaseRule}
 
 -- ## Faults differ in their numbers
 
@@ -80,7 +82,7 @@ one_some P one None a b h k = absurd h
 one_some P one (Some x) a b h k = one x a b h k
 
 module _ (names : Names) where
-  -- ## The addresses of targets and accesses
+  -- ## The addresses of entries
 
   abbrev AtOf : Members → ℕ → Type 0
   AtOf ms a = AtKey (codes "at") ms (λ e. IsAddress names e a)
@@ -113,117 +115,166 @@ module _ (names : Names) where
 
   -- ## Parts
 
-  abbrev made_of : Parts → Stated
-  made_of p =
-      record { entry = p.0.0.0; leave = p.0.0.1.0; returns = p.0.0.1.1; loops = p.0.1; targets = p.1.0; accesses = p.1.1 }
-
   abbrev split : Stated → Parts
-  split st = (((st.entry, (st.leave, st.returns)), st.loops), (st.targets, st.accesses))
+  split st =
+      ((((st.entry, (st.leave, st.returns)), st.loops), (st.targets, st.accesses)), (st.rules, (st.multiplies, st.branches)))
 
-  abbrev HasEach : Members → Parts → Type 0
-  HasEach ms p =
-      ((AtKey (codes "entry") ms (λ d. IsAddress names d p.0.0.0)
-      × (AtKeyOr (codes "leave") ms (p.0.0.1.0 ≡ Any) (λ d. IsNamed named_leave d p.0.0.1.0)
-      × AtKeyOr (codes "returns") ms (p.0.0.1.1 ≡ Assumed) (λ d. IsNamed named_returns d p.0.0.1.1)))
-      × AtKeyOr (codes "loop") ms (p.0.1 ≡ []) (λ d. IsListUpTo 256 (StatesLoop names) d p.0.1))
-      × (AtKeyOr (codes "target") ms (p.1.0 ≡ []) (λ d. IsListUpTo 1024 (StatesTarget names) d p.1.0)
-      × AtKeyOr (codes "access") ms (p.1.1 ≡ []) (λ d. IsListUpTo 4096 (StatesAccess names) d p.1.1))
+  abbrev HasFrame : Members → Frame → Type 0
+  HasFrame ms p =
+      (AtKey (codes "entry") ms (λ d. IsAddress names d p.0.0)
+      × (AtKeyOr (codes "leave") ms (p.0.1.0 ≡ Any) (λ d. IsNamed named_leave d p.0.1.0)
+      × AtKeyOr (codes "returns") ms (p.0.1.1 ≡ Assumed) (λ d. IsNamed named_returns d p.0.1.1)))
+      × AtKeyOr (codes "loop") ms (p.1 ≡ []) (λ d. IsListUpTo 256 (StatesLoop names) d p.1)
 
-  abbrev EachFault : Members → StatementFault → Type 0
-  EachFault ms f =
-      ((RequiredFault (codes "entry") ms (AddressFault names) f
+  abbrev FrameFault : Members → StatementFault → Type 0
+  FrameFault ms f =
+      (RequiredFault (codes "entry") ms (AddressFault names) f
       ⊎ (AtKey (codes "leave") ms (λ d. NameFault statement_faults named_leave d f)
       ⊎ AtKey (codes "returns") ms (λ d. NameFault statement_faults named_returns d f)))
-      ⊎ AtKey (codes "loop") ms (λ d. ListUpToFault statement_faults 256 (LoopFault names) d f))
-      ⊎ (AtKey (codes "target") ms (λ d. ListUpToFault statement_faults 1024 (TargetFault names) d f)
-      ⊎ AtKey (codes "access") ms (λ d. ListUpToFault statement_faults 4096 (AccessFault names) d f))
+      ⊎ AtKey (codes "loop") ms (λ d. ListUpToFault statement_faults 256 (LoopFault names) d f)
+
+  abbrev HasWords : Members → Words → Type 0
+  HasWords ms p =
+      AtKeyOr (codes "target") ms (p.0 ≡ []) (λ d. IsListUpTo 1024 (StatesTarget names) d p.0)
+      × AtKeyOr (codes "access") ms (p.1 ≡ []) (λ d. IsListUpTo 4096 (StatesAccess names) d p.1)
+
+  abbrev WordsFault : Members → StatementFault → Type 0
+  WordsFault ms f =
+      AtKey (codes "target") ms (λ d. ListUpToFault statement_faults 1024 (TargetFault names) d f)
+      ⊎ AtKey (codes "access") ms (λ d. ListUpToFault statement_faults 4096 (AccessFault names) d f)
+
+  abbrev HasRules : Members → List BaseRule → Type 0
+  HasRules ms rules = AtKeyOr (codes "base") ms (rules ≡ []) (λ d. IsListUpTo 256 (StatesRule names) d rules)
+
+  abbrev RulesFault : Members → StatementFault → Type 0
+  RulesFault ms f = AtKey (codes "base") ms (λ d. ListUpToFault statement_faults 256 (RuleFault names) d f)
+
+  abbrev HasLimits : Members → Limits → Type 0
+  HasLimits ms p =
+      AtKeyOr (codes "multiply") ms (p.0 ≡ []) (λ d. IsListUpTo 1024 (StatesMultiply names) d p.0)
+      × AtKeyOr (codes "branch") ms (p.1 ≡ []) (λ d. IsListUpTo 1024 (StatesBranch names) d p.1)
+
+  abbrev LimitsFault : Members → StatementFault → Type 0
+  LimitsFault ms f =
+      AtKey (codes "multiply") ms (λ d. ListUpToFault statement_faults 1024 (MultiplyFault names) d f)
+      ⊎ AtKey (codes "branch") ms (λ d. ListUpToFault statement_faults 1024 (BranchFault names) d f)
+
+  abbrev HasEach : Members → Parts → Type 0
+  HasEach ms p = (HasFrame ms p.0.0 × HasWords ms p.0.1) × (HasRules ms p.1.0 × HasLimits ms p.1.1)
+
+  abbrev EachFault : Members → StatementFault → Type 0
+  EachFault ms f = (FrameFault ms f ⊎ WordsFault ms f) ⊎ (RulesFault ms f ⊎ LimitsFault ms f)
+
+  frame_judged : (ms : Members) → Judges statement_faults (HasFrame ms) (FrameFault ms) (frame_in names ms)
+  frame_judged ms =
+      pair_judged statement_faults (λ p. AtKey (codes "entry") ms (λ d. IsAddress names d p.0) × (AtKeyOr (codes "leave") ms (p.1.0 ≡ Any) (λ d. IsNamed named_leave d p.1.0) × AtKeyOr (codes "returns") ms (p.1.1 ≡ Assumed) (λ d. IsNamed named_returns d p.1.1))) _ _ _ _ _ (pair_judged statement_faults _ _ _ _ _ _ (address_in_judged names (codes "entry") ms) (pair_judged statement_faults _ _ _ _ _ _ (leave_judged ms) (returns_judged ms))) (tables_up_to_judged statement_faults 256 (StatesLoop names) (LoopFault names) (loop_at names) (loop_judged names) (get_member (codes "loop") ms))
+
+  words_judged : (ms : Members) → Judges statement_faults (HasWords ms) (WordsFault ms) (words_in names ms)
+  words_judged ms =
+      pair_judged statement_faults _ _ _ _ _ _ (tables_up_to_judged statement_faults 1024 (StatesTarget names) (TargetFault names) (target_at names) (target_judged names) (get_member (codes "target") ms)) (tables_up_to_judged statement_faults 4096 (StatesAccess names) (AccessFault names) (access_at names) (access_judged names) (get_member (codes "access") ms))
+
+  rules_judged : (ms : Members) → Judges statement_faults (HasRules ms) (RulesFault ms) (rules_in names ms)
+  rules_judged ms =
+      tables_up_to_judged statement_faults 256 (StatesRule names) (RuleFault names) (rule_at names) (rule_judged names) (get_member (codes "base") ms)
+
+  limits_judged : (ms : Members) → Judges statement_faults (HasLimits ms) (LimitsFault ms) (limits_in names ms)
+  limits_judged ms =
+      pair_judged statement_faults _ _ _ _ _ _ (tables_up_to_judged statement_faults 1024 (StatesMultiply names) (MultiplyFault names) (multiply_at names) (multiply_judged names) (get_member (codes "multiply") ms)) (tables_up_to_judged statement_faults 1024 (StatesBranch names) (BranchFault names) (branch_at names) (branch_judged names) (get_member (codes "branch") ms))
 
   each_judged : (ms : Members) → Judges statement_faults (HasEach ms) (EachFault ms) (parts_of names ms)
   each_judged ms =
       pair_judged
       statement_faults
-      (λ p. (AtKey (codes "entry") ms (λ d. IsAddress names d p.0.0) × (AtKeyOr (codes "leave") ms (p.0.1.0 ≡ Any) (λ d. IsNamed named_leave d p.0.1.0) × AtKeyOr (codes "returns") ms (p.0.1.1 ≡ Assumed) (λ d. IsNamed named_returns d p.0.1.1))) × AtKeyOr (codes "loop") ms (p.1 ≡ []) (λ d. IsListUpTo 256 (StatesLoop names) d p.1))
-      (λ p. AtKeyOr (codes "target") ms (p.0 ≡ []) (λ d. IsListUpTo 1024 (StatesTarget names) d p.0) × AtKeyOr (codes "access") ms (p.1 ≡ []) (λ d. IsListUpTo 4096 (StatesAccess names) d p.1))
+      (λ p. HasFrame ms p.0 × HasWords ms p.1)
+      (λ p. HasRules ms p.0 × HasLimits ms p.1)
       _
       _
       _
       _
-      (pair_judged statement_faults (λ p. AtKey (codes "entry") ms (λ d. IsAddress names d p.0) × (AtKeyOr (codes "leave") ms (p.1.0 ≡ Any) (λ d. IsNamed named_leave d p.1.0) × AtKeyOr (codes "returns") ms (p.1.1 ≡ Assumed) (λ d. IsNamed named_returns d p.1.1))) _ _ _ _ _ (pair_judged statement_faults _ _ _ _ _ _ (address_in_judged names (codes "entry") ms) (pair_judged statement_faults _ _ _ _ _ _ (leave_judged ms) (returns_judged ms))) (tables_up_to_judged statement_faults 256 (StatesLoop names) (LoopFault names) (loop_at names) (loop_judged names) (get_member (codes "loop") ms)))
-      (pair_judged statement_faults _ _ _ _ _ _ (tables_up_to_judged statement_faults 1024 (StatesTarget names) (TargetFault names) (target_at names) (target_judged names) (get_member (codes "target") ms)) (tables_up_to_judged statement_faults 4096 (StatesAccess names) (AccessFault names) (access_at names) (access_judged names) (get_member (codes "access") ms)))
+      (pair_judged statement_faults (HasFrame ms) (HasWords ms) _ _ _ _ (frame_judged ms) (words_judged ms))
+      (pair_judged statement_faults (HasRules ms) (HasLimits ms) _ _ _ _ (rules_judged ms) (limits_judged ms))
 
   -- ## The whole
 
-  is_single :
-      (st : Stated)
-      → (are_distinct (keys_of st.targets) && are_distinct (keys_of st.accesses)) ≡ true ↔ IsSingle names st
-  is_single st =
-      (λ e. and_parts (are_distinct (keys_of st.targets)) (are_distinct (keys_of st.accesses)) e, λ h. both_true h.0 h.1)
+  is_single_is : (st : Stated) → is_single st ≡ true ↔ IsSingle names st
+  is_single_is st = (
+    λ e.
+        let halves = and_parts (are_distinct (keys_of st.targets) && are_distinct (keys_of st.accesses)) (are_apart st.rules && (are_distinct (keys_of st.multiplies) && are_distinct (keys_of st.branches))) e in
+        let words = and_parts (are_distinct (keys_of st.targets)) (are_distinct (keys_of st.accesses)) halves.0 in
+        let rest = and_parts (are_apart st.rules) (are_distinct (keys_of st.multiplies) && are_distinct (keys_of st.branches)) halves.1 in
+        let limits = and_parts (are_distinct (keys_of st.multiplies)) (are_distinct (keys_of st.branches)) rest.1 in
+        record { targets = words.0; accesses = words.1; rules = (apart_is st.rules).0 rest.0; multiplies = limits.0; branches = limits.1 },
+    λ h. both_true (both_true h.targets h.accesses) (both_true ((apart_is st.rules).1 h.rules) (both_true h.multiplies h.branches)),
+  )
 
   abbrev SingleFault : Members → StatementFault → Type 0
-  SingleFault ms f = (p : Parts) × HasEach ms p × ((¬ IsSingle names (made_of p)) × (f ≡ Twice))
+  SingleFault ms f = (p : Parts) × HasEach ms p × ((¬ IsSingle names (stated_by p)) × (f ≡ Twice))
 
   abbrev TwoFault : Members → StatementFault → Type 0
-  TwoFault ms f = (HasTwo names (codes "target") ms ⊎ HasTwo names (codes "access") ms) × (f ≡ Twice)
+  TwoFault ms f = IsTwice names ms × (f ≡ Twice)
 
   single_judged :
       (ms : Members)
       → Judges
       statement_faults
-      (λ st. (p : Parts) × HasEach ms p × (IsSingle names (made_of p) × (st ≡ made_of p)))
+      (λ st. (p : Parts) × HasEach ms p × (IsSingle names (stated_by p) × (st ≡ stated_by p)))
       (λ f. EachFault ms f ⊎ SingleFault ms f)
       (and_then (parts_of names ms) stated_once)
   single_judged ms =
       then_judged
       statement_faults
       (HasEach ms)
-      (λ p st. IsSingle names (made_of p) × (st ≡ made_of p))
+      (λ p st. IsSingle names (stated_by p) × (st ≡ stated_by p))
       (EachFault ms)
-      (λ p f. (¬ IsSingle names (made_of p)) × (f ≡ Twice))
+      (λ p f. (¬ IsSingle names (stated_by p)) × (f ≡ Twice))
       stated_once
-      (λ p s. test_judged statement_faults (IsSingle names (made_of p)) (made_of p) Twice (are_distinct (keys_of p.1.0) && are_distinct (keys_of p.1.1)) (is_single (made_of p)))
+      (λ p s. test_judged statement_faults (IsSingle names (stated_by p)) (stated_by p) Twice (is_single (stated_by p)) (is_single_is (stated_by p)))
       (parts_of names ms)
       (each_judged ms)
 
-  targets_two :
-      (ms : Members) (p : Parts)
-      → HasEach ms p
-      → are_distinct (keys_of p.1.0) ≡ false ↔ HasTwo names (codes "target") ms
-  targets_two ms p h =
-      keys_not_distinct
-      (IsAt names)
-      one_at
-      (StatesTarget names)
-      (entry_is_at target_keys (HasTarget names) (λ ms t s. s.address))
-      1024
-      (get_member (codes "target") ms)
-      p.1.0
-      h.1.0
+  module _ (ms : Members) (p : Parts) (h : HasEach ms p) where
+    targets_two : are_distinct (keys_of p.0.1.0) ≡ false ↔ HasTwo names (codes "target") ms
+    targets_two =
+        keys_not_distinct (IsAt names) one_at (StatesTarget names) (entry_is_at target_keys (HasTarget names) (λ ms t s. s.address)) 1024 (get_member (codes "target") ms) p.0.1.0 h.0.1.0
 
-  accesses_two :
-      (ms : Members) (p : Parts)
-      → HasEach ms p
-      → are_distinct (keys_of p.1.1) ≡ false ↔ HasTwo names (codes "access") ms
-  accesses_two ms p h =
-      keys_not_distinct
-      (IsAt names)
-      one_at
-      (StatesAccess names)
-      (entry_is_at access_keys (HasAccess names) (λ ms a s. s.address))
-      4096
-      (get_member (codes "access") ms)
-      p.1.1
-      h.1.1
+    accesses_two : are_distinct (keys_of p.0.1.1) ≡ false ↔ HasTwo names (codes "access") ms
+    accesses_two =
+        keys_not_distinct (IsAt names) one_at (StatesAccess names) (entry_is_at access_keys (HasAccess names) (λ ms a s. s.address)) 4096 (get_member (codes "access") ms) p.0.1.1 h.0.1.1
 
-  two_of : (ms : Members) (f : StatementFault) → SingleFault ms f → TwoFault ms f
-  two_of ms f u = (
-    elim (cases_Bool (are_distinct (keys_of u.0.1.0))) [
-      | inl one ↦ inr ((accesses_two ms u.0 u.1).0 (false_from_ne_true (are_distinct (keys_of u.0.1.1)) (λ e. u.2.0 (one, e))))
-      | inr two ↦ inl ((targets_two ms u.0 u.1).0 two)
-    ],
-    u.2.1,
-  )
+    rules_two : are_apart p.1.0 ≡ false ↔ HasTwoRules names ms
+    rules_two = rules_not_apart names 256 (get_member (codes "base") ms) p.1.0 h.1.0
 
-  -- two entries of one address are reported, or a fault that is no higher
+    multiplies_two : are_distinct (keys_of p.1.1.0) ≡ false ↔ HasTwo names (codes "multiply") ms
+    multiplies_two =
+        keys_not_distinct (IsAt names) one_at (StatesMultiply names) (entry_is_at multiply_keys (HasMultiply names) (λ ms m s. s.address)) 1024 (get_member (codes "multiply") ms) p.1.1.0 h.1.1.0
+
+    branches_two : are_distinct (keys_of p.1.1.1) ≡ false ↔ HasTwo names (codes "branch") ms
+    branches_two =
+        keys_not_distinct (IsAt names) one_at (StatesBranch names) (entry_is_at branch_keys (HasBranch names) (λ ms b s. s.address)) 1024 (get_member (codes "branch") ms) p.1.1.1 h.1.1.1
+
+    not_single : IsTwice names ms → ¬ IsSingle names (stated_by p)
+    not_single (inl t) s = false≢true (sym (targets_two.1 t) ∙ s.targets)
+    not_single (inr (inl t)) s = false≢true (sym (accesses_two.1 t) ∙ s.accesses)
+    not_single (inr (inr (inl t))) s = false≢true (sym (rules_two.1 t) ∙ (apart_is p.1.0).1 s.rules)
+    not_single (inr (inr (inr (inl t)))) s = false≢true (sym (multiplies_two.1 t) ∙ s.multiplies)
+    not_single (inr (inr (inr (inr t)))) s = false≢true (sym (branches_two.1 t) ∙ s.branches)
+
+    is_twice : ¬ IsSingle names (stated_by p) → IsTwice names ms
+    is_twice several = elim (cases_Bool (are_distinct (keys_of p.0.1.0))) [
+      | inr two ↦ inl (targets_two.0 two)
+      | inl targets ↦ elim (cases_Bool (are_distinct (keys_of p.0.1.1))) [
+        | inr two ↦ inr (inl (accesses_two.0 two))
+        | inl accesses ↦ elim (cases_Bool (are_apart p.1.0)) [
+          | inr two ↦ inr (inr (inl (rules_two.0 two)))
+          | inl rules ↦ elim (cases_Bool (are_distinct (keys_of p.1.1.0))) [
+            | inr two ↦ inr (inr (inr (inl (multiplies_two.0 two))))
+            | inl multiplies ↦ inr (inr (inr (inr (branches_two.0 (false_from_ne_true (are_distinct (keys_of p.1.1.1)) (λ branches. several (record { targets = targets; accesses = accesses; rules = (apart_is p.1.0).0 rules; multiplies = multiplies; branches = branches })))))))
+          ]
+        ]
+      ]
+    ]
+
+  -- two entries where there may be one are reported, or a fault that is no higher
   two_under :
       (ms : Members) (f : StatementFault)
       → TwoFault ms f
@@ -231,17 +282,9 @@ module _ (names : Names) where
   two_under ms f h =
       elim
       (stated_or_faulty statement_faults (HasEach ms) (EachFault ms) (parts_of names ms) (each_judged ms)) [
-        | inl p ↦ (Twice, inr (p.0, p.1, (not_single p.0 p.1 h.0, refl)), le_of_eq (ap number_of (sym h.1)))
+        | inl p ↦ (Twice, inr (p.0, p.1, (not_single ms p.0 p.1 h.0, refl)), le_of_eq (ap number_of (sym h.1)))
         | inr g ↦ (g.0, inl g.1, subst (λ (y : StatementFault). number_of g.0 ≤ number_of y) (sym h.1) (twice_last g.0))
       ]
-    where
-      not_single :
-          (p : Parts)
-          → HasEach ms p
-          → HasTwo names (codes "target") ms ⊎ HasTwo names (codes "access") ms
-          → ¬ IsSingle names (made_of p)
-      not_single p e (inl t) s = false≢true (sym ((targets_two ms p e).1 t) ∙ s.0)
-      not_single p e (inr t) s = false≢true (sym ((accesses_two ms p e).1 t) ∙ s.1)
 
   parts_judged :
       (ms : Members)
@@ -253,7 +296,7 @@ module _ (names : Names) where
   parts_judged ms =
       judged_as
       statement_faults
-      (λ st. (p : Parts) × HasEach ms p × (IsSingle names (made_of p) × (st ≡ made_of p)))
+      (λ st. (p : Parts) × HasEach ms p × (IsSingle names (stated_by p) × (st ≡ stated_by p)))
       (λ st. HasParts names ms st × IsSingle names st)
       (λ f. EachFault ms f ⊎ TwoFault ms f)
       (PartsFault names ms)
@@ -261,16 +304,26 @@ module _ (names : Names) where
         λ u. subst (λ (s : Stated). HasParts names ms s × IsSingle names s) (sym u.2.1) (of_each u.0 u.1, u.2.0),
         λ h. (split st, each_of st h.0, (h.1, refl)),
       ))
-      (λ f. seven_in_line)
+      (λ f. in_line)
       (and_then (parts_of names ms) stated_once)
-      (widened_judged statement_faults _ (EachFault ms) (SingleFault ms) (TwoFault ms) (two_of ms) (two_under ms) (and_then (parts_of names ms) stated_once) (single_judged ms))
+      (widened_judged statement_faults _ (EachFault ms) (SingleFault ms) (TwoFault ms) (λ f u. (is_twice ms u.0 u.1 u.2.0, u.2.1)) (two_under ms) (and_then (parts_of names ms) stated_once) (single_judged ms))
     where
-      of_each : (p : Parts) → HasEach ms p → HasParts names ms (made_of p)
-      of_each p s =
-          record { entry = s.0.0.0; leave = s.0.0.1.0; returns = s.0.0.1.1; loops = s.0.1; targets = s.1.0; accesses = s.1.1 }
+      of_each : (p : Parts) → HasEach ms p → HasParts names ms (stated_by p)
+      of_each p s = record {
+        entry = s.0.0.0.0;
+        leave = s.0.0.0.1.0;
+        returns = s.0.0.0.1.1;
+        loops = s.0.0.1;
+        targets = s.0.1.0;
+        accesses = s.0.1.1;
+        rules = s.1.0;
+        multiplies = s.1.1.0;
+        branches = s.1.1.1;
+      }
 
       each_of : (st : Stated) → HasParts names ms st → HasEach ms (split st)
-      each_of st h = (((h.entry, (h.leave, h.returns)), h.loops), (h.targets, h.accesses))
+      each_of st h =
+          ((((h.entry, (h.leave, h.returns)), h.loops), (h.targets, h.accesses)), (h.rules, (h.multiplies, h.branches)))
 
   document_judged :
       (ms : Members)

@@ -8,3 +8,6 @@ pub mod RepeatLemmas
 pub mod PlaceLemmas
 pub mod SpotLemmas
 pub mod KeyLemmas
+pub mod MeetLemmas
+pub mod StretchLemmas
+pub mod CycleLemmas

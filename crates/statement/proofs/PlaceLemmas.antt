@@ -1,5 +1,5 @@
 -- What is tested at a spot, against the fault that the document has there.
-use Rattle.std.proofs.Common.{◌≡◌, ◌⊎◌, ℕ, ℤ, ◌||◌, ◌<◌, ◌≤◌, ◌↔◌, Bool, true, false, not, ◌&&◌, cond, eqb, leb, ltb, List, [], length, map, Option, Some, None, Ok, Err, IsSomeAnd, MatchOption, inl, inr, refl, sym, ap, subst, ◌∙◌, option_map}
+use Rattle.std.proofs.Common.{◌≡◌, ◌⊎◌, ℕ, ℤ, ◌-◌, arith, ◌||◌, ◌<◌, ◌≤◌, ◌↔◌, Bool, true, false, not, ◌&&◌, cond, eqb, leb, ltb, List, [], length, map, Option, Some, None, Ok, Err, IsSomeAnd, MatchOption, inl, inr, refl, sym, ap, subst, ◌∙◌, option_map}
 use Rattle.std.specs.Prelude.{codes, is_none, is_some, IsSome}
 use Rattle.std.specs.Cmp.Derive.{both_true}
 use Rattle.std.specs.List.{slice_get}
@@ -16,26 +16,30 @@ use Rattle.toml_reading.specs.Lowest.{AtKey, IsNamed, NameFault, NumberFault, en
 use Rattle.toml_reading.proofs.LowestLemmas.{AnswersBy, Judges, judged_value, one_by_rank}
 use Rattle.toml_reading.proofs.LowestParts.{number_in_judged}
 use Rattle.image.specs.Labels.{Names}
-use Rattle.statement.specs.PlaceTests.{address_of_entry, address_of_table, address_of_value, destination_gives, destinations_of, entry_at, found, gives, goes_on, has_no_destinations, holds_of, is_no_list, is_no_table, is_outside, is_same, is_set, is_too_long, is_unwanted, key_gives, kind_goes, lies_outside, part_gives, repeats, repeats_of, stays, table_at}
-use Rattle.statement.specs.Places.{DestinationFault, GoesOn, InTable, IsFaultAt, IsRepeatAt, KeyFault, PartFault, has_destinations, key_name, keys_of, list_key, most_of}
-use Rattle.statement.specs.Statement.{Read, address_at, address_in, kind_in, named_class, named_kind, named_leave, named_returns}
+use Rattle.statement.specs.PlaceTests.{is_second, address_of_entry, address_of_table, address_of_value, destination_gives, destinations_of, ends_early, entry_at, found, gives, goes_on, has_no_destinations, holds_of, is_no_list, is_no_table, is_outside, is_reversed, is_same, is_set, is_too_long, is_unwanted, key_gives, kind_goes, lies_outside, part_gives, repeats, repeats_of, stays, table_at}
+use Rattle.statement.specs.Places.{DestinationFault, GoesOn, InTable, IsFaultAt, IsRepeatAt, IsSecond, KeyFault, PartFault, has_destinations, key_name, keys_of, list_key, most_of}
+use Rattle.statement.specs.Statement.{Read, address_at, address_in, address_or, first_in, kind_in, last_in, named_class, named_kind, named_leave, named_returns, named_taken}
 use Rattle.statement.specs.StatementFaults.{number_of, statement_faults}
-use Rattle.statement.specs.StatementRules.{AddressFault, IsAddress, IsAt, IsMisplaced, NamesLabel, RequiredFault}
+use Rattle.statement.specs.StatementRules.{AddressFault, CyclesFault, IsAddress, IsAt, IsFirst, IsLast, IsMisplaced, IsReversed, NamesLabel, RequiredFault}
+use Rattle.asm_text.specs.Registers.{register_of}
+use Rattle.bus_ticks.specs.declared.space.TheConstants.{SPACE_END}
 use Rattle.statement.specs.declared.faults.StatementFault.{StatementFault}
 use Rattle.statement.specs.declared.faults.StatementFault.TheVariants.{OutOfRange, Twice, UnknownKey, UnknownLabel, WrongKind}
 use Rattle.statement.specs.declared.spots.Key.{Key}
-use Rattle.statement.specs.declared.spots.Key.TheVariants.{Entry, Leave, Returns, Header, First, Last, Bound, At, Kind, To, Class}
+use Rattle.statement.specs.declared.spots.Key.TheVariants.{Entry, Leave, Returns, Header, First, Last, Bound, At, Kind, To, Class, Register as Base, Cycles, Taken}
 use Rattle.statement.specs.declared.spots.Part.{Part}
 use Rattle.statement.specs.declared.spots.Part.TheVariants.{Unknown, Value, Missing}
 use Rattle.statement.specs.declared.spots.Spot.{Spot}
 use Rattle.statement.specs.declared.spots.Spot.TheVariants as spot
 use Rattle.statement.specs.declared.spots.TableList.{TableList}
-use Rattle.statement.specs.declared.spots.TableList.TheVariants.{Loops, Targets, Accesses}
+use Rattle.statement.specs.declared.spots.TableList.TheVariants.{Loops, Targets, Accesses, Rules, Multiplies, Branches}
 use Rattle.statement.specs.declared.stated.Loop.{Loop}
 use Rattle.statement.specs.declared.stated.TargetKind.{TargetKind}
 use Rattle.statement.proofs.DocumentLemmas.{fault_at, leave_judged, numbered_back, returns_judged}
 use Rattle.statement.proofs.RepeatLemmas.{and_is, false_unless_none, holds_inside, holds_is, none_is, not_is, ok_is, or_is, repeat_is, same_test, true_unless_none}
-use Rattle.statement.proofs.RuleLemmas.{address_in_judged, address_judged, word_in_judged}
+use Rattle.statement.proofs.MeetLemmas.{meeting_is}
+use Rattle.statement.proofs.RuleLemmas.{address_in_judged, address_judged, address_or_judged, word_in_judged}
+use Rattle.statement.proofs.TableLemmas.{cycles_in_judged}
 
 -- ## Faults
 
@@ -183,6 +187,13 @@ module _ (names : Names) where
       gives_is _ (RequiredFault key ms (AddressFault names)) (address_in names key ms) (address_in_judged names key ms)
       (single_required (AddressFault names) single_address (get_member key ms)) f
 
+  optional_key :
+      (key : List ℕ) (missing : ℕ) (ms : Members) (f : StatementFault)
+      → gives (address_or names key missing ms) f ≡ true ↔ AtKey key ms (λ d. AddressFault names d f)
+  optional_key key missing ms f =
+      gives_is _ (λ g. AtKey key ms (λ d. AddressFault names d g)) (address_or names key missing ms) (address_or_judged names key missing ms)
+      (single_optional (AddressFault names) single_address (get_member key ms)) f
+
   -- ## Keys
 
   key_is : (of : Option TableList) (key : Key) (ms : Members) (f : StatementFault) → key_gives names of key ms f ≡ true ↔ KeyFault names of key ms f
@@ -216,6 +227,25 @@ module _ (names : Names) where
       gives_is _ (RequiredFault (codes "class") ms (NameFault statement_faults named_class)) _ (word_in_judged named_class (codes "class") ms)
       (single_required (NameFault statement_faults named_class) (single_name named_class) (get_member (codes "class") ms)) f
   key_is (Some Accesses) _ ms f = (λ e. absurd (false≢true e), λ h. absurd h)
+  key_is (Some Rules) Base ms f =
+      gives_is _ (RequiredFault (codes "register") ms (NameFault statement_faults register_of)) _ (word_in_judged register_of (codes "register") ms)
+      (single_required (NameFault statement_faults register_of) (single_name register_of) (get_member (codes "register") ms)) f
+  key_is (Some Rules) Class ms f =
+      gives_is _ (RequiredFault (codes "class") ms (NameFault statement_faults named_class)) _ (word_in_judged named_class (codes "class") ms)
+      (single_required (NameFault statement_faults named_class) (single_name named_class) (get_member (codes "class") ms)) f
+  key_is (Some Rules) First ms f = optional_key (codes "first") 0 ms f
+  key_is (Some Rules) Last ms f = optional_key (codes "last") (SPACE_END - 4) ms f
+  key_is (Some Rules) _ ms f = (λ e. absurd (false≢true e), λ h. absurd h)
+  key_is (Some Multiplies) At ms f = address_key (codes "at") ms f
+  key_is (Some Multiplies) Cycles ms f =
+      gives_is _ (RequiredFault (codes "cycles") ms CyclesFault) _ (cycles_in_judged ms)
+      (single_required CyclesFault (λ d. single_number (as_integer d) _) (get_member (codes "cycles") ms)) f
+  key_is (Some Multiplies) _ ms f = (λ e. absurd (false≢true e), λ h. absurd h)
+  key_is (Some Branches) At ms f = address_key (codes "at") ms f
+  key_is (Some Branches) Taken ms f =
+      gives_is _ (RequiredFault (codes "taken") ms (NameFault statement_faults named_taken)) _ (word_in_judged named_taken (codes "taken") ms)
+      (single_required (NameFault statement_faults named_taken) (single_name named_taken) (get_member (codes "taken") ms)) f
+  key_is (Some Branches) _ ms f = (λ e. absurd (false≢true e), λ h. absurd h)
 
   part_is : (of : Option TableList) (part : Part) (ms : Members) (f : StatementFault) → part_gives names of part ms f ≡ true ↔ PartFault names of part ms f
   part_is of (Unknown key) ms f =
@@ -282,6 +312,38 @@ module _ (names : Names) where
         λ h. by.1 (h.0, h.1, h.2, (address_read (codes "first") ms h.0).1 h.3, (address_read (codes "last") ms h.1).1 h.4, (address_read (codes "header") ms h.2).1 h.5, h.6),
       )
 
+  -- ## Rules
+
+  abbrev EndsEarly : Read ℕ → Read ℕ → Type 0
+  EndsEarly r s = (first : ℕ) × (last : ℕ) × (r ≡ Ok first) × (s ≡ Ok last) × (last < first)
+
+  early_by : (r s : Read ℕ) → ends_early r s ≡ true ↔ EndsEarly r s
+  early_by (Ok first) (Ok last) = (
+    λ e. (first, last, refl, refl, ltb-true last first e),
+    λ h.
+        let is_first = same_Some first h.0 (ap result_ok h.2) in
+        let is_last = same_Some last h.1 (ap result_ok h.3) in
+        let low = h.4 in
+        lt-ltb last first (omega arith),
+  )
+  early_by (Ok first) (Err g) = (λ e. absurd (false≢true e), λ h. absurd (no_value g h.1 h.3))
+  early_by (Err g) s = (λ e. absurd (false≢true e), λ h. absurd (no_value g h.0 h.2))
+
+  first_read : (ms : Members) (a : ℕ) → first_in names ms ≡ Ok a ↔ IsFirst names ms a
+  first_read ms a =
+      judged_value statement_faults (IsFirst names ms) (λ f. AtKey (codes "first") ms (λ d. AddressFault names d f)) (first_in names ms) (address_or_judged names (codes "first") 0 ms) a
+
+  last_read : (ms : Members) (a : ℕ) → last_in names ms ≡ Ok a ↔ IsLast names ms a
+  last_read ms a =
+      judged_value statement_faults (IsLast names ms) (λ f. AtKey (codes "last") ms (λ d. AddressFault names d f)) (last_in names ms) (address_or_judged names (codes "last") (SPACE_END - 4) ms) a
+
+  reversed_is : (ms : Members) → is_reversed names ms ≡ true ↔ IsReversed names ms
+  reversed_is ms =
+      let by = early_by (first_in names ms) (last_in names ms) in (
+        λ e. let h = by.0 e in (h.0, h.1, (first_read ms h.0).0 h.2, (last_read ms h.1).0 h.3, h.4),
+        λ h. by.1 (h.0, h.1, (first_read ms h.0).1 h.2, (last_read ms h.1).1 h.3, h.4),
+      )
+
   -- ## Repeats
 
   value_number : (d : Data) (a : ℕ) → address_of_value names d ≡ Some a ↔ IsAddress names d a
@@ -299,11 +361,18 @@ module _ (names : Names) where
   entry_number d a = entry_by (as_table d) a
 
   entry_repeat :
-      (key : List ℕ) (ms : Members) (n : ℕ) (f : StatementFault)
-      → (is_same Twice f && is_set (repeats (map (address_of_entry names) (entries_at key ms))) n) ≡ true
-      ↔ (IsRepeatAt (IsAt names) (entries_at key ms) n × (f ≡ Twice))
-  entry_repeat key ms n f =
-      beside Twice f _ _ (repeat_is (IsAt names) (address_of_entry names) entry_number (entries_at key ms) n)
+      (key : List ℕ) (ms : Members) (n : ℕ)
+      → is_set (repeats (map (address_of_entry names) (entries_at key ms))) n ≡ true
+      ↔ IsRepeatAt (IsAt names) (entries_at key ms) n
+  entry_repeat key ms n = repeat_is (IsAt names) (address_of_entry names) entry_number (entries_at key ms) n
+
+  second_is : (list : TableList) (n : ℕ) (ms : Members) → is_second names list n ms ≡ true ↔ IsSecond names list n ms
+  second_is Loops n ms = (λ e. absurd (false≢true e), λ h. absurd h)
+  second_is Targets n ms = entry_repeat (codes "target") ms n
+  second_is Accesses n ms = entry_repeat (codes "access") ms n
+  second_is Rules n ms = meeting_is names (entries_at (codes "base") ms) n
+  second_is Multiplies n ms = entry_repeat (codes "multiply") ms n
+  second_is Branches n ms = entry_repeat (codes "branch") ms n
 
   -- ## Destinations
 
@@ -403,6 +472,6 @@ module _ (names : Names) where
       (in_table Targets n ms OutOfRange f is_too_long (λ t. GoesOn true t × (64 < length (entries_at (codes "to") t))) long_is)
       (three_inside as_table (GoesOn true) (λ t. 64 < length (entries_at (codes "to") t)) (f ≡ OutOfRange) (entry_at Targets n ms))
   found_is ms (spot.Destination n i) f = destination_in i f (entry_at Targets n ms)
-  found_is ms (spot.Second Loops n) f = (λ e. absurd (false≢true (sym (and-false (is_same Twice f)) ∙ e)), λ h. absurd h)
-  found_is ms (spot.Second Targets n) f = entry_repeat (codes "target") ms n f
-  found_is ms (spot.Second Accesses n) f = entry_repeat (codes "access") ms n f
+  found_is ms (spot.Reversed n) f = in_table Rules n ms OutOfRange f (is_reversed names) (IsReversed names) reversed_is
+  found_is ms (spot.Second list n) f =
+      beside Twice f (is_second names list n ms) (IsSecond names list n ms) (second_is list n ms)

@@ -17,7 +17,7 @@ use Rattle.toml_reading.specs.Lists.{HasRepeat}
 use Rattle.toml_reading.proofs.LowestParts.{any_cases, any_first, any_later, any_none}
 use Rattle.statement.specs.Statement.{Read}
 use Rattle.statement.specs.Places.{IsRepeatAt}
-use Rattle.statement.specs.PlaceTests.{IsStored, destination_repeats, entry_at, holds_of, is_among, is_number, is_set, repeats, repeats_after, repeats_of, was_there}
+use Rattle.statement.specs.PlaceTests.{IsStored, destination_repeats, entry_at, holds_of, is_among, is_number, is_set, repeats, repeats_of, tests_after, was_there}
 
 -- ## Tests
 
@@ -91,15 +91,16 @@ module _ {X : Type 0} (P : X → Type 0) where
 
 -- ## Repeats
 
-repeat_get :
-    (before ns : List (Option ℕ)) (n : ℕ)
-    → slice_get (repeats_after before ns) n ≡ option_map (was_there (before ++ take n ns)) (slice_get ns n)
-unfolding repeats_after
-repeat_get before [] n = refl
-repeat_get before (x ∷ ns) zero = ap (λ b. Some (was_there b x)) (sym (append-nil before))
-repeat_get before (x ∷ ns) (suc n) =
-    repeat_get (before ++ x ∷ []) ns n
-    ∙ ap (λ b. option_map (was_there b) (slice_get ns n)) (append_assoc before (x ∷ []) (take n ns))
+module _ {A : Type 0} (test : List A → A → Bool) where
+  pub repeat_get :
+      (before xs : List A) (n : ℕ)
+      → slice_get (tests_after test before xs) n ≡ option_map (test (before ++ take n xs)) (slice_get xs n)
+  unfolding tests_after
+  repeat_get before [] n = refl
+  repeat_get before (x ∷ xs) zero = ap (λ b. Some (test b x)) (sym (append-nil before))
+  repeat_get before (x ∷ xs) (suc n) =
+      repeat_get (before ++ x ∷ []) xs n
+      ∙ ap (λ b. option_map (test b) (slice_get xs n)) (append_assoc before (x ∷ []) (take n xs))
 
 module _ (Is : Data → ℕ → Type 0) (num : Data → Option ℕ) (reads : (d : Data) (a : ℕ) → num d ≡ Some a ↔ Is d a) where
   number_is : (o : Option ℕ) (a : ℕ) → is_number a o ≡ true ↔ (o ≡ Some a)
@@ -139,7 +140,7 @@ module _ (Is : Data → ℕ → Type 0) (num : Data → Option ℕ) (reads : (d 
   -- a value is one that an earlier one is, by their numbers
   pub repeat_is : (ds : List Data) (n : ℕ) → is_set (repeats (map num ds)) n ≡ true ↔ IsRepeatAt Is ds n
   repeat_is ds n =
-      let get = repeat_get [] (map num ds) n in
+      let get = repeat_get was_there [] (map num ds) n in
       let same : is_set (repeats (map num ds)) n ≡ unwrap_or (option_map (was_there (map num (take n ds))) (option_map num (slice_get ds n))) false =
       ap (λ o. unwrap_or o false) (get ∙ (λ i. option_map (was_there (take-map num n ds i)) (slice_get-map num ds n i))) in
       let is = set_is (take n ds) (slice_get ds n) in
@@ -169,62 +170,63 @@ pub map_twice : {A B C : Type 0} (f : B → C) (g : A → B) (xs : List A) → m
 map_twice f g [] = refl
 map_twice f g (x ∷ xs) = ap (λ ys. f (g x) ∷ ys) (map_twice f g xs)
 
-repeats_rest :
-    (before ns : List (Option ℕ)) (n : Option ℕ)
-    → repeats_after before (n ∷ ns) ≡ was_there before n ∷ repeats_after (before ++ n ∷ []) ns
-unfolding repeats_after
-repeats_rest before ns n = refl
-
-pub repeats_none : (before : List (Option ℕ)) → repeats_after before [] ≡ []
-unfolding repeats_after
-repeats_none before = refl
-
-pub take_next : (xs : List (Option ℕ)) (i : ℕ) (d : Option ℕ) → i < length xs → take i xs ++ get_or xs i d ∷ [] ≡ take (i + 1) xs
-take_next xs i d low = sym (rw add-one (take-suc xs i d low))
-
 drop_past : {A : Type 0} (i : ℕ) (xs : List A) → length xs ≤ i → drop i xs ≡ []
 drop_past zero [] h = refl
 drop_past zero (x ∷ xs) h = absurd (omega arith)
 drop_past (suc i) [] h = refl
 drop_past (suc i) (x ∷ xs) h = drop_past i xs (omega arith)
 
--- no number more
-pub all_tested :
-    (xs : List (Option ℕ)) (tests : List Bool) (i : ℕ)
-    → length xs ≤ i
-    → tests ++ repeats_after (take i xs) (drop i xs) ≡ repeats_after [] xs
-    → tests ≡ repeats xs
-all_tested xs tests i past h =
-    sym (append-nil tests)
-    ∙ sym (ap (λ ys. tests ++ ys) (ap (repeats_after (take i xs)) (drop_past i xs past) ∙ repeats_none (take i xs)))
-    ∙ h
+pub take_next : {A : Type 0} (xs : List A) (i : ℕ) (d : A) → i < length xs → take i xs ++ get_or xs i d ∷ [] ≡ take (i + 1) xs
+take_next xs i d low = sym (rw add-one (take-suc xs i d low))
 
--- one number more
-pub repeats_more :
-    (xs : List (Option ℕ)) (tests : List Bool) (i : ℕ) (d : Option ℕ) (known : Bool)
-    → i < length xs
-    → known ≡ was_there (take i xs) (get_or xs i d)
-    → tests ++ repeats_after (take i xs) (drop i xs) ≡ repeats_after [] xs
-    → (tests ++ known ∷ []) ++ repeats_after (take (i + 1) xs) (drop (i + 1) xs) ≡ repeats_after [] xs
-repeats_more xs tests i d known low is h =
-    let rest : drop i xs ≡ get_or xs i d ∷ drop (i + 1) xs = rw add-one (drop-cons xs i d low) in
-    let front = sym (take_next xs i d low) in
-    append_assoc tests (known ∷ []) (repeats_after (take (i + 1) xs) (drop (i + 1) xs))
-    ∙ ap (λ ys. tests ++ ys) (
-    (λ j. is j ∷ repeats_after (front j) (drop (i + 1) xs))
-    ∙ sym (repeats_rest (take i xs) (drop (i + 1) xs) (get_or xs i d))
-    ∙ ap (repeats_after (take i xs)) (sym rest)
-    )
-    ∙ h
+module _ {A : Type 0} (test : List A → A → Bool) where
+  tests_rest :
+      (before xs : List A) (x : A)
+      → tests_after test before (x ∷ xs) ≡ test before x ∷ tests_after test (before ++ x ∷ []) xs
+  unfolding tests_after
+  tests_rest before xs x = refl
 
-module _ (names : Names) (ms : Members) (targets accesses : List Bool) (rows : List (Vec Bool Global)) where
+  tests_none : (before : List A) → tests_after test before [] ≡ []
+  unfolding tests_after
+  tests_none before = refl
+
+  -- no value more
+  pub all_tested :
+      (xs : List A) (tests : List Bool) (i : ℕ)
+      → length xs ≤ i
+      → tests ++ tests_after test (take i xs) (drop i xs) ≡ tests_after test [] xs
+      → tests ≡ tests_after test [] xs
+  all_tested xs tests i past h =
+      sym (append-nil tests)
+      ∙ sym (ap (λ ys. tests ++ ys) (ap (tests_after test (take i xs)) (drop_past i xs past) ∙ tests_none (take i xs)))
+      ∙ h
+
+  -- one value more
+  pub tests_more :
+      (xs : List A) (tests : List Bool) (i : ℕ) (d : A) (known : Bool)
+      → i < length xs
+      → known ≡ test (take i xs) (get_or xs i d)
+      → tests ++ tests_after test (take i xs) (drop i xs) ≡ tests_after test [] xs
+      → (tests ++ known ∷ []) ++ tests_after test (take (i + 1) xs) (drop (i + 1) xs) ≡ tests_after test [] xs
+  tests_more xs tests i d known low is h =
+      let rest : drop i xs ≡ get_or xs i d ∷ drop (i + 1) xs = rw add-one (drop-cons xs i d low) in
+      let front = sym (take_next xs i d low) in
+      append_assoc tests (known ∷ []) (tests_after test (take (i + 1) xs) (drop (i + 1) xs))
+      ∙ ap (λ ys. tests ++ ys) (
+      (λ j. is j ∷ tests_after test (front j) (drop (i + 1) xs))
+      ∙ sym (tests_rest (take i xs) (drop (i + 1) xs) (get_or xs i d))
+      ∙ ap (tests_after test (take i xs)) (sym rest)
+      )
+      ∙ h
+
+module _ (names : Names) (ms : Members) (targets accesses rules multiplies branches : List Bool) (rows : List (Vec Bool Global)) where
   tests_of : (o : Option Data) → unwrap_or (option_map (destination_repeats names) o) [] ≡ repeats_of names o
   tests_of None = refl
   tests_of (Some d) = refl
 
   -- the tests of a target's destinations
   pub row_is :
-      IsStored names ms targets accesses rows
+      IsStored names ms targets accesses rules multiplies branches rows
       → (n : ℕ) (o : Option (Vec Bool Global))
       → o ≡ slice_get rows n
       → unwrap_or (option_map (λ v. v.items) o) [] ≡ repeats_of names (entry_at Targets n ms)

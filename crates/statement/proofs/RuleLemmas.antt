@@ -2,15 +2,15 @@
 use Rattle.std.proofs.Common.{◌≡◌, ℕ, ◌∙◌, List, Option, sym}
 use Rattle.toml.specs.Data.{Data, Members, string, integer, get_member}
 use Rattle.toml_reading.specs.Documents.{name_at}
-use Rattle.toml_reading.specs.Lowest.{AtKey, IsNamed, NameFault}
+use Rattle.toml_reading.specs.Lowest.{AtKey, AtKeyOr, IsNamed, NameFault}
 use Rattle.toml_reading.specs.Readings.{required}
 use Rattle.toml_reading.proofs.AddressLemmas.{integer_judged}
 use Rattle.toml_reading.proofs.Following.{refusal_judged}
-use Rattle.toml_reading.proofs.LowestLemmas.{Judges, judged_one, required_judged}
+use Rattle.toml_reading.proofs.LowestLemmas.{Judges, judged_one, optional_judged, required_judged}
 use Rattle.toml_reading.proofs.LowestParts.{named_judged, whole_same}
 use Rattle.statement.specs.StatementRules.{AddressFault, IsAddress, RequiredFault, TextFault}
 use Rattle.image.specs.Labels.{Names}
-use Rattle.statement.specs.Statement.{address_at, address_in, text_address}
+use Rattle.statement.specs.Statement.{address_at, address_in, address_or, text_address}
 use Rattle.statement.specs.StatementFaults.{statement_faults}
 use Rattle.statement.proofs.OffsetLemmas.{text_judged}
 use Rattle.statement.specs.declared.faults.StatementFault.TheVariants.{WrongKind}
@@ -38,6 +38,24 @@ address_in_judged names key ms =
     (AddressFault names)
     (address_at names)
     (address_judged names)
+    (get_member key ms)
+
+-- the same where the key may be missing
+pub address_or_judged :
+    (names : Names) (key : List ℕ) (missing : ℕ) (ms : Members)
+    → Judges
+    statement_faults
+    (λ a. AtKeyOr key ms (a ≡ missing) (λ d. IsAddress names d a))
+    (λ f. AtKey key ms (λ d. AddressFault names d f))
+    (address_or names key missing ms)
+address_or_judged names key missing ms =
+    optional_judged
+    statement_faults
+    (IsAddress names)
+    (AddressFault names)
+    (address_at names)
+    (address_judged names)
+    missing
     (get_member key ms)
 
 -- an address is one

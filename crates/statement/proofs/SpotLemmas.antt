@@ -17,20 +17,20 @@ use Rattle.toml_reading.specs.Documents.{has_only_keys, is_one_of, items_at}
 use Rattle.toml_reading.specs.Lists.{HasRepeat, ListUpToFault}
 use Rattle.toml_reading.specs.Lowest.{AtKey, IsNamed, KeysFault, TableFault, entries_at}
 use Rattle.image.specs.Labels.{Names}
-use Rattle.statement.specs.Places.{DestinationFault, GoesOn, InTable, IsFaultAt, IsRepeatAt, KeyFault, PartFault, has_destinations, key_name, keys_of, list_key, most_of}
-use Rattle.statement.specs.Statement.{access_keys, loop_keys, named_kind, target_keys}
+use Rattle.statement.specs.Places.{DestinationFault, GoesOn, InTable, IsFaultAt, IsRepeatAt, IsSecond, KeyFault, PartFault, has_destinations, key_name, keys_of, list_key, most_of}
+use Rattle.statement.specs.Statement.{access_keys, branch_keys, loop_keys, multiply_keys, named_kind, rule_keys, target_keys}
 use Rattle.statement.specs.StatementFaults.{statement_faults}
-use Rattle.statement.specs.StatementRules.{AccessKeysFault, AddressFault, DestinationsFault, HasFault, IsAddress, IsAt, IsMisplaced, LoopKeysFault, PartsFault, TargetKeysFault, ToFault}
+use Rattle.statement.specs.StatementRules.{AccessKeysFault, AddressFault, BranchKeysFault, DestinationsFault, HasFault, IsAddress, IsAt, IsMisplaced, IsReversed, IsRuleAt, IsTwice, LoopKeysFault, MultiplyKeysFault, PartsFault, RuleKeysFault, TargetKeysFault, ToFault}
 use Rattle.statement.specs.declared.faults.StatementFault.{StatementFault}
 use Rattle.statement.specs.declared.faults.StatementFault.TheVariants.{OutOfRange, Twice, UnknownKey, WrongKind}
 use Rattle.statement.specs.declared.spots.Key.{Key}
-use Rattle.statement.specs.declared.spots.Key.TheVariants.{Entry, Leave, Returns, Header, First, Last, Bound, At, Kind, To, Class}
+use Rattle.statement.specs.declared.spots.Key.TheVariants.{Entry, Leave, Returns, Header, First, Last, Bound, At, Kind, To, Class, Register as Base, Cycles, Taken}
 use Rattle.statement.specs.declared.spots.Part.{Part}
 use Rattle.statement.specs.declared.spots.Part.TheVariants.{Unknown, Value, Missing}
 use Rattle.statement.specs.declared.spots.Spot.{Spot}
 use Rattle.statement.specs.declared.spots.Spot.TheVariants as spot
 use Rattle.statement.specs.declared.spots.TableList.{TableList}
-use Rattle.statement.specs.declared.spots.TableList.TheVariants.{Loops, Targets, Accesses}
+use Rattle.statement.specs.declared.spots.TableList.TheVariants.{Loops, Targets, Accesses, Rules, Multiplies, Branches}
 use Rattle.statement.specs.declared.stated.TargetKind.{TargetKind}
 use Rattle.statement.specs.declared.stated.TargetKind.TheVariants.{Jump, Call, Return, Leave as Leaving}
 use Rattle.statement.proofs.RepeatLemmas.{any_index, index_any, index_repeat, repeat_index, some_or_none}
@@ -235,6 +235,84 @@ module _ (names : Names) where
     | inr k ↦ inr (access_key_fault k.0 t f k.1)
   ]
 
+  -- ## Multiplies and branches
+
+  multiply_spot :
+      (t : Members) (f : StatementFault)
+      → KeysFault statement_faults multiply_keys (MultiplyKeysFault names) t f
+      → (p : Part) × PartFault names (Some Multiplies) p t f
+  multiply_spot t f (inl h) = unknown_part (Some Multiplies) t f h.0 h.1
+  multiply_spot t f (inr (inl h)) = key_part (Some Multiplies) At t f h
+  multiply_spot t f (inr (inr h)) = key_part (Some Multiplies) Cycles t f h
+
+  multiply_key_fault : (key : Key) (t : Members) (f : StatementFault) → KeyFault names (Some Multiplies) key t f → MultiplyKeysFault names t f
+  multiply_key_fault At t f h = inl h
+  multiply_key_fault Cycles t f h = inr h
+  multiply_key_fault _ t f h = absurd h
+
+  multiply_part_fault :
+      (p : Part) (t : Members) (f : StatementFault)
+      → PartFault names (Some Multiplies) p t f
+      → KeysFault statement_faults multiply_keys (MultiplyKeysFault names) t f
+  multiply_part_fault p t f h = elim (part_cases (Some Multiplies) p t f h) [
+    | inl u ↦ inl u
+    | inr k ↦ inr (multiply_key_fault k.0 t f k.1)
+  ]
+
+  branch_spot :
+      (t : Members) (f : StatementFault)
+      → KeysFault statement_faults branch_keys (BranchKeysFault names) t f
+      → (p : Part) × PartFault names (Some Branches) p t f
+  branch_spot t f (inl h) = unknown_part (Some Branches) t f h.0 h.1
+  branch_spot t f (inr (inl h)) = key_part (Some Branches) At t f h
+  branch_spot t f (inr (inr h)) = key_part (Some Branches) Taken t f h
+
+  branch_key_fault : (key : Key) (t : Members) (f : StatementFault) → KeyFault names (Some Branches) key t f → BranchKeysFault names t f
+  branch_key_fault At t f h = inl h
+  branch_key_fault Taken t f h = inr h
+  branch_key_fault _ t f h = absurd h
+
+  branch_part_fault :
+      (p : Part) (t : Members) (f : StatementFault)
+      → PartFault names (Some Branches) p t f
+      → KeysFault statement_faults branch_keys (BranchKeysFault names) t f
+  branch_part_fault p t f h = elim (part_cases (Some Branches) p t f h) [
+    | inl u ↦ inl u
+    | inr k ↦ inr (branch_key_fault k.0 t f k.1)
+  ]
+
+  -- ## Rules
+
+  abbrev RuleSpot : Members → StatementFault → Type 0
+  RuleSpot t f = ((p : Part) × PartFault names (Some Rules) p t f) ⊎ (IsReversed names t × (f ≡ OutOfRange))
+
+  rule_keys_spot : (t : Members) (f : StatementFault) → RuleKeysFault names t f → RuleSpot t f
+  rule_keys_spot t f (inl h) = inl (key_part (Some Rules) Base t f h)
+  rule_keys_spot t f (inr (inl h)) = inl (key_part (Some Rules) Class t f h)
+  rule_keys_spot t f (inr (inr (inl h))) = inl (key_part (Some Rules) First t f h)
+  rule_keys_spot t f (inr (inr (inr (inl h)))) = inl (key_part (Some Rules) Last t f h)
+  rule_keys_spot t f (inr (inr (inr (inr h)))) = inr h
+
+  rule_key_fault : (key : Key) (t : Members) (f : StatementFault) → KeyFault names (Some Rules) key t f → RuleKeysFault names t f
+  rule_key_fault Base t f h = inl h
+  rule_key_fault Class t f h = inr (inl h)
+  rule_key_fault First t f h = inr (inr (inl h))
+  rule_key_fault Last t f h = inr (inr (inr (inl h)))
+  rule_key_fault _ t f h = absurd h
+
+  abbrev RuleTableFault : Members → StatementFault → Type 0
+  RuleTableFault t f = KeysFault statement_faults rule_keys (RuleKeysFault names) t f
+
+  rule_spot : (t : Members) (f : StatementFault) → RuleTableFault t f → RuleSpot t f
+  rule_spot t f (inl h) = inl (unknown_part (Some Rules) t f h.0 h.1)
+  rule_spot t f (inr h) = rule_keys_spot t f h
+
+  rule_part_fault : (p : Part) (t : Members) (f : StatementFault) → PartFault names (Some Rules) p t f → RuleTableFault t f
+  rule_part_fault p t f h = elim (part_cases (Some Rules) p t f h) [
+    | inl u ↦ inl u
+    | inr k ↦ inr (rule_key_fault k.0 t f k.1)
+  ]
+
   -- ## Targets
 
   abbrev ToSpot : List Data → StatementFault → Type 0
@@ -386,15 +464,18 @@ module _ (names : Names) where
   in_table list n ms P d t at is h =
       of_some (λ e. IsSomeAnd (as_table e) P) (slice_get (entries_at (list_key list) ms) n) d at (of_some P (as_table d) t is h)
 
+  -- a part of such a table
+  part_of : (list : TableList) (ms : Members) (f : StatementFault) (n : ℕ) (d : Data) (t : Members) → slice_get (entries_at (list_key list) ms) n ≡ Some d → as_table d ≡ Some t → (p : Part) × PartFault names (Some list) p t f → SpotOf ms f
+  part_of list ms f n d t at is p =
+      (spot.Listed list n p.0, in_table list n ms (λ t. PartFault names (Some list) p.0 t f) d t at is p.1)
+
   loop_of : (ms : Members) (f : StatementFault) (n : ℕ) (d : Data) (t : Members) → slice_get (entries_at (codes "loop") ms) n ≡ Some d → as_table d ≡ Some t → LoopSpot t f → SpotOf ms f
-  loop_of ms f n d t at is (inl p) =
-      (spot.Listed Loops n p.0, in_table Loops n ms (λ t. PartFault names (Some Loops) p.0 t f) d t at is p.1)
+  loop_of ms f n d t at is (inl p) = part_of Loops ms f n d t at is p
   loop_of ms f n d t at is (inr h) =
       (spot.Misplaced n, in_table Loops n ms (λ t. IsMisplaced names t × (f ≡ OutOfRange)) d t at is h)
 
   target_of : (ms : Members) (f : StatementFault) (n : ℕ) (d : Data) (t : Members) → slice_get (entries_at (codes "target") ms) n ≡ Some d → as_table d ≡ Some t → TargetSpot t f → SpotOf ms f
-  target_of ms f n d t at is (inl p) =
-      (spot.Listed Targets n p.0, in_table Targets n ms (λ t. PartFault names (Some Targets) p.0 t f) d t at is p.1)
+  target_of ms f n d t at is (inl p) = part_of Targets ms f n d t at is p
   target_of ms f n d t at is (inr (inl h)) =
       (spot.Unwanted n, in_table Targets n ms (λ t. GoesOn false t × IsSome (get_member (codes "to") t) × (f ≡ WrongKind)) d t at is h)
   target_of ms f n d t at is (inr (inr (inl h))) =
@@ -402,9 +483,10 @@ module _ (names : Names) where
   target_of ms f n d t at is (inr (inr (inr h))) =
       (spot.Destination n h.0, in_table Targets n ms (λ t. GoesOn true t × DestinationFault names h.0 (entries_at (codes "to") t) f) d t at is (h.1, h.2))
 
-  access_of : (ms : Members) (f : StatementFault) (n : ℕ) (d : Data) (t : Members) → slice_get (entries_at (codes "access") ms) n ≡ Some d → as_table d ≡ Some t → (p : Part) × PartFault names (Some Accesses) p t f → SpotOf ms f
-  access_of ms f n d t at is p =
-      (spot.Listed Accesses n p.0, in_table Accesses n ms (λ t. PartFault names (Some Accesses) p.0 t f) d t at is p.1)
+  rule_of : (ms : Members) (f : StatementFault) (n : ℕ) (d : Data) (t : Members) → slice_get (entries_at (codes "base") ms) n ≡ Some d → as_table d ≡ Some t → RuleSpot t f → SpotOf ms f
+  rule_of ms f n d t at is (inl p) = part_of Rules ms f n d t at is p
+  rule_of ms f n d t at is (inr h) =
+      (spot.Reversed n, in_table Rules n ms (λ t. IsReversed names t × (f ≡ OutOfRange)) d t at is h)
 
   -- the faults of a list, where those of its tables have spots
   list_of :
@@ -431,28 +513,45 @@ module _ (names : Names) where
             | inr some ↦ let t = in_some (λ t. KeysFault statement_faults keys Has t f) (as_table u.0) some in each n u.0 t.0 u.1 t.1 t.2
           ]
 
-  -- two entries of one address
-  second_in :
-      (o : Option Data)
-      → IsSomeAnd o (λ d. IsSomeAnd (items_at d) (HasRepeat (IsAt names)))
-      → (n : ℕ) × IsRepeatAt (IsAt names) (unwrap_or (option_and_then items_at o) []) n
-  second_in None h = absurd h
-  second_in (Some d) h = by_items (items_at d) h
-    where
-      by_items : (l : Option (List Data)) → IsSomeAnd l (HasRepeat (IsAt names)) → (n : ℕ) × IsRepeatAt (IsAt names) (unwrap_or l []) n
-      by_items None h = absurd h
-      by_items (Some ds) h = repeat_index (IsAt names) ds h
+  -- two entries of one number
+  module _ (Is : Data → ℕ → Type 0) where
+    second_in :
+        (o : Option Data)
+        → IsSomeAnd o (λ d. IsSomeAnd (items_at d) (HasRepeat Is))
+        → (n : ℕ) × IsRepeatAt Is (unwrap_or (option_and_then items_at o) []) n
+    second_in None h = absurd h
+    second_in (Some d) h = by_items (items_at d) h
+      where
+        by_items : (l : Option (List Data)) → IsSomeAnd l (HasRepeat Is) → (n : ℕ) × IsRepeatAt Is (unwrap_or l []) n
+        by_items None h = absurd h
+        by_items (Some ds) h = repeat_index Is ds h
 
-  in_second :
-      (o : Option Data) (n : ℕ)
-      → IsRepeatAt (IsAt names) (unwrap_or (option_and_then items_at o) []) n
-      → IsSomeAnd o (λ d. IsSomeAnd (items_at d) (HasRepeat (IsAt names)))
-  in_second None n h = h.1
-  in_second (Some d) n h = by_items (items_at d) h
-    where
-      by_items : (l : Option (List Data)) → IsRepeatAt (IsAt names) (unwrap_or l []) n → IsSomeAnd l (HasRepeat (IsAt names))
-      by_items None h = h.1
-      by_items (Some ds) h = index_repeat (IsAt names) ds n h
+    in_second :
+        (o : Option Data) (n : ℕ)
+        → IsRepeatAt Is (unwrap_or (option_and_then items_at o) []) n
+        → IsSomeAnd o (λ d. IsSomeAnd (items_at d) (HasRepeat Is))
+    in_second None n h = absurd h.1
+    in_second (Some d) n h = by_items (items_at d) h
+      where
+        by_items : (l : Option (List Data)) → IsRepeatAt Is (unwrap_or l []) n → IsSomeAnd l (HasRepeat Is)
+        by_items None h = absurd h.1
+        by_items (Some ds) h = index_repeat Is ds n h
+
+  twice_spot : (ms : Members) → IsTwice names ms → (list : TableList) × (n : ℕ) × IsSecond names list n ms
+  twice_spot ms (inl two) = let at = second_in (IsAt names) (get_member (codes "target") ms) two in (Targets, at.0, at.1)
+  twice_spot ms (inr (inl two)) = let at = second_in (IsAt names) (get_member (codes "access") ms) two in (Accesses, at.0, at.1)
+  twice_spot ms (inr (inr (inl two))) =
+      let at = second_in (IsRuleAt names two.0) (get_member (codes "base") ms) two.1 in (Rules, at.0, (two.0, at.1))
+  twice_spot ms (inr (inr (inr (inl two)))) = let at = second_in (IsAt names) (get_member (codes "multiply") ms) two in (Multiplies, at.0, at.1)
+  twice_spot ms (inr (inr (inr (inr two)))) = let at = second_in (IsAt names) (get_member (codes "branch") ms) two in (Branches, at.0, at.1)
+
+  second_twice : (ms : Members) (list : TableList) (n : ℕ) → IsSecond names list n ms → IsTwice names ms
+  second_twice ms Loops n h = absurd h
+  second_twice ms Targets n h = inl (in_second (IsAt names) (get_member (codes "target") ms) n h)
+  second_twice ms Accesses n h = inr (inl (in_second (IsAt names) (get_member (codes "access") ms) n h))
+  second_twice ms Rules n h = inr (inr (inl (h.0, in_second (IsRuleAt names h.0) (get_member (codes "base") ms) n h.1)))
+  second_twice ms Multiplies n h = inr (inr (inr (inl (in_second (IsAt names) (get_member (codes "multiply") ms) n h))))
+  second_twice ms Branches n h = inr (inr (inr (inr (in_second (IsAt names) (get_member (codes "branch") ms) n h))))
 
   parts_spot : (ms : Members) (f : StatementFault) → PartsFault names ms f → SpotOf ms f
   parts_spot ms f (inl h) = let p = key_part None Entry ms f h in (spot.Own p.0, p.1)
@@ -463,11 +562,14 @@ module _ (names : Names) where
   parts_spot ms f (inr (inr (inr (inr (inl h))))) =
       list_of Targets target_keys (TargetKeysFault names) ms f (λ n d t at is k. target_of ms f n d t at is (target_spot t f k)) h
   parts_spot ms f (inr (inr (inr (inr (inr (inl h)))))) =
-      list_of Accesses access_keys (AccessKeysFault names) ms f (λ n d t at is k. access_of ms f n d t at is (access_spot t f k)) h
-  parts_spot ms f (inr (inr (inr (inr (inr (inr h)))))) = elim h.0 [
-    | inl two ↦ let at = second_in (get_member (codes "target") ms) two in (spot.Second Targets at.0, (at.1, h.1))
-    | inr two ↦ let at = second_in (get_member (codes "access") ms) two in (spot.Second Accesses at.0, (at.1, h.1))
-  ]
+      list_of Accesses access_keys (AccessKeysFault names) ms f (λ n d t at is k. part_of Accesses ms f n d t at is (access_spot t f k)) h
+  parts_spot ms f (inr (inr (inr (inr (inr (inr (inl h))))))) =
+      list_of Rules rule_keys (RuleKeysFault names) ms f (λ n d t at is k. rule_of ms f n d t at is (rule_spot t f k)) h
+  parts_spot ms f (inr (inr (inr (inr (inr (inr (inr (inl h)))))))) =
+      list_of Multiplies multiply_keys (MultiplyKeysFault names) ms f (λ n d t at is k. part_of Multiplies ms f n d t at is (multiply_spot t f k)) h
+  parts_spot ms f (inr (inr (inr (inr (inr (inr (inr (inr (inl h))))))))) =
+      list_of Branches branch_keys (BranchKeysFault names) ms f (λ n d t at is k. part_of Branches ms f n d t at is (branch_spot t f k)) h
+  parts_spot ms f (inr (inr (inr (inr (inr (inr (inr (inr (inr h))))))))) = let at = twice_spot ms h.0 in (spot.Second at.0 at.1, (at.2, h.1))
 
   -- a fault has a spot
   pub fault_spot : (ms : Members) (f : StatementFault) → HasFault names ms f → SpotOf ms f
@@ -489,11 +591,17 @@ module _ (names : Names) where
   KeysOf Loops ms f = LoopKeysFault names ms f
   KeysOf Targets ms f = TargetKeysFault names ms f
   KeysOf Accesses ms f = AccessKeysFault names ms f
+  KeysOf Rules ms f = RuleKeysFault names ms f
+  KeysOf Multiplies ms f = MultiplyKeysFault names ms f
+  KeysOf Branches ms f = BranchKeysFault names ms f
 
   listed : (list : TableList) (ms : Members) (f : StatementFault) → AtKey (list_key list) ms (λ d. ListUpToFault statement_faults (most_of list) (TableFault statement_faults (keys_in list) (KeysOf list)) d f) → HasFault names ms f
   listed Loops ms f h = inr (inr (inr (inr (inl h))))
   listed Targets ms f h = inr (inr (inr (inr (inr (inl h)))))
   listed Accesses ms f h = inr (inr (inr (inr (inr (inr (inl h))))))
+  listed Rules ms f h = inr (inr (inr (inr (inr (inr (inr (inl h)))))))
+  listed Multiplies ms f h = inr (inr (inr (inr (inr (inr (inr (inr (inl h))))))))
+  listed Branches ms f h = inr (inr (inr (inr (inr (inr (inr (inr (inr (inl h)))))))))
 
   of_list : (list : TableList) (ms : Members) (f : StatementFault) → ListSpot (most_of list) (TableFault statement_faults (keys_in list) (KeysOf list)) f (get_member (list_key list) ms) (entries_at (list_key list) ms) → HasFault names ms f
   of_list list ms f h =
@@ -521,6 +629,9 @@ module _ (names : Names) where
   part_fault Loops p t f h = loop_part_fault p t f h
   part_fault Targets p t f h = target_part_fault p t f h
   part_fault Accesses p t f h = access_part_fault p t f h
+  part_fault Rules p t f h = rule_part_fault p t f h
+  part_fault Multiplies p t f h = multiply_part_fault p t f h
+  part_fault Branches p t f h = branch_part_fault p t f h
 
   -- a spot has a fault of the document
   pub spot_fault : (ms : Members) (s : Spot) (f : StatementFault) → IsFaultAt names ms s f → HasFault names ms f
@@ -540,8 +651,7 @@ module _ (names : Names) where
       of_table Targets n ms f (λ t. GoesOn true t × (64 < length (entries_at (codes "to") t)) × (f ≡ OutOfRange)) (λ t k. of_going t f k.0 (inr (inl (k.1, k.2)))) h
   spot_fault ms (spot.Destination n i) f h =
       of_table Targets n ms f (λ t. GoesOn true t × DestinationFault names i (entries_at (codes "to") t) f) (λ t k. of_going t f k.0 (inr (inr (i, k.1)))) h
-  spot_fault ms (spot.Second Loops n) f h = absurd h
-  spot_fault ms (spot.Second Targets n) f h =
-      inr (inr (inr (inr (inr (inr (inr (inl (in_second (get_member (codes "target") ms) n h.0), h.1)))))))
-  spot_fault ms (spot.Second Accesses n) f h =
-      inr (inr (inr (inr (inr (inr (inr (inr (in_second (get_member (codes "access") ms) n h.0), h.1)))))))
+  spot_fault ms (spot.Reversed n) f h =
+      of_table Rules n ms f (λ t. IsReversed names t × (f ≡ OutOfRange)) (λ t k. inr (inr (inr (inr (inr k))))) h
+  spot_fault ms (spot.Second list n) f h =
+      inr (inr (inr (inr (inr (inr (inr (inr (inr (inr (second_twice ms list n h.0, h.1))))))))))

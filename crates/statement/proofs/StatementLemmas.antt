@@ -1,5 +1,5 @@
 -- What holds of all that is read.
-use Rattle.std.proofs.Common.{◌≡◌, ℕ, ℤ, pos, ◌+◌, ◌-◌, ◌%◌, ◌^◌, ◌<◌, ◌≤◌, Bool, true, false, ◌&&◌, cond, eqb, leb, List, [], length, take, drop, Option, Some, None, Ok, Err, Vec, is_none, sym, ap, ◌∙◌, subst}
+use Rattle.std.proofs.Common.{◌≡◌, ℕ, ℤ, pos, negsuc, arith, ◌+◌, ◌-◌, ◌%◌, ◌^◌, ◌<◌, ◌≤◌, Bool, true, false, ◌&&◌, cond, eqb, leb, List, [], length, take, drop, Option, Some, None, Ok, Err, Vec, is_none, sym, ap, ◌∙◌, subst}
 use Rattle.std.specs.Prelude.{All, IfOk, codes}
 use Rattle.std.specs.declared.alloc.Global.{Global}
 use Rattle.std.proofs.lemmas.Bool.{and_parts, leb-true}
@@ -10,17 +10,20 @@ use Rattle.bus_ticks.specs.declared.profile.Class.{Class}
 use Rattle.walks.specs.declared.limits.TheConstants.{MOST_ROUNDS}
 use Rattle.toml_reading.specs.Documents.{are_distinct, in_space, items_at, listed_up_to, number_in, once}
 use Rattle.toml_reading.specs.Readings.{and_then, pair, items_in, required, reading_map}
-use Rattle.toml_reading.proofs.ReadingLemmas.{also_holds, and_then_holds, pair_holds, check_holds, first_holds, follows_holds, implied, in_space_holds, listed_up_to_holds, number_in_holds, required_holds, second_holds, map_pair, map_second, tables_few, tables_up_to_hold, test_holds}
-use Rattle.statement.specs.ReadingParts.{parts_in}
-use Rattle.statement.specs.Stated.{IsLoop, IsStated, IsTarget, Target}
+use Rattle.toml_reading.proofs.ReadingLemmas.{also_holds, and_then_holds, pair_holds, check_holds, first_holds, follows_holds, implied, in_space_holds, listed_up_to_holds, number_in_holds, required_holds, second_holds, map_pair, optional_holds, tables_few, tables_up_to_hold, test_holds}
+use Rattle.arm2_decode.specs.declared.names.Register.{Register}
+use Rattle.bus_ticks.specs.declared.space.TheConstants.{SPACE_END}
+use Rattle.shifter.specs.declared.shifts.TheConstants.{MOST_MULTIPLY_CYCLES}
+use Rattle.statement.specs.ReadingParts.{AreRead, StoredFrame, StoredLimits, StoredWords, frame_of, parts_in, rules_of, words_of}
+use Rattle.statement.specs.Stated.{IsLoop, IsRule, IsTarget, Target}
 use Rattle.image.specs.Labels.{Names}
-use Rattle.statement.specs.Statement.{Parts, Read, accesses_in, address_at, address_in, at_offset, destinations, destinations_at, target_of_kind, ends_in, kind_in, from_label, is_number, label_or_offset, last_sign, leaving_in, loop_at, loop_in, loop_parts, loops_in, moved, number_or_text, parts_of, placed_loop, sign_at, some_destinations, stated_by, target_at, target_in, targets_in}
+use Rattle.statement.specs.Statement.{Parts, Read, accesses_in, address_at, address_in, address_or, at_offset, branches_in, class_in, cycles_in, cycles_named_at, cycles_of, first_in, frame_in, last_in, limits_in, multiplies_in, multiply_at, multiply_in, placed_rule, register_in, rule_at, rule_in, rule_parts, rules_and_limits, rules_in, words_in, destinations, destinations_at, target_of_kind, ends_in, kind_in, from_label, is_number, label_or_offset, last_sign, leaving_in, loop_at, loop_in, loop_parts, loops_in, moved, number_or_text, parts_of, placed_loop, sign_at, some_destinations, target_at, target_in, targets_in}
 use Rattle.statement.specs.StatementFaults.{statement_faults}
 use Rattle.statement.specs.declared.faults.StatementFault.TheVariants.{OutOfRange, UnknownLabel, WrongKind, Twice}
 use Rattle.statement.specs.declared.offsets.Sign.{Sign}
 use Rattle.statement.specs.declared.offsets.Sign.TheVariants.{Plus, Minus}
+use Rattle.statement.specs.declared.stated.BaseRule.{BaseRule}
 use Rattle.statement.specs.declared.stated.Loop.{Loop}
-use Rattle.statement.specs.declared.stated.Returns.{Returns}
 use Rattle.statement.specs.declared.stated.TargetKind.{TargetKind}
 use Rattle.statement.specs.declared.stated.TargetKind.TheVariants.{Jump, Call, Return, Leave}
 
@@ -76,6 +79,13 @@ number_or_text_small names None None = tt
 
 address_small : (names : Names) (d : Data) → IfOk (address_at names d) IsSmall
 address_small names d = number_or_text_small names (as_integer d) (as_str d)
+
+address_or_small :
+    (names : Names) (key : List ℕ) (missing : ℕ) (ms : Members)
+    → IsSmall missing
+    → IfOk (address_or names key missing ms) IsSmall
+address_or_small names key missing ms small =
+    optional_holds statement_faults IsSmall missing (get_member key ms) (address_at names) small (address_small names)
 
 address_in_small : (names : Names) (key : List ℕ) (ms : Members) → IfOk (address_in names key ms) IsSmall
 address_in_small names key ms =
@@ -217,32 +227,108 @@ targets_hold names ms =
     1024
     (get_member (codes "target") ms)
 
-pub parts_hold : (names : Names) (ms : Members) → IfOk (parts_of names ms) (λ p. IsStated (stated_by p))
-parts_hold names ms =
-    let ends = ends_in names ms in
-    let few = pair statement_faults ends (loops_in names ms) in
-    let rest = pair statement_faults (targets_in names ms) (accesses_in names ms) in
-    implied
-    (λ (p : Parts). (IsSmall p.0.0.0 × AreLoops p.0.1) × AreTargets p.1.0)
-    (λ p. IsStated (stated_by p))
-    (parts_of names ms)
-    (λ p h. record { entry_small = h.0.0; within = h.0.1.0; few = h.0.1.1; destinations = h.1 })
-    (pair_holds statement_faults (λ p. IsSmall p.0.0 × AreLoops p.1) (λ p. AreTargets p.0) few rest
-    (pair_holds statement_faults (λ p. IsSmall p.0) AreLoops ends (loops_in names ms)
+-- ## Rules and multiplies
+
+abbrev EndsLow : (Register × Class) × (ℕ × ℕ) → Type 0
+EndsLow p = IsSmall p.1.1
+
+placed_is_rule : (p : (Register × Class) × (ℕ × ℕ)) → EndsLow p → IfOk (placed_rule p) IsRule
+placed_is_rule p low =
+    test_holds
+    statement_faults
+    IsRule
+    (leb p.1.0 p.1.1)
+    (record { register = p.0.0; first = p.1.0; last = p.1.1; class = p.0.1 })
+    OutOfRange
+    (λ e. record { ordered = leb-true p.1.0 p.1.1 e; last_small = low })
+
+rule_parts_low : (names : Names) (ms : Members) → IfOk (rule_parts names ms) EndsLow
+rule_parts_low names ms =
+    second_holds
+    statement_faults
+    (λ e. IsSmall e.1)
+    (pair statement_faults (register_in ms) (class_in ms))
+    (pair statement_faults (first_in names ms) (last_in names ms))
+    (second_holds statement_faults IsSmall (first_in names ms) (last_in names ms) (address_or_small names (codes "last") (SPACE_END - 4) ms (omega arith)))
+
+rule_in_holds : (names : Names) (ms : Members) → IfOk (rule_in names ms) IsRule
+rule_in_holds names ms =
+    check_holds statement_faults IsRule _ _ (and_then (rule_parts names ms) placed_rule)
+    (follows_holds statement_faults IsRule EndsLow (rule_parts names ms) placed_rule (rule_parts_low names ms) placed_is_rule)
+
+rule_holds : (names : Names) (d : Data) → IfOk (rule_at names d) IsRule
+rule_holds names d =
+    required_holds statement_faults IsRule (as_table d) (rule_in names) (rule_in_holds names)
+
+rules_hold : (names : Names) (ms : Members) → IfOk (rules_in names ms) (All IsRule)
+rules_hold names ms =
+    tables_up_to_hold statement_faults IsRule (rule_at names) (rule_holds names) 256 (get_member (codes "base") ms)
+
+abbrev AreCycles : ℕ → Type 0
+AreCycles n = (1 ≤ n) × (n ≤ MOST_MULTIPLY_CYCLES)
+
+cycles_hold : (z : ℤ) → IfOk (cycles_of z) AreCycles
+cycles_hold (pos n) =
+    test_holds statement_faults AreCycles (leb 1 n && leb n 16) n OutOfRange
+    (λ e. let h = and_parts (leb 1 n) (leb n 16) e in (leb-true 1 n h.0, leb-true n 16 h.1))
+cycles_hold (negsuc n) = tt
+
+cycles_in_hold : (ms : Members) → IfOk (cycles_in ms) AreCycles
+cycles_in_hold ms =
+    required_holds statement_faults AreCycles (get_member (codes "cycles") ms) cycles_named_at
+    (λ d. required_holds statement_faults AreCycles (as_integer d) cycles_of cycles_hold)
+
+abbrev pub IsStatedMultiply : ℕ × ℕ → Type 0
+IsStatedMultiply m = (1 ≤ m.1) × (m.1 ≤ MOST_MULTIPLY_CYCLES)
+
+multiply_holds : (names : Names) (d : Data) → IfOk (multiply_at names d) IsStatedMultiply
+multiply_holds names d =
+    required_holds statement_faults IsStatedMultiply (as_table d) (multiply_in names)
+    (λ ms. check_holds statement_faults IsStatedMultiply _ _ _
+    (second_holds statement_faults AreCycles (address_in names (codes "at") ms) (cycles_in ms) (cycles_in_hold ms)))
+
+multiplies_hold : (names : Names) (ms : Members) → IfOk (multiplies_in names ms) (All IsStatedMultiply)
+multiplies_hold names ms =
+    tables_up_to_hold statement_faults IsStatedMultiply (multiply_at names) (multiply_holds names) 1024 (get_member (codes "multiply") ms)
+
+-- ## The whole
+
+frame_holds : (names : Names) (ms : Members) → IfOk (frame_in names ms) (λ p. IsSmall p.0.0 × AreLoops p.1)
+frame_holds names ms =
+    pair_holds statement_faults (λ p. IsSmall p.0) AreLoops (ends_in names ms) (loops_in names ms)
     (first_holds statement_faults IsSmall (address_in names (codes "entry") ms) (leaving_in ms) (address_in_small names (codes "entry") ms))
-    (loops_hold names ms))
+    (loops_hold names ms)
+
+pub parts_hold : (names : Names) (ms : Members) → IfOk (parts_of names ms) AreRead
+parts_hold names ms =
+    implied
+    (λ (p : Parts). ((IsSmall p.0.0.0.0 × AreLoops p.0.0.1) × AreTargets p.0.1.0) × (All IsRule p.1.0 × All IsStatedMultiply p.1.1.0))
+    AreRead
+    (parts_of names ms)
+    (λ p h. record {
+      rules = h.1.0;
+      stated = λ apart. record {
+        entry_small = h.0.0.0;
+        within = h.0.0.1.0;
+        few = h.0.0.1.1;
+        destinations = h.0.1;
+        rules_within = h.1.0;
+        rules_apart = apart;
+        cycles = h.1.1;
+      };
+    })
+    (pair_holds statement_faults (λ p. (IsSmall p.0.0.0 × AreLoops p.0.1) × AreTargets p.1.0) (λ p. All IsRule p.0 × All IsStatedMultiply p.1.0) (pair statement_faults (frame_in names ms) (words_in names ms)) (rules_and_limits names ms)
+    (pair_holds statement_faults (λ p. IsSmall p.0.0 × AreLoops p.1) (λ p. AreTargets p.0) (frame_in names ms) (words_in names ms) (frame_holds names ms)
     (first_holds statement_faults AreTargets (targets_in names ms) (accesses_in names ms) (targets_hold names ms)))
+    (pair_holds statement_faults (All IsRule) (λ p. All IsStatedMultiply p.0) (rules_in names ms) (limits_in names ms) (rules_hold names ms)
+    (first_holds statement_faults (All IsStatedMultiply) (multiplies_in names ms) (branches_in names ms) (multiplies_hold names ms))))
 
 -- ## As they are stored
 
 pub stored :
-    (e : Read (ℕ × (Class × Returns))) (l : Read (Vec Loop Global)) (t : Read (Vec (ℕ × Target) Global)) (a : Read (Vec (ℕ × Class) Global))
-    → reading_map parts_in (pair statement_faults (pair statement_faults e l) (pair statement_faults t a)) ≡ pair statement_faults (pair statement_faults e (items_in l)) (pair statement_faults (items_in t) (items_in a))
-stored e l t a =
-    map_pair
-    statement_faults
-    (λ p. (p.0, p.1.items))
-    (λ p. (p.0.items, p.1.items))
-    (pair statement_faults e l)
-    (pair statement_faults t a)
-    ∙ (λ i. pair statement_faults (map_second statement_faults (λ v. v.items) e l i) (map_pair statement_faults (λ v. v.items) (λ v. v.items) t a i))
+    (f : Read StoredFrame) (w : Read StoredWords) (r : Read (Vec BaseRule Global × StoredLimits))
+    → reading_map parts_in (pair statement_faults (pair statement_faults f w) r)
+    ≡ pair statement_faults (pair statement_faults (reading_map frame_of f) (reading_map words_of w)) (reading_map rules_of r)
+stored f w r =
+    map_pair statement_faults (λ p. (frame_of p.0, words_of p.1)) rules_of (pair statement_faults f w) r
+    ∙ (λ i. pair statement_faults (map_pair statement_faults frame_of words_of f w i) (reading_map rules_of r))

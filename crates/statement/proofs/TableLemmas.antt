@@ -1,5 +1,5 @@
 -- What is read of the tables of loops, targets and accesses, against what they state and their faults.
-use Rattle.std.proofs.Common.{◌≡◌, ◌≢◌, ℕ, ℤ, ◌<◌, ◌≤◌, ◌⊎◌, ◌↔◌, Bool, true, false, ◌&&◌, cond, eqb, leb, List, [], ◌∷◌, length, Option, Some, None, Err, IsSomeAnd, MatchOption, Any, is_none, inl, inr, refl, sym, ap, subst, ◌∙◌, arith, le_of_eq}
+use Rattle.std.proofs.Common.{◌≡◌, ◌≢◌, ℕ, ℤ, pos, ◌-◌, ◌<◌, ◌≤◌, ◌⊎◌, ◌↔◌, Bool, true, false, ◌&&◌, cond, eqb, leb, List, [], ◌∷◌, length, Option, Some, None, Err, IsSomeAnd, MatchOption, Any, is_none, inl, inr, refl, sym, ap, subst, ◌∙◌, arith, le_of_eq}
 use Rattle.std.specs.Prelude.{codes}
 use Rattle.std.specs.List.{AllZip}
 use Rattle.std.specs.Cmp.Derive.{both_true}
@@ -17,17 +17,23 @@ use Rattle.toml_reading.proofs.Following.{few_judged, stated_or_faulty, test_jud
 use Rattle.toml_reading.proofs.LowestLemmas.{Judges, pair_judged, judged_as, required_judged, map_judged}
 use Rattle.toml_reading.proofs.LowestParts.{any_none, number_in_judged, table_judged}
 use Rattle.toml_reading.proofs.TwiceLemmas.{not_distinct}
-use Rattle.statement.specs.StatementRules.{AccessFault, AccessKeysFault, AddressFault, AreDestinations, DestinationsFault, GoesTo, HasAccess, HasLoop, HasTarget, IsAddress, IsMisplaced, IsPlaced, LoopFault, LoopKeysFault, RequiredFault, StatesAccess, StatesLoop, StatesTarget, TargetFault, TargetKeysFault, ToFault}
+use Rattle.arm2_decode.specs.declared.names.Register.{Register}
+use Rattle.asm_text.specs.Registers.{register_of}
+use Rattle.bus_ticks.specs.declared.space.TheConstants.{SPACE_END}
+use Rattle.statement.specs.StatementRules.{AccessFault, AccessKeysFault, AddressFault, AreCycles, AreDestinations, AreFew, AreNoCycles, BranchFault, BranchKeysFault, CyclesFault, DestinationsFault, GoesTo, HasAccess, HasBranch, HasLoop, HasMultiply, HasRule, HasTarget, IsAddress, IsFirst, IsLast, IsMisplaced, IsPlaced, IsReversed, LoopFault, LoopKeysFault, MultiplyFault, MultiplyKeysFault, RequiredFault, RuleFault, RuleKeysFault, StatesAccess, StatesBranch, StatesLoop, StatesMultiply, StatesRule, StatesTarget, TargetFault, TargetKeysFault, ToFault}
 use Rattle.statement.specs.Stated.{Target}
 use Rattle.image.specs.Labels.{Names}
-use Rattle.statement.specs.Statement.{access_at, access_keys, address_at, address_in, class_in, destinations, destinations_at, target_of_kind, kind_in, loop_at, loop_keys, loop_parts, named_class, named_kind, placed_loop, some_destinations, target_at, target_keys}
+use Rattle.statement.specs.Statement.{access_at, access_keys, address_at, address_in, branch_at, branch_keys, class_in, cycles_in, cycles_named_at, cycles_of, destinations, destinations_at, target_of_kind, kind_in, loop_at, loop_keys, loop_parts, multiply_at, multiply_keys, named_class, named_kind, named_taken, placed_loop, placed_rule, register_in, rule_at, rule_keys, rule_parts, some_destinations, taken_in, target_at, target_keys}
 use Rattle.statement.specs.StatementFaults.{number_of, statement_faults}
 use Rattle.statement.specs.declared.faults.StatementFault.{StatementFault}
 use Rattle.statement.specs.declared.faults.StatementFault.TheVariants.{Memory, WrongKind, OutOfRange, Twice}
+use Rattle.statement.specs.declared.stated.BaseRule.{BaseRule}
 use Rattle.statement.specs.declared.stated.Loop.{Loop}
+use Rattle.statement.specs.declared.stated.Taken.{Taken}
 use Rattle.statement.specs.declared.stated.TargetKind.{TargetKind}
 use Rattle.statement.specs.declared.stated.TargetKind.TheVariants.{Return, Leave}
-use Rattle.statement.proofs.RuleLemmas.{address_in_judged, address_judged, one_address, word_in_judged}
+use Rattle.toml_reading.proofs.AddressLemmas.{tested_judged}
+use Rattle.statement.proofs.RuleLemmas.{address_in_judged, address_judged, address_or_judged, one_address, word_in_judged}
 
 cons-nil : {A : Type 0} (x : A) (xs : List A) → x ∷ xs ≡ [] → ⊥
 cons-nil x xs e = cc
@@ -76,42 +82,62 @@ module _ {A B C D E : Type 0} where
     ],
   )
 
-module _ {A B X C D E F : Type 0} where
-  pub seven_in_line : ((((A ⊎ (B ⊎ X)) ⊎ C) ⊎ (D ⊎ E)) ⊎ F) ↔ (A ⊎ B ⊎ X ⊎ C ⊎ D ⊎ E ⊎ F)
-  seven_in_line = (
-    λ x. elim x [
-      | inl y ↦ elim y [
-        | inl abc ↦ elim abc [
-          | inl ab ↦ elim ab [
-            | inl a ↦ inl a
-            | inr bx ↦ elim bx [ inl b ↦ inr (inl b) | inr x ↦ inr (inr (inl x)) ]
-          ]
-          | inr c ↦ inr (inr (inr (inl c)))
-        ]
-        | inr de ↦ elim de [
-          | inl d ↦ inr (inr (inr (inr (inl d))))
-          | inr e ↦ inr (inr (inr (inr (inr (inl e)))))
-        ]
-      ]
-      | inr f ↦ inr (inr (inr (inr (inr (inr f)))))
-    ],
-    λ x. elim x [
-      | inl a ↦ inl (inl (inl (inl a)))
-      | inr bs ↦ elim bs [
-        | inl b ↦ inl (inl (inl (inr (inl b))))
-        | inr xs ↦ elim xs [
-          | inl x ↦ inl (inl (inl (inr (inr x))))
-          | inr cs ↦ elim cs [
-            | inl c ↦ inl (inl (inr c))
-            | inr ds ↦ elim ds [
-              | inl d ↦ inl (inr (inl d))
-              | inr es ↦ elim es [ inl e ↦ inl (inr (inr e)) | inr f ↦ inr f ]
-            ]
-          ]
-        ]
-      ]
-    ],
-  )
+-- the faults of a document's parts, in their order
+module _ {A B C D E F G H I J : Type 0} where
+  to_line : (((((A ⊎ (B ⊎ C)) ⊎ D) ⊎ (E ⊎ F)) ⊎ (G ⊎ (H ⊎ I))) ⊎ J) → (A ⊎ B ⊎ C ⊎ D ⊎ E ⊎ F ⊎ G ⊎ H ⊎ I ⊎ J)
+  to_line (inl (inl (inl (inl (inl x))))) = inl x
+  to_line (inl (inl (inl (inl (inr (inl x)))))) = inr (inl x)
+  to_line (inl (inl (inl (inl (inr (inr x)))))) = inr (inr (inl x))
+  to_line (inl (inl (inl (inr x)))) = inr (inr (inr (inl x)))
+  to_line (inl (inl (inr (inl x)))) = inr (inr (inr (inr (inl x))))
+  to_line (inl (inl (inr (inr x)))) = inr (inr (inr (inr (inr (inl x)))))
+  to_line (inl (inr (inl x))) = inr (inr (inr (inr (inr (inr (inl x))))))
+  to_line (inl (inr (inr (inl x)))) = inr (inr (inr (inr (inr (inr (inr (inl x)))))))
+  to_line (inl (inr (inr (inr x)))) = inr (inr (inr (inr (inr (inr (inr (inr (inl x))))))))
+  to_line (inr x) = inr (inr (inr (inr (inr (inr (inr (inr (inr x))))))))
+
+  of_line : (A ⊎ B ⊎ C ⊎ D ⊎ E ⊎ F ⊎ G ⊎ H ⊎ I ⊎ J) → (((((A ⊎ (B ⊎ C)) ⊎ D) ⊎ (E ⊎ F)) ⊎ (G ⊎ (H ⊎ I))) ⊎ J)
+  of_line (inl x) = inl (inl (inl (inl (inl x))))
+  of_line (inr (inl x)) = inl (inl (inl (inl (inr (inl x)))))
+  of_line (inr (inr (inl x))) = inl (inl (inl (inl (inr (inr x)))))
+  of_line (inr (inr (inr (inl x)))) = inl (inl (inl (inr x)))
+  of_line (inr (inr (inr (inr (inl x))))) = inl (inl (inr (inl x)))
+  of_line (inr (inr (inr (inr (inr (inl x)))))) = inl (inl (inr (inr x)))
+  of_line (inr (inr (inr (inr (inr (inr (inl x))))))) = inl (inr (inl x))
+  of_line (inr (inr (inr (inr (inr (inr (inr (inl x)))))))) = inl (inr (inr (inl x)))
+  of_line (inr (inr (inr (inr (inr (inr (inr (inr (inl x))))))))) = inl (inr (inr (inr x)))
+  of_line (inr (inr (inr (inr (inr (inr (inr (inr (inr x))))))))) = inr x
+
+  pub in_line : (((((A ⊎ (B ⊎ C)) ⊎ D) ⊎ (E ⊎ F)) ⊎ (G ⊎ (H ⊎ I))) ⊎ J) ↔ (A ⊎ B ⊎ C ⊎ D ⊎ E ⊎ F ⊎ G ⊎ H ⊎ I ⊎ J)
+  in_line = (to_line, of_line)
+
+-- ## Cycles
+
+few_cycles : (n : ℕ) → (leb 1 n && leb n 16) ≡ true ↔ AreFew n
+few_cycles n = (
+  λ e. let parts = and_parts (leb 1 n) (leb n 16) e in (leb-true 1 n parts.0, leb-true n 16 parts.1),
+  λ h. both_true (le-leb 1 n h.0) (le-leb n 16 h.1),
+)
+
+cycles_judged : (d : Data) → Judges statement_faults (AreCycles d) (CyclesFault d) (cycles_named_at d)
+cycles_judged d =
+    required_judged
+    statement_faults
+    (λ z n. (z ≡ pos n) × AreFew n)
+    (λ z f. AreNoCycles z × (f ≡ OutOfRange))
+    cycles_of
+    (tested_judged statement_faults AreFew (λ n. leb 1 n && leb n 16) few_cycles cycles_of (λ n. refl) (λ n. refl))
+    (as_integer d)
+
+pub cycles_in_judged :
+    (ms : Members)
+    → Judges
+    statement_faults
+    (λ n. AtKey (codes "cycles") ms (λ d. AreCycles d n))
+    (RequiredFault (codes "cycles") ms CyclesFault)
+    (cycles_in ms)
+cycles_in_judged ms =
+    required_judged statement_faults AreCycles CyclesFault cycles_named_at cycles_judged (get_member (codes "cycles") ms)
 
 module _ (names : Names) where
   -- ## Loops
@@ -532,3 +558,168 @@ module _ (names : Names) where
       → Judges statement_faults (StatesAccess names d) (AccessFault names d) (access_at names d)
   access_judged d =
       table_judged statement_faults access_keys (HasAccess names) (AccessKeysFault names) access_parts access_keys_judged d
+
+  -- ## Rules for base registers
+
+  abbrev rule_of : (Register × Class) × (ℕ × ℕ) → BaseRule
+  rule_of p = record { register = p.0.0; first = p.1.0; last = p.1.1; class = p.0.1 }
+
+  abbrev IsOfAll : Members → Register × Class → Type 0
+  IsOfAll ms p =
+      AtKey (codes "register") ms (λ d. IsNamed register_of d p.0) × AtKey (codes "class") ms (λ d. IsNamed named_class d p.1)
+
+  abbrev OfAllFault : Members → StatementFault → Type 0
+  OfAllFault ms f =
+      RequiredFault (codes "register") ms (NameFault statement_faults register_of) f
+      ⊎ RequiredFault (codes "class") ms (NameFault statement_faults named_class) f
+
+  abbrev HasRuleParts : Members → (Register × Class) × (ℕ × ℕ) → Type 0
+  HasRuleParts ms p = IsOfAll ms p.0 × (IsFirst names ms p.1.0 × IsLast names ms p.1.1)
+
+  abbrev RulePartsFault : Members → StatementFault → Type 0
+  RulePartsFault ms f =
+      OfAllFault ms f
+      ⊎ (AtKey (codes "first") ms (λ d. AddressFault names d f) ⊎ AtKey (codes "last") ms (λ d. AddressFault names d f))
+
+  of_all_judged : (ms : Members) → Judges statement_faults (IsOfAll ms) (OfAllFault ms) (pair statement_faults (register_in ms) (class_in ms))
+  of_all_judged ms =
+      pair_judged statement_faults (λ r. AtKey (codes "register") ms (λ d. IsNamed register_of d r)) (λ c. AtKey (codes "class") ms (λ d. IsNamed named_class d c)) _ _ _ _ (word_in_judged register_of (codes "register") ms) (word_in_judged named_class (codes "class") ms)
+
+  rule_parts_judged : (ms : Members) → Judges statement_faults (HasRuleParts ms) (RulePartsFault ms) (rule_parts names ms)
+  rule_parts_judged ms =
+      pair_judged statement_faults (IsOfAll ms) (λ p. IsFirst names ms p.0 × IsLast names ms p.1) _ _ _ _
+      (of_all_judged ms)
+      (pair_judged statement_faults (IsFirst names ms) (IsLast names ms) _ _ _ _ (address_or_judged names (codes "first") 0 ms) (address_or_judged names (codes "last") (SPACE_END - 4) ms))
+
+  abbrev OrderFault : Members → StatementFault → Type 0
+  OrderFault ms f =
+      (p : (Register × Class) × (ℕ × ℕ)) × HasRuleParts ms p × ((¬ (p.1.0 ≤ p.1.1)) × (f ≡ OutOfRange))
+
+  word_low :
+      {A : Type 0} (named : List ℕ → Option A) (o : Option Data) (g : StatementFault)
+      → MatchOption o (g ≡ WrongKind) (λ d. NameFault statement_faults named d g)
+      → number_of g ≤ number_of OutOfRange
+  word_low named None g h = at_most g WrongKind h (omega arith)
+  word_low named (Some d) g h = at_most g WrongKind h.1 (omega arith)
+
+  of_all_low : (ms : Members) (g : StatementFault) → OfAllFault ms g → number_of g ≤ number_of OutOfRange
+  of_all_low ms g (inl h) = word_low register_of (get_member (codes "register") ms) g h
+  of_all_low ms g (inr h) = word_low named_class (get_member (codes "class") ms) g h
+
+  -- a rule that ends before it begins is reported, or a fault of its register or class that is no higher
+  reversed_under :
+      (ms : Members) (f : StatementFault)
+      → IsReversed names ms × (f ≡ OutOfRange)
+      → (g : StatementFault) × (RulePartsFault ms g ⊎ OrderFault ms g) × (number_of g ≤ number_of f)
+  reversed_under ms f h =
+      elim
+      (stated_or_faulty statement_faults (IsOfAll ms) (OfAllFault ms) (pair statement_faults (register_in ms) (class_in ms)) (of_all_judged ms)) [
+        | inl p ↦ (OutOfRange, inr ((p.0, (h.0.0, h.0.1)), (p.1, (h.0.2, h.0.3)), (λ o. let low = h.0.4 in omega arith, refl)), le_of_eq (ap number_of (sym h.1)))
+        | inr g ↦ (g.0, inl (inl g.1), subst (λ (y : StatementFault). number_of g.0 ≤ number_of y) (sym h.1) (of_all_low ms g.0 g.1))
+      ]
+
+  ordered_judged :
+      (ms : Members)
+      → Judges
+      statement_faults
+      (λ r. (p : (Register × Class) × (ℕ × ℕ)) × HasRuleParts ms p × ((p.1.0 ≤ p.1.1) × (r ≡ rule_of p)))
+      (λ f. RulePartsFault ms f ⊎ OrderFault ms f)
+      (and_then (rule_parts names ms) placed_rule)
+  ordered_judged ms =
+      then_judged
+      statement_faults
+      (HasRuleParts ms)
+      (λ p r. (p.1.0 ≤ p.1.1) × (r ≡ rule_of p))
+      (RulePartsFault ms)
+      (λ p f. (¬ (p.1.0 ≤ p.1.1)) × (f ≡ OutOfRange))
+      placed_rule
+      (λ p s. test_judged statement_faults (p.1.0 ≤ p.1.1) (rule_of p) OutOfRange (leb p.1.0 p.1.1) (leb-true p.1.0 p.1.1, le-leb p.1.0 p.1.1))
+      (rule_parts names ms)
+      (rule_parts_judged ms)
+
+  abbrev HasOrdered : Members → BaseRule → Type 0
+  HasOrdered ms r = HasRule names ms r × (r.first ≤ r.last)
+
+  rule_keys_judged :
+      (ms : Members)
+      → Judges
+      statement_faults
+      (HasOrdered ms)
+      (RuleKeysFault names ms)
+      (and_then (rule_parts names ms) placed_rule)
+  rule_keys_judged ms =
+      judged_as
+      statement_faults
+      (λ r. (p : (Register × Class) × (ℕ × ℕ)) × HasRuleParts ms p × ((p.1.0 ≤ p.1.1) × (r ≡ rule_of p)))
+      (HasOrdered ms)
+      (λ f. RulePartsFault ms f ⊎ (IsReversed names ms × (f ≡ OutOfRange)))
+      (RuleKeysFault names ms)
+      (λ r. (
+        λ u. subst (HasOrdered ms) (sym u.2.1) (of_parts u.0 u.1, u.2.0),
+        λ h. (((r.register, r.class), (r.first, r.last)), ((h.0.register, h.0.class), (h.0.first, h.0.last)), (h.1, refl)),
+      ))
+      (λ f. five_in_line)
+      (and_then (rule_parts names ms) placed_rule)
+      (widened_judged statement_faults _ (RulePartsFault ms) (OrderFault ms) (λ f. IsReversed names ms × (f ≡ OutOfRange)) (λ f u. ((u.0.1.0, u.0.1.1, u.1.1.0, u.1.1.1, not_le u.0.1.0 u.0.1.1 u.2.0), u.2.1)) (reversed_under ms) (and_then (rule_parts names ms) placed_rule) (ordered_judged ms))
+    where
+      of_parts : (p : (Register × Class) × (ℕ × ℕ)) → HasRuleParts ms p → HasRule names ms (rule_of p)
+      of_parts p s = record { register = s.0.0; class = s.0.1; first = s.1.0; last = s.1.1 }
+
+      not_le : (a b : ℕ) → (¬ (a ≤ b)) → b < a
+      not_le a b h = omega (arith, h)
+
+  pub rule_judged : (d : Data) → Judges statement_faults (StatesRule names d) (RuleFault names d) (rule_at names d)
+  rule_judged d =
+      table_judged statement_faults rule_keys HasOrdered (RuleKeysFault names) (λ ms. and_then (rule_parts names ms) placed_rule) rule_keys_judged d
+
+  -- ## Multiplies
+
+  abbrev multiply_parts : Members → Reading StatementFault (ℕ × ℕ)
+  multiply_parts ms = pair statement_faults (address_in names (codes "at") ms) (cycles_in ms)
+
+  multiply_keys_judged :
+      (ms : Members)
+      → Judges statement_faults (HasMultiply names ms) (MultiplyKeysFault names ms) (multiply_parts ms)
+  multiply_keys_judged ms =
+      judged_as
+      statement_faults
+      (λ a. AtKey (codes "at") ms (λ d. IsAddress names d a.0) × AtKey (codes "cycles") ms (λ d. AreCycles d a.1))
+      (HasMultiply names ms)
+      (MultiplyKeysFault names ms)
+      (MultiplyKeysFault names ms)
+      (λ a. (λ h. record { address = h.0; cycles = h.1 }, λ h. (h.address, h.cycles)))
+      (λ f. (λ y. y, λ y. y))
+      (multiply_parts ms)
+      (pair_judged statement_faults _ _ _ _ _ _ (address_in_judged names (codes "at") ms) (cycles_in_judged ms))
+
+  pub multiply_judged :
+      (d : Data)
+      → Judges statement_faults (StatesMultiply names d) (MultiplyFault names d) (multiply_at names d)
+  multiply_judged d =
+      table_judged statement_faults multiply_keys (HasMultiply names) (MultiplyKeysFault names) multiply_parts multiply_keys_judged d
+
+  -- ## Branches
+
+  abbrev branch_parts : Members → Reading StatementFault (ℕ × Taken)
+  branch_parts ms = pair statement_faults (address_in names (codes "at") ms) (taken_in ms)
+
+  branch_keys_judged :
+      (ms : Members)
+      → Judges statement_faults (HasBranch names ms) (BranchKeysFault names ms) (branch_parts ms)
+  branch_keys_judged ms =
+      judged_as
+      statement_faults
+      (λ a. AtKey (codes "at") ms (λ d. IsAddress names d a.0) × AtKey (codes "taken") ms (λ d. IsNamed named_taken d a.1))
+      (HasBranch names ms)
+      (BranchKeysFault names ms)
+      (BranchKeysFault names ms)
+      (λ a. (λ h. record { address = h.0; taken = h.1 }, λ h. (h.address, h.taken)))
+      (λ f. (λ y. y, λ y. y))
+      (branch_parts ms)
+      (pair_judged statement_faults _ _ _ _ _ _ (address_in_judged names (codes "at") ms) (word_in_judged named_taken (codes "taken") ms))
+
+  pub branch_judged :
+      (d : Data)
+      → Judges statement_faults (StatesBranch names d) (BranchFault names d) (branch_at names d)
+  branch_judged d =
+      table_judged statement_faults branch_keys (HasBranch names) (BranchKeysFault names) branch_parts branch_keys_judged d

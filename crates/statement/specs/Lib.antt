@@ -6,3 +6,4 @@ pub mod ReadingParts
 pub mod StatementRules
 pub mod Places
 pub mod PlaceTests
+pub mod Stretches

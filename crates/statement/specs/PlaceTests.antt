@@ -1,6 +1,6 @@
 -- The tests of spots by what is read there, which clauses of private calls speak of.
 use Rattle.std.specs.Prelude.{◌≡◌, ◌&&◌, ◌||◌, ◌==◌, not, ℕ, Bool, true, false, List, [], ◌∷◌, ◌++◌}
-use Rattle.std.specs.Prelude.{codes, length, nat_lt}
+use Rattle.std.specs.Prelude.{codes, if◌then◌else◌, length, nat_lt, ⊤}
 use Rattle.std.specs.Prelude.{Option, Some, None, Ok, Err, is_none, is_some, map, unwrap_or, option_map, Vec}
 use Rattle.std.specs.declared.alloc.Global.{Global}
 use Rattle.std.specs.BTreeSet.{BTreeSet, contains}
@@ -11,24 +11,29 @@ use Rattle.std.specs.Result.{is_err, result_ok}
 use Rattle.toml.specs.Data.{Data, Members, as_table, get_member}
 use Rattle.toml_reading.specs.Documents.{is_one_of, items_at, number_in}
 use Rattle.toml_reading.specs.Lowest.{entries_at}
+use Rattle.arm2_decode.specs.declared.names.Register.{Register}
 use Rattle.image.specs.Labels.{Names}
 use Rattle.walks.specs.declared.limits.TheConstants.{MOST_ROUNDS}
 use Rattle.statement.specs.Places.{has_destinations, key_name, keys_of, list_key, most_of}
-use Rattle.statement.specs.Statement.{Read, address_at, address_in, class_in, kind_in, leave_in, placed_loop}
-use Rattle.statement.specs.Statement.{returns_in}
+use Rattle.statement.specs.Statement.{Read, address_at, address_in, class_in, cycles_in, first_in, kind_in}
+use Rattle.statement.specs.Statement.{last_in, leave_in, placed_loop, register_in, returns_in, taken_in}
+use Rattle.statement.specs.Stretches.{is_within, meets}
 use Rattle.statement.specs.StatementFaults.{number_of, statement_faults}
 use Rattle.statement.specs.declared.faults.StatementFault.{StatementFault}
 use Rattle.statement.specs.declared.faults.StatementFault.TheVariants.{UnknownKey, WrongKind, OutOfRange}
 use Rattle.statement.specs.declared.faults.StatementFault.TheVariants.{Twice}
 use Rattle.statement.specs.declared.spots.Key.{Key}
 use Rattle.statement.specs.declared.spots.Key.TheVariants.{Entry, Leave, Returns, Header, First, Last, Bound}
-use Rattle.statement.specs.declared.spots.Key.TheVariants.{At, Kind, To, Class}
+use Rattle.statement.specs.declared.spots.Key.TheVariants.{At, Kind, To, Class, Register as Base, Cycles}
+use Rattle.statement.specs.declared.spots.Key.TheVariants.{Taken}
 use Rattle.statement.specs.declared.spots.Part.{Part}
 use Rattle.statement.specs.declared.spots.Part.TheVariants.{Unknown, Value, Missing}
 use Rattle.statement.specs.declared.spots.Spot.{Spot}
 use Rattle.statement.specs.declared.spots.Spot.TheVariants as spot
 use Rattle.statement.specs.declared.spots.TableList.{TableList}
-use Rattle.statement.specs.declared.spots.TableList.TheVariants.{Loops, Targets, Accesses}
+use Rattle.statement.specs.declared.spots.TableList.TheVariants.{Loops, Targets, Accesses, Rules, Multiplies}
+use Rattle.statement.specs.declared.spots.TableList.TheVariants.{Branches}
+use Rattle.statement.specs.declared.stretches.Stretch.{Stretch}
 
 abbrev pub is_same : StatementFault → StatementFault → Bool
 is_same found fault = number_of found == number_of fault
@@ -53,13 +58,14 @@ abbrev pub was_there : (before : List (Option ℕ)) → Option ℕ → Bool
 was_there before None = false
 was_there before (Some a) = is_among before a
 
--- of each number whether it is one of those before it
-unfoldable pub repeats_after : (before ns : List (Option ℕ)) → List Bool
-repeats_after before [] = []
-repeats_after before (n ∷ ns) = was_there before n ∷ repeats_after (before ++ n ∷ []) ns
+-- of each value what the test says of those before it and of it
+unfoldable pub tests_after : {A : Type 0} → (test : List A → A → Bool) → (before xs : List A) → List Bool
+tests_after test before [] = []
+tests_after test before (x ∷ xs) = test before x ∷ tests_after test (before ++ x ∷ []) xs
 
+-- of each number whether it is one of those before it
 abbrev pub repeats : List (Option ℕ) → List Bool
-repeats ns = repeats_after [] ns
+repeats ns = tests_after was_there [] ns
 
 -- the test at the index, false past the end
 abbrev pub is_set : List Bool → ℕ → Bool
@@ -118,6 +124,27 @@ abbrev pub lies_outside : Read ℕ → Read ℕ → Read ℕ → Bool
 lies_outside (Ok first) (Ok last) (Ok header) = is_err (placed_loop ((first, last), (header, 0)))
 lies_outside _ _ _ = false
 
+-- ## Rules
+
+-- the last address lies before the first
+abbrev pub ends_early : (first last : Read ℕ) → Bool
+ends_early (Ok first) (Ok last) = nat_lt last first
+ends_early _ _ = false
+
+-- the stretch of a rule whose register and part are known
+abbrev pub stretch_of : Read Register → (first last : Read ℕ) → Option Stretch
+stretch_of (Ok base) (Ok first) (Ok last) = Some (record { base = base; first = first; last = last })
+stretch_of _ _ _ = None
+
+-- the stretch, if there is one, shares an address with one of those before
+abbrev pub was_met : (before : List (Option Stretch)) → Option Stretch → Bool
+was_met before None = false
+was_met before (Some p) = list_any (holds_of (meets p)) before
+
+-- of each stretch whether it shares an address with one of those before it
+abbrev pub meetings : List (Option Stretch) → List Bool
+meetings ps = tests_after was_met [] ps
+
 module _ (names : Names) where
   abbrev pub is_outside : Members → Bool
   is_outside ms =
@@ -150,11 +177,31 @@ module _ (names : Names) where
   access_key_gives Class ms fault = gives (class_in ms) fault
   access_key_gives _ ms fault = false
 
+  abbrev pub rule_key_gives : Key → Members → StatementFault → Bool
+  rule_key_gives Base ms fault = gives (register_in ms) fault
+  rule_key_gives Class ms fault = gives (class_in ms) fault
+  rule_key_gives First ms fault = gives (first_in names ms) fault
+  rule_key_gives Last ms fault = gives (last_in names ms) fault
+  rule_key_gives _ ms fault = false
+
+  abbrev pub multiply_key_gives : Key → Members → StatementFault → Bool
+  multiply_key_gives At ms fault = gives (address_in names (codes "at") ms) fault
+  multiply_key_gives Cycles ms fault = gives (cycles_in ms) fault
+  multiply_key_gives _ ms fault = false
+
+  abbrev pub branch_key_gives : Key → Members → StatementFault → Bool
+  branch_key_gives At ms fault = gives (address_in names (codes "at") ms) fault
+  branch_key_gives Taken ms fault = gives (taken_in ms) fault
+  branch_key_gives _ ms fault = false
+
   abbrev pub key_gives : Option TableList → Key → Members → StatementFault → Bool
   key_gives None key ms fault = own_key_gives key ms fault
   key_gives (Some Loops) key ms fault = loop_key_gives key ms fault
   key_gives (Some Targets) key ms fault = target_key_gives key ms fault
   key_gives (Some Accesses) key ms fault = access_key_gives key ms fault
+  key_gives (Some Rules) key ms fault = rule_key_gives key ms fault
+  key_gives (Some Multiplies) key ms fault = multiply_key_gives key ms fault
+  key_gives (Some Branches) key ms fault = branch_key_gives key ms fault
 
   abbrev pub part_gives : Option TableList → Part → Members → StatementFault → Bool
   part_gives of (Unknown key) ms fault =
@@ -170,7 +217,7 @@ module _ (names : Names) where
   abbrev pub address_of_table : Members → Option ℕ
   address_of_table ms = result_ok (address_in names (codes "at") ms)
 
-  -- the address of the word that a target or an access is for
+  -- the address of the word that a target, an access, a multiply or a branch is for
   abbrev pub address_of_entry : Data → Option ℕ
   address_of_entry d = option_and_then address_of_table (as_table d)
 
@@ -184,10 +231,26 @@ module _ (names : Names) where
   repeats_of None = []
   repeats_of (Some d) = destination_repeats d
 
+  abbrev pub is_reversed : Members → Bool
+  is_reversed ms = ends_early (first_in names ms) (last_in names ms)
+
+  abbrev pub stretch_of_table : Members → Option Stretch
+  stretch_of_table ms = stretch_of (register_in ms) (first_in names ms) (last_in names ms)
+
+  -- the stretch that a rule is for
+  abbrev pub stretch_of_entry : Data → Option Stretch
+  stretch_of_entry d = option_and_then stretch_of_table (as_table d)
+
+  abbrev pub rule_meetings : List Data → List Bool
+  rule_meetings ds = meetings (map stretch_of_entry ds)
+
   abbrev pub is_second : TableList → ℕ → Members → Bool
   is_second Loops n ms = false
   is_second Targets n ms = is_set (entry_repeats (entries_at (codes "target") ms)) n
   is_second Accesses n ms = is_set (entry_repeats (entries_at (codes "access") ms)) n
+  is_second Rules n ms = is_set (rule_meetings (entries_at (codes "base") ms)) n
+  is_second Multiplies n ms = is_set (entry_repeats (entries_at (codes "multiply") ms)) n
+  is_second Branches n ms = is_set (entry_repeats (entries_at (codes "branch") ms)) n
 
   abbrev pub is_second_destination : ℕ → ℕ → Members → Bool
   is_second_destination n i ms = is_set (repeats_of (entry_at Targets n ms)) i
@@ -214,6 +277,7 @@ module _ (names : Names) where
   found ms (spot.Destination n i) fault =
       holds_of (λ table. destination_gives i table fault) (table_at Targets n ms)
       || (is_same Twice fault && (holds_of goes_on (table_at Targets n ms) && is_second_destination n i ms))
+  found ms (spot.Reversed n) fault = is_same OutOfRange fault && holds_of is_reversed (table_at Rules n ms)
   found ms (spot.Second list n) fault = is_same Twice fault && is_second list n ms
 
 -- ## Addresses so far
@@ -222,12 +286,19 @@ module _ (names : Names) where
 pub record AreSeen (before : List (Option ℕ)) (seen : BTreeSet ℕ) : Type 0 where
   pub same : (a : ℕ) → contains nat_cmp seen a ≡ is_among before a
 
+-- one of the stretches has the address
+abbrev pub is_covered : List (Option Stretch) → ℕ → ℕ → Option ⊤
+is_covered before base a = if list_any (holds_of (is_within base a)) before then Some tt else None
+
 -- ## As it is stored
 
--- of the targets, the accesses and the destinations of each target, whether an earlier one is of the address
-pub record IsStored (names : Names) (ms : Members) (targets accesses : List Bool)
+-- of the entries of each list, and the destinations of each target, whether an earlier one is of the address
+pub record IsStored (names : Names) (ms : Members) (targets accesses rules multiplies branches : List Bool)
     (destinations : List (Vec Bool Global)) : Type 0 where
   pub targets_known : targets ≡ entry_repeats names (entries_at (codes "target") ms)
   pub accesses_known : accesses ≡ entry_repeats names (entries_at (codes "access") ms)
+  pub rules_known : rules ≡ rule_meetings names (entries_at (codes "base") ms)
+  pub multiplies_known : multiplies ≡ entry_repeats names (entries_at (codes "multiply") ms)
+  pub branches_known : branches ≡ entry_repeats names (entries_at (codes "branch") ms)
   pub destinations_known : map (λ v. v.items) destinations
       ≡ map (destination_repeats names) (entries_at (codes "target") ms)

@@ -6,25 +6,30 @@ use Rattle.std.specs.Str.{bytes_eq}
 use Rattle.toml.specs.Data.{Data, Members, as_table, get_member}
 use Rattle.toml_reading.specs.Documents.{is_one_of, items_at}
 use Rattle.toml_reading.specs.Lowest.{AtKey, IsNamed, NameFault, NumberFault, entries_at}
+use Rattle.arm2_decode.specs.declared.names.Register.{Register}
+use Rattle.asm_text.specs.Registers.{register_of}
 use Rattle.image.specs.Labels.{Names}
 use Rattle.walks.specs.declared.limits.TheConstants.{MOST_ROUNDS}
-use Rattle.statement.specs.Statement.{access_keys, loop_keys, named_class, named_kind, named_leave}
-use Rattle.statement.specs.Statement.{named_returns}
+use Rattle.statement.specs.Statement.{access_keys, branch_keys, loop_keys, multiply_keys, named_class}
+use Rattle.statement.specs.Statement.{named_kind, named_leave, named_returns, named_taken, rule_keys}
 use Rattle.statement.specs.Statement.{statement_keys, target_keys}
 use Rattle.statement.specs.StatementFaults.{statement_faults}
-use Rattle.statement.specs.StatementRules.{AddressFault, IsAddress, IsAt, IsMisplaced, RequiredFault}
+use Rattle.statement.specs.StatementRules.{AddressFault, CyclesFault, IsAddress, IsAt, IsMisplaced}
+use Rattle.statement.specs.StatementRules.{IsReversed, IsRuleAt, RequiredFault}
 use Rattle.statement.specs.declared.faults.StatementFault.{StatementFault}
 use Rattle.statement.specs.declared.faults.StatementFault.TheVariants.{UnknownKey, WrongKind, OutOfRange}
 use Rattle.statement.specs.declared.faults.StatementFault.TheVariants.{Twice}
 use Rattle.statement.specs.declared.spots.Key.{Key}
 use Rattle.statement.specs.declared.spots.Key.TheVariants.{Entry, Leave, Returns, Header, First, Last, Bound}
-use Rattle.statement.specs.declared.spots.Key.TheVariants.{At, Kind, To, Class}
+use Rattle.statement.specs.declared.spots.Key.TheVariants.{At, Kind, To, Class, Register as Base, Cycles}
+use Rattle.statement.specs.declared.spots.Key.TheVariants.{Taken}
 use Rattle.statement.specs.declared.spots.Part.{Part}
 use Rattle.statement.specs.declared.spots.Part.TheVariants.{Unknown, Value, Missing}
 use Rattle.statement.specs.declared.spots.Spot.{Spot}
 use Rattle.statement.specs.declared.spots.Spot.TheVariants as spot
 use Rattle.statement.specs.declared.spots.TableList.{TableList}
-use Rattle.statement.specs.declared.spots.TableList.TheVariants.{Loops, Targets, Accesses}
+use Rattle.statement.specs.declared.spots.TableList.TheVariants.{Loops, Targets, Accesses, Rules, Multiplies}
+use Rattle.statement.specs.declared.spots.TableList.TheVariants.{Branches}
 use Rattle.statement.specs.declared.stated.TargetKind.{TargetKind}
 use Rattle.statement.specs.declared.stated.TargetKind.TheVariants.{Jump, Call, Return, Leave as Leaving}
 
@@ -34,11 +39,17 @@ abbrev pub list_key : TableList → List ℕ
 list_key Loops = codes "loop"
 list_key Targets = codes "target"
 list_key Accesses = codes "access"
+list_key Rules = codes "base"
+list_key Multiplies = codes "multiply"
+list_key Branches = codes "branch"
 
 abbrev pub most_of : TableList → ℕ
 most_of Loops = 256
 most_of Targets = 1024
 most_of Accesses = 4096
+most_of Rules = 256
+most_of Multiplies = 1024
+most_of Branches = 1024
 
 abbrev pub key_name : Key → List ℕ
 key_name Entry = codes "entry"
@@ -52,6 +63,9 @@ key_name At = codes "at"
 key_name Kind = codes "kind"
 key_name To = codes "to"
 key_name Class = codes "class"
+key_name Base = codes "register"
+key_name Cycles = codes "cycles"
+key_name Taken = codes "taken"
 
 -- the first of the keys that a word names
 abbrev pub key_among : List Key → List ℕ → Option Key
@@ -60,7 +74,8 @@ key_among (key ∷ keys) w = if bytes_eq (key_name key) w then Some key else key
 
 abbrev pub all_keys : List Key
 all_keys =
-    Entry ∷ Leave ∷ Returns ∷ Header ∷ First ∷ Last ∷ Bound ∷ At ∷ Kind ∷ To ∷ Class ∷ []
+    Entry ∷ Leave ∷ Returns ∷ Header ∷ First ∷ Last ∷ Bound ∷ At ∷ Kind ∷ To ∷ Class ∷ Base ∷ Cycles ∷ Taken
+    ∷ []
 
 abbrev pub named_key : List ℕ → Option Key
 named_key w = key_among all_keys w
@@ -71,6 +86,9 @@ keys_of None = statement_keys
 keys_of (Some Loops) = loop_keys
 keys_of (Some Targets) = target_keys
 keys_of (Some Accesses) = access_keys
+keys_of (Some Rules) = rule_keys
+keys_of (Some Multiplies) = multiply_keys
+keys_of (Some Branches) = branch_keys
 
 -- the entry of the list with the index, from 0, is a table of which that holds
 abbrev pub InTable : TableList → ℕ → Members → (Members → Type 0) → Type 0
@@ -135,12 +153,35 @@ module _ (names : Names) where
       RequiredFault (codes "class") ms (NameFault statement_faults named_class) fault
   AccessKeyFault _ ms fault = ⊥
 
+  abbrev pub RuleKeyFault : Key → Members → StatementFault → Type 0
+  RuleKeyFault Base ms fault =
+      RequiredFault (codes "register") ms (NameFault statement_faults register_of) fault
+  RuleKeyFault Class ms fault =
+      RequiredFault (codes "class") ms (NameFault statement_faults named_class) fault
+  RuleKeyFault First ms fault = AtKey (codes "first") ms (λ d. AddressFault names d fault)
+  RuleKeyFault Last ms fault = AtKey (codes "last") ms (λ d. AddressFault names d fault)
+  RuleKeyFault _ ms fault = ⊥
+
+  abbrev pub MultiplyKeyFault : Key → Members → StatementFault → Type 0
+  MultiplyKeyFault At ms fault = RequiredFault (codes "at") ms (AddressFault names) fault
+  MultiplyKeyFault Cycles ms fault = RequiredFault (codes "cycles") ms CyclesFault fault
+  MultiplyKeyFault _ ms fault = ⊥
+
+  abbrev pub BranchKeyFault : Key → Members → StatementFault → Type 0
+  BranchKeyFault At ms fault = RequiredFault (codes "at") ms (AddressFault names) fault
+  BranchKeyFault Taken ms fault =
+      RequiredFault (codes "taken") ms (NameFault statement_faults named_taken) fault
+  BranchKeyFault _ ms fault = ⊥
+
   -- of a table of the list, or of the statement itself
   abbrev pub KeyFault : Option TableList → Key → Members → StatementFault → Type 0
   KeyFault None key ms fault = OwnKeyFault key ms fault
   KeyFault (Some Loops) key ms fault = LoopKeyFault key ms fault
   KeyFault (Some Targets) key ms fault = TargetKeyFault key ms fault
   KeyFault (Some Accesses) key ms fault = AccessKeyFault key ms fault
+  KeyFault (Some Rules) key ms fault = RuleKeyFault key ms fault
+  KeyFault (Some Multiplies) key ms fault = MultiplyKeyFault key ms fault
+  KeyFault (Some Branches) key ms fault = BranchKeyFault key ms fault
 
   -- a key that the table may not have, or the fault of one that it may have, which is there or is not
   abbrev pub PartFault : Option TableList → Part → Members → StatementFault → Type 0
@@ -157,13 +198,14 @@ module _ (names : Names) where
       IsSomeAnd (slice_get ds n) (λ d. AddressFault names d fault)
       ⊎ (IsRepeatAt (IsAddress names) ds n × (fault ≡ Twice))
 
-  -- an earlier target or access is of its address
-  abbrev pub SecondFault : TableList → ℕ → Members → StatementFault → Type 0
-  SecondFault Loops n ms fault = ⊥
-  SecondFault Targets n ms fault =
-      IsRepeatAt (IsAt names) (entries_at (codes "target") ms) n × (fault ≡ Twice)
-  SecondFault Accesses n ms fault =
-      IsRepeatAt (IsAt names) (entries_at (codes "access") ms) n × (fault ≡ Twice)
+  -- an earlier entry of the list is of its address, or an earlier rule for its register shares one with it
+  abbrev pub IsSecond : TableList → ℕ → Members → Type 0
+  IsSecond Loops n ms = ⊥
+  IsSecond Targets n ms = IsRepeatAt (IsAt names) (entries_at (codes "target") ms) n
+  IsSecond Accesses n ms = IsRepeatAt (IsAt names) (entries_at (codes "access") ms) n
+  IsSecond Rules n ms = (base : Register) × IsRepeatAt (IsRuleAt names base) (entries_at (codes "base") ms) n
+  IsSecond Multiplies n ms = IsRepeatAt (IsAt names) (entries_at (codes "multiply") ms) n
+  IsSecond Branches n ms = IsRepeatAt (IsAt names) (entries_at (codes "branch") ms) n
 
   -- the document has the fault at the spot
   abbrev pub IsFaultAt : Members → Spot → StatementFault → Type 0
@@ -189,4 +231,6 @@ module _ (names : Names) where
   IsFaultAt ms (spot.Destination n i) fault =
       InTable Targets n ms
       (λ table. GoesOn true table × DestinationFault i (entries_at (codes "to") table) fault)
-  IsFaultAt ms (spot.Second list n) fault = SecondFault list n ms fault
+  IsFaultAt ms (spot.Reversed n) fault =
+      InTable Rules n ms (λ table. IsReversed names table × (fault ≡ OutOfRange))
+  IsFaultAt ms (spot.Second list n) fault = IsSecond list n ms × (fault ≡ Twice)

@@ -1,18 +1,24 @@
 -- Which statement a text states, and its faults, of which the lowest over the whole text is answered (over
 -- the documents of TOML).
 use Rattle.std.specs.Prelude.{◌&&◌, ◌==◌, ◌+◌, ◌-◌, ◌%◌, ℕ, ℤ, pos, Bool, List, [], ◌∷◌, length, take, drop}
-use Rattle.std.specs.Prelude.{slice_index, codes, is_none, Option, Some, None, Ok, Err, nat_le, nat_lt}
+use Rattle.std.specs.Prelude.{negsuc, not, true, slice_index, codes, is_none, Option, Some, None, Ok, Err}
+use Rattle.std.specs.Prelude.{nat_le}
+use Rattle.std.specs.Prelude.{nat_lt, max, min}
 use Rattle.std.specs.Prelude.{if◌then◌else◌}
 use Rattle.std.specs.Char.{is_ascii_digit}
-use Rattle.std.specs.List.{list_all}
+use Rattle.std.specs.List.{list_all, list_any}
 use Rattle.std.specs.Map.{keys_of}
 use Rattle.std.specs.Str.{bytes_eq}
 use Rattle.std.specs.Str.Parse.{digits_value}
 use Rattle.memchr.specs.Find.{is_byte2, last_of, places}
 use Rattle.toml.specs.Data.{Data, Members, get_member, as_integer, as_str, as_table}
+use Rattle.arm2_decode.specs.Names.{is_same}
+use Rattle.arm2_decode.specs.declared.names.Register.{Register}
+use Rattle.asm_text.specs.Registers.{register_of}
 use Rattle.bus_ticks.specs.declared.profile.Class.{Class}
 use Rattle.bus_ticks.specs.declared.profile.Class.TheVariants.{Any, Ram, Rom, Io}
 use Rattle.bus_ticks.specs.declared.profile.Class.TheVariants.{Slow, Medium, Fast, Synchronous}
+use Rattle.bus_ticks.specs.declared.space.TheConstants.{SPACE_END}
 use Rattle.image.specs.Labels.{Names}
 use Rattle.walks.specs.declared.limits.TheConstants.{MOST_ROUNDS}
 use Rattle.toml_reading.specs.Documents.{IsAnswer, are_distinct, in_space, items_at, listed_up_to, name_at}
@@ -25,9 +31,12 @@ use Rattle.statement.specs.declared.faults.StatementFault.TheVariants.{NotToml, 
 use Rattle.statement.specs.declared.faults.StatementFault.TheVariants.{OutOfRange, Twice}
 use Rattle.statement.specs.declared.offsets.Sign.{Sign}
 use Rattle.statement.specs.declared.offsets.Sign.TheVariants.{Plus, Minus}
+use Rattle.statement.specs.declared.stated.BaseRule.{BaseRule}
 use Rattle.statement.specs.declared.stated.Loop.{Loop}
 use Rattle.statement.specs.declared.stated.Returns.{Returns}
 use Rattle.statement.specs.declared.stated.Returns.TheVariants as returns
+use Rattle.statement.specs.declared.stated.Taken.{Taken}
+use Rattle.statement.specs.declared.stated.Taken.TheVariants as taken
 use Rattle.statement.specs.declared.stated.TargetKind.{TargetKind}
 use Rattle.statement.specs.declared.stated.TargetKind.TheVariants.{Jump, Call, Return, Leave}
 
@@ -38,7 +47,8 @@ Read A = Reading StatementFault A
 
 abbrev pub statement_keys : List (List ℕ)
 statement_keys =
-    codes "entry" ∷ codes "leave" ∷ codes "returns" ∷ codes "loop" ∷ codes "target" ∷ codes "access" ∷ []
+    codes "entry" ∷ codes "leave" ∷ codes "returns" ∷ codes "loop" ∷ codes "target" ∷ codes "access"
+    ∷ codes "base" ∷ codes "multiply" ∷ codes "branch" ∷ []
 
 abbrev pub loop_keys : List (List ℕ)
 loop_keys = codes "header" ∷ codes "first" ∷ codes "last" ∷ codes "bound" ∷ []
@@ -48,6 +58,15 @@ target_keys = codes "at" ∷ codes "kind" ∷ codes "to" ∷ []
 
 abbrev pub access_keys : List (List ℕ)
 access_keys = codes "at" ∷ codes "class" ∷ []
+
+abbrev pub rule_keys : List (List ℕ)
+rule_keys = codes "register" ∷ codes "class" ∷ codes "first" ∷ codes "last" ∷ []
+
+abbrev pub multiply_keys : List (List ℕ)
+multiply_keys = codes "at" ∷ codes "cycles" ∷ []
+
+abbrev pub branch_keys : List (List ℕ)
+branch_keys = codes "at" ∷ codes "taken" ∷ []
 
 -- ## Words
 
@@ -88,6 +107,11 @@ abbrev pub named_returns : List ℕ → Option Returns
 named_returns w = if bytes_eq w (codes "assumed") then Some returns.Assumed
     else (if bytes_eq w (codes "stated") then Some returns.Stated else None)
 
+-- which way is stated of a word that has a condition
+abbrev pub named_taken : List ℕ → Option Taken
+named_taken w = if bytes_eq w (codes "always") then Some taken.Always
+    else (if bytes_eq w (codes "never") then Some taken.Never else None)
+
 -- the class to leave to that a value names, and the class of a transfer
 abbrev pub leave_named_at : Data → Read Class
 leave_named_at d = name_at statement_faults named_leave d
@@ -100,6 +124,22 @@ returns_named_at d = name_at statement_faults named_returns d
 
 abbrev pub kind_at : Data → Read TargetKind
 kind_at d = name_at statement_faults named_kind d
+
+abbrev pub register_named_at : Data → Read Register
+register_named_at d = name_at statement_faults register_of d
+
+abbrev pub taken_named_at : Data → Read Taken
+taken_named_at d = name_at statement_faults named_taken d
+
+-- ## Cycles
+
+-- a number from 1 to 16
+abbrev pub cycles_of : ℤ → Read ℕ
+cycles_of (pos n) = if nat_le 1 n && nat_le n 16 then Ok n else Err OutOfRange
+cycles_of (negsuc n) = Err OutOfRange
+
+abbrev pub cycles_named_at : Data → Read ℕ
+cycles_named_at d = required statement_faults (as_integer d) cycles_of
 
 -- ## Addresses
 
@@ -166,11 +206,26 @@ placed_loop p =
     if nat_le p.0.0 p.1.0 && nat_le p.1.0 p.0.1
     then Ok (record { header = p.1.0; first = p.0.0; last = p.0.1; bound = p.1.1 }) else Err OutOfRange
 
+-- a rule that does not end before it begins
+abbrev pub placed_rule : (Register × Class) × (ℕ × ℕ) → Read BaseRule
+placed_rule p =
+    if nat_le p.1.0 p.1.1
+    then Ok (record { register = p.0.0; first = p.1.0; last = p.1.1; class = p.0.1 }) else Err OutOfRange
+
 abbrev pub kind_in : Members → Read TargetKind
 kind_in ms = required statement_faults (get_member (codes "kind") ms) kind_at
 
 abbrev pub class_in : Members → Read Class
 class_in ms = required statement_faults (get_member (codes "class") ms) class_named_at
+
+abbrev pub register_in : Members → Read Register
+register_in ms = required statement_faults (get_member (codes "register") ms) register_named_at
+
+abbrev pub cycles_in : Members → Read ℕ
+cycles_in ms = required statement_faults (get_member (codes "cycles") ms) cycles_named_at
+
+abbrev pub taken_in : Members → Read Taken
+taken_in ms = required statement_faults (get_member (codes "taken") ms) taken_named_at
 
 -- the class to leave to: any where the key is missing
 abbrev pub leave_in : Members → Read Class
@@ -184,32 +239,63 @@ returns_in ms = optional returns.Assumed (get_member (codes "returns") ms) retur
 abbrev pub leaving_in : Members → Read (Class × Returns)
 leaving_in ms = pair statement_faults (leave_in ms) (returns_in ms)
 
--- the entry and how the handler leaves, the loops, the targets and the accesses
+-- the entry and how the handler leaves, and the loops
+abbrev pub Frame : Type 0
+Frame = (ℕ × (Class × Returns)) × List Loop
+
+-- the targets and the accesses
+abbrev pub Words : Type 0
+Words = List (ℕ × Target) × List (ℕ × Class)
+
+-- the multiplies and the branches
+abbrev pub Limits : Type 0
+Limits = List (ℕ × ℕ) × List (ℕ × Taken)
+
 abbrev pub Parts : Type 0
-Parts = ((ℕ × (Class × Returns)) × List Loop) × (List (ℕ × Target) × List (ℕ × Class))
+Parts = (Frame × Words) × (List BaseRule × Limits)
 
 -- what the parts state
 abbrev pub stated_by : Parts → Stated
 stated_by p =
     record {
-      entry = p.0.0.0;
-      leave = p.0.0.1.0;
-      returns = p.0.0.1.1;
-      loops = p.0.1;
-      targets = p.1.0;
-      accesses = p.1.1;
+      entry = p.0.0.0.0;
+      leave = p.0.0.0.1.0;
+      returns = p.0.0.0.1.1;
+      loops = p.0.0.1;
+      targets = p.0.1.0;
+      accesses = p.0.1.1;
+      rules = p.1.0;
+      multiplies = p.1.1.0;
+      branches = p.1.1.1;
     }
 
--- one target and one access at most for an address
+-- the rules are for one register, and share an address
+abbrev pub overlap : BaseRule → BaseRule → Bool
+overlap r q = is_same r.register q.register && nat_le (max r.first q.first) (min r.last q.last)
+
+-- no two of the rules do
+abbrev pub are_apart : List BaseRule → Bool
+are_apart [] = true
+are_apart (r ∷ rules) = not (list_any (overlap r) rules) && are_apart rules
+
+-- one entry at most of each list for an address, and one rule for a register there
+abbrev pub is_single : Stated → Bool
+is_single st =
+    (are_distinct (keys_of st.targets) && are_distinct (keys_of st.accesses))
+    && (are_apart st.rules && (are_distinct (keys_of st.multiplies) && are_distinct (keys_of st.branches)))
+
 abbrev pub stated_once : Parts → Read Stated
-stated_once p =
-    if are_distinct (keys_of p.1.0) && are_distinct (keys_of p.1.1) then Ok (stated_by p) else Err Twice
+stated_once p = if is_single (stated_by p) then Ok (stated_by p) else Err Twice
 
 -- ## Tables
 
 module _ (names : Names) where
   abbrev pub address_in : List ℕ → Members → Read ℕ
   address_in key ms = required statement_faults (get_member key ms) (address_at names)
+
+  -- the same where the key may be missing
+  abbrev pub address_or : List ℕ → ℕ → Members → Read ℕ
+  address_or key missing ms = optional missing (get_member key ms) (address_at names)
 
   -- ## A loop
 
@@ -272,6 +358,44 @@ module _ (names : Names) where
   abbrev pub access_at : Data → Read (ℕ × Class)
   access_at d = required statement_faults (as_table d) access_in
 
+  -- ## A rule for a base register
+
+  -- from the first address to the last: of the whole memory where they are missing
+  abbrev pub first_in : Members → Read ℕ
+  first_in ms = address_or (codes "first") 0 ms
+
+  abbrev pub last_in : Members → Read ℕ
+  last_in ms = address_or (codes "last") (SPACE_END - 4) ms
+
+  abbrev pub rule_parts : Members → Read ((Register × Class) × (ℕ × ℕ))
+  rule_parts ms =
+      pair statement_faults (pair statement_faults (register_in ms) (class_in ms))
+      (pair statement_faults (first_in ms) (last_in ms))
+
+  abbrev pub rule_in : Members → Read BaseRule
+  rule_in ms = of_keys statement_faults rule_keys ms (and_then (rule_parts ms) placed_rule)
+
+  abbrev pub rule_at : Data → Read BaseRule
+  rule_at d = required statement_faults (as_table d) rule_in
+
+  -- ## A multiply and a branch
+
+  abbrev pub multiply_in : Members → Read (ℕ × ℕ)
+  multiply_in ms =
+      of_keys statement_faults multiply_keys ms
+      (pair statement_faults (address_in (codes "at") ms) (cycles_in ms))
+
+  abbrev pub multiply_at : Data → Read (ℕ × ℕ)
+  multiply_at d = required statement_faults (as_table d) multiply_in
+
+  abbrev pub branch_in : Members → Read (ℕ × Taken)
+  branch_in ms =
+      of_keys statement_faults branch_keys ms
+      (pair statement_faults (address_in (codes "at") ms) (taken_in ms))
+
+  abbrev pub branch_at : Data → Read (ℕ × Taken)
+  branch_at d = required statement_faults (as_table d) branch_in
+
   -- ## The statement
 
   abbrev pub ends_in : Members → Read (ℕ × (Class × Returns))
@@ -286,12 +410,30 @@ module _ (names : Names) where
   abbrev pub accesses_in : Members → Read (List (ℕ × Class))
   accesses_in ms = tables_up_to statement_faults 4096 access_at (get_member (codes "access") ms)
 
+  abbrev pub rules_in : Members → Read (List BaseRule)
+  rules_in ms = tables_up_to statement_faults 256 rule_at (get_member (codes "base") ms)
+
+  abbrev pub multiplies_in : Members → Read (List (ℕ × ℕ))
+  multiplies_in ms = tables_up_to statement_faults 1024 multiply_at (get_member (codes "multiply") ms)
+
+  abbrev pub branches_in : Members → Read (List (ℕ × Taken))
+  branches_in ms = tables_up_to statement_faults 1024 branch_at (get_member (codes "branch") ms)
+
+  abbrev pub frame_in : Members → Read Frame
+  frame_in ms = pair statement_faults (ends_in ms) (loops_in ms)
+
+  abbrev pub words_in : Members → Read Words
+  words_in ms = pair statement_faults (targets_in ms) (accesses_in ms)
+
+  abbrev pub limits_in : Members → Read Limits
+  limits_in ms = pair statement_faults (multiplies_in ms) (branches_in ms)
+
+  abbrev pub rules_and_limits : Members → Read (List BaseRule × Limits)
+  rules_and_limits ms = pair statement_faults (rules_in ms) (limits_in ms)
+
   abbrev pub parts_of : Members → Read Parts
   parts_of ms =
-      pair
-      statement_faults
-      (pair statement_faults (ends_in ms) (loops_in ms))
-      (pair statement_faults (targets_in ms) (accesses_in ms))
+      pair statement_faults (pair statement_faults (frame_in ms) (words_in ms)) (rules_and_limits ms)
 
   abbrev pub statement_of : Members → Read Stated
   statement_of ms = of_keys statement_faults statement_keys ms (and_then (parts_of ms) stated_once)

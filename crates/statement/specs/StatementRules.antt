@@ -1,30 +1,35 @@
 -- What a document states of a handler and which faults it has, key by key (over the documents of TOML).
-use Rattle.std.specs.Prelude.{◌≡◌, ◌≢◌, ◌≤◌, ◌⊎◌, ◌+◌, ◌%◌, ℕ, pos, true, List, [], ◌∷◌, ◌++◌, codes, IsTrue}
-use Rattle.std.specs.Prelude.{Option, Some, None, IsSomeAnd, MatchOption, ⊤}
+use Rattle.std.specs.Prelude.{◌≡◌, ◌≢◌, ◌<◌, ◌≤◌, ◌⊎◌, ◌+◌, ◌-◌, ◌%◌, ℕ, ℤ, pos, true, List, [], ◌∷◌, ◌++◌}
+use Rattle.std.specs.Prelude.{Option, Some, None, IsSomeAnd, MatchOption, AllPairs, codes, IsTrue, ⊤}
 use Rattle.std.specs.Map.{keys_of}
 use Rattle.std.specs.Str.Parse.{IsNumeral, digits_value}
-use Rattle.toml.specs.Data.{Data, Members, integer, string, get_member, as_table}
+use Rattle.toml.specs.Data.{Data, Members, integer, string, get_member, as_integer, as_table}
+use Rattle.arm2_decode.specs.declared.names.Register.{Register}
+use Rattle.asm_text.specs.Registers.{register_of}
 use Rattle.bus_ticks.specs.declared.profile.Class.{Class}
 use Rattle.bus_ticks.specs.declared.profile.Class.TheVariants.{Any}
+use Rattle.bus_ticks.specs.declared.space.TheConstants.{SPACE_END}
 use Rattle.walks.specs.declared.limits.TheConstants.{MOST_ROUNDS}
 use Rattle.toml_reading.specs.Documents.{are_distinct, has_only_keys, items_at}
 use Rattle.toml_reading.specs.Lists.{IsListUpTo, ListUpToFault, HasRepeat}
 use Rattle.bus_ticks.specs.Prices.{is_word_address}
 use Rattle.toml_reading.specs.Lowest.{AtKey, AtKeyOr, IsNamed, IsNoAddress, IsNumber, IsTable}
 use Rattle.toml_reading.specs.Lowest.{KeysFault, NameFault, NumberFault, TableFault}
-use Rattle.statement.specs.Stated.{Stated, Target}
+use Rattle.statement.specs.Stated.{AreApart, Stated, Target}
 use Rattle.image.specs.Labels.{Names}
-use Rattle.statement.specs.Statement.{access_keys, loop_keys, named_class, named_kind, named_leave}
-use Rattle.statement.specs.Statement.{named_returns, sign_byte}
-use Rattle.statement.specs.Statement.{statement_keys, target_keys}
+use Rattle.statement.specs.Statement.{access_keys, branch_keys, loop_keys, multiply_keys, named_class}
+use Rattle.statement.specs.Statement.{named_kind, named_leave, named_returns, named_taken, rule_keys}
+use Rattle.statement.specs.Statement.{sign_byte, statement_keys, target_keys}
 use Rattle.statement.specs.StatementFaults.{statement_faults}
 use Rattle.statement.specs.declared.faults.StatementFault.{StatementFault}
 use Rattle.statement.specs.declared.faults.StatementFault.TheVariants.{WrongKind, UnknownLabel, OutOfRange}
 use Rattle.statement.specs.declared.faults.StatementFault.TheVariants.{Twice}
 use Rattle.statement.specs.declared.offsets.Sign.{Sign}
 use Rattle.statement.specs.declared.offsets.Sign.TheVariants.{Plus, Minus}
+use Rattle.statement.specs.declared.stated.BaseRule.{BaseRule}
 use Rattle.statement.specs.declared.stated.Loop.{Loop}
 use Rattle.statement.specs.declared.stated.Returns.TheVariants.{Assumed}
+use Rattle.statement.specs.declared.stated.Taken.{Taken}
 use Rattle.statement.specs.declared.stated.TargetKind.{TargetKind}
 use Rattle.statement.specs.declared.stated.TargetKind.TheVariants.{Jump, Call, Return, Leave}
 
@@ -83,6 +88,23 @@ abbrev pub AddressFault : Names → Data → StatementFault → Type 0
 AddressFault names (integer z) fault = IsNoAddress z × (fault ≡ OutOfRange)
 AddressFault names (string text) fault = TextFault names text fault
 AddressFault names _ fault = fault ≡ WrongKind
+
+-- the multiplier takes no fewer and no more
+abbrev pub AreFew : ℕ → Type 0
+AreFew cycles = (1 ≤ cycles) × (cycles ≤ 16)
+
+-- an integer from 1 to 16
+abbrev pub AreCycles : Data → ℕ → Type 0
+AreCycles d cycles = IsSomeAnd (as_integer d) (λ z. (z ≡ pos cycles) × AreFew cycles)
+
+-- an integer out of range
+abbrev pub AreNoCycles : ℤ → Type 0
+AreNoCycles z = (cycles : ℕ) → z ≡ pos cycles → ¬ AreFew cycles
+
+-- that, or another type
+abbrev pub CyclesFault : Data → StatementFault → Type 0
+CyclesFault d fault =
+    MatchOption (as_integer d) (fault ≡ WrongKind) (λ z. AreNoCycles z × (fault ≡ OutOfRange))
 
 -- the fault of a key that must be there: it is missing, or its value has the fault
 abbrev pub RequiredFault : List ℕ → Members → (Data → StatementFault → Type 0) → StatementFault → Type 0
@@ -194,11 +216,81 @@ module _ (names : Names) where
   abbrev pub AccessFault : Data → StatementFault → Type 0
   AccessFault d fault = TableFault statement_faults access_keys AccessKeysFault d fault
 
+  -- ## A rule for a base register
+
+  -- the part of memory that a rule is for: all of it where nothing is said
+  abbrev pub IsFirst : Members → ℕ → Type 0
+  IsFirst ms a = AtKeyOr (codes "first") ms (a ≡ 0) (λ d. IsAddress names d a)
+
+  abbrev pub IsLast : Members → ℕ → Type 0
+  IsLast ms a = AtKeyOr (codes "last") ms (a ≡ SPACE_END - 4) (λ d. IsAddress names d a)
+
+  -- the register by its name, the class of the addresses that all transfers by it are of, and that part
+  pub record HasRule (ms : Members) (r : BaseRule) : Type 0 where
+    pub register : AtKey (codes "register") ms (λ d. IsNamed register_of d r.register)
+    pub class : AtKey (codes "class") ms (λ d. IsNamed named_class d r.class)
+    pub first : IsFirst ms r.first
+    pub last : IsLast ms r.last
+
+  abbrev pub StatesRule : Data → BaseRule → Type 0
+  StatesRule d r = IsTable rule_keys (λ ms. HasRule ms r × (r.first ≤ r.last)) d
+
+  -- the part ends before it begins
+  abbrev pub IsReversed : Members → Type 0
+  IsReversed ms = (first : ℕ) × (last : ℕ) × IsFirst ms first × IsLast ms last × (last < first)
+
+  -- a fault of one of its keys, or that
+  abbrev pub RuleKeysFault : Members → StatementFault → Type 0
+  RuleKeysFault ms fault =
+      RequiredFault (codes "register") ms (NameFault statement_faults register_of) fault
+      ⊎ RequiredFault (codes "class") ms (NameFault statement_faults named_class) fault
+      ⊎ AtKey (codes "first") ms (λ d. AddressFault names d fault)
+      ⊎ AtKey (codes "last") ms (λ d. AddressFault names d fault)
+      ⊎ (IsReversed ms × (fault ≡ OutOfRange))
+
+  abbrev pub RuleFault : Data → StatementFault → Type 0
+  RuleFault d fault = TableFault statement_faults rule_keys RuleKeysFault d fault
+
+  -- ## A multiply
+
+  -- the address of the word, and the most cycles that it takes
+  pub record HasMultiply (ms : Members) (m : ℕ × ℕ) : Type 0 where
+    pub address : AtKey (codes "at") ms (λ d. IsAddress names d m.0)
+    pub cycles : AtKey (codes "cycles") ms (λ d. AreCycles d m.1)
+
+  abbrev pub StatesMultiply : Data → ℕ × ℕ → Type 0
+  StatesMultiply d m = IsTable multiply_keys (λ ms. HasMultiply ms m) d
+
+  abbrev pub MultiplyKeysFault : Members → StatementFault → Type 0
+  MultiplyKeysFault ms fault =
+      RequiredFault (codes "at") ms (AddressFault names) fault
+      ⊎ RequiredFault (codes "cycles") ms CyclesFault fault
+
+  abbrev pub MultiplyFault : Data → StatementFault → Type 0
+  MultiplyFault d fault = TableFault statement_faults multiply_keys MultiplyKeysFault d fault
+
+  -- ## A branch
+
+  -- the address of the word, and which way it goes
+  pub record HasBranch (ms : Members) (b : ℕ × Taken) : Type 0 where
+    pub address : AtKey (codes "at") ms (λ d. IsAddress names d b.0)
+    pub taken : AtKey (codes "taken") ms (λ d. IsNamed named_taken d b.1)
+
+  abbrev pub StatesBranch : Data → ℕ × Taken → Type 0
+  StatesBranch d b = IsTable branch_keys (λ ms. HasBranch ms b) d
+
+  abbrev pub BranchKeysFault : Members → StatementFault → Type 0
+  BranchKeysFault ms fault =
+      RequiredFault (codes "at") ms (AddressFault names) fault
+      ⊎ RequiredFault (codes "taken") ms (NameFault statement_faults named_taken) fault
+
+  abbrev pub BranchFault : Data → StatementFault → Type 0
+  BranchFault d fault = TableFault statement_faults branch_keys BranchKeysFault d fault
+
   -- ## The statement
 
   -- what is at the document's keys. The class to leave to is any where it is missing, a word that writes R15
-  -- and has no target returns where nothing is said, and there are no loops, targets or accesses where their
-  -- list is missing
+  -- and has no target returns where nothing is said, and a list that is missing has no entries
   pub record HasParts (ms : Members) (st : Stated) : Type 0 where
     pub entry : AtKey (codes "entry") ms (λ d. IsAddress names d st.entry)
     pub leave : AtKeyOr (codes "leave") ms (st.leave ≡ Any) (λ d. IsNamed named_leave d st.leave)
@@ -209,10 +301,19 @@ module _ (names : Names) where
         (λ d. IsListUpTo 1024 StatesTarget d st.targets)
     pub accesses : AtKeyOr (codes "access") ms (st.accesses ≡ [])
         (λ d. IsListUpTo 4096 StatesAccess d st.accesses)
+    pub rules : AtKeyOr (codes "base") ms (st.rules ≡ []) (λ d. IsListUpTo 256 StatesRule d st.rules)
+    pub multiplies : AtKeyOr (codes "multiply") ms (st.multiplies ≡ [])
+        (λ d. IsListUpTo 1024 StatesMultiply d st.multiplies)
+    pub branches : AtKeyOr (codes "branch") ms (st.branches ≡ [])
+        (λ d. IsListUpTo 1024 StatesBranch d st.branches)
 
-  -- one target and one access at most for an address
-  abbrev pub IsSingle : Stated → Type 0
-  IsSingle st = (are_distinct (keys_of st.targets) ≡ true) × (are_distinct (keys_of st.accesses) ≡ true)
+  -- one entry at most of each of these lists for an address, and one rule for a register there
+  pub record IsSingle (st : Stated) : Type 0 where
+    pub targets : are_distinct (keys_of st.targets) ≡ true
+    pub accesses : are_distinct (keys_of st.accesses) ≡ true
+    pub rules : AllPairs AreApart st.rules
+    pub multiplies : are_distinct (keys_of st.multiplies) ≡ true
+    pub branches : are_distinct (keys_of st.branches) ≡ true
 
   -- the statement that a document states: no other keys, and what is at these
   pub record States (ms : Members) (st : Stated) : Type 0 where
@@ -220,7 +321,7 @@ module _ (names : Names) where
     pub parts : HasParts ms st
     pub single : IsSingle st
 
-  -- a target or an access of the word at that address
+  -- a target, an access, a multiply or a branch of the word at that address
   abbrev pub IsAt : Data → ℕ → Type 0
   IsAt d a = IsSomeAnd (as_table d) (λ ms. AtKey (codes "at") ms (λ e. IsAddress names e a))
 
@@ -228,7 +329,24 @@ module _ (names : Names) where
   abbrev pub HasTwo : List ℕ → Members → Type 0
   HasTwo key ms = AtKey key ms (λ d. IsSomeAnd (items_at d) (HasRepeat IsAt))
 
-  -- the faults of its keys, and two targets or two accesses of one address
+  -- a rule for that register, and for the word at that address among others
+  abbrev pub IsRuleAt : Register → Data → ℕ → Type 0
+  IsRuleAt base d a =
+      IsSomeAnd (as_table d)
+      (λ ms. AtKey (codes "register") ms (λ e. IsNamed register_of e base)
+      × ((first : ℕ) × (last : ℕ) × IsFirst ms first × IsLast ms last × (first ≤ a) × (a ≤ last)))
+
+  -- two rules are for one register at one address
+  abbrev pub HasTwoRules : Members → Type 0
+  HasTwoRules ms =
+      (base : Register) × AtKey (codes "base") ms (λ d. IsSomeAnd (items_at d) (HasRepeat (IsRuleAt base)))
+
+  abbrev pub IsTwice : Members → Type 0
+  IsTwice ms =
+      HasTwo (codes "target") ms ⊎ HasTwo (codes "access") ms ⊎ HasTwoRules ms ⊎ HasTwo (codes "multiply") ms
+      ⊎ HasTwo (codes "branch") ms
+
+  -- the faults of its keys, and two entries where there may be one
   abbrev pub PartsFault : Members → StatementFault → Type 0
   PartsFault ms fault =
       RequiredFault (codes "entry") ms (AddressFault names) fault
@@ -237,7 +355,10 @@ module _ (names : Names) where
       ⊎ AtKey (codes "loop") ms (λ d. ListUpToFault statement_faults 256 LoopFault d fault)
       ⊎ AtKey (codes "target") ms (λ d. ListUpToFault statement_faults 1024 TargetFault d fault)
       ⊎ AtKey (codes "access") ms (λ d. ListUpToFault statement_faults 4096 AccessFault d fault)
-      ⊎ ((HasTwo (codes "target") ms ⊎ HasTwo (codes "access") ms) × (fault ≡ Twice))
+      ⊎ AtKey (codes "base") ms (λ d. ListUpToFault statement_faults 256 RuleFault d fault)
+      ⊎ AtKey (codes "multiply") ms (λ d. ListUpToFault statement_faults 1024 MultiplyFault d fault)
+      ⊎ AtKey (codes "branch") ms (λ d. ListUpToFault statement_faults 1024 BranchFault d fault)
+      ⊎ (IsTwice ms × (fault ≡ Twice))
 
   -- the faults of a document: those, and a key that it may not have
   abbrev pub HasFault : Members → StatementFault → Type 0

@@ -3,7 +3,8 @@ ghost use Rattle.toml.specs.View.{table_view, view};
 ghost use Rattle.image.specs.Labels.{address_of};
 ghost use Rattle.toml_reading.specs.Documents.{once};
 ghost use Rattle.toml_reading.specs.Readings.{and_then, items_in};
-ghost use Rattle.statement.specs.Statement.{access_at, access_in, address_at, address_in, class_named_at};
+ghost use Rattle.statement.specs.Statement.{access_at, access_in, address_at, address_in, address_or};
+ghost use Rattle.statement.specs.Statement.{class_named_at};
 ghost use Rattle.statement.specs.Statement.{class_in, class_name};
 ghost use Rattle.statement.specs.Statement.{destinations, destinations_at, target_of_kind, kind_at, kind_in};
 ghost use Rattle.statement.specs.Statement.{leave_named_at, loop_at, loop_in, loop_parts, named_class};
@@ -51,6 +52,13 @@ pub(crate) fn address_in(labels: &Labels, table: &Table, key: &str) -> Read<u32>
     ensures { result ≡ address_in (address_of labels.now) key.now (table_view table.now) }
 {
     required(value_at(table, key), |value| address_at(labels, value))
+}
+
+/// The address at a key that may be missing.
+pub(crate) fn address_or(labels: &Labels, table: &Table, key: &str, missing: u32) -> Read<u32>
+    ensures { result ≡ address_or (address_of labels.now) key.now missing (table_view table.now) }
+{
+    value_at(table, key).map_or(Ok(missing), |value| address_at(labels, value))
 }
 
 /// The loop of its first and last word, its header and its bound.

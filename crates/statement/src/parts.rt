@@ -4,15 +4,17 @@ ghost use Rattle.toml.specs.Data.{get_member};
 ghost use Rattle.toml.specs.View.{table_view, view};
 ghost use Rattle.toml_reading.specs.Lowest.{entries_at};
 ghost use Rattle.image.specs.Labels.{address_of};
-ghost use Rattle.statement.specs.PlaceTests.{access_key_gives, destination_gives, entry_at, gives, goes_on};
-ghost use Rattle.statement.specs.PlaceTests.{has_no_destinations, is_no_list, is_no_table, is_outside};
-ghost use Rattle.statement.specs.PlaceTests.{is_same};
-ghost use Rattle.statement.specs.PlaceTests.{is_too_long, is_unwanted, key_gives, kind_goes, lies_outside};
-ghost use Rattle.statement.specs.PlaceTests.{loop_key_gives, own_key_gives, part_gives, stays, table_at};
-ghost use Rattle.statement.specs.PlaceTests.{target_key_gives};
+ghost use Rattle.statement.specs.PlaceTests.{access_key_gives, branch_key_gives, destination_gives};
+ghost use Rattle.statement.specs.PlaceTests.{ends_early};
+ghost use Rattle.statement.specs.PlaceTests.{entry_at, gives, goes_on, has_no_destinations, is_no_list};
+ghost use Rattle.statement.specs.PlaceTests.{is_no_table, is_outside, is_reversed, is_same, is_too_long};
+ghost use Rattle.statement.specs.PlaceTests.{is_unwanted, key_gives, kind_goes, lies_outside, loop_key_gives};
+ghost use Rattle.statement.specs.PlaceTests.{multiply_key_gives, own_key_gives, part_gives, rule_key_gives};
+ghost use Rattle.statement.specs.PlaceTests.{stays, table_at, target_key_gives};
 ghost use Rattle.statement.specs.Places.{has_destinations};
 
 use crate::entries::{MOST_DESTINATIONS, address_at, address_in, class_in, kind_in, placed_loop};
+use crate::facts::{cycles_in, first_in, last_in, register_in, taken_in};
 use crate::faults::{Read, StatementFault};
 use crate::reading::{leave_in, returns_in};
 use crate::spots::{Key, Part, TableList, key_name, keys_of, list_key};
@@ -173,6 +175,25 @@ pub(crate) fn is_outside(labels: &Labels, table: &Table) -> bool
     lies_outside(first, last, address_in(labels, table, "header"))
 }
 
+fn ends_early(first: Read<u32>, last: Read<u32>) -> bool
+    ensures { result ≡ ends_early first last }
+{
+    let Ok(first) = first else {
+        return false;
+    };
+    match last {
+        Ok(last) => last < first,
+        Err(_) => false,
+    }
+}
+
+/// Whether the last address of a rule lies before its first.
+pub(crate) fn is_reversed(labels: &Labels, table: &Table) -> bool
+    ensures { result ≡ is_reversed (address_of labels.now) (table_view table.now) }
+{
+    ends_early(first_in(labels, table), last_in(labels, table))
+}
+
 fn own_key_gives(labels: &Labels, table: &Table, key: Key, fault: StatementFault) -> bool
     ensures { result ≡ own_key_gives (address_of labels.now) key (table_view table.now) fault }
 {
@@ -217,6 +238,38 @@ fn access_key_gives(labels: &Labels, table: &Table, key: Key, fault: StatementFa
     }
 }
 
+fn rule_key_gives(labels: &Labels, table: &Table, key: Key, fault: StatementFault) -> bool
+    ensures { result ≡ rule_key_gives (address_of labels.now) key (table_view table.now) fault }
+{
+    match key {
+        Key::Register => gives(register_in(table), fault),
+        Key::Class => gives(class_in(table), fault),
+        Key::First => gives(first_in(labels, table), fault),
+        Key::Last => gives(last_in(labels, table), fault),
+        _ => false,
+    }
+}
+
+fn multiply_key_gives(labels: &Labels, table: &Table, key: Key, fault: StatementFault) -> bool
+    ensures { result ≡ multiply_key_gives (address_of labels.now) key (table_view table.now) fault }
+{
+    match key {
+        Key::At => gives(address_in(labels, table, "at"), fault),
+        Key::Cycles => gives(cycles_in(table), fault),
+        _ => false,
+    }
+}
+
+fn branch_key_gives(labels: &Labels, table: &Table, key: Key, fault: StatementFault) -> bool
+    ensures { result ≡ branch_key_gives (address_of labels.now) key (table_view table.now) fault }
+{
+    match key {
+        Key::At => gives(address_in(labels, table, "at"), fault),
+        Key::Taken => gives(taken_in(table), fault),
+        _ => false,
+    }
+}
+
 // Whether what is at a key of a table of the list, or that nothing is, has the fault.
 fn key_gives(
     labels: &Labels,
@@ -232,6 +285,9 @@ fn key_gives(
         Some(TableList::Loops) => loop_key_gives(labels, table, key, fault),
         Some(TableList::Targets) => target_key_gives(labels, table, key, fault),
         Some(TableList::Accesses) => access_key_gives(labels, table, key, fault),
+        Some(TableList::Rules) => rule_key_gives(labels, table, key, fault),
+        Some(TableList::Multiplies) => multiply_key_gives(labels, table, key, fault),
+        Some(TableList::Branches) => branch_key_gives(labels, table, key, fault),
     }
 }
 

@@ -4,17 +4,17 @@ ghost use Rattle.toml.specs.View.{table_view};
 ghost use Rattle.toml_reading.specs.Lowest.{entries_at};
 ghost use Rattle.image.specs.Labels.{address_of};
 ghost use Rattle.statement.specs.PlaceTests.{IsStored, destination_gives, entry_at, found, goes_on, holds_of};
-ghost use Rattle.statement.specs.PlaceTests.{is_no_list, is_no_table, is_outside, is_second};
+ghost use Rattle.statement.specs.PlaceTests.{is_no_list, is_no_table, is_outside, is_reversed, is_second};
 ghost use Rattle.statement.specs.PlaceTests.{is_second_destination, is_too_long, is_unwanted, part_gives};
 ghost use Rattle.statement.specs.PlaceTests.{repeats_of, table_at};
 ghost use Rattle.statement.specs.Places.{IsFaultAt, list_key, most_of};
 
 use crate::faults::StatementFault;
 use crate::parts::{
-    destination_gives, entries_at, entry_at, goes_on, is_no_list, is_no_table, is_outside, is_same,
-    is_too_long, is_unwanted, part_gives, table_at,
+    destination_gives, entries_at, entry_at, goes_on, is_no_list, is_no_table, is_outside,
+    is_reversed, is_same, is_too_long, is_unwanted, part_gives, table_at,
 };
-use crate::repeats::{all_destination_repeats, entry_repeats, is_set, tests_at};
+use crate::repeats::{all_destination_repeats, entry_repeats, is_set, rule_meetings, tests_at};
 use crate::spots::{Part, Spot, TableList, list_key, most_of};
 use image::Labels;
 use std::alloc::{AllocError, Global};
@@ -28,18 +28,21 @@ pub struct Document<'a> {
     pub labels: &'a Labels,
     /// The document.
     pub table: &'a Table,
-    // of each target, and of each access, whether an earlier one is of its address
+    // of each entry of these lists whether an earlier one is of its address
     targets: Vec<bool>,
     accesses: Vec<bool>,
-    // of each target's destinations the same
+    multiplies: Vec<bool>,
+    branches: Vec<bool>,
+    // of each rule whether an earlier one for its register shares an address with it
+    rules: Vec<bool>,
+    // of each target's destinations whether an earlier one is of its address
     destinations: Vec<Vec<bool>>,
     ghost stored: { IsStored (address_of labels.now) (table_view table.now) targets.items accesses.items
-        destinations.items },
+        rules.items multiplies.items branches.items destinations.items },
 }
 
 impl<'a> Document<'a> {
-    /// The document, with labels. It takes memory, and time, by the length of the lists of targets, of
-    /// accesses and of destinations.
+    /// The document, with labels. It takes memory, and time, by the length of its lists.
     ///
     /// # Errors
     ///
@@ -59,11 +62,14 @@ impl<'a> Document<'a> {
             table,
             targets: entry_repeats(alloc, labels, targets)?,
             accesses: entry_repeats(alloc, labels, accesses)?,
+            multiplies: entry_repeats(alloc, labels, entries_at(table, "multiply"))?,
+            branches: entry_repeats(alloc, labels, entries_at(table, "branch"))?,
+            rules: rule_meetings(alloc, labels, entries_at(table, "base"))?,
             destinations: all_destination_repeats(alloc, labels, targets)?,
         })
     }
 
-    // Whether an earlier entry of the list is of the address of the entry.
+    // Whether an earlier entry of the list is of the address of the entry, or shares one with it.
     fn is_second(&self, list: TableList, index: usize) -> bool
         ensures { result
             ≡ is_second (address_of self.now.labels.now) list index (table_view self.now.table.now) }
@@ -72,6 +78,9 @@ impl<'a> Document<'a> {
             TableList::Loops => false,
             TableList::Targets => is_set(&self.targets, index),
             TableList::Accesses => is_set(&self.accesses, index),
+            TableList::Rules => is_set(&self.rules, index),
+            TableList::Multiplies => is_set(&self.multiplies, index),
+            TableList::Branches => is_set(&self.branches, index),
         }
     }
 
@@ -123,6 +132,18 @@ impl<'a> Document<'a> {
     {
         match table_at(self.table, TableList::Loops, index) {
             Some(table) => is_outside(self.labels, table),
+            None => false,
+        }
+    }
+
+    // Whether the rule ends before it begins.
+    fn is_reversed(&self, index: usize) -> bool
+        ensures { result
+            ≡ holds_of (is_reversed (address_of self.now.labels.now))
+            (table_at TableList.Rules index (table_view self.now.table.now)) }
+    {
+        match table_at(self.table, TableList::Rules, index) {
+            Some(table) => is_reversed(self.labels, table),
             None => false,
         }
     }
@@ -227,6 +248,7 @@ impl<'a> Document<'a> {
                 is(StatementFault::OutOfRange) && self.is_too_long(index)
             }
             Spot::Destination(target, index) => self.is_faulty_destination(target, index, fault),
+            Spot::Reversed(index) => is(StatementFault::OutOfRange) && self.is_reversed(index),
             Spot::Second(list, index) => is(StatementFault::Twice) && self.is_second(list, index),
         }
     }

@@ -1,23 +1,30 @@
-ghost use Rattle.std.specs.Prelude.{◌≡◌, ◌≢◌, Err, IfOk};
+ghost use Rattle.std.specs.Prelude.{◌≡◌, ◌≢◌, ◌&&◌, Err, IfOk, MatchOption, true, false};
+ghost use Rattle.std.specs.Map.{keys_of};
 ghost use Rattle.toml.specs.View.{table_view};
 ghost use Rattle.image.specs.Labels.{address_of};
+ghost use Rattle.toml_reading.specs.Documents.{are_distinct};
 ghost use Rattle.toml_reading.specs.Readings.{and_then, reading_map};
-ghost use Rattle.statement.specs.ReadingParts.{parts_in};
-ghost use Rattle.statement.specs.Stated.{IsStated};
-ghost use Rattle.statement.specs.Statement.{IsStatement, ends_in, leave_in, leaving_in, parts_of, returns_in};
-ghost use Rattle.statement.specs.Statement.{stated_by, stated_once, statement_of};
+ghost use Rattle.statement.specs.ReadingParts.{AreRead, frame_of, limits_of, parts_in, rules_of, words_of};
+ghost use Rattle.statement.specs.Statement.{IsStatement, ends_in, frame_in, leave_in, leaving_in, limits_in};
+ghost use Rattle.statement.specs.Statement.{parts_of, returns_in, rules_and_limits, stated_once};
+ghost use Rattle.statement.specs.Statement.{statement_of};
+ghost use Rattle.statement.specs.Statement.{words_in};
 
 use crate::entries::{address_in, leave_named_at, returns_named_at};
 use crate::faults::{Read, StatementFault};
-use crate::stated::{Loop, Returns, Statement, Target};
+use crate::stated::{BaseRule, Loop, Returns, Statement, Taken, Target};
+use crate::stretches::index_of;
 use bus_ticks::Class;
 use image::Labels;
+use indexmap::IndexMap;
 use std::alloc::{AllocError, Global};
 use toml::Table;
 use toml_reading::{by_number, document, of_keys, pair, tables_up_to, value_at};
 
 /// The keys of a statement.
-pub const STATEMENT_KEYS: &[&str] = &["entry", "leave", "returns", "loop", "target", "access"];
+pub const STATEMENT_KEYS: &[&str] = &[
+    "entry", "leave", "returns", "loop", "target", "access", "base", "multiply", "branch",
+];
 
 /// The most loops of a statement.
 pub const MOST_LOOPS: usize = 256;
@@ -27,6 +34,15 @@ pub const MOST_TARGETS: usize = 1024;
 
 /// The most accesses of a statement.
 pub const MOST_ACCESSES: usize = 4096;
+
+/// The most rules for base registers in a statement.
+pub const MOST_RULES: usize = 256;
+
+/// The most multiplies of a statement.
+pub const MOST_MULTIPLIES: usize = 1024;
+
+/// The most branches of a statement.
+pub const MOST_BRANCHES: usize = 1024;
 
 /// The class to leave to.
 pub(crate) fn leave_in(table: &Table) -> Read<Class>
@@ -56,24 +72,51 @@ fn ends_in(labels: &Labels, table: &Table) -> Read<(u32, (Class, Returns))>
     pair(address_in(labels, table, "entry"), leaving_in(table))
 }
 
-type Parts = (
-    ((u32, (Class, Returns)), Vec<Loop>),
-    (Vec<(u32, Target)>, Vec<(u32, Class)>),
-);
+type Frame = ((u32, (Class, Returns)), Vec<Loop>);
+
+type Words = (Vec<(u32, Target)>, Vec<(u32, Class)>);
+
+type Limits = (Vec<(u32, u32)>, Vec<(u32, Taken)>);
+
+type Parts = ((Frame, Words), (Vec<BaseRule>, Limits));
+
+// The entries of two lists by the addresses of their words, or None where one has two for an address.
+fn both_by_number<T: Drop, U: Drop>(
+    alloc: Global,
+    lists: (Vec<(u32, T)>, Vec<(u32, U)>),
+) -> Result<Option<(IndexMap<u32, T>, IndexMap<u32, U>)>, AllocError>
+    ensures { IfOk result
+        (λ made. MatchOption made
+        ((are_distinct (keys_of lists.0.items) && are_distinct (keys_of lists.1.items)) ≡ false)
+        (λ by. (by.0.entries ≡ lists.0.items) × (by.1.entries ≡ lists.1.items)
+        × ((are_distinct (keys_of lists.0.items) && are_distinct (keys_of lists.1.items)) ≡ true))) }
+{
+    let (first, second) = lists;
+    let Some(first) = by_number(alloc, first)? else {
+        return Ok(None);
+    };
+    match by_number(alloc, second)? {
+        Some(second) => Ok(Some((first, second))),
+        None => Ok(None),
+    }
+}
 
 // The statement of its parts.
 fn stated_once(alloc: Global, parts: Read<Parts>) -> Result<Read<Statement>, AllocError>
-    requires { IfOk (reading_map parts_in parts) (λ p. IsStated (stated_by p)) }
+    requires { IfOk (reading_map parts_in parts) AreRead }
     ensures { IfOk result (λ reading. reading ≡ and_then (reading_map parts_in parts) stated_once) }
 {
-    let (((entry, (leave, returns)), loops), (targets, accesses)) = match parts {
+    let ((((entry, (leave, returns)), loops), words), (rules, limits)) = match parts {
         Ok(parts) => parts,
         Err(fault) => return Ok(Err(fault)),
     };
-    let Some(targets) = by_number(alloc, targets)? else {
+    let Some((targets, accesses)) = both_by_number(alloc, words)? else {
         return Ok(Err(StatementFault::Twice));
     };
-    let Some(accesses) = by_number(alloc, accesses)? else {
+    let Some(index) = index_of(alloc, &rules)? else {
+        return Ok(Err(StatementFault::Twice));
+    };
+    let Some((multiplies, branches)) = both_by_number(alloc, limits)? else {
         return Ok(Err(StatementFault::Twice));
     };
     Ok(Ok(Statement {
@@ -83,7 +126,55 @@ fn stated_once(alloc: Global, parts: Read<Parts>) -> Result<Read<Statement>, All
         loops,
         targets,
         accesses,
+        rules,
+        multiplies,
+        branches,
+        index,
     }))
+}
+
+// The entry, how the handler leaves, and the loops.
+fn frame_in(alloc: Global, labels: &Labels, table: &Table) -> Result<Read<Frame>, AllocError>
+    ensures { IfOk result
+        (λ frame. reading_map frame_of frame ≡ frame_in (address_of labels.now) (table_view table.now)) }
+{
+    let loops = tables_up_to(alloc, labels, value_at(table, "loop"), MOST_LOOPS)?;
+    Ok(pair(ends_in(labels, table), loops))
+}
+
+// The targets and the accesses.
+fn words_in(alloc: Global, labels: &Labels, table: &Table) -> Result<Read<Words>, AllocError>
+    ensures { IfOk result
+        (λ words. reading_map words_of words ≡ words_in (address_of labels.now) (table_view table.now)) }
+{
+    let targets = tables_up_to(alloc, labels, value_at(table, "target"), MOST_TARGETS)?;
+    let accesses = tables_up_to(alloc, labels, value_at(table, "access"), MOST_ACCESSES)?;
+    Ok(pair(targets, accesses))
+}
+
+// The multiplies and the branches.
+fn limits_in(alloc: Global, labels: &Labels, table: &Table) -> Result<Read<Limits>, AllocError>
+    ensures { IfOk result
+        (λ limits. reading_map limits_of limits ≡ limits_in (address_of labels.now) (table_view table.now)) }
+{
+    let multiplies = tables_up_to(alloc, labels, value_at(table, "multiply"), MOST_MULTIPLIES)?;
+    let branches = tables_up_to(alloc, labels, value_at(table, "branch"), MOST_BRANCHES)?;
+    Ok(pair(multiplies, branches))
+}
+
+// The rules for base registers, and those.
+fn rules_and_limits(
+    alloc: Global,
+    labels: &Labels,
+    table: &Table,
+) -> Result<Read<(Vec<BaseRule>, Limits)>, AllocError>
+    ensures { IfOk result
+        (λ parts. reading_map rules_of parts
+        ≡ rules_and_limits (address_of labels.now) (table_view table.now)) }
+{
+    let rules = tables_up_to(alloc, labels, value_at(table, "base"), MOST_RULES)?;
+    let limits = limits_in(alloc, labels, table)?;
+    Ok(pair(rules, limits))
 }
 
 // The parts that the table states.
@@ -91,10 +182,10 @@ fn parts_of(alloc: Global, labels: &Labels, table: &Table) -> Result<Read<Parts>
     ensures { IfOk result
         (λ parts. reading_map parts_in parts ≡ parts_of (address_of labels.now) (table_view table.now)) }
 {
-    let loops = tables_up_to(alloc, labels, value_at(table, "loop"), MOST_LOOPS)?;
-    let targets = tables_up_to(alloc, labels, value_at(table, "target"), MOST_TARGETS)?;
-    let accesses = tables_up_to(alloc, labels, value_at(table, "access"), MOST_ACCESSES)?;
-    Ok(pair(pair(ends_in(labels, table), loops), pair(targets, accesses)))
+    let frame = frame_in(alloc, labels, table)?;
+    let words = words_in(alloc, labels, table)?;
+    let rest = rules_and_limits(alloc, labels, table)?;
+    Ok(pair(pair(frame, words), rest))
 }
 
 // What the table states.

@@ -4,14 +4,21 @@ ghost use Rattle.std.specs.Option.{option_copied};
 ghost use Rattle.toml.specs.View.{table_view, view};
 ghost use Rattle.image.specs.Labels.{address_of};
 ghost use Rattle.statement.specs.PlaceTests.{AreSeen, address_of_entry, address_of_table, address_of_value};
-ghost use Rattle.statement.specs.PlaceTests.{destination_repeats, destinations_of, entry_repeats, is_set};
-ghost use Rattle.statement.specs.PlaceTests.{repeats, was_there};
+ghost use Rattle.statement.specs.PlaceTests.{destination_repeats, destinations_of, entry_repeats, is_covered};
+ghost use Rattle.statement.specs.PlaceTests.{is_set, meetings, repeats, rule_meetings, stretch_of};
+ghost use Rattle.statement.specs.PlaceTests.{stretch_of_entry, stretch_of_table, was_met, was_there};
+ghost use Rattle.statement.specs.Stretches.{AreDisjoint, AreOf};
+ghost use Rattle.statement.specs.declared.stretches.Stretch.{Stretch};
 
 use crate::entries::{address_at, address_in};
+use crate::facts::{first_in, last_in, register_in};
+use crate::faults::Read;
 use crate::parts::entries_at;
+use crate::stretches::{Stretch, Stretches, cover};
+use arm2_decode::Register;
 use image::Labels;
 use std::alloc::{AllocError, Global};
-use std::collections::BTreeSet;
+use std::collections::{BTreeMap, BTreeSet};
 use toml::{Table, Value};
 
 // Adds the number, if there is one, and says whether it was there.
@@ -63,7 +70,7 @@ fn address_of_table(labels: &Labels, table: &Table) -> Option<u32>
     address_in(labels, table, "at").ok()
 }
 
-// The address of the word that a target or an access is for.
+// The address of the word that a target, an access, a multiply or a branch is for.
 fn address_of_entry(labels: &Labels, entry: &Value) -> Option<u32>
     ensures { result ≡ address_of_entry (address_of labels.now) (view entry.now) }
 {
@@ -169,4 +176,102 @@ pub(crate) fn all_destination_repeats(
         tests.push(of_target)?;
     }
     Ok(tests)
+}
+
+// The stretch of a rule whose register and part are known.
+fn stretch_of(base: Read<Register>, first: Read<u32>, last: Read<u32>) -> Option<Stretch>
+    ensures { result ≡ stretch_of base first last }
+{
+    let Ok(base) = base else {
+        return None;
+    };
+    let Ok(first) = first else {
+        return None;
+    };
+    match last {
+        Ok(last) => Some(Stretch { base, first, last }),
+        Err(_) => None,
+    }
+}
+
+fn stretch_of_table(labels: &Labels, table: &Table) -> Option<Stretch>
+    ensures { result ≡ stretch_of_table (address_of labels.now) (table_view table.now) }
+{
+    let first = first_in(labels, table);
+    stretch_of(register_in(table), first, last_in(labels, table))
+}
+
+// The stretch that a rule is for.
+fn stretch_of_entry(labels: &Labels, entry: &Value) -> Option<Stretch>
+    ensures { result ≡ stretch_of_entry (address_of labels.now) (view entry.now) }
+{
+    match entry.as_table() {
+        Some(table) => stretch_of_table(labels, table),
+        None => None,
+    }
+}
+
+fn stretches_of_entries(
+    alloc: Global,
+    labels: &Labels,
+    entries: &[Value],
+) -> Result<Vec<Option<Stretch>>, AllocError>
+    ensures { IfOk result
+        (λ made. made.items ≡ map (λ e. stretch_of_entry (address_of labels.now) (view e)) entries.now) }
+{
+    let mut stretches = Vec::new(alloc);
+    for entry in entries {
+        stretches.push(stretch_of_entry(labels, entry))?;
+    }
+    Ok(stretches)
+}
+
+// Adds the addresses of the stretch, if there is one, and says whether one of them was there.
+fn meet(covered: &mut Stretches<()>, stretch: Option<Stretch>) -> Result<bool, AllocError>
+    requires { AreDisjoint covered.old }
+    ensures known { (before : List (Option Stretch)) → AreOf covered.old (is_covered before)
+        → IfOk result (λ known. known ≡ was_met before stretch) }
+    ensures added { (before : List (Option Stretch)) → AreOf covered.old (is_covered before)
+        → OnOk result (AreOf covered.new (is_covered (before ++ stretch ∷ []))) }
+{
+    match stretch {
+        Some(stretch) => {
+            if stretch.first <= stretch.last {
+                cover(covered, stretch)
+            } else {
+                Ok(false)
+            }
+        }
+        None => Ok(false),
+    }
+}
+
+// Of each stretch whether it shares an address with one of those before it.
+fn meetings(alloc: Global, stretches: &[Option<Stretch>]) -> Result<Vec<bool>, AllocError>
+    ensures { IfOk result (λ tests. tests.items ≡ meetings stretches.now) }
+{
+    let mut covered = BTreeMap::new(alloc);
+    let mut tests = Vec::new(alloc);
+    for stretch in stretches {
+        let known = meet(&mut covered, *stretch)?;
+        tests.push(known)?;
+    }
+    Ok(tests)
+}
+
+/// Of each rule whether an earlier one for its register shares an address with it.
+///
+/// # Errors
+///
+/// An allocation failed.
+pub(crate) fn rule_meetings(
+    alloc: Global,
+    labels: &Labels,
+    entries: &[Value],
+) -> Result<Vec<bool>, AllocError>
+    ensures { IfOk result
+        (λ tests. tests.items ≡ rule_meetings (address_of labels.now) (map view entries.now)) }
+{
+    let stretches = stretches_of_entries(alloc, labels, entries)?;
+    meetings(alloc, &stretches)
 }

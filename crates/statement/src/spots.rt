@@ -2,7 +2,11 @@ ghost use Rattle.std.specs.Prelude.{◌≡◌, map};
 ghost use Rattle.statement.specs.Places.{key_among, key_name, keys_of, list_key, most_of, named_key};
 
 use crate::entries::{ACCESS_KEYS, LOOP_KEYS, TARGET_KEYS};
-use crate::reading::{MOST_ACCESSES, MOST_LOOPS, MOST_TARGETS, STATEMENT_KEYS};
+use crate::facts::{BRANCH_KEYS, MULTIPLY_KEYS, RULE_KEYS};
+use crate::reading::{
+    MOST_ACCESSES, MOST_BRANCHES, MOST_LOOPS, MOST_MULTIPLIES, MOST_RULES, MOST_TARGETS,
+    STATEMENT_KEYS,
+};
 
 /// A list of tables in a statement.
 #[derive(Clone, Copy)]
@@ -10,6 +14,9 @@ pub enum TableList {
     Loops,
     Targets,
     Accesses,
+    Rules,
+    Multiplies,
+    Branches,
 }
 
 /// A key of a statement, but for those of its lists, or of a table of these.
@@ -26,9 +33,13 @@ pub enum Key {
     Kind,
     To,
     Class,
+    Register,
+    Cycles,
+    Taken,
 }
 
-/// Each key, in the order of the tables that have it: of the statement, a loop, a target and an access.
+/// Each key, in the order of the tables that have it: of the statement, a loop, a target, an access, a rule,
+/// a multiply and a branch.
 pub const KEYS: &[Key] = &[
     Key::Entry,
     Key::Leave,
@@ -41,6 +52,9 @@ pub const KEYS: &[Key] = &[
     Key::Kind,
     Key::To,
     Key::Class,
+    Key::Register,
+    Key::Cycles,
+    Key::Taken,
 ];
 
 /// What of a table may have a fault.
@@ -75,7 +89,10 @@ pub enum Spot<'a> {
     TooManyDestinations(usize),
     /// A destination of a target: its value, or that an earlier one is of its address.
     Destination(usize, usize),
-    /// A target or an access whose address an earlier one of its list has.
+    /// A rule for a base register whose last address lies before its first.
+    Reversed(usize),
+    /// An entry whose address an earlier one of its list has, or a rule for a register in a part that it
+    /// shares with an earlier one.
     Second(TableList, usize),
 }
 
@@ -87,6 +104,9 @@ pub fn list_key(list: TableList) -> &'static str
         TableList::Loops => "loop",
         TableList::Targets => "target",
         TableList::Accesses => "access",
+        TableList::Rules => "base",
+        TableList::Multiplies => "multiply",
+        TableList::Branches => "branch",
     }
 }
 
@@ -106,6 +126,9 @@ pub fn key_name(key: Key) -> &'static str
         Key::Kind => "kind",
         Key::To => "to",
         Key::Class => "class",
+        Key::Register => "register",
+        Key::Cycles => "cycles",
+        Key::Taken => "taken",
     }
 }
 
@@ -137,6 +160,9 @@ pub(crate) fn keys_of(list: Option<TableList>) -> &'static [&'static str]
         Some(TableList::Loops) => LOOP_KEYS,
         Some(TableList::Targets) => TARGET_KEYS,
         Some(TableList::Accesses) => ACCESS_KEYS,
+        Some(TableList::Rules) => RULE_KEYS,
+        Some(TableList::Multiplies) => MULTIPLY_KEYS,
+        Some(TableList::Branches) => BRANCH_KEYS,
     }
 }
 
@@ -148,5 +174,8 @@ pub fn most_of(list: TableList) -> usize
         TableList::Loops => MOST_LOOPS,
         TableList::Targets => MOST_TARGETS,
         TableList::Accesses => MOST_ACCESSES,
+        TableList::Rules => MOST_RULES,
+        TableList::Multiplies => MOST_MULTIPLIES,
+        TableList::Branches => MOST_BRANCHES,
     }
 }

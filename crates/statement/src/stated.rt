@@ -1,10 +1,16 @@
-ghost use Rattle.std.specs.Prelude.{◌≡◌, ◌<◌, ◌≤◌, length, All, option_map};
+ghost use Rattle.std.specs.Prelude.{◌≡◌, ◌<◌, ◌≤◌, length, All, AllPairs, option_map};
 ghost use Rattle.bus_ticks.specs.declared.space.TheConstants.{SPACE_END};
-ghost use Rattle.statement.specs.Stated.{IsLoop, IsStated, class_at, target_of};
+ghost use Rattle.shifter.specs.declared.shifts.TheConstants.{MOST_MULTIPLY_CYCLES};
+ghost use Rattle.statement.specs.Stated.{AreApart, IsLoop, IsRule, class_at, cycles_at, ruled_class};
+ghost use Rattle.std.specs.List.{position};
+ghost use Rattle.statement.specs.Stated.{is_ruled, taken_at, target_of};
 ghost use Rattle.statement.specs.declared.reading.TheConstants.{MOST_LOOPS};
 
+use crate::stretches::{Stretches, value_at};
+use arm2_decode::Register;
 use bus_ticks::Class;
 use indexmap::IndexMap;
+use shifter::MOST_MULTIPLY_CYCLES;
 use std::marker::Model;
 
 /// A loop that an author states: the addresses of its header and of its first and last instruction, and the
@@ -15,6 +21,25 @@ pub struct Loop {
     pub first: u32,
     pub last: u32,
     pub bound: u32,
+}
+
+/// A class that an author states for what all words of a part of the handler transfer by one base register:
+/// those from the first address to the last that have no access of their own.
+#[derive(Clone, Copy, Debug, PartialEq, Eq)]
+pub struct BaseRule {
+    pub register: Register,
+    pub first: u32,
+    pub last: u32,
+    pub class: Class,
+}
+
+/// What an author states of a word that has a condition: which of its two ways is taken.
+#[derive(Clone, Copy, Debug, PartialEq, Eq)]
+pub enum Taken {
+    /// It is always done.
+    Always,
+    /// It is never done.
+    Never,
 }
 
 /// What a word that writes R15 may be stated to do.
@@ -84,10 +109,15 @@ pub struct Statement {
     pub(crate) loops: Vec<Loop>,
     pub(crate) targets: IndexMap<u32, Target>,
     pub(crate) accesses: IndexMap<u32, Class>,
+    pub(crate) rules: Vec<BaseRule>,
+    pub(crate) multiplies: IndexMap<u32, u32>,
+    pub(crate) branches: IndexMap<u32, Taken>,
+    // the rules' numbers, by their registers and parts
+    pub(crate) index: Stretches<usize>,
 }
 
 impl Model for Statement {
-    ghost use Rattle.statement.specs.Stated.{IsStated, Stated};
+    ghost use Rattle.statement.specs.Stated.{Stated};
 
     ghost Value = { Stated };
 
@@ -95,7 +125,9 @@ impl Model for Statement {
 
     ghost view = { stated_of };
 
-    ghost invariant = { λ statement. IsStated (stated_of statement) };
+    ghost use Rattle.statement.specs.StatementParts.{IsStored};
+
+    ghost invariant = { IsStored };
 }
 
 impl Statement {
@@ -150,10 +182,72 @@ impl Statement {
         &self.accesses
     }
 
-    /// The class that is stated for what the word at an address transfers: any where none is stated.
-    pub fn class_at(&self, address: u32) -> Class
-        ensures { result ≡ class_at self.now address }
+    /// The rules for base registers, in the order of the text. No two are for one register at one address.
+    pub fn rules(&self) -> &[BaseRule]
+        ensures value { result.now ≡ self.now.rules }
+        ensures within { All IsRule result.now }
+        ensures apart { AllPairs AreApart result.now }
     {
-        self.accesses.get(&address).copied().unwrap_or(Class::Any)
+        &self.rules
+    }
+
+    /// The most cycles, 1 to 16, that are stated of multiplies, by the addresses of their words, in the order
+    /// of the text.
+    pub fn multiplies(&self) -> &IndexMap<u32, u32>
+        ensures { result.now.entries ≡ self.now.multiplies }
+    {
+        &self.multiplies
+    }
+
+    /// Which way is stated of words with a condition, by their addresses, in the order of the text.
+    pub fn branches(&self) -> &IndexMap<u32, Taken>
+        ensures { result.now.entries ≡ self.now.branches }
+    {
+        &self.branches
+    }
+
+    /// The class that is stated for what the word at an address transfers by a base register: that of its
+    /// access, else that of the rule for the register there, and any where neither is stated.
+    pub fn class_at(&self, address: u32, base: Option<Register>) -> Class
+        ensures { result ≡ class_at self.now address base }
+    {
+        match self.accesses.get(&address) {
+            Some(class) => *class,
+            None => self.ruled_class(address, base).unwrap_or(Class::Any),
+        }
+    }
+
+    // The class of the rule for the register there.
+    fn ruled_class(&self, address: u32, base: Option<Register>) -> Option<Class>
+        ensures { result ≡ ruled_class self.now.rules address base }
+    {
+        let number = self.rule_at(address, base?)?;
+        Some(self.rules[number].class)
+    }
+
+    /// Which of the rules, by its number from 0, is for a base register at an address.
+    pub fn rule_at(&self, address: u32, base: Register) -> Option<usize>
+        ensures { result ≡ position (is_ruled base address) self.now.rules }
+    {
+        value_at(&self.index, base, address)
+    }
+
+    /// The most cycles of a multiply at an address: 16 where none are stated.
+    pub fn cycles_at(&self, address: u32) -> u32
+        ensures value { result ≡ cycles_at self.now address }
+        ensures some { 1 ≤ result }
+        ensures few { result ≤ MOST_MULTIPLY_CYCLES }
+    {
+        self.multiplies
+            .get(&address)
+            .copied()
+            .unwrap_or(MOST_MULTIPLY_CYCLES)
+    }
+
+    /// Which way is stated of the word at an address.
+    pub fn taken_at(&self, address: u32) -> Option<Taken>
+        ensures { result ≡ taken_at self.now address }
+    {
+        self.branches.get(&address).copied()
     }
 }

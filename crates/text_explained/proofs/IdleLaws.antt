@@ -1,12 +1,25 @@
 -- Entries of a statement without effect.
-use Rattle.std.proofs.Common.{◌≡◌, ◌∙◌, ℕ, Bool, true, false, List, [], ◌++◌, append-nil, append_assoc, refl, sym, ap, subst}
+use Rattle.std.proofs.Common.{◌≡◌, ◌≢◌, ◌∙◌, ℕ, ◌<◌, Bool, true, false, eqb, List, [], ◌∷◌, ◌++◌, length, get_or, append-nil, append_assoc, refl, sym, ap, subst, arith}
+use Rattle.std.specs.Prelude.{◌==◌, ◌↔◌, if◌then◌else◌, Contains, IsTrue, Some}
 use Rattle.std.specs.Map.{keys_of}
-use Rattle.std.proofs.lemmas.Bool.{false≢true}
+use Rattle.std.proofs.lemmas.Bool.{eq-eqb, false≢true, ne_eqb}
 use Rattle.control_flow.specs.Flow.{Flow}
-use Rattle.image.specs.Image.{Words}
+use Rattle.control_flow.proofs.SortedLemmas.{here}
+use Rattle.control_flow.specs.Edges.{HasAction}
+use Rattle.control_flow.specs.Kinds.{IsAction}
+use Rattle.control_flow.specs.declared.actions.Action.{Action}
+use Rattle.control_flow.proofs.EdgeLemmas.{one_action_at}
+use Rattle.image.specs.Image.{Words, word_of}
 use Rattle.statement.specs.Stated.{Stated}
+use Rattle.statement.specs.declared.stated.BaseRule.{BaseRule}
 use Rattle.statement.specs.declared.stated.Loop.{Loop}
-use Rattle.text_explained.specs.Idle.{AreIdleRows, IsAccessRow, IsIdleRow, IsLoopRow, IsTargetRow, is_carried_out}
+use Rattle.text_explained.specs.Idle.{AreEntryRows, AreIdleRows, IsConditional, IsEntryRow, IsIdleRow, IsLoopRow, IsRuleRow, RuleCounts, has_condition, rule_row}
+use Rattle.text_explained.specs.Leaving.{is_carried_out}
+use Rattle.text_explained.specs.RuleParts.{AreDoneCoverages}
+use Rattle.text_explained.specs.Rules.{IsDoneCoverage}
+use Rattle.text_explained.specs.Taken.{is_reached}
+use Rattle.text_explained.specs.declared.idle.Entry.{Entry}
+use Rattle.text_explained.specs.declared.idle.Entry.TheVariants.{Target, Access, Multiply, Branch}
 use Rattle.asm_text.specs.Appended.{Appends}
 use Rattle.text_rows.specs.Rows.{AreRows}
 
@@ -27,26 +40,79 @@ idle_row Counts shown old new none is = (shown, record { without = λ n. refl; w
 pub not_both : (b : Bool) (Counts : Type 0) → (Counts → b ≡ true) → b ≡ false → Counts → ⊥
 not_both b Counts is_done none counts = false≢true (sym none ∙ is_done counts)
 
+-- ## Words
+
+pub cond_decides : (words : Words) (a word : ℕ) (action : Action) (b : Bool) → word_of words a ≡ Some word → IsAction word action → b ≡ has_condition action.cond → IsTrue b ↔ IsConditional words a
+cond_decides words a word action b word_is is same =
+    let has : HasAction words a action = record { word = word; word_is = word_is; is = is } in (
+      λ e. (action, has, sym same ∙ e),
+      λ h. same ∙ ap (λ (x : Action). has_condition x.cond) (one_action_at words a action h.0 has h.1) ∙ h.2,
+    )
+
+-- ## Rules
+
+module _ (words : Words) (st : Stated) (flow : Flow) (r : BaseRule) (n : ℕ) (covers : IsDoneCoverage words st flow r n) where
+  -- a rule has an effect exactly where it covers a word
+  none_covered : (RuleCounts words st flow r → ⊥) → n ≡ 0
+  none_covered none = of_list covers.covered refl
+    where
+      of_list : (xs : List ℕ) → covers.covered ≡ xs → n ≡ 0
+      of_list [] is = covers.count_is ∙ ap length is
+      of_list (x ∷ xs) is = let w = (covers.each x).0 (subst (λ ys. Contains ys x) (sym is) (here x xs)) in absurd (none (x, w.0, w.1))
+
+  some_covered : RuleCounts words st flow r → n ≢ 0
+  some_covered counts zero =
+      let at : Contains covers.covered counts.0 = (covers.each counts.0).1 (counts.1, counts.2) in
+      let lt : at.0 < length covers.covered = at.1 in
+      let is : n ≡ length covers.covered = covers.count_is in
+      omega (arith, lt, is, zero)
+
+pub rule_shown : (words : Words) (st : Stated) (flow : Flow) (counts old new : List ℕ) (k : ℕ) (d rule : BaseRule) (count : ℕ) → AreDoneCoverages words st flow counts → k < length st.rules
+    → rule ≡ get_or st.rules k d → count ≡ get_or counts k 0 → new ≡ old ++ (if count == 0 then rule_row rule else []) → Appends (IsRuleRow words st flow (get_or st.rules k d)) old new
+rule_shown words st flow counts old new k d rule count are lt rule_is count_is is =
+    let r = get_or st.rules k d in
+    let covers : IsDoneCoverage words st flow r (get_or counts k 0) = are.each k d lt in (
+      (if count == 0 then rule_row rule else []),
+      record {
+        without = λ none. ap (λ b. if b then rule_row rule else []) (eq-eqb count 0 (count_is ∙ none_covered words st flow r (get_or counts k 0) covers none)) ∙ ap rule_row rule_is;
+        with_one = λ counts_one. ap (λ b. if b then rule_row rule else []) (ne_eqb count 0 (λ zero. some_covered words st flow r (get_or counts k 0) covers counts_one (sym count_is ∙ zero)));
+      },
+      is,
+    )
+
 -- ## The rows
 
-pub all_idle : (words : Words) (st : Stated) (flow : Flow) (done : ℕ → Bool) (loops : List Loop) (targets accesses start a b rows : List ℕ)
-    → ((x : ℕ) → done x ≡ is_carried_out flow.edges x) → loops ≡ st.loops → targets ≡ keys_of st.targets → accesses ≡ keys_of st.accesses → start ≡ []
-    → Appends (AreRows (IsLoopRow flow) loops) start a → Appends (AreRows (IsTargetRow done) targets) a b → Appends (AreRows (IsAccessRow words done) accesses) b rows
+entry_rows : (words : Words) (flow : Flow) (done reached : ℕ → Bool) (entry : Entry) (addresses stated rows : List ℕ) → ((x : ℕ) → done x ≡ is_carried_out flow.edges x) → ((x : ℕ) → reached x ≡ is_reached flow.places x)
+    → addresses ≡ stated → AreRows (IsEntryRow words done reached entry) addresses rows → AreEntryRows words flow entry stated rows
+entry_rows words flow done reached entry addresses stated rows is_done is_there are h =
+    let all_done : done ≡ is_carried_out flow.edges = λ i x. is_done x i in
+    let all_there : reached ≡ is_reached flow.places = λ i x. is_there x i in
+    subst (λ (p : ℕ → Bool). AreRows (IsEntryRow words (is_carried_out flow.edges) p entry) stated rows) all_there
+    (subst (λ (p : ℕ → Bool). AreRows (IsEntryRow words p reached entry) stated rows) all_done
+    (subst (λ (xs : List ℕ). AreRows (IsEntryRow words done reached entry) xs rows) are h))
+
+pub all_idle : (words : Words) (st : Stated) (flow : Flow) (done reached : ℕ → Bool) (loops : List Loop) (targets accesses multiplies branches start a b c d e rows : List ℕ)
+    → ((x : ℕ) → done x ≡ is_carried_out flow.edges x) → ((x : ℕ) → reached x ≡ is_reached flow.places x)
+    → loops ≡ st.loops → targets ≡ keys_of st.targets → accesses ≡ keys_of st.accesses → multiplies ≡ keys_of st.multiplies → branches ≡ keys_of st.branches → start ≡ []
+    → Appends (AreRows (IsLoopRow flow) loops) start a → Appends (AreRows (IsEntryRow words done reached Target) targets) a b → Appends (AreRows (IsEntryRow words done reached Access) accesses) b c
+    → Appends (AreRows (IsRuleRow words st flow) st.rules) c d → Appends (AreRows (IsEntryRow words done reached Multiply) multiplies) d e → Appends (AreRows (IsEntryRow words done reached Branch) branches) e rows
     → AreIdleRows words st flow rows
-all_idle words st flow done loops targets accesses start a b rows is_done loops_are targets_are accesses_are none l t s =
-    let same : done ≡ is_carried_out flow.edges = λ i x. is_done x i in
+all_idle words st flow done reached loops targets accesses multiplies branches start a b c d e rows is_done is_there loops_are targets_are accesses_are multiplies_are branches_are none l t s r m w =
     record {
       loops = l.0;
       targets = t.0;
       accesses = s.0;
+      rules = r.0;
+      multiplies = m.0;
+      branches = w.0;
       are_loops = subst (λ (ls : List Loop). AreRows (IsLoopRow flow) ls l.0) loops_are l.1;
-      are_targets =
-          subst (λ (d : ℕ → Bool). AreRows (IsTargetRow d) (keys_of st.targets) t.0) same
-          (subst (λ (ts : List ℕ). AreRows (IsTargetRow done) ts t.0) targets_are t.1);
-      are_accesses =
-          subst (λ (d : ℕ → Bool). AreRows (IsAccessRow words d) (keys_of st.accesses) s.0) same
-          (subst (λ (xs : List ℕ). AreRows (IsAccessRow words done) xs s.0) accesses_are s.1);
+      are_targets = entry_rows words flow done reached Target targets (keys_of st.targets) t.0 is_done is_there targets_are t.1;
+      are_accesses = entry_rows words flow done reached Access accesses (keys_of st.accesses) s.0 is_done is_there accesses_are s.1;
+      are_rules = r.1;
+      are_multiplies = entry_rows words flow done reached Multiply multiplies (keys_of st.multiplies) m.0 is_done is_there multiplies_are m.1;
+      are_branches = entry_rows words flow done reached Branch branches (keys_of st.branches) w.0 is_done is_there branches_are w.1;
       rows_are =
-          s.2 ∙ ap (λ xs. xs ++ s.0) (t.2 ∙ ap (λ xs. xs ++ t.0) (l.2 ∙ ap (λ xs. xs ++ l.0) none))
-          ∙ append_assoc l.0 t.0 s.0;
+          w.2 ∙ ap (λ xs. xs ++ w.0) (m.2 ∙ ap (λ xs. xs ++ m.0) (r.2 ∙ ap (λ xs. xs ++ r.0) (s.2 ∙ ap (λ xs. xs ++ s.0) (t.2 ∙ ap (λ xs. xs ++ t.0) (l.2 ∙ ap (λ xs. xs ++ l.0) none)))))
+          ∙ append_assoc (((l.0 ++ t.0) ++ s.0) ++ r.0) m.0 w.0 ∙ append_assoc ((l.0 ++ t.0) ++ s.0) r.0 (m.0 ++ w.0) ∙ append_assoc (l.0 ++ t.0) s.0 (r.0 ++ (m.0 ++ w.0))
+          ∙ append_assoc l.0 t.0 (s.0 ++ (r.0 ++ (m.0 ++ w.0)));
     }

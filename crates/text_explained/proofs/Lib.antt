@@ -5,10 +5,12 @@ mod ColumnLaws
 mod DoneLaws
 mod IdleLaws
 mod ImageLaws
+mod InstrLaws
 mod LinkLaws
 mod PricingLaws
 pub mod RangeLaws
 pub mod RowLaws
+mod RuleLaws
 mod ListedOnceLaws
 mod StartLaws
 mod SourceLaws

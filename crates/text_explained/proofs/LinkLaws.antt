@@ -13,7 +13,6 @@ use Rattle.std.proofs.lemmas.List.Elements.{Contains-append_left, Contains-get_o
 use Rattle.std.proofs.lemmas.List.Folds.{list_any_at}
 use Rattle.std.proofs.lemmas.Map.Lookups.{exact_unsigned}
 use Rattle.std.proofs.lemmas.Map.Views.{btree_set_contains_iff}
-use Rattle.arm2_decode.specs.declared.instr.Instr.{Instr}
 use Rattle.control_flow.specs.Flow.{Flow, HasEdge, IsEdgeRange, IsWellFormed}
 use Rattle.control_flow.specs.Places.{place_at}
 use Rattle.control_flow.specs.Search.{by_order}
@@ -27,7 +26,6 @@ use Rattle.image.specs.Image.{Words}
 use Rattle.loop_bounds.proofs.Positions.{place_known}
 use Rattle.control_flow.proofs.Firsts.{whole_range}
 use Rattle.word_shapes.specs.Growing.{Grows, HasSameMembers}
-use Rattle.word_shapes.specs.Words.{HasInstr}
 use Rattle.word_shapes.proofs.GrowLaws.{grows_none, grows_on, kept, keys_listed, no_shorter}
 use Rattle.statement.specs.Stated.{Stated}
 use Rattle.text_explained.specs.Links.{AreLostLinks, Does, DoesTo, IsLost, MayReturnByLink, kept_along, overwritten}
@@ -38,33 +36,15 @@ use Rattle.text_explained.specs.declared.links.Overwrite.{Overwrite}
 use Rattle.text_explained.specs.Taken.{is_at, is_reached}
 use borrow.Author.Count.{below_more}
 
--- ## Words
-
-module _ (is : Instr → Bool) (image : Words) (a : ℕ) where
-  abbrev pub IsShaped : Type 0
-  IsShaped = (i : Instr) × HasInstr image a i × (is i ≡ true)
-
-  pub word_decides : (i : Instr) (b : Bool) → HasInstr image a i → ((j : Instr) → HasInstr image a j → Some i ≡ Some j) → b ≡ is i → IsTrue b ↔ IsShaped
-  word_decides i b has only same = (
-    λ e. (i, has, sym same ∙ e),
-    λ h. let both : Some i ≡ Some h.0 = only h.0 h.1 in let one : i ≡ h.0 = cc in same ∙ ap is one ∙ h.2,
-  )
-
-  pub none_decides : ((j : Instr) → HasInstr image a j → None ≡ Some j) → IsTrue false ↔ IsShaped
-  none_decides none = (
-    λ e. absurd (false≢true e),
-    λ h. absurd (let both : None ≡ Some h.0 = none h.0 h.1 in cc),
-  )
-
 -- ## Edges
 
-pub led_one : (image : Words) (step : LinkStep) (e : Edge) → Does image step e.from e.to → (p : Place) → LeadsTo image step e p ↔ (e.to ≡ p)
-led_one image step e does p = (λ w. w.1, λ same. (does, same))
+pub led_one : (image : Words) (st : Stated) (step : LinkStep) (e : Edge) → Does image st step e.from e.to → (p : Place) → LeadsTo image st step e p ↔ (e.to ≡ p)
+led_one image st step e does p = (λ w. w.1, λ same. (does, same))
 
-pub does_decides : (image : Words) (step : LinkStep) (from to : Place) (calls inner : List ℕ) (a b : ℕ) (r : Bool) → from ≡ At calls a → to ≡ At inner b → IsTrue r ↔ DoesTo image step calls inner a
-    → IsTrue r ↔ Does image step from to
-does_decides image step from to calls inner a b r from_is to_is is =
-    subst (λ (f : Place). IsTrue r ↔ Does image step f to) (sym from_is) (subst (λ (t : Place). IsTrue r ↔ Does image step (At calls a) t) (sym to_is) is)
+pub does_decides : (image : Words) (st : Stated) (step : LinkStep) (from to : Place) (calls inner : List ℕ) (a b : ℕ) (r : Bool) → from ≡ At calls a → to ≡ At inner b → IsTrue r ↔ DoesTo image st step calls inner a
+    → IsTrue r ↔ Does image st step from to
+does_decides image st step from to calls inner a b r from_is to_is is =
+    subst (λ (f : Place). IsTrue r ↔ Does image st step f to) (sym from_is) (subst (λ (t : Place). IsTrue r ↔ Does image st step (At calls a) t) (sym to_is) is)
 
 -- ## Edges of a place
 
@@ -116,25 +96,25 @@ module _ (flow : Flow) (well : IsWellFormed flow) where
 
 -- ## Lists that grow
 
-module _ (image : Words) (step : LinkStep) (edges : List Edge) where
-  pub grows_begun : (order : List Place) → Grows HasRoom (ByEdge image step (take 0 edges)) order order
-  grows_begun order = grows_none (ByEdge image step (take 0 edges)) order (λ p w. no_member w.0 w.1)
+module _ (image : Words) (st : Stated) (step : LinkStep) (edges : List Edge) where
+  pub grows_begun : (order : List Place) → Grows HasRoom (ByEdge image st step (take 0 edges)) order order
+  grows_begun order = grows_none (ByEdge image st step (take 0 edges)) order (λ p w. no_member w.0 w.1)
 
-  pub grows_more : (i : ℕ) (e : Edge) (old mid new : List Place) → i < length edges → e ≡ get_or edges i e → Grows HasRoom (ByEdge image step (take i edges)) old mid → Grows HasRoom (LeadsTo image step e) mid new
-      → Grows HasRoom (ByEdge image step (take (i + 1) edges)) old new
+  pub grows_more : (i : ℕ) (e : Edge) (old mid new : List Place) → i < length edges → e ≡ get_or edges i e → Grows HasRoom (ByEdge image st step (take i edges)) old mid → Grows HasRoom (LeadsTo image st step e) mid new
+      → Grows HasRoom (ByEdge image st step (take (i + 1) edges)) old new
   grows_more i e old mid new lt is g h =
       let more : take (i + 1) edges ≡ take i edges ++ e ∷ [] = take_more edges i e lt ∙ ap (λ (x : Edge). take i edges ++ x ∷ []) (sym is) in
-      grows_on (ByEdge image step (take i edges)) (LeadsTo image step e) (ByEdge image step (take (i + 1) edges)) old mid new
+      grows_on (ByEdge image st step (take i edges)) (LeadsTo image st step e) (ByEdge image st step (take (i + 1) edges)) old mid new
       (λ p. (
-        λ w. ⊎_elim (λ before. inl (w.0, before, w.2)) (λ same. inr (subst (λ (x : Edge). LeadsTo image step x p) (sym same) w.2)) (Contains-push_cases (take i edges) e w.0 (subst (λ t. Contains t w.0) more w.1)),
+        λ w. ⊎_elim (λ before. inl (w.0, before, w.2)) (λ same. inr (subst (λ (x : Edge). LeadsTo image st step x p) (sym same) w.2)) (Contains-push_cases (take i edges) e w.0 (subst (λ t. Contains t w.0) more w.1)),
         λ w. ⊎_elim
             (λ v. (v.0, subst (λ t. Contains t v.0) (sym more) (Contains-append_left (take i edges) (e ∷ []) v.0 v.1), v.2))
             (λ by. (e, subst (λ t. Contains t e) (sym more) (Contains-push (take i edges) e), by)) w,
       ))
       (λ longer room. room) g h
 
-  pub grows_all : (i : ℕ) (old new : List Place) → length edges ≤ i → Grows HasRoom (ByEdge image step (take i edges)) old new → Grows HasRoom (ByEdge image step edges) old new
-  grows_all i old new le g = subst (λ (t : List Edge). Grows HasRoom (ByEdge image step t) old new) (take_all i edges le) g
+  pub grows_all : (i : ℕ) (old new : List Place) → length edges ≤ i → Grows HasRoom (ByEdge image st step (take i edges)) old new → Grows HasRoom (ByEdge image st step edges) old new
+  grows_all i old new le g = subst (λ (t : List Edge). Grows HasRoom (ByEdge image st step t) old new) (take_all i edges le) g
 
 -- ## Found places
 
@@ -148,43 +128,43 @@ one_found seen new order p is_new found updates len is_new_is =
 
 -- ## The search
 
-module _ (image : Words) (flow : Flow) (by : Overwrite) where
+module _ (image : Words) (st : Stated) (flow : Flow) (by : Overwrite) where
   -- from the place those edges that keep R14 lead to known places
   abbrev pub IsFollowed : List Place → Place → Type 0
-  IsFollowed order p = (e : Edge) → HasEdge flow e → e.from ≡ p → Does image Keeps e.from e.to → Contains order e.to
+  IsFollowed order p = (e : Edge) → HasEdge flow e → e.from ≡ p → Does image st Keeps e.from e.to → Contains order e.to
 
   pub record IsSearch (order : List Place) (next : ℕ) : Type 0 where
-    pub after : (e : Edge) → HasEdge flow e → Does image (Overwrites by) e.from e.to → Contains order e.to
-    pub lost : (p : Place) → Contains order p → IsLost image flow by p
+    pub after : (e : Edge) → HasEdge flow e → Does image st (Overwrites by) e.from e.to → Contains order e.to
+    pub lost : (p : Place) → Contains order p → IsLost image st flow by p
     pub bound : next ≤ length order
     pub followed : (k : ℕ) (d : Place) → k < next → IsFollowed order (get_or order k d)
 
-  inside : (step : LinkStep) (from to : Place) → Does image step from to → to ≡ Exit → ⊥
+  inside : (step : LinkStep) (from to : Place) → Does image st step from to → to ≡ Exit → ⊥
   inside step (At calls a) (At inner b) does out = cc
   inside step (At calls a) Exit does out = does
   inside step Exit to does out = does
 
-  led_into : (step : LinkStep) (e : Edge) → IsWellFormed flow → HasEdge flow e → Does image step e.from e.to → Contains flow.places e.to
+  led_into : (step : LinkStep) (e : Edge) → IsWellFormed flow → HasEdge flow e → Does image st step e.from e.to → Contains flow.places e.to
   led_into step e well has does = ⊎_elim (λ out. absurd (inside step e.from e.to does out)) (λ known_one. known_one) (well.ends e has)
 
-  in_graph : IsWellFormed flow → (p : Place) → IsLost image flow by p → Contains flow.places p
+  in_graph : IsWellFormed flow → (p : Place) → IsLost image st flow by p → Contains flow.places p
   in_graph well p (overwritten e has does) = led_into (Overwrites by) e well has does
   in_graph well p (kept_along e has lost keeps) = led_into Keeps e well has keeps
 
-  pub search_begun : (old order : List Place) (edges : List Edge) → old ≡ [] → edges ≡ flow.edges → Grows HasRoom (ByEdge image (Overwrites by) edges) old order → IsSearch order 0
+  pub search_begun : (old order : List Place) (edges : List Edge) → old ≡ [] → edges ≡ flow.edges → Grows HasRoom (ByEdge image st (Overwrites by) edges) old order → IsSearch order 0
   search_begun old order edges empty same g = record {
     after = λ e has does. g.to tt e.to (e, subst (λ (es : List Edge). Contains es e) (sym same) has, (does, refl));
     lost = λ p h. ⊎_elim (λ w. absurd (no_member p (subst (λ t. Contains t p) empty w)))
-        (λ w. subst (IsLost image flow by) w.2.1 (overwritten w.0 (subst (λ (es : List Edge). Contains es w.0) same w.1) w.2.0)) (g.from p h);
+        (λ w. subst (IsLost image st flow by) w.2.1 (overwritten w.0 (subst (λ (es : List Edge). Contains es w.0) same w.1) w.2.0)) (g.from p h);
     bound = omega arith;
     followed = λ k d lt. absurd (omega (arith, lt));
   }
 
   pub search_more : (order new : List Place) (next : ℕ) (p : Place) (edges : List Edge) → IsSearch order next → next < length order → p ≡ get_or order next p
-      → ((e : Edge) → Contains edges e ↔ (HasEdge flow e × (e.from ≡ p))) → Grows HasRoom (ByEdge image Keeps edges) order new → IsSearch new (next + 1)
+      → ((e : Edge) → Contains edges e ↔ (HasEdge flow e × (e.from ≡ p))) → Grows HasRoom (ByEdge image st Keeps edges) order new → IsSearch new (next + 1)
   search_more order new next p edges s lt is leave g =
       let longer = no_shorter order new g in
-      let here : IsLost image flow by p = s.lost p (subst (Contains order) (sym is) (Contains-get_or order next p lt)) in
+      let here : IsLost image st flow by p = s.lost p (subst (Contains order) (sym is) (Contains-get_or order next p lt)) in
       let each : (k : ℕ) → k < next + 1 → (d : Place) → IsFollowed new (get_or order k d) =
       below_more (λ (j : ℕ). (d : Place) → IsFollowed new (get_or order j d)) next
       (λ j l d. λ e has from keeps. kept order new e.to g (s.followed j d l e has from keeps))
@@ -194,7 +174,7 @@ module _ (image : Words) (flow : Flow) (by : Overwrite) where
         lost = λ q h. ⊎_elim (λ w. s.lost q w)
             (λ w.
             let edge = (leave w.0).0 w.1 in
-            subst (IsLost image flow by) w.2.1 (kept_along w.0 edge.0 (subst (IsLost image flow by) (sym edge.1) here) w.2.0))
+            subst (IsLost image st flow by) w.2.1 (kept_along w.0 edge.0 (subst (IsLost image st flow by) (sym edge.1) here) w.2.0))
             (g.from q h);
         bound = omega (arith, longer, lt);
         followed = λ k d l. subst (IsFollowed new)
@@ -202,12 +182,12 @@ module _ (image : Words) (flow : Flow) (by : Overwrite) where
       }
 
   -- what holds the places after overwriting edges, and with a place all to which R14 is kept from it, holds all
-  closed : (order : List Place) → ((e : Edge) → HasEdge flow e → Does image (Overwrites by) e.from e.to → Contains order e.to)
-      → ((e : Edge) → HasEdge flow e → Contains order e.from → Does image Keeps e.from e.to → Contains order e.to) → (p : Place) → IsLost image flow by p → Contains order p
+  closed : (order : List Place) → ((e : Edge) → HasEdge flow e → Does image st (Overwrites by) e.from e.to → Contains order e.to)
+      → ((e : Edge) → HasEdge flow e → Contains order e.from → Does image st Keeps e.from e.to → Contains order e.to) → (p : Place) → IsLost image st flow by p → Contains order p
   closed order after next p (overwritten e has does) = after e has does
   closed order after next p (kept_along e has lost keeps) = next e has (closed order after next e.from lost) keeps
 
-  pub search_done : (order : List Place) (next : ℕ) → IsSearch order next → length order ≤ next → (p : Place) → Contains order p ↔ IsLost image flow by p
+  pub search_done : (order : List Place) (next : ℕ) → IsSearch order next → length order ≤ next → (p : Place) → Contains order p ↔ IsLost image st flow by p
   search_done order next s all p = (
     s.lost p,
     closed order s.after (λ e has at keeps. s.followed at.0 e.from (let lt : at.0 < length order = at.1 in omega (arith, lt, all)) e has (sym at.2) keeps) p,
@@ -240,10 +220,10 @@ place_at_it (p ∷ ps) a h = ⊎_elim
 reached_by : (places : List Place) (a : ℕ) (calls : List ℕ) → Contains places (At calls a) → is_reached places a ≡ true
 reached_by places a calls h = list_any_at (is_at a) places h.0 (At calls a) h.1 (is_there calls a (get_or places h.0 (At calls a)) h.2)
 
-pub are_lost : (image : Words) (flow : Flow) (by : Overwrite) (st : Stated) (places given : List Place) (set : BTreeSet ℕ) (items : List ℕ) → given ≡ places → ((p : Place) → Contains places p ↔ IsLost image flow by p)
+pub are_lost : (image : Words) (st : Stated) (flow : Flow) (by : Overwrite) (places given : List Place) (set : BTreeSet ℕ) (items : List ℕ) → given ≡ places → ((p : Place) → Contains places p ↔ IsLost image st flow by p)
     → ((a : ℕ) → (sets.contains nat_cmp set a ≡ true) ↔ ((is_reached given a ≡ true) × MayReturnByLink image st a)) → items ≡ set.keys → IsStrictlySortedBy nat_cmp items
-    → AreLostLinks image flow by st items
-are_lost image flow by st places given set items same lost named is ascending = record {
+    → AreLostLinks image st flow by items
+are_lost image st flow by places given set items same lost named is ascending = record {
   ascending = ascending;
   each = λ a.
       let iff = btree_set_contains_iff nat_cmp_total exact_unsigned set a in

@@ -6,15 +6,18 @@ use Rattle.std.specs.List.{list_any}
 use Rattle.std.specs.List.Sorted.{IsStrictlySortedBy}
 use Rattle.std.specs.Ordering.{nat_cmp}
 use Rattle.arm2_decode.specs.Writers.{is_transfer}
+use Rattle.arm2_decode.specs.declared.instr.Instr.{Instr}
 use Rattle.bus_ticks.specs.declared.profile.Class.TheVariants.{Any}
 use Rattle.control_flow.specs.Flow.{Flow}
+use Rattle.control_flow.specs.Kinds.{base_of}
 use Rattle.image.specs.Image.{Words}
 use Rattle.sources.specs.Rows.{AreSourceRows}
 use Rattle.sources.specs.declared.read.Source.{Source}
 use Rattle.statement.specs.Stated.{Stated, class_at, target_of}
 use Rattle.word_shapes.specs.Shapes.{is_odd_writer, leaves_flags}
-use Rattle.word_shapes.specs.Words.{HasShape, MayDo}
+use Rattle.word_shapes.specs.Words.{HasInstr, HasShape}
 use Rattle.control_flow.specs.declared.places.Place.{Place}
+use Rattle.text_explained.specs.Doing.{MayDoShape, may_do_shape}
 use Rattle.text_explained.specs.Leaving.{is_left_on}
 use Rattle.text_explained.specs.Links.{AreLostLinks}
 use Rattle.text_rows.specs.Lines.{rows_by_word}
@@ -32,13 +35,16 @@ use Rattle.text_explained.specs.declared.links.Overwrite.TheVariants.{ByAddress,
 -- ## What is assumed
 
 -- a load or a store that may be to any address, as far as the statement says
-pub record IsLooseTransfer (image : Words) (st : Stated) (a : ℕ) : Type 0 where
-  pub transfers : MayDo is_transfer image a
-  pub loose : class_at st a ≡ Any
+pub record IsLoose (st : Stated) (a : ℕ) (i : Instr) : Type 0 where
+  pub transfers : may_do_shape is_transfer st a i ≡ true
+  pub loose : class_at st a (base_of i.operation) ≡ Any
+
+abbrev pub IsLooseTransfer : Words → Stated → ℕ → Type 0
+IsLooseTransfer image st a = (i : Instr) × HasInstr image a i × IsLoose st a i
 
 -- a word that counts as a return but does not look like one, since nothing is stated of it
 pub record IsTakenForReturn (image : Words) (st : Stated) (a : ℕ) : Type 0 where
-  pub writes : MayDo is_odd_writer image a
+  pub writes : MayDoShape is_odd_writer image st a
   pub unstated : target_of st a ≡ None
 
 -- the processor enters there when it takes IRQ (18), or FIQ (1C)
@@ -67,7 +73,7 @@ pub record AreAssumed (image : Words) (st : Stated) (flow : Flow) (what : Assump
 -- exactly the words of which that caveat is to be told
 abbrev pub AreSubjectTo : Words → Stated → Flow → Caveat → List ℕ → Type 0
 AreSubjectTo image st flow (Assumed what) = AreAssumed image st flow what
-AreSubjectTo image st flow (LinkLost by) = AreLostLinks image flow by st
+AreSubjectTo image st flow (LinkLost by) = AreLostLinks image st flow by
 
 -- ## Finding them
 
@@ -119,23 +125,24 @@ pub record IsSection (source : Source) (heading : List ℕ) (AreNamed : List ℕ
   pub are_rows : AreNamedRows source named rows
   pub text_is : text ≡ section heading rows
 
--- the words that count as returns, then those that restore no flags, then those that return by an R14 that a
--- call or an address has overwritten, and then the loads and stores
-pub record AreAssumptions (source : Source) (st : Stated) (flow : Flow) (text : List ℕ) : Type 0 where
+-- the words of an image that count as returns, then those that restore no flags, then those that return by an
+-- R14 that a call or an address has overwritten, and then the loads and stores, by the lines of a source
+pub record AreAssumptions (source : Source) (image : Words) (st : Stated) (flow : Flow)
+    (text : List ℕ) : Type 0 where
   pub returns : List ℕ
   pub flags : List ℕ
   pub called : List ℕ
   pub addressed : List ℕ
   pub transfers : List ℕ
   pub are_returns : IsSection source (heading_of TakenForReturn)
-      (AreAssumed source.image st flow TakenForReturn) returns
+      (AreAssumed image st flow TakenForReturn) returns
   pub are_flags : IsSection source (heading_of LeavesFlags)
-      (AreAssumed source.image st flow LeavesFlags) flags
-  pub are_called : IsSection source (lost_heading ByCall) (AreLostLinks source.image flow ByCall st) called
+      (AreAssumed image st flow LeavesFlags) flags
+  pub are_called : IsSection source (lost_heading ByCall) (AreLostLinks image st flow ByCall) called
   pub are_addressed : IsSection source (lost_heading ByAddress)
-      (AreLostLinks source.image flow ByAddress st) addressed
+      (AreLostLinks image st flow ByAddress) addressed
   pub are_transfers : IsSection source (heading_of LooseTransfer)
-      (AreAssumed source.image st flow LooseTransfer) transfers
+      (AreAssumed image st flow LooseTransfer) transfers
   pub text_is : text ≡ returns ++ (flags ++ (called ++ (addressed ++ transfers)))
 
 -- ## Of what a run has done
@@ -147,20 +154,20 @@ pub record AreDone (IsDone : ℕ → Type 0) (AreNamed : List ℕ → Type 0) (n
   pub ascending : IsStrictlySortedBy nat_cmp named
   pub each : (a : ℕ) → Contains named a ↔ (Contains all a × IsDone a)
 
--- the words that are done of those that count as returns, that restore no flags, and that return by an R14
--- that a call or an address has overwritten
-pub record AreDoneReturns (source : Source) (st : Stated) (flow : Flow) (IsDone : ℕ → Type 0)
+-- the words of an image that are done of those that count as returns, that restore no flags, and that return
+-- by an R14 that a call or an address has overwritten, by the lines of a source
+pub record AreDoneReturns (source : Source) (image : Words) (st : Stated) (flow : Flow) (IsDone : ℕ → Type 0)
     (text : List ℕ) : Type 0 where
   pub returns : List ℕ
   pub flags : List ℕ
   pub called : List ℕ
   pub addressed : List ℕ
   pub are_returns : IsSection source (heading_of TakenForReturn)
-      (AreDone IsDone (AreAssumed source.image st flow TakenForReturn)) returns
+      (AreDone IsDone (AreAssumed image st flow TakenForReturn)) returns
   pub are_flags : IsSection source (heading_of LeavesFlags)
-      (AreDone IsDone (AreAssumed source.image st flow LeavesFlags)) flags
+      (AreDone IsDone (AreAssumed image st flow LeavesFlags)) flags
   pub are_called : IsSection source (lost_heading ByCall)
-      (AreDone IsDone (AreLostLinks source.image flow ByCall st)) called
+      (AreDone IsDone (AreLostLinks image st flow ByCall)) called
   pub are_addressed : IsSection source (lost_heading ByAddress)
-      (AreDone IsDone (AreLostLinks source.image flow ByAddress st)) addressed
+      (AreDone IsDone (AreLostLinks image st flow ByAddress)) addressed
   pub text_is : text ≡ returns ++ (flags ++ (called ++ addressed))

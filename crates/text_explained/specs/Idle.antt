@@ -1,52 +1,83 @@
 -- The entries of a statement without effect on a bound.
-use Rattle.std.specs.Prelude.{◌≡◌, ℕ, Bool, true, List, [], ◌++◌, codes}
+use Rattle.std.specs.Prelude.{◌≡◌, ℕ, Bool, true, not, ◌&&◌, List, [], ◌++◌, codes}
 use Rattle.std.specs.List.{list_any}
 use Rattle.std.specs.Map.{keys_of}
+use Rattle.arm2_decode.specs.Names.{is_always, is_never}
 use Rattle.arm2_decode.specs.Writers.{is_transfer}
+use Rattle.arm2_decode.specs.declared.names.Cond.{Cond}
 use Rattle.asm_text.specs.Hex.{hex8}
+use Rattle.control_flow.specs.Edges.{HasAction}
 use Rattle.control_flow.specs.Flow.{Flow}
-use Rattle.control_flow.specs.declared.edges.Edge.{Edge}
+use Rattle.control_flow.specs.Kinds.{is_multiply}
+use Rattle.control_flow.specs.declared.actions.Action.{Action}
 use Rattle.image.specs.Image.{Words}
 use Rattle.loop_bounds.specs.Instance.{is_back_edge_of}
 use Rattle.statement.specs.Stated.{Stated}
+use Rattle.statement.specs.declared.stated.BaseRule.{BaseRule}
 use Rattle.statement.specs.declared.stated.Loop.{Loop}
 use Rattle.word_shapes.specs.Words.{HasShape}
 use Rattle.text_rows.specs.Rows.{AreRows, section}
-use Rattle.text_explained.specs.Leaving.{is_left_on}
-use Rattle.text_explained.specs.declared.leaving.EdgeKind.TheVariants.{CarriesOut}
+use Rattle.text_explained.specs.Leaving.{is_carried_out}
+use Rattle.text_explained.specs.Rules.{IsCovered, part_text, register_text}
+use Rattle.text_explained.specs.Taken.{is_reached}
+use Rattle.text_explained.specs.declared.idle.Entry.{Entry}
+use Rattle.text_explained.specs.declared.idle.Entry.TheVariants.{Target, Access, Multiply, Branch}
 
 -- ## Which entries have an effect
-
--- one of the edges carries out the word at the address
-abbrev pub is_carried_out : List Edge → ℕ → Bool
-is_carried_out = is_left_on CarriesOut
 
 -- a loop has an effect on a bound where an edge of the graph turns back in it
 abbrev pub LoopCounts : Flow → Loop → Type 0
 LoopCounts flow l = list_any (is_back_edge_of l) flow.edges ≡ true
 
--- a target, where the word is carried out
-abbrev pub TargetCounts : (ℕ → Bool) → ℕ → Type 0
-TargetCounts done a = done a ≡ true
+-- a rule, where it covers a word that is carried out
+abbrev pub RuleCounts : Words → Stated → Flow → BaseRule → Type 0
+RuleCounts words st flow r = (a : ℕ) × (is_carried_out flow.edges a ≡ true) × IsCovered words st r a
 
--- a class, where such a word loads or stores
-abbrev pub AccessCounts : Words → (ℕ → Bool) → ℕ → Type 0
-AccessCounts words done a = (done a ≡ true) × HasShape is_transfer words a
+abbrev pub has_condition : Cond → Bool
+has_condition c = not (is_always c) && not (is_never c)
+
+-- the image has a word at the address that has a condition: not AL, and not NV
+abbrev pub IsConditional : Words → ℕ → Type 0
+IsConditional words a = (action : Action) × HasAction words a action × (has_condition action.cond ≡ true)
+
+-- a target, where the word is carried out; a class, where such a word loads or stores; the cycles of a
+-- multiply, where such a word is one; and the way of a branch, where a place is and the word has a condition
+abbrev pub EntryCounts : Words → (done reached : ℕ → Bool) → Entry → ℕ → Type 0
+EntryCounts words done reached Target a = done a ≡ true
+EntryCounts words done reached Access a = (done a ≡ true) × HasShape is_transfer words a
+EntryCounts words done reached Multiply a = (done a ≡ true) × HasShape is_multiply words a
+EntryCounts words done reached Branch a = (reached a ≡ true) × IsConditional words a
 
 -- ## Rows
 
--- an entry, by the address that it names, between two texts
-abbrev pub entry_row : List ℕ → ℕ → List ℕ → List ℕ
-entry_row front a back = front ++ (hex8 a ++ back)
+-- an address between two texts
+abbrev pub between : List ℕ → ℕ → List ℕ → List ℕ
+between front a back = front ++ (hex8 a ++ back)
 
 abbrev pub loop_row : ℕ → List ℕ
-loop_row header = entry_row (codes "  loop    ") header (codes "  nothing turns back to the header\n")
+loop_row header = between (codes "  loop    ") header (codes "  nothing turns back to the header\n")
 
-abbrev pub target_row : ℕ → List ℕ
-target_row a = entry_row (codes "  target  ") a (codes "  no word is carried out there\n")
+abbrev pub rule_row : BaseRule → List ℕ
+rule_row r =
+    codes "  base    "
+    ++ (register_text r.register
+    ++ (codes " from " ++ (part_text r ++ codes "  no load or store there takes its class\n")))
 
-abbrev pub access_row : ℕ → List ℕ
-access_row a = entry_row (codes "  access  ") a (codes "  no load or store is carried out there\n")
+abbrev pub front_of : Entry → List ℕ
+front_of Target = codes "  target  "
+front_of Access = codes "  access  "
+front_of Multiply = codes "  multiply  "
+front_of Branch = codes "  branch  "
+
+abbrev pub back_of : Entry → List ℕ
+back_of Target = codes "  no word is carried out there\n"
+back_of Access = codes "  no load or store is carried out there\n"
+back_of Multiply = codes "  no multiply is carried out there\n"
+back_of Branch = codes "  no word with a condition is reached there\n"
+
+-- of an entry that names the address of a word
+abbrev pub entry_row : Entry → ℕ → List ℕ
+entry_row entry a = between (front_of entry) a (back_of entry)
 
 -- the row of an entry without effect; one with an effect has none
 pub record IsIdleRow (Counts : Type 0) (shown row : List ℕ) : Type 0 where
@@ -56,23 +87,36 @@ pub record IsIdleRow (Counts : Type 0) (shown row : List ℕ) : Type 0 where
 abbrev pub IsLoopRow : Flow → Loop → List ℕ → Type 0
 IsLoopRow flow l = IsIdleRow (LoopCounts flow l) (loop_row l.header)
 
-abbrev pub IsTargetRow : (ℕ → Bool) → ℕ → List ℕ → Type 0
-IsTargetRow done a = IsIdleRow (TargetCounts done a) (target_row a)
+abbrev pub IsRuleRow : Words → Stated → Flow → BaseRule → List ℕ → Type 0
+IsRuleRow words st flow r = IsIdleRow (RuleCounts words st flow r) (rule_row r)
 
-abbrev pub IsAccessRow : Words → (ℕ → Bool) → ℕ → List ℕ → Type 0
-IsAccessRow words done a = IsIdleRow (AccessCounts words done a) (access_row a)
+abbrev pub IsEntryRow : Words → (done reached : ℕ → Bool) → Entry → ℕ → List ℕ → Type 0
+IsEntryRow words done reached entry a =
+    IsIdleRow (EntryCounts words done reached entry a) (entry_row entry a)
 
 -- ## The text
 
--- the rows of exactly the loops, the targets and the accesses without effect, in the statement's order
+-- the rows of those of the entries without effect
+abbrev pub AreEntryRows : Words → Flow → Entry → (addresses rows : List ℕ) → Type 0
+AreEntryRows words flow entry =
+    AreRows (IsEntryRow words (is_carried_out flow.edges) (is_reached flow.places) entry)
+
+-- the rows of exactly the loops, the targets, the accesses, the rules, the multiplies and the branches
+-- without effect, in the statement's order
 pub record AreIdleRows (words : Words) (st : Stated) (flow : Flow) (rows : List ℕ) : Type 0 where
   pub loops : List ℕ
   pub targets : List ℕ
   pub accesses : List ℕ
+  pub rules : List ℕ
+  pub multiplies : List ℕ
+  pub branches : List ℕ
   pub are_loops : AreRows (IsLoopRow flow) st.loops loops
-  pub are_targets : AreRows (IsTargetRow (is_carried_out flow.edges)) (keys_of st.targets) targets
-  pub are_accesses : AreRows (IsAccessRow words (is_carried_out flow.edges)) (keys_of st.accesses) accesses
-  pub rows_are : rows ≡ loops ++ (targets ++ accesses)
+  pub are_targets : AreEntryRows words flow Target (keys_of st.targets) targets
+  pub are_accesses : AreEntryRows words flow Access (keys_of st.accesses) accesses
+  pub are_rules : AreRows (IsRuleRow words st flow) st.rules rules
+  pub are_multiplies : AreEntryRows words flow Multiply (keys_of st.multiplies) multiplies
+  pub are_branches : AreEntryRows words flow Branch (keys_of st.branches) branches
+  pub rows_are : rows ≡ loops ++ (targets ++ (accesses ++ (rules ++ (multiplies ++ branches))))
 
 abbrev pub idle_heading : List ℕ
 idle_heading = codes "\nEntries of the statement without effect:\n"

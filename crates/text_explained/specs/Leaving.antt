@@ -26,3 +26,7 @@ leaves_on kind a e = is_of kind e && is_at a e.from
 -- one of the edges does
 abbrev pub is_left_on : EdgeKind → List Edge → ℕ → Bool
 is_left_on kind edges a = list_any (leaves_on kind a) edges
+
+-- one of the edges carries out the word at the address
+abbrev pub is_carried_out : List Edge → ℕ → Bool
+is_carried_out = is_left_on CarriesOut

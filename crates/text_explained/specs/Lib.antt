@@ -2,12 +2,15 @@ pub mod Assumed
 pub mod Bursts
 pub mod Columns
 pub mod Costing
+pub mod Doing
 pub mod Idle
 pub mod Leaving
 pub mod Links
 pub mod Losing
 pub mod Pricing
 pub mod PricingParts
+pub mod RuleParts
+pub mod Rules
 pub mod Starts
 pub mod Table
 pub mod Taken

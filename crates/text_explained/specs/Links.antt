@@ -6,7 +6,7 @@ use Rattle.std.specs.List.Sorted.{IsStrictlySortedBy}
 use Rattle.std.specs.Ordering.{nat_cmp}
 use Rattle.bus_ticks.specs.Prices.{ahead_of}
 use Rattle.bus_ticks.specs.declared.space.TheConstants.{SPACE_END}
-use Rattle.arm2_decode.specs.Names.{is_link, is_never, is_pc}
+use Rattle.arm2_decode.specs.Names.{is_link, is_pc}
 use Rattle.arm2_decode.specs.Transfers.{is_listed}
 use Rattle.arm2_decode.specs.Writers.{is_transfer, writes, writes_pc}
 use Rattle.arm2_decode.specs.declared.instr.Instr.{Instr}
@@ -24,7 +24,8 @@ use Rattle.statement.specs.Stated.{Stated, Target, target_of}
 use Rattle.statement.specs.declared.stated.TargetKind.{TargetKind}
 use Rattle.statement.specs.declared.stated.TargetKind.TheVariants.{Jump, Call, Return, Leave}
 use Rattle.word_shapes.specs.Shapes.{is_return, makes_address}
-use Rattle.word_shapes.specs.Words.{HasInstr, MayDo}
+use Rattle.word_shapes.specs.Words.{HasInstr}
+use Rattle.text_explained.specs.Doing.{MayDoShape, may_be_done}
 use Rattle.text_explained.specs.declared.links.LinkStep.{LinkStep}
 use Rattle.text_explained.specs.declared.links.LinkStep.TheVariants.{Overwrites, Keeps}
 use Rattle.text_explained.specs.declared.links.Overwrite.{Overwrite}
@@ -71,7 +72,7 @@ counts_as_return (Some t) = is_return_kind t.kind
 
 -- the word at the address may return by R14
 pub record MayReturnByLink (image : Words) (st : Stated) (a : ℕ) : Type 0 where
-  pub returns : MayDo returns_by_link image a
+  pub returns : MayDoShape returns_by_link image st a
   pub counts : counts_as_return (target_of st a) ≡ true
 
 -- ## Addresses
@@ -110,43 +111,43 @@ loads_address image a (operation.CoprocessorTransfer x) = false
 loads_address image a (operation.Coprocessor x) = false
 
 -- at the address the instruction may put an address of the source into R14
-abbrev pub may_put_address : Words → ℕ → Instr → Bool
-may_put_address image a i =
-    not (is_never i.cond) && (makes_address i.operation || loads_address image a i.operation)
+abbrev pub may_put_address : Words → Stated → ℕ → Instr → Bool
+may_put_address image st a i =
+    may_be_done st a i && (makes_address i.operation || loads_address image a i.operation)
 
 -- such an instruction is at the address
-abbrev pub PutsAddress : Words → ℕ → Type 0
-PutsAddress image a = (i : Instr) × HasInstr image a i × (may_put_address image a i ≡ true)
+abbrev pub PutsAddress : Words → Stated → ℕ → Type 0
+PutsAddress image st a = (i : Instr) × HasInstr image a i × (may_put_address image st a i ≡ true)
 
 -- ## Edges
 
 -- what an edge does from an address inside some calls to a place inside others: a call that comes back along
 -- it has overwritten R14; the word, inside the same calls, overwrites R14 with an address; or it does not
--- write R14, whatever its condition, but for NV
-abbrev pub DoesTo : Words → LinkStep → (calls others : List ℕ) → ℕ → Type 0
-DoesTo image (Overwrites ByCall) calls others a = length others < length calls
-DoesTo image (Overwrites ByAddress) calls others a = (calls ≡ others) × PutsAddress image a
-DoesTo image Keeps calls others a = (calls ≡ others) × (MayDo writes_link image a → ⊥)
+-- write R14, whatever its condition, if it may be done
+abbrev pub DoesTo : Words → Stated → LinkStep → (calls others : List ℕ) → ℕ → Type 0
+DoesTo image st (Overwrites ByCall) calls others a = length others < length calls
+DoesTo image st (Overwrites ByAddress) calls others a = (calls ≡ others) × PutsAddress image st a
+DoesTo image st Keeps calls others a = (calls ≡ others) × (MayDoShape writes_link image st a → ⊥)
 
 -- nothing of that where it leaves the handler
-abbrev pub Does : Words → LinkStep → (from to : Place) → Type 0
-Does image step (At calls a) (At others b) = DoesTo image step calls others a
-Does image step (At calls a) Exit = ⊥
-Does image step Exit to = ⊥
+abbrev pub Does : Words → Stated → LinkStep → (from to : Place) → Type 0
+Does image st step (At calls a) (At others b) = DoesTo image st step calls others a
+Does image st step (At calls a) Exit = ⊥
+Does image st step Exit to = ⊥
 
 -- ## Places
 
-module _ (image : Words) (flow : Flow) (by : Overwrite) where
+module _ (image : Words) (st : Stated) (flow : Flow) (by : Overwrite) where
   -- on some way R14 has been overwritten so, and no word of the same routine has written it since
   pub data IsLost : Place → Type 0 where
-    overwritten : (e : Edge) → HasEdge flow e → Does image (Overwrites by) e.from e.to → IsLost e.to
-    kept_along : (e : Edge) → HasEdge flow e → IsLost e.from → Does image Keeps e.from e.to → IsLost e.to
+    overwritten : (e : Edge) → HasEdge flow e → Does image st (Overwrites by) e.from e.to → IsLost e.to
+    kept_along : (e : Edge) → HasEdge flow e → IsLost e.from → Does image st Keeps e.from e.to → IsLost e.to
 
   -- at a place where R14 is lost the word may return by it
-  abbrev pub ReturnsByLost : Stated → ℕ → Type 0
-  ReturnsByLost st a = (calls : List ℕ) × IsLost (At calls a) × MayReturnByLink image st a
+  abbrev pub ReturnsByLost : ℕ → Type 0
+  ReturnsByLost a = (calls : List ℕ) × IsLost (At calls a) × MayReturnByLink image st a
 
   -- exactly those addresses, ascending
-  pub record AreLostLinks (st : Stated) (named : List ℕ) : Type 0 where
+  pub record AreLostLinks (named : List ℕ) : Type 0 where
     pub ascending : IsStrictlySortedBy nat_cmp named
-    pub each : (a : ℕ) → Contains named a ↔ ReturnsByLost st a
+    pub each : (a : ℕ) → Contains named a ↔ ReturnsByLost a

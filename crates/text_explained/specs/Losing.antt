@@ -4,6 +4,7 @@ use Rattle.std.specs.Prelude.{◌≡◌, List, Contains}
 use Rattle.control_flow.specs.declared.edges.Edge.{Edge}
 use Rattle.control_flow.specs.declared.places.Place.{Place}
 use Rattle.image.specs.Image.{Words}
+use Rattle.statement.specs.Stated.{Stated}
 use Rattle.text_explained.specs.Links.{Does}
 use Rattle.text_explained.specs.declared.links.LinkStep.{LinkStep}
 
@@ -12,9 +13,9 @@ abbrev pub HasRoom : List Place → Type 0
 HasRoom order = Unit {0}
 
 -- the edge does that to R14, and leads to the place
-abbrev pub LeadsTo : Words → LinkStep → Edge → Place → Type 0
-LeadsTo image step e p = Does image step e.from e.to × (e.to ≡ p)
+abbrev pub LeadsTo : Words → Stated → LinkStep → Edge → Place → Type 0
+LeadsTo image st step e p = Does image st step e.from e.to × (e.to ≡ p)
 
 -- one of the edges does
-abbrev pub ByEdge : Words → LinkStep → List Edge → Place → Type 0
-ByEdge image step edges p = (e : Edge) × Contains edges e × LeadsTo image step e p
+abbrev pub ByEdge : Words → Stated → LinkStep → List Edge → Place → Type 0
+ByEdge image st step edges p = (e : Edge) × Contains edges e × LeadsTo image st step e p

@@ -1,6 +1,6 @@
 -- What the price of a word takes for granted.
-use Rattle.std.specs.Prelude.{◌≡◌, ℕ, true, false, if◌then◌else◌, List, [], ◌++◌, codes, Option, Some, None}
-use Rattle.arm2_decode.specs.Names.{is_never}
+use Rattle.std.specs.Prelude.{◌≡◌, ℕ, true, false, if◌then◌else◌, List, [], ◌++◌, codes, decimal, Option}
+use Rattle.std.specs.Prelude.{Some, None}
 use Rattle.arm2_decode.specs.Writers.{is_transfer}
 use Rattle.arm2_decode.specs.declared.instr.Instr.{Instr}
 use Rattle.arm2_decode.specs.declared.instr.Operation.{Operation}
@@ -8,11 +8,12 @@ use Rattle.bus_ticks.specs.declared.profile.Class.{Class}
 use Rattle.bus_ticks.specs.declared.profile.Class.TheVariants.{Any, Ram, Rom, Io}
 use Rattle.bus_ticks.specs.declared.profile.Class.TheVariants.{Slow, Medium, Fast, Synchronous}
 use Rattle.control_flow.specs.Flow.{Flow}
-use Rattle.control_flow.specs.Kinds.{is_multiply}
+use Rattle.control_flow.specs.Kinds.{base_of, is_multiply}
 use Rattle.image.specs.Image.{Words}
-use Rattle.statement.specs.Stated.{Stated, class_at}
+use Rattle.statement.specs.Stated.{Stated, class_at, cycles_at}
 use Rattle.statement.specs.Statement.{class_name}
 use Rattle.word_shapes.specs.Words.{HasInstr}
+use Rattle.text_explained.specs.Doing.{may_be_done}
 use Rattle.text_explained.specs.Leaving.{is_left_on}
 use Rattle.text_explained.specs.Taken.{is_reached}
 use Rattle.text_explained.specs.declared.leaving.EdgeKind.TheVariants.{LeadsOut}
@@ -23,17 +24,18 @@ use Rattle.text_explained.specs.declared.pricing.Pricing.{Pricing}
 -- ## What is taken for granted
 
 -- a multiply is priced at its most cycles, and a load or a store by the class of what it transfers
-abbrev pub operation_granted : Class → Operation → Granted
-operation_granted class o =
-    if is_multiply o then Multiplier else (if is_transfer o then Access class else Nothing)
+abbrev pub operation_granted : Stated → ℕ → Operation → Granted
+operation_granted st a o =
+    if is_multiply o then Multiplier (cycles_at st a)
+    else (if is_transfer o then Access (class_at st a (base_of o)) else Nothing)
 
--- a word under NV is passed over
-abbrev pub instr_granted : Class → Instr → Granted
-instr_granted class i = if is_never i.cond then Nothing else operation_granted class i.operation
+-- a word that is never done is passed over
+abbrev pub instr_granted : Stated → ℕ → Instr → Granted
+instr_granted st a i = if may_be_done st a i then operation_granted st a i.operation else Nothing
 
 -- for what the word at an address does besides its fetches
 pub record IsGranted (words : Words) (st : Stated) (a : ℕ) (g : Granted) : Type 0 where
-  pub of_instr : (i : Instr) → HasInstr words a i → g ≡ instr_granted (class_at st a) i
+  pub of_instr : (i : Instr) → HasInstr words a i → g ≡ instr_granted st a i
   pub of_none : ((i : Instr) → HasInstr words a i → ⊥) → g ≡ Nothing
 
 -- and where the handler leaves from there, the class of the addresses to which it leaves
@@ -62,7 +64,7 @@ column_name Fast = class_name Fast
 
 abbrev pub granted_text : Granted → List ℕ
 granted_text Nothing = []
-granted_text Multiplier = codes "m = 16"
+granted_text (Multiplier cycles) = codes "m = " ++ decimal cycles
 granted_text (Access class) = column_name class
 
 -- with a way out of the handler

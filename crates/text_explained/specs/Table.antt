@@ -197,9 +197,10 @@ abbrev pub walk_figures : Flow → List Edge → (latest : ℕ → Option ℕ) �
 walk_figures flow walk latest bound priced =
     record { taken = taken_at flow walk; latest = latest; priced = priced; bound = bound }
 
--- by the source, the statement, the flow graph, a walk that costs so much, and when its words begin at the
--- latest
-abbrev pub IsTable : Source → Stated → Flow → List Edge → (latest : ℕ → Option ℕ) → ℕ → List ℕ → Type 0
-IsTable source st flow walk latest bound text =
-    (priced : ℕ → Option Pricing) × ArePriced source.image st flow priced
+-- by the source, an image, the statement, the flow graph, a walk that costs so much, and when its words begin
+-- at the latest
+abbrev pub IsTable : Source → Words → Stated → Flow → List Edge → (latest : ℕ → Option ℕ) → ℕ → List ℕ
+    → Type 0
+IsTable source image st flow walk latest bound text =
+    (priced : ℕ → Option Pricing) × ArePriced image st flow priced
     × IsTableOf (walk_figures flow walk latest bound priced) source text

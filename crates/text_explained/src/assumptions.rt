@@ -3,20 +3,26 @@ ghost use Rattle.std.specs.BTreeSet.{contains};
 ghost use Rattle.std.specs.List.Sorted.{IsStrictlySortedBy};
 ghost use Rattle.std.specs.Ordering.{nat_cmp};
 ghost use Rattle.bus_ticks.specs.declared.profile.Class.{Class};
-ghost use Rattle.text_explained.specs.Assumed.{AreAssumed, Assumes, IsLeftWithoutFlags, IsLooseTransfer};
+ghost use Rattle.text_explained.specs.Assumed.{AreAssumed, Assumes, IsLeftWithoutFlags, IsLoose};
+ghost use Rattle.text_explained.specs.Assumed.{IsLooseTransfer};
 ghost use Rattle.text_explained.specs.Assumed.{IsTakenForReturn, Notes, is_interrupt_vector};
+ghost use Rattle.arm2_decode.specs.Writers.{is_transfer};
+ghost use Rattle.word_shapes.specs.Shapes.{is_odd_writer};
+ghost use Rattle.text_explained.specs.Doing.{MayDoShape, may_do_shape};
 ghost use Rattle.text_explained.specs.Leaving.{is_left_on};
 ghost use Rattle.text_explained.specs.declared.leaving.EdgeKind.TheVariants.{LeadsOut};
 
+use crate::doing::may_be_done;
 use crate::leaving::{EdgeKind, addresses_left};
+use arm2_decode::Instr;
 use bus_ticks::{Class, FIQ_VECTOR};
-use control_flow::Place;
+use control_flow::{Place, base_of};
 use image::Image;
 use loop_bounds::Handler;
 use statement::Statement;
 use std::alloc::{AllocError, Global};
 use std::collections::BTreeSet;
-use word_shapes::{leaves_flags_at, may_transfer_at, may_write_oddly_at};
+use word_shapes::{instr_at, is_odd_writer, leaves_flags_at};
 
 // Where the processor goes on when it takes IRQ.
 const IRQ_VECTOR: u32 = 0x18;
@@ -39,16 +45,48 @@ fn is_any(class: Class) -> bool
     class == Class::Any
 }
 
+fn may_transfer(statement: &Statement, at: u32, instr: &Instr) -> bool
+    ensures { result ≡ may_do_shape is_transfer statement.now at instr.now }
+{
+    may_be_done(statement, at, instr) && instr.operation.is_transfer()
+}
+
+fn is_loose(statement: &Statement, at: u32, instr: &Instr) -> bool
+    ensures { IsTrue result ↔ IsLoose statement.now at instr.now }
+{
+    may_transfer(statement, at, instr) && is_any(statement.class_at(at, base_of(&instr.operation)))
+}
+
 fn is_loose_transfer(image: &Image, statement: &Statement, at: u32) -> bool
     ensures { IsTrue result ↔ IsLooseTransfer image.now statement.now at }
 {
-    may_transfer_at(image, at) && is_any(statement.class_at(at))
+    match instr_at(image, at) {
+        Some(instr) => is_loose(statement, at, &instr),
+        None => false,
+    }
+}
+
+fn may_write_oddly(statement: &Statement, at: u32, instr: &Instr) -> bool
+    ensures { result ≡ may_do_shape is_odd_writer statement.now at instr.now }
+{
+    may_be_done(statement, at, instr) && is_odd_writer(&instr.operation)
+}
+
+// Whether the image has a word at an address that may write R15, other than a branch or a call, and does not
+// look like a return.
+fn may_write_oddly_at(image: &Image, statement: &Statement, at: u32) -> bool
+    ensures { IsTrue result ↔ MayDoShape is_odd_writer image.now statement.now at }
+{
+    match instr_at(image, at) {
+        Some(instr) => may_write_oddly(statement, at, &instr),
+        None => false,
+    }
 }
 
 fn is_taken_for_return(image: &Image, statement: &Statement, at: u32) -> bool
     ensures { IsTrue result ↔ IsTakenForReturn image.now statement.now at }
 {
-    may_write_oddly_at(image, at) && statement.target_at(at).is_none()
+    may_write_oddly_at(image, statement, at) && statement.target_at(at).is_none()
 }
 
 fn is_interrupt_vector(address: u32) -> bool

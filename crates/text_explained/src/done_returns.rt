@@ -51,19 +51,17 @@ fn done_section(
     caveat: Caveat,
     done: &BTreeSet<u32>,
 ) -> Result<Vec<u8>, AllocError>
-    requires { handler.now.image.now ≡ source.now.image }
     ensures { IfOk result
         (λ text. IsSection source.now (caveat_heading caveat)
         (AreDone (λ a. contains nat_cmp done.now a ≡ true)
-        (AreSubjectTo source.now.image handler.now.statement handler.now.graph caveat)) text.items) }
+        (AreSubjectTo handler.now.image.now handler.now.statement handler.now.graph caveat)) text.items) }
 {
     let named = done_words(alloc, handler, caveat, done)?;
     section_of(alloc, caveat, source, &named)
 }
 
 /// The returns and ways out of which [`assumed_text`](crate::assumed_text) warns, of those words alone whose
-/// addresses are done, under the same headings. No text where there are none. The handler's image is the
-/// source's.
+/// addresses are done, under the same headings. No text where there are none.
 ///
 /// # Errors
 ///
@@ -74,9 +72,8 @@ pub fn done_text(
     handler: &Handler<'_>,
     done: &BTreeSet<u32>,
 ) -> Result<Vec<u8>, AllocError>
-    requires { handler.now.image.now ≡ source.now.image }
     ensures { IfOk result
-        (λ text. AreDoneReturns source.now handler.now.statement handler.now.graph
+        (λ text. AreDoneReturns source.now handler.now.image.now handler.now.statement handler.now.graph
         (λ a. contains nat_cmp done.now a ≡ true) text.items) }
 {
     let mut text = done_section(alloc, source, handler, Assumed(TakenForReturn), done)?;

@@ -1,27 +1,50 @@
-ghost use Rattle.std.specs.Prelude.{◌≡◌, ◌↔◌, ◌++◌, IfOk, IsTrue, OnOk};
+ghost use Rattle.std.specs.Prelude.{◌≡◌, ◌↔◌, ◌++◌, ◌==◌, if◌then◌else◌, [], IfOk, IsTrue, OnOk};
 ghost use Rattle.std.specs.BTreeSet.{contains};
 ghost use Rattle.std.specs.List.{list_any};
 ghost use Rattle.std.specs.Map.{keys_of};
 ghost use Rattle.std.specs.Ordering.{nat_cmp};
-ghost use Rattle.text_explained.specs.Idle.{AccessCounts, AreIdleEntries, AreIdleRows, IsAccessRow};
-ghost use Rattle.text_explained.specs.Idle.{IsLoopRow, IsTargetRow, entry_row};
-ghost use Rattle.loop_bounds.specs.Instance.{is_back_edge_of};
 ghost use Rattle.asm_text.specs.Appended.{Appends};
+ghost use Rattle.control_flow.specs.Kinds.{is_multiply};
+ghost use Rattle.loop_bounds.specs.Instance.{is_back_edge_of};
+ghost use Rattle.text_explained.specs.Idle.{AreIdleEntries, AreIdleRows, EntryCounts, IsConditional};
+ghost use Rattle.text_explained.specs.Idle.{IsEntryRow, IsLoopRow, IsRuleRow, back_of, between, entry_row};
+ghost use Rattle.text_explained.specs.Idle.{front_of, has_condition, rule_row};
+ghost use Rattle.text_explained.specs.RuleParts.{AreDoneCoverages};
 ghost use Rattle.text_rows.specs.Rows.{AreRows};
+ghost use Rattle.word_shapes.specs.Words.{HasShape};
 
-use crate::leaving::{EdgeKind, addresses_left};
+use crate::leaving::{EdgeKind, addresses_left, addresses_reached};
+use crate::rules::{done_coverages, put_part, put_register};
+use arm2_decode::Cond;
 use asm_text::hex8;
-use control_flow::Graph;
+use control_flow::{Graph, action_of, is_multiply};
 use image::Image;
 use indexmap::IndexMap;
 use loop_bounds::{Handler, is_back_edge_of};
-use statement::Loop;
+use statement::{BaseRule, Loop};
 use std::alloc::{AllocError, Global};
 use std::collections::BTreeSet;
 use text_rows::{put, section};
-use word_shapes::is_transfer_at;
+use word_shapes::{instr_at, is_transfer_at};
 
 const HEADING: &[u8] = b"\nEntries of the statement without effect:\n";
+
+/// A kind of entries that name the address of a word.
+#[derive(Clone, Copy)]
+pub(crate) enum Entry {
+    Target,
+    Access,
+    Multiply,
+    Branch,
+}
+
+// The words of an image, and at which addresses a graph carries them out and has places.
+#[derive(Clone, Copy)]
+struct Seen<'a> {
+    image: &'a Image,
+    done: &'a BTreeSet<u32>,
+    reached: &'a BTreeSet<u32>,
+}
 
 fn turns_back(graph: &Graph, stated: &Loop) -> bool
     ensures { result ≡ list_any (is_back_edge_of stated.now) graph.now.edges }
@@ -32,9 +55,9 @@ fn turns_back(graph: &Graph, stated: &Loop) -> bool
         .any(|edge| is_back_edge_of(stated, edge))
 }
 
-// Adds the row of an entry: the address that it names, between two texts.
-fn put_entry(out: &mut Vec<u8>, front: &[u8], at: u32, back: &[u8]) -> Result<(), AllocError>
-    ensures { OnOk result (out.new.items ≡ out.old.items ++ entry_row front.now at back.now) }
+// Adds an address between two texts.
+fn put_between(out: &mut Vec<u8>, front: &[u8], at: u32, back: &[u8]) -> Result<(), AllocError>
+    ensures { OnOk result (out.new.items ≡ out.old.items ++ between front.now at back.now) }
 {
     put(out, front)?;
     put(out, &hex8(at))?;
@@ -48,7 +71,7 @@ fn put_loop(out: &mut Vec<u8>, graph: &Graph, stated: &Loop) -> Result<(), Alloc
     if turns_back(graph, stated) {
         return Ok(());
     }
-    put_entry(
+    put_between(
         out,
         b"  loop    ",
         stated.header,
@@ -65,74 +88,152 @@ fn put_loops(out: &mut Vec<u8>, graph: &Graph, loops: &[Loop]) -> Result<(), All
     Ok(())
 }
 
-// Adds the row of a target, if no word is carried out at its address.
-fn put_target(out: &mut Vec<u8>, done: &BTreeSet<u32>, at: u32) -> Result<(), AllocError>
-    ensures { OnOk result (Appends (IsTargetRow (contains nat_cmp done.now) at) out.old.items out.new.items) }
+fn has_condition(cond: Cond) -> bool
+    ensures { result ≡ has_condition cond }
 {
-    if done.contains(&at) {
+    !cond.is_always() && !cond.is_never()
+}
+
+// Whether the image has a word at an address that has a condition.
+fn is_conditional_at(image: &Image, at: u32) -> bool
+    ensures { IsTrue result ↔ IsConditional image.now at }
+{
+    match image.word_at(at) {
+        Some(word) => has_condition(action_of(word).cond),
+        None => false,
+    }
+}
+
+fn is_multiply_at(image: &Image, at: u32) -> bool
+    ensures { IsTrue result ↔ HasShape is_multiply image.now at }
+{
+    match instr_at(image, at) {
+        Some(instr) => is_multiply(&instr.operation),
+        None => false,
+    }
+}
+
+// Whether an entry has an effect at an address.
+fn entry_counts(seen: Seen<'_>, entry: Entry, at: u32) -> bool
+    ensures { IsTrue result
+        ↔ EntryCounts seen.entry.image.now (contains nat_cmp seen.entry.done.now)
+        (contains nat_cmp seen.entry.reached.now) entry at }
+{
+    match entry {
+        Entry::Target => seen.done.contains(&at),
+        Entry::Access => seen.done.contains(&at) && is_transfer_at(seen.image, at),
+        Entry::Multiply => seen.done.contains(&at) && is_multiply_at(seen.image, at),
+        Entry::Branch => seen.reached.contains(&at) && is_conditional_at(seen.image, at),
+    }
+}
+
+impl Entry {
+    // The text in front of its address.
+    fn front(self) -> &'static [u8]
+        ensures { result.now ≡ front_of self }
+    {
+        match self {
+            Entry::Target => b"  target  ",
+            Entry::Access => b"  access  ",
+            Entry::Multiply => b"  multiply  ",
+            Entry::Branch => b"  branch  ",
+        }
+    }
+
+    // The text after it, which says what is not at the address.
+    fn back(self) -> &'static [u8]
+        ensures { result.now ≡ back_of self }
+    {
+        match self {
+            Entry::Target => b"  no word is carried out there\n",
+            Entry::Access => b"  no load or store is carried out there\n",
+            Entry::Multiply => b"  no multiply is carried out there\n",
+            Entry::Branch => b"  no word with a condition is reached there\n",
+        }
+    }
+
+    fn put_row(self, out: &mut Vec<u8>, at: u32) -> Result<(), AllocError>
+        ensures { OnOk result (out.new.items ≡ out.old.items ++ entry_row self at) }
+    {
+        put_between(out, self.front(), at, self.back())
+    }
+}
+
+// Adds the row of an entry, if it has no effect.
+fn put_entry(out: &mut Vec<u8>, seen: Seen<'_>, entry: Entry, at: u32) -> Result<(), AllocError>
+    ensures { OnOk result
+        (Appends (IsEntryRow seen.entry.image.now (contains nat_cmp seen.entry.done.now)
+        (contains nat_cmp seen.entry.reached.now) entry at) out.old.items out.new.items) }
+{
+    if entry_counts(seen, entry, at) {
         return Ok(());
     }
-    put_entry(out, b"  target  ", at, b"  no word is carried out there\n")
+    entry.put_row(out, at)
 }
 
-fn put_targets(out: &mut Vec<u8>, done: &BTreeSet<u32>, at: &[u32]) -> Result<(), AllocError>
-    ensures { OnOk result
-        (Appends (AreRows (IsTargetRow (contains nat_cmp done.now)) at.now) out.old.items out.new.items) }
-{
-    for address in at {
-        put_target(out, done, *address)?;
-    }
-    Ok(())
-}
-
-fn access_counts(image: &Image, done: &BTreeSet<u32>, at: u32) -> bool
-    ensures { IsTrue result ↔ AccessCounts image.now (contains nat_cmp done.now) at }
-{
-    done.contains(&at) && is_transfer_at(image, at)
-}
-
-// Adds the row of an access, if no load or store is carried out at its address.
-fn put_access(
+fn put_entries(
     out: &mut Vec<u8>,
-    image: &Image,
-    done: &BTreeSet<u32>,
-    at: u32,
-) -> Result<(), AllocError>
-    ensures { OnOk result
-        (Appends (IsAccessRow image.now (contains nat_cmp done.now) at) out.old.items out.new.items) }
-{
-    if access_counts(image, done, at) {
-        return Ok(());
-    }
-    put_entry(
-        out,
-        b"  access  ",
-        at,
-        b"  no load or store is carried out there\n",
-    )
-}
-
-fn put_accesses(
-    out: &mut Vec<u8>,
-    image: &Image,
-    done: &BTreeSet<u32>,
+    seen: Seen<'_>,
+    entry: Entry,
     at: &[u32],
 ) -> Result<(), AllocError>
     ensures { OnOk result
-        (Appends (AreRows (IsAccessRow image.now (contains nat_cmp done.now)) at.now) out.old.items
-        out.new.items) }
+        (Appends (AreRows (IsEntryRow seen.entry.image.now (contains nat_cmp seen.entry.done.now)
+        (contains nat_cmp seen.entry.reached.now) entry) at.now) out.old.items out.new.items) }
 {
     for address in at {
-        put_access(out, image, done, *address)?;
+        put_entry(out, seen, entry, *address)?;
     }
     Ok(())
 }
 
-// The addresses of the words of which something is stated, in the order of the statement.
-fn addresses<V>(alloc: Global, stated: &IndexMap<u32, V>) -> Result<Vec<u32>, AllocError>
-    ensures { IfOk result (λ addresses. addresses.items ≡ keys_of stated.now.entries) }
+// Adds the rows of the entries of a kind, by what is stated at the addresses of words, that have no effect.
+fn put_stated<V>(
+    out: &mut Vec<u8>,
+    seen: Seen<'_>,
+    entry: Entry,
+    stated: &IndexMap<u32, V>,
+) -> Result<(), AllocError>
+    ensures { OnOk result
+        (Appends (AreRows (IsEntryRow seen.entry.image.now (contains nat_cmp seen.entry.done.now)
+        (contains nat_cmp seen.entry.reached.now) entry) (keys_of stated.now.entries))
+        out.old.items out.new.items) }
 {
-    stated.keys().copied().collect(alloc)
+    let addresses: Vec<u32> = stated.keys().copied().collect(*out.allocator())?;
+    put_entries(out, seen, entry, &addresses)
+}
+
+fn put_rule_row(out: &mut Vec<u8>, rule: &BaseRule) -> Result<(), AllocError>
+    ensures { OnOk result (out.new.items ≡ out.old.items ++ rule_row rule.now) }
+{
+    put(out, b"  base    ")?;
+    put_register(out, rule.register)?;
+    put(out, b" from ")?;
+    put_part(out, rule)?;
+    put(out, b"  no load or store there takes its class\n")
+}
+
+// Adds the row of a rule that covers so many words, if it has no effect.
+fn put_rule(out: &mut Vec<u8>, rule: &BaseRule, words: usize) -> Result<(), AllocError>
+    ensures { OnOk result (out.new.items ≡ out.old.items ++ (if words == 0 then rule_row rule.now else [])) }
+{
+    if words != 0 {
+        return Ok(());
+    }
+    put_rule_row(out, rule)
+}
+
+// Adds the rows of the rules that have no effect, by how many words each covers.
+fn put_rules(out: &mut Vec<u8>, handler: &Handler<'_>, counts: &[usize]) -> Result<(), AllocError>
+    requires { AreDoneCoverages handler.now.image.now handler.now.statement handler.now.graph counts.now }
+    ensures { OnOk result
+        (Appends (AreRows (IsRuleRow handler.now.image.now handler.now.statement handler.now.graph)
+        handler.now.statement.rules) out.old.items out.new.items) }
+{
+    for (rule, words) in handler.statement.rules().iter().zip(counts) {
+        put_rule(out, rule, *words)?;
+    }
+    Ok(())
 }
 
 // The rows of the entries without effect.
@@ -140,20 +241,30 @@ fn idle_rows(alloc: Global, handler: &Handler<'_>) -> Result<Vec<u8>, AllocError
     ensures { IfOk result
         (λ rows. AreIdleRows handler.now.image.now handler.now.statement handler.now.graph rows.items) }
 {
-    let done = addresses_left(alloc, &handler.graph, EdgeKind::CarriesOut)?;
-    let targets = addresses(alloc, handler.statement.targets())?;
-    let accesses = addresses(alloc, handler.statement.accesses())?;
+    let (graph, statement) = (&handler.graph, &handler.statement);
+    let done = addresses_left(alloc, graph, EdgeKind::CarriesOut)?;
+    let reached = addresses_reached(alloc, graph)?;
+    let seen = Seen {
+        image: handler.image,
+        done: &done,
+        reached: &reached,
+    };
+    let counts = done_coverages(alloc, handler)?;
     let mut rows = Vec::new(alloc);
-    put_loops(&mut rows, &handler.graph, handler.statement.loops())?;
-    put_targets(&mut rows, &done, &targets)?;
-    put_accesses(&mut rows, handler.image, &done, &accesses)?;
+    put_loops(&mut rows, graph, statement.loops())?;
+    put_stated(&mut rows, seen, Entry::Target, statement.targets())?;
+    put_stated(&mut rows, seen, Entry::Access, statement.accesses())?;
+    put_rules(&mut rows, handler, &counts)?;
+    put_stated(&mut rows, seen, Entry::Multiply, statement.multiplies())?;
+    put_stated(&mut rows, seen, Entry::Branch, statement.branches())?;
     Ok(rows)
 }
 
 /// The entries of a statement that have no effect on the bound: loops in which nothing turns back, targets
-/// of words that are never carried out, and accesses of words that never load or store. Each is named by the
-/// address that it names, a loop by its header's, in the order of the statement. Nothing where each entry
-/// has an effect.
+/// of words that are never carried out, accesses of words that never load or store, rules for base registers
+/// that cover no word, cycles of words that never multiply, and ways of words that are not reached or have no
+/// condition. Each is named by the address that it names, a loop by its header's, and a rule by its register
+/// and its part, in the order of the statement. Nothing where each entry has an effect.
 ///
 /// # Errors
 ///

@@ -2,6 +2,7 @@ ghost use Rattle.std.specs.Prelude.{◌≡◌, ◌↔◌, ◌⊎◌, ℕ, true, 
 ghost use Rattle.std.specs.BTreeSet.{contains};
 ghost use Rattle.std.specs.Ordering.{nat_cmp};
 ghost use Rattle.text_explained.specs.Leaving.{is_left_on, is_of, leaves_on};
+ghost use Rattle.text_explained.specs.Taken.{is_at, is_reached};
 
 use control_flow::{Edge, Graph, Label, Place};
 use std::alloc::{AllocError, Global};
@@ -61,4 +62,29 @@ pub(crate) fn addresses_left(
         note(&mut left, edge, kind)?;
     }
     Ok(left)
+}
+
+// Adds the place's address.
+fn note_place(reached: &mut BTreeSet<u32>, place: &Place) -> Result<(), AllocError>
+    ensures { OnOk result
+        ((a : ℕ) → (contains nat_cmp reached.new a ≡ true)
+        ↔ ((contains nat_cmp reached.old a ≡ true) ⊎ (is_at a place.now ≡ true))) }
+{
+    let Place::At(_, address) = place else {
+        return Ok(());
+    };
+    reached.insert(*address)?;
+    Ok(())
+}
+
+/// The addresses where the graph has a place. `AllocError`: an allocation failed.
+pub(crate) fn addresses_reached(alloc: Global, graph: &Graph) -> Result<BTreeSet<u32>, AllocError>
+    ensures { IfOk result
+        (λ reached. (a : ℕ) → contains nat_cmp reached a ≡ is_reached graph.now.places a) }
+{
+    let mut reached = BTreeSet::new(alloc);
+    for place in graph.places() {
+        note_place(&mut reached, place)?;
+    }
+    Ok(reached)
 }

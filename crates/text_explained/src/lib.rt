@@ -7,6 +7,7 @@ mod bursts;
 mod caveats;
 mod cost_columns;
 mod cost_figures;
+mod doing;
 mod done_returns;
 mod idle;
 mod image_rows;
@@ -15,6 +16,7 @@ mod leaving;
 mod links;
 mod named_words;
 mod pricing;
+mod rules;
 mod sections;
 mod starts;
 mod table;
@@ -29,6 +31,7 @@ pub use law::{
     unreached_lines_have_no_place,
 };
 pub use links::{Overwrite, lost_links};
+pub use rules::rule_lines;
 pub use sections::assumed_text;
 pub use starts::TimedWalk;
 pub use table::cost_table;

@@ -6,8 +6,7 @@ ghost use Rattle.control_flow.specs.Search.{by_order};
 ghost use Rattle.control_flow.specs.declared.edges.Edge.{Edge};
 ghost use Rattle.control_flow.specs.declared.places.Place.{Place};
 ghost use Rattle.word_shapes.specs.Growing.{Adds, Grows, HasSameMembers};
-ghost use Rattle.word_shapes.specs.Shapes.{may_do};
-ghost use Rattle.word_shapes.specs.Words.{MayDo};
+ghost use Rattle.text_explained.specs.Doing.{MayDoShape, may_do_shape};
 ghost use Rattle.text_explained.specs.Assumed.{Notes};
 ghost use Rattle.text_explained.specs.Links.{AreLostLinks, Does, DoesTo, IsLost, MayReturnByLink};
 ghost use Rattle.text_explained.specs.Links.{PutsAddress, counts_as_return, distance, holds_address};
@@ -18,6 +17,7 @@ ghost use Rattle.text_explained.specs.Losing.{ByEdge, HasRoom, LeadsTo};
 ghost use Rattle.text_explained.specs.Taken.{is_reached};
 
 use crate::assumptions::{add, sorted};
+use crate::doing::may_be_done;
 use arm2_decode::{Instr, Operation, Register, SingleImmediate};
 use arm2_effect::address_of;
 use bus_ticks::{SPACE_END, ahead_of};
@@ -64,19 +64,19 @@ fn writes_link(operation: &Operation) -> bool
     operation.writes(Register::R14) && !loads_users_link(operation)
 }
 
-// Whether an instruction may write R14, other than a call: its condition is not NV.
-fn may_write_link(instr: &Instr) -> bool
-    ensures { result ≡ may_do writes_link instr.now }
+// Whether an instruction at an address may write R14, other than a call.
+fn may_write_link(statement: &Statement, at: u32, instr: &Instr) -> bool
+    ensures { result ≡ may_do_shape writes_link statement.now at instr.now }
 {
-    !instr.cond.is_never() && writes_link(&instr.operation)
+    may_be_done(statement, at, instr) && writes_link(&instr.operation)
 }
 
 // Whether the image has such a word at an address.
-fn may_write_link_at(image: &Image, at: u32) -> bool
-    ensures { IsTrue result ↔ MayDo writes_link image.now at }
+fn may_write_link_at(image: &Image, statement: &Statement, at: u32) -> bool
+    ensures { IsTrue result ↔ MayDoShape writes_link image.now statement.now at }
 {
     match instr_at(image, at) {
-        Some(instr) => may_write_link(&instr),
+        Some(instr) => may_write_link(statement, at, &instr),
         None => false,
     }
 }
@@ -88,18 +88,18 @@ fn returns_by_link(operation: &Operation) -> bool
     operation.writes_pc() && is_return(operation) && !operation.is_transfer()
 }
 
-fn may_return_by_link(instr: &Instr) -> bool
-    ensures { result ≡ may_do returns_by_link instr.now }
+fn may_return_by_link(statement: &Statement, at: u32, instr: &Instr) -> bool
+    ensures { result ≡ may_do_shape returns_by_link statement.now at instr.now }
 {
-    !instr.cond.is_never() && returns_by_link(&instr.operation)
+    may_be_done(statement, at, instr) && returns_by_link(&instr.operation)
 }
 
 // Whether the image has a word at an address that may return by R14 unless something else is stated.
-fn returns_by_link_at(image: &Image, at: u32) -> bool
-    ensures { IsTrue result ↔ MayDo returns_by_link image.now at }
+fn returns_by_link_at(image: &Image, statement: &Statement, at: u32) -> bool
+    ensures { IsTrue result ↔ MayDoShape returns_by_link image.now statement.now at }
 {
     match instr_at(image, at) {
-        Some(instr) => may_return_by_link(&instr),
+        Some(instr) => may_return_by_link(statement, at, &instr),
         None => false,
     }
 }
@@ -127,7 +127,7 @@ fn counts_as_return(target: Option<&Target>) -> bool
 fn may_return_at(image: &Image, statement: &Statement, at: u32) -> bool
     ensures { IsTrue result ↔ MayReturnByLink image.now statement.now at }
 {
-    returns_by_link_at(image, at) && counts_as_return(statement.target_at(at))
+    returns_by_link_at(image, statement, at) && counts_as_return(statement.target_at(at))
 }
 
 // How many bytes after PC a load reads, in 26 bits.
@@ -172,19 +172,19 @@ fn loads_address(image: &Image, at: u32, operation: &Operation) -> bool
     loads_link_by_pc(x) && holds_address(image, image.word_at(literal_at(at, x)))
 }
 
-fn may_put_address(image: &Image, at: u32, instr: &Instr) -> bool
-    ensures { result ≡ may_put_address image.now at instr.now }
+fn may_put_address(image: &Image, statement: &Statement, at: u32, instr: &Instr) -> bool
+    ensures { result ≡ may_put_address image.now statement.now at instr.now }
 {
-    !instr.cond.is_never()
+    may_be_done(statement, at, instr)
         && (makes_address(&instr.operation) || loads_address(image, at, &instr.operation))
 }
 
 // Whether the image has a word at an address that may put an address of the source into R14.
-fn puts_address_at(image: &Image, at: u32) -> bool
-    ensures { IsTrue result ↔ PutsAddress image.now at }
+fn puts_address_at(image: &Image, statement: &Statement, at: u32) -> bool
+    ensures { IsTrue result ↔ PutsAddress image.now statement.now at }
 {
     match instr_at(image, at) {
-        Some(instr) => may_put_address(image, at, &instr),
+        Some(instr) => may_put_address(image, statement, at, &instr),
         None => false,
     }
 }
@@ -196,21 +196,23 @@ fn are_same(calls: Calls, other: Calls) -> bool
 }
 
 // Whether an edge from an address inside some calls to a place inside others does that to R14.
-fn does_to(image: &Image, step: LinkStep, calls: Calls, others: Calls, at: u32) -> bool
-    ensures { IsTrue result ↔ DoesTo image.now step calls others at }
+fn does_to(handler: &Handler<'_>, step: LinkStep, calls: Calls, others: Calls, at: u32) -> bool
+    ensures { IsTrue result ↔ DoesTo handler.now.image.now handler.now.statement step calls others at }
 {
+    let (image, statement) = (handler.image, &handler.statement);
     match step {
         LinkStep::Overwrites(Overwrite::ByCall) => others.items().len() < calls.items().len(),
         LinkStep::Overwrites(Overwrite::ByAddress) => {
-            are_same(calls, others) && puts_address_at(image, at)
+            are_same(calls, others) && puts_address_at(image, statement, at)
         }
-        LinkStep::Keeps => are_same(calls, others) && !may_write_link_at(image, at),
+        LinkStep::Keeps => { are_same(calls, others) && !may_write_link_at(image, statement, at) }
     }
 }
 
 // Whether an edge does that to R14.
-fn does(image: &Image, step: LinkStep, edge: &Edge) -> bool
-    ensures { IsTrue result ↔ Does image.now step edge.now.from edge.now.to }
+fn does(handler: &Handler<'_>, step: LinkStep, edge: &Edge) -> bool
+    ensures { IsTrue result
+        ↔ Does handler.now.image.now handler.now.statement step edge.now.from edge.now.to }
 {
     let Place::At(calls, at) = edge.from else {
         return false;
@@ -218,7 +220,7 @@ fn does(image: &Image, step: LinkStep, edge: &Edge) -> bool
     let Place::At(others, _) = edge.to else {
         return false;
     };
-    does_to(image, step, calls, others, at)
+    does_to(handler, step, calls, others, at)
 }
 
 // The edges that leave a place.
@@ -255,27 +257,39 @@ impl Lost {
     }
 
     // Adds the place to which an edge leads, if it does that to R14.
-    fn add_led(&mut self, image: &Image, step: LinkStep, edge: &Edge) -> Result<(), AllocError>
+    fn add_led(
+        &mut self,
+        handler: &Handler<'_>,
+        step: LinkStep,
+        edge: &Edge,
+    ) -> Result<(), AllocError>
         requires { HasSameMembers by_order self.old.seen self.old.order.items }
         ensures found { OnOk result (HasSameMembers by_order self.new.seen self.new.order.items) }
         ensures grows { OnOk result
-            (Grows HasRoom (LeadsTo image.now step edge.now) self.old.order.items self.new.order.items) }
+            (Grows HasRoom (LeadsTo handler.now.image.now handler.now.statement step edge.now)
+            self.old.order.items self.new.order.items) }
     {
-        if !does(image, step, edge) {
+        if !does(handler, step, edge) {
             return Ok(());
         }
         self.add(&edge.to)
     }
 
     // Adds the places to which those of the edges lead that do that to R14.
-    fn follow(&mut self, image: &Image, step: LinkStep, edges: &[Edge]) -> Result<(), AllocError>
+    fn follow(
+        &mut self,
+        handler: &Handler<'_>,
+        step: LinkStep,
+        edges: &[Edge],
+    ) -> Result<(), AllocError>
         requires { HasSameMembers by_order self.old.seen self.old.order.items }
         ensures found { OnOk result (HasSameMembers by_order self.new.seen self.new.order.items) }
         ensures grows { OnOk result
-            (Grows HasRoom (ByEdge image.now step edges.now) self.old.order.items self.new.order.items) }
+            (Grows HasRoom (ByEdge handler.now.image.now handler.now.statement step edges.now)
+            self.old.order.items self.new.order.items) }
     {
         for edge in edges {
-            self.add_led(image, step, edge)?;
+            self.add_led(handler, step, edge)?;
         }
         Ok(())
     }
@@ -285,22 +299,23 @@ impl Lost {
 // looked at, so each is looked at once.
 fn lost_places(
     alloc: Global,
-    image: &Image,
-    graph: &Graph,
+    handler: &Handler<'_>,
     by: Overwrite,
 ) -> Result<Vec<Place>, AllocError>
     ensures { IfOk result
-        (λ places. (p : Place) → Contains places.items p ↔ IsLost image.now graph.now by p) }
+        (λ places. (p : Place) → Contains places.items p
+        ↔ IsLost handler.now.image.now handler.now.statement handler.now.graph by p) }
 {
     let mut lost = Lost {
         seen: BTreeSet::new(alloc),
         order: Vec::new(alloc),
     };
-    lost.follow(image, LinkStep::Overwrites(by), graph.edges())?;
+    lost.follow(handler, LinkStep::Overwrites(by), handler.graph.edges())?;
     let mut next = 0;
     while next < lost.seen.len() {
         let place = lost.order[next];
-        lost.follow(image, LinkStep::Keeps, edges_from(graph, &place))?;
+        let edges = edges_from(&handler.graph, &place);
+        lost.follow(handler, LinkStep::Keeps, edges)?;
         next += 1;
     }
     Ok(lost.order)
@@ -351,8 +366,8 @@ fn returning(
 ///
 /// An address of the source is what ADD or SUB of PC makes, as ADR, what MOV R14,PC keeps, or a word of the
 /// source that is loaded by PC alone and holds the address of one. The time is near linear in the graph. A
-/// word counts as one that writes R14 whatever its condition, but for NV, and the R14 of all modes counts as
-/// one.
+/// word counts as one that writes R14 whatever its condition, unless it is never done: under NV, or as
+/// stated. The R14 of all modes counts as one.
 ///
 /// # Errors
 ///
@@ -363,9 +378,9 @@ pub fn lost_links(
     by: Overwrite,
 ) -> Result<Vec<u32>, AllocError>
     ensures { IfOk result
-        (λ named. AreLostLinks handler.now.image.now handler.now.graph by handler.now.statement named.items) }
+        (λ named. AreLostLinks handler.now.image.now handler.now.statement handler.now.graph by named.items) }
 {
-    let places = lost_places(alloc, handler.image, &handler.graph, by)?;
+    let places = lost_places(alloc, handler, by)?;
     let named = returning(alloc, handler.image, &handler.statement, &places)?;
     sorted(alloc, &named)
 }

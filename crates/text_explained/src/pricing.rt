@@ -9,24 +9,25 @@ ghost use Rattle.text_explained.specs.PricingParts.{Prices, IsPricedBy};
 ghost use Rattle.text_explained.specs.declared.cost_columns.Column.TheVariants.{PricedAs};
 
 use crate::cost_columns::Column;
+use crate::doing::may_be_done;
 use crate::leaving::{EdgeKind, addresses_left};
 use arm2_decode::{Instr, Operation};
 use bus_ticks::Class;
-use control_flow::{Place, is_multiply};
+use control_flow::{Place, base_of, is_multiply};
 use image::Image;
 use loop_bounds::Handler;
 use statement::{Statement, class_name};
 use std::alloc::{AllocError, Global};
 use std::collections::{BTreeMap, BTreeSet};
-use text_rows::put;
+use text_rows::{put, put_decimal};
 use word_shapes::instr_at;
 
 /// What the price of an instruction takes for granted of what it does besides its fetches.
 #[derive(Clone, Copy)]
 pub(crate) enum Granted {
     Nothing,
-    /// That a multiply takes its most cycles, 16.
-    Multiplier,
+    /// That a multiply takes so many cycles: its most, 16, or those that are stated.
+    Multiplier(u32),
     /// That it loads or stores at addresses of the class.
     Access(Class),
 }
@@ -39,32 +40,33 @@ pub(crate) struct Pricing {
     pub(crate) leave: Option<Class>,
 }
 
-fn operation_granted(class: Class, operation: &Operation) -> Granted
-    ensures { result ≡ operation_granted class operation.now }
+fn operation_granted(statement: &Statement, at: u32, operation: &Operation) -> Granted
+    ensures { result ≡ operation_granted statement.now at operation.now }
 {
     if is_multiply(operation) {
-        Granted::Multiplier
+        Granted::Multiplier(statement.cycles_at(at))
     } else if operation.is_transfer() {
-        Granted::Access(class)
+        Granted::Access(statement.class_at(at, base_of(operation)))
     } else {
         Granted::Nothing
     }
 }
 
-fn instr_granted(class: Class, instr: &Instr) -> Granted
-    ensures { result ≡ instr_granted class instr.now }
+fn instr_granted(statement: &Statement, at: u32, instr: &Instr) -> Granted
+    ensures { result ≡ instr_granted statement.now at instr.now }
 {
-    if instr.cond.is_never() {
-        return Granted::Nothing;
+    if may_be_done(statement, at, instr) {
+        operation_granted(statement, at, &instr.operation)
+    } else {
+        Granted::Nothing
     }
-    operation_granted(class, &instr.operation)
 }
 
 fn granted_at(image: &Image, statement: &Statement, at: u32) -> Granted
     ensures { IsGranted image.now statement.now at result }
 {
     match instr_at(image, at) {
-        Some(instr) => instr_granted(statement.class_at(at), &instr),
+        Some(instr) => instr_granted(statement, at, &instr),
         None => Granted::Nothing,
     }
 }
@@ -142,39 +144,41 @@ fn column_name(class: Class) -> &'static str
     }
 }
 
-fn granted_text(granted: Granted) -> &'static [u8]
-    ensures { result.now ≡ granted_text granted }
+fn put_granted(out: &mut Vec<u8>, granted: Granted) -> Result<(), AllocError>
+    ensures { OnOk result (out.new.items ≡ out.old.items ++ granted_text granted) }
 {
     match granted {
-        Granted::Nothing => b"",
-        Granted::Multiplier => b"m = 16",
-        Granted::Access(class) => column_name(class).as_bytes(),
+        Granted::Nothing => Ok(()),
+        Granted::Multiplier(cycles) => {
+            put(out, b"m = ")?;
+            put_decimal(out, u64::from(cycles))
+        }
+        Granted::Access(class) => put(out, column_name(class).as_bytes()),
     }
 }
 
-fn leave_text(alloc: Global, granted: Granted, class: Class) -> Result<Vec<u8>, AllocError>
-    ensures { IfOk result (λ text. text.items ≡ leave_text granted class) }
+fn put_leave(out: &mut Vec<u8>, granted: Granted, class: Class) -> Result<(), AllocError>
+    ensures { OnOk result (out.new.items ≡ out.old.items ++ leave_text granted class) }
 {
-    let mut out = Vec::new(alloc);
     match granted {
-        Granted::Nothing => put(&mut out, b"> ")?,
-        Granted::Multiplier => put(&mut out, b"m = 16 > ")?,
-        Granted::Access(access) => {
-            put(&mut out, column_name(access).as_bytes())?;
-            put(&mut out, b" > ")?;
+        Granted::Nothing => put(out, b"> ")?,
+        Granted::Multiplier(_) | Granted::Access(_) => {
+            put_granted(out, granted)?;
+            put(out, b" > ")?;
         }
     }
-    put(&mut out, class_name(class).as_bytes())?;
-    Ok(out)
+    put(out, class_name(class).as_bytes())
 }
 
 fn both_text(alloc: Global, granted: Granted, leave: Option<Class>) -> Result<Vec<u8>, AllocError>
     ensures { IfOk result (λ text. text.items ≡ both_text granted leave) }
 {
+    let mut out = Vec::new(alloc);
     match leave {
-        Some(class) => leave_text(alloc, granted, class),
-        None => Vec::from_slice(alloc, granted_text(granted)),
+        Some(class) => put_leave(&mut out, granted, class)?,
+        None => put_granted(&mut out, granted)?,
     }
+    Ok(out)
 }
 
 /// Adds what a price takes for granted.

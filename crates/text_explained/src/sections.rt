@@ -38,10 +38,9 @@ fn caveat_section(
     handler: &Handler<'_>,
     caveat: Caveat,
 ) -> Result<Vec<u8>, AllocError>
-    requires { handler.now.image.now ≡ source.now.image }
     ensures { IfOk result
         (λ text. IsSection source.now (caveat_heading caveat)
-        (AreSubjectTo source.now.image handler.now.statement handler.now.graph caveat) text.items) }
+        (AreSubjectTo handler.now.image.now handler.now.statement handler.now.graph caveat) text.items) }
 {
     let named = caveat.words(alloc, handler)?;
     section_of(alloc, caveat, source, &named)
@@ -51,7 +50,8 @@ fn caveat_section(
 /// the words of an image: those that count as returns but do not look like returns, those that leave the
 /// handler of an interrupt and restore no flags, those that return by R14 after a call, or an address of the
 /// source, has overwritten it, and then the loads and stores of which no class is stated. None has any text
-/// where there are none. The handler's image is the source's.
+/// where there are none. Words are judged by the handler's image; each word of the source that is named has a
+/// row.
 ///
 /// # Errors
 ///
@@ -61,9 +61,9 @@ pub fn assumed_text(
     source: &Source<'_>,
     handler: &Handler<'_>,
 ) -> Result<Vec<u8>, AllocError>
-    requires { handler.now.image.now ≡ source.now.image }
     ensures { IfOk result
-        (λ text. AreAssumptions source.now handler.now.statement handler.now.graph text.items) }
+        (λ text. AreAssumptions source.now handler.now.image.now handler.now.statement handler.now.graph
+        text.items) }
 {
     let mut text = caveat_section(alloc, source, handler, Assumed(TakenForReturn))?;
     let flags = caveat_section(alloc, source, handler, Assumed(LeavesFlags))?;

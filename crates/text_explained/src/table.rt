@@ -119,11 +119,10 @@ fn rows_by(text: &SourceText<'_>) -> Column
 /// handler's beginning.
 ///
 /// The price of a load or a store takes the class of what it transfers for granted, that of a multiply its
-/// most cycles (m = 16), and that of a way out of the handler the class of the addresses to which it leaves,
-/// after `>`.
+/// most cycles (m = 16, or as stated), and that of a way out of the handler the class of the addresses to
+/// which it leaves, after `>`. Prices are by the words of the handler's image.
 ///
-/// Where no place of the graph is on a line, or at a word, the row says so in place of the numbers. The
-/// handler's image is the source's.
+/// Where no place of the graph is on a line, or at a word, the row says so in place of the numbers.
 ///
 /// # Errors
 ///
@@ -134,9 +133,8 @@ pub fn cost_table(
     handler: &Handler<'_>,
     walk: TimedWalk<'_>,
 ) -> Result<Vec<u8>, AllocError>
-    requires { handler.now.image.now ≡ source.now.image }
     ensures { IfOk result
-        (λ text. IsTable source.now handler.now.statement handler.now.graph
+        (λ text. IsTable source.now handler.now.image.now handler.now.statement handler.now.graph
         (unfolded walk.entry.longest.now.walk)
         (latest_at handler.now.graph.places walk.entry.starts.now) walk.entry.longest.now.bound text.items) }
 {

@@ -1,7 +1,7 @@
 -- No more entries have begun than items were passed.
 use Rattle.std.proofs.Common.{◌≤◌, ◌<◌, ◌+◌, ℕ, Bool, true, false, Option, Some, None, cond, arith}
 use Rattle.statement.specs.declared.spots.TableList.{TableList}
-use Rattle.statement.specs.declared.spots.TableList.TheVariants.{Loops, Targets, Accesses}
+use Rattle.statement.specs.declared.spots.TableList.TheVariants.{Loops, Targets, Accesses, Rules, Multiplies, Branches}
 use Rattle.text_refusals.specs.Courses.{HasRoom, after, at_front, counted, counted_if, entered, entry_list, is_destination, passed, value_list}
 use Rattle.text_refusals.specs.Outline.{Begins, Ends, Item, KeyValue, States}
 use Rattle.text_refusals.specs.declared.course.Course.{Course}
@@ -10,16 +10,30 @@ pub record IsUpTo (n : ℕ) (c : Course) : Type 0 where
   pub loops : c.loops ≤ n
   pub targets : c.targets ≤ n
   pub accesses : c.accesses ≤ n
+  pub rules : c.rules ≤ n
+  pub multiplies : c.multiplies ≤ n
+  pub branches : c.branches ≤ n
   pub destinations : c.destinations ≤ n
 
 pub none_passed : IsUpTo 0 at_front
-none_passed = record { loops = omega arith; targets = omega arith; accesses = omega arith; destinations = omega arith }
+none_passed = record {
+  loops = omega arith;
+  targets = omega arith;
+  accesses = omega arith;
+  rules = omega arith;
+  multiplies = omega arith;
+  branches = omega arith;
+  destinations = omega arith;
+}
 
 pub has_room : (n : ℕ) (c : Course) → IsUpTo n c → n + 1 < 18446744073709551616 → HasRoom c
 has_room n c h low = record {
   loops = omega (arith, h.loops, low);
   targets = omega (arith, h.targets, low);
   accesses = omega (arith, h.accesses, low);
+  rules = omega (arith, h.rules, low);
+  multiplies = omega (arith, h.multiplies, low);
+  branches = omega (arith, h.branches, low);
   destinations = omega (arith, h.destinations, low);
 }
 
@@ -28,6 +42,9 @@ more n c h = record {
   loops = omega (arith, h.loops);
   targets = omega (arith, h.targets);
   accesses = omega (arith, h.accesses);
+  rules = omega (arith, h.rules);
+  multiplies = omega (arith, h.multiplies);
+  branches = omega (arith, h.branches);
   destinations = omega (arith, h.destinations);
 }
 
@@ -36,18 +53,54 @@ counted_up_to n c Loops h = record {
   loops = omega (arith, h.loops);
   targets = omega (arith, h.targets);
   accesses = omega (arith, h.accesses);
+  rules = omega (arith, h.rules);
+  multiplies = omega (arith, h.multiplies);
+  branches = omega (arith, h.branches);
   destinations = omega (arith, h.destinations);
 }
 counted_up_to n c Targets h = record {
   loops = omega (arith, h.loops);
   targets = omega (arith, h.targets);
   accesses = omega (arith, h.accesses);
+  rules = omega (arith, h.rules);
+  multiplies = omega (arith, h.multiplies);
+  branches = omega (arith, h.branches);
   destinations = omega (arith, h.destinations);
 }
 counted_up_to n c Accesses h = record {
   loops = omega (arith, h.loops);
   targets = omega (arith, h.targets);
   accesses = omega (arith, h.accesses);
+  rules = omega (arith, h.rules);
+  multiplies = omega (arith, h.multiplies);
+  branches = omega (arith, h.branches);
+  destinations = omega (arith, h.destinations);
+}
+counted_up_to n c Rules h = record {
+  loops = omega (arith, h.loops);
+  targets = omega (arith, h.targets);
+  accesses = omega (arith, h.accesses);
+  rules = omega (arith, h.rules);
+  multiplies = omega (arith, h.multiplies);
+  branches = omega (arith, h.branches);
+  destinations = omega (arith, h.destinations);
+}
+counted_up_to n c Multiplies h = record {
+  loops = omega (arith, h.loops);
+  targets = omega (arith, h.targets);
+  accesses = omega (arith, h.accesses);
+  rules = omega (arith, h.rules);
+  multiplies = omega (arith, h.multiplies);
+  branches = omega (arith, h.branches);
+  destinations = omega (arith, h.destinations);
+}
+counted_up_to n c Branches h = record {
+  loops = omega (arith, h.loops);
+  targets = omega (arith, h.targets);
+  accesses = omega (arith, h.accesses);
+  rules = omega (arith, h.rules);
+  multiplies = omega (arith, h.multiplies);
+  branches = omega (arith, h.branches);
   destinations = omega (arith, h.destinations);
 }
 
@@ -60,11 +113,22 @@ entered_up_to n c None h = record {
   loops = omega (arith, h.loops);
   targets = omega (arith, h.targets);
   accesses = omega (arith, h.accesses);
+  rules = omega (arith, h.rules);
+  multiplies = omega (arith, h.multiplies);
+  branches = omega (arith, h.branches);
   destinations = omega arith;
 }
 entered_up_to n c (Some list) h =
     let up = counted_up_to n c list h in
-    record { loops = up.loops; targets = up.targets; accesses = up.accesses; destinations = omega arith }
+    record {
+      loops = up.loops;
+      targets = up.targets;
+      accesses = up.accesses;
+      rules = up.rules;
+      multiplies = up.multiplies;
+      branches = up.branches;
+      destinations = omega arith;
+    }
 
 passed_up_to : (n : ℕ) (c : Course) (p : KeyValue) → IsUpTo n c → IsUpTo (n + 1) (passed p c)
 passed_up_to n c p h = by_test (is_destination p)
@@ -74,6 +138,9 @@ passed_up_to n c p h = by_test (is_destination p)
       loops = omega (arith, h.loops);
       targets = omega (arith, h.targets);
       accesses = omega (arith, h.accesses);
+      rules = omega (arith, h.rules);
+      multiplies = omega (arith, h.multiplies);
+      branches = omega (arith, h.branches);
       destinations = omega (arith, h.destinations);
     }
     by_test false = counted_if_up_to n c (value_list p) h

@@ -1,5 +1,5 @@
 -- A fault of a document has a row in the text whose items it is of.
-use Rattle.std.proofs.Common.{◌≡◌, ◌↔◌, ◌<◌, ◌==◌, ◌&&◌, ◌||◌, not, zero, suc, ℕ, Bool, true, false, List, [], ◌∷◌, ◌++◌, length, get_or, Option, Some, None, IsSomeAnd, inl, inr, refl, sym, ap, subst, ◌∙◌, arith}
+use Rattle.std.proofs.Common.{◌≤◌, ◌≡◌, ◌↔◌, ◌<◌, ◌==◌, ◌&&◌, ◌||◌, not, zero, suc, ℕ, Bool, true, false, List, [], ◌∷◌, ◌++◌, length, get_or, Option, Some, None, IsSomeAnd, inl, inr, refl, sym, ap, subst, ◌∙◌, arith}
 use Rattle.std.specs.Prelude.{Contains, IsSome, codes, if◌then◌else◌}
 use Rattle.std.specs.Cmp.Derive.{both_true}
 use Rattle.std.specs.List.{slice_get}
@@ -7,14 +7,16 @@ use Rattle.std.proofs.lemmas.List.Elements.{Contains-append_left, Contains-appen
 use Rattle.std.proofs.lemmas.Option.{none-some}
 use Rattle.toml.specs.Data.{Data, Members, as_table, get_member}
 use Rattle.toml_reading.specs.Documents.{is_one_of, items_at}
-use Rattle.toml_reading.specs.Lowest.{AtKey, NameFault, entries_at}
+use Rattle.toml_reading.specs.Lowest.{AtKey, IsNamed, NameFault, entries_at}
+use Rattle.arm2_decode.specs.declared.names.Register.{Register}
+use Rattle.asm_text.specs.Registers.{register_of}
 use Rattle.toml_reading.proofs.LowestParts.{some_weaker}
 use Rattle.image.specs.Labels.{NamedAddresses, address_of}
 use Rattle.statement.specs.PlaceTests.{holds_of}
 use Rattle.statement.proofs.SpotLemmas.{fault_spot}
 use Rattle.statement.specs.Statement.{named_leave, named_returns}
 use Rattle.statement.specs.StatementFaults.{statement_faults}
-use Rattle.statement.specs.StatementRules.{AddressFault, HasFault, IsAddress, IsAt, IsMisplaced}
+use Rattle.statement.specs.StatementRules.{AddressFault, HasFault, IsAddress, IsAt, IsFirst, IsLast, IsMisplaced, IsReversed, IsRuleAt}
 use Rattle.statement.specs.Places.{DestinationFault, GoesOn, InTable, IsFaultAt, IsRepeatAt, PartFault, all_keys, key_name, keys_of, list_key, most_of, named_key}
 use Rattle.statement.specs.declared.faults.StatementFault.{StatementFault}
 use Rattle.statement.specs.declared.faults.StatementFault.TheVariants.{OutOfRange, UnknownKey, WrongKind}
@@ -25,12 +27,12 @@ use Rattle.statement.specs.declared.spots.Part.TheVariants.{Missing, Unknown, Va
 use Rattle.statement.specs.declared.spots.Spot.{Spot}
 use Rattle.statement.specs.declared.spots.Spot.TheVariants as spot
 use Rattle.statement.specs.declared.spots.TableList.{TableList}
-use Rattle.statement.specs.declared.spots.TableList.TheVariants.{Loops, Targets, Accesses}
-use Rattle.text_refusals.specs.Courses.{after, at_front, begun, entry_list, key_head, named_list}
-use Rattle.text_refusals.specs.FaultyItems.{has_destination, has_no_list, has_no_table, has_part, has_second, has_unknown, has_value, is_faulty, is_hidden, is_listed, is_shown, lent, target_number}
+use Rattle.statement.specs.declared.spots.TableList.TheVariants.{Loops, Targets, Accesses, Rules, Multiplies, Branches}
+use Rattle.text_refusals.specs.Courses.{after, at_front, begun, entry_list, is_at_key, key_head, named_list}
+use Rattle.text_refusals.specs.FaultyItems.{has_destination, has_no_list, has_no_table, has_part, has_second, has_unknown, has_value, is_faulty, is_hidden, is_listed, is_shown, lent, second_key, target_number}
 use Rattle.text_refusals.specs.Outline.{Begins, Ends, Item, KeyValue, States, Table}
 use Rattle.text_refusals.specs.Placed.{AreOf, IsEntry, IsThere, Shows, TableShows, ValueShows, placed}
-use Rattle.text_refusals.specs.Refused.{Limit, Row, access_limit, all_rows, entry_rows, extra_row, extra_rows, extra_table_row, first_after, header_rows, item_rows, list_rows, long_rows, loop_limit, misplaced_rows, missing_row, missing_rows, no_list_rows, no_table_rows, row_if, rows, rows_of_table, table_row, table_rows, tables_in, target_limit, target_rows, unknown_rows, unwanted_rows, value_row, value_table_rows, whole_rows}
+use Rattle.text_refusals.specs.Refused.{Limit, Row, access_limit, all_rows, branch_limit, limits, multiply_limit, reversed_rows, rows_of_limits, rule_limit, entry_rows, extra_row, extra_rows, extra_table_row, first_after, header_rows, item_rows, list_rows, long_rows, loop_limit, misplaced_rows, missing_row, missing_rows, no_list_rows, no_table_rows, row_if, rows, rows_of_table, table_row, table_rows, tables_in, target_limit, target_rows, unknown_rows, unwanted_rows, value_row, value_table_rows, whole_rows}
 use Rattle.text_refusals.specs.declared.course.Course.{Course}
 use Rattle.text_refusals.proofs.RefusedLemmas.{one_row}
 
@@ -173,10 +175,13 @@ module _ (names : NamedAddresses) (ms : Members) (f : StatementFault) (has : Spo
       (listed_shown c p
       (or_second (has_no_table has c p) (has_destination has c p || has_second has c p)
       (or_second (has_destination has c p) (has_second has c p)
-      (both_true (ap not v.0) (both_true v.1 (ap (holds_of (λ e. has (spot.Second e.0 e.1))) v.2 ∙ found (spot.Second list n) h))))))
+      (both_true (ap not v.0)
+      (ap (holds_of (λ e. is_at_key 0 (second_key e.0) p && has (spot.Second e.0 e.1))) v.2
+      ∙ both_true v.1 (found (spot.Second list n) h))))))
   value_faulty c p (spot.TooMany list) h v = absurd v
   value_faulty c p (spot.Misplaced n) h v = absurd v
   value_faulty c p (spot.Unwanted n) h v = absurd v
+  value_faulty c p (spot.Reversed n) h v = absurd v
   value_faulty c p (spot.TooManyDestinations n) h v = absurd v
 
   -- ## Tables
@@ -220,6 +225,9 @@ module _ (names : NamedAddresses) (ms : Members) (f : StatementFault) (has : Spo
   in_all_keys key.Kind = (8, omega arith, refl)
   in_all_keys key.To = (9, omega arith, refl)
   in_all_keys key.Class = (10, omega arith, refl)
+  in_all_keys key.Register = (11, omega arith, refl)
+  in_all_keys key.Cycles = (12, omega arith, refl)
+  in_all_keys key.Taken = (13, omega arith, refl)
 
   table_row_of : (c : Course) (t : Table) (rest : List Item) (s : Spot) → At s → TableShows c t s → HasRow (table_rows has c t rest)
   table_row_of c t rest (spot.Own (Unknown k)) h v =
@@ -256,6 +264,10 @@ module _ (names : NamedAddresses) (ms : Members) (f : StatementFault) (has : Spo
       (in_second (missing_rows has Targets n t all_keys) (target_rows has n t rest)
       (in_first (unwanted_rows has n t) (long_rows has n rest)
       (row_of_if (has (spot.Unwanted n)) (table_row t (codes " may have no to") []) (found (spot.Unwanted n) h))))
+  table_row_of c t rest (spot.Reversed n) h v =
+      entry_row c t rest Rules n v
+      (in_second (missing_rows has Rules n t all_keys) (reversed_rows has n t)
+      (row_of_if (has (spot.Reversed n)) (table_row t (codes " has its last before its first") []) (found (spot.Reversed n) h)))
   table_row_of c t rest (spot.TooManyDestinations n) h v = absurd v
   table_row_of c t rest (spot.TooMany list) h v = absurd v
   table_row_of c t rest (spot.NoTable list n) h v = absurd v
@@ -297,14 +309,24 @@ module _ (names : NamedAddresses) (ms : Members) (f : StatementFault) (has : Spo
         (sym (found (spot.TooMany limit.list) h))
         (subst (λ (o : Option Table). HasRow (extra_table_row limit o)) (sym t.1) (table_row t.0 limit.words [], (0, omega arith, refl)))
 
+    limit_row : (ls : List Limit) (limit : Limit) → Contains ls limit → HasRow (extra_row has limit items) → HasRow (rows_of_limits has ls items)
+    limit_row ls limit at h = by_index ls at.0 at.1 at.2
+      where
+        by_index : (ls : List Limit) (m : ℕ) → m < length ls → get_or ls m limit ≡ limit → HasRow (rows_of_limits has ls items)
+        by_index [] m low is = absurd (omega arith)
+        by_index (l ∷ ls) zero low is =
+            in_first (extra_row has l items) (rows_of_limits has ls items)
+            (subst (λ (x : Limit). HasRow (extra_row has x items)) (sym is) h)
+        by_index (l ∷ ls) (suc m) low is =
+            in_second (extra_row has l items) (rows_of_limits has ls items) (by_index ls m (omega arith) is)
+
     extra_some : (list : TableList) → At (spot.TooMany list) → HasRow (extra_rows has items)
-    extra_some Loops h = in_first (extra_row has loop_limit items) (extra_row has target_limit items ++ extra_row has access_limit items) (extra_of loop_limit h)
-    extra_some Targets h =
-        in_second (extra_row has loop_limit items) (extra_row has target_limit items ++ extra_row has access_limit items)
-        (in_first (extra_row has target_limit items) (extra_row has access_limit items) (extra_of target_limit h))
-    extra_some Accesses h =
-        in_second (extra_row has loop_limit items) (extra_row has target_limit items ++ extra_row has access_limit items)
-        (in_second (extra_row has target_limit items) (extra_row has access_limit items) (extra_of access_limit h))
+    extra_some Loops h = limit_row limits loop_limit (0, omega arith, refl) (extra_of loop_limit h)
+    extra_some Targets h = limit_row limits target_limit (1, omega arith, refl) (extra_of target_limit h)
+    extra_some Accesses h = limit_row limits access_limit (2, omega arith, refl) (extra_of access_limit h)
+    extra_some Rules h = limit_row limits rule_limit (3, omega arith, refl) (extra_of rule_limit h)
+    extra_some Multiplies h = limit_row limits multiply_limit (4, omega arith, refl) (extra_of multiply_limit h)
+    extra_some Branches h = limit_row limits branch_limit (5, omega arith, refl) (extra_of branch_limit h)
 
     whole_row : HasRow (whole_rows has items) → HasRow (all_rows has items)
     whole_row h = in_first (whole_rows has items) (rows has at_front items) h
@@ -334,16 +356,36 @@ module _ (names : NamedAddresses) (ms : Members) (f : StatementFault) (has : Spo
     entry_there :
         (list : TableList) (n : ℕ)
         → IsRepeatAt (IsAt (address_of names)) (entries_at (list_key list) ms) n
-        → IsThere ms (spot.Second list n)
+        → InTable list n ms (λ t. IsSome (get_member (codes "at") t))
     entry_there list n h =
         some_weaker (λ d. IsAt (address_of names) d h.0) (λ d. IsSomeAnd (as_table d) (λ t. IsSome (get_member (codes "at") t)))
         (λ d k. at_there (as_table d) h.0 k)
         (slice_get (entries_at (list_key list) ms) n) h.1
 
+    register_there :
+        (o : Option Members) (base : Register) (a : ℕ)
+        → IsSomeAnd o (λ t. AtKey (codes "register") t (λ e. IsNamed register_of e base)
+        × ((first : ℕ) × (last : ℕ) × IsFirst (address_of names) t first × IsLast (address_of names) t last × (first ≤ a) × (a ≤ last)))
+        → IsSomeAnd o (λ t. IsSome (get_member (codes "register") t))
+    register_there None base a h = absurd h
+    register_there (Some t) base a h = some_of (λ e. IsNamed register_of e base) (get_member (codes "register") t) h.0
+
+    rule_there :
+        (n : ℕ) (base : Register)
+        → IsRepeatAt (IsRuleAt (address_of names) base) (entries_at (codes "base") ms) n
+        → InTable Rules n ms (λ t. IsSome (get_member (codes "register") t))
+    rule_there n base h =
+        some_weaker (λ d. IsRuleAt (address_of names) base d h.0) (λ d. IsSomeAnd (as_table d) (λ t. IsSome (get_member (codes "register") t)))
+        (λ d k. register_there (as_table d) base h.0 k)
+        (slice_get (entries_at (codes "base") ms) n) h.1
+
     second_there : (list : TableList) (n : ℕ) → At (spot.Second list n) → IsThere ms (spot.Second list n)
-    second_there Loops n h = absurd h
+    second_there Loops n h = absurd h.0
     second_there Targets n h = entry_there Targets n h.0
     second_there Accesses n h = entry_there Accesses n h.0
+    second_there Rules n h = rule_there n h.0.0 h.0.1
+    second_there Multiplies n h = entry_there Multiplies n h.0
+    second_there Branches n h = entry_there Branches n h.0
 
     spot_row : (s : Spot) → At s → HasRow (all_rows has items)
     spot_row (spot.Own (Unknown k)) h = shown_row (spot.Own (Unknown k)) h h.0
@@ -370,6 +412,9 @@ module _ (names : NamedAddresses) (ms : Members) (f : StatementFault) (has : Spo
     spot_row (spot.Unwanted n) h =
         shown_row (spot.Unwanted n) h
         (in_table Targets n (λ t. GoesOn false t × IsSome (get_member (codes "to") t) × (f ≡ WrongKind)) (λ t. Unit {0}) (λ t u. tt) h)
+    spot_row (spot.Reversed n) h =
+        shown_row (spot.Reversed n) h
+        (in_table Rules n (λ t. IsReversed (address_of names) t × (f ≡ OutOfRange)) (λ t. Unit {0}) (λ t u. tt) h)
     spot_row (spot.TooManyDestinations n) h =
         absurd (are.short n
         (in_table Targets n (λ t. GoesOn true t × (64 < length (entries_at (codes "to") t)) × (f ≡ OutOfRange)) (λ t. 64 < length (entries_at (codes "to") t)) (λ t u. u.1) h))

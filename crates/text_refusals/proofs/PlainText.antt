@@ -14,7 +14,7 @@ use Rattle.statement.specs.declared.spots.Part.TheVariants.{Missing, Unknown, Va
 use Rattle.statement.specs.declared.spots.Spot.{Spot}
 use Rattle.statement.specs.declared.spots.Spot.TheVariants as spot
 use Rattle.statement.specs.declared.spots.TableList.{TableList}
-use Rattle.statement.specs.declared.spots.TableList.TheVariants.{Loops, Targets, Accesses}
+use Rattle.statement.specs.declared.spots.TableList.TheVariants.{Loops, Targets, Accesses, Rules, Multiplies, Branches}
 use Rattle.text_refusals.specs.Courses.{at_front}
 use Rattle.text_refusals.specs.Outline.{Item, Quoted, States}
 use Rattle.text_refusals.specs.Placed.{AreOf, IsThere, Shows, a_document, a_text, placed}
@@ -51,31 +51,53 @@ shown (spot.Own (Missing k)) h = absurd h
 shown (spot.NoList Loops) h = absurd (false≢true h)
 shown (spot.NoList Targets) h = absurd (false≢true h)
 shown (spot.NoList Accesses) h = absurd (false≢true h)
+shown (spot.NoList Rules) h = absurd (false≢true h)
+shown (spot.NoList Multiplies) h = absurd (false≢true h)
+shown (spot.NoList Branches) h = absurd (false≢true h)
 shown (spot.TooMany list) h = absurd h
 shown (spot.NoTable Loops n) h = absurd h
 shown (spot.NoTable Targets n) h = absurd h
 shown (spot.NoTable Accesses n) h = absurd h
+shown (spot.NoTable Rules n) h = absurd h
+shown (spot.NoTable Multiplies n) h = absurd h
+shown (spot.NoTable Branches n) h = absurd h
 shown (spot.Listed Loops n (Unknown k)) h = absurd h
 shown (spot.Listed Targets n (Unknown k)) h = absurd h
 shown (spot.Listed Accesses n (Unknown k)) h = absurd h
+shown (spot.Listed Rules n (Unknown k)) h = absurd h
+shown (spot.Listed Multiplies n (Unknown k)) h = absurd h
+shown (spot.Listed Branches n (Unknown k)) h = absurd h
 shown (spot.Listed Loops n (Value k)) h = absurd h
 shown (spot.Listed Targets n (Value k)) h = absurd h
 shown (spot.Listed Accesses n (Value k)) h = absurd h
+shown (spot.Listed Rules n (Value k)) h = absurd h
+shown (spot.Listed Multiplies n (Value k)) h = absurd h
+shown (spot.Listed Branches n (Value k)) h = absurd h
 shown (spot.Listed Loops n (Missing k)) h = absurd h
 shown (spot.Listed Targets n (Missing k)) h = absurd h
 shown (spot.Listed Accesses n (Missing k)) h = absurd h
+shown (spot.Listed Rules n (Missing k)) h = absurd h
+shown (spot.Listed Multiplies n (Missing k)) h = absurd h
+shown (spot.Listed Branches n (Missing k)) h = absurd h
 shown (spot.Misplaced n) h = absurd h
 shown (spot.Unwanted n) h = absurd h
+shown (spot.Reversed n) h = absurd h
 shown (spot.TooManyDestinations n) h = absurd h
 shown (spot.Destination n i) h = absurd h
 shown (spot.Second Loops n) h = absurd h
 shown (spot.Second Targets n) h = absurd h
 shown (spot.Second Accesses n) h = absurd h
+shown (spot.Second Rules n) h = absurd h
+shown (spot.Second Multiplies n) h = absurd h
+shown (spot.Second Branches n) h = absurd h
 
 few : (list : TableList) → length (entries_at (list_key list) a_document) ≤ length (tables_in (list_key list) the_items)
 few Loops = omega arith
 few Targets = omega arith
 few Accesses = omega arith
+few Rules = omega arith
+few Multiplies = omega arith
+few Branches = omega arith
 
 -- entry = "a"
 pub is_of_text : AreOf the_items a_document

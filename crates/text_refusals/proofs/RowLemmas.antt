@@ -14,12 +14,12 @@ use Rattle.statement.specs.declared.spots.Part.TheVariants.{Missing, Unknown, Va
 use Rattle.statement.specs.declared.spots.Spot.{Spot}
 use Rattle.statement.specs.declared.spots.Spot.TheVariants as spot
 use Rattle.statement.specs.declared.spots.TableList.{TableList}
-use Rattle.statement.specs.declared.spots.TableList.TheVariants.{Loops, Targets, Accesses}
+use Rattle.statement.specs.declared.spots.TableList.TheVariants.{Loops, Targets, Accesses, Rules, Multiplies, Branches}
 use Rattle.text_refusals.specs.Courses.{after, at_front, begun, entry_list, is_at_key, is_destination, key_head, named_list, value_list}
-use Rattle.text_refusals.specs.FaultyItems.{has_destination, has_no_list, has_no_table, has_part, has_second, has_unknown, has_value, is_faulty, is_hidden, is_listed, is_shown, lent, target_number}
+use Rattle.text_refusals.specs.FaultyItems.{has_destination, has_no_list, has_no_table, has_part, has_second, has_unknown, has_value, is_faulty, is_hidden, is_listed, is_shown, lent, second_key, target_number}
 use Rattle.text_refusals.specs.Outline.{Begins, Ends, Item, KeyValue, States, Table}
 use Rattle.text_refusals.specs.Placed.{IsPartOf, IsRowOf, Shows, TableShows, ValueShows, line_of, placed}
-use Rattle.text_refusals.specs.Refused.{Limit, Row, access_limit, all_rows, extra_destination_row, extra_row, extra_rows, extra_table_row, first_after, header_rows, item_rows, list_rows, long_rows, loop_limit, missing_row, missing_rows, no_list_rows, no_table_rows, row_if, rows, rows_of_table, stated_at, table_row, table_rows, tables_in, target_limit, unknown_rows, unwanted_rows, value_row, value_table_rows, whole_rows}
+use Rattle.text_refusals.specs.Refused.{Limit, Row, all_rows, extra_destination_row, extra_row, extra_rows, limits, rows_of_limits, extra_table_row, first_after, header_rows, item_rows, list_rows, long_rows, loop_limit, missing_row, missing_rows, no_list_rows, no_table_rows, row_if, rows, rows_of_table, stated_at, table_row, table_rows, tables_in, target_limit, unknown_rows, unwanted_rows, value_row, value_table_rows, whole_rows}
 use Rattle.text_refusals.specs.declared.course.Course.{Course}
 use Rattle.text_refusals.proofs.RefusedLemmas.{no_items, one_row}
 
@@ -85,6 +85,9 @@ target_of None n e = absurd (none-some n e)
 target_of (Some (Loops, m)) n e = absurd (none-some n e)
 target_of (Some (Targets, m)) n e = ap (λ k. Some (Targets, k)) (same_Some m n e)
 target_of (Some (Accesses, m)) n e = absurd (none-some n e)
+target_of (Some (Rules, m)) n e = absurd (none-some n e)
+target_of (Some (Multiplies, m)) n e = absurd (none-some n e)
+target_of (Some (Branches, m)) n e = absurd (none-some n e)
 
 module _ (has : Spot → Bool) where
   -- ## Values
@@ -123,10 +126,10 @@ module _ (has : Spot → Bool) where
               let at = holds_some (λ n. has (spot.Destination n c.destinations)) (target_number c.entry) h.1 in
               (spot.Destination at.0 c.destinations, at.2, (h.0, target_of c.entry at.0 at.1, refl, hidden))
           | inr t ↦
-              let h = and_parts (not (length p.list == 0)) (is_at_key 0 (codes "at") p && holds_of (λ e. has (spot.Second e.0 e.1)) c.entry) t in
-              let k = and_parts (is_at_key 0 (codes "at") p) (holds_of (λ e. has (spot.Second e.0 e.1)) c.entry) h.1 in
-              let at = holds_some (λ e. has (spot.Second e.0 e.1)) c.entry k.1 in
-              (spot.Second at.0.0 at.0.1, at.2, (false_of_not (length p.list == 0) h.0, k.0, at.1, hidden))
+              let h = and_parts (not (length p.list == 0)) (holds_of (λ e. is_at_key 0 (second_key e.0) p && has (spot.Second e.0 e.1)) c.entry) t in
+              let at = holds_some (λ e. is_at_key 0 (second_key e.0) p && has (spot.Second e.0 e.1)) c.entry h.1 in
+              let k = and_parts (is_at_key 0 (second_key at.0.0) p) (has (spot.Second at.0.0 at.0.1)) at.2 in
+              (spot.Second at.0.0 at.0.1, k.1, (false_of_not (length p.list == 0) h.0, k.0, at.1, hidden))
         ]
       ]
 
@@ -207,6 +210,11 @@ module _ (has : Spot → Bool) where
     | inr l ↦ long_sound c t rest r (begun Targets c) l
   ]
   list_sound c t rest r Accesses is h = absurd (in_none r h)
+  list_sound c t rest r Rules is h =
+      let u = in_if (has (spot.Reversed (begun Rules c))) (table_row t (codes " has its last before its first") []) r h in
+      (spot.Reversed (begun Rules c), u.0, inl ((is, refl), ap (λ (x : Row). x.line) u.1))
+  list_sound c t rest r Multiplies is h = absurd (in_none r h)
+  list_sound c t rest r Branches is h = absurd (in_none r h)
 
   table_sound : (c : Course) (t : Table) (rest : List Item) (r : Row) → Contains (table_rows has c t rest) r → OfTable c t rest r
   table_sound c t rest r h = by_list (entry_list t) refl h
@@ -279,13 +287,11 @@ module _ (has : Spot → Bool) where
           (spot.TooMany limit.list, e, inr (inl (limit.list, t.0, refl, t.1, t.2)))
       by_test false e h = absurd (in_none r h)
 
-  extras_sound : (items : List Item) (r : Row) → Contains (extra_rows has items) r → OfText items r
-  extras_sound items r h = elim (Contains-append_cases (extra_row has loop_limit items) (extra_row has target_limit items ++ extra_row has access_limit items) r h) [
-    | inl u ↦ extra_sound items r loop_limit u
-    | inr v ↦ elim (Contains-append_cases (extra_row has target_limit items) (extra_row has access_limit items) r v) [
-      | inl u ↦ extra_sound items r target_limit u
-      | inr u ↦ extra_sound items r access_limit u
-    ]
+  extras_sound : (items : List Item) (r : Row) (ls : List Limit) → Contains (rows_of_limits has ls items) r → OfText items r
+  extras_sound items r [] h = absurd (in_none r h)
+  extras_sound items r (limit ∷ ls) h = elim (Contains-append_cases (extra_row has limit items) (rows_of_limits has ls items) r h) [
+    | inl u ↦ extra_sound items r limit u
+    | inr v ↦ extras_sound items r ls v
   ]
 
   whole_sound : (items : List Item) (r : Row) → Contains (whole_rows has items) r → OfText items r
@@ -293,7 +299,7 @@ module _ (has : Spot → Bool) where
     | inl u ↦
         let k = in_if (has (spot.Own (Missing key.Entry))) (record { line = 1; text = codes "the statement has no entry" }) r u in
         (spot.Own (Missing key.Entry), k.0, inl (refl, ap (λ (x : Row). x.line) k.1))
-    | inr u ↦ extras_sound items r u
+    | inr u ↦ extras_sound items r limits u
   ]
 
   -- a row is of a spot that has the fault

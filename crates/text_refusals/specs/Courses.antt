@@ -6,7 +6,8 @@ use Rattle.std.specs.List.{prefix_len}
 use Rattle.std.specs.Str.{bytes_eq}
 use Rattle.statement.specs.Places.{list_key}
 use Rattle.statement.specs.declared.spots.TableList.{TableList}
-use Rattle.statement.specs.declared.spots.TableList.TheVariants.{Loops, Targets, Accesses}
+use Rattle.statement.specs.declared.spots.TableList.TheVariants.{Loops, Targets, Accesses, Rules, Multiplies}
+use Rattle.statement.specs.declared.spots.TableList.TheVariants.{Branches}
 use Rattle.text_refusals.specs.Outline.{Begins, Ends, Item, KeyValue, States, Table}
 use Rattle.text_refusals.specs.declared.course.Course.{Course}
 
@@ -15,7 +16,10 @@ abbrev pub named_list : List ℕ → Option TableList
 named_list w =
     if bytes_eq w (list_key Loops) then Some Loops
     else (if bytes_eq w (list_key Targets) then Some Targets
-    else (if bytes_eq w (list_key Accesses) then Some Accesses else None))
+    else (if bytes_eq w (list_key Accesses) then Some Accesses
+    else (if bytes_eq w (list_key Rules) then Some Rules
+    else (if bytes_eq w (list_key Multiplies) then Some Multiplies
+    else (if bytes_eq w (list_key Branches) then Some Branches else None)))))
 
 -- no dot
 abbrev pub is_inner : ℕ → Bool
@@ -48,19 +52,35 @@ is_destination p = not (length p.list == 0) && is_at_key 1 (codes "to") p
 -- ## Courses
 
 abbrev pub at_front : Course
-at_front = record { loops = 0; targets = 0; accesses = 0; entry = None; destinations = 0 }
+at_front =
+    record {
+      loops = 0;
+      targets = 0;
+      accesses = 0;
+      rules = 0;
+      multiplies = 0;
+      branches = 0;
+      entry = None;
+      destinations = 0;
+    }
 
 -- how many entries of the list have begun
 abbrev pub begun : TableList → Course → ℕ
 begun Loops c = c.loops
 begun Targets c = c.targets
 begun Accesses c = c.accesses
+begun Rules c = c.rules
+begun Multiplies c = c.multiplies
+begun Branches c = c.branches
 
 -- one entry of the list more
 abbrev pub counted : TableList → Course → Course
 counted Loops c = record c { loops = c.loops + 1 }
 counted Targets c = record c { targets = c.targets + 1 }
 counted Accesses c = record c { accesses = c.accesses + 1 }
+counted Rules c = record c { rules = c.rules + 1 }
+counted Multiplies c = record c { multiplies = c.multiplies + 1 }
+counted Branches c = record c { branches = c.branches + 1 }
 
 abbrev pub counted_if : Option TableList → Course → Course
 counted_if None c = c
@@ -86,4 +106,7 @@ pub record HasRoom (c : Course) : Type 0 where
   pub loops : c.loops + 1 < 18446744073709551616
   pub targets : c.targets + 1 < 18446744073709551616
   pub accesses : c.accesses + 1 < 18446744073709551616
+  pub rules : c.rules + 1 < 18446744073709551616
+  pub multiplies : c.multiplies + 1 < 18446744073709551616
+  pub branches : c.branches + 1 < 18446744073709551616
   pub destinations : c.destinations + 1 < 18446744073709551616

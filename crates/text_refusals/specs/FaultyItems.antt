@@ -7,13 +7,14 @@ use Rattle.image.specs.Labels.{address_of}
 use Rattle.statement.specs.PlaceTests.{found, holds_of}
 use Rattle.statement.specs.Places.{named_key}
 use Rattle.statement.specs.declared.spots.Key.{Key}
-use Rattle.statement.specs.declared.spots.Key.TheVariants.{Bound, To}
+use Rattle.statement.specs.declared.spots.Key.TheVariants.{Bound, Cycles, To}
 use Rattle.statement.specs.declared.spots.Part.{Part}
 use Rattle.statement.specs.declared.spots.Part.TheVariants as part
 use Rattle.statement.specs.declared.spots.Spot.{Spot}
 use Rattle.statement.specs.declared.spots.Spot.TheVariants.{Destination, Listed, NoList, NoTable, Own, Second}
 use Rattle.statement.specs.declared.spots.TableList.{TableList}
-use Rattle.statement.specs.declared.spots.TableList.TheVariants.{Loops, Targets, Accesses}
+use Rattle.statement.specs.declared.spots.TableList.TheVariants.{Loops, Targets, Accesses, Rules, Multiplies}
+use Rattle.statement.specs.declared.spots.TableList.TheVariants.{Branches}
 use Rattle.text_refusals.specs.Courses.{begun, is_at_key, is_destination, key_head, named_list, value_list}
 use Rattle.text_refusals.specs.Outline.{Cut, KeyValue, Value}
 use Rattle.text_refusals.specs.declared.asked.Asked.{Asked}
@@ -37,6 +38,7 @@ is_cut _ = false
 abbrev pub may_be_text : (depth : ℕ) → Option Key → Bool
 may_be_text depth None = false
 may_be_text depth (Some Bound) = false
+may_be_text depth (Some Cycles) = false
 may_be_text depth (Some To) = not (depth == 0)
 may_be_text depth (Some _) = true
 
@@ -49,6 +51,18 @@ abbrev pub number_if_target : TableList → ℕ → Option ℕ
 number_if_target Loops n = None
 number_if_target Targets n = Some n
 number_if_target Accesses n = None
+number_if_target Rules n = None
+number_if_target Multiplies n = None
+number_if_target Branches n = None
+
+-- the key whose value shows that an entry says what an earlier one of its list does
+abbrev pub second_key : TableList → List ℕ
+second_key Loops = codes "at"
+second_key Targets = codes "at"
+second_key Accesses = codes "at"
+second_key Rules = codes "register"
+second_key Multiplies = codes "at"
+second_key Branches = codes "at"
 
 -- the number of the target that is the entry at hand
 abbrev pub target_number : Option (TableList × ℕ) → Option ℕ
@@ -84,11 +98,11 @@ module _ (has : Spot → Bool) (c : Course) where
   has_destination p =
       is_destination p && holds_of (λ n. has (Destination n c.destinations)) (target_number c.entry)
 
-  -- an earlier target or access is of the address that the value is
+  -- an earlier entry of the list is of the address, or for a rule of the register, that the value is
   abbrev pub has_second : KeyValue → Bool
   has_second p =
       not (length p.list == 0)
-      && (is_at_key 0 (codes "at") p && holds_of (λ e. has (Second e.0 e.1)) c.entry)
+      && holds_of (λ e. is_at_key 0 (second_key e.0) p && has (Second e.0 e.1)) c.entry
 
   -- the value is one of a list's
   abbrev pub is_listed : KeyValue → Bool

@@ -12,10 +12,10 @@ use Rattle.statement.specs.declared.spots.Part.TheVariants.{Missing, Unknown, Va
 use Rattle.statement.specs.declared.spots.Spot.{Spot}
 use Rattle.statement.specs.declared.spots.Spot.TheVariants as spot
 use Rattle.statement.specs.declared.spots.TableList.{TableList}
-use Rattle.statement.specs.declared.spots.TableList.TheVariants.{Loops, Targets}
+use Rattle.statement.specs.declared.spots.TableList.TheVariants.{Loops, Targets, Rules}
 use Rattle.text_refusals.specs.Courses.{after, at_front, begun, entry_list, is_at_key, is_destination}
 use Rattle.text_refusals.specs.Courses.{key_head, named_list, value_list}
-use Rattle.text_refusals.specs.FaultyItems.{is_hidden}
+use Rattle.text_refusals.specs.FaultyItems.{is_hidden, second_key}
 use Rattle.text_refusals.specs.Outline.{Begins, Ends, Item, KeyValue, Quoted, States, Table}
 use Rattle.text_refusals.specs.PlainLines.{PlainLine, Setting}
 use Rattle.text_refusals.specs.Refused.{Row, tables_in}
@@ -48,7 +48,7 @@ ValueShows c p (spot.NoTable list n) =
 ValueShows c p (spot.Destination n i) =
     (is_destination p ≡ true) × (c.entry ≡ Some (Targets, n)) × (c.destinations ≡ i) × (is_hidden p ≡ false)
 ValueShows c p (spot.Second list n) =
-    ((length p.list == 0) ≡ false) × (is_at_key 0 (codes "at") p ≡ true) × (c.entry ≡ Some (list, n))
+    ((length p.list == 0) ≡ false) × (is_at_key 0 (second_key list) p ≡ true) × (c.entry ≡ Some (list, n))
     × (is_hidden p ≡ false)
 ValueShows c p _ = ⊥
 
@@ -69,6 +69,7 @@ TableShows c t (spot.NoList list) = (entry_list t ≡ None) × (named_list (key_
 TableShows c t (spot.Listed list n (Missing k)) = IsEntry c t list n
 TableShows c t (spot.Misplaced n) = IsEntry c t Loops n
 TableShows c t (spot.Unwanted n) = IsEntry c t Targets n
+TableShows c t (spot.Reversed n) = IsEntry c t Rules n
 TableShows c t _ = ⊥
 
 abbrev pub Shows : Course → Item → Spot → Type 0
@@ -92,10 +93,11 @@ IsThere ms (spot.Listed list n (Value k)) = InTable list n ms (λ t. IsSome (get
 IsThere ms (spot.Listed list n (Missing k)) = InTable list n ms (λ t. Unit {0})
 IsThere ms (spot.Misplaced n) = InTable Loops n ms (λ t. Unit {0})
 IsThere ms (spot.Unwanted n) = InTable Targets n ms (λ t. Unit {0})
+IsThere ms (spot.Reversed n) = InTable Rules n ms (λ t. Unit {0})
 IsThere ms (spot.TooManyDestinations n) = ⊥
 IsThere ms (spot.Destination n i) =
     InTable Targets n ms (λ t. IsSome (slice_get (entries_at (codes "to") t) i))
-IsThere ms (spot.Second list n) = InTable list n ms (λ t. IsSome (get_member (codes "at") t))
+IsThere ms (spot.Second list n) = InTable list n ms (λ t. IsSome (get_member (second_key list) t))
 
 -- Each spot that the document has is shown by an item; each entry of a list has a table of its own, and no
 -- target has more destinations than it may have. So it is for plain lines, which have no arrays.

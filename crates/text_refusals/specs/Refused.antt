@@ -18,9 +18,10 @@ use Rattle.statement.specs.declared.spots.Key.TheVariants as key
 use Rattle.statement.specs.declared.spots.Part.TheVariants as part
 use Rattle.statement.specs.declared.spots.Spot.{Spot}
 use Rattle.statement.specs.declared.spots.Spot.TheVariants.{Listed, Misplaced, NoList, Own, TooMany}
-use Rattle.statement.specs.declared.spots.Spot.TheVariants.{TooManyDestinations, Unwanted}
+use Rattle.statement.specs.declared.spots.Spot.TheVariants.{Reversed, TooManyDestinations, Unwanted}
 use Rattle.statement.specs.declared.spots.TableList.{TableList}
-use Rattle.statement.specs.declared.spots.TableList.TheVariants.{Loops, Targets, Accesses}
+use Rattle.statement.specs.declared.spots.TableList.TheVariants.{Loops, Targets, Accesses, Rules, Multiplies}
+use Rattle.statement.specs.declared.spots.TableList.TheVariants.{Branches}
 use Rattle.text_refusals.specs.Courses.{after, at_front, begun, entry_list, is_at_key, key_head, named_list}
 use Rattle.text_refusals.specs.FaultyItems.{is_faulty, lent}
 use Rattle.text_refusals.specs.Outline.{Array, Bare, Begins, Cut, Ends, InlineTable, Item, KeyValue, Quoted}
@@ -135,11 +136,17 @@ module _ (has : Spot → Bool) where
   misplaced_rows n t =
       row_if (has (Misplaced n)) (table_row t (codes " has its header outside first to last") [])
 
+  abbrev pub reversed_rows : ℕ → Table → List Row
+  reversed_rows n t = row_if (has (Reversed n)) (table_row t (codes " has its last before its first") [])
+
   -- what is wrong with an entry of the list, but for its keys
   abbrev pub list_rows : TableList → ℕ → Table → List Item → List Row
   list_rows Loops n t items = misplaced_rows n t
   list_rows Targets n t items = target_rows n t items
   list_rows Accesses n t items = []
+  list_rows Rules n t items = reversed_rows n t
+  list_rows Multiplies n t items = []
+  list_rows Branches n t items = []
 
   -- what is wrong with the entry of the list with that number, by the items after its line
   abbrev pub entry_rows : TableList → ℕ → Table → List Item → List Row
@@ -201,6 +208,22 @@ abbrev pub access_limit : Limit
 access_limit =
     record { list = Accesses; words = codes " comes after the 4096 accesses that a statement may have" }
 
+abbrev pub rule_limit : Limit
+rule_limit = record { list = Rules; words = codes " comes after the 256 rules that a statement may have" }
+
+abbrev pub multiply_limit : Limit
+multiply_limit =
+    record { list = Multiplies; words = codes " comes after the 1024 multiplies that a statement may have" }
+
+abbrev pub branch_limit : Limit
+branch_limit =
+    record { list = Branches; words = codes " comes after the 1024 branches that a statement may have" }
+
+-- the lists in the order in which they are looked at
+abbrev pub limits : List Limit
+limits =
+    loop_limit ∷ target_limit ∷ access_limit ∷ rule_limit ∷ multiply_limit ∷ branch_limit ∷ []
+
 abbrev pub extra_table_row : Limit → Option Table → List Row
 extra_table_row limit None = []
 extra_table_row limit (Some t) = table_row t limit.words [] ∷ []
@@ -213,9 +236,12 @@ module _ (has : Spot → Bool) where
       then extra_table_row limit (first_after (most_of limit.list) (tables_in (list_key limit.list) items))
       else []
 
+  abbrev pub rows_of_limits : List Limit → List Item → List Row
+  rows_of_limits [] items = []
+  rows_of_limits (limit ∷ limits) items = extra_row limit items ++ rows_of_limits limits items
+
   abbrev pub extra_rows : List Item → List Row
-  extra_rows items =
-      extra_row loop_limit items ++ (extra_row target_limit items ++ extra_row access_limit items)
+  extra_rows items = rows_of_limits limits items
 
   -- that there is no entry, and the lists that are too long
   abbrev pub whole_rows : List Item → List Row
@@ -229,7 +255,13 @@ module _ (has : Spot → Bool) where
 
 -- the keys of a statement whose values are tables
 abbrev pub statement_tables : TableKeys
-statement_tables = record { lists = codes "loop" ∷ codes "target" ∷ codes "access" ∷ []; tables = [] }
+statement_tables =
+    record {
+      lists =
+          codes "loop" ∷ codes "target" ∷ codes "access" ∷ codes "base" ∷ codes "multiply"
+          ∷ codes "branch" ∷ [];
+      tables = [];
+    }
 
 -- of the text of a document the rows where that has the fault
 pub record AreRows {S F : Type 0} (IsAt : Members → S → F → Type 0)

@@ -1,5 +1,5 @@
 ghost use Rattle.std.specs.Prelude.{◌≡◌};
-ghost use Rattle.text_refusals.specs.FaultyItems.{is_cut, is_hidden, may_be_text, target_number};
+ghost use Rattle.text_refusals.specs.FaultyItems.{is_cut, is_hidden, may_be_text, second_key, target_number};
 ghost use Rattle.text_refusals.specs.Outline.{key_value_of, value_of};
 
 use crate::course::{Course, is_at_key, is_destination, key_head, named_list, value_list};
@@ -18,7 +18,7 @@ fn may_be_text(depth: u8, key: Option<Key>) -> bool
     ensures { result ≡ may_be_text depth key }
 {
     match key {
-        None | Some(Key::Bound) => false,
+        None | Some(Key::Bound | Key::Cycles) => false,
         Some(Key::To) => depth != 0,
         Some(_) => true,
     }
@@ -36,7 +36,31 @@ fn target_number(entry: Option<(TableList, usize)>) -> Option<usize>
 {
     match entry {
         Some((TableList::Targets, index)) => Some(index),
-        Some((TableList::Loops | TableList::Accesses, _)) | None => None,
+        Some(
+            (
+                TableList::Loops
+                | TableList::Accesses
+                | TableList::Rules
+                | TableList::Multiplies
+                | TableList::Branches,
+                _,
+            ),
+        )
+        | None => None,
+    }
+}
+
+// The key whose value shows that an entry says what an earlier one of its list does.
+fn second_key(list: TableList) -> &'static [u8]
+    ensures { result.now ≡ second_key list }
+{
+    match list {
+        TableList::Rules => b"register",
+        TableList::Loops
+        | TableList::Targets
+        | TableList::Accesses
+        | TableList::Multiplies
+        | TableList::Branches => b"at",
     }
 }
 
@@ -128,15 +152,18 @@ impl Asked<'_> {
         }
     }
 
-    // Whether an earlier target or access is of the address that the value is.
+    // Whether an earlier entry of the list is of the address, or for a rule of the register, that the value
+    // is.
     fn has_second(&self, course: &Course, pair: &KeyValue<'_>) -> bool
         ensures { result ≡ has_second (has_in self.now) course.now (key_value_of pair.now) }
     {
-        if pair.list.is_empty() || !is_at_key(0, b"at", pair) {
+        if pair.list.is_empty() {
             return false;
         }
         match course.entry {
-            Some((list, index)) => self.has(Spot::Second(list, index)),
+            Some((list, index)) => {
+                is_at_key(0, second_key(list), pair) && self.has(Spot::Second(list, index))
+            }
             None => false,
         }
     }

@@ -17,6 +17,9 @@ pub(crate) struct Course {
     loops: usize,
     targets: usize,
     accesses: usize,
+    rules: usize,
+    multiplies: usize,
+    branches: usize,
     /// The list and the number of the entry that began last, if the last table is an entry.
     pub entry: Option<(TableList, usize)>,
     /// How many of its destinations came before.
@@ -35,6 +38,15 @@ pub(crate) fn named_list(word: &[u8]) -> Option<TableList>
     }
     if word == list_key(TableList::Accesses).as_bytes() {
         return Some(TableList::Accesses);
+    }
+    if word == list_key(TableList::Rules).as_bytes() {
+        return Some(TableList::Rules);
+    }
+    if word == list_key(TableList::Multiplies).as_bytes() {
+        return Some(TableList::Multiplies);
+    }
+    if word == list_key(TableList::Branches).as_bytes() {
+        return Some(TableList::Branches);
     }
     None
 }
@@ -109,6 +121,9 @@ impl Course {
             loops: 0,
             targets: 0,
             accesses: 0,
+            rules: 0,
+            multiplies: 0,
+            branches: 0,
             entry: None,
             destinations: 0,
         }
@@ -122,6 +137,9 @@ impl Course {
             TableList::Loops => self.loops,
             TableList::Targets => self.targets,
             TableList::Accesses => self.accesses,
+            TableList::Rules => self.rules,
+            TableList::Multiplies => self.multiplies,
+            TableList::Branches => self.branches,
         }
     }
 
@@ -134,6 +152,9 @@ impl Course {
             TableList::Loops => self.loops += 1,
             TableList::Targets => self.targets += 1,
             TableList::Accesses => self.accesses += 1,
+            TableList::Rules => self.rules += 1,
+            TableList::Multiplies => self.multiplies += 1,
+            TableList::Branches => self.branches += 1,
         }
         self
     }

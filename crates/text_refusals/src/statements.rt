@@ -6,10 +6,11 @@ ghost use Rattle.text_refusals.specs.Courses.{at_front, key_head, named_list};
 ghost use Rattle.text_refusals.specs.FaultyItems.{has_in, lent};
 ghost use Rattle.text_refusals.specs.Outline.{item_of, items_of, key_value_of, table_of};
 ghost use Rattle.text_refusals.specs.Refused.{Adds, IsRowsText, IsStatementText, all_rows, entry_rows};
-ghost use Rattle.text_refusals.specs.Refused.{extra_destination_row, extra_row, extra_rows, first_after};
+ghost use Rattle.text_refusals.specs.Refused.{extra_destination_row, extra_row, first_after, rows_of_limits};
 ghost use Rattle.text_refusals.specs.Refused.{header_rows, item_rows, limit_of, list_rows, long_rows};
 ghost use Rattle.text_refusals.specs.Refused.{misplaced_rows, missing_row, missing_rows, no_list_rows};
-ghost use Rattle.text_refusals.specs.Refused.{no_table_rows, rows, shown, stated_at, statement_tables};
+ghost use Rattle.text_refusals.specs.Refused.{no_table_rows, reversed_rows, rows, shown, stated_at};
+ghost use Rattle.text_refusals.specs.Refused.{statement_tables};
 ghost use Rattle.text_refusals.specs.Refused.{table_rows, tables_in, target_rows, unknown_rows};
 ghost use Rattle.text_refusals.specs.Refused.{unwanted_rows, value_table_rows, whole_rows};
 
@@ -30,7 +31,7 @@ use toml_reading::document;
 
 // The keys of a statement whose values are tables.
 const STATEMENT_TABLES: TableKeys = TableKeys {
-    lists: &["loop", "target", "access"],
+    lists: &["loop", "target", "access", "base", "multiply", "branch"],
     tables: &[],
 };
 
@@ -65,6 +66,24 @@ const ACCESSES: Limit = Limit {
     list: TableList::Accesses,
     words: b" comes after the 4096 accesses that a statement may have",
 };
+
+const RULES: Limit = Limit {
+    list: TableList::Rules,
+    words: b" comes after the 256 rules that a statement may have",
+};
+
+const MULTIPLIES: Limit = Limit {
+    list: TableList::Multiplies,
+    words: b" comes after the 1024 multiplies that a statement may have",
+};
+
+const BRANCHES: Limit = Limit {
+    list: TableList::Branches,
+    words: b" comes after the 1024 branches that a statement may have",
+};
+
+// In the order in which they are looked at.
+const LIMITS: &[Limit] = &[LOOPS, TARGETS, ACCESSES, RULES, MULTIPLIES, BRANCHES];
 
 // The first table of the list after so many.
 #[tactic(auto, unfolding(crate::specs::Refused::tables_in))]
@@ -233,6 +252,22 @@ impl Report {
         Ok(())
     }
 
+    // Adds that a rule for a base register ends before it begins.
+    fn put_if_reversed(
+        &mut self,
+        asked: &Asked<'_>,
+        entry: &RefusedEntry<'_>,
+    ) -> Result<(), AllocError>
+        ensures { OnOk result
+            (Adds (reversed_rows (has_in asked.now) entry.now.index (table_of entry.now.table.now))
+            self.old self.new) }
+    {
+        if asked.has(Spot::Reversed(entry.index)) {
+            return self.put_table(entry.table, b" has its last before its first", b"");
+        }
+        Ok(())
+    }
+
     // Adds what is wrong with an entry of a list, but for its keys.
     fn put_of_list(
         &mut self,
@@ -247,7 +282,8 @@ impl Report {
         match entry.list {
             TableList::Loops => self.put_if_misplaced(asked, entry),
             TableList::Targets => self.put_of_target(asked, entry, rest),
-            TableList::Accesses => Ok(()),
+            TableList::Rules => self.put_if_reversed(asked, entry),
+            TableList::Accesses | TableList::Multiplies | TableList::Branches => Ok(()),
         }
     }
 
@@ -419,22 +455,24 @@ impl Report {
         }
     }
 
-    // Adds of each list that is too long the first table after those that there may be.
+    // Adds of each of the lists that is too long the first table after those that there may be.
     fn put_extra_tables(
         &mut self,
         asked: &Asked<'_>,
         items: &[OutlineItem<'_>],
+        limits: &[Limit],
     ) -> Result<(), AllocError>
         ensures { OnOk result
-            (Adds (extra_rows (has_in asked.now) (map item_of items.now)) self.old self.new) }
+            (Adds (rows_of_limits (has_in asked.now) (map limit_of limits.now) (map item_of items.now))
+            self.old self.new) }
     {
-        self.put_if_too_many(asked, items, &LOOPS)?;
-        self.put_if_too_many(asked, items, &TARGETS)?;
-        self.put_if_too_many(asked, items, &ACCESSES)
+        for limit in limits {
+            self.put_if_too_many(asked, items, limit)?;
+        }
+        Ok(())
     }
 
     // Adds what is wrong with the whole.
-    #[tactic(auto, using(crate::proofs::RefusedLemmas::adds_both))]
     fn put_of_whole(
         &mut self,
         asked: &Asked<'_>,
@@ -445,7 +483,7 @@ impl Report {
     {
         let no_entry = asked.has(Spot::Own(Part::Missing(Key::Entry)));
         self.put_row_if(no_entry, 1, NO_ENTRY)?;
-        self.put_extra_tables(asked, items)
+        self.put_extra_tables(asked, items, LIMITS)
     }
 }
 

@@ -1,7 +1,8 @@
 -- What a gain is: the difference of two prices.
-use Rattle.std.proofs.Common.{◌≡◌, ◌∙◌, ℕ, ◌+◌, ◌-◌, ◌<◌, ◌≤◌, max, true, false, cond, eqb, nat_lt, ◌==◌, List, [], ◌∷◌, map, filter, find, fold, All, Contains, Some, None, option_map, ⊎_elim, refl, sym, ap, subst, arith}
-use Rattle.std.specs.Prelude.{if◌then◌else◌, unwrap_or}
+use Rattle.std.proofs.Common.{◌≡◌, ◌∙◌, ℕ, ◌+◌, ◌-◌, ◌<◌, ◌≤◌, max, Bool, true, false, cond, eqb, nat_lt, ◌==◌, List, [], ◌∷◌, map, filter, find, fold, All, Contains, Option, Some, None, option_map, ⊎_elim, refl, sym, ap, subst, arith}
+use Rattle.std.specs.Prelude.{if◌then◌else◌, is_some, unwrap_or}
 use Rattle.std.specs.Map.{lookup}
+use Rattle.std.specs.Option.{option_or}
 use Rattle.std.proofs.lemmas.Bool.{cases_lt, eq-eqb, eqb-false, eqb-true, le-ltb, lt-ltb}
 use Rattle.std.proofs.lemmas.List.Elements.{All-contains, All-from_recursion}
 use Rattle.arm2_decode.specs.Transfers.{word_count}
@@ -9,24 +10,25 @@ use Rattle.arm2_decode.specs.declared.instr.Instr.{Instr}
 use Rattle.arm2_decode.specs.declared.instr.Operation.{Operation}
 use Rattle.arm2_decode.specs.declared.instr.Operation.TheVariants as operation
 use Rattle.arm2_decode.specs.declared.names.Cond.{Cond}
+use Rattle.arm2_decode.specs.declared.names.Register.{Register}
 use Rattle.asm_text.proofs.WordLaws.{chosen, map_is}
 use Rattle.bus_ticks.specs.declared.profile.Class.{Class}
 use Rattle.bus_ticks.specs.declared.profile.Class.TheVariants.{Any, Io, Ram, Rom}
 use Rattle.bus_ticks.specs.declared.profile.Class.TheVariants.{Slow, Medium, Fast, Synchronous}
 use Rattle.bus_ticks.specs.declared.profile.Profile.{Profile}
 use Rattle.bus_ticks.specs.Worst.{IsOf, worst_leave}
-use Rattle.control_flow.specs.declared.actions.Action.{Action}
+use Rattle.control_flow.specs.declared.actions.Kind.{Kind}
 use Rattle.control_flow.specs.declared.actions.Work.{Work}
 use Rattle.control_flow.specs.declared.places.Place.{Place}
 use Rattle.control_flow.specs.declared.places.Place.TheVariants.{Exit}
-use Rattle.control_flow.specs.Edges.{arrival_ticks, do_ticks, fetch_ticks, jump_ticks, work_ticks}
+use Rattle.control_flow.specs.Edges.{arrival_ticks, do_ticks, fetch_ticks, jump_ticks, stated_work, work_ticks}
 use Rattle.control_flow.proofs.LabelLemmas.{from_map}
 use Rattle.control_flow.proofs.SortedLemmas.{cons_cases, no_member}
-use Rattle.control_flow.specs.Kinds.{action, instr_action, kind_of, transfer_work, work_of}
-use Rattle.statement.specs.Stated.{Stated, class_at}
+use Rattle.control_flow.specs.Kinds.{action, base_of, instr_action, kind_of, transfer_work, work_of}
+use Rattle.statement.specs.Stated.{Stated, class_at, ruled_class}
 use Rattle.walks.proofs.RowLemmas.{find_some}
 use Rattle.text_savings.specs.Changed.{with_access, with_leave}
-use Rattle.text_savings.specs.Gains.{IsDearestBelow, class_gain, leave_gain, multiply_gain, next_class, next_gain, next_price, offered, offered_ways_out, operation_gain, priced, transfer_gain}
+use Rattle.text_savings.specs.Gains.{IsDearestBelow, class_gain, leave_gain, multiply_gain, next_class, next_gain, next_price, offered, offered_ways_out, operands_of, operation_gain, priced, transfer_gain, unstated_gain}
 use Rattle.text_savings.specs.declared.classes.ClassChange.{ClassChange}
 use Rattle.text_savings.specs.declared.classes.PricedClass.{PricedClass}
 use Rattle.text_savings.specs.declared.gains.Gain.{Gain}
@@ -150,39 +152,53 @@ module _ (price : Class → ℕ) (present : ℕ) where
 -- ## Edges
 
 -- the class that comes first is the stated one
-first_class : (st : Stated) (a : ℕ) (class : Class) → class_at (with_access st a class) a ≡ class
-first_class st a class = ap (λ b. unwrap_or (if b then Some class else lookup (eqb a) st.accesses) Any) (eq-eqb a a refl)
+first_class : (st : Stated) (a : ℕ) (class : Class) (base : Option Register) → class_at (with_access st a class) a base ≡ class
+first_class st a class base = ap (λ b. unwrap_or (option_or (if b then Some class else lookup (eqb a) st.accesses) (ruled_class st.rules a base)) Any) (eq-eqb a a refl)
 
-by_work : (st : Stated) (profile : Profile) (a : ℕ) (action : Action) (to : Place) (g : Gain) (change : ClassChange)
-    → transfer_gain profile (class_at st a) action.work ≡ Some g → g.refinement ≡ Addresses change
-    → do_ticks (with_access st a change.better) profile a action to + g.ticks ≡ do_ticks st profile a action to
-by_work st profile a action to g change gain is =
-    let less = falls (λ c. work_ticks profile c action.work) (work_ticks profile (class_at st a) action.work) (class_at st a) (offered (class_at st a)) g change gain is in
-    let fetch = fetch_ticks profile a action.work in
-    let arrival = arrival_ticks profile st.leave action.kind to in
-    ap (λ (c : Class). fetch + work_ticks profile c action.work + arrival + g.ticks) (first_class st a change.better) ∙ sums fetch _ _ arrival g.ticks less
+-- nothing is stated of the work of a transfer
+no_cycles : (st : Stated) (a : ℕ) (load : Bool) (words : ℕ) → stated_work st a (transfer_work load words) ≡ transfer_work load words
+no_cycles st a true words = refl
+no_cycles st a false words = refl
+
+by_work : (st : Stated) (profile : Profile) (a : ℕ) (c : Cond) (k : Kind) (load : Bool) (words : ℕ) (base : Option Register) (to : Place) (g : Gain) (change : ClassChange)
+    → transfer_gain profile (class_at st a base) (transfer_work load words) ≡ Some g → g.refinement ≡ Addresses change
+    → do_ticks (with_access st a change.better) profile a (action c k (transfer_work load words) base) to + g.ticks ≡ do_ticks st profile a (action c k (transfer_work load words) base) to
+by_work st profile a c k load words base to g change gain is =
+    let work = transfer_work load words in
+    let class = class_at st a base in
+    let less = falls (λ x. work_ticks profile x work) (work_ticks profile class work) class (offered class) g change gain is in
+    let fetch = fetch_ticks profile a work in
+    let arrival = arrival_ticks profile st.leave k to in
+    ap (λ (x : Class). fetch + work_ticks profile x (stated_work st a work) + arrival + g.ticks) (first_class st a change.better base)
+    ∙ ap (λ (w : Work). fetch + work_ticks profile change.better w + arrival + g.ticks) (no_cycles st a load words)
+    ∙ sums fetch _ _ arrival g.ticks less
+    ∙ ap (λ (w : Work). fetch + work_ticks profile class w + arrival) (sym (no_cycles st a load words))
   where
     sums : (fetch better any arrival ticks : ℕ) → better + ticks ≡ any → fetch + better + arrival + ticks ≡ fetch + any + arrival
     sums fetch better any arrival ticks less = omega arith
 
 module _ (st : Stated) (profile : Profile) (a : ℕ) (c : Cond) (to : Place) (g : Gain) (change : ClassChange) (is : g.refinement ≡ Addresses change) where
   abbrev pub Falls : Operation → Type 0
-  Falls o = do_ticks (with_access st a change.better) profile a (action c (kind_of o) (work_of o)) to + g.ticks ≡ do_ticks st profile a (action c (kind_of o) (work_of o)) to
+  Falls o = do_ticks (with_access st a change.better) profile a (action c (kind_of o) (work_of o) (base_of o)) to + g.ticks ≡ do_ticks st profile a (action c (kind_of o) (work_of o) (base_of o)) to
 
-  not_multiplier : Some (multiply_gain profile) ≡ Some g → ⊥
-  not_multiplier gain =
-      let same : multiply_gain profile ≡ g = cc in
-      let both : Multiplier ≡ Addresses change = ap (λ (x : Gain). x.refinement) same ∙ is in
-      cc
+  not_multiplier : (o : Operation) → unstated_gain st profile a o ≡ Some g → ⊥
+  not_multiplier o gain = ⊎_elim
+      (λ stated. not_none g stated.1)
+      (λ free.
+      let unstated : Some (multiply_gain profile o) ≡ Some g = free.1 in
+      let same : multiply_gain profile o ≡ g = cc in
+      let both : Multiplier (operands_of o) ≡ Addresses change = ap (λ (x : Gain). x.refinement) same ∙ is in
+      cc)
+      (chosen (is_some (lookup (eqb a) st.multiplies)) None (Some (multiply_gain profile o)) (Some g) gain)
 
-  of_operation : (o : Operation) → operation_gain profile (class_at st a) o ≡ Some g → Falls o
-  of_operation (operation.Multiply x) gain = absurd (not_multiplier gain)
+  of_operation : (o : Operation) → operation_gain st profile a o ≡ Some g → Falls o
+  of_operation (operation.Multiply x) gain = absurd (not_multiplier (operation.Multiply x) gain)
   of_operation (operation.DataRegister x) gain = absurd (not_none g gain)
   of_operation (operation.DataRegisterShift x) gain = absurd (not_none g gain)
   of_operation (operation.DataImmediate x) gain = absurd (not_none g gain)
-  of_operation (operation.SingleImmediate x) gain = by_work st profile a (action c (kind_of (operation.SingleImmediate x)) (transfer_work x.load 1)) to g change gain is
-  of_operation (operation.SingleRegister x) gain = by_work st profile a (action c (kind_of (operation.SingleRegister x)) (transfer_work x.load 1)) to g change gain is
-  of_operation (operation.Block x) gain = by_work st profile a (action c (kind_of (operation.Block x)) (transfer_work x.load (word_count x.list))) to g change gain is
+  of_operation (operation.SingleImmediate x) gain = by_work st profile a c (kind_of (operation.SingleImmediate x)) x.load 1 (base_of (operation.SingleImmediate x)) to g change gain is
+  of_operation (operation.SingleRegister x) gain = by_work st profile a c (kind_of (operation.SingleRegister x)) x.load 1 (base_of (operation.SingleRegister x)) to g change gain is
+  of_operation (operation.Block x) gain = by_work st profile a c (kind_of (operation.Block x)) x.load (word_count x.list) (base_of (operation.Block x)) to g change gain is
   of_operation (operation.Branch x) gain = absurd (not_none g gain)
   of_operation (operation.Swi x) gain = absurd (not_none g gain)
   of_operation (operation.UndefinedTransfer x) gain = absurd (not_none g gain)
@@ -190,7 +206,7 @@ module _ (st : Stated) (profile : Profile) (a : ℕ) (c : Cond) (to : Place) (g 
   of_operation (operation.Coprocessor x) gain = absurd (not_none g gain)
 
 pub access_gains : (st : Stated) (profile : Profile) (a : ℕ) (i : Instr) (to : Place) (g : Gain) (change : ClassChange)
-    → operation_gain profile (class_at st a) i.operation ≡ Some g → g.refinement ≡ Addresses change
+    → operation_gain st profile a i.operation ≡ Some g → g.refinement ≡ Addresses change
     → do_ticks (with_access st a change.better) profile a (instr_action i) to + g.ticks ≡ do_ticks st profile a (instr_action i) to
 access_gains st profile a i to g change gain is = of_operation st profile a i.cond to g change is i.operation gain
 

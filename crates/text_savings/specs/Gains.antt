@@ -1,9 +1,13 @@
 -- What the next better entry of a statement takes off a price, in ticks.
-use Rattle.std.specs.Prelude.{ℕ, ◌-◌, ◌*◌, ◌<◌, ◌≤◌, ◌==◌, max, nat_lt, if◌then◌else◌}
+use Rattle.std.specs.Prelude.{ℕ, ◌-◌, ◌*◌, ◌<◌, ◌≤◌, ◌==◌, max, nat_eq, nat_lt, if◌then◌else◌}
+use Rattle.std.specs.Prelude.{Bool, true, false, not, ◌&&◌, is_some}
 use Rattle.std.specs.Prelude.{List, [], ◌∷◌, Contains, filter, find, fold, map}
 use Rattle.std.specs.Prelude.{Option, Some, None, option_map}
+use Rattle.std.specs.Map.{lookup}
+use Rattle.arm2_decode.specs.Names.{is_same}
 use Rattle.arm2_decode.specs.Writers.{moved}
 use Rattle.arm2_decode.specs.declared.instr.Operation.{Operation}
+use Rattle.arm2_decode.specs.declared.instr.Operation.TheVariants as operation
 use Rattle.arm2_decode.specs.declared.transfers.Moved.{Moved}
 use Rattle.bus_ticks.specs.declared.profile.Class.{Class}
 use Rattle.bus_ticks.specs.declared.profile.Class.TheVariants.{Any, Ram, Rom, Io}
@@ -12,10 +16,13 @@ use Rattle.bus_ticks.specs.declared.profile.Profile.{Profile}
 use Rattle.bus_ticks.specs.Worst.{worst_leave}
 use Rattle.shifter.specs.declared.shifts.TheConstants.{MOST_MULTIPLY_CYCLES}
 use Rattle.control_flow.specs.Edges.{work_ticks}
-use Rattle.control_flow.specs.Kinds.{is_multiply, transfer_work}
+use Rattle.control_flow.specs.Kinds.{base_of, is_multiply, transfer_work}
 use Rattle.control_flow.specs.declared.actions.Work.{Work}
+use Rattle.statement.specs.Stated.{Stated, class_at}
 use Rattle.text_savings.specs.declared.classes.PricedClass.{PricedClass}
 use Rattle.text_savings.specs.declared.gains.Gain.{Gain}
+use Rattle.text_savings.specs.declared.gains.Operands.{Operands}
+use Rattle.text_savings.specs.declared.gains.Operands.TheVariants.{Exchangeable, Fixed}
 use Rattle.text_savings.specs.declared.gains.Refinement.TheVariants.{Addresses, Multiplier}
 
 -- ## The next better class
@@ -54,8 +61,8 @@ pub record IsDearestBelow (price : Class → ℕ) (present : ℕ) (classes : Lis
 
 -- ## What a word and a way out gain
 
--- what a statement may say in place of a transfer's class, all within it, since what is stated is true: memory
--- or the devices for any, a speed for the devices
+-- what a statement may say in place of a transfer's class, all within it, since what is stated is true:
+-- memory or the devices for any, a speed for the devices
 abbrev pub offered : Class → List Class
 offered Any = Ram ∷ Rom ∷ Io ∷ []
 offered Io = Slow ∷ Medium ∷ Fast ∷ Synchronous ∷ []
@@ -71,13 +78,37 @@ abbrev pub transfer_gain : Profile → Class → Work → Option Gain
 transfer_gain p class w =
     class_gain class (work_ticks p class w) (map (priced (λ c. work_ticks p c w)) (offered class))
 
+-- the multiplier and the other operand of a multiply may be exchanged: they are two registers, and the one
+-- that becomes Rm is not Rd
+abbrev pub may_exchange : Operation → Bool
+may_exchange (operation.Multiply x) = not (is_same x.rs x.rd) && not (is_same x.rs x.rm)
+may_exchange (operation.DataRegister x) = false
+may_exchange (operation.DataRegisterShift x) = false
+may_exchange (operation.DataImmediate x) = false
+may_exchange (operation.SingleImmediate x) = false
+may_exchange (operation.SingleRegister x) = false
+may_exchange (operation.Block x) = false
+may_exchange (operation.Branch x) = false
+may_exchange (operation.Swi x) = false
+may_exchange (operation.UndefinedTransfer x) = false
+may_exchange (operation.CoprocessorTransfer x) = false
+may_exchange (operation.Coprocessor x) = false
+
+abbrev pub operands_of : Operation → Operands
+operands_of o = if may_exchange o then Exchangeable else Fixed
+
 -- a multiply is priced at its most internal cycles, and takes one less with the next better multiplier
-abbrev pub multiply_gain : Profile → Gain
-multiply_gain p =
+abbrev pub multiply_gain : Profile → Operation → Gain
+multiply_gain p o =
     record {
-      refinement = Multiplier;
+      refinement = Multiplier (operands_of o);
       ticks = MOST_MULTIPLY_CYCLES * p.internal - (MOST_MULTIPLY_CYCLES - 1) * p.internal;
     }
+
+-- of one at an address; none where its cycles are stated
+abbrev pub unstated_gain : Stated → Profile → ℕ → Operation → Option Gain
+unstated_gain st p a o =
+    if is_some (lookup (nat_eq a) st.multiplies) then None else Some (multiply_gain p o)
 
 -- of what it moves, if it moves anything
 abbrev pub moved_gain : Profile → Class → Option Moved → Option Gain
@@ -85,8 +116,9 @@ moved_gain p class None = None
 moved_gain p class (Some m) = transfer_gain p class (transfer_work m.load m.words)
 
 -- what is no multiply and moves nothing is priced by no entry
-abbrev pub operation_gain : Profile → Class → Operation → Option Gain
-operation_gain p class o = if is_multiply o then Some (multiply_gain p) else moved_gain p class (moved o)
+abbrev pub operation_gain : Stated → Profile → ℕ → Operation → Option Gain
+operation_gain st p a o =
+    if is_multiply o then unstated_gain st p a o else moved_gain p (class_at st a (base_of o)) (moved o)
 
 -- what a statement may say in place of the class to which the handler leaves: no speed
 abbrev pub offered_ways_out : Class → List Class

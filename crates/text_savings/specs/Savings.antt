@@ -10,7 +10,7 @@ use Rattle.bus_ticks.specs.declared.profile.Profile.{Profile}
 use Rattle.control_flow.specs.Flow.{Flow}
 use Rattle.control_flow.specs.declared.edges.Edge.{Edge}
 use Rattle.image.specs.Image.{Words}
-use Rattle.statement.specs.Stated.{Stated, class_at}
+use Rattle.statement.specs.Stated.{Stated}
 use Rattle.walk_counts.specs.Counts.{capped}
 use Rattle.text_savings.specs.Carried.{times_done}
 use Rattle.text_savings.specs.Gains.{leave_gain, operation_gain}
@@ -29,7 +29,7 @@ saved subject times (Some g) =
 
 -- what is gained each time that the word at an address is carried out
 pub record IsWordGain (st : Stated) (profile : Profile) (at word : ℕ) (gain : Option Gain) : Type 0 where
-  pub of_instr : (i : Instr) → Means word i → gain ≡ operation_gain profile (class_at st at) i.operation
+  pub of_instr : (i : Instr) → Means word i → gain ≡ operation_gain st profile at i.operation
   pub of_none : ((i : Instr) → Means word i → ⊥) → gain ≡ None
 
 -- what is saved at a word, by how often each is carried out

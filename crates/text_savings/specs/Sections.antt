@@ -14,6 +14,9 @@ use Rattle.text_rows.specs.Rows.{AreRows}
 use Rattle.text_rows.specs.WordLines.{Numbered}
 use Rattle.text_savings.specs.Savings.{AreSavings}
 use Rattle.text_savings.specs.declared.classes.ClassChange.{ClassChange}
+use Rattle.image.specs.Image.{Words}
+use Rattle.text_savings.specs.declared.gains.Operands.{Operands}
+use Rattle.text_savings.specs.declared.gains.Operands.TheVariants.{Exchangeable, Fixed}
 use Rattle.text_savings.specs.declared.gains.Refinement.{Refinement}
 use Rattle.text_savings.specs.declared.gains.Refinement.TheVariants.{Addresses, Multiplier}
 use Rattle.text_savings.specs.declared.saving.Saving.{Saving}
@@ -26,8 +29,13 @@ use Rattle.text_savings.specs.declared.saving.Subject.TheVariants.{Leave, Word}
 abbrev pub change_text : ClassChange → List ℕ
 change_text change = class_name change.better ++ (codes " for " ++ class_name change.present)
 
+-- a cycle less, for which the operands may be exchanged where that is possible
+abbrev pub multiplier_text : Operands → List ℕ
+multiplier_text Exchangeable = codes "m = 15 swap Rm,Rs?"
+multiplier_text Fixed = codes "m = 15"
+
 abbrev pub refinement_text : Refinement → List ℕ
-refinement_text Multiplier = codes "m = 15"
+refinement_text (Multiplier operands) = multiplier_text operands
 refinement_text (Addresses change) = change_text change
 
 abbrev pub entry_text : Subject → Refinement → List ℕ
@@ -71,11 +79,12 @@ AreSavingRows source = AreRows (IsSavingRow (IsEndIn source.text (line_of source
 abbrev pub heading : List ℕ
 heading = codes "\nWhat would save most, in ticks at most (state only what is true):\n"
 
--- a row for each saving under the heading, and nothing where there are none
-pub record IsSavingsText (source : Source) (st : Stated) (flow : Flow) (walk : List Edge) (text : List ℕ)
-    : Type 0 where
+-- a row for each saving at a word of an image under the heading, by the lines of a source, and nothing where
+-- there are none
+pub record IsSavingsText (source : Source) (image : Words) (st : Stated) (flow : Flow) (walk : List Edge)
+    (text : List ℕ) : Type 0 where
   pub list : List Saving
   pub rows : List ℕ
-  pub are_savings : AreSavings source.image st flow walk list
+  pub are_savings : AreSavings image st flow walk list
   pub are_rows : AreSavingRows source list rows
   pub text_is : text ≡ section heading rows

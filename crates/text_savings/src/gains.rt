@@ -1,11 +1,15 @@
-ghost use Rattle.std.specs.Prelude.{◌≡◌};
+ghost use Rattle.std.specs.Prelude.{◌≡◌, is_some, nat_eq};
+ghost use Rattle.std.specs.Map.{lookup};
+ghost use Rattle.arm2_decode.specs.Names.{is_same};
 ghost use Rattle.control_flow.specs.Kinds.{IsWork, work_of};
-ghost use Rattle.text_savings.specs.Gains.{leave_gain, operation_gain, transfer_gain};
+ghost use Rattle.text_savings.specs.Gains.{leave_gain, may_exchange, operands_of, operation_gain};
+ghost use Rattle.text_savings.specs.Gains.{transfer_gain, unstated_gain};
 
 use crate::classes::{ClassChange, PricedClass, class_gain};
-use arm2_decode::Operation;
+use arm2_decode::{Operation, Register};
 use bus_ticks::{Class, Profile, worst_leave};
-use control_flow::{Work, is_multiply, transfer_work, work_ticks};
+use control_flow::{Work, base_of, is_multiply, transfer_work, work_ticks};
+use statement::Statement;
 
 // What a transfer is offered in place of any.
 const FOR_ANY: [Class; 3] = [Class::Ram, Class::Rom, Class::Io];
@@ -16,11 +20,18 @@ const FOR_IO: [Class; 4] = [Class::Slow, Class::Medium, Class::Fast, Class::Sync
 // What the way out is offered in place of any.
 const WAYS_OUT: [Class; 3] = [Class::Ram, Class::Rom, Class::Io];
 
+/// Whether the operands Rm and Rs of a multiply may be exchanged.
+#[derive(Clone, Copy)]
+pub(crate) enum Operands {
+    Exchangeable,
+    Fixed,
+}
+
 /// What a price would take for granted in place of what it does.
 #[derive(Clone, Copy)]
 pub(crate) enum Refinement {
-    /// That a multiply takes 15 cycles, and not 16.
-    Multiplier,
+    /// That a multiply with such operands takes 15 cycles, and not 16.
+    Multiplier(Operands),
     /// Addresses of another class.
     Addresses(ClassChange),
 }
@@ -51,20 +62,78 @@ fn transfer_gain(profile: &Profile, class: Class, work: Work) -> Option<Gain>
     }
 }
 
-/// What the next better class of what it transfers takes off an operation's price, if its class is any or io,
-/// or one cycle less off a multiply's. None where nothing does.
-pub(crate) fn operation_gain(profile: &Profile, class: Class, operation: &Operation) -> Option<Gain>
+fn is_same(register: Register, other: Register) -> bool
+    ensures { result ≡ is_same register other }
+{
+    register.number() == other.number()
+}
+
+// Whether an operation is a multiply of two registers of which the multiplier is not the destination: Rm may
+// not be Rd.
+fn may_exchange(operation: &Operation) -> bool
+    ensures { result ≡ may_exchange operation.now }
+{
+    let Operation::Multiply(x) = operation else {
+        return false;
+    };
+    !is_same(x.rs, x.rd) && !is_same(x.rs, x.rm)
+}
+
+fn operands_of(operation: &Operation) -> Operands
+    ensures { result ≡ operands_of operation.now }
+{
+    if may_exchange(operation) {
+        Operands::Exchangeable
+    } else {
+        Operands::Fixed
+    }
+}
+
+fn has_cycles(statement: &Statement, at: u32) -> bool
+    ensures { result ≡ is_some (lookup (nat_eq at) statement.now.multiplies) }
+{
+    statement.multiplies().contains_key(&at)
+}
+
+// What one cycle less takes off the price of a multiply, if its cycles are not stated.
+fn unstated_gain(
+    statement: &Statement,
+    profile: &Profile,
+    at: u32,
+    operation: &Operation,
+) -> Option<Gain>
+    ensures { result ≡ unstated_gain statement.now profile.now at operation.now }
+{
+    if has_cycles(statement, at) {
+        return None;
+    }
+    Some(Gain {
+        refinement: Refinement::Multiplier(operands_of(operation)),
+        ticks: profile.internal,
+    })
+}
+
+/// What the next better class of what it transfers takes off the price of an operation at an address, if its
+/// class is any or io, or one cycle less off that of a multiply whose cycles are not stated. None where
+/// nothing does.
+pub(crate) fn operation_gain(
+    statement: &Statement,
+    profile: &Profile,
+    at: u32,
+    operation: &Operation,
+) -> Option<Gain>
     requires { IsWork (work_of operation.now) }
-    ensures { result ≡ operation_gain profile.now class operation.now }
+    ensures { result ≡ operation_gain statement.now profile.now at operation.now }
 {
     if is_multiply(operation) {
-        return Some(Gain {
-            refinement: Refinement::Multiplier,
-            ticks: profile.internal,
-        });
+        return unstated_gain(statement, profile, at, operation);
     }
     match operation.moved() {
-        Some(moved) => transfer_gain(profile, class, transfer_work(moved.load, moved.words)),
+        Some(moved) => transfer_gain(
+            profile,
+            statement.class_at(at, base_of(operation)),
+            transfer_work(moved.load, moved.words),
+        ),
         None => None,
     }
 }

@@ -8,7 +8,7 @@ ghost use Rattle.control_flow.specs.Edges.{do_ticks, jump_ticks, work_ticks};
 ghost use Rattle.control_flow.specs.Kinds.{instr_action};
 ghost use Rattle.control_flow.specs.declared.places.Place.{Place};
 ghost use Rattle.control_flow.specs.declared.places.Place.TheVariants.{Exit};
-ghost use Rattle.statement.specs.Stated.{Stated, class_at};
+ghost use Rattle.statement.specs.Stated.{Stated};
 ghost use Rattle.text_savings.specs.Changed.{with_access, with_leave};
 ghost use Rattle.text_savings.specs.Gains.{IsDearestBelow, leave_gain, offered, offered_ways_out};
 ghost use Rattle.text_savings.specs.Gains.{operation_gain, transfer_gain};
@@ -35,7 +35,7 @@ pub fn times_are_of_the_walk()
 /// ticks less. It does nothing.
 pub fn gains_are_of_the_prices()
     ensures access { (st : Stated) (profile : Profile) (a : ℕ) (i : Instr) (to : Place) (gain : Gain)
-        (change : ClassChange) → operation_gain profile (class_at st a) i.operation ≡ Some gain
+        (change : ClassChange) → operation_gain st profile a i.operation ≡ Some gain
         → gain.refinement ≡ Addresses change
         → do_ticks (with_access st a change.better) profile a (instr_action i) to + gain.ticks
         ≡ do_ticks st profile a (instr_action i) to }

@@ -71,7 +71,7 @@ fn word_gain(statement: &Statement, profile: &Profile, at: u32, word: u32) -> Op
     ensures { IsWordGain statement.now profile.now at word result }
 {
     match decode(word) {
-        Ok(instr) => operation_gain(profile, statement.class_at(at), &instr.operation),
+        Ok(instr) => operation_gain(statement, profile, at, &instr.operation),
         Err(_) => None,
     }
 }
@@ -135,9 +135,10 @@ fn found_savings(
 
 /// What better entries of a statement would save by a greatest walk: for each load and store whose class is
 /// any or io, and for the way out of the handler if its class is any, the next better class, and for each
-/// multiply one of 15 cycles. The next better class is, of those that may be stated there and lie within the
-/// present one, the one whose price is the greatest below the present one's. A stated class is true, so none
-/// outside it is better. Another walk may then be the greatest, so the bound would be less by that at most.
+/// multiply whose cycles are not stated one of 15 cycles. The next better class is, of those that may be
+/// stated there and lie within the present one, the one whose price is the greatest below the present one's.
+/// A stated class is true, so none outside it is better. Another walk may then be the greatest, so the bound
+/// would be less by that at most.
 ///
 /// Those that save most come first; of equals the lowest address, and the way out last. What saves nothing is
 /// not there.

@@ -8,7 +8,7 @@ ghost use Rattle.text_savings.specs.Sections.{refinement_text};
 ghost use Rattle.text_savings.specs.declared.saving.Subject.{Subject};
 ghost use Rattle.text_rows.specs.WordLines.{numbered_at};
 
-use crate::gains::Refinement;
+use crate::gains::{Operands, Refinement};
 use crate::saving::{Saving, Subject, savings};
 use longest_walk::Longest;
 use loop_bounds::Handler;
@@ -28,7 +28,8 @@ fn put_refinement(out: &mut Vec<u8>, refinement: Refinement) -> Result<(), Alloc
     ensures { OnOk result (out.new.items ≡ out.old.items ++ refinement_text refinement) }
 {
     match refinement {
-        Refinement::Multiplier => put(out, b"m = 15"),
+        Refinement::Multiplier(Operands::Exchangeable) => put(out, b"m = 15 swap Rm,Rs?"),
+        Refinement::Multiplier(Operands::Fixed) => put(out, b"m = 15"),
         Refinement::Addresses(change) => {
             put(out, class_name(change.better).as_bytes())?;
             put(out, b" for ")?;
@@ -154,7 +155,7 @@ fn source_rows(alloc: Global, source: &Source<'_>, list: &[Saving]) -> Result<Ve
 /// What better entries of a statement would save by a greatest walk: under a heading a row for each of the
 /// [`savings`], with the ticks, the better entry, and the address, the number and the text of its line,
 /// or, of an image, the address, the word and the line that [`disassemble`](assembler::disassemble) shows.
-/// A row ends at column 80. Nothing where there are no savings. The handler's image is the source's.
+/// A row ends at column 80. Nothing where there are no savings. Words are those of the handler's image.
 ///
 /// # Errors
 ///
@@ -165,10 +166,9 @@ pub fn savings_text(
     handler: &Handler<'_>,
     longest: &Longest,
 ) -> Result<Vec<u8>, AllocError>
-    requires { handler.now.image.now ≡ source.now.image }
     ensures { IfOk result
-        (λ text. IsSavingsText source.now handler.now.statement handler.now.graph (unfolded longest.now.walk)
-        text.items) }
+        (λ text. IsSavingsText source.now handler.now.image.now handler.now.statement handler.now.graph
+        (unfolded longest.now.walk) text.items) }
 {
     let list = savings(alloc, handler, longest)?;
     let rows = source_rows(alloc, source, &list)?;

@@ -6,7 +6,8 @@ use Rattle.flow_graph.proofs.tight_setting.setting_for.Goals as goal
 
 pub returns-in-Multiply : goal.returns-in-Multiply
 returns-in-Multiply c =
-    rw (c.in-Multiply.is, c.of_register.ensures) (multiply_sets c.args.aim.now c.in-Multiply.x)
+    rw (c.in-Multiply.is, c.of_register.ensures)
+    (multiply_sets c.args.aim.now c.in-Multiply.x c.multiplier_of.result c.multiplier_of.ensures)
 
 pub returns-in-DataRegister : goal.returns-in-DataRegister
 returns-in-DataRegister c =

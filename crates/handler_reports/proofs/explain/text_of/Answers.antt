@@ -1,21 +1,33 @@
 use Rattle.std.proofs.Common.{rules, subst}
 use Rattle.image.specs.Image.{Words}
+use Rattle.longest_walk.specs.Folded.{unfolded}
+use Rattle.text_explained.specs.Assumed.{AreAssumptions}
 use Rattle.text_explained.specs.Idle.{AreIdleEntries}
+use Rattle.text_explained.specs.Rules.{AreRuleLines}
+use Rattle.text_explained.specs.Starts.{latest_at}
+use Rattle.text_explained.specs.Table.{IsTable}
+use Rattle.text_savings.specs.Sections.{IsSavingsText}
 use Rattle.handler_reports.proofs.explain.text_of.Goals as goal
 
+-- the handler's image is the source's
 pub returns : goal.returns
-returns c = record {
-  table = c.in_ok-text.text.items;
-  burst_lines = c.in_ok-rest.rest.items;
-  assumptions = c.in_ok-assumptions.assumptions.items;
-  idle = c.in_ok-idle.idle.items;
-  savings = c.in_ok-saved.saved.items;
-  is_table = c.in_ok-text.ensures;
-  are_burst_lines = c.in_ok-rest.ensures;
-  are_assumptions = c.in_ok-assumptions.ensures;
-  are_idle =
-      let h = c.args.handler.now in
-      subst (λ (w : Words). AreIdleEntries w h.statement h.graph c.in_ok-idle.idle.items) c.requires c.in_ok-idle.ensures;
-  are_savings = c.in_ok-saved.ensures;
-  text_is = search rules;
-}
+returns c =
+    let h = c.args.handler.now in
+    let read = c.args.read.now in
+    let walk = c.args.walk in
+    let longest = walk.timed.longest.now in
+    record {
+      table = c.in_ok-text.text.items;
+      burst_lines = c.in_ok-rest.rest.items;
+      assumptions = c.in_ok-assumptions.assumptions.items;
+      rules = c.in_ok-rules.rules.items;
+      idle = c.in_ok-idle.idle.items;
+      savings = c.in_ok-saved.saved.items;
+      is_table = subst (λ (w : Words). IsTable read w h.statement h.graph (unfolded longest.walk) (latest_at h.graph.places walk.timed.starts.now) longest.bound c.in_ok-text.text.items) c.requires c.in_ok-text.ensures;
+      are_burst_lines = c.in_ok-rest.ensures;
+      are_assumptions = subst (λ (w : Words). AreAssumptions read w h.statement h.graph c.in_ok-assumptions.assumptions.items) c.requires c.in_ok-assumptions.ensures;
+      are_rules = subst (λ (w : Words). AreRuleLines w h.statement h.graph c.in_ok-rules.rules.items) c.requires c.in_ok-rules.ensures;
+      are_idle = subst (λ (w : Words). AreIdleEntries w h.statement h.graph c.in_ok-idle.idle.items) c.requires c.in_ok-idle.ensures;
+      are_savings = subst (λ (w : Words). IsSavingsText read w h.statement h.graph (unfolded longest.walk) c.in_ok-saved.saved.items) c.requires c.in_ok-saved.ensures;
+      text_is = search rules;
+    }

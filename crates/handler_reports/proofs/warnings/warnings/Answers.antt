@@ -1,4 +1,6 @@
-use Rattle.std.proofs.Common.{refl}
+use Rattle.std.proofs.Common.{◌≡◌, true, refl, subst}
+use Rattle.image.specs.Image.{Words}
+use Rattle.text_explained.specs.Assumed.{AreDoneReturns}
 use Rattle.std.proofs.lemmas.Result.{IfOk-weaker}
 use Rattle.std.specs.BTreeSet.{contains}
 use Rattle.std.specs.Ordering.{nat_cmp}
@@ -14,6 +16,8 @@ returns c = λ source passes is_read tally.
       read = read;
       is_read = is_read;
       words_are = refl;
-      are_done = returns_as _ _ (done_exactly h.graph passes c.args.by_place.now tally (contains nat_cmp c.in_ok-done.done) c.in_ok-done.ensures) read h.statement h.graph text.items is;
+      are_done =
+          returns_as _ _ (done_exactly h.graph passes c.args.by_place.now tally (contains nat_cmp c.in_ok-done.done) c.in_ok-done.ensures) read read.image h.statement h.graph text.items
+          (subst (λ (w : Words). AreDoneReturns read w h.statement h.graph (λ a. contains nat_cmp c.in_ok-done.done a ≡ true) text.items) c.requires.image is);
     })
     c.done_text.ensures

@@ -1,6 +1,6 @@
 use Rattle.std.proofs.Common.{◌+◌, ◌++◌, None, drop, ap, subst, take, ◌∙◌}
-use Rattle.statement.specs.PlaceTests.{AreSeen, repeats_after}
-use Rattle.statement.proofs.RepeatLemmas.{all_tested, repeats_more, take_next}
+use Rattle.statement.specs.PlaceTests.{AreSeen, tests_after, was_there}
+use Rattle.statement.proofs.RepeatLemmas.{all_tested, take_next, tests_more}
 use Rattle.statement.proofs.repeats.repeats.Goals as goal
 
 pub loop-number-preserved : goal.loop-number-preserved
@@ -12,12 +12,12 @@ loop-number-preserved c =
           subst (λ before. AreSeen before c.add.new.seen) (take_next xs i None c.loop-number-test.true)
           (c.in_ok-known.ensures.added (take i xs) c.loop-number.invariant.seen);
       tests =
-          ap (λ tests. tests ++ repeats_after (take (i + 1) xs) (drop (i + 1) xs)) c.in_ok-push.ensures.items
-          ∙ repeats_more xs c.loop-number.tests.items i None c.in_ok-known.known c.loop-number-test.true
+          ap (λ tests. tests ++ tests_after was_there (take (i + 1) xs) (drop (i + 1) xs)) c.in_ok-push.ensures.items
+          ∙ tests_more was_there xs c.loop-number.tests.items i None c.in_ok-known.known c.loop-number-test.true
           (c.in_ok-known.ensures.known (take i xs) c.loop-number.invariant.seen) c.loop-number.invariant.tests;
     }
 
 pub returns : goal.returns
 returns c =
-    all_tested c.args.numbers.now c.loop-number.tests.items c.loop-number.number-index c.loop-number-test.false
+    all_tested was_there c.args.numbers.now c.loop-number.tests.items c.loop-number.number-index c.loop-number-test.false
     c.loop-number.invariant.tests

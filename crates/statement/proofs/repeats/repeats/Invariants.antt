@@ -1,10 +1,10 @@
 use Rattle.std.proofs.Common.{◌≡◌, ◌++◌, [], drop, take}
-use Rattle.statement.specs.PlaceTests.{AreSeen, repeats_after}
+use Rattle.statement.specs.PlaceTests.{AreSeen, tests_after, was_there}
 use Rattle.statement.proofs.repeats.repeats.Given as goal
 
 abbrev pub invariant-loop-number : goal.invariant-loop-number
 invariant-loop-number l = record {
   seen : AreSeen (take l.number-index l.numbers) l.seen;
-  tests : l.tests.items ++ repeats_after (take l.number-index l.numbers) (drop l.number-index l.numbers)
-      ≡ repeats_after [] l.numbers;
+  tests : l.tests.items ++ tests_after was_there (take l.number-index l.numbers) (drop l.number-index l.numbers)
+      ≡ tests_after was_there [] l.numbers;
 }

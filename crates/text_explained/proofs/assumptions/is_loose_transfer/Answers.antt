@@ -1,8 +1,11 @@
-use Rattle.std.proofs.Common.{◌∙◌, sym}
+use Rattle.text_explained.specs.Assumed.{IsLoose}
+use Rattle.text_explained.proofs.InstrLaws.{instr_decides, none_decides}
 use Rattle.text_explained.proofs.assumptions.is_loose_transfer.Goals as goal
 
-pub returns-then-may_transfer_at : goal.returns-then-may_transfer_at
-returns-then-may_transfer_at c = (
-  λ e. record { transfers = c.may_transfer_at.ensures.0 c.if-may_transfer_at.true; loose = sym c.class_at.ensures ∙ c.is_any.ensures.0 e },
-  λ h. c.is_any.ensures.1 (c.class_at.ensures ∙ h.loose),
-)
+pub returns-in-Some : goal.returns-in-Some
+returns-in-Some c =
+    instr_decides (IsLoose c.args.statement.now c.args.at) c.args.image.now c.args.at c.in-Some.instr c.is_loose.result c.in-Some.ensures.some c.in-Some.ensures.only
+    c.is_loose.ensures
+
+pub returns-in-None : goal.returns-in-None
+returns-in-None c = none_decides (IsLoose c.args.statement.now c.args.at) c.args.image.now c.args.at c.in-None.ensures.only

@@ -1,17 +1,14 @@
-use Rattle.std.proofs.Common.{◌∙◌, ℕ, List, ap}
 use Rattle.std.specs.BTreeSet.{contains}
-use Rattle.std.specs.Map.{keys_of}
 use Rattle.std.specs.Ordering.{nat_cmp}
-use Rattle.bus_ticks.specs.declared.profile.Class.{Class}
-use Rattle.statement.specs.Stated.{Target}
+use Rattle.std.proofs.Common.{◌∙◌, ap}
+use Rattle.std.specs.Map.{keys_of}
 use Rattle.text_explained.proofs.IdleLaws.{all_idle}
 use Rattle.text_explained.proofs.idle.idle_rows.Goals as goal
 
 pub returns : goal.returns
 returns c =
-    all_idle c.args.handler.now.image.now c.args.handler.now.statement c.args.handler.now.graph (contains nat_cmp c.in_ok-done.done)
-    c.loops.result.now c.deref.result.now c.deref-2.result.now c.new-rows.result.items c.put_loops.new.out.items c.put_targets.new.out.items
-    c.put_accesses.new.out.items c.in_ok-done.ensures c.loops.ensures.value
-    (c.deref.ensures.value ∙ c.in_ok-targets.ensures ∙ ap (λ (ts : List (ℕ × Target)). keys_of ts) c.targets.ensures)
-    (c.deref-2.ensures.value ∙ c.in_ok-accesses.ensures ∙ ap (λ (es : List (ℕ × Class)). keys_of es) c.accesses.ensures)
-    c.new-rows.ensures.items c.in_ok-put_loops.ensures c.in_ok-put_targets.ensures c.in_ok-put_accesses.ensures
+    all_idle c.args.handler.now.image.now c.args.handler.now.statement c.args.handler.now.graph (contains nat_cmp c.in_ok-done.done) (contains nat_cmp c.in_ok-reached.reached)
+    c.loops.result.now (keys_of c.targets.result.now.entries) (keys_of c.accesses.result.now.entries) (keys_of c.multiplies.result.now.entries) (keys_of c.branches.result.now.entries)
+    c.new-rows.result.items c.put_loops.new.out.items c.put_stated.new.out.items c.put_stated-2.new.out.items c.put_rules.new.out.items c.put_stated-3.new.out.items c.put_stated-4.new.out.items
+    c.in_ok-done.ensures c.in_ok-reached.ensures c.loops.ensures.value (ap keys_of c.targets.ensures) (ap keys_of c.accesses.ensures) (ap keys_of c.multiplies.ensures) (ap keys_of c.branches.ensures)
+    c.new-rows.ensures.items c.in_ok-put_loops.ensures c.in_ok-put_stated.ensures c.in_ok-put_stated-2.ensures c.in_ok-put_rules.ensures c.in_ok-put_stated-3.ensures c.in_ok-put_stated-4.ensures

@@ -12,7 +12,7 @@ returns-then-turns_back c =
 pub returns : goal.returns
 returns c =
     let Counts = LoopCounts c.args.graph.now c.args.stated.now in
-    on_ok_weaker c.put_entry.result
-    (idle_row Counts (loop_row c.args.stated.now.header) c.args.out.now.items c.put_entry.new.out.items
+    on_ok_weaker c.put_between.result
+    (idle_row Counts (loop_row c.args.stated.now.header) c.args.out.now.items c.put_between.new.out.items
     (not_both c.turns_back.result Counts (λ counts. c.turns_back.ensures ∙ counts) c.if-turns_back.false))
-    c.put_entry.ensures
+    c.put_between.ensures

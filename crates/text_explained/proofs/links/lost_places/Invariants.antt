@@ -7,9 +7,9 @@ use Rattle.text_explained.proofs.links.lost_places.Given as goal
 
 abbrev pub invariant-loop-next : goal.invariant-loop-next
 invariant-loop-next l = record {
-  well : IsWellFormed l.graph;
+  well : IsWellFormed l.handler.graph;
   found : HasSameMembers by_order l.lost.seen l.lost.order.items;
-  search : IsSearch l.image l.graph l.fn.by l.lost.order.items l.next;
+  search : IsSearch l.handler.image.now l.handler.statement l.handler.graph l.fn.by l.lost.order.items l.next;
 }
 
 abbrev pub decreases-loop-next : goal.decreases-loop-next

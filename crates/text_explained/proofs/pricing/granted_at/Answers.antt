@@ -1,7 +1,5 @@
 use Rattle.std.proofs.Common.{◌≡◌, ◌∙◌, None, Some, ap, refl}
 use Rattle.arm2_decode.specs.declared.instr.Instr.{Instr}
-use Rattle.bus_ticks.specs.declared.profile.Class.{Class}
-use Rattle.statement.specs.Stated.{class_at}
 use Rattle.text_explained.specs.Pricing.{instr_granted}
 use Rattle.text_explained.proofs.pricing.granted_at.Goals as goal
 
@@ -10,8 +8,7 @@ returns-in-Some c = record {
   of_instr = λ i has.
       let both : Some c.in-Some.instr ≡ Some i = c.in-Some.ensures.only i has in
       let same : c.in-Some.instr ≡ i = cc in
-      c.instr_granted.ensures ∙ ap (λ (k : Class). instr_granted k c.in-Some.instr) c.class_at.ensures
-      ∙ ap (λ (j : Instr). instr_granted (class_at c.args.statement.now c.args.at) j) same;
+      c.instr_granted.ensures ∙ ap (λ (j : Instr). instr_granted c.args.statement.now c.args.at j) same;
   of_none = λ none. absurd (none c.in-Some.instr c.in-Some.ensures.some);
 }
 

@@ -1,10 +1,7 @@
-use Rattle.std.proofs.Common.{subst}
 use Rattle.std.specs.BTreeMap.{get}
 use Rattle.std.specs.Ordering.{nat_cmp}
-use Rattle.image.specs.Image.{Words}
 use Rattle.longest_walk.specs.Folded.{unfolded}
 use Rattle.text_explained.specs.Costing.{figures_of}
-use Rattle.text_explained.specs.Pricing.{ArePriced}
 use Rattle.text_explained.specs.Starts.{latest_at}
 use Rattle.text_explained.specs.Table.{walk_figures}
 use Rattle.text_explained.proofs.ImageLaws.{figures_are, table_whole}
@@ -21,7 +18,7 @@ returns c =
     let prices = get nat_cmp costing.prices in
     let walk = walk_figures handler.now.graph (unfolded longest.walk) (latest_at handler.now.graph.places starts) longest.bound prices in (
       prices,
-      subst (λ (w : Words). ArePriced w handler.now.statement handler.now.graph prices) c.requires is.prices,
+      is.prices,
       table_whole (figures_of costing) walk c.in_ok-ticks.ticks source c.rows_by.result c.in_ok-out.out.items c.put_rows.new.out.items c.put_end.new.out.items
           (figures_are handler.now.image.now handler.now.statement handler.now.graph longest starts costing is) c.rows_by.ensures c.in_ok-out.ensures
           c.in_ok-put_rows.ensures c.in_ok-ticks.ensures c.in_ok-put_end.ensures,

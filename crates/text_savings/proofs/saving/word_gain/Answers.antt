@@ -1,9 +1,7 @@
 use Rattle.std.proofs.Common.{◌≡◌, ◌∙◌, inl, Ok, Err, ap, refl}
 use Rattle.arm2_decode.specs.declared.instr.Instr.{Instr}
-use Rattle.bus_ticks.specs.declared.profile.Class.{Class}
 use Rattle.control_flow.proofs.WorkLemmas.{action_fits}
 use Rattle.control_flow.specs.Kinds.{instr_action}
-use Rattle.statement.specs.Stated.{class_at}
 use Rattle.text_savings.specs.Gains.{operation_gain}
 use Rattle.text_savings.proofs.saving.word_gain.Goals as goal
 
@@ -15,8 +13,7 @@ returns-in-Ok c = record {
   of_instr = λ i means.
       let both : Ok c.in-Ok.instr ≡ Ok i = c.in-Ok.ensures.only i means in
       let same : c.in-Ok.instr ≡ i = cc in
-      c.operation_gain.ensures ∙ ap (λ (k : Class). operation_gain c.args.profile.now k c.in-Ok.instr.operation) c.class_at.ensures
-      ∙ ap (λ (j : Instr). operation_gain c.args.profile.now (class_at c.args.statement.now c.args.at) j.operation) same;
+      c.operation_gain.ensures ∙ ap (λ (j : Instr). operation_gain c.args.statement.now c.args.profile.now c.args.at j.operation) same;
   of_none = λ none. absurd (none c.in-Ok.instr c.in-Ok.ensures.found);
 }
 

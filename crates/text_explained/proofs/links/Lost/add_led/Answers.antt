@@ -7,6 +7,6 @@ use Rattle.text_explained.proofs.links.Lost.add_led.Goals as goal
 pub returns-clause-grows : goal.returns-clause-grows
 returns-clause-grows c =
     on_ok_weaker c.add.result
-    (grows_one (LeadsTo c.args.image.now c.args.step c.args.edge.now) c.args.self.now.order.items c.args.edge.now.to c.add.new.self.order.items
-    (led_one c.args.image.now c.args.step c.args.edge.now (c.does.ensures.0 c.if-not-does.false)))
+    (grows_one (LeadsTo c.args.handler.now.image.now c.args.handler.now.statement c.args.step c.args.edge.now) c.args.self.now.order.items c.args.edge.now.to c.add.new.self.order.items
+    (led_one c.args.handler.now.image.now c.args.handler.now.statement c.args.step c.args.edge.now (c.does.ensures.0 c.if-not-does.false)))
     c.add.ensures.adds

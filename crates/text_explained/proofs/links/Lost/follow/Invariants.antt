@@ -7,5 +7,5 @@ use Rattle.text_explained.proofs.links.Lost.follow.Given as goal
 abbrev pub invariant-loop-edge : goal.invariant-loop-edge
 invariant-loop-edge l = record {
   found : HasSameMembers by_order l.self.seen l.self.order.items;
-  grows : Grows HasRoom (ByEdge l.image l.step (take l.edge-index l.edges)) l.fn.self.order.items l.self.order.items;
+  grows : Grows HasRoom (ByEdge l.handler.image.now l.handler.statement l.step (take l.edge-index l.edges)) l.fn.self.order.items l.self.order.items;
 }

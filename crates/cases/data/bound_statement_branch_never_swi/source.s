@@ -1,0 +1,2 @@
+start    SWINE  5
+         SUBS   PC,R14,#4

@@ -1,0 +1,2 @@
+start    MOVNE  PC,R1
+         SUBS   PC,R14,#4

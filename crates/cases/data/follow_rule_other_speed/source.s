@@ -1,0 +1,3 @@
+; Reads two words, and returns from the interrupt.
+start    LDMIA  R1,{R2,R3}
+         SUBS   PC,R14,#4
