@@ -26,3 +26,9 @@ pub returns-clause-carries : goal.returns-clause-carries
 returns-clause-carries c =
     IfErr-weaker c.stated_handler.result _ _ (carried c.args.source.now c.args.text.now c.args.profile.now)
     (c.stated_handler.ensures.stops c.args.text.now c.in_ok-statement.ensures.is)
+
+pub returns-clause-is : goal.returns-clause-is
+returns-clause-is c = c.stated_handler.ensures.is c.args.text.now c.in_ok-statement.ensures.is
+
+pub returns-clause-stops : goal.returns-clause-stops
+returns-clause-stops c = c.stated_handler.ensures.stops c.args.text.now c.in_ok-statement.ensures.is
