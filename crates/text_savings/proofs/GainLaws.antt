@@ -1,5 +1,5 @@
 -- What a gain is: the difference of two prices.
-use Rattle.std.proofs.Common.{◌≡◌, ◌∙◌, ℕ, ◌+◌, ◌-◌, ◌<◌, ◌≤◌, max, Bool, true, false, cond, eqb, nat_lt, ◌==◌, List, [], ◌∷◌, map, filter, find, fold, All, Contains, Option, Some, None, option_map, ⊎_elim, refl, sym, ap, subst, arith}
+use Rattle.std.proofs.Common.{◌≡◌, ◌∙◌, ℕ, ◌+◌, ◌-◌, ◌*◌, ◌<◌, ◌≤◌, max, min, Bool, true, false, cond, eqb, nat_lt, ◌==◌, List, [], ◌∷◌, map, filter, find, fold, All, Contains, Option, Some, None, option_map, ⊎_elim, refl, sym, ap, subst, arith}
 use Rattle.std.specs.Prelude.{if◌then◌else◌, is_some, unwrap_or}
 use Rattle.std.specs.Map.{lookup}
 use Rattle.std.specs.Option.{option_or}
@@ -19,19 +19,21 @@ use Rattle.bus_ticks.specs.declared.profile.Profile.{Profile}
 use Rattle.bus_ticks.specs.Worst.{IsOf, worst_leave}
 use Rattle.control_flow.specs.declared.actions.Kind.{Kind}
 use Rattle.control_flow.specs.declared.actions.Work.{Work}
+use Rattle.control_flow.specs.declared.actions.Work.TheVariants.{Internal}
 use Rattle.control_flow.specs.declared.places.Place.{Place}
 use Rattle.control_flow.specs.declared.places.Place.TheVariants.{Exit}
 use Rattle.control_flow.specs.Edges.{arrival_ticks, do_ticks, fetch_ticks, jump_ticks, stated_work, work_ticks}
 use Rattle.control_flow.proofs.LabelLemmas.{from_map}
 use Rattle.control_flow.proofs.SortedLemmas.{cons_cases, no_member}
 use Rattle.control_flow.specs.Kinds.{action, base_of, instr_action, kind_of, transfer_work, work_of}
-use Rattle.statement.specs.Stated.{Stated, class_at, ruled_class}
+use Rattle.statement.specs.Stated.{Stated, class_at, cycles_at, ruled_class}
 use Rattle.walks.proofs.RowLemmas.{find_some}
-use Rattle.text_savings.specs.Changed.{with_access, with_leave}
+use Rattle.text_savings.specs.Changed.{with_access, with_cycles, with_leave}
 use Rattle.text_savings.specs.Gains.{IsDearestBelow, class_gain, leave_gain, multiply_gain, next_class, next_gain, next_price, offered, offered_ways_out, operands_of, operation_gain, priced, transfer_gain, unstated_gain}
 use Rattle.text_savings.specs.declared.classes.ClassChange.{ClassChange}
 use Rattle.text_savings.specs.declared.classes.PricedClass.{PricedClass}
 use Rattle.text_savings.specs.declared.gains.Gain.{Gain}
+use Rattle.text_savings.specs.declared.gains.Operands.{Operands}
 use Rattle.text_savings.specs.declared.gains.Refinement.TheVariants.{Addresses, Multiplier}
 
 -- ## The next better class
@@ -209,6 +211,86 @@ pub access_gains : (st : Stated) (profile : Profile) (a : ℕ) (i : Instr) (to :
     → operation_gain st profile a i.operation ≡ Some g → g.refinement ≡ Addresses change
     → do_ticks (with_access st a change.better) profile a (instr_action i) to + g.ticks ≡ do_ticks st profile a (instr_action i) to
 access_gains st profile a i to g change gain is = of_operation st profile a i.cond to g change is i.operation gain
+
+-- ## Multiplies
+
+is_most : (stated : Option ℕ) → is_some stated ≡ false → unwrap_or stated 16 ≡ 16
+is_most None free = refl
+is_most (Some n) free = cc
+
+most_cycles : (st : Stated) (a : ℕ) → is_some (lookup (eqb a) st.multiplies) ≡ false → min 16 (cycles_at st a) ≡ 16
+most_cycles st a free = ap (λ n. min 16 (max 1 (min 16 n))) (is_most (lookup (eqb a) st.multiplies) free)
+
+one_less : (st : Stated) (a : ℕ) → min 16 (cycles_at (with_cycles st a 15) a) ≡ 15
+one_less st a = ap (λ b. min 16 (max 1 (min 16 (unwrap_or (if b then Some 15 else lookup (eqb a) st.multiplies) 16)))) (eq-eqb a a refl)
+
+by_cycles : (st : Stated) (profile : Profile) (a : ℕ) (c : Cond) (k : Kind) (base : Option Register) (to : Place) (ticks : ℕ)
+    → is_some (lookup (eqb a) st.multiplies) ≡ false → 16 * profile.internal - 15 * profile.internal ≡ ticks
+    → do_ticks (with_cycles st a 15) profile a (action c k (Internal 16) base) to + ticks ≡ do_ticks st profile a (action c k (Internal 16) base) to
+by_cycles st profile a c k base to ticks free is =
+    let fetch = fetch_ticks profile a (Internal 16) in
+    let arrival = arrival_ticks profile st.leave k to in
+    ap (λ n. fetch + n * profile.internal + arrival + ticks) (one_less st a)
+    ∙ sums fetch profile.internal arrival ticks is
+    ∙ ap (λ n. fetch + n * profile.internal + arrival) (sym (most_cycles st a free))
+  where
+    sums : (fetch internal arrival ticks : ℕ) → 16 * internal - 15 * internal ≡ ticks
+        → fetch + 15 * internal + arrival + ticks ≡ fetch + 16 * internal + arrival
+    sums fetch internal arrival ticks is = omega arith
+
+-- what is gained by a class is not gained by a multiplier
+not_class : (class : Class) (present : ℕ) (cs : List PricedClass) (g : Gain) (operands : Operands)
+    → class_gain class present cs ≡ Some g → g.refinement ≡ Multiplier operands → ⊥
+not_class class present cs g operands gain is =
+    let next = next_price present cs in
+    ⊎_elim
+    (λ (none : (eqb next 0 ≡ true) × (None ≡ Some g)). not_none g none.1)
+    (λ (some : (eqb next 0 ≡ false) × (option_map (next_gain class present next) (next_class cs next) ≡ Some g)).
+    let named = map_is (next_gain class present next) (next_class cs next) g some.1 in
+    let both : Addresses (record { present = class; better = named.0 }) ≡ Multiplier operands = ap (λ (k : Gain). k.refinement) named.2 ∙ is in
+    cc)
+    (chosen (eqb next 0) None (option_map (next_gain class present next) (next_class cs next)) (Some g) gain)
+
+module _ (st : Stated) (profile : Profile) (a : ℕ) (c : Cond) (to : Place) (g : Gain) (operands : Operands) (is : g.refinement ≡ Multiplier operands) where
+  abbrev pub FallsByCycles : Operation → Type 0
+  FallsByCycles o = do_ticks (with_cycles st a 15) profile a (action c (kind_of o) (work_of o) (base_of o)) to + g.ticks ≡ do_ticks st profile a (action c (kind_of o) (work_of o) (base_of o)) to
+
+  of_multiply : (o : Operation) → unstated_gain st profile a o ≡ Some g
+      → (is_some (lookup (eqb a) st.multiplies) ≡ false) × (16 * profile.internal - 15 * profile.internal ≡ g.ticks)
+  of_multiply o gain = ⊎_elim
+      (λ stated. absurd (not_none g stated.1))
+      (λ free.
+      let unstated : Some (multiply_gain profile o) ≡ Some g = free.1 in
+      let same : multiply_gain profile o ≡ g = cc in
+      (free.0, ap (λ (x : Gain). x.ticks) same))
+      (chosen (is_some (lookup (eqb a) st.multiplies)) None (Some (multiply_gain profile o)) (Some g) gain)
+
+  moves : (o : Operation) (load : Bool) (words : ℕ) → transfer_gain profile (class_at st a (base_of o)) (transfer_work load words) ≡ Some g → FallsByCycles o
+  moves o load words gain =
+      let class = class_at st a (base_of o) in
+      let work = transfer_work load words in
+      absurd (not_class class (work_ticks profile class work) (map (priced (λ x. work_ticks profile x work)) (offered class)) g operands gain is)
+
+  by_operation : (o : Operation) → operation_gain st profile a o ≡ Some g → FallsByCycles o
+  by_operation (operation.Multiply x) gain =
+      let of = of_multiply (operation.Multiply x) gain in
+      by_cycles st profile a c (kind_of (operation.Multiply x)) (base_of (operation.Multiply x)) to g.ticks of.0 of.1
+  by_operation (operation.DataRegister x) gain = absurd (not_none g gain)
+  by_operation (operation.DataRegisterShift x) gain = absurd (not_none g gain)
+  by_operation (operation.DataImmediate x) gain = absurd (not_none g gain)
+  by_operation (operation.SingleImmediate x) gain = moves (operation.SingleImmediate x) x.load 1 gain
+  by_operation (operation.SingleRegister x) gain = moves (operation.SingleRegister x) x.load 1 gain
+  by_operation (operation.Block x) gain = moves (operation.Block x) x.load (word_count x.list) gain
+  by_operation (operation.Branch x) gain = absurd (not_none g gain)
+  by_operation (operation.Swi x) gain = absurd (not_none g gain)
+  by_operation (operation.UndefinedTransfer x) gain = absurd (not_none g gain)
+  by_operation (operation.CoprocessorTransfer x) gain = absurd (not_none g gain)
+  by_operation (operation.Coprocessor x) gain = absurd (not_none g gain)
+
+pub cycle_gains : (st : Stated) (profile : Profile) (a : ℕ) (i : Instr) (to : Place) (g : Gain) (operands : Operands)
+    → operation_gain st profile a i.operation ≡ Some g → g.refinement ≡ Multiplier operands
+    → do_ticks (with_cycles st a 15) profile a (instr_action i) to + g.ticks ≡ do_ticks st profile a (instr_action i) to
+cycle_gains st profile a i to g operands gain is = by_operation st profile a i.cond to g operands is i.operation gain
 
 pub leave_gains : (st : Stated) (profile : Profile) (g : Gain) (change : ClassChange) → leave_gain profile st.leave ≡ Some g → g.refinement ≡ Addresses change
     → jump_ticks profile (with_leave st change.better).leave Exit + g.ticks ≡ jump_ticks profile st.leave Exit

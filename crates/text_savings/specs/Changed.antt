@@ -10,3 +10,7 @@ with_access st a class = record st { accesses = (a, class) ∷ st.accesses }
 -- with another class of the addresses to which the handler leaves
 abbrev pub with_leave : Stated → Class → Stated
 with_leave st class = record st { leave = class }
+
+-- with the most cycles of the multiply at an address, before what is stated of it
+abbrev pub with_cycles : Stated → ℕ → ℕ → Stated
+with_cycles st a cycles = record st { multiplies = (a, cycles) ∷ st.multiplies }

@@ -9,12 +9,13 @@ ghost use Rattle.control_flow.specs.Kinds.{instr_action};
 ghost use Rattle.control_flow.specs.declared.places.Place.{Place};
 ghost use Rattle.control_flow.specs.declared.places.Place.TheVariants.{Exit};
 ghost use Rattle.statement.specs.Stated.{Stated};
-ghost use Rattle.text_savings.specs.Changed.{with_access, with_leave};
+ghost use Rattle.text_savings.specs.Changed.{with_access, with_cycles, with_leave};
 ghost use Rattle.text_savings.specs.Gains.{IsDearestBelow, leave_gain, offered, offered_ways_out};
 ghost use Rattle.text_savings.specs.Gains.{operation_gain, transfer_gain};
 ghost use Rattle.text_savings.specs.declared.classes.ClassChange.{ClassChange};
 ghost use Rattle.text_savings.specs.declared.gains.Gain.{Gain};
-ghost use Rattle.text_savings.specs.declared.gains.Refinement.TheVariants.{Addresses};
+ghost use Rattle.text_savings.specs.declared.gains.Operands.{Operands};
+ghost use Rattle.text_savings.specs.declared.gains.Refinement.TheVariants.{Addresses, Multiplier};
 ghost use Rattle.control_flow.specs.Flow.{Flow, IsWellFormed};
 ghost use Rattle.longest_walk.specs.Folded.{unfolded};
 ghost use Rattle.longest_walk.specs.Longest.{IsWalkOf};
@@ -38,6 +39,11 @@ pub fn gains_are_of_the_prices()
         (change : ClassChange) → operation_gain st profile a i.operation ≡ Some gain
         → gain.refinement ≡ Addresses change
         → do_ticks (with_access st a change.better) profile a (instr_action i) to + gain.ticks
+        ≡ do_ticks st profile a (instr_action i) to }
+    ensures cycles { (st : Stated) (profile : Profile) (a : ℕ) (i : Instr) (to : Place) (gain : Gain)
+        (operands : Operands) → operation_gain st profile a i.operation ≡ Some gain
+        → gain.refinement ≡ Multiplier operands
+        → do_ticks (with_cycles st a 15) profile a (instr_action i) to + gain.ticks
         ≡ do_ticks st profile a (instr_action i) to }
     ensures leave { (st : Stated) (profile : Profile) (gain : Gain) (change : ClassChange)
         → leave_gain profile st.leave ≡ Some gain → gain.refinement ≡ Addresses change
