@@ -65,14 +65,16 @@ module _ (words : Words) (open_left : Bool) where
       ⊎ ((open_left ≡ false) ⊎ ((is_pc register ≡ true) × ((at : ℕ) → Shows words at class)))
 
 module _ (words : Words) (open_left : Bool) (accesses : List FoundAccess) where
-  -- the register has a rule of the class, in place of two entries at least: of the most frequent class if that
-  -- may be, else of any
-  abbrev pub HasRule : Register → Class → Type 0
-  HasRule register class =
-      (2 ≤ count accesses register class)
-      × ((IsMostFrequent accesses register class × MayRule words open_left register class)
+  -- the class that a rule of the register has: the most frequent if it may, else any
+  abbrev pub IsRuleClass : Register → Class → Type 0
+  IsRuleClass register class =
+      (IsMostFrequent accesses register class × MayRule words open_left register class)
       ⊎ ((class ≡ Any)
-      × ((most : Class) → IsMostFrequent accesses register most → MayRule words open_left register most → ⊥)))
+      × ((most : Class) → IsMostFrequent accesses register most → MayRule words open_left register most → ⊥))
+
+  -- it has one, in place of two entries at least
+  abbrev pub HasRule : Register → Class → Type 0
+  HasRule register class = IsRuleClass register class × (2 ≤ count accesses register class)
 
   -- it says how many accesses it stands for, and where the first of them is
   pub record IsRule (r : FoundRule) : Type 0 where

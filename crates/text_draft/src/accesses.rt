@@ -78,33 +78,33 @@ fn class_shown(known: &Constants, at: u32, operation: &Operation) -> Class {
     block_class(known, at, x)
 }
 
-// The address that an operation shows by itself, so many bytes from PC.
-fn address_by_pc(at: u32, operation: &Operation) -> Option<u32> {
+/// The class that an operation shows by itself: the narrowest of an address so many bytes from PC.
+pub(crate) fn shown_by_pc(at: u32, operation: &Operation) -> Option<Class>
+    ensures some { IfSome result (IsByPc at operation.now) }
+    ensures only { (class : Class) → IsByPc at operation.now class → result ≡ Some class }
+{
     let Operation::SingleImmediate(x) = operation else {
         return None;
     };
     if !x.rn.is_pc() {
         return None;
     }
-    Some(address_by(x.before, x.up, ahead_of(at, 8), x.offset))
-}
-
-/// The class that an operation shows by itself, if it does: the narrowest of an address so many bytes from PC.
-pub(crate) fn shown_by_pc(at: u32, operation: &Operation) -> Option<Class>
-    ensures some { IfSome result (IsByPc at operation.now) }
-    ensures only { (class : Class) → IsByPc at operation.now class → result ≡ Some class }
-{
-    Some(narrowest_class(address_by_pc(at, operation)?))
+    let address = address_by(x.before, x.up, ahead_of(at, 8), x.offset);
+    Some(narrowest_class(address))
 }
 
 // The class of what an operation transfers, where it shows the address by itself; else any.
 fn class_by_pc(at: u32, operation: &Operation) -> Class
     ensures { RestsOn at operation.now result }
 {
-    match address_by_pc(at, operation) {
-        Some(address) => class_from(address, address),
-        None => Class::Any,
+    let Operation::SingleImmediate(x) = operation else {
+        return Class::Any;
+    };
+    if !x.rn.is_pc() {
+        return Class::Any;
     }
+    let address = address_by(x.before, x.up, ahead_of(at, 8), x.offset);
+    class_from(address, address)
 }
 
 // The class of what is transferred at an address, by the words in front too or by the word alone.
@@ -157,8 +157,8 @@ fn keep_access(
         (All (λ e. HasBase image.now e.at e.base) found.old.items
         → All (λ e. HasBase image.now e.at e.base) found.new.items) }
     ensures rest { OnOk result
-        (by_word ≡ true → All (λ e. RestsOnWord image.now e.at e.class) found.old.items
-        → All (λ e. RestsOnWord image.now e.at e.class) found.new.items) }
+        ((by_word ≡ true → All (λ e. RestsOnWord image.now e.at e.class) found.old.items)
+        → by_word ≡ true → All (λ e. RestsOnWord image.now e.at e.class) found.new.items) }
 {
     let Some(base) = base_at(image, at) else {
         return Ok(());

@@ -1,11 +1,12 @@
 //! The rules for base registers, which stand for loads and stores that have one base and one class.
 
-ghost use Rattle.std.specs.Prelude.{◌≡◌, ◌⊎◌, ◌↔◌, ◌×◌, ◌<◌, ℕ, true, false, IfOk, IfSome, IsTrue, OnOk, Some, length};
-ghost use Rattle.arm2_decode.specs.Names.{register_number};
+ghost use Rattle.std.specs.Prelude.{◌≡◌, ◌↔◌, ◌+◌, ℕ, false, IfOk, IfSome, IsTrue, List, OnOk, Some, length};
 ghost use Rattle.text_draft.specs.Picks.{Keeps};
-ghost use Rattle.text_draft.specs.Rules.{AreEntries, AreRules, HasRule, IsMostFrequent, IsRule, MayRule, Shows};
-ghost use Rattle.text_draft.specs.Rules.{has_both, is_covered, is_same_class};
-ghost use Rattle.text_draft.specs.Tallies.{AreTallies, has_more};
+ghost use Rattle.text_draft.specs.Rules.{AreEntries, AreRules, IsMostFrequent, IsRule, IsRuleClass, MayRule, Shows};
+ghost use Rattle.text_draft.specs.Rules.{class_number, has_both, is_covered, is_same_class};
+ghost use Rattle.text_draft.specs.Tallies.{AreTallies, Leads, ShowsNth, with_rule};
+ghost use Rattle.text_draft.specs.declared.accesses.FoundAccess.{FoundAccess};
+ghost use Rattle.text_draft.specs.declared.rules.FoundRule.{FoundRule};
 
 use crate::accesses::{FoundAccess, base_used, shown_by_pc};
 use crate::tallies::{Tally, tallies, tally_at};
@@ -26,6 +27,12 @@ pub struct FoundRule {
     pub first: u32,
 }
 
+fn is_same_class(class: Class, other: Class) -> bool
+    ensures { result ≡ is_same_class class other }
+{
+    class == other
+}
+
 // Whether the word at an address shows the class by itself, or neither loads nor stores by R15.
 fn shows(image: &Image, at: u32, class: Class) -> bool
     ensures { IsTrue result ↔ Shows image.now at class }
@@ -40,8 +47,18 @@ fn shows(image: &Image, at: u32, class: Class) -> bool
         return true;
     }
     match shown_by_pc(at, &instr.operation) {
-        Some(shown) => shown == class,
+        Some(shown) => is_same_class(shown, class),
         None => false,
+    }
+}
+
+// Whether the n-th word does, if there is one.
+fn nth_shows(image: &Image, n: u32, class: Class) -> bool
+    ensures { IsTrue result ↔ ShowsNth image.now n class }
+{
+    match image.address(n) {
+        Some(at) => shows(image, at, class),
+        None => true,
     }
 }
 
@@ -50,10 +67,8 @@ fn all_show(image: &Image, class: Class) -> bool
     ensures { IsTrue result ↔ ((at : ℕ) → Shows image.now at class) }
 {
     for n in 0..image.words() {
-        if let Some(at) = image.address(n) {
-            if !shows(image, at, class) {
-                return false;
-            }
+        if !nth_shows(image, n, class) {
+            return false;
         }
     }
     true
@@ -63,7 +78,7 @@ fn all_show(image: &Image, class: Class) -> bool
 fn may_rule(image: &Image, open_left: bool, register: Register, class: Class) -> bool
     ensures { IsTrue result ↔ MayRule image.now open_left register class }
 {
-    if class == Class::Any {
+    if is_same_class(class, Class::Any) {
         return true;
     }
     if !open_left {
@@ -75,6 +90,9 @@ fn may_rule(image: &Image, open_left: bool, register: Register, class: Class) ->
 // Of two classes of a base the second only where it has more loads and stores.
 fn more_frequent(table: &[Tally], register: Register, best: Class, class: Class) -> Class
     requires { length table.now ≡ 128 }
+    ensures { (accesses : List FoundAccess) → AreTallies accesses table.now → (last : ℕ)
+        → class_number class ≡ last + 1 → Leads accesses register last best
+        → Leads accesses register (last + 1) result }
 {
     if tally_at(table, register, class).count > tally_at(table, register, best).count {
         class
@@ -86,6 +104,8 @@ fn more_frequent(table: &[Tally], register: Register, best: Class, class: Class)
 // The class of a base that has most loads and stores: of several the first in their order.
 fn most_frequent(table: &[Tally], register: Register) -> Class
     requires { length table.now ≡ 128 }
+    ensures { (accesses : List FoundAccess) → AreTallies accesses table.now
+        → IsMostFrequent accesses register result }
 {
     let best = more_frequent(table, register, Class::Ram, Class::Rom);
     let best = more_frequent(table, register, best, Class::Io);
@@ -99,6 +119,8 @@ fn most_frequent(table: &[Tally], register: Register) -> Class
 // The class that a rule of a base may have.
 fn class_allowed(image: &Image, table: &[Tally], open_left: bool, register: Register) -> Class
     requires { length table.now ≡ 128 }
+    ensures { (accesses : List FoundAccess) → AreTallies accesses table.now
+        → IsRuleClass image.now open_left accesses register result }
 {
     let class = most_frequent(table, register);
     if may_rule(image, open_left, register, class) {
@@ -111,6 +133,10 @@ fn class_allowed(image: &Image, table: &[Tally], open_left: bool, register: Regi
 // The rule of a base, if it has one.
 fn rule_of(image: &Image, table: &[Tally], open_left: bool, register: Register) -> Option<FoundRule>
     requires { length table.now ≡ 128 }
+    ensures some { (accesses : List FoundAccess) → AreTallies accesses table.now
+        → IfSome result (λ r. IsRule image.now open_left accesses r × (r.register ≡ register)) }
+    ensures only { (accesses : List FoundAccess) → AreTallies accesses table.now → (r : FoundRule)
+        → IsRule image.now open_left accesses r → r.register ≡ register → result ≡ Some r }
 {
     let class = class_allowed(image, table, open_left, register);
     let tally = tally_at(table, register, class);
@@ -125,6 +151,16 @@ fn rule_of(image: &Image, table: &[Tally], open_left: bool, register: Register) 
     })
 }
 
+// Takes a rule, if there is one.
+fn push_rule(rules: &mut Vec<FoundRule>, rule: Option<FoundRule>) -> Result<(), AllocError>
+    ensures { OnOk result (rules.new.items ≡ with_rule rules.old.items rule) }
+{
+    if let Some(rule) = rule {
+        rules.push(rule)?;
+    }
+    Ok(())
+}
+
 /// The rules for base registers, by ascending registers.
 pub(crate) fn find_rules(
     alloc: Global,
@@ -137,9 +173,8 @@ pub(crate) fn find_rules(
     let table = tallies(alloc, accesses)?;
     let mut rules = Vec::new(alloc);
     for number in 0..16 {
-        if let Some(rule) = rule_of(image, &table, open_left, Register::of(number)) {
-            rules.push(rule)?;
-        }
+        let register = Register::of(number);
+        push_rule(&mut rules, rule_of(image, &table, open_left, register))?;
     }
     Ok(rules)
 }
@@ -147,7 +182,7 @@ pub(crate) fn find_rules(
 fn has_both(register: Register, class: Class, access: &FoundAccess) -> bool
     ensures { result ≡ has_both register class access.now }
 {
-    register == access.base && class == access.class
+    register == access.base && is_same_class(class, access.class)
 }
 
 // Whether a rule stands for the load or store.

@@ -1,6 +1,7 @@
-ghost use Rattle.std.specs.Prelude.{◌≡◌, ◌<◌, ◌+◌, ◌^◌, IfOk, length, set, slice_index_or};
-ghost use Rattle.text_draft.specs.Rules.{class_number};
-ghost use Rattle.text_draft.specs.Tallies.{AreTallies, counted, none, place_of};
+ghost use Rattle.std.specs.Prelude.{◌≡◌, ◌<◌, ◌+◌, ◌*◌, ◌^◌, List, IfOk, length, set, slice_index_or};
+ghost use Rattle.text_draft.specs.Rules.{class_number, of_both};
+ghost use Rattle.text_draft.specs.Tallies.{AreTallies, counted, none, place_of, tally_of};
+ghost use Rattle.text_draft.specs.declared.accesses.FoundAccess.{FoundAccess};
 
 use crate::accesses::FoundAccess;
 use arm2_decode::Register;
@@ -16,6 +17,10 @@ const CLASSES: usize = 8;
 pub struct Tally {
     pub count: usize,
     pub first: u32,
+}
+
+impl Tally {
+    const NONE: Tally = Tally { count: 0, first: 0 };
 }
 
 // The place of a class in the order of all.
@@ -36,7 +41,8 @@ fn place_of(register: Register, class: Class) -> usize
 /// The tally of a base and a class.
 pub(crate) fn tally_at(table: &[Tally], register: Register, class: Class) -> Tally
     requires { length table.now ≡ 128 }
-    ensures { result ≡ slice_index_or table.now (place_of register class) none }
+    ensures { (accesses : List FoundAccess) → AreTallies accesses table.now
+        → result ≡ tally_of (of_both accesses register class) }
 {
     table[place_of(register, class)]
 }
@@ -57,7 +63,8 @@ fn count(table: &mut Vec<Tally>, access: &FoundAccess)
     requires room
         { (slice_index_or table.now.items (place_of access.now.base access.now.class) none).count + 1
         < 2 ^ 64 }
-    ensures { table.new.items
+    ensures within { place_of access.now.base access.now.class < 128 }
+    ensures set { table.new.items
         ≡ set table.old.items (place_of access.now.base access.now.class)
         (counted (slice_index_or table.old.items (place_of access.now.base access.now.class) none)
         access.now.at) }
@@ -68,10 +75,10 @@ fn count(table: &mut Vec<Tally>, access: &FoundAccess)
 
 /// The tallies of all bases and classes.
 pub(crate) fn tallies(alloc: Global, accesses: &[FoundAccess]) -> Result<Vec<Tally>, AllocError>
-    ensures { IfOk result (λ table. AreTallies accesses.now table.items) }
+    ensures tallies { IfOk result (λ table. AreTallies accesses.now table.items) }
+    ensures whole { IfOk result (λ table. length table.items ≡ 128) }
 {
-    let none = Tally { count: 0, first: 0 };
-    let mut table = vec![in alloc; none; REGISTERS * CLASSES]?;
+    let mut table = vec![in alloc; Tally::NONE; REGISTERS * CLASSES]?;
     for access in accesses {
         count(&mut table, access);
     }
