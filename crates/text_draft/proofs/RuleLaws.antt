@@ -92,11 +92,11 @@ word_listed (e ∷ words) at word is = by (e.0 == at) refl (word_listed words at
     by : (b : Bool) → (e.0 == at) ≡ b
         → (word_of words at ≡ Some word → (k : ℕ) × ((k < length words) × (slice_get (map (λ e. e.0) words) k ≡ Some at)))
         → (k : ℕ) × ((k < length (e ∷ words)) × (slice_get (map (λ x. x.0) (e ∷ words)) k ≡ Some at))
-    by true here later = let it : e.0 ≡ at = grind arith in (0, omega arith, ap Some it)
+    by true here later = let it : e.0 ≡ at = grind arith in (0, (omega arith, ap Some it))
     by false past later =
         let rest = later (ap (λ (b : Bool). if b then Some e.1 else word_of words at) (sym past) ∙ is) in
         let lt = rest.1.0 in
-        (suc rest.0, omega arith, rest.1.1)
+        (suc rest.0, (omega arith, rest.1.1))
 
 -- the one instruction at an address shows it
 pub shows_at : (words : Words) (at : ℕ) (class : Class) (i : Instr) → ((j : Instr) → HasInstr words at j → Some i ≡ Some j)
@@ -107,10 +107,10 @@ shows_at words at class i only h j has register used pc =
     subst (λ (k : Instr). IsByPc at k.operation class) same (h register (ap base_used same ∙ used) pc)
 
 pub one_base : (used : Option Register) (register other : Register) → used ≡ Some register → used ≡ Some other → is_pc register ≡ false → is_pc other ≡ true → ⊥
-one_base used register other a b no yes =
+one_base used register other a b fails holds =
     let both : Some register ≡ Some other = sym a ∙ b in
     let same : register ≡ other = cc in
-    false≢true (sym no ∙ ap is_pc same ∙ yes)
+    false≢true (sym fails ∙ ap is_pc same ∙ holds)
 
 -- the class that is shown is that class
 pub is_shown : (words : Words) (at : ℕ) (class shown : Class) (i : Instr) (register : Register) → HasInstr words at i → ((j : Instr) → HasInstr words at j → Some i ≡ Some j)

@@ -1,4 +1,4 @@
-use Rattle.std.proofs.Common.{◌≡◌, ◌∙◌, false, true, refl, sym}
+use Rattle.std.proofs.Common.{◌≡◌, ◌∙◌, false, true, refl, sym, rules}
 use Rattle.std.proofs.lemmas.Bool.{false≢true}
 use Rattle.text_draft.proofs.RuleLaws.{all_shown, one_shown}
 use Rattle.text_draft.proofs.rules.all_show.Goals as goal

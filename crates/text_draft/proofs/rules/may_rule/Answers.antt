@@ -1,4 +1,4 @@
-use Rattle.std.proofs.Common.{◌≡◌, ◌∙◌, true, sym}
+use Rattle.std.proofs.Common.{◌≡◌, ◌∙◌, true, sym, rules}
 use Rattle.text_draft.proofs.RuleLaws.{may_by}
 use Rattle.text_draft.proofs.rules.may_rule.Goals as goal
 

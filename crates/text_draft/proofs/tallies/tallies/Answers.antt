@@ -1,4 +1,4 @@
-use Rattle.std.proofs.Common.{◌^◌, ◌<◌, length, refl}
+use Rattle.std.proofs.Common.{◌^◌, ◌<◌, length, refl, rules}
 use Rattle.text_draft.proofs.TallyLaws.{no_tallies, one_tally, room}
 use Rattle.text_draft.proofs.tallies.tallies.Goals as goal
 

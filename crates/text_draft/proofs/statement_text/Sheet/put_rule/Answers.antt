@@ -1,4 +1,4 @@
-use Rattle.std.proofs.Common.{◌++◌, ℕ, List, codes, decimal}
+use Rattle.std.proofs.Common.{◌∙◌, ◌++◌, ap, codes, decimal}
 use Rattle.std.proofs.lemmas.Result.{on_ok_weaker}
 use Rattle.std.specs.BTreeMap.{get}
 use Rattle.std.specs.Ordering.{nat_cmp}
@@ -22,5 +22,5 @@ returns c =
     (λ last. three c.args.out.now.items a b (d ++ (e ++ (f ++ (g ++ (h ++ (s ++ z)))))) c.in_ok-put.ensures c.in_ok-put_register.ensures
     (three c.put_register.new.out.items d e (f ++ (g ++ (h ++ (s ++ z)))) c.in_ok-put-2.ensures c.in_ok-put_class.ensures
     (three c.put_class.new.out.items f g (h ++ (s ++ z)) c.in_ok-put-3.ensures c.in_ok-put_decimal.ensures
-    (three c.put_decimal.new.out.items h s z c.in_ok-put-4.ensures (rw (sym c.line.ensures) c.in_ok-put_spot.ensures) last))))
+    (three c.put_decimal.new.out.items h s z c.in_ok-put-4.ensures (c.in_ok-put_spot.ensures ∙ ap (λ l. c.put-4.new.out.items ++ spot_text l r.first) c.line.ensures) last))))
     c.put-5.ensures
