@@ -3,7 +3,8 @@ ghost use Rattle.text_draft.specs.Accesses.{AreAccesses, HasBase, IsByPc, RestsO
 ghost use Rattle.text_draft.specs.Accesses.{places_of};
 ghost use Rattle.text_draft.specs.Picks.{Keeps};
 ghost use Rattle.arm2_decode.specs.Writers.{is_transfer};
-ghost use Rattle.bus_ticks.specs.Prices.{narrowest_class};
+ghost use Rattle.arm2_transfer.specs.Registers.{address_by};
+ghost use Rattle.bus_ticks.specs.Prices.{ahead_of, narrowest_class};
 ghost use Rattle.bus_ticks.specs.declared.profile.Class.{Class};
 ghost use Rattle.word_shapes.specs.Words.{MayDo};
 
@@ -78,6 +79,13 @@ fn class_shown(known: &Constants, at: u32, operation: &Operation) -> Class {
     block_class(known, at, x)
 }
 
+// The address so many bytes from PC.
+fn address_by_pc(at: u32, x: &SingleImmediate) -> u32
+    ensures { result ≡ address_by x.now.before x.now.up (ahead_of at 8) x.now.offset }
+{
+    address_by(x.before, x.up, ahead_of(at, 8), x.offset)
+}
+
 /// The class that an operation shows by itself: the narrowest of an address so many bytes from PC.
 pub(crate) fn shown_by_pc(at: u32, operation: &Operation) -> Option<Class>
     ensures some { IfSome result (IsByPc at operation.now) }
@@ -89,8 +97,7 @@ pub(crate) fn shown_by_pc(at: u32, operation: &Operation) -> Option<Class>
     if !x.rn.is_pc() {
         return None;
     }
-    let address = address_by(x.before, x.up, ahead_of(at, 8), x.offset);
-    Some(narrowest_class(address))
+    Some(narrowest_class(address_by_pc(at, x)))
 }
 
 // The class of what an operation transfers, where it shows the address by itself; else any.
@@ -103,7 +110,7 @@ fn class_by_pc(at: u32, operation: &Operation) -> Class
     if !x.rn.is_pc() {
         return Class::Any;
     }
-    let address = address_by(x.before, x.up, ahead_of(at, 8), x.offset);
+    let address = address_by_pc(at, x);
     class_from(address, address)
 }
 

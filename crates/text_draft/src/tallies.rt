@@ -10,6 +10,7 @@ use std::alloc::{AllocError, Global};
 
 // As many as there are registers, and classes.
 const REGISTERS: usize = 16;
+
 const CLASSES: usize = 8;
 
 /// How many loads and stores have a base and a class, and the address of the first.
@@ -60,8 +61,7 @@ fn counted(tally: Tally, at: u32) -> Tally
 // Counts one more.
 fn count(table: &mut Vec<Tally>, access: &FoundAccess)
     requires whole { length table.now.items ≡ 128 }
-    requires room
-        { (slice_index_or table.now.items (place_of access.now.base access.now.class) none).count + 1
+    requires room { (slice_index_or table.now.items (place_of access.now.base access.now.class) none).count + 1
         < 2 ^ 64 }
     ensures within { place_of access.now.base access.now.class < 128 }
     ensures set { table.new.items
