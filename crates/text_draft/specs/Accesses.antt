@@ -45,8 +45,8 @@ module _ (words : Words) where
   abbrev pub RestsOnWord : ℕ → Class → Type 0
   RestsOnWord at class = (class ≡ Any) ⊎ ((i : Instr) × HasInstr words at i × IsByPc at i.operation class)
 
-  -- exactly those of the addresses whose words load or store and are not under NV, and their bases; while it is
-  -- open where a word leads, no class rests on the words in front
+  -- exactly those of the addresses whose words load or store and are not under NV, and their bases; while it
+  -- is open where a word leads, no class rests on the words in front
   pub record AreAccesses (addresses : List ℕ) (open_left : Bool) (accesses : List FoundAccess) : Type 0 where
     pub at : Picks (MayDo is_transfer words) addresses (places_of accesses)
     pub bases : All (λ e. HasBase e.at e.base) accesses

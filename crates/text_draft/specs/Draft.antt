@@ -28,8 +28,8 @@ is_full addresses = nat_le MOST_PLACES (length addresses)
 -- what was found at the addresses that are reached from the entry, or at 16,384 of them: those at which the
 -- handler cannot go on, those whose words load or store, and those whose words write R15, but for words under
 -- NV; and the addresses that are named there. Classes rest on the words in front only where all is looked at
--- and no word is left of which it is open where it leads. Of the loads and stores those have entries for which
--- no rule stands
+-- and no word is left of which it is open where it leads. Of the loads and stores those have entries for
+-- which no rule stands
 pub record AreFound (words : Words) (entry : ℕ) (full : Bool) (ends : List (ℕ × End))
     (rules : List FoundRule) (entries : List FoundAccess) (candidates : List ℕ)
     (targets : List FoundTarget) : Type 0 where

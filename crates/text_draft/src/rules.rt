@@ -1,9 +1,9 @@
 //! The rules for base registers, which stand for loads and stores that have one base and one class.
 
-ghost use Rattle.std.specs.Prelude.{◌≡◌, ◌↔◌, ◌+◌, ℕ, false, IfOk, IfSome, IsTrue, List, OnOk, Some, length};
+ghost use Rattle.std.specs.Prelude.{◌≡◌, ◌↔◌, ◌+◌, ℕ, List, false, IfOk, IfSome, IsTrue, OnOk, Some, length};
 ghost use Rattle.text_draft.specs.Picks.{Keeps};
-ghost use Rattle.text_draft.specs.Rules.{AreEntries, AreRules, IsMostFrequent, IsRule, IsRuleClass, MayRule, Shows};
-ghost use Rattle.text_draft.specs.Rules.{class_number, has_both, is_covered, is_same_class};
+ghost use Rattle.text_draft.specs.Rules.{AreEntries, AreRules, IsMostFrequent, IsRule, IsRuleClass, MayRule};
+ghost use Rattle.text_draft.specs.Rules.{Shows, class_number, has_both, is_covered, is_same_class};
 ghost use Rattle.text_draft.specs.Tallies.{AreTallies, Leads, ShowsNth, with_rule};
 ghost use Rattle.text_draft.specs.declared.accesses.FoundAccess.{FoundAccess};
 ghost use Rattle.text_draft.specs.declared.rules.FoundRule.{FoundRule};

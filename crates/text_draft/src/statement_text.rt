@@ -194,7 +194,8 @@ impl<'a> Sheet<'_, 'a> {
     {
         put(
             out,
-            b"\n# What loads and stores reach: \"any\", \"ram\", \"rom\" or \"io\"; for devices of one speed\n\
+            b"\n\
+# What loads and stores reach: \"any\", \"ram\", \"rom\" or \"io\"; for devices of one speed\n\
 # \"slow\", \"medium\", \"fast\" or \"synchronous\".\n",
         )?;
         self.put_rules(out, rules)?;

@@ -59,18 +59,18 @@ fn counted(tally: Tally, at: u32) -> Tally
 }
 
 // Counts one more.
-fn count(table: &mut Vec<Tally>, access: &FoundAccess)
+fn count(table: &mut Vec<Tally>, found: &FoundAccess)
     requires whole { length table.now.items ≡ 128 }
-    requires room { (slice_index_or table.now.items (place_of access.now.base access.now.class) none).count + 1
+    requires room { (slice_index_or table.now.items (place_of found.now.base found.now.class) none).count + 1
         < 2 ^ 64 }
-    ensures within { place_of access.now.base access.now.class < 128 }
+    ensures within { place_of found.now.base found.now.class < 128 }
     ensures set { table.new.items
-        ≡ set table.old.items (place_of access.now.base access.now.class)
-        (counted (slice_index_or table.old.items (place_of access.now.base access.now.class) none)
-        access.now.at) }
+        ≡ set table.old.items (place_of found.now.base found.now.class)
+        (counted (slice_index_or table.old.items (place_of found.now.base found.now.class) none)
+        found.now.at) }
 {
-    let place = place_of(access.base, access.class);
-    table[place] = counted(table[place], access.at);
+    let place = place_of(found.base, found.class);
+    table[place] = counted(table[place], found.at);
 }
 
 /// The tallies of all bases and classes.
