@@ -4,10 +4,11 @@ use Rattle.std.specs.BTreeMap.{BTreeMap}
 use Rattle.std.specs.Prelude.{Option}
 use Rattle.text_rows.specs.declared.line_labels.SourceLine.{SourceLine}
 use Rattle.text_draft.specs.Rows.{remark, row}
-use Rattle.bus_ticks.specs.declared.profile.Class.{Class}
 use Rattle.bus_ticks.specs.Prices.{ahead_of}
 use Rattle.text_draft.specs.DraftText.{accesses_text, bound_text, candidates_text, cycle_text, destination_text, destinations_text, draft_text, end_text, full_text, head_text, loop_text, place_text, target_text, way_text, words_from}
+use Rattle.text_draft.specs.declared.accesses.FoundAccess.{FoundAccess}
 use Rattle.text_draft.specs.declared.ends.End.{End}
+use Rattle.text_draft.specs.declared.rules.FoundRule.{FoundRule}
 use Rattle.text_draft.specs.declared.found_loop.FoundLoop.{FoundLoop}
 use Rattle.text_draft.specs.Targets.{any_open, leaves_open}
 use Rattle.text_draft.specs.declared.pc_writers.FoundTarget.{FoundTarget}
@@ -92,18 +93,18 @@ loop_whole lines left l old p q r s t u new h1 h2 h3 h4 h5 h6 h7 =
 
 -- a whole draft, part by part
 pub draft_whole : (lines : BTreeMap ℕ SourceLine) (entry : ℕ) (full : Bool) (ends : List (ℕ × End)) (cycles : List ℕ)
-    (accesses : List (ℕ × Class)) (loops : List FoundLoop) (candidates : List ℕ) (targets : List FoundTarget)
+    (rules : List FoundRule) (entries : List FoundAccess) (loops : List FoundLoop) (candidates : List ℕ) (targets : List FoundTarget)
     (old p o q r s t u new : List ℕ) → p ≡ old ++ head_text lines entry → o ≡ p ++ full_text full
     → q ≡ o ++ flat_map (end_text lines) ends → r ≡ q ++ flat_map (cycle_text lines) cycles
-    → s ≡ r ++ accesses_text lines accesses → t ≡ s ++ flat_map (loop_text lines (leaves_open full targets)) loops
+    → s ≡ r ++ accesses_text lines rules entries → t ≡ s ++ flat_map (loop_text lines (leaves_open full targets)) loops
     → u ≡ t ++ candidates_text lines (any_open targets) candidates → new ≡ u ++ flat_map (target_text lines) targets
-    → new ≡ old ++ draft_text lines entry full ends cycles accesses loops candidates targets
-draft_whole lines entry full ends cycles accesses loops candidates targets old p o q r s t u new h1 h2 h3 h4 h5 h6 h7 h8 =
+    → new ≡ old ++ draft_text lines entry full ends cycles rules entries loops candidates targets
+draft_whole lines entry full ends cycles rules entries loops candidates targets old p o q r s t u new h1 h2 h3 h4 h5 h6 h7 h8 =
     let a = head_text lines entry in
     let b = full_text full in
     let c = flat_map (end_text lines) ends in
     let d = flat_map (cycle_text lines) cycles in
-    let e = accesses_text lines accesses in
+    let e = accesses_text lines rules entries in
     let f = flat_map (loop_text lines (leaves_open full targets)) loops in
     let g = candidates_text lines (any_open targets) candidates in
     let h = flat_map (target_text lines) targets in

@@ -1,6 +1,9 @@
+mod AccessLaws
 mod CandidateLaws
 mod Explored
 mod FlatLaws
 mod Picked
+mod RuleLaws
+mod TallyLaws
 mod TargetLaws
 mod WayLaws

@@ -3,7 +3,6 @@ use Rattle.std.specs.Prelude.{◌≡◌, ℕ, Bool, List, length, nat_le}
 use Rattle.std.specs.BTreeMap.{BTreeMap}
 use Rattle.std.specs.List.Sorted.{IsStrictlySortedBy}
 use Rattle.std.specs.Ordering.{nat_cmp}
-use Rattle.bus_ticks.specs.declared.profile.Class.{Class}
 use Rattle.image.specs.Image.{Words}
 use Rattle.sources.specs.Lines.{AreLines}
 use Rattle.sources.specs.declared.read.Source.{Source}
@@ -13,10 +12,13 @@ use Rattle.text_draft.specs.Candidates.{AreCandidates}
 use Rattle.text_draft.specs.DraftText.{draft_text}
 use Rattle.text_draft.specs.Ends.{AreEnds}
 use Rattle.text_draft.specs.Reach.{AreReached}
+use Rattle.text_draft.specs.Rules.{AreEntries, AreRules}
 use Rattle.text_draft.specs.Targets.{AreTargets, leaves_open}
+use Rattle.text_draft.specs.declared.accesses.FoundAccess.{FoundAccess}
 use Rattle.text_draft.specs.declared.ends.End.{End}
 use Rattle.text_draft.specs.declared.found_loop.FoundLoop.{FoundLoop}
 use Rattle.text_draft.specs.declared.pc_writers.FoundTarget.{FoundTarget}
+use Rattle.text_draft.specs.declared.rules.FoundRule.{FoundRule}
 use Rattle.control_flow.specs.declared.search.TheConstants.{MOST_PLACES}
 
 -- as many as are looked at: more may be reached
@@ -26,15 +28,20 @@ is_full addresses = nat_le MOST_PLACES (length addresses)
 -- what was found at the addresses that are reached from the entry, or at 16,384 of them: those at which the
 -- handler cannot go on, those whose words load or store, and those whose words write R15, but for words under
 -- NV; and the addresses that are named there. Classes rest on the words in front only where all is looked at
--- and no word is left of which it is open where it leads
+-- and no word is left of which it is open where it leads. Of the loads and stores those have entries for
+-- which no rule stands
 pub record AreFound (words : Words) (entry : ℕ) (full : Bool) (ends : List (ℕ × End))
-    (accesses : List (ℕ × Class)) (candidates : List ℕ) (targets : List FoundTarget) : Type 0 where
+    (rules : List FoundRule) (entries : List FoundAccess) (candidates : List ℕ)
+    (targets : List FoundTarget) : Type 0 where
   pub addresses : List ℕ
+  pub accesses : List FoundAccess
   pub ascend : IsStrictlySortedBy nat_cmp addresses
   pub reached : AreReached words entry addresses
   pub full_is : full ≡ is_full addresses
   pub ends_are : AreEnds words addresses ends
   pub accesses_are : AreAccesses words addresses (leaves_open full targets) accesses
+  pub rules_are : AreRules words (leaves_open full targets) accesses rules
+  pub entries_are : AreEntries accesses rules entries
   pub candidates_are : AreCandidates words addresses candidates
   pub targets_are : AreTargets words addresses targets
 
@@ -47,9 +54,10 @@ pub record IsDraft (source : Source) (entry : ℕ) (text : List ℕ) : Type 0 wh
   pub full : Bool
   pub ends : List (ℕ × End)
   pub cycles : List ℕ
-  pub accesses : List (ℕ × Class)
+  pub rules : List FoundRule
+  pub entries : List FoundAccess
   pub loops : List FoundLoop
   pub candidates : List ℕ
   pub targets : List FoundTarget
-  pub found : AreFound source.image entry full ends accesses candidates targets
-  pub text_is : text ≡ draft_text lines entry full ends cycles accesses loops candidates targets
+  pub found : AreFound source.image entry full ends rules entries candidates targets
+  pub text_is : text ≡ draft_text lines entry full ends cycles rules entries loops candidates targets

@@ -1,5 +1,5 @@
 -- The text of a draft, of what was found.
-use Rattle.std.specs.Prelude.{ℕ, zero, suc, Bool, true, false, ◌*◌, ◌==◌, if◌then◌else◌, List, []}
+use Rattle.std.specs.Prelude.{ℕ, zero, suc, Bool, true, false, ◌*◌, ◌+◌, ◌==◌, if◌then◌else◌, List, []}
 use Rattle.std.specs.Prelude.{◌∷◌, ◌++◌, length}
 use Rattle.std.specs.Prelude.{replicate}
 use Rattle.std.specs.Prelude.{codes, decimal, Option, Some, None}
@@ -12,18 +12,30 @@ use Rattle.bus_ticks.specs.Prices.{ahead_of}
 use Rattle.statement.specs.Statement.{class_name}
 use Rattle.text_rows.specs.Addresses.{name_text}
 use Rattle.text_rows.specs.declared.line_labels.SourceLine.{SourceLine}
+use Rattle.arm2_decode.specs.Names.{register_number}
+use Rattle.arm2_decode.specs.declared.names.Register.{Register}
 use Rattle.text_draft.specs.Rows.{line_label, row}
+use Rattle.text_draft.specs.declared.accesses.FoundAccess.{FoundAccess}
 use Rattle.text_draft.specs.declared.ends.End.{End}
 use Rattle.text_draft.specs.declared.ends.End.TheVariants.{NoWord, Unallocated, Trap}
 use Rattle.text_draft.specs.declared.found_loop.FoundLoop.{FoundLoop}
 use Rattle.text_draft.specs.Targets.{any_open, leaves_open}
 use Rattle.text_draft.specs.declared.pc_writers.FoundTarget.{FoundTarget}
+use Rattle.text_draft.specs.declared.rules.FoundRule.{FoundRule}
 use Rattle.text_draft.specs.declared.pc_writers.Way.{Way}
 use Rattle.text_draft.specs.declared.pc_writers.Way.TheVariants.{Call, Jump, Return}
 
 -- the end of an access
 abbrev pub class_text : Class → List ℕ
 class_text class = codes ", class = \"" ++ (class_name class ++ codes "\"},")
+
+abbrev pub register_text : Register → List ℕ
+register_text register = codes "R" ++ decimal (register_number register)
+
+-- where a word is: in a line, or at an address that has none
+abbrev pub spot_text : Option SourceLine → ℕ → List ℕ
+spot_text None at = codes "at " ++ hex8 at
+spot_text (Some line) at = codes "in line " ++ decimal line.number
 
 -- what a draft says of an end
 abbrev pub end_words : End → List ℕ
@@ -76,18 +88,42 @@ module _ (lines : BTreeMap ℕ SourceLine) where
   abbrev pub cycle_text : ℕ → List ℕ
   cycle_text at = comment_text at (codes ": a cycle that no loop bounds.")
 
-  abbrev pub access_text : ℕ × Class → List ℕ
-  access_text e = element_text (codes "  {at = ") e.0 (class_text e.1)
+  -- a rule for a base register, and as a comment what it stands for
+  abbrev pub rule_text : FoundRule → List ℕ
+  rule_text r =
+      codes "  {register = \"" ++ (register_text r.register ++ (codes "\"" ++ (class_text r.class
+      ++ (codes "  # " ++ (decimal r.count ++ (codes " loads and stores, the first "
+      ++ (spot_text (get nat_cmp lines r.first) r.first ++ codes "\n")))))))
 
-  abbrev pub access_list_text : List (ℕ × Class) → List ℕ
-  access_list_text accesses =
+  abbrev pub rule_list_text : List FoundRule → List ℕ
+  rule_list_text rules =
+      codes "# By a base register, where they have no access of their own:\nbase = [\n"
+      ++ (flat_map rule_text rules ++ codes "]\n")
+
+  -- all rules, if there are any
+  abbrev pub rules_text : List FoundRule → List ℕ
+  rules_text rules = if length rules == 0 then [] else rule_list_text rules
+
+  abbrev pub entry_text : FoundAccess → List ℕ
+  entry_text e = element_text (codes "  {at = ") e.at (class_text e.class)
+
+  abbrev pub entry_list_text : List FoundAccess → List ℕ
+  entry_list_text entries = codes "access = [\n" ++ (flat_map entry_text entries ++ codes "]\n")
+
+  -- all entries, if there are any
+  abbrev pub entries_text : List FoundAccess → List ℕ
+  entries_text entries = if length entries == 0 then [] else entry_list_text entries
+
+  abbrev pub access_lists_text : List FoundRule → List FoundAccess → List ℕ
+  access_lists_text rules entries =
       codes "\n# What loads and stores reach: \"any\", \"ram\", \"rom\" or \"io\"; for devices of one speed\n"
-      ++ (codes "# \"slow\", \"medium\", \"fast\" or \"synchronous\".\naccess = [\n"
-      ++ (flat_map access_text accesses ++ codes "]\n"))
+      ++ (codes "# \"slow\", \"medium\", \"fast\" or \"synchronous\".\n"
+      ++ (rules_text rules ++ entries_text entries))
 
-  -- all loads and stores, if there are any
-  abbrev pub accesses_text : List (ℕ × Class) → List ℕ
-  accesses_text accesses = if length accesses == 0 then [] else access_list_text accesses
+  -- the rules and the entries of loads and stores, if there are any
+  abbrev pub accesses_text : List FoundRule → List FoundAccess → List ℕ
+  accesses_text rules entries =
+      if length rules + length entries == 0 then [] else access_lists_text rules entries
 
   -- a loop, further in by two columns for each loop around it
   abbrev pub loop_text : (open_left : Bool) → FoundLoop → List ℕ
@@ -147,10 +183,10 @@ module _ (lines : BTreeMap ℕ SourceLine) where
 
   -- the whole text
   abbrev pub draft_text : ℕ → (full : Bool) → (ends : List (ℕ × End)) → (cycles : List ℕ)
-      → (accesses : List (ℕ × Class)) → (loops : List FoundLoop) → (candidates : List ℕ)
-      → (targets : List FoundTarget) → List ℕ
-  draft_text entry full ends cycles accesses loops candidates targets =
+      → (rules : List FoundRule) → (entries : List FoundAccess) → (loops : List FoundLoop)
+      → (candidates : List ℕ) → (targets : List FoundTarget) → List ℕ
+  draft_text entry full ends cycles rules entries loops candidates targets =
       head_text entry ++ (full_text full ++ (flat_map end_text ends ++ (flat_map cycle_text cycles
-      ++ (accesses_text accesses
+      ++ (accesses_text rules entries
       ++ (flat_map (loop_text (leaves_open full targets)) loops
       ++ (candidates_text (any_open targets) candidates ++ flat_map target_text targets))))))

@@ -8,4 +8,6 @@ pub mod Found
 pub mod Picks
 pub mod Reach
 pub mod Rows
+pub mod Rules
+pub mod Tallies
 pub mod Targets

@@ -1,21 +1,33 @@
-ghost use Rattle.std.specs.Prelude.{◌≡◌, ◌⊎◌, true, All, IfOk, OnOk};
-ghost use Rattle.std.specs.Map.{keys_of};
-ghost use Rattle.text_draft.specs.Accesses.{AreAccesses, RestsOn, RestsOnWord};
+ghost use Rattle.std.specs.Prelude.{◌≡◌, ◌⊎◌, true, All, IfOk, IfSome, OnOk, Some};
+ghost use Rattle.text_draft.specs.Accesses.{AreAccesses, HasBase, IsByPc, RestsOn, RestsOnWord, base_used};
+ghost use Rattle.text_draft.specs.Accesses.{places_of};
 ghost use Rattle.text_draft.specs.Picks.{Keeps};
 ghost use Rattle.arm2_decode.specs.Writers.{is_transfer};
-ghost use Rattle.bus_ticks.specs.Prices.{narrowest_class};
+ghost use Rattle.arm2_transfer.specs.Registers.{address_by};
+ghost use Rattle.bus_ticks.specs.Prices.{ahead_of, narrowest_class};
 ghost use Rattle.bus_ticks.specs.declared.profile.Class.{Class};
 ghost use Rattle.word_shapes.specs.Words.{MayDo};
 
 use crate::constants::Constants;
 use crate::reach::Reached;
 use crate::ways::before;
-use arm2_decode::{Block, Operation, SingleImmediate};
+use arm2_decode::{Block, Instr, Operation, Register, SingleImmediate};
 use arm2_transfer::address_by;
 use bus_ticks::{Class, SPACE_END, ahead_of, class_of, narrowest_class};
+use control_flow::base_of;
 use image::Image;
 use std::alloc::{AllocError, Global};
-use word_shapes::{instr_at, may_transfer_at};
+use word_shapes::instr_at;
+
+/// A word that loads or stores.
+#[derive(Clone, Copy)]
+pub struct FoundAccess {
+    pub at: u32,
+    /// Its base register.
+    pub base: Register,
+    /// The class of what it transfers.
+    pub class: Class,
+}
 
 // The narrowest class of both addresses, where they are of one.
 fn class_from(first: u32, last: u32) -> Class
@@ -67,6 +79,27 @@ fn class_shown(known: &Constants, at: u32, operation: &Operation) -> Class {
     block_class(known, at, x)
 }
 
+// The address so many bytes from PC.
+fn address_by_pc(at: u32, x: &SingleImmediate) -> u32
+    ensures { result ≡ address_by x.now.before x.now.up (ahead_of at 8) x.now.offset }
+{
+    address_by(x.before, x.up, ahead_of(at, 8), x.offset)
+}
+
+/// The class that an operation shows by itself: the narrowest of an address so many bytes from PC.
+pub(crate) fn shown_by_pc(at: u32, operation: &Operation) -> Option<Class>
+    ensures some { IfSome result (IsByPc at operation.now) }
+    ensures only { (class : Class) → IsByPc at operation.now class → result ≡ Some class }
+{
+    let Operation::SingleImmediate(x) = operation else {
+        return None;
+    };
+    if !x.rn.is_pc() {
+        return None;
+    }
+    Some(narrowest_class(address_by_pc(at, x)))
+}
+
 // The class of what an operation transfers, where it shows the address by itself; else any.
 fn class_by_pc(at: u32, operation: &Operation) -> Class
     ensures { RestsOn at operation.now result }
@@ -77,13 +110,13 @@ fn class_by_pc(at: u32, operation: &Operation) -> Class
     if !x.rn.is_pc() {
         return Class::Any;
     }
-    let address = address_by(x.before, x.up, ahead_of(at, 8), x.offset);
+    let address = address_by_pc(at, x);
     class_from(address, address)
 }
 
 // The class of what is transferred at an address, by the words in front too or by the word alone.
 fn class_at(image: &Image, known: &Constants, at: u32, by_word: bool) -> Class
-    ensures { by_word ≡ true → RestsOnWord image.now (at, result) }
+    ensures { by_word ≡ true → RestsOnWord image.now at result }
 {
     let Some(instr) = instr_at(image, at) else {
         return Class::Any;
@@ -95,25 +128,50 @@ fn class_at(image: &Image, known: &Constants, at: u32, by_word: bool) -> Class
     }
 }
 
+/// The base register of an instruction that loads or stores, and is not under NV.
+pub(crate) fn base_used(instr: &Instr) -> Option<Register>
+    ensures { result ≡ base_used instr.now }
+{
+    if instr.cond.is_never() {
+        None
+    } else {
+        base_of(&instr.operation)
+    }
+}
+
+// That of the word at an address.
+fn base_at(image: &Image, at: u32) -> Option<Register>
+    ensures some { IfSome result (HasBase image.now at) }
+    ensures only { (register : Register) → HasBase image.now at register → result ≡ Some register }
+{
+    match instr_at(image, at) {
+        Some(instr) => base_used(&instr),
+        None => None,
+    }
+}
+
 // Takes an address whose word loads or stores, and is not under NV.
 fn keep_access(
-    found: &mut Vec<(u32, Class)>,
+    found: &mut Vec<FoundAccess>,
     image: &Image,
     known: &Constants,
     at: u32,
     by_word: bool,
 ) -> Result<(), AllocError>
     ensures kept { OnOk result
-        (Keeps (MayDo is_transfer image.now) at (keys_of found.old.items) (keys_of found.new.items)) }
+        (Keeps (MayDo is_transfer image.now) at (places_of found.old.items) (places_of found.new.items)) }
+    ensures bases { OnOk result
+        (All (λ e. HasBase image.now e.at e.base) found.old.items
+        → All (λ e. HasBase image.now e.at e.base) found.new.items) }
     ensures rest { OnOk result
-        (by_word ≡ true → All (RestsOnWord image.now) found.old.items
-        → All (RestsOnWord image.now) found.new.items) }
+        ((by_word ≡ true → All (λ e. RestsOnWord image.now e.at e.class) found.old.items)
+        → by_word ≡ true → All (λ e. RestsOnWord image.now e.at e.class) found.new.items) }
 {
-    if !may_transfer_at(image, at) {
+    let Some(base) = base_at(image, at) else {
         return Ok(());
-    }
+    };
     let class = class_at(image, known, at, by_word);
-    found.push((at, class))?;
+    found.push(FoundAccess { at, base, class })?;
     Ok(())
 }
 
@@ -135,7 +193,7 @@ pub(crate) fn find_accesses(
     reach: &Reached,
     addresses: &[u32],
     by_word: bool,
-) -> Result<Vec<(u32, Class)>, AllocError>
+) -> Result<Vec<FoundAccess>, AllocError>
     ensures { IfOk result (λ found. AreAccesses image.now addresses.now by_word found.items) }
 {
     let mut found = Vec::new(alloc);

@@ -6,14 +6,14 @@ ghost use Rattle.text_draft.specs.Draft.{AreFound, IsDraft, is_full};
 ghost use Rattle.text_draft.specs.DraftText.{draft_text};
 ghost use Rattle.text_draft.specs.Reach.{AreReached};
 
-use crate::accesses::find_accesses;
+use crate::accesses::{FoundAccess, find_accesses};
 use crate::candidates::find_candidates;
 use crate::ends::{End, find_ends};
 use crate::loops::{Loops, find_loops};
 use crate::pc_writers::{FoundTarget, any_open, find_targets, leaves_open};
 use crate::reach::{MOST_ADDRESSES, Reached, reach};
+use crate::rules::{FoundRule, find_entries, find_rules};
 use crate::statement_text::{Sheet, put_full};
-use bus_ticks::Class;
 use image::Image;
 use sources::Source;
 use std::alloc::{AllocError, Global};
@@ -27,7 +27,9 @@ pub struct DraftParts {
     pub full: bool,
     pub ends: Vec<(u32, End)>,
     pub loops: Loops,
-    pub accesses: Vec<(u32, Class)>,
+    /// The rules for base registers, and the loads and stores for which none stands.
+    pub rules: Vec<FoundRule>,
+    pub entries: Vec<FoundAccess>,
     pub candidates: Vec<u32>,
     pub targets: Vec<FoundTarget>,
 }
@@ -49,22 +51,25 @@ fn find_at(
     requires ascend { IsStrictlySortedBy nat_cmp reach.now.addresses.items }
     requires reached { AreReached image.now entry reach.now.addresses.items }
     ensures { IfOk result
-        (λ found. AreFound image.now entry found.full found.ends.items found.accesses.items
+        (λ found. AreFound image.now entry found.full found.ends.items found.rules.items found.entries.items
         found.candidates.items found.targets.items) }
 {
     let addresses = reach.addresses.as_slice();
     let full = is_full(addresses);
     let ends = find_ends(alloc, image, addresses)?;
     let targets = find_targets(alloc, image, addresses)?;
-    let by_word = leaves_open(full, &targets);
-    let accesses = find_accesses(alloc, image, reach, addresses, by_word)?;
+    let open_left = leaves_open(full, &targets);
+    let accesses = find_accesses(alloc, image, reach, addresses, open_left)?;
+    let rules = find_rules(alloc, image, open_left, &accesses)?;
+    let entries = find_entries(alloc, &rules, &accesses)?;
     let candidates = find_candidates(alloc, image, addresses)?;
     let loops = find_loops(alloc, image, reach, entry)?;
     Ok(DraftParts {
         full,
         ends,
         loops,
-        accesses,
+        rules,
+        entries,
         candidates,
         targets,
     })
@@ -72,7 +77,7 @@ fn find_at(
 
 fn find(alloc: Global, image: &Image, entry: u32) -> Result<DraftParts, AllocError>
     ensures { IfOk result
-        (λ found. AreFound image.now entry found.full found.ends.items found.accesses.items
+        (λ found. AreFound image.now entry found.full found.ends.items found.rules.items found.entries.items
         found.candidates.items found.targets.items) }
 {
     let reach = reach(alloc, image, entry)?;
@@ -89,14 +94,14 @@ fn put_found(
         (out.new.items
         ≡ out.old.items
         ++ draft_text sheet.now.lines.now entry found.now.full found.now.ends.items
-        found.now.loops.cycles.items found.now.accesses.items found.now.loops.loops.items
-        found.now.candidates.items found.now.targets.items) }
+        found.now.loops.cycles.items found.now.rules.items found.now.entries.items
+        found.now.loops.loops.items found.now.candidates.items found.now.targets.items) }
 {
     sheet.put_head(out, entry)?;
     put_full(out, found.full)?;
     sheet.put_ends(out, &found.ends)?;
     sheet.put_cycles(out, &found.loops.cycles)?;
-    sheet.put_accesses(out, &found.accesses)?;
+    sheet.put_accesses(out, &found.rules, &found.entries)?;
     let open_left = leaves_open(found.full, &found.targets);
     sheet.put_loops(out, open_left, &found.loops.loops)?;
     sheet.put_candidates(out, any_open(&found.targets), &found.candidates)?;
@@ -113,8 +118,8 @@ fn draft_text(
     ensures { IfOk result
         (λ text. text.items
         ≡ draft_text lines.now entry found.now.full found.now.ends.items found.now.loops.cycles.items
-        found.now.accesses.items found.now.loops.loops.items found.now.candidates.items
-        found.now.targets.items) }
+        found.now.rules.items found.now.entries.items found.now.loops.loops.items
+        found.now.candidates.items found.now.targets.items) }
 {
     let mut out = Vec::new(alloc);
     put_found(&mut out, &Sheet { lines }, entry, found)?;

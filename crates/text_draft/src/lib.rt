@@ -14,7 +14,9 @@ mod loops;
 mod paths;
 mod pc_writers;
 mod reach;
+mod rules;
 mod statement_text;
+mod tallies;
 mod ways;
 mod word_actions;
 

@@ -2,24 +2,26 @@ ghost use Rattle.std.specs.Prelude.{◌≡◌, ◌++◌, OnOk, decimal};
 ghost use Rattle.std.specs.BTreeMap.{get};
 ghost use Rattle.std.specs.List.{flat_map};
 ghost use Rattle.std.specs.Ordering.{nat_cmp};
-ghost use Rattle.text_draft.specs.DraftText.{access_list_text, access_text, accesses_text, bound_text};
+ghost use Rattle.text_draft.specs.DraftText.{access_lists_text, accesses_text, bound_text, class_text};
+ghost use Rattle.text_draft.specs.DraftText.{entries_text, entry_list_text, entry_text, register_text};
+ghost use Rattle.text_draft.specs.DraftText.{rule_list_text, rule_text, rules_text, spot_text};
 ghost use Rattle.text_draft.specs.DraftText.{candidate_list_text, candidate_text, candidates_text};
 ghost use Rattle.text_draft.specs.DraftText.{comment_text, cycle_text, destination_text, destinations_text};
 ghost use Rattle.text_draft.specs.DraftText.{element_text, end_text, end_words, full_text, head_text};
 ghost use Rattle.text_draft.specs.DraftText.{loop_text, place_text, target_text, way_text, words_from};
 
+use crate::accesses::FoundAccess;
 use crate::draft_rows::{end_row, put_address, put_blanks, put_name};
 use crate::ends::End;
 use crate::found_loop::FoundLoop;
 use crate::pc_writers::{FoundTarget, Way};
+use crate::rules::FoundRule;
+use arm2_decode::Register;
 use bus_ticks::{Class, ahead_of};
 use statement::class_name;
 use std::alloc::AllocError;
 use std::collections::BTreeMap;
 use text_rows::{SourceLine, put, put_decimal};
-
-// Loads and stores with their classes.
-type ClassedAccesses<'a> = &'a [(u32, Class)];
 
 // So many branches one after another, from an address on.
 #[derive(Clone, Copy)]
@@ -93,51 +95,114 @@ impl<'a> Sheet<'_, 'a> {
         end_row(out, start, line)
     }
 
-    fn put_access(&self, out: &mut Vec<u8>, at: u32, class: Class) -> Result<(), AllocError>
-        ensures { OnOk result (out.new.items ≡ out.old.items ++ access_text self.now.lines.now (at, class)) }
+    // Adds a rule, with what it stands for as a comment.
+    fn put_rule(&self, out: &mut Vec<u8>, rule: &FoundRule) -> Result<(), AllocError>
+        ensures { OnOk result (out.new.items ≡ out.old.items ++ rule_text self.now.lines.now rule.now) }
     {
-        let start = out.len();
-        let line = self.line(at);
-        put(out, b"  {at = ")?;
-        put_name(out, line, at)?;
-        put(out, b", class = \"")?;
-        put(out, class_name(class).as_bytes())?;
-        put(out, b"\"},")?;
-        end_row(out, start, line)
+        put(out, b"  {register = \"")?;
+        put_register(out, rule.register)?;
+        put(out, b"\"")?;
+        put_class(out, rule.class)?;
+        put(out, b"  # ")?;
+        put_decimal(out, rule.count as u64)?;
+        put(out, b" loads and stores, the first ")?;
+        put_spot(out, self.line(rule.first), rule.first)?;
+        put(out, b"\n")
     }
 
-    fn put_each_access(
-        &self,
-        out: &mut Vec<u8>,
-        accesses: ClassedAccesses<'_>,
-    ) -> Result<(), AllocError>
+    fn put_each_rule(&self, out: &mut Vec<u8>, rules: &[FoundRule]) -> Result<(), AllocError>
         ensures { OnOk result
-            (out.new.items ≡ out.old.items ++ flat_map (access_text self.now.lines.now) accesses.now) }
+            (out.new.items ≡ out.old.items ++ flat_map (rule_text self.now.lines.now) rules.now) }
     {
-        for (at, class) in accesses {
-            self.put_access(out, *at, *class)?;
+        for rule in rules {
+            self.put_rule(out, rule)?;
         }
         Ok(())
     }
 
-    fn put_access_list(
-        &self,
-        out: &mut Vec<u8>,
-        accesses: ClassedAccesses<'_>,
-    ) -> Result<(), AllocError>
+    fn put_rule_list(&self, out: &mut Vec<u8>, rules: &[FoundRule]) -> Result<(), AllocError>
         ensures { OnOk result
-            (out.new.items ≡ out.old.items ++ access_list_text self.now.lines.now accesses.now) }
+            (out.new.items ≡ out.old.items ++ rule_list_text self.now.lines.now rules.now) }
     {
         put(
             out,
-            b"\n# What loads and stores reach: \"any\", \"ram\", \"rom\" or \"io\"; for devices of one speed\n\
-# \"slow\", \"medium\", \"fast\" or \"synchronous\".\naccess = [\n",
+            b"# By a base register, where they have no access of their own:\nbase = [\n",
         )?;
-        self.put_each_access(out, accesses)?;
+        self.put_each_rule(out, rules)?;
         put(out, b"]\n")
     }
 
-    /// Adds the loads and stores with their classes.
+    fn put_rules(&self, out: &mut Vec<u8>, rules: &[FoundRule]) -> Result<(), AllocError>
+        ensures { OnOk result
+            (out.new.items ≡ out.old.items ++ rules_text self.now.lines.now rules.now) }
+    {
+        if rules.is_empty() {
+            return Ok(());
+        }
+        self.put_rule_list(out, rules)
+    }
+
+    fn put_entry(&self, out: &mut Vec<u8>, access: &FoundAccess) -> Result<(), AllocError>
+        ensures { OnOk result (out.new.items ≡ out.old.items ++ entry_text self.now.lines.now access.now) }
+    {
+        let start = out.len();
+        let line = self.line(access.at);
+        put(out, b"  {at = ")?;
+        put_name(out, line, access.at)?;
+        put_class(out, access.class)?;
+        end_row(out, start, line)
+    }
+
+    fn put_each_entry(&self, out: &mut Vec<u8>, entries: &[FoundAccess]) -> Result<(), AllocError>
+        ensures { OnOk result
+            (out.new.items ≡ out.old.items ++ flat_map (entry_text self.now.lines.now) entries.now) }
+    {
+        for access in entries {
+            self.put_entry(out, access)?;
+        }
+        Ok(())
+    }
+
+    fn put_entry_list(&self, out: &mut Vec<u8>, entries: &[FoundAccess]) -> Result<(), AllocError>
+        ensures { OnOk result
+            (out.new.items ≡ out.old.items ++ entry_list_text self.now.lines.now entries.now) }
+    {
+        put(out, b"access = [\n")?;
+        self.put_each_entry(out, entries)?;
+        put(out, b"]\n")
+    }
+
+    fn put_entries(&self, out: &mut Vec<u8>, entries: &[FoundAccess]) -> Result<(), AllocError>
+        ensures { OnOk result
+            (out.new.items ≡ out.old.items ++ entries_text self.now.lines.now entries.now) }
+    {
+        if entries.is_empty() {
+            return Ok(());
+        }
+        self.put_entry_list(out, entries)
+    }
+
+    fn put_access_lists(
+        &self,
+        out: &mut Vec<u8>,
+        rules: &[FoundRule],
+        entries: &[FoundAccess],
+    ) -> Result<(), AllocError>
+        ensures { OnOk result
+            (out.new.items
+            ≡ out.old.items ++ access_lists_text self.now.lines.now rules.now entries.now) }
+    {
+        put(
+            out,
+            b"\n\
+# What loads and stores reach: \"any\", \"ram\", \"rom\" or \"io\"; for devices of one speed\n\
+# \"slow\", \"medium\", \"fast\" or \"synchronous\".\n",
+        )?;
+        self.put_rules(out, rules)?;
+        self.put_entries(out, entries)
+    }
+
+    /// Adds the rules for base registers, and the loads and stores for which none stands, with their classes.
     ///
     /// # Errors
     ///
@@ -145,15 +210,16 @@ impl<'a> Sheet<'_, 'a> {
     pub fn put_accesses(
         &self,
         out: &mut Vec<u8>,
-        accesses: ClassedAccesses<'_>,
+        rules: &[FoundRule],
+        entries: &[FoundAccess],
     ) -> Result<(), AllocError>
         ensures { OnOk result
-            (out.new.items ≡ out.old.items ++ accesses_text self.now.lines.now accesses.now) }
+            (out.new.items ≡ out.old.items ++ accesses_text self.now.lines.now rules.now entries.now) }
     {
-        if accesses.is_empty() {
+        if rules.is_empty() && entries.is_empty() {
             return Ok(());
         }
-        self.put_access_list(out, accesses)
+        self.put_access_lists(out, rules, entries)
     }
 
     fn put_loop(
@@ -379,6 +445,34 @@ impl<'a> Sheet<'_, 'a> {
         )?;
         put(out, b"returns = \"stated\"\n")
     }
+}
+
+fn put_register(out: &mut Vec<u8>, register: Register) -> Result<(), AllocError>
+    ensures { OnOk result (out.new.items ≡ out.old.items ++ register_text register) }
+{
+    put(out, b"R")?;
+    put_decimal(out, u64::from(register.number()))
+}
+
+// Adds a class, and ends a table.
+fn put_class(out: &mut Vec<u8>, class: Class) -> Result<(), AllocError>
+    ensures { OnOk result (out.new.items ≡ out.old.items ++ class_text class) }
+{
+    put(out, b", class = \"")?;
+    put(out, class_name(class).as_bytes())?;
+    put(out, b"\"},")
+}
+
+// Adds where a word is.
+fn put_spot(out: &mut Vec<u8>, line: Option<SourceLine>, at: u32) -> Result<(), AllocError>
+    ensures { OnOk result (out.new.items ≡ out.old.items ++ spot_text line.entry at) }
+{
+    let Some(line) = line else {
+        put(out, b"at ")?;
+        return put_address(out, at);
+    };
+    put(out, b"in line ")?;
+    put_decimal(out, line.number as u64)
 }
 
 // Adds a number in front of a text.

@@ -1,0 +1,100 @@
+-- The rules for base registers, each in place of the entries of loads and stores that have one base and one
+-- class.
+use Rattle.std.specs.Prelude.{◌≡◌, ◌⊎◌, ◌↔◌, ◌&&◌, ◌==◌, ◌<◌, ◌≤◌, ℕ, Bool, true, false, List, length, filter}
+use Rattle.std.specs.Prelude.{AllPairs, Contains, Some}
+use Rattle.std.specs.List.{list_any, slice_get}
+use Rattle.arm2_decode.specs.Names.{is_pc, is_same, register_number}
+use Rattle.arm2_decode.specs.declared.instr.Instr.{Instr}
+use Rattle.arm2_decode.specs.declared.names.Register.{Register}
+use Rattle.bus_ticks.specs.declared.profile.Class.{Class}
+use Rattle.bus_ticks.specs.declared.profile.Class.TheVariants.{Ram, Rom, Io, Any, Slow, Medium, Fast}
+use Rattle.bus_ticks.specs.declared.profile.Class.TheVariants.{Synchronous}
+use Rattle.image.specs.Image.{Words}
+use Rattle.text_draft.specs.Accesses.{IsByPc, base_used}
+use Rattle.text_draft.specs.Picks.{Picks}
+use Rattle.text_draft.specs.declared.accesses.FoundAccess.{FoundAccess}
+use Rattle.text_draft.specs.declared.rules.FoundRule.{FoundRule}
+use Rattle.word_shapes.specs.Words.{HasInstr}
+
+-- ## The accesses of a base and a class
+
+-- classes in their order
+abbrev pub class_number : Class → ℕ
+class_number Ram = 0
+class_number Rom = 1
+class_number Io = 2
+class_number Any = 3
+class_number Slow = 4
+class_number Medium = 5
+class_number Fast = 6
+class_number Synchronous = 7
+
+abbrev pub is_same_class : Class → Class → Bool
+is_same_class class other = class_number class == class_number other
+
+-- the access has that base and that class
+abbrev pub has_both : Register → Class → FoundAccess → Bool
+has_both register class e = is_same register e.base && is_same_class class e.class
+
+abbrev pub of_both : List FoundAccess → Register → Class → List FoundAccess
+of_both accesses register class = filter (has_both register class) accesses
+
+abbrev pub count : List FoundAccess → Register → Class → ℕ
+count accesses register class = length (of_both accesses register class)
+
+-- ## Rules
+
+-- no class has more accesses of the base, and none in front of it in their order has as many
+pub record IsMostFrequent (accesses : List FoundAccess) (register : Register) (class : Class) : Type 0 where
+  pub most : (other : Class) → count accesses register other ≤ count accesses register class
+  pub first : (other : Class) → class_number other < class_number class
+      → count accesses register other < count accesses register class
+
+-- the word at the address shows the class by itself, or neither loads nor stores by R15
+abbrev pub Shows : Words → ℕ → Class → Type 0
+Shows words at class =
+    (i : Instr) → HasInstr words at i → (register : Register) → base_used i ≡ Some register
+    → is_pc register ≡ true → IsByPc at i.operation class
+
+module _ (words : Words) (open_left : Bool) where
+  -- a rule of the class says no more of a word that was not looked at than is known: it is any; or nothing is
+  -- left open, and all that are reached were looked at; or each word that it may cover shows the class
+  abbrev pub MayRule : Register → Class → Type 0
+  MayRule register class =
+      (class ≡ Any)
+      ⊎ ((open_left ≡ false) ⊎ ((is_pc register ≡ true) × ((at : ℕ) → Shows words at class)))
+
+module _ (words : Words) (open_left : Bool) (accesses : List FoundAccess) where
+  -- the class that a rule of the register has: the most frequent if it may, else any
+  abbrev pub IsRuleClass : Register → Class → Type 0
+  IsRuleClass register class =
+      (IsMostFrequent accesses register class × MayRule words open_left register class)
+      ⊎ ((class ≡ Any)
+      × ((most : Class) → IsMostFrequent accesses register most → MayRule words open_left register most → ⊥))
+
+  -- it has one, in place of two entries at least
+  abbrev pub HasRule : Register → Class → Type 0
+  HasRule register class = IsRuleClass register class × (2 ≤ count accesses register class)
+
+  -- it says how many accesses it stands for, and where the first of them is
+  pub record IsRule (r : FoundRule) : Type 0 where
+    pub has : HasRule r.register r.class
+    pub count_is : r.count ≡ count accesses r.register r.class
+    pub first : FoundAccess
+    pub first_is : slice_get (of_both accesses r.register r.class) 0 ≡ Some first
+    pub at_first : r.first ≡ first.at
+
+  -- exactly the rules, by ascending registers
+  pub record AreRules (rules : List FoundRule) : Type 0 where
+    pub ascend : AllPairs (λ r q. register_number r.register < register_number q.register) rules
+    pub each : (r : FoundRule) → Contains rules r ↔ IsRule r
+
+-- ## What is left
+
+-- a rule stands for the access
+abbrev pub is_covered : List FoundRule → FoundAccess → Bool
+is_covered rules e = list_any (λ r. has_both r.register r.class e) rules
+
+-- exactly the accesses for which no rule stands, in their order
+abbrev pub AreEntries : List FoundAccess → List FoundRule → List FoundAccess → Type 0
+AreEntries accesses rules = Picks (λ e. is_covered rules e ≡ false) accesses
