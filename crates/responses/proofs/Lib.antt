@@ -1,0 +1,3 @@
+pub mod EntryLemmas
+pub mod LongestLemmas
+pub mod ResponseLemmas
