@@ -9,10 +9,12 @@ use Rattle.arm2_exec.specs.Step.{Step}
 use Rattle.arm2_exec.specs.declared.machine.Input.{Input}
 use Rattle.arm2_exec.specs.declared.machine.Stepped.{Stepped}
 
--- a step of a machine with its 27 registers and these prices that does not stop it
+-- a step of a machine with its 27 registers, pages of at most 2^15 bytes, which are MEMC's largest, and these
+-- prices, that does not stop it
 pub record IsStepAt (profile : Profile) (s : State) (i : Input) (stepped : Stepped)
     (after : State) : Type 0 where
   pub registers : length s.regs ≡ 27
+  pub pages : s.bus.memc.shift ≤ 15
   pub prices : s.profile ≡ profile
   pub step : Step s i stepped after
   pub goes_on : why_stopped stepped.kind ≡ None
