@@ -1,3 +1,4 @@
 pub mod EntryLemmas
 pub mod LongestLemmas
+pub mod LongestReached
 pub mod ResponseLemmas

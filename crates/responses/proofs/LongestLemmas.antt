@@ -65,10 +65,10 @@ use Rattle.responses.proofs.EntryLemmas.{following_le}
 
 -- ## Where words are fetched
 
-past : {A : Type 0} (a limit : ℕ) (x y : A) → limit ≤ a → cond (nat_lt a limit) x y ≡ y
+pub past : {A : Type 0} (a limit : ℕ) (x y : A) → limit ≤ a → cond (nat_lt a limit) x y ≡ y
 past a limit x y h = rw (le-ltb a limit h) refl
 
-before : {A : Type 0} (a limit : ℕ) (x y : A) → a < limit → cond (nat_lt a limit) x y ≡ x
+pub before : {A : Type 0} (a limit : ℕ) (x y : A) → a < limit → cond (nat_lt a limit) x y ≡ x
 before a limit x y h = rw (lt-ltb a limit h) refl
 
 -- no word past the RAM that the largest pages give
@@ -162,7 +162,7 @@ leave_most n unfitted a b c = (omega arith, omega arith)
 
 -- ## What words cost
 
-abbrev stated : Stated
+abbrev pub stated : Stated
 stated = record { entry = 0; leave = Any; returns = Assumed; loops = []; targets = []; accesses = []; rules = []; multiplies = []; branches = [] }
 
 leaves_any : (p : Profile) (k : FlowKind) → arrival_ticks p Any k Exit ≤ worst_leave p Any
@@ -303,7 +303,7 @@ module _ (p : Profile) (s : State) (i : Input) (stepped : Stepped) (after : Stat
   fetched_most : (word : Option ℕ) → fetched s.bus.memc (r15_in s.regs) ≡ word → (m : Moved) → ObeysFetched word i.port s.regs bus m → m.kind ≡ ended.Plain → ticks_of (record { profile = p; rom = rom }) m.accesses ≤ longest_step p
   unfolding taken
   fetched_most None fetches m obeys plain = absurd (let kind = ap (λ (x : Moved). x.kind) obeys in cc)
-  fetched_most (Some word) fetches m obeys plain = obeys_most word (fetched_where s.bus.memc (r15_in s.regs) word is.pages fetches) m obeys plain
+  fetched_most (Some word) fetches m obeys plain = obeys_most word (fetched_where s.bus.memc (r15_in s.regs) word is.pages.1 fetches) m obeys plain
 
   plain_most : stepped.kind ≡ ended.Plain → stepped.ticks ≤ longest_step p
   plain_most plain =

@@ -1,20 +1,21 @@
 -- The longest step of any program, in ticks.
-use Rattle.std.specs.Prelude.{◌≡◌, ℕ, ◌+◌, ◌*◌, ◌≤◌, List, length, max, None}
+use Rattle.std.specs.Prelude.{◌≡◌, ℕ, ◌+◌, ◌*◌, ◌≤◌, length, max, None}
 use Rattle.bus_ticks.specs.declared.profile.Class.TheVariants.{Any}
 use Rattle.bus_ticks.specs.declared.profile.Profile.{Profile}
 use Rattle.bus_ticks.specs.Worst.{worst_io, worst_leave, worst_rom}
+use Rattle.memc.specs.Paged.{IsShift}
 use Rattle.arm2_exec.specs.Run.{why_stopped}
 use Rattle.arm2_exec.specs.State.{State}
 use Rattle.arm2_exec.specs.Step.{Step}
 use Rattle.arm2_exec.specs.declared.machine.Input.{Input}
 use Rattle.arm2_exec.specs.declared.machine.Stepped.{Stepped}
 
--- a step of a machine with its 27 registers, pages of at most 2^15 bytes, which are MEMC's largest, and these
--- prices, that does not stop it
+-- a step of a machine with its 27 registers, pages of one of MEMC's four sizes, and these prices, that does
+-- not stop it
 pub record IsStepAt (profile : Profile) (s : State) (i : Input) (stepped : Stepped)
     (after : State) : Type 0 where
   pub registers : length s.regs ≡ 27
-  pub pages : s.bus.memc.shift ≤ 15
+  pub pages : IsShift s.bus.memc.shift
   pub prices : s.profile ≡ profile
   pub step : Step s i stepped after
   pub goes_on : why_stopped stepped.kind ≡ None
