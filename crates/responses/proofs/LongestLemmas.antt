@@ -126,7 +126,7 @@ module _ (p : Profile) where
       let small : a < 2 ^ 26 = at.small in
       elim (class_cases (ahead_of a 8)) [
         | inl r ↦ inl r.0
-        | inr (inl r) ↦ absurd (elim at.where_ [ | inl low ↦ omega (arith, r.1, low) | inr high ↦ omega (arith, r.1, r.2, high, small) ])
+        | inr (inl r) ↦ absurd (elim at.where_ [ inl low ↦ omega (arith, r.1, low) | inr high ↦ omega (arith, r.1, r.2, high, small) ])
         | inr (inr r) ↦ inr r.0
       ]
 

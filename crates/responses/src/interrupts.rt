@@ -15,7 +15,10 @@ pub enum Interrupt {
 fn irq_entry_number(profile: &Profile) -> u32
     ensures { result ≡ irq_entry profile.now }
 {
-    let rom = profile.rom_0.max(profile.rom_1).max(profile.rom_2.max(profile.rom_3));
+    let rom = profile
+        .rom_0
+        .max(profile.rom_1)
+        .max(profile.rom_2.max(profile.rom_3));
     profile.quad.max(rom.max(profile.unfitted)) + (profile.n + profile.s)
 }
 

@@ -8,7 +8,10 @@ fn longest_step_number(profile: &Profile) -> u32
     ensures number { result ≡ longest_step profile.now }
     ensures small { result < 8192 }
 {
-    let rom = profile.rom_0.max(profile.rom_1).max(profile.rom_2.max(profile.rom_3));
+    let rom = profile
+        .rom_0
+        .max(profile.rom_1)
+        .max(profile.rom_2.max(profile.rom_3));
     let load = worst_transfer(profile, Class::Any, 16, false) + profile.internal;
     let jump = worst_leave(profile, Class::Any);
     profile.quad.max(rom) + (load + jump).max(16 * profile.internal)
