@@ -43,11 +43,11 @@ irq_due first false masks asks held = absurd (cc)
 irq_due true true false asks held = absurd (cc)
 irq_due first true true asks held = absurd (cc)
 
-is_due : (interrupt : Interrupt) (c : ioc.Controller) (r15 : ℕ) → is_active interrupt c ≡ true → is_held_back interrupt c r15 ≡ false → interrupt_of c r15 ≡ Some (vector_of interrupt)
+pub is_due : (interrupt : Interrupt) (c : ioc.Controller) (r15 : ℕ) → is_active interrupt c ≡ true → is_held_back interrupt c r15 ≡ false → interrupt_of c r15 ≡ Some (vector_of interrupt)
 is_due Fiq c r15 asks free = fiq_due (ioc.fiq_of c) (is_fiq_masked r15) _ asks free
 is_due Irq c r15 asks free = irq_due (ioc.fiq_of c && not (is_fiq_masked r15)) (ioc.irq_of c) (is_irq_masked r15) asks free
 
-takes : (v : Vector) (s : State) (i : Input) (stepped : Stepped) (after : State) → interrupt_due (with_lines i.lines.0 s.bus) (r15_in s.regs) ≡ Some v → Step s i stepped after → stepped.kind ≡ Taken v
+pub takes : (v : Vector) (s : State) (i : Input) (stepped : Stepped) (after : State) → interrupt_due (with_lines i.lines.0 s.bus) (r15_in s.regs) ≡ Some v → Step s i stepped after → stepped.kind ≡ Taken v
 unfolding answer_of taken
 takes v s i stepped after due step =
     let bus : Bus = with_lines i.lines.0 s.bus in

@@ -1,5 +1,5 @@
 -- Response time: how long after an interrupt's line rises the handler's instruction at an address is done.
-use Rattle.std.specs.Prelude.{◌≡◌, ℕ, ◌+◌, ◌*◌, ◌≤◌, ◌==◌, Bool, true, false, List, [], ◌∷◌, ◌++◌, All, None}
+use Rattle.std.specs.Prelude.{◌≡◌, ℕ, ◌+◌, ◌*◌, ◌≤◌, ◌==◌, Bool, true, false, List, [], ◌∷◌, ◌++◌, length, All, None}
 use Rattle.walks.specs.Walk.{Leads, cost_of}
 use Rattle.bus_ticks.specs.declared.profile.Profile.{Profile}
 use Rattle.image.specs.Image.{Words}
@@ -16,6 +16,7 @@ use Rattle.control_flow.specs.declared.edges.Edge.{Edge}
 use Rattle.control_flow.specs.declared.places.Place.{Place}
 use Rattle.control_flow.specs.declared.places.Place.TheVariants.{At, Exit}
 use Rattle.control_flow.specs.Flow.{Flow, HasEdge, edge_shape}
+use Rattle.control_flow.specs.Graph.{IsFlowGraph}
 use Rattle.flow_graph.specs.StepLaw.{Follows, bursts_of}
 use Rattle.loop_bounds.specs.Bounds.{KeepsTheBounds}
 use Rattle.responses.specs.declared.interrupts.Interrupt.{Interrupt}
@@ -122,3 +123,22 @@ ResponseLaw =
     → Runs s (inputs_of service) ran after
     → TakesAtMost flow.profile (response_time flow.profile interrupt masked arrival own)
     (inputs_of service) ran
+
+-- ## Some run
+
+-- a handler with a flow graph, and a run that waits for the interrupt and then serves it: what the law says of
+-- runs, it says of some
+pub record HasService (profile : Profile) (interrupt : Interrupt) : Type 0 where
+  pub words : Words
+  pub stated : Stated
+  pub flow : Flow
+  pub graph_is : IsFlowGraph words stated profile flow
+  pub address : ℕ
+  pub masked : ℕ
+  pub s : State
+  pub service : Service
+  pub serves : Serves words stated flow interrupt address masked s service
+  pub waits : length service.waiting ≡ 1
+  pub ran : Ran
+  pub after : State
+  pub runs : Runs s (inputs_of service) ran after

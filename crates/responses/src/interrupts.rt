@@ -2,7 +2,7 @@ ghost use Rattle.std.specs.Prelude.{◌≡◌, ◌<◌};
 ghost use Rattle.bus_ticks.specs.Worst.{IsGreatest, IsTargetOf};
 ghost use Rattle.responses.specs.Entry.{entry_price, entry_ticks, irq_entry, irq_entry_price};
 
-use bus_ticks::{Class, Profile, fiq_entry};
+use bus_ticks::{Class, Profile, ROM_START, fiq_entry, worst_fetch_n};
 
 /// An interrupt of the processor.
 #[derive(Clone, Copy, Debug, PartialEq, Eq)]
@@ -15,10 +15,7 @@ pub enum Interrupt {
 fn irq_entry_number(profile: &Profile) -> u32
     ensures { result ≡ irq_entry profile.now }
 {
-    let rom = profile
-        .rom_0
-        .max(profile.rom_1)
-        .max(profile.rom_2.max(profile.rom_3));
+    let rom = worst_fetch_n(profile, ROM_START);
     profile.quad.max(rom.max(profile.unfitted)) + (profile.n + profile.s)
 }
 

@@ -1,5 +1,8 @@
+ghost use Rattle.bus_ticks.specs.declared.profile.Profile.{Profile};
 ghost use Rattle.responses.specs.Entry.{IrqCostsItsEntry, UnmaskedIsTaken};
-ghost use Rattle.responses.specs.Response.{ResponseLaw};
+ghost use Rattle.responses.specs.Response.{HasService, ResponseLaw};
+
+use crate::interrupts::Interrupt;
 
 /// Each run that serves an interrupt takes, from the beginning of the step in progress to the end of the first
 /// one at the address, at most the sum of its parts, and the price of its DMA bursts more. The call does
@@ -18,4 +21,10 @@ pub fn unmasked_is_taken()
 /// IRQ's vector, by the prices and the time fields of ROM before it. The call does nothing.
 pub fn irq_costs_its_entry()
     ensures { IrqCostsItsEntry }
+{}
+
+/// States that runs can serve interrupts: under every profile one waits for IRQ, and one for FIQ, and then
+/// serves it. So what the law says of such runs is not said of none. The call does nothing.
+pub fn some_run_serves()
+    ensures { (profile : Profile) → (interrupt : Interrupt) → HasService profile interrupt }
 {}

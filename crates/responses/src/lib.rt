@@ -9,5 +9,5 @@ mod law;
 mod longest;
 
 pub use interrupts::{Interrupt, entry_ticks, irq_entry};
-pub use law::{irq_costs_its_entry, response_law, unmasked_is_taken};
+pub use law::{irq_costs_its_entry, response_law, some_run_serves, unmasked_is_taken};
 pub use longest::longest_step;

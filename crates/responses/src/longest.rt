@@ -1,17 +1,14 @@
 ghost use Rattle.std.specs.Prelude.{◌≡◌, ◌<◌};
 ghost use Rattle.responses.specs.Longest.{IsLongestStep, longest_step};
 
-use bus_ticks::{Class, Profile, worst_leave, worst_transfer};
+use bus_ticks::{Class, Profile, ROM_START, worst_fetch_n, worst_leave, worst_transfer};
 
 // The greatest price as a number.
 fn longest_step_number(profile: &Profile) -> u32
     ensures number { result ≡ longest_step profile.now }
     ensures small { result < 8192 }
 {
-    let rom = profile
-        .rom_0
-        .max(profile.rom_1)
-        .max(profile.rom_2.max(profile.rom_3));
+    let rom = worst_fetch_n(profile, ROM_START);
     let load = worst_transfer(profile, Class::Any, 16, false) + profile.internal;
     let jump = worst_leave(profile, Class::Any);
     profile.quad.max(rom) + (load + jump).max(16 * profile.internal)
