@@ -1,11 +1,11 @@
 -- A step that takes an interrupt: when it does, and what it costs.
-use Rattle.std.proofs.Common.{◌≡◌, ◌∙◌, ℕ, ◌+◌, ◌*◌, ◌%◌, ◌≤◌, ◌<◌, ◌&&◌, ◌||◌, not, Bool, true, false, cond, Option, Some, None, refl, sym, ap, subst, inl, inr, arith, eqb, max}
+use Rattle.std.proofs.Common.{◌≡◌, ◌∙◌, ℕ, ◌+◌, ◌%◌, ◌≤◌, ◌<◌, ◌&&◌, ◌||◌, not, Bool, true, false, cond, Option, Some, None, refl, ap, subst, inl, inr, arith, eqb, max}
 use Rattle.std.proofs.lemmas.Bool.{cases_lt, cond-false}
 use Rattle.bus_ticks.specs.declared.profile.Profile.{Profile}
 use Rattle.bus_ticks.specs.declared.profile.RomTimes.{RomTimes}
 use Rattle.bus_ticks.specs.declared.profile.Class.TheVariants.{Ram, Rom, Io, Any}
 use Rattle.bus_ticks.specs.Prices.{fetch_n, fetch_s}
-use Rattle.bus_ticks.specs.Worst.{AtTimes, IsGreatest, IsTargetOf, fiq_entry_price, worst_rom}
+use Rattle.bus_ticks.specs.Worst.{AtTimes, IsGreatest, IsTargetOf, worst_rom}
 use Rattle.bus_ticks.proofs.EntryLemmas.{fiq_entry_greatest}
 use Rattle.bus_ticks.proofs.LeaveLemmas.{class_cases, s_at, s_ram_le}
 use Rattle.bus_ticks.proofs.WorstLemmas.{dearest_times, rom_le}

@@ -1,23 +1,19 @@
 -- No step takes more than the longest.
-use Rattle.std.proofs.Common.{◌≡◌, ◌∙◌, ℕ, ◌+◌, ◌-◌, ◌*◌, ◌/◌, ◌%◌, ◌^◌, ◌<◌, ◌≤◌, ◌⊎◌, inl, inr, Bool, true, false, cond, nat_lt, ◌&&◌, List, [], length, Option, Some, None, Result, Ok, Err, refl, sym, ap, subst, arith, eqb, max, min}
+use Rattle.std.proofs.Common.{◌≡◌, ◌∙◌, ℕ, ◌+◌, ◌-◌, ◌*◌, ◌%◌, ◌^◌, ◌<◌, ◌≤◌, ◌⊎◌, inl, inr, Bool, true, false, cond, nat_lt, ◌&&◌, List, [], length, Option, Some, None, refl, sym, ap, subst, arith, eqb, max}
 use Rattle.std.specs.Prelude.{IfSome}
 use Rattle.std.proofs.Math.Nat.{pow-le-pow_right}
 use Rattle.std.proofs.lemmas.Bool.{cases_lt, cond-false, le-leb, le-ltb, lt-ltb}
 use Rattle.std.proofs.lemmas.Nat.{mul-le}
-use Rattle.bus_ticks.specs.declared.profile.Class.TheVariants.{Ram, Rom, Io, Any}
+use Rattle.bus_ticks.specs.declared.profile.Class.TheVariants.{Ram, Rom, Any}
 use Rattle.bus_ticks.specs.declared.profile.Profile.{Profile}
 use Rattle.bus_ticks.specs.declared.profile.RomTimes.{RomTimes}
 use Rattle.bus_ticks.specs.Prices.{ahead_of, by_class, class_of, fetch_n, fetch_s, ram_price}
-use Rattle.bus_ticks.specs.Worst.{worst_fetch_n, worst_fetch_s, worst_io, worst_leave, worst_rom, worst_transfer}
+use Rattle.bus_ticks.specs.Worst.{worst_fetch_n, worst_fetch_s, worst_io, worst_leave, worst_rom}
 use Rattle.bus_ticks.proofs.LeaveLemmas.{class_cases, s_ram_le}
 use Rattle.memc.specs.Memory.{Memory, located, physical_at}
 use Rattle.memc.specs.Paged.{fitted_bytes}
-use Rattle.memc.specs.declared.spots.Refused.TheVariants as refused
-use Rattle.arm2_decode.specs.Table.{Means}
-use Rattle.arm2_decode.specs.declared.instr.Instr.{Instr}
 use Rattle.arm2_decode.specs.declared.instr.Operation.{Operation}
 use Rattle.arm2_decode.specs.declared.instr.Operation.TheVariants as operation
-use Rattle.arm2_decode.specs.declared.instr.Unallocated.{Unallocated}
 use Rattle.arm2_decode.specs.Names.{is_pc}
 use Rattle.arm2_decode.specs.Transfers.{is_listed, word_count}
 use Rattle.arm2_decode.specs.declared.names.Register.TheVariants.{R15}
@@ -38,7 +34,7 @@ use Rattle.arm2_transfer.specs.Moved.{Moved, on_bus}
 use Rattle.arm2_transfer.specs.Operations.{operation_moved}
 use Rattle.arm2_exec.specs.Run.{why_stopped}
 use Rattle.arm2_exec.specs.State.{State}
-use Rattle.arm2_exec.specs.Step.{Obeys, ObeysFetched, Step, address_in, answer_of, fetched, fetched_at, instruction_moved, interrupt_due, prices_in, ticks_in, unallocated_moved, with_lines}
+use Rattle.arm2_exec.specs.Step.{Obeys, ObeysFetched, address_in, answer_of, fetched, fetched_at, interrupt_due, ticks_in, with_lines}
 use Rattle.arm2_exec.specs.declared.machine.Input.{Input}
 use Rattle.arm2_exec.specs.declared.machine.Stepped.{Stepped}
 use Rattle.arm2_exec.proofs.TakenLemmas.{took}
@@ -50,12 +46,12 @@ use Rattle.control_flow.specs.declared.actions.Work.{Work}
 use Rattle.control_flow.specs.declared.actions.Work.TheVariants as work
 use Rattle.control_flow.specs.declared.places.Place.TheVariants.{Exit}
 use Rattle.control_flow.proofs.WorkLemmas.{action_fits}
-use Rattle.flow_graph.specs.StepLaw.{TakesWithin, TransfersIn, holds_in}
+use Rattle.flow_graph.specs.StepLaw.{TakesWithin, holds_in}
 use Rattle.flow_graph.proofs.StepEdges.{arrives}
 use Rattle.flow_graph.proofs.StepLemmas.{plain_step, works_plain}
 use Rattle.flow_graph.proofs.StepOperations.{operation_costs, skipped_costs}
 use Rattle.flow_graph.proofs.StepRegisters.{word_address_of}
-use Rattle.flow_graph.proofs.StepTicks.{Costs, jump_price}
+use Rattle.flow_graph.proofs.StepTicks.{jump_price}
 use Rattle.kept_runs.specs.Reading.{cycles_if, instr_reading, multiplier_cycles, unallocated_reading}
 use Rattle.kept_runs.proofs.MovedLemmas.{word_moves}
 use Rattle.statement.specs.Stated.{Stated}

@@ -1,13 +1,13 @@
 -- Some step takes as much as the longest: one that loads 16 words, R15 among them, or one that multiplies.
-use Rattle.std.proofs.Common.{◌≡◌, ◌∙◌, ◌++◌, ℕ, ◌+◌, ◌*◌, ◌/◌, ◌%◌, ◌^◌, ◌<◌, ◌≤◌, inl, inr, Bool, true, false, cond, List, [], ◌∷◌, Option, Some, None, Ok, replicate, refl, sym, ap, subst, arith, max, lit<}
+use Rattle.std.proofs.Common.{◌≡◌, ◌∙◌, ◌++◌, ℕ, ◌+◌, ◌*◌, ◌/◌, ◌<◌, ◌≤◌, inl, inr, true, false, List, [], ◌∷◌, Some, Ok, replicate, refl, sym, ap, subst, arith, max, lit<}
 use Rattle.std.proofs.lemmas.Bool.{cases_lt, cond-false, eq-eqb, ne_eqb}
 use Rattle.bus_ticks.specs.declared.profile.Class.TheVariants.{Any, Io, Ram, Rom}
 use Rattle.bus_ticks.specs.declared.profile.Profile.{Profile}
 use Rattle.bus_ticks.specs.declared.profile.RomTimes.{RomTimes}
-use Rattle.bus_ticks.specs.Dearest.{AreDearest, IsDearestBlock, IsDearestLeave}
+use Rattle.bus_ticks.specs.Dearest.{AreDearest, IsDearestLeave}
 use Rattle.bus_ticks.specs.Prices.{ahead_of, choice, word_address}
 use Rattle.bus_ticks.specs.Ranges.{greatest}
-use Rattle.bus_ticks.specs.Worst.{worst_fetch_s, worst_io, worst_leave, worst_rom}
+use Rattle.bus_ticks.specs.Worst.{worst_io, worst_leave, worst_rom}
 use Rattle.bus_ticks.proofs.LeaveLemmas.{any_of, io_far, io_near, ram_far, ram_near, rom_far, rom_near}
 use Rattle.bus_ticks.proofs.WorstLemmas.{any_block, dearest_times, io_block}
 use Rattle.image.specs.Image.{Words, word_of}
@@ -27,7 +27,6 @@ use Rattle.arm2_decode.specs.declared.names.Cond.TheVariants.{Al}
 use Rattle.arm2_decode.specs.declared.names.Register.TheVariants.{R0, R1, R2}
 use Rattle.shifter.proofs.ShiftLemmas.{greatest_cycles}
 use Rattle.arm2_effect.specs.ProgramCounter.{address_of}
-use Rattle.arm2_transfer.specs.declared.bus.Bus.{Bus}
 use Rattle.arm2_transfer.specs.Bus.{seen}
 use Rattle.arm2_exec.specs.Run.{why_stopped}
 use Rattle.arm2_exec.specs.State.{State}
@@ -36,7 +35,6 @@ use Rattle.arm2_exec.specs.declared.machine.Input.{Input}
 use Rattle.control_flow.specs.Edges.{IsEdge, do_edge}
 use Rattle.control_flow.specs.Kinds.{instr_action}
 use Rattle.control_flow.specs.declared.edges.Edge.{Edge}
-use Rattle.control_flow.specs.declared.places.Place.{Place}
 use Rattle.control_flow.specs.declared.places.Place.TheVariants.{At, Exit}
 use Rattle.flow_graph.specs.Tight.{IsTight}
 use Rattle.flow_graph.specs.TightWork.{FetchesAt, IsDearestTarget, IsDearestTransfer, IsSetFor, IsSetForEdge, TransfersDearest}

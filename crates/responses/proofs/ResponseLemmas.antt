@@ -1,5 +1,5 @@
 -- A run that serves an interrupt takes at most the sum of its parts.
-use Rattle.std.proofs.Common.{◌≡◌, ◌∙◌, ℕ, ◌+◌, ◌*◌, ◌<◌, ◌≤◌, List, [], ◌∷◌, ◌++◌, None, refl, sym, ap, subst, arith}
+use Rattle.std.proofs.Common.{◌≡◌, ◌∙◌, ℕ, ◌+◌, ◌*◌, ◌≤◌, List, [], ◌∷◌, ◌++◌, None, sym, ap, subst, arith}
 use Rattle.std.proofs.Math.Nat.{mul-add}
 use Rattle.std.proofs.lemmas.List.Sums.{sum_by-cons, sum_by_push}
 use Rattle.bus_ticks.specs.declared.profile.Profile.{Profile}
@@ -13,7 +13,7 @@ use Rattle.arm2_exec.specs.declared.machine.Ran.{Ran}
 use Rattle.arm2_exec.specs.declared.machine.Stepped.{Stepped}
 use Rattle.arm2_exec.proofs.StepLemmas.{same_profile}
 use Rattle.control_flow.specs.declared.edges.Edge.{Edge}
-use Rattle.control_flow.specs.Flow.{Flow, HasEdge, edge_shape}
+use Rattle.control_flow.specs.Flow.{Flow, edge_shape}
 use Rattle.flow_graph.specs.StepLaw.{IsWithin, bursts_of}
 use Rattle.flow_graph.proofs.StepLemmas.{goes_on, run_law}
 use Rattle.statement.specs.Stated.{Stated}

@@ -1,6 +1,6 @@
 -- A run that waits for an interrupt and serves it. Each word is SUBS PC,R14,#4: the interrupted program's in
 -- ROM, which is carried out in SVC mode, in IRQ mode, and would be in SVC mode again; and the handler's.
-use Rattle.std.proofs.Common.{◌≡◌, ◌∙◌, ◌++◌, ℕ, ◌+◌, ◌*◌, ◌/◌, ◌%◌, ◌≤◌, ◌==◌, ◌&&◌, ◌||◌, not, List, [], ◌∷◌, length, Bool, true, false, cond, Option, None, Some, Contains, ⊎_elim, replicate, refl, sym, ap, subst, inl, inr, arith, lit<}
+use Rattle.std.proofs.Common.{◌≡◌, ◌∙◌, ◌++◌, ℕ, ◌+◌, ◌*◌, ◌/◌, ◌%◌, ◌==◌, ◌&&◌, ◌||◌, not, List, [], ◌∷◌, length, Bool, true, false, cond, Option, None, Some, Contains, ⊎_elim, replicate, refl, sym, ap, subst, inl, arith, lit<}
 use Rattle.std.specs.List.Sorted.{IsStrictlySortedBy}
 use Rattle.std.proofs.lemmas.Bool.{cond-false, eq-eqb}
 use Rattle.std.proofs.lemmas.List.Elements.{All-nil}
@@ -54,7 +54,7 @@ use Rattle.statement.specs.declared.stated.Returns.TheVariants.{Assumed}
 use Rattle.walks.specs.Walk.{Leads}
 use Rattle.responses.specs.declared.interrupts.Interrupt.{Interrupt}
 use Rattle.responses.specs.declared.interrupts.Interrupt.TheVariants.{Irq, Fiq}
-use Rattle.responses.specs.Entry.{is_active, is_held_back, is_held_back_at, vector_of}
+use Rattle.responses.specs.Entry.{is_active, is_active_at, is_held_back, is_held_back_at, vector_of}
 use Rattle.responses.specs.Response.{HasService, Serves, Service, inputs_of, is_at}
 use Rattle.responses.proofs.EntryLemmas.{is_due}
 
@@ -575,7 +575,21 @@ module _ (profile : Profile) (interrupt : Interrupt) where
       (goes_before profile interrupt unmasked asking (asking ∷ []) third_stepped inside _ left third_step (ap why_stopped third_kind)
       (goes_before profile interrupt inside asking [] fourth_stepped left (at_rest None) left fourth_step fourth_goes (refl, refl))))
 
+-- the line rises during the first step
+low_before : (profile : Profile) (interrupt : Interrupt) → is_active_at interrupt (start profile interrupt) (input 0) ≡ false
+unfolding start
+low_before profile Fiq = refl
+low_before profile Irq = refl
+
+asks : (interrupt : Interrupt) (profile : Profile) (c : ioc.Controller) → c.lines ≡ lines_of interrupt → c.mask_b ≡ 2 → c.mask_f ≡ 1 → is_active interrupt c ≡ true
+asks Fiq profile c lines mask_b mask_f = asks_fiq profile Fiq c lines mask_f
+asks Irq profile c lines mask_b mask_f = asks_irq profile Irq c lines mask_b
+
+active_after : (profile : Profile) (interrupt : Interrupt) → is_active_at interrupt (risen profile interrupt) (asking profile interrupt) ≡ true
+active_after profile interrupt = asks interrupt profile (with_lines (lines_of interrupt) (risen profile interrupt).bus).ioc refl (risen_on profile interrupt).mask_b (risen_on profile interrupt).mask_f
+
 pub served : (profile : Profile) (interrupt : Interrupt) → HasService profile interrupt
+unfolding serves
 served profile interrupt = record {
   words = words (entry_of interrupt) profile;
   stated = stated (entry_of interrupt) profile;
@@ -586,7 +600,10 @@ served profile interrupt = record {
   s = start profile interrupt;
   service = service profile interrupt;
   serves = serves profile interrupt;
+  waiting = asking profile interrupt;
   waits = refl;
+  low_before = low_before profile interrupt;
+  active_after = active_after profile interrupt;
   ran = ran profile interrupt;
   after = left profile interrupt;
   runs = runs profile interrupt;

@@ -41,7 +41,8 @@ is_active_at interrupt s i = is_active interrupt (with_lines i.lines.0 s.bus).io
 abbrev pub is_held_back_at : Interrupt → State → Input → Bool
 is_held_back_at interrupt s i = is_held_back interrupt (with_lines i.lines.0 s.bus).ioc (r15_in s.regs)
 
--- The wait ends: where IOC asks for the interrupt, and the processor does not hold it back, the step takes it.
+-- The wait ends: where IOC asks for the interrupt and the processor does not hold it back, the step takes
+-- it.
 abbrev pub UnmaskedIsTaken : Type 0
 UnmaskedIsTaken =
     (interrupt : Interrupt) (s : State) (i : Input) (stepped : Stepped) (after : State)

@@ -1,5 +1,6 @@
 -- Response time: how long after an interrupt's line rises the handler's instruction at an address is done.
-use Rattle.std.specs.Prelude.{◌≡◌, ℕ, ◌+◌, ◌*◌, ◌≤◌, ◌==◌, Bool, true, false, List, [], ◌∷◌, ◌++◌, length, All, None}
+use Rattle.std.specs.Prelude.{◌≡◌, ℕ, ◌+◌, ◌*◌, ◌≤◌, ◌==◌, Bool, true, false, List, [], ◌∷◌, ◌++◌}
+use Rattle.std.specs.Prelude.{All, None}
 use Rattle.walks.specs.Walk.{Leads, cost_of}
 use Rattle.bus_ticks.specs.declared.profile.Profile.{Profile}
 use Rattle.image.specs.Image.{Words}
@@ -20,7 +21,7 @@ use Rattle.control_flow.specs.Graph.{IsFlowGraph}
 use Rattle.flow_graph.specs.StepLaw.{Follows, bursts_of}
 use Rattle.loop_bounds.specs.Bounds.{KeepsTheBounds}
 use Rattle.responses.specs.declared.interrupts.Interrupt.{Interrupt}
-use Rattle.responses.specs.Entry.{entry_ticks, is_held_back_at, vector_of}
+use Rattle.responses.specs.Entry.{entry_ticks, is_active_at, is_held_back_at, vector_of}
 use Rattle.responses.specs.Longest.{IsStepAt, longest_step}
 
 -- ## The inputs
@@ -113,7 +114,7 @@ response_time p interrupt masked arrival own =
     longest_step p + masked + entry_ticks p interrupt + arrival + own
 
 -- Each run that serves takes at most the sum, from the beginning of the step in progress to the end of the
--- first one at the address.
+-- handler's first step at the address.
 abbrev pub ResponseLaw : Type 0
 ResponseLaw =
     (words : Words) (st : Stated) (flow : Flow) (interrupt : Interrupt) (address masked arrival own : ℕ)
@@ -126,8 +127,8 @@ ResponseLaw =
 
 -- ## Some run
 
--- a handler with a flow graph, and a run that waits for the interrupt and then serves it: what the law says of
--- runs, it says of some
+-- a handler with a flow graph, and a run that serves the interrupt: IOC does not ask for it as the run begins,
+-- it asks as the one step that waits begins
 pub record HasService (profile : Profile) (interrupt : Interrupt) : Type 0 where
   pub words : Words
   pub stated : Stated
@@ -138,7 +139,10 @@ pub record HasService (profile : Profile) (interrupt : Interrupt) : Type 0 where
   pub s : State
   pub service : Service
   pub serves : Serves words stated flow interrupt address masked s service
-  pub waits : length service.waiting ≡ 1
+  pub waiting : Input
+  pub waits : service.waiting ≡ waiting ∷ []
+  pub low_before : is_active_at interrupt s service.in_progress ≡ false
+  pub active_after : is_active_at interrupt serves.risen waiting ≡ true
   pub ran : Ran
   pub after : State
   pub runs : Runs s (inputs_of service) ran after

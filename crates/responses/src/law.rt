@@ -4,9 +4,9 @@ ghost use Rattle.responses.specs.Response.{HasService, ResponseLaw};
 
 use crate::interrupts::Interrupt;
 
-/// Each run that serves an interrupt takes, from the beginning of the step in progress to the end of the first
-/// one at the address, at most the sum of its parts, and the price of its DMA bursts more. The call does
-/// nothing.
+/// Each run that serves an interrupt takes, from the beginning of the step in progress to the end of the
+/// handler's first step at the address, at most the sum of its parts, and the price of its DMA bursts more.
+/// The call does nothing.
 pub fn response_law()
     ensures { ResponseLaw }
 {}
@@ -17,8 +17,8 @@ pub fn unmasked_is_taken()
     ensures { UnmaskedIsTaken }
 {}
 
-/// What a step costs that takes IRQ, in ticks: the fetch 8 bytes after the interrupted address, and the two at
-/// IRQ's vector, by the prices and the time fields of ROM before it. The call does nothing.
+/// What a step costs that takes IRQ, in ticks: the fetch 8 bytes after the interrupted address, and the two
+/// at IRQ's vector, by the prices and the time fields of ROM before it. The call does nothing.
 pub fn irq_costs_its_entry()
     ensures { IrqCostsItsEntry }
 {}

@@ -1,7 +1,7 @@
 //! Response times: how long after an interrupt's line rises the handler's instruction at an address is done.
 //!
-//! The step in progress ends, the processor may hold the interrupt back, it takes it, and the handler comes to
-//! the address. The price of the first and that of the third are greatest over all programs.
+//! The step in progress ends, the processor may hold the interrupt back, then it takes it, and the handler
+//! comes to the address. The prices of that step and of the entry are greatest over all programs.
 #![tactic(auto)]
 
 mod interrupts;

@@ -1,4 +1,4 @@
-use Rattle.std.proofs.Common.{◌≡◌, subst, sym}
+use Rattle.std.proofs.Common.{subst, sym}
 use Rattle.bus_ticks.specs.Worst.{IsGreatest, IsTargetOf}
 use Rattle.bus_ticks.specs.declared.profile.Class.TheVariants.{Any}
 use Rattle.responses.specs.Entry.{entry_price}

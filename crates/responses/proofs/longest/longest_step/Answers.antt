@@ -1,4 +1,4 @@
-use Rattle.std.proofs.Common.{◌≡◌, ◌∙◌, subst, sym}
+use Rattle.std.proofs.Common.{subst, sym}
 use Rattle.responses.specs.Longest.{IsLongestStep}
 use Rattle.responses.proofs.LongestLemmas.{none_above}
 use Rattle.responses.proofs.LongestReached.{reached}
