@@ -1,0 +1,13 @@
+//! Response times: how long after an interrupt's line rises the handler's instruction at an address is done.
+//!
+//! The step in progress ends, the processor may hold the interrupt back, then it takes it, and the handler
+//! comes to the address. The prices of that step and of the entry are greatest over all programs.
+#![tactic(auto)]
+
+mod interrupts;
+mod law;
+mod longest;
+
+pub use interrupts::{Interrupt, entry_ticks, irq_entry};
+pub use law::{irq_costs_its_entry, response_law, some_run_serves, unmasked_is_taken};
+pub use longest::longest_step;
