@@ -37,7 +37,7 @@ pub record IsLongestStep (profile : Profile) (ticks : ℕ) : Type 0 where
 
 -- Its fetch is the dearest that an instruction can have, in RAM or in ROM. It loads 16 words from the dearest
 -- devices, the last into R15, and so jumps to where that is the dearest; or it is a multiply of 16 cycles,
--- where a cycle costs more than a device's word.
+-- where internal cycles are dear enough.
 abbrev pub longest_step : Profile → ℕ
 longest_step p =
     max p.quad (worst_rom p) + max (16 * worst_io p + p.internal + worst_leave p Any) (16 * p.internal)

@@ -1,4 +1,5 @@
--- Response time: how long after an interrupt's line rises the handler's instruction at an address is done.
+-- Response time: how long after an interrupt's line rises the handler's first step at an address ends, whether
+-- the condition of its instruction holds or not.
 use Rattle.std.specs.Prelude.{◌≡◌, ℕ, ◌+◌, ◌*◌, ◌≤◌, ◌==◌, Bool, true, false, List, [], ◌∷◌, ◌++◌}
 use Rattle.std.specs.Prelude.{All, None}
 use Rattle.walks.specs.Walk.{Leads, cost_of}

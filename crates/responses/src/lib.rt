@@ -1,4 +1,4 @@
-//! Response times: how long after an interrupt's line rises the handler's instruction at an address is done.
+//! Response times: how long after an interrupt's line rises the handler's first step at an address ends.
 //!
 //! The step in progress ends, the processor may hold the interrupt back, then it takes it, and the handler
 //! comes to the address. The prices of that step and of the entry are greatest over all programs.
