@@ -148,10 +148,11 @@ fn draft_by_lines(
 /// loop's header lies from its first to its last instruction. It says that among the addresses that are
 /// reached from the entry, by going on, a branch, a call or a table of branches, exactly those are named at
 /// which the handler cannot go on, the loads and stores, and the writers of R15 with their tables of branches
-/// and whether they return, but for words under NV. Where more than 16,384 are reached, 16,384 of them are
-/// looked at, and the text says so. While it is left open where a word leads, no count is stated and no class
-/// that rests on the words in front. That the loops are those of the handler, and what is written of classes
-/// and of counted loops, is tested only.
+/// and whether they return, but for words under NV. A load or store is named by an entry, or by a rule for its
+/// base register. Where more than 16,384 are reached, 16,384 of them are looked at, and the text says so. While
+/// it is left open where a word leads, no count is stated, no class that rests on the words in front, and no
+/// rule that would give a word that was not looked at a class that it does not show. That the loops are those
+/// of the handler, and what is written of classes and of counted loops, is tested only.
 ///
 /// # Errors
 ///
