@@ -12,10 +12,9 @@ use Rattle.arm2_decode.specs.declared.instr.Instr.{Instr}
 use Rattle.arm2_decode.specs.declared.names.Register.{Register}
 use Rattle.arm2_decode.specs.declared.names.Register.TheVariants.{R0, R1, R2, R3, R4, R5, R6, R7, R8, R9, R10, R11, R12, R13, R14, R15}
 use Rattle.bus_ticks.specs.declared.profile.Class.{Class}
-use Rattle.bus_ticks.specs.declared.profile.Class.TheVariants.{Any}
 use Rattle.image.specs.Image.{Words, word_of}
 use Rattle.text_draft.specs.Accesses.{IsByPc, base_used}
-use Rattle.text_draft.specs.Rules.{is_same_class, AreRules, IsMostFrequent, IsRule, IsRuleClass, MayRule, Shows, count, of_both}
+use Rattle.text_draft.specs.Rules.{is_same_class, AreRules, IsMostFrequent, IsRule, MayRule, Shows, count, of_both}
 use Rattle.text_draft.specs.Tallies.{ShowsNth, tally_of, with_rule}
 use Rattle.text_draft.specs.declared.accesses.FoundAccess.{FoundAccess}
 use Rattle.text_draft.specs.declared.rules.FoundRule.{FoundRule}
@@ -121,15 +120,14 @@ is_shown words at class shown i register has only used pc some one b is = (
   λ s. let both : Some shown ≡ Some class = one class (s i has register used pc) in let it : shown ≡ class = cc in is ∙ ap (is_same_class shown) (sym it) ∙ own_class shown,
 )
 
--- where the class may be that of no rule but by what the words show
-pub may_by : (words : Words) (open_left : Bool) (register : Register) (class : Class) (all : Bool) → is_same_class class Any ≡ false → open_left ≡ true → is_pc register ≡ true
+-- where something is left open, a rule of R15 may be of a class that all show
+pub may_by : (words : Words) (open_left : Bool) (register : Register) (class : Class) (all : Bool) → open_left ≡ true → is_pc register ≡ true
     → IsTrue all ↔ ((at : ℕ) → Shows words at class) → IsTrue all ↔ MayRule words open_left register class
-may_by words open_left register class all other left pc iff = (λ yes. inr (inr (pc, iff.0 yes)), back)
+may_by words open_left register class all left pc iff = (λ yes. inr (pc, iff.0 yes), back)
   where
     back : MayRule words open_left register class → IsTrue all
-    back (inl any) = absurd (false≢true (sym other ∙ ap (λ c. is_same_class c Any) any ∙ own_class Any))
-    back (inr (inl none)) = absurd (false≢true (sym none ∙ left))
-    back (inr (inr shown)) = iff.1 shown.1
+    back (inl none) = absurd (false≢true (sym none ∙ left))
+    back (inr shown) = iff.1 shown.1
 
 -- the words in front of a number show the class
 pub record ShownBelow (words : Words) (class : Class) (n : ℕ) : Type 0 where
@@ -151,16 +149,6 @@ all_shown words class n le h at i has =
 -- ## The rule of a register
 
 module _ (words : Words) (open_left : Bool) (accesses : List FoundAccess) where
-  pub one_rule_class : (register : Register) (class other : Class) → IsRuleClass words open_left accesses register class → IsRuleClass words open_left accesses register other → class ≡ other
-  one_rule_class register class other (inl a) (inl b) = one_most accesses register class other a.0 b.0
-  one_rule_class register class other (inl a) (inr b) = absurd (b.1 class a.0 a.1)
-  one_rule_class register class other (inr a) (inl b) = absurd (a.1 other b.0 b.1)
-  one_rule_class register class other (inr a) (inr b) = a.0 ∙ sym b.0
-
-  -- where the most frequent class may not be that of a rule
-  pub any_else : (register : Register) (most : Class) → IsMostFrequent accesses register most → (MayRule words open_left register most → ⊥) → IsRuleClass words open_left accesses register Any
-  any_else register most is may_not = inr (refl, λ other also may. may_not (subst (MayRule words open_left register) (one_most accesses register other most also is) may))
-
   first_of : (es : List FoundAccess) → 2 ≤ length es → (e : FoundAccess) × (slice_get es 0 ≡ Some e)
   first_of [] le = absurd (omega (arith, le))
   first_of (e ∷ es) le = (e, refl)
@@ -168,26 +156,29 @@ module _ (words : Words) (open_left : Bool) (accesses : List FoundAccess) where
   abbrev made : Register → Class → ℕ → ℕ → FoundRule
   made register class n at = record { register = register; class = class; count = n; first = at }
 
-  module _ (register : Register) (class : Class) (is_class : IsRuleClass words open_left accesses register class) (t : Tally) (tally : t ≡ tally_of (of_both accesses register class)) where
+  module _ (register : Register) (class : Class) (is_most : IsMostFrequent accesses register class) (t : Tally) (tally : t ≡ tally_of (of_both accesses register class)) where
     counts : t.count ≡ count accesses register class
     counts = ap (λ (u : Tally). u.count) tally ∙ tally_count (of_both accesses register class)
 
     its_class : (r : FoundRule) → IsRule words open_left accesses r → r.register ≡ register → class ≡ r.class
-    its_class r is at = one_rule_class register class r.class is_class (subst (λ g. IsRuleClass words open_left accesses g r.class) at is.has.0)
+    its_class r is at = one_most accesses register class r.class is_most (subst (λ g. IsMostFrequent accesses g r.class) at is.has.0)
+
+    pub may_not : (MayRule words open_left register class → ⊥) → (r : FoundRule) → IsRule words open_left accesses r → r.register ≡ register → ⊥
+    may_not refused r is at = refused (subst (λ g. MayRule words open_left g class) at (subst (λ x. MayRule words open_left r.register x) (sym (its_class r is at)) is.has.1.0))
 
     pub too_few : t.count < 2 → (r : FoundRule) → IsRule words open_left accesses r → r.register ≡ register → ⊥
     too_few few r is at =
         let k = its_class r is at in
-        let some : 2 ≤ count accesses r.register r.class = is.has.1 in
+        let some : 2 ≤ count accesses r.register r.class = is.has.1.1 in
         let here : count accesses r.register r.class ≡ t.count = ap (λ g. count accesses g r.class) at ∙ ap (count accesses register) (sym k) ∙ sym counts in
         omega (arith, few, some, here)
 
-    pub rule_made : 2 ≤ t.count → IsRule words open_left accesses (record { register = register; class = class; count = t.count; first = t.first })
-    rule_made enough =
+    pub rule_made : MayRule words open_left register class → 2 ≤ t.count → IsRule words open_left accesses (record { register = register; class = class; count = t.count; first = t.first })
+    rule_made may enough =
         let many : 2 ≤ count accesses register class = omega (arith, enough, counts) in
         let one = first_of (of_both accesses register class) many in
         record {
-          has = (is_class, many);
+          has = (is_most, (may, many));
           count_is = counts;
           first = one.0;
           first_is = one.1;

@@ -57,24 +57,18 @@ Shows words at class =
     → is_pc register ≡ true → IsByPc at i.operation class
 
 module _ (words : Words) (open_left : Bool) where
-  -- a rule of the class says no more of a word that was not looked at than is known: it is any; or nothing is
-  -- left open, and all that are reached were looked at; or each word that it may cover shows the class
+  -- a rule of the class says of no word more than is known: nothing is left open, and all words that are reached
+  -- were looked at; or each word that it may cover shows the class
   abbrev pub MayRule : Register → Class → Type 0
   MayRule register class =
-      (class ≡ Any)
-      ⊎ ((open_left ≡ false) ⊎ ((is_pc register ≡ true) × ((at : ℕ) → Shows words at class)))
+      (open_left ≡ false) ⊎ ((is_pc register ≡ true) × ((at : ℕ) → Shows words at class))
 
 module _ (words : Words) (open_left : Bool) (accesses : List FoundAccess) where
-  -- the class that a rule of the register has: the most frequent if it may, else any
-  abbrev pub IsRuleClass : Register → Class → Type 0
-  IsRuleClass register class =
-      (IsMostFrequent accesses register class × MayRule words open_left register class)
-      ⊎ ((class ≡ Any)
-      × ((most : Class) → IsMostFrequent accesses register most → MayRule words open_left register most → ⊥))
-
-  -- it has one, in place of two entries at least
+  -- a rule may be of the most frequent class, and stands in place of two entries at least
   abbrev pub HasRule : Register → Class → Type 0
-  HasRule register class = IsRuleClass register class × (2 ≤ count accesses register class)
+  HasRule register class =
+      IsMostFrequent accesses register class
+      × (MayRule words open_left register class × (2 ≤ count accesses register class))
 
   -- it says how many accesses it stands for, and where the first of them is
   pub record IsRule (r : FoundRule) : Type 0 where

@@ -2,7 +2,7 @@
 
 ghost use Rattle.std.specs.Prelude.{◌≡◌, ◌↔◌, ◌+◌, ℕ, List, false, IfOk, IfSome, IsTrue, OnOk, Some, length};
 ghost use Rattle.text_draft.specs.Picks.{Keeps};
-ghost use Rattle.text_draft.specs.Rules.{AreEntries, AreRules, IsMostFrequent, IsRule, IsRuleClass, MayRule};
+ghost use Rattle.text_draft.specs.Rules.{AreEntries, AreRules, IsMostFrequent, IsRule, MayRule};
 ghost use Rattle.text_draft.specs.Rules.{Shows, class_number, has_both, is_covered, is_same_class};
 ghost use Rattle.text_draft.specs.Tallies.{AreTallies, Leads, ShowsNth, with_rule};
 ghost use Rattle.text_draft.specs.declared.accesses.FoundAccess.{FoundAccess};
@@ -74,13 +74,10 @@ fn all_show(image: &Image, class: Class) -> bool
     true
 }
 
-// Whether a rule of the class says no more of a word that was not looked at than is known.
+// Whether a rule of the class says of no word more than is known.
 fn may_rule(image: &Image, open_left: bool, register: Register, class: Class) -> bool
     ensures { IsTrue result ↔ MayRule image.now open_left register class }
 {
-    if is_same_class(class, Class::Any) {
-        return true;
-    }
     if !open_left {
         return true;
     }
@@ -116,20 +113,6 @@ fn most_frequent(table: &[Tally], register: Register) -> Class
     more_frequent(table, register, best, Class::Synchronous)
 }
 
-// The class that a rule of a base may have.
-fn class_allowed(image: &Image, table: &[Tally], open_left: bool, register: Register) -> Class
-    requires { length table.now ≡ 128 }
-    ensures { (accesses : List FoundAccess) → AreTallies accesses table.now
-        → IsRuleClass image.now open_left accesses register result }
-{
-    let class = most_frequent(table, register);
-    if may_rule(image, open_left, register, class) {
-        class
-    } else {
-        Class::Any
-    }
-}
-
 // The rule of a base, if it has one.
 fn rule_of(image: &Image, table: &[Tally], open_left: bool, register: Register) -> Option<FoundRule>
     requires { length table.now ≡ 128 }
@@ -138,9 +121,12 @@ fn rule_of(image: &Image, table: &[Tally], open_left: bool, register: Register) 
     ensures only { (accesses : List FoundAccess) → AreTallies accesses table.now → (r : FoundRule)
         → IsRule image.now open_left accesses r → r.register ≡ register → result ≡ Some r }
 {
-    let class = class_allowed(image, table, open_left, register);
+    let class = most_frequent(table, register);
     let tally = tally_at(table, register, class);
     if tally.count < 2 {
+        return None;
+    }
+    if !may_rule(image, open_left, register, class) {
         return None;
     }
     Some(FoundRule {
