@@ -1,5 +1,5 @@
 use Rattle.handlers.specs.Report.{BeforeOutput, IsRefused}
-use Rattle.handlers.proofs.RefusalLemmas.{stop_err}
+use Rattle.handlers.proofs.RefusalLemmas.{stop_carries, stop_err}
 use Rattle.handler_reports.proofs.bound.source_longest.Goals as goal
 
 pub returns-in_err-certified_longest-clause-fault : goal.returns-in_err-certified_longest-clause-fault
@@ -18,3 +18,7 @@ returns-clause-report c = λ source is.
 pub returns-clause-accepted : goal.returns-clause-accepted
 returns-clause-accepted c = λ source is.
     c.in_ok-certified_longest.ensures.accepted source c.args.statement.now c.args.profile.now (c.in_ok-handler.ensures.is.loops source is)
+
+pub returns-in_err-certified_longest-clause-carries : goal.returns-in_err-certified_longest-clause-carries
+returns-in_err-certified_longest-clause-carries c =
+    stop_carries c.args.said.now c.args.statement.now c.args.profile.now c.from_residual-in_err-certified_longest.result c.in_err-certified_longest.field-0.0 c.from_residual-in_err-certified_longest.ensures.1 c.in_err-certified_longest.ensures.alone

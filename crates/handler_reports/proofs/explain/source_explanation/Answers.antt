@@ -1,6 +1,6 @@
 use Rattle.handlers.specs.Report.{BeforeOutput, IsRefused}
 use Rattle.handlers.proofs.HandlerLemmas.{refused_as}
-use Rattle.handlers.proofs.RefusalLemmas.{stop_err}
+use Rattle.handlers.proofs.RefusalLemmas.{stop_carries, stop_err}
 use Rattle.handlers.proofs.ReportLemmas.{report_refusal}
 use Rattle.handlers.specs.Refusal.{stop_fault}
 use Rattle.handler_reports.proofs.explain.source_explanation.Goals as goal
@@ -22,3 +22,7 @@ returns-in_err-explanation_of-clause-fault c = λ source is.
 pub returns-clause-explains : goal.returns-clause-explains
 returns-clause-explains c = λ source is.
     c.in_ok-explanation_of.ensures.explains source c.args.explained.statement.now is (c.in_ok-handler.ensures.is.loops source is.said)
+
+pub returns-in_err-explanation_of-clause-carries : goal.returns-in_err-explanation_of-clause-carries
+returns-in_err-explanation_of-clause-carries c =
+    stop_carries c.args.said.now c.args.explained.statement.now c.args.profile.now c.from_residual-in_err-explanation_of.result c.in_err-explanation_of.field-0.0 c.from_residual-in_err-explanation_of.ensures.1 c.in_err-explanation_of.ensures.alone

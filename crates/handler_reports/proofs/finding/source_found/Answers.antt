@@ -3,7 +3,7 @@ use Rattle.handlers.specs.declared.fault.ReportFault.TheVariants.{Memory}
 use Rattle.handlers.specs.Refusal.{stop_fault}
 use Rattle.handlers.specs.Report.{BeforeOutput}
 use Rattle.handlers.proofs.HandlerLemmas.{refused_as}
-use Rattle.handlers.proofs.RefusalLemmas.{stop_err}
+use Rattle.handlers.proofs.RefusalLemmas.{stop_carries, stop_err}
 use Rattle.handler_reports.specs.Check.{IsCheckRefused}
 use Rattle.handler_reports.proofs.CheckLemmas.{checkable_refusal, handler_unchecked}
 use Rattle.handler_reports.proofs.finding.source_found.Goals as goal
@@ -39,3 +39,7 @@ returns-in_err-found_on-clause-only g c = λ source is able.
 pub returns-clause-found : goal.returns-clause-found
 returns-clause-found g c = λ source is.
     c.in_ok-found_on.ensures.found source c.args.inputs.statement.now c.args.profile.now (c.in_ok-handler.ensures.is.loops source is)
+
+pub returns-in_err-found_on-clause-carries : goal.returns-in_err-found_on-clause-carries
+returns-in_err-found_on-clause-carries g c =
+    stop_carries c.args.said.now c.args.inputs.statement.now c.args.profile.now c.from_residual-in_err-found_on.result c.in_err-found_on.field-0.0 c.from_residual-in_err-found_on.ensures.1 c.in_err-found_on.ensures.alone

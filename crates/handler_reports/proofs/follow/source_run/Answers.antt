@@ -1,6 +1,6 @@
 use Rattle.handlers.specs.Refusal.{stop_fault}
 use Rattle.handlers.proofs.HandlerLemmas.{refused_as}
-use Rattle.handlers.proofs.RefusalLemmas.{stop_err}
+use Rattle.handlers.proofs.RefusalLemmas.{stop_carries, stop_err}
 use Rattle.handlers.proofs.ReportLemmas.{report_refusal}
 use Rattle.handler_reports.proofs.FollowLemmas.{Refused, handler_refused}
 use Rattle.handler_reports.proofs.follow.source_run.Goals as goal
@@ -18,3 +18,7 @@ returns-in_err-handler_run-clause-fault c =
     let r = c.args.run in
     let e = c.in_err-handler_run.field-0.0 in
     stop_err c.from_residual-in_err-handler_run.result e (Refused r.source.now r.statement.now r.machine.now c.args.profile.now) c.from_residual-in_err-handler_run.ensures.1 c.in_err-handler_run.ensures.fault
+
+pub returns-in_err-handler_run-clause-carries : goal.returns-in_err-handler_run-clause-carries
+returns-in_err-handler_run-clause-carries c =
+    stop_carries c.args.said.now c.args.run.statement.now c.args.profile.now c.from_residual-in_err-handler_run.result c.in_err-handler_run.field-0.0 c.from_residual-in_err-handler_run.ensures.1 c.in_err-handler_run.ensures.alone

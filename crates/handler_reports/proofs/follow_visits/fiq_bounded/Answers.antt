@@ -1,7 +1,7 @@
 use Rattle.std.proofs.Common.{◌∙◌, refl}
 use Rattle.image.specs.Labels.{address_of}
 use Rattle.handlers.proofs.FiqLemmas.{enters_there, fiq_refusal}
-use Rattle.handlers.proofs.RefusalLemmas.{stop_err}
+use Rattle.handlers.proofs.RefusalLemmas.{stop_carries, stop_err}
 use Rattle.handlers.specs.FiqHandler.{IsFiqRefused}
 use Rattle.handlers.specs.Report.{BeforeOutput}
 use Rattle.handler_reports.proofs.SaidLemmas.{same_words}
@@ -34,3 +34,7 @@ returns-in_err-longest-clause-fault c = λ source is.
     (fiq_refusal source statement profile e
     (enters_there source statement profile g.words g.names g.source_is h.statement g.statement_is c.in_ok-handler.ensures.entry)
     (c.in_err-longest.ensures.fault source statement profile loops))
+
+pub returns-in_err-longest-clause-carries : goal.returns-in_err-longest-clause-carries
+returns-in_err-longest-clause-carries c =
+    stop_carries c.args.said.now c.args.statement.now c.args.profile.now c.from_residual-in_err-longest.result c.in_err-longest.field-0.0 c.from_residual-in_err-longest.ensures.1 c.in_err-longest.ensures.alone

@@ -3,7 +3,7 @@ use Rattle.image.specs.Labels.{address_of}
 use Rattle.handlers.specs.Refusal.{stop_fault}
 use Rattle.handlers.specs.Report.{BeforeOutput, IsRefused}
 use Rattle.handlers.proofs.HandlerLemmas.{refused_as}
-use Rattle.handlers.proofs.RefusalLemmas.{stop_err}
+use Rattle.handlers.proofs.RefusalLemmas.{stop_carries, stop_err}
 use Rattle.handlers.proofs.ReportLemmas.{report_refusal}
 use Rattle.handler_reports.proofs.SaidLemmas.{same_words}
 use Rattle.handler_reports.proofs.follow_visits.irq_bounded.Goals as goal
@@ -34,3 +34,7 @@ returns-clause-is c = λ source is. record {
   allowed = c.in_ok-longest.ensures.allowed;
   bound_is = refl;
 }
+
+pub returns-in_err-longest-clause-carries : goal.returns-in_err-longest-clause-carries
+returns-in_err-longest-clause-carries c =
+    stop_carries c.args.said.now c.args.statement.now c.args.profile.now c.from_residual-in_err-longest.result c.in_err-longest.field-0.0 c.from_residual-in_err-longest.ensures.1 c.in_err-longest.ensures.alone

@@ -1,6 +1,6 @@
 use Rattle.handlers.specs.Report.{BeforeOutput, IsRefused}
 use Rattle.handlers.proofs.HandlerLemmas.{refused_as}
-use Rattle.handlers.proofs.RefusalLemmas.{stop_err}
+use Rattle.handlers.proofs.RefusalLemmas.{stop_carries, stop_err}
 use Rattle.handlers.proofs.ReportLemmas.{report_refusal}
 use Rattle.handlers.specs.Refusal.{stop_fault}
 use Rattle.handler_reports.proofs.graph.source_drawing.Goals as goal
@@ -20,3 +20,7 @@ returns-in_err-drawing_of-clause-fault c = λ source is.
 pub returns-clause-draws : goal.returns-clause-draws
 returns-clause-draws c = λ source is.
     c.in_ok-drawing_of.ensures.draws source c.args.statement.now c.args.profile.now is (c.in_ok-handler.ensures.is.loops source is.said)
+
+pub returns-in_err-drawing_of-clause-carries : goal.returns-in_err-drawing_of-clause-carries
+returns-in_err-drawing_of-clause-carries c =
+    stop_carries c.args.said.now c.args.statement.now c.args.profile.now c.from_residual-in_err-drawing_of.result c.in_err-drawing_of.field-0.0 c.from_residual-in_err-drawing_of.ensures.1 c.in_err-drawing_of.ensures.alone

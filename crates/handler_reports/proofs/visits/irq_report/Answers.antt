@@ -1,7 +1,7 @@
 use Rattle.handlers.specs.Refusal.{stop_fault}
 use Rattle.handlers.specs.Report.{BeforeOutput, IsRefused}
 use Rattle.handlers.proofs.HandlerLemmas.{refused_as}
-use Rattle.handlers.proofs.RefusalLemmas.{stop_err}
+use Rattle.handlers.proofs.RefusalLemmas.{stop_carries, stop_err}
 use Rattle.handlers.proofs.ReportLemmas.{report_refusal}
 use Rattle.handler_reports.proofs.visits.irq_report.Goals as goal
 
@@ -20,3 +20,7 @@ returns-in_err-longest_report-clause-fault c = λ source is.
 pub returns-clause-report : goal.returns-clause-report
 returns-clause-report c = λ source is.
     (c.in_ok-handler.handler.statement, c.in_ok-longest_report.ensures.report source c.args.statement.now c.args.profile.now (c.in_ok-handler.ensures.is.loops source is))
+
+pub returns-in_err-longest_report-clause-carries : goal.returns-in_err-longest_report-clause-carries
+returns-in_err-longest_report-clause-carries c =
+    stop_carries c.args.said.now c.args.statement.now c.args.profile.now c.from_residual-in_err-longest_report.result c.in_err-longest_report.field-0.0 c.from_residual-in_err-longest_report.ensures.1 c.in_err-longest_report.ensures.alone
