@@ -22,3 +22,6 @@ returns-in_err-handler_run-clause-fault c =
 pub returns-in_err-handler_run-clause-carries : goal.returns-in_err-handler_run-clause-carries
 returns-in_err-handler_run-clause-carries c =
     stop_carries c.args.said.now c.args.run.statement.now c.args.profile.now c.from_residual-in_err-handler_run.result c.in_err-handler_run.field-0.0 c.from_residual-in_err-handler_run.ensures.1 c.in_err-handler_run.ensures.alone
+
+pub handler_run-requires-clause-loops : goal.handler_run-requires-clause-loops
+handler_run-requires-clause-loops c = c.in_ok-handler.ensures.is.loops c.args.run.source.now c.requires.said
