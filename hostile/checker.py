@@ -1,4 +1,4 @@
-"""A checker of certificates that shares nothing with the program, for four handlers with their graphs."""
+"""A checker of certificates that shares nothing with the program, for some handlers with their graphs."""
 
 import dataclasses
 import re
@@ -114,8 +114,64 @@ STATED = Graph(
     (scaling(0x8000), scaling(0x8004)),
     ((), 0x8000),
 )
+# The exit, 801C to 8024, lies among the loop's addresses and is apart.
+APART = Graph(
+    edges(
+        (0x8000, "do", 0x8004, 1),
+        (0x8004, "skip", 0x8008, 1),
+        (0x8004, "do", 0x801C, 5),
+        (0x8008, "do", 0x800C, 2),
+        (0x800C, "skip", 0x8010, 1),
+        (0x800C, "do", 0x801C, 5),
+        (0x8010, "do", 0x8014, 1),
+        (0x8014, "skip", 0x8018, 1),
+        (0x8014, "do", 0x8028, 4),
+        (0x8018, "do", 0x8008, 5),
+        (0x801C, "do", 0x8020, 1),
+        (0x8020, "do", 0x8024, 4),
+        (0x8024, "do", None, 9),
+        (0x8028, "do", 0x802C, 18),
+        (0x802C, "do", 0x8008, 4),
+    ),
+    (Loop(((), 0x8008), main(0x8008, 0x800C, 0x8010, 0x8014, 0x8018, 0x8028, 0x802C), 3),),
+    ((), 0x8000),
+)
+
+
+def scanned(call, called, returned):
+    """The edges of a routine with a loop; the call and the return take so many ticks."""
+    rows = ((0x8010, "do", 0x8014, 1), (0x8014, "do", 0x8018, 1), (0x8018, "skip", 0x801C, 2))
+    rows += ((0x8018, "do", 0x802C, 6), (0x801C, "do", 0x8020, 1), (0x8020, "skip", 0x8024, 1))
+    rows += ((0x8020, "do", 0x802C, 5), (0x8028, "do", 0x8034, 5), (0x8034, "do", 0x8038, 1))
+    rows += ((0x8038, "skip", 0x803C, 2), (0x8038, "do", 0x801C, 6), (0x803C, "do", 0x802C, 5))
+    inside = tuple((((call,), at), label, ((call,), to), cost) for at, label, to, cost in rows)
+    # What the loop calls at 8024, and its exit, which is apart, at 802C.
+    for at in (0x8024, 0x802C):
+        calls = (call, at)
+        inside += ((((call,), at), "do", (calls, 0x8040), 4), ((calls, 0x8040), "do", (calls, 0x8044), 1))
+        inside += (((calls, 0x8044), "do", ((call,), at + 4), 4),)
+    enter = (((), call), "do", ((call,), 0x8010), called)
+    return (enter, *inside, (((call,), 0x8030), "do", ((), call + 4), returned))
+
+
+def scanning(call):
+    own = ((0x801C, 0x8020, 0x8024, 0x8028, 0x8034, 0x8038), (0x8040, 0x8044))
+    members = {((call,), at) for at in own[0]} | {((call, 0x8024), at) for at in own[1]}
+    return Loop(((call,), 0x801C), frozenset(members), 2)
+
+
+CALLED_APART = Graph(
+    (
+        (((), 0x8000), "do", ((), 0x8004), 1),
+        *scanned(0x8004, 4, 4),
+        *scanned(0x8008, 5, 5),
+        (((), 0x800C), "do", None, 9),
+    ),
+    (scanning(0x8004), scanning(0x8008)),
+    ((), 0x8000),
+)
 GRAPHS = {"countdown": COUNTDOWN, "nested_countdown": NESTED, "call_twice_certificate": CALLED_TWICE}
-GRAPHS["statement_all_together"] = STATED
+GRAPHS |= {"statement_all_together": STATED, "apart": APART, "apart_in_calls": CALLED_APART}
 
 
 @dataclasses.dataclass

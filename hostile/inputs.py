@@ -358,10 +358,11 @@ def limits():
     """As many entries of a statement as there may be, and one more, and the name that is answered or None."""
     loop = "{header = %(at)d, first = %(at)d, last = %(at)d, bound = 0}"
     rows = {"loop": loop, "target": '{at = %(at)d, kind = "return"}', "access": '{at = %(at)d, class = "ram"}'}
+    rows["apart"] = "[%(at)d, %(at)d]"
     rows["base"] = '{register = "R1", class = "ram", first = %(at)d, last = %(at)d}'
     rows["multiply"], rows["branch"] = "{at = %(at)d, cycles = 4}", '{at = %(at)d, taken = "never"}'
     for key, row in rows.items():
-        most = readers.MOST[key]
+        most = readers.MOST_APART if key == "apart" else readers.MOST[key]
         yield f"{most} under {key}", many(key, row, most), None
         yield f"{most + 1} under {key}", many(key, row, most + 1), "OutOfRange"
     for number, name in ((64, None), (65, "OutOfRange")):
@@ -640,7 +641,9 @@ def code(bench):
         yield Trial(f"trace, words by chance: {at} of seed {bench.seed}", words, Allowed("trace"), files)
         first, last = sorted(0x8000 + 4 * chance.randrange(64) for _ in range(2))
         loop = f"[[loop]]\nheader = {first}\nfirst = {first}\nlast = {last}\nbound = {chance.randrange(9)}\n"
-        statement = f"entry = {0x8000 + 4 * chance.randrange(64)}\n" + chance.choice(("", loop))
+        stretch = sorted(0x8000 + 4 * chance.randrange(64) for _ in range(2))
+        statement = f"entry = {0x8000 + 4 * chance.randrange(64)}\n"
+        statement += chance.choice(("", f"apart = [{stretch}]\n")) + chance.choice(("", loop))
         files = {"chance.image": image, "handler.toml": statement.encode()}
         words = ["bound", "chance.image", "handler.toml"]
         judge = Follows(bench, Allowed("bound"), words, files)

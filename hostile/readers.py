@@ -8,6 +8,7 @@ MAGIC = b"ARC2IMG1"
 MOST_WORDS, MOST_SEGMENTS = 65_536, 16
 DEVICES, ROM, END = 0x3000000, 0x3400000, 0x4000000
 MOST = {"loop": 256, "target": 1_024, "access": 4_096, "base": 256, "multiply": 1_024, "branch": 1_024}
+MOST_APART = 256
 LINES = {"IL0", *(f"A{n}" for n in range(3)), *(f"B{n}" for n in range(1, 8)), *(f"F{n}" for n in range(6))}
 MODES, LEAVES = ("user", "fiq", "irq", "svc"), ("any", "ram", "rom", "io")
 CLASSES = (*LEAVES, "slow", "medium", "fast", "synchronous")
@@ -134,6 +135,11 @@ def tables(value):
     return [it for it in value if isinstance(it, dict)] if isinstance(value, list) else []
 
 
+def is_apart(apart, address):
+    """Whether one of the stretches has the word at an address."""
+    return any(first <= address <= last for first, last in apart)
+
+
 class Faults:
     """Collects the faults of a document. The first of the order is what is answered."""
 
@@ -203,11 +209,28 @@ class StatementFaults(Faults):
             return None
         return None if self.of("OutOfRange", value % 4 != 0 or not 0 <= value < END) else value
 
-    def loop(self, it):
-        header, first, last = (self.address(it.get(key)) for key in ("header", "first", "last"))
+    def stretch(self, value):
+        """The first and the last address of a stretch apart, or None."""
+        if self.of("WrongKind", not isinstance(value, list) or len(value) != 2):
+            return None
+        first, last = [self.address(it) for it in value]
+        if None in (first, last) or self.of("OutOfRange", last < first):
+            return None
+        return first, last
+
+    def stretches(self, value):
+        """The stretches of words apart from loops, or None where one of them is wrong."""
+        if self.of("WrongKind", not isinstance(value, list)):
+            return None
+        found = [self.stretch(it) for it in value]
+        return None if self.of("OutOfRange", len(found) > MOST_APART) or None in found else found
+
+    def loop(self, it, apart):
+        places = [self.address(it.get(key)) for key in ("first", "header", "last")]
         self.number(it, "bound", 0, 1_048_576)
-        if None not in (header, first, last):
-            self.of("OutOfRange", not first <= header <= last)
+        if apart is not None and None not in places:
+            # All three words are apart, or none is.
+            self.of("OutOfRange", sorted(places) != places or len({is_apart(apart, it) for it in places}) > 1)
 
     def target(self, it):
         kind = self.word(it, "kind", ("jump", "call", "return", "leave"))
@@ -247,12 +270,13 @@ def statement_fault(text, known):
     if read is None:
         return "NotToml"
     faults = StatementFaults(known)
-    faults.keys(read, ("entry", "leave", "returns", *MOST))
+    faults.keys(read, ("entry", "leave", "returns", "apart", *MOST))
     faults.address(read.get("entry"))
     faults.word(read, "leave", LEAVES, "any")
     faults.word(read, "returns", ("assumed", "stated"), "assumed")
+    apart = faults.stretches(read.get("apart", []))
     for it in faults.list_of_tables(read, "loop", ("header", "first", "last", "bound")):
-        faults.loop(it)
+        faults.loop(it, apart)
     targets = faults.list_of_tables(read, "target", ("at", "kind", "to"))
     for it in targets:
         faults.target(it)

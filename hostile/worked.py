@@ -26,7 +26,9 @@ last = 0x8008
 bound = 2
 """
 # Entries of all kinds.
-ENTRIES = STATEMENT + b"""
+ENTRIES = b"""\
+apart = [[0x800C, 0x800C], [0x9000, 0x9008]]
+""" + STATEMENT + b"""
 [[base]]
 register = "R12"
 class = "ram"

@@ -93,6 +93,25 @@ loop = [
   {header = \"one\", first = \"one\", last = \"again\", bound = 2},
 ]";
 
+// The way out lies among the addresses of the first loop, has a loop of its own, and is come to from outside.
+const WAY_OUT_BETWEEN: &[u8] = b"
+        MOVS R0,#3
+        BEQ  out
+back    SUBS R0,R0,#1
+        BNE  last
+out     SUBS R1,R1,#1
+turn    BNE  out
+        SUBS PC,R14,#4
+last    B    back
+";
+
+const WAY_OUT_APART: &[u8] = b"entry = 0x8000
+apart = [[\"out\", \"turn+4\"]]
+loop = [
+  {header = \"back\", first = \"back\", last = \"last\", bound = 2},
+  {header = \"out\", first = \"out\", last = \"turn\", bound = 5},
+]";
+
 // Of a span its header, its last place and its bound; of an edge its ends and its cost.
 type Three = (usize, usize, u32);
 
@@ -104,7 +123,7 @@ type Ordered = (
     &'static [Three],
 );
 
-static ORDERS: [Ordered; 4] = [
+static ORDERS: [Ordered; 5] = [
     // Both ways meet at the return, and there is one order.
     (branch::SOURCE, NO_LOOPS, &[0, 1, 2, 3, 4], &[]),
     (
@@ -124,6 +143,12 @@ static ORDERS: [Ordered; 4] = [
         CALLED_LOOP,
         &[0, 3, 4, 5, 1, 6, 7, 8, 2, 9],
         &[(1, 2, 5), (5, 6, 5)],
+    ),
+    (
+        WAY_OUT_BETWEEN,
+        WAY_OUT_APART,
+        &[0, 1, 2, 3, 7, 4, 5, 6, 8],
+        &[(2, 4, 2), (5, 6, 5)],
     ),
 ];
 
@@ -274,7 +299,7 @@ fn numbers_of(alloc: Global, source: &[u8], statement: &[u8]) -> Result<Vec<u64>
 }
 
 // A source, its statement, and the numbers of its instances.
-static INSTANCES: [(&[u8], &[u8], &[u64]); 3] = [
+static INSTANCES: [(&[u8], &[u8], &[u64]); 4] = [
     (
         nested_countdown::SOURCE,
         nested_countdown::STATEMENT,
@@ -298,6 +323,14 @@ static INSTANCES: [(&[u8], &[u8], &[u64]); 3] = [
         &[
             0x8000, 0x8010, 5, 0x8000, 0x8010, 0x8000, 0x8014, 0, // of the first call
             0x8004, 0x8010, 5, 0x8004, 0x8010, 0x8004, 0x8014, 0, // and of the second
+        ],
+    ),
+    (
+        WAY_OUT_BETWEEN,
+        WAY_OUT_APART,
+        &[
+            0x8008, 2, 0x8008, 0x800C, 0x801C, 0, // around the way out
+            0x8010, 5, 0x8010, 0x8014, 0, // in it
         ],
     ),
 ];

@@ -1,7 +1,10 @@
 use arm2_decode::Register;
 use bus_ticks::Class;
 use loader::{LabelFault, Labels};
-use statement::{BaseRule, Loop, Statement, StatementFault, Taken, TargetKind, read_statement};
+use statement::{
+    ApartStretch, ApartWords, BaseRule, Loop, Statement, StatementFault, Taken, TargetKind,
+    read_statement,
+};
 use std::alloc::Global;
 use std::test::Fail;
 
@@ -24,7 +27,7 @@ fn outline(statement: &Statement) -> (u32, Class, usize) {
     (
         statement.entry(),
         statement.leave(),
-        statement.loops().len(),
+        statement.loops().list().len(),
     )
 }
 
@@ -72,7 +75,7 @@ fn reads_statements(rt: HostRuntime) -> Result<(), Fail> {
         bound: 1_048_576,
     };
     assert!(rt; outline(&statement) == (0x8000, Class::Io, 1));
-    assert!(rt; statement.loops() == [stated].as_slice());
+    assert!(rt; statement.loops().list() == [stated].as_slice());
     assert!(rt; is_call(&statement, 0x8010, [0x8020, 0x8000]));
     assert!(rt; statement.target_at(0x8000).is_none());
     let base = Some(Register::R1);
@@ -81,6 +84,42 @@ fn reads_statements(rt: HostRuntime) -> Result<(), Fail> {
         statement.class_at(0x8010, base),
     ];
     assert!(rt; classes == [Class::Rom, Class::Any]);
+    drop(statement);
+    Ok(())
+}
+
+const APART: &[u8] = b"entry = \"start\"\n\
+    apart = [[0x8010, \"start+20\"], [\"start+4\", 0x8004]]\n\
+    [[loop]]\nheader = \"start\"\nfirst = \"start\"\nlast = 0x8018\nbound = 3\n";
+
+// Where some words lie for loops.
+fn places(apart: &ApartWords) -> [u64; 6] {
+    [
+        apart.lies_at(0x8000),
+        apart.lies_at(0x8004),
+        apart.lies_at(0x8008),
+        apart.lies_at(0x8010),
+        apart.lies_at(0x8014),
+        apart.lies_at(0x8018),
+    ]
+}
+
+#[test]
+fn reads_words_apart(rt: HostRuntime) -> Result<(), Fail> {
+    let statement = read(rt.alloc(), APART)?;
+    let apart = statement.loops().apart();
+    let wanted = [
+        ApartStretch {
+            first: 0x8010,
+            last: 0x8014,
+        },
+        ApartStretch {
+            first: 0x8004,
+            last: 0x8004,
+        },
+    ];
+    assert!(rt; apart.stretches() == wanted.as_slice());
+    assert!(rt; places(apart) == [0x8000, 0x400_8004, 0x8008, 0x400_8010, 0x400_8014, 0x8018]);
     drop(statement);
     Ok(())
 }

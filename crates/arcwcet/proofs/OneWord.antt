@@ -74,7 +74,7 @@ module _ (words : Words) (entry : ℕ) (word_there : word_of words entry ≡ Som
         entry = entry;
         leave = Any;
         returns = Assumed;
-        loops = [];
+        loops = record { list = []; apart = [] };
         targets = [];
         accesses = [];
         rules = [];
@@ -197,7 +197,7 @@ module _ (words : Words) (entry : ℕ) (word_there : word_of words entry ≡ Som
   unfolding flow edge
   complete = ((0, lit< tt, refl), refl, refl)
 
-  pub keeps_bounds : KeepsTheBounds flow [] (edge ∷ [])
+  pub keeps_bounds : KeepsTheBounds flow stated.loops (edge ∷ [])
   keeps_bounds = λ i is. absurd (no_member is.stated_loop is.stated)
 
 -- ## Runs

@@ -87,7 +87,8 @@ module _ (asked : Asked) (i : Inputs) (typed : List ℕ) where
       priced i.profile (IsVisitsReport i.source i.second i.third asked.numbers.visits)
       (AreRefused i.source i.second i.third asked.numbers.visits)
   report_by command.Explain =
-      judged i.profile (IsExplainReport i.source i.second asked.numbers.at_most (bursts_of asked.numbers))
+      judged i.profile
+      (IsExplainReport i.source i.second asked.numbers.at_most (bursts_of asked.numbers) asked.each)
       (IsRefused i.source i.second)
   report_by command.Verdict =
       judged i.profile (IsVerdictReport i.source i.second i.third) (IsCheckRefused i.source i.second i.third)

@@ -141,11 +141,12 @@ fn print_explanation<'b, O: Output>(
     alloc: Global,
     inputs: Inputs<'b>,
     numbers: CommandNumbers,
+    each: bool,
     out: &mut O,
 ) -> Result<bool, Refusal<'b>>
     ensures { Priced (inputs_lent inputs.entry).profile
         (λ p. Explains O.taken O.failures inputs.entry.source.now inputs.entry.second.now
-        numbers.at_most (bursts_of numbers) p out.old out.new (fault_only result)) out.old out.new
+        numbers.at_most (bursts_of numbers) each p out.old out.new (fault_only result)) out.old out.new
         (fault_only result) }
 {
     let explained = Explained {
@@ -156,6 +157,7 @@ fn print_explanation<'b, O: Output>(
             count: numbers.bursts,
             every: numbers.burst_every,
         },
+        each,
     };
     explain_report(alloc, explained, inputs.profile, out)
 }
@@ -250,7 +252,7 @@ pub(crate) fn print<'b, O: Output>(
         Command::Tight => print_edge(alloc, inputs, numbers, out),
         Command::Check => print_checked(alloc, inputs, out),
         Command::Visits => print_visited(alloc, inputs, numbers, out),
-        Command::Explain => print_explanation(alloc, inputs, numbers, out),
+        Command::Explain => print_explanation(alloc, inputs, numbers, job.request.each, out),
         Command::Verdict => print_verdict(alloc, inputs, out),
         Command::Follow => print_followed(alloc, inputs, out),
         Command::FollowVisits => print_followed_visits(alloc, inputs, out),

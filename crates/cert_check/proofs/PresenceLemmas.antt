@@ -11,8 +11,9 @@ use Rattle.control_flow.specs.declared.places.Place.{Place}
 use Rattle.control_flow.specs.Places.{place_cmp}
 use Rattle.control_flow.specs.Search.{by_order}
 use Rattle.control_flow.proofs.PlaceLemmas.{by_place, place_exact, place_total}
+use Rattle.statement.specs.declared.apart.ApartStretch.{ApartStretch}
 use Rattle.loop_bounds.specs.declared.loop_instances.LoopInstance.{LoopInstance}
-use Rattle.loop_bounds.specs.Extents.{found_instance}
+use Rattle.loop_bounds.specs.Extents.{found_instance, header_place}
 use Rattle.longest_walk.specs.Rows.{header_of}
 use Rattle.cert_check.specs.Presence.{Lists}
 
@@ -42,9 +43,9 @@ module _ (places : List Place) (p : Place) (ascending : IsSorted place_cmp place
 
 -- ## Lists of places
 
-pub map_found : (xs : List LoopInstance) → map (λ f. header_of (found_instance f)) xs ≡ map header_of (map found_instance xs)
-map_found [] = refl
-map_found (x ∷ xs) = ap (λ (ps : List Place). header_of (found_instance x) ∷ ps) (map_found xs)
+pub map_found : (apart : List ApartStretch) (xs : List LoopInstance) → map header_place xs ≡ map header_of (map (found_instance apart) xs)
+map_found apart [] = refl
+map_found apart (x ∷ xs) = ap (λ (ps : List Place). header_place x ∷ ps) (map_found apart xs)
 
 pub lists_sorted : (stated listed : List Place) → IsPermutation stated listed → IsSorted by_order listed → Lists stated listed
 lists_sorted stated listed moved ascending = record {

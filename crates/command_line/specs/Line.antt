@@ -80,7 +80,7 @@ usages =
     ∷ usage (codes "explain") command.Explain
     (profile ∷ source ∷ statement ∷ argument (codes "at-most") form.TicksOption
     ∷ argument (codes "bursts") form.NumberOption ∷ argument (codes "burst-every") form.NumberOption
-    ∷ other (codes "certificate") form.FileOption command.Verdict ∷ [])
+    ∷ argument (codes "each") form.Each ∷ other (codes "certificate") form.FileOption command.Verdict ∷ [])
     ∷ usage (codes "follow") command.Follow
     (profile ∷ source ∷ statement ∷ other (codes "fiq") form.FileOption command.FollowVisits ∷ machine ∷ [])
     ∷ usage (codes "graph") command.Graph (profile ∷ source ∷ statement ∷ [])
@@ -117,6 +117,7 @@ rule_by form.FileOption id = record (option_rule id) { value_names = 1 }
 rule_by form.NumberOption id = numbered (option_rule id)
 rule_by form.TicksOption id = in_ticks (option_rule id)
 rule_by form.Why id = record (option_rule id) { action = Some SetTrue }
+rule_by form.Each id = record (option_rule id) { action = Some SetTrue }
 
 abbrev pub rule_as : Argument → Rule
 rule_as a = rule_by a.form a.id
@@ -141,11 +142,12 @@ arcwcet_command = with_commands arcwcet_top usages
 
 -- ## What is asked for
 
--- a command, whether to print what shows the reason of a refusal, the names of files, the cycle profile's
--- apart, a word that names no file to be read, and numbers
+-- a command, whether to print what shows the reason of a refusal, and the bound of each destination alone,
+-- the names of files, the cycle profile's apart, a word that names no file to be read, and numbers
 pub record Asked : Type 0 where
   pub command : Command
   pub why : Bool
+  pub each : Bool
   pub profile : Option Text
   pub files : List Text
   pub word : Text
@@ -154,7 +156,15 @@ pub record Asked : Type 0 where
 -- without an argument
 abbrev pub plainly : Command → CommandNumbers → Asked
 plainly command numbers =
-    record { command = command; why = false; profile = None; files = []; word = []; numbers = numbers }
+    record {
+      command = command;
+      why = false;
+      each = false;
+      profile = None;
+      files = [];
+      word = [];
+      numbers = numbers;
+    }
 
 -- the number of at most this that a text writes: decimal digits, after any plus
 abbrev pub number_to : ℕ → Text → Option ℕ
@@ -189,6 +199,7 @@ with_value_by form.FileOption name asked = record asked { files = asked.files ++
 with_value_by form.Word word asked = record asked { word = word }
 with_value_by form.ProfileOption name asked = record asked { profile = Some name }
 with_value_by form.Why value asked = record asked { why = bytes_eq value (codes "true") }
+with_value_by form.Each value asked = record asked { each = bytes_eq value (codes "true") }
 with_value_by form.Number value asked = asked
 with_value_by form.NumberOption value asked = asked
 with_value_by form.TicksOption value asked = asked
@@ -206,12 +217,14 @@ abbrev pub asked_as : Usage → List Row → Asked
 asked_as u rows =
     with_argument rows (fold (with_argument rows) (plainly u.command (numbers_in rows)) u.arguments) why
 
--- `asm` writes no image over a file that it reads, and beside the certificate of a verdict no number is
--- given, which would have no effect
+-- `asm` writes no image over a file that it reads, and beside the certificate of a verdict neither a number
+-- nor `--each` is given, which would have no effect
 abbrev pub is_allowed_of : Command → Asked → Bool
 is_allowed_of command.Asm asked = not (list_any (λ name. bytes_eq name asked.word) asked.files)
 is_allowed_of command.Verdict asked =
-    is_none asked.numbers.at_most && (is_none asked.numbers.bursts && is_none asked.numbers.burst_every)
+    not asked.each
+    && (is_none asked.numbers.at_most
+    && (is_none asked.numbers.bursts && is_none asked.numbers.burst_every))
 is_allowed_of c asked = true
 
 abbrev pub is_allowed : Asked → Bool

@@ -18,6 +18,7 @@ asked_of q =
     record {
       command = q.command;
       why = q.why;
+      each = q.each;
       profile = option_map (λ s. s.now) q.profile;
       files = map (λ s. s.now) q.files.items;
       word = q.word.now;

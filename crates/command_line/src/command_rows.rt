@@ -23,6 +23,8 @@ pub(crate) enum Form {
     TicksOption,
     /// The option that asks for what shows the reason of a refusal.
     Why,
+    /// The option that asks for the bound of each destination alone.
+    Each,
 }
 
 /// An argument, what the help says of it, and what is asked for instead where it is given, if that is another
@@ -119,6 +121,13 @@ const BURST_EVERY: ArgumentRow = ArgumentRow {
     id: "burst-every",
     form: Form::NumberOption,
     help: "Print the bound with a DMA burst every N ticks too",
+    instead: None,
+};
+
+const EACH: ArgumentRow = ArgumentRow {
+    id: "each",
+    form: Form::Each,
+    help: "Print the bound for each destination of each target alone too",
     instead: None,
 };
 
@@ -224,6 +233,7 @@ pub(crate) const COMMANDS: [CommandRow; 12] = [
             AT_MOST,
             BURSTS,
             BURST_EVERY,
+            EACH,
             CERTIFICATE,
         ],
     },

@@ -30,7 +30,7 @@ fn argument<'a>(alloc: Global, row: &ArgumentRow) -> Arg<'a>
             .long(row.id)
             .value_name("N")
             .value_parser(value_parser!(u64).range(..=i64::MAX)),
-        Form::Why => arg.long(row.id).action(ArgAction::SetTrue),
+        Form::Why | Form::Each => arg.long(row.id).action(ArgAction::SetTrue),
     }
 }
 

@@ -61,6 +61,8 @@ pub struct Request<'a> {
     pub command: Command,
     /// Whether what shows the reason of a refusal is to be printed too.
     pub why: bool,
+    /// Whether the bound for each destination of each target alone is to be printed too.
+    pub each: bool,
     /// The name of a cycle profile's file.
     pub profile: Option<&'a str>,
     /// The names of the other files to be read, in their order.

@@ -58,6 +58,7 @@ fn add_value<'a>(
         Form::Word => request.word = value,
         Form::ProfileOption => request.profile = Some(value),
         Form::Why => request.why = value == "true",
+        Form::Each => request.each = value == "true",
         Form::Number | Form::NumberOption | Form::TicksOption => {}
     }
     Ok(())
@@ -90,6 +91,7 @@ fn asked<'a>(
     let mut request = Request {
         command: row.command,
         why: false,
+        each: false,
         profile: None,
         files: Vec::new(alloc),
         word: "",
@@ -118,7 +120,10 @@ fn is_allowed(request: &Request<'_>) -> bool
         Command::Asm => !is_among(&request.files, request.word),
         Command::Verdict => {
             let numbers = request.numbers;
-            numbers.at_most.is_none() && numbers.bursts.is_none() && numbers.burst_every.is_none()
+            !request.each
+                && numbers.at_most.is_none()
+                && numbers.bursts.is_none()
+                && numbers.burst_every.is_none()
         }
         _ => true,
     }
@@ -211,6 +216,7 @@ fn version<'a>(alloc: Global) -> Request<'a>
     Request {
         command: Command::Version,
         why: false,
+        each: false,
         profile: None,
         files: Vec::new(alloc),
         word: "",

@@ -1,5 +1,5 @@
 -- The explanation of a handler's bound.
-use Rattle.std.proofs.Common.{◌≢◌, ◌^◌, ◌<◌, ◌≤◌, ℕ, List, Option, refl, ⊎_elim, arith}
+use Rattle.std.proofs.Common.{◌≡◌, ◌≢◌, ◌^◌, ◌<◌, ◌≤◌, ◌++◌, ℕ, List, [], Option, true, false, append-nil, refl, sym, ⊎_elim, arith}
 use Rattle.std.proofs.lemmas.Bool.{cases_lt}
 use Rattle.bus_ticks.specs.declared.profile.Profile.{Profile}
 use Rattle.text_explained.specs.Starts.{IsLatestStart}
@@ -15,8 +15,9 @@ use Rattle.longest_walk.specs.Longest.{IsLongest, IsWalkFault}
 use Rattle.longest_walk.specs.declared.folded.Longest.{Longest}
 use Rattle.numbered_walks.specs.declared.fault.WalkFault.{WalkFault}
 use Rattle.numbered_walks.specs.declared.fault.WalkFault.TheVariants as walk_fault
-use Rattle.handler_reports.specs.ExplainReport.{IsExplanation, IsTextOf, IsTotal}
-use Rattle.handlers.specs.Report.{BeforeOutput, HasLoops, IsRefused}
+use Rattle.handler_reports.specs.ExplainReport.{IsExplanation, IsFullExplanation, IsTextOf, IsTotal}
+use Rattle.handler_reports.specs.Each.{AreEachLines, IsEachText}
+use Rattle.handlers.specs.Report.{BeforeOutput, HasGraph, HasLoops, IsRefused}
 use Rattle.handlers.specs.Source.{IsSourceFault}
 use Rattle.sources.specs.Source.{IsSource}
 use Rattle.sources.specs.declared.read.Source.{Source}
@@ -66,3 +67,15 @@ module _ (source statement : List ℕ) (profile : Profile) (read : Source) (is_r
 -- a fault of the source refuses the explanation
 pub source_unexplained : (source statement : List ℕ) (profile : Profile) (e : ReportFault) → IsSourceFault source e → BeforeOutput (IsRefused source statement profile) e
 source_unexplained source statement profile e h = report_refusal source statement profile e (source_refusal source statement profile e h)
+
+-- ## With the bounds for each destination alone, or without
+
+module _ (source statement : List ℕ) (bursts : Bursts) (profile : Profile) (bound : ℕ) where
+  pub full_without : (text : List ℕ) → IsExplanation source statement bursts profile bound text → IsFullExplanation source statement bursts false profile bound text
+  full_without text explains = record { front = text; last = []; explains = explains; last_is = refl; text_is = sym (append-nil text) }
+
+  pub full_with : (front each text : List ℕ) (read : Source) (st : Stated) (flow : Flow) → IsSource source read → HasGraph source statement profile st flow
+      → IsExplanation source statement bursts profile bound front → AreEachLines read st profile each → text ≡ front ++ each → IsFullExplanation source statement bursts true profile bound text
+  full_with front each text read st flow is_read graph explains lines is =
+      let last : IsEachText source statement profile each = record { read = read; stated = st; flow = flow; is_read = is_read; graph = graph; lines_are = lines } in
+      record { front = front; last = each; explains = explains; last_is = last; text_is = is }

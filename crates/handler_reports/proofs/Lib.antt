@@ -1,3 +1,4 @@
+mod EachLemmas
 mod BoundLemmas
 pub mod CheckLemmas
 mod VerdictLemmas

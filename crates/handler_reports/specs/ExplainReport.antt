@@ -18,6 +18,7 @@ use Rattle.text_explained.specs.Table.{IsTable, all_ticks}
 use Rattle.text_explained.specs.Taken.{taken_at}
 use Rattle.text_savings.specs.Sections.{IsSavingsText}
 use Rattle.handlers.specs.Answers.{Answers}
+use Rattle.handler_reports.specs.Each.{IsAskedEach}
 use Rattle.handler_reports.specs.RunTimes.{BeginsWithin, EndsWithin}
 use Rattle.handlers.specs.Report.{IsAccepted, IsBounded, IsRefused}
 use Rattle.handlers.specs.declared.fault.ReportFault.{ReportFault}
@@ -71,21 +72,30 @@ pub record IsExplanation (source statement : List ℕ) (bursts : Bursts) (profil
       profile.burst bursts text
   pub total : IsTotal read bounded.accepted.flow bounded.longest
 
+-- the explanation, and after it the bounds for each destination of a target alone, if they are asked for
+pub record IsFullExplanation (source statement : List ℕ) (bursts : Bursts) (each : Bool) (profile : Profile)
+    (bound : ℕ) (text : List ℕ) : Type 0 where
+  pub front : List ℕ
+  pub last : List ℕ
+  pub explains : IsExplanation source statement bursts profile bound front
+  pub last_is : IsAskedEach each source statement profile last
+  pub text_is : text ≡ front ++ last
+
 -- no more ticks than are wanted, without bursts; any number where none is
 abbrev pub is_enough : Option ℕ → ℕ → Bool
 is_enough None bound = true
 is_enough (Some most) bound = nat_le bound most
 
 -- with the answer whether the bound is enough
-pub record IsExplainReport (source statement : List ℕ) (at_most : Option ℕ) (bursts : Bursts)
+pub record IsExplainReport (source statement : List ℕ) (at_most : Option ℕ) (bursts : Bursts) (each : Bool)
     (profile : Profile) (answer : Bool) (text : List ℕ) : Type 0 where
   pub bound : ℕ
-  pub explains : IsExplanation source statement bursts profile bound text
+  pub explains : IsFullExplanation source statement bursts each profile bound text
   pub answer_is : answer ≡ is_enough at_most bound
 
 -- the answer to a source and a statement: their explanation
 abbrev pub Explains : {O : Type 0} → (O → Option (List ℕ)) → (O → ℕ) → List ℕ → List ℕ → Option ℕ → Bursts
-    → Profile → O → O → Result Bool ReportFault → Type 0
-Explains taken failures source statement at_most bursts profile old new result =
-    Answers taken failures (IsExplainReport source statement at_most bursts profile)
+    → Bool → Profile → O → O → Result Bool ReportFault → Type 0
+Explains taken failures source statement at_most bursts each profile old new result =
+    Answers taken failures (IsExplainReport source statement at_most bursts each profile)
     (IsAccepted source statement profile) (IsRefused source statement profile) old new result

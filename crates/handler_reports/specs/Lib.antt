@@ -5,6 +5,7 @@ pub mod Verdict
 pub mod TightReport
 pub mod TightText
 pub mod Differences
+pub mod Each
 pub mod ExplainReport
 pub mod FollowReport
 pub mod FollowText

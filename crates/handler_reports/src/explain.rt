@@ -1,17 +1,20 @@
 //! Where the ticks of a handler's greatest run time go.
 
-ghost use Rattle.std.specs.Prelude.{◌≡◌, ◌∷◌, [], ℕ, List, IfErr, IfOk};
+ghost use Rattle.std.specs.Prelude.{◌≡◌, ◌∷◌, [], ℕ, List, IfErr, IfOk, true};
 ghost use Rattle.bus_ticks.specs.declared.profile.Profile.{Profile};
 ghost use Rattle.text_explained.specs.Starts.{latest_at};
 ghost use Rattle.loop_bounds.specs.Handler.{HasItsTree};
 ghost use Rattle.handler_reports.specs.Bound.{given};
-ghost use Rattle.handler_reports.specs.ExplainReport.{Explains, IsExplanation, IsTextOf, is_enough};
+ghost use Rattle.control_flow.specs.Flow.{Flow};
+ghost use Rattle.handler_reports.specs.ExplainReport.{Explains, IsExplanation, IsFullExplanation};
+ghost use Rattle.handler_reports.specs.ExplainReport.{IsTextOf, is_enough};
 ghost use Rattle.handlers.specs.Priced.{Priced};
 ghost use Rattle.handlers.specs.Refusal.{Carries, CarriesRead, CarriesReadBy, ComesAlone, fault_only};
 ghost use Rattle.handlers.specs.Refusal.{stop_fault};
-ghost use Rattle.handlers.specs.Report.{BeforeOutput, HasLoops, IsRefused};
+ghost use Rattle.handlers.specs.Report.{BeforeOutput, HasGraph, HasLoops, IsRefused};
 ghost use Rattle.sources.specs.Source.{IsSource, Says};
 
+use crate::each::each_lines;
 use bus_ticks::Profile;
 use control_flow::graphs_are_well_formed;
 use flow_graph::run_law;
@@ -22,6 +25,7 @@ use handlers::{
 use longest_walk::worst_starts;
 use outputs::Output;
 use sources::Source;
+use statement::Statement;
 use std::alloc::{AllocError, Global};
 use text_explained::{
     Bursts, TimedWalk, assumed_text, burst_lines, cost_table, idle_entries,
@@ -40,6 +44,8 @@ pub struct Explained<'a> {
     pub at_most: Option<u64>,
     /// The DMA bursts with which its bound is printed too.
     pub bursts: Bursts,
+    /// Whether its bound for each destination of each target alone is printed too.
+    pub each: bool,
 }
 
 // A greatest walk with the worst starts of its places, and the bursts that are added to its cost, by the
@@ -134,6 +140,52 @@ fn explanation_of(
     })
 }
 
+// The explanation with the bounds for each destination of a target alone after it.
+fn with_each(
+    alloc: Global,
+    read: &Source<'_>,
+    statement: &mut Statement,
+    profile: &Profile,
+    found: Explanation,
+) -> Result<Explanation, AllocError>
+    ensures { (source text : List ℕ) (flow : Flow) (bursts : Bursts) → IsSource source read.now
+        → HasGraph source text profile.now statement.old flow
+        → IsExplanation source text bursts profile.now found.bound found.text.items
+        → IfOk result
+        (λ e. IsFullExplanation source text bursts true profile.now e.bound e.text.items) }
+{
+    let mut found = found;
+    let each = each_lines(alloc, read, statement, profile)?;
+    found.text.extend_from_slice(&each)?;
+    Ok(found)
+}
+
+// The explanation of a handler that was read, with those bounds where they are asked for.
+fn full_explanation(
+    alloc: Global,
+    read: &Source<'_>,
+    explained: Explained<'_>,
+    profile: &Profile,
+    handler: &mut Handler<'_>,
+) -> Result<Explanation, ReportFault>
+    requires image { handler.now.image.now ≡ read.now.image }
+    requires tree { HasItsTree handler.now }
+    ensures explains { (source statement : List ℕ) → IsSource source read.now
+        → HasLoops source statement profile.now handler.old.statement handler.old.graph
+        → IfOk result (λ e. IsFullExplanation source statement explained.entry.bursts explained.entry.each
+        profile.now e.bound e.text.items) }
+    ensures fault { (source statement : List ℕ)
+        → HasLoops source statement profile.now handler.old.statement handler.old.graph
+        → IfErr result (BeforeOutput (IsRefused source statement profile.now)) }
+    ensures alone { IfErr result ComesAlone }
+{
+    let found = explanation_of(alloc, read, explained.bursts, profile, handler)?;
+    if !explained.each {
+        return Ok(found);
+    }
+    Ok(with_each(alloc, read, &mut handler.statement, profile, found)?)
+}
+
 // The explanation of the handler of a source that was read.
 fn source_explanation<'a>(
     alloc: Global,
@@ -142,15 +194,15 @@ fn source_explanation<'a>(
     profile: &Profile,
 ) -> Result<Explanation, Stop<'a>>
     ensures explains { (source : List ℕ) → IsSource source said.now
-        → IfOk result (λ e. IsExplanation source explained.entry.statement.now explained.entry.bursts
-        profile.now e.bound e.text.items) }
+        → IfOk result (λ e. IsFullExplanation source explained.entry.statement.now explained.entry.bursts
+        explained.entry.each profile.now e.bound e.text.items) }
     ensures fault { (source : List ℕ) → Says source said.now
         → IfErr result (λ s. BeforeOutput (IsRefused source explained.entry.statement.now profile.now)
         (stop_fault s)) }
     ensures carries { IfErr result (Carries said.now explained.entry.statement.now profile.now) }
 {
-    let handler = read_handler(alloc, said, explained.statement, profile)?;
-    Ok(explanation_of(alloc, said, explained.bursts, profile, &handler)?)
+    let mut handler = read_handler(alloc, said, explained.statement, profile)?;
+    Ok(full_explanation(alloc, said, explained, profile, &mut handler)?)
 }
 
 // The explanation of a source's handler.
@@ -160,8 +212,8 @@ fn read_explanation<'a>(
     profile: &Profile,
 ) -> Result<Explanation, Refusal<'a>>
     ensures explains { IfOk result
-        (λ e. IsExplanation explained.entry.source.now explained.entry.statement.now explained.entry.bursts
-        profile.now e.bound e.text.items) }
+        (λ e. IsFullExplanation explained.entry.source.now explained.entry.statement.now
+        explained.entry.bursts explained.entry.each profile.now e.bound e.text.items) }
     ensures fault { IfErr (fault_only result)
         (BeforeOutput (IsRefused explained.entry.source.now explained.entry.statement.now profile.now)) }
     ensures carries { IfErr result
@@ -180,8 +232,9 @@ fn read_explanation<'a>(
 /// do not look like returns, words that leave the handler of an interrupt and restore no flags, words that
 /// return by R14 after a call, or an address of the source, has overwritten it, and loads and stores of which
 /// no class is stated; then how many words each rule for a base register covers; then the entries of the
-/// statement without effect; and then what better entries would save. Answers whether the bound is enough:
-/// without bursts at most so many ticks as are wanted.
+/// statement without effect; and then what better entries would save; and then, if it is asked for, the bound
+/// for each destination of each target alone, for each of which the handler is bounded anew. Answers whether
+/// the bound is enough: without bursts at most so many ticks as are wanted.
 ///
 /// # Errors
 ///
@@ -194,8 +247,8 @@ pub fn explain_report<'a, O: Output>(
 ) -> Result<bool, Refusal<'a>>
     ensures answers { Priced (given profile.entry)
         (λ p. Explains O.taken O.failures explained.entry.source.now explained.entry.statement.now
-        explained.entry.at_most explained.entry.bursts p out.old out.new (fault_only result)) out.old out.new
-        (fault_only result) }
+        explained.entry.at_most explained.entry.bursts explained.entry.each p out.old out.new
+        (fault_only result)) out.old out.new (fault_only result) }
     ensures carries { IfErr result (CarriesReadBy (given profile.entry) explained.entry.source.now
         (explained.entry.statement.now ∷ [])) }
 {

@@ -6,6 +6,7 @@
 mod bound;
 mod check;
 mod differences;
+mod each;
 mod explain;
 mod finding;
 mod follow;

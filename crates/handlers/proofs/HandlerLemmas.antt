@@ -6,11 +6,10 @@ use Rattle.bus_ticks.specs.declared.profile.Profile.{Profile}
 use Rattle.image.specs.Image.{Words}
 use Rattle.control_flow.specs.Flow.{Flow}
 use Rattle.control_flow.specs.Graph.{IsBuildFault, IsFlowGraph}
-use Rattle.statement.specs.Stated.{Stated}
+use Rattle.statement.specs.Stated.{Stated, StatedLoops}
 use Rattle.image.specs.Labels.{Names}
 use Rattle.statement.specs.Statement.{IsStatement}
 use Rattle.statement.specs.declared.faults.StatementFault.{StatementFault}
-use Rattle.statement.specs.declared.stated.Loop.{Loop}
 use Rattle.control_flow.proofs.Unique.{one_flow}
 use Rattle.statement.proofs.Unique.{one_statement}
 use Rattle.loop_bounds.specs.Nest.{Applies, IsNestFault}
@@ -50,7 +49,7 @@ one_graph source statement profile st su flow other g h =
     record { same_stated = sym stated; same_flow = one_flow g.words st profile flow other g.graph_is graph }
 
 -- a refusal of the loops says what applies
-applies : (flow : Flow) (loops : List Loop) (f : NestFault) → IsNestFault flow loops f → Applies flow loops f
+applies : (flow : Flow) (loops : StatedLoops) (f : NestFault) → IsNestFault flow loops f → Applies flow loops f
 applies flow loops nest_fault.Memory h = h
 applies flow loops nest_fault.LoopsCross h = h
 applies flow loops nest_fault.SharedHeader h = h.1

@@ -1,3 +1,4 @@
+pub mod AloneLemmas
 pub mod FiqLemmas
 pub mod HandlerLemmas
 pub mod PlacingLemmas

@@ -8,8 +8,7 @@ use Rattle.walks.specs.Walk.{cost_of}
 use Rattle.control_flow.specs.declared.places.Place.TheVariants.{Exit}
 use Rattle.control_flow.specs.Flow.{Flow, HasEdge, IsWellFormed, edge_shape}
 use Rattle.flow_graph.specs.StepLaw.{IsWithin, RunLaw}
-use Rattle.statement.specs.Stated.{Stated}
-use Rattle.statement.specs.declared.stated.Loop.{Loop}
+use Rattle.statement.specs.Stated.{Stated, StatedLoops}
 use Rattle.control_flow.specs.declared.edges.Edge.{Edge}
 use Rattle.loop_bounds.specs.Bounds.{IsGreatestCost, IsTooLarge, KeepsTheBounds}
 use Rattle.loop_bounds.specs.Handler.{IsTreeOf}
@@ -60,7 +59,7 @@ report_refusal source statement profile e h = (λ e. cc e, h)
 
 -- ## A walk that keeps the bounds of a tree's instances keeps those of the stated loops
 
-module _ (flow : Flow) (loops : List Loop) (tree : Tree) (same : (i : Instance) → Contains tree.instances i ↔ IsInstance flow loops i) where
+module _ (flow : Flow) (loops : StatedLoops) (tree : Tree) (same : (i : Instance) → Contains tree.instances i ↔ IsInstance flow loops i) where
   pub kept_here : (walk : List Edge) → KeepsTree tree walk → KeepsTheBounds flow loops walk
   kept_here walk kept i is = kept i ((same i).1 is)
 
@@ -82,12 +81,12 @@ module _ (flow : Flow) (loops : List Loop) (tree : Tree) (same : (i : Instance) 
   too_large_there : IsTooLarge flow loops → TreeTooLarge flow tree
   too_large_there t = record { place = t.place; walk = t.walk; leads = t.leads; kept = kept_there t.walk t.kept; costs = t.costs }
 
-  fault_here : (f : WalkFault) → IsWalkFault flow tree f → IsWalkRefusal flow loops f
+  pub fault_here : (f : WalkFault) → IsWalkFault flow tree f → IsWalkRefusal flow loops f
   fault_here walk_fault.Memory h = tt
   fault_here walk_fault.NoCompleteWalk h = h
   fault_here walk_fault.BoundTooLarge h = (h.0, too_large_here h.1)
 
-  fault_there : (f : WalkFault) → IsWalkRefusal flow loops f → IsWalkFault flow tree f
+  pub fault_there : (f : WalkFault) → IsWalkRefusal flow loops f → IsWalkFault flow tree f
   fault_there walk_fault.Memory h = tt
   fault_there walk_fault.NoCompleteWalk h = h
   fault_there walk_fault.BoundTooLarge h = (h.0, too_large_there h.1)
@@ -102,7 +101,7 @@ bounds_runs words profile st flow bound law greatest s inputs ran after keeps ru
     record { ticks = omega (arith, within.ticks, most); elapsed = omega (arith, within.elapsed, most) }
 
 -- by each other tree of the loops the walk is a greatest one too
-pub longest_by_each : (flow : Flow) (loops : List Loop) (tree other : Tree) → IsTreeOf flow loops tree → IsTreeOf flow loops other → (l : Longest) → IsLongest flow tree l → IsLongest flow other l
+pub longest_by_each : (flow : Flow) (loops : StatedLoops) (tree other : Tree) → IsTreeOf flow loops tree → IsTreeOf flow loops other → (l : Longest) → IsLongest flow tree l → IsLongest flow other l
 longest_by_each flow loops tree other of by l is =
     longest_by_other flow tree other of.tree_is by.tree_is
     (λ i. (λ has. (by.instances i).1 ((of.instances i).0 has), λ has. (of.instances i).1 ((by.instances i).0 has)))

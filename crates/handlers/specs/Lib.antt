@@ -1,3 +1,4 @@
+pub mod Alone
 pub mod FiqHandler
 pub mod Keeping
 pub mod Placing

@@ -6,14 +6,13 @@ use Rattle.image.specs.Image.{Words}
 use Rattle.control_flow.specs.declared.edges.Edge.{Edge}
 use Rattle.control_flow.specs.Flow.{Flow, edge_shape}
 use Rattle.control_flow.specs.Graph.{IsBuildFault, IsFlowGraph}
-use Rattle.statement.specs.Stated.{Stated}
+use Rattle.statement.specs.Stated.{Stated, StatedLoops}
 use Rattle.image.specs.Labels.{Names}
 use Rattle.statement.specs.Statement.{IsStatement}
 use Rattle.control_flow.specs.declared.faults.BuildFault.{BuildFault}
 use Rattle.control_flow.specs.declared.faults.BuildFault.TheVariants as build_fault
 use Rattle.statement.specs.declared.faults.StatementFault.{StatementFault}
 use Rattle.statement.specs.declared.faults.StatementFault.TheVariants as statement_fault
-use Rattle.statement.specs.declared.stated.Loop.{Loop}
 use Rattle.walks.specs.Walk.{cost_of}
 use Rattle.loop_bounds.specs.Bounds.{IsCompleteWalk, IsGreatestCost, IsTooLarge, KeepsTheBounds}
 use Rattle.loop_bounds.specs.Handler.{HasItsTree, IsTreeOf}
@@ -40,7 +39,7 @@ use Rattle.sources.specs.Source.{Says, source_of}
 use Rattle.sources.specs.declared.read.Source.{Source}
 
 -- the bound is the greatest cost, and the items unfold to a complete walk of that cost that keeps the bounds
-pub record IsGreatestWalk (flow : Flow) (loops : List Loop) (bound : ℕ) (items : List Item) : Type 0 where
+pub record IsGreatestWalk (flow : Flow) (loops : StatedLoops) (bound : ℕ) (items : List Item) : Type 0 where
   pub greatest : IsGreatestCost flow loops bound
   pub complete : IsCompleteWalk flow (unfolded items)
   pub kept : KeepsTheBounds flow loops (unfolded items)
@@ -48,7 +47,7 @@ pub record IsGreatestWalk (flow : Flow) (loops : List Loop) (bound : ℕ) (items
 
 -- no walk leads to Exit; or one does, and some walk that keeps the bounds, wherever it ends, costs 2^63 ticks
 -- or more
-abbrev pub IsWalkRefusal : Flow → List Loop → WalkFault → Type 0
+abbrev pub IsWalkRefusal : Flow → StatedLoops → WalkFault → Type 0
 IsWalkRefusal flow loops walk_fault.Memory = Unit {0}
 IsWalkRefusal flow loops walk_fault.NoCompleteWalk = (walk : List Edge) → IsCompleteWalk flow walk → ⊥
 IsWalkRefusal flow loops walk_fault.BoundTooLarge =

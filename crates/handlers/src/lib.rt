@@ -3,6 +3,7 @@
 //! outputs, the faults of reports, what comes with a refusal, and its line.
 #![tactic(auto)]
 
+mod alone;
 mod fault;
 mod fault_names;
 mod fiq;
@@ -13,6 +14,7 @@ mod placing;
 mod refusal;
 mod refusal_line;
 
+pub use alone::bound_of;
 pub use fault::ReportFault;
 pub use fault_names::fault_name;
 pub use fiq::fiq_handler;

@@ -31,7 +31,7 @@ use Rattle.longest_walk.specs.Longest.{IsWalkFault, KeepsTree, TreeTooLarge}
 use Rattle.longest_walk.proofs.CarryKeeps.{Agree, IsNamed, keeps_back, keeps_there, named}
 
 abbrev pub no_instance : Instance
-no_instance = record { list = []; header = 0; first = 0; last = 0; bound = 0 }
+no_instance = record { list = []; header = 0; first = 0; last = 0; bound = 0; apart = [] }
 
 -- these are numbers of edges
 abbrev pub AreNumbersOf : Flow → List ℕ → Type 0

@@ -134,16 +134,17 @@ headers_once flow tree t i j d i_lt j_lt same =
     some_instance (x ∷ xs) lt = x
 
 -- what the code asks of the instance at an index
-pub instance_inside : (flow : Flow) (tree : Tree) → IsTree flow tree → (found : List LoopInstance) → map found_instance found ≡ tree.instances → (i : ℕ) → i < length found → (i < length tree.instances) × (i < length tree.spans) × ((span_at tree.spans i).header < length flow.places + 1)
+pub instance_inside : (flow : Flow) (tree : Tree) → IsTree flow tree → (found : List LoopInstance) → map (found_instance tree.apart) found ≡ tree.instances → (i : ℕ) → i < length found → (i < length tree.instances) × (i < length tree.spans) × ((span_at tree.spans i).header < length flow.places + 1)
 instance_inside flow tree t found are i lt =
-    let many : i < length tree.instances = omega (arith, ap length are, length-map found found_instance) in
+    let many : i < length tree.instances = omega (arith, ap length are, length-map found (found_instance tree.apart)) in
     let few : i < length tree.spans = omega (arith, t.spans_are.same) in
     let shape = t.ordered.shape (span_at tree.spans i) (Contains-get_or tree.spans i _ few) in
     (many, few, omega (arith, shape.0, shape.1))
 
-pub instance_at : (tree : Tree) (found : List LoopInstance) (f : LoopInstance) (i : ℕ) → map found_instance found ≡ tree.instances → i < length found → f ≡ get_or found i f → found_instance f ≡ get_or tree.instances i (found_instance f)
+pub instance_at : (tree : Tree) (found : List LoopInstance) (f : LoopInstance) (i : ℕ) → map (found_instance tree.apart) found ≡ tree.instances → i < length found → f ≡ get_or found i f → found_instance tree.apart f ≡ get_or tree.instances i (found_instance tree.apart f)
 instance_at tree found f i are lt is =
-    ap found_instance is ∙ sym (get_or-map found_instance found i f (found_instance f) lt) ∙ ap (λ (l : List Instance). get_or l i (found_instance f)) are
+    let g = found_instance tree.apart in
+    ap g is ∙ sym (get_or-map g found i f (g f) lt) ∙ ap (λ (l : List Instance). get_or l i (g f)) are
 
 -- ## In order
 

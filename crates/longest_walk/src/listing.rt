@@ -1,10 +1,10 @@
 ghost use Rattle.std.specs.Prelude.{◌≡◌, ◌+◌, ◌<◌, IfOk, length};
 ghost use Rattle.numbered_walks.specs.Tables.{HasRoom, arrival_of, round_of};
-ghost use Rattle.loop_bounds.specs.Extents.{found_instance};
+ghost use Rattle.loop_bounds.specs.Extents.{header_place};
 ghost use Rattle.loop_bounds.specs.Layout.{AreNumbers};
 ghost use Rattle.loop_bounds.specs.Tree.{IsTree};
 ghost use Rattle.longest_walk.specs.Built.{AreInstanceRowsAt, ArePlaceRowsAt};
-ghost use Rattle.longest_walk.specs.Rows.{header_of, header_of_row};
+ghost use Rattle.longest_walk.specs.Rows.{header_of_row};
 
 use crate::rows::{InstanceRow, PlaceRow};
 use control_flow::{Graph, Place, order_of_places};
@@ -61,7 +61,7 @@ pub(crate) fn place_rows(
 fn instance_row(found: &LoopInstance, span: &Span, tables: &Tables) -> InstanceRow
     requires arrivals { span.now.header < length tables.now.arrivals.items }
     requires rounds { span.now.header < length tables.now.rounds.items }
-    ensures header { header_of_row result ≡ header_of (found_instance found.now) }
+    ensures header { header_of_row result ≡ header_place found.now }
     ensures arrival { result.arrival ≡ arrival_of tables.now span.now }
     ensures round { result.round ≡ round_of tables.now span.now }
 {

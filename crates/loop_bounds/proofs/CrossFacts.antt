@@ -1,6 +1,6 @@
 -- Crossing: instances of which each has an extent cross where the extents do.
-use Rattle.std.proofs.Common.{◌≡◌, ℕ, ◌+◌, ◌<◌, ◌≤◌, Bool, true, false, eqb, List, [], ◌∷◌, Option, Some, None, IfSome, Vec, Global, length, map, get_or, sym, refl, ap, ◌∙◌, subst, ⊎_elim, arith}
-use Rattle.std.specs.Prelude.{Contains, MatchOption, ◌&&◌, ◌==◌, nat_le}
+use Rattle.std.proofs.Common.{◌≡◌, ℕ, ◌+◌, ◌<◌, ◌≤◌, Bool, true, false, eqb, leb, List, [], ◌∷◌, Option, Some, None, IfSome, Vec, Global, length, map, get_or, sym, refl, ap, ◌∙◌, subst, ⊎_elim, arith}
+use Rattle.std.specs.Prelude.{Contains, MatchOption, ◌&&◌, ◌==◌}
 use Rattle.std.specs.Cmp.Lexicographic.{pointwise}
 use Rattle.std.specs.Option.{is_some, option_eq}
 use Rattle.std.proofs.lemmas.Bool.{both_ways, cases_eq, and_parts, and_from, eqb-true, eq-eqb, false_from_ne_true, false≢true}
@@ -8,12 +8,12 @@ use Rattle.std.proofs.lemmas.List.{get_or_default, length-map, get_or-map}
 use Rattle.std.proofs.lemmas.List.Elements.{Contains-get_or}
 use Rattle.control_flow.specs.declared.places.Place.{Place}
 use Rattle.control_flow.specs.declared.places.Place.TheVariants.{At}
-use Rattle.statement.specs.declared.stated.Loop.{Loop}
+use Rattle.statement.specs.Stated.{StatedLoops, lies_at}
 use Rattle.control_flow.specs.Flow.{Flow, IsWellFormed}
 use Rattle.control_flow.specs.Places.{place_at}
 use Rattle.loop_bounds.specs.declared.extents.Extent.{Extent}
 use Rattle.loop_bounds.specs.declared.loop_instances.LoopInstance.{LoopInstance}
-use Rattle.loop_bounds.specs.Instance.{Instance, IsInstance, holds, is_member}
+use Rattle.loop_bounds.specs.Instance.{Instance, IsInstance, is_member}
 use Rattle.loop_bounds.specs.Keys.{IsListed, key_of}
 use Rattle.loop_bounds.specs.Extents.{AreExtentsOf, AreNested, HaveCrossing, IsWithin, extent_at, found_instance, is_within}
 use Rattle.loop_bounds.specs.Nest.{HasCrossing, HasCrossingWith, HasOwn}
@@ -21,33 +21,34 @@ use Rattle.loop_bounds.specs.Tree.{ArePlaceNumbers}
 use Rattle.loop_bounds.proofs.ExtentLemmas.{nested}
 use Rattle.loop_bounds.proofs.ExtentOf.{member_by_key, no_found, same_list}
 use Rattle.loop_bounds.proofs.InPlaces.{found_has}
+use Rattle.loop_bounds.proofs.KeyLemmas.{all_lie_once, spans}
 use Rattle.loop_bounds.proofs.Positions.{listed_length, place_numbers}
 use Rattle.loop_bounds.proofs.Within.{from_in, in_from, out_from}
 
 pub index_of : (extents : List Extent) (s : Extent) (has : Contains extents s) → extent_at extents has.0 ≡ s
 index_of extents s has = get_or_default extents has.0 _ s has.1 ∙ has.2
 
-module _ (flow : Flow) (loops : List Loop) (listed : List Place) (found : List LoopInstance) (extents : List Extent) (well_formed : IsWellFormed flow) (listed_is : IsListed flow.places listed) (all_are : (i : Instance) → Contains (map found_instance found) i → IsInstance flow loops i) (extents_of : AreExtentsOf listed found extents) where
+module _ (flow : Flow) (loops : StatedLoops) (listed : List Place) (found : List LoopInstance) (extents : List Extent) (well_formed : IsWellFormed flow) (listed_is : IsListed loops.apart flow.places listed) (all_are : (i : Instance) → Contains (map (found_instance loops.apart) found) i → IsInstance flow loops i) (extents_of : AreExtentsOf loops.apart listed found extents) where
   abbrev instance_at : Extent → Instance
-  instance_at s = found_instance (get_or found s.instance no_found)
+  instance_at s = found_instance loops.apart (get_or found s.instance no_found)
 
   abbrev exit : ℕ
   exit = length flow.places
 
   len : length listed ≡ exit
-  len = listed_length flow.places listed listed_is
+  len = listed_length flow.places listed listed_is.moved
 
   numbers : ArePlaceNumbers flow (place_at listed)
-  numbers = place_numbers flow listed well_formed listed_is
+  numbers = place_numbers flow listed well_formed listed_is.moved
 
   instance_is : (s : Extent) → Contains extents s → IsInstance flow loops (instance_at s)
-  instance_is s has = all_are (instance_at s) (found_has found s.instance no_found (extents_of.named s has))
+  instance_is s has = all_are (instance_at s) (found_has loops.apart found s.instance no_found (extents_of.named s has))
 
-  extent_for : (i : Instance) → Contains (map found_instance found) i → (s : Extent) × Contains extents s × (instance_at s ≡ i)
+  extent_for : (i : Instance) → Contains (map (found_instance loops.apart) found) i → (s : Extent) × Contains extents s × (instance_at s ≡ i)
   extent_for i k =
-      let k_lt : k.0 < length found = omega (arith, k.1, length-map found found_instance) in
+      let k_lt : k.0 < length found = omega (arith, k.1, length-map found (found_instance loops.apart)) in
       let a = extents_of.all k.0 k_lt in
-      (a.0, a.1, ap (λ (n : ℕ). found_instance (get_or found n no_found)) a.2 ∙ sym (get_or-map found_instance found k.0 no_found i k_lt) ∙ k.2)
+      (a.0, a.1, ap (λ (n : ℕ). found_instance loops.apart (get_or found n no_found)) a.2 ∙ sym (get_or-map (found_instance loops.apart) found k.0 no_found i k_lt) ∙ k.2)
 
   member : (s : Extent) → Contains extents s → (p : ℕ) → p ≤ exit → is_member (instance_at s) (place_at listed p) ≡ is_within s p
   member s has p le = (extents_of.are s no_found has).members p (omega (arith, len))
@@ -99,7 +100,7 @@ module _ (flow : Flow) (loops : List Loop) (listed : List Place) (found : List L
       (n.0, sym (within i s s_has s_is own.place n.0 (omega arith) n.2) ∙ own.member, sym (within j t t_has t_is own.place n.0 (omega arith) n.2) ∙ own.other)
 
   -- two that are found do not cross where no extents do
-  pub no_crossing : (HaveCrossing extents → ⊥) → (c : HasCrossing flow loops) → Contains (map found_instance found) c.one → Contains (map found_instance found) c.other → ⊥
+  pub no_crossing : (HaveCrossing extents → ⊥) → (c : HasCrossing flow loops) → Contains (map (found_instance loops.apart) found) c.one → Contains (map (found_instance loops.apart) found) c.other → ⊥
   no_crossing none c one_found other_found =
       let s = extent_for c.one one_found in
       let t = extent_for c.other other_found in
@@ -128,47 +129,50 @@ module _ (flow : Flow) (loops : List Loop) (listed : List Place) (found : List L
 -- ## Instances that cross have one list of calls
 
 -- instances of different lists that share a key: the members of the one are members of the other
-lists_same : (f l g m : ℕ) (c d key other own : List ℕ) → holds f l c key ≡ true → holds g m d key ≡ true → holds f l c own ≡ true → holds g m d own ≡ false → holds g m d other ≡ true → holds f l c other ≡ false → c ≡ d
+lists_same : (f l g m : ℕ) (c d key other own : List ℕ) → spans f l c key ≡ true → spans g m d key ≡ true → spans f l c own ≡ true → spans g m d own ≡ false → spans g m d other ≡ true → spans f l c other ≡ false → c ≡ d
 lists_same f l g m [] [] key other own a b p q r s = refl
 lists_same f l g m [] (y ∷ d) [] other own a b p q r s = absurd (false≢true a)
 lists_same f l g m [] (y ∷ d) (k ∷ key) [] own a b p q r s = absurd (false≢true r)
 lists_same f l g m [] (y ∷ d) (k ∷ key) (x ∷ other) own a b p q r s =
-    let k_is : k ≡ y = eqb-true k y (and_parts (eqb k y) (holds g m d key) b).0 in
-    let x_is : x ≡ y = eqb-true x y (and_parts (eqb x y) (holds g m d other) r).0 in
-    absurd (both_ways (nat_le f x && nat_le x l) s (subst (λ (z : ℕ). (nat_le f z && nat_le z l) ≡ true) (k_is ∙ sym x_is) a))
+    let k_is : k ≡ y = eqb-true k y (and_parts (eqb k y) (spans g m d key) b).0 in
+    let x_is : x ≡ y = eqb-true x y (and_parts (eqb x y) (spans g m d other) r).0 in
+    absurd (both_ways (leb f x && leb x l) s (subst (λ (z : ℕ). (leb f z && leb z l) ≡ true) (k_is ∙ sym x_is) a))
 lists_same f l g m (x ∷ c) [] [] other own a b p q r s = absurd (false≢true b)
 lists_same f l g m (x ∷ c) [] (k ∷ key) other [] a b p q r s = absurd (false≢true p)
 lists_same f l g m (x ∷ c) [] (k ∷ key) other (w ∷ own) a b p q r s =
-    let k_is : k ≡ x = eqb-true k x (and_parts (eqb k x) (holds f l c key) a).0 in
-    let w_is : w ≡ x = eqb-true w x (and_parts (eqb w x) (holds f l c own) p).0 in
-    absurd (both_ways (nat_le g w && nat_le w m) q (subst (λ (z : ℕ). (nat_le g z && nat_le z m) ≡ true) (k_is ∙ sym w_is) b))
+    let k_is : k ≡ x = eqb-true k x (and_parts (eqb k x) (spans f l c key) a).0 in
+    let w_is : w ≡ x = eqb-true w x (and_parts (eqb w x) (spans f l c own) p).0 in
+    absurd (both_ways (leb g w && leb w m) q (subst (λ (z : ℕ). (leb g z && leb z m) ≡ true) (k_is ∙ sym w_is) b))
 lists_same f l g m (x ∷ c) (y ∷ d) [] other own a b p q r s = absurd (false≢true a)
 lists_same f l g m (x ∷ c) (y ∷ d) (k ∷ key) [] own a b p q r s = absurd (false≢true r)
 lists_same f l g m (x ∷ c) (y ∷ d) (k ∷ key) (z ∷ other) [] a b p q r s = absurd (false≢true p)
 lists_same f l g m (x ∷ c) (y ∷ d) (k ∷ key) (z ∷ other) (w ∷ own) a b p q r s =
-    let ka = and_parts (eqb k x) (holds f l c key) a in
-    let kb = and_parts (eqb k y) (holds g m d key) b in
-    let wp = and_parts (eqb w x) (holds f l c own) p in
-    let zr = and_parts (eqb z y) (holds g m d other) r in
+    let ka = and_parts (eqb k x) (spans f l c key) a in
+    let kb = and_parts (eqb k y) (spans g m d key) b in
+    let wp = and_parts (eqb w x) (spans f l c own) p in
+    let zr = and_parts (eqb z y) (spans g m d other) r in
     let k_x : k ≡ x = eqb-true k x ka.0 in
     let k_y : k ≡ y = eqb-true k y kb.0 in
     let w_x : w ≡ x = eqb-true w x wp.0 in
     let z_y : z ≡ y = eqb-true z y zr.0 in
     let here : x ≡ y = sym k_x ∙ k_y in
-    let own_out : holds g m d own ≡ false = false_from_ne_true (holds g m d own) (λ h. both_ways (eqb w y && holds g m d own) q (and_from _ _ (eq-eqb w y (w_x ∙ here)) h)) in
-    let other_out : holds f l c other ≡ false = false_from_ne_true (holds f l c other) (λ h. both_ways (eqb z x && holds f l c other) s (and_from _ _ (eq-eqb z x (z_y ∙ sym here)) h)) in
+    let own_out : spans g m d own ≡ false = false_from_ne_true (spans g m d own) (λ h. both_ways (eqb w y && spans g m d own) q (and_from _ _ (eq-eqb w y (w_x ∙ here)) h)) in
+    let other_out : spans f l c other ≡ false = false_from_ne_true (spans f l c other) (λ h. both_ways (eqb z x && spans f l c other) s (and_from _ _ (eq-eqb z x (z_y ∙ sym here)) h)) in
     let rest = lists_same f l g m c d key other own ka.1 kb.1 wp.1 own_out zr.1 other_out in
     (λ i. here i ∷ rest i)
 
-pub crossing_list : (flow : Flow) (loops : List Loop) (c : HasCrossing flow loops) → c.one.list ≡ c.other.list
+pub crossing_list : (flow : Flow) (loops : StatedLoops) (c : HasCrossing flow loops) → c.one.list ≡ c.other.list
 crossing_list flow loops c =
     let i : Instance = c.one in
     let j : Instance = c.other in
-    let by : (k : Instance) (p : Place) (b : Bool) → is_member k p ≡ b → holds k.first k.last k.list (key_of p) ≡ b = λ k p b h. sym (member_by_key k p) ∙ h in
-    lists_same i.first i.last j.first j.last i.list j.list (key_of c.shared) (key_of c.other_has.place) (key_of c.one_has.place)
-    (by i c.shared true c.in_one) (by j c.shared true c.in_other)
-    (by i c.one_has.place true c.one_has.member) (by j c.one_has.place false c.one_has.other)
-    (by j c.other_has.place true c.other_has.member) (by i c.other_has.place false c.other_has.other)
+    let lies : ℕ → ℕ = lies_at loops.apart in
+    let by : (k : Instance) → IsInstance flow loops k → (p : Place) (b : Bool) → is_member k p ≡ b → spans (lies k.first) (lies k.last) (map lies k.list) (key_of loops.apart p) ≡ b =
+    λ k is p b h. sym (member_by_key k loops.apart (ap (λ (x : Instance). x.apart) is.parts) p) ∙ h in
+    all_lie_once loops.apart i.list j.list
+    (lists_same (lies i.first) (lies i.last) (lies j.first) (lies j.last) (map lies i.list) (map lies j.list) (key_of loops.apart c.shared) (key_of loops.apart c.other_has.place) (key_of loops.apart c.one_has.place)
+    (by i c.one_is c.shared true c.in_one) (by j c.other_is c.shared true c.in_other)
+    (by i c.one_is c.one_has.place true c.one_has.member) (by j c.other_is c.one_has.place false c.one_has.other)
+    (by j c.other_is c.other_has.place true c.other_has.member) (by i c.one_is c.other_has.place false c.other_has.other))
 
 -- ## List by list
 
@@ -178,7 +182,7 @@ seen_again P None list h same = absurd (false≢true same)
 seen_again P (Some p) list h same = subst P (same_list p list same) h
 
 -- a crossing is found with the list of calls of one of its headers
-pub crossing_at : (flow : Flow) (loops : List Loop) → ((k : ℕ) (d : Place) (list : List ℕ) (address : ℕ) → k < length flow.places → get_or flow.places k d ≡ At list address → HasCrossingWith flow loops list → ⊥) → HasCrossing flow loops → ⊥
+pub crossing_at : (flow : Flow) (loops : StatedLoops) → ((k : ℕ) (d : Place) (list : List ℕ) (address : ℕ) → k < length flow.places → get_or flow.places k d ≡ At list address → HasCrossingWith flow loops list → ⊥) → HasCrossing flow loops → ⊥
 crossing_at flow loops none c =
     let has = (c.one_is).reached in
     none has.0 (At c.one.list c.one.header) c.one.list c.one.header has.1 has.2 (record { crossing = c; one_list = refl; other_list = sym (crossing_list flow loops c) })

@@ -1,6 +1,6 @@
 -- The extent of an instance, by where the keys of its bounds are.
 use Rattle.std.proofs.Common.{◌≡◌, ℕ, ◌+◌, ◌<◌, ◌≤◌, ◌⊎◌, Bool, true, false, eqb, ltb, leb, List, [], ◌∷◌, ◌++◌, length, get_or, sym, refl, ap, ◌∙◌, subst, inl, inr, ⊎_elim, arith, length-append}
-use Rattle.std.specs.Prelude.{Contains, not, ◌&&◌, ◌==◌}
+use Rattle.std.specs.Prelude.{Contains, map, not, ◌&&◌, ◌==◌}
 use Rattle.std.specs.Cmp.Lexicographic.{pointwise}
 use Rattle.std.specs.Ordering.{nat_cmp, ordering_then, is_lt}
 use Rattle.std.specs.Cmp.{IsStrictWeakOrder}
@@ -8,7 +8,7 @@ use Rattle.std.specs.List.Sorted.{IsPermutation, IsSortedBy}
 use Rattle.std.proofs.lemmas.Bool.{cases_Bool, both_ways, cases_order, cases_lt, eqb-true, lt-ltb, le-ltb, le-leb, lt-leb, eq-eqb, ne_eqb, and_parts, and_from, leb-true, ltb-true}
 use Rattle.std.proofs.lemmas.Bool.Decides.{nat_tests}
 use Rattle.std.proofs.lemmas.Cmp.{nat_cmp_total, then_total, on_total, back_total}
-use Rattle.std.proofs.lemmas.List.{get_or_past, get_or_default, get_or_append_left}
+use Rattle.std.proofs.lemmas.List.{get_or_past, get_or_default, get_or_append_left, map-append}
 use Rattle.std.proofs.Math.Seq.{get_or-append_seam}
 use Rattle.std.proofs.lemmas.List.Elements.{Contains-get_or}
 use Rattle.std.proofs.lemmas.List.Sorted.{ranks_by, sorted_far, Contains-permutation, IsPermutation-sym}
@@ -18,24 +18,26 @@ use Rattle.control_flow.specs.Places.{place_at}
 use Rattle.loop_bounds.specs.declared.extents.Extent.{Extent}
 use Rattle.loop_bounds.specs.declared.loop_instances.LoopInstance.{LoopInstance}
 use Rattle.loop_bounds.specs.Instance.{Instance, holds, is_member, is_header}
+use Rattle.statement.specs.Stated.{lies_at}
+use Rattle.statement.specs.declared.apart.ApartStretch.{ApartStretch}
 use Rattle.loop_bounds.specs.Keys.{AreByKey, IsPoint, key_of, is_before}
 use Rattle.loop_bounds.specs.Extents.{AreExtents, AreExtentsOf, AreExtentsUpto, IsExtentOf, is_within, found_instance, extent_at}
 use Rattle.loop_bounds.proofs.Moved.{numbers_once}
-use Rattle.loop_bounds.proofs.KeyLemmas.{holds_span, not_before_itself, same_by_order, same_key, ascends}
+use Rattle.loop_bounds.proofs.KeyLemmas.{holds_spans, spans, spans_between, not_before_itself, same_by_order, same_key, ascends}
 
 -- ## Members by key
 
-holds_none : (f l : ℕ) (c : List ℕ) → holds f l c [] ≡ false
-holds_none f l [] = refl
-holds_none f l (x ∷ c) = refl
+spans_none : (f l : ℕ) (c : List ℕ) → spans f l c [] ≡ false
+spans_none f l [] = refl
+spans_none f l (x ∷ c) = refl
 
-pub member_by_key : (i : Instance) (p : Place) → is_member i p ≡ holds i.first i.last i.list (key_of p)
-member_by_key i (At calls a) = refl
-member_by_key i Exit = sym (holds_none i.first i.last i.list)
+pub member_by_key : (i : Instance) (apart : List ApartStretch) → i.apart ≡ apart → (p : Place) → is_member i p ≡ spans (lies_at apart i.first) (lies_at apart i.last) (map (lies_at apart) i.list) (key_of apart p)
+member_by_key i apart is (At calls a) = holds_spans i.apart i.first i.last i.list (calls ++ a ∷ []) ∙ ap (λ (x : List ApartStretch). spans (lies_at x i.first) (lies_at x i.last) (map (lies_at x) i.list) (map (lies_at x) (calls ++ a ∷ []))) is
+member_by_key i apart is Exit = sym (spans_none (lies_at apart i.first) (lies_at apart i.last) (map (lies_at apart) i.list))
 
-pub holds_here : (f l : ℕ) (c : List ℕ) (a : ℕ) → f ≤ a → a ≤ l → holds f l c (c ++ a ∷ []) ≡ true
-holds_here f l [] a p q = and_from _ _ (le-leb f a p) (le-leb a l q)
-holds_here f l (x ∷ c) a p q = and_from _ _ (eq-eqb x x refl) (holds_here f l c a p q)
+pub holds_here : (apart : List ApartStretch) (f l : ℕ) (c : List ℕ) (a : ℕ) → lies_at apart f ≤ lies_at apart a → lies_at apart a ≤ lies_at apart l → holds apart f l c (c ++ a ∷ []) ≡ true
+holds_here apart f l [] a p q = and_from _ _ (le-leb (lies_at apart f) (lies_at apart a) p) (le-leb (lies_at apart a) (lies_at apart l) q)
+holds_here apart f l (x ∷ c) a p q = and_from _ _ (eq-eqb x x refl) (holds_here apart f l c a p q)
 
 pub same_list : (c d : List ℕ) → pointwise eqb c d ≡ true → c ≡ d
 same_list [] [] h = refl
@@ -64,27 +66,27 @@ header_itself i = and_from _ _ (list_itself i.list) (eq-eqb i.header i.header re
 
 -- ## Positions between two points
 
-from_point : (listed : List Place) (key : List ℕ) (n p : ℕ) → IsPoint listed key n → p < length listed → not (is_before (key_of (place_at listed p)) key) ≡ leb n p
-from_point listed key n p at lt = ⊎_elim
+from_point : (apart : List ApartStretch) (listed : List Place) (key : List ℕ) (n p : ℕ) → IsPoint apart listed key n → p < length listed → not (is_before (key_of apart (place_at listed p)) key) ≡ leb n p
+from_point apart listed key n p at lt = ⊎_elim
     (λ (l : p < n). rw (at.below p l, lt-leb n p l) refl)
     (λ (ge : n ≤ p). rw (at.from p ge lt, le-leb n p ge) refl)
     (cases_lt p n)
 
-below_point : (listed : List Place) (key : List ℕ) (n p : ℕ) → IsPoint listed key n → p < length listed → is_before (key_of (place_at listed p)) key ≡ ltb p n
-below_point listed key n p at lt = ⊎_elim
+below_point : (apart : List ApartStretch) (listed : List Place) (key : List ℕ) (n p : ℕ) → IsPoint apart listed key n → p < length listed → is_before (key_of apart (place_at listed p)) key ≡ ltb p n
+below_point apart listed key n p at lt = ⊎_elim
     (λ (l : p < n). rw (at.below p l, lt-ltb p n l) refl)
     (λ (ge : n ≤ p). rw (at.from p ge lt, le-ltb p n ge) refl)
     (cases_lt p n)
 
-module _ (listed : List Place) (by : AreByKey listed) (i : Instance) (first end header number : ℕ) (first_at : IsPoint listed (i.list ++ i.first ∷ []) first) (end_at : IsPoint listed (i.list ++ (i.last + 1) ∷ []) end) (header_at : IsPoint listed (i.list ++ i.header ∷ []) header) (reached : Contains listed (At i.list i.header)) (low : i.first ≤ i.header) (high : i.header ≤ i.last) where
+module _ (listed : List Place) (i : Instance) (by : AreByKey i.apart listed) (first end header number : ℕ) (first_at : IsPoint i.apart listed (map (lies_at i.apart) i.list ++ lies_at i.apart i.first ∷ []) first) (end_at : IsPoint i.apart listed (map (lies_at i.apart) i.list ++ (lies_at i.apart i.last + 1) ∷ []) end) (header_at : IsPoint i.apart listed (map (lies_at i.apart) i.list ++ lies_at i.apart i.header ∷ []) header) (reached : Contains listed (At i.list i.header)) (low : lies_at i.apart i.first ≤ lies_at i.apart i.header) (high : lies_at i.apart i.header ≤ lies_at i.apart i.last) where
   abbrev extent : Extent
   extent = record { first = first; end = end; header = header; instance = number }
 
   members : (p : ℕ) → p ≤ length listed → is_member i (place_at listed p) ≡ is_within extent p
   members p le = ⊎_elim
       (λ (lt : p < length listed).
-      member_by_key i (place_at listed p) ∙ holds_span i.first i.last i.list (key_of (place_at listed p))
-      ∙ (λ j. from_point listed (i.list ++ i.first ∷ []) first p first_at lt j && below_point listed (i.list ++ (i.last + 1) ∷ []) end p end_at lt j))
+      member_by_key i i.apart refl (place_at listed p) ∙ spans_between (lies_at i.apart i.first) (lies_at i.apart i.last) (map (lies_at i.apart) i.list) (key_of i.apart (place_at listed p))
+      ∙ (λ j. from_point i.apart listed (map (lies_at i.apart) i.list ++ lies_at i.apart i.first ∷ []) first p first_at lt j && below_point i.apart listed (map (lies_at i.apart) i.list ++ (lies_at i.apart i.last + 1) ∷ []) end p end_at lt j))
       (λ (ge : length listed ≤ p).
       let out : place_at listed p ≡ Exit = get_or_past listed p Exit ge in
       let inside : end ≤ length listed = end_at.inside in
@@ -105,15 +107,15 @@ module _ (listed : List Place) (by : AreByKey listed) (i : Instance) (first end 
 
   header_is : header ≡ spot
   header_is =
-      let key : List ℕ = i.list ++ i.header ∷ [] in
+      let key : List ℕ = map (lies_at i.apart) i.list ++ lies_at i.apart i.header ∷ [] in
       let lt : spot < length listed = spot_in in
-      let spot_key : key_of (place_at listed spot) ≡ key = ap key_of spot_is in
+      let spot_key : key_of i.apart (place_at listed spot) ≡ key = ap (key_of i.apart) spot_is ∙ map-append (lies_at i.apart) i.list (i.header ∷ []) in
       ⊎_elim
       (λ (l : spot < header). absurd (both_ways (is_before key key) (not_before_itself key) (subst (λ (k : List ℕ). is_before k key ≡ true) spot_key (header_at.below spot l))))
       (λ (ge : header ≤ spot).
-      let not_below : is_before (key_of (place_at listed header)) key ≡ false = header_at.from header (omega arith) (omega arith) in
-      let not_above : is_before key (key_of (place_at listed header)) ≡ false = subst (λ (k : List ℕ). is_before k (key_of (place_at listed header)) ≡ false) spot_key (ascends listed by.ascending header spot Exit ge lt) in
-      let same : place_at listed header ≡ place_at listed spot = same_key (place_at listed header) (place_at listed spot) (same_by_order (key_of (place_at listed header)) key not_below not_above ∙ sym spot_key) in
+      let not_below : is_before (key_of i.apart (place_at listed header)) key ≡ false = header_at.from header (omega arith) (omega arith) in
+      let not_above : is_before key (key_of i.apart (place_at listed header)) ≡ false = subst (λ (k : List ℕ). is_before k (key_of i.apart (place_at listed header)) ≡ false) spot_key (ascends i.apart listed by.ascending header spot Exit ge lt) in
+      let same : place_at listed header ≡ place_at listed spot = same_key i.apart (place_at listed header) (place_at listed spot) (same_by_order (key_of i.apart (place_at listed header)) key not_below not_above ∙ sym spot_key) in
       by.once header spot (omega arith) lt same)
       (cases_lt spot header)
 
@@ -136,7 +138,7 @@ module _ (listed : List Place) (by : AreByKey listed) (i : Instance) (first end 
   pub extent_some : first < end
   extent_some =
       let lt : spot < length listed = spot_in in
-      let inside : is_within extent spot ≡ true = sym (members spot (omega arith)) ∙ ap (is_member i) spot_is ∙ holds_here i.first i.last i.list i.header low high in
+      let inside : is_within extent spot ≡ true = sym (members spot (omega arith)) ∙ ap (is_member i) spot_is ∙ holds_here i.apart i.first i.last i.list i.header low high in
       let parts = and_parts (leb first spot) (ltb spot end) inside in
       let a : first ≤ spot = leb-true first spot parts.0 in
       let b : spot < end = ltb-true spot end parts.1 in
@@ -144,8 +146,8 @@ module _ (listed : List Place) (by : AreByKey listed) (i : Instance) (first end 
 
 -- ## All extents
 
-pub extents_more : (listed : List Place) (found : List LoopInstance) (extents : List Extent) (k : ℕ) (f : LoopInstance) (s : Extent) → AreExtentsUpto listed found extents k → k < length found → f ≡ get_or found k f → IsExtentOf listed (found_instance f) s → s.instance ≡ k → s.first < s.end → AreExtentsUpto listed found (extents ++ s ∷ []) (k + 1)
-extents_more listed found extents k f s upto lt f_is is named some =
+pub extents_more : (apart : List ApartStretch) (listed : List Place) (found : List LoopInstance) (extents : List Extent) (k : ℕ) (f : LoopInstance) (s : Extent) → AreExtentsUpto apart listed found extents k → k < length found → f ≡ get_or found k f → IsExtentOf listed (found_instance apart f) s → s.instance ≡ k → s.first < s.end → AreExtentsUpto apart listed found (extents ++ s ∷ []) (k + 1)
+extents_more apart listed found extents k f s upto lt f_is is named some =
     let same : length extents ≡ k = upto.same in
     record {
       same = length-append extents (s ∷ []) ∙ ap (λ (x : ℕ). x + 1) same;
@@ -155,22 +157,22 @@ extents_more listed found extents k f s upto lt f_is is named some =
           let here : j ≡ k = omega arith in
           let new : s ≡ get_or (extents ++ s ∷ []) j t = sym (ap (λ (x : ℕ). get_or (extents ++ s ∷ []) x t) (here ∙ sym same) ∙ get_or-append_seam extents s [] t) in
           let old : f ≡ get_or found j d = f_is ∙ get_or_default found k f d lt ∙ ap (λ (x : ℕ). get_or found x d) (sym here) in
-          subst (λ (x : Extent). IsExtentOf listed (found_instance (get_or found j d)) x × (x.instance ≡ j) × (x.first < x.end)) new
-          (subst (λ (x : LoopInstance). IsExtentOf listed (found_instance x) s) old is, named ∙ sym here, some))
+          subst (λ (x : Extent). IsExtentOf listed (found_instance apart (get_or found j d)) x × (x.instance ≡ j) × (x.first < x.end)) new
+          (subst (λ (x : LoopInstance). IsExtentOf listed (found_instance apart x) s) old is, named ∙ sym here, some))
           (cases_lt j k);
     }
 
 abbrev pub no_found : LoopInstance
 no_found = record { list = []; stated = record { header = 0; first = 0; last = 0; bound = 0 } }
 
-pub extents_of : (listed : List Place) (found : List LoopInstance) (extents moved : List Extent) → AreExtentsUpto listed found extents (length found) → IsPermutation extents moved → AreExtentsOf listed found moved
-extents_of listed found extents moved upto perm =
+pub extents_of : (apart : List ApartStretch) (listed : List Place) (found : List LoopInstance) (extents moved : List Extent) → AreExtentsUpto apart listed found extents (length found) → IsPermutation extents moved → AreExtentsOf apart listed found moved
+extents_of apart listed found extents moved upto perm =
     let back : (s : Extent) → Contains moved s → Contains extents s = λ s has. Contains-permutation moved extents s (IsPermutation-sym extents moved perm) has in
-    let at : (s : Extent) (has : Contains extents s) (d : LoopInstance) → IsExtentOf listed (found_instance (get_or found has.0 d)) s × (s.instance ≡ has.0) × (s.first < s.end) =
-    λ s has d. subst (λ (x : Extent). IsExtentOf listed (found_instance (get_or found has.0 d)) x × (x.instance ≡ has.0) × (x.first < x.end)) has.2 (upto.each has.0 s d (omega (arith, has.1, upto.same))) in
+    let at : (s : Extent) (has : Contains extents s) (d : LoopInstance) → IsExtentOf listed (found_instance apart (get_or found has.0 d)) s × (s.instance ≡ has.0) × (s.first < s.end) =
+    λ s has d. subst (λ (x : Extent). IsExtentOf listed (found_instance apart (get_or found has.0 d)) x × (x.instance ≡ has.0) × (x.first < x.end)) has.2 (upto.each has.0 s d (omega (arith, has.1, upto.same))) in
     record {
       named = λ s has. let h = back s has in omega (arith, h.1, upto.same, (at s h no_found).1);
-      are = λ s d has. let h = back s has in subst (λ (k : ℕ). IsExtentOf listed (found_instance (get_or found k d)) s) (sym (at s h d).1) (at s h d).0;
+      are = λ s d has. let h = back s has in subst (λ (k : ℕ). IsExtentOf listed (found_instance apart (get_or found k d)) s) (sym (at s h d).1) (at s h d).0;
       all = λ k lt.
           let s : Extent = get_or extents k (record { first = 0; end = 0; header = 0; instance = 0 }) in
           (s, Contains-permutation extents moved s perm (Contains-get_or extents k _ (omega (arith, upto.same))), (upto.each k _ no_found lt).1);
@@ -201,8 +203,8 @@ opens_before x y = is_lt (ordering_then (nat_cmp x.first y.first) (nat_cmp y.end
 opening_ranks : IsStrictWeakOrder opens_before
 opening_ranks = ranks_by (then_total (on_total (λ (s : Extent). s.first) nat_cmp_total) (back_total (on_total (λ (s : Extent). s.end) nat_cmp_total))) (λ (s : Extent). s)
 
-pub extents_ordered : (listed : List Place) (found : List LoopInstance) (extents moved : List Extent) → AreExtentsUpto listed found extents (length found) → IsPermutation extents moved → IsSortedBy opens_before moved → AreExtents moved
-extents_ordered listed found extents moved upto perm sorted =
+pub extents_ordered : (apart : List ApartStretch) (listed : List Place) (found : List LoopInstance) (extents moved : List Extent) → AreExtentsUpto apart listed found extents (length found) → IsPermutation extents moved → IsSortedBy opens_before moved → AreExtents moved
+extents_ordered apart listed found extents moved upto perm sorted =
     let none : Extent = record { first = 0; end = 0; header = 0; instance = 0 } in
     record {
       some = λ k lt.

@@ -13,6 +13,7 @@ use Rattle.control_flow.specs.declared.places.Place.TheVariants.{At, Exit}
 use Rattle.control_flow.proofs.LabelLemmas.{from_map, into_map, only_one}
 use Rattle.statement.specs.declared.stated.Loop.{Loop}
 use Rattle.loop_bounds.specs.declared.loop_instances.LoopInstance.{LoopInstance}
+use Rattle.statement.specs.declared.apart.ApartStretch.{ApartStretch}
 use Rattle.loop_bounds.specs.Instance.{Instance, instance_of}
 use Rattle.loop_bounds.specs.Extents.{AreSeen, HeadersDiffer, IsFoundAmong, PlacesDiffer, found_instance, header_place}
 use Rattle.loop_bounds.specs.Nest.{HasSharedHeader}
@@ -69,56 +70,56 @@ first_upto_end sorted header first end inside below above = ⊎_elim
 abbrev pub found_at : List ℕ → Loop → LoopInstance
 found_at list l = record { list = list; stated = l }
 
-has_map : (loops : List Loop) (list : List ℕ) (i : Instance) → Contains (map found_instance (map (found_at list) loops)) i → (l : Loop) × Contains loops l × (i ≡ instance_of l list)
-has_map loops list i has =
-    let f = from_map found_instance (map (found_at list) loops) i has in
+has_map : (apart : List ApartStretch) (loops : List Loop) (list : List ℕ) (i : Instance) → Contains (map (found_instance apart) (map (found_at list) loops)) i → (l : Loop) × Contains loops l × (i ≡ instance_of apart l list)
+has_map apart loops list i has =
+    let f = from_map (found_instance apart) (map (found_at list) loops) i has in
     let l = from_map (found_at list) loops f.0 f.1 in
-    (l.0, l.1, sym f.2 ∙ ap found_instance (sym l.2))
+    (l.0, l.1, sym f.2 ∙ ap (found_instance apart) (sym l.2))
 
-map_has : (loops : List Loop) (list : List ℕ) (l : Loop) → Contains loops l → Contains (map found_instance (map (found_at list) loops)) (instance_of l list)
-map_has loops list l has = into_map found_instance (map (found_at list) loops) (found_at list l) (into_map (found_at list) loops l has)
+map_has : (apart : List ApartStretch) (loops : List Loop) (list : List ℕ) (l : Loop) → Contains loops l → Contains (map (found_instance apart) (map (found_at list) loops)) (instance_of apart l list)
+map_has apart loops list l has = into_map (found_instance apart) (map (found_at list) loops) (found_at list l) (into_map (found_at list) loops l has)
 
-pub added : (loops : List Loop) (sorted : List Loop) (list : List ℕ) (address : ℕ) (old new : List LoopInstance) → ((l : Loop) → Contains loops l ↔ (Contains sorted l × (l.header ≡ address))) → new ≡ old ++ map (found_at list) loops → (i : Instance) → Contains (map found_instance new) i ↔ (Contains (map found_instance old) i ⊎ IsFoundAmong (At list address ∷ []) sorted i)
-added loops sorted list address old new exact is i =
-    let all : map found_instance new ≡ map found_instance old ++ map found_instance (map (found_at list) loops) = ap (map found_instance) is ∙ map-append found_instance old (map (found_at list) loops) in (
+pub added : (apart : List ApartStretch) (loops : List Loop) (sorted : List Loop) (list : List ℕ) (address : ℕ) (old new : List LoopInstance) → ((l : Loop) → Contains loops l ↔ (Contains sorted l × (l.header ≡ address))) → new ≡ old ++ map (found_at list) loops → (i : Instance) → Contains (map (found_instance apart) new) i ↔ (Contains (map (found_instance apart) old) i ⊎ IsFoundAmong apart (At list address ∷ []) sorted i)
+added apart loops sorted list address old new exact is i =
+    let all : map (found_instance apart) new ≡ map (found_instance apart) old ++ map (found_instance apart) (map (found_at list) loops) = ap (map (found_instance apart)) is ∙ map-append (found_instance apart) old (map (found_at list) loops) in (
       (λ has. ⊎_elim
           (λ before. inl before)
           (λ here.
-          let h = has_map loops list i here in
+          let h = has_map apart loops list i here in
           let g = (exact h.0).0 h.1 in
           inr (record {
             stated_loop = h.0;
             stated = g.0;
             reached = (0, omega arith, (λ j. At (sym (ap (λ (x : Instance). x.list) h.2) j) (sym (ap (λ (x : Instance). x.header) h.2 ∙ g.1) j)));
-            parts = h.2 ∙ ap (λ (xs : List ℕ). instance_of h.0 xs) (sym (ap (λ (x : Instance). x.list) h.2));
+            parts = h.2 ∙ ap (λ (xs : List ℕ). instance_of apart h.0 xs) (sym (ap (λ (x : Instance). x.list) h.2));
           }))
-          (Contains-append_cases (map found_instance old) (map found_instance (map (found_at list) loops)) i (subst (λ (xs : List Instance). Contains xs i) all has))),
+          (Contains-append_cases (map (found_instance apart) old) (map (found_instance apart) (map (found_at list) loops)) i (subst (λ (xs : List Instance). Contains xs i) all has))),
       (λ h. subst (λ (xs : List Instance). Contains xs i) (sym all) (⊎_elim
-          (λ before. Contains-append_left (map found_instance old) _ i before)
+          (λ before. Contains-append_left (map (found_instance apart) old) _ i before)
           (λ f.
           let place : At list address ≡ At i.list i.header = only_one (At list address) (At i.list i.header) f.reached in
           let list_is : list ≡ i.list = cc in
           let header_is : address ≡ i.header = cc in
           let loop_header : f.stated_loop.header ≡ address = sym (ap (λ (x : Instance). x.header) f.parts) ∙ sym header_is in
-          let i_is : instance_of f.stated_loop list ≡ i = ap (λ (xs : List ℕ). instance_of f.stated_loop xs) list_is ∙ sym f.parts in
-          Contains-append_right (map found_instance old) _ i (subst (Contains (map found_instance (map (found_at list) loops))) i_is (map_has loops list f.stated_loop ((exact f.stated_loop).1 (f.stated, loop_header)))))
+          let i_is : instance_of apart f.stated_loop list ≡ i = ap (λ (xs : List ℕ). instance_of apart f.stated_loop xs) list_is ∙ sym f.parts in
+          Contains-append_right (map (found_instance apart) old) _ i (subst (Contains (map (found_instance apart) (map (found_at list) loops))) i_is (map_has apart loops list f.stated_loop ((exact f.stated_loop).1 (f.stated, loop_header)))))
           h)),
     )
 
 -- no instance has Exit for its header
-pub none_at_exit : (sorted : List Loop) (old : List LoopInstance) (i : Instance) → Contains (map found_instance old) i ↔ (Contains (map found_instance old) i ⊎ IsFoundAmong (Exit ∷ []) sorted i)
-none_at_exit sorted old i = (
+pub none_at_exit : (apart : List ApartStretch) (sorted : List Loop) (old : List LoopInstance) (i : Instance) → Contains (map (found_instance apart) old) i ↔ (Contains (map (found_instance apart) old) i ⊎ IsFoundAmong apart (Exit ∷ []) sorted i)
+none_at_exit apart sorted old i = (
   (λ h. inl h),
   (λ h. ⊎_elim (λ before. before) (λ f. let x : Exit ≡ At i.list i.header = only_one Exit (At i.list i.header) f.reached in cc) h),
 )
 
 -- ## Instances among places
 
-pub among_none : (sorted : List Loop) (i : Instance) → IsFoundAmong [] sorted i → ⊥
-among_none sorted i f = omega (arith, f.reached.1)
+pub among_none : (apart : List ApartStretch) (sorted : List Loop) (i : Instance) → IsFoundAmong apart [] sorted i → ⊥
+among_none apart sorted i f = omega (arith, f.reached.1)
 
-pub among_more : (places : List Place) (sorted : List Loop) (k : ℕ) (p : Place) (i : Instance) → k < length places → p ≡ get_or places k p → IsFoundAmong (take (k + 1) places) sorted i ↔ (IsFoundAmong (take k places) sorted i ⊎ IsFoundAmong (p ∷ []) sorted i)
-among_more places sorted k p i lt is =
+pub among_more : (apart : List ApartStretch) (places : List Place) (sorted : List Loop) (k : ℕ) (p : Place) (i : Instance) → k < length places → p ≡ get_or places k p → IsFoundAmong apart (take (k + 1) places) sorted i ↔ (IsFoundAmong apart (take k places) sorted i ⊎ IsFoundAmong apart (p ∷ []) sorted i)
+among_more apart places sorted k p i lt is =
     let more : take (k + 1) places ≡ take k places ++ p ∷ [] = take_more places k p lt ∙ ap (λ (x : Place). take k places ++ x ∷ []) (sym is) in (
       (λ f. ⊎_elim
           (λ before. inl (record { stated_loop = f.stated_loop; stated = f.stated; reached = before; parts = f.parts }))
@@ -215,17 +216,17 @@ differ_push old f pairs apart j k d less lt =
     (cases_eq k (length old))
 
 pub differ_more : (loops : List Loop) (list : List ℕ) (address : ℕ) (old new : List LoopInstance) → length loops ≤ 1 → ((l : Loop) → Contains loops l → l.header ≡ address) → new ≡ old ++ map (found_at list) loops → PlacesDiffer old → All (λ f. header_place f ≢ At list address) old → PlacesDiffer new
-differ_more [] list address old new few headers is pairs apart = subst PlacesDiffer (sym (is ∙ append-nil old)) pairs
-differ_more (l ∷ []) list address old new few headers is pairs apart =
+differ_more [] list address old new few headers is pairs others = subst PlacesDiffer (sym (is ∙ append-nil old)) pairs
+differ_more (l ∷ []) list address old new few headers is pairs others =
     let header : l.header ≡ address = headers l (0, omega arith, refl) in
-    subst PlacesDiffer (sym is) (differ_push old (found_at list l) pairs (subst (λ (a : ℕ). All (λ f. header_place f ≢ At list a) old) (sym header) apart))
-differ_more (l ∷ m ∷ loops) list address old new few headers is pairs apart = absurd (omega arith)
+    subst PlacesDiffer (sym is) (differ_push old (found_at list l) pairs (subst (λ (a : ℕ). All (λ f. header_place f ≢ At list a) old) (sym header) others))
+differ_more (l ∷ m ∷ loops) list address old new few headers is pairs others = absurd (omega arith)
 
-pub apart_from : (places : List Place) (sorted : List Loop) (found : List LoopInstance) (k : ℕ) (p : Place) → k < length places → p ≡ get_or places k p → ((i : Instance) → Contains (map found_instance found) i → IsFoundAmong (take k places) sorted i) → AllPairs (λ (x : Place) (y : Place). x ≢ y) places → All (λ f. header_place f ≢ p) found
-apart_from places sorted found k p lt is among differ j d inside same =
+pub apart_from : (apart : List ApartStretch) (places : List Place) (sorted : List Loop) (found : List LoopInstance) (k : ℕ) (p : Place) → k < length places → p ≡ get_or places k p → ((i : Instance) → Contains (map (found_instance apart) found) i → IsFoundAmong apart (take k places) sorted i) → AllPairs (λ (x : Place) (y : Place). x ≢ y) places → All (λ f. header_place f ≢ p) found
+apart_from apart places sorted found k p lt is among differ j d inside same =
     let f : LoopInstance = get_or found j d in
-    let has : Contains (map found_instance found) (found_instance f) = (j, omega (arith, length-map found found_instance), get_or-map found_instance found j d (found_instance f) inside) in
-    let m = among (found_instance f) has in
+    let has : Contains (map (found_instance apart) found) ((found_instance apart) f) = (j, omega (arith, length-map found (found_instance apart)), get_or-map (found_instance apart) found j d ((found_instance apart) f) inside) in
+    let m = among ((found_instance apart) f) has in
     let m_lt : (m.reached).0 < k = omega (arith, (m.reached).1, length-take-le k places (omega arith)) in
     let at : get_or places (m.reached).0 p ≡ header_place f = get_or_default places (m.reached).0 p (header_place f) (omega arith) ∙ sym (get_or-take k places (m.reached).0 (header_place f) m_lt) ∙ (m.reached).2 in
     differ (m.reached).0 k p m_lt lt (at ∙ same ∙ is)
@@ -236,45 +237,45 @@ one_more : (loops : List Loop) (k : ℕ) → k < length loops → take (k + 1) l
 one_more loops k lt = take_more loops k no_loop lt
 
 -- the instances of the first loops with the list
-pub record AreWith (places : List Place) (loops : List Loop) (list : List ℕ) (found : List LoopInstance) (limit : ℕ) : Type 0 where
-  pub exact : (i : Instance) → Contains (map found_instance found) i ↔ (IsFoundAmong places (take limit loops) i × (i.list ≡ list))
+pub record AreWith (apart : List ApartStretch) (places : List Place) (loops : List Loop) (list : List ℕ) (found : List LoopInstance) (limit : ℕ) : Type 0 where
+  pub exact : (i : Instance) → Contains (map (found_instance apart) found) i ↔ (IsFoundAmong apart places (take limit loops) i × (i.list ≡ list))
 
-pub with_none : (places : List Place) (loops : List Loop) (list : List ℕ) (found : List LoopInstance) → found ≡ [] → AreWith places loops list found 0
-with_none places loops list found none = record {
+pub with_none : (apart : List ApartStretch) (places : List Place) (loops : List Loop) (list : List ℕ) (found : List LoopInstance) → found ≡ [] → AreWith apart places loops list found 0
+with_none apart places loops list found none = record {
   exact = λ i. (
-    (λ has. absurd (omega (arith, (subst (λ (xs : List LoopInstance). Contains (map found_instance xs) i) none has).1))),
+    (λ has. absurd (omega (arith, (subst (λ (xs : List LoopInstance). Contains (map (found_instance apart) xs) i) none has).1))),
     (λ h. absurd (omega (arith, ((h.0).stated).1, length-take-le 0 loops (omega arith)))),
   );
 }
 
-pub with_one : (places : List Place) (loops : List Loop) (list : List ℕ) (found : List LoopInstance) (k : ℕ) → AreWith places loops list found k → k < length loops → Contains places (At list (get_or loops k no_loop).header) → AreWith places loops list (found ++ found_at list (get_or loops k no_loop) ∷ []) (k + 1)
-with_one places loops list found k so_far lt reached =
+pub with_one : (apart : List ApartStretch) (places : List Place) (loops : List Loop) (list : List ℕ) (found : List LoopInstance) (k : ℕ) → AreWith apart places loops list found k → k < length loops → Contains places (At list (get_or loops k no_loop).header) → AreWith apart places loops list (found ++ found_at list (get_or loops k no_loop) ∷ []) (k + 1)
+with_one apart places loops list found k so_far lt reached =
     let l : Loop = get_or loops k no_loop in
     let more : take (k + 1) loops ≡ take k loops ++ l ∷ [] = one_more loops k lt in
-    let all : map found_instance (found ++ found_at list l ∷ []) ≡ map found_instance found ++ instance_of l list ∷ [] = map-append found_instance found (found_at list l ∷ []) in
+    let all : map (found_instance apart) (found ++ found_at list l ∷ []) ≡ map (found_instance apart) found ++ instance_of apart l list ∷ [] = map-append (found_instance apart) found (found_at list l ∷ []) in
     record {
       exact = λ i. (
         (λ has. ⊎_elim
             (λ before. let h = (so_far.exact i).0 before in (record { stated_loop = (h.0).stated_loop; stated = subst (λ (xs : List Loop). Contains xs (h.0).stated_loop) (sym more) (Contains-append_left (take k loops) (l ∷ []) (h.0).stated_loop (h.0).stated); reached = (h.0).reached; parts = (h.0).parts }, h.1))
-            (λ (new : instance_of l list ≡ i). (
+            (λ (new : instance_of apart l list ≡ i). (
               record {
                 stated_loop = l;
                 stated = subst (λ (xs : List Loop). Contains xs l) (sym more) (Contains-push (take k loops) l);
                 reached = subst (λ (j : Instance). Contains places (At j.list j.header)) new reached;
-                parts = sym new ∙ ap (λ (j : Instance). instance_of l j.list) new;
+                parts = sym new ∙ ap (λ (j : Instance). instance_of apart l j.list) new;
               },
               sym (ap (λ (j : Instance). j.list) new),
             ))
-            (Contains-push_cases (map found_instance found) (instance_of l list) i (subst (λ (xs : List Instance). Contains xs i) all has))),
+            (Contains-push_cases (map (found_instance apart) found) (instance_of apart l list) i (subst (λ (xs : List Instance). Contains xs i) all has))),
         (λ h. subst (λ (xs : List Instance). Contains xs i) (sym all) (⊎_elim
-            (λ before. Contains-append_left (map found_instance found) (instance_of l list ∷ []) i ((so_far.exact i).1 (record { stated_loop = (h.0).stated_loop; stated = before; reached = (h.0).reached; parts = (h.0).parts }, h.1)))
-            (λ (new : l ≡ (h.0).stated_loop). subst (Contains (map found_instance found ++ instance_of l list ∷ [])) (ap (λ (m : Loop). instance_of m list) new ∙ ap (instance_of (h.0).stated_loop) (sym h.1) ∙ sym (h.0).parts) (Contains-push (map found_instance found) (instance_of l list)))
+            (λ before. Contains-append_left (map (found_instance apart) found) (instance_of apart l list ∷ []) i ((so_far.exact i).1 (record { stated_loop = (h.0).stated_loop; stated = before; reached = (h.0).reached; parts = (h.0).parts }, h.1)))
+            (λ (new : l ≡ (h.0).stated_loop). subst (Contains (map (found_instance apart) found ++ instance_of apart l list ∷ [])) (ap (λ (m : Loop). instance_of apart m list) new ∙ ap (instance_of apart (h.0).stated_loop) (sym h.1) ∙ sym (h.0).parts) (Contains-push (map (found_instance apart) found) (instance_of apart l list)))
             (Contains-push_cases (take k loops) l (h.0).stated_loop (subst (λ (xs : List Loop). Contains xs (h.0).stated_loop) more (h.0).stated)))),
       );
     }
 
-pub with_same : (places : List Place) (loops : List Loop) (list : List ℕ) (found : List LoopInstance) (k : ℕ) → AreWith places loops list found k → k < length loops → (Contains places (At list (get_or loops k no_loop).header) → ⊥) → AreWith places loops list found (k + 1)
-with_same places loops list found k so_far lt unreached =
+pub with_same : (apart : List ApartStretch) (places : List Place) (loops : List Loop) (list : List ℕ) (found : List LoopInstance) (k : ℕ) → AreWith apart places loops list found k → k < length loops → (Contains places (At list (get_or loops k no_loop).header) → ⊥) → AreWith apart places loops list found (k + 1)
+with_same apart places loops list found k so_far lt unreached =
     let l : Loop = get_or loops k no_loop in
     let more : take (k + 1) loops ≡ take k loops ++ l ∷ [] = one_more loops k lt in
     record {

@@ -1,5 +1,5 @@
 -- What is found of a handler's loops, in places.
-use Rattle.std.proofs.Common.{◌≡◌, ◌≢◌, ℕ, zero, suc, ◌<◌, List, [], ◌∷◌, length, map, get_or, sym, refl, ap, ◌∙◌, subst, arith}
+use Rattle.std.proofs.Common.{◌≡◌, ◌≢◌, ℕ, zero, suc, ◌<◌, ◌≤◌, List, [], ◌∷◌, length, map, get_or, sym, refl, ap, ◌∙◌, subst, arith}
 use Rattle.std.specs.Prelude.{Contains, All, AllPairs, ◌↔◌}
 use Rattle.std.specs.List.Sorted.{IsPermutation}
 use Rattle.std.proofs.lemmas.List.{get_or-map, length-map}
@@ -8,7 +8,8 @@ use Rattle.control_flow.specs.declared.places.Place.{Place}
 use Rattle.control_flow.specs.declared.places.Place.TheVariants.{At, Exit}
 use Rattle.statement.specs.declared.stated.Loop.{Loop}
 use Rattle.control_flow.specs.Flow.{Flow, IsWellFormed}
-use Rattle.statement.specs.Stated.{IsLoop}
+use Rattle.statement.specs.Stated.{IsLoop, LiesWithin, StatedLoops, is_apart}
+use Rattle.statement.specs.declared.apart.ApartStretch.{ApartStretch}
 use Rattle.loop_bounds.specs.declared.loop_instances.LoopInstance.{LoopInstance}
 use Rattle.loop_bounds.specs.Instance.{Instance, IsInstance}
 use Rattle.loop_bounds.specs.Keys.{AreByKey, IsListed}
@@ -48,36 +49,39 @@ places_differ flow well_formed j k d less lt same =
 
 -- ## Instances
 
-pub instances_are : (flow : Flow) (loops sorted : List Loop) → IsPermutation loops sorted → (i : Instance) → IsFoundAmong flow.places sorted i ↔ IsInstance flow loops i
+pub instances_are : (flow : Flow) (loops : StatedLoops) (sorted : List Loop) → IsPermutation loops.list sorted → (i : Instance) → IsFoundAmong loops.apart flow.places sorted i ↔ IsInstance flow loops i
 instances_are flow loops sorted moved i = (
-  (λ f. record { stated_loop = f.stated_loop; stated = Contains-permutation sorted loops f.stated_loop (IsPermutation-sym loops sorted moved) f.stated; reached = f.reached; parts = f.parts }),
-  (λ f. record { stated_loop = f.stated_loop; stated = Contains-permutation loops sorted f.stated_loop moved f.stated; reached = f.reached; parts = f.parts }),
+  (λ f. record { stated_loop = f.stated_loop; stated = Contains-permutation sorted loops.list f.stated_loop (IsPermutation-sym loops.list sorted moved) f.stated; reached = f.reached; parts = f.parts }),
+  (λ f. record { stated_loop = f.stated_loop; stated = Contains-permutation loops.list sorted f.stated_loop moved f.stated; reached = f.reached; parts = f.parts }),
 )
 
-pub found_has : (found : List LoopInstance) (k : ℕ) (d : LoopInstance) → k < length found → Contains (map found_instance found) (found_instance (get_or found k d))
-found_has found k d lt = (k, omega (arith, length-map found found_instance), get_or-map found_instance found k d (found_instance (get_or found k d)) lt)
+pub found_has : (apart : List ApartStretch) (found : List LoopInstance) (k : ℕ) (d : LoopInstance) → k < length found → Contains (map (found_instance apart) found) (found_instance apart (get_or found k d))
+found_has apart found k d lt = (k, omega (arith, length-map found (found_instance apart)), get_or-map (found_instance apart) found k d (found_instance apart (get_or found k d)) lt)
 
-pub found_reached : (flow : Flow) (sorted : List Loop) (listed : List Place) (found : List LoopInstance) → IsListed flow.places listed → ((i : Instance) → Contains (map found_instance found) i → IsFoundAmong flow.places sorted i) → All (λ f. Contains listed (At f.list f.stated.header)) found
-found_reached flow sorted listed found l are k d lt = listed_has flow.places listed l (header_place (get_or found k d)) (are (found_instance (get_or found k d)) (found_has found k d lt)).reached
+pub found_reached : (apart : List ApartStretch) (flow : Flow) (sorted : List Loop) (listed : List Place) (found : List LoopInstance) → IsPermutation flow.places listed → ((i : Instance) → Contains (map (found_instance apart) found) i → IsFoundAmong apart flow.places sorted i) → All (λ f. Contains listed (At f.list f.stated.header)) found
+found_reached apart flow sorted listed found l are k d lt = listed_has flow.places listed l (header_place (get_or found k d)) (are (found_instance apart (get_or found k d)) (found_has apart found k d lt)).reached
 
-pub found_stated : (flow : Flow) (loops sorted : List Loop) (found : List LoopInstance) → IsPermutation loops sorted → All IsLoop loops → ((i : Instance) → Contains (map found_instance found) i → IsFoundAmong flow.places sorted i) → All (λ f. IsLoop f.stated) found
+pub found_stated : (flow : Flow) (loops : StatedLoops) (sorted : List Loop) (found : List LoopInstance) → IsPermutation loops.list sorted → All (IsLoop loops.apart) loops.list → ((i : Instance) → Contains (map (found_instance loops.apart) found) i → IsFoundAmong loops.apart flow.places sorted i) → All (λ f. IsLoop loops.apart f.stated) found
 found_stated flow loops sorted found moved all are k d lt =
-    let f = are (found_instance (get_or found k d)) (found_has found k d lt) in
-    let has = Contains-permutation sorted loops f.stated_loop (IsPermutation-sym loops sorted moved) f.stated in
-    let is : IsLoop f.stated_loop = subst IsLoop has.2 (all has.0 f.stated_loop has.1) in
+    let f = are (found_instance loops.apart (get_or found k d)) (found_has loops.apart found k d lt) in
+    let has = Contains-permutation sorted loops.list f.stated_loop (IsPermutation-sym loops.list sorted moved) f.stated in
+    let is : IsLoop loops.apart f.stated_loop = subst (IsLoop loops.apart) has.2 (all has.0 f.stated_loop has.1) in
     let first_is : (get_or found k d).stated.first ≡ f.stated_loop.first = ap (λ (i : Instance). i.first) f.parts in
     let header_is : (get_or found k d).stated.header ≡ f.stated_loop.header = ap (λ (i : Instance). i.header) f.parts in
     let last_is : (get_or found k d).stated.last ≡ f.stated_loop.last = ap (λ (i : Instance). i.last) f.parts in
     let bound_is : (get_or found k d).stated.bound ≡ f.stated_loop.bound = ap (λ (i : Instance). i.bound) f.parts in
     record {
-      from_first = omega (arith, is.from_first);
-      to_last = omega (arith, is.to_last);
+      within =
+          subst (λ (a : ℕ). LiesWithin loops.apart a (get_or found k d).stated.header (get_or found k d).stated.last) (sym first_is)
+          (subst (λ (a : ℕ). LiesWithin loops.apart f.stated_loop.first a (get_or found k d).stated.last) (sym header_is)
+          (subst (λ (a : ℕ). LiesWithin loops.apart f.stated_loop.first f.stated_loop.header a) (sym last_is) is.within));
+      ends = ap (is_apart loops.apart) first_is ∙ is.ends ∙ ap (is_apart loops.apart) (sym last_is);
       last_small = omega (arith, is.last_small);
       bound_small = omega (arith, is.bound_small);
     }
 
-pub by_key_once : (flow : Flow) (listed : List Place) → IsWellFormed flow → IsListed flow.places listed → AreByKey listed
-by_key_once flow listed well_formed l = record {
+pub by_key_once : (apart : List ApartStretch) (flow : Flow) (listed : List Place) → IsWellFormed flow → IsListed apart flow.places listed → AreByKey apart listed
+by_key_once apart flow listed well_formed l = record {
   ascending = l.ascending;
   once = λ m n mlt nlt same. once_moved flow.places listed l.moved (places_once flow.places well_formed.ordered) m n Exit mlt nlt same;
 }

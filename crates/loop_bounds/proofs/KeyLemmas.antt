@@ -1,6 +1,6 @@
 -- Keys of places: how they compare, and where they are.
-use Rattle.std.proofs.Common.{◌≡◌, ℕ, zero, suc, ◌+◌, ◌<◌, ◌≤◌, ◌⊎◌, Bool, true, false, eqb, ltb, Option, Some, None, List, [], ◌∷◌, ◌++◌, length, take, get_or, sym, refl, ap, ◌∙◌, inl, inr, ⊎_elim, arith}
-use Rattle.std.specs.Prelude.{not, ◌&&◌, ◌||◌}
+use Rattle.std.proofs.Common.{◌≡◌, ℕ, zero, suc, ◌+◌, ◌<◌, ◌≤◌, ◌⊎◌, Bool, true, false, cond, eqb, leb, ltb, Option, Some, None, List, [], ◌∷◌, ◌++◌, length, take, get_or, sym, refl, ap, ◌∙◌, inl, inr, ⊎_elim, arith}
+use Rattle.std.specs.Prelude.{not, map, ◌&&◌, ◌||◌}
 use Rattle.std.specs.Cmp.{IsStrictWeakOrder}
 use Rattle.std.specs.Cmp.Lexicographic.{slice_cmp}
 use Rattle.std.specs.Option.{option_eq}
@@ -8,14 +8,17 @@ use Rattle.std.specs.Ordering.{nat_cmp, ordering_then, is_lt}
 use Rattle.std.specs.declared.cmp.Ordering.{Ordering}
 use Rattle.std.specs.declared.cmp.Ordering.TheVariants.{Less, Equal, Greater}
 use Rattle.std.specs.List.Sorted.{IsSorted, IsPartitionedBy, IsPartitionPoint}
-use Rattle.std.proofs.lemmas.Bool.{both_ways, cases_order, lt-ltb, le-ltb, eq-eqb, ne_eqb}
+use Rattle.std.proofs.lemmas.Bool.{both_ways, or_right, cases_Bool, cases_eq, cases_lt, cases_order, lt-ltb, le-leb, le-ltb, eq-eqb, ne_eqb}
 use Rattle.std.proofs.lemmas.Bool.Decides.{nat_tests}
 use Rattle.std.proofs.lemmas.Cmp.{nat_list_cmp_total, same_from_slice_cmp}
 use Rattle.std.proofs.lemmas.List.Sorted.{ranks_by, sorted_far}
-use Rattle.std.proofs.lemmas.List.{same_from_push}
+use Rattle.std.proofs.lemmas.List.{map-append, same_from_push}
 use Rattle.control_flow.specs.declared.places.Place.{Place}
 use Rattle.control_flow.specs.declared.places.Place.TheVariants.{At, Exit}
 use Rattle.control_flow.specs.Places.{place_at}
+use Rattle.statement.specs.Stated.{is_apart, lies_at}
+use Rattle.statement.specs.declared.apart.ApartStretch.{ApartStretch}
+use Rattle.bus_ticks.specs.declared.space.TheConstants.{SPACE_END}
 use Rattle.loop_bounds.specs.Instance.{holds}
 use Rattle.loop_bounds.specs.Keys.{key_of, by_key, is_before, IsPoint}
 
@@ -113,19 +116,67 @@ same_by_order (x ∷ xs) (y ∷ ys) h k =
     let e = one_or_other x y (is_before xs ys) (is_before ys xs) xs ys (same_by_order xs ys) h k in
     (λ i. e.0 i ∷ e.1 i)
 
+-- ## Where words lie
+
+lies_cases : (apart : List ApartStretch) (a : ℕ) → ((lies_at apart a ≡ a) × (a < SPACE_END)) ⊎ (lies_at apart a ≡ a + SPACE_END)
+lies_cases apart a = ⊎_elim
+    (λ (yes_ : (is_apart apart a || leb SPACE_END a) ≡ true). inr (ap (λ x. cond x (a + SPACE_END) a) yes_))
+    (λ (no_ : (is_apart apart a || leb SPACE_END a) ≡ false). inl (ap (λ x. cond x (a + SPACE_END) a) no_, not_from (is_apart apart a) a no_))
+    (cases_Bool (is_apart apart a || leb SPACE_END a))
+  where
+    not_from : (b : Bool) (a : ℕ) → (b || leb SPACE_END a) ≡ false → a < SPACE_END
+    not_from b a none = ⊎_elim (λ (l : a < SPACE_END). l) (λ (ge : SPACE_END ≤ a). absurd (both_ways (b || leb SPACE_END a) none (or_right b (leb SPACE_END a) (le-leb SPACE_END a ge)))) (cases_lt a SPACE_END)
+
+-- no two words lie at one place
+pub lies_once : (apart : List ApartStretch) (a b : ℕ) → lies_at apart a ≡ lies_at apart b → a ≡ b
+lies_once apart a b same = ⊎_elim
+    (λ at. ⊎_elim (λ bt. sym at.0 ∙ same ∙ bt.0) (λ bt. absurd (omega (arith, at.0, at.1, bt))) (lies_cases apart b))
+    (λ at. ⊎_elim (λ bt. absurd (omega (arith, bt.0, bt.1, at))) (λ bt. omega (arith, at, bt)) (lies_cases apart b))
+    (lies_cases apart a)
+
+pub all_lie_once : (apart : List ApartStretch) (xs ys : List ℕ) → map (lies_at apart) xs ≡ map (lies_at apart) ys → xs ≡ ys
+all_lie_once apart [] [] same = refl
+all_lie_once apart [] (y ∷ ys) same = cc
+all_lie_once apart (x ∷ xs) [] same = cc
+all_lie_once apart (x ∷ xs) (y ∷ ys) same =
+    let head : lies_at apart x ≡ lies_at apart y = cc in
+    let tail : map (lies_at apart) xs ≡ map (lies_at apart) ys = cc in
+    let one = lies_once apart x y head in
+    let rest = all_lie_once apart xs ys tail in
+    (λ i. one i ∷ rest i)
+
+same_test : (apart : List ApartStretch) (a b : ℕ) → eqb a b ≡ eqb (lies_at apart a) (lies_at apart b)
+same_test apart a b = ⊎_elim
+    (λ (same : a ≡ b). eq-eqb a b same ∙ sym (eq-eqb (lies_at apart a) (lies_at apart b) (ap (lies_at apart) same)))
+    (λ (differ : a ≡ b → ⊥). ne_eqb a b differ ∙ sym (ne_eqb (lies_at apart a) (lies_at apart b) (λ same. differ (lies_once apart a b same))))
+    (cases_eq a b)
+
 -- ## Members are the keys between two
 
-span_base : (f l k : ℕ) (key : List ℕ) → holds f l [] (k ∷ key) ≡ (not (is_before (k ∷ key) (f ∷ [])) && is_before (k ∷ key) ((l + 1) ∷ []))
+-- the list begins with another, and goes on with a number from first to last
+abbrev pub spans : ℕ → ℕ → List ℕ → List ℕ → Bool
+spans first last [] [] = false
+spans first last [] (a ∷ key) = leb first a && leb a last
+spans first last (x ∷ list) [] = false
+spans first last (x ∷ list) (a ∷ key) = eqb a x && spans first last list key
+
+pub holds_spans : (apart : List ApartStretch) (f l : ℕ) (c key : List ℕ) → holds apart f l c key ≡ spans (lies_at apart f) (lies_at apart l) (map (lies_at apart) c) (map (lies_at apart) key)
+holds_spans apart f l [] [] = refl
+holds_spans apart f l [] (k ∷ key) = refl
+holds_spans apart f l (x ∷ c) [] = refl
+holds_spans apart f l (x ∷ c) (k ∷ key) = (λ i. same_test apart k x i && holds_spans apart f l c key i)
+
+span_base : (f l k : ℕ) (key : List ℕ) → spans f l [] (k ∷ key) ≡ (not (is_before (k ∷ key) (f ∷ [])) && is_before (k ∷ key) ((l + 1) ∷ []))
 span_base f l k [] = grind (arith, nat_tests)
 span_base f l k (x ∷ key) = grind (arith, nat_tests)
 
 -- an instance's members are the keys from the one bound up to the other
-pub holds_span : (f l : ℕ) (c key : List ℕ) → holds f l c key ≡ (not (is_before key (c ++ f ∷ [])) && is_before key (c ++ (l + 1) ∷ []))
-holds_span f l [] [] = refl
-holds_span f l [] (k ∷ key) = span_base f l k key
-holds_span f l (x ∷ c) [] = refl
-holds_span f l (x ∷ c) (k ∷ key) = ⊎_elim
-    (λ same. rw (eq-eqb k x same, le-ltb k x (omega arith)) (holds_span f l c key))
+pub spans_between : (f l : ℕ) (c key : List ℕ) → spans f l c key ≡ (not (is_before key (c ++ f ∷ [])) && is_before key (c ++ (l + 1) ∷ []))
+spans_between f l [] [] = refl
+spans_between f l [] (k ∷ key) = span_base f l k key
+spans_between f l (x ∷ c) [] = refl
+spans_between f l (x ∷ c) (k ∷ key) = ⊎_elim
+    (λ same. rw (eq-eqb k x same, le-ltb k x (omega arith)) (spans_between f l c key))
     (λ apart. ⊎_elim
     (λ below. rw (ne_eqb k x (λ e. absurd (omega arith)), lt-ltb k x below) refl)
     (λ above. rw (ne_eqb k x (λ e. absurd (omega arith)), le-ltb k x (omega arith)) refl)
@@ -134,23 +185,33 @@ holds_span f l (x ∷ c) (k ∷ key) = ⊎_elim
 
 -- ## Sorted places
 
+-- keys, as they are compared
+pub keys_compared : (apart : List ApartStretch) (c d x y : List ℕ) (a b m n : ℕ) → x ≡ c → y ≡ d → m ≡ lies_at apart a → n ≡ lies_at apart b → slice_cmp nat_cmp (map (lies_at apart) x ++ m ∷ []) (map (lies_at apart) y ++ n ∷ []) ≡ by_key apart (At c a) (At d b)
+keys_compared apart c d x y a b m n p q r s =
+    (λ i. slice_cmp nat_cmp (map (lies_at apart) (p i) ++ r i ∷ []) (map (lies_at apart) (q i) ++ s i ∷ []))
+    ∙ (λ i. slice_cmp nat_cmp (sym (map-append (lies_at apart) c (a ∷ [])) i) (sym (map-append (lies_at apart) d (b ∷ [])) i))
+
+pub key_before : (apart : List ApartStretch) (c x y : List ℕ) (a m n : ℕ) → x ≡ c → m ≡ lies_at apart a → is_lt (slice_cmp nat_cmp (map (lies_at apart) x ++ m ∷ []) (map (lies_at apart) y ++ n ∷ [])) ≡ is_before (key_of apart (At c a)) (map (lies_at apart) y ++ n ∷ [])
+key_before apart c x y a m n p r =
+    before_is (map (lies_at apart) x ++ m ∷ []) (map (lies_at apart) y ++ n ∷ [])
+    ∙ (λ i. is_before (map (lies_at apart) (p i) ++ r i ∷ []) (map (lies_at apart) y ++ n ∷ []))
+    ∙ (λ i. is_before (sym (map-append (lies_at apart) c (a ∷ [])) i) (map (lies_at apart) y ++ n ∷ []))
+
 -- the test of the order by key is a strict weak order
-pub by_key_ranks : IsStrictWeakOrder (λ (p q : Place). is_lt (by_key p q))
-by_key_ranks = ranks_by nat_list_cmp_total key_of
+pub by_key_ranks : (apart : List ApartStretch) → IsStrictWeakOrder (λ (p q : Place). is_lt (by_key apart p q))
+by_key_ranks apart = ranks_by nat_list_cmp_total (key_of apart)
 
-pub ascends : (listed : List Place) → IsSorted by_key listed → (i j : ℕ) (d : Place) → i ≤ j → j < length listed → is_before (key_of (get_or listed j d)) (key_of (get_or listed i d)) ≡ false
-ascends listed sorted i j d le lt = sym (before_is (key_of (get_or listed j d)) (key_of (get_or listed i d))) ∙ sorted_far (λ (p q : Place). is_lt (by_key p q)) by_key_ranks listed sorted i j d le lt
+pub ascends : (apart : List ApartStretch) (listed : List Place) → IsSorted (by_key apart) listed → (i j : ℕ) (d : Place) → i ≤ j → j < length listed → is_before (key_of apart (get_or listed j d)) (key_of apart (get_or listed i d)) ≡ false
+ascends apart listed sorted i j d le lt = sym (before_is (key_of apart (get_or listed j d)) (key_of apart (get_or listed i d))) ∙ sorted_far (λ (p q : Place). is_lt (by_key apart p q)) (by_key_ranks apart) listed sorted i j d le lt
 
-pub parted : (listed : List Place) (bound : Place) → IsSorted by_key listed → IsPartitionedBy (λ (p : Place). is_lt (by_key p bound)) listed
-parted listed bound sorted i j d le lt h =
-    before_is (key_of (get_or listed i d)) (key_of bound)
-    ∙ before_upto (key_of (get_or listed i d)) (key_of (get_or listed j d)) (key_of bound) (ascends listed sorted i j d le lt) (sym (before_is (key_of (get_or listed j d)) (key_of bound)) ∙ h)
+pub parted : (apart : List ApartStretch) (listed : List Place) (bound : List ℕ) → IsSorted (by_key apart) listed → IsPartitionedBy (λ (p : Place). is_before (key_of apart p) bound) listed
+parted apart listed bound sorted i j d le lt h = before_upto (key_of apart (get_or listed i d)) (key_of apart (get_or listed j d)) bound (ascends apart listed sorted i j d le lt) h
 
-pub point_from : (listed : List Place) (bound : Place) (n : ℕ) → n ≤ length listed → IsPartitionPoint (λ p. is_lt (by_key p bound) ≡ true) (λ p. is_lt (by_key p bound) ≡ false) listed n → IsPoint listed (key_of bound) n
-point_from listed bound n le parts = record {
+pub point_from : (apart : List ApartStretch) (listed : List Place) (bound : List ℕ) (n : ℕ) → n ≤ length listed → IsPartitionPoint (λ p. is_before (key_of apart p) bound ≡ true) (λ p. is_before (key_of apart p) bound ≡ false) listed n → IsPoint apart listed bound n
+point_from apart listed bound n le parts = record {
   inside = le;
-  below = λ k lt. sym (before_is (key_of (place_at listed k)) (key_of bound)) ∙ parts.0 k Exit (omega arith) lt;
-  from = λ k ge lt. sym (before_is (key_of (place_at listed k)) (key_of bound)) ∙ parts.1 k Exit ge lt;
+  below = λ k lt. parts.0 k Exit (omega arith) lt;
+  from = λ k ge lt. parts.1 k Exit ge lt;
 }
 
 -- ## Places with one key
@@ -160,8 +221,8 @@ not_empty [] a e = cc
 not_empty (x ∷ c) a e = cc
 
 -- the key determines the place
-pub same_key : (p q : Place) → key_of p ≡ key_of q → p ≡ q
-same_key (At c a) (At d b) e = let h = same_from_push c d a b e in (λ i. At (h.0 i) (h.1 i))
-same_key (At c a) Exit e = absurd (not_empty c a (sym e))
-same_key Exit (At d b) e = absurd (not_empty d b e)
-same_key Exit Exit e = refl
+pub same_key : (apart : List ApartStretch) (p q : Place) → key_of apart p ≡ key_of apart q → p ≡ q
+same_key apart (At c a) (At d b) e = let h = same_from_push c d a b (all_lie_once apart (c ++ a ∷ []) (d ++ b ∷ []) e) in (λ i. At (h.0 i) (h.1 i))
+same_key apart (At c a) Exit e = absurd (not_empty c a (sym (all_lie_once apart (c ++ a ∷ []) [] e)))
+same_key apart Exit (At d b) e = absurd (not_empty d b (all_lie_once apart [] (d ++ b ∷ []) e))
+same_key apart Exit Exit e = refl

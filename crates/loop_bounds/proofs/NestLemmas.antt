@@ -10,7 +10,7 @@ use Rattle.std.proofs.lemmas.List.Sums.{length-filter}
 use Rattle.std.proofs.lemmas.List.Kept.{AllPairs-filter}
 use Rattle.walks.specs.declared.limits.TheConstants.{MOST_INSTANCES}
 use Rattle.control_flow.specs.declared.places.Place.TheVariants.{At}
-use Rattle.statement.specs.declared.stated.Loop.{Loop}
+use Rattle.statement.specs.Stated.{StatedLoops}
 use Rattle.control_flow.specs.Flow.{Flow, IsWellFormed}
 use Rattle.control_flow.specs.Places.{place_at}
 use Rattle.loop_bounds.specs.declared.extents.Extent.{Extent}
@@ -63,12 +63,12 @@ filter_has f (y ∷ xs) x (suc k, lt, is) yes_ = ⊎_elim
 pairs_head : {X : Type 0} (R : X → X → Type 0) (x : X) (xs : List X) → AllPairs R (x ∷ xs) → All (R x) xs
 pairs_head R x xs pairs k d lt = pairs 0 (suc k) d (omega arith) (omega arith)
 
-module _ (flow : Flow) (loops : List Loop) (positions : HandlerPositions) (well_formed : IsWellFormed flow) (g : AreHandlerPositions flow loops positions) where
+module _ (flow : Flow) (loops : StatedLoops) (positions : HandlerPositions) (well_formed : IsWellFormed flow) (g : AreHandlerPositions flow loops positions) where
   abbrev extents : List Extent
   extents = positions.extents.items
 
   abbrev instance_at : Extent → Instance
-  instance_at s = found_instance (get_or positions.found.items s.instance no_found)
+  instance_at s = found_instance loops.apart (get_or positions.found.items s.instance no_found)
 
   abbrev holders : ℕ → List Extent
   holders p = filter (λ s. is_within s p) extents
@@ -129,7 +129,7 @@ module _ (flow : Flow) (loops : List Loop) (positions : HandlerPositions) (well_
 
   -- ## Refusals
 
-  pub of_nesting : (HasSharedHeader loops → ⊥) → (fault : NestFault) → IsNestingFault (length flow.places) positions.edges.items positions.entry positions.extents.items fault → IsNestFault flow loops fault
+  pub of_nesting : (HasSharedHeader loops.list → ⊥) → (fault : NestFault) → IsNestingFault (length flow.places) positions.edges.items positions.entry positions.extents.items fault → IsNestFault flow loops fault
   of_nesting apart Memory h = tt
   of_nesting apart LoopsCross h = crossing flow loops positions well_formed g h
   of_nesting apart SharedHeader h = absurd h
@@ -137,7 +137,7 @@ module _ (flow : Flow) (loops : List Loop) (positions : HandlerPositions) (well_
   of_nesting apart UnboundedCycle h = (no_crossing flow loops positions well_formed g h.0, apart, no_mid_entry flow loops positions well_formed g (entered_right flow loops positions well_formed g h.1), unbounded flow loops positions well_formed g h.2)
   of_nesting apart NestedTooDeep h = (no_crossing flow loops positions well_formed g h.0, apart, no_mid_entry flow loops positions well_formed g (entered_right flow loops positions well_formed g h.1), bounded flow loops positions well_formed g h.2, deep h.3.0 h.3.1 h.3.2)
 
-  pub allowed : (HasSharedHeader loops → ⊥) → (nesting : Nesting) → IsNesting (length flow.places) positions.edges.items positions.entry positions.extents.items nesting → (fault : NestFault) → fault ≢ Memory → Applies flow loops fault → ⊥
+  pub allowed : (HasSharedHeader loops.list → ⊥) → (nesting : Nesting) → IsNesting (length flow.places) positions.edges.items positions.entry positions.extents.items nesting → (fault : NestFault) → fault ≢ Memory → Applies flow loops fault → ⊥
   allowed apart nesting n Memory other h = other refl
   allowed apart nesting n LoopsCross other h = no_crossing flow loops positions well_formed g (nested extents nesting.parents.items n.nested) h
   allowed apart nesting n SharedHeader other h = apart h

@@ -6,6 +6,7 @@ use Rattle.std.proofs.lemmas.List.Elements.{All-nil, All-push, Contains-get_or}
 use Rattle.control_flow.specs.declared.places.Place.{Place}
 use Rattle.control_flow.specs.Flow.{Flow}
 use Rattle.numbered_walks.specs.declared.span.Span.{Span}
+use Rattle.statement.specs.declared.apart.ApartStretch.{ApartStretch}
 use Rattle.loop_bounds.specs.declared.loop_instances.LoopInstance.{LoopInstance}
 use Rattle.loop_bounds.specs.declared.nested.Outermost.{Outermost}
 use Rattle.loop_bounds.specs.Extents.{found_instance}
@@ -17,8 +18,8 @@ use Rattle.loop_bounds.specs.Tree.{IsTree, Tree}
 use Rattle.loop_bounds.proofs.NestedSpans.{IsDirectlyIn, direct_from, direct_to, outermost_more}
 use Rattle.loop_bounds.proofs.NestedPlaces.{as_many, inside_from, inside_to, is_of, members_from, members_to}
 
-pub found_at : (found : List LoopInstance) (instances : List Instance) (k : ℕ) (f : LoopInstance) → map found_instance found ≡ instances → k < length found → f ≡ get_or found k f → found_instance f ≡ instance_at instances k
-found_at found instances k f same lt is = ap found_instance is ∙ sym (get_or-map found_instance found k f _ lt) ∙ ap (λ (is : List Instance). instance_at is k) same
+pub found_at : (apart : List ApartStretch) (found : List LoopInstance) (instances : List Instance) (k : ℕ) (f : LoopInstance) → map (found_instance apart) found ≡ instances → k < length found → f ≡ get_or found k f → found_instance apart f ≡ instance_at instances k
+found_at apart found instances k f same lt is = ap (found_instance apart) is ∙ sym (get_or-map (found_instance apart) found k f _ lt) ∙ ap (λ (is : List Instance). instance_at is k) same
 
 module _ (flow : Flow) (tree : Tree) (t : IsTree flow tree) where
   abbrev I : ℕ → Instance
@@ -55,12 +56,12 @@ module _ (flow : Flow) (tree : Tree) (t : IsTree flow tree) where
 
   -- ## One instance more
 
-  module _ (old new : Outermost) (k : ℕ) (places : List Place) (lt : k < length tree.instances) (a : AreNestedUpto flow tree old k) (e : Encloses old new (S k).header (I k) places) (members_are : places ≡ members flow tree (I k)) where
+  module _ (old new : Outermost) (k : ℕ) (places : List Place) (lt : k < length tree.instances) (a : AreNestedUpto flow tree old k) (e : Encloses tree.apart old new (S k).header (I k) places) (members_are : places ≡ members flow tree (I k)) where
     abbrev indexes : List ℕ
     indexes = (a.outer).indexes
 
     abbrev outer : List Instance
-    outer = heads old.instances.items
+    outer = heads tree.apart old.instances.items
 
     in_spans : k < length tree.spans
     in_spans = omega (arith, as_many flow tree t)
@@ -80,7 +81,7 @@ module _ (flow : Flow) (tree : Tree) (t : IsTree flow tree) where
         let inside : p < length indexes = omega (arith, has.1, length-drop e.first outer, outer_len) in
         let j : ℕ = get_or indexes p 0 in
         let same : I j ≡ i = sym (outer_at p i inside) ∙ sym (get_or-drop e.first outer has.0 i) ∙ has.2 in
-        let d : IsDirectlyIn tree.spans k j = direct_from (length flow.places) tree.edges tree.spans t.ordered tree.instances old.headers.items outer k in_spans a.outer e.first e.first_in e.apart e.within p (omega arith) inside in
+        let d : IsDirectlyIn tree.spans k j = direct_from (length flow.places) tree.edges tree.spans t.ordered tree.instances old.headers.items outer k in_spans a.outer e.first e.first_in e.before e.within p (omega arith) inside in
         subst IsInner same (known j (omega (arith, d.0, as_many flow tree t)), shows_inside k j lt d)
 
     inner_to : (i : Instance) → IsInner i → Contains (drop e.first outer) i
@@ -88,7 +89,7 @@ module _ (flow : Flow) (tree : Tree) (t : IsTree flow tree) where
         let j : ℕ = (inner.0).0 in
         let same : I j ≡ i = is_of flow tree t j i (inner.0).1 (inner.0).2 in
         let d : IsDirectlyIn tree.spans k j = inside_shows k j lt (inner.0).1 (subst (λ (x : Instance). IsDirectlyInside flow tree.instances x (I k)) (sym same) inner.1) in
-        let p = direct_to (length flow.places) tree.edges tree.spans t.ordered tree.instances old.headers.items outer k in_spans a.outer e.first e.first_in e.apart e.within j d in
+        let p = direct_to (length flow.places) tree.edges tree.spans t.ordered tree.instances old.headers.items outer k in_spans a.outer e.first e.first_in e.before e.within j d in
         let sum : e.first + (p.0 - e.first) ≡ p.0 = omega (arith, p.1) in (
           p.0 - e.first,
           omega (arith, p.1, p.2, length-drop e.first outer, outer_len),
@@ -100,29 +101,29 @@ module _ (flow : Flow) (tree : Tree) (t : IsTree flow tree) where
 
     pub nested_more : AreNestedUpto flow tree new (k + 1)
     nested_more = record {
-      each_once = ap (map (λ (n : Node). n.instance)) e.nodes_are ∙ map-append (λ (n : Node). n.instance) (nodes old.instances.items) (own ∷ []) ∙ ap (λ (is : List Instance). is ++ I k ∷ []) a.each_once ∙ sym (take_more tree.instances k _ lt);
-      shown = subst (All (IsShown flow tree)) (sym e.nodes_are) (All-push (IsShown flow tree) (nodes old.instances.items) own a.shown (members_are, (λ i. (inner_from i, inner_to i))));
+      each_once = ap (map (λ (n : Node). n.instance)) e.nodes_are ∙ map-append (λ (n : Node). n.instance) (nodes tree.apart old.instances.items) (own ∷ []) ∙ ap (λ (is : List Instance). is ++ I k ∷ []) a.each_once ∙ sym (take_more tree.instances k _ lt);
+      shown = subst (All (IsShown flow tree)) (sym e.nodes_are) (All-push (IsShown flow tree) (nodes tree.apart old.instances.items) own a.shown (members_are, (λ i. (inner_from i, inner_to i))));
       outer = subst (λ (is : List Instance). AreOutermost tree.instances tree.spans new.headers.items is (k + 1)) (sym e.heads_are)
           (subst (λ (hs : List ℕ). AreOutermost tree.instances tree.spans hs (take e.first outer ++ I k ∷ []) (k + 1)) (sym e.headers_are)
-          (outermost_more (length flow.places) tree.edges tree.spans t.ordered tree.instances old.headers.items outer k in_spans a.outer e.first e.first_in e.apart e.within));
+          (outermost_more (length flow.places) tree.edges tree.spans t.ordered tree.instances old.headers.items outer k in_spans a.outer e.first e.first_in e.before e.within));
     }
 
   pub as_many_headers : (o : Outermost) (k : ℕ) → AreNestedUpto flow tree o k → length o.headers.items ≡ length o.instances.items
   as_many_headers o k a =
       let headers = ap length (a.outer).headers_are ∙ length-map (a.outer).indexes (λ (j : ℕ). (S j).header) in
       let outers = ap length (a.outer).outer_are ∙ length-map (a.outer).indexes (instance_at tree.instances) in
-      headers ∙ sym outers ∙ length-map o.instances.items instance_in
+      headers ∙ sym outers ∙ length-map o.instances.items (instance_in tree.apart)
 
   -- ## None, and all
 
   pub nested_none : (o : Outermost) → o.headers.items ≡ [] → o.instances.items ≡ [] → AreNestedUpto flow tree o 0
   nested_none o no_headers none = record {
-    each_once = ap (λ is. map (λ (n : Node). n.instance) (nodes is)) none;
-    shown = subst (λ is. All (IsShown flow tree) (nodes is)) (sym none) (All-nil (IsShown flow tree));
+    each_once = ap (λ is. map (λ (n : Node). n.instance) (nodes tree.apart is)) none;
+    shown = subst (λ is. All (IsShown flow tree) (nodes tree.apart is)) (sym none) (All-nil (IsShown flow tree));
     outer = record {
       indexes = [];
       headers_are = no_headers;
-      outer_are = ap heads none;
+      outer_are = ap (heads tree.apart) none;
       below = λ p lt. absurd (omega arith);
       alone = λ p j lt. absurd (omega arith);
       rest = λ j lt. absurd (omega arith);
@@ -135,7 +136,7 @@ module _ (flow : Flow) (tree : Tree) (t : IsTree flow tree) where
     all_indexes = (a.outer).indexes
 
     abbrev outers : List Instance
-    outers = heads o.instances.items
+    outers = heads tree.apart o.instances.items
 
     outers_at : (p : ℕ) (i : Instance) → p < length all_indexes → get_or outers p i ≡ I (get_or all_indexes p 0)
     outers_at p i inside = ap (λ (is : List Instance). get_or is p i) (a.outer).outer_are ∙ get_or-map (instance_at tree.instances) all_indexes p 0 i inside
@@ -175,7 +176,7 @@ module _ (flow : Flow) (tree : Tree) (t : IsTree flow tree) where
     pub nested_all : IsNestedView flow tree o.instances.items
     nested_all = record {
       each_once = a.each_once ∙ take_all (length tree.instances) tree.instances (omega arith);
-      members_are = λ k d lt p. subst (λ (ps : List Place). Contains ps p ↔ (Contains flow.places p × (is_member (get_or (nodes o.instances.items) k d).instance p ≡ true))) (sym (a.shown k d lt).0) (members_from flow tree t (get_or (nodes o.instances.items) k d).instance p, members_to flow tree t (get_or (nodes o.instances.items) k d).instance p);
+      members_are = λ k d lt p. subst (λ (ps : List Place). Contains ps p ↔ (Contains flow.places p × (is_member (get_or (nodes tree.apart o.instances.items) k d).instance p ≡ true))) (sym (a.shown k d lt).0) (members_from flow tree t (get_or (nodes tree.apart o.instances.items) k d).instance p, members_to flow tree t (get_or (nodes tree.apart o.instances.items) k d).instance p);
       in_order = λ k d lt. (a.shown k d lt).0;
       inner_are = λ k d lt. (a.shown k d lt).1;
       outermost_are = λ i. (outer_from i, outer_to i);

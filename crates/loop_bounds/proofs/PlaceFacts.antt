@@ -10,7 +10,7 @@ use Rattle.walks.specs.Greatest.{is_back_edge}
 use Rattle.control_flow.specs.declared.places.Place.{Place}
 use Rattle.control_flow.specs.declared.places.Place.TheVariants.{At}
 use Rattle.control_flow.specs.declared.edges.Edge.{Edge}
-use Rattle.statement.specs.declared.stated.Loop.{Loop}
+use Rattle.statement.specs.Stated.{StatedLoops}
 use Rattle.control_flow.specs.Flow.{Flow, IsWellFormed, edge_shape}
 use Rattle.control_flow.specs.Places.{place_at}
 use Rattle.loop_bounds.specs.declared.extents.Extent.{Extent}
@@ -30,7 +30,7 @@ use Rattle.loop_bounds.proofs.Numbers.{edges_in, flow_cycle, flow_edge, number_o
 use Rattle.loop_bounds.proofs.Positions.{listed_length, place_numbers}
 use Rattle.loop_bounds.proofs.Within.{from_in, in_from, out_from}
 
-module _ (flow : Flow) (loops : List Loop) (positions : HandlerPositions) (well_formed : IsWellFormed flow) (g : AreHandlerPositions flow loops positions) where
+module _ (flow : Flow) (loops : StatedLoops) (positions : HandlerPositions) (well_formed : IsWellFormed flow) (g : AreHandlerPositions flow loops positions) where
   abbrev extents : List Extent
   extents = positions.extents.items
 
@@ -44,33 +44,33 @@ module _ (flow : Flow) (loops : List Loop) (positions : HandlerPositions) (well_
   exit = length flow.places
 
   pub len : length positions.listed.items ≡ length flow.places
-  len = listed_length flow.places positions.listed.items g.listed_is
+  len = listed_length flow.places positions.listed.items g.listed_is.moved
 
   pub numbers : ArePlaceNumbers flow (place_at positions.listed.items)
-  numbers = place_numbers flow positions.listed.items well_formed g.listed_is
+  numbers = place_numbers flow positions.listed.items well_formed g.listed_is.moved
 
   -- ## Instances and extents
 
   abbrev pub instance_at : Extent → Instance
-  instance_at s = found_instance (get_or positions.found.items s.instance no_found)
+  instance_at s = found_instance loops.apart (get_or positions.found.items s.instance no_found)
 
-  pub instance_is : (s : Extent) → Contains positions.extents.items s → IsInstance flow loops (found_instance (get_or positions.found.items s.instance no_found))
-  instance_is s has = (g.found_are (instance_at s)).0 (found_has positions.found.items s.instance no_found (g.extents_of.named s has))
+  pub instance_is : (s : Extent) → Contains positions.extents.items s → IsInstance flow loops (found_instance loops.apart (get_or positions.found.items s.instance no_found))
+  instance_is s has = (g.found_are (instance_at s)).0 (found_has loops.apart positions.found.items s.instance no_found (g.extents_of.named s has))
 
-  pub extent_is : (s : Extent) → Contains positions.extents.items s → IsExtentOf positions.listed.items (found_instance (get_or positions.found.items s.instance no_found)) s
+  pub extent_is : (s : Extent) → Contains positions.extents.items s → IsExtentOf positions.listed.items (found_instance loops.apart (get_or positions.found.items s.instance no_found)) s
   extent_is s has = g.extents_of.are s no_found has
 
-  pub extent_for : (i : Instance) → IsInstance flow loops i → (s : Extent) × Contains positions.extents.items s × (found_instance (get_or positions.found.items s.instance no_found) ≡ i)
+  pub extent_for : (i : Instance) → IsInstance flow loops i → (s : Extent) × Contains positions.extents.items s × (found_instance loops.apart (get_or positions.found.items s.instance no_found) ≡ i)
   extent_for i is =
       let k = (g.found_are i).1 is in
-      let k_lt : k.0 < length positions.found.items = omega (arith, k.1, length-map positions.found.items found_instance) in
+      let k_lt : k.0 < length positions.found.items = omega (arith, k.1, length-map positions.found.items (found_instance loops.apart)) in
       let a = g.extents_of.all k.0 k_lt in
-      (a.0, a.1, ap (λ (n : ℕ). found_instance (get_or positions.found.items n no_found)) a.2 ∙ sym (get_or-map found_instance positions.found.items k.0 no_found i k_lt) ∙ k.2)
+      (a.0, a.1, ap (λ (n : ℕ). found_instance loops.apart (get_or positions.found.items n no_found)) a.2 ∙ sym (get_or-map (found_instance loops.apart) positions.found.items k.0 no_found i k_lt) ∙ k.2)
 
-  pub member : (s : Extent) → Contains positions.extents.items s → (p : ℕ) → p ≤ length flow.places → is_member (found_instance (get_or positions.found.items s.instance no_found)) (place_at positions.listed.items p) ≡ is_within s p
+  pub member : (s : Extent) → Contains positions.extents.items s → (p : ℕ) → p ≤ length flow.places → is_member (found_instance loops.apart (get_or positions.found.items s.instance no_found)) (place_at positions.listed.items p) ≡ is_within s p
   member s has p le = (extent_is s has).members p (omega (arith, len))
 
-  pub header : (s : Extent) → Contains positions.extents.items s → (p : ℕ) → p ≤ length flow.places → is_header (found_instance (get_or positions.found.items s.instance no_found)) (place_at positions.listed.items p) ≡ (p == s.header)
+  pub header : (s : Extent) → Contains positions.extents.items s → (p : ℕ) → p ≤ length flow.places → is_header (found_instance loops.apart (get_or positions.found.items s.instance no_found)) (place_at positions.listed.items p) ≡ (p == s.header)
   header s has p le = (extent_is s has).headers p (omega (arith, len))
 
   -- the header's place has its position
@@ -91,7 +91,7 @@ module _ (flow : Flow) (loops : List Loop) (positions : HandlerPositions) (well_
       let lt : s.header < exit = h.0 in
       let l = g.bounded s.instance no_found (g.extents_of.named s has) in
       let i : Instance = instance_at s in
-      sym (member s has s.header (omega arith)) ∙ ap (is_member i) h.1 ∙ holds_here i.first i.last i.list i.header l.from_first l.to_last
+      sym (member s has s.header (omega arith)) ∙ ap (is_member i) h.1 ∙ holds_here loops.apart i.first i.last i.list i.header l.within.0 l.within.1
 
   at_index : (s : Extent) (has : Contains extents s) → get_or extents has.0 s ≡ s
   at_index s has = has.2
@@ -130,7 +130,7 @@ module _ (flow : Flow) (loops : List Loop) (positions : HandlerPositions) (well_
 
   -- ## Crossing
 
-  all_are : (i : Instance) → Contains (map found_instance positions.found.items) i → IsInstance flow loops i
+  all_are : (i : Instance) → Contains (map (found_instance loops.apart) positions.found.items) i → IsInstance flow loops i
   all_are i = (g.found_are i).0
 
   pub crossing : HaveCrossing positions.extents.items → HasCrossing flow loops
@@ -140,7 +140,7 @@ module _ (flow : Flow) (loops : List Loop) (positions : HandlerPositions) (well_
   no_crossing none c = cross.no_crossing flow loops positions.listed.items positions.found.items extents well_formed g.listed_is all_are g.extents_of none c ((g.found_are c.one).1 c.one_is) ((g.found_are c.other).1 c.other_is)
 
   -- a member's position lies in the extent
-  pub within : (i : Instance) (s : Extent) → Contains positions.extents.items s → found_instance (get_or positions.found.items s.instance no_found) ≡ i → (p : Place) (n : ℕ) → n ≤ length flow.places → place_at positions.listed.items n ≡ p → is_member i p ≡ is_within s n
+  pub within : (i : Instance) (s : Extent) → Contains positions.extents.items s → found_instance loops.apart (get_or positions.found.items s.instance no_found) ≡ i → (p : Place) (n : ℕ) → n ≤ length flow.places → place_at positions.listed.items n ≡ p → is_member i p ≡ is_within s n
   within i s has is p n le at = ap (is_member i) (sym at) ∙ ap (λ (j : Instance). is_member j (place_of n)) (sym is) ∙ member s has n le
 
   -- ## Entries
@@ -225,7 +225,7 @@ module _ (flow : Flow) (loops : List Loop) (positions : HandlerPositions) (well_
 
   -- ## Back edges
 
-  pub back_down : (e : Edge) (n : NumberedEdge) → NumbersEdge (place_at positions.listed.items) (length flow.places) e n → (s : Extent) → Contains positions.extents.items s → is_back_edge edge_shape place_loops (found_instance (get_or positions.found.items s.instance no_found)) e ≡ is_back_of n s
+  pub back_down : (e : Edge) (n : NumberedEdge) → NumbersEdge (place_at positions.listed.items) (length flow.places) e n → (s : Extent) → Contains positions.extents.items s → is_back_edge edge_shape place_loops (found_instance loops.apart (get_or positions.found.items s.instance no_found)) e ≡ is_back_of n s
   back_down e n numbered s has =
       let from_lt : n.from < exit = numbered.from_in in
       let a : is_member (instance_at s) e.from ≡ is_within s n.from = ap (is_member (instance_at s)) (sym numbered.from_is) ∙ member s has n.from (omega arith) in

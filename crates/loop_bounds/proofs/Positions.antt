@@ -4,7 +4,7 @@ use Rattle.std.specs.Prelude.{◌↔◌, Contains, IsTrue}
 use Rattle.std.specs.declared.cmp.Ordering.{Ordering}
 use Rattle.std.specs.declared.cmp.Ordering.TheVariants.{Less, Equal, Greater}
 use Rattle.std.specs.Ordering.{is_lt, ordering_index, ordering_reverse}
-use Rattle.std.specs.List.Sorted.{IsStrictlySortedBy, IsSorted, IsNonDecreasingBy, IsBinarySearchResult, IsPartitionPoint, IsSearchInRange}
+use Rattle.std.specs.List.Sorted.{IsStrictlySortedBy, IsPermutation, IsSorted, IsNonDecreasingBy, IsBinarySearchResult, IsPartitionPoint, IsSearchInRange}
 use Rattle.std.specs.Result.{is_ok, result_unwrap_or}
 use Rattle.std.proofs.lemmas.Bool.{cases_lt}
 use Rattle.std.proofs.lemmas.Cmp.{nat_list_cmp_total, tied_itself}
@@ -18,7 +18,8 @@ use Rattle.control_flow.specs.Flow.{Flow, IsWellFormed}
 use Rattle.control_flow.specs.Places.{place_cmp, place_at}
 use Rattle.control_flow.specs.Search.{by_order}
 use Rattle.control_flow.proofs.PlaceLemmas.{by_place, place_total, place_exact}
-use Rattle.loop_bounds.specs.Keys.{IsListed, by_key, key_of}
+use Rattle.statement.specs.declared.apart.ApartStretch.{ApartStretch}
+use Rattle.loop_bounds.specs.Keys.{by_key, key_of}
 use Rattle.loop_bounds.specs.Tree.{ArePlaceNumbers}
 use Rattle.loop_bounds.proofs.KeyLemmas.{before_is, same_by_order, same_key}
 use Rattle.loop_bounds.proofs.Moved.{IsOnce, once_moved}
@@ -41,13 +42,16 @@ found_at cmp itself exact places p (Err i) sorted known found = ⊎_elim
     (λ (has : Contains places p). absurd (not_missed cmp itself places p i has (found sorted)))
     known
 
-pub key_exact : (p q : Place) → by_key p q ≡ Equal → p ≡ q
-key_exact p q tied =
-    let back : by_key q p ≡ Equal = nat_list_cmp_total.antisymm (key_of q) (key_of p) ∙ ap ordering_reverse tied in
-    same_key p q (same_by_order (key_of p) (key_of q) (sym (before_is (key_of p) (key_of q)) ∙ ap is_lt tied) (sym (before_is (key_of q) (key_of p)) ∙ ap is_lt back))
+key_exact : (apart : List ApartStretch) (p q : Place) → by_key apart p q ≡ Equal → p ≡ q
+key_exact apart p q tied =
+    let back : by_key apart q p ≡ Equal = nat_list_cmp_total.antisymm (key_of apart q) (key_of apart p) ∙ ap ordering_reverse tied in
+    same_key apart p q (same_by_order (key_of apart p) (key_of apart q) (sym (before_is (key_of apart p) (key_of apart q)) ∙ ap is_lt tied) (sym (before_is (key_of apart q) (key_of apart p)) ∙ ap is_lt back))
 
-pub position_found : (listed : List Place) (p : Place) (r : Result ℕ ℕ) → IsSorted by_key listed → (p ≡ Exit) ⊎ Contains listed p → IsBinarySearchResult (λ y. by_key y p) listed r → place_at listed (result_unwrap_or r (length listed)) ≡ p
-position_found listed p r sorted = found_at by_key (λ q. tied_itself nat_list_cmp_total (key_of q)) key_exact listed p r (searchable_from_sorted nat_list_cmp_total key_of listed (key_of p) sorted)
+pub position_found : (apart : List ApartStretch) (listed : List Place) (p : Place) (r : Result ℕ ℕ) → IsSorted (by_key apart) listed → (p ≡ Exit) ⊎ Contains listed p → IsBinarySearchResult (λ y. by_key apart y p) listed r → place_at listed (result_unwrap_or r (length listed)) ≡ p
+position_found apart listed p r sorted = found_at (by_key apart) (λ q. tied_itself nat_list_cmp_total (key_of apart q)) (key_exact apart) listed p r (searchable_from_sorted nat_list_cmp_total (key_of apart) listed (key_of apart p) sorted)
+
+pub order_exact : (p q : Place) → by_order p q ≡ Equal → p ≡ q
+order_exact p q tied = place_exact p q (subst (λ (R : Place → Place → Ordering). R p q ≡ Equal) by_place tied)
 
 -- ## The places of a flow graph
 
@@ -78,17 +82,17 @@ places_once places ordered i j d ilt jlt same =
 
 -- ## Positions
 
-pub listed_length : (places listed : List Place) → IsListed places listed → length listed ≡ length places
-listed_length places listed l = length_permutation places listed l.moved
+pub listed_length : (places listed : List Place) → IsPermutation places listed → length listed ≡ length places
+listed_length places listed moved = length_permutation places listed moved
 
-pub listed_has : (places listed : List Place) → IsListed places listed → (p : Place) → Contains places p → Contains listed p
-listed_has places listed l p = Contains-permutation places listed p l.moved
+pub listed_has : (places listed : List Place) → IsPermutation places listed → (p : Place) → Contains places p → Contains listed p
+listed_has places listed moved p = Contains-permutation places listed p moved
 
-pub listed_from : (places listed : List Place) → IsListed places listed → (p : Place) → Contains listed p → Contains places p
-listed_from places listed l p = Contains-permutation listed places p (IsPermutation-sym places listed l.moved)
+pub listed_from : (places listed : List Place) → IsPermutation places listed → (p : Place) → Contains listed p → Contains places p
+listed_from places listed moved p = Contains-permutation listed places p (IsPermutation-sym places listed moved)
 
 -- each position stands for one place
-pub place_numbers : (flow : Flow) (listed : List Place) → IsWellFormed flow → IsListed flow.places listed → ArePlaceNumbers flow (place_at listed)
+pub place_numbers : (flow : Flow) (listed : List Place) → IsWellFormed flow → IsPermutation flow.places listed → ArePlaceNumbers flow (place_at listed)
 place_numbers flow listed well_formed l =
     let len : length listed ≡ length flow.places = listed_length flow.places listed l in
     record {
@@ -98,7 +102,7 @@ place_numbers flow listed well_formed l =
           let h = listed_has flow.places listed l p has in
           let lt : h.0 < length listed = h.1 in
           (h.0, omega arith, get_or_default listed h.0 Exit p h.1 ∙ h.2);
-      once = λ m n mlt nlt same. once_moved flow.places listed l.moved (places_once flow.places well_formed.ordered) m n Exit (omega arith) (omega arith) same;
+      once = λ m n mlt nlt same. once_moved flow.places listed l (places_once flow.places well_formed.ordered) m n Exit (omega arith) (omega arith) same;
     }
 
 -- the search for a place that is there answers its index

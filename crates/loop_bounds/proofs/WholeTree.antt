@@ -9,7 +9,7 @@ use Rattle.std.proofs.lemmas.List.Elements.{Contains-get_or}
 use Rattle.std.proofs.lemmas.List.Sorted.{ranks_by, sorted_far, Contains-permutation, IsPermutation-sym, length_permutation, sum_by-IsPermutation}
 use Rattle.walks.specs.declared.limits.TheConstants.{MOST_INSTANCES, MOST_ROUNDS}
 use Rattle.control_flow.specs.declared.places.Place.TheVariants.{Exit}
-use Rattle.statement.specs.declared.stated.Loop.{Loop}
+use Rattle.statement.specs.Stated.{StatedLoops}
 use Rattle.control_flow.specs.Flow.{Flow, IsWellFormed}
 use Rattle.control_flow.specs.Places.{place_at}
 use Rattle.loop_bounds.specs.declared.extents.Extent.{Extent}
@@ -65,7 +65,7 @@ back_parts e s h =
 strict : (a b : ℕ) → b ≤ a → (a ≡ b → ⊥) → b < a
 strict a b le differ = omega arith
 
-module _ (flow : Flow) (loops : List Loop) (positions : HandlerPositions) (well_formed : IsWellFormed flow) (g : AreHandlerPositions flow loops positions) (nesting : Nesting) (n : IsNesting (length flow.places) positions.edges.items positions.entry positions.extents.items nesting) (order numbers_list : List ℕ) (laid : IsLaidOut (key_in (slice_index nesting.ranks.items) positions.extents.items) (length flow.places) order) (numbered : AreNumbers order numbers_list (length order)) where
+module _ (flow : Flow) (loops : StatedLoops) (positions : HandlerPositions) (well_formed : IsWellFormed flow) (g : AreHandlerPositions flow loops positions) (nesting : Nesting) (n : IsNesting (length flow.places) positions.edges.items positions.entry positions.extents.items nesting) (order numbers_list : List ℕ) (laid : IsLaidOut (key_in (slice_index nesting.ranks.items) positions.extents.items) (length flow.places) order) (numbered : AreNumbers order numbers_list (length order)) where
   abbrev extents : List Extent
   extents = positions.extents.items
 
@@ -103,7 +103,7 @@ module _ (flow : Flow) (loops : List Loop) (positions : HandlerPositions) (well_
     parted_spans = parted_upto.spans_are ∙ ap (map (λ (x : Span × ℕ). x.0)) (take_all (length closing) closing (omega arith))
 
     abbrev tree : Tree
-    tree = record { instances = map found_instance instances; spans = spans; order = indexes; edges = moved }
+    tree = record { instances = map (found_instance loops.apart) instances; spans = spans; order = indexes; edges = moved; apart = loops.apart }
 
     -- ## Places
 
@@ -173,21 +173,21 @@ module _ (flow : Flow) (loops : List Loop) (positions : HandlerPositions) (well_
 
     spans_are : AreSpansOf flow tree
     spans_are = record {
-      same = spans_len ∙ sym parted_upto.same ∙ sym (length-map instances found_instance);
+      same = spans_len ∙ sym parted_upto.same ∙ sym (length-map instances (found_instance loops.apart));
       each = λ k i t lt.
-          let k_in : k < length instances = omega (arith, length-map instances found_instance) in
+          let k_in : k < length instances = omega (arith, length-map instances (found_instance loops.apart)) in
           let k_lt : k < length closing = omega (arith, parted_upto.same) in
           let x = source (get_or closing k no_numbered_span) (Contains-get_or closing k no_numbered_span k_lt) in
           let s : Extent = x.0 in
-          let named : get_or (map found_instance instances) k i ≡ found_instance (get_or positions.found.items s.instance no_found) =
-          get_or-map found_instance instances k no_found i k_in ∙ ap found_instance (parted_upto.named k no_found no_numbered_span k_lt ∙ ap (λ (m : ℕ). get_or positions.found.items m no_found) x.2) in
+          let named : get_or (map (found_instance loops.apart) instances) k i ≡ found_instance loops.apart (get_or positions.found.items s.instance no_found) =
+          get_or-map (found_instance loops.apart) instances k no_found i k_in ∙ ap (found_instance loops.apart) (parted_upto.named k no_found no_numbered_span k_lt ∙ ap (λ (m : ℕ). get_or positions.found.items m no_found) x.2) in
           rw (named, span_at k t k_lt) (record {
             members = λ m le.
                 let p_in : get_or order m 0 ≤ exit = order_upto m le in
-                ap (is_member (found_instance (get_or positions.found.items s.instance no_found))) (place_is m le) ∙ member flow loops positions well_formed g s x.1 (get_or order m 0) p_in ∙ sym (holds s x.1 _ _ x.3 m le);
+                ap (is_member (found_instance loops.apart (get_or positions.found.items s.instance no_found))) (place_is m le) ∙ member flow loops positions well_formed g s x.1 (get_or order m 0) p_in ∙ sym (holds s x.1 _ _ x.3 m le);
             headers = λ m le.
                 let p_in : get_or order m 0 ≤ exit = order_upto m le in
-                ap (is_header (found_instance (get_or positions.found.items s.instance no_found))) (place_is m le) ∙ header flow loops positions well_formed g s x.1 (get_or order m 0) p_in ∙ span_header edges positions.entry exit extents rank order numbers_list plan s x.1 _ _ x.3 m le;
+                ap (is_header (found_instance loops.apart (get_or positions.found.items s.instance no_found))) (place_is m le) ∙ header flow loops positions well_formed g s x.1 (get_or order m 0) p_in ∙ span_header edges positions.entry exit extents rank order numbers_list plan s x.1 _ _ x.3 m le;
             bound = (x.3).bound_is;
           });
     }
@@ -457,30 +457,30 @@ module _ (flow : Flow) (loops : List Loop) (positions : HandlerPositions) (well_
         }
 
     -- the instances are those that were found
-    pub tree_instances : (i : Instance) → Contains (map found_instance instances) i ↔ Contains (map found_instance positions.found.items) i
+    pub tree_instances : (i : Instance) → Contains (map (found_instance loops.apart) instances) i ↔ Contains (map (found_instance loops.apart) positions.found.items) i
     tree_instances i = (
       (λ has.
-          let k_in : has.0 < length instances = omega (arith, has.1, length-map instances found_instance) in
+          let k_in : has.0 < length instances = omega (arith, has.1, length-map instances (found_instance loops.apart)) in
           let k_lt : has.0 < length closing = omega (arith, parted_upto.same) in
           let x = source (get_or closing has.0 no_numbered_span) (Contains-get_or closing has.0 no_numbered_span k_lt) in
           let named : get_or instances has.0 no_found ≡ get_or positions.found.items (x.0).instance no_found = parted_upto.named has.0 no_found no_numbered_span k_lt ∙ ap (λ (m : ℕ). get_or positions.found.items m no_found) x.2 in
-          let is : found_instance (get_or positions.found.items (x.0).instance no_found) ≡ i = ap found_instance (sym named) ∙ sym (get_or-map found_instance instances has.0 no_found i k_in) ∙ has.2 in
+          let is : found_instance loops.apart (get_or positions.found.items (x.0).instance no_found) ≡ i = ap (found_instance loops.apart) (sym named) ∙ sym (get_or-map (found_instance loops.apart) instances has.0 no_found i k_in) ∙ has.2 in
           let m_in = (g.extents_of).named x.0 x.1 in
-          ((x.0).instance, omega (arith, m_in, length-map positions.found.items found_instance), get_or-map found_instance positions.found.items (x.0).instance no_found i m_in ∙ is)),
+          ((x.0).instance, omega (arith, m_in, length-map positions.found.items (found_instance loops.apart)), get_or-map (found_instance loops.apart) positions.found.items (x.0).instance no_found i m_in ∙ is)),
       (λ has.
-          let k_in : has.0 < length positions.found.items = omega (arith, has.1, length-map positions.found.items found_instance) in
+          let k_in : has.0 < length positions.found.items = omega (arith, has.1, length-map positions.found.items (found_instance loops.apart)) in
           let s = (g.extents_of).all has.0 k_in in
           let x = target s.0 s.1 in
           let m_lt : (x.1).0 < length closing = (x.1).1 in
           let y = source x.0 x.1 in
           let m_in : (x.1).0 < length instances = omega (arith, parted_upto.same) in
           let second : (get_or closing (x.1).0 no_numbered_span).1 ≡ has.0 = ap (λ (z : Span × ℕ). z.1) (get_or_default closing (x.1).0 no_numbered_span x.0 m_lt ∙ (x.1).2) ∙ target_named s.0 s.1 ∙ s.2 in
-          ((x.1).0, omega (arith, length-map instances found_instance), get_or-map found_instance instances (x.1).0 no_found i m_in ∙ ap found_instance (parted_upto.named (x.1).0 no_found no_numbered_span m_lt ∙ ap (λ (m : ℕ). get_or positions.found.items m no_found) second) ∙ sym (get_or-map found_instance positions.found.items has.0 no_found i k_in) ∙ has.2)),
+          ((x.1).0, omega (arith, length-map instances (found_instance loops.apart)), get_or-map (found_instance loops.apart) instances (x.1).0 no_found i m_in ∙ ap (found_instance loops.apart) (parted_upto.named (x.1).0 no_found no_numbered_span m_lt ∙ ap (λ (m : ℕ). get_or positions.found.items m no_found) second) ∙ sym (get_or-map (found_instance loops.apart) positions.found.items has.0 no_found i k_in) ∙ has.2)),
     )
 
 -- ## What the functions ask for
 
-module _ (flow : Flow) (loops : List Loop) (positions : HandlerPositions) (well_formed : IsWellFormed flow) (g : AreHandlerPositions flow loops positions) (numbers_list : List ℕ) (long : length numbers_list ≡ length flow.places + 1) where
+module _ (flow : Flow) (loops : StatedLoops) (positions : HandlerPositions) (well_formed : IsWellFormed flow) (g : AreHandlerPositions flow loops positions) (numbers_list : List ℕ) (long : length numbers_list ≡ length flow.places + 1) where
   pub ends_inside : All (λ (s : Extent). s.end ≤ length numbers_list) positions.extents.items
   ends_inside k d lt = omega (arith, within_exit flow loops positions well_formed g (get_or positions.extents.items k d) (Contains-get_or positions.extents.items k d lt))
 
@@ -495,7 +495,7 @@ module _ (flow : Flow) (loops : List Loop) (positions : HandlerPositions) (well_
       let e = edges_are flow loops positions well_formed g (get_or positions.edges.items k d) (Contains-get_or positions.edges.items k d lt) in
       (omega (arith, e.0), omega (arith, e.1))
 
-pub extents_some : (flow : Flow) (loops : List Loop) (positions : HandlerPositions) → AreHandlerPositions flow loops positions → All (λ (s : Extent). s.first < s.end) positions.extents.items
+pub extents_some : (flow : Flow) (loops : StatedLoops) (positions : HandlerPositions) → AreHandlerPositions flow loops positions → All (λ (s : Extent). s.first < s.end) positions.extents.items
 extents_some flow loops positions g k d lt = subst (λ (s : Extent). s.first < s.end) (get_or_default positions.extents.items k _ d lt) ((g.extents_are).some k lt)
 
 pub pairs_named : (numbers_list : List ℕ) (found : List LoopInstance) (extents : List Extent) (closing : List (Span × ℕ)) → AreShown numbers_list found extents closing → All (λ (s : Extent). s.instance < length found) extents → All (λ (x : Span × ℕ). x.1 < length found) closing

@@ -6,6 +6,7 @@ use Rattle.std.specs.BTreeSet.{BTreeSet, contains}
 use Rattle.std.specs.Ordering.{nat_cmp}
 use Rattle.control_flow.specs.declared.places.Place.{Place}
 use Rattle.control_flow.specs.declared.places.Place.TheVariants.{At}
+use Rattle.statement.specs.declared.apart.ApartStretch.{ApartStretch}
 use Rattle.statement.specs.declared.stated.Loop.{Loop}
 use Rattle.control_flow.specs.Places.{place_at}
 use Rattle.loop_bounds.specs.declared.extents.Extent.{Extent}
@@ -28,15 +29,16 @@ is_within s p = nat_le s.first p && nat_lt p s.end
 -- ## Of which instance
 
 -- a loop that was found with a list of calls
-abbrev pub found_instance : LoopInstance → Instance
-found_instance found = instance_of found.stated found.list
+abbrev pub found_instance : List ApartStretch → LoopInstance → Instance
+found_instance apart found = instance_of apart found.stated found.list
 
 -- a stated loop, and a list of calls with which its header is one of the places
-pub record IsFoundAmong (places : List Place) (loops : List Loop) (i : Instance) : Type 0 where
+pub record IsFoundAmong (apart : List ApartStretch) (places : List Place) (loops : List Loop)
+    (i : Instance) : Type 0 where
   pub stated_loop : Loop
   pub stated : Contains loops stated_loop
   pub reached : Contains places (At i.list i.header)
-  pub parts : i ≡ instance_of stated_loop i.list
+  pub parts : i ≡ instance_of apart stated_loop i.list
 
 -- the loops have each another header
 abbrev pub HeadersDiffer : List Loop → Type 0
@@ -56,21 +58,21 @@ pub record IsExtentOf (listed : List Place) (i : Instance) (s : Extent) : Type 0
   pub headers : (p : ℕ) → p ≤ length listed → is_header i (place_at listed p) ≡ (p == s.header)
 
 -- each extent is that of the instance that it names, and each instance has one
-pub record AreExtentsOf (listed : List Place) (found : List LoopInstance) (extents : List Extent)
-    : Type 0 where
+pub record AreExtentsOf (apart : List ApartStretch) (listed : List Place) (found : List LoopInstance)
+    (extents : List Extent) : Type 0 where
   pub named : (s : Extent) → Contains extents s → s.instance < length found
   pub are : (s : Extent) (d : LoopInstance) → Contains extents s
-      → IsExtentOf listed (found_instance (slice_index_or found s.instance d)) s
+      → IsExtentOf listed (found_instance apart (slice_index_or found s.instance d)) s
   pub all : (k : ℕ) → k < length found → (s : Extent) × Contains extents s × (s.instance ≡ k)
   pub once : (j k : ℕ) (d : Extent) → j < length extents → k < length extents
       → (slice_index_or extents j d).instance ≡ (slice_index_or extents k d).instance → j ≡ k
 
 -- the extents of the first instances, in their turn
-pub record AreExtentsUpto (listed : List Place) (found : List LoopInstance) (extents : List Extent)
-    (limit : ℕ) : Type 0 where
+pub record AreExtentsUpto (apart : List ApartStretch) (listed : List Place) (found : List LoopInstance)
+    (extents : List Extent) (limit : ℕ) : Type 0 where
   pub same : length extents ≡ limit
   pub each : (k : ℕ) (s : Extent) (d : LoopInstance) → k < limit
-      → IsExtentOf listed (found_instance (slice_index_or found k d)) (slice_index_or extents k s)
+      → IsExtentOf listed (found_instance apart (slice_index_or found k d)) (slice_index_or extents k s)
       × ((slice_index_or extents k s).instance ≡ k)
       × ((slice_index_or extents k s).first < (slice_index_or extents k s).end)
 

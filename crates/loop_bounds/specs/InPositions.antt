@@ -2,11 +2,10 @@
 use Rattle.std.specs.Prelude.{◌≡◌, ℕ, ◌+◌, ◌<◌, ◌≤◌, ◌↔◌, ◌⊎◌, List, length, map, Contains, All, slice_index}
 use Rattle.walks.specs.Walk.{Cycle}
 use Rattle.walks.specs.declared.limits.TheConstants.{MOST_INSTANCES}
-use Rattle.statement.specs.declared.stated.Loop.{Loop}
 use Rattle.control_flow.specs.Flow.{Flow}
 use Rattle.control_flow.specs.Places.{place_at}
 use Rattle.control_flow.specs.declared.search.TheConstants.{MOST_PLACES}
-use Rattle.statement.specs.Stated.{IsLoop}
+use Rattle.statement.specs.Stated.{IsLoop, StatedLoops}
 use Rattle.loop_bounds.specs.declared.fault.NestFault.{NestFault}
 use Rattle.loop_bounds.specs.declared.fault.NestFault.TheVariants.{Memory, LoopsCross, SharedHeader}
 use Rattle.loop_bounds.specs.declared.fault.NestFault.TheVariants.{EntersMidLoop, UnboundedCycle}
@@ -24,13 +23,15 @@ use Rattle.loop_bounds.specs.Layout.{AreChains, AreRanks, AreShallow, IsBack, de
 use Rattle.loop_bounds.specs.Tree.{IsNumbered}
 
 -- the places by key, the instances with their extents, and the edges and the entry between positions
-pub record AreHandlerPositions (flow : Flow) (loops : List Loop) (positions : HandlerPositions) : Type 0 where
-  pub listed_is : IsListed flow.places positions.listed.items
-  pub found_are : (i : Instance) → Contains (map found_instance positions.found.items) i
+pub record AreHandlerPositions (flow : Flow) (loops : StatedLoops)
+    (positions : HandlerPositions) : Type 0 where
+  pub listed_is : IsListed loops.apart flow.places positions.listed.items
+  pub found_are : (i : Instance) → Contains (map (found_instance loops.apart) positions.found.items) i
       ↔ IsInstance flow loops i
-  pub bounded : All (λ f. IsLoop f.stated) positions.found.items
+  pub bounded : All (λ f. IsLoop loops.apart f.stated) positions.found.items
   pub differ : PlacesDiffer positions.found.items
-  pub extents_of : AreExtentsOf positions.listed.items positions.found.items positions.extents.items
+  pub extents_of : AreExtentsOf loops.apart positions.listed.items positions.found.items
+      positions.extents.items
   pub extents_are : AreExtents positions.extents.items
   pub numbered : IsNumbered flow (place_at positions.listed.items) positions.edges.items
   pub entry_is : place_at positions.listed.items positions.entry ≡ flow.entry

@@ -7,6 +7,7 @@ use Rattle.walks.specs.Greatest.{is_back_edge}
 use Rattle.walks.specs.declared.limits.TheConstants.{MOST_INSTANCES}
 use Rattle.control_flow.specs.declared.places.Place.{Place}
 use Rattle.control_flow.specs.declared.edges.Edge.{Edge}
+use Rattle.statement.specs.Stated.{StatedLoops}
 use Rattle.statement.specs.declared.stated.Loop.{Loop}
 use Rattle.control_flow.specs.Flow.{Flow, edge_shape, HasEdge}
 use Rattle.loop_bounds.specs.declared.fault.NestFault.{NestFault}
@@ -25,7 +26,7 @@ pub record HasOwn (flow : Flow) (i j : Instance) : Type 0 where
   pub other : is_member j place ≡ false
 
 -- two instances overlap, and neither lies within the other
-pub record HasCrossing (flow : Flow) (loops : List Loop) : Type 0 where
+pub record HasCrossing (flow : Flow) (loops : StatedLoops) : Type 0 where
   pub one : Instance
   pub other : Instance
   pub one_is : IsInstance flow loops one
@@ -38,7 +39,7 @@ pub record HasCrossing (flow : Flow) (loops : List Loop) : Type 0 where
   pub other_has : HasOwn flow other one
 
 -- two that do so have this list of calls
-pub record HasCrossingWith (flow : Flow) (loops : List Loop) (list : List ℕ) : Type 0 where
+pub record HasCrossingWith (flow : Flow) (loops : StatedLoops) (list : List ℕ) : Type 0 where
   pub crossing : HasCrossing flow loops
   pub one_list : crossing.one.list ≡ list
   pub other_list : crossing.other.list ≡ list
@@ -61,7 +62,7 @@ IsEntered flow i p =
     (p ≡ flow.entry) ⊎ ((e : Edge) × HasEdge flow e × (e.to ≡ p) × (is_member i e.from ≡ false))
 
 -- an instance is entered at a member that is not its header
-pub record HasMidEntry (flow : Flow) (loops : List Loop) : Type 0 where
+pub record HasMidEntry (flow : Flow) (loops : StatedLoops) : Type 0 where
   pub instance : Instance
   pub is : IsInstance flow loops instance
   pub place : Place
@@ -73,18 +74,18 @@ pub record HasMidEntry (flow : Flow) (loops : List Loop) : Type 0 where
 -- ## Cycles
 
 -- an edge of the graph that is a back edge of no instance
-pub record IsPlainEdge (flow : Flow) (loops : List Loop) (e : Edge) : Type 0 where
+pub record IsPlainEdge (flow : Flow) (loops : StatedLoops) (e : Edge) : Type 0 where
   pub has : HasEdge flow e
   pub plain : (i : Instance) → IsInstance flow loops i → is_back_edge edge_shape place_loops i e ≡ false
 
 -- a cycle without a back edge
-abbrev pub HasUnboundedCycle : Flow → List Loop → Type 0
+abbrev pub HasUnboundedCycle : Flow → StatedLoops → Type 0
 HasUnboundedCycle flow loops = Cycle edge_shape (IsPlainEdge flow loops)
 
 -- ## Nesting
 
 -- a place that is a member of more than sixteen instances
-pub record HasDeepPlace (flow : Flow) (loops : List Loop) : Type 0 where
+pub record HasDeepPlace (flow : Flow) (loops : StatedLoops) : Type 0 where
   pub place : Place
   pub has : Contains flow.places place
   pub instances : List Instance
@@ -96,24 +97,24 @@ pub record HasDeepPlace (flow : Flow) (loops : List Loop) : Type 0 where
 -- ## Refusals
 
 -- what a refusal says of a handler
-abbrev pub Applies : Flow → List Loop → NestFault → Type 0
+abbrev pub Applies : Flow → StatedLoops → NestFault → Type 0
 Applies flow loops Memory = Unit {0}
 Applies flow loops LoopsCross = HasCrossing flow loops
-Applies flow loops SharedHeader = HasSharedHeader loops
+Applies flow loops SharedHeader = HasSharedHeader loops.list
 Applies flow loops EntersMidLoop = HasMidEntry flow loops
 Applies flow loops UnboundedCycle = HasUnboundedCycle flow loops
 Applies flow loops NestedTooDeep = HasDeepPlace flow loops
 
 -- it applies, and none that comes before it does
-abbrev pub IsNestFault : Flow → List Loop → NestFault → Type 0
+abbrev pub IsNestFault : Flow → StatedLoops → NestFault → Type 0
 IsNestFault flow loops Memory = Unit {0}
 IsNestFault flow loops LoopsCross = HasCrossing flow loops
-IsNestFault flow loops SharedHeader = (HasCrossing flow loops → ⊥) × HasSharedHeader loops
+IsNestFault flow loops SharedHeader = (HasCrossing flow loops → ⊥) × HasSharedHeader loops.list
 IsNestFault flow loops EntersMidLoop =
-    (HasCrossing flow loops → ⊥) × (HasSharedHeader loops → ⊥) × HasMidEntry flow loops
+    (HasCrossing flow loops → ⊥) × (HasSharedHeader loops.list → ⊥) × HasMidEntry flow loops
 IsNestFault flow loops UnboundedCycle =
-    (HasCrossing flow loops → ⊥) × (HasSharedHeader loops → ⊥) × (HasMidEntry flow loops → ⊥)
+    (HasCrossing flow loops → ⊥) × (HasSharedHeader loops.list → ⊥) × (HasMidEntry flow loops → ⊥)
     × HasUnboundedCycle flow loops
 IsNestFault flow loops NestedTooDeep =
-    (HasCrossing flow loops → ⊥) × (HasSharedHeader loops → ⊥) × (HasMidEntry flow loops → ⊥)
+    (HasCrossing flow loops → ⊥) × (HasSharedHeader loops.list → ⊥) × (HasMidEntry flow loops → ⊥)
     × (HasUnboundedCycle flow loops → ⊥) × HasDeepPlace flow loops

@@ -7,6 +7,7 @@ use Rattle.control_flow.specs.Places.{place_at}
 use Rattle.loop_bounds.specs.declared.nested.Instance.{Instance as Nested, out-Instance}
 use Rattle.loop_bounds.specs.declared.nested.Instance.TheOpen.{Instance-F}
 use Rattle.loop_bounds.specs.declared.nested.Instance.TheFolds.{fold-Instance}
+use Rattle.statement.specs.declared.apart.ApartStretch.{ApartStretch}
 use Rattle.loop_bounds.specs.Extents.{found_instance}
 use Rattle.loop_bounds.specs.Instance.{Instance, is_member}
 use Rattle.loop_bounds.specs.Tree.{Tree}
@@ -40,24 +41,24 @@ pub record Outline : Type 0 where
   pub nodes : List Node
 
 -- the same, where each of those directly inside it has its outline
-abbrev pub outline_step : Instance-F Outline → Outline
-outline_step i =
+abbrev pub outline_step : List ApartStretch → Instance-F Outline → Outline
+outline_step apart i =
     record {
-      instance = found_instance i.found;
+      instance = found_instance apart i.found;
       nodes = flat_map (λ o. o.nodes) i.inner.items
           ++ record {
-            instance = found_instance i.found;
+            instance = found_instance apart i.found;
             places = i.places.items;
             inner = map (λ o. o.instance) i.inner.items;
           }
           ∷ [];
     }
 
-abbrev pub outline : Nested → Outline
-outline = fold-Instance Outline outline_step
+abbrev pub outline : List ApartStretch → Nested → Outline
+outline apart = fold-Instance Outline (outline_step apart)
 
-abbrev pub instance_in : Nested → Instance
-instance_in i = (outline i).instance
+abbrev pub instance_in : List ApartStretch → Nested → Instance
+instance_in apart i = (outline apart i).instance
 
 abbrev pub places_in : Nested → List Place
 places_in i = (out-Instance i).places.items
@@ -65,16 +66,17 @@ places_in i = (out-Instance i).places.items
 abbrev pub inner_in : Nested → List Nested
 inner_in i = (out-Instance i).inner.items
 
-abbrev pub heads : List Nested → List Instance
-heads all = map instance_in all
+abbrev pub heads : List ApartStretch → List Nested → List Instance
+heads apart all = map (instance_in apart) all
 
 -- what is shown of the instance itself
-abbrev pub node_of : Nested → Node
-node_of i = record { instance = instance_in i; places = places_in i; inner = heads (inner_in i) }
+abbrev pub node_of : List ApartStretch → Nested → Node
+node_of apart i =
+    record { instance = instance_in apart i; places = places_in i; inner = heads apart (inner_in i) }
 
 -- the nodes of all, the inner ones before the outer ones
-abbrev pub nodes : List Nested → List Node
-nodes all = flat_map (λ i. (outline i).nodes) all
+abbrev pub nodes : List ApartStretch → List Nested → List Node
+nodes apart all = flat_map (λ i. (outline apart i).nodes) all
 
 -- ## The nested view
 
@@ -85,14 +87,14 @@ members flow tree i = filter (is_member i) (map (place_at flow.places) tree.orde
 -- a node for each instance of the tree, with its members and with the instances directly inside it; the list
 -- itself is of those that are inside none
 pub record IsNestedView (flow : Flow) (tree : Tree) (shown : List Nested) : Type 0 where
-  pub each_once : map (λ n. n.instance) (nodes shown) ≡ tree.instances
+  pub each_once : map (λ n. n.instance) (nodes tree.apart shown) ≡ tree.instances
   pub members_are : All
       (λ n. (p : Place) → Contains n.places p ↔ (Contains flow.places p × (is_member n.instance p ≡ true)))
-      (nodes shown)
-  pub in_order : All (λ n. n.places ≡ members flow tree n.instance) (nodes shown)
+      (nodes tree.apart shown)
+  pub in_order : All (λ n. n.places ≡ members flow tree n.instance) (nodes tree.apart shown)
   pub inner_are : All
       (λ n. (i : Instance) → Contains n.inner i
       ↔ (Contains tree.instances i × IsDirectlyInside flow tree.instances i n.instance))
-      (nodes shown)
-  pub outermost_are : (i : Instance) → Contains (heads shown) i
+      (nodes tree.apart shown)
+  pub outermost_are : (i : Instance) → Contains (heads tree.apart shown) i
       ↔ (Contains tree.instances i × IsOutermost flow tree.instances i)

@@ -4,6 +4,7 @@ use Rattle.std.specs.Prelude.{slice_index, slice_index_or, Contains, All}
 use Rattle.std.specs.List.Sorted.{IsNonDecreasingBy}
 use Rattle.control_flow.specs.declared.places.Place.{Place}
 use Rattle.control_flow.specs.Flow.{Flow}
+use Rattle.statement.specs.declared.apart.ApartStretch.{ApartStretch}
 use Rattle.numbered_walks.specs.declared.span.Span.{Span}
 use Rattle.numbered_walks.specs.Index.{span_at}
 use Rattle.loop_bounds.specs.declared.nested.Outermost.{Outermost}
@@ -12,20 +13,22 @@ use Rattle.loop_bounds.specs.Nested.{IsDirectlyInside, Node, heads, members, nod
 use Rattle.loop_bounds.specs.Tree.{Tree}
 
 -- an instance is added, and takes those that begin within it
-pub record Encloses (old new : Outermost) (header : ℕ) (i : Instance) (places : List Place) : Type 0 where
+pub record Encloses (apart : List ApartStretch) (old new : Outermost) (header : ℕ) (i : Instance)
+    (places : List Place) : Type 0 where
   pub first : ℕ
   pub first_in : first ≤ length old.headers.items
-  pub apart : (p : ℕ) → p < first → slice_index old.headers.items p < header
+  pub before : (p : ℕ) → p < first → slice_index old.headers.items p < header
   pub within : (p : ℕ) → first ≤ p → p < length old.headers.items → header ≤ slice_index old.headers.items p
   pub headers_are : new.headers.items ≡ take first old.headers.items ++ header ∷ []
-  pub heads_are : heads new.instances.items ≡ take first (heads old.instances.items) ++ i ∷ []
-  pub nodes_are : nodes new.instances.items
-      ≡ nodes old.instances.items
-      ++ record { instance = i; places = places; inner = drop first (heads old.instances.items) } ∷ []
+  pub heads_are : heads apart new.instances.items ≡ take first (heads apart old.instances.items) ++ i ∷ []
+  pub nodes_are : nodes apart new.instances.items
+      ≡ nodes apart old.instances.items
+      ++ record { instance = i; places = places; inner = drop first (heads apart old.instances.items) } ∷ []
 
 abbrev pub instance_at : List Instance → ℕ → Instance
 instance_at instances k =
-    slice_index_or instances k (record { list = []; header = 0; first = 0; last = 0; bound = 0 })
+    slice_index_or instances k
+    (record { list = []; header = 0; first = 0; last = 0; bound = 0; apart = [] })
 
 -- the span at `inner` lies in the span at `outer`, and begins after it
 abbrev pub HoldsSpan : List Span → ℕ → ℕ → Type 0
@@ -52,7 +55,8 @@ IsShown flow tree n =
 
 -- the first instances are nested
 pub record AreNestedUpto (flow : Flow) (tree : Tree) (outermost : Outermost) (limit : ℕ) : Type 0 where
-  pub each_once : map (λ n. n.instance) (nodes outermost.instances.items) ≡ take limit tree.instances
-  pub shown : All (IsShown flow tree) (nodes outermost.instances.items)
+  pub each_once : map (λ n. n.instance) (nodes tree.apart outermost.instances.items)
+      ≡ take limit tree.instances
+  pub shown : All (IsShown flow tree) (nodes tree.apart outermost.instances.items)
   pub outer : AreOutermost tree.instances tree.spans outermost.headers.items
-      (heads outermost.instances.items) limit
+      (heads tree.apart outermost.instances.items) limit

@@ -6,6 +6,7 @@ use Rattle.control_flow.specs.declared.places.Place.TheVariants.{Exit}
 use Rattle.control_flow.specs.declared.edges.Edge.{Edge}
 use Rattle.control_flow.specs.Flow.{Flow}
 use Rattle.control_flow.specs.Places.{place_at}
+use Rattle.statement.specs.declared.apart.ApartStretch.{ApartStretch}
 use Rattle.numbered_walks.specs.declared.span.NumberedEdge.{NumberedEdge}
 use Rattle.numbered_walks.specs.declared.span.Span.{Span}
 use Rattle.numbered_walks.specs.Ordered.{IsOrdered, is_in}
@@ -13,12 +14,13 @@ use Rattle.loop_bounds.specs.Instance.{Instance, is_member, is_header}
 
 -- the instances with the inner ones before the outer ones, and the span of each; for each number the position
 -- of its place among the places of the flow graph, Exit's last; the flow graph's edges in turn, between
--- numbers
+-- numbers; and the words that are apart from the loops
 pub record Tree : Type 0 where
   pub instances : List Instance
   pub spans : List Span
   pub order : List ℕ
   pub edges : List NumberedEdge
+  pub apart : List ApartStretch
 
 -- the place of a number
 abbrev pub place_in : Flow → Tree → ℕ → Place

@@ -11,10 +11,11 @@ use Rattle.loop_bounds.specs.Tree.{Tree, NumbersEdge}
 abbrev pub tree_of : Inside → Tree
 tree_of tree =
     record {
-      instances = map found_instance tree.instances.items;
+      instances = map (found_instance tree.apart.items) tree.instances.items;
       spans = tree.spans.items;
       order = tree.order.items;
       edges = tree.edges.items;
+      apart = tree.apart.items;
     }
 
 -- the edges before the limit are numbered

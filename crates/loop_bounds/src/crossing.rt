@@ -11,23 +11,23 @@ use crate::extents::extents;
 use crate::loop_instances::LoopInstance;
 use crate::parents::parents;
 use control_flow::{Calls, Graph, Place};
-use statement::Loop;
+use statement::StatedLoops;
 use std::alloc::{AllocError, Global};
 
 // The instances with the list of calls.
 fn instances_with(
     alloc: Global,
     places: &[Place],
-    loops: &[Loop],
+    loops: &StatedLoops,
     list: Calls,
 ) -> Result<Vec<LoopInstance>, AllocError>
     requires { IsStrictlySortedBy place_cmp places.now }
     ensures { IfOk result
-        (λ found. (i : Instance) → Contains (map found_instance found.items) i
-        ↔ (IsFoundAmong places.now loops.now i × (i.list ≡ list))) }
+        (λ found. (i : Instance) → Contains (map (found_instance loops.now.apart) found.items) i
+        ↔ (IsFoundAmong loops.now.apart places.now loops.now.list i × (i.list ≡ list))) }
 {
     let mut found = Vec::new(alloc);
-    for stated in loops {
+    for stated in loops.list() {
         let header = Place::At(list, stated.header);
         if places.binary_search(&header).is_ok() {
             found.push(LoopInstance {
@@ -44,16 +44,16 @@ fn cross_with(
     alloc: Global,
     graph: &Graph,
     listed: &[Place],
-    loops: &[Loop],
+    loops: &StatedLoops,
     list: Calls,
 ) -> Result<bool, AllocError>
-    requires listed { IsListed graph.now.places listed.now }
-    requires stated { All IsLoop loops.now }
+    requires listed { IsListed loops.now.apart graph.now.places listed.now }
+    requires stated { All (IsLoop loops.now.apart) loops.now.list }
     ensures crossing { IfOk result (λ cross. cross ≡ true → HasCrossing graph.now loops.now) }
     ensures apart { IfOk result (λ cross. cross ≡ false → HasCrossingWith graph.now loops.now list → ⊥) }
 {
     let found = instances_with(alloc, graph.places(), loops, list)?;
-    let extents = extents(alloc, listed, &found)?;
+    let extents = extents(alloc, loops.apart(), listed, &found)?;
     let parents = parents(alloc, &extents)?;
     Ok(parents.is_none())
 }
@@ -63,10 +63,10 @@ pub(crate) fn have_crossing(
     alloc: Global,
     graph: &Graph,
     listed: &[Place],
-    loops: &[Loop],
+    loops: &StatedLoops,
 ) -> Result<bool, AllocError>
-    requires listed { IsListed graph.now.places listed.now }
-    requires stated { All IsLoop loops.now }
+    requires listed { IsListed loops.now.apart graph.now.places listed.now }
+    requires stated { All (IsLoop loops.now.apart) loops.now.list }
     ensures crossing { IfOk result (λ cross. cross ≡ true → HasCrossing graph.now loops.now) }
     ensures apart { IfOk result (λ cross. cross ≡ false → HasCrossing graph.now loops.now → ⊥) }
 {

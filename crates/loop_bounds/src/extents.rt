@@ -7,6 +7,7 @@ ghost use Rattle.loop_bounds.specs.Extents.{AreExtents, AreExtentsOf, IsExtentOf
 use crate::loop_instances::LoopInstance;
 use crate::numbering::point;
 use control_flow::Place;
+use statement::ApartWords;
 use std::alloc::{AllocError, Global};
 use std::cmp::Reverse;
 
@@ -31,18 +32,28 @@ impl Extent {
 }
 
 // The extent of an instance.
-fn extent_of(listed: &[Place], found: &LoopInstance, instance: usize) -> Extent
-    requires listed { AreByKey listed.now }
-    requires stated { IsLoop found.now.stated }
+fn extent_of(apart: &ApartWords, listed: &[Place], found: &LoopInstance, instance: usize) -> Extent
+    requires listed { AreByKey apart.now listed.now }
+    requires stated { IsLoop apart.now found.now.stated }
     requires reached { Contains listed.now (At found.now.list found.now.stated.header) }
-    ensures is { IsExtentOf listed.now (found_instance found.now) result }
+    ensures is { IsExtentOf listed.now (found_instance apart.now found.now) result }
     ensures named { result.instance ≡ instance }
     ensures some { result.first < result.end }
 {
     Extent {
-        first: point(listed, found.list, found.stated.first),
-        end: point(listed, found.list, found.stated.last + 1),
-        header: point(listed, found.list, found.stated.header),
+        first: point(apart, listed, found.list, apart.lies_at(found.stated.first)),
+        end: point(
+            apart,
+            listed,
+            found.list,
+            apart.lies_at(found.stated.last) + 1,
+        ),
+        header: point(
+            apart,
+            listed,
+            found.list,
+            apart.lies_at(found.stated.header),
+        ),
         instance,
     }
 }
@@ -50,18 +61,19 @@ fn extent_of(listed: &[Place], found: &LoopInstance, instance: usize) -> Extent
 /// The extents of instances, in order.
 pub(crate) fn extents(
     alloc: Global,
+    apart: &ApartWords,
     listed: &[Place],
     found: &[LoopInstance],
 ) -> Result<Vec<Extent>, AllocError>
-    requires listed { AreByKey listed.now }
-    requires stated { All (λ f. IsLoop f.stated) found.now }
+    requires listed { AreByKey apart.now listed.now }
+    requires stated { All (λ f. IsLoop apart.now f.stated) found.now }
     requires reached { All (λ f. Contains listed.now (At f.list f.stated.header)) found.now }
-    ensures of { IfOk result (λ extents. AreExtentsOf listed.now found.now extents.items) }
+    ensures of { IfOk result (λ extents. AreExtentsOf apart.now listed.now found.now extents.items) }
     ensures ordered { IfOk result (λ extents. AreExtents extents.items) }
 {
     let mut extents = Vec::with_capacity(alloc, found.len())?;
     for (instance, one) in found.iter().enumerate() {
-        extents.push(extent_of(listed, one, instance))?;
+        extents.push(extent_of(apart, listed, one, instance))?;
     }
     extents.sort_unstable_by_key(|extent| (extent.first, Reverse(extent.end)));
     Ok(extents)

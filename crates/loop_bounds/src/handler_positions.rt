@@ -10,7 +10,7 @@ use crate::loop_instances::{LoopInstance, instances_among};
 use crate::numbering::{number_edges, position_of};
 use control_flow::{Graph, Place};
 use numbered_walks::NumberedEdge;
-use statement::Loop;
+use statement::{Loop, StatedLoops};
 use std::alloc::{AllocError, Global};
 
 /// A handler's places by key, its instances with their extents, and its edges and its entry between
@@ -30,19 +30,20 @@ pub(crate) fn find_positions(
     graph: &Graph,
     listed: Vec<Place>,
     sorted: &[Loop],
-    loops: &[Loop],
+    loops: &StatedLoops,
 ) -> Result<HandlerPositions, AllocError>
-    requires listed { IsListed graph.now.places listed.items }
-    requires moved { IsPermutation loops.now sorted.now }
+    requires listed { IsListed loops.now.apart graph.now.places listed.items }
+    requires moved { IsPermutation loops.now.list sorted.now }
     requires ascending { IsNonDecreasingBy (λ l. l.header) sorted.now }
-    requires stated { All IsLoop loops.now }
-    requires apart { HasSharedHeader loops.now → ⊥ }
+    requires stated { All (IsLoop loops.now.apart) loops.now.list }
+    requires apart { HasSharedHeader loops.now.list → ⊥ }
     ensures { IfOk result (AreHandlerPositions graph.now loops.now) }
 {
+    let apart = loops.apart();
     let found = instances_among(alloc, sorted, graph.places())?;
-    let extents = extents(alloc, &listed, &found)?;
-    let edges = number_edges(alloc, graph, &listed)?;
-    let entry = position_of(&listed, &graph.entry());
+    let extents = extents(alloc, apart, &listed, &found)?;
+    let edges = number_edges(alloc, apart, graph, &listed)?;
+    let entry = position_of(apart, &listed, &graph.entry());
     Ok(HandlerPositions {
         listed,
         found,

@@ -1,12 +1,11 @@
 ghost use Rattle.std.specs.Prelude.{◌≡◌, ℕ, ◌+◌, ◌<◌, ◌≤◌, IfOk, IfSome, All, Contains, EachIndex};
 ghost use Rattle.std.specs.Prelude.{MatchOption, length, slice_index};
-ghost use Rattle.std.specs.List.Sorted.{IsStrictlySortedBy};
+ghost use Rattle.std.specs.List.Sorted.{IsPermutation, IsStrictlySortedBy};
 ghost use Rattle.control_flow.specs.Places.{place_cmp};
 ghost use Rattle.loop_bounds.specs.InPositions.{HasKeys};
 ghost use Rattle.loop_bounds.specs.Layout.{AreNumbers, IsLaidOut, ArePlaced, AreMoved};
 ghost use Rattle.loop_bounds.specs.Layout.{IsShown, AreShown, AreKeyed, by_keys};
 ghost use Rattle.loop_bounds.specs.Layout.{chain_of, items_of, key_in};
-ghost use Rattle.loop_bounds.specs.Keys.{IsListed};
 
 use crate::compare_pushed::compare_pushed;
 use crate::extents::Extent;
@@ -186,7 +185,7 @@ pub(crate) fn indexes(
     order: &[usize],
 ) -> Result<Vec<usize>, AllocError>
     requires ordered { IsStrictlySortedBy place_cmp places.now }
-    requires listed { IsListed places.now listed.now }
+    requires listed { IsPermutation places.now listed.now }
     requires order { length order.now ≡ length places.now + 1 }
     requires inside { (n : ℕ) → n < length places.now → slice_index order.now n < length places.now }
     ensures { IfOk result (λ indexes. ArePlaced places.now listed.now order.now indexes.items) }

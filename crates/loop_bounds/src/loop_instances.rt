@@ -1,6 +1,7 @@
 ghost use Rattle.std.specs.Prelude.{◌≡◌, ◌≢◌, ◌↔◌, All, AllPairs, length, ◌<◌, ◌≤◌, ◌⊎◌, OnOk, IfOk};
-ghost use Rattle.std.specs.Prelude.{[], ◌∷◌, Contains, map, true, false};
+ghost use Rattle.std.specs.Prelude.{[], ◌∷◌, Contains, List, map, true, false};
 ghost use Rattle.std.specs.List.Sorted.{IsNonDecreasingBy, IsPermutation};
+ghost use Rattle.statement.specs.declared.apart.ApartStretch.{ApartStretch};
 ghost use Rattle.statement.specs.declared.stated.Loop.{Loop};
 ghost use Rattle.loop_bounds.specs.Instance.{Instance};
 ghost use Rattle.loop_bounds.specs.Extents.{HeadersDiffer, IsFoundAmong, PlacesDiffer, found_instance};
@@ -65,8 +66,9 @@ fn add_instances(
 ) -> Result<(), AllocError>
     requires { IsNonDecreasingBy (λ l. l.header) sorted.now }
     ensures added { OnOk result
-        ((i : Instance) → Contains (map found_instance found.new.items) i
-        ↔ (Contains (map found_instance found.old.items) i ⊎ IsFoundAmong (place.now ∷ []) sorted.now i)) }
+        ((apart : List ApartStretch) (i : Instance) → Contains (map (found_instance apart) found.new.items) i
+        ↔ (Contains (map (found_instance apart) found.old.items) i
+        ⊎ IsFoundAmong apart (place.now ∷ []) sorted.now i)) }
     ensures differ { OnOk result
         (HeadersDiffer sorted.now → PlacesDiffer found.old.items
         → All (λ f. header_place f ≢ place.now) found.old.items → PlacesDiffer found.new.items) }
@@ -90,8 +92,8 @@ pub(crate) fn instances_among(
 ) -> Result<Vec<LoopInstance>, AllocError>
     requires { IsNonDecreasingBy (λ l. l.header) sorted.now }
     ensures exact { IfOk result
-        (λ found. (i : Instance) → Contains (map found_instance found.items) i
-        ↔ IsFoundAmong places.now sorted.now i) }
+        (λ found. (apart : List ApartStretch) (i : Instance)
+        → Contains (map (found_instance apart) found.items) i ↔ IsFoundAmong apart places.now sorted.now i) }
     ensures differ { IfOk result
         (λ found. HeadersDiffer sorted.now → AllPairs (λ p q. p ≢ q) places.now → PlacesDiffer found.items) }
 {

@@ -1,7 +1,8 @@
 ghost use Rattle.std.specs.Prelude.{◌≡◌, [], ◌∷◌, ◌++◌, ◌-◌, ◌+◌, ◌≤◌, ◌<◌, ℕ, IfOk, OnOk, length, map, take};
-ghost use Rattle.std.specs.Prelude.{drop, slice_index};
+ghost use Rattle.std.specs.Prelude.{List, drop, slice_index};
 ghost use Rattle.std.specs.List.Sorted.{IsNonDecreasingBy};
 ghost use Rattle.control_flow.specs.Places.{place_at};
+ghost use Rattle.statement.specs.declared.apart.ApartStretch.{ApartStretch};
 ghost use Rattle.loop_bounds.specs.Extents.{found_instance};
 ghost use Rattle.loop_bounds.specs.Nested.{IsNestedView, inner_in, instance_in, node_of, nodes, outline};
 ghost use Rattle.loop_bounds.specs.Nested.{places_in};
@@ -25,21 +26,21 @@ pub struct Instance {
 impl Instance {
     /// The calls inside of which the loop is taken.
     pub fn list(&self) -> Calls
-        ensures { result ≡ (instance_in self.now).list }
+        ensures { (apart : List ApartStretch) → result ≡ (instance_in apart self.now).list }
     {
         self.found.list
     }
 
     /// The address of the loop's header, a multiple of 4 below 4000000.
     pub fn header(&self) -> u32
-        ensures { result ≡ (instance_in self.now).header }
+        ensures { (apart : List ApartStretch) → result ≡ (instance_in apart self.now).header }
     {
         self.found.stated.header
     }
 
     /// The most back edges that one stay takes, from 0 to 1,048,576.
     pub fn bound(&self) -> u32
-        ensures { result ≡ (instance_in self.now).bound }
+        ensures { (apart : List ApartStretch) → result ≡ (instance_in apart self.now).bound }
     {
         self.found.stated.bound
     }
@@ -55,7 +56,8 @@ impl Instance {
     #[tactic(auto, using(crate::proofs::NestedLemmas::nodes_out))]
     pub fn inner(&self) -> &[Instance]
         ensures value { result.now ≡ inner_in self.now }
-        ensures shown { (outline self.now).nodes ≡ nodes result.now ++ node_of self.now ∷ [] }
+        ensures shown { (apart : List ApartStretch)
+            → (outline apart self.now).nodes ≡ nodes apart result.now ++ node_of apart self.now ∷ [] }
     {
         &self.inner
     }
@@ -81,7 +83,9 @@ impl Outermost {
     ) -> Result<(), AllocError>
         requires same { length self.old.headers.items ≡ length self.old.instances.items }
         requires ascending { IsNonDecreasingBy (λ h. h) self.old.headers.items }
-        ensures { OnOk result (Encloses self.old self.new header (found_instance found) places.items) }
+        ensures { OnOk result
+            ((apart : List ApartStretch)
+            → Encloses apart self.old self.new header (found_instance apart found) places.items) }
     {
         let first = self.headers.partition_point(|inner| *inner < header);
         let inner = self.instances.split_off(first)?;

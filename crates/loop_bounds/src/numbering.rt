@@ -1,39 +1,65 @@
 ghost use Rattle.std.specs.Prelude.{◌≡◌, ◌≤◌, ◌++◌, [], ◌∷◌, IfOk, length, ◌<◌, ◌⊎◌, ◌↔◌};
-ghost use Rattle.std.specs.Prelude.{Contains, IsTrue, true};
+ghost use Rattle.std.specs.Prelude.{Contains, IsTrue, map, true};
 ghost use Rattle.std.specs.Ordering.{nat_cmp};
 ghost use Rattle.std.specs.Cmp.Lexicographic.{slice_cmp};
 ghost use Rattle.std.specs.List.Sorted.{IsSorted, IsStrictlySortedBy};
-ghost use Rattle.loop_bounds.specs.Keys.{IsListed, IsPoint, by_key};
+ghost use Rattle.statement.specs.Stated.{lies_at};
+ghost use Rattle.loop_bounds.specs.Keys.{IsListed, IsPoint, by_key, is_before, key_of};
 ghost use Rattle.control_flow.specs.Places.{place_cmp, place_at};
 ghost use Rattle.loop_bounds.specs.Tree.{IsNumbered, NumbersEdge};
 
-use crate::compare_pushed::compare_pushed;
 use control_flow::{Calls, Edge, Graph, Place};
 use numbered_walks::NumberedEdge;
+use statement::ApartWords;
 use std::alloc::{AllocError, Global};
 use std::cmp::Ordering;
 
-// How the calls and then the address compare with others.
-fn compare_keys(calls: &[u32], address: u32, others: &[u32], other: u32) -> Ordering
-    ensures { result ≡ slice_cmp nat_cmp (calls.now ++ address ∷ []) (others.now ++ other ∷ []) }
+// How where the words at two addresses lie compares.
+fn by_place(apart: &ApartWords, address: u32, other: u32) -> Ordering
+    ensures { result ≡ nat_cmp (lies_at apart.now address) (lies_at apart.now other) }
 {
-    // Most places are inside no call.
-    if calls.is_empty() {
-        if others.is_empty() {
-            return address.cmp(&other);
-        }
+    if address == other {
+        return Ordering::Equal;
     }
-    compare_pushed(calls, &address, others, &other)
+    apart.lies_at(address).cmp(&apart.lies_at(other))
+}
+
+// How where calls lie, and then a number, compare with others.
+fn compare_keys(
+    apart: &ApartWords,
+    calls: &[u32],
+    number: u64,
+    others: &[u32],
+    other: u64,
+) -> Ordering
+    ensures { result
+        ≡ slice_cmp nat_cmp (map (lies_at apart.now) calls.now ++ number ∷ [])
+        (map (lies_at apart.now) others.now ++ other ∷ []) }
+{
+    match calls {
+        [] => match others {
+            [] => number.cmp(&other),
+            [first, ..] => number.cmp(&apart.lies_at(*first)).then(Ordering::Less),
+        },
+        [call, calls @ ..] => match others {
+            [] => apart.lies_at(*call).cmp(&other).then(Ordering::Greater),
+            [first, others @ ..] => {
+                let rest = compare_keys(apart, calls, number, others, other);
+                by_place(apart, *call, *first).then(rest)
+            }
+        },
+    }
 }
 
 /// How the keys of two places compare.
-pub(crate) fn by_key(left: &Place, right: &Place) -> Ordering
-    ensures { result ≡ by_key left.now right.now }
+pub(crate) fn by_key(apart: &ApartWords, left: &Place, right: &Place) -> Ordering
+    ensures { result ≡ by_key apart.now left.now right.now }
 {
     match left {
         Place::At(calls, address) => match right {
             Place::At(others, other) => {
-                compare_keys(calls.items(), *address, others.items(), *other)
+                let (place, next) = (apart.lies_at(*address), apart.lies_at(*other));
+                compare_keys(apart, calls.items(), place, others.items(), next)
             }
             Place::Exit => Ordering::Greater,
         },
@@ -45,21 +71,37 @@ pub(crate) fn by_key(left: &Place, right: &Place) -> Ordering
 }
 
 /// The places, ascending by key.
-pub(crate) fn listed(alloc: Global, places: &[Place]) -> Result<Vec<Place>, AllocError>
-    ensures { IfOk result (λ listed. IsListed places.now listed.items) }
+pub(crate) fn listed(
+    alloc: Global,
+    apart: &ApartWords,
+    places: &[Place],
+) -> Result<Vec<Place>, AllocError>
+    ensures { IfOk result (λ listed. IsListed apart.now places.now listed.items) }
 {
     let mut listed = Vec::from_slice(alloc, places)?;
-    listed.sort_unstable_by(|left, right| by_key(left, right));
+    listed.sort_unstable_by(|left, right| by_key(apart, left, right));
     Ok(listed)
 }
 
-/// How many of the places have keys that come before the calls and then the address.
-pub(crate) fn point(listed: &[Place], calls: Calls, address: u32) -> usize
-    requires { IsSorted by_key listed.now }
-    ensures { IsPoint listed.now (calls ++ address ∷ []) result }
+// Whether the place's key comes before where the calls lie and then the number.
+fn is_before(apart: &ApartWords, place: &Place, calls: &[u32], number: u64) -> bool
+    ensures { result
+        ≡ is_before (key_of apart.now place.now) (map (lies_at apart.now) calls.now ++ number ∷ []) }
 {
-    let bound = Place::At(calls, address);
-    listed.partition_point(|place| by_key(place, &bound).is_lt())
+    match place {
+        Place::At(own, address) => {
+            compare_keys(apart, own.items(), apart.lies_at(*address), calls, number).is_lt()
+        }
+        Place::Exit => true,
+    }
+}
+
+/// How many of the places have keys that come before where the calls lie and then the number.
+pub(crate) fn point(apart: &ApartWords, listed: &[Place], calls: Calls, number: u64) -> usize
+    requires { IsSorted (by_key apart.now) listed.now }
+    ensures { IsPoint apart.now listed.now (map (lies_at apart.now) calls ++ number ∷ []) result }
+{
+    listed.partition_point(|place| is_before(apart, place, calls.items(), number))
 }
 
 /// Whether the graph has the place.
@@ -94,31 +136,31 @@ pub(crate) fn index_near(places: &[Place], place: &Place, near: usize) -> usize
 }
 
 /// The position of a place by key, or the number of places for Exit.
-pub(crate) fn position_of(listed: &[Place], place: &Place) -> usize
-    requires ordered { IsSorted by_key listed.now }
+pub(crate) fn position_of(apart: &ApartWords, listed: &[Place], place: &Place) -> usize
+    requires ordered { IsSorted (by_key apart.now) listed.now }
     requires no_exit { Contains listed.now Place.Exit → ⊥ }
     requires known { (place.now ≡ Place.Exit) ⊎ Contains listed.now place.now }
     ensures number { place_at listed.now result ≡ place.now }
     ensures most { result ≤ length listed.now }
 {
     listed
-        .binary_search_by(|other| by_key(other, place))
+        .binary_search_by(|other| by_key(apart, other, place))
         .unwrap_or(listed.len())
 }
 
-// Whether the place has this position by key.
-#[tactic(auto, using(crate::proofs::Positions::key_exact))]
+// Whether the place has this position.
+#[tactic(auto, using(crate::proofs::Positions::order_exact))]
 fn is_at(listed: &[Place], at: usize, place: &Place) -> bool
     ensures here { result ≡ true → place_at listed.now at ≡ place.now }
     ensures inside { result ≡ true → at < length listed.now }
 {
-    at < listed.len() && by_key(&listed[at], place).is_eq()
+    at < listed.len() && listed[at].cmp(place).is_eq()
 }
 
 // The position of a place by key. It is looked for near another one first, since most edges lead to the next
 // instruction.
-fn position_near(listed: &[Place], place: &Place, near: usize) -> usize
-    requires ordered { IsSorted by_key listed.now }
+fn position_near(apart: &ApartWords, listed: &[Place], place: &Place, near: usize) -> usize
+    requires ordered { IsSorted (by_key apart.now) listed.now }
     requires no_exit { Contains listed.now Place.Exit → ⊥ }
     requires known { (place.now ≡ Place.Exit) ⊎ Contains listed.now place.now }
     requires near { near ≤ length listed.now }
@@ -133,12 +175,12 @@ fn position_near(listed: &[Place], place: &Place, near: usize) -> usize
             return near + 1;
         }
     }
-    position_of(listed, place)
+    position_of(apart, listed, place)
 }
 
 // The edge between the positions of its ends, the first of which is near that.
-fn number_edge(listed: &[Place], edge: &Edge, near: usize) -> NumberedEdge
-    requires ordered { IsSorted by_key listed.now }
+fn number_edge(apart: &ApartWords, listed: &[Place], edge: &Edge, near: usize) -> NumberedEdge
+    requires ordered { IsSorted (by_key apart.now) listed.now }
     requires no_exit { Contains listed.now Place.Exit → ⊥ }
     requires starts { Contains listed.now edge.now.from }
     requires ends { (edge.now.to ≡ Place.Exit) ⊎ Contains listed.now edge.now.to }
@@ -146,8 +188,8 @@ fn number_edge(listed: &[Place], edge: &Edge, near: usize) -> NumberedEdge
     ensures edge { NumbersEdge (place_at listed.now) (length listed.now) edge.now result }
     ensures from { result.from ≤ length listed.now }
 {
-    let from = position_near(listed, &edge.from, near);
-    let to = position_near(listed, &edge.to, from);
+    let from = position_near(apart, listed, &edge.from, near);
+    let to = position_near(apart, listed, &edge.to, from);
     NumberedEdge {
         from,
         to,
@@ -158,16 +200,17 @@ fn number_edge(listed: &[Place], edge: &Edge, near: usize) -> NumberedEdge
 /// The edges of the graph between positions, in their order.
 pub(crate) fn number_edges(
     alloc: Global,
+    apart: &ApartWords,
     graph: &Graph,
     listed: &[Place],
 ) -> Result<Vec<NumberedEdge>, AllocError>
-    requires { IsListed graph.now.places listed.now }
+    requires { IsListed apart.now graph.now.places listed.now }
     ensures { IfOk result (λ edges. IsNumbered graph.now (place_at listed.now) edges.items) }
 {
     let mut numbered = Vec::with_capacity(alloc, graph.edges().len())?;
     let mut near = 0;
     for edge in graph.edges() {
-        let next = number_edge(listed, edge, near);
+        let next = number_edge(apart, listed, edge, near);
         near = next.from;
         numbered.push(next)?;
     }

@@ -1,6 +1,6 @@
 ghost use Rattle.std.specs.Prelude.{◌≡◌, ◌≢◌, ◌↔◌, ◌<◌, All, Contains, IfOk, OnOk, IfErr, List, length, map};
-ghost use Rattle.statement.specs.Stated.{IsLoop};
 ghost use Rattle.control_flow.specs.Flow.{IsEdgeRange};
+ghost use Rattle.statement.specs.Stated.{IsLoop};
 ghost use Rattle.loop_bounds.specs.Extents.{found_instance};
 ghost use Rattle.loop_bounds.specs.InPositions.{AreHandlerPositions, IsNesting};
 ghost use Rattle.loop_bounds.specs.Keys.{IsListed};
@@ -18,7 +18,7 @@ use crate::nesting::{Nesting, nest_extents};
 use crate::numbering::listed;
 use control_flow::{Graph, Place};
 use numbered_walks::{NumberedEdge, Span};
-use statement::{Loop, Statement};
+use statement::{ApartStretch, StatedLoops, Statement};
 use std::alloc::{AllocError, Global};
 use std::marker::Model;
 
@@ -30,6 +30,8 @@ pub struct LoopTree {
     spans: Vec<Span>,
     order: Vec<usize>,
     edges: Vec<NumberedEdge>,
+    // the words that are apart from the loops
+    apart: Vec<ApartStretch>,
 }
 
 impl Model for LoopTree {
@@ -59,7 +61,7 @@ impl LoopTree {
 
     /// The instances, the inner ones before the outer ones.
     pub fn instances(&self) -> &[LoopInstance]
-        ensures { map found_instance result.now ≡ self.now.instances }
+        ensures { map (found_instance self.now.apart) result.now ≡ self.now.instances }
     {
         &self.instances
     }
@@ -116,16 +118,18 @@ fn in_closing_order(
 fn laid_out(
     alloc: Global,
     graph: &Graph,
+    loops: &StatedLoops,
     positions: &HandlerPositions,
     nesting: &Nesting,
 ) -> Result<LoopTree, AllocError>
-    requires positions { (loops : List Loop) × AreHandlerPositions graph.now loops positions.now }
+    requires positions { AreHandlerPositions graph.now loops.now positions.now }
     requires nesting { IsNesting (length graph.now.places) positions.now.edges.items positions.now.entry
         positions.now.extents.items nesting.now }
     ensures tree { IfOk result (IsTree graph.now) }
     ensures instances { IfOk result
         (λ tree. (i : Instance) → Contains tree.instances i
-        ↔ Contains (map found_instance positions.now.found.items) i) }
+        ↔ Contains (map (found_instance loops.now.apart) positions.now.found.items) i) }
+    ensures apart { IfOk result (λ tree. tree.apart ≡ loops.now.apart) }
 {
     let places = graph.places();
     let exit = places.len();
@@ -138,6 +142,7 @@ fn laid_out(
         spans,
         order: indexes(alloc, places, &positions.listed, &order)?,
         edges: renumbered(alloc, &positions.edges, &numbers)?,
+        apart: Vec::from_slice(alloc, loops.apart().stretches())?,
     })
 }
 
@@ -146,11 +151,11 @@ fn shared_fault(
     alloc: Global,
     graph: &Graph,
     listed: &[Place],
-    loops: &[Loop],
+    loops: &StatedLoops,
 ) -> Result<NestFault, AllocError>
-    requires listed { IsListed graph.now.places listed.now }
-    requires stated { All IsLoop loops.now }
-    requires shared { HasSharedHeader loops.now }
+    requires listed { IsListed loops.now.apart graph.now.places listed.now }
+    requires stated { All (IsLoop loops.now.apart) loops.now.list }
+    requires shared { HasSharedHeader loops.now.list }
     ensures { IfOk result (IsNestFault graph.now loops.now) }
 {
     if have_crossing(alloc, graph, listed, loops)? {
@@ -170,15 +175,17 @@ pub fn nest(alloc: Global, graph: &Graph, statement: &Statement) -> Result<LoopT
     ensures instances { IfOk result
         (λ tree. (i : Instance) → Contains tree.instances i ↔ IsInstance graph.now statement.now.loops i) }
     ensures tree { IfOk result (IsTree graph.now) }
+    ensures apart { IfOk result (λ tree. tree.apart ≡ statement.now.loops.apart) }
     ensures allowed { OnOk result
         ((fault : NestFault) → fault ≢ NestFault.Memory → Applies graph.now statement.now.loops fault → ⊥) }
     ensures fault { IfErr result (IsNestFault graph.now statement.now.loops) }
 {
     let places = graph.places();
     let loops = statement.loops();
-    let listed = listed(alloc, places)?;
-    let sorted = by_header(alloc, loops)?;
-    if shares_header(alloc, loops)? {
+    let list = loops.list();
+    let listed = listed(alloc, loops.apart(), places)?;
+    let sorted = by_header(alloc, list)?;
+    if shares_header(alloc, list)? {
         return Err(shared_fault(alloc, graph, &listed, loops)?);
     }
     let positions = find_positions(alloc, graph, listed, &sorted, loops)?;
@@ -189,5 +196,5 @@ pub fn nest(alloc: Global, graph: &Graph, statement: &Statement) -> Result<LoopT
         positions.entry,
         places.len(),
     )?;
-    Ok(laid_out(alloc, graph, &positions, &nesting)?)
+    Ok(laid_out(alloc, graph, loops, &positions, &nesting)?)
 }

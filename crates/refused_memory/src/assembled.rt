@@ -40,7 +40,7 @@ fn states_nested(statement: &Statement) -> bool {
         last: 0x800C,
         bound: 2,
     };
-    statement.entry() == 0x8000 && statement.loops() == [outer, inner].as_slice()
+    statement.entry() == 0x8000 && statement.loops().list() == [outer, inner].as_slice()
 }
 
 fn stated(alloc: Global) -> Result<Answer, ReportFault> {

@@ -154,6 +154,7 @@ const EXPLAINED: Explained<'static> = Explained {
         count: Some(3),
         every: Some(10),
     },
+    each: false,
 };
 
 const FOLLOWED_RUN: FollowedRun<'static> = FollowedRun {

@@ -159,7 +159,7 @@ leave_most n unfitted a b c = (omega arith, omega arith)
 -- ## What words cost
 
 abbrev pub stated : Stated
-stated = record { entry = 0; leave = Any; returns = Assumed; loops = []; targets = []; accesses = []; rules = []; multiplies = []; branches = [] }
+stated = record { entry = 0; leave = Any; returns = Assumed; loops = record { list = []; apart = [] }; targets = []; accesses = []; rules = []; multiplies = []; branches = [] }
 
 leaves_any : (p : Profile) (k : FlowKind) → arrival_ticks p Any k Exit ≤ worst_leave p Any
 leaves_any p kind.Plain = omega arith

@@ -81,7 +81,7 @@ module _ (entry : ℕ) (profile : Profile) where
   there = rw (eq-eqb entry entry refl) refl
 
   abbrev stated : Stated
-  stated = record { entry = entry; leave = Any; returns = Assumed; loops = []; targets = []; accesses = []; rules = []; multiplies = []; branches = [] }
+  stated = record { entry = entry; leave = Any; returns = Assumed; loops = record { list = []; apart = [] }; targets = []; accesses = []; rules = []; multiplies = []; branches = [] }
 
   edge : Edge
   edge = do_edge stated profile [] entry (instr_action instr) Exit
@@ -140,7 +140,7 @@ module _ (entry : ℕ) (profile : Profile) where
     profile_is = refl;
   }
 
-  keeps_bounds : KeepsTheBounds flow [] []
+  keeps_bounds : KeepsTheBounds flow stated.loops []
   keeps_bounds = λ i is. absurd (no_member is.stated_loop is.stated)
 
 -- ## The machine

@@ -5,8 +5,7 @@ use Rattle.std.specs.Prelude.{All, None}
 use Rattle.walks.specs.Walk.{Leads, cost_of}
 use Rattle.bus_ticks.specs.declared.profile.Profile.{Profile}
 use Rattle.image.specs.Image.{Words}
-use Rattle.statement.specs.Stated.{Stated}
-use Rattle.statement.specs.declared.stated.Loop.{Loop}
+use Rattle.statement.specs.Stated.{Stated, StatedLoops}
 use Rattle.arm2_effect.specs.declared.step_end.Kind.TheVariants.{Taken}
 use Rattle.arm2_exec.specs.Run.{Runs, why_stopped}
 use Rattle.arm2_exec.specs.State.{State}
@@ -48,7 +47,7 @@ is_at address Exit = false
 
 -- The walk leads from the entry to a place at the address, which it comes to at its end alone, and keeps the
 -- loop bounds.
-pub record FirstComesTo (flow : Flow) (loops : List Loop) (address : ℕ) (walk : List Edge)
+pub record FirstComesTo (flow : Flow) (loops : StatedLoops) (address : ℕ) (walk : List Edge)
     (place : Place) : Type 0 where
   pub leads : Leads edge_shape (HasEdge flow) flow.entry walk place
   pub kept : KeepsTheBounds flow loops walk
@@ -56,7 +55,7 @@ pub record FirstComesTo (flow : Flow) (loops : List Loop) (address : ℕ) (walk 
   pub there : is_at address place ≡ true
 
 -- no such walk costs more, whatever its place
-abbrev pub BoundsArrivals : Flow → List Loop → (address arrival : ℕ) → Type 0
+abbrev pub BoundsArrivals : Flow → StatedLoops → (address arrival : ℕ) → Type 0
 BoundsArrivals flow loops address arrival =
     (walk : List Edge) (place : Place)
     → FirstComesTo flow loops address walk place → cost_of edge_shape walk ≤ arrival

@@ -1,5 +1,5 @@
 -- What is read of a document, against what it states and the faults that it has.
-use Rattle.std.proofs.Common.{◌≡◌, ◌⊎◌, ◌↔◌, ◌≤◌, ℕ, List, Option, Some, None, IsSomeAnd, inl, inr, false, le_of_eq, true, ◌&&◌, get_or, [], ◌∷◌, Ok, Err, refl, sym, ap, subst, ◌∙◌}
+use Rattle.std.proofs.Common.{◌≡◌, ◌⊎◌, ◌↔◌, ◌≤◌, ℕ, List, inl, inr, false, le_of_eq, true, ◌&&◌, get_or, [], ◌∷◌, Ok, Err, refl, sym, ap, subst, ◌∙◌}
 use Rattle.std.specs.Prelude.{codes}
 use Rattle.std.specs.Map.{keys_of}
 use Rattle.std.specs.Cmp.Derive.{both_true}
@@ -14,17 +14,18 @@ use Rattle.toml_reading.proofs.Following.{stated_or_faulty, tables_up_to_judged,
 use Rattle.toml_reading.proofs.LowestLemmas.{Judges, pair_judged, judged_as, judged_fault, judged_value, one_by_rank, optional_judged}
 use Rattle.toml_reading.proofs.LowestParts.{keys_judged, named_judged, some_weaker}
 use Rattle.toml_reading.proofs.TwiceLemmas.{keys_not_distinct}
-use Rattle.statement.specs.StatementRules.{AccessFault, AddressFault, BranchFault, HasAccess, HasBranch, HasFault, HasMultiply, HasParts, HasTarget, HasTwo, HasTwoRules, IsAddress, IsAt, IsSingle, IsTwice, LoopFault, MultiplyFault, PartsFault, RequiredFault, RuleFault, States, StatesAccess, StatesBranch, StatesLoop, StatesMultiply, StatesRule, StatesTarget, TargetFault}
+use Rattle.statement.specs.StatementRules.{AccessFault, AddressFault, BranchFault, HasAccess, HasBranch, HasFault, HasMultiply, HasParts, HasTarget, HasTwo, HasTwoRules, IsAddress, IsAt, IsSingle, IsTwice, MultiplyFault, PartsFault, RequiredFault, RuleFault, States, StatesAccess, StatesBranch, StatesMultiply, StatesRule, StatesTarget, TargetFault}
 use Rattle.statement.specs.Stated.{Stated}
 use Rattle.image.specs.Labels.{Names}
-use Rattle.statement.specs.Statement.{Frame, Limits, Parts, Words, access_at, access_keys, are_apart, branch_at, branch_keys, frame_in, is_single, leave_named_at, leave_in, limits_in, loop_at, multiply_at, multiply_keys, named_leave, named_returns, parts_of, returns_in, returns_named_at, rule_at, rules_in, stated_by, stated_once, statement_keys, statement_of, target_at, target_keys, words_in}
+use Rattle.statement.specs.Statement.{Frame, Limits, Parts, Words, access_at, access_keys, are_disjoint, branch_at, branch_keys, frame_in, is_single, leave_in, leave_named_at, limits_in, multiply_at, multiply_keys, named_leave, named_returns, parts_of, returns_in, returns_named_at, rule_at, rules_in, stated_by, stated_once, statement_keys, statement_of, target_at, target_keys, words_in}
 use Rattle.statement.specs.StatementFaults.{number_of, statement_faults}
 use Rattle.statement.specs.declared.faults.StatementFault.{StatementFault}
 use Rattle.statement.specs.declared.stated.Returns.TheVariants.{Assumed}
 use Rattle.statement.specs.declared.faults.StatementFault.TheVariants.{Memory, NotToml, UnknownKey, WrongKind, UnknownLabel, OutOfRange, Twice}
-use Rattle.statement.proofs.RuleLemmas.{address_in_judged, one_address}
+use Rattle.statement.proofs.PlacedLemmas.{HasLoops, LoopsFault, stated_loops_judged}
+use Rattle.statement.proofs.RuleLemmas.{address_in_judged, one_address, one_some}
 use Rattle.statement.proofs.MeetLemmas.{apart_is, rules_not_apart}
-use Rattle.statement.proofs.TableLemmas.{access_judged, branch_judged, in_line, loop_judged, multiply_judged, rule_judged, target_judged, twice_last}
+use Rattle.statement.proofs.TableLemmas.{access_judged, branch_judged, in_line, multiply_judged, rule_judged, target_judged, twice_last}
 use Rattle.statement.specs.declared.stated.BaseRule.{BaseRule}
 
 -- ## Faults differ in their numbers
@@ -71,16 +72,6 @@ returns_judged ms =
     Assumed
     (get_member (codes "returns") ms)
 
-one_some :
-    {X : Type 0} (P : X → ℕ → Type 0)
-    → ((x : X) (a b : ℕ) → P x a → P x b → a ≡ b)
-    → (o : Option X) (a b : ℕ)
-    → IsSomeAnd o (λ x. P x a)
-    → IsSomeAnd o (λ x. P x b)
-    → a ≡ b
-one_some P one None a b h k = absurd h
-one_some P one (Some x) a b h k = one x a b h k
-
 module _ (names : Names) where
   -- ## The addresses of entries
 
@@ -124,14 +115,14 @@ module _ (names : Names) where
       (AtKey (codes "entry") ms (λ d. IsAddress names d p.0.0)
       × (AtKeyOr (codes "leave") ms (p.0.1.0 ≡ Any) (λ d. IsNamed named_leave d p.0.1.0)
       × AtKeyOr (codes "returns") ms (p.0.1.1 ≡ Assumed) (λ d. IsNamed named_returns d p.0.1.1)))
-      × AtKeyOr (codes "loop") ms (p.1 ≡ []) (λ d. IsListUpTo 256 (StatesLoop names) d p.1)
+      × HasLoops names ms p.1
 
   abbrev FrameFault : Members → StatementFault → Type 0
   FrameFault ms f =
       (RequiredFault (codes "entry") ms (AddressFault names) f
       ⊎ (AtKey (codes "leave") ms (λ d. NameFault statement_faults named_leave d f)
       ⊎ AtKey (codes "returns") ms (λ d. NameFault statement_faults named_returns d f)))
-      ⊎ AtKey (codes "loop") ms (λ d. ListUpToFault statement_faults 256 (LoopFault names) d f)
+      ⊎ LoopsFault names ms f
 
   abbrev HasWords : Members → Words → Type 0
   HasWords ms p =
@@ -167,7 +158,7 @@ module _ (names : Names) where
 
   frame_judged : (ms : Members) → Judges statement_faults (HasFrame ms) (FrameFault ms) (frame_in names ms)
   frame_judged ms =
-      pair_judged statement_faults (λ p. AtKey (codes "entry") ms (λ d. IsAddress names d p.0) × (AtKeyOr (codes "leave") ms (p.1.0 ≡ Any) (λ d. IsNamed named_leave d p.1.0) × AtKeyOr (codes "returns") ms (p.1.1 ≡ Assumed) (λ d. IsNamed named_returns d p.1.1))) _ _ _ _ _ (pair_judged statement_faults _ _ _ _ _ _ (address_in_judged names (codes "entry") ms) (pair_judged statement_faults _ _ _ _ _ _ (leave_judged ms) (returns_judged ms))) (tables_up_to_judged statement_faults 256 (StatesLoop names) (LoopFault names) (loop_at names) (loop_judged names) (get_member (codes "loop") ms))
+      pair_judged statement_faults (λ p. AtKey (codes "entry") ms (λ d. IsAddress names d p.0) × (AtKeyOr (codes "leave") ms (p.1.0 ≡ Any) (λ d. IsNamed named_leave d p.1.0) × AtKeyOr (codes "returns") ms (p.1.1 ≡ Assumed) (λ d. IsNamed named_returns d p.1.1))) _ _ _ _ _ (pair_judged statement_faults _ _ _ _ _ _ (address_in_judged names (codes "entry") ms) (pair_judged statement_faults _ _ _ _ _ _ (leave_judged ms) (returns_judged ms))) (stated_loops_judged names ms)
 
   words_judged : (ms : Members) → Judges statement_faults (HasWords ms) (WordsFault ms) (words_in names ms)
   words_judged ms =
@@ -199,9 +190,9 @@ module _ (names : Names) where
   is_single_is : (st : Stated) → is_single st ≡ true ↔ IsSingle names st
   is_single_is st = (
     λ e.
-        let halves = and_parts (are_distinct (keys_of st.targets) && are_distinct (keys_of st.accesses)) (are_apart st.rules && (are_distinct (keys_of st.multiplies) && are_distinct (keys_of st.branches))) e in
+        let halves = and_parts (are_distinct (keys_of st.targets) && are_distinct (keys_of st.accesses)) (are_disjoint st.rules && (are_distinct (keys_of st.multiplies) && are_distinct (keys_of st.branches))) e in
         let words = and_parts (are_distinct (keys_of st.targets)) (are_distinct (keys_of st.accesses)) halves.0 in
-        let rest = and_parts (are_apart st.rules) (are_distinct (keys_of st.multiplies) && are_distinct (keys_of st.branches)) halves.1 in
+        let rest = and_parts (are_disjoint st.rules) (are_distinct (keys_of st.multiplies) && are_distinct (keys_of st.branches)) halves.1 in
         let limits = and_parts (are_distinct (keys_of st.multiplies)) (are_distinct (keys_of st.branches)) rest.1 in
         record { targets = words.0; accesses = words.1; rules = (apart_is st.rules).0 rest.0; multiplies = limits.0; branches = limits.1 },
     λ h. both_true (both_true h.targets h.accesses) (both_true ((apart_is st.rules).1 h.rules) (both_true h.multiplies h.branches)),
@@ -241,7 +232,7 @@ module _ (names : Names) where
     accesses_two =
         keys_not_distinct (IsAt names) one_at (StatesAccess names) (entry_is_at access_keys (HasAccess names) (λ ms a s. s.address)) 4096 (get_member (codes "access") ms) p.0.1.1 h.0.1.1
 
-    rules_two : are_apart p.1.0 ≡ false ↔ HasTwoRules names ms
+    rules_two : are_disjoint p.1.0 ≡ false ↔ HasTwoRules names ms
     rules_two = rules_not_apart names 256 (get_member (codes "base") ms) p.1.0 h.1.0
 
     multiplies_two : are_distinct (keys_of p.1.1.0) ≡ false ↔ HasTwo names (codes "multiply") ms
@@ -264,7 +255,7 @@ module _ (names : Names) where
       | inr two ↦ inl (targets_two.0 two)
       | inl targets ↦ elim (cases_Bool (are_distinct (keys_of p.0.1.1))) [
         | inr two ↦ inr (inl (accesses_two.0 two))
-        | inl accesses ↦ elim (cases_Bool (are_apart p.1.0)) [
+        | inl accesses ↦ elim (cases_Bool (are_disjoint p.1.0)) [
           | inr two ↦ inr (inr (inl (rules_two.0 two)))
           | inl rules ↦ elim (cases_Bool (are_distinct (keys_of p.1.1.0))) [
             | inr two ↦ inr (inr (inr (inl (multiplies_two.0 two))))
@@ -313,7 +304,9 @@ module _ (names : Names) where
         entry = s.0.0.0.0;
         leave = s.0.0.0.1.0;
         returns = s.0.0.0.1.1;
-        loops = s.0.0.1;
+        loops = s.0.0.1.0.0;
+        apart = s.0.0.1.0.1;
+        placed = s.0.0.1.1;
         targets = s.0.1.0;
         accesses = s.0.1.1;
         rules = s.1.0;
@@ -323,7 +316,7 @@ module _ (names : Names) where
 
       each_of : (st : Stated) → HasParts names ms st → HasEach ms (split st)
       each_of st h =
-          ((((h.entry, (h.leave, h.returns)), h.loops), (h.targets, h.accesses)), (h.rules, (h.multiplies, h.branches)))
+          ((((h.entry, (h.leave, h.returns)), ((h.loops, h.apart), h.placed)), (h.targets, h.accesses)), (h.rules, (h.multiplies, h.branches)))
 
   document_judged :
       (ms : Members)

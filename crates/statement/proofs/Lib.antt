@@ -3,6 +3,8 @@ pub mod StatementLemmas
 pub mod Unique
 pub mod RuleLemmas
 pub mod TableLemmas
+pub mod StandLemmas
+pub mod PlacedLemmas
 pub mod DocumentLemmas
 pub mod RepeatLemmas
 pub mod PlaceLemmas
@@ -11,3 +13,5 @@ pub mod KeyLemmas
 pub mod MeetLemmas
 pub mod StretchLemmas
 pub mod CycleLemmas
+pub mod ApartLemmas
+pub mod SwapLemmas

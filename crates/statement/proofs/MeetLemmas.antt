@@ -24,8 +24,8 @@ use Rattle.bus_ticks.specs.declared.space.TheConstants.{SPACE_END}
 use Rattle.image.specs.Labels.{Names}
 use Rattle.statement.specs.Places.{IsRepeatAt}
 use Rattle.statement.specs.PlaceTests.{holds_of, is_set, rule_meetings, stretch_of, stretch_of_entry, stretch_of_table, was_met}
-use Rattle.statement.specs.Stated.{AreApart, is_ruled}
-use Rattle.statement.specs.Statement.{Read, are_apart, first_in, last_in, overlap, register_in, rule_keys}
+use Rattle.statement.specs.Stated.{ShareNoWord, is_ruled}
+use Rattle.statement.specs.Statement.{Read, are_disjoint, first_in, last_in, overlap, register_in, rule_keys}
 use Rattle.statement.specs.StatementFaults.{statement_faults}
 use Rattle.statement.specs.StatementRules.{AddressFault, HasRule, IsFirst, IsLast, IsRuleAt, RequiredFault, StatesRule}
 use Rattle.statement.specs.Stretches.{meets}
@@ -101,16 +101,16 @@ ruled_is base a r = (
   λ h. both_true (eq-eqb (register_number r.register) (register_number base) (ap register_number (sym h.0))) ((between r.first r.last a).1 (h.1, h.2)),
 )
 
-overlap_apart : (r q : BaseRule) → overlap r q ≡ false → AreApart r q
+overlap_apart : (r q : BaseRule) → overlap r q ≡ false → ShareNoWord r q
 overlap_apart r q e base a h k =
     false≢true (sym e ∙ (meets_is (part_of r) (part_of q)).1 (base, a, (ruled_is base a r).0 h, (ruled_is base a q).0 k))
 
-apart_overlap : (r q : BaseRule) → AreApart r q → overlap r q ≡ true → ⊥
+apart_overlap : (r q : BaseRule) → ShareNoWord r q → overlap r q ≡ true → ⊥
 apart_overlap r q apart e =
     let h = (meets_is (part_of r) (part_of q)).0 e in
     apart h.0 h.1 ((ruled_is h.0 h.1 r).1 h.2) ((ruled_is h.0 h.1 q).1 h.3)
 
-later_apart : (r : BaseRule) (rules : List BaseRule) → list_any (overlap r) rules ≡ false → All (AreApart r) rules
+later_apart : (r : BaseRule) (rules : List BaseRule) → list_any (overlap r) rules ≡ false → All (ShareNoWord r) rules
 later_apart r rules e k d low =
     overlap_apart r (get_or rules k d) (false_from_ne_true (overlap r (get_or rules k d)) (λ over. false≢true (sym e ∙ any_at rules k low over)))
   where
@@ -120,11 +120,11 @@ later_apart r rules e k d low =
     any_at (q ∷ qs) zero low over = rw over refl
     any_at (q ∷ qs) (suc k) low over = rw (any_at qs k (omega arith) over) (or-true (overlap r q))
 
-pub apart_is : (rules : List BaseRule) → are_apart rules ≡ true ↔ AllPairs AreApart rules
+pub apart_is : (rules : List BaseRule) → are_disjoint rules ≡ true ↔ AllPairs ShareNoWord rules
 apart_is [] = (λ e i j d less low. absurd (omega arith), λ h. refl)
 apart_is (r ∷ rules) = (
-  λ e. let h = and_parts (not (list_any (overlap r) rules)) (are_apart rules) e in
-      AllPairs-cons AreApart r rules (later_apart r rules (not_true (list_any (overlap r) rules) h.0)) ((apart_is rules).0 h.1),
+  λ e. let h = and_parts (not (list_any (overlap r) rules)) (are_disjoint rules) e in
+      AllPairs-cons ShareNoWord r rules (later_apart r rules (not_true (list_any (overlap r) rules) h.0)) ((apart_is rules).0 h.1),
   λ h. both_true (none_overlaps h) ((apart_is rules).1 (λ i j d less low. h (suc i) (suc j) d (omega arith) (omega arith))),
 )
   where
@@ -132,11 +132,11 @@ apart_is (r ∷ rules) = (
     not_true true e = absurd (false≢true e)
     not_true false e = refl
 
-    none_overlaps : AllPairs AreApart (r ∷ rules) → not (list_any (overlap r) rules) ≡ true
+    none_overlaps : AllPairs ShareNoWord (r ∷ rules) → not (list_any (overlap r) rules) ≡ true
     none_overlaps h =
         ap not (false_from_ne_true (list_any (overlap r) rules) (λ e.
         let at = (list_any_is (overlap r) (λ q. overlap r q ≡ true) (λ q. (λ e. e, λ e. e)) rules).0 e in
-        apart_overlap r at.1 (subst (AreApart r) at.3 (h zero (suc at.0) at.1 (omega arith) (let low = at.2 in omega arith))) at.4))
+        apart_overlap r at.1 (subst (ShareNoWord r) at.3 (h zero (suc at.0) at.1 (omega arith) (let low = at.2 in omega arith))) at.4))
 
 -- ## Rules in a document
 
@@ -213,7 +213,7 @@ module _ (names : Names) where
       )
 
   -- rules that are read share an address exactly where two entries are for one register at one address
-  not_apart : (ds : List Data) (rules : List BaseRule) → AllZip (StatesRule names) ds rules → are_apart rules ≡ false ↔ ((base : Register) × HasRepeat (IsRuleAt names base) ds)
+  not_apart : (ds : List Data) (rules : List BaseRule) → AllZip (StatesRule names) ds rules → are_disjoint rules ≡ false ↔ ((base : Register) × HasRepeat (IsRuleAt names base) ds)
   not_apart [] [] z = (λ e. absurd (true≢false e), λ h. absurd h.1)
   not_apart [] (r ∷ rules) z = absurd z
   not_apart (d ∷ ds) [] z = absurd z
@@ -228,8 +228,8 @@ module _ (names : Names) where
       overlaps = list_any_is (overlap r) (λ q. overlap r q ≡ true) (λ q. (λ e. e, λ e. e)) rules
 
       to_repeat :
-          (are_apart rules ≡ false → (base : Register) × HasRepeat (IsRuleAt names base) ds)
-          → are_apart (r ∷ rules) ≡ false
+          (are_disjoint rules ≡ false → (base : Register) × HasRepeat (IsRuleAt names base) ds)
+          → are_disjoint (r ∷ rules) ≡ false
           → (base : Register) × HasRepeat (IsRuleAt names base) (d ∷ ds)
       to_repeat rest e = elim (cases_Bool (list_any (overlap r) rules)) [
         | inl over ↦
@@ -240,8 +240,8 @@ module _ (names : Names) where
       ]
 
       of_repeat :
-          ((base : Register) → HasRepeat (IsRuleAt names base) ds → are_apart rules ≡ false)
-          → (base : Register) → HasRepeat (IsRuleAt names base) (d ∷ ds) → are_apart (r ∷ rules) ≡ false
+          ((base : Register) → HasRepeat (IsRuleAt names base) ds → are_disjoint rules ≡ false)
+          → (base : Register) → HasRepeat (IsRuleAt names base) (d ∷ ds) → are_disjoint (r ∷ rules) ≡ false
       of_repeat rest base (inl h) =
           let at = (in_later base h.0).0 h.2 in
           let over = (meets_is (part_of r) (part_of at.1)).1 (base, h.0, (stated_at base h.0 d r z.0).0 h.1, at.4) in
@@ -253,14 +253,14 @@ module _ (names : Names) where
   pub rules_not_apart :
       (limit : ℕ) (o : Option Data) (rules : List BaseRule)
       → MatchOption o (rules ≡ []) (λ d. IsListUpTo limit (StatesRule names) d rules)
-      → are_apart rules ≡ false ↔ ((base : Register) × IsSomeAnd o (λ d. IsSomeAnd (items_at d) (HasRepeat (IsRuleAt names base))))
-  rules_not_apart limit None rules h = (λ e. absurd (true≢false (sym (ap are_apart h) ∙ e)), λ t. absurd t.1)
+      → are_disjoint rules ≡ false ↔ ((base : Register) × IsSomeAnd o (λ d. IsSomeAnd (items_at d) (HasRepeat (IsRuleAt names base))))
+  rules_not_apart limit None rules h = (λ e. absurd (true≢false (sym (ap are_disjoint h) ∙ e)), λ t. absurd t.1)
   rules_not_apart limit (Some d) rules h = in_items (items_at d) h
     where
       in_items :
           (o : Option (List Data))
           → IsSomeAnd o (λ ds. (length ds ≤ limit) × AllZip (StatesRule names) ds rules)
-          → are_apart rules ≡ false ↔ ((base : Register) × IsSomeAnd o (HasRepeat (IsRuleAt names base)))
+          → are_disjoint rules ≡ false ↔ ((base : Register) × IsSomeAnd o (HasRepeat (IsRuleAt names base)))
       in_items None h = absurd h
       in_items (Some ds) h = not_apart ds rules h.1
 

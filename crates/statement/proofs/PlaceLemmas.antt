@@ -1,12 +1,11 @@
 -- What is tested at a spot, against the fault that the document has there.
-use Rattle.std.proofs.Common.{◌≡◌, ◌⊎◌, ℕ, ℤ, ◌-◌, arith, ◌||◌, ◌<◌, ◌≤◌, ◌↔◌, Bool, true, false, not, ◌&&◌, cond, eqb, leb, ltb, List, [], length, map, Option, Some, None, Ok, Err, IsSomeAnd, MatchOption, inl, inr, refl, sym, ap, subst, ◌∙◌, option_map}
+use Rattle.std.proofs.Common.{◌≡◌, ◌⊎◌, ℕ, ℤ, ◌-◌, arith, ◌||◌, ◌<◌, ◌↔◌, Bool, true, false, not, ◌&&◌, eqb, ltb, List, [], length, map, Option, Some, None, Ok, Err, IsSomeAnd, MatchOption, inl, inr, refl, sym, ap, subst, ◌∙◌, option_map}
 use Rattle.std.specs.Prelude.{codes, is_none, is_some, IsSome}
-use Rattle.std.specs.Cmp.Derive.{both_true}
 use Rattle.std.specs.List.{slice_get}
-use Rattle.std.specs.Result.{is_err, result_ok}
+use Rattle.std.specs.Result.{result_ok}
 use Rattle.std.proofs.Math.Bool.{and-false}
 use Rattle.std.specs.Option.{option_and_then}
-use Rattle.std.proofs.lemmas.Bool.{and_parts, eq-eqb, eqb-true, false≢true, le-leb, leb-true, lt-ltb, ltb-true}
+use Rattle.std.proofs.lemmas.Bool.{eq-eqb, eqb-true, false≢true, lt-ltb, ltb-true}
 use Rattle.std.proofs.lemmas.List.{nil_from_length}
 use Rattle.std.proofs.lemmas.Option.{none-some, same_Some}
 use Rattle.toml.specs.Data.{Data, Members, as_integer, as_table, get_member, integer, string}
@@ -16,13 +15,15 @@ use Rattle.toml_reading.specs.Lowest.{AtKey, IsNamed, NameFault, NumberFault, en
 use Rattle.toml_reading.proofs.LowestLemmas.{AnswersBy, Judges, judged_value, one_by_rank}
 use Rattle.toml_reading.proofs.LowestParts.{number_in_judged}
 use Rattle.image.specs.Labels.{Names}
-use Rattle.statement.specs.PlaceTests.{is_second, address_of_entry, address_of_table, address_of_value, destination_gives, destinations_of, ends_early, entry_at, found, gives, goes_on, has_no_destinations, holds_of, is_no_list, is_no_table, is_outside, is_reversed, is_same, is_set, is_too_long, is_unwanted, key_gives, kind_goes, lies_outside, part_gives, repeats, repeats_of, stays, table_at}
-use Rattle.statement.specs.Places.{DestinationFault, GoesOn, InTable, IsFaultAt, IsRepeatAt, IsSecond, KeyFault, PartFault, has_destinations, key_name, keys_of, list_key, most_of}
-use Rattle.statement.specs.Statement.{Read, address_at, address_in, address_or, first_in, kind_in, last_in, named_class, named_kind, named_leave, named_returns, named_taken}
+use Rattle.statement.specs.PlaceTests.{is_second, address_of_entry, address_of_table, address_of_value, are_reversed, destination_gives, destinations_of, end_gives, ends_early, entry_at, found, gives, goes_on, has_no_destinations, holds_of, is_misplaced, is_no_list, is_no_stretch, is_no_table, is_outside, is_reversed, is_same, is_set, is_too_long, is_unwanted, key_gives, kind_goes, lies_outside, part_gives, repeats, repeats_of, stays, stretch_ends, stretch_entry, table_at}
+use Rattle.statement.specs.Places.{DestinationFault, GoesOn, InTable, IsFaultAt, IsRepeatAt, IsSecond, KeyFault, PartFault, end_of, has_destinations, key_name, keys_of, list_key, most_of}
+use Rattle.statement.specs.Stated.{MayStand, may_stand}
+use Rattle.statement.specs.Statement.{Read, address_at, address_in, address_or, apart_in, first_in, kind_in, last_in, named_class, named_kind, named_leave, named_returns, named_taken, pair_at}
 use Rattle.statement.specs.StatementFaults.{number_of, statement_faults}
-use Rattle.statement.specs.StatementRules.{AddressFault, CyclesFault, IsAddress, IsAt, IsFirst, IsLast, IsMisplaced, IsReversed, NamesLabel, RequiredFault}
+use Rattle.statement.specs.StatementRules.{AddressFault, AreReversed, AreStretches, CyclesFault, IsAddress, IsAt, IsFirst, IsLast, IsMisplaced, IsReversed, NamesLabel, RequiredFault}
 use Rattle.asm_text.specs.Registers.{register_of}
 use Rattle.bus_ticks.specs.declared.space.TheConstants.{SPACE_END}
+use Rattle.statement.specs.declared.apart.ApartStretch.{ApartStretch}
 use Rattle.statement.specs.declared.faults.StatementFault.{StatementFault}
 use Rattle.statement.specs.declared.faults.StatementFault.TheVariants.{OutOfRange, Twice, UnknownKey, UnknownLabel, WrongKind}
 use Rattle.statement.specs.declared.spots.Key.{Key}
@@ -33,11 +34,12 @@ use Rattle.statement.specs.declared.spots.Spot.{Spot}
 use Rattle.statement.specs.declared.spots.Spot.TheVariants as spot
 use Rattle.statement.specs.declared.spots.TableList.{TableList}
 use Rattle.statement.specs.declared.spots.TableList.TheVariants.{Loops, Targets, Accesses, Rules, Multiplies, Branches}
-use Rattle.statement.specs.declared.stated.Loop.{Loop}
 use Rattle.statement.specs.declared.stated.TargetKind.{TargetKind}
 use Rattle.statement.proofs.DocumentLemmas.{fault_at, leave_judged, numbered_back, returns_judged}
 use Rattle.statement.proofs.RepeatLemmas.{and_is, false_unless_none, holds_inside, holds_is, none_is, not_is, ok_is, or_is, repeat_is, same_test, true_unless_none}
 use Rattle.statement.proofs.MeetLemmas.{meeting_is}
+use Rattle.statement.proofs.PlacedLemmas.{stretches_judged}
+use Rattle.statement.proofs.StandLemmas.{stand_is}
 use Rattle.statement.proofs.RuleLemmas.{address_in_judged, address_judged, address_or_judged, word_in_judged}
 use Rattle.statement.proofs.TableLemmas.{cycles_in_judged}
 
@@ -262,42 +264,29 @@ module _ (names : Names) where
 
   -- ## Loops
 
-  abbrev placed_by : Bool → Loop → Read Loop
-  placed_by b l = cond b (Ok l) (Err OutOfRange)
-
-  placed_or_not :
-      (first last header : ℕ) (b : Bool)
-      → b ≡ (leb first header && leb header last)
-      → is_err (placed_by b (record { header = header; first = first; last = last; bound = 0 })) ≡ true
-      ↔ (¬ ((first ≤ header) × (header ≤ last)))
-  placed_or_not first last header true is = (
-    λ e. absurd (false≢true e),
-    λ h. let parts = and_parts (leb first header) (leb header last) (sym is) in absurd (h (leb-true first header parts.0, leb-true header last parts.1)),
-  )
-  placed_or_not first last header false is = (
-    λ e p. false≢true (is ∙ both_true (le-leb first header p.0) (le-leb header last p.1)),
-    λ h. refl,
-  )
-
-  abbrev LiesOutside : Read ℕ → Read ℕ → Read ℕ → Type 0
-  LiesOutside r s t =
-      (first : ℕ) × (last : ℕ) × (header : ℕ) × (r ≡ Ok first) × (s ≡ Ok last) × (t ≡ Ok header) × ¬ ((first ≤ header) × (header ≤ last))
+  abbrev LiesOutside : List ApartStretch → Read ℕ → Read ℕ → Read ℕ → Type 0
+  LiesOutside apart r s t =
+      (first : ℕ) × (last : ℕ) × (header : ℕ) × (r ≡ Ok first) × (s ≡ Ok last) × (t ≡ Ok header) × ¬ MayStand apart first header last
 
   no_value : {A : Type 0} (g : StatementFault) (a : A) → Err g ≡ Ok a → ⊥
   no_value g a e = none-some a (ap result_ok e)
 
-  outside_by : (r s t : Read ℕ) → lies_outside r s t ≡ true ↔ LiesOutside r s t
-  outside_by (Ok first) (Ok last) (Ok header) =
-      let is = placed_or_not first last header (leb first header && leb header last) refl in (
+  not_standing : (b : Bool) (P : Type 0) → b ≡ true ↔ P → not b ≡ true ↔ (¬ P)
+  not_standing true P is = (λ e. absurd (false≢true e), λ n. absurd (n (is.0 refl)))
+  not_standing false P is = (λ e p. false≢true (is.1 p), λ n. refl)
+
+  outside_by : (apart : List ApartStretch) (r s t : Read ℕ) → lies_outside apart r s t ≡ true ↔ LiesOutside apart r s t
+  outside_by apart (Ok first) (Ok last) (Ok header) =
+      let is = not_standing (may_stand apart first header last) (MayStand apart first header last) (stand_is apart first header last) in (
         λ e. (first, last, header, refl, refl, refl, is.0 e),
-        λ h. is.1 (λ p. h.6 (
-          subst (λ (y : ℕ). y ≤ h.2) (same_Some first h.0 (ap result_ok h.3)) (subst (λ (y : ℕ). first ≤ y) (same_Some header h.2 (ap result_ok h.5)) p.0),
-          subst (λ (y : ℕ). y ≤ h.1) (same_Some header h.2 (ap result_ok h.5)) (subst (λ (y : ℕ). header ≤ y) (same_Some last h.1 (ap result_ok h.4)) p.1),
-        )),
+        λ h. is.1 (
+            subst (λ (y : ℕ). ¬ MayStand apart y header last) (sym (same_Some first h.0 (ap result_ok h.3)))
+            (subst (λ (y : ℕ). ¬ MayStand apart h.0 y last) (sym (same_Some header h.2 (ap result_ok h.5)))
+            (subst (λ (y : ℕ). ¬ MayStand apart h.0 h.2 y) (sym (same_Some last h.1 (ap result_ok h.4))) h.6))),
       )
-  outside_by (Ok first) (Ok last) (Err g) = (λ e. absurd (false≢true e), λ h. absurd (no_value g h.2 h.5))
-  outside_by (Ok first) (Err g) t = (λ e. absurd (false≢true e), λ h. absurd (no_value g h.1 h.4))
-  outside_by (Err g) s t = (λ e. absurd (false≢true e), λ h. absurd (no_value g h.0 h.3))
+  outside_by apart (Ok first) (Ok last) (Err g) = (λ e. absurd (false≢true e), λ h. absurd (no_value g h.2 h.5))
+  outside_by apart (Ok first) (Err g) t = (λ e. absurd (false≢true e), λ h. absurd (no_value g h.1 h.4))
+  outside_by apart (Err g) s t = (λ e. absurd (false≢true e), λ h. absurd (no_value g h.0 h.3))
 
   address_read :
       (key : List ℕ) (ms : Members) (a : ℕ)
@@ -305,9 +294,9 @@ module _ (names : Names) where
   address_read key ms a =
       judged_value statement_faults (λ b. AtKey key ms (λ d. IsAddress names d b)) (RequiredFault key ms (AddressFault names)) (address_in names key ms) (address_in_judged names key ms) a
 
-  outside_is : (ms : Members) → is_outside names ms ≡ true ↔ IsMisplaced names ms
-  outside_is ms =
-      let by = outside_by (address_in names (codes "first") ms) (address_in names (codes "last") ms) (address_in names (codes "header") ms) in (
+  outside_is : (apart : List ApartStretch) (ms : Members) → is_outside names apart ms ≡ true ↔ IsMisplaced names apart ms
+  outside_is apart ms =
+      let by = outside_by apart (address_in names (codes "first") ms) (address_in names (codes "last") ms) (address_in names (codes "header") ms) in (
         λ e. let h = by.0 e in (h.0, h.1, h.2, (address_read (codes "first") ms h.0).0 h.3, (address_read (codes "last") ms h.1).0 h.4, (address_read (codes "header") ms h.2).0 h.5, h.6),
         λ h. by.1 (h.0, h.1, h.2, (address_read (codes "first") ms h.0).1 h.3, (address_read (codes "last") ms h.1).1 h.4, (address_read (codes "header") ms h.2).1 h.5, h.6),
       )
@@ -448,6 +437,42 @@ module _ (names : Names) where
       by_value None = (λ h. absurd h, λ h. absurd h)
       by_value (Some b) = three
 
+  -- ## Stretches apart
+
+  no_stretch_is : (o : Option Data) → is_no_stretch o ≡ true ↔ IsSomeAnd o (λ d. pair_at d ≡ None)
+  no_stretch_is None = (λ e. absurd (false≢true e), λ h. absurd h)
+  no_stretch_is (Some d) = none_is (pair_at d)
+
+  end_is : (i : ℕ) (ends : Data × Data) (f : StatementFault) → end_gives names i ends f ≡ true ↔ IsSomeAnd (end_of ends i) (λ d. AddressFault names d f)
+  end_is i ends f = holds_is (λ d. gives (address_at names d) f) (λ d. AddressFault names d f) (λ d. address_gives d f) (end_of ends i)
+
+  value_read : (d : Data) (a : ℕ) → address_at names d ≡ Ok a ↔ IsAddress names d a
+  value_read d a = judged_value statement_faults (IsAddress names d) (AddressFault names d) (address_at names d) (address_judged names d) a
+
+  reversed_ends : (ends : Data × Data) → are_reversed names ends ≡ true ↔ AreReversed names ends
+  reversed_ends ends =
+      let by = early_by (address_at names ends.0) (address_at names ends.1) in (
+        λ e. let h = by.0 e in (h.0, h.1, (value_read ends.0 h.0).0 h.2, (value_read ends.1 h.1).0 h.3, h.4),
+        λ h. by.1 (h.0, h.1, (value_read ends.0 h.0).1 h.2, (value_read ends.1 h.1).1 h.3, h.4),
+      )
+
+  stretches_read : (ms : Members) (apart : List ApartStretch) → apart_in names ms ≡ Ok apart ↔ AreStretches names ms apart
+  stretches_read ms apart = judged_value statement_faults (AreStretches names ms) _ (apart_in names ms) (stretches_judged names ms) apart
+
+  -- a header outside first to last, by the stretches that are read
+  misplaced_by :
+      (n : ℕ) (ms : Members) (f : StatementFault) (r : Read (List ApartStretch))
+      → ((apart : List ApartStretch) → r ≡ Ok apart ↔ AreStretches names ms apart)
+      → (is_same OutOfRange f && is_misplaced names (result_ok r) n ms) ≡ true
+      ↔ ((apart : List ApartStretch) × AreStretches names ms apart × InTable Loops n ms (λ t. IsMisplaced names apart t × (f ≡ OutOfRange)))
+  misplaced_by n ms f (Ok apart) read =
+      let by = in_table Loops n ms OutOfRange f (is_outside names apart) (IsMisplaced names apart) (outside_is apart) in (
+        λ e. (apart, (read apart).0 refl, by.0 e),
+        λ h. by.1 (subst (λ (a : List ApartStretch). InTable Loops n ms (λ t. IsMisplaced names a t × (f ≡ OutOfRange))) (sym (same_Some apart h.0 (ap result_ok ((read h.0).1 h.1)))) h.2),
+      )
+  misplaced_by n ms f (Err g) read =
+      (λ e. absurd (false≢true (sym (and-false (is_same OutOfRange f)) ∙ e)), λ h. absurd (no_value g h.0 ((read h.0).1 h.1)))
+
   pub found_is : (ms : Members) (s : Spot) (f : StatementFault) → found names ms s f ≡ true ↔ IsFaultAt names ms s f
   found_is ms (spot.Own part) f = part_is None part ms f
   found_is ms (spot.NoList list) f =
@@ -462,7 +487,7 @@ module _ (names : Names) where
       (some_beside (λ d. as_table d ≡ None) f WrongKind (entry_at list n ms))
   found_is ms (spot.Listed list n part) f =
       holds_inside as_table (λ t. part_gives names (Some list) part t f) (λ t. PartFault names (Some list) part t f) (λ t. part_is (Some list) part t f) (entry_at list n ms)
-  found_is ms (spot.Misplaced n) f = in_table Loops n ms OutOfRange f (is_outside names) (IsMisplaced names) outside_is
+  found_is ms (spot.Misplaced n) f = misplaced_by n ms f (apart_in names ms) (stretches_read ms)
   found_is ms (spot.Unwanted n) f =
       by_way
       (in_table Targets n ms WrongKind f is_unwanted (λ t. GoesOn false t × IsSome (get_member (codes "to") t)) unwanted_is)
@@ -473,5 +498,20 @@ module _ (names : Names) where
       (three_inside as_table (GoesOn true) (λ t. 64 < length (entries_at (codes "to") t)) (f ≡ OutOfRange) (entry_at Targets n ms))
   found_is ms (spot.Destination n i) f = destination_in i f (entry_at Targets n ms)
   found_is ms (spot.Reversed n) f = in_table Rules n ms OutOfRange f (is_reversed names) (IsReversed names) reversed_is
+  found_is ms spot.NoStretches f =
+      by_way
+      (beside WrongKind f (is_no_list (get_member (codes "apart") ms)) _ (no_list_is (get_member (codes "apart") ms)))
+      (some_beside (λ d. items_at d ≡ None) f WrongKind (get_member (codes "apart") ms))
+  found_is ms spot.TooManyStretches f = beside OutOfRange f _ _ (less_is 256 (length (entries_at (codes "apart") ms)))
+  found_is ms (spot.NoStretch n) f =
+      by_way
+      (beside WrongKind f (is_no_stretch (stretch_entry n ms)) _ (no_stretch_is (stretch_entry n ms)))
+      (some_beside (λ d. pair_at d ≡ None) f WrongKind (stretch_entry n ms))
+  found_is ms (spot.StretchEnd n i) f =
+      holds_inside pair_at (λ ends. end_gives names i ends f) (λ ends. IsSomeAnd (end_of ends i) (λ d. AddressFault names d f)) (λ ends. end_is i ends f) (stretch_entry n ms)
+  found_is ms (spot.ReversedStretch n) f =
+      by_way
+      (beside OutOfRange f (holds_of (are_reversed names) (stretch_ends n ms)) _ (holds_inside pair_at (are_reversed names) (AreReversed names) reversed_ends (stretch_entry n ms)))
+      (some_inside pair_at (AreReversed names) f OutOfRange (stretch_entry n ms))
   found_is ms (spot.Second list n) f =
       beside Twice f (is_second names list n ms) (IsSecond names list n ms) (second_is list n ms)

@@ -12,6 +12,7 @@ use Rattle.std.proofs.lemmas.Option.{none-some, same_Some, slice_get-map}
 use Rattle.toml.specs.Data.{Data, Members}
 use Rattle.toml_reading.specs.Lowest.{entries_at}
 use Rattle.image.specs.Labels.{Names}
+use Rattle.statement.specs.declared.apart.ApartStretch.{ApartStretch}
 use Rattle.statement.specs.declared.spots.TableList.TheVariants.{Targets}
 use Rattle.toml_reading.specs.Lists.{HasRepeat}
 use Rattle.toml_reading.proofs.LowestParts.{any_cases, any_first, any_later, any_none}
@@ -219,14 +220,14 @@ module _ {A : Type 0} (test : List A → A → Bool) where
       )
       ∙ h
 
-module _ (names : Names) (ms : Members) (targets accesses rules multiplies branches : List Bool) (rows : List (Vec Bool Global)) where
+module _ (names : Names) (ms : Members) (targets accesses rules multiplies branches : List Bool) (rows : List (Vec Bool Global)) (apart : Option (List ApartStretch)) where
   tests_of : (o : Option Data) → unwrap_or (option_map (destination_repeats names) o) [] ≡ repeats_of names o
   tests_of None = refl
   tests_of (Some d) = refl
 
   -- the tests of a target's destinations
   pub row_is :
-      IsStored names ms targets accesses rules multiplies branches rows
+      IsStored names ms targets accesses rules multiplies branches rows apart
       → (n : ℕ) (o : Option (Vec Bool Global))
       → o ≡ slice_get rows n
       → unwrap_or (option_map (λ v. v.items) o) [] ≡ repeats_of names (entry_at Targets n ms)

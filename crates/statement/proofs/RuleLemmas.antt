@@ -1,5 +1,5 @@
 -- What is read of addresses and words, against what they state and their faults.
-use Rattle.std.proofs.Common.{◌≡◌, ℕ, ◌∙◌, List, Option, sym}
+use Rattle.std.proofs.Common.{◌≡◌, ℕ, ◌∙◌, IsSomeAnd, List, None, Option, Some, sym}
 use Rattle.toml.specs.Data.{Data, Members, string, integer, get_member}
 use Rattle.toml_reading.specs.Documents.{name_at}
 use Rattle.toml_reading.specs.Lowest.{AtKey, AtKeyOr, IsNamed, NameFault}
@@ -83,3 +83,14 @@ word_in_judged named key ms =
     (name_at statement_faults named)
     (named_judged statement_faults named)
     (get_member key ms)
+
+-- what each value gives at most one number, an option gives at most one
+pub one_some :
+    {X : Type 0} (P : X → ℕ → Type 0)
+    → ((x : X) (a b : ℕ) → P x a → P x b → a ≡ b)
+    → (o : Option X) (a b : ℕ)
+    → IsSomeAnd o (λ x. P x a)
+    → IsSomeAnd o (λ x. P x b)
+    → a ≡ b
+one_some P one None a b h k = absurd h
+one_some P one (Some x) a b h k = one x a b h k

@@ -1,5 +1,5 @@
 -- A document has a fault exactly where some spot has it.
-use Rattle.std.proofs.Common.{◌≡◌, ◌≢◌, ℕ, ◌<◌, ◌⊎◌, ◌↔◌, true, false, ◌&&◌, List, [], length, Option, Some, None, IsSomeAnd, MatchOption, Any, Ordering, inl, inr, refl, sym, ap, subst, ◌∙◌, arith}
+use Rattle.std.proofs.Common.{◌≡◌, ◌≢◌, ℕ, zero, suc, ◌<◌, ◌⊎◌, ◌↔◌, true, false, ◌&&◌, List, [], length, Option, Some, None, IsSomeAnd, MatchOption, Any, Ordering, inl, inr, refl, sym, ap, subst, ◌∙◌, arith}
 use Rattle.std.specs.Prelude.{codes, is_some, unwrap_or, IsSome}
 use Rattle.std.specs.List.{slice_get}
 use Rattle.std.specs.Option.{option_and_then}
@@ -17,10 +17,10 @@ use Rattle.toml_reading.specs.Documents.{has_only_keys, is_one_of, items_at}
 use Rattle.toml_reading.specs.Lists.{HasRepeat, ListUpToFault}
 use Rattle.toml_reading.specs.Lowest.{AtKey, IsNamed, KeysFault, TableFault, entries_at}
 use Rattle.image.specs.Labels.{Names}
-use Rattle.statement.specs.Places.{DestinationFault, GoesOn, InTable, IsFaultAt, IsRepeatAt, IsSecond, KeyFault, PartFault, has_destinations, key_name, keys_of, list_key, most_of}
-use Rattle.statement.specs.Statement.{access_keys, branch_keys, loop_keys, multiply_keys, named_kind, rule_keys, target_keys}
+use Rattle.statement.specs.Places.{DestinationFault, GoesOn, InStretch, InTable, IsFaultAt, IsRepeatAt, IsSecond, KeyFault, PartFault, end_of, has_destinations, key_name, keys_of, list_key, most_of}
+use Rattle.statement.specs.Statement.{access_keys, branch_keys, loop_keys, multiply_keys, named_kind, pair_at, rule_keys, target_keys}
 use Rattle.statement.specs.StatementFaults.{statement_faults}
-use Rattle.statement.specs.StatementRules.{AccessKeysFault, AddressFault, BranchKeysFault, DestinationsFault, HasFault, IsAddress, IsAt, IsMisplaced, IsReversed, IsRuleAt, IsTwice, LoopKeysFault, MultiplyKeysFault, PartsFault, RuleKeysFault, TargetKeysFault, ToFault}
+use Rattle.statement.specs.StatementRules.{AccessKeysFault, AddressFault, AreReversed, BranchKeysFault, DestinationsFault, HasFault, HasMisplaced, IsAddress, IsAt, IsMisplaced, IsReversed, IsRuleAt, IsTwice, LoopKeysFault, MultiplyKeysFault, PartsFault, RuleKeysFault, StretchFault, TargetKeysFault, ToFault}
 use Rattle.statement.specs.declared.faults.StatementFault.{StatementFault}
 use Rattle.statement.specs.declared.faults.StatementFault.TheVariants.{OutOfRange, Twice, UnknownKey, WrongKind}
 use Rattle.statement.specs.declared.spots.Key.{Key}
@@ -182,27 +182,26 @@ module _ (names : Names) where
   -- ## Loops
 
   abbrev LoopSpot : Members → StatementFault → Type 0
-  LoopSpot t f = ((p : Part) × PartFault names (Some Loops) p t f) ⊎ (IsMisplaced names t × (f ≡ OutOfRange))
+  LoopSpot t f = (p : Part) × PartFault names (Some Loops) p t f
 
   loop_keys_spot : (t : Members) (f : StatementFault) → LoopKeysFault names t f → LoopSpot t f
-  loop_keys_spot t f (inl h) = inl (key_part (Some Loops) First t f h)
-  loop_keys_spot t f (inr (inl h)) = inl (key_part (Some Loops) Last t f h)
-  loop_keys_spot t f (inr (inr (inl h))) = inl (key_part (Some Loops) Header t f h)
-  loop_keys_spot t f (inr (inr (inr (inl h)))) = inl (key_part (Some Loops) Bound t f h)
-  loop_keys_spot t f (inr (inr (inr (inr h)))) = inr h
+  loop_keys_spot t f (inl h) = key_part (Some Loops) First t f h
+  loop_keys_spot t f (inr (inl h)) = key_part (Some Loops) Last t f h
+  loop_keys_spot t f (inr (inr (inl h))) = key_part (Some Loops) Header t f h
+  loop_keys_spot t f (inr (inr (inr h))) = key_part (Some Loops) Bound t f h
 
   loop_key_fault : (key : Key) (t : Members) (f : StatementFault) → KeyFault names (Some Loops) key t f → LoopKeysFault names t f
   loop_key_fault First t f h = inl h
   loop_key_fault Last t f h = inr (inl h)
   loop_key_fault Header t f h = inr (inr (inl h))
-  loop_key_fault Bound t f h = inr (inr (inr (inl h)))
+  loop_key_fault Bound t f h = inr (inr (inr h))
   loop_key_fault _ t f h = absurd h
 
   abbrev LoopTableFault : Members → StatementFault → Type 0
   LoopTableFault t f = KeysFault statement_faults loop_keys (LoopKeysFault names) t f
 
   loop_spot : (t : Members) (f : StatementFault) → LoopTableFault t f → LoopSpot t f
-  loop_spot t f (inl h) = inl (unknown_part (Some Loops) t f h.0 h.1)
+  loop_spot t f (inl h) = unknown_part (Some Loops) t f h.0 h.1
   loop_spot t f (inr h) = loop_keys_spot t f h
 
   loop_part_fault : (p : Part) (t : Members) (f : StatementFault) → PartFault names (Some Loops) p t f → LoopTableFault t f
@@ -469,11 +468,6 @@ module _ (names : Names) where
   part_of list ms f n d t at is p =
       (spot.Listed list n p.0, in_table list n ms (λ t. PartFault names (Some list) p.0 t f) d t at is p.1)
 
-  loop_of : (ms : Members) (f : StatementFault) (n : ℕ) (d : Data) (t : Members) → slice_get (entries_at (codes "loop") ms) n ≡ Some d → as_table d ≡ Some t → LoopSpot t f → SpotOf ms f
-  loop_of ms f n d t at is (inl p) = part_of Loops ms f n d t at is p
-  loop_of ms f n d t at is (inr h) =
-      (spot.Misplaced n, in_table Loops n ms (λ t. IsMisplaced names t × (f ≡ OutOfRange)) d t at is h)
-
   target_of : (ms : Members) (f : StatementFault) (n : ℕ) (d : Data) (t : Members) → slice_get (entries_at (codes "target") ms) n ≡ Some d → as_table d ≡ Some t → TargetSpot t f → SpotOf ms f
   target_of ms f n d t at is (inl p) = part_of Targets ms f n d t at is p
   target_of ms f n d t at is (inr (inl h)) =
@@ -512,6 +506,83 @@ module _ (names : Names) where
             | inl none ↦ (spot.NoTable list n, of_some (λ d. (as_table d ≡ None) × (f ≡ WrongKind)) (slice_get (entries_at (list_key list) ms) n) u.0 u.1 none)
             | inr some ↦ let t = in_some (λ t. KeysFault statement_faults keys Has t f) (as_table u.0) some in each n u.0 t.0 u.1 t.1 t.2
           ]
+
+  -- ## Stretches apart
+
+  abbrev EndsFault : Data × Data → StatementFault → Type 0
+  EndsFault ends f = AddressFault names ends.0 f ⊎ AddressFault names ends.1 f ⊎ (AreReversed names ends × (f ≡ OutOfRange))
+
+  -- a list of two that an entry of `apart` is
+  in_stretch :
+      (n : ℕ) (ms : Members) (P : Data × Data → Type 0) (d : Data) (ends : Data × Data)
+      → slice_get (entries_at (codes "apart") ms) n ≡ Some d
+      → pair_at d ≡ Some ends
+      → P ends
+      → InStretch n ms P
+  in_stretch n ms P d ends at is h =
+      of_some (λ e. IsSomeAnd (pair_at e) P) (slice_get (entries_at (codes "apart") ms) n) d at (of_some P (pair_at d) ends is h)
+
+  ends_spot : (n : ℕ) (ms : Members) (f : StatementFault) (d : Data) (ends : Data × Data) → slice_get (entries_at (codes "apart") ms) n ≡ Some d → pair_at d ≡ Some ends → EndsFault ends f → SpotOf ms f
+  ends_spot n ms f d ends at is (inl h) =
+      (spot.StretchEnd n 0, in_stretch n ms (λ e. IsSomeAnd (end_of e 0) (λ v. AddressFault names v f)) d ends at is h)
+  ends_spot n ms f d ends at is (inr (inl h)) =
+      (spot.StretchEnd n 1, in_stretch n ms (λ e. IsSomeAnd (end_of e 1) (λ v. AddressFault names v f)) d ends at is h)
+  ends_spot n ms f d ends at is (inr (inr h)) =
+      (spot.ReversedStretch n, in_stretch n ms (λ e. AreReversed names e × (f ≡ OutOfRange)) d ends at is h)
+
+  stretch_spot : (n : ℕ) (ms : Members) (f : StatementFault) → (d : Data) × (slice_get (entries_at (codes "apart") ms) n ≡ Some d) × StretchFault names d f → SpotOf ms f
+  stretch_spot n ms f u =
+      elim ((table_cases (λ ends. EndsFault ends f) (f ≡ WrongKind) (pair_at u.0)).0 u.2) [
+        | inl none ↦ (spot.NoStretch n, of_some (λ d. (pair_at d ≡ None) × (f ≡ WrongKind)) (slice_get (entries_at (codes "apart") ms) n) u.0 u.1 none)
+        | inr some ↦ let e = in_some (λ ends. EndsFault ends f) (pair_at u.0) some in ends_spot n ms f u.0 e.0 u.1 e.1 e.2
+      ]
+
+  stretches_spot : (ms : Members) (f : StatementFault) → AtKey (codes "apart") ms (λ d. ListUpToFault statement_faults 256 (StretchFault names) d f) → SpotOf ms f
+  stretches_spot ms f h =
+      elim ((list_spot 256 (StretchFault names) f (get_member (codes "apart") ms)).0 h) [
+        | inl n ↦ (spot.NoStretches, n)
+        | inr m ↦ elim m [
+          | inl z ↦ (spot.TooManyStretches, z)
+          | inr at ↦ stretch_spot at.0 ms f (in_some (λ e. StretchFault names e f) (slice_get (entries_at (codes "apart") ms) at.0) at.1)
+        ]
+      ]
+
+  end_fault : (i : ℕ) (ends : Data × Data) (f : StatementFault) → IsSomeAnd (end_of ends i) (λ d. AddressFault names d f) → EndsFault ends f
+  end_fault zero ends f h = inl h
+  end_fault (suc zero) ends f h = inr (inl h)
+  end_fault (suc (suc i)) ends f h = absurd h
+
+  of_stretches : (ms : Members) (f : StatementFault) → ListSpot 256 (StretchFault names) f (get_member (codes "apart") ms) (entries_at (codes "apart") ms) → HasFault names ms f
+  of_stretches ms f h = inr (inr (inr (inr (inr (inl ((list_spot 256 (StretchFault names) f (get_member (codes "apart") ms)).1 h))))))
+
+  of_stretch : (n : ℕ) (ms : Members) (f : StatementFault) (d : Data) → slice_get (entries_at (codes "apart") ms) n ≡ Some d → StretchFault names d f → HasFault names ms f
+  of_stretch n ms f d at h =
+      of_stretches ms f (inr (inr (n, of_some (λ e. StretchFault names e f) (slice_get (entries_at (codes "apart") ms) n) d at h)))
+
+  of_ends : (n : ℕ) (ms : Members) (f : StatementFault) (P : Data × Data → Type 0) → ((ends : Data × Data) → P ends → EndsFault ends f) → InStretch n ms P → HasFault names ms f
+  of_ends n ms f P each h =
+      let u = in_some (λ d. IsSomeAnd (pair_at d) P) (slice_get (entries_at (codes "apart") ms) n) h in
+      let e = in_some P (pair_at u.0) u.2 in
+      of_stretch n ms f u.0 u.1 ((table_cases (λ ends. EndsFault ends f) (f ≡ WrongKind) (pair_at u.0)).1 (inr (of_some (λ ends. EndsFault ends f) (pair_at u.0) e.0 e.1 (each e.0 e.2))))
+
+  -- ## Headers outside first to last
+
+  abbrev OutsideAt : ℕ → Members → StatementFault → Type 0
+  OutsideAt n ms f = IsFaultAt names ms (spot.Misplaced n) f
+
+  misplaced_spot : (ms : Members) (f : StatementFault) → HasMisplaced names ms → f ≡ OutOfRange → (n : ℕ) × OutsideAt n ms f
+  misplaced_spot ms f h is =
+      let at = any_index (λ d. IsSomeAnd (as_table d) (IsMisplaced names h.0)) (entries_at (codes "loop") ms) h.2 in
+      let u = in_some (λ d. IsSomeAnd (as_table d) (IsMisplaced names h.0)) (slice_get (entries_at (codes "loop") ms) at.0) at.1 in
+      let t = in_some (IsMisplaced names h.0) (as_table u.0) u.2 in
+      (at.0, (h.0, h.1, in_table Loops at.0 ms (λ t. IsMisplaced names h.0 t × (f ≡ OutOfRange)) u.0 t.0 u.1 t.1 (t.2, is)))
+
+  spot_misplaced : (ms : Members) (n : ℕ) (f : StatementFault) → OutsideAt n ms f → HasMisplaced names ms × (f ≡ OutOfRange)
+  spot_misplaced ms n f h =
+      let u = in_some (λ d. IsSomeAnd (as_table d) (λ t. IsMisplaced names h.0 t × (f ≡ OutOfRange))) (slice_get (entries_at (codes "loop") ms) n) h.2 in
+      let t = in_some (λ t. IsMisplaced names h.0 t × (f ≡ OutOfRange)) (as_table u.0) u.2 in
+      let outside = of_some (λ d. IsSomeAnd (as_table d) (IsMisplaced names h.0)) (slice_get (entries_at (codes "loop") ms) n) u.0 u.1 (of_some (IsMisplaced names h.0) (as_table u.0) t.0 t.1 t.2.0) in
+      ((h.0, h.1, index_any (λ d. IsSomeAnd (as_table d) (IsMisplaced names h.0)) (entries_at (codes "loop") ms) n outside), t.2.1)
 
   -- two entries of one number
   module _ (Is : Data → ℕ → Type 0) where
@@ -558,18 +629,20 @@ module _ (names : Names) where
   parts_spot ms f (inr (inl h)) = let p = key_part None Leave ms f h in (spot.Own p.0, p.1)
   parts_spot ms f (inr (inr (inl h))) = let p = key_part None Returns ms f h in (spot.Own p.0, p.1)
   parts_spot ms f (inr (inr (inr (inl h)))) =
-      list_of Loops loop_keys (LoopKeysFault names) ms f (λ n d t at is k. loop_of ms f n d t at is (loop_spot t f k)) h
-  parts_spot ms f (inr (inr (inr (inr (inl h))))) =
-      list_of Targets target_keys (TargetKeysFault names) ms f (λ n d t at is k. target_of ms f n d t at is (target_spot t f k)) h
-  parts_spot ms f (inr (inr (inr (inr (inr (inl h)))))) =
-      list_of Accesses access_keys (AccessKeysFault names) ms f (λ n d t at is k. part_of Accesses ms f n d t at is (access_spot t f k)) h
+      list_of Loops loop_keys (LoopKeysFault names) ms f (λ n d t at is k. part_of Loops ms f n d t at is (loop_spot t f k)) h
+  parts_spot ms f (inr (inr (inr (inr (inl h))))) = stretches_spot ms f h
+  parts_spot ms f (inr (inr (inr (inr (inr (inl h)))))) = let at = misplaced_spot ms f h.0 h.1 in (spot.Misplaced at.0, at.1)
   parts_spot ms f (inr (inr (inr (inr (inr (inr (inl h))))))) =
-      list_of Rules rule_keys (RuleKeysFault names) ms f (λ n d t at is k. rule_of ms f n d t at is (rule_spot t f k)) h
+      list_of Targets target_keys (TargetKeysFault names) ms f (λ n d t at is k. target_of ms f n d t at is (target_spot t f k)) h
   parts_spot ms f (inr (inr (inr (inr (inr (inr (inr (inl h)))))))) =
-      list_of Multiplies multiply_keys (MultiplyKeysFault names) ms f (λ n d t at is k. part_of Multiplies ms f n d t at is (multiply_spot t f k)) h
+      list_of Accesses access_keys (AccessKeysFault names) ms f (λ n d t at is k. part_of Accesses ms f n d t at is (access_spot t f k)) h
   parts_spot ms f (inr (inr (inr (inr (inr (inr (inr (inr (inl h))))))))) =
+      list_of Rules rule_keys (RuleKeysFault names) ms f (λ n d t at is k. rule_of ms f n d t at is (rule_spot t f k)) h
+  parts_spot ms f (inr (inr (inr (inr (inr (inr (inr (inr (inr (inl h)))))))))) =
+      list_of Multiplies multiply_keys (MultiplyKeysFault names) ms f (λ n d t at is k. part_of Multiplies ms f n d t at is (multiply_spot t f k)) h
+  parts_spot ms f (inr (inr (inr (inr (inr (inr (inr (inr (inr (inr (inl h))))))))))) =
       list_of Branches branch_keys (BranchKeysFault names) ms f (λ n d t at is k. part_of Branches ms f n d t at is (branch_spot t f k)) h
-  parts_spot ms f (inr (inr (inr (inr (inr (inr (inr (inr (inr h))))))))) = let at = twice_spot ms h.0 in (spot.Second at.0 at.1, (at.2, h.1))
+  parts_spot ms f (inr (inr (inr (inr (inr (inr (inr (inr (inr (inr (inr h))))))))))) = let at = twice_spot ms h.0 in (spot.Second at.0 at.1, (at.2, h.1))
 
   -- a fault has a spot
   pub fault_spot : (ms : Members) (f : StatementFault) → HasFault names ms f → SpotOf ms f
@@ -597,11 +670,11 @@ module _ (names : Names) where
 
   listed : (list : TableList) (ms : Members) (f : StatementFault) → AtKey (list_key list) ms (λ d. ListUpToFault statement_faults (most_of list) (TableFault statement_faults (keys_in list) (KeysOf list)) d f) → HasFault names ms f
   listed Loops ms f h = inr (inr (inr (inr (inl h))))
-  listed Targets ms f h = inr (inr (inr (inr (inr (inl h)))))
-  listed Accesses ms f h = inr (inr (inr (inr (inr (inr (inl h))))))
-  listed Rules ms f h = inr (inr (inr (inr (inr (inr (inr (inl h)))))))
-  listed Multiplies ms f h = inr (inr (inr (inr (inr (inr (inr (inr (inl h))))))))
-  listed Branches ms f h = inr (inr (inr (inr (inr (inr (inr (inr (inr (inl h)))))))))
+  listed Targets ms f h = inr (inr (inr (inr (inr (inr (inr (inl h)))))))
+  listed Accesses ms f h = inr (inr (inr (inr (inr (inr (inr (inr (inl h))))))))
+  listed Rules ms f h = inr (inr (inr (inr (inr (inr (inr (inr (inr (inl h)))))))))
+  listed Multiplies ms f h = inr (inr (inr (inr (inr (inr (inr (inr (inr (inr (inl h))))))))))
+  listed Branches ms f h = inr (inr (inr (inr (inr (inr (inr (inr (inr (inr (inr (inl h)))))))))))
 
   of_list : (list : TableList) (ms : Members) (f : StatementFault) → ListSpot (most_of list) (TableFault statement_faults (keys_in list) (KeysOf list)) f (get_member (list_key list) ms) (entries_at (list_key list) ms) → HasFault names ms f
   of_list list ms f h =
@@ -643,8 +716,15 @@ module _ (names : Names) where
   spot_fault ms (spot.TooMany list) f h = of_list list ms f (inr (inl h))
   spot_fault ms (spot.NoTable list n) f h = of_no_table list n ms f h
   spot_fault ms (spot.Listed list n p) f h = of_table list n ms f (λ t. PartFault names (Some list) p t f) (λ t k. part_fault list p t f k) h
-  spot_fault ms (spot.Misplaced n) f h =
-      of_table Loops n ms f (λ t. IsMisplaced names t × (f ≡ OutOfRange)) (λ t k. inr (inr (inr (inr (inr k))))) h
+  spot_fault ms (spot.Misplaced n) f h = let at = spot_misplaced ms n f h in inr (inr (inr (inr (inr (inr (inl at))))))
+  spot_fault ms spot.NoStretches f h = of_stretches ms f (inl h)
+  spot_fault ms spot.TooManyStretches f h = of_stretches ms f (inr (inl h))
+  spot_fault ms (spot.NoStretch n) f h =
+      let u = in_some (λ d. (pair_at d ≡ None) × (f ≡ WrongKind)) (slice_get (entries_at (codes "apart") ms) n) h in
+      of_stretch n ms f u.0 u.1 ((table_cases (λ ends. EndsFault ends f) (f ≡ WrongKind) (pair_at u.0)).1 (inl u.2))
+  spot_fault ms (spot.StretchEnd n i) f h =
+      of_ends n ms f (λ ends. IsSomeAnd (end_of ends i) (λ d. AddressFault names d f)) (λ ends k. end_fault i ends f k) h
+  spot_fault ms (spot.ReversedStretch n) f h = of_ends n ms f (λ ends. AreReversed names ends × (f ≡ OutOfRange)) (λ ends k. inr (inr k)) h
   spot_fault ms (spot.Unwanted n) f h =
       of_table Targets n ms f (λ t. GoesOn false t × IsSome (get_member (codes "to") t) × (f ≡ WrongKind)) (λ t k. of_staying t f k.0 k.1 k.2) h
   spot_fault ms (spot.TooManyDestinations n) f h =
@@ -654,4 +734,4 @@ module _ (names : Names) where
   spot_fault ms (spot.Reversed n) f h =
       of_table Rules n ms f (λ t. IsReversed names t × (f ≡ OutOfRange)) (λ t k. inr (inr (inr (inr (inr k))))) h
   spot_fault ms (spot.Second list n) f h =
-      inr (inr (inr (inr (inr (inr (inr (inr (inr (inr (second_twice ms list n h.0, h.1))))))))))
+      inr (inr (inr (inr (inr (inr (inr (inr (inr (inr (inr (inr (second_twice ms list n h.0, h.1))))))))))))

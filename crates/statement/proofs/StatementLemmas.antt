@@ -1,31 +1,35 @@
 -- What holds of all that is read.
-use Rattle.std.proofs.Common.{◌≡◌, ℕ, ℤ, pos, negsuc, arith, ◌+◌, ◌-◌, ◌%◌, ◌^◌, ◌<◌, ◌≤◌, Bool, true, false, ◌&&◌, cond, eqb, leb, List, [], length, take, drop, Option, Some, None, Ok, Err, Vec, is_none, sym, ap, ◌∙◌, subst}
+use Rattle.std.proofs.Common.{◌≡◌, ℕ, ℤ, pos, negsuc, arith, ◌+◌, ◌-◌, ◌%◌, ◌^◌, ◌<◌, ◌≤◌, Bool, true, false, ◌&&◌, cond, eqb, leb, List, [], length, take, drop, Option, Some, None, Ok, Err, Vec, get_or, is_none, refl, sym, ap, ◌∙◌, subst}
 use Rattle.std.specs.Prelude.{All, IfOk, codes}
 use Rattle.std.specs.declared.alloc.Global.{Global}
 use Rattle.std.proofs.lemmas.Bool.{and_parts, leb-true}
 use Rattle.std.proofs.lemmas.List.Elements.{All-nil}
+use Rattle.std.proofs.lemmas.List.Sums.{AllPass-from_list_all}
+use Rattle.std.specs.List.{list_all}
 use Rattle.std.specs.Str.Parse.{digits_value}
 use Rattle.toml.specs.Data.{Data, Members, as_integer, as_str, as_table, get_member}
 use Rattle.bus_ticks.specs.declared.profile.Class.{Class}
 use Rattle.walks.specs.declared.limits.TheConstants.{MOST_ROUNDS}
 use Rattle.toml_reading.specs.Documents.{are_distinct, in_space, items_at, listed_up_to, number_in, once}
 use Rattle.toml_reading.specs.Readings.{and_then, pair, items_in, required, reading_map}
-use Rattle.toml_reading.proofs.ReadingLemmas.{also_holds, and_then_holds, pair_holds, check_holds, first_holds, follows_holds, implied, in_space_holds, listed_up_to_holds, number_in_holds, required_holds, second_holds, map_pair, optional_holds, tables_few, tables_up_to_hold, test_holds}
+use Rattle.toml_reading.proofs.ReadingLemmas.{also_holds, and_then_holds, pair_holds, check_holds, first_holds, follows_holds, implied, in_space_holds, listed_up_to_holds, number_in_holds, required_holds, second_holds, map_pair, map_second, optional_holds, tables_few, tables_up_to_hold, test_holds}
 use Rattle.arm2_decode.specs.declared.names.Register.{Register}
 use Rattle.bus_ticks.specs.declared.space.TheConstants.{SPACE_END}
 use Rattle.shifter.specs.declared.shifts.TheConstants.{MOST_MULTIPLY_CYCLES}
-use Rattle.statement.specs.ReadingParts.{AreRead, StoredFrame, StoredLimits, StoredWords, frame_of, parts_in, rules_of, words_of}
-use Rattle.statement.specs.Stated.{IsLoop, IsRule, IsTarget, Target}
+use Rattle.statement.specs.ReadingParts.{AreBounded, AreRead, StoredLimits, StoredWords, pair_of, parts_in, rules_of, words_of}
+use Rattle.statement.specs.Stated.{IsLoop, IsRule, IsTarget, StatedLoops, Target, is_placed}
 use Rattle.image.specs.Labels.{Names}
-use Rattle.statement.specs.Statement.{Parts, Read, accesses_in, address_at, address_in, address_or, at_offset, branches_in, class_in, cycles_in, cycles_named_at, cycles_of, first_in, frame_in, last_in, limits_in, multiplies_in, multiply_at, multiply_in, placed_rule, register_in, rule_at, rule_in, rule_parts, rules_and_limits, rules_in, words_in, destinations, destinations_at, target_of_kind, ends_in, kind_in, from_label, is_number, label_or_offset, last_sign, leaving_in, loop_at, loop_in, loop_parts, loops_in, moved, number_or_text, parts_of, placed_loop, sign_at, some_destinations, target_at, target_in, targets_in}
+use Rattle.statement.specs.Statement.{Frame, Parts, Read, accesses_in, address_at, address_in, address_or, apart_in, at_offset, branches_in, class_in, cycles_in, cycles_named_at, cycles_of, first_in, frame_in, last_in, limits_in, multiplies_in, multiply_at, multiply_in, placed_rule, register_in, rule_at, rule_in, rule_parts, rules_and_limits, rules_in, words_in, destinations, destinations_at, target_of_kind, ends_in, kind_in, from_label, is_number, label_or_offset, last_sign, leaving_in, loop_at, loop_in, loop_of, loop_parts, loops_in, moved, number_or_text, parts_of, placed_loops, sign_at, stated_loops_in, some_destinations, target_at, target_in, targets_in}
 use Rattle.statement.specs.StatementFaults.{statement_faults}
 use Rattle.statement.specs.declared.faults.StatementFault.TheVariants.{OutOfRange, UnknownLabel, WrongKind, Twice}
 use Rattle.statement.specs.declared.offsets.Sign.{Sign}
 use Rattle.statement.specs.declared.offsets.Sign.TheVariants.{Plus, Minus}
+use Rattle.statement.specs.declared.apart.ApartStretch.{ApartStretch}
 use Rattle.statement.specs.declared.stated.BaseRule.{BaseRule}
 use Rattle.statement.specs.declared.stated.Loop.{Loop}
 use Rattle.statement.specs.declared.stated.TargetKind.{TargetKind}
 use Rattle.statement.specs.declared.stated.TargetKind.TheVariants.{Jump, Call, Return, Leave}
+use Rattle.statement.proofs.StandLemmas.{stand_is}
 
 -- ## Statements
 
@@ -97,19 +101,6 @@ IsBound n = n ≤ MOST_ROUNDS
 abbrev pub AreEnds : (ℕ × ℕ) × (ℕ × ℕ) → Type 0
 AreEnds p = (IsSmall p.0.0 × IsSmall p.0.1) × (IsSmall p.1.0 × IsBound p.1.1)
 
-placed_is_loop : (p : (ℕ × ℕ) × (ℕ × ℕ)) → AreEnds p → IfOk (placed_loop p) IsLoop
-placed_is_loop p h =
-    test_holds
-    statement_faults
-    IsLoop
-    (leb p.0.0 p.1.0 && leb p.1.0 p.0.1)
-    (record { header = p.1.0; first = p.0.0; last = p.0.1; bound = p.1.1 })
-    OutOfRange
-    (λ e.
-    let parts = and_parts (leb p.0.0 p.1.0) (leb p.1.0 p.0.1) e in
-    record
-    { from_first = leb-true p.0.0 p.1.0 parts.0; to_last = leb-true p.1.0 p.0.1 parts.1; last_small = h.0.1; bound_small = h.1.1 })
-
 loop_parts_hold : (names : Names) (ms : Members) → IfOk (loop_parts names ms) AreEnds
 loop_parts_hold names ms =
     let ends = pair statement_faults (address_in names (codes "first") ms) (address_in names (codes "last") ms) in
@@ -118,14 +109,21 @@ loop_parts_hold names ms =
     (pair_holds statement_faults IsSmall IsSmall (address_in names (codes "first") ms) (address_in names (codes "last") ms) (address_in_small names (codes "first") ms) (address_in_small names (codes "last") ms))
     (pair_holds statement_faults IsSmall IsBound (address_in names (codes "header") ms) (number_in statement_faults (codes "bound") MOST_ROUNDS ms) (address_in_small names (codes "header") ms) (number_in_holds statement_faults MOST_ROUNDS (codes "bound") ms))
 
-loop_in_holds : (names : Names) (ms : Members) → IfOk (loop_in names ms) IsLoop
-loop_in_holds names ms =
-    check_holds statement_faults IsLoop _ _ (and_then (loop_parts names ms) placed_loop)
-    (follows_holds statement_faults IsLoop AreEnds (loop_parts names ms) placed_loop (loop_parts_hold names ms) placed_is_loop)
+-- a loop whose header is not judged yet
+abbrev pub IsWhole : Loop → Type 0
+IsWhole l = (l.last < SPACE_END) × (l.bound ≤ MOST_ROUNDS)
 
-loop_holds : (names : Names) (d : Data) → IfOk (loop_at names d) IsLoop
+whole_loop : (r : Read ((ℕ × ℕ) × (ℕ × ℕ))) → IfOk r AreEnds → IfOk (reading_map loop_of r) IsWhole
+whole_loop (Ok p) h = (h.0.1, h.1.1)
+whole_loop (Err f) h = tt
+
+loop_in_holds : (names : Names) (ms : Members) → IfOk (loop_in names ms) IsWhole
+loop_in_holds names ms =
+    check_holds statement_faults IsWhole _ _ (reading_map loop_of (loop_parts names ms)) (whole_loop (loop_parts names ms) (loop_parts_hold names ms))
+
+loop_holds : (names : Names) (d : Data) → IfOk (loop_at names d) IsWhole
 loop_holds names d =
-    required_holds statement_faults IsLoop (as_table d) (loop_in names) (loop_in_holds names)
+    required_holds statement_faults IsWhole (as_table d) (loop_in names) (loop_in_holds names)
 
 -- ## Destinations
 
@@ -205,17 +203,37 @@ target_holds names d =
 
 -- ## Parts
 
-abbrev pub AreLoops : List Loop → Type 0
-AreLoops ls = All IsLoop ls × (length ls ≤ 256)
+abbrev pub AreLoops : StatedLoops → Type 0
+AreLoops loops = All (IsLoop loops.apart) loops.list × (length loops.list ≤ 256)
 
 abbrev pub AreTargets : List (ℕ × Target) → Type 0
 AreTargets ts = All IsStatedTarget ts
 
-loops_hold : (names : Names) (ms : Members) → IfOk (loops_in names ms) AreLoops
+whole_hold : (names : Names) (ms : Members) → IfOk (loops_in names ms) AreBounded
+whole_hold names ms =
+    implied (λ ls. All IsWhole ls × (length ls ≤ 256)) AreBounded (loops_in names ms) (λ ls h. record { small = h.0; few = h.1 })
+    (also_holds (All IsWhole) (λ ls. length ls ≤ 256) (loops_in names ms)
+    (tables_up_to_hold statement_faults IsWhole (loop_at names) (loop_holds names) 256 (get_member (codes "loop") ms))
+    (tables_few statement_faults (loop_at names) 256 (get_member (codes "loop") ms)))
+
+-- loops and what is apart from them, as they were read
+pub pair_whole : (names : Names) (ms : Members) → IfOk (pair statement_faults (loops_in names ms) (apart_in names ms)) (λ p. AreBounded p.0)
+pair_whole names ms = first_holds statement_faults AreBounded (loops_in names ms) (apart_in names ms) (whole_hold names ms)
+
+-- one of them that lies where it may
+placed_is_loop : (apart : List ApartStretch) (l : Loop) → IsWhole l → is_placed apart l ≡ true → IsLoop apart l
+placed_is_loop apart l h e =
+    let stands = (stand_is apart l.first l.header l.last).0 e in
+    record { within = stands.0; ends = stands.1; last_small = h.0; bound_small = h.1 }
+
+pub placed_are_loops : (apart : List ApartStretch) (ls : List Loop) → AreBounded ls → list_all (is_placed apart) ls ≡ true → All (IsLoop apart) ls
+placed_are_loops apart ls h e =
+    λ k d low. placed_is_loop apart (get_or ls k d) (h.small k d low) (AllPass-from_list_all (is_placed apart) ls e k d low)
+
+loops_hold : (names : Names) (ms : Members) → IfOk (stated_loops_in names ms) AreLoops
 loops_hold names ms =
-    also_holds (λ ls. All IsLoop ls) (λ ls. length ls ≤ 256) (loops_in names ms)
-    (tables_up_to_hold statement_faults IsLoop (loop_at names) (loop_holds names) 256 (get_member (codes "loop") ms))
-    (tables_few statement_faults (loop_at names) 256 (get_member (codes "loop") ms))
+    follows_holds statement_faults AreLoops (λ p. AreBounded p.0) (pair statement_faults (loops_in names ms) (apart_in names ms)) placed_loops (pair_whole names ms)
+    (λ p h. test_holds statement_faults AreLoops (list_all (is_placed p.1) p.0) (record { list = p.0; apart = p.1 }) OutOfRange (λ e. (placed_are_loops p.1 p.0 h e, h.few)))
 
 targets_hold : (names : Names) (ms : Members) → IfOk (targets_in names ms) AreTargets
 targets_hold names ms =
@@ -295,7 +313,7 @@ multiplies_hold names ms =
 
 frame_holds : (names : Names) (ms : Members) → IfOk (frame_in names ms) (λ p. IsSmall p.0.0 × AreLoops p.1)
 frame_holds names ms =
-    pair_holds statement_faults (λ p. IsSmall p.0) AreLoops (ends_in names ms) (loops_in names ms)
+    pair_holds statement_faults (λ p. IsSmall p.0) AreLoops (ends_in names ms) (stated_loops_in names ms)
     (first_holds statement_faults IsSmall (address_in names (codes "entry") ms) (leaving_in ms) (address_in_small names (codes "entry") ms))
     (loops_hold names ms)
 
@@ -313,7 +331,7 @@ parts_hold names ms =
         few = h.0.0.1.1;
         destinations = h.0.1;
         rules_within = h.1.0;
-        rules_apart = apart;
+        rules_disjoint = apart;
         cycles = h.1.1;
       };
     })
@@ -326,9 +344,25 @@ parts_hold names ms =
 -- ## As they are stored
 
 pub stored :
-    (f : Read StoredFrame) (w : Read StoredWords) (r : Read (Vec BaseRule Global × StoredLimits))
+    (f : Read Frame) (w : Read StoredWords) (r : Read (Vec BaseRule Global × StoredLimits))
     → reading_map parts_in (pair statement_faults (pair statement_faults f w) r)
-    ≡ pair statement_faults (pair statement_faults (reading_map frame_of f) (reading_map words_of w)) (reading_map rules_of r)
+    ≡ pair statement_faults (pair statement_faults f (reading_map words_of w)) (reading_map rules_of r)
 stored f w r =
-    map_pair statement_faults (λ p. (frame_of p.0, words_of p.1)) rules_of (pair statement_faults f w) r
-    ∙ (λ i. pair statement_faults (map_pair statement_faults frame_of words_of f w i) (reading_map rules_of r))
+    map_pair statement_faults (λ p. (p.0, words_of p.1)) rules_of (pair statement_faults f w) r
+    ∙ (λ i. pair statement_faults (map_second statement_faults words_of f w i) (reading_map rules_of r))
+
+-- loops and what is apart from them
+pub stored_pair :
+    (l : Read (Vec Loop Global)) (a : Read (List ApartStretch))
+    → reading_map pair_of (pair statement_faults l a) ≡ pair statement_faults (items_in l) a
+stored_pair (Ok l) (Ok a) = refl
+stored_pair (Ok l) (Err g) = refl
+stored_pair (Err f) (Ok a) = refl
+stored_pair (Err f) (Err g) = refl
+
+pub pair_are_whole :
+    (r : Read (Vec Loop Global × List ApartStretch))
+    → IfOk (reading_map pair_of r) (λ p. AreBounded p.0)
+    → IfOk r (λ p. AreBounded p.0.items)
+pair_are_whole (Ok p) h = h
+pair_are_whole (Err f) h = tt

@@ -23,8 +23,8 @@ use Rattle.statement.specs.PlaceTests.{holds_of, is_covered, was_met}
 use Rattle.statement.specs.Stretches.{AreDisjoint, AreOf, Gives, IsCovered, IsJoined, IsMet, IsNextFrom, ending, is_for, is_within, meets, number_for, pair_cmp}
 use Rattle.statement.specs.declared.stated.BaseRule.{BaseRule}
 use Rattle.statement.specs.declared.stretches.Stretch.{Stretch}
-use Rattle.statement.specs.Stated.{AreApart, is_ruled, ruled_class}
-use Rattle.statement.specs.Statement.{are_apart}
+use Rattle.statement.specs.Stated.{ShareNoWord, is_ruled, ruled_class}
+use Rattle.statement.specs.Statement.{are_disjoint}
 use Rattle.statement.proofs.MeetLemmas.{apart_is, between, part_of}
 use Rattle.statement.proofs.RepeatLemmas.{or_is, same_test}
 
@@ -615,17 +615,17 @@ module _ (m : BTreeMap (ℕ × ℕ) (ℕ × ℕ)) (r : BaseRule) (ordered : r.fi
       → get_or rules i d ≡ r
       → AreOf m (number_for (take i rules))
       → IsMet m (part_of r) s
-      → are_apart rules ≡ false
+      → are_disjoint rules ≡ false
   index_full rules i d s low is of met =
       let at = met_gives m (part_of r) s of.disjoint ordered met in
       let own = position-Some (is_for (register_number r.register) at.0) (take i rules) s.1.1 d ((of.same (register_number r.register) at.0 s.1.1).0 at.1) in
       let shorter : length (take i rules) ≡ i = length-take-le i rules (omega arith) in
       let earlier = own.0 in
       let before : s.1.1 < i = omega arith in
-      false_from_ne_true (are_apart rules) (λ apart. both_ruled ((apart_is rules).0 apart) s.1.1 before at.0 (subst (λ q. is_for (register_number r.register) at.0 q ≡ true) (get_or-take i rules s.1.1 d before) own.1) at.2)
+      false_from_ne_true (are_disjoint rules) (λ apart. both_ruled ((apart_is rules).0 apart) s.1.1 before at.0 (subst (λ q. is_for (register_number r.register) at.0 q ≡ true) (get_or-take i rules s.1.1 d before) own.1) at.2)
     where
       both_ruled :
-          AllPairs AreApart rules
+          AllPairs ShareNoWord rules
           → (k : ℕ) → k < i
           → (a : ℕ)
           → is_for (register_number r.register) a (get_or rules k d) ≡ true
@@ -640,12 +640,12 @@ module _ (m : BTreeMap (ℕ × ℕ) (ℕ × ℕ)) (r : BaseRule) (ordered : r.fi
       → ((s : ℕ × (ℕ × ℕ)) → ¬ IsMet m (part_of r) s)
       → IsPut m n (register_number r.register) r.last (Some (r.first, length rules))
       → AreOf m (number_for rules)
-      → AllPairs AreApart rules
-      → AreOf n (number_for (rules ++ r ∷ [])) × AllPairs AreApart (rules ++ r ∷ [])
+      → AllPairs ShareNoWord rules
+      → AreOf n (number_for (rules ++ r ∷ [])) × AllPairs ShareNoWord (rules ++ r ∷ [])
   index_more rules n alone is_put of apart = (
     put_of m n (part_of r) (length rules) of.disjoint ordered alone is_put (number_for rules) (number_for (rules ++ r ∷ [])) of
         (λ b a k. place_more (is_for b a) rules r k (once b a)),
-    all_pairs_push AreApart rules r apart
+    all_pairs_push ShareNoWord rules r apart
         (λ k d low base a h own. once (register_number base) a own (position_or_len (is_for (register_number base) a) rules) (place_some (is_for (register_number base) a) rules k d low h)),
   )
     where

@@ -6,13 +6,13 @@ use Rattle.std.specs.Cmp.Derive.{both_true}
 use Rattle.std.proofs.lemmas.Bool.{and_parts, eqb-true, false_from_ne_true, false≢true, le-leb, leb-true}
 use Rattle.std.proofs.lemmas.List.{nil_from_length}
 use Rattle.std.proofs.lemmas.Option.{none-some}
-use Rattle.toml.specs.Data.{Data, Members, as_integer, get_member}
+use Rattle.toml.specs.Data.{Data, Members, as_integer, as_table, get_member, integer, string}
 use Rattle.bus_ticks.specs.declared.profile.Class.{Class}
 use Rattle.walks.specs.declared.limits.TheConstants.{MOST_ROUNDS}
-use Rattle.toml_reading.specs.Documents.{are_distinct, items_at, listed_up_to, number_in, once}
-use Rattle.toml_reading.specs.Lists.{HasRepeat}
-use Rattle.toml_reading.specs.Lowest.{AtKey, IsNamed, IsNumber, IsOutside, NameFault, NumberFault}
-use Rattle.toml_reading.specs.Readings.{Reading, and_then, pair, required}
+use Rattle.toml_reading.specs.Documents.{are_distinct, items_at, listed_up_to, once}
+use Rattle.toml_reading.specs.Lists.{HasRepeat, ListUpToFault}
+use Rattle.toml_reading.specs.Lowest.{AtKey, IsNamed, IsNumber, IsOutside, KeysFault, NameFault, NumberFault}
+use Rattle.toml_reading.specs.Readings.{Reading, and_then, pair, reading_map, required}
 use Rattle.toml_reading.proofs.Following.{few_judged, stated_or_faulty, test_judged, then_judged, widened_judged}
 use Rattle.toml_reading.proofs.LowestLemmas.{Judges, pair_judged, judged_as, required_judged, map_judged}
 use Rattle.toml_reading.proofs.LowestParts.{any_none, number_in_judged, table_judged}
@@ -20,15 +20,15 @@ use Rattle.toml_reading.proofs.TwiceLemmas.{not_distinct}
 use Rattle.arm2_decode.specs.declared.names.Register.{Register}
 use Rattle.asm_text.specs.Registers.{register_of}
 use Rattle.bus_ticks.specs.declared.space.TheConstants.{SPACE_END}
-use Rattle.statement.specs.StatementRules.{AccessFault, AccessKeysFault, AddressFault, AreCycles, AreDestinations, AreFew, AreNoCycles, BranchFault, BranchKeysFault, CyclesFault, DestinationsFault, GoesTo, HasAccess, HasBranch, HasLoop, HasMultiply, HasRule, HasTarget, IsAddress, IsFirst, IsLast, IsMisplaced, IsPlaced, IsReversed, LoopFault, LoopKeysFault, MultiplyFault, MultiplyKeysFault, RequiredFault, RuleFault, RuleKeysFault, StatesAccess, StatesBranch, StatesLoop, StatesMultiply, StatesRule, StatesTarget, TargetFault, TargetKeysFault, ToFault}
+use Rattle.statement.specs.StatementRules.{AccessFault, AccessKeysFault, AddressFault, AreCycles, AreDestinations, AreFew, AreNoCycles, BranchFault, BranchKeysFault, CyclesFault, DestinationsFault, GoesTo, HasAccess, HasBranch, HasLoop, HasMultiply, HasRule, HasTarget, AreReversed, IsAddress, IsFirst, IsLast, IsReversed, LoopFault, NamesLabel, LoopKeysFault, MultiplyFault, MultiplyKeysFault, RequiredFault, RuleFault, RuleKeysFault, StatesAccess, StatesBranch, StatesLoop, StatesMultiply, StatesRule, StatesStretch, StatesTarget, StretchFault, TargetFault, TargetKeysFault, ToFault}
 use Rattle.statement.specs.Stated.{Target}
 use Rattle.image.specs.Labels.{Names}
-use Rattle.statement.specs.Statement.{access_at, access_keys, address_at, address_in, branch_at, branch_keys, class_in, cycles_in, cycles_named_at, cycles_of, destinations, destinations_at, target_of_kind, kind_in, loop_at, loop_keys, loop_parts, multiply_at, multiply_keys, named_class, named_kind, named_taken, placed_loop, placed_rule, register_in, rule_at, rule_keys, rule_parts, some_destinations, taken_in, target_at, target_keys}
+use Rattle.statement.specs.Statement.{access_at, access_keys, address_at, address_in, apart_at, apart_of, branch_at, branch_keys, class_in, cycles_in, cycles_named_at, cycles_of, destinations, destinations_at, kind_in, loop_at, loop_keys, loop_of, loop_parts, multiply_at, multiply_keys, named_class, named_kind, named_taken, pair_at, placed_rule, placed_stretch, register_in, rule_at, rule_keys, rule_parts, some_destinations, taken_in, target_at, target_keys, target_of_kind}
 use Rattle.statement.specs.StatementFaults.{number_of, statement_faults}
 use Rattle.statement.specs.declared.faults.StatementFault.{StatementFault}
-use Rattle.statement.specs.declared.faults.StatementFault.TheVariants.{Memory, WrongKind, OutOfRange, Twice}
+use Rattle.statement.specs.declared.faults.StatementFault.TheVariants.{Memory, UnknownKey, UnknownLabel, WrongKind, OutOfRange, Twice}
+use Rattle.statement.specs.declared.apart.ApartStretch.{ApartStretch}
 use Rattle.statement.specs.declared.stated.BaseRule.{BaseRule}
-use Rattle.statement.specs.declared.stated.Loop.{Loop}
 use Rattle.statement.specs.declared.stated.Taken.{Taken}
 use Rattle.statement.specs.declared.stated.TargetKind.{TargetKind}
 use Rattle.statement.specs.declared.stated.TargetKind.TheVariants.{Return, Leave}
@@ -60,6 +60,18 @@ twice_last _ = omega arith
 
 -- ## Sums in another order
 
+four_in_line : {A B C D : Type 0} → ((A ⊎ B) ⊎ (C ⊎ D)) ↔ (A ⊎ B ⊎ C ⊎ D)
+four_in_line = (
+  λ x. elim x [
+    | inl ab ↦ elim ab [ inl a ↦ inl a | inr b ↦ inr (inl b) ]
+    | inr cd ↦ elim cd [ inl c ↦ inr (inr (inl c)) | inr d ↦ inr (inr (inr d)) ]
+  ],
+  λ x. elim x [
+    | inl a ↦ inl (inl a)
+    | inr bs ↦ elim bs [ inl b ↦ inl (inr b) | inr cs ↦ elim cs [ inl c ↦ inr (inl c) | inr d ↦ inr (inr d) ] ]
+  ],
+)
+
 module _ {A B C D E : Type 0} where
   five_in_line : (((A ⊎ B) ⊎ (C ⊎ D)) ⊎ E) ↔ (A ⊎ B ⊎ C ⊎ D ⊎ E)
   five_in_line = (
@@ -83,32 +95,36 @@ module _ {A B C D E : Type 0} where
   )
 
 -- the faults of a document's parts, in their order
-module _ {A B C D E F G H I J : Type 0} where
-  to_line : (((((A ⊎ (B ⊎ C)) ⊎ D) ⊎ (E ⊎ F)) ⊎ (G ⊎ (H ⊎ I))) ⊎ J) → (A ⊎ B ⊎ C ⊎ D ⊎ E ⊎ F ⊎ G ⊎ H ⊎ I ⊎ J)
+module _ {A B C D E F G H I J K L : Type 0} where
+  to_line : (((((A ⊎ (B ⊎ C)) ⊎ ((D ⊎ E) ⊎ F)) ⊎ (G ⊎ H)) ⊎ (I ⊎ (J ⊎ K))) ⊎ L) → (A ⊎ B ⊎ C ⊎ D ⊎ E ⊎ F ⊎ G ⊎ H ⊎ I ⊎ J ⊎ K ⊎ L)
   to_line (inl (inl (inl (inl (inl x))))) = inl x
   to_line (inl (inl (inl (inl (inr (inl x)))))) = inr (inl x)
   to_line (inl (inl (inl (inl (inr (inr x)))))) = inr (inr (inl x))
-  to_line (inl (inl (inl (inr x)))) = inr (inr (inr (inl x)))
-  to_line (inl (inl (inr (inl x)))) = inr (inr (inr (inr (inl x))))
-  to_line (inl (inl (inr (inr x)))) = inr (inr (inr (inr (inr (inl x)))))
-  to_line (inl (inr (inl x))) = inr (inr (inr (inr (inr (inr (inl x))))))
-  to_line (inl (inr (inr (inl x)))) = inr (inr (inr (inr (inr (inr (inr (inl x)))))))
-  to_line (inl (inr (inr (inr x)))) = inr (inr (inr (inr (inr (inr (inr (inr (inl x))))))))
-  to_line (inr x) = inr (inr (inr (inr (inr (inr (inr (inr (inr x))))))))
+  to_line (inl (inl (inl (inr (inl (inl x)))))) = inr (inr (inr (inl x)))
+  to_line (inl (inl (inl (inr (inl (inr x)))))) = inr (inr (inr (inr (inl x))))
+  to_line (inl (inl (inl (inr (inr x))))) = inr (inr (inr (inr (inr (inl x)))))
+  to_line (inl (inl (inr (inl x)))) = inr (inr (inr (inr (inr (inr (inl x))))))
+  to_line (inl (inl (inr (inr x)))) = inr (inr (inr (inr (inr (inr (inr (inl x)))))))
+  to_line (inl (inr (inl x))) = inr (inr (inr (inr (inr (inr (inr (inr (inl x))))))))
+  to_line (inl (inr (inr (inl x)))) = inr (inr (inr (inr (inr (inr (inr (inr (inr (inl x)))))))))
+  to_line (inl (inr (inr (inr x)))) = inr (inr (inr (inr (inr (inr (inr (inr (inr (inr (inl x))))))))))
+  to_line (inr x) = inr (inr (inr (inr (inr (inr (inr (inr (inr (inr (inr x))))))))))
 
-  of_line : (A ⊎ B ⊎ C ⊎ D ⊎ E ⊎ F ⊎ G ⊎ H ⊎ I ⊎ J) → (((((A ⊎ (B ⊎ C)) ⊎ D) ⊎ (E ⊎ F)) ⊎ (G ⊎ (H ⊎ I))) ⊎ J)
+  of_line : (A ⊎ B ⊎ C ⊎ D ⊎ E ⊎ F ⊎ G ⊎ H ⊎ I ⊎ J ⊎ K ⊎ L) → (((((A ⊎ (B ⊎ C)) ⊎ ((D ⊎ E) ⊎ F)) ⊎ (G ⊎ H)) ⊎ (I ⊎ (J ⊎ K))) ⊎ L)
   of_line (inl x) = inl (inl (inl (inl (inl x))))
   of_line (inr (inl x)) = inl (inl (inl (inl (inr (inl x)))))
   of_line (inr (inr (inl x))) = inl (inl (inl (inl (inr (inr x)))))
-  of_line (inr (inr (inr (inl x)))) = inl (inl (inl (inr x)))
-  of_line (inr (inr (inr (inr (inl x))))) = inl (inl (inr (inl x)))
-  of_line (inr (inr (inr (inr (inr (inl x)))))) = inl (inl (inr (inr x)))
-  of_line (inr (inr (inr (inr (inr (inr (inl x))))))) = inl (inr (inl x))
-  of_line (inr (inr (inr (inr (inr (inr (inr (inl x)))))))) = inl (inr (inr (inl x)))
-  of_line (inr (inr (inr (inr (inr (inr (inr (inr (inl x))))))))) = inl (inr (inr (inr x)))
-  of_line (inr (inr (inr (inr (inr (inr (inr (inr (inr x))))))))) = inr x
+  of_line (inr (inr (inr (inl x)))) = inl (inl (inl (inr (inl (inl x)))))
+  of_line (inr (inr (inr (inr (inl x))))) = inl (inl (inl (inr (inl (inr x)))))
+  of_line (inr (inr (inr (inr (inr (inl x)))))) = inl (inl (inl (inr (inr x))))
+  of_line (inr (inr (inr (inr (inr (inr (inl x))))))) = inl (inl (inr (inl x)))
+  of_line (inr (inr (inr (inr (inr (inr (inr (inl x)))))))) = inl (inl (inr (inr x)))
+  of_line (inr (inr (inr (inr (inr (inr (inr (inr (inl x))))))))) = inl (inr (inl x))
+  of_line (inr (inr (inr (inr (inr (inr (inr (inr (inr (inl x)))))))))) = inl (inr (inr (inl x)))
+  of_line (inr (inr (inr (inr (inr (inr (inr (inr (inr (inr (inl x))))))))))) = inl (inr (inr (inr x)))
+  of_line (inr (inr (inr (inr (inr (inr (inr (inr (inr (inr (inr x))))))))))) = inr x
 
-  pub in_line : (((((A ⊎ (B ⊎ C)) ⊎ D) ⊎ (E ⊎ F)) ⊎ (G ⊎ (H ⊎ I))) ⊎ J) ↔ (A ⊎ B ⊎ C ⊎ D ⊎ E ⊎ F ⊎ G ⊎ H ⊎ I ⊎ J)
+  pub in_line : (((((A ⊎ (B ⊎ C)) ⊎ ((D ⊎ E) ⊎ F)) ⊎ (G ⊎ H)) ⊎ (I ⊎ (J ⊎ K))) ⊎ L) ↔ (A ⊎ B ⊎ C ⊎ D ⊎ E ⊎ F ⊎ G ⊎ H ⊎ I ⊎ J ⊎ K ⊎ L)
   in_line = (to_line, of_line)
 
 -- ## Cycles
@@ -142,9 +158,6 @@ cycles_in_judged ms =
 module _ (names : Names) where
   -- ## Loops
 
-  abbrev loop_of : (ℕ × ℕ) × (ℕ × ℕ) → Loop
-  loop_of p = record { header = p.1.0; first = p.0.0; last = p.0.1; bound = p.1.1 }
-
   abbrev HasEnds : Members → (ℕ × ℕ) × (ℕ × ℕ) → Type 0
   HasEnds ms p =
       (AtKey (codes "first") ms (λ d. IsAddress names d p.0.0) × AtKey (codes "last") ms (λ d. IsAddress names d p.0.1))
@@ -168,15 +181,102 @@ module _ (names : Names) where
       (pair_judged statement_faults _ _ _ _ _ _ (address_in_judged names (codes "first") ms) (address_in_judged names (codes "last") ms))
       (pair_judged statement_faults _ _ _ _ _ _ (address_in_judged names (codes "header") ms) (number_in_judged statement_faults MOST_ROUNDS (codes "bound") ms))
 
-  is_placed : (l : Loop) → (leb l.first l.header && leb l.header l.last) ≡ true ↔ IsPlaced names l
-  is_placed l = (
-    λ e. let parts = and_parts (leb l.first l.header) (leb l.header l.last) e in (leb-true l.first l.header parts.0, leb-true l.header l.last parts.1),
-    λ h. both_true (le-leb l.first l.header h.0) (le-leb l.header l.last h.1),
-  )
+  loop_keys_judged :
+      (ms : Members)
+      → Judges statement_faults (HasLoop names ms) (LoopKeysFault names ms) (reading_map loop_of (loop_parts names ms))
+  loop_keys_judged ms =
+      judged_as
+      statement_faults
+      (HasLoop names ms)
+      (HasLoop names ms)
+      (EndsFault ms)
+      (LoopKeysFault names ms)
+      (λ l. (λ h. h, λ h. h))
+      (λ f. four_in_line)
+      (reading_map loop_of (loop_parts names ms))
+      (map_judged statement_faults (HasEnds ms) (HasLoop names ms) (EndsFault ms) loop_of of_ends (λ l h. (((l.first, l.last), (l.header, l.bound)), ((h.first, h.last), (h.header, h.bound)), refl)) (loop_parts names ms) (ends_judged ms))
+    where
+      of_ends : (p : (ℕ × ℕ) × (ℕ × ℕ)) → HasEnds ms p → HasLoop names ms (loop_of p)
+      of_ends p s = record { first = s.0.0; last = s.0.1; header = s.1.0; bound = s.1.1 }
 
-  abbrev PlaceFault : Members → StatementFault → Type 0
-  PlaceFault ms f =
-      (p : (ℕ × ℕ) × (ℕ × ℕ)) × HasEnds ms p × ((¬ IsPlaced names (loop_of p)) × (f ≡ OutOfRange))
+  pub loop_judged :
+      (d : Data)
+      → Judges statement_faults (StatesLoop names d) (LoopFault names d) (loop_at names d)
+  loop_judged d =
+      table_judged
+      statement_faults
+      loop_keys
+      (HasLoop names)
+      (LoopKeysFault names)
+      (λ ms. reading_map loop_of (loop_parts names ms))
+      loop_keys_judged
+      d
+
+  -- ## Stretches apart
+
+  abbrev AreEndsOf : Data × Data → ApartStretch → Type 0
+  AreEndsOf ends s = IsAddress names ends.0 s.first × IsAddress names ends.1 s.last × (s.first ≤ s.last)
+
+  abbrev EndsOfFault : Data × Data → StatementFault → Type 0
+  EndsOfFault ends f =
+      AddressFault names ends.0 f ⊎ AddressFault names ends.1 f ⊎ (AreReversed names ends × (f ≡ OutOfRange))
+
+  abbrev HasBoth : Data × Data → ℕ × ℕ → Type 0
+  HasBoth ends p = IsAddress names ends.0 p.0 × IsAddress names ends.1 p.1
+
+  abbrev BothFault : Data × Data → StatementFault → Type 0
+  BothFault ends f = AddressFault names ends.0 f ⊎ AddressFault names ends.1 f
+
+  abbrev LateFault : Data × Data → StatementFault → Type 0
+  LateFault ends f = (p : ℕ × ℕ) × HasBoth ends p × ((¬ (p.0 ≤ p.1)) × (f ≡ OutOfRange))
+
+  abbrev stretch_by : ℕ × ℕ → ApartStretch
+  stretch_by p = record { first = p.0; last = p.1 }
+
+  both_judged :
+      (ends : Data × Data)
+      → Judges statement_faults (HasBoth ends) (BothFault ends) (pair statement_faults (address_at names ends.0) (address_at names ends.1))
+  both_judged ends =
+      pair_judged statement_faults (IsAddress names ends.0) (IsAddress names ends.1) _ _ _ _ (address_judged names ends.0) (address_judged names ends.1)
+
+  not_le : (a b : ℕ) → (¬ (a ≤ b)) → b < a
+  not_le a b h = omega (arith, h)
+
+  ends_of_judged :
+      (ends : Data × Data)
+      → Judges statement_faults (AreEndsOf ends) (EndsOfFault ends) (apart_of names ends)
+  ends_of_judged ends =
+      judged_as
+      statement_faults
+      (λ s. (p : ℕ × ℕ) × HasBoth ends p × ((p.0 ≤ p.1) × (s ≡ stretch_by p)))
+      (AreEndsOf ends)
+      (λ f. BothFault ends f ⊎ LateFault ends f)
+      (EndsOfFault ends)
+      (λ s. (
+        λ u. subst (AreEndsOf ends) (sym u.2.1) (u.1.0, u.1.1, u.2.0),
+        λ h. ((s.first, s.last), (h.0, h.1), (h.2, refl)),
+      ))
+      (λ f. (
+        λ y. elim y [
+          | inl b ↦ elim b [ inl x ↦ inl x | inr x ↦ inr (inl x) ]
+          | inr u ↦ inr (inr ((u.0.0, u.0.1, u.1.0, u.1.1, not_le u.0.0 u.0.1 u.2.0), u.2.1))
+        ],
+        λ y. elim y [
+          | inl x ↦ inl (inl x)
+          | inr z ↦ elim z [ inl x ↦ inl (inr x) | inr u ↦ inr (late_of u) ]
+        ],
+      ))
+      (apart_of names ends)
+      (then_judged statement_faults (HasBoth ends) (λ p s. (p.0 ≤ p.1) × (s ≡ stretch_by p)) (BothFault ends) (λ p f. (¬ (p.0 ≤ p.1)) × (f ≡ OutOfRange)) placed_stretch (λ p s. test_judged statement_faults (p.0 ≤ p.1) (stretch_by p) OutOfRange (leb p.0 p.1) (leb-true p.0 p.1, le-leb p.0 p.1)) (pair statement_faults (address_at names ends.0) (address_at names ends.1)) (both_judged ends))
+    where
+      late_of : {f : StatementFault} → AreReversed names ends × (f ≡ OutOfRange) → LateFault ends f
+      late_of u = ((u.0.0, u.0.1), (u.0.2, u.0.3), ((λ o. let low = u.0.4 in omega arith), u.1))
+
+  pub stretch_judged :
+      (d : Data)
+      → Judges statement_faults (StatesStretch names d) (StretchFault names d) (apart_at names d)
+  stretch_judged d =
+      required_judged statement_faults AreEndsOf EndsOfFault (apart_of names) ends_of_judged (pair_at d)
 
   number_low :
       (o : Option ℤ) (g : StatementFault)
@@ -192,77 +292,53 @@ module _ (names : Names) where
   bound_low None g h = at_most g WrongKind h (omega arith)
   bound_low (Some d) g h = number_low (as_integer d) g h
 
-  -- a header outside first to last is reported, or a fault of the bound that is no higher
-  misplaced_under :
-      (ms : Members) (f : StatementFault)
-      → IsMisplaced names ms × (f ≡ OutOfRange)
-      → (g : StatementFault) × (EndsFault ms g ⊎ PlaceFault ms g) × (number_of g ≤ number_of f)
-  misplaced_under ms f h =
-      elim
-      (stated_or_faulty statement_faults (λ n. AtKey (codes "bound") ms (λ d. IsNumber MOST_ROUNDS d n)) (RequiredFault (codes "bound") ms (NumberFault statement_faults MOST_ROUNDS)) (number_in statement_faults (codes "bound") MOST_ROUNDS ms) (number_in_judged statement_faults MOST_ROUNDS (codes "bound") ms)) [
-        | inl b ↦ (OutOfRange, inr (((h.0.0, h.0.1), (h.0.2, b.0)), ((h.0.3, h.0.4), (h.0.5, b.1)), (h.0.6, refl)), le_of_eq (ap number_of (sym h.1)))
-        | inr g ↦ (g.0, inl (inr (inr g.1)), subst (λ (y : StatementFault). number_of g.0 ≤ number_of y) (sym h.1) (bound_low (get_member (codes "bound") ms) g.0 g.1))
-      ]
+  -- ## Faults that are no higher than that of a misplaced header
 
-  placed_judged :
-      (ms : Members)
-      → Judges
-      statement_faults
-      (λ l. (p : (ℕ × ℕ) × (ℕ × ℕ)) × HasEnds ms p × (IsPlaced names (loop_of p) × (l ≡ loop_of p)))
-      (λ f. EndsFault ms f ⊎ PlaceFault ms f)
-      (and_then (loop_parts names ms) placed_loop)
-  placed_judged ms =
-      then_judged
-      statement_faults
-      (HasEnds ms)
-      (λ p l. IsPlaced names (loop_of p) × (l ≡ loop_of p))
-      (EndsFault ms)
-      (λ p f. (¬ IsPlaced names (loop_of p)) × (f ≡ OutOfRange))
-      placed_loop
-      (λ p s. test_judged statement_faults (IsPlaced names (loop_of p)) (loop_of p) OutOfRange (leb p.0.0 p.1.0 && leb p.1.0 p.0.1) (is_placed (loop_of p)))
-      (loop_parts names ms)
-      (ends_judged ms)
+  text_low : (Named Out : Type 0) (g : StatementFault) → ((¬ Named) × (g ≡ UnknownLabel)) ⊎ (Named × Out × (g ≡ OutOfRange)) → number_of g ≤ number_of OutOfRange
+  text_low Named Out g (inl h) = at_most g UnknownLabel h.1 (omega arith)
+  text_low Named Out g (inr h) = at_most g OutOfRange h.2 (omega arith)
 
-  loop_keys_judged :
-      (ms : Members)
-      → Judges
-      statement_faults
-      (λ l. HasLoop names ms l × IsPlaced names l)
-      (LoopKeysFault names ms)
-      (and_then (loop_parts names ms) placed_loop)
-  loop_keys_judged ms =
-      judged_as
-      statement_faults
-      (λ l. (p : (ℕ × ℕ) × (ℕ × ℕ)) × HasEnds ms p × (IsPlaced names (loop_of p) × (l ≡ loop_of p)))
-      (λ l. HasLoop names ms l × IsPlaced names l)
-      (λ f. EndsFault ms f ⊎ (IsMisplaced names ms × (f ≡ OutOfRange)))
-      (LoopKeysFault names ms)
-      (λ l. (
-        λ u. subst (λ (m : Loop). HasLoop names ms m × IsPlaced names m) (sym u.2.1) (of_ends u.0 u.1, u.2.0),
-        λ h. (((l.first, l.last), (l.header, l.bound)), ends_of l h.0, (h.1, refl)),
-      ))
-      (λ f. five_in_line)
-      (and_then (loop_parts names ms) placed_loop)
-      (widened_judged statement_faults _ (EndsFault ms) (PlaceFault ms) (λ f. IsMisplaced names ms × (f ≡ OutOfRange)) (λ f u. ((u.0.0.0, u.0.0.1, u.0.1.0, u.1.0.0, u.1.0.1, u.1.1.0, u.2.0), u.2.1)) (misplaced_under ms) (and_then (loop_parts names ms) placed_loop) (placed_judged ms))
-    where
-      of_ends : (p : (ℕ × ℕ) × (ℕ × ℕ)) → HasEnds ms p → HasLoop names ms (loop_of p)
-      of_ends p s = record { first = s.0.0; last = s.0.1; header = s.1.0; bound = s.1.1 }
+  address_low : (d : Data) (g : StatementFault) → AddressFault names d g → number_of g ≤ number_of OutOfRange
+  address_low (integer z) g h = at_most g OutOfRange h.1 (omega arith)
+  address_low (string text) g h = text_low (NamesLabel names text) _ g h
+  address_low _ g h = at_most g WrongKind h (omega arith)
 
-      ends_of : (l : Loop) → HasLoop names ms l → HasEnds ms ((l.first, l.last), (l.header, l.bound))
-      ends_of l h = ((h.first, h.last), (h.header, h.bound))
+  required_low : (o : Option Data) (g : StatementFault) → MatchOption o (g ≡ WrongKind) (λ d. AddressFault names d g) → number_of g ≤ number_of OutOfRange
+  required_low None g h = at_most g WrongKind h (omega arith)
+  required_low (Some d) g h = address_low d g h
 
-  pub loop_judged :
-      (d : Data)
-      → Judges statement_faults (StatesLoop names d) (LoopFault names d) (loop_at names d)
-  loop_judged d =
-      table_judged
-      statement_faults
-      loop_keys
-      (λ ms l. HasLoop names ms l × IsPlaced names l)
-      (LoopKeysFault names)
-      (λ ms. and_then (loop_parts names ms) placed_loop)
-      loop_keys_judged
-      d
+  loop_keys_low : (ms : Members) (g : StatementFault) → LoopKeysFault names ms g → number_of g ≤ number_of OutOfRange
+  loop_keys_low ms g (inl h) = required_low (get_member (codes "first") ms) g h
+  loop_keys_low ms g (inr (inl h)) = required_low (get_member (codes "last") ms) g h
+  loop_keys_low ms g (inr (inr (inl h))) = required_low (get_member (codes "header") ms) g h
+  loop_keys_low ms g (inr (inr (inr h))) = bound_low (get_member (codes "bound") ms) g h
+
+  table_low : (o : Option Members) (g : StatementFault) → MatchOption o (g ≡ WrongKind) (λ ms. KeysFault statement_faults loop_keys (LoopKeysFault names) ms g) → number_of g ≤ number_of OutOfRange
+  table_low None g h = at_most g WrongKind h (omega arith)
+  table_low (Some ms) g (inl h) = at_most g UnknownKey h.1 (omega arith)
+  table_low (Some ms) g (inr h) = loop_keys_low ms g h
+
+  ends_low : (o : Option (Data × Data)) (g : StatementFault) → MatchOption o (g ≡ WrongKind) (λ ends. EndsOfFault ends g) → number_of g ≤ number_of OutOfRange
+  ends_low None g h = at_most g WrongKind h (omega arith)
+  ends_low (Some ends) g (inl h) = address_low ends.0 g h
+  ends_low (Some ends) g (inr (inl h)) = address_low ends.1 g h
+  ends_low (Some ends) g (inr (inr h)) = at_most g OutOfRange h.1 (omega arith)
+
+  module _ (Has : Data → StatementFault → Type 0) (low : (d : Data) (g : StatementFault) → Has d g → number_of g ≤ number_of OutOfRange) where
+    items_low : (o : Option (List Data)) (g : StatementFault) → MatchOption o (g ≡ WrongKind) (λ ds. ((256 < length ds) × (g ≡ OutOfRange)) ⊎ Any (λ e. Has e g) ds) → number_of g ≤ number_of OutOfRange
+    items_low None g h = at_most g WrongKind h (omega arith)
+    items_low (Some ds) g (inl h) = at_most g OutOfRange h.1 (omega arith)
+    items_low (Some ds) g (inr h) = low h.1 g h.4
+
+    list_low : (o : Option Data) (g : StatementFault) → IsSomeAnd o (λ d. ListUpToFault statement_faults 256 Has d g) → number_of g ≤ number_of OutOfRange
+    list_low None g h = absurd h
+    list_low (Some d) g h = items_low (items_at d) g h
+
+  pub loops_low : (o : Option Data) (g : StatementFault) → IsSomeAnd o (λ d. ListUpToFault statement_faults 256 (LoopFault names) d g) → number_of g ≤ number_of OutOfRange
+  loops_low o g h = list_low (LoopFault names) (λ d f k. table_low (as_table d) f k) o g h
+
+  pub stretches_low : (o : Option Data) (g : StatementFault) → IsSomeAnd o (λ d. ListUpToFault statement_faults 256 (StretchFault names) d g) → number_of g ≤ number_of OutOfRange
+  stretches_low o g h = list_low (StretchFault names) (λ d f k. ends_low (pair_at d) f k) o g h
 
   -- ## Destinations
 
@@ -664,9 +740,6 @@ module _ (names : Names) where
     where
       of_parts : (p : (Register × Class) × (ℕ × ℕ)) → HasRuleParts ms p → HasRule names ms (rule_of p)
       of_parts p s = record { register = s.0.0; class = s.0.1; first = s.1.0; last = s.1.1 }
-
-      not_le : (a b : ℕ) → (¬ (a ≤ b)) → b < a
-      not_le a b h = omega (arith, h)
 
   pub rule_judged : (d : Data) → Judges statement_faults (StatesRule names d) (RuleFault names d) (rule_at names d)
   rule_judged d =

@@ -1,4 +1,5 @@
 pub mod Stated
+pub mod ApartParts
 pub mod StatementParts
 pub mod StatementFaults
 pub mod Statement

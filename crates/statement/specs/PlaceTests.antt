@@ -7,18 +7,21 @@ use Rattle.std.specs.BTreeSet.{BTreeSet, contains}
 use Rattle.std.specs.List.{list_any, slice_get}
 use Rattle.std.specs.Option.{option_and_then}
 use Rattle.std.specs.Ordering.{nat_cmp}
-use Rattle.std.specs.Result.{is_err, result_ok}
+use Rattle.std.specs.Result.{result_ok}
 use Rattle.toml.specs.Data.{Data, Members, as_table, get_member}
 use Rattle.toml_reading.specs.Documents.{is_one_of, items_at, number_in}
 use Rattle.toml_reading.specs.Lowest.{entries_at}
 use Rattle.arm2_decode.specs.declared.names.Register.{Register}
 use Rattle.image.specs.Labels.{Names}
 use Rattle.walks.specs.declared.limits.TheConstants.{MOST_ROUNDS}
-use Rattle.statement.specs.Places.{has_destinations, key_name, keys_of, list_key, most_of}
-use Rattle.statement.specs.Statement.{Read, address_at, address_in, class_in, cycles_in, first_in, kind_in}
-use Rattle.statement.specs.Statement.{last_in, leave_in, placed_loop, register_in, returns_in, taken_in}
+use Rattle.statement.specs.Places.{end_of, has_destinations, key_name, keys_of, list_key, most_of}
+use Rattle.statement.specs.Stated.{may_stand}
+use Rattle.statement.specs.Statement.{Read, address_at, address_in, apart_in, class_in, cycles_in, pair_at}
+use Rattle.statement.specs.Statement.{first_in, kind_in, last_in, leave_in, register_in}
+use Rattle.statement.specs.Statement.{returns_in, taken_in}
 use Rattle.statement.specs.Stretches.{is_within, meets}
 use Rattle.statement.specs.StatementFaults.{number_of, statement_faults}
+use Rattle.statement.specs.declared.apart.ApartStretch.{ApartStretch}
 use Rattle.statement.specs.declared.faults.StatementFault.{StatementFault}
 use Rattle.statement.specs.declared.faults.StatementFault.TheVariants.{UnknownKey, WrongKind, OutOfRange}
 use Rattle.statement.specs.declared.faults.StatementFault.TheVariants.{Twice}
@@ -120,9 +123,23 @@ destinations_of (Some table) = entries_at (codes "to") table
 
 -- ## Loops
 
-abbrev pub lies_outside : Read ℕ → Read ℕ → Read ℕ → Bool
-lies_outside (Ok first) (Ok last) (Ok header) = is_err (placed_loop ((first, last), (header, 0)))
-lies_outside _ _ _ = false
+abbrev pub lies_outside : List ApartStretch → Read ℕ → Read ℕ → Read ℕ → Bool
+lies_outside apart (Ok first) (Ok last) (Ok header) = not (may_stand apart first header last)
+lies_outside apart _ _ _ = false
+
+-- ## Stretches apart
+
+-- the entry of `apart` with the index
+abbrev pub stretch_entry : ℕ → Members → Option Data
+stretch_entry n ms = slice_get (entries_at (codes "apart") ms) n
+
+abbrev pub is_no_stretch : Option Data → Bool
+is_no_stretch None = false
+is_no_stretch (Some d) = is_none (pair_at d)
+
+-- its values, if it is a list of two
+abbrev pub stretch_ends : ℕ → Members → Option (Data × Data)
+stretch_ends n ms = option_and_then pair_at (stretch_entry n ms)
 
 -- ## Rules
 
@@ -146,10 +163,20 @@ abbrev pub meetings : List (Option Stretch) → List Bool
 meetings ps = tests_after was_met [] ps
 
 module _ (names : Names) where
-  abbrev pub is_outside : Members → Bool
-  is_outside ms =
-      lies_outside (address_in names (codes "first") ms) (address_in names (codes "last") ms)
+  abbrev pub is_outside : List ApartStretch → Members → Bool
+  is_outside apart ms =
+      lies_outside apart (address_in names (codes "first") ms) (address_in names (codes "last") ms)
       (address_in names (codes "header") ms)
+
+  -- the loop's words may not be a loop's, by the stretches, if they are known
+  abbrev pub is_misplaced : Option (List ApartStretch) → ℕ → Members → Bool
+  is_misplaced apart n ms = holds_of (λ known. holds_of (is_outside known) (table_at Loops n ms)) apart
+
+  abbrev pub end_gives : ℕ → Data × Data → StatementFault → Bool
+  end_gives i ends fault = holds_of (λ d. gives (address_at names d) fault) (end_of ends i)
+
+  abbrev pub are_reversed : Data × Data → Bool
+  are_reversed ends = ends_early (address_at names ends.0) (address_at names ends.1)
 
   -- ## The keys of a table
 
@@ -270,7 +297,8 @@ module _ (names : Names) where
   found ms (spot.NoTable list n) fault = is_same WrongKind fault && is_no_table (entry_at list n ms)
   found ms (spot.Listed list n part) fault =
       holds_of (λ table. part_gives (Some list) part table fault) (table_at list n ms)
-  found ms (spot.Misplaced n) fault = is_same OutOfRange fault && holds_of is_outside (table_at Loops n ms)
+  found ms (spot.Misplaced n) fault =
+      is_same OutOfRange fault && is_misplaced (result_ok (apart_in names ms)) n ms
   found ms (spot.Unwanted n) fault = is_same WrongKind fault && holds_of is_unwanted (table_at Targets n ms)
   found ms (spot.TooManyDestinations n) fault =
       is_same OutOfRange fault && holds_of is_too_long (table_at Targets n ms)
@@ -278,6 +306,14 @@ module _ (names : Names) where
       holds_of (λ table. destination_gives i table fault) (table_at Targets n ms)
       || (is_same Twice fault && (holds_of goes_on (table_at Targets n ms) && is_second_destination n i ms))
   found ms (spot.Reversed n) fault = is_same OutOfRange fault && holds_of is_reversed (table_at Rules n ms)
+  found ms spot.NoStretches fault =
+      is_same WrongKind fault && is_no_list (get_member (codes "apart") ms)
+  found ms spot.TooManyStretches fault =
+      is_same OutOfRange fault && nat_lt 256 (length (entries_at (codes "apart") ms))
+  found ms (spot.NoStretch n) fault = is_same WrongKind fault && is_no_stretch (stretch_entry n ms)
+  found ms (spot.StretchEnd n i) fault = holds_of (λ ends. end_gives i ends fault) (stretch_ends n ms)
+  found ms (spot.ReversedStretch n) fault =
+      is_same OutOfRange fault && holds_of are_reversed (stretch_ends n ms)
   found ms (spot.Second list n) fault = is_same Twice fault && is_second list n ms
 
 -- ## Addresses so far
@@ -292,9 +328,10 @@ is_covered before base a = if list_any (holds_of (is_within base a)) before then
 
 -- ## As it is stored
 
--- of the entries of each list, and the destinations of each target, whether an earlier one is of the address
+-- of the entries of each list, and the destinations of each target, whether an earlier one is of the address;
+-- and the stretches apart, if they are known
 pub record IsStored (names : Names) (ms : Members) (targets accesses rules multiplies branches : List Bool)
-    (destinations : List (Vec Bool Global)) : Type 0 where
+    (destinations : List (Vec Bool Global)) (apart : Option (List ApartStretch)) : Type 0 where
   pub targets_known : targets ≡ entry_repeats names (entries_at (codes "target") ms)
   pub accesses_known : accesses ≡ entry_repeats names (entries_at (codes "access") ms)
   pub rules_known : rules ≡ rule_meetings names (entries_at (codes "base") ms)
@@ -302,3 +339,4 @@ pub record IsStored (names : Names) (ms : Members) (targets accesses rules multi
   pub branches_known : branches ≡ entry_repeats names (entries_at (codes "branch") ms)
   pub destinations_known : map (λ v. v.items) destinations
       ≡ map (destination_repeats names) (entries_at (codes "target") ms)
+  pub apart_known : apart ≡ result_ok (apart_in names ms)

@@ -10,12 +10,14 @@ use Rattle.arm2_decode.specs.declared.names.Register.{Register}
 use Rattle.asm_text.specs.Registers.{register_of}
 use Rattle.image.specs.Labels.{Names}
 use Rattle.walks.specs.declared.limits.TheConstants.{MOST_ROUNDS}
-use Rattle.statement.specs.Statement.{access_keys, branch_keys, loop_keys, multiply_keys, named_class}
+use Rattle.statement.specs.Statement.{access_keys, branch_keys, loop_keys, multiply_keys, pair_at}
+use Rattle.statement.specs.Statement.{named_class}
 use Rattle.statement.specs.Statement.{named_kind, named_leave, named_returns, named_taken, rule_keys}
 use Rattle.statement.specs.Statement.{statement_keys, target_keys}
 use Rattle.statement.specs.StatementFaults.{statement_faults}
-use Rattle.statement.specs.StatementRules.{AddressFault, CyclesFault, IsAddress, IsAt, IsMisplaced}
-use Rattle.statement.specs.StatementRules.{IsReversed, IsRuleAt, RequiredFault}
+use Rattle.statement.specs.StatementRules.{AddressFault, AreReversed, AreStretches, CyclesFault, IsAddress}
+use Rattle.statement.specs.StatementRules.{IsAt, IsMisplaced, IsReversed, IsRuleAt, RequiredFault}
+use Rattle.statement.specs.declared.apart.ApartStretch.{ApartStretch}
 use Rattle.statement.specs.declared.faults.StatementFault.{StatementFault}
 use Rattle.statement.specs.declared.faults.StatementFault.TheVariants.{UnknownKey, WrongKind, OutOfRange}
 use Rattle.statement.specs.declared.faults.StatementFault.TheVariants.{Twice}
@@ -94,6 +96,15 @@ keys_of (Some Branches) = branch_keys
 abbrev pub InTable : TableList → ℕ → Members → (Members → Type 0) → Type 0
 InTable list n ms P =
     IsSomeAnd (slice_get (entries_at (list_key list) ms) n) (λ d. IsSomeAnd (as_table d) P)
+
+-- the entry of `apart` with the index is a list of two values, of which that holds
+abbrev pub InStretch : ℕ → Members → (Data × Data → Type 0) → Type 0
+InStretch n ms P =
+    IsSomeAnd (slice_get (entries_at (codes "apart") ms) n) (λ d. IsSomeAnd (pair_at d) P)
+
+-- the first of the two, or the last
+abbrev pub end_of : Data × Data → ℕ → Option Data
+end_of ends i = slice_get (ends.0 ∷ ends.1 ∷ []) i
 
 -- ## Targets
 
@@ -221,7 +232,9 @@ module _ (names : Names) where
   IsFaultAt ms (spot.Listed list n part) fault =
       InTable list n ms (λ table. PartFault (Some list) part table fault)
   IsFaultAt ms (spot.Misplaced n) fault =
-      InTable Loops n ms (λ table. IsMisplaced names table × (fault ≡ OutOfRange))
+      (apart : List ApartStretch)
+      × AreStretches names ms apart
+      × InTable Loops n ms (λ table. IsMisplaced names apart table × (fault ≡ OutOfRange))
   IsFaultAt ms (spot.Unwanted n) fault =
       InTable Targets n ms
       (λ table. GoesOn false table × IsSome (get_member (codes "to") table) × (fault ≡ WrongKind))
@@ -233,4 +246,16 @@ module _ (names : Names) where
       (λ table. GoesOn true table × DestinationFault i (entries_at (codes "to") table) fault)
   IsFaultAt ms (spot.Reversed n) fault =
       InTable Rules n ms (λ table. IsReversed names table × (fault ≡ OutOfRange))
+  IsFaultAt ms spot.NoStretches fault =
+      AtKey (codes "apart") ms (λ d. (items_at d ≡ None) × (fault ≡ WrongKind))
+  IsFaultAt ms spot.TooManyStretches fault =
+      (256 < length (entries_at (codes "apart") ms)) × (fault ≡ OutOfRange)
+  IsFaultAt ms (spot.NoStretch n) fault =
+      IsSomeAnd
+      (slice_get (entries_at (codes "apart") ms) n)
+      (λ d. (pair_at d ≡ None) × (fault ≡ WrongKind))
+  IsFaultAt ms (spot.StretchEnd n i) fault =
+      InStretch n ms (λ ends. IsSomeAnd (end_of ends i) (λ d. AddressFault names d fault))
+  IsFaultAt ms (spot.ReversedStretch n) fault =
+      InStretch n ms (λ ends. AreReversed names ends × (fault ≡ OutOfRange))
   IsFaultAt ms (spot.Second list n) fault = IsSecond list n ms × (fault ≡ Twice)

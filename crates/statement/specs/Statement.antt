@@ -8,6 +8,7 @@ use Rattle.std.specs.Prelude.{if◌then◌else◌}
 use Rattle.std.specs.Char.{is_ascii_digit}
 use Rattle.std.specs.List.{list_all, list_any}
 use Rattle.std.specs.Map.{keys_of}
+use Rattle.std.specs.Option.{option_and_then}
 use Rattle.std.specs.Str.{bytes_eq}
 use Rattle.std.specs.Str.Parse.{digits_value}
 use Rattle.memchr.specs.Find.{is_byte2, last_of, places}
@@ -24,8 +25,9 @@ use Rattle.walks.specs.declared.limits.TheConstants.{MOST_ROUNDS}
 use Rattle.toml_reading.specs.Documents.{IsAnswer, are_distinct, in_space, items_at, listed_up_to, name_at}
 use Rattle.toml_reading.specs.Documents.{number_in, of_keys, once, tables_up_to}
 use Rattle.toml_reading.specs.Readings.{Reading, and_then, pair, optional, required, reading_map}
-use Rattle.statement.specs.Stated.{Stated, Target}
+use Rattle.statement.specs.Stated.{Stated, StatedLoops, Target, is_placed}
 use Rattle.statement.specs.StatementFaults.{statement_faults}
+use Rattle.statement.specs.declared.apart.ApartStretch.{ApartStretch}
 use Rattle.statement.specs.declared.faults.StatementFault.{StatementFault}
 use Rattle.statement.specs.declared.faults.StatementFault.TheVariants.{NotToml, WrongKind, UnknownLabel}
 use Rattle.statement.specs.declared.faults.StatementFault.TheVariants.{OutOfRange, Twice}
@@ -47,8 +49,8 @@ Read A = Reading StatementFault A
 
 abbrev pub statement_keys : List (List ℕ)
 statement_keys =
-    codes "entry" ∷ codes "leave" ∷ codes "returns" ∷ codes "loop" ∷ codes "target" ∷ codes "access"
-    ∷ codes "base" ∷ codes "multiply" ∷ codes "branch" ∷ []
+    codes "entry" ∷ codes "leave" ∷ codes "returns" ∷ codes "apart" ∷ codes "loop" ∷ codes "target"
+    ∷ codes "access" ∷ codes "base" ∷ codes "multiply" ∷ codes "branch" ∷ []
 
 abbrev pub loop_keys : List (List ℕ)
 loop_keys = codes "header" ∷ codes "first" ∷ codes "last" ∷ codes "bound" ∷ []
@@ -200,11 +202,26 @@ address_at names d = number_or_text names (as_integer d) (as_str d)
 
 -- ## Parts without addresses
 
--- the header lies within first to last
-abbrev pub placed_loop : (ℕ × ℕ) × (ℕ × ℕ) → Read Loop
-placed_loop p =
-    if nat_le p.0.0 p.1.0 && nat_le p.1.0 p.0.1
-    then Ok (record { header = p.1.0; first = p.0.0; last = p.0.1; bound = p.1.1 }) else Err OutOfRange
+-- the loop of its first and last word, its header and its bound
+abbrev pub loop_of : (ℕ × ℕ) × (ℕ × ℕ) → Loop
+loop_of p = record { header = p.1.0; first = p.0.0; last = p.0.1; bound = p.1.1 }
+
+-- loops whose words may be a loop's, by what is apart from them
+abbrev pub placed_loops : List Loop × List ApartStretch → Read StatedLoops
+placed_loops p =
+    if list_all (is_placed p.1) p.0 then Ok (record { list = p.0; apart = p.1 }) else Err OutOfRange
+
+-- a stretch that does not end before it begins
+abbrev pub placed_stretch : ℕ × ℕ → Read ApartStretch
+placed_stretch p = if nat_le p.0 p.1 then Ok (record { first = p.0; last = p.1 }) else Err OutOfRange
+
+-- the values of a list of two
+abbrev pub two_values : List Data → Option (Data × Data)
+two_values (first ∷ last ∷ []) = Some (first, last)
+two_values _ = None
+
+abbrev pub pair_at : Data → Option (Data × Data)
+pair_at d = option_and_then two_values (items_at d)
 
 -- a rule that does not end before it begins
 abbrev pub placed_rule : (Register × Class) × (ℕ × ℕ) → Read BaseRule
@@ -239,9 +256,9 @@ returns_in ms = optional returns.Assumed (get_member (codes "returns") ms) retur
 abbrev pub leaving_in : Members → Read (Class × Returns)
 leaving_in ms = pair statement_faults (leave_in ms) (returns_in ms)
 
--- the entry and how the handler leaves, and the loops
+-- the entry and how the handler leaves, and the loops with what is apart from them
 abbrev pub Frame : Type 0
-Frame = (ℕ × (Class × Returns)) × List Loop
+Frame = (ℕ × (Class × Returns)) × StatedLoops
 
 -- the targets and the accesses
 abbrev pub Words : Type 0
@@ -274,15 +291,15 @@ abbrev pub overlap : BaseRule → BaseRule → Bool
 overlap r q = is_same r.register q.register && nat_le (max r.first q.first) (min r.last q.last)
 
 -- no two of the rules do
-abbrev pub are_apart : List BaseRule → Bool
-are_apart [] = true
-are_apart (r ∷ rules) = not (list_any (overlap r) rules) && are_apart rules
+abbrev pub are_disjoint : List BaseRule → Bool
+are_disjoint [] = true
+are_disjoint (r ∷ rules) = not (list_any (overlap r) rules) && are_disjoint rules
 
 -- one entry at most of each list for an address, and one rule for a register there
 abbrev pub is_single : Stated → Bool
 is_single st =
     (are_distinct (keys_of st.targets) && are_distinct (keys_of st.accesses))
-    && (are_apart st.rules && (are_distinct (keys_of st.multiplies) && are_distinct (keys_of st.branches)))
+    && (are_disjoint st.rules && (are_distinct (keys_of st.multiplies) && are_distinct (keys_of st.branches)))
 
 abbrev pub stated_once : Parts → Read Stated
 stated_once p = if is_single (stated_by p) then Ok (stated_by p) else Err Twice
@@ -309,10 +326,20 @@ module _ (names : Names) where
       (number_in statement_faults (codes "bound") MOST_ROUNDS ms))
 
   abbrev pub loop_in : Members → Read Loop
-  loop_in ms = of_keys statement_faults loop_keys ms (and_then (loop_parts ms) placed_loop)
+  loop_in ms = of_keys statement_faults loop_keys ms (reading_map loop_of (loop_parts ms))
 
   abbrev pub loop_at : Data → Read Loop
   loop_at d = required statement_faults (as_table d) loop_in
+
+  -- ## A stretch of words apart from loops
+
+  -- its first and last address
+  abbrev pub apart_of : Data × Data → Read ApartStretch
+  apart_of ends =
+      and_then (pair statement_faults (address_at names ends.0) (address_at names ends.1)) placed_stretch
+
+  abbrev pub apart_at : Data → Read ApartStretch
+  apart_at d = required statement_faults (pair_at d) apart_of
 
   -- ## A target
 
@@ -404,6 +431,13 @@ module _ (names : Names) where
   abbrev pub loops_in : Members → Read (List Loop)
   loops_in ms = tables_up_to statement_faults 256 loop_at (get_member (codes "loop") ms)
 
+  abbrev pub apart_in : Members → Read (List ApartStretch)
+  apart_in ms = tables_up_to statement_faults 256 apart_at (get_member (codes "apart") ms)
+
+  -- the loops and what is apart from them, by which their words are judged
+  abbrev pub stated_loops_in : Members → Read StatedLoops
+  stated_loops_in ms = and_then (pair statement_faults (loops_in ms) (apart_in ms)) placed_loops
+
   abbrev pub targets_in : Members → Read (List (ℕ × Target))
   targets_in ms = tables_up_to statement_faults 1024 target_at (get_member (codes "target") ms)
 
@@ -420,7 +454,7 @@ module _ (names : Names) where
   branches_in ms = tables_up_to statement_faults 1024 branch_at (get_member (codes "branch") ms)
 
   abbrev pub frame_in : Members → Read Frame
-  frame_in ms = pair statement_faults (ends_in ms) (loops_in ms)
+  frame_in ms = pair statement_faults (ends_in ms) (stated_loops_in ms)
 
   abbrev pub words_in : Members → Read Words
   words_in ms = pair statement_faults (targets_in ms) (accesses_in ms)

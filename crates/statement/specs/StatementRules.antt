@@ -1,6 +1,7 @@
 -- What a document states of a handler and which faults it has, key by key (over the documents of TOML).
 use Rattle.std.specs.Prelude.{◌≡◌, ◌≢◌, ◌<◌, ◌≤◌, ◌⊎◌, ◌+◌, ◌-◌, ◌%◌, ℕ, ℤ, pos, true, List, [], ◌∷◌, ◌++◌}
-use Rattle.std.specs.Prelude.{Option, Some, None, IsSomeAnd, MatchOption, AllPairs, codes, IsTrue, ⊤}
+use Rattle.std.specs.Prelude.{Option, Some, None, IsSomeAnd, MatchOption, All, AllPairs, codes}
+use Rattle.std.specs.Prelude.{Any as IsAny, IsTrue, ⊤}
 use Rattle.std.specs.Map.{keys_of}
 use Rattle.std.specs.Str.Parse.{IsNumeral, digits_value}
 use Rattle.toml.specs.Data.{Data, Members, integer, string, get_member, as_integer, as_table}
@@ -14,13 +15,15 @@ use Rattle.toml_reading.specs.Documents.{are_distinct, has_only_keys, items_at}
 use Rattle.toml_reading.specs.Lists.{IsListUpTo, ListUpToFault, HasRepeat}
 use Rattle.bus_ticks.specs.Prices.{is_word_address}
 use Rattle.toml_reading.specs.Lowest.{AtKey, AtKeyOr, IsNamed, IsNoAddress, IsNumber, IsTable}
-use Rattle.toml_reading.specs.Lowest.{KeysFault, NameFault, NumberFault, TableFault}
-use Rattle.statement.specs.Stated.{AreApart, Stated, Target}
+use Rattle.toml_reading.specs.Lowest.{KeysFault, NameFault, NumberFault, TableFault, entries_at}
+use Rattle.statement.specs.Stated.{IsPlaced, MayStand, ShareNoWord, Stated, Target}
 use Rattle.image.specs.Labels.{Names}
-use Rattle.statement.specs.Statement.{access_keys, branch_keys, loop_keys, multiply_keys, named_class}
+use Rattle.statement.specs.Statement.{access_keys, branch_keys, loop_keys, multiply_keys, pair_at}
+use Rattle.statement.specs.Statement.{named_class}
 use Rattle.statement.specs.Statement.{named_kind, named_leave, named_returns, named_taken, rule_keys}
 use Rattle.statement.specs.Statement.{sign_byte, statement_keys, target_keys}
 use Rattle.statement.specs.StatementFaults.{statement_faults}
+use Rattle.statement.specs.declared.apart.ApartStretch.{ApartStretch}
 use Rattle.statement.specs.declared.faults.StatementFault.{StatementFault}
 use Rattle.statement.specs.declared.faults.StatementFault.TheVariants.{WrongKind, UnknownLabel, OutOfRange}
 use Rattle.statement.specs.declared.faults.StatementFault.TheVariants.{Twice}
@@ -89,7 +92,7 @@ AddressFault names (integer z) fault = IsNoAddress z × (fault ≡ OutOfRange)
 AddressFault names (string text) fault = TextFault names text fault
 AddressFault names _ fault = fault ≡ WrongKind
 
--- the multiplier takes no fewer and no more
+-- the multiplier takes 1 to 16 cycles
 abbrev pub AreFew : ℕ → Type 0
 AreFew cycles = (1 ≤ cycles) × (cycles ≤ 16)
 
@@ -120,35 +123,61 @@ module _ (names : Names) where
     pub header : AtKey (codes "header") ms (λ d. IsAddress names d l.header)
     pub bound : AtKey (codes "bound") ms (λ d. IsNumber MOST_ROUNDS d l.bound)
 
-  -- the header lies within first to last
-  abbrev pub IsPlaced : Loop → Type 0
-  IsPlaced l = (l.first ≤ l.header) × (l.header ≤ l.last)
-
   abbrev pub StatesLoop : Data → Loop → Type 0
-  StatesLoop d l = IsTable loop_keys (λ ms. HasLoop ms l × IsPlaced l) d
+  StatesLoop d l = IsTable loop_keys (λ ms. HasLoop ms l) d
 
-  -- the header lies outside first to last
-  abbrev pub IsMisplaced : Members → Type 0
-  IsMisplaced ms =
+  -- by these stretches the header lies outside first to last, or one of these two is apart and one is not
+  abbrev pub IsMisplaced : List ApartStretch → Members → Type 0
+  IsMisplaced apart ms =
       (first : ℕ)
       × (last : ℕ)
       × (header : ℕ)
       × AtKey (codes "first") ms (λ d. IsAddress names d first)
       × AtKey (codes "last") ms (λ d. IsAddress names d last)
       × AtKey (codes "header") ms (λ d. IsAddress names d header)
-      × ¬ ((first ≤ header) × (header ≤ last))
+      × ¬ MayStand apart first header last
 
-  -- a fault of one of its keys, or that
+  -- a fault of one of its keys
   abbrev pub LoopKeysFault : Members → StatementFault → Type 0
   LoopKeysFault ms fault =
       RequiredFault (codes "first") ms (AddressFault names) fault
       ⊎ RequiredFault (codes "last") ms (AddressFault names) fault
       ⊎ RequiredFault (codes "header") ms (AddressFault names) fault
       ⊎ RequiredFault (codes "bound") ms (NumberFault statement_faults MOST_ROUNDS) fault
-      ⊎ (IsMisplaced ms × (fault ≡ OutOfRange))
 
   abbrev pub LoopFault : Data → StatementFault → Type 0
   LoopFault d fault = TableFault statement_faults loop_keys LoopKeysFault d fault
+
+  -- ## A stretch of words apart from loops
+
+  -- a list of two addresses, of which the second is no lower than the first
+  abbrev pub StatesStretch : Data → ApartStretch → Type 0
+  StatesStretch d s =
+      IsSomeAnd (pair_at d)
+      (λ ends. IsAddress names ends.0 s.first × IsAddress names ends.1 s.last × (s.first ≤ s.last))
+
+  -- it ends before it begins
+  abbrev pub AreReversed : Data × Data → Type 0
+  AreReversed ends =
+      (first : ℕ) × (last : ℕ) × IsAddress names ends.0 first × IsAddress names ends.1 last × (last < first)
+
+  -- no list of two values, the fault of one of them, or that
+  abbrev pub StretchFault : Data → StatementFault → Type 0
+  StretchFault d fault =
+      MatchOption (pair_at d) (fault ≡ WrongKind)
+      (λ ends. AddressFault names ends.0 fault ⊎ AddressFault names ends.1 fault
+      ⊎ (AreReversed ends × (fault ≡ OutOfRange)))
+
+  -- the stretches of a document, none where it says nothing
+  abbrev pub AreStretches : Members → List ApartStretch → Type 0
+  AreStretches ms apart = AtKeyOr (codes "apart") ms (apart ≡ []) (λ d. IsListUpTo 256 StatesStretch d apart)
+
+  -- these are known, and by them one of the loops is misplaced
+  abbrev pub HasMisplaced : Members → Type 0
+  HasMisplaced ms =
+      (apart : List ApartStretch)
+      × AreStretches ms apart
+      × IsAny (λ d. IsSomeAnd (as_table d) (IsMisplaced apart)) (entries_at (codes "loop") ms)
 
   -- ## A target
 
@@ -290,13 +319,17 @@ module _ (names : Names) where
   -- ## The statement
 
   -- what is at the document's keys. The class to leave to is any where it is missing, a word that writes R15
-  -- and has no target returns where nothing is said, and a list that is missing has no entries
+  -- and has no target returns where nothing is said, a list that is missing has no entries, and the loops'
+  -- words lie where they may
   pub record HasParts (ms : Members) (st : Stated) : Type 0 where
     pub entry : AtKey (codes "entry") ms (λ d. IsAddress names d st.entry)
     pub leave : AtKeyOr (codes "leave") ms (st.leave ≡ Any) (λ d. IsNamed named_leave d st.leave)
     pub returns : AtKeyOr (codes "returns") ms (st.returns ≡ Assumed)
         (λ d. IsNamed named_returns d st.returns)
-    pub loops : AtKeyOr (codes "loop") ms (st.loops ≡ []) (λ d. IsListUpTo 256 StatesLoop d st.loops)
+    pub loops : AtKeyOr (codes "loop") ms (st.loops.list ≡ [])
+        (λ d. IsListUpTo 256 StatesLoop d st.loops.list)
+    pub apart : AreStretches ms st.loops.apart
+    pub placed : All (IsPlaced st.loops.apart) st.loops.list
     pub targets : AtKeyOr (codes "target") ms (st.targets ≡ [])
         (λ d. IsListUpTo 1024 StatesTarget d st.targets)
     pub accesses : AtKeyOr (codes "access") ms (st.accesses ≡ [])
@@ -311,7 +344,7 @@ module _ (names : Names) where
   pub record IsSingle (st : Stated) : Type 0 where
     pub targets : are_distinct (keys_of st.targets) ≡ true
     pub accesses : are_distinct (keys_of st.accesses) ≡ true
-    pub rules : AllPairs AreApart st.rules
+    pub rules : AllPairs ShareNoWord st.rules
     pub multiplies : are_distinct (keys_of st.multiplies) ≡ true
     pub branches : are_distinct (keys_of st.branches) ≡ true
 
@@ -346,13 +379,15 @@ module _ (names : Names) where
       HasTwo (codes "target") ms ⊎ HasTwo (codes "access") ms ⊎ HasTwoRules ms ⊎ HasTwo (codes "multiply") ms
       ⊎ HasTwo (codes "branch") ms
 
-  -- the faults of its keys, and two entries where there may be one
+  -- the faults of its keys, a loop that is misplaced, and two entries where there may be one
   abbrev pub PartsFault : Members → StatementFault → Type 0
   PartsFault ms fault =
       RequiredFault (codes "entry") ms (AddressFault names) fault
       ⊎ AtKey (codes "leave") ms (λ d. NameFault statement_faults named_leave d fault)
       ⊎ AtKey (codes "returns") ms (λ d. NameFault statement_faults named_returns d fault)
       ⊎ AtKey (codes "loop") ms (λ d. ListUpToFault statement_faults 256 LoopFault d fault)
+      ⊎ AtKey (codes "apart") ms (λ d. ListUpToFault statement_faults 256 StretchFault d fault)
+      ⊎ (HasMisplaced ms × (fault ≡ OutOfRange))
       ⊎ AtKey (codes "target") ms (λ d. ListUpToFault statement_faults 1024 TargetFault d fault)
       ⊎ AtKey (codes "access") ms (λ d. ListUpToFault statement_faults 4096 AccessFault d fault)
       ⊎ AtKey (codes "base") ms (λ d. ListUpToFault statement_faults 256 RuleFault d fault)

@@ -34,7 +34,8 @@ module _ {T : Type 0} (map : BTreeMap (ℕ × ℕ) (ℕ × T)) where
     pub apart : (base last later : ℕ) (v w : ℕ × T) → ending base last ≡ Some v → ending base later ≡ Some w
         → last < later → last < w.0
 
-  -- the last address of a stretch that shares one with another, its first and its value
+  -- the last address of a stretch that shares one with another, its first and its value. It holds too of
+  -- another that ends before it begins, and so has no address, where both its ends lie in the stretch
   pub record IsMet (p : Stretch) (s : ℕ × (ℕ × T)) : Type 0 where
     pub held : ending (register_number p.base) s.0 ≡ Some s.1
     pub begins : s.1.0 ≤ p.last

@@ -7,8 +7,8 @@ ghost use Rattle.statement.specs.Statement.{access_at, access_in, address_at, ad
 ghost use Rattle.statement.specs.Statement.{class_named_at};
 ghost use Rattle.statement.specs.Statement.{class_in, class_name};
 ghost use Rattle.statement.specs.Statement.{destinations, destinations_at, target_of_kind, kind_at, kind_in};
-ghost use Rattle.statement.specs.Statement.{leave_named_at, loop_at, loop_in, loop_parts, named_class};
-ghost use Rattle.statement.specs.Statement.{named_kind, named_leave, named_returns, placed_loop};
+ghost use Rattle.statement.specs.Statement.{leave_named_at, loop_at, loop_in, loop_of, loop_parts};
+ghost use Rattle.statement.specs.Statement.{named_class, named_kind, named_leave, named_returns};
 ghost use Rattle.statement.specs.Statement.{returns_named_at};
 ghost use Rattle.statement.specs.Statement.{some_destinations, target_at, target_in};
 
@@ -61,20 +61,16 @@ pub(crate) fn address_or(labels: &Labels, table: &Table, key: &str, missing: u32
     value_at(table, key).map_or(Ok(missing), |value| address_at(labels, value))
 }
 
-/// The loop of its first and last word, its header and its bound.
-pub(crate) fn placed_loop(parts: ((u32, u32), (u32, u32))) -> Read<Loop>
-    ensures { result ≡ placed_loop parts }
+// The loop of its first and last word, its header and its bound.
+fn loop_of(parts: ((u32, u32), (u32, u32))) -> Loop
+    ensures { result ≡ loop_of parts }
 {
     let ((first, last), (header, bound)) = parts;
-    if first <= header && header <= last {
-        Ok(Loop {
-            header,
-            first,
-            last,
-            bound,
-        })
-    } else {
-        Err(StatementFault::OutOfRange)
+    Loop {
+        header,
+        first,
+        last,
+        bound,
     }
 }
 
@@ -95,7 +91,7 @@ fn loop_parts(labels: &Labels, table: &Table) -> Read<((u32, u32), (u32, u32))>
 fn loop_in(labels: &Labels, table: &Table) -> Read<Loop>
     ensures { result ≡ loop_in (address_of labels.now) (table_view table.now) }
 {
-    let reading = loop_parts(labels, table).and_then(placed_loop);
+    let reading = loop_parts(labels, table).map(loop_of);
     of_keys(LOOP_KEYS, table, reading)
 }
 

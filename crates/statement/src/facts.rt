@@ -1,13 +1,15 @@
-ghost use Rattle.std.specs.Prelude.{◌≡◌};
+ghost use Rattle.std.specs.Prelude.{◌≡◌, map, option_map};
 ghost use Rattle.toml.specs.View.{table_view, view};
 ghost use Rattle.asm_text.specs.Registers.{register_of};
 ghost use Rattle.image.specs.Labels.{address_of};
 ghost use Rattle.statement.specs.Statement.{branch_at, branch_in, cycles_in, cycles_named_at, cycles_of};
-ghost use Rattle.statement.specs.Statement.{first_in, last_in, multiply_at, multiply_in, named_taken};
-ghost use Rattle.statement.specs.Statement.{placed_rule, register_in, register_named_at, rule_at, rule_in};
-ghost use Rattle.statement.specs.Statement.{rule_parts, taken_in, taken_named_at};
+ghost use Rattle.statement.specs.Statement.{first_in, last_in, multiply_at, multiply_in, pair_at};
+ghost use Rattle.statement.specs.Statement.{named_taken, placed_rule, placed_stretch, register_in};
+ghost use Rattle.statement.specs.Statement.{apart_at, register_named_at, rule_at, rule_in, rule_parts};
+ghost use Rattle.statement.specs.Statement.{apart_of, taken_in, taken_named_at, two_values};
 
-use crate::entries::{address_in, address_or, class_in};
+use crate::apart::ApartStretch;
+use crate::entries::{address_at, address_in, address_or, class_in};
 use crate::faults::{Read, StatementFault};
 use crate::stated::{BaseRule, Taken};
 use arm2_decode::Register;
@@ -16,7 +18,7 @@ use image::Labels;
 use shifter::MOST_MULTIPLY_CYCLES;
 use std::alloc::{AllocError, Global};
 use toml::{Table, Value};
-use toml_reading::{Entry, of_keys, pair, required, value_at};
+use toml_reading::{Entry, of_keys, pair, required, value_at, values_of};
 
 /// The keys of the table of a rule for a base register.
 pub const RULE_KEYS: &[&str] = &["register", "class", "first", "last"];
@@ -26,6 +28,67 @@ pub const MULTIPLY_KEYS: &[&str] = &["at", "cycles"];
 
 /// The keys of a branch's table.
 pub const BRANCH_KEYS: &[&str] = &["at", "taken"];
+
+// The stretch from the first address to the last.
+fn placed_stretch(ends: (u32, u32)) -> Read<ApartStretch>
+    ensures { result ≡ placed_stretch ends }
+{
+    if ends.0 <= ends.1 {
+        Ok(ApartStretch {
+            first: ends.0,
+            last: ends.1,
+        })
+    } else {
+        Err(StatementFault::OutOfRange)
+    }
+}
+
+fn two_values(values: &[Value]) -> Option<(&Value, &Value)>
+    ensures { option_map (λ ends. (view ends.0.now, view ends.1.now)) result
+        ≡ two_values (map view values.now) }
+{
+    match values {
+        [first, last] => Some((first, last)),
+        _ => None,
+    }
+}
+
+/// The two values of a list of two.
+pub(crate) fn pair_at(value: &Value) -> Option<(&Value, &Value)>
+    ensures { option_map (λ ends. (view ends.0.now, view ends.1.now)) result ≡ pair_at (view value.now) }
+{
+    match values_of(value) {
+        Some(values) => two_values(values),
+        None => None,
+    }
+}
+
+fn apart_of(labels: &Labels, first: &Value, last: &Value) -> Read<ApartStretch>
+    ensures { result ≡ apart_of (address_of labels.now) (view first.now, view last.now) }
+{
+    pair(address_at(labels, first), address_at(labels, last)).and_then(placed_stretch)
+}
+
+fn apart_at(labels: &Labels, value: &Value) -> Read<ApartStretch>
+    ensures { result ≡ apart_at (address_of labels.now) (view value.now) }
+{
+    match pair_at(value) {
+        Some((first, last)) => apart_of(labels, first, last),
+        None => Err(StatementFault::WrongKind),
+    }
+}
+
+impl Entry<Labels, StatementFault> for ApartStretch {
+    ghost reads = { λ labels. apart_at (address_of labels) };
+
+    fn read(
+        _alloc: Global,
+        labels: &Labels,
+        value: &Value,
+    ) -> Result<Read<ApartStretch>, AllocError> {
+        Ok(apart_at(labels, value))
+    }
+}
 
 /// The register that a word names, as in a source: wholly in upper or in lower case.
 pub fn named_register(word: &[u8]) -> Option<Register>

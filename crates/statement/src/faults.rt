@@ -21,8 +21,8 @@ pub enum StatementFault {
     /// The statement, or a table of its lists, has a key that it may not have.
     #[error("UnknownKey")]
     UnknownKey,
-    /// A key is missing, a value has another type or is another word than its key takes, or `to` is empty or
-    /// misplaced. A register is named as in a source.
+    /// A key is missing, a value has another type or is another word than its key takes, an entry of `apart`
+    /// is no list of two values, or `to` is empty or misplaced. A register is named as in a source.
     #[error("WrongKind")]
     WrongKind,
     /// A text in place of an address is no label, nor one with `+` or `-` and a number of bytes.
@@ -30,9 +30,10 @@ pub enum StatementFault {
     UnknownLabel,
     /// An address, or a number of bytes behind a label, is no multiple of 4, an address is not from 0 to
     /// 3FFFFFC, a bound is not from 0 to 1,048,576, cycles are not from 1 to 16, a header lies outside first
-    /// to last, the last address of a rule for a base register lies before its first, or there are more than
-    /// 256 loops, 1,024 targets, 64 destinations, 4,096 accesses, 256 rules, 1,024 multiplies or 1,024
-    /// branches.
+    /// to last, where words lie as what is apart moves them, one end of a loop is apart and the other is not,
+    /// the last address of a stretch apart or of a rule for a base register lies before its first, or there
+    /// are more than 256 stretches, 256 loops, 1,024 targets, 64 destinations, 4,096 accesses, 256 rules,
+    /// 1,024 multiplies or 1,024 branches.
     #[error("OutOfRange")]
     OutOfRange,
     /// Two targets, two accesses, two multiplies or two branches are stated for one address, two rules for

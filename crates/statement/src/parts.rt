@@ -5,16 +5,18 @@ ghost use Rattle.toml.specs.View.{table_view, view};
 ghost use Rattle.toml_reading.specs.Lowest.{entries_at};
 ghost use Rattle.image.specs.Labels.{address_of};
 ghost use Rattle.statement.specs.PlaceTests.{access_key_gives, branch_key_gives, destination_gives};
-ghost use Rattle.statement.specs.PlaceTests.{ends_early};
+ghost use Rattle.statement.specs.PlaceTests.{are_reversed, end_gives, ends_early, is_no_stretch};
 ghost use Rattle.statement.specs.PlaceTests.{entry_at, gives, goes_on, has_no_destinations, is_no_list};
 ghost use Rattle.statement.specs.PlaceTests.{is_no_table, is_outside, is_reversed, is_same, is_too_long};
+ghost use Rattle.statement.specs.PlaceTests.{stretch_ends, stretch_entry};
 ghost use Rattle.statement.specs.PlaceTests.{is_unwanted, key_gives, kind_goes, lies_outside, loop_key_gives};
 ghost use Rattle.statement.specs.PlaceTests.{multiply_key_gives, own_key_gives, part_gives, rule_key_gives};
 ghost use Rattle.statement.specs.PlaceTests.{stays, table_at, target_key_gives};
 ghost use Rattle.statement.specs.Places.{has_destinations};
 
-use crate::entries::{MOST_DESTINATIONS, address_at, address_in, class_in, kind_in, placed_loop};
-use crate::facts::{cycles_in, first_in, last_in, register_in, taken_in};
+use crate::apart::ApartWords;
+use crate::entries::{MOST_DESTINATIONS, address_at, address_in, class_in, kind_in};
+use crate::facts::{cycles_in, first_in, last_in, pair_at, register_in, taken_in};
 use crate::faults::{Read, StatementFault};
 use crate::reading::{leave_in, returns_in};
 use crate::spots::{Key, Part, TableList, key_name, keys_of, list_key};
@@ -151,8 +153,8 @@ fn has_no_destinations(table: &Table) -> bool
     goes_on(table) && entries_at(table, "to").is_empty()
 }
 
-fn lies_outside(first: Read<u32>, last: Read<u32>, header: Read<u32>) -> bool
-    ensures { result ≡ lies_outside first last header }
+fn lies_outside(apart: &ApartWords, first: Read<u32>, last: Read<u32>, header: Read<u32>) -> bool
+    ensures { result ≡ lies_outside apart.now first last header }
 {
     let Ok(first) = first else {
         return false;
@@ -163,16 +165,62 @@ fn lies_outside(first: Read<u32>, last: Read<u32>, header: Read<u32>) -> bool
     let Ok(header) = header else {
         return false;
     };
-    placed_loop(((first, last), (header, 0))).is_err()
+    !apart.may_stand(first, header, last)
 }
 
-/// Whether the header of a loop lies outside first to last.
-pub(crate) fn is_outside(labels: &Labels, table: &Table) -> bool
-    ensures { result ≡ is_outside (address_of labels.now) (table_view table.now) }
+/// Whether the words of a loop may not be a loop's, by what is apart.
+pub(crate) fn is_outside(labels: &Labels, table: &Table, apart: &ApartWords) -> bool
+    ensures { result ≡ is_outside (address_of labels.now) apart.now (table_view table.now) }
 {
     let first = address_in(labels, table, "first");
     let last = address_in(labels, table, "last");
-    lies_outside(first, last, address_in(labels, table, "header"))
+    lies_outside(apart, first, last, address_in(labels, table, "header"))
+}
+
+/// The entry of `apart`, by its number from 0.
+pub(crate) fn stretch_entry(table: &Table, index: usize) -> Option<&Value>
+    ensures { option_map (λ v. view v.now) result ≡ stretch_entry index (table_view table.now) }
+{
+    value_in(entries_at(table, "apart"), index)
+}
+
+/// Whether the value is there and no list of two.
+pub(crate) fn is_no_stretch(value: Option<&Value>) -> bool
+    ensures { result ≡ is_no_stretch (option_map (λ v. view v.now) value.entry) }
+{
+    match value {
+        Some(value) => pair_at(value).is_none(),
+        None => false,
+    }
+}
+
+/// The values of an entry of `apart` that is a list of two.
+pub(crate) fn stretch_ends(table: &Table, index: usize) -> Option<(&Value, &Value)>
+    ensures { option_map (λ ends. (view ends.0.now, view ends.1.now)) result
+        ≡ stretch_ends index (table_view table.now) }
+{
+    match stretch_entry(table, index) {
+        Some(entry) => pair_at(entry),
+        None => None,
+    }
+}
+
+/// Whether the first or the last address of a stretch has the fault, by its number 0 or 1.
+pub(crate) fn end_gives(
+    labels: &Labels,
+    ends: (&Value, &Value),
+    index: usize,
+    fault: StatementFault,
+) -> bool
+    ensures { result
+        ≡ end_gives (address_of labels.now) index (view ends.entry.0.now, view ends.entry.1.now) fault }
+{
+    let (first, last) = ends;
+    match index {
+        0 => gives(address_at(labels, first), fault),
+        1 => gives(address_at(labels, last), fault),
+        _ => false,
+    }
 }
 
 fn ends_early(first: Read<u32>, last: Read<u32>) -> bool
@@ -185,6 +233,13 @@ fn ends_early(first: Read<u32>, last: Read<u32>) -> bool
         Ok(last) => last < first,
         Err(_) => false,
     }
+}
+
+/// Whether the last address of a stretch lies before its first.
+pub(crate) fn are_reversed(labels: &Labels, first: &Value, last: &Value) -> bool
+    ensures { result ≡ are_reversed (address_of labels.now) (view first.now, view last.now) }
+{
+    ends_early(address_at(labels, first), address_at(labels, last))
 }
 
 /// Whether the last address of a rule lies before its first.

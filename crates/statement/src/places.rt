@@ -1,4 +1,5 @@
-ghost use Rattle.std.specs.Prelude.{◌≡◌, ◌↔◌, IfOk, length, nat_lt, true};
+ghost use Rattle.std.specs.Prelude.{◌≡◌, ◌↔◌, IfOk, codes, length, nat_lt, true};
+ghost use Rattle.std.specs.Result.{result_ok};
 ghost use Rattle.toml.specs.Data.{get_member};
 ghost use Rattle.toml.specs.View.{table_view};
 ghost use Rattle.toml_reading.specs.Lowest.{entries_at};
@@ -6,14 +7,19 @@ ghost use Rattle.image.specs.Labels.{address_of};
 ghost use Rattle.statement.specs.PlaceTests.{IsStored, destination_gives, entry_at, found, goes_on, holds_of};
 ghost use Rattle.statement.specs.PlaceTests.{is_no_list, is_no_table, is_outside, is_reversed, is_second};
 ghost use Rattle.statement.specs.PlaceTests.{is_second_destination, is_too_long, is_unwanted, part_gives};
-ghost use Rattle.statement.specs.PlaceTests.{repeats_of, table_at};
+ghost use Rattle.statement.specs.PlaceTests.{are_reversed, end_gives, is_misplaced, is_no_stretch};
+ghost use Rattle.statement.specs.PlaceTests.{repeats_of, stretch_ends, stretch_entry, table_at};
+ghost use Rattle.statement.specs.Statement.{apart_in};
 ghost use Rattle.statement.specs.Places.{IsFaultAt, list_key, most_of};
 
+use crate::apart::ApartWords;
 use crate::faults::StatementFault;
 use crate::parts::{
-    destination_gives, entries_at, entry_at, goes_on, is_no_list, is_no_table, is_outside,
-    is_reversed, is_same, is_too_long, is_unwanted, part_gives, table_at,
+    are_reversed, destination_gives, end_gives, entries_at, entry_at, goes_on, is_no_list,
+    is_no_stretch, is_no_table, is_outside, is_reversed, is_same, is_too_long, is_unwanted,
+    part_gives, stretch_ends, stretch_entry, table_at,
 };
+use crate::reading::{MOST_STRETCHES, apart_in};
 use crate::repeats::{all_destination_repeats, entry_repeats, is_set, rule_meetings, tests_at};
 use crate::spots::{Part, Spot, TableList, list_key, most_of};
 use image::Labels;
@@ -37,8 +43,10 @@ pub struct Document<'a> {
     rules: Vec<bool>,
     // of each target's destinations whether an earlier one is of its address
     destinations: Vec<Vec<bool>>,
+    // the words apart from loops, if they are known
+    apart: Option<ApartWords>,
     ghost stored: { IsStored (address_of labels.now) (table_view table.now) targets.items accesses.items
-        rules.items multiplies.items branches.items destinations.items },
+        rules.items multiplies.items branches.items destinations.items apart },
 }
 
 impl<'a> Document<'a> {
@@ -66,6 +74,7 @@ impl<'a> Document<'a> {
             branches: entry_repeats(alloc, labels, entries_at(table, "branch"))?,
             rules: rule_meetings(alloc, labels, entries_at(table, "base"))?,
             destinations: all_destination_repeats(alloc, labels, targets)?,
+            apart: apart_in(alloc, labels, table)?.ok(),
         })
     }
 
@@ -124,14 +133,72 @@ impl<'a> Document<'a> {
         }
     }
 
-    // Whether the loop's header lies outside first to last.
-    fn is_misplaced(&self, index: usize) -> bool
+    // Whether the loop's words may not be a loop's, by the stretches.
+    fn lies_outside(&self, apart: &ApartWords, index: usize) -> bool
         ensures { result
-            ≡ holds_of (is_outside (address_of self.now.labels.now))
+            ≡ holds_of (is_outside (address_of self.now.labels.now) apart.now)
             (table_at TableList.Loops index (table_view self.now.table.now)) }
     {
         match table_at(self.table, TableList::Loops, index) {
-            Some(table) => is_outside(self.labels, table),
+            Some(table) => is_outside(self.labels, table, apart),
+            None => false,
+        }
+    }
+
+    // The same by the stretches that the document states, if they are known.
+    fn is_misplaced(&self, index: usize) -> bool
+        ensures { result
+            ≡ is_misplaced (address_of self.now.labels.now)
+            (result_ok (apart_in (address_of self.now.labels.now) (table_view self.now.table.now)))
+            index (table_view self.now.table.now) }
+    {
+        match &self.apart {
+            Some(apart) => self.lies_outside(apart, index),
+            None => false,
+        }
+    }
+
+    // Whether what is at `apart` is no list.
+    fn has_no_stretches(&self) -> bool
+        ensures { result ≡ is_no_list (get_member (codes "apart") (table_view self.now.table.now)) }
+    {
+        is_no_list(value_at(self.table, "apart"))
+    }
+
+    // Whether more stretches are apart than a statement may have.
+    fn has_too_many_stretches(&self) -> bool
+        ensures { result ≡ nat_lt 256 (length (entries_at (codes "apart") (table_view self.now.table.now))) }
+    {
+        MOST_STRETCHES < entries_at(self.table, "apart").len()
+    }
+
+    // Whether the entry of `apart` is no list of two values.
+    fn is_no_stretch(&self, index: usize) -> bool
+        ensures { result ≡ is_no_stretch (stretch_entry index (table_view self.now.table.now)) }
+    {
+        is_no_stretch(stretch_entry(self.table, index))
+    }
+
+    // Whether an end of the stretch has the fault.
+    fn end_gives(&self, stretch: usize, index: usize, fault: StatementFault) -> bool
+        ensures { result
+            ≡ holds_of (λ ends. end_gives (address_of self.now.labels.now) index ends fault)
+            (stretch_ends stretch (table_view self.now.table.now)) }
+    {
+        match stretch_ends(self.table, stretch) {
+            Some(ends) => end_gives(self.labels, ends, index, fault),
+            None => false,
+        }
+    }
+
+    // Whether the stretch ends before it begins.
+    fn are_reversed(&self, index: usize) -> bool
+        ensures { result
+            ≡ holds_of (are_reversed (address_of self.now.labels.now))
+            (stretch_ends index (table_view self.now.table.now)) }
+    {
+        match stretch_ends(self.table, index) {
+            Some((first, last)) => are_reversed(self.labels, first, last),
             None => false,
         }
     }
@@ -249,6 +316,15 @@ impl<'a> Document<'a> {
             }
             Spot::Destination(target, index) => self.is_faulty_destination(target, index, fault),
             Spot::Reversed(index) => is(StatementFault::OutOfRange) && self.is_reversed(index),
+            Spot::NoStretches => is(StatementFault::WrongKind) && self.has_no_stretches(),
+            Spot::TooManyStretches => {
+                is(StatementFault::OutOfRange) && self.has_too_many_stretches()
+            }
+            Spot::NoStretch(index) => is(StatementFault::WrongKind) && self.is_no_stretch(index),
+            Spot::StretchEnd(stretch, index) => self.end_gives(stretch, index, fault),
+            Spot::ReversedStretch(index) => {
+                is(StatementFault::OutOfRange) && self.are_reversed(index)
+            }
             Spot::Second(list, index) => is(StatementFault::Twice) && self.is_second(list, index),
         }
     }

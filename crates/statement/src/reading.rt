@@ -1,18 +1,21 @@
 ghost use Rattle.std.specs.Prelude.{◌≡◌, ◌≢◌, ◌&&◌, Err, IfOk, MatchOption, true, false};
+ghost use Rattle.std.specs.List.{list_all};
 ghost use Rattle.std.specs.Map.{keys_of};
 ghost use Rattle.toml.specs.View.{table_view};
 ghost use Rattle.image.specs.Labels.{address_of};
 ghost use Rattle.toml_reading.specs.Documents.{are_distinct};
 ghost use Rattle.toml_reading.specs.Readings.{and_then, reading_map};
-ghost use Rattle.statement.specs.ReadingParts.{AreRead, frame_of, limits_of, parts_in, rules_of, words_of};
-ghost use Rattle.statement.specs.Statement.{IsStatement, ends_in, frame_in, leave_in, leaving_in, limits_in};
-ghost use Rattle.statement.specs.Statement.{parts_of, returns_in, rules_and_limits, stated_once};
-ghost use Rattle.statement.specs.Statement.{statement_of};
+ghost use Rattle.statement.specs.ReadingParts.{AreBounded, AreRead, limits_of, pair_of, parts_in, rules_of};
+ghost use Rattle.statement.specs.ReadingParts.{words_of};
+ghost use Rattle.statement.specs.Statement.{IsStatement, apart_in, ends_in, frame_in, leave_in};
+ghost use Rattle.statement.specs.Statement.{leaving_in, limits_in, parts_of, placed_loops, returns_in};
+ghost use Rattle.statement.specs.Statement.{rules_and_limits, stated_loops_in, stated_once, statement_of};
 ghost use Rattle.statement.specs.Statement.{words_in};
 
+use crate::apart::ApartWords;
 use crate::entries::{address_in, leave_named_at, returns_named_at};
 use crate::faults::{Read, StatementFault};
-use crate::stated::{BaseRule, Loop, Returns, Statement, Taken, Target};
+use crate::stated::{BaseRule, Loop, Returns, StatedLoops, Statement, Taken, Target, are_placed};
 use crate::stretches::index_of;
 use bus_ticks::Class;
 use image::Labels;
@@ -23,8 +26,11 @@ use toml_reading::{by_number, document, of_keys, pair, tables_up_to, value_at};
 
 /// The keys of a statement.
 pub const STATEMENT_KEYS: &[&str] = &[
-    "entry", "leave", "returns", "loop", "target", "access", "base", "multiply", "branch",
+    "entry", "leave", "returns", "apart", "loop", "target", "access", "base", "multiply", "branch",
 ];
+
+/// The most stretches of words apart from loops in a statement.
+pub const MOST_STRETCHES: usize = 256;
 
 /// The most loops of a statement.
 pub const MOST_LOOPS: usize = 256;
@@ -72,7 +78,7 @@ fn ends_in(labels: &Labels, table: &Table) -> Read<(u32, (Class, Returns))>
     pair(address_in(labels, table, "entry"), leaving_in(table))
 }
 
-type Frame = ((u32, (Class, Returns)), Vec<Loop>);
+type Frame = ((u32, (Class, Returns)), StatedLoops);
 
 type Words = (Vec<(u32, Target)>, Vec<(u32, Class)>);
 
@@ -133,12 +139,59 @@ fn stated_once(alloc: Global, parts: Read<Parts>) -> Result<Read<Statement>, All
     }))
 }
 
-// The entry, how the handler leaves, and the loops.
-fn frame_in(alloc: Global, labels: &Labels, table: &Table) -> Result<Read<Frame>, AllocError>
+/// The words that are apart from loops.
+///
+/// # Errors
+///
+/// An allocation failed.
+pub(crate) fn apart_in(
+    alloc: Global,
+    labels: &Labels,
+    table: &Table,
+) -> Result<Read<ApartWords>, AllocError>
+    ensures { IfOk result (λ apart. apart ≡ apart_in (address_of labels.now) (table_view table.now)) }
+{
+    match tables_up_to(alloc, labels, value_at(table, "apart"), MOST_STRETCHES)? {
+        Ok(stretches) => Ok(Ok(ApartWords::new(alloc, stretches)?)),
+        Err(fault) => Ok(Err(fault)),
+    }
+}
+
+// The loops with what is apart from them, where their words lie where they may.
+fn placed_loops(loops: Read<(Vec<Loop>, ApartWords)>) -> Read<StatedLoops>
+    requires { IfOk loops (λ p. AreBounded p.0.items) }
+    ensures { result ≡ and_then (reading_map pair_of loops) placed_loops }
+{
+    let (list, apart) = match loops {
+        Ok(loops) => loops,
+        Err(fault) => return Err(fault),
+    };
+    if are_placed(&list, &apart) {
+        Ok(StatedLoops { list, apart })
+    } else {
+        Err(StatementFault::OutOfRange)
+    }
+}
+
+// The loops, and the words that are apart from them.
+fn stated_loops_in(
+    alloc: Global,
+    labels: &Labels,
+    table: &Table,
+) -> Result<Read<StatedLoops>, AllocError>
     ensures { IfOk result
-        (λ frame. reading_map frame_of frame ≡ frame_in (address_of labels.now) (table_view table.now)) }
+        (λ loops. loops ≡ stated_loops_in (address_of labels.now) (table_view table.now)) }
 {
     let loops = tables_up_to(alloc, labels, value_at(table, "loop"), MOST_LOOPS)?;
+    let apart = apart_in(alloc, labels, table)?;
+    Ok(placed_loops(pair(loops, apart)))
+}
+
+// The entry, how the handler leaves, and the loops.
+fn frame_in(alloc: Global, labels: &Labels, table: &Table) -> Result<Read<Frame>, AllocError>
+    ensures { IfOk result (λ frame. frame ≡ frame_in (address_of labels.now) (table_view table.now)) }
+{
+    let loops = stated_loops_in(alloc, labels, table)?;
     Ok(pair(ends_in(labels, table), loops))
 }
 

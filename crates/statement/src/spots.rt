@@ -81,7 +81,8 @@ pub enum Spot<'a> {
     NoTable(TableList, usize),
     /// A key of an entry of a list.
     Listed(TableList, usize, Part<'a>),
-    /// A loop whose header lies outside first to last.
+    /// A loop whose header lies outside first to last, where words lie as what is apart moves them, or of
+    /// which one end is apart and the other is not.
     Misplaced(usize),
     /// A return or a leave that has destinations.
     Unwanted(usize),
@@ -91,6 +92,16 @@ pub enum Spot<'a> {
     Destination(usize, usize),
     /// A rule for a base register whose last address lies before its first.
     Reversed(usize),
+    /// The value at `apart`, which is no list.
+    NoStretches,
+    /// More stretches apart than a statement may have.
+    TooManyStretches,
+    /// An entry of `apart`, which is no list of two values.
+    NoStretch(usize),
+    /// An address of a stretch apart: 0 is its first, 1 its last.
+    StretchEnd(usize, usize),
+    /// A stretch apart whose last address lies before its first.
+    ReversedStretch(usize),
     /// An entry whose address an earlier one of its list has, or a rule for a register in a part that it
     /// shares with an earlier one.
     Second(TableList, usize),

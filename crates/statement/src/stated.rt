@@ -1,16 +1,20 @@
-ghost use Rattle.std.specs.Prelude.{◌≡◌, ◌<◌, ◌≤◌, length, All, AllPairs, option_map};
+ghost use Rattle.std.specs.Prelude.{◌≡◌, ◌<◌, ◌≤◌, length, All, AllPairs, IfOk, MatchOption};
+ghost use Rattle.std.specs.Prelude.{is_some, option_map};
+ghost use Rattle.std.specs.List.{list_all, position};
 ghost use Rattle.bus_ticks.specs.declared.space.TheConstants.{SPACE_END};
 ghost use Rattle.shifter.specs.declared.shifts.TheConstants.{MOST_MULTIPLY_CYCLES};
-ghost use Rattle.statement.specs.Stated.{AreApart, IsLoop, IsRule, class_at, cycles_at, ruled_class};
-ghost use Rattle.std.specs.List.{position};
-ghost use Rattle.statement.specs.Stated.{is_ruled, taken_at, target_of};
+ghost use Rattle.statement.specs.Stated.{IsLoop, IsRule, ShareNoWord, also_apart, class_at, cycles_at};
+ghost use Rattle.statement.specs.Stated.{is_placed, is_ruled, ruled_class, taken_at, target_of};
+ghost use Rattle.statement.specs.Stated.{with_destinations};
 ghost use Rattle.statement.specs.declared.reading.TheConstants.{MOST_LOOPS};
 
+use crate::apart::{ApartStretch, ApartWords};
 use crate::stretches::{Stretches, value_at};
 use arm2_decode::Register;
 use bus_ticks::Class;
 use indexmap::IndexMap;
 use shifter::MOST_MULTIPLY_CYCLES;
+use std::alloc::{AllocError, Global};
 use std::marker::Model;
 
 /// A loop that an author states: the addresses of its header and of its first and last instruction, and the
@@ -21,6 +25,75 @@ pub struct Loop {
     pub first: u32,
     pub last: u32,
     pub bound: u32,
+}
+
+/// Whether the words of each loop lie where they may.
+pub(crate) fn are_placed(loops: &[Loop], apart: &ApartWords) -> bool
+    ensures { result ≡ list_all (is_placed apart.now) loops.now }
+{
+    loops
+        .iter()
+        .all(|l| apart.may_stand(l.first, l.header, l.last))
+}
+
+/// The loops that an author states, and the words that are apart from them.
+#[derive(Drop)]
+pub struct StatedLoops {
+    pub(crate) list: Vec<Loop>,
+    pub(crate) apart: ApartWords,
+}
+
+impl Model for StatedLoops {
+    ghost use Rattle.statement.specs.Stated.{StatedLoops};
+
+    ghost Value = { StatedLoops };
+
+    ghost use Rattle.statement.specs.StatementParts.{loops_of};
+
+    ghost view = { loops_of };
+
+    ghost use Rattle.statement.specs.StatementParts.{AreStoredLoops};
+
+    ghost invariant = { AreStoredLoops };
+}
+
+impl StatedLoops {
+    /// The loops, in the order of the text.
+    pub fn list(&self) -> &[Loop]
+        ensures value { result.now ≡ self.now.list }
+        ensures within { All (IsLoop self.now.apart) result.now }
+        ensures few { length result.now ≤ MOST_LOOPS }
+    {
+        &self.list
+    }
+
+    /// The words that are apart from them.
+    pub fn apart(&self) -> &ApartWords
+        ensures { result.now ≡ self.now.apart }
+    {
+        &self.apart
+    }
+
+    /// The same loops, with more words apart from them: none, where then the words of a loop may not be a
+    /// loop's.
+    ///
+    /// # Errors
+    ///
+    /// An allocation failed.
+    pub fn also_apart(
+        &self,
+        alloc: Global,
+        more: &[ApartStretch],
+    ) -> Result<Option<StatedLoops>, AllocError>
+        ensures { IfOk result (λ loops. loops ≡ also_apart self.now more.now) }
+    {
+        let apart = self.apart.also(alloc, more)?;
+        if !are_placed(&self.list, &apart) {
+            return Ok(None);
+        }
+        let list = self.list.to_vec(alloc)?;
+        Ok(Some(StatedLoops { list, apart }))
+    }
 }
 
 /// A class that an author states for what all words of a part of the handler transfer by one base register:
@@ -91,6 +164,15 @@ impl Target {
         self.kind
     }
 
+    // Exchanges its destinations with the list.
+    fn swap_to(&mut self, to: &mut Vec<u32>)
+        requires { All (λ a. a < SPACE_END) to.old.items }
+        ensures value { self.new ≡ record { kind = self.old.kind; to = to.old.items } }
+        ensures back { to.new.items ≡ self.old.to }
+    {
+        std::mem::swap(&mut self.to, to);
+    }
+
     /// The addresses to which a jump or a call goes, in the text's order.
     pub fn to(&self) -> &[u32]
         ensures value { result.now ≡ self.now.to }
@@ -106,7 +188,7 @@ pub struct Statement {
     pub(crate) entry: u32,
     pub(crate) leave: Class,
     pub(crate) returns: Returns,
-    pub(crate) loops: Vec<Loop>,
+    pub(crate) loops: StatedLoops,
     pub(crate) targets: IndexMap<u32, Target>,
     pub(crate) accesses: IndexMap<u32, Class>,
     pub(crate) rules: Vec<BaseRule>,
@@ -152,11 +234,9 @@ impl Statement {
         self.returns
     }
 
-    /// The loops, in the order of the text.
-    pub fn loops(&self) -> &[Loop]
-        ensures value { result.now ≡ self.now.loops }
-        ensures within { All IsLoop result.now }
-        ensures few { length result.now ≤ MOST_LOOPS }
+    /// The loops, and the words that are apart from them.
+    pub fn loops(&self) -> &StatedLoops
+        ensures { result.now ≡ self.now.loops }
     {
         &self.loops
     }
@@ -166,6 +246,24 @@ impl Statement {
         ensures value { option_map (λ target. target.now) result ≡ target_of self.now address }
     {
         self.targets.get(&address)
+    }
+
+    /// Exchanges the destinations of the target that is stated for the word at an address with the list, and
+    /// says whether one is stated there. Where none is, nothing changes.
+    pub fn swap_destinations(&mut self, address: u32, to: &mut Vec<u32>) -> bool
+        requires { All (λ a. a < SPACE_END) to.old.items }
+        ensures found { result ≡ is_some (target_of self.old address) }
+        ensures value { self.new ≡ with_destinations self.old address to.old.items }
+        ensures back { MatchOption (target_of self.old address) (to.new ≡ to.old)
+            (λ target. to.new.items ≡ target.to) }
+    {
+        match self.targets.get_mut(&address) {
+            Some(target) => {
+                target.swap_to(to);
+                true
+            }
+            None => false,
+        }
     }
 
     /// The targets by the addresses of their words, in the order of the text.
@@ -186,7 +284,7 @@ impl Statement {
     pub fn rules(&self) -> &[BaseRule]
         ensures value { result.now ≡ self.now.rules }
         ensures within { All IsRule result.now }
-        ensures apart { AllPairs AreApart result.now }
+        ensures disjoint { AllPairs ShareNoWord result.now }
     {
         &self.rules
     }

@@ -1,7 +1,7 @@
 ghost use Rattle.std.specs.Prelude.{◌≡◌, ◌↔◌, ◌≤◌, ℕ, All, IfOk, MatchOption, OnOk, Option, false, true, ⊤};
 ghost use Rattle.arm2_decode.specs.Names.{register_number};
 ghost use Rattle.statement.specs.Stated.{IsRule};
-ghost use Rattle.statement.specs.Statement.{are_apart};
+ghost use Rattle.statement.specs.Statement.{are_disjoint};
 ghost use Rattle.statement.specs.Stretches.{AreDisjoint, AreOf, IsCovered, IsJoined, IsMet, IsNextFrom};
 ghost use Rattle.statement.specs.Stretches.{number_for};
 
@@ -114,8 +114,8 @@ pub(crate) fn index_of(
 ) -> Result<Option<Stretches<usize>>, AllocError>
     requires { All IsRule rules.now }
     ensures { IfOk result
-        (λ made. MatchOption made (are_apart rules.now ≡ false)
-        (λ index. (are_apart rules.now ≡ true) × AreOf index (number_for rules.now))) }
+        (λ made. MatchOption made (are_disjoint rules.now ≡ false)
+        (λ index. (are_disjoint rules.now ≡ true) × AreOf index (number_for rules.now))) }
 {
     let mut index = BTreeMap::new(alloc);
     for (number, rule) in rules.iter().enumerate() {

@@ -5,7 +5,8 @@ use Rattle.std.specs.Prelude.{Option}
 use Rattle.text_rows.specs.declared.line_labels.SourceLine.{SourceLine}
 use Rattle.text_draft.specs.Rows.{remark, row}
 use Rattle.bus_ticks.specs.Prices.{ahead_of}
-use Rattle.text_draft.specs.DraftText.{accesses_text, bound_text, candidates_text, cycle_text, destination_text, destinations_text, draft_text, end_text, full_text, head_text, loop_text, place_text, target_text, way_text, words_from}
+use Rattle.text_draft.specs.DraftText.{accesses_text, apart_text, bound_text, candidates_text, cycle_text, destination_text, destinations_text, draft_text, end_text, full_text, head_text, loop_text, place_text, target_text, way_text, words_from}
+use Rattle.statement.specs.declared.apart.ApartStretch.{ApartStretch}
 use Rattle.text_draft.specs.declared.accesses.FoundAccess.{FoundAccess}
 use Rattle.text_draft.specs.declared.ends.End.{End}
 use Rattle.text_draft.specs.declared.rules.FoundRule.{FoundRule}
@@ -93,13 +94,14 @@ loop_whole lines left l old p q r s t u new h1 h2 h3 h4 h5 h6 h7 =
 
 -- a whole draft, part by part
 pub draft_whole : (lines : BTreeMap ℕ SourceLine) (entry : ℕ) (full : Bool) (ends : List (ℕ × End)) (cycles : List ℕ)
-    (rules : List FoundRule) (entries : List FoundAccess) (loops : List FoundLoop) (candidates : List ℕ) (targets : List FoundTarget)
-    (old p o q r s t u new : List ℕ) → p ≡ old ++ head_text lines entry → o ≡ p ++ full_text full
+    (apart : List ApartStretch) (rules : List FoundRule) (entries : List FoundAccess) (loops : List FoundLoop) (candidates : List ℕ) (targets : List FoundTarget)
+    (old p o q r v s t u new : List ℕ) → p ≡ old ++ head_text lines entry → o ≡ p ++ full_text full
     → q ≡ o ++ flat_map (end_text lines) ends → r ≡ q ++ flat_map (cycle_text lines) cycles
-    → s ≡ r ++ accesses_text lines rules entries → t ≡ s ++ flat_map (loop_text lines (leaves_open full targets)) loops
+    → v ≡ r ++ apart_text lines apart → s ≡ v ++ accesses_text lines rules entries → t ≡ s ++ flat_map (loop_text lines (leaves_open full targets)) loops
     → u ≡ t ++ candidates_text lines (any_open targets) candidates → new ≡ u ++ flat_map (target_text lines) targets
-    → new ≡ old ++ draft_text lines entry full ends cycles rules entries loops candidates targets
-draft_whole lines entry full ends cycles rules entries loops candidates targets old p o q r s t u new h1 h2 h3 h4 h5 h6 h7 h8 =
+    → new ≡ old ++ draft_text lines entry full ends cycles apart rules entries loops candidates targets
+draft_whole lines entry full ends cycles apart rules entries loops candidates targets old p o q r v s t u new h1 h2 h3 h4 h45 h5 h6 h7 h8 =
+    let i = apart_text lines apart in
     let a = head_text lines entry in
     let b = full_text full in
     let c = flat_map (end_text lines) ends in
@@ -108,8 +110,9 @@ draft_whole lines entry full ends cycles rules entries loops candidates targets 
     let f = flat_map (loop_text lines (leaves_open full targets)) loops in
     let g = candidates_text lines (any_open targets) candidates in
     let h = flat_map (target_text lines) targets in
-    joined old p new a (b ++ (c ++ (d ++ (e ++ (f ++ (g ++ h)))))) h1
-    (joined p o new b (c ++ (d ++ (e ++ (f ++ (g ++ h))))) h2
-    (joined o q new c (d ++ (e ++ (f ++ (g ++ h)))) h3
-    (joined q r new d (e ++ (f ++ (g ++ h))) h4
-    (joined r s new e (f ++ (g ++ h)) h5 (joined s t new f (g ++ h) h6 (joined t u new g h h7 h8))))))
+    joined old p new a (b ++ (c ++ (d ++ (i ++ (e ++ (f ++ (g ++ h))))))) h1
+    (joined p o new b (c ++ (d ++ (i ++ (e ++ (f ++ (g ++ h)))))) h2
+    (joined o q new c (d ++ (i ++ (e ++ (f ++ (g ++ h))))) h3
+    (joined q r new d (i ++ (e ++ (f ++ (g ++ h)))) h4
+    (joined r v new i (e ++ (f ++ (g ++ h))) h45
+    (joined v s new e (f ++ (g ++ h)) h5 (joined s t new f (g ++ h) h6 (joined t u new g h h7 h8)))))))

@@ -4,6 +4,7 @@ use Rattle.std.specs.BTreeMap.{BTreeMap}
 use Rattle.std.specs.List.Sorted.{IsStrictlySortedBy}
 use Rattle.std.specs.Ordering.{nat_cmp}
 use Rattle.image.specs.Image.{Words}
+use Rattle.statement.specs.declared.apart.ApartStretch.{ApartStretch}
 use Rattle.sources.specs.Lines.{AreLines}
 use Rattle.sources.specs.declared.read.Source.{Source}
 use Rattle.text_rows.specs.declared.line_labels.SourceLine.{SourceLine}
@@ -54,10 +55,12 @@ pub record IsDraft (source : Source) (entry : ℕ) (text : List ℕ) : Type 0 wh
   pub full : Bool
   pub ends : List (ℕ × End)
   pub cycles : List ℕ
+  pub apart : List ApartStretch
   pub rules : List FoundRule
   pub entries : List FoundAccess
   pub loops : List FoundLoop
   pub candidates : List ℕ
   pub targets : List FoundTarget
   pub found : AreFound source.image entry full ends rules entries candidates targets
-  pub text_is : text ≡ draft_text lines entry full ends cycles rules entries loops candidates targets
+  pub text_is : text ≡ draft_text lines entry full ends cycles apart rules entries loops candidates
+      targets

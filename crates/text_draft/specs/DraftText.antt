@@ -10,6 +10,7 @@ use Rattle.asm_text.specs.Hex.{hex8}
 use Rattle.bus_ticks.specs.declared.profile.Class.{Class}
 use Rattle.bus_ticks.specs.Prices.{ahead_of}
 use Rattle.statement.specs.Statement.{class_name}
+use Rattle.statement.specs.declared.apart.ApartStretch.{ApartStretch}
 use Rattle.text_rows.specs.Addresses.{name_text}
 use Rattle.text_rows.specs.declared.line_labels.SourceLine.{SourceLine}
 use Rattle.arm2_decode.specs.Names.{register_number}
@@ -87,6 +88,20 @@ module _ (lines : BTreeMap ℕ SourceLine) where
 
   abbrev pub cycle_text : ℕ → List ℕ
   cycle_text at = comment_text at (codes ": a cycle that no loop bounds.")
+
+  -- a stretch of words apart, in two rows
+  abbrev pub stretch_text : ApartStretch → List ℕ
+  stretch_text s =
+      element_text (codes "  [") s.first (codes ",") ++ element_text (codes "   ") s.last (codes "],")
+
+  abbrev pub stretch_list_text : List ApartStretch → List ℕ
+  stretch_list_text stretches =
+      codes "\n# Words that belong to no loop among whose addresses they lie:\napart = [\n"
+      ++ (flat_map stretch_text stretches ++ codes "]\n")
+
+  -- all stretches, if there are any
+  abbrev pub apart_text : List ApartStretch → List ℕ
+  apart_text stretches = if length stretches == 0 then [] else stretch_list_text stretches
 
   -- a rule for a base register, and as a comment what it stands for
   abbrev pub rule_text : FoundRule → List ℕ
@@ -183,10 +198,10 @@ module _ (lines : BTreeMap ℕ SourceLine) where
 
   -- the whole text
   abbrev pub draft_text : ℕ → (full : Bool) → (ends : List (ℕ × End)) → (cycles : List ℕ)
-      → (rules : List FoundRule) → (entries : List FoundAccess) → (loops : List FoundLoop)
-      → (candidates : List ℕ) → (targets : List FoundTarget) → List ℕ
-  draft_text entry full ends cycles rules entries loops candidates targets =
+      → (apart : List ApartStretch) → (rules : List FoundRule) → (entries : List FoundAccess)
+      → (loops : List FoundLoop) → (candidates : List ℕ) → (targets : List FoundTarget) → List ℕ
+  draft_text entry full ends cycles apart rules entries loops candidates targets =
       head_text entry ++ (full_text full ++ (flat_map end_text ends ++ (flat_map cycle_text cycles
-      ++ (accesses_text rules entries
+      ++ (apart_text apart ++ (accesses_text rules entries
       ++ (flat_map (loop_text (leaves_open full targets)) loops
-      ++ (candidates_text (any_open targets) candidates ++ flat_map target_text targets))))))
+      ++ (candidates_text (any_open targets) candidates ++ flat_map target_text targets)))))))

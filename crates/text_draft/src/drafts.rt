@@ -94,13 +94,15 @@ fn put_found(
         (out.new.items
         ≡ out.old.items
         ++ draft_text sheet.now.lines.now entry found.now.full found.now.ends.items
-        found.now.loops.cycles.items found.now.rules.items found.now.entries.items
-        found.now.loops.loops.items found.now.candidates.items found.now.targets.items) }
+        found.now.loops.cycles.items found.now.loops.apart.items found.now.rules.items
+        found.now.entries.items found.now.loops.loops.items found.now.candidates.items
+        found.now.targets.items) }
 {
     sheet.put_head(out, entry)?;
     put_full(out, found.full)?;
     sheet.put_ends(out, &found.ends)?;
     sheet.put_cycles(out, &found.loops.cycles)?;
+    sheet.put_apart(out, &found.loops.apart)?;
     sheet.put_accesses(out, &found.rules, &found.entries)?;
     let open_left = leaves_open(found.full, &found.targets);
     sheet.put_loops(out, open_left, &found.loops.loops)?;
@@ -118,8 +120,8 @@ fn draft_text(
     ensures { IfOk result
         (λ text. text.items
         ≡ draft_text lines.now entry found.now.full found.now.ends.items found.now.loops.cycles.items
-        found.now.rules.items found.now.entries.items found.now.loops.loops.items
-        found.now.candidates.items found.now.targets.items) }
+        found.now.loops.apart.items found.now.rules.items found.now.entries.items
+        found.now.loops.loops.items found.now.candidates.items found.now.targets.items) }
 {
     let mut out = Vec::new(alloc);
     put_found(&mut out, &Sheet { lines }, entry, found)?;

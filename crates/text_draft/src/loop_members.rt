@@ -1,6 +1,7 @@
 use crate::found_loop::FoundLoop;
 use crate::paths::Descent;
 use crate::reach::{MOST_ADDRESSES, Reached};
+use statement::ApartStretch;
 use std::alloc::{AllocError, Global};
 use std::collections::BTreeSet;
 
@@ -53,12 +54,13 @@ impl Members {
 }
 
 /// The natural loop of a header and the steps back to it, or None where a way leads into its
-/// middle.
+/// middle. Its members are added to those of other loops.
 pub(crate) fn natural_loop(
     alloc: Global,
     reach: &Reached,
     header: u32,
     backs: &[(u32, u32)],
+    all: &mut BTreeSet<u32>,
 ) -> Result<Option<FoundLoop>, AllocError> {
     let mut members = Members {
         seen: BTreeSet::new(alloc),
@@ -68,6 +70,10 @@ pub(crate) fn natural_loop(
     };
     if !members.gather(reach, header, backs)? {
         return Ok(None);
+    }
+    all.insert(header)?;
+    for at in &members.order {
+        all.insert(*at)?;
     }
     Ok(Some(FoundLoop {
         header,
@@ -89,17 +95,68 @@ fn is_in_middle(descent: &Descent, found: &FoundLoop, at: u32) -> bool {
 }
 
 /// Whether a step from outside the addresses from first to last, or the beginning of a routine, lies at one
-/// of them that is not the header.
-pub(crate) fn is_entered_in_middle(reach: &Reached, descent: &Descent, found: &FoundLoop) -> bool {
+/// of them that is not the header, but for those that are apart.
+pub(crate) fn is_entered_in_middle(
+    reach: &Reached,
+    descent: &Descent,
+    found: &FoundLoop,
+    apart: &BTreeSet<u32>,
+) -> bool {
+    let is_mid = |at| is_in_middle(descent, found, at) && !apart.contains(&at);
     for (to, from) in &reach.entering {
-        if is_in_middle(descent, found, *to) && !found.holds(*from) {
+        let is_outside = !found.holds(*from) || apart.contains(from);
+        if is_outside && is_mid(*to) {
             return true;
         }
     }
     for root in &reach.roots {
-        if is_in_middle(descent, found, *root) {
+        if is_mid(*root) {
             return true;
         }
     }
     false
+}
+
+/// Adds the addresses from the first to the last of the loop, of the header's routine, that no loop has for
+/// a member.
+pub(crate) fn add_strangers(
+    reach: &Reached,
+    descent: &Descent,
+    found: &FoundLoop,
+    members: &BTreeSet<u32>,
+    apart: &mut BTreeSet<u32>,
+) -> Result<(), AllocError> {
+    let first = reach.addresses.partition_point(|at| *at < found.first);
+    for at in &reach.addresses[first..] {
+        if !found.holds(*at) {
+            return Ok(());
+        }
+        if is_in_middle(descent, found, *at) && !members.contains(at) {
+            apart.insert(*at)?;
+        }
+    }
+    Ok(())
+}
+
+/// The stretches of some of the addresses, each as long as no other address lies between.
+pub(crate) fn stretches_of(
+    alloc: Global,
+    addresses: &[u32],
+    apart: &BTreeSet<u32>,
+) -> Result<Vec<ApartStretch>, AllocError> {
+    let mut stretches = Vec::new(alloc);
+    let mut open: Option<ApartStretch> = None;
+    for at in addresses {
+        if apart.contains(at) {
+            let first = open.map_or(*at, |stretch| stretch.first);
+            open = Some(ApartStretch { first, last: *at });
+        } else if let Some(stretch) = open {
+            stretches.push(stretch)?;
+            open = None;
+        }
+    }
+    if let Some(stretch) = open {
+        stretches.push(stretch)?;
+    }
+    Ok(stretches)
 }

@@ -1,18 +1,32 @@
 use crate::counted::turns_back;
 use crate::found_loop::FoundLoop;
-use crate::loop_members::{is_entered_in_middle, natural_loop};
+use crate::loop_members::{add_strangers, is_entered_in_middle, natural_loop, stretches_of};
 use crate::paths::{Descent, descend};
 use crate::reach::{Reached, pairs_at};
 use image::Image;
-use statement::MOST_LOOPS;
+use statement::{ApartStretch, MOST_LOOPS};
 use std::alloc::{AllocError, Global};
+use std::collections::BTreeSet;
 
-/// The loops, outer ones before those inside them, and the addresses to which cycles turn back that no loop
-/// bounds.
+/// The loops, outer ones before those inside them, the words that are apart from them, and the addresses to
+/// which cycles turn back that no loop bounds.
 #[derive(Drop)]
 pub(crate) struct Loops {
     pub loops: Vec<FoundLoop>,
+    pub apart: Vec<ApartStretch>,
     pub cycles: Vec<u32>,
+}
+
+// A search for the loops among what is reached.
+#[derive(Drop)]
+struct LoopSearch<'a> {
+    reach: &'a Reached,
+    descent: &'a Descent,
+    // All members of loops, and the words that are set apart from loops.
+    members: BTreeSet<u32>,
+    apart: BTreeSet<u32>,
+    loops: Vec<FoundLoop>,
+    cycles: Vec<u32>,
 }
 
 // Outer loops first.
@@ -45,13 +59,12 @@ fn nest(loops: &mut [FoundLoop]) {
     }
 }
 
-impl Loops {
+impl LoopSearch<'_> {
     // Adds the loop of a header to others, as far as its members show, or its cycle.
     fn add_natural(
         &mut self,
-        natural: &mut Vec<FoundLoop>,
         alloc: Global,
-        reach: &Reached,
+        natural: &mut Vec<FoundLoop>,
         backs: &[(u32, u32)],
     ) -> Result<(), AllocError> {
         let [(header, _), ..] = backs else {
@@ -61,7 +74,7 @@ impl Loops {
             self.cycles.push(*header)?;
             return Ok(());
         }
-        match natural_loop(alloc, reach, *header, backs)? {
+        match natural_loop(alloc, self.reach, *header, backs, &mut self.members)? {
             Some(found) => natural.push(found)?,
             None => self.cycles.push(*header)?,
         }
@@ -69,62 +82,67 @@ impl Loops {
     }
 
     // The loops, as far as their members show. Adds the other cycles.
-    fn natural_loops(
-        &mut self,
-        alloc: Global,
-        reach: &Reached,
-        descent: &Descent,
-    ) -> Result<Vec<FoundLoop>, AllocError> {
+    fn natural_loops(&mut self, alloc: Global) -> Result<Vec<FoundLoop>, AllocError> {
+        let descent = self.descent;
         let mut natural = Vec::new(alloc);
         let mut done = None;
         for (header, _) in &descent.backs {
             if done != Some(*header) {
                 done = Some(*header);
-                let backs = pairs_at(&descent.backs, *header);
-                self.add_natural(&mut natural, alloc, reach, backs)?;
+                self.add_natural(alloc, &mut natural, pairs_at(&descent.backs, *header))?;
             }
         }
         natural.sort_by_key(order_of)?;
         Ok(natural)
     }
 
+    // Whether a way leads into the middle of the loop.
+    fn is_mid(&self, found: &FoundLoop) -> bool {
+        is_entered_in_middle(self.reach, self.descent, found, &self.apart)
+    }
+
+    // Sets the words apart that lie in the loop and belong to none, where a way leads into its middle.
+    // Whether none does then.
+    fn clear(&mut self, found: &FoundLoop) -> Result<bool, AllocError> {
+        if !self.is_mid(found) {
+            return Ok(true);
+        }
+        add_strangers(
+            self.reach,
+            self.descent,
+            found,
+            &self.members,
+            &mut self.apart,
+        )?;
+        Ok(!self.is_mid(found))
+    }
+
     // Adds a loop, or its cycle where a way leads into its middle.
-    fn add(
-        &mut self,
-        image: &Image,
-        reach: &Reached,
-        descent: &Descent,
-        found: &FoundLoop,
-    ) -> Result<(), AllocError> {
-        if is_entered_in_middle(reach, descent, found) {
+    fn add(&mut self, image: &Image, found: &FoundLoop) -> Result<(), AllocError> {
+        if !self.clear(found)? {
             self.cycles.push(found.header)?;
             return Ok(());
         }
-        let backs = pairs_at(&descent.backs, found.header);
+        let backs = pairs_at(&self.descent.backs, found.header);
         let mut counted = *found;
-        counted.turns = turns_back(image, reach, found, backs);
+        counted.turns = turns_back(image, self.reach, found, backs);
         self.loops.push(counted)?;
         Ok(())
     }
 
     // Adds the loops and the other cycles among what is reached.
-    fn add_all(
-        &mut self,
-        alloc: Global,
-        image: &Image,
-        reach: &Reached,
-        descent: &Descent,
-    ) -> Result<(), AllocError> {
-        let mut natural = self.natural_loops(alloc, reach, descent)?;
+    fn add_all(&mut self, alloc: Global, image: &Image) -> Result<(), AllocError> {
+        let mut natural = self.natural_loops(alloc)?;
         nest(&mut natural);
         for found in &natural {
-            self.add(image, reach, descent, found)?;
+            self.add(image, found)?;
         }
         self.cycles.sort()
     }
 }
 
-/// The loops among what is reached.
+/// The loops among what is reached. Where a way leads among a loop's addresses, the words there that belong
+/// to no loop are set apart.
 pub(crate) fn find_loops(
     alloc: Global,
     image: &Image,
@@ -132,10 +150,19 @@ pub(crate) fn find_loops(
     entry: u32,
 ) -> Result<Loops, AllocError> {
     let descent = descend(alloc, reach, entry)?;
-    let mut found = Loops {
+    let mut search = LoopSearch {
+        reach,
+        descent: &descent,
+        members: BTreeSet::new(alloc),
+        apart: BTreeSet::new(alloc),
         loops: Vec::new(alloc),
         cycles: Vec::new(alloc),
     };
-    found.add_all(alloc, image, reach, &descent)?;
-    Ok(found)
+    search.add_all(alloc, image)?;
+    let apart = stretches_of(alloc, &reach.addresses, &search.apart)?;
+    Ok(Loops {
+        loops: search.loops,
+        apart,
+        cycles: search.cycles,
+    })
 }

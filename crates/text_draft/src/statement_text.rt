@@ -3,6 +3,7 @@ ghost use Rattle.std.specs.BTreeMap.{get};
 ghost use Rattle.std.specs.List.{flat_map};
 ghost use Rattle.std.specs.Ordering.{nat_cmp};
 ghost use Rattle.text_draft.specs.DraftText.{access_lists_text, accesses_text, bound_text, class_text};
+ghost use Rattle.text_draft.specs.DraftText.{apart_text, stretch_list_text, stretch_text};
 ghost use Rattle.text_draft.specs.DraftText.{entries_text, entry_list_text, entry_text, register_text};
 ghost use Rattle.text_draft.specs.DraftText.{rule_list_text, rule_text, rules_text, spot_text};
 ghost use Rattle.text_draft.specs.DraftText.{candidate_list_text, candidate_text, candidates_text};
@@ -18,7 +19,7 @@ use crate::pc_writers::{FoundTarget, Way};
 use crate::rules::FoundRule;
 use arm2_decode::Register;
 use bus_ticks::{Class, ahead_of};
-use statement::class_name;
+use statement::{ApartStretch, class_name};
 use std::alloc::AllocError;
 use std::collections::BTreeMap;
 use text_rows::{SourceLine, put, put_decimal};
@@ -420,6 +421,59 @@ impl<'a> Sheet<'_, 'a> {
             self.put_comment(out, *at, b": a cycle that no loop bounds.")?;
         }
         Ok(())
+    }
+
+    fn put_stretch(&self, out: &mut Vec<u8>, stretch: &ApartStretch) -> Result<(), AllocError>
+        ensures { OnOk result
+            (out.new.items ≡ out.old.items ++ stretch_text self.now.lines.now stretch.now) }
+    {
+        self.put_element(out, b"  [", stretch.first, b",")?;
+        self.put_element(out, b"   ", stretch.last, b"],")
+    }
+
+    fn put_each_stretch(
+        &self,
+        out: &mut Vec<u8>,
+        stretches: &[ApartStretch],
+    ) -> Result<(), AllocError>
+        ensures { OnOk result
+            (out.new.items ≡ out.old.items ++ flat_map (stretch_text self.now.lines.now) stretches.now) }
+    {
+        for stretch in stretches {
+            self.put_stretch(out, stretch)?;
+        }
+        Ok(())
+    }
+
+    fn put_stretch_list(
+        &self,
+        out: &mut Vec<u8>,
+        stretches: &[ApartStretch],
+    ) -> Result<(), AllocError>
+        ensures { OnOk result
+            (out.new.items ≡ out.old.items ++ stretch_list_text self.now.lines.now stretches.now) }
+    {
+        put(
+            out,
+            b"\n# Words that belong to no loop among whose addresses they lie:\napart = [\n",
+        )?;
+        self.put_each_stretch(out, stretches)?;
+        put(out, b"]\n")
+    }
+
+    /// Adds the words apart, if there are any.
+    ///
+    /// # Errors
+    ///
+    /// An allocation failed.
+    pub fn put_apart(&self, out: &mut Vec<u8>, stretches: &[ApartStretch]) -> Result<(), AllocError>
+        ensures { OnOk result
+            (out.new.items ≡ out.old.items ++ apart_text self.now.lines.now stretches.now) }
+    {
+        if stretches.is_empty() {
+            return Ok(());
+        }
+        self.put_stretch_list(out, stretches)
     }
 
     /// Adds the head, with the entry.

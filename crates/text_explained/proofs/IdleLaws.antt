@@ -11,9 +11,10 @@ use Rattle.control_flow.specs.declared.actions.Action.{Action}
 use Rattle.control_flow.proofs.EdgeLemmas.{one_action_at}
 use Rattle.image.specs.Image.{Words, word_of}
 use Rattle.statement.specs.Stated.{Stated}
-use Rattle.statement.specs.declared.stated.BaseRule.{BaseRule}
+use Rattle.statement.specs.declared.apart.ApartStretch.{ApartStretch}
 use Rattle.statement.specs.declared.stated.Loop.{Loop}
-use Rattle.text_explained.specs.Idle.{AreEntryRows, AreIdleRows, IsConditional, IsEntryRow, IsIdleRow, IsLoopRow, IsRuleRow, RuleCounts, has_condition, rule_row}
+use Rattle.statement.specs.declared.stated.BaseRule.{BaseRule}
+use Rattle.text_explained.specs.Idle.{AreEntryRows, AreIdleRows, IsConditional, IsEntryRow, IsIdleRow, IsLoopRow, IsRuleRow, IsStretchRow, RuleCounts, has_condition, rule_row}
 use Rattle.text_explained.specs.Leaving.{is_carried_out}
 use Rattle.text_explained.specs.RuleParts.{AreDoneCoverages}
 use Rattle.text_explained.specs.Rules.{IsDoneCoverage}
@@ -91,28 +92,30 @@ entry_rows words flow done reached entry addresses stated rows is_done is_there 
     (subst (λ (p : ℕ → Bool). AreRows (IsEntryRow words p reached entry) stated rows) all_done
     (subst (λ (xs : List ℕ). AreRows (IsEntryRow words done reached entry) xs rows) are h))
 
-pub all_idle : (words : Words) (st : Stated) (flow : Flow) (done reached : ℕ → Bool) (loops : List Loop) (targets accesses multiplies branches start a b c d e rows : List ℕ)
+pub all_idle : (words : Words) (st : Stated) (flow : Flow) (done reached : ℕ → Bool) (loops : List Loop) (apart : List ApartStretch) (more : List Loop) (stretches : List ApartStretch) (targets accesses multiplies branches start o a b c d e rows : List ℕ)
     → ((x : ℕ) → done x ≡ is_carried_out flow.edges x) → ((x : ℕ) → reached x ≡ is_reached flow.places x)
-    → loops ≡ st.loops → targets ≡ keys_of st.targets → accesses ≡ keys_of st.accesses → multiplies ≡ keys_of st.multiplies → branches ≡ keys_of st.branches → start ≡ []
-    → Appends (AreRows (IsLoopRow flow) loops) start a → Appends (AreRows (IsEntryRow words done reached Target) targets) a b → Appends (AreRows (IsEntryRow words done reached Access) accesses) b c
+    → loops ≡ st.loops.list → apart ≡ st.loops.apart → more ≡ st.loops.list → stretches ≡ st.loops.apart → targets ≡ keys_of st.targets → accesses ≡ keys_of st.accesses → multiplies ≡ keys_of st.multiplies → branches ≡ keys_of st.branches → start ≡ []
+    → Appends (AreRows (IsLoopRow apart flow) loops) start o → Appends (AreRows (IsStretchRow more) stretches) o a → Appends (AreRows (IsEntryRow words done reached Target) targets) a b → Appends (AreRows (IsEntryRow words done reached Access) accesses) b c
     → Appends (AreRows (IsRuleRow words st flow) st.rules) c d → Appends (AreRows (IsEntryRow words done reached Multiply) multiplies) d e → Appends (AreRows (IsEntryRow words done reached Branch) branches) e rows
     → AreIdleRows words st flow rows
-all_idle words st flow done reached loops targets accesses multiplies branches start a b c d e rows is_done is_there loops_are targets_are accesses_are multiplies_are branches_are none l t s r m w =
+all_idle words st flow done reached loops apart more stretches targets accesses multiplies branches start o a b c d e rows is_done is_there loops_are apart_is more_are stretches_are targets_are accesses_are multiplies_are branches_are none l p t s r m w =
     record {
       loops = l.0;
+      stretches = p.0;
       targets = t.0;
       accesses = s.0;
       rules = r.0;
       multiplies = m.0;
       branches = w.0;
-      are_loops = subst (λ (ls : List Loop). AreRows (IsLoopRow flow) ls l.0) loops_are l.1;
+      are_loops = subst (λ (ss : List ApartStretch). AreRows (IsLoopRow ss flow) st.loops.list l.0) apart_is (subst (λ (ls : List Loop). AreRows (IsLoopRow apart flow) ls l.0) loops_are l.1);
+      are_stretches = subst (λ (ss : List ApartStretch). AreRows (IsStretchRow st.loops.list) ss p.0) stretches_are (subst (λ (ls : List Loop). AreRows (IsStretchRow ls) stretches p.0) more_are p.1);
       are_targets = entry_rows words flow done reached Target targets (keys_of st.targets) t.0 is_done is_there targets_are t.1;
       are_accesses = entry_rows words flow done reached Access accesses (keys_of st.accesses) s.0 is_done is_there accesses_are s.1;
       are_rules = r.1;
       are_multiplies = entry_rows words flow done reached Multiply multiplies (keys_of st.multiplies) m.0 is_done is_there multiplies_are m.1;
       are_branches = entry_rows words flow done reached Branch branches (keys_of st.branches) w.0 is_done is_there branches_are w.1;
       rows_are =
-          w.2 ∙ ap (λ xs. xs ++ w.0) (m.2 ∙ ap (λ xs. xs ++ m.0) (r.2 ∙ ap (λ xs. xs ++ r.0) (s.2 ∙ ap (λ xs. xs ++ s.0) (t.2 ∙ ap (λ xs. xs ++ t.0) (l.2 ∙ ap (λ xs. xs ++ l.0) none)))))
-          ∙ append_assoc (((l.0 ++ t.0) ++ s.0) ++ r.0) m.0 w.0 ∙ append_assoc ((l.0 ++ t.0) ++ s.0) r.0 (m.0 ++ w.0) ∙ append_assoc (l.0 ++ t.0) s.0 (r.0 ++ (m.0 ++ w.0))
-          ∙ append_assoc l.0 t.0 (s.0 ++ (r.0 ++ (m.0 ++ w.0)));
+          w.2 ∙ ap (λ xs. xs ++ w.0) (m.2 ∙ ap (λ xs. xs ++ m.0) (r.2 ∙ ap (λ xs. xs ++ r.0) (s.2 ∙ ap (λ xs. xs ++ s.0) (t.2 ∙ ap (λ xs. xs ++ t.0) (p.2 ∙ ap (λ xs. xs ++ p.0) (l.2 ∙ ap (λ xs. xs ++ l.0) none))))))
+          ∙ append_assoc ((((l.0 ++ p.0) ++ t.0) ++ s.0) ++ r.0) m.0 w.0 ∙ append_assoc (((l.0 ++ p.0) ++ t.0) ++ s.0) r.0 (m.0 ++ w.0) ∙ append_assoc ((l.0 ++ p.0) ++ t.0) s.0 (r.0 ++ (m.0 ++ w.0))
+          ∙ append_assoc (l.0 ++ p.0) t.0 (s.0 ++ (r.0 ++ (m.0 ++ w.0))) ∙ append_assoc l.0 p.0 (t.0 ++ (s.0 ++ (r.0 ++ (m.0 ++ w.0))));
     }

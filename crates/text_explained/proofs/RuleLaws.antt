@@ -21,7 +21,7 @@ use Rattle.asm_text.specs.Appended.{Appends}
 use Rattle.control_flow.specs.Flow.{Flow}
 use Rattle.control_flow.specs.Kinds.{base_of}
 use Rattle.image.specs.Image.{Words}
-use Rattle.statement.specs.Stated.{AreApart, Stated, is_ruled}
+use Rattle.statement.specs.Stated.{ShareNoWord, Stated, is_ruled}
 use Rattle.statement.specs.declared.stated.BaseRule.{BaseRule}
 use Rattle.control_flow.proofs.SortedLemmas.{no_member}
 use Rattle.word_shapes.specs.Words.{HasInstr}
@@ -61,7 +61,7 @@ module _ (words : Words) (st : Stated) (a : ℕ) where
   by_no_base none = none_over (λ r covered. let e : None ≡ Some covered.base = none covered.base covered.uses in cc)
 
   -- no other of the rules is for the base
-  the_one : AllPairs AreApart st.rules → (base : Register) (k : ℕ) (d : BaseRule) → k < length st.rules → is_ruled base a (get_or st.rules k d) ≡ true → position (is_ruled base a) st.rules ≡ Some k
+  the_one : AllPairs ShareNoWord st.rules → (base : Register) (k : ℕ) (d : BaseRule) → k < length st.rules → is_ruled base a (get_or st.rules k d) ≡ true → position (is_ruled base a) st.rules ≡ Some k
   the_one apart base k d lt passes =
       let p = is_ruled base a in
       let first : position_or_len p st.rules ≡ k =
@@ -70,7 +70,7 @@ module _ (words : Words) (st : Stated) (a : ℕ) where
       (λ inside. passes) in
       ap (λ i. cond (ltb i (length st.rules)) (Some i) None) first ∙ ap (λ b. cond b (Some k) None) (lt-ltb k (length st.rules) lt)
 
-  pub by_base : AllPairs AreApart st.rules → is_some (lookup (nat_eq a) st.accesses) ≡ false → (base : Register) → UsesBase words a base → ((b : Register) → UsesBase words a b → Some base ≡ Some b)
+  pub by_base : AllPairs ShareNoWord st.rules → is_some (lookup (nat_eq a) st.accesses) ≡ false → (base : Register) → UsesBase words a base → ((b : Register) → UsesBase words a b → Some base ≡ Some b)
       → (rule : Option ℕ) → rule ≡ position (is_ruled base a) st.rules → IsRuleOver words st a rule
   by_base apart free base uses only rule is = record {
     covers = λ k has.

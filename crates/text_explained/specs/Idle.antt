@@ -1,5 +1,5 @@
 -- The entries of a statement without effect on a bound.
-use Rattle.std.specs.Prelude.{◌≡◌, ℕ, Bool, true, not, ◌&&◌, List, [], ◌++◌, codes}
+use Rattle.std.specs.Prelude.{◌≡◌, ℕ, Bool, true, not, ◌&&◌, nat_le, List, [], ◌++◌, codes}
 use Rattle.std.specs.List.{list_any}
 use Rattle.std.specs.Map.{keys_of}
 use Rattle.arm2_decode.specs.Names.{is_always, is_never}
@@ -13,6 +13,7 @@ use Rattle.control_flow.specs.declared.actions.Action.{Action}
 use Rattle.image.specs.Image.{Words}
 use Rattle.loop_bounds.specs.Instance.{is_back_edge_of}
 use Rattle.statement.specs.Stated.{Stated}
+use Rattle.statement.specs.declared.apart.ApartStretch.{ApartStretch}
 use Rattle.statement.specs.declared.stated.BaseRule.{BaseRule}
 use Rattle.statement.specs.declared.stated.Loop.{Loop}
 use Rattle.word_shapes.specs.Words.{HasShape}
@@ -26,8 +27,16 @@ use Rattle.text_explained.specs.declared.idle.Entry.TheVariants.{Target, Access,
 -- ## Which entries have an effect
 
 -- a loop has an effect on a bound where an edge of the graph turns back in it
-abbrev pub LoopCounts : Flow → Loop → Type 0
-LoopCounts flow l = list_any (is_back_edge_of l) flow.edges ≡ true
+abbrev pub LoopCounts : List ApartStretch → Flow → Loop → Type 0
+LoopCounts apart flow l = list_any (is_back_edge_of apart l) flow.edges ≡ true
+
+-- an address from the loop's first to its last is in the stretch
+abbrev pub reaches : ApartStretch → Loop → Bool
+reaches s l = nat_le l.first s.last && nat_le s.first l.last
+
+-- a stretch apart, where a loop reaches it: else its words are in no loop, apart or not
+abbrev pub StretchCounts : List Loop → ApartStretch → Type 0
+StretchCounts loops s = list_any (reaches s) loops ≡ true
 
 -- a rule, where it covers a word that is carried out
 abbrev pub RuleCounts : Words → Stated → Flow → BaseRule → Type 0
@@ -57,6 +66,12 @@ between front a back = front ++ (hex8 a ++ back)
 abbrev pub loop_row : ℕ → List ℕ
 loop_row header = between (codes "  loop    ") header (codes "  nothing turns back to the header\n")
 
+abbrev pub ends_text : ApartStretch → List ℕ
+ends_text s = hex8 s.first ++ (codes " to " ++ hex8 s.last)
+
+abbrev pub stretch_row : ApartStretch → List ℕ
+stretch_row s = codes "  apart   " ++ (ends_text s ++ codes "  lies among no loop's addresses\n")
+
 abbrev pub rule_row : BaseRule → List ℕ
 rule_row r =
     codes "  base    "
@@ -84,8 +99,11 @@ pub record IsIdleRow (Counts : Type 0) (shown row : List ℕ) : Type 0 where
   pub without : (Counts → ⊥) → row ≡ shown
   pub with_one : Counts → row ≡ []
 
-abbrev pub IsLoopRow : Flow → Loop → List ℕ → Type 0
-IsLoopRow flow l = IsIdleRow (LoopCounts flow l) (loop_row l.header)
+abbrev pub IsLoopRow : List ApartStretch → Flow → Loop → List ℕ → Type 0
+IsLoopRow apart flow l = IsIdleRow (LoopCounts apart flow l) (loop_row l.header)
+
+abbrev pub IsStretchRow : List Loop → ApartStretch → List ℕ → Type 0
+IsStretchRow loops s = IsIdleRow (StretchCounts loops s) (stretch_row s)
 
 abbrev pub IsRuleRow : Words → Stated → Flow → BaseRule → List ℕ → Type 0
 IsRuleRow words st flow r = IsIdleRow (RuleCounts words st flow r) (rule_row r)
@@ -101,22 +119,25 @@ abbrev pub AreEntryRows : Words → Flow → Entry → (addresses rows : List �
 AreEntryRows words flow entry =
     AreRows (IsEntryRow words (is_carried_out flow.edges) (is_reached flow.places) entry)
 
--- the rows of exactly the loops, the targets, the accesses, the rules, the multiplies and the branches
--- without effect, in the statement's order
+-- the rows of exactly the loops, the stretches apart, the targets, the accesses, the rules, the multiplies and
+-- the branches without effect, each kind in the statement's order
 pub record AreIdleRows (words : Words) (st : Stated) (flow : Flow) (rows : List ℕ) : Type 0 where
   pub loops : List ℕ
+  pub stretches : List ℕ
   pub targets : List ℕ
   pub accesses : List ℕ
   pub rules : List ℕ
   pub multiplies : List ℕ
   pub branches : List ℕ
-  pub are_loops : AreRows (IsLoopRow flow) st.loops loops
+  pub are_loops : AreRows (IsLoopRow st.loops.apart flow) st.loops.list loops
+  pub are_stretches : AreRows (IsStretchRow st.loops.list) st.loops.apart stretches
   pub are_targets : AreEntryRows words flow Target (keys_of st.targets) targets
   pub are_accesses : AreEntryRows words flow Access (keys_of st.accesses) accesses
   pub are_rules : AreRows (IsRuleRow words st flow) st.rules rules
   pub are_multiplies : AreEntryRows words flow Multiply (keys_of st.multiplies) multiplies
   pub are_branches : AreEntryRows words flow Branch (keys_of st.branches) branches
-  pub rows_are : rows ≡ loops ++ (targets ++ (accesses ++ (rules ++ (multiplies ++ branches))))
+  pub rows_are : rows
+      ≡ loops ++ (stretches ++ (targets ++ (accesses ++ (rules ++ (multiplies ++ branches)))))
 
 abbrev pub idle_heading : List ℕ
 idle_heading = codes "\nEntries of the statement without effect:\n"

@@ -13,6 +13,7 @@ ghost use Rattle.text_explained.specs.RuleParts.{AreDoneCoverages};
 ghost use Rattle.text_rows.specs.Rows.{AreRows};
 ghost use Rattle.word_shapes.specs.Words.{HasShape};
 
+use crate::idle_stretches::put_stretches;
 use crate::leaving::{EdgeKind, addresses_left, addresses_reached};
 use crate::rules::{done_coverages, put_part, put_register};
 use arm2_decode::Cond;
@@ -21,7 +22,7 @@ use control_flow::{Graph, action_of, is_multiply};
 use image::Image;
 use indexmap::IndexMap;
 use loop_bounds::{Handler, is_back_edge_of};
-use statement::{BaseRule, Loop};
+use statement::{ApartWords, BaseRule, Loop};
 use std::alloc::{AllocError, Global};
 use std::collections::BTreeSet;
 use text_rows::{put, section};
@@ -46,13 +47,13 @@ struct Seen<'a> {
     reached: &'a BTreeSet<u32>,
 }
 
-fn turns_back(graph: &Graph, stated: &Loop) -> bool
-    ensures { result ≡ list_any (is_back_edge_of stated.now) graph.now.edges }
+fn turns_back(graph: &Graph, apart: &ApartWords, stated: &Loop) -> bool
+    ensures { result ≡ list_any (is_back_edge_of apart.now stated.now) graph.now.edges }
 {
     graph
         .edges()
         .iter()
-        .any(|edge| is_back_edge_of(stated, edge))
+        .any(|edge| is_back_edge_of(apart, stated, edge))
 }
 
 // Adds an address between two texts.
@@ -65,10 +66,16 @@ fn put_between(out: &mut Vec<u8>, front: &[u8], at: u32, back: &[u8]) -> Result<
 }
 
 // Adds the row of a loop, if it has no effect.
-fn put_loop(out: &mut Vec<u8>, graph: &Graph, stated: &Loop) -> Result<(), AllocError>
-    ensures { OnOk result (Appends (IsLoopRow graph.now stated.now) out.old.items out.new.items) }
+fn put_loop(
+    out: &mut Vec<u8>,
+    graph: &Graph,
+    apart: &ApartWords,
+    stated: &Loop,
+) -> Result<(), AllocError>
+    ensures { OnOk result
+        (Appends (IsLoopRow apart.now graph.now stated.now) out.old.items out.new.items) }
 {
-    if turns_back(graph, stated) {
+    if turns_back(graph, apart, stated) {
         return Ok(());
     }
     put_between(
@@ -79,11 +86,17 @@ fn put_loop(out: &mut Vec<u8>, graph: &Graph, stated: &Loop) -> Result<(), Alloc
     )
 }
 
-fn put_loops(out: &mut Vec<u8>, graph: &Graph, loops: &[Loop]) -> Result<(), AllocError>
-    ensures { OnOk result (Appends (AreRows (IsLoopRow graph.now) loops.now) out.old.items out.new.items) }
+fn put_loops(
+    out: &mut Vec<u8>,
+    graph: &Graph,
+    apart: &ApartWords,
+    loops: &[Loop],
+) -> Result<(), AllocError>
+    ensures { OnOk result
+        (Appends (AreRows (IsLoopRow apart.now graph.now) loops.now) out.old.items out.new.items) }
 {
     for stated in loops {
-        put_loop(out, graph, stated)?;
+        put_loop(out, graph, apart, stated)?;
     }
     Ok(())
 }
@@ -242,6 +255,7 @@ fn idle_rows(alloc: Global, handler: &Handler<'_>) -> Result<Vec<u8>, AllocError
         (λ rows. AreIdleRows handler.now.image.now handler.now.statement handler.now.graph rows.items) }
 {
     let (graph, statement) = (&handler.graph, &handler.statement);
+    let loops = statement.loops();
     let done = addresses_left(alloc, graph, EdgeKind::CarriesOut)?;
     let reached = addresses_reached(alloc, graph)?;
     let seen = Seen {
@@ -251,7 +265,8 @@ fn idle_rows(alloc: Global, handler: &Handler<'_>) -> Result<Vec<u8>, AllocError
     };
     let counts = done_coverages(alloc, handler)?;
     let mut rows = Vec::new(alloc);
-    put_loops(&mut rows, graph, statement.loops())?;
+    put_loops(&mut rows, graph, loops.apart(), loops.list())?;
+    put_stretches(&mut rows, loops.list(), loops.apart().stretches())?;
     put_stated(&mut rows, seen, Entry::Target, statement.targets())?;
     put_stated(&mut rows, seen, Entry::Access, statement.accesses())?;
     put_rules(&mut rows, handler, &counts)?;
@@ -260,11 +275,12 @@ fn idle_rows(alloc: Global, handler: &Handler<'_>) -> Result<Vec<u8>, AllocError
     Ok(rows)
 }
 
-/// The entries of a statement that have no effect on the bound: loops in which nothing turns back, targets
-/// of words that are never carried out, accesses of words that never load or store, rules for base registers
-/// that cover no word, cycles of words that never multiply, and ways of words that are not reached or have no
-/// condition. Each is named by the address that it names, a loop by its header's, and a rule by its register
-/// and its part, in the order of the statement. Nothing where each entry has an effect.
+/// The entries of a statement that have no effect on the bound: loops in which nothing turns back, stretches
+/// apart that no loop reaches, targets of words that are never carried out, accesses of words that never load
+/// or store, rules for base registers that cover no word, cycles of words that never multiply, and ways of
+/// words that are not reached or have no condition. Each is named by the address that it names, a loop by its
+/// header's, a stretch by both, and a rule by its register and its part, in the order of the statement.
+/// Nothing where each entry has an effect.
 ///
 /// # Errors
 ///

@@ -10,6 +10,7 @@ mod cost_figures;
 mod doing;
 mod done_returns;
 mod idle;
+mod idle_stretches;
 mod image_rows;
 mod law;
 mod leaving;

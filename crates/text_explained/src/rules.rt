@@ -8,7 +8,7 @@ ghost use Rattle.std.specs.Map.{lookup};
 ghost use Rattle.std.specs.Ordering.{nat_cmp};
 ghost use Rattle.arm2_decode.specs.declared.names.Register.{Register};
 ghost use Rattle.asm_text.specs.Appended.{Appends};
-ghost use Rattle.statement.specs.Stated.{AreApart};
+ghost use Rattle.statement.specs.Stated.{ShareNoWord};
 ghost use Rattle.text_explained.specs.RuleParts.{AreCoverages, AreDoneCoverages, IsRuleOver, counted};
 ghost use Rattle.text_explained.specs.Rules.{AreRuleLines, IsCoverageRow, UsesBase, coverage_row, part_text};
 ghost use Rattle.text_explained.specs.Rules.{register_text};
@@ -47,7 +47,7 @@ fn has_access(statement: &Statement, at: u32) -> bool
 
 // The number of the rule that covers the word at an address, if one does.
 fn rule_over(image: &Image, statement: &Statement, at: u32) -> Option<usize>
-    requires { AllPairs AreApart statement.now.rules }
+    requires { AllPairs ShareNoWord statement.now.rules }
     ensures { IsRuleOver image.now statement.now at result }
 {
     if has_access(statement, at) {

@@ -118,7 +118,7 @@ module _ (flow : Flow) (tree : Tree) (well : IsWellFormed flow) (t : IsTree flow
     alike_spans : ((i : Instance) → Contains tree.instances i → is_member i (place_in flow tree m) ≡ is_member i (place_in flow tree n)) → list_all (λ s. beq (is_in s m) (is_in s n)) tree.spans ≡ true
     alike_spans alike =
         let s : Span = record { header = 0; last = 0; bound = 0 } in
-        let i : Instance = record { list = []; header = 0; first = 0; last = 0; bound = 0 } in
+        let i : Instance = record { list = []; header = 0; first = 0; last = 0; bound = 0; apart = [] } in
         let many : length tree.spans ≡ length tree.instances = t.spans_are.same in
         list_all-from_AllPass (λ (x : Span). beq (is_in x m) (is_in x n)) tree.spans
         (All-from_get_or (λ (x : Span). beq (is_in x m) (is_in x n) ≡ true) tree.spans s

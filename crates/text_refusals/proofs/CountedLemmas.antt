@@ -5,7 +5,7 @@ use Rattle.std.proofs.lemmas.Bool.{not-false}
 use Rattle.std.proofs.lemmas.List.{drop_more}
 use Rattle.text_refusals.specs.Outline.{Begins, Item, KeyValue, States, Table, item_of}
 use Rattle.text_refusals.specs.Courses.{is_at_key}
-use Rattle.text_refusals.specs.Refused.{first_after, tables_in, stated_at}
+use Rattle.text_refusals.specs.Refused.{first_after, is_stretch_item, stated_at, stretches_in, tables_in}
 use Rattle.text_refusals.specs.declared.outline.OutlineItem.{OutlineItem as CodeItem}
 
 -- the first after one fewer of the rest
@@ -30,3 +30,7 @@ listed_table list t items same = ap (λ (b : Bool). if b then t ∷ tables_in li
 pub listed_value : (depth : ℕ) (key : List ℕ) (p : KeyValue) (items : List Item) → is_at_key depth key p ≡ true → stated_at depth key (States p ∷ items) ≡ p ∷ stated_at depth key items
 unfolding stated_at
 listed_value depth key p items same = ap (λ (b : Bool). if b then p ∷ stated_at depth key items else stated_at depth key items) same
+
+pub listed_stretch : (i : Item) (items : List Item) → is_stretch_item i ≡ true → stretches_in (i ∷ items) ≡ i ∷ stretches_in items
+unfolding stretches_in
+listed_stretch i items is = ap (λ (b : Bool). if b then i ∷ stretches_in items else stretches_in items) is

@@ -2,8 +2,8 @@
 use Rattle.std.proofs.Common.{◌≤◌, ◌<◌, ◌+◌, ℕ, Bool, true, false, Option, Some, None, cond, arith}
 use Rattle.statement.specs.declared.spots.TableList.{TableList}
 use Rattle.statement.specs.declared.spots.TableList.TheVariants.{Loops, Targets, Accesses, Rules, Multiplies, Branches}
-use Rattle.text_refusals.specs.Courses.{HasRoom, after, at_front, counted, counted_if, entered, entry_list, is_destination, passed, value_list}
-use Rattle.text_refusals.specs.Outline.{Begins, Ends, Item, KeyValue, States}
+use Rattle.text_refusals.specs.Courses.{HasRoom, after, at_front, begun_table, counted, counted_if, entered, entry_list, is_destination, is_end, is_stretch, is_stretch_table, passed, passed_own, stretch_entered, stretched, value_list}
+use Rattle.text_refusals.specs.Outline.{Begins, Ends, Item, KeyValue, States, Table}
 use Rattle.text_refusals.specs.declared.course.Course.{Course}
 
 pub record IsUpTo (n : ℕ) (c : Course) : Type 0 where
@@ -14,6 +14,8 @@ pub record IsUpTo (n : ℕ) (c : Course) : Type 0 where
   pub multiplies : c.multiplies ≤ n
   pub branches : c.branches ≤ n
   pub destinations : c.destinations ≤ n
+  pub stretches : c.stretches ≤ n
+  pub ends : c.ends ≤ n
 
 pub none_passed : IsUpTo 0 at_front
 none_passed = record {
@@ -24,6 +26,8 @@ none_passed = record {
   multiplies = omega arith;
   branches = omega arith;
   destinations = omega arith;
+  stretches = omega arith;
+  ends = omega arith;
 }
 
 pub has_room : (n : ℕ) (c : Course) → IsUpTo n c → n + 1 < 18446744073709551616 → HasRoom c
@@ -35,6 +39,8 @@ has_room n c h low = record {
   multiplies = omega (arith, h.multiplies, low);
   branches = omega (arith, h.branches, low);
   destinations = omega (arith, h.destinations, low);
+  stretches = omega (arith, h.stretches, low);
+  ends = omega (arith, h.ends, low);
 }
 
 more : (n : ℕ) (c : Course) → IsUpTo n c → IsUpTo (n + 1) c
@@ -46,6 +52,8 @@ more n c h = record {
   multiplies = omega (arith, h.multiplies);
   branches = omega (arith, h.branches);
   destinations = omega (arith, h.destinations);
+  stretches = omega (arith, h.stretches);
+  ends = omega (arith, h.ends);
 }
 
 counted_up_to : (n : ℕ) (c : Course) (list : TableList) → IsUpTo n c → IsUpTo (n + 1) (counted list c)
@@ -57,6 +65,8 @@ counted_up_to n c Loops h = record {
   multiplies = omega (arith, h.multiplies);
   branches = omega (arith, h.branches);
   destinations = omega (arith, h.destinations);
+  stretches = omega (arith, h.stretches);
+  ends = omega (arith, h.ends);
 }
 counted_up_to n c Targets h = record {
   loops = omega (arith, h.loops);
@@ -66,6 +76,8 @@ counted_up_to n c Targets h = record {
   multiplies = omega (arith, h.multiplies);
   branches = omega (arith, h.branches);
   destinations = omega (arith, h.destinations);
+  stretches = omega (arith, h.stretches);
+  ends = omega (arith, h.ends);
 }
 counted_up_to n c Accesses h = record {
   loops = omega (arith, h.loops);
@@ -75,6 +87,8 @@ counted_up_to n c Accesses h = record {
   multiplies = omega (arith, h.multiplies);
   branches = omega (arith, h.branches);
   destinations = omega (arith, h.destinations);
+  stretches = omega (arith, h.stretches);
+  ends = omega (arith, h.ends);
 }
 counted_up_to n c Rules h = record {
   loops = omega (arith, h.loops);
@@ -84,6 +98,8 @@ counted_up_to n c Rules h = record {
   multiplies = omega (arith, h.multiplies);
   branches = omega (arith, h.branches);
   destinations = omega (arith, h.destinations);
+  stretches = omega (arith, h.stretches);
+  ends = omega (arith, h.ends);
 }
 counted_up_to n c Multiplies h = record {
   loops = omega (arith, h.loops);
@@ -93,6 +109,8 @@ counted_up_to n c Multiplies h = record {
   multiplies = omega (arith, h.multiplies);
   branches = omega (arith, h.branches);
   destinations = omega (arith, h.destinations);
+  stretches = omega (arith, h.stretches);
+  ends = omega (arith, h.ends);
 }
 counted_up_to n c Branches h = record {
   loops = omega (arith, h.loops);
@@ -102,6 +120,8 @@ counted_up_to n c Branches h = record {
   multiplies = omega (arith, h.multiplies);
   branches = omega (arith, h.branches);
   destinations = omega (arith, h.destinations);
+  stretches = omega (arith, h.stretches);
+  ends = omega (arith, h.ends);
 }
 
 counted_if_up_to : (n : ℕ) (c : Course) (list : Option TableList) → IsUpTo n c → IsUpTo (n + 1) (counted_if list c)
@@ -117,6 +137,8 @@ entered_up_to n c None h = record {
   multiplies = omega (arith, h.multiplies);
   branches = omega (arith, h.branches);
   destinations = omega arith;
+  stretches = omega (arith, h.stretches);
+  ends = omega (arith, h.ends);
 }
 entered_up_to n c (Some list) h =
     let up = counted_up_to n c list h in
@@ -128,12 +150,62 @@ entered_up_to n c (Some list) h =
       multiplies = up.multiplies;
       branches = up.branches;
       destinations = omega arith;
+      stretches = up.stretches;
+      ends = up.ends;
     }
+
+stretched_up_to : (n : ℕ) (c : Course) → IsUpTo n c → IsUpTo (n + 1) (stretched c)
+stretched_up_to n c h = record {
+  loops = omega (arith, h.loops);
+  targets = omega (arith, h.targets);
+  accesses = omega (arith, h.accesses);
+  rules = omega (arith, h.rules);
+  multiplies = omega (arith, h.multiplies);
+  branches = omega (arith, h.branches);
+  destinations = omega (arith, h.destinations);
+  stretches = omega (arith, h.stretches);
+  ends = omega arith;
+}
+
+begun_up_to : (n : ℕ) (c : Course) (t : Table) → IsUpTo n c → IsUpTo (n + 1) (begun_table t c)
+begun_up_to n c t h = by_test (is_stretch_table t)
+  where
+    by_test : (b : Bool) → IsUpTo (n + 1) (cond b (stretch_entered c) (entered (entry_list t) c))
+    by_test true = record {
+      loops = omega (arith, h.loops);
+      targets = omega (arith, h.targets);
+      accesses = omega (arith, h.accesses);
+      rules = omega (arith, h.rules);
+      multiplies = omega (arith, h.multiplies);
+      branches = omega (arith, h.branches);
+      destinations = omega arith;
+      stretches = omega (arith, h.stretches);
+      ends = omega arith;
+    }
+    by_test false = entered_up_to n c (entry_list t) h
+
+own_up_to : (n : ℕ) (c : Course) (p : KeyValue) → IsUpTo n c → IsUpTo (n + 1) (passed_own p c)
+own_up_to n c p h = by_tests (is_stretch p) (is_end p)
+  where
+    by_tests : (a b : Bool) → IsUpTo (n + 1) (cond a (stretched c) (cond b (record c { ends = c.ends + 1 }) (counted_if (value_list p) c)))
+    by_tests true b = stretched_up_to n c h
+    by_tests false true = record {
+      loops = omega (arith, h.loops);
+      targets = omega (arith, h.targets);
+      accesses = omega (arith, h.accesses);
+      rules = omega (arith, h.rules);
+      multiplies = omega (arith, h.multiplies);
+      branches = omega (arith, h.branches);
+      destinations = omega (arith, h.destinations);
+      stretches = omega (arith, h.stretches);
+      ends = omega (arith, h.ends);
+    }
+    by_tests false false = counted_if_up_to n c (value_list p) h
 
 passed_up_to : (n : ℕ) (c : Course) (p : KeyValue) → IsUpTo n c → IsUpTo (n + 1) (passed p c)
 passed_up_to n c p h = by_test (is_destination p)
   where
-    by_test : (b : Bool) → IsUpTo (n + 1) (cond b (record c { destinations = c.destinations + 1 }) (counted_if (value_list p) c))
+    by_test : (b : Bool) → IsUpTo (n + 1) (cond b (record c { destinations = c.destinations + 1 }) (passed_own p c))
     by_test true = record {
       loops = omega (arith, h.loops);
       targets = omega (arith, h.targets);
@@ -142,10 +214,12 @@ passed_up_to n c p h = by_test (is_destination p)
       multiplies = omega (arith, h.multiplies);
       branches = omega (arith, h.branches);
       destinations = omega (arith, h.destinations);
+      stretches = omega (arith, h.stretches);
+      ends = omega (arith, h.ends);
     }
-    by_test false = counted_if_up_to n c (value_list p) h
+    by_test false = own_up_to n c p h
 
 pub after_up_to : (n : ℕ) (c : Course) (i : Item) → IsUpTo n c → IsUpTo (n + 1) (after c i)
-after_up_to n c (Begins t) h = entered_up_to n c (entry_list t) h
+after_up_to n c (Begins t) h = begun_up_to n c t h
 after_up_to n c (States p) h = passed_up_to n c p h
 after_up_to n c Ends h = more n c h

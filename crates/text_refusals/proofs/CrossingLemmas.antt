@@ -5,6 +5,8 @@ use Rattle.std.proofs.lemmas.Bool.{and_from, and_parts, false≢true, not-true}
 use Rattle.control_flow.specs.declared.places.Place.{Place}
 use Rattle.control_flow.specs.declared.places.Place.TheVariants.{At}
 use Rattle.control_flow.specs.Flow.{Flow}
+use Rattle.statement.specs.Stated.{StatedLoops}
+use Rattle.statement.specs.declared.apart.ApartStretch.{ApartStretch}
 use Rattle.statement.specs.declared.stated.Loop.{Loop}
 use Rattle.loop_bounds.specs.declared.loop_instances.LoopInstance.{LoopInstance}
 use Rattle.loop_bounds.specs.Extents.{found_instance}
@@ -12,9 +14,9 @@ use Rattle.loop_bounds.specs.Instance.{Instance, IsInstance, instance_of, is_mem
 use Rattle.loop_bounds.specs.Nest.{HasCrossing, HasOwn}
 use Rattle.loop_bounds.proofs.CrossFacts.{crossing_list}
 use Rattle.text_refusals.specs.declared.crossings.Crossing.{Crossing}
-use Rattle.text_refusals.specs.Crossings.{AreApart, CrossNone, CrossNoneAt, HasShared, IsCrossing, ShowsCrossing, is_own, is_shared}
+use Rattle.text_refusals.specs.Crossings.{DoNotCross, CrossNone, CrossNoneAt, HasShared, IsCrossing, ShowsCrossing, is_own, is_shared}
 
-module _ (flow : Flow) where
+module _ (flow : Flow) (apart : List ApartStretch) where
   -- what is found of two instances
   abbrev own_of : (i j : Instance) (p : Place) → Contains flow.places p → is_own i j p ≡ true → HasOwn flow i j
   own_of i j p has is = record {
@@ -24,20 +26,20 @@ module _ (flow : Flow) where
     other = not-true (is_member j p) (and_parts (is_member i p) (not (is_member j p)) is).1;
   }
 
-  pub shows : (one other : LoopInstance) (shared own others : Place) → Contains flow.places shared → is_shared (found_instance one) (found_instance other) shared ≡ true
-      → Contains flow.places own → is_own (found_instance one) (found_instance other) own ≡ true → Contains flow.places others → is_own (found_instance other) (found_instance one) others ≡ true
-      → ShowsCrossing flow one other (record { one = one; other = other; shared = shared; one_has = own; other_has = others })
+  pub shows : (one other : LoopInstance) (shared own others : Place) → Contains flow.places shared → is_shared (found_instance apart one) (found_instance apart other) shared ≡ true
+      → Contains flow.places own → is_own (found_instance apart one) (found_instance apart other) own ≡ true → Contains flow.places others → is_own (found_instance apart other) (found_instance apart one) others ≡ true
+      → ShowsCrossing flow apart one other (record { one = one; other = other; shared = shared; one_has = own; other_has = others })
   shows one other shared own others has is own_has own_is others_has others_is = record {
     one_is = refl;
     other_is = refl;
     shared = record {
       place = shared;
       has = has;
-      in_one = (and_parts (is_member (found_instance one) shared) (is_member (found_instance other) shared) is).0;
-      in_other = (and_parts (is_member (found_instance one) shared) (is_member (found_instance other) shared) is).1;
+      in_one = (and_parts (is_member (found_instance apart one) shared) (is_member (found_instance apart other) shared) is).0;
+      in_other = (and_parts (is_member (found_instance apart one) shared) (is_member (found_instance apart other) shared) is).1;
     };
-    one_has = own_of (found_instance one) (found_instance other) own own_has own_is;
-    other_has = own_of (found_instance other) (found_instance one) others others_has others_is;
+    one_has = own_of (found_instance apart one) (found_instance apart other) own own_has own_is;
+    other_has = own_of (found_instance apart other) (found_instance apart one) others others_has others_is;
     shared_is = refl;
     one_has_is = refl;
     other_has_is = refl;
@@ -50,15 +52,15 @@ module _ (flow : Flow) where
   pub none_own : (i j : Instance) → ((p : Place) → Contains flow.places p → is_own i j p ≡ false) → HasOwn flow i j → ⊥
   none_own i j none h = false≢true (sym (none h.place h.has) ∙ and_from (is_member i h.place) (not (is_member j h.place)) h.member (ap not h.other))
 
-module _ (flow : Flow) (loops : List Loop) where
-  pub instance_at : (l : Loop) (list : List ℕ) → Contains loops l → Contains flow.places (At list l.header) → IsInstance flow loops (instance_of l list)
+module _ (flow : Flow) (loops : StatedLoops) where
+  pub instance_at : (l : Loop) (list : List ℕ) → Contains loops.list l → Contains flow.places (At list l.header) → IsInstance flow loops (instance_of loops.apart l list)
   instance_at l list stated reached = record { stated_loop = l; stated = stated; reached = reached; parts = refl }
 
-  pub crossed : (one other : LoopInstance) (c : Crossing) → IsInstance flow loops (found_instance one) → IsInstance flow loops (found_instance other) → ShowsCrossing flow one other c → IsCrossing flow loops c
+  pub crossed : (one other : LoopInstance) (c : Crossing) → IsInstance flow loops (found_instance loops.apart one) → IsInstance flow loops (found_instance loops.apart other) → ShowsCrossing flow loops.apart one other c → IsCrossing flow loops c
   crossed one other c one_is other_is s = record {
     crossing = record {
-      one = found_instance one;
-      other = found_instance other;
+      one = found_instance loops.apart one;
+      other = found_instance loops.apart other;
       one_is = one_is;
       other_is = other_is;
       shared = (s.shared).place;
@@ -68,8 +70,8 @@ module _ (flow : Flow) (loops : List Loop) where
       one_has = s.one_has;
       other_has = s.other_has;
     };
-    one_is = ap found_instance (sym s.one_is);
-    other_is = ap found_instance (sym s.other_is);
+    one_is = ap (found_instance loops.apart) (sym s.one_is);
+    other_is = ap (found_instance loops.apart) (sym s.other_is);
     shared_is = s.shared_is;
     one_has_is = s.one_has_is;
     other_has_is = s.other_has_is;
@@ -89,6 +91,6 @@ module _ (flow : Flow) (loops : List Loop) where
       let there : Contains flow.places (At c.one.list m.header) =
       subst (λ (ls : List ℕ). Contains flow.places (At ls m.header)) (sym same)
       (subst (λ (a : ℕ). Contains flow.places (At c.other.list a)) head j.reached) in
-      let other : instance_of m c.one.list ≡ c.other = ap (instance_of m) same ∙ sym j.parts in
-      let apart : AreApart flow c.one c.other = subst (AreApart flow c.one) other (at m j.stated there) in
-      apart (record { place = c.shared; has = c.has; in_one = c.in_one; in_other = c.in_other }) c.one_has c.other_has
+      let other : instance_of loops.apart m c.one.list ≡ c.other = ap (instance_of loops.apart m) same ∙ sym j.parts in
+      let free : DoNotCross flow c.one c.other = subst (DoNotCross flow c.one) other (at m j.stated there) in
+      free (record { place = c.shared; has = c.has; in_one = c.in_one; in_other = c.in_other }) c.one_has c.other_has

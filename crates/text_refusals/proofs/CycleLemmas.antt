@@ -12,6 +12,8 @@ use Rattle.control_flow.specs.declared.places.Place.{Place}
 use Rattle.control_flow.specs.declared.places.Place.TheVariants.{At, Exit}
 use Rattle.control_flow.specs.declared.edges.Edge.{Edge}
 use Rattle.control_flow.specs.Flow.{Flow, HasEdge, IsWellFormed, edge_shape}
+use Rattle.statement.specs.Stated.{StatedLoops}
+use Rattle.statement.specs.declared.apart.ApartStretch.{ApartStretch}
 use Rattle.statement.specs.declared.stated.Loop.{Loop}
 use Rattle.loop_bounds.specs.Instance.{Instance, IsInstance, instance_of, is_header, is_member, place_loops, is_back_edge_of, is_back_edge_to}
 use Rattle.loop_bounds.specs.Nest.{IsPlainEdge}
@@ -28,57 +30,57 @@ none_passes p xs x none has = ⊎_elim
     (cases_Bool (p x))
 
 -- no back edge of an instance whose loop it does not turn in
-no_back : (e : Edge) (to : Place) (l : Loop) (list : List ℕ) → to ≡ e.to → is_back_edge_to l e to ≡ false
-    → is_back_edge edge_shape place_loops (instance_of l list) e ≡ false
-no_back e Exit l list ends none =
-    ap (λ (p : Place). is_member (instance_of l list) e.from && is_header (instance_of l list) p) (sym ends)
-    ∙ and-false (is_member (instance_of l list) e.from)
-no_back e (At calls a) l list ends none = ⊎_elim
+no_back : (apart : List ApartStretch) (e : Edge) (to : Place) (l : Loop) (list : List ℕ) → to ≡ e.to → is_back_edge_to apart l e to ≡ false
+    → is_back_edge edge_shape place_loops (instance_of apart l list) e ≡ false
+no_back apart e Exit l list ends none =
+    ap (λ (p : Place). is_member (instance_of apart l list) e.from && is_header (instance_of apart l list) p) (sym ends)
+    ∙ and-false (is_member (instance_of apart l list) e.from)
+no_back apart e (At calls a) l list ends none = ⊎_elim
     (λ (t : pointwise eqb calls list ≡ true).
-    ap (λ (x : List ℕ). is_back_edge edge_shape place_loops (instance_of l x) e) (sym (same_list calls list t)) ∙ none)
+    ap (λ (x : List ℕ). is_back_edge edge_shape place_loops (instance_of apart l x) e) (sym (same_list calls list t)) ∙ none)
     (λ (f : pointwise eqb calls list ≡ false).
-    ap (λ (p : Place). is_member (instance_of l list) e.from && is_header (instance_of l list) p) (sym ends)
-    ∙ ap (λ (b : Bool). is_member (instance_of l list) e.from && (b && eqb a l.header)) f
-    ∙ and-false (is_member (instance_of l list) e.from))
+    ap (λ (p : Place). is_member (instance_of apart l list) e.from && is_header (instance_of apart l list) p) (sym ends)
+    ∙ ap (λ (b : Bool). is_member (instance_of apart l list) e.from && (b && eqb a l.header)) f
+    ∙ and-false (is_member (instance_of apart l list) e.from))
     (cases_Bool (pointwise eqb calls list))
 
 -- an instance that the edge turns back to
-pub record TurnsTo (flow : Flow) (loops : List Loop) (e : Edge) : Type 0 where
+pub record TurnsTo (flow : Flow) (loops : StatedLoops) (e : Edge) : Type 0 where
   pub instance : Instance
   pub is : IsInstance flow loops instance
   pub back : is_back_edge edge_shape place_loops instance e ≡ true
 
-turned_to : (flow : Flow) (loops : List Loop) (e : Edge) (to : Place) (l : Loop) → Contains loops l → to ≡ e.to
-    → Contains flow.places to → is_back_edge_to l e to ≡ true → TurnsTo flow loops e
+turned_to : (flow : Flow) (loops : StatedLoops) (e : Edge) (to : Place) (l : Loop) → Contains loops.list l → to ≡ e.to
+    → Contains flow.places to → is_back_edge_to loops.apart l e to ≡ true → TurnsTo flow loops e
 turned_to flow loops e Exit l stated ends has back = absurd (false≢true back)
 turned_to flow loops e (At calls a) l stated ends has back =
-    let ends_at = and_parts (is_member (instance_of l calls) e.from) (is_header (instance_of l calls) e.to) back in
+    let ends_at = and_parts (is_member (instance_of loops.apart l calls) e.from) (is_header (instance_of loops.apart l calls) e.to) back in
     let header : (pointwise eqb calls calls && eqb a l.header) ≡ true =
-    ap (λ (p : Place). is_header (instance_of l calls) p) ends ∙ ends_at.1 in
+    ap (λ (p : Place). is_header (instance_of loops.apart l calls) p) ends ∙ ends_at.1 in
     let at : a ≡ l.header = eqb-true a l.header (and_parts (pointwise eqb calls calls) (eqb a l.header) header).1 in
     record {
-      instance = instance_of l calls;
+      instance = instance_of loops.apart l calls;
       is = record { stated_loop = l; stated = stated; reached = subst (λ (h : ℕ). Contains flow.places (At calls h)) at has; parts = refl };
       back = back;
     }
 
-module _ (flow : Flow) (loops : List Loop) where
+module _ (flow : Flow) (loops : StatedLoops) where
   pub plain : (e : Edge) → HasEdge flow e → turns_back loops e ≡ false → IsPlainEdge flow loops e
   plain e has none = record {
     has = has;
     plain = λ i is.
         let l = is.stated_loop in
         ap (λ (x : Instance). is_back_edge edge_shape place_loops x e) is.parts
-        ∙ no_back e e.to l i.list refl (none_passes (λ x. is_back_edge_of x e) loops l none is.stated);
+        ∙ no_back loops.apart e e.to l i.list refl (none_passes (λ x. is_back_edge_of loops.apart x e) loops.list l none is.stated);
   }
 
   -- an edge that turns back is not plain
   pub turned : IsWellFormed flow → (e : Edge) → turns_back loops e ≡ true → IsPlainEdge flow loops e → ⊥
   turned well_formed e back plain_e =
-      let any = Any-from_list_any (λ x. is_back_edge_of x e) loops back in
+      let any = Any-from_list_any (λ x. is_back_edge_of loops.apart x e) loops.list back in
       let l = any.1 in
       let goes : TurnsTo flow loops e = ⊎_elim
-      (λ (out : e.to ≡ Exit). absurd (false≢true (ap (λ (p : Place). is_back_edge_to l e p) (sym out) ∙ any.4)))
+      (λ (out : e.to ≡ Exit). absurd (false≢true (ap (λ (p : Place). is_back_edge_to loops.apart l e p) (sym out) ∙ any.4)))
       (λ (there : Contains flow.places e.to). turned_to flow loops e e.to l (any.0, any.2, any.3) refl there any.4)
       (well_formed.ends e plain_e.has) in
       false≢true (sym (plain_e.plain goes.instance goes.is) ∙ goes.back)

@@ -8,6 +8,7 @@ use Rattle.control_flow.specs.declared.places.Place.{Place}
 use Rattle.control_flow.specs.declared.places.Place.TheVariants.{At, Exit}
 use Rattle.control_flow.specs.declared.edges.Edge.{Edge}
 use Rattle.control_flow.specs.Flow.{Flow, IsWellFormed}
+use Rattle.statement.specs.Stated.{StatedLoops}
 use Rattle.statement.specs.declared.stated.Loop.{Loop}
 use Rattle.loop_bounds.specs.Extents.{found_instance}
 use Rattle.loop_bounds.specs.Instance.{Instance, IsInstance, instance_of, is_header, is_member}
@@ -48,7 +49,7 @@ is_place flow well_formed i place (Some e) member by = ⊎_elim
     (well_formed.ends e by.0)
 
 -- of an instance that is entered so
-pub mid_of : (flow : Flow) (loops : List Loop) → IsWellFormed flow → (i : Instance) → IsInstance flow loops i → (place : Place) (edge : Option Edge) → IsMidOf flow i place edge
+pub mid_of : (flow : Flow) (loops : StatedLoops) → IsWellFormed flow → (i : Instance) → IsInstance flow loops i → (place : Place) (edge : Option Edge) → IsMidOf flow i place edge
     → (m : HasMidEntry flow loops) × (m.instance ≡ i) × (m.place ≡ place) × IsEnteredBy flow i place edge
 mid_of flow loops well_formed i is place edge mid =
     let at = entered_parts flow i place edge mid in
@@ -68,12 +69,12 @@ mid_of flow loops well_formed i is place edge mid =
     )
 
 -- no instance is entered so where those with each header are not
-pub none_entered : (flow : Flow) (loops : List Loop) → ((header : Place) → Contains flow.places header → AreRightlyEntered flow loops header) → HasMidEntry flow loops → ⊥
+pub none_entered : (flow : Flow) (loops : StatedLoops) → ((header : Place) → Contains flow.places header → AreRightlyEntered flow loops header) → HasMidEntry flow loops → ⊥
 none_entered flow loops each m =
     let i = m.instance in
     let l = m.is.stated_loop in
     let h : l.header ≡ i.header = ap (λ (x : Instance). x.header) (sym m.is.parts) in
-    let right : IsRightlyEntered flow (instance_of l i.list) = each (At i.list i.header) m.is.reached l i.list m.is.stated (ap (At i.list) (sym h)) in
+    let right : IsRightlyEntered flow (instance_of loops.apart l i.list) = each (At i.list i.header) m.is.reached l i.list m.is.stated (ap (At i.list) (sym h)) in
     let rightly : IsRightlyEntered flow i = subst (IsRightlyEntered flow) (sym m.is.parts) right in
     let mid : is_mid i m.place ≡ true = and_from (is_member i m.place) (not (is_header i m.place)) m.member (ap not m.no_header) in
     ⊎_elim
@@ -90,18 +91,23 @@ one_more P xs i d lt here before k x less is = ⊎_elim
     subst P (get_or_default xs i d x lt ∙ ap (λ (n : ℕ). get_or xs n x) (sym same) ∙ is) here)
     (cases_lt k i)
 
+-- the same of a list that is another
+pub one_more_of : {X : Type 0} (P : X → Type 0) (xs ys : List X) (i : ℕ) (d : X) → xs ≡ ys → i < length xs → P (get_or xs i d) → ((k : ℕ) (x : X) → k < i → get_or ys k x ≡ x → P x) → (k : ℕ) (x : X) → k < i + 1 → get_or ys k x ≡ x → P x
+one_more_of {X} P xs ys i d same lt here before =
+    one_more P ys i d (subst (λ (zs : List X). i < length zs) same lt) (subst (λ (zs : List X). P (get_or zs i d)) same here) before
+
 -- an entry of an instance with a header
-pub mid_at : (flow : Flow) (loops : List Loop) → IsWellFormed flow → (header : Place) → Contains flow.places header → (list : List ℕ) (address : ℕ) → header ≡ At list address
-    → (l : Loop) → Contains loops l → l.header ≡ address → (m : MidEntry) → m.instance ≡ record { list = list; stated = l } → IsMidOf flow (instance_of l list) m.place m.edge → IsMidEntry flow loops m
+pub mid_at : (flow : Flow) (loops : StatedLoops) → IsWellFormed flow → (header : Place) → Contains flow.places header → (list : List ℕ) (address : ℕ) → header ≡ At list address
+    → (l : Loop) → Contains loops.list l → l.header ≡ address → (m : MidEntry) → m.instance ≡ record { list = list; stated = l } → IsMidOf flow (instance_of loops.apart l list) m.place m.edge → IsMidEntry flow loops m
 mid_at flow loops well_formed header has list address at l stated header_is m instance entry =
-    let is : IsInstance flow loops (instance_of l list) = record {
+    let is : IsInstance flow loops (instance_of loops.apart l list) = record {
       stated_loop = l;
       stated = stated;
       reached = subst (Contains flow.places) (at ∙ ap (At list) (sym header_is)) has;
       parts = refl;
     } in
-    let found : instance_of l list ≡ found_instance m.instance = ap found_instance (sym instance) in
-    let mid = mid_of flow loops well_formed (instance_of l list) is m.place m.edge entry in
+    let found : instance_of loops.apart l list ≡ found_instance loops.apart m.instance = ap (found_instance loops.apart) (sym instance) in
+    let mid = mid_of flow loops well_formed (instance_of loops.apart l list) is m.place m.edge entry in
     record {
       mid = mid.0;
       instance_is = mid.1 ∙ found;

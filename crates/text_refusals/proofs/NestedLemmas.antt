@@ -4,7 +4,7 @@ use Rattle.std.specs.Prelude.{All, AllPairs, Contains}
 use Rattle.std.specs.List.Sorted.{IsNonDecreasingBy, IsPermutation}
 use Rattle.std.proofs.lemmas.Bool.{and_parts, cases_Bool, cases_lt, cases_order, eqb-true, false≢true}
 use Rattle.std.proofs.Math.Seq.{take-length}
-use Rattle.std.proofs.lemmas.List.{get_or-map, length-append, length-map, take-append-le}
+use Rattle.std.proofs.lemmas.List.{get_or-map, get_or_default, length-append, length-map, take-append-le}
 use Rattle.std.proofs.lemmas.List.Elements.{All-map, All-push, Contains-get_or, Contains-append_left, Contains-append_right}
 use Rattle.std.proofs.lemmas.List.Quantifiers.{all_pairs_push}
 use Rattle.std.proofs.lemmas.List.Sorted.{Contains-permutation, IsPermutation-map, IsPermutation-sym}
@@ -12,6 +12,8 @@ use Rattle.std.proofs.lemmas.List.Sums.{sum_by-cons}
 use Rattle.control_flow.specs.declared.places.Place.{Place}
 use Rattle.control_flow.specs.declared.places.Place.TheVariants.{At, Exit}
 use Rattle.control_flow.specs.Flow.{Flow}
+use Rattle.statement.specs.Stated.{StatedLoops}
+use Rattle.statement.specs.declared.apart.ApartStretch.{ApartStretch}
 use Rattle.statement.specs.declared.stated.Loop.{Loop}
 use Rattle.loop_bounds.proofs.Moved.{IsOnce, once_moved}
 use Rattle.loop_bounds.proofs.NestLemmas.{no_longer}
@@ -59,51 +61,43 @@ count_below p r (y ∷ xs) le x (suc k, lt, is) t f =
 
 -- ## The calls of an instance
 
-front_alone : (first last x : ℕ) (list : List ℕ) (a : ℕ) → (nat_eq a x && holds first last list []) ≡ true → ⊥
-front_alone first last x [] a h = false≢true (and_parts (nat_eq a x) false h).1
-front_alone first last x (y ∷ list) a h = false≢true (and_parts (nat_eq a x) false h).1
+front_alone : (apart : List ApartStretch) (first last x : ℕ) (list : List ℕ) (a : ℕ) → (nat_eq a x && holds apart first last list []) ≡ true → ⊥
+front_alone apart first last x [] a h = false≢true (and_parts (nat_eq a x) false h).1
+front_alone apart first last x (y ∷ list) a h = false≢true (and_parts (nat_eq a x) false h).1
 
 -- the calls of a member begin with those of the instance
-pub front_of : (first last : ℕ) (list calls : List ℕ) (a : ℕ) → holds first last list (calls ++ a ∷ []) ≡ true → (length list ≤ length calls) × (take (length list) calls ≡ list)
-front_of first last [] calls a h = (omega arith, refl)
-front_of first last (x ∷ list) [] a h = absurd (front_alone first last x list a h)
-front_of first last (x ∷ list) (c ∷ calls) a h =
-    let parts = and_parts (nat_eq c x) (holds first last list (calls ++ a ∷ [])) h in
-    let rest = front_of first last list calls a parts.1 in
+pub front_of : (apart : List ApartStretch) (first last : ℕ) (list calls : List ℕ) (a : ℕ) → holds apart first last list (calls ++ a ∷ []) ≡ true → (length list ≤ length calls) × (take (length list) calls ≡ list)
+front_of apart first last [] calls a h = (omega arith, refl)
+front_of apart first last (x ∷ list) [] a h = absurd (front_alone apart first last x list a h)
+front_of apart first last (x ∷ list) (c ∷ calls) a h =
+    let parts = and_parts (nat_eq c x) (holds apart first last list (calls ++ a ∷ [])) h in
+    let rest = front_of apart first last list calls a parts.1 in
     (omega (arith, rest.0), λ i. (eqb-true c x parts.0 i) ∷ rest.1 i)
 
 -- ## Instances by their parts
 
-pub same_parts : (f g : LoopInstance) → f.list ≡ g.list → f.stated ≡ g.stated → found_instance f ≡ found_instance g
-same_parts f g list stated = λ i. instance_of (stated i) (list i)
+pub same_parts : (f g : LoopInstance) → f.list ≡ g.list → f.stated ≡ g.stated → f ≡ g
+same_parts f g list stated = λ i. record { list = list i; stated = stated i }
 
-pub list_of_same : (f g : LoopInstance) → found_instance f ≡ found_instance g → f.list ≡ g.list
-list_of_same f g same = ap (λ (i : Instance). i.list) same
+-- two that are one instance
+pub one_found : (apart : List ApartStretch) (f g : LoopInstance) → found_instance apart f ≡ found_instance apart g → f ≡ g
+one_found apart f g same = λ i. record {
+  list = (same i).list;
+  stated = record { header = (same i).header; first = (same i).first; last = (same i).last; bound = (same i).bound };
+}
 
-pub stated_of_same : (f g : LoopInstance) → found_instance f ≡ found_instance g → f.stated ≡ g.stated
-stated_of_same f g same = λ i. record { header = (same i).header; first = (same i).first; last = (same i).last; bound = (same i).bound }
+-- none of these is that one
+pub none_is : (found : List LoopInstance) (f : LoopInstance) → ((k : ℕ) (d : LoopInstance) → k < length found → get_or found k d ≡ f → ⊥) → Contains found f → ⊥
+none_is found f none has = none has.0 f has.1 has.2
 
--- an element of a list of instances
-pub found_at : (found : List LoopInstance) (k : ℕ) (d : LoopInstance) (i : Instance) → k < length found → found_instance (get_or found k d) ≡ i → Contains (map found_instance found) i
-found_at found k d i lt same = (k, omega (arith, lt, length-map found found_instance), get_or-map found_instance found k d i lt ∙ same)
-
--- none of these is the instance
-pub none_is : (found : List LoopInstance) (i : Instance) → ((k : ℕ) (d : LoopInstance) → k < length found → found_instance (get_or found k d) ≡ i → ⊥) → Contains (map found_instance found) i → ⊥
-none_is found i none has =
-    let empty : Loop = record { header = 0; first = 0; last = 0; bound = 0 } in
-    let d : LoopInstance = record { list = []; stated = empty } in
-    let lt : has.0 < length found = omega (arith, has.1, length-map found found_instance) in
-    none has.0 d lt (sym (get_or-map found_instance found has.0 d i lt) ∙ has.2)
-
-pub map_push : (found : List LoopInstance) (f : LoopInstance) → map found_instance (found ++ f ∷ []) ≡ map found_instance found ++ found_instance f ∷ []
-map_push [] f = refl
-map_push (g ∷ found) f = λ i. found_instance g ∷ map_push found f i
+contains_map : {X Y : Type 0} (f : X → Y) (xs : List X) (x : X) → Contains xs x → Contains (map f xs) (f x)
+contains_map f xs x has = (has.0, omega (arith, has.1, length-map xs f), get_or-map f xs has.0 x (f x) has.1 ∙ ap f has.2)
 
 pub pushed_keeps : (found : List LoopInstance) (f : LoopInstance) → KeepsAll found (found ++ f ∷ [])
-pushed_keeps found f i has = subst (λ (is : List Instance). Contains is i) (sym (map_push found f)) (Contains-append_left (map found_instance found) (found_instance f ∷ []) i has)
+pushed_keeps found f g has = Contains-append_left found (f ∷ []) g has
 
-pub pushed_has : (found : List LoopInstance) (f : LoopInstance) → Contains (map found_instance (found ++ f ∷ [])) (found_instance f)
-pushed_has found f = subst (λ (is : List Instance). Contains is (found_instance f)) (sym (map_push found f)) (Contains-append_right (map found_instance found) (found_instance f ∷ []) (found_instance f) (0, omega arith, refl))
+pub pushed_has : (found : List LoopInstance) (f : LoopInstance) → Contains (found ++ f ∷ []) f
+pushed_has found f = Contains-append_right found (f ∷ []) f (0, omega arith, refl)
 
 -- what a slice that was lent from a list comes back as
 pub written_back : (new old : List LoopInstance) (n : ℕ) → n ≡ length new → take n (new ++ drop (length new) old) ≡ new
@@ -126,7 +120,10 @@ all_moved P xs ys moved each k d lt = each (get_or ys k d) (Contains-permutation
 each_of : {X : Type 0} (P : X → Type 0) (xs : List X) → All P xs → (x : X) → Contains xs x → P x
 each_of P xs all x has = subst P has.2 (all has.0 x has.1)
 
-module _ (flow : Flow) (loops : List Loop) (p : Place) where
+module _ (flow : Flow) (loops : StatedLoops) (p : Place) where
+  abbrev found_of : LoopInstance → Instance
+  found_of = found_instance loops.apart
+
   -- the same instances in another order
   moved_instances : (is js : List Instance) → IsPermutation is js → AreInstancesOf flow loops p is → AreInstancesOf flow loops p js
   moved_instances is js moved all = record {
@@ -138,12 +135,12 @@ module _ (flow : Flow) (loops : List Loop) (p : Place) where
 
   -- ## One instance more
 
-  pub one_more : (found : List LoopInstance) (f : LoopInstance) → HavePlace flow loops p found → Contains loops f.stated → HasPlace flow p (found_instance f)
-      → (Contains (map found_instance found) (found_instance f) → ⊥) → HavePlace flow loops p (found ++ f ∷ [])
+  pub one_more : (found : List LoopInstance) (f : LoopInstance) → HavePlace flow loops p found → Contains loops.list f.stated → HasPlace flow p (found_of f)
+      → (Contains found f → ⊥) → HavePlace flow loops p (found ++ f ∷ [])
   one_more found f have stated has new = record {
-    each = All-push (λ g. HasPlace flow p (found_instance g)) found f have.each has;
-    stated = All-push (λ (g : LoopInstance). Contains loops g.stated) found f have.stated stated;
-    differ = all_pairs_push (λ g h. found_instance g ≢ found_instance h) found f have.differ (λ k d lt same. new (found_at found k d (found_instance f) lt same));
+    each = All-push (λ g. HasPlace flow p (found_of g)) found f have.each has;
+    stated = All-push (λ (g : LoopInstance). Contains loops.list g.stated) found f have.stated stated;
+    differ = all_pairs_push (λ g h. g ≢ h) found f have.differ (λ k d lt same. new (k, lt, get_or_default found k f d lt ∙ same));
   }
 
   pub none_yet : (found : List LoopInstance) → found ≡ [] → HavePlace flow loops p found
@@ -168,28 +165,28 @@ module _ (flow : Flow) (loops : List Loop) (p : Place) where
       (λ (low : n < length shorter + 1).
       let few : n ≤ length shorter = omega (arith, low) in
       let same : take n list ≡ take n shorter = ap (take n) parts ∙ take-append-le n shorter (x ∷ []) few in
-      subst (λ (t : List ℕ). HasAllWith flow loops p t new) (sym same) (λ l stated has. kept (instance_of l (take n shorter)) (before n few l stated has)))
+      subst (λ (t : List ℕ). HasAllWith flow loops p t new) (sym same) (λ l stated has. kept (record { list = take n shorter; stated = l }) (before n few l stated has)))
       (λ (high : length shorter + 1 ≤ n). whole_list list new n (omega (arith, len, le, high)) all)
       (cases_lt n (length shorter + 1))
 
   -- all of them, where those with each front of the calls are there
-  pub all_instances : (list : List ℕ) (a : ℕ) (found : List LoopInstance) → p ≡ At list a → HavePlace flow loops p found → HasAllUpTo flow loops p list found → AreInstancesOf flow loops p (map found_instance found)
+  pub all_instances : (list : List ℕ) (a : ℕ) (found : List LoopInstance) → p ≡ At list a → HavePlace flow loops p found → HasAllUpTo flow loops p list found → AreInstancesOf flow loops p (map found_of found)
   all_instances list a found at have all = record {
-    each = All-map (IsInstance flow loops) found_instance found
+    each = All-map (IsInstance flow loops) found_of found
         (λ k d lt. record { stated_loop = (get_or found k d).stated; stated = have.stated k d lt; reached = (have.each k d lt).reached; parts = refl });
-    members = All-map (λ i. is_member i p ≡ true) found_instance found (λ k d lt. (have.each k d lt).member);
+    members = All-map (λ i. is_member i p ≡ true) found_of found (λ k d lt. (have.each k d lt).member);
     all = λ i is has.
-        let front = front_of i.first i.last i.list list a (subst (λ (q : Place). is_member i q ≡ true) at has) in
-        let here : HasPlace flow p (instance_of is.stated_loop i.list) = subst (HasPlace flow p) is.parts (record { member = has; reached = is.reached }) in
+        let front = front_of i.apart i.first i.last i.list list a (subst (λ (q : Place). is_member i q ≡ true) at has) in
+        let here : HasPlace flow p (instance_of loops.apart is.stated_loop i.list) = subst (HasPlace flow p) is.parts (record { member = has; reached = is.reached }) in
         let with_list : HasAllWith flow loops p i.list found = subst (λ (l : List ℕ). HasAllWith flow loops p l found) front.1 (all (length i.list) front.0) in
-        subst (Contains (map found_instance found)) (sym is.parts) (with_list is.stated_loop is.stated here);
+        subst (Contains (map found_of found)) (sym is.parts) (contains_map found_of found (record { list = i.list; stated = is.stated_loop }) (with_list is.stated_loop is.stated here));
     differ = λ i j d before inside.
         let none : Loop = record { header = 0; first = 0; last = 0; bound = 0 } in
         let e : LoopInstance = record { list = []; stated = none } in
-        let lt : j < length found = omega (arith, inside, length-map found found_instance) in
+        let lt : j < length found = omega (arith, inside, length-map found found_of) in
         let first : i < length found = omega (arith, before, lt) in
-        subst (λ (x : Instance). x ≢ get_or (map found_instance found) j d) (sym (get_or-map found_instance found i e d first))
-        (subst (λ (x : Instance). found_instance (get_or found i e) ≢ x) (sym (get_or-map found_instance found j e d lt)) (have.differ i j e before lt));
+        subst (λ (x : Instance). x ≢ get_or (map found_of found) j d) (sym (get_or-map found_of found i e d first))
+        (subst (λ (x : Instance). found_of (get_or found i e) ≢ x) (sym (get_or-map found_of found j e d lt)) (λ same. have.differ i j e before lt (one_found loops.apart (get_or found i e) (get_or found j e) same)));
   }
 
   -- Exit has none
@@ -221,45 +218,45 @@ module _ (flow : Flow) (loops : List Loop) (p : Place) where
       absurd (omega (arith, less, fewer)))
       (cases_Bool (is_member i q))
 
-  nested : (found : List LoopInstance) → Contains flow.places p → AreInstancesOf flow loops p (map found_instance found) → IsNonDecreasingBy (λ f. others flow (found_instance f)) found → (HasCrossing flow loops → ⊥) → AreNested flow (map found_instance found)
+  nested : (found : List LoopInstance) → Contains flow.places p → AreInstancesOf flow loops p (map found_of found) → IsNonDecreasingBy (λ f. others flow (found_of f)) found → (HasCrossing flow loops → ⊥) → AreNested flow (map found_of found)
   nested found has all ordered none i j d before inside =
       let empty : Loop = record { header = 0; first = 0; last = 0; bound = 0 } in
       let e : LoopInstance = record { list = []; stated = empty } in
-      let lt : j < length found = omega (arith, inside, length-map found found_instance) in
+      let lt : j < length found = omega (arith, inside, length-map found found_of) in
       let first : i < length found = omega (arith, before, lt) in
-      let within : i < length (map found_instance found) = omega (arith, before, inside) in
-      let fewer : others flow (found_instance (get_or found i e)) ≤ others flow (found_instance (get_or found j e)) = ordered i j e (omega (arith, before)) lt in
-      let fewer_is : others flow (get_or (map found_instance found) i d) ≤ others flow (get_or (map found_instance found) j d) =
-      subst (λ (x : Instance). others flow x ≤ others flow (get_or (map found_instance found) j d)) (sym (get_or-map found_instance found i e d first))
-      (subst (λ (x : Instance). others flow (found_instance (get_or found i e)) ≤ others flow x) (sym (get_or-map found_instance found j e d lt)) fewer) in
-      around (get_or (map found_instance found) i d) (get_or (map found_instance found) j d) has (all.each i d within) (all.each j d inside) (all.members i d within) (all.members j d inside) fewer_is none
+      let within : i < length (map found_of found) = omega (arith, before, inside) in
+      let fewer : others flow (found_of (get_or found i e)) ≤ others flow (found_of (get_or found j e)) = ordered i j e (omega (arith, before)) lt in
+      let fewer_is : others flow (get_or (map found_of found) i d) ≤ others flow (get_or (map found_of found) j d) =
+      subst (λ (x : Instance). others flow x ≤ others flow (get_or (map found_of found) j d)) (sym (get_or-map found_of found i e d first))
+      (subst (λ (x : Instance). others flow (found_of (get_or found i e)) ≤ others flow x) (sym (get_or-map found_of found j e d lt)) fewer) in
+      around (get_or (map found_of found) i d) (get_or (map found_of found) j d) has (all.each i d within) (all.each j d inside) (all.members i d within) (all.members j d inside) fewer_is none
 
   pub is_deep : (found moved : List LoopInstance) (d : DeepPlace) → d.place ≡ p → d.instances.items ≡ moved → Contains flow.places p → 16 < length found → IsPermutation found moved → length moved ≡ length found
-      → AreInstancesOf flow loops p (map found_instance found) → IsNonDecreasingBy (λ f. others flow (found_instance f)) moved → IsDeep flow loops d
+      → AreInstancesOf flow loops p (map found_of found) → IsNonDecreasingBy (λ f. others flow (found_of f)) moved → IsDeep flow loops d
   is_deep found moved d place_is items has many permuted same all ordered =
-      let known = moved_instances (map found_instance found) (map found_instance moved) (IsPermutation-map found_instance found moved permuted) all in
+      let known = moved_instances (map found_of found) (map found_of moved) (IsPermutation-map found_of found moved permuted) all in
       let order = nested moved has known ordered in
       record {
         deep = record {
           place = p;
           has = has;
-          instances = map found_instance moved;
+          instances = map found_of moved;
           differ = known.differ;
           each = known.each;
           members = known.members;
-          many = omega (arith, many, same, length-map moved found_instance);
+          many = omega (arith, many, same, length-map moved found_of);
         };
         place_is = sym place_is;
-        instances_are = ap (map found_instance) (sym items);
-        all = subst (λ (q : Place). AreInstancesOf flow loops q (map found_instance d.instances.items)) (sym place_is)
-            (subst (λ (fs : List LoopInstance). AreInstancesOf flow loops p (map found_instance fs)) (sym items) known);
-        nested = λ none. subst (λ (fs : List LoopInstance). AreNested flow (map found_instance fs)) (sym items) (order none);
+        instances_are = ap (map found_of) (sym items);
+        all = subst (λ (q : Place). AreInstancesOf flow loops q (map found_of d.instances.items)) (sym place_is)
+            (subst (λ (fs : List LoopInstance). AreInstancesOf flow loops p (map found_of fs)) (sym items) known);
+        nested = λ none. subst (λ (fs : List LoopInstance). AreNested flow (map found_of fs)) (sym items) (order none);
       }
 
   -- a place with few instances is not in too many
-  pub not_deep : (found : List LoopInstance) → length found ≤ 16 → AreInstancesOf flow loops p (map found_instance found) → (deep : HasDeepPlace flow loops) → deep.place ≡ p → ⊥
+  pub not_deep : (found : List LoopInstance) → length found ≤ 16 → AreInstancesOf flow loops p (map found_of found) → (deep : HasDeepPlace flow loops) → deep.place ≡ p → ⊥
   not_deep found few all deep same =
-      let among : All (Contains (map found_instance found)) deep.instances =
+      let among : All (Contains (map found_of found)) deep.instances =
       λ k d lt. all.all (get_or deep.instances k d) (deep.each k d lt) (subst (λ (q : Place). is_member (get_or deep.instances k d) q ≡ true) same (deep.members k d lt)) in
-      let most = no_longer deep.instances (map found_instance found) deep.differ among in
-      omega (arith, most, few, deep.many, length-map found found_instance)
+      let most = no_longer deep.instances (map found_of found) deep.differ among in
+      omega (arith, most, few, deep.many, length-map found found_of)

@@ -3,7 +3,9 @@ use Rattle.std.proofs.Common.{◌≤◌, ◌≡◌, ◌↔◌, ◌<◌, ◌==◌
 use Rattle.std.specs.Prelude.{Contains, IsSome, codes, if◌then◌else◌}
 use Rattle.std.specs.Cmp.Derive.{both_true}
 use Rattle.std.specs.List.{slice_get}
+use Rattle.std.specs.Str.{bytes_eq}
 use Rattle.std.proofs.lemmas.List.Elements.{Contains-append_left, Contains-append_right}
+use Rattle.std.proofs.lemmas.Bool.{false≢true}
 use Rattle.std.proofs.lemmas.Option.{none-some}
 use Rattle.toml.specs.Data.{Data, Members, as_table, get_member}
 use Rattle.toml_reading.specs.Documents.{is_one_of, items_at}
@@ -14,10 +16,11 @@ use Rattle.toml_reading.proofs.LowestParts.{some_weaker}
 use Rattle.image.specs.Labels.{NamedAddresses, address_of}
 use Rattle.statement.specs.PlaceTests.{holds_of}
 use Rattle.statement.proofs.SpotLemmas.{fault_spot}
-use Rattle.statement.specs.Statement.{named_leave, named_returns}
+use Rattle.statement.specs.Statement.{pair_at, named_leave, named_returns}
 use Rattle.statement.specs.StatementFaults.{statement_faults}
-use Rattle.statement.specs.StatementRules.{AddressFault, HasFault, IsAddress, IsAt, IsFirst, IsLast, IsMisplaced, IsReversed, IsRuleAt}
-use Rattle.statement.specs.Places.{DestinationFault, GoesOn, InTable, IsFaultAt, IsRepeatAt, PartFault, all_keys, key_name, keys_of, list_key, most_of, named_key}
+use Rattle.statement.specs.StatementRules.{AddressFault, AreReversed, HasFault, IsAddress, IsAt, IsFirst, IsLast, IsMisplaced, IsReversed, IsRuleAt}
+use Rattle.statement.specs.Places.{DestinationFault, GoesOn, InStretch, InTable, IsFaultAt, IsRepeatAt, PartFault, all_keys, end_of, key_name, keys_of, list_key, most_of, named_key}
+use Rattle.statement.specs.declared.reading.TheConstants.{MOST_STRETCHES}
 use Rattle.statement.specs.declared.faults.StatementFault.{StatementFault}
 use Rattle.statement.specs.declared.faults.StatementFault.TheVariants.{OutOfRange, UnknownKey, WrongKind}
 use Rattle.statement.specs.declared.spots.Key.{Key}
@@ -28,11 +31,11 @@ use Rattle.statement.specs.declared.spots.Spot.{Spot}
 use Rattle.statement.specs.declared.spots.Spot.TheVariants as spot
 use Rattle.statement.specs.declared.spots.TableList.{TableList}
 use Rattle.statement.specs.declared.spots.TableList.TheVariants.{Loops, Targets, Accesses, Rules, Multiplies, Branches}
-use Rattle.text_refusals.specs.Courses.{after, at_front, begun, entry_list, is_at_key, key_head, named_list}
-use Rattle.text_refusals.specs.FaultyItems.{has_destination, has_no_list, has_no_table, has_part, has_second, has_unknown, has_value, is_faulty, is_hidden, is_listed, is_shown, lent, second_key, target_number}
+use Rattle.text_refusals.specs.Courses.{after, at_front, begun, entry_list, is_at_key, is_stretch_table, key_head, named_list}
+use Rattle.text_refusals.specs.FaultyItems.{has_destination, has_end, has_no_list, has_no_stretch, has_no_stretches, has_no_table, has_part, has_reversed_stretch, has_second, has_unknown, has_value, is_faulty, is_hidden, is_listed, is_shown, lent, second_key, target_number}
 use Rattle.text_refusals.specs.Outline.{Begins, Ends, Item, KeyValue, States, Table}
 use Rattle.text_refusals.specs.Placed.{AreOf, IsEntry, IsThere, Shows, TableShows, ValueShows, placed}
-use Rattle.text_refusals.specs.Refused.{Limit, Row, access_limit, all_rows, branch_limit, limits, multiply_limit, reversed_rows, rows_of_limits, rule_limit, entry_rows, extra_row, extra_rows, extra_table_row, first_after, header_rows, item_rows, list_rows, long_rows, loop_limit, misplaced_rows, missing_row, missing_rows, no_list_rows, no_table_rows, row_if, rows, rows_of_table, table_row, table_rows, tables_in, target_limit, target_rows, unknown_rows, unwanted_rows, value_row, value_table_rows, whole_rows}
+use Rattle.text_refusals.specs.Refused.{Limit, Row, access_limit, all_rows, apart_table_rows, branch_limit, limits, multiply_limit, reversed_rows, rows_of_limits, rule_limit, entry_rows, extra_row, extra_rows, extra_stretch_row, extra_stretch_rows, extra_table_row, first_after, header_rows, is_stretch_item, item_rows, list_rows, long_rows, loop_limit, misplaced_rows, missing_row, missing_rows, no_list_rows, no_table_rows, one_stretch_rows, past_stretches, past_stretches_rows, row_if, rows, rows_of_table, said_row, stretch_header_rows, stretch_rows, stretch_table_rows, stretches_in, table_row, table_rows, tables_in, target_limit, target_rows, unknown_rows, unwanted_rows, value_row, value_rows, value_table_rows, whole_rows}
 use Rattle.text_refusals.specs.declared.course.Course.{Course}
 use Rattle.text_refusals.proofs.RefusedLemmas.{one_row}
 
@@ -80,6 +83,33 @@ module _ (has : Spot → Bool) where
       (in_second (item_rows has c0 j items) (rows has (after c0 j) items)
       (at_index (after c0 j) items c i k (omega arith) is each))
 
+-- ## Stretches apart
+
+-- a row of an item that is one
+stretch_row_of : (i : Item) → is_stretch_item i ≡ true → HasRow (past_stretches_rows i)
+stretch_row_of (Begins t) e = (table_row t past_stretches [], (0, omega arith, refl))
+stretch_row_of (States p) e = (said_row p past_stretches, (0, omega arith, refl))
+stretch_row_of Ends e = absurd (false≢true e)
+
+-- the first after so many
+abbrev FirstOf : ℕ → List Item → Type 0
+FirstOf most xs = (i : Item) × (first_after most xs ≡ Some i) × (is_stretch_item i ≡ true)
+
+stretch_first : (most : ℕ) (items : List Item) → most < length (stretches_in items) → FirstOf most (stretches_in items)
+unfolding stretches_in
+stretch_first most [] low = absurd (omega arith)
+stretch_first most (j ∷ items) low = by_test most (is_stretch_item j) refl low (λ m k. stretch_first m items k)
+  where
+    by_test :
+        (m : ℕ) (b : Bool)
+        → is_stretch_item j ≡ b
+        → m < length (if b then j ∷ stretches_in items else stretches_in items)
+        → ((k : ℕ) → k < length (stretches_in items) → FirstOf k (stretches_in items))
+        → FirstOf m (if b then j ∷ stretches_in items else stretches_in items)
+    by_test zero true e low later = (j, refl, e)
+    by_test (suc m) true e low later = later m (omega (arith, low))
+    by_test m false e low later = later m low
+
 module _ (names : NamedAddresses) (ms : Members) (f : StatementFault) (has : Spot → Bool)
     (tells : (s : Spot) → has s ≡ true ↔ IsFaultAt (address_of names) ms s f) where
   abbrev At : Spot → Type 0
@@ -108,9 +138,17 @@ module _ (names : NamedAddresses) (ms : Members) (f : StatementFault) (has : Spo
       ap (λ b. if b then has (spot.Own part) else holds_of (λ x. has (spot.Listed x.0 x.1 part)) c.entry) other
       ∙ (ap (holds_of (λ x. has (spot.Listed x.0 x.1 part))) at ∙ e)
 
-  shown_faulty : (c : Course) (p : KeyValue) → is_hidden p ≡ false → is_shown has c p ≡ true → is_faulty has c p ≡ true
+  faulty_row : (c : Course) (p : KeyValue) → is_faulty has c p ≡ true → HasRow (value_rows has c p)
+  faulty_row c p e = in_first (row_if (is_faulty has c p) (value_row p)) (stretch_rows has c p) (row_of_if (is_faulty has c p) (value_row p) e)
+
+  shown_faulty : (c : Course) (p : KeyValue) → is_hidden p ≡ false → is_shown has c p ≡ true → HasRow (value_rows has c p)
   shown_faulty c p hidden e =
-      or_second (has_unknown has c p) (not (is_hidden p) && is_shown has c p) (both_true (ap not hidden) e)
+      faulty_row c p (or_second (has_unknown has c p) (not (is_hidden p) && is_shown has c p) (both_true (ap not hidden) e))
+
+  one_stretch_row : (c : Course) (p : KeyValue) → HasRow (one_stretch_rows has c p) → HasRow (value_rows has c p)
+  one_stretch_row c p h =
+      in_second (row_if (is_faulty has c p) (value_row p)) (stretch_rows has c p)
+      (in_second (row_if (has_no_stretches has p) (said_row p (codes " has to be a list of lists of two addresses"))) (one_stretch_rows has c p) h)
 
   value_shown :
       (c : Course) (p : KeyValue) (k : Key)
@@ -126,11 +164,11 @@ module _ (names : NamedAddresses) (ms : Members) (f : StatementFault) (has : Spo
   listed_shown c p e =
       or_second (has_value has c p) (has_no_list has p || is_listed has c p) (or_second (has_no_list has p) (is_listed has c p) e)
 
-  unknown_faulty : (c : Course) (p : KeyValue) → (p.depth == 0) ≡ true → has_part has c p (Unknown (lent (key_head p.key))) ≡ true → is_faulty has c p ≡ true
+  unknown_faulty : (c : Course) (p : KeyValue) → (p.depth == 0) ≡ true → has_part has c p (Unknown (lent (key_head p.key))) ≡ true → HasRow (value_rows has c p)
   unknown_faulty c p flat e =
-      or_first (has_unknown has c p) (not (is_hidden p) && is_shown has c p) (both_true flat e)
+      faulty_row c p (or_first (has_unknown has c p) (not (is_hidden p) && is_shown has c p) (both_true flat e))
 
-  value_faulty : (c : Course) (p : KeyValue) (s : Spot) → At s → ValueShows c p s → is_faulty has c p ≡ true
+  value_faulty : (c : Course) (p : KeyValue) (s : Spot) → At s → ValueShows c p s → HasRow (value_rows has c p)
   value_faulty c p (spot.Own (Unknown k)) h v =
       unknown_faulty c p v.1
       (own_part c p (Unknown (lent (key_head p.key))) v.0
@@ -159,35 +197,65 @@ module _ (names : NamedAddresses) (ms : Members) (f : StatementFault) (has : Spo
   value_faulty c p (spot.NoTable list n) h v =
       shown_faulty c p v.2
       (listed_shown c p
-      (or_first (has_no_table has c p) (has_destination has c p || has_second has c p)
+      (or_first (has_no_table has c p) (has_destination has c p || (has_end has c p || has_second has c p))
       (ap (holds_of (λ l. has (spot.NoTable l (begun l c)))) v.0
       ∙ (ap (λ m. has (spot.NoTable list m)) v.1 ∙ found (spot.NoTable list n) h))))
   value_faulty c p (spot.Destination n i) h v =
       shown_faulty c p v.3
       (listed_shown c p
-      (or_second (has_no_table has c p) (has_destination has c p || has_second has c p)
-      (or_first (has_destination has c p) (has_second has c p)
+      (or_second (has_no_table has c p) (has_destination has c p || (has_end has c p || has_second has c p))
+      (or_first (has_destination has c p) (has_end has c p || has_second has c p)
       (both_true v.0
       (ap (λ e. holds_of (λ m. has (spot.Destination m c.destinations)) (target_number e)) v.1
       ∙ (ap (λ m. has (spot.Destination n m)) v.2 ∙ found (spot.Destination n i) h))))))
   value_faulty c p (spot.Second list n) h v =
       shown_faulty c p v.3
       (listed_shown c p
-      (or_second (has_no_table has c p) (has_destination has c p || has_second has c p)
-      (or_second (has_destination has c p) (has_second has c p)
+      (or_second (has_no_table has c p) (has_destination has c p || (has_end has c p || has_second has c p))
+      (or_second (has_destination has c p) (has_end has c p || has_second has c p)
+      (or_second (has_end has c p) (has_second has c p)
       (both_true (ap not v.0)
       (ap (holds_of (λ e. is_at_key 0 (second_key e.0) p && has (spot.Second e.0 e.1))) v.2
-      ∙ both_true v.1 (found (spot.Second list n) h))))))
+      ∙ both_true v.1 (found (spot.Second list n) h)))))))
+  value_faulty c p spot.NoStretches h v =
+      in_second (row_if (is_faulty has c p) (value_row p)) (stretch_rows has c p)
+      (in_first (row_if (has_no_stretches has p) (said_row p (codes " has to be a list of lists of two addresses"))) (one_stretch_rows has c p)
+      (row_of_if (has_no_stretches has p) (said_row p (codes " has to be a list of lists of two addresses"))
+      (both_true v.0 (both_true v.1 (both_true v.2 (found spot.NoStretches h))))))
+  value_faulty c p (spot.NoStretch n) h v =
+      one_stretch_row c p
+      (in_first (row_if (has_no_stretch has c p) (said_row p (codes " has to be a list of two addresses"))) (row_if (has_reversed_stretch has c p) (said_row p (codes " ends before it begins")))
+      (row_of_if (has_no_stretch has c p) (said_row p (codes " has to be a list of two addresses"))
+      (both_true v.0 (ap (λ m. has (spot.NoStretch m)) v.1 ∙ found (spot.NoStretch n) h))))
+  value_faulty c p (spot.ReversedStretch n) h v =
+      one_stretch_row c p
+      (in_second (row_if (has_no_stretch has c p) (said_row p (codes " has to be a list of two addresses"))) (row_if (has_reversed_stretch has c p) (said_row p (codes " ends before it begins")))
+      (row_of_if (has_reversed_stretch has c p) (said_row p (codes " ends before it begins"))
+      (both_true v.0 (ap (λ m. has (spot.ReversedStretch m)) v.1 ∙ found (spot.ReversedStretch n) h))))
+  value_faulty c p (spot.StretchEnd n i) h v =
+      shown_faulty c p v.3
+      (listed_shown c p
+      (or_second (has_no_table has c p) (has_destination has c p || (has_end has c p || has_second has c p))
+      (or_second (has_destination has c p) (has_end has c p || has_second has c p)
+      (or_first (has_end has c p) (has_second has c p)
+      (both_true v.0
+      (ap (λ m. has (spot.StretchEnd m c.ends)) v.1 ∙ (ap (λ m. has (spot.StretchEnd n m)) v.2 ∙ found (spot.StretchEnd n i) h)))))))
   value_faulty c p (spot.TooMany list) h v = absurd v
   value_faulty c p (spot.Misplaced n) h v = absurd v
   value_faulty c p (spot.Unwanted n) h v = absurd v
   value_faulty c p (spot.Reversed n) h v = absurd v
   value_faulty c p (spot.TooManyDestinations n) h v = absurd v
+  value_faulty c p spot.TooManyStretches h v = absurd v
 
   -- ## Tables
 
-  header_row : (c : Course) (t : Table) (rest : List Item) → entry_list t ≡ None → HasRow (header_rows has t) → HasRow (table_rows has c t rest)
+  header_row : (c : Course) (t : Table) (rest : List Item) → entry_list t ≡ None → HasRow (header_rows has c t) → HasRow (table_rows has c t rest)
   header_row c t rest none h = subst (λ (o : Option TableList). HasRow (rows_of_table has c t rest o)) (sym none) h
+
+  stretch_header_row : (c : Course) (t : Table) (rest : List Item) → entry_list t ≡ None → HasRow (stretch_header_rows has c t) → HasRow (table_rows has c t rest)
+  stretch_header_row c t rest none h =
+      header_row c t rest none
+      (in_second (unknown_rows has t) (value_table_rows has t ++ stretch_header_rows has c t) (in_second (value_table_rows has t) (stretch_header_rows has c t) h))
 
   entry_row :
       (c : Course) (t : Table) (rest : List Item) (list : TableList) (n : ℕ)
@@ -232,23 +300,25 @@ module _ (names : NamedAddresses) (ms : Members) (f : StatementFault) (has : Spo
   table_row_of : (c : Course) (t : Table) (rest : List Item) (s : Spot) → At s → TableShows c t s → HasRow (table_rows has c t rest)
   table_row_of c t rest (spot.Own (Unknown k)) h v =
       header_row c t rest v.0
-      (in_first (unknown_rows has t) (value_table_rows has t)
+      (in_first (unknown_rows has t) (value_table_rows has t ++ stretch_header_rows has c t)
       (row_of_if (has (spot.Own (Unknown (lent (key_head t.name))))) (table_row t (codes " is no list of statements") [])
       (found (spot.Own (Unknown (lent (key_head t.name))))
       (subst (λ (w : List ℕ). IsSome (get_member w ms) × (is_one_of (keys_of None) w ≡ false) × (f ≡ UnknownKey)) (sym v.1) h))))
   table_row_of c t rest (spot.Own (Value k)) h v =
       header_row c t rest v.0
-      (in_second (unknown_rows has t) (value_table_rows has t)
+      (in_second (unknown_rows has t) (value_table_rows has t ++ stretch_header_rows has c t)
+      (in_first (value_table_rows has t) (stretch_header_rows has c t)
       (in_first (no_table_rows has t) (no_list_rows has t)
       (row_of_if (holds_of (λ key. has (spot.Own (Value key))) (named_key (key_head t.name))) (table_row t (codes " may be no table") [])
-      (ap (holds_of (λ key. has (spot.Own (Value key)))) v.1 ∙ found (spot.Own (Value k)) h))))
+      (ap (holds_of (λ key. has (spot.Own (Value key)))) v.1 ∙ found (spot.Own (Value k)) h)))))
   table_row_of c t rest (spot.Own (Missing k)) h v = absurd v.1
   table_row_of c t rest (spot.NoList list) h v =
       header_row c t rest v.0
-      (in_second (unknown_rows has t) (value_table_rows has t)
+      (in_second (unknown_rows has t) (value_table_rows has t ++ stretch_header_rows has c t)
+      (in_first (value_table_rows has t) (stretch_header_rows has c t)
       (in_second (no_table_rows has t) (no_list_rows has t)
       (row_of_if (holds_of (λ l. has (spot.NoList l)) (named_list (key_head t.name))) (table_row t (codes " has to be in double brackets") [])
-      (ap (holds_of (λ l. has (spot.NoList l))) v.1 ∙ found (spot.NoList list) h))))
+      (ap (holds_of (λ l. has (spot.NoList l))) v.1 ∙ found (spot.NoList list) h)))))
   table_row_of c t rest (spot.Listed list n (Unknown k)) h v = absurd v
   table_row_of c t rest (spot.Listed list n (Value k)) h v = absurd v
   table_row_of c t rest (spot.Listed list n (Missing k)) h v =
@@ -258,7 +328,7 @@ module _ (names : NamedAddresses) (ms : Members) (f : StatementFault) (has : Spo
   table_row_of c t rest (spot.Misplaced n) h v =
       entry_row c t rest Loops n v
       (in_second (missing_rows has Loops n t all_keys) (misplaced_rows has n t)
-      (row_of_if (has (spot.Misplaced n)) (table_row t (codes " has its header outside first to last") []) (found (spot.Misplaced n) h)))
+      (row_of_if (has (spot.Misplaced n)) (table_row t (codes " has its header outside first to last, or only one of these apart") []) (found (spot.Misplaced n) h)))
   table_row_of c t rest (spot.Unwanted n) h v =
       entry_row c t rest Targets n v
       (in_second (missing_rows has Targets n t all_keys) (target_rows has n t rest)
@@ -268,6 +338,18 @@ module _ (names : NamedAddresses) (ms : Members) (f : StatementFault) (has : Spo
       entry_row c t rest Rules n v
       (in_second (missing_rows has Rules n t all_keys) (reversed_rows has n t)
       (row_of_if (has (spot.Reversed n)) (table_row t (codes " has its last before its first") []) (found (spot.Reversed n) h)))
+  table_row_of c t rest spot.NoStretches h v =
+      stretch_header_row c t rest v.0
+      (in_first (apart_table_rows has t) (stretch_table_rows has c t)
+      (row_of_if (bytes_eq (key_head t.name) (codes "apart") && has spot.NoStretches) (table_row t (codes " may be no table") []) (both_true v.1 (found spot.NoStretches h))))
+  table_row_of c t rest (spot.NoStretch n) h v =
+      stretch_header_row c t rest v.0
+      (in_second (apart_table_rows has t) (stretch_table_rows has c t)
+      (row_of_if (is_stretch_table t && has (spot.NoStretch c.stretches)) (table_row t (codes " may be no table") [])
+      (both_true v.1 (ap (λ m. has (spot.NoStretch m)) v.2 ∙ found (spot.NoStretch n) h))))
+  table_row_of c t rest spot.TooManyStretches h v = absurd v
+  table_row_of c t rest (spot.StretchEnd n i) h v = absurd v
+  table_row_of c t rest (spot.ReversedStretch n) h v = absurd v
   table_row_of c t rest (spot.TooManyDestinations n) h v = absurd v
   table_row_of c t rest (spot.TooMany list) h v = absurd v
   table_row_of c t rest (spot.NoTable list n) h v = absurd v
@@ -276,7 +358,7 @@ module _ (names : NamedAddresses) (ms : Members) (f : StatementFault) (has : Spo
 
   item_row : (c : Course) (i : Item) (s : Spot) → At s → Shows c i s → (rest : List Item) → HasRow (item_rows has c i rest)
   item_row c (Begins t) s h v rest = table_row_of c t rest s h v
-  item_row c (States p) s h v rest = row_of_if (is_faulty has c p) (value_row p) (value_faulty c p s h v)
+  item_row c (States p) s h v rest = value_faulty c p s h v
   item_row c Ends s h v rest = absurd v
 
   -- ## The text
@@ -320,13 +402,29 @@ module _ (names : NamedAddresses) (ms : Members) (f : StatementFault) (has : Spo
         by_index (l ∷ ls) (suc m) low is =
             in_second (extra_row has l items) (rows_of_limits has ls items) (by_index ls m (omega arith) is)
 
-    extra_some : (list : TableList) → At (spot.TooMany list) → HasRow (extra_rows has items)
+    extra_some : (list : TableList) → At (spot.TooMany list) → HasRow (rows_of_limits has limits items)
     extra_some Loops h = limit_row limits loop_limit (0, omega arith, refl) (extra_of loop_limit h)
     extra_some Targets h = limit_row limits target_limit (1, omega arith, refl) (extra_of target_limit h)
     extra_some Accesses h = limit_row limits access_limit (2, omega arith, refl) (extra_of access_limit h)
     extra_some Rules h = limit_row limits rule_limit (3, omega arith, refl) (extra_of rule_limit h)
     extra_some Multiplies h = limit_row limits multiply_limit (4, omega arith, refl) (extra_of multiply_limit h)
     extra_some Branches h = limit_row limits branch_limit (5, omega arith, refl) (extra_of branch_limit h)
+
+    extra_stretch_of : At spot.TooManyStretches → HasRow (extra_stretch_rows has items)
+    extra_stretch_of h =
+        let few = are.stretches in
+        let many = h.0 in
+        let low : MOST_STRETCHES < length (stretches_in items) = omega arith in
+        let i = stretch_first MOST_STRETCHES items low in
+        subst (λ (b : Bool). HasRow (if b then extra_stretch_row (first_after MOST_STRETCHES (stretches_in items)) else []))
+        (sym (found spot.TooManyStretches h))
+        (subst (λ (o : Option Item). HasRow (extra_stretch_row o)) (sym i.1) (stretch_row_of i.0 i.2))
+
+    in_stretch : (n : ℕ) (P Q : Data × Data → Type 0) → ((e : Data × Data) → P e → Q e) → InStretch n ms P → InStretch n ms Q
+    in_stretch n P Q to h =
+        some_weaker (λ d. IsSomeAnd (pair_at d) P) (λ d. IsSomeAnd (pair_at d) Q)
+        (λ d k. some_weaker P Q to (pair_at d) k)
+        (slice_get (entries_at (codes "apart") ms) n) h
 
     whole_row : HasRow (whole_rows has items) → HasRow (all_rows has items)
     whole_row h = in_first (whole_rows has items) (rows has at_front items) h
@@ -393,7 +491,8 @@ module _ (names : NamedAddresses) (ms : Members) (f : StatementFault) (has : Spo
     spot_row (spot.Own (Missing k)) h = own_missing k h
     spot_row (spot.NoList list) h =
         shown_row (spot.NoList list) h (some_of (λ d. (items_at d ≡ None) × (f ≡ WrongKind)) (get_member (list_key list) ms) h)
-    spot_row (spot.TooMany list) h = whole_row (in_second _ (extra_rows has items) (extra_some list h))
+    spot_row (spot.TooMany list) h =
+        whole_row (in_second _ (extra_rows has items) (in_first (rows_of_limits has limits items) (extra_stretch_rows has items) (extra_some list h)))
     spot_row (spot.NoTable list n) h =
         shown_row (spot.NoTable list n) h
         (some_weaker (λ d. (as_table d ≡ None) × (f ≡ WrongKind)) (λ d. as_table d ≡ None) (λ d k. k.0) (slice_get (entries_at (list_key list) ms) n) h)
@@ -408,7 +507,7 @@ module _ (names : NamedAddresses) (ms : Members) (f : StatementFault) (has : Spo
         (in_table list n (λ t. PartFault (address_of names) (Some list) (Missing k) t f) (λ t. Unit {0}) (λ t u. tt) h)
     spot_row (spot.Misplaced n) h =
         shown_row (spot.Misplaced n) h
-        (in_table Loops n (λ t. IsMisplaced (address_of names) t × (f ≡ OutOfRange)) (λ t. Unit {0}) (λ t u. tt) h)
+        (in_table Loops n (λ t. IsMisplaced (address_of names) h.0 t × (f ≡ OutOfRange)) (λ t. Unit {0}) (λ t u. tt) h.2)
     spot_row (spot.Unwanted n) h =
         shown_row (spot.Unwanted n) h
         (in_table Targets n (λ t. GoesOn false t × IsSome (get_member (codes "to") t) × (f ≡ WrongKind)) (λ t. Unit {0}) (λ t u. tt) h)
@@ -423,6 +522,19 @@ module _ (names : NamedAddresses) (ms : Members) (f : StatementFault) (has : Spo
         (in_table Targets n (λ t. GoesOn true t × DestinationFault (address_of names) i (entries_at (codes "to") t) f)
         (λ t. IsSome (slice_get (entries_at (codes "to") t) i))
         (λ t u. dest_there (entries_at (codes "to") t) i u.1) h)
+    spot_row spot.NoStretches h =
+        shown_row spot.NoStretches h (some_of (λ d. (items_at d ≡ None) × (f ≡ WrongKind)) (get_member (codes "apart") ms) h)
+    spot_row spot.TooManyStretches h =
+        whole_row (in_second _ (extra_rows has items) (in_second (rows_of_limits has limits items) (extra_stretch_rows has items) (extra_stretch_of h)))
+    spot_row (spot.NoStretch n) h =
+        shown_row (spot.NoStretch n) h (some_of (λ d. (pair_at d ≡ None) × (f ≡ WrongKind)) (slice_get (entries_at (codes "apart") ms) n) h)
+    spot_row (spot.StretchEnd n i) h =
+        shown_row (spot.StretchEnd n i) h
+        (in_stretch n (λ e. IsSomeAnd (end_of e i) (λ d. AddressFault (address_of names) d f)) (λ e. IsSome (end_of e i))
+        (λ e u. some_of (λ d. AddressFault (address_of names) d f) (end_of e i) u) h)
+    spot_row (spot.ReversedStretch n) h =
+        shown_row (spot.ReversedStretch n) h
+        (in_stretch n (λ e. AreReversed (address_of names) e × (f ≡ OutOfRange)) (λ e. Unit {0}) (λ e u. tt) h)
     spot_row (spot.Second list n) h = shown_row (spot.Second list n) h (second_there list n h)
 
     -- a fault has a row

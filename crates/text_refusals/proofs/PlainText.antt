@@ -84,6 +84,11 @@ shown (spot.Unwanted n) h = absurd h
 shown (spot.Reversed n) h = absurd h
 shown (spot.TooManyDestinations n) h = absurd h
 shown (spot.Destination n i) h = absurd h
+shown spot.NoStretches h = absurd (false≢true h)
+shown spot.TooManyStretches h = absurd h
+shown (spot.NoStretch n) h = absurd (false≢true h)
+shown (spot.StretchEnd n i) h = absurd h
+shown (spot.ReversedStretch n) h = absurd h
 shown (spot.Second Loops n) h = absurd h
 shown (spot.Second Targets n) h = absurd h
 shown (spot.Second Accesses n) h = absurd h
@@ -101,4 +106,4 @@ few Branches = omega arith
 
 -- entry = "a"
 pub is_of_text : AreOf the_items a_document
-is_of_text = record { shown = shown; tables = few; short = λ n h. h }
+is_of_text = record { shown = shown; tables = few; stretches = omega arith; short = λ n h. h }

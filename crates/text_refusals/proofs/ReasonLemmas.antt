@@ -5,11 +5,11 @@ use Rattle.control_flow.specs.Flow.{Flow, IsWellFormed}
 use Rattle.control_flow.specs.declared.edges.Edge.{Edge}
 use Rattle.control_flow.specs.declared.places.Place.{Place}
 use Rattle.control_flow.specs.declared.places.Place.TheVariants.{Exit}
-use Rattle.statement.specs.declared.stated.Loop.{Loop}
+use Rattle.statement.specs.Stated.{StatedLoops}
 use Rattle.text_refusals.specs.Cycles.{IsCycleOf}
 use Rattle.text_refusals.specs.Extents.{HasNoStart}
 
-pub has_start : (flow : Flow) (loops : List Loop) (edges : List Edge) → IsWellFormed flow → IsCycleOf flow loops edges → HasNoStart edges → ⊥
+pub has_start : (flow : Flow) (loops : StatedLoops) (edges : List Edge) → IsWellFormed flow → IsCycleOf flow loops edges → HasNoStart edges → ⊥
 has_start flow loops edges formed is none =
     let first = (is.cycle).first in
     let begins : HasNoStart (first ∷ (is.cycle).rest) = subst HasNoStart is.edges_are none in

@@ -1,12 +1,14 @@
 -- A row is of a spot that has the fault.
-use Rattle.std.proofs.Common.{◌≡◌, ◌<◌, ◌⊎◌, ◌==◌, ◌&&◌, ◌||◌, not, zero, suc, ℕ, Bool, true, false, List, [], ◌∷◌, ◌++◌, length, get_or, Option, Some, None, inl, inr, refl, sym, ap, subst, ◌∙◌, arith}
+use Rattle.std.proofs.Common.{◌≡◌, ◌<◌, ◌-◌, ◌⊎◌, ◌==◌, ◌&&◌, ◌||◌, not, zero, suc, ℕ, Bool, true, false, List, [], ◌∷◌, ◌++◌, length, get_or, Option, Some, None, inl, inr, refl, sym, ap, subst, ◌∙◌, arith}
 use Rattle.std.specs.Prelude.{Contains, codes, if◌then◌else◌}
+use Rattle.std.specs.Str.{bytes_eq}
 use Rattle.std.proofs.lemmas.Bool.{and_parts, cases_Bool, false≢true}
 use Rattle.std.proofs.lemmas.List.Elements.{Contains-append_cases}
 use Rattle.std.proofs.lemmas.Option.{none-some, same_Some}
 use Rattle.statement.specs.PlaceTests.{holds_of}
 use Rattle.statement.specs.Places.{all_keys, key_name, list_key, most_of, named_key}
 use Rattle.statement.specs.declared.entries.TheConstants.{MOST_DESTINATIONS}
+use Rattle.statement.specs.declared.reading.TheConstants.{MOST_STRETCHES}
 use Rattle.statement.specs.declared.spots.Key.{Key}
 use Rattle.statement.specs.declared.spots.Key.TheVariants as key
 use Rattle.statement.specs.declared.spots.Part.{Part}
@@ -15,11 +17,11 @@ use Rattle.statement.specs.declared.spots.Spot.{Spot}
 use Rattle.statement.specs.declared.spots.Spot.TheVariants as spot
 use Rattle.statement.specs.declared.spots.TableList.{TableList}
 use Rattle.statement.specs.declared.spots.TableList.TheVariants.{Loops, Targets, Accesses, Rules, Multiplies, Branches}
-use Rattle.text_refusals.specs.Courses.{after, at_front, begun, entry_list, is_at_key, is_destination, key_head, named_list, value_list}
-use Rattle.text_refusals.specs.FaultyItems.{has_destination, has_no_list, has_no_table, has_part, has_second, has_unknown, has_value, is_faulty, is_hidden, is_listed, is_shown, lent, second_key, target_number}
+use Rattle.text_refusals.specs.Courses.{after, at_front, begun, entry_list, is_at_key, is_destination, is_end, is_stretch, is_stretch_table, key_head, named_list, value_list}
+use Rattle.text_refusals.specs.FaultyItems.{has_destination, has_end, has_no_list, has_no_stretch, has_no_stretches, has_reversed_stretch, has_no_table, has_part, has_second, has_unknown, has_value, is_faulty, is_hidden, is_listed, is_shown, lent, second_key, target_number}
 use Rattle.text_refusals.specs.Outline.{Begins, Ends, Item, KeyValue, States, Table}
 use Rattle.text_refusals.specs.Placed.{IsPartOf, IsRowOf, Shows, TableShows, ValueShows, line_of, placed}
-use Rattle.text_refusals.specs.Refused.{Limit, Row, all_rows, extra_destination_row, extra_row, extra_rows, limits, rows_of_limits, extra_table_row, first_after, header_rows, item_rows, list_rows, long_rows, loop_limit, missing_row, missing_rows, no_list_rows, no_table_rows, row_if, rows, rows_of_table, stated_at, table_row, table_rows, tables_in, target_limit, unknown_rows, unwanted_rows, value_row, value_table_rows, whole_rows}
+use Rattle.text_refusals.specs.Refused.{Limit, Row, all_rows, apart_table_rows, extra_destination_row, extra_row, extra_rows, extra_stretch_row, extra_stretch_rows, past_stretches, past_stretches_rows, limits, rows_of_limits, extra_table_row, first_after, header_rows, item_rows, list_rows, long_rows, loop_limit, missing_row, missing_rows, no_list_rows, no_table_rows, one_stretch_rows, row_if, rows, rows_of_table, said_row, stated_at, stretch_header_rows, stretch_rows, stretch_table_rows, stretches_in, table_row, table_rows, tables_in, target_limit, unknown_rows, unwanted_rows, value_row, value_rows, value_table_rows, whole_rows}
 use Rattle.text_refusals.specs.declared.course.Course.{Course}
 use Rattle.text_refusals.proofs.RefusedLemmas.{no_items, one_row}
 
@@ -116,20 +118,25 @@ module _ (has : Spot → Bool) where
   ]
     where
       of_listed : is_hidden p ≡ false → is_listed has c p ≡ true → OfValue c p
-      of_listed hidden e = elim (true_or (has_no_table has c p) (has_destination has c p || has_second has c p) e) [
+      of_listed hidden e = elim (true_or (has_no_table has c p) (has_destination has c p || (has_end has c p || has_second has c p)) e) [
         | inl t ↦
             let at = holds_some (λ l. has (spot.NoTable l (begun l c))) (value_list p) t in
             (spot.NoTable at.0 (begun at.0 c), at.2, (at.1, refl, hidden))
-        | inr r ↦ elim (true_or (has_destination has c p) (has_second has c p) r) [
+        | inr r ↦ elim (true_or (has_destination has c p) (has_end has c p || has_second has c p) r) [
           | inl d ↦
               let h = and_parts (is_destination p) (holds_of (λ n. has (spot.Destination n c.destinations)) (target_number c.entry)) d in
               let at = holds_some (λ n. has (spot.Destination n c.destinations)) (target_number c.entry) h.1 in
               (spot.Destination at.0 c.destinations, at.2, (h.0, target_of c.entry at.0 at.1, refl, hidden))
-          | inr t ↦
-              let h = and_parts (not (length p.list == 0)) (holds_of (λ e. is_at_key 0 (second_key e.0) p && has (spot.Second e.0 e.1)) c.entry) t in
-              let at = holds_some (λ e. is_at_key 0 (second_key e.0) p && has (spot.Second e.0 e.1)) c.entry h.1 in
-              let k = and_parts (is_at_key 0 (second_key at.0.0) p) (has (spot.Second at.0.0 at.0.1)) at.2 in
-              (spot.Second at.0.0 at.0.1, k.1, (false_of_not (length p.list == 0) h.0, k.0, at.1, hidden))
+          | inr s ↦ elim (true_or (has_end has c p) (has_second has c p) s) [
+            | inl d ↦
+                let h = and_parts (is_end p) (has (spot.StretchEnd (c.stretches - 1) c.ends)) d in
+                (spot.StretchEnd (c.stretches - 1) c.ends, h.1, (h.0, refl, refl, hidden))
+            | inr t ↦
+                let h = and_parts (not (length p.list == 0)) (holds_of (λ e. is_at_key 0 (second_key e.0) p && has (spot.Second e.0 e.1)) c.entry) t in
+                let at = holds_some (λ e. is_at_key 0 (second_key e.0) p && has (spot.Second e.0 e.1)) c.entry h.1 in
+                let k = and_parts (is_at_key 0 (second_key at.0.0) p) (has (spot.Second at.0.0 at.0.1)) at.2 in
+                (spot.Second at.0.0 at.0.1, k.1, (false_of_not (length p.list == 0) h.0, k.0, at.1, hidden))
+          ]
         ]
       ]
 
@@ -149,6 +156,38 @@ module _ (has : Spot → Bool) where
         ]
       ]
 
+  one_stretch_sound : (c : Course) (p : KeyValue) (r : Row) → Contains (one_stretch_rows has c p) r → OfValue c p × (r.line ≡ p.line)
+  one_stretch_sound c p r h =
+      elim (Contains-append_cases (row_if (has_no_stretch has c p) (said_row p (codes " has to be a list of two addresses"))) (row_if (has_reversed_stretch has c p) (said_row p (codes " ends before it begins"))) r h) [
+        | inl u ↦
+            let k = in_if (has_no_stretch has c p) (said_row p (codes " has to be a list of two addresses")) r u in
+            let is = and_parts (is_stretch p) (has (spot.NoStretch c.stretches)) k.0 in
+            ((spot.NoStretch c.stretches, is.1, (is.0, refl)), ap (λ (x : Row). x.line) k.1)
+        | inr u ↦
+            let k = in_if (has_reversed_stretch has c p) (said_row p (codes " ends before it begins")) r u in
+            let is = and_parts (is_stretch p) (has (spot.ReversedStretch c.stretches)) k.0 in
+            ((spot.ReversedStretch c.stretches, is.1, (is.0, refl)), ap (λ (x : Row). x.line) k.1)
+      ]
+
+  stretch_sound : (c : Course) (p : KeyValue) (r : Row) → Contains (stretch_rows has c p) r → OfValue c p × (r.line ≡ p.line)
+  stretch_sound c p r h =
+      elim (Contains-append_cases (row_if (has_no_stretches has p) (said_row p (codes " has to be a list of lists of two addresses"))) (one_stretch_rows has c p) r h) [
+        | inl u ↦
+            let k = in_if (has_no_stretches has p) (said_row p (codes " has to be a list of lists of two addresses")) r u in
+            let named = bytes_eq (key_head p.key) (codes "apart") in
+            let own = and_parts (length p.list == 0) (p.depth == 0 && (named && has spot.NoStretches)) k.0 in
+            let flat = and_parts (p.depth == 0) (named && has spot.NoStretches) own.1 in
+            let is = and_parts named (has spot.NoStretches) flat.1 in
+            ((spot.NoStretches, is.1, (own.0, flat.0, is.0)), ap (λ (x : Row). x.line) k.1)
+        | inr u ↦ one_stretch_sound c p r u
+      ]
+
+  rows_of_value_sound : (c : Course) (p : KeyValue) (r : Row) → Contains (value_rows has c p) r → OfValue c p × (r.line ≡ p.line)
+  rows_of_value_sound c p r h = elim (Contains-append_cases (row_if (is_faulty has c p) (value_row p)) (stretch_rows has c p) r h) [
+    | inl u ↦ let k = in_if (is_faulty has c p) (value_row p) r u in (value_sound c p k.0, ap (λ (x : Row). x.line) k.1)
+    | inr u ↦ stretch_sound c p r u
+  ]
+
   -- ## Tables
 
   -- of a spot that the table shows, or that the target is too long
@@ -159,20 +198,36 @@ module _ (has : Spot → Bool) where
       × ((TableShows c t s × (r.line ≡ t.line))
       ⊎ ((n : ℕ) × (p : KeyValue) × (s ≡ spot.TooManyDestinations n) × Contains rest (States p) × (r.line ≡ p.line)))
 
-  header_sound : (c : Course) (t : Table) (rest : List Item) (r : Row) → entry_list t ≡ None → Contains (header_rows has t) r → OfTable c t rest r
-  header_sound c t rest r none h = elim (Contains-append_cases (unknown_rows has t) (value_table_rows has t) r h) [
+  stretch_header_sound : (c : Course) (t : Table) (rest : List Item) (r : Row) → entry_list t ≡ None → Contains (stretch_header_rows has c t) r → OfTable c t rest r
+  stretch_header_sound c t rest r none h = elim (Contains-append_cases (apart_table_rows has t) (stretch_table_rows has c t) r h) [
+    | inl u ↦
+        let named = bytes_eq (key_head t.name) (codes "apart") in
+        let k = in_if (named && has spot.NoStretches) (table_row t (codes " may be no table") []) r u in
+        let is = and_parts named (has spot.NoStretches) k.0 in
+        (spot.NoStretches, is.1, inl ((none, is.0), ap (λ (x : Row). x.line) k.1))
+    | inr u ↦
+        let k = in_if (is_stretch_table t && has (spot.NoStretch c.stretches)) (table_row t (codes " may be no table") []) r u in
+        let is = and_parts (is_stretch_table t) (has (spot.NoStretch c.stretches)) k.0 in
+        (spot.NoStretch c.stretches, is.1, inl ((none, is.0, refl), ap (λ (x : Row). x.line) k.1))
+  ]
+
+  header_sound : (c : Course) (t : Table) (rest : List Item) (r : Row) → entry_list t ≡ None → Contains (header_rows has c t) r → OfTable c t rest r
+  header_sound c t rest r none h = elim (Contains-append_cases (unknown_rows has t) (value_table_rows has t ++ stretch_header_rows has c t) r h) [
     | inl u ↦
         let k = in_if (has (spot.Own (Unknown (lent (key_head t.name))))) (table_row t (codes " is no list of statements") []) r u in
         (spot.Own (Unknown (lent (key_head t.name))), k.0, inl ((none, refl), ap (λ (x : Row). x.line) k.1))
-    | inr v ↦ elim (Contains-append_cases (no_table_rows has t) (no_list_rows has t) r v) [
-      | inl u ↦
-          let k = in_if (holds_of (λ key. has (spot.Own (Value key))) (named_key (key_head t.name))) (table_row t (codes " may be no table") []) r u in
-          let at = holds_some (λ key. has (spot.Own (Value key))) (named_key (key_head t.name)) k.0 in
-          (spot.Own (Value at.0), at.2, inl ((none, at.1), ap (λ (x : Row). x.line) k.1))
-      | inr u ↦
-          let k = in_if (holds_of (λ l. has (spot.NoList l)) (named_list (key_head t.name))) (table_row t (codes " has to be in double brackets") []) r u in
-          let at = holds_some (λ l. has (spot.NoList l)) (named_list (key_head t.name)) k.0 in
-          (spot.NoList at.0, at.2, inl ((none, at.1), ap (λ (x : Row). x.line) k.1))
+    | inr w ↦ elim (Contains-append_cases (value_table_rows has t) (stretch_header_rows has c t) r w) [
+      | inl v ↦ elim (Contains-append_cases (no_table_rows has t) (no_list_rows has t) r v) [
+        | inl u ↦
+            let k = in_if (holds_of (λ key. has (spot.Own (Value key))) (named_key (key_head t.name))) (table_row t (codes " may be no table") []) r u in
+            let at = holds_some (λ key. has (spot.Own (Value key))) (named_key (key_head t.name)) k.0 in
+            (spot.Own (Value at.0), at.2, inl ((none, at.1), ap (λ (x : Row). x.line) k.1))
+        | inr u ↦
+            let k = in_if (holds_of (λ l. has (spot.NoList l)) (named_list (key_head t.name))) (table_row t (codes " has to be in double brackets") []) r u in
+            let at = holds_some (λ l. has (spot.NoList l)) (named_list (key_head t.name)) k.0 in
+            (spot.NoList at.0, at.2, inl ((none, at.1), ap (λ (x : Row). x.line) k.1))
+      ]
+      | inr s ↦ stretch_header_sound c t rest r none s
     ]
   ]
 
@@ -201,7 +256,7 @@ module _ (has : Spot → Bool) where
 
   list_sound : (c : Course) (t : Table) (rest : List Item) (r : Row) (list : TableList) → entry_list t ≡ Some list → Contains (list_rows has list (begun list c) t rest) r → OfTable c t rest r
   list_sound c t rest r Loops is h =
-      let u = in_if (has (spot.Misplaced (begun Loops c))) (table_row t (codes " has its header outside first to last") []) r h in
+      let u = in_if (has (spot.Misplaced (begun Loops c))) (table_row t (codes " has its header outside first to last, or only one of these apart") []) r h in
       (spot.Misplaced (begun Loops c), u.0, inl ((is, refl), ap (λ (x : Row). x.line) u.1))
   list_sound c t rest r Targets is h = elim (Contains-append_cases (unwanted_rows has (begun Targets c) t) (long_rows has (begun Targets c) rest) r h) [
     | inl u ↦
@@ -247,9 +302,8 @@ module _ (has : Spot → Bool) where
         ],
       )
   item_sound c (States p) items places r h =
-      let u = in_if (is_faulty has c p) (value_row p) r h in
-      let s = value_sound c p u.0 in
-      (s.0, s.1, inr (c, States p, in_head (c, States p) places, s.2, ap (λ (x : Row). x.line) u.1))
+      let u = rows_of_value_sound c p r h in
+      (u.0.0, u.0.1, inr (c, States p, in_head (c, States p) places, u.0.2, u.1))
   item_sound c Ends items places r h = absurd (in_none r h)
 
   later : (c : Course) (i : Item) (items : List Item) (places : List (Course × Item)) (r : Row) → OfItems places items r → OfItems ((c, i) ∷ places) (i ∷ items) r
@@ -294,17 +348,49 @@ module _ (has : Spot → Bool) where
     | inr v ↦ extras_sound items r ls v
   ]
 
+  extra_stretch_sound : (items : List Item) (r : Row) → Contains (extra_stretch_rows has items) r → OfText items r
+  extra_stretch_sound items r h = by_test (has spot.TooManyStretches) refl h
+    where
+      by_item : (i : Item) → Contains (past_stretches_rows i) r → r.line ≡ line_of i
+      by_item (Begins t) h = ap (λ (x : Row). x.line) (in_one (table_row t past_stretches []) r h)
+      by_item (States p) h = ap (λ (x : Row). x.line) (in_one (said_row p past_stretches) r h)
+      by_item Ends h = absurd (in_none r h)
+
+      by_first : (o : Option Item) → o ≡ first_after MOST_STRETCHES (stretches_in items) → Contains (extra_stretch_row o) r → (i : Item) × Contains (stretches_in items) i × (r.line ≡ line_of i)
+      by_first None is h = absurd (in_none r h)
+      by_first (Some i) is h = (i, first_in MOST_STRETCHES (stretches_in items) i (sym is), by_item i h)
+
+      by_test : (b : Bool) → has spot.TooManyStretches ≡ b → Contains (if b then extra_stretch_row (first_after MOST_STRETCHES (stretches_in items)) else []) r → OfText items r
+      by_test true e h =
+          let i = by_first (first_after MOST_STRETCHES (stretches_in items)) refl h in
+          (spot.TooManyStretches, e, inr (inr (inr (inl (i.0, refl, i.1, i.2)))))
+      by_test false e h = absurd (in_none r h)
+
+  all_extra_sound : (items : List Item) (r : Row) → Contains (extra_rows has items) r → OfText items r
+  all_extra_sound items r h = elim (Contains-append_cases (rows_of_limits has limits items) (extra_stretch_rows has items) r h) [
+    | inl u ↦ extras_sound items r limits u
+    | inr u ↦ extra_stretch_sound items r u
+  ]
+
   whole_sound : (items : List Item) (r : Row) → Contains (whole_rows has items) r → OfText items r
   whole_sound items r h = elim (Contains-append_cases (row_if (has (spot.Own (Missing key.Entry))) (record { line = 1; text = codes "the statement has no entry" })) (extra_rows has items) r h) [
     | inl u ↦
         let k = in_if (has (spot.Own (Missing key.Entry))) (record { line = 1; text = codes "the statement has no entry" }) r u in
         (spot.Own (Missing key.Entry), k.0, inl (refl, ap (λ (x : Row). x.line) k.1))
-    | inr u ↦ extras_sound items r limits u
+    | inr u ↦ all_extra_sound items r u
   ]
 
   -- a row is of a spot that has the fault
   pub row_sound : (items : List Item) (r : Row) → Contains (all_rows has items) r → OfText items r
   row_sound items r h = elim (Contains-append_cases (whole_rows has items) (rows has at_front items) r h) [
     | inl u ↦ whole_sound items r u
-    | inr u ↦ let s = rows_sound at_front items r u in (s.0, s.1, inr (inr s.2))
+    | inr u ↦
+        let s = rows_sound at_front items r u in (
+          s.0,
+          s.1,
+          elim s.2 [
+            | inl l ↦ inr (inr (inl l))
+            | inr l ↦ inr (inr (inr (inr l)))
+          ],
+        )
   ]

@@ -17,7 +17,7 @@ use Rattle.control_flow.specs.Places.{place_at, place_cmp}
 use Rattle.control_flow.specs.Search.{by_order}
 use Rattle.control_flow.proofs.Firsts.{whole_range}
 use Rattle.control_flow.proofs.LabelLemmas.{only_one}
-use Rattle.statement.specs.declared.stated.Loop.{Loop}
+use Rattle.statement.specs.Stated.{StatedLoops}
 use Rattle.loop_bounds.specs.Nest.{HasUnboundedCycle, IsPlainEdge}
 use Rattle.loop_bounds.proofs.Positions.{index_found, index_inside, places_once}
 use Rattle.text_refusals.specs.Cycles.{AreMarks, IsCleared, IsClosed, IsIdle, IsOn, IsOnceRound, IsOpen, IsPath, IsPathTo, LeadToCleared}
@@ -50,7 +50,7 @@ pairs_next R xs y pairs k d lt =
     subst (λ x. R x y) (get_or_append_left xs (y ∷ []) d k lt)
     (subst (λ z. R (get_or (xs ++ y ∷ []) k d) z) (get_or-append_seam xs y [] d) (pairs k (length xs) d lt within))
 
-module _ (flow : Flow) (loops : List Loop) where
+module _ (flow : Flow) (loops : StatedLoops) where
   split_last : (p q : Place) (path : List Edge) (e : Edge) → IsPath flow loops p (path ++ e ∷ []) q → IsPath flow loops p path e.from × IsPlainEdge flow loops e × (e.to ≡ q)
   split_last p q [] e leads = (sym leads.1, leads.0, leads.2)
   split_last p q (x ∷ path) e leads =

@@ -1,5 +1,5 @@
 -- Where in its document each item of a statement's text is: of which entry of which list, and which of its
--- destinations, by the tables and values before it.
+-- destinations or of its ends, by the tables and values before it.
 use Rattle.std.specs.Prelude.{◌==◌, ◌&&◌, ◌+◌, ◌<◌, not, ℕ, Bool, List, codes, drop, length, take}
 use Rattle.std.specs.Prelude.{Option, Some, None, if◌then◌else◌}
 use Rattle.std.specs.List.{prefix_len}
@@ -49,6 +49,18 @@ value_list p = if length p.list == 0 && p.depth == 1 then named_list p.key else 
 abbrev pub is_destination : KeyValue → Bool
 is_destination p = not (length p.list == 0) && is_at_key 1 (codes "to") p
 
+-- the value is an entry of the list of stretches apart
+abbrev pub is_stretch : KeyValue → Bool
+is_stretch p = length p.list == 0 && is_at_key 1 (codes "apart") p
+
+-- the value is one of such an entry
+abbrev pub is_end : KeyValue → Bool
+is_end p = length p.list == 0 && is_at_key 2 (codes "apart") p
+
+-- the table is an entry of that list, where none may be
+abbrev pub is_stretch_table : Table → Bool
+is_stretch_table t = t.is_listed && bytes_eq t.name (codes "apart")
+
 -- ## Courses
 
 abbrev pub at_front : Course
@@ -62,6 +74,8 @@ at_front =
       branches = 0;
       entry = None;
       destinations = 0;
+      stretches = 0;
+      ends = 0;
     }
 
 -- how many entries of the list have begun
@@ -91,13 +105,29 @@ abbrev pub entered : Option TableList → Course → Course
 entered None c = record c { entry = None; destinations = 0 }
 entered (Some list) c = record (counted list c) { entry = Some (list, begun list c); destinations = 0 }
 
--- a value was passed: a destination, an entry of a list, or neither
+-- one stretch apart more
+abbrev pub stretched : Course → Course
+stretched c = record c { stretches = c.stretches + 1; ends = 0 }
+
+-- the same, by a table
+abbrev pub stretch_entered : Course → Course
+stretch_entered c = record c { entry = None; destinations = 0; stretches = c.stretches + 1; ends = 0 }
+
+abbrev pub begun_table : Table → Course → Course
+begun_table t c = if is_stretch_table t then stretch_entered c else entered (entry_list t) c
+
+-- a value outside tables was passed: a stretch apart, one of its ends, an entry of a list, or none of these
+abbrev pub passed_own : KeyValue → Course → Course
+passed_own p c =
+    if is_stretch p then stretched c
+    else (if is_end p then record c { ends = c.ends + 1 } else counted_if (value_list p) c)
+
+-- a value was passed
 abbrev pub passed : KeyValue → Course → Course
-passed p c =
-    if is_destination p then record c { destinations = c.destinations + 1 } else counted_if (value_list p) c
+passed p c = if is_destination p then record c { destinations = c.destinations + 1 } else passed_own p c
 
 abbrev pub after : Course → Item → Course
-after c (Begins t) = entered (entry_list t) c
+after c (Begins t) = begun_table t c
 after c (States p) = passed p c
 after c Ends = c
 
@@ -110,3 +140,5 @@ pub record HasRoom (c : Course) : Type 0 where
   pub multiplies : c.multiplies + 1 < 18446744073709551616
   pub branches : c.branches + 1 < 18446744073709551616
   pub destinations : c.destinations + 1 < 18446744073709551616
+  pub stretches : c.stretches + 1 < 18446744073709551616
+  pub ends : c.ends + 1 < 18446744073709551616

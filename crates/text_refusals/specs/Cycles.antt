@@ -7,13 +7,13 @@ use Rattle.control_flow.specs.declared.places.Place.{Place}
 use Rattle.control_flow.specs.declared.edges.Edge.{Edge}
 use Rattle.control_flow.specs.Flow.{Flow, edge_shape}
 use Rattle.control_flow.specs.Places.{place_at}
-use Rattle.statement.specs.declared.stated.Loop.{Loop}
+use Rattle.statement.specs.Stated.{StatedLoops}
 use Rattle.loop_bounds.specs.Instance.{is_back_edge_of}
 use Rattle.loop_bounds.specs.Nest.{HasUnboundedCycle, IsPlainEdge}
 use Rattle.text_refusals.specs.declared.search.CycleSearch.{CycleSearch}
 
 -- the edges, in their order, are a cycle without a back edge
-pub record IsCycleOf (flow : Flow) (loops : List Loop) (edges : List Edge) : Type 0 where
+pub record IsCycleOf (flow : Flow) (loops : StatedLoops) (edges : List Edge) : Type 0 where
   pub cycle : HasUnboundedCycle flow loops
   pub edges_are : edges ≡ cycle.first ∷ cycle.rest
 
@@ -24,12 +24,12 @@ IsOnceRound edges = AllPairs (λ e f. e.from ≢ f.from) edges
 -- ## The search, which clauses of private calls speak of
 
 -- a back edge of one of the loops, inside the calls of the place where it ends
-abbrev pub turns_back : List Loop → Edge → Bool
-turns_back loops e = list_any (λ l. is_back_edge_of l e) loops
+abbrev pub turns_back : StatedLoops → Edge → Bool
+turns_back loops e = list_any (λ l. is_back_edge_of loops.apart l e) loops.list
 
 -- Each place has a mark, and Exit the last one: 0 where the search has shown that no cycle without a back
 -- edge goes through it, 1 on the path at hand, 2 elsewhere.
-module _ (flow : Flow) (loops : List Loop) where
+module _ (flow : Flow) (loops : StatedLoops) where
   abbrev pub IsPath : Place → List Edge → Place → Type 0
   IsPath = Leads edge_shape (IsPlainEdge flow loops)
 

@@ -4,6 +4,7 @@ use Rattle.control_flow.specs.declared.places.Place.{Place}
 use Rattle.control_flow.specs.declared.places.Place.TheVariants.{At}
 use Rattle.control_flow.specs.declared.edges.Edge.{Edge}
 use Rattle.control_flow.specs.Flow.{Flow, HasEdge}
+use Rattle.statement.specs.Stated.{StatedLoops}
 use Rattle.statement.specs.declared.stated.Loop.{Loop}
 use Rattle.loop_bounds.specs.Extents.{found_instance}
 use Rattle.loop_bounds.specs.Instance.{Instance, instance_of, is_header, is_member}
@@ -16,11 +17,11 @@ IsEnteredBy flow i place None = place ≡ flow.entry
 IsEnteredBy flow i place (Some e) = HasEdge flow e × (e.to ≡ place) × (is_member i e.from ≡ false)
 
 -- the instance is entered so at the place, which is not its header
-pub record IsMidEntry (flow : Flow) (loops : List Loop) (m : MidEntry) : Type 0 where
+pub record IsMidEntry (flow : Flow) (loops : StatedLoops) (m : MidEntry) : Type 0 where
   pub mid : HasMidEntry flow loops
-  pub instance_is : mid.instance ≡ found_instance m.instance
+  pub instance_is : mid.instance ≡ found_instance loops.apart m.instance
   pub place_is : mid.place ≡ m.place
-  pub entered_by : IsEnteredBy flow (found_instance m.instance) m.place m.edge
+  pub entered_by : IsEnteredBy flow (found_instance loops.apart m.instance) m.place m.edge
 
 -- ## Of one instance, which clauses of private calls speak of
 
@@ -43,7 +44,7 @@ pub record IsRightlyEntered (flow : Flow) (i : Instance) : Type 0 where
   pub edges : (e : Edge) → HasEdge flow e → enters_mid i e ≡ false
 
 -- nor one of the loops' instances whose header is the place
-abbrev pub AreRightlyEntered : Flow → List Loop → Place → Type 0
+abbrev pub AreRightlyEntered : Flow → StatedLoops → Place → Type 0
 AreRightlyEntered flow loops header =
-    (l : Loop) (list : List ℕ) → Contains loops l → header ≡ At list l.header
-    → IsRightlyEntered flow (instance_of l list)
+    (l : Loop) (list : List ℕ) → Contains loops.list l → header ≡ At list l.header
+    → IsRightlyEntered flow (instance_of loops.apart l list)

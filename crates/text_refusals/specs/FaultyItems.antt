@@ -1,7 +1,8 @@
 -- Which values of a statement's text show a fault of its document, by which spots of the document have it.
-use Rattle.std.specs.Prelude.{◌==◌, ◌&&◌, ◌||◌, not, ℕ, Bool, true, false, List, codes, length}
+use Rattle.std.specs.Prelude.{◌==◌, ◌&&◌, ◌||◌, ◌-◌, not, ℕ, Bool, true, false, List, codes, length}
 use Rattle.std.specs.Prelude.{Option, Some, None, if◌then◌else◌}
 use Rattle.std.specs.Borrow.{Bor}
+use Rattle.std.specs.Str.{bytes_eq}
 use Rattle.toml.specs.View.{table_view}
 use Rattle.image.specs.Labels.{address_of}
 use Rattle.statement.specs.PlaceTests.{found, holds_of}
@@ -12,10 +13,13 @@ use Rattle.statement.specs.declared.spots.Part.{Part}
 use Rattle.statement.specs.declared.spots.Part.TheVariants as part
 use Rattle.statement.specs.declared.spots.Spot.{Spot}
 use Rattle.statement.specs.declared.spots.Spot.TheVariants.{Destination, Listed, NoList, NoTable, Own, Second}
+use Rattle.statement.specs.declared.spots.Spot.TheVariants.{NoStretch, NoStretches, ReversedStretch}
+use Rattle.statement.specs.declared.spots.Spot.TheVariants.{StretchEnd}
 use Rattle.statement.specs.declared.spots.TableList.{TableList}
 use Rattle.statement.specs.declared.spots.TableList.TheVariants.{Loops, Targets, Accesses, Rules, Multiplies}
 use Rattle.statement.specs.declared.spots.TableList.TheVariants.{Branches}
-use Rattle.text_refusals.specs.Courses.{begun, is_at_key, is_destination, key_head, named_list, value_list}
+use Rattle.text_refusals.specs.Courses.{begun, is_at_key, is_destination, is_end, is_stretch, key_head}
+use Rattle.text_refusals.specs.Courses.{named_list, value_list}
 use Rattle.text_refusals.specs.Outline.{Cut, KeyValue, Value}
 use Rattle.text_refusals.specs.declared.asked.Asked.{Asked}
 use Rattle.text_refusals.specs.declared.course.Course.{Course}
@@ -75,6 +79,11 @@ has_no_list has p =
     length p.list == 0
     && (p.depth == 0 && holds_of (λ list. has (NoList list)) (named_list (key_head p.key)))
 
+-- the value is at the key of the stretches apart, and no list
+abbrev pub has_no_stretches : (Spot → Bool) → KeyValue → Bool
+has_no_stretches has p =
+    length p.list == 0 && (p.depth == 0 && (bytes_eq (key_head p.key) (codes "apart") && has NoStretches))
+
 module _ (has : Spot → Bool) (c : Course) where
   -- a part of the table that the value is in has the fault
   abbrev pub has_part : KeyValue → Part → Bool
@@ -98,6 +107,18 @@ module _ (has : Spot → Bool) (c : Course) where
   has_destination p =
       is_destination p && holds_of (λ n. has (Destination n c.destinations)) (target_number c.entry)
 
+  -- the value is an entry of that list, and no list of two values
+  abbrev pub has_no_stretch : KeyValue → Bool
+  has_no_stretch p = is_stretch p && has (NoStretch c.stretches)
+
+  -- or ends before it begins
+  abbrev pub has_reversed_stretch : KeyValue → Bool
+  has_reversed_stretch p = is_stretch p && has (ReversedStretch c.stretches)
+
+  -- the value is an address of the stretch at hand
+  abbrev pub has_end : KeyValue → Bool
+  has_end p = is_end p && has (StretchEnd (c.stretches - 1) c.ends)
+
   -- an earlier entry of the list is of the address, or for a rule of the register, that the value is
   abbrev pub has_second : KeyValue → Bool
   has_second p =
@@ -106,7 +127,7 @@ module _ (has : Spot → Bool) (c : Course) where
 
   -- the value is one of a list's
   abbrev pub is_listed : KeyValue → Bool
-  is_listed p = has_no_table p || (has_destination p || has_second p)
+  is_listed p = has_no_table p || (has_destination p || (has_end p || has_second p))
 
   -- the value has the fault, which is not hidden
   abbrev pub is_shown : KeyValue → Bool

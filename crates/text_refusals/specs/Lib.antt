@@ -9,6 +9,7 @@ pub mod FileCourses
 pub mod FileRows
 pub mod FileTexts
 pub mod MachineSpots
+pub mod Mends
 pub mod Nested
 pub mod Outline
 pub mod Placed

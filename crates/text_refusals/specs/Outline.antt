@@ -167,7 +167,7 @@ pub record Table : Type 0 where
   pub is_listed : Bool
 
 -- a value: its line, the name of its table, empty for the file itself, its key, and how many arrays it is in,
--- where 2 stands for more
+-- where 3 stands for more
 pub record KeyValue : Type 0 where
   pub line : ℕ
   pub list : List ℕ
@@ -212,7 +212,7 @@ nowhere = record { list = []; key = []; depth = 0; is_part = false }
 
 -- in one array more
 abbrev pub in_array : Spot → Spot
-in_array s = record s { depth = if s.depth == 0 then 1 else 2 }
+in_array s = record s { depth = if s.depth == 0 then 1 else (if s.depth == 1 then 2 else 3) }
 
 -- the keys whose values, in so many arrays, are tables of the file
 abbrev pub keys_at : TableKeys → (depth : ℕ) → List (List ℕ)

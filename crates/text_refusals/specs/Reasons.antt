@@ -12,16 +12,17 @@ use Rattle.loop_bounds.specs.Nest.{HasCrossing, HasDeepPlace, HasMidEntry, HasSh
 use Rattle.loop_bounds.specs.Nest.{HasUnboundedCycle}
 use Rattle.loop_bounds.specs.declared.fault.NestFault.{NestFault}
 use Rattle.loop_bounds.specs.declared.fault.NestFault.TheVariants as nest
-use Rattle.statement.specs.Stated.{Stated}
+use Rattle.statement.specs.Stated.{Stated, StatedLoops}
 use Rattle.statement.specs.declared.stated.Loop.{Loop}
 use Rattle.text_refusals.specs.Crossings.{IsCrossing}
 use Rattle.text_refusals.specs.Cycles.{IsCycleOf, IsOnceRound}
 use Rattle.text_refusals.specs.Entries.{IsMidEntry}
 use Rattle.text_refusals.specs.Extents.{IsExtentOf}
+use Rattle.text_refusals.specs.Mends.{IsEntryReason}
 use Rattle.text_refusals.specs.Nested.{IsDeep}
 use Rattle.text_refusals.specs.Rows.{IsRow}
 use Rattle.text_refusals.specs.SharedHeaders.{IsSharedBy}
-use Rattle.text_refusals.specs.Texts.{IsCrossingText, IsCycleText, IsDeepText, IsEntryText, IsFaultText}
+use Rattle.text_refusals.specs.Texts.{IsCrossingText, IsCycleText, IsDeepText, IsFaultText}
 use Rattle.text_refusals.specs.Texts.{shared_text}
 use Rattle.text_refusals.specs.declared.extents.CycleExtent.{CycleExtent}
 use Rattle.text_refusals.specs.declared.word_lines.WordLines.{WordLines}
@@ -33,12 +34,12 @@ Shows {A} Is IsText IsNone text = ((a : A) × Is a × IsText a text) ⊎ (IsNone
 -- ## Loops
 
 -- a cycle, and the extent of the loop that would bound it
-pub record IsUnbounded (flow : Flow) (loops : List Loop) (found : List Edge × CycleExtent) : Type 0 where
+pub record IsUnbounded (flow : Flow) (loops : StatedLoops) (found : List Edge × CycleExtent) : Type 0 where
   pub cycle : IsCycleOf flow loops found.0
   pub once : IsOnceRound found.0
   pub extent : IsExtentOf found.0 found.1
 
-module _ (words : WordLines) (flow : Flow) (loops : List Loop) where
+module _ (words : WordLines) (flow : Flow) (loops : StatedLoops) where
   abbrev pub IsLoopsReason : NestFault → List ℕ → Type 0
   IsLoopsReason nest.UnboundedCycle text =
       Shows
@@ -50,12 +51,12 @@ module _ (words : WordLines) (flow : Flow) (loops : List Loop) where
       Shows (IsCrossing flow loops) (IsCrossingText words) (HasCrossing flow loops → ⊥) text
   IsLoopsReason nest.SharedHeader text =
       Shows
-      (λ (pair : Loop × Loop). IsSharedBy loops pair.0 pair.1)
+      (λ (pair : Loop × Loop). IsSharedBy loops.list pair.0 pair.1)
       (λ pair text. text ≡ shared_text words.lines pair.0 pair.1)
-      (HasSharedHeader loops → ⊥)
+      (HasSharedHeader loops.list → ⊥)
       text
   IsLoopsReason nest.EntersMidLoop text =
-      Shows (IsMidEntry flow loops) (IsEntryText words) (HasMidEntry flow loops → ⊥) text
+      Shows (IsMidEntry flow loops) (IsEntryReason words flow loops) (HasMidEntry flow loops → ⊥) text
   IsLoopsReason nest.NestedTooDeep text =
       Shows (IsDeep flow loops) (IsDeepText words) (HasDeepPlace flow loops → ⊥) text
   IsLoopsReason nest.Memory text = text ≡ []

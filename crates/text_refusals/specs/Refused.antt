@@ -1,6 +1,6 @@
 -- What is named of a statement that is refused: first what is wrong with the whole, and then the values and
 -- the tables that show where its document has the fault, in the order of the text, twenty at most.
-use Rattle.std.specs.Prelude.{◌≡◌, ◌≤◌, ◌⊎◌, ◌↔◌, ◌==◌, ◌+◌, zero, suc, Bool, true, ℕ}
+use Rattle.std.specs.Prelude.{◌≡◌, ◌≤◌, ◌⊎◌, ◌↔◌, ◌==◌, ◌&&◌, ◌+◌, zero, suc, Bool, true, false, ℕ}
 use Rattle.std.specs.Prelude.{List, [], ◌∷◌, ◌++◌, length, take, drop, codes, decimal, count_by}
 use Rattle.std.specs.Prelude.{Option, Some, None, IsSome, IsUtf8, if◌then◌else◌}
 use Rattle.std.specs.Str.{bytes_eq}
@@ -13,17 +13,21 @@ use Rattle.statement.specs.Places.{IsFaultAt, all_keys, key_name, list_key, most
 use Rattle.statement.specs.declared.entries.TheConstants.{MOST_DESTINATIONS}
 use Rattle.statement.specs.declared.faults.StatementFault.{StatementFault}
 use Rattle.statement.specs.declared.faults.StatementFault.TheVariants.{NotToml}
+use Rattle.statement.specs.declared.reading.TheConstants.{MOST_STRETCHES}
 use Rattle.statement.specs.declared.spots.Key.{Key}
 use Rattle.statement.specs.declared.spots.Key.TheVariants as key
 use Rattle.statement.specs.declared.spots.Part.TheVariants as part
 use Rattle.statement.specs.declared.spots.Spot.{Spot}
 use Rattle.statement.specs.declared.spots.Spot.TheVariants.{Listed, Misplaced, NoList, Own, TooMany}
 use Rattle.statement.specs.declared.spots.Spot.TheVariants.{Reversed, TooManyDestinations, Unwanted}
+use Rattle.statement.specs.declared.spots.Spot.TheVariants.{NoStretch, NoStretches, TooManyStretches}
 use Rattle.statement.specs.declared.spots.TableList.{TableList}
 use Rattle.statement.specs.declared.spots.TableList.TheVariants.{Loops, Targets, Accesses, Rules, Multiplies}
 use Rattle.statement.specs.declared.spots.TableList.TheVariants.{Branches}
-use Rattle.text_refusals.specs.Courses.{after, at_front, begun, entry_list, is_at_key, key_head, named_list}
-use Rattle.text_refusals.specs.FaultyItems.{is_faulty, lent}
+use Rattle.text_refusals.specs.Courses.{after, at_front, begun, entry_list, is_at_key, is_stretch}
+use Rattle.text_refusals.specs.Courses.{is_stretch_table, key_head, named_list}
+use Rattle.text_refusals.specs.FaultyItems.{has_no_stretch, has_no_stretches, has_reversed_stretch, is_faulty}
+use Rattle.text_refusals.specs.FaultyItems.{lent}
 use Rattle.text_refusals.specs.Outline.{Array, Bare, Begins, Cut, Ends, InlineTable, Item, KeyValue, Quoted}
 use Rattle.text_refusals.specs.Outline.{States, Table, TableKeys, Value, items_of}
 use Rattle.text_refusals.specs.declared.course.Course.{Course}
@@ -57,6 +61,10 @@ value_text (InlineTable is_empty) = if is_empty then codes "{}" else codes "{..}
 
 abbrev pub value_row : KeyValue → Row
 value_row p = record { line = p.line; text = p.key ++ (codes " = " ++ value_text p.value) }
+
+-- a value, and what is said of it
+abbrev pub said_row : KeyValue → List ℕ → Row
+said_row p words = record { line = p.line; text = (value_row p).text ++ words }
 
 abbrev pub name_text : Table → List ℕ
 name_text t =
@@ -101,11 +109,31 @@ tables_in list (Ends ∷ items) = tables_in list items
 abbrev pub extra_destination_row : Option KeyValue → List Row
 extra_destination_row None = []
 extra_destination_row (Some p) =
-    record {
-      line = p.line;
-      text = (value_row p).text ++ codes " comes after the 64 destinations that a target may have";
-    }
-    ∷ []
+    said_row p (codes " comes after the 64 destinations that a target may have") ∷ []
+
+-- the item is an entry of the list of stretches apart
+abbrev pub is_stretch_item : Item → Bool
+is_stretch_item (Begins t) = is_stretch_table t
+is_stretch_item (States p) = is_stretch p
+is_stretch_item Ends = false
+
+-- those that are
+unfoldable pub stretches_in : List Item → List Item
+stretches_in [] = []
+stretches_in (i ∷ items) = if is_stretch_item i then i ∷ stretches_in items else stretches_in items
+
+abbrev pub past_stretches : List ℕ
+past_stretches = codes " comes after the 256 stretches that a statement may have"
+
+-- the row of an item that comes after the stretches apart that there may be
+abbrev pub past_stretches_rows : Item → List Row
+past_stretches_rows (Begins t) = table_row t past_stretches [] ∷ []
+past_stretches_rows (States p) = said_row p past_stretches ∷ []
+past_stretches_rows Ends = []
+
+abbrev pub extra_stretch_row : Option Item → List Row
+extra_stretch_row None = []
+extra_stretch_row (Some i) = past_stretches_rows i
 
 -- ## Of a table
 
@@ -134,7 +162,7 @@ module _ (has : Spot → Bool) where
 
   abbrev pub misplaced_rows : ℕ → Table → List Row
   misplaced_rows n t =
-      row_if (has (Misplaced n)) (table_row t (codes " has its header outside first to last") [])
+      row_if (has (Misplaced n)) (table_row t (codes " has its header outside first to last, or only one of these apart") [])
 
   abbrev pub reversed_rows : ℕ → Table → List Row
   reversed_rows n t = row_if (has (Reversed n)) (table_row t (codes " has its last before its first") [])
@@ -170,12 +198,26 @@ module _ (has : Spot → Bool) where
   abbrev pub value_table_rows : Table → List Row
   value_table_rows t = no_table_rows t ++ no_list_rows t
 
+  -- a table stands for the stretches apart
+  abbrev pub apart_table_rows : Table → List Row
+  apart_table_rows t =
+      row_if (bytes_eq (key_head t.name) (codes "apart") && has NoStretches)
+      (table_row t (codes " may be no table") [])
+
+  -- or for one of them
+  abbrev pub stretch_table_rows : Course → Table → List Row
+  stretch_table_rows c t =
+      row_if (is_stretch_table t && has (NoStretch c.stretches)) (table_row t (codes " may be no table") [])
+
+  abbrev pub stretch_header_rows : Course → Table → List Row
+  stretch_header_rows c t = apart_table_rows t ++ stretch_table_rows c t
+
   -- a table that is no entry of a list stands for a value of the statement
-  abbrev pub header_rows : Table → List Row
-  header_rows t = unknown_rows t ++ value_table_rows t
+  abbrev pub header_rows : Course → Table → List Row
+  header_rows c t = unknown_rows t ++ (value_table_rows t ++ stretch_header_rows c t)
 
   abbrev pub rows_of_table : Course → Table → List Item → Option TableList → List Row
-  rows_of_table c t items None = header_rows t
+  rows_of_table c t items None = header_rows c t
   rows_of_table c t items (Some list) = entry_rows list (begun list c) t items
 
   abbrev pub table_rows : Course → Table → List Item → List Row
@@ -183,9 +225,24 @@ module _ (has : Spot → Bool) where
 
   -- ## Of a text
 
+  -- what is wrong with one stretch apart
+  abbrev pub one_stretch_rows : Course → KeyValue → List Row
+  one_stretch_rows c p =
+      row_if (has_no_stretch has c p) (said_row p (codes " has to be a list of two addresses"))
+      ++ row_if (has_reversed_stretch has c p) (said_row p (codes " ends before it begins"))
+
+  -- the same, or with the list of them
+  abbrev pub stretch_rows : Course → KeyValue → List Row
+  stretch_rows c p =
+      row_if (has_no_stretches has p) (said_row p (codes " has to be a list of lists of two addresses"))
+      ++ one_stretch_rows c p
+
+  abbrev pub value_rows : Course → KeyValue → List Row
+  value_rows c p = row_if (is_faulty has c p) (value_row p) ++ stretch_rows c p
+
   abbrev pub item_rows : Course → Item → List Item → List Row
   item_rows c (Begins t) items = table_rows c t items
-  item_rows c (States p) items = row_if (is_faulty has c p) (value_row p)
+  item_rows c (States p) items = value_rows c p
   item_rows c Ends items = []
 
   unfoldable pub rows : Course → List Item → List Row
@@ -240,8 +297,13 @@ module _ (has : Spot → Bool) where
   rows_of_limits [] items = []
   rows_of_limits (limit ∷ limits) items = extra_row limit items ++ rows_of_limits limits items
 
+  -- the row of the first stretch apart after those that there may be
+  abbrev pub extra_stretch_rows : List Item → List Row
+  extra_stretch_rows items =
+      if has TooManyStretches then extra_stretch_row (first_after MOST_STRETCHES (stretches_in items)) else []
+
   abbrev pub extra_rows : List Item → List Row
-  extra_rows items = rows_of_limits limits items
+  extra_rows items = rows_of_limits limits items ++ extra_stretch_rows items
 
   -- that there is no entry, and the lists that are too long
   abbrev pub whole_rows : List Item → List Row

@@ -1,5 +1,5 @@
 -- What is printed of a cycle and of an entry.
-use Rattle.std.specs.Prelude.{◌≡◌, ℕ, List, [], ◌++◌, codes, decimal, length, map, Option, Some, None}
+use Rattle.std.specs.Prelude.{◌≡◌, ℕ, List, [], ◌∷◌, ◌++◌, codes, decimal, length, map, Option, Some, None}
 use Rattle.std.specs.BTreeMap.{BTreeMap}
 use Rattle.assembler.specs.Faults.{name}
 use Rattle.control_flow.specs.declared.edges.Edge.{Edge}
@@ -7,7 +7,7 @@ use Rattle.control_flow.specs.declared.faults.BuildFault.{BuildFault}
 use Rattle.control_flow.specs.declared.faults.BuildFault.TheVariants as build
 use Rattle.control_flow.specs.declared.faulty.FaultyPlace.{FaultyPlace}
 use Rattle.control_flow.specs.declared.places.Place.{Place}
-use Rattle.loop_bounds.specs.Keys.{key_of}
+use Rattle.control_flow.specs.declared.places.Place.TheVariants.{At, Exit}
 use Rattle.loop_bounds.specs.declared.loop_instances.LoopInstance.{LoopInstance}
 use Rattle.statement.specs.declared.stated.Loop.{Loop}
 use Rattle.text_rows.specs.Rows.{AreRows}
@@ -130,10 +130,15 @@ nine = codes "Nine calls, each inside the one before it; eight is the most:\n"
 abbrev pub leads : List ℕ
 leads = codes "No word is there. This leads to it:\n"
 
--- the calls that a place is inside of, the outermost first, and then its own word
+-- the calls that a place is inside of, the outermost first, and then its own address
+abbrev pub chain_of : Place → List ℕ
+chain_of (At calls address) = calls ++ address ∷ []
+chain_of Exit = []
+
+-- the rows of their words
 abbrev pub IsChainText : WordLines → Place → List ℕ → Type 0
 IsChainText words place text =
-    (rows : List ℕ) × AreRows (IsRow words) (key_of place) rows × (text ≡ nine ++ rows)
+    (rows : List ℕ) × AreRows (IsRow words) (chain_of place) rows × (text ≡ nine ++ rows)
 
 -- the word where the edge begins; nothing where the handler begins at the place
 abbrev pub IsLeadText : WordLines → Option Edge → List ℕ → Type 0

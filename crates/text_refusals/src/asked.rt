@@ -2,7 +2,9 @@ ghost use Rattle.std.specs.Prelude.{◌≡◌};
 ghost use Rattle.text_refusals.specs.FaultyItems.{is_cut, is_hidden, may_be_text, second_key, target_number};
 ghost use Rattle.text_refusals.specs.Outline.{key_value_of, value_of};
 
-use crate::course::{Course, is_at_key, is_destination, key_head, named_list, value_list};
+use crate::course::{
+    Course, is_at_key, is_destination, is_end, is_stretch, key_head, named_list, value_list,
+};
 use crate::outline::KeyValue;
 use crate::outline_tokens::OutlineValue;
 use statement::{Document, Key, Part, Spot, StatementFault, TableList, named_key};
@@ -73,7 +75,8 @@ pub(crate) struct Asked<'a> {
 
 impl Asked<'_> {
     ghost use Rattle.text_refusals.specs.FaultyItems.{has_destination, has_in, has_no_list, has_no_table};
-    ghost use Rattle.text_refusals.specs.FaultyItems.{has_part, has_second, has_unknown, has_value};
+    ghost use Rattle.text_refusals.specs.FaultyItems.{has_end, has_no_stretch, has_no_stretches, has_part};
+    ghost use Rattle.text_refusals.specs.FaultyItems.{has_reversed_stretch, has_second, has_unknown, has_value};
     ghost use Rattle.text_refusals.specs.FaultyItems.{is_faulty, is_listed, is_shown};
 
     /// Whether the spot of the document has the fault.
@@ -152,6 +155,38 @@ impl Asked<'_> {
         }
     }
 
+    /// Whether the value is at the key of the stretches apart, and no list.
+    pub(crate) fn has_no_stretches(&self, pair: &KeyValue<'_>) -> bool
+        ensures { result ≡ has_no_stretches (has_in self.now) (key_value_of pair.now) }
+    {
+        if !pair.list.is_empty() || pair.depth != 0 {
+            return false;
+        }
+        key_head(pair.key) == b"apart".as_slice() && self.has(Spot::NoStretches)
+    }
+
+    /// Whether the value is a stretch apart, and no list of two values.
+    pub(crate) fn has_no_stretch(&self, course: &Course, pair: &KeyValue<'_>) -> bool
+        ensures { result ≡ has_no_stretch (has_in self.now) course.now (key_value_of pair.now) }
+    {
+        is_stretch(pair) && self.has(Spot::NoStretch(course.stretches))
+    }
+
+    /// Whether the value is a stretch apart that ends before it begins.
+    pub(crate) fn has_reversed_stretch(&self, course: &Course, pair: &KeyValue<'_>) -> bool
+        ensures { result ≡ has_reversed_stretch (has_in self.now) course.now (key_value_of pair.now) }
+    {
+        is_stretch(pair) && self.has(Spot::ReversedStretch(course.stretches))
+    }
+
+    // Whether the value is an address of a stretch apart, and has the fault.
+    fn has_end(&self, course: &Course, pair: &KeyValue<'_>) -> bool
+        ensures { result ≡ has_end (has_in self.now) course.now (key_value_of pair.now) }
+    {
+        let stretch = course.stretches.saturating_sub(1);
+        is_end(pair) && self.has(Spot::StretchEnd(stretch, course.ends))
+    }
+
     // Whether an earlier entry of the list is of the address, or for a rule of the register, that the value
     // is.
     fn has_second(&self, course: &Course, pair: &KeyValue<'_>) -> bool
@@ -176,6 +211,9 @@ impl Asked<'_> {
             return true;
         }
         if self.has_destination(course, pair) {
+            return true;
+        }
+        if self.has_end(course, pair) {
             return true;
         }
         self.has_second(course, pair)

@@ -2,8 +2,9 @@ ghost use Rattle.std.specs.Prelude.{◌≡◌, ◌≤◌, length};
 ghost use Rattle.std.specs.List.{prefix_len};
 ghost use Rattle.text_refusals.specs.Courses.{HasRoom, after, at_front, begun, counted, entered, entry_list};
 ghost use Rattle.text_refusals.specs.Courses.{inner_key, is_inner};
-ghost use Rattle.text_refusals.specs.Courses.{is_at_key, is_destination, key_head, named_list, passed};
-ghost use Rattle.text_refusals.specs.Courses.{value_list};
+ghost use Rattle.text_refusals.specs.Courses.{is_at_key, is_destination, is_end, is_stretch};
+ghost use Rattle.text_refusals.specs.Courses.{is_stretch_table, key_head, named_list, passed};
+ghost use Rattle.text_refusals.specs.Courses.{begun_table, passed_own, stretched, value_list};
 ghost use Rattle.text_refusals.specs.Outline.{item_of, key_value_of, table_of};
 
 use crate::outline::{KeyValue, OutlineItem, OutlineTable};
@@ -24,6 +25,10 @@ pub(crate) struct Course {
     pub entry: Option<(TableList, usize)>,
     /// How many of its destinations came before.
     pub destinations: usize,
+    /// How many stretches apart have begun.
+    pub stretches: usize,
+    /// How many values of the last of them came before.
+    pub ends: usize,
 }
 
 /// The list that a word names.
@@ -112,6 +117,27 @@ pub(crate) fn is_destination(pair: &KeyValue<'_>) -> bool
     !pair.list.is_empty() && is_at_key(1, b"to", pair)
 }
 
+/// Whether the value is a stretch apart.
+pub(crate) fn is_stretch(pair: &KeyValue<'_>) -> bool
+    ensures { result ≡ is_stretch (key_value_of pair.now) }
+{
+    pair.list.is_empty() && is_at_key(1, b"apart", pair)
+}
+
+/// Whether the value is one of a stretch apart.
+pub(crate) fn is_end(pair: &KeyValue<'_>) -> bool
+    ensures { result ≡ is_end (key_value_of pair.now) }
+{
+    pair.list.is_empty() && is_at_key(2, b"apart", pair)
+}
+
+/// Whether the table is a stretch apart, where none may be.
+pub(crate) fn is_stretch_table(table: &OutlineTable<'_>) -> bool
+    ensures { result ≡ is_stretch_table (table_of table.now) }
+{
+    table.is_listed && table.name == b"apart".as_slice()
+}
+
 impl Course {
     /// At the front of a text.
     pub(crate) fn new() -> Course
@@ -126,6 +152,8 @@ impl Course {
             branches: 0,
             entry: None,
             destinations: 0,
+            stretches: 0,
+            ends: 0,
         }
     }
 
@@ -178,6 +206,38 @@ impl Course {
         }
     }
 
+    // With one stretch apart more.
+    fn stretched(self) -> Course
+        requires { HasRoom self }
+        ensures { result ≡ stretched self }
+    {
+        Course {
+            stretches: self.stretches + 1,
+            ends: 0,
+            ..self
+        }
+    }
+
+    // After a value outside tables.
+    fn passed_own(self, pair: &KeyValue<'_>) -> Course
+        requires { HasRoom self }
+        ensures { result ≡ passed_own (key_value_of pair.now) self }
+    {
+        if is_stretch(pair) {
+            return self.stretched();
+        }
+        if is_end(pair) {
+            return Course {
+                ends: self.ends + 1,
+                ..self
+            };
+        }
+        match value_list(pair) {
+            Some(list) => self.counted(list),
+            None => self,
+        }
+    }
+
     // After a value.
     fn passed(self, pair: &KeyValue<'_>) -> Course
         requires { HasRoom self }
@@ -189,10 +249,24 @@ impl Course {
                 ..self
             };
         }
-        match value_list(pair) {
-            Some(list) => self.counted(list),
-            None => self,
+        self.passed_own(pair)
+    }
+
+    // After a table has begun.
+    fn begun_table(self, table: &OutlineTable<'_>) -> Course
+        requires { HasRoom self }
+        ensures { result ≡ begun_table (table_of table.now) self }
+    {
+        if is_stretch_table(table) {
+            return Course {
+                entry: None,
+                destinations: 0,
+                stretches: self.stretches + 1,
+                ends: 0,
+                ..self
+            };
         }
+        self.entered(entry_list(table))
     }
 
     /// After the item.
@@ -201,7 +275,7 @@ impl Course {
         ensures { result ≡ after self (item_of item.now) }
     {
         match item {
-            OutlineItem::Begins(table) => self.entered(entry_list(table)),
+            OutlineItem::Begins(table) => self.begun_table(table),
             OutlineItem::States(pair) => self.passed(pair),
             OutlineItem::Ends => self,
         }

@@ -4,12 +4,12 @@ ghost use Rattle.loop_bounds.specs.Extents.{found_instance};
 ghost use Rattle.loop_bounds.specs.Instance.{IsInstance};
 ghost use Rattle.loop_bounds.specs.Nest.{HasCrossing};
 ghost use Rattle.control_flow.specs.declared.places.Place.TheVariants.{At};
-ghost use Rattle.text_refusals.specs.Crossings.{AreApart, CrossNone, CrossNoneAt, IsCrossing, ShowsCrossing};
-ghost use Rattle.text_refusals.specs.Crossings.{is_own, is_shared};
+ghost use Rattle.text_refusals.specs.Crossings.{CrossNone, CrossNoneAt, DoNotCross, IsCrossing};
+ghost use Rattle.text_refusals.specs.Crossings.{ShowsCrossing, is_own, is_shared};
 
 use control_flow::{Calls, Graph, Place};
 use loop_bounds::{LoopInstance, has_place};
-use statement::Loop;
+use statement::{ApartWords, StatedLoops};
 
 /// Two instances of loops that cross, and places that show it.
 #[derive(Clone, Copy)]
@@ -24,49 +24,70 @@ pub struct Crossing {
     pub other_has: Place,
 }
 
-fn is_shared(one: &LoopInstance, other: &LoopInstance, place: &Place) -> bool
-    ensures { result ≡ is_shared (found_instance one.now) (found_instance other.now) place.now }
+fn is_shared(apart: &ApartWords, one: &LoopInstance, other: &LoopInstance, place: &Place) -> bool
+    ensures { result
+        ≡ is_shared (found_instance apart.now one.now) (found_instance apart.now other.now) place.now }
 {
-    one.is_member(place) && other.is_member(place)
+    one.is_member(apart, place) && other.is_member(apart, place)
 }
 
-fn is_own(one: &LoopInstance, other: &LoopInstance, place: &Place) -> bool
-    ensures { result ≡ is_own (found_instance one.now) (found_instance other.now) place.now }
+fn is_own(apart: &ApartWords, one: &LoopInstance, other: &LoopInstance, place: &Place) -> bool
+    ensures { result
+        ≡ is_own (found_instance apart.now one.now) (found_instance apart.now other.now) place.now }
 {
-    one.is_member(place) && !other.is_member(place)
+    one.is_member(apart, place) && !other.is_member(apart, place)
 }
 
 // A member of both instances.
-fn shared_place<'a>(graph: &'a Graph, one: &LoopInstance, other: &LoopInstance) -> Option<&'a Place>
+fn shared_place<'a>(
+    graph: &'a Graph,
+    apart: &ApartWords,
+    one: &LoopInstance,
+    other: &LoopInstance,
+) -> Option<&'a Place>
     ensures { option_map (λ place. place.now) result
-        ≡ find (is_shared (found_instance one.now) (found_instance other.now)) graph.now.places }
+        ≡ find (is_shared (found_instance apart.now one.now) (found_instance apart.now other.now))
+        graph.now.places }
 {
     let places = graph.places();
-    places.iter().find(|place| is_shared(one, other, place))
+    places
+        .iter()
+        .find(|place| is_shared(apart, one, other, place))
 }
 
 // A member of the one instance alone.
-fn own_place<'a>(graph: &'a Graph, one: &LoopInstance, other: &LoopInstance) -> Option<&'a Place>
+fn own_place<'a>(
+    graph: &'a Graph,
+    apart: &ApartWords,
+    one: &LoopInstance,
+    other: &LoopInstance,
+) -> Option<&'a Place>
     ensures { option_map (λ place. place.now) result
-        ≡ find (is_own (found_instance one.now) (found_instance other.now)) graph.now.places }
+        ≡ find (is_own (found_instance apart.now one.now) (found_instance apart.now other.now))
+        graph.now.places }
 {
     let places = graph.places();
-    places.iter().find(|place| is_own(one, other, place))
+    places.iter().find(|place| is_own(apart, one, other, place))
 }
 
 // How the two instances cross.
-fn crossing_of(graph: &Graph, one: &LoopInstance, other: &LoopInstance) -> Option<Crossing>
-    ensures shows { IfSome result (ShowsCrossing graph.now one.now other.now) }
+fn crossing_of(
+    graph: &Graph,
+    apart: &ApartWords,
+    one: &LoopInstance,
+    other: &LoopInstance,
+) -> Option<Crossing>
+    ensures shows { IfSome result (ShowsCrossing graph.now apart.now one.now other.now) }
     ensures none { IfNone result
-        (AreApart graph.now (found_instance one.now) (found_instance other.now)) }
+        (DoNotCross graph.now (found_instance apart.now one.now) (found_instance apart.now other.now)) }
 {
-    let Some(shared) = shared_place(graph, one, other) else {
+    let Some(shared) = shared_place(graph, apart, one, other) else {
         return None;
     };
-    let Some(one_has) = own_place(graph, one, other) else {
+    let Some(one_has) = own_place(graph, apart, one, other) else {
         return None;
     };
-    let Some(other_has) = own_place(graph, other, one) else {
+    let Some(other_has) = own_place(graph, apart, other, one) else {
         return None;
     };
     Some(Crossing {
@@ -79,19 +100,20 @@ fn crossing_of(graph: &Graph, one: &LoopInstance, other: &LoopInstance) -> Optio
 }
 
 // How the instance crosses another with its list of calls.
-fn crossing_with(graph: &Graph, loops: &[Loop], one: &LoopInstance) -> Option<Crossing>
-    requires { IsInstance graph.now loops.now (found_instance one.now) }
+fn crossing_with(graph: &Graph, loops: &StatedLoops, one: &LoopInstance) -> Option<Crossing>
+    requires { IsInstance graph.now loops.now (found_instance loops.now.apart one.now) }
     ensures crossing { IfSome result (IsCrossing graph.now loops.now) }
-    ensures none { IfNone result (CrossNone graph.now loops.now (found_instance one.now)) }
+    ensures none { IfNone result
+        (CrossNone graph.now loops.now (found_instance loops.now.apart one.now)) }
 {
-    for stated in loops {
+    for stated in loops.list() {
         let list = one.list;
         if has_place(graph, &Place::At(list, stated.header)) {
             let other = LoopInstance {
                 list,
                 stated: *stated,
             };
-            if let Some(crossing) = crossing_of(graph, one, &other) {
+            if let Some(crossing) = crossing_of(graph, loops.apart(), one, &other) {
                 return Some(crossing);
             }
         }
@@ -100,12 +122,12 @@ fn crossing_with(graph: &Graph, loops: &[Loop], one: &LoopInstance) -> Option<Cr
 }
 
 // How an instance whose header is the place crosses another.
-fn crossing_at(graph: &Graph, loops: &[Loop], list: Calls, address: u32) -> Option<Crossing>
+fn crossing_at(graph: &Graph, loops: &StatedLoops, list: Calls, address: u32) -> Option<Crossing>
     requires { Contains graph.now.places (At list address) }
     ensures crossing { IfSome result (IsCrossing graph.now loops.now) }
     ensures none { IfNone result (CrossNoneAt graph.now loops.now list address) }
 {
-    for stated in loops {
+    for stated in loops.list() {
         if stated.header != address {
             continue;
         }
@@ -122,7 +144,7 @@ fn crossing_at(graph: &Graph, loops: &[Loop], list: Calls, address: u32) -> Opti
 
 /// Two instances of loops that cross, with a place of both and one that each has alone. None where no two
 /// cross.
-pub fn loops_that_cross(graph: &Graph, loops: &[Loop]) -> Option<Crossing>
+pub fn loops_that_cross(graph: &Graph, loops: &StatedLoops) -> Option<Crossing>
     ensures crossing { IfSome result (IsCrossing graph.now loops.now) }
     ensures none { IfNone result (HasCrossing graph.now loops.now → ⊥) }
 {

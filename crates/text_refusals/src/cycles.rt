@@ -4,7 +4,7 @@ ghost use Rattle.text_refusals.specs.Cycles.{IsCycleOf, IsOnceRound};
 
 use crate::search::CycleSearch;
 use control_flow::{Edge, Graph};
-use statement::Loop;
+use statement::StatedLoops;
 use std::alloc::{AllocError, Global};
 
 /// The edges of a cycle of the graph that is a back edge of no instance of the loops, in their order from the
@@ -19,7 +19,7 @@ use std::alloc::{AllocError, Global};
 pub fn unbounded_cycle(
     alloc: Global,
     graph: &Graph,
-    loops: &[Loop],
+    loops: &StatedLoops,
 ) -> Result<Option<Vec<Edge>>, AllocError>
     ensures cycle { IfOk result
         (λ found. IfSome found (λ cycle. IsCycleOf graph.now loops.now cycle.items)) }

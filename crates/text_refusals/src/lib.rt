@@ -16,6 +16,7 @@ mod file_texts;
 mod law;
 mod machine_spots;
 mod members;
+mod mends;
 mod mid_entries;
 mod nested;
 mod no_toml;
@@ -29,6 +30,8 @@ mod search;
 mod shared_headers;
 mod source_faults;
 mod statements;
+mod strangers;
+mod stretch_rows;
 mod word_lines;
 mod word_rows;
 

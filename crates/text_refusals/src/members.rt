@@ -3,7 +3,7 @@ ghost use Rattle.text_refusals.specs.Cycles.{turns_back};
 
 use control_flow::{Calls, Edge};
 use loop_bounds::is_back_edge_of;
-use statement::Loop;
+use statement::StatedLoops;
 
 /// Whether the two are one list of calls.
 pub(crate) fn are_same(list: Calls, other: Calls) -> bool
@@ -13,8 +13,11 @@ pub(crate) fn are_same(list: Calls, other: Calls) -> bool
 }
 
 /// Whether the edge is a back edge of an instance of a loop.
-pub(crate) fn turns_back(loops: &[Loop], edge: &Edge) -> bool
+pub(crate) fn turns_back(loops: &StatedLoops, edge: &Edge) -> bool
     ensures { result ≡ turns_back loops.now edge.now }
 {
-    loops.iter().any(|stated| is_back_edge_of(stated, edge))
+    let apart = loops.apart();
+    let list = loops.list();
+    list.iter()
+        .any(|stated| is_back_edge_of(apart, stated, edge))
 }

@@ -1,16 +1,15 @@
-ghost use Rattle.std.specs.Prelude.{◌≡◌, ◌≢◌, ◌↔◌, Contains, IfNone, IfOk, IfSome, IsTrue, List, MatchBool};
+ghost use Rattle.std.specs.Prelude.{◌≡◌, ◌≢◌, ◌↔◌, Contains, IfNone, IfOk, IfSome, IsTrue, MatchBool};
 ghost use Rattle.std.specs.Prelude.{OnOk, map};
 ghost use Rattle.std.specs.List.Sorted.{IsNonDecreasingBy, IsPermutation};
 ghost use Rattle.loop_bounds.specs.Extents.{found_instance};
 ghost use Rattle.loop_bounds.specs.Nest.{HasDeepPlace};
-ghost use Rattle.statement.specs.declared.stated.Loop.{Loop};
 ghost use Rattle.text_refusals.specs.Nested.{AreInstancesOf, HasAllUpTo, HasAllWith, HasPlace};
 ghost use Rattle.text_refusals.specs.Nested.{HavePlace, IsDeep};
 ghost use Rattle.text_refusals.specs.Nested.{KeepsAll, others};
 
 use control_flow::{Calls, Graph, Place};
 use loop_bounds::{LoopInstance, MOST_INSTANCES, has_place};
-use statement::Loop;
+use statement::{ApartWords, StatedLoops};
 use std::alloc::{AllocError, Global};
 
 /// A place that is in more than sixteen instances of loops, and those.
@@ -23,15 +22,14 @@ pub struct DeepPlace {
 
 // Whether the two are one instance.
 fn are_same(one: &LoopInstance, other: &LoopInstance) -> bool
-    ensures { MatchBool result (found_instance one.now ≡ found_instance other.now)
-        (found_instance one.now ≢ found_instance other.now) }
+    ensures { MatchBool result (one.now ≡ other.now) (one.now ≢ other.now) }
 {
     one.list == other.list && one.stated == other.stated
 }
 
 // Whether the instance is among those.
 fn is_among(found: &[LoopInstance], one: &LoopInstance) -> bool
-    ensures { IsTrue result ↔ Contains (map found_instance found.now) (found_instance one.now) }
+    ensures { IsTrue result ↔ Contains found.now one.now }
 {
     for other in found {
         if are_same(other, one) {
@@ -42,32 +40,34 @@ fn is_among(found: &[LoopInstance], one: &LoopInstance) -> bool
 }
 
 // Whether it is an instance that has the place.
-fn has_member(graph: &Graph, one: &LoopInstance, place: &Place) -> bool
-    ensures { IsTrue result ↔ HasPlace graph.now place.now (found_instance one.now) }
+fn has_member(graph: &Graph, apart: &ApartWords, one: &LoopInstance, place: &Place) -> bool
+    ensures { IsTrue result
+        ↔ HasPlace graph.now place.now (found_instance apart.now one.now) }
 {
-    one.is_member(place) && has_place(graph, &Place::At(one.list, one.stated.header))
+    one.is_member(apart, place) && has_place(graph, &Place::At(one.list, one.stated.header))
 }
 
 /// Of which loops instances are looked for, and the place that they are to have.
 #[derive(Clone, Copy)]
 pub(crate) struct Wanted<'a> {
     graph: &'a Graph,
-    loops: &'a [Loop],
+    loops: &'a StatedLoops,
     place: &'a Place,
 }
 
 impl Wanted<'_> {
     // Adds the instance, if it has the place and is not there yet.
     fn add(&self, found: &mut Vec<LoopInstance>, one: &LoopInstance) -> Result<(), AllocError>
-        ensures have { Contains self.now.loops.now one.now.stated
+        ensures have { Contains self.now.loops.now.list one.now.stated
             → HavePlace self.now.graph.now self.now.loops.now self.now.place.now found.old.items
             → OnOk result
             (HavePlace self.now.graph.now self.now.loops.now self.now.place.now found.new.items) }
         ensures kept { OnOk result (KeepsAll found.old.items found.new.items) }
-        ensures added { HasPlace self.now.graph.now self.now.place.now (found_instance one.now)
-            → OnOk result (Contains (map found_instance found.new.items) (found_instance one.now)) }
+        ensures added { HasPlace self.now.graph.now self.now.place.now
+            (found_instance self.now.loops.now.apart one.now)
+            → OnOk result (Contains found.new.items one.now) }
     {
-        if !has_member(self.graph, one, self.place) {
+        if !has_member(self.graph, self.loops.apart(), one, self.place) {
             return Ok(());
         }
         if is_among(found, one) {
@@ -86,7 +86,7 @@ impl Wanted<'_> {
         ensures all { OnOk result
             (HasAllWith self.now.graph.now self.now.loops.now self.now.place.now list found.new.items) }
     {
-        for stated in self.loops {
+        for stated in self.loops.list() {
             let one = LoopInstance {
                 list,
                 stated: *stated,
@@ -116,11 +116,12 @@ impl Wanted<'_> {
 fn instances_of(
     alloc: Global,
     graph: &Graph,
-    loops: &[Loop],
+    loops: &StatedLoops,
     place: &Place,
 ) -> Result<Vec<LoopInstance>, AllocError>
     ensures { IfOk result
-        (λ found. AreInstancesOf graph.now loops.now place.now (map found_instance found.items)) }
+        (λ found. AreInstancesOf graph.now loops.now place.now
+        (map (found_instance loops.now.apart) found.items)) }
 {
     let mut found = Vec::new(alloc);
     if let Place::At(calls, _) = place {
@@ -135,19 +136,22 @@ fn instances_of(
 }
 
 // How many places of the graph are no members.
-fn others(graph: &Graph, one: &LoopInstance) -> usize
-    ensures { result ≡ others graph.now (found_instance one.now) }
+fn others(graph: &Graph, apart: &ApartWords, one: &LoopInstance) -> usize
+    ensures { result ≡ others graph.now (found_instance apart.now one.now) }
 {
     let places = graph.places();
-    places.iter().filter(|place| !one.is_member(place)).count()
+    places
+        .iter()
+        .filter(|place| !one.is_member(apart, place))
+        .count()
 }
 
 // Puts the instances with more members first.
-fn put_in_order(graph: &Graph, found: &mut [LoopInstance])
+fn put_in_order(graph: &Graph, apart: &ApartWords, found: &mut [LoopInstance])
     ensures moved { IsPermutation found.old found.new }
-    ensures ordered { IsNonDecreasingBy (λ f. others graph.now (found_instance f)) found.new }
+    ensures ordered { IsNonDecreasingBy (λ f. others graph.now (found_instance apart.now f)) found.new }
 {
-    found.sort_unstable_by_key(|one| others(graph, one));
+    found.sort_unstable_by_key(|one| others(graph, apart, one));
 }
 
 /// A place that is in more than sixteen instances of loops, and those: all of them, the outermost first where
@@ -159,7 +163,7 @@ fn put_in_order(graph: &Graph, found: &mut [LoopInstance])
 pub fn deep_place(
     alloc: Global,
     graph: &Graph,
-    loops: &[Loop],
+    loops: &StatedLoops,
 ) -> Result<Option<DeepPlace>, AllocError>
     ensures deep { IfOk result (λ found. IfSome found (IsDeep graph.now loops.now)) }
     ensures none { IfOk result (λ found. IfNone found (HasDeepPlace graph.now loops.now → ⊥)) }
@@ -167,7 +171,7 @@ pub fn deep_place(
     for place in graph.places() {
         let mut instances = instances_of(alloc, graph, loops, place)?;
         if instances.len() > MOST_INSTANCES {
-            put_in_order(graph, &mut instances);
+            put_in_order(graph, loops.apart(), &mut instances);
             return Ok(Some(DeepPlace {
                 place: *place,
                 instances,

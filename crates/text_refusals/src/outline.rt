@@ -30,7 +30,7 @@ pub(crate) struct KeyValue<'a> {
     /// The name of its table, empty for the file itself.
     pub list: &'a [u8],
     pub key: &'a [u8],
-    /// How many arrays the value is in, 0 to 2, which stands for more.
+    /// How many arrays the value is in, 0 to 3, which stands for more.
     pub depth: u8,
     pub value: OutlineValue<'a>,
 }
@@ -75,7 +75,7 @@ pub(crate) struct OutlineCursor<'a> {
     list: &'a [u8],
     // the last key
     key: &'a [u8],
-    // how many arrays are open after the key, 0 to 2, which stands for more
+    // how many arrays are open after the key, 0 to 3, which stands for more
     depth: u8,
     // whether it is a table that the file may have
     is_part: bool,
@@ -108,7 +108,11 @@ impl<'a> OutlineCursor<'a> {
     fn in_array(self) -> OutlineCursor<'a>
         ensures { spot_of result ≡ in_array (spot_of self.entry) }
     {
-        let depth = if self.depth == 0 { 1 } else { 2 };
+        let depth = match self.depth {
+            0 => 1,
+            1 => 2,
+            _ => 3,
+        };
         OutlineCursor {
             list: self.list,
             key: self.key,

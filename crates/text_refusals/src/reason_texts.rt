@@ -1,10 +1,9 @@
 ghost use Rattle.std.specs.Prelude.{◌≡◌, ◌++◌, [], IfOk, OnOk};
-ghost use Rattle.loop_bounds.specs.Keys.{key_of};
 ghost use Rattle.asm_text.specs.Appended.{Appends};
 ghost use Rattle.text_rows.specs.Rows.{AreRows};
 ghost use Rattle.text_refusals.specs.Rows.{IsPlaceRow, IsRow};
 ghost use Rattle.text_refusals.specs.Texts.{IsCycleText, IsEntryFront, IsEntryText, IsStartRow, IsUnder};
-ghost use Rattle.text_refusals.specs.Texts.{IsChainText, IsFaultText, IsLeadText, addresses_text};
+ghost use Rattle.text_refusals.specs.Texts.{IsChainText, IsFaultText, IsLeadText, addresses_text, chain_of};
 ghost use Rattle.text_refusals.specs.Texts.{IsCrossingText, key_text, loop_text, shared_text};
 ghost use Rattle.text_refusals.specs.Texts.{IsDeepText, headers_of, in_loops, stated_text, two_loops};
 
@@ -277,8 +276,8 @@ fn put_rows(out: &mut Vec<u8>, words: &WordLines<'_>, named: &[u32]) -> Result<(
 }
 
 // The addresses of the calls that a place is inside of, and then its own; none of Exit.
-fn key_of(alloc: Global, place: &Place) -> Result<Vec<u32>, AllocError>
-    ensures { IfOk result (λ chain. chain.items ≡ key_of place.now) }
+fn chain_of(alloc: Global, place: &Place) -> Result<Vec<u32>, AllocError>
+    ensures { IfOk result (λ chain. chain.items ≡ chain_of place.now) }
 {
     match place {
         Place::At(calls, address) => {
@@ -294,7 +293,7 @@ fn key_of(alloc: Global, place: &Place) -> Result<Vec<u32>, AllocError>
 fn chain_text(alloc: Global, words: &WordLines<'_>, place: &Place) -> Result<Vec<u8>, AllocError>
     ensures { IfOk result (λ text. IsChainText words.now place.now text.items) }
 {
-    let chain = key_of(alloc, place)?;
+    let chain = chain_of(alloc, place)?;
     let mut out = Vec::from_slice(alloc, NINE)?;
     put_rows(&mut out, words, &chain)?;
     Ok(out)

@@ -1,6 +1,7 @@
 //! What shows why the flow graph or the loops of a handler are refused.
 
-ghost use Rattle.std.specs.Prelude.{◌≡◌, ◌⊎◌, IfOk};
+ghost use Rattle.std.specs.Prelude.{◌≡◌, ◌⊎◌, IfOk, OnOk};
+ghost use Rattle.asm_text.specs.Appended.{Appends};
 ghost use Rattle.control_flow.specs.Faulty.{AreSound, IsFaultyPlace};
 ghost use Rattle.control_flow.specs.Graph.{IsCrowd};
 ghost use Rattle.loop_bounds.specs.Nest.{HasCrossing, HasDeepPlace, HasMidEntry, HasSharedHeader};
@@ -10,13 +11,15 @@ ghost use Rattle.text_refusals.specs.Entries.{IsMidEntry};
 ghost use Rattle.text_refusals.specs.Nested.{IsDeep};
 ghost use Rattle.text_refusals.specs.Reasons.{IsGraphReason, IsLoopsReason, IsUnbounded, Shows};
 ghost use Rattle.text_refusals.specs.SharedHeaders.{IsSharedBy};
-ghost use Rattle.text_refusals.specs.Texts.{IsCrossingText, IsCycleText, IsDeepText, IsEntryText};
+ghost use Rattle.text_refusals.specs.Texts.{IsCrossingText, IsCycleText, IsDeepText};
+ghost use Rattle.text_refusals.specs.Mends.{IsEntryReason, IsMendText};
 ghost use Rattle.text_refusals.specs.Texts.{IsFaultText, shared_text};
 
 use crate::crossings::loops_that_cross;
 use crate::cycles::unbounded_cycle;
 use crate::extents::extent_of;
-use crate::mid_entries::mid_entry;
+use crate::mends::{mended, put_mend};
+use crate::mid_entries::{MidEntry, mid_entry};
 use crate::nested::deep_place;
 use crate::reason_texts::{
     crossing_text, cycle_text, deep_text, entry_text, place_text, shared_text, word_text,
@@ -26,14 +29,14 @@ use crate::word_lines::WordLines;
 use bus_ticks::Profile;
 use control_flow::{BuildFault, FaultyPlace, Graph, faulty_place, graphs_are_well_formed};
 use loop_bounds::NestFault;
-use statement::{Loop, Statement};
+use statement::{Loop, StatedLoops, Statement};
 use std::alloc::{AllocError, Global};
 
 fn cycle_reason(
     alloc: Global,
     words: &WordLines<'_>,
     graph: &Graph,
-    loops: &[Loop],
+    loops: &StatedLoops,
 ) -> Result<Vec<u8>, AllocError>
     ensures { IfOk result
         (λ text. Shows (IsUnbounded graph.now loops.now) (λ found. IsCycleText words.now found.0 found.1)
@@ -53,7 +56,7 @@ fn crossing_reason(
     alloc: Global,
     words: &WordLines<'_>,
     graph: &Graph,
-    loops: &[Loop],
+    loops: &StatedLoops,
 ) -> Result<Vec<u8>, AllocError>
     ensures { IfOk result
         (λ text. Shows (IsCrossing graph.now loops.now) (IsCrossingText words.now)
@@ -81,18 +84,49 @@ fn shared_reason(
     }
 }
 
+// Adds words apart that mend an entry, if some are found.
+fn put_mended(
+    out: &mut Vec<u8>,
+    words: &WordLines<'_>,
+    graph: &Graph,
+    loops: &StatedLoops,
+    alloc: Global,
+) -> Result<(), AllocError>
+    ensures { OnOk result (Appends (IsMendText words.now graph.now loops.now) out.old.items out.new.items) }
+{
+    match mended(alloc, graph, loops)? {
+        Some(new) => put_mend(out, words, new.apart().stretches()),
+        None => Ok(()),
+    }
+}
+
+// Where a loop is entered, and words apart that mend it.
+fn shown_entry(
+    alloc: Global,
+    words: &WordLines<'_>,
+    graph: &Graph,
+    loops: &StatedLoops,
+    entry: &MidEntry,
+) -> Result<Vec<u8>, AllocError>
+    ensures { IfOk result (λ text. IsEntryReason words.now graph.now loops.now entry.now text.items) }
+{
+    let mut text = entry_text(alloc, words, entry)?;
+    put_mended(&mut text, words, graph, loops, alloc)?;
+    Ok(text)
+}
+
 fn entry_reason(
     alloc: Global,
     words: &WordLines<'_>,
     graph: &Graph,
-    loops: &[Loop],
+    loops: &StatedLoops,
 ) -> Result<Vec<u8>, AllocError>
     ensures { IfOk result
-        (λ text. Shows (IsMidEntry graph.now loops.now) (IsEntryText words.now)
+        (λ text. Shows (IsMidEntry graph.now loops.now) (IsEntryReason words.now graph.now loops.now)
         (HasMidEntry graph.now loops.now → ⊥) text.items) }
 {
     match mid_entry(graph, loops) {
-        Some(entry) => entry_text(alloc, words, &entry),
+        Some(entry) => shown_entry(alloc, words, graph, loops, &entry),
         None => Ok(Vec::new(alloc)),
     }
 }
@@ -101,7 +135,7 @@ fn deep_reason(
     alloc: Global,
     words: &WordLines<'_>,
     graph: &Graph,
-    loops: &[Loop],
+    loops: &StatedLoops,
 ) -> Result<Vec<u8>, AllocError>
     ensures { IfOk result
         (λ text. Shows (IsDeep graph.now loops.now) (IsDeepText words.now)
@@ -124,7 +158,7 @@ pub fn loops_reason(
     alloc: Global,
     words: &WordLines<'_>,
     graph: &Graph,
-    loops: &[Loop],
+    loops: &StatedLoops,
     fault: NestFault,
 ) -> Result<Vec<u8>, AllocError>
     ensures { IfOk result
@@ -133,7 +167,7 @@ pub fn loops_reason(
     match fault {
         NestFault::UnboundedCycle => cycle_reason(alloc, words, graph, loops),
         NestFault::LoopsCross => crossing_reason(alloc, words, graph, loops),
-        NestFault::SharedHeader => shared_reason(alloc, words, loops),
+        NestFault::SharedHeader => shared_reason(alloc, words, loops.list()),
         NestFault::EntersMidLoop => entry_reason(alloc, words, graph, loops),
         NestFault::NestedTooDeep => deep_reason(alloc, words, graph, loops),
         NestFault::Memory => Ok(Vec::new(alloc)),

@@ -3,7 +3,7 @@
 ghost use Rattle.std.specs.Prelude.{◌≡◌, ◌++◌, ◌∷◌, [], IfOk, OnOk};
 ghost use Rattle.text_refusals.specs.Outline.{key_value_of, table_of, value_of};
 ghost use Rattle.text_refusals.specs.Refused.{Adds, name_text, row_if, row_text, table_row, value_row};
-ghost use Rattle.text_refusals.specs.Refused.{value_text};
+ghost use Rattle.text_refusals.specs.Refused.{said_row, value_text};
 
 use crate::outline::{KeyValue, OutlineTable};
 use crate::outline_tokens::OutlineValue;
@@ -138,6 +138,20 @@ impl Report {
             return self.put_row(line, text);
         }
         Ok(())
+    }
+
+    /// Adds a value, and what is said of it.
+    pub(crate) fn put_value_with(
+        &mut self,
+        pair: &KeyValue<'_>,
+        words: &[u8],
+    ) -> Result<(), AllocError>
+        ensures { OnOk result
+            (Adds (said_row (key_value_of pair.now) words.now ∷ []) self.old self.new) }
+    {
+        let mut text = value_text(self.alloc, pair)?;
+        put(&mut text, words)?;
+        self.put_row(pair.line, &text)
     }
 
     pub(crate) fn put_value(&mut self, pair: &KeyValue<'_>) -> Result<(), AllocError>

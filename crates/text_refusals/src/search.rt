@@ -3,7 +3,7 @@ ghost use Rattle.std.specs.Prelude.{[], MatchBool, OnOk, length, replicate, slic
 ghost use Rattle.control_flow.specs.declared.places.Place.TheVariants.{Exit};
 ghost use Rattle.control_flow.specs.Flow.{Flow, HasEdge, IsWellFormed};
 ghost use Rattle.control_flow.specs.Places.{place_at};
-ghost use Rattle.statement.specs.declared.stated.Loop.{Loop};
+ghost use Rattle.statement.specs.Stated.{StatedLoops};
 ghost use Rattle.loop_bounds.specs.Nest.{IsPlainEdge};
 ghost use Rattle.text_refusals.specs.Cycles.{EndsCleared, IsCleared, IsClosed, IsCycleOf, IsEnded};
 ghost use Rattle.text_refusals.specs.Cycles.{IsIdle, IsOnceRound, IsOpen};
@@ -11,7 +11,7 @@ ghost use Rattle.text_refusals.specs.Cycles.{IsSearching, LeadToCleared, steps_l
 
 use crate::members::turns_back;
 use control_flow::{Edge, Graph, Place};
-use statement::Loop;
+use statement::StatedLoops;
 use std::alloc::{AllocError, Global};
 
 /// A depth-first search for a cycle, along the edges that are no back edges.
@@ -38,7 +38,7 @@ fn index_of(graph: &Graph, place: &Place) -> usize
 }
 
 // The index of the place where the edge ends, if that is not cleared and the edge is no back edge.
-fn open_end(graph: &Graph, loops: &[Loop], marks: &[u8], edge: &Edge) -> Option<usize>
+fn open_end(graph: &Graph, loops: &StatedLoops, marks: &[u8], edge: &Edge) -> Option<usize>
     requires well_formed { IsWellFormed graph.now }
     requires has { HasEdge graph.now edge.now }
     requires whole { length marks.now ≡ length graph.now.places + 1 }
@@ -57,7 +57,7 @@ fn open_end(graph: &Graph, loops: &[Loop], marks: &[u8], edge: &Edge) -> Option<
 }
 
 // The first such edge of the place of an index, and the index of the place where it ends.
-fn next_of(graph: &Graph, loops: &[Loop], marks: &[u8], at: usize) -> Option<(Edge, usize)>
+fn next_of(graph: &Graph, loops: &StatedLoops, marks: &[u8], at: usize) -> Option<(Edge, usize)>
     requires inside { at < length graph.now.places }
     requires whole { length marks.now ≡ length graph.now.places + 1 }
     ensures open { IfSome result (λ next. IsOpen graph.now loops.now marks.now next.0 next.1) }
@@ -79,7 +79,7 @@ fn next_of(graph: &Graph, loops: &[Loop], marks: &[u8], at: usize) -> Option<(Ed
 // The end of a path that is closed: from where an edge of it begins at the place where it ends.
 fn cycle_of(alloc: Global, path: &[Edge], end: &Place) -> Result<Vec<Edge>, AllocError>
     ensures cycle { IfOk result
-        (λ cycle. (flow : Flow) (loops : List Loop) → IsClosed flow loops path.now end.now
+        (λ cycle. (flow : Flow) (loops : StatedLoops) → IsClosed flow loops path.now end.now
         → IsCycleOf flow loops cycle.items) }
     ensures once { IfOk result (λ cycle. IsOnceRound path.now → IsOnceRound cycle.items) }
 {
@@ -112,7 +112,7 @@ impl CycleSearch {
 
     // Follows one edge more, to a place that is not cleared, or else clears the place at hand and goes back.
     // Whether the search goes on.
-    fn step(&mut self, graph: &Graph, loops: &[Loop]) -> Result<bool, AllocError>
+    fn step(&mut self, graph: &Graph, loops: &StatedLoops) -> Result<bool, AllocError>
         requires { IsSearching graph.now loops.now self.old }
         ensures state { IfOk result
             (λ goes_on. MatchBool goes_on (IsSearching graph.now loops.now self.new)
@@ -144,7 +144,7 @@ impl CycleSearch {
         &mut self,
         alloc: Global,
         graph: &Graph,
-        loops: &[Loop],
+        loops: &StatedLoops,
         root: &Place,
     ) -> Result<Option<Vec<Edge>>, AllocError>
         requires idle { IsIdle graph.now loops.now self.old }

@@ -3,14 +3,15 @@ ghost use Rattle.image.specs.Labels.{address_of};
 ghost use Rattle.statement.specs.PlaceTests.{holds_of};
 ghost use Rattle.statement.specs.Places.{IsFaultAt, named_key};
 ghost use Rattle.text_refusals.specs.Courses.{at_front, key_head, named_list};
-ghost use Rattle.text_refusals.specs.FaultyItems.{has_in, lent};
+ghost use Rattle.text_refusals.specs.FaultyItems.{has_in, is_faulty, lent};
 ghost use Rattle.text_refusals.specs.Outline.{item_of, items_of, key_value_of, table_of};
 ghost use Rattle.text_refusals.specs.Refused.{Adds, IsRowsText, IsStatementText, all_rows, entry_rows};
 ghost use Rattle.text_refusals.specs.Refused.{extra_destination_row, extra_row, first_after, rows_of_limits};
-ghost use Rattle.text_refusals.specs.Refused.{header_rows, item_rows, limit_of, list_rows, long_rows};
-ghost use Rattle.text_refusals.specs.Refused.{misplaced_rows, missing_row, missing_rows, no_list_rows};
+ghost use Rattle.text_refusals.specs.Refused.{extra_rows, header_rows, item_rows, limit_of, list_rows};
+ghost use Rattle.text_refusals.specs.Refused.{long_rows, misplaced_rows, missing_row, missing_rows};
+ghost use Rattle.text_refusals.specs.Refused.{no_list_rows, value_rows};
 ghost use Rattle.text_refusals.specs.Refused.{no_table_rows, reversed_rows, rows, shown, stated_at};
-ghost use Rattle.text_refusals.specs.Refused.{statement_tables};
+ghost use Rattle.text_refusals.specs.Refused.{row_if, statement_tables, value_row};
 ghost use Rattle.text_refusals.specs.Refused.{table_rows, tables_in, target_rows, unknown_rows};
 ghost use Rattle.text_refusals.specs.Refused.{unwanted_rows, value_table_rows, whole_rows};
 
@@ -18,7 +19,7 @@ use crate::asked::Asked;
 use crate::course::{Course, entry_list, is_at_key, key_head, named_list};
 use crate::no_toml::no_toml_text;
 use crate::outline::{KeyValue, OutlineItem, OutlineTable, TableKeys, items_of};
-use crate::report::{Report, value_text};
+use crate::report::Report;
 use crate::word_rows::MOST_LINES;
 use image::Labels;
 use statement::{
@@ -26,7 +27,6 @@ use statement::{
     list_key, most_of, named_key,
 };
 use std::alloc::{AllocError, Global};
-use text_rows::put;
 use toml_reading::document;
 
 // The keys of a statement whose values are tables.
@@ -178,12 +178,8 @@ impl Report {
         let Some(pair) = value_after(MOST_DESTINATIONS, 1, b"to", rest) else {
             return Ok(());
         };
-        let mut text = value_text(self.alloc, &pair)?;
-        put(
-            &mut text,
-            b" comes after the 64 destinations that a target may have",
-        )?;
-        self.put_row(pair.line, &text)
+        let words = b" comes after the 64 destinations that a target may have";
+        self.put_value_with(&pair, words)
     }
 
     // Adds that a target has destinations and may have none.
@@ -246,7 +242,7 @@ impl Report {
             self.old self.new) }
     {
         if asked.has(Spot::Misplaced(entry.index)) {
-            let words = b" has its header outside first to last";
+            let words = b" has its header outside first to last, or only one of these apart";
             return self.put_table(entry.table, words, b"");
         }
         Ok(())
@@ -364,13 +360,15 @@ impl Report {
     fn put_of_header(
         &mut self,
         asked: &Asked<'_>,
+        course: &Course,
         table: &OutlineTable<'_>,
     ) -> Result<(), AllocError>
         ensures { OnOk result
-            (Adds (header_rows (has_in asked.now) (table_of table.now)) self.old self.new) }
+            (Adds (header_rows (has_in asked.now) course.now (table_of table.now)) self.old self.new) }
     {
         self.put_if_unknown(asked, table)?;
-        self.put_if_table(asked, table)
+        self.put_if_table(asked, table)?;
+        self.put_stretch_header(asked, course, table)
     }
 
     // Adds what is wrong with a table.
@@ -394,8 +392,40 @@ impl Report {
                 };
                 self.put_of_entry(asked, &entry, rest)
             }
-            None => self.put_of_header(asked, table),
+            None => self.put_of_header(asked, course, table),
         }
+    }
+
+    // Adds the value, if it has the fault.
+    fn put_if_faulty(
+        &mut self,
+        asked: &Asked<'_>,
+        course: &Course,
+        pair: &KeyValue<'_>,
+    ) -> Result<(), AllocError>
+        ensures { OnOk result
+            (Adds (row_if (is_faulty (has_in asked.now) course.now (key_value_of pair.now))
+            (value_row (key_value_of pair.now))) self.old self.new) }
+    {
+        if asked.is_faulty(course, pair) {
+            return self.put_value(pair);
+        }
+        Ok(())
+    }
+
+    // Adds what is wrong with a value.
+    #[tactic(auto, using(crate::proofs::RefusedLemmas::adds_both))]
+    fn put_of_value(
+        &mut self,
+        asked: &Asked<'_>,
+        course: &Course,
+        pair: &KeyValue<'_>,
+    ) -> Result<(), AllocError>
+        ensures { OnOk result
+            (Adds (value_rows (has_in asked.now) course.now (key_value_of pair.now)) self.old self.new) }
+    {
+        self.put_if_faulty(asked, course, pair)?;
+        self.put_of_stretch(asked, course, pair)
     }
 
     fn put_of_item(
@@ -411,12 +441,7 @@ impl Report {
     {
         match item {
             OutlineItem::Begins(table) => self.put_of_table(asked, course, table, rest),
-            OutlineItem::States(pair) => {
-                if asked.is_faulty(course, pair) {
-                    return self.put_value(pair);
-                }
-                Ok(())
-            }
+            OutlineItem::States(pair) => self.put_of_value(asked, course, pair),
             OutlineItem::Ends => Ok(()),
         }
     }
@@ -472,6 +497,16 @@ impl Report {
         Ok(())
     }
 
+    // Adds what there is too much of.
+    #[tactic(auto, using(crate::proofs::RefusedLemmas::adds_both))]
+    fn put_extra(&mut self, asked: &Asked<'_>, items: &[OutlineItem<'_>]) -> Result<(), AllocError>
+        ensures { OnOk result
+            (Adds (extra_rows (has_in asked.now) (map item_of items.now)) self.old self.new) }
+    {
+        self.put_extra_tables(asked, items, LIMITS)?;
+        self.put_extra_stretch(asked, items)
+    }
+
     // Adds what is wrong with the whole.
     fn put_of_whole(
         &mut self,
@@ -483,7 +518,7 @@ impl Report {
     {
         let no_entry = asked.has(Spot::Own(Part::Missing(Key::Entry)));
         self.put_row_if(no_entry, 1, NO_ENTRY)?;
-        self.put_extra_tables(asked, items, LIMITS)
+        self.put_extra(asked, items)
     }
 }
 

@@ -18,7 +18,7 @@ fn alone(folder: &'static str) -> Sample {
 }
 
 /// All samples.
-pub(crate) fn samples() -> [Sample; 10] {
+pub(crate) fn samples() -> [Sample; 11] {
     [
         alone("floppy"),
         alone("econet"),
@@ -29,6 +29,7 @@ pub(crate) fn samples() -> [Sample; 10] {
         alone("serial"),
         alone("dispatch"),
         alone("sound"),
+        alone("scsi"),
         Sample {
             folder: "podule_and_floppy",
             visits: Some(2),

@@ -111,7 +111,7 @@ unfolding report_by
 returns-in-Explain g c =
     let i = inputs_lent c.args.job.inputs in
     rw (c.in-Explain.is)
-    (answered_judged g.O.Output.taken g.O.Output.failures c.args.out.now c.print_explanation.new.out i.profile (IsExplainReport i.source i.second c.args.job.request.now.numbers.at_most (bursts_of c.args.job.request.now.numbers)) (IsAccepted i.source i.second) (IsRefused i.source i.second)
+    (answered_judged g.O.Output.taken g.O.Output.failures c.args.out.now c.print_explanation.new.out i.profile (IsExplainReport i.source i.second c.args.job.request.now.numbers.at_most (bursts_of c.args.job.request.now.numbers) c.args.job.request.now.each) (IsAccepted i.source i.second) (IsRefused i.source i.second)
     (fault_only c.print_explanation.result) c.print_explanation.ensures)
 
 pub returns-in-Verdict : goal.returns-in-Verdict

@@ -16,6 +16,6 @@ first_without-requires c =
 
 pub returns : goal.returns
 returns c =
-    let wanted = c.deref.ensures.value ∙ c.in_ok-instances.ensures ∙ map_found c.instances.result.now ∙ ap (map header_of) c.instances.ensures in
+    let wanted = c.deref.ensures.value ∙ c.in_ok-instances.ensures ∙ map_found c.args.tree.now.apart c.instances.result.now ∙ ap (map header_of) c.instances.ensures in
     let given = c.deref-2.ensures.value ∙ c.in_ok-rows.ensures ∙ ap (map header_of_row) c.items.ensures in
     found_over c.first_without.result c.deref.result.now c.deref-2.result.now (map header_of c.args.tree.now.instances) (map header_of_row c.args.cert.now.instances) wanted given c.first_without.ensures

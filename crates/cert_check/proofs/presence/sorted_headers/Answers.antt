@@ -8,5 +8,5 @@ use Rattle.cert_check.proofs.presence.sorted_headers.Goals as goal
 pub returns : goal.returns
 returns c =
     let listed = c.sort_unstable.new.self.items in
-    subst (λ (xs : List Place). Lists xs listed) (c.in_ok-headers.ensures ∙ map_found c.instances.result.now ∙ ap (map header_of) c.instances.ensures)
+    subst (λ (xs : List Place). Lists xs listed) (c.in_ok-headers.ensures ∙ map_found c.args.tree.now.apart c.instances.result.now ∙ ap (map header_of) c.instances.ensures)
     (lists_sorted c.in_ok-headers.headers.items listed c.sort_unstable.ensures.permutation c.sort_unstable.ensures.sorted)

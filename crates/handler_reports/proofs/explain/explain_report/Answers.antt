@@ -4,7 +4,7 @@ use Rattle.handlers.proofs.RefusalLemmas.{device_carries, ends_refused, ends_tol
 use Rattle.handlers.specs.Refusal.{fault_only}
 use Rattle.handler_reports.specs.Bound.{given}
 use Rattle.handlers.proofs.ReportLemmas.{only_memory}
-use Rattle.handler_reports.specs.ExplainReport.{IsExplanation}
+use Rattle.handler_reports.specs.ExplainReport.{IsFullExplanation}
 use Rattle.handler_reports.proofs.explain.explain_report.Goals as goal
 
 pub returns-in_err-found-clause-answers : goal.returns-in_err-found-clause-answers
@@ -25,10 +25,10 @@ returns-clause-answers g c =
     let x = c.args.explained in
     let profile = c.in_ok-profile.profile in
     let bound = c.in_ok-found.found.bound in
-    let explains = subst (IsExplanation x.source.now x.statement.now x.bursts profile bound) (sym c.deref.ensures.value) c.in_ok-found.ensures.explains in
+    let explains = subst (IsFullExplanation x.source.now x.statement.now x.bursts x.each profile bound) (sym c.deref.ensures.value) c.in_ok-found.ensures.explains in
     by_profile profile c.in_ok-profile.ensures.is
     (ends_told _ _ _ _ _ c.args.out.now c.print_or_refuse.new.out c.is_enough.result c.deref.result.now c.print_or_refuse.result
-    (record { bound = bound; explains = explains; answer_is = c.is_enough.ensures }) explains.bounded.accepted tt c.print_or_refuse.ensures.printed c.print_or_refuse.ensures.device)
+    (record { bound = bound; explains = explains; answer_is = c.is_enough.ensures }) explains.explains.bounded.accepted tt c.print_or_refuse.ensures.printed c.print_or_refuse.ensures.device)
 
 pub returns-clause-carries : goal.returns-clause-carries
 returns-clause-carries g c =

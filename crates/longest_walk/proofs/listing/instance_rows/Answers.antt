@@ -30,14 +30,14 @@ loop-index-preserved c =
     let inside = instance_inside c.args.graph.now tree c.requires.tree c.instances-found.result.now c.instances-found.ensures i c.loop-index-test.true in
     let span : s ≡ get_or tree.spans i s = ap (λ (l : List Span). span_at l i) c.spans-spans.ensures ∙ get_or_default tree.spans i _ s inside.1 in
     rw c.in_ok-push.ensures.items
-    (instance_rows_more tree c.args.tables.now i c.loop-index.rows.items c.instance_row.result (found_instance f) s inside.0 inside.1 c.loop-index.invariant
+    (instance_rows_more tree c.args.tables.now i c.loop-index.rows.items c.instance_row.result (found_instance tree.apart f) s inside.0 inside.1 c.loop-index.invariant
     (instance_at tree c.instances-found.result.now f i c.instances-found.ensures c.loop-index-test.true c.index-found-index.is) span
     c.instance_row.ensures.header c.instance_row.ensures.arrival c.instance_row.ensures.round)
 
 pub returns : goal.returns
 returns c =
     let sorted = c.sort_unstable_by_key.new.self.items in
-    let ended : length c.args.tree.now.instances ≤ c.loop-index.index = omega (arith, ap length c.instances-found.ensures, length-map c.instances-found.result.now found_instance, c.loop-index-test.false) in
+    let ended : length c.args.tree.now.instances ≤ c.loop-index.index = omega (arith, ap length c.instances-found.ensures, length-map c.instances-found.result.now (found_instance c.args.tree.now.apart), c.loop-index-test.false) in
     let raw = c.sort_unstable_by_key.ensures.sorted header_of_row (answers_always _ _ _ (λ f a r g called. search rules)) in
     let up : IsSortedByKey header_of_row place_cmp sorted = λ k d low high. ap is_lt (sym (c.order_of_places.ensures (header_of_row (get_or sorted (k + 1) d)) (header_of_row (get_or sorted k d)))) ∙ raw k d low high in
     rw c.of.ensures (instance_rows_all c.args.graph.now c.args.tree.now c.args.tables.now c.requires.tree c.loop-index.index c.loop-index.rows.items sorted ended c.loop-index.invariant c.sort_unstable_by_key.ensures.permutation up)

@@ -11,7 +11,7 @@ pub loop-stated-preserved : goal.loop-stated-preserved
 loop-stated-preserved c = c.in_ok-push.ensures.items ∙ found_more c.args.found.now.items c.loop-stated.found.items c.in-At.list c.loops_at-stated-items.result.now c.loop-stated.stated-index c.loop-stated-test.true c.loop-stated.invariant
 
 pub returns-after-loop-stated-clause-added : goal.returns-after-loop-stated-clause-added
-returns-after-loop-stated-clause-added c = rw c.in-At.is (added c.loops_at-stated-items.result.now c.args.sorted.now c.in-At.list c.in-At.address c.args.found.now.items c.loop-stated.found.items c.loops_at-stated-items.ensures.exact
+returns-after-loop-stated-clause-added c = λ apart. rw c.in-At.is (added apart c.loops_at-stated-items.result.now c.args.sorted.now c.in-At.list c.in-At.address c.args.found.now.items c.loop-stated.found.items c.loops_at-stated-items.ensures.exact
     (c.loop-stated.invariant ∙ ap (λ (xs : List Loop). c.args.found.now.items ++ map (found_at c.in-At.list) xs) (take_all c.loop-stated.stated-index c.loops_at-stated-items.result.now c.loop-stated-test.false)))
 
 pub returns-after-loop-stated-clause-differ : goal.returns-after-loop-stated-clause-differ

@@ -16,16 +16,16 @@ loop-edge-init c = record {
 }
 
 pub number_edge-next-requires-clause-no_exit : goal.number_edge-next-requires-clause-no_exit
-number_edge-next-requires-clause-no_exit c = λ has. c.edges-edge-items.ensures.well_formed.no_exit (listed_from c.args.graph.now.places c.args.listed.now c.requires Exit has)
+number_edge-next-requires-clause-no_exit c = λ has. c.edges-edge-items.ensures.well_formed.no_exit (listed_from c.args.graph.now.places c.args.listed.now c.requires.moved Exit has)
 
 pub number_edge-next-requires-clause-starts : goal.number_edge-next-requires-clause-starts
 number_edge-next-requires-clause-starts c =
-    listed_has c.args.graph.now.places c.args.listed.now c.requires c.edge-item.result.from
+    listed_has c.args.graph.now.places c.args.listed.now c.requires.moved c.edge-item.result.from
     (c.edges-edge-items.ensures.well_formed.starts c.edge-item.result (subst (λ xs. Contains xs c.edge-item.result) c.edges-edge-items.ensures.value (c.loop-edge.edge-index, c.loop-edge-test.true, sym c.edge-item.is)))
 
 pub number_edge-next-requires-clause-ends : goal.number_edge-next-requires-clause-ends
 number_edge-next-requires-clause-ends c =
-    ⊎_elim (λ out. inl out) (λ has. inr (listed_has c.args.graph.now.places c.args.listed.now c.requires c.edge-item.result.to has))
+    ⊎_elim (λ out. inl out) (λ has. inr (listed_has c.args.graph.now.places c.args.listed.now c.requires.moved c.edge-item.result.to has))
     (c.edges-edge-items.ensures.well_formed.ends c.edge-item.result (subst (λ xs. Contains xs c.edge-item.result) c.edges-edge-items.ensures.value (c.loop-edge.edge-index, c.loop-edge-test.true, sym c.edge-item.is)))
 
 pub loop-edge-preserved : goal.loop-edge-preserved
@@ -34,7 +34,7 @@ loop-edge-preserved c =
     let same : c.edges-edge-items.result.now ≡ edges = c.edges-edge-items.ensures.value in
     let lt : c.loop-edge.edge-index < length edges = subst (λ (xs : List Edge). c.loop-edge.edge-index < length xs) same c.loop-edge-test.true in
     let is = subst (λ (xs : List Edge). c.edge-item.result ≡ get_or xs c.loop-edge.edge-index c.edge-item.result) same c.edge-item.is in
-    let here = subst (λ (n : ℕ). NumbersEdge (place_at c.args.listed.now) n c.edge-item.result c.number_edge-next.result) (listed_length c.args.graph.now.places c.args.listed.now c.requires) c.number_edge-next.ensures.edge in
+    let here = subst (λ (n : ℕ). NumbersEdge (place_at c.args.listed.now) n c.edge-item.result c.number_edge-next.result) (listed_length c.args.graph.now.places c.args.listed.now c.requires.moved) c.number_edge-next.ensures.edge in
     record {
       numbered = rw c.in_ok-push.ensures.items
           (numbering_more c.args.graph.now (place_at c.args.listed.now) (length c.args.graph.now.places) c.loop-edge.numbered.items c.loop-edge.edge-index c.edge-item.result c.number_edge-next.result c.loop-edge.invariant.numbered lt is here);

@@ -4,7 +4,7 @@ use Rattle.std.proofs.lemmas.List.{length-take-le}
 use Rattle.arm2_decode.specs.Names.{register_number}
 use Rattle.arm2_decode.specs.declared.names.Register.TheVariants.{R0}
 use Rattle.bus_ticks.specs.declared.profile.Class.TheVariants.{Ram}
-use Rattle.statement.specs.Stated.{AreApart}
+use Rattle.statement.specs.Stated.{ShareNoWord}
 use Rattle.statement.specs.Stretches.{AreOf, number_for}
 use Rattle.statement.specs.declared.stated.BaseRule.{BaseRule}
 use Rattle.statement.proofs.MeetLemmas.{apart_is}
@@ -36,13 +36,13 @@ loop-number-preserved c =
     let next = take_next rules i none c.loop-number-test.true in
     record {
       held = subst (λ ys. AreOf c.insert.new.self (number_for ys)) next more.0;
-      apart = subst (AllPairs AreApart) next more.1;
+      apart = subst (AllPairs ShareNoWord) next more.1;
     }
 
 pub returns : goal.returns
 returns c =
     let rules = c.args.rules.now in
     let all = take_past rules c.loop-number.number c.loop-number-test.false in (
-      (apart_is rules).1 (subst (AllPairs AreApart) all c.loop-number.invariant.apart),
+      (apart_is rules).1 (subst (AllPairs ShareNoWord) all c.loop-number.invariant.apart),
       subst (λ ys. AreOf c.loop-number.index (number_for ys)) all c.loop-number.invariant.held,
     )

@@ -10,6 +10,7 @@ returns c =
       full = c.in_ok-found.found.full;
       ends = c.in_ok-found.found.ends.items;
       cycles = c.in_ok-found.found.loops.cycles.items;
+      apart = c.in_ok-found.found.loops.apart.items;
       rules = c.in_ok-found.found.rules.items;
       entries = c.in_ok-found.found.entries.items;
       loops = c.in_ok-found.found.loops.loops.items;

@@ -4,10 +4,10 @@ use Rattle.text_explained.proofs.idle.put_loops.Goals as goal
 
 pub loop-stated-preserved : goal.loop-stated-preserved
 loop-stated-preserved c =
-    so_far_one (IsLoopRow c.args.graph.now) c.args.loops.now c.loop-stated.stated-index _ c.args.out.now.items c.loop-stated.out.items
+    so_far_one (IsLoopRow c.args.apart.now c.args.graph.now) c.args.loops.now c.loop-stated.stated-index _ c.args.out.now.items c.loop-stated.out.items
     c.put_loop.new.out.items c.loop-stated.invariant c.loop-stated-test.true c.in_ok-put_loop.ensures
 
 pub returns : goal.returns
 returns c =
-    so_far_all (IsLoopRow c.args.graph.now) c.args.loops.now c.loop-stated.stated-index c.args.out.now.items c.loop-stated.out.items
+    so_far_all (IsLoopRow c.args.apart.now c.args.graph.now) c.args.loops.now c.loop-stated.stated-index c.args.out.now.items c.loop-stated.out.items
     c.loop-stated.invariant c.loop-stated-test.false

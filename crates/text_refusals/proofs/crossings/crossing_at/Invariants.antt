@@ -5,4 +5,4 @@ use Rattle.text_refusals.specs.Crossings.{CrossNone}
 use Rattle.text_refusals.proofs.crossings.crossing_at.Given as goal
 
 abbrev pub invariant-loop-stated : goal.invariant-loop-stated
-invariant-loop-stated l = (k : ℕ) (s : Loop) → k < l.stated-index → get_or l.loops k s ≡ s → s.header ≡ l.address → CrossNone l.graph l.loops (instance_of s l.list)
+invariant-loop-stated l = (k : ℕ) (s : Loop) → k < l.stated-index → get_or l.loops.list k s ≡ s → s.header ≡ l.address → CrossNone l.graph l.loops (instance_of l.loops.apart s l.list)

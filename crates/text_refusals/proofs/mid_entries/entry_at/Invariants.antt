@@ -6,4 +6,4 @@ use Rattle.text_refusals.specs.Entries.{IsRightlyEntered}
 use Rattle.text_refusals.proofs.mid_entries.entry_at.Given as goal
 
 abbrev pub invariant-loop-stated : goal.invariant-loop-stated
-invariant-loop-stated l = (k : ℕ) (s : Loop) → k < l.stated-index → get_or l.loops k s ≡ s → (list : List ℕ) → l.header ≡ At list s.header → IsRightlyEntered l.graph (instance_of s list)
+invariant-loop-stated l = (k : ℕ) (s : Loop) → k < l.stated-index → get_or l.loops.list k s ≡ s → (list : List ℕ) → l.header ≡ At list s.header → IsRightlyEntered l.graph (instance_of l.loops.apart s list)

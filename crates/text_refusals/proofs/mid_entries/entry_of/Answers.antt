@@ -10,7 +10,7 @@ use Rattle.text_refusals.proofs.mid_entries.entry_of.Goals as goal
 
 pub returns-in_err-edge-clause-none : goal.returns-in_err-edge-clause-none
 returns-in_err-edge-clause-none c =
-    let i = found_instance c.args.instance in
+    let i = found_instance c.args.apart.now c.args.instance in
     let flow = c.args.graph.now in
     subst (λ r. IfNone r (IsRightlyEntered flow i)) (sym c.from_residual.ensures)
     (record {
@@ -21,6 +21,6 @@ returns-in_err-edge-clause-none c =
 pub returns-clause-entry : goal.returns-clause-entry
 returns-clause-entry c =
     let found =
-    find_some (enters_mid (found_instance c.args.instance)) c.args.graph.now.edges c.in_ok-edge.edge.now
+    find_some (enters_mid (found_instance c.args.apart.now c.args.instance)) c.args.graph.now.edges c.in_ok-edge.edge.now
     (sym c.entering.ensures ∙ ap (option_map (λ (x : Bor Edge). x.now)) (c.in_ok-edge.was {u = tt})) in
     (found.0, refl, found.1)

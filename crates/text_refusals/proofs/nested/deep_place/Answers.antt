@@ -1,12 +1,15 @@
 use Rattle.std.proofs.Common.{◌≡◌, ◌≤◌, ◌<◌, ◌∙◌, ℕ, List, length, get_or, refl, sym, ap, subst, ⊎_elim, arith}
 use Rattle.std.specs.Prelude.{Contains}
 use Rattle.std.specs.Vec.{with_items}
-use Rattle.std.specs.List.Sorted.{IsPermutation}
+use Rattle.std.specs.List.Sorted.{IsNonDecreasingBy, IsPermutation}
 use Rattle.std.proofs.lemmas.Bool.{cases_lt}
 use Rattle.std.proofs.lemmas.List.{get_or_default}
 use Rattle.std.proofs.lemmas.List.Elements.{Contains-get_or}
 use Rattle.control_flow.specs.declared.places.Place.{Place}
 use Rattle.loop_bounds.specs.declared.loop_instances.LoopInstance.{LoopInstance}
+use Rattle.loop_bounds.specs.Extents.{found_instance}
+use Rattle.statement.specs.declared.apart.ApartStretch.{ApartStretch}
+use Rattle.text_refusals.specs.Nested.{others}
 use Rattle.text_refusals.proofs.NestedLemmas.{is_deep, not_deep, written_back}
 use Rattle.text_refusals.proofs.nested.deep_place.Goals as goal
 
@@ -24,7 +27,8 @@ returns-then-len-gt-MOST_INSTANCES-clause-deep c =
     let moved : IsPermutation found c.put_in_order.new.found = subst (λ (fs : List LoopInstance). IsPermutation fs c.put_in_order.new.found) c.deref_mut.ensures.value c.put_in_order.ensures.moved in
     is_deep flow c.args.loops.now p found c.put_in_order.new.found (record { place = p; instances = with_items c.in_ok-instances.instances c.put_in_order.new.found }) refl
     (written_back c.put_in_order.new.found found c.in_ok-instances.instances.len (omega (arith, c.in_ok-instances.instances.ok.0, c.put_in_order.auto.found, ap (λ (fs : List LoopInstance). length fs) c.deref_mut.ensures.value)))
-    has many moved (omega (arith, c.put_in_order.auto.found, ap (λ (fs : List LoopInstance). length fs) c.deref_mut.ensures.value)) c.in_ok-instances.ensures c.put_in_order.ensures.ordered
+    has many moved (omega (arith, c.put_in_order.auto.found, ap (λ (fs : List LoopInstance). length fs) c.deref_mut.ensures.value)) c.in_ok-instances.ensures
+    (subst (λ (a : List ApartStretch). IsNonDecreasingBy (λ f. others flow (found_instance a f)) c.put_in_order.new.found) c.apart.ensures c.put_in_order.ensures.ordered)
 
 pub loop-place-preserved : goal.loop-place-preserved
 loop-place-preserved c k p lt is deep same =

@@ -12,8 +12,8 @@ returns c =
     let loops = c.args.loops.now in
     let p = c.args.place.now in
     elim c.match-place.branch [
-      | in-At+in_ok-add_up_to w ↦ subst (λ (fs : List LoopInstance). AreInstancesOf flow loops p (map found_instance fs)) (sym (ap (λ v. v.items) w.found-is))
+      | in-At+in_ok-add_up_to w ↦ subst (λ (fs : List LoopInstance). AreInstancesOf flow loops p (map (found_instance loops.apart) fs)) (sym (ap (λ v. v.items) w.found-is))
           (all_instances flow loops p _ _ _ w.in-At.is (w.in_ok-add_up_to.ensures.have (none_yet flow loops p c.new-found.result.items c.new-found.ensures.items)) w.in_ok-add_up_to.ensures.all)
-      | in_default w ↦ subst (λ (fs : List LoopInstance). AreInstancesOf flow loops p (map found_instance fs)) (sym (ap (λ v. v.items) w.found-is ∙ c.new-found.ensures.items))
+      | in_default w ↦ subst (λ (fs : List LoopInstance). AreInstancesOf flow loops p (map (found_instance loops.apart) fs)) (sym (ap (λ v. v.items) w.found-is ∙ c.new-found.ensures.items))
           (none_of_exit flow loops p w.in_default.is)
     ]

@@ -6,4 +6,4 @@ use Rattle.text_refusals.specs.Nested.{others}
 use Rattle.text_refusals.proofs.nested.put_in_order.Goals as goal
 
 pub returns-clause-ordered : goal.returns-clause-ordered
-returns-clause-ordered c = IsNonDecreasingBy-from_sort_by_key (λ (f : LoopInstance). others c.args.graph.now (found_instance f)) _ c.sort_unstable_by_key.ensures.sorted (λ a r q k. search rules)
+returns-clause-ordered c = IsNonDecreasingBy-from_sort_by_key (λ (f : LoopInstance). others c.args.graph.now (found_instance c.args.apart.now f)) _ c.sort_unstable_by_key.ensures.sorted (λ a r q k. search rules)

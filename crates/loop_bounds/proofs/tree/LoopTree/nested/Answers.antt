@@ -35,12 +35,12 @@ loop-k-preserved c =
     let places = c.in_ok-places.places.items in
     let k : ℕ = c.loop-k.k in
     let lt : k < length tree.instances = omega (arith, c.loop-k-test.true, ap length c.spans-span-items.ensures, as_many flow tree c.requires) in
-    let found_lt : k < length found = omega (arith, lt, ap length c.instances-instances.ensures, length-map found found_instance) in
-    let is = found_at found tree.instances k c.index-instances-k.result c.instances-instances.ensures found_lt c.index-instances-k.is in
-    let encloses : Encloses old new (span_at tree.spans k).header (found_instance c.index-instances-k.result) places = rw c.spans-span-items.ensures at c.in_ok-enclose.ensures in
+    let found_lt : k < length found = omega (arith, lt, ap length c.instances-instances.ensures, length-map found (found_instance tree.apart)) in
+    let is = found_at tree.apart found tree.instances k c.index-instances-k.result c.instances-instances.ensures found_lt c.index-instances-k.is in
+    let encloses : Encloses tree.apart old new (span_at tree.spans k).header (found_instance tree.apart c.index-instances-k.result) places = rw c.spans-span-items.ensures at c.in_ok-enclose.ensures tree.apart in
     let those = rw (c.spans-span-items.ensures, c.places.ensures.value, c.order.ensures) at c.in_ok-places.ensures in
     nested_more flow tree c.requires old new k places lt c.loop-k.invariant
-    (subst (λ (i : Instance). Encloses old new (span_at tree.spans k).header i places) is encloses)
+    (subst (λ (i : Instance). Encloses tree.apart old new (span_at tree.spans k).header i places) is encloses)
     (those ∙ members_are flow tree c.requires k lt)
 
 pub returns : goal.returns

@@ -1,4 +1,5 @@
 use Rattle.std.proofs.Common.{ap, map, ◌∙◌}
+use Rattle.std.specs.Result.{result_ok}
 use Rattle.toml.specs.View.{view}
 use Rattle.image.specs.Labels.{address_of}
 use Rattle.statement.specs.PlaceTests.{destination_repeats, entry_repeats, rule_meetings}
@@ -19,5 +20,6 @@ invariant_of-result c =
             c.in_ok-all_destination_repeats.ensures
             ∙ map_twice (destination_repeats names) view c.entries_at-targets.result.now
             ∙ ap (map (destination_repeats names)) c.entries_at-targets.ensures;
+        apart_known = c.ok.ensures.value ∙ ap result_ok c.in_ok-apart_in.ensures;
       };
     }

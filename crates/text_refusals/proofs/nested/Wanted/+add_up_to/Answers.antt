@@ -1,7 +1,6 @@
-use Rattle.std.proofs.Common.{List, ap, map, refl, subst, sym}
+use Rattle.std.proofs.Common.{List, ap, refl, subst, sym}
 use Rattle.std.specs.Prelude.{Contains, IsNone}
 use Rattle.loop_bounds.specs.declared.loop_instances.LoopInstance.{LoopInstance}
-use Rattle.loop_bounds.specs.Extents.{found_instance}
 use Rattle.text_refusals.proofs.NestedLemmas.{up_to_next, up_to_none}
 use Rattle.text_refusals.proofs.nested.Wanted.+add_up_to.Goals.{in-Some+in_ok-add_up_to, in_default}
 use Rattle.text_refusals.proofs.nested.Wanted.+add_up_to.Goals as goal
@@ -14,6 +13,6 @@ returns-clause-all n c =
     let new = c.add_inside.new.found.items in
     elim c.match-split_last.branch [
       | in-Some+in_ok-add_up_to w ↦ up_to_next flow loops p w.in-Some.parts.0 c.args.list _ w.add_up_to.new.found.items new w.in-Some.ensures.parts w.in_ok-add_up_to.ensures.all
-          (λ i has. c.in_ok-add_inside.ensures.kept i (subst (λ (fs : List LoopInstance). Contains (map found_instance fs) i) (sym (ap (λ v. v.items) w.found-is)) has)) c.in_ok-add_inside.ensures.all
+          (λ i has. c.in_ok-add_inside.ensures.kept i (subst (λ (fs : List LoopInstance). Contains fs i) (sym (ap (λ v. v.items) w.found-is)) has)) c.in_ok-add_inside.ensures.all
       | in_default w ↦ up_to_none flow loops p c.args.list new (c.split_last.ensures.empty.0 (subst (λ o. IsNone o) (sym w.in_default.is) refl)) c.in_ok-add_inside.ensures.all
     ]

@@ -18,6 +18,6 @@ returns c =
     let start = c.args.self.now in
     let first = c.put_row_if.new.self in
     let entry = subst (λ (b : Bool). Adds (own b) start first) c.has-no_entry.ensures c.in_ok-put_row_if.ensures in
-    on_ok_weaker c.put_extra_tables.result
-    (λ added. adds_both (own (has (Own (part.Missing key.Entry)))) (extra_rows has items) start first c.put_extra_tables.new.self entry added)
-    c.put_extra_tables.ensures
+    on_ok_weaker c.put_extra.result
+    (λ added. adds_both (own (has (Own (part.Missing key.Entry)))) (extra_rows has items) start first c.put_extra.new.self entry added)
+    c.put_extra.ensures
