@@ -35,6 +35,7 @@ fn explained(alloc: Global, statement: &[u8], out: &mut MemoryOutput) -> Result<
             count: None,
             every: None,
         },
+        each: false,
     };
     fault_only(explain_report(alloc, explained, None, out))
 }

@@ -28,6 +28,7 @@ const EXPLAINED: Explained<'static> = Explained {
         count: None,
         every: None,
     },
+    each: false,
 };
 
 // What `visits` prints above both certificates.
