@@ -139,6 +139,41 @@ class Drafts(OfSource):
         return fault_of("bound", bound)
 
 
+class Begun(OfSource):
+    """A draft of a begun statement: the statement's refusal; or its lines, in their order, among others, and
+    a statement that `bound` can read once it is filled in."""
+
+    def __init__(self, bench, source, begun):
+        super().__init__(bench, source)
+        self.begun = begun
+
+    def __call__(self, outcome, folder):
+        if outcome.status:
+            return fault_of("draft", outcome)
+        rows = iter(outcome.out.split(b"\n"))
+        if not all(row in rows for row in self.begun.split(b"\n")):
+            return f"lines of the statement are lost: {outcome}"
+        # The targets that the statement itself leaves open.
+        filled_in = outcome.out.replace(b'to = "?"\n', b"to = [0]\n")
+        return Drafts(self.bench, self.source).fault(dataclasses.replace(outcome, out=filled_in), None, None)
+
+
+def begun_statements(bench):
+    """Drafts of samples' drafts and statements, whole, cut at each byte, and with targets left open."""
+    for name in ("dispatch", "floppy"):
+        files = worked.sample(name)
+        source, entry = files["handler.s"], "irq" if name == "dispatch" else "fiq"
+        draft = bench.ask(["draft", "judged.s", entry], {"judged.s": source})[0].out
+        stated = files["handler.toml"]
+        opened = re.sub(rb"^to = [^\n]*", b'to = "?"', stated, flags=re.M)
+        texts = [("a draft", draft), ("the statement", stated), ("open targets", opened)]
+        for what, text in texts:
+            for how, data in [("whole", text), *cuts(text)]:
+                judge = Begun(bench, source, data)
+                given = {"judged.s": source, "begun.toml": data}
+                yield Trial(f"draft, {what} of {name}: {how}", ["draft", "judged.s", "begun.toml"], judge, given)
+
+
 def image_judge(data):
     if data[:8] == readers.MAGIC:
         return ImageIs(data)
@@ -710,6 +745,7 @@ def trials(bench):
         *images(bench),
         *statements(bench),
         *statement_limits(bench),
+        *begun_statements(bench),
         *machines(),
         *followed_visits(bench),
         *profiles(bench),

@@ -7,7 +7,7 @@ from running import TOP, shown
 ANY, SOURCES, IMAGES = "Any command", "Sources, with the line", "Images"
 STATEMENTS, GRAPH, LOOPS, PATH = "Statements", "The graph", "Loops", "The path"
 VISITS, MACHINES, PROFILES, CERTIFICATES = "Visits", "Machine files", "Cycle profiles", "Certificates"
-DRAFTS, EDGES = "Drafts", "Edges"
+DRAFTS, EDGES, RESPONSES = "Drafts", "Edges", "Response times"
 
 OF_SOURCE = (ANY, SOURCES, IMAGES)
 OF_HANDLER = (*OF_SOURCE, PROFILES, STATEMENTS, GRAPH, LOOPS)
@@ -16,12 +16,13 @@ OF_HANDLER = (*OF_SOURCE, PROFILES, STATEMENTS, GRAPH, LOOPS)
 MET_BY = {
     "asm": OF_SOURCE,
     "list": OF_SOURCE,
-    "draft": (*OF_SOURCE, DRAFTS),
+    "draft": (*OF_SOURCE, DRAFTS, STATEMENTS),
     "bound": (*OF_HANDLER, PATH, EDGES),
     "explain": (*OF_HANDLER, PATH, CERTIFICATES),
     "graph": (*OF_HANDLER, PATH),
     "check": (*OF_HANDLER, CERTIFICATES),
     "visits": (*OF_HANDLER, PATH, VISITS),
+    "respond": (*OF_HANDLER, PATH, DRAFTS, RESPONSES),
     "follow": (*OF_HANDLER, PATH, MACHINES, VISITS),
     **{name: (*OF_SOURCE, PROFILES, MACHINES) for name in ("run", "trace", "debug")},
 }
@@ -86,12 +87,15 @@ def sections_of(outcome):
 
 
 def ended_early(outcome):
-    """Whether an answer with status 1 and no refusal is the verdict No, the table of a bound that is more
-    than it may be, a run that does not keep its statement, or a machine that stopped."""
+    """Whether an answer with status 1 and no refusal is the verdict No, the table of a bound or a response
+    that is more than it may be, a handler that never ends for visits, a run that does not keep its
+    statement, or a machine that stopped."""
     verdict = re.fullmatch(rb"no: (\w+)\n", outcome.out)
     if verdict:
         return verdict[1].decode() in OBJECTIONS
     if re.search(rb"^bound \d+ ticks, .*\n\Z", outcome.out, re.M):
+        return True
+    if re.search(rb"^within \d+ ticks: missed.*\n\Z|^it never ends\n", outcome.out, re.M):
         return True
     if re.fullmatch(rb"step \d+, [0-9A-F]+(, line \d+)?: .+\n|never at the entry, .+\n", outcome.out):
         return True
@@ -105,7 +109,7 @@ def fault_of(command, outcome):
     if outcome.status == 0:
         return f"status 0 and standard error {shown(outcome.err)}" if outcome.err else None
     if outcome.status == 1 and not outcome.err:
-        may_end_so = command in ("check", "explain", "follow", "run", "trace")
+        may_end_so = command in ("check", "explain", "follow", "respond", "run", "trace", "visits")
         return None if may_end_so and ended_early(outcome) else str(outcome)
     if outcome.status == 2:
         return None if outcome.err and not outcome.out else str(outcome)

@@ -47,6 +47,23 @@ FIQ = b"""\
 entry = 0x1C
 leave = "ram"
 """
+# FIQ's handler by itself, elsewhere than the words of the other.
+OWN_FIQ = b"""\
+         ORG    &1C
+         SUBS   PC,R14,#4
+"""
+# A statement that is begun.
+BEGUN = b"""\
+entry = 0x8000
+access = [
+]
+
+[[loop]]
+header = 0x8004
+first = 0x8004
+last = 0x8008
+bound = "?"
+"""
 MACHINE = b"""\
 pc = 0x8000
 mode = "irq"
@@ -139,9 +156,13 @@ def commands(bench):
         files = {source: first}
         lines = (f"asm {source} made.image", f"list {source}", f"draft {source} 0x8000")
         found += [command(bench, it, files) for it in lines]
+        found.append(command(bench, f"draft {source} begun.toml", {**files, "begun.toml": BEGUN}))
         for option in ("", "--profile profile.toml "):
             files = {source: first, **({"profile.toml": profile()} if option else {})}
             found += priced(bench, f"{option}{source}", files)
+    files = {"handler.s": SOURCE[SOURCE.index(b"         ORG    &8000") :], "own.s": OWN_FIQ}
+    files = {**files, "handler.toml": STATEMENT, "fiq.toml": FIQ}
+    found.append(command(bench, "visits --fiq-source own.s handler.s handler.toml fiq.toml 2", files))
     complete((it.words[0] for it in found), "hostile/worked.py, commands")
     return found
 
@@ -167,6 +188,13 @@ def priced(bench, words, files):
         command(bench, f"explain --certificate handler.cert {words} handler.toml", judged),
         command(bench, f"explain --certificate handler.cert {words} handler.toml", forged),
         command(bench, f"visits {words} handler.toml fiq.toml 2", {**bound.files, "fiq.toml": FIQ}),
+        command(bench, f"visits --every 200 {words} handler.toml fiq.toml", {**bound.files, "fiq.toml": FIQ}),
+        # FIQ leaves the handler no time: the status is 1.
+        command(bench, f"visits --every 5 {words} handler.toml fiq.toml", {**bound.files, "fiq.toml": FIQ}),
+        command(bench, f"respond {words} fiq.toml 0x1C", {**files, "fiq.toml": FIQ}),
+        # It takes longer than that, so the status is 1.
+        command(bench, f"respond --within 20 --masked-by handler.toml {words} fiq.toml 0x1C",
+                {**bound.files, "fiq.toml": FIQ}),
         command(bench, f"follow {words} handler.toml machine.toml", followed),
         command(bench, f"follow {words} handler.toml machine.toml", short),
         command(bench, f"follow --fiq fiq.toml {words} handler.toml machine.toml", {**followed, "fiq.toml": FIQ}),

@@ -1,8 +1,9 @@
 //! Each report of one short handler, and what it prints.
 
 use arcwcet::{
-    Bursts, Explained, MemoryOutput, Output, ReportFault, asm_report, bound_report, check_report,
-    debug_report, draft_report, explain_report, fault_only, graph_report, list_report, run_report,
+    AskedResponse, Bursts, Explained, MemoryOutput, Output, ReportFault, VisitRate, VisitedHandler,
+    asm_report, bound_report, check_report, debug_report, draft_on_report, draft_report,
+    explain_report, fault_only, graph_report, list_report, respond_report, run_report,
     tight_report, trace_report, visits_report,
 };
 use samples::lone_return::{CERTIFICATE, SOURCE, STATEMENT};
@@ -31,6 +32,28 @@ const EXPLAINED: Explained<'static> = Explained {
     each: false,
 };
 
+// The longest step loads 16 words from the slowest devices, the last into R15: 4 ticks for its own fetch, 161
+// for the loads and 8 for the jump.
+const RESPONSE: &[u8] = b"arcwcet respond
+fiq to 28
+in progress 173
+masked 10
+entry 8
+arrival 0
+step 9
+response 200 ticks, 25.000 microseconds at 8 MHz
+within 200 ticks: 0 ticks, 0.000 microseconds at 8 MHz to spare
+";
+
+// It interrupts itself once.
+const VISITED: VisitedHandler<'static> = VisitedHandler {
+    source: SOURCE,
+    irq: STATEMENT,
+    fiq_source: None,
+    fiq: STATEMENT,
+    rate: VisitRate::Times(1),
+};
+
 // What `visits` prints above both certificates.
 const SUMMARY: &[u8] = b"arcwcet visits\nvisits 1\nirq 9\nfiq 9\nentry 8\ntotal 26\n";
 
@@ -54,6 +77,11 @@ returns = \"stated\"
 at = 0x0000001C  # line 2:  SUBS PC,R14,#4
 kind = \"return\"
 ";
+
+// A begun statement that lacks nothing, and what a draft adds to it.
+const BEGUN: &[u8] = b"entry = 28\n[[target]]\nat = 28\nkind = \"return\"\n";
+
+const NOTHING_LACKS: &[u8] = b"\n# Draft adds nothing: all that it asks for is stated.\n";
 
 const DRAWING: &[u8] = b"digraph handler {
 node [shape=box, fontname=\"Courier\"];
@@ -82,9 +110,11 @@ pub(crate) enum Report {
     List,
     Bound,
     Visits,
+    Respond,
     Explain,
     Graph,
     Draft,
+    DraftOn,
     Tight,
     Check,
     Run,
@@ -93,20 +123,37 @@ pub(crate) enum Report {
 }
 
 /// The reports, and the parts of their texts; of an edge's machine file the first line alone.
-pub(crate) const REPORTS: [(Report, &[&[u8]]); 12] = [
+pub(crate) const REPORTS: [(Report, &[&[u8]]); 14] = [
     (Report::Asm, &[SIZE]),
     (Report::List, &[LINES, SIZE]),
     (Report::Bound, &[CERTIFICATE]),
     (Report::Visits, &[SUMMARY, CERTIFICATE, CERTIFICATE]),
+    (Report::Respond, &[RESPONSE]),
     (Report::Explain, &[TABLE]),
     (Report::Graph, &[DRAWING]),
     (Report::Draft, &[DRAFT]),
+    (Report::DraftOn, &[BEGUN, NOTHING_LACKS]),
     (Report::Tight, &[b"# edge 1C do exit 9\n"]),
     (Report::Check, &[b"yes\n"]),
     (Report::Run, &[REGISTERS, TICKS]),
     (Report::Trace, &[STEP, TICKS]),
     (Report::Debug, &[STEP, b"refused: UnknownCommand\n"]),
 ];
+
+// Prints a response that is exactly as much as it may be.
+fn print_response<O: Output>(alloc: Global, out: &mut O) -> Result<bool, ReportFault> {
+    let asked = AskedResponse {
+        source: SOURCE,
+        statement: STATEMENT,
+        label: b"28",
+        longest: None,
+        masked: Some(10),
+        masked_by: &[],
+        bursts: EXPLAINED.bursts,
+        within: Some(200),
+    };
+    fault_only(respond_report(alloc, asked, None, out))
+}
 
 impl Report {
     /// Prints the report, and answers what it answers: `true` where it answers nothing.
@@ -115,14 +162,14 @@ impl Report {
             Report::Asm => asm_report(alloc, SOURCE, out).and(Ok(true)),
             Report::List => list_report(alloc, SOURCE, out).and(Ok(true)),
             Report::Bound => bound_report(alloc, SOURCE, STATEMENT, None, out).and(Ok(true)),
-            Report::Visits => {
-                visits_report(alloc, SOURCE, STATEMENT, STATEMENT, 1, None, out).and(Ok(true))
-            }
+            Report::Visits => fault_only(visits_report(alloc, VISITED, None, out)),
+            Report::Respond => print_response(alloc, out),
             Report::Explain => fault_only(explain_report(alloc, EXPLAINED, None, out)),
             Report::Graph => fault_only(graph_report(alloc, SOURCE, STATEMENT, None, out)).and(Ok(
                 true,
             )),
             Report::Draft => draft_report(alloc, SOURCE, b"28", out).and(Ok(true)),
+            Report::DraftOn => draft_on_report(alloc, SOURCE, BEGUN, out).and(Ok(true)),
             Report::Tight => tight_report(alloc, SOURCE, STATEMENT, 0, None, out).and(Ok(true)),
             Report::Check => check_report(alloc, SOURCE, STATEMENT, CERTIFICATE, None, out),
             Report::Run => run_report(alloc, SOURCE, MACHINE, None, out),

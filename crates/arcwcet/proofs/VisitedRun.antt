@@ -231,7 +231,7 @@ module _ (profile : Profile) where
   abbrev steps : List MainStep
   steps = record { visits = visit ∷ visit ∷ []; input = quiet } ∷ []
 
-  keeps : KeepsVisited words (one.stated words vector fiq_stands profile) profile (one.flow words vector fiq_stands profile)
+  keeps : KeepsVisited words words (one.stated words vector fiq_stands profile) profile (one.flow words vector fiq_stands profile)
       (one.stated words main_entry main_stands profile) (one.flow words main_entry main_stands profile) (ready first) steps
   unfolding last
   keeps = record {

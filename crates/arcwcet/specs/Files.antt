@@ -1,6 +1,6 @@
 -- Reading files from a store, one after another, and writing one; and reading an input.
 use Rattle.std.specs.Prelude.{◌≡◌, ◌≤◌, ◌+◌, ◌⊎◌, ℕ, List, [], ◌∷◌, length, Option, None, Some, Result, Ok}
-use Rattle.std.specs.Prelude.{Err, slice_index_or}
+use Rattle.std.specs.Prelude.{Err, drop, slice_index_or}
 use Rattle.std.specs.Io.KnownBytes.{Consumes}
 use Rattle.std.specs.List.{cons_option}
 use Rattle.outputs.specs.Output.{FailsSince}
@@ -17,13 +17,15 @@ Texts = List (List ℕ)
 abbrev pub names_of : Asked → Texts
 names_of asked = cons_option asked.profile asked.files
 
--- the bytes of a command's files, a cycle profile's apart; a file that a command does not have is empty
+-- the bytes of a command's files, a cycle profile's apart: a file that a command does not have is empty; and
+-- of all those behind the first two
 pub record Inputs : Type 0 where
   pub profile : Option (List ℕ)
   pub source : List ℕ
   pub second : List ℕ
   pub third : List ℕ
   pub fourth : List ℕ
+  pub rest : Texts
 
 abbrev pub inputs : Option (List ℕ) → Texts → Inputs
 inputs profile files =
@@ -33,6 +35,7 @@ inputs profile files =
       second = slice_index_or files 1 [];
       third = slice_index_or files 2 [];
       fourth = slice_index_or files 3 [];
+      rest = drop 2 files;
     }
 
 -- of the files that were read, with a cycle profile's in front where one is named

@@ -20,4 +20,5 @@ inputs_lent t =
       second = t.second.now;
       third = t.third.now;
       fourth = t.fourth.now;
+      rest = map (λ v. v.items) t.rest.now;
     }

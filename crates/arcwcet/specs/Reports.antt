@@ -1,5 +1,7 @@
 -- What a command prints of the bytes of its files, and why it refuses them: a line for each command.
-use Rattle.std.specs.Prelude.{◌≡◌, ℕ, Bool, true, false, List, codes, Option, Result, Ok, Err}
+use Rattle.std.specs.Prelude.{◌≡◌, ℕ, Bool, true, false, List, codes, Option, Result, Ok, Err, unwrap_or}
+use Rattle.std.specs.List.{slice_get}
+use Rattle.std.specs.Option.{option_map_or}
 use Rattle.bus_ticks.specs.declared.profile.Profile.{Profile}
 use Rattle.text_explained.specs.declared.bursts.Bursts.{Bursts}
 use Rattle.handlers.specs.Placing.{IsRunRefused}
@@ -8,6 +10,7 @@ use Rattle.handlers.specs.Report.{IsRefused, IsReport}
 use Rattle.handlers.specs.declared.fault.ReportFault.{ReportFault}
 use Rattle.handlers.specs.declared.fault.ReportFault.TheVariants as report_fault
 use Rattle.source_reports.specs.Assembly.{IsAsmReport, IsSourceRefused}
+use Rattle.source_reports.specs.DraftReport.{IsDraftOnRefused, IsDraftOnReport}
 use Rattle.source_reports.specs.DraftReport.{IsDraftRefused, IsDraftReport}
 use Rattle.source_reports.specs.ListReport.{IsListReport}
 use Rattle.machine_reports.specs.Debug.{IsDebugReport}
@@ -20,6 +23,10 @@ use Rattle.handler_reports.specs.GraphReport.{IsGraphReport}
 use Rattle.handler_reports.specs.TightReport.{IsTightRefused, IsTightReport}
 use Rattle.handler_reports.specs.Verdict.{IsVerdictReport}
 use Rattle.handler_reports.specs.VisitsReport.{AreRefused, IsVisitsReport}
+use Rattle.handler_reports.specs.declared.visit_rate.VisitRate.{VisitRate}
+use Rattle.handler_reports.specs.declared.visit_rate.VisitRate.TheVariants.{Times, Every}
+use Rattle.response_reports.specs.Question.{Question}
+use Rattle.response_reports.specs.RespondReport.{IsRespondRefused, IsRespondReport}
 use Rattle.command_line.specs.Line.{Asked}
 use Rattle.command_line.specs.declared.line.Command.{Command}
 use Rattle.command_line.specs.declared.line.Command.TheVariants as command
@@ -56,6 +63,28 @@ priced file Is IsFault = judged file (λ p. Plain (Is p)) IsFault
 abbrev pub bursts_of : CommandNumbers → Bursts
 bursts_of n = record { count = n.bursts; every = n.burst_every }
 
+-- how often FIQ interrupts the handler of `visits`
+abbrev pub rate_of : CommandNumbers → VisitRate
+rate_of n = option_map_or (λ every. Every every) n.every (Times (unwrap_or n.visits 0))
+
+-- the source of FIQ's handler, where it is another one
+abbrev pub fiq_source_in : Inputs → Option (List ℕ)
+fiq_source_in i = slice_get i.rest 1
+
+-- what `respond` is asked, of the bytes of its files
+abbrev pub question_in : Asked → Inputs → Question
+question_in asked i =
+    record {
+      source = i.source;
+      statement = i.second;
+      label = asked.word;
+      longest = asked.numbers.longest;
+      masked = asked.numbers.masked;
+      masked_by = i.rest;
+      bursts = bursts_of asked.numbers;
+      within = asked.numbers.within;
+    }
+
 -- what `--version` prints
 abbrev pub version_line : List ℕ
 version_line = codes "arcwcet 1.0.0\n"
@@ -63,14 +92,17 @@ version_line = codes "arcwcet 1.0.0\n"
 abbrev pub version_report : Report
 version_report = unpriced (λ text. text ≡ version_line) (λ fault. fault ≡ report_fault.Device)
 
--- What a command prints, with its answer: whether a run did all its steps, a bound is enough, a certificate
--- proves it, a run keeps its statement; the others answer yes.
+-- What a command prints, with its answer: whether a run did all its steps, a bound is enough, a response is
+-- within what is wanted, a handler with visits ends, a certificate proves a bound, a run keeps its statement;
+-- the others answer yes.
 module _ (asked : Asked) (i : Inputs) (typed : List ℕ) where
   unfoldable pub report_by : Command → Report
   report_by command.Version = version_report
   report_by command.Asm = unpriced (IsAsmReport i.source) (IsSourceRefused i.source)
   report_by command.List = unpriced (IsListReport i.source) (IsSourceRefused i.source)
   report_by command.Draft = unpriced (IsDraftReport i.source asked.word) (IsDraftRefused i.source asked.word)
+  report_by command.DraftOn =
+      unpriced (IsDraftOnReport i.source i.second) (IsDraftOnRefused i.source i.second)
   report_by command.Run =
       judged i.profile (IsMachineReport ShowsRegisters i.source i.second) (IsRunRefused i.source i.second)
   report_by command.Trace =
@@ -84,8 +116,11 @@ module _ (asked : Asked) (i : Inputs) (typed : List ℕ) where
   report_by command.Check =
       judged i.profile (IsAnswer i.source i.second i.third) (IsCheckRefused i.source i.second i.third)
   report_by command.Visits =
-      priced i.profile (IsVisitsReport i.source i.second i.third asked.numbers.visits)
-      (AreRefused i.source i.second i.third asked.numbers.visits)
+      judged i.profile
+      (IsVisitsReport i.source (fiq_source_in i) i.second i.third (rate_of asked.numbers))
+      (AreRefused i.source (fiq_source_in i) i.second i.third (rate_of asked.numbers))
+  report_by command.Respond =
+      judged i.profile (IsRespondReport (question_in asked i)) (IsRespondRefused (question_in asked i))
   report_by command.Explain =
       judged i.profile
       (IsExplainReport i.source i.second asked.numbers.at_most (bursts_of asked.numbers) asked.each)

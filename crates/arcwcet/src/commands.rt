@@ -98,8 +98,9 @@ fn obey<S: Store, I: Input, O: Output, E: Output>(
 }
 
 /// Runs the program on its words, of which the first is its name, and answers its exit status: 0; 1 where the
-/// work is refused, a certificate's verdict is No, a machine stopped, or a run does not keep its statement; 2
-/// for wrong usage; 3 for lack of memory; 4 where a file, a stream or the output fails.
+/// work is refused, a certificate's verdict is No, a bound or a response is more than is wanted, a handler
+/// with visits never ends, a machine stopped, or a run does not keep its statement; 2 for wrong usage; 3 for
+/// lack of memory; 4 where a file, a stream or the output fails.
 ///
 /// A refusal is one line on `err`, after which `explain`, and with `--why` each other command, prints what
 /// shows why; failures of `err` change no status. The work begins once everything is read: a cycle profile's

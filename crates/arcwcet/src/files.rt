@@ -1,4 +1,4 @@
-ghost use Rattle.std.specs.Prelude.{◌≡◌, ◌≤◌, ◌⊎◌, [], is_some, length, map, option_map};
+ghost use Rattle.std.specs.Prelude.{◌≡◌, ◌≤◌, ◌⊎◌, [], drop, is_some, length, map, option_map};
 ghost use Rattle.std.specs.Prelude.{slice_index_or, vec_capacity, vec_len};
 ghost use Rattle.std.specs.Prelude.{Result, IfErr, IfOk, IfSome, OnOk};
 ghost use Rattle.std.specs.Io.KnownBytes.{Consumes, IsAtEnd};
@@ -181,6 +181,8 @@ pub(crate) struct Inputs<'a> {
     pub(crate) second: &'a [u8],
     pub(crate) third: &'a [u8],
     pub(crate) fourth: &'a [u8],
+    /// All behind the first two.
+    pub(crate) rest: &'a [Vec<u8>],
 }
 
 // The bytes of the file in a place, from 0.
@@ -190,6 +192,16 @@ fn bytes_at(files: &[Vec<u8>], place: usize) -> &[u8]
     match files.get(place) {
         Some(bytes) => bytes,
         None => &[],
+    }
+}
+
+// The files behind the first two.
+fn behind_two(files: &[Vec<u8>]) -> &[Vec<u8>]
+    ensures { map (λ v. v.items) result.now ≡ drop 2 (map (λ v. v.items) files.now) }
+{
+    match files {
+        [_, _, rest @ ..] => rest,
+        _ => &[],
     }
 }
 
@@ -214,6 +226,7 @@ impl ReadFiles {
             second: bytes_at(others, 1),
             third: bytes_at(others, 2),
             fourth: bytes_at(others, 3),
+            rest: behind_two(others),
         }
     }
 }

@@ -1,6 +1,6 @@
 //! The reports that commands print.
 
-ghost use Rattle.std.specs.Prelude.{◌≡◌};
+ghost use Rattle.std.specs.Prelude.{◌≡◌, option_map};
 ghost use Rattle.outputs.specs.OnTheWay.{Adds};
 ghost use Rattle.handlers.specs.Priced.{Priced};
 ghost use Rattle.handlers.specs.Refusal.{fault_only};
@@ -10,24 +10,26 @@ ghost use Rattle.handler_reports.specs.FollowReport.{FollowsRun};
 ghost use Rattle.handler_reports.specs.FollowVisits.{FollowsVisitedRun};
 ghost use Rattle.handler_reports.specs.TightReport.{IsTightRefused, IsTightReport};
 ghost use Rattle.handler_reports.specs.Verdict.{ExplainsVerdict};
-ghost use Rattle.handler_reports.specs.VisitsReport.{AreRefused, IsVisitsReport};
+ghost use Rattle.handler_reports.specs.VisitsReport.{ReportsVisits};
+ghost use Rattle.response_reports.specs.RespondReport.{Responds};
 ghost use Rattle.command_line.specs.Rows.{asked_of};
 ghost use Rattle.arcwcet.specs.Kept.{inputs_lent};
-ghost use Rattle.arcwcet.specs.Reports.{answered, bursts_of, priced, report_of, version_line};
-ghost use Rattle.arcwcet.specs.Reports.{version_report};
+ghost use Rattle.arcwcet.specs.Reports.{answered, bursts_of, fiq_source_in, priced, question_in, rate_of};
+ghost use Rattle.arcwcet.specs.Reports.{report_of, version_line, version_report};
 ghost use Rattle.arcwcet.specs.Run.{PrintsReport};
 
 use crate::files::Inputs;
 use command_line::{Command, CommandNumbers, Request, VERSION};
 use handler_reports::{
-    AskedEdge, CheckInputs, Explained, FollowedRun, FollowedVisits, VisitedHandler, explain_report,
-    follow_report, follow_visits_report, graph_report, print_bound, print_check, print_tight,
-    print_visits, verdict_report,
+    AskedEdge, CheckInputs, Explained, FollowedRun, FollowedVisits, VisitRate, VisitedHandler,
+    explain_report, follow_report, follow_visits_report, graph_report, print_bound, print_check,
+    print_tight, verdict_report, visits_report,
 };
 use handlers::{Refusal, ReportFault};
 use machine_reports::{ShownRegisters, ShownSteps, debug_report, machine_report};
 use outputs::{Output, Page};
-use source_reports::{asm_report, draft_report, list_report};
+use response_reports::{AskedResponse, respond_report};
+use source_reports::{asm_report, draft_on_report, draft_report, list_report};
 use std::alloc::Global;
 use text_explained::Bursts;
 
@@ -114,26 +116,80 @@ fn print_checked<'b, O: Output>(
     print_check(alloc, checked, inputs.profile, out)
 }
 
-// `visits`, of a source and both statements.
+// How often FIQ interrupts the handler.
+fn rate_of(numbers: CommandNumbers) -> VisitRate
+    ensures { result ≡ rate_of numbers }
+{
+    match numbers.every {
+        Some(every) => VisitRate::Every(every),
+        None => VisitRate::Times(numbers.visits.unwrap_or(0)),
+    }
+}
+
+// The source of FIQ's handler, where it is another one.
+fn fiq_source<'b>(inputs: Inputs<'b>) -> Option<&'b [u8]>
+    ensures { option_map (λ f. f.now) result ≡ fiq_source_in (inputs_lent inputs.entry) }
+{
+    match inputs.rest.get(1) {
+        Some(source) => Some(source),
+        None => None,
+    }
+}
+
+// `visits`, of a source, both statements, and FIQ's own source if there is one.
 fn print_visited<'b, O: Output>(
     alloc: Global,
     inputs: Inputs<'b>,
     numbers: CommandNumbers,
     out: &mut O,
 ) -> Result<bool, Refusal<'b>>
-    ensures { PrintsReport O.taken O.failures
-        (priced (inputs_lent inputs.entry).profile
-        (IsVisitsReport inputs.entry.source.now inputs.entry.second.now inputs.entry.third.now numbers.visits)
-        (AreRefused inputs.entry.source.now inputs.entry.second.now inputs.entry.third.now numbers.visits))
-        out.old out.new (fault_only result) }
+    ensures { Priced (inputs_lent inputs.entry).profile
+        (λ p. ReportsVisits O.taken O.failures inputs.entry.source.now
+        (fiq_source_in (inputs_lent inputs.entry)) inputs.entry.second.now inputs.entry.third.now
+        (rate_of numbers) p out.old out.new (fault_only result)) out.old out.new (fault_only result) }
 {
     let asked = VisitedHandler {
         source: inputs.source,
         irq: inputs.second,
+        fiq_source: fiq_source(inputs),
         fiq: inputs.third,
-        visits: numbers.visits,
+        rate: rate_of(numbers),
     };
-    answered(print_visits(alloc, asked, inputs.profile, out))
+    visits_report(alloc, asked, inputs.profile, out)
+}
+
+fn bursts_of(numbers: CommandNumbers) -> Bursts
+    ensures { result ≡ bursts_of numbers }
+{
+    Bursts {
+        count: numbers.bursts,
+        every: numbers.burst_every,
+    }
+}
+
+// `respond`, of a source, the handler's statement and those of what holds the interrupt back.
+fn print_response<'b, O: Output>(
+    alloc: Global,
+    job: Job<'b, '_>,
+    out: &mut O,
+) -> Result<bool, Refusal<'b>>
+    ensures { let inputs = inputs_lent job.entry.inputs in
+        Priced inputs.profile
+        (λ p. Responds (question_in (asked_of job.entry.request.now) inputs) p O.taken O.failures out.old
+        out.new (fault_only result)) out.old out.new (fault_only result) }
+{
+    let (inputs, numbers) = (job.inputs, job.request.numbers);
+    let asked = AskedResponse {
+        source: inputs.source,
+        statement: inputs.second,
+        label: job.request.word.as_bytes(),
+        longest: numbers.longest,
+        masked: numbers.masked,
+        masked_by: inputs.rest,
+        bursts: bursts_of(numbers),
+        within: numbers.within,
+    };
+    respond_report(alloc, asked, inputs.profile, out)
 }
 
 // `explain`, of a source and a statement.
@@ -153,10 +209,7 @@ fn print_explanation<'b, O: Output>(
         source: inputs.source,
         statement: inputs.second,
         at_most: numbers.at_most,
-        bursts: Bursts {
-            count: numbers.bursts,
-            every: numbers.burst_every,
-        },
+        bursts: bursts_of(numbers),
         each,
     };
     explain_report(alloc, explained, inputs.profile, out)
@@ -219,8 +272,9 @@ fn print_followed_visits<'b, O: Output>(
 }
 
 /// Prints the report of a job, with the commands that were typed for `debug`, and answers yes; or whether a
-/// run did all its steps, a bound is enough, a certificate proves it, or a run keeps its statement. Of `asm`,
-/// which writes the image's file too, it prints the line alone.
+/// run did all its steps, a bound is enough, a response is within what is wanted, a handler with visits ends,
+/// a certificate proves a bound, or a run keeps its statement. Of `asm`, which writes the image's file too,
+/// it prints the line alone.
 pub(crate) fn print<'b, O: Output>(
     alloc: Global,
     job: Job<'b, '_>,
@@ -241,6 +295,7 @@ pub(crate) fn print<'b, O: Output>(
             let entry = job.request.word.as_bytes();
             answered(alone(draft_report(alloc, source, entry, out)))
         }
+        Command::DraftOn => answered(alone(draft_on_report(alloc, source, second, out))),
         Command::Run => alone(machine_report::<ShownRegisters, O>(
             alloc, source, second, profile, out,
         )),
@@ -252,6 +307,7 @@ pub(crate) fn print<'b, O: Output>(
         Command::Tight => print_edge(alloc, inputs, numbers, out),
         Command::Check => print_checked(alloc, inputs, out),
         Command::Visits => print_visited(alloc, inputs, numbers, out),
+        Command::Respond => print_response(alloc, job, out),
         Command::Explain => print_explanation(alloc, inputs, numbers, job.request.each, out),
         Command::Verdict => print_verdict(alloc, inputs, out),
         Command::Follow => print_followed(alloc, inputs, out),

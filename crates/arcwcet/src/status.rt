@@ -54,6 +54,10 @@ pub(crate) fn line_status<E: Output>(fault: CommandLineFault, err: &mut E) -> u8
             let _ = write_whole(err, b"error: the image would be written over its source\n");
             2
         }
+        CommandLineFault::VisitsOrPeriod => {
+            let _ = write_whole(err, b"error: either K or --every N has to be given\n");
+            2
+        }
         CommandLineFault::OptionBesideCertificate => {
             let _ = write_whole(err, b"error: --certificate goes with --profile alone\n");
             2

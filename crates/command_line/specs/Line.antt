@@ -1,19 +1,18 @@
 -- What a line of words asks of the program, by clap's function for a simple command. The commands are our
 -- own.
 use Rattle.std.specs.Prelude.{ℕ, Bool, pos, true, false, not, List, [], ◌∷◌, ◌++◌, Option, Some, None, String}
-use Rattle.std.specs.Prelude.{codes, find, fold, is_none, map, option_and_then}
+use Rattle.std.specs.Prelude.{codes, find, fold, is_none, map, option_and_then, ◌==◌}
 use Rattle.std.specs.Prelude.{string_bytes, unwrap_or, if◌then◌else◌, ◌&&◌, ◌||◌}
-use Rattle.std.specs.Option.{option_map_or}
 use Rattle.std.specs.List.{list_any}
 use Rattle.std.specs.declared.alloc.Global.{Global}
 use Rattle.std.specs.Str.{bytes_eq}
 use Rattle.std.specs.Str.Parse.{digits_value, without_leading_plus}
-use Rattle.clap.specs.Walk.{Row, Rule, Text, first_of, one_of}
+use Rattle.clap.specs.Walk.{Row, Rule, Text, all_of, one_of}
 use Rattle.clap.specs.Simple.{App, new_app, new_rule, on_top, subcommand_of, with_rule, with_subcommand}
 use Rattle.clap.specs.Faults.{fault_of}
 use Rattle.clap.specs.Kinds.{Kinds}
 use Rattle.clap.specs.ValueTests.{is_unsigned_in}
-use Rattle.clap.specs.declared.builder.action.ArgAction.TheVariants.{SetTrue}
+use Rattle.clap.specs.declared.builder.action.ArgAction.TheVariants.{Append, SetTrue}
 use Rattle.clap.specs.declared.builder.value_parser.ValueParser.TheVariants as parser
 use Rattle.command_line.specs.declared.line.Command.{Command}
 use Rattle.command_line.specs.declared.line.Command.TheVariants as command
@@ -66,7 +65,8 @@ abbrev pub usages : List Usage
 usages =
     usage (codes "asm") command.Asm (source ∷ argument (codes "image") form.Word ∷ [])
     ∷ usage (codes "list") command.List (source ∷ [])
-    ∷ usage (codes "draft") command.Draft (source ∷ argument (codes "entry") form.Word ∷ [])
+    ∷ usage (codes "draft") command.Draft
+    (source ∷ other (codes "entry") form.FileOrWord command.DraftOn ∷ [])
     ∷ usage (codes "run") command.Run (profile ∷ source ∷ machine ∷ [])
     ∷ usage (codes "trace") command.Trace (profile ∷ source ∷ machine ∷ [])
     ∷ usage (codes "debug") command.Debug (profile ∷ source ∷ machine ∷ [])
@@ -76,7 +76,13 @@ usages =
     (profile ∷ source ∷ statement ∷ argument (codes "cert") form.File ∷ [])
     ∷ usage (codes "visits") command.Visits
     (profile ∷ source ∷ statement ∷ argument (codes "fiq_statement") form.File
-    ∷ argument (codes "visits") form.Number ∷ [])
+    ∷ argument (codes "visits") form.OptionalNumber ∷ argument (codes "every") form.NumberOption
+    ∷ argument (codes "fiq-source") form.FileOption ∷ [])
+    ∷ usage (codes "respond") command.Respond
+    (profile ∷ source ∷ statement ∷ argument (codes "label") form.Word
+    ∷ argument (codes "longest") form.TicksOption ∷ argument (codes "masked") form.TicksOption
+    ∷ argument (codes "masked-by") form.FilesOption ∷ argument (codes "bursts") form.NumberOption
+    ∷ argument (codes "burst-every") form.NumberOption ∷ argument (codes "within") form.TicksOption ∷ [])
     ∷ usage (codes "explain") command.Explain
     (profile ∷ source ∷ statement ∷ argument (codes "at-most") form.TicksOption
     ∷ argument (codes "bursts") form.NumberOption ∷ argument (codes "burst-every") form.NumberOption
@@ -111,9 +117,11 @@ in_ticks rule = record rule { value_names = 1; parser = Some (parser.Unsigned 0 
 abbrev pub rule_by : Form → Text → Rule
 rule_by form.File id = required_rule id
 rule_by form.Word id = required_rule id
-rule_by form.Number id = numbered (required_rule id)
+rule_by form.FileOrWord id = required_rule id
+rule_by form.OptionalNumber id = numbered (new_rule id)
 rule_by form.ProfileOption id = record (option_rule id) { value_names = 1 }
 rule_by form.FileOption id = record (option_rule id) { value_names = 1 }
+rule_by form.FilesOption id = record (option_rule id) { value_names = 1; action = Some Append }
 rule_by form.NumberOption id = numbered (option_rule id)
 rule_by form.TicksOption id = in_ticks (option_rule id)
 rule_by form.Why id = record (option_rule id) { action = Some SetTrue }
@@ -183,44 +191,85 @@ abbrev pub numbers_in : List Row → CommandNumbers
 numbers_in rows =
     record {
       edge = unwrap_or (number_at (codes "tight") rows) 0;
-      visits = unwrap_or (number_at (codes "visits") rows) 0;
+      visits = number_at (codes "visits") rows;
+      every = number_at (codes "every") rows;
       at_most = ticks_at (codes "at-most") rows;
       bursts = number_at (codes "bursts") rows;
       burst_every = number_at (codes "burst-every") rows;
+      longest = ticks_at (codes "longest") rows;
+      masked = ticks_at (codes "masked") rows;
+      within = ticks_at (codes "within") rows;
     }
 
 abbrev pub no_numbers : CommandNumbers
-no_numbers = record { edge = 0; visits = 0; at_most = None; bursts = None; burst_every = None }
+no_numbers =
+    record {
+      edge = 0;
+      visits = None;
+      every = None;
+      at_most = None;
+      bursts = None;
+      burst_every = None;
+      longest = None;
+      masked = None;
+      within = None;
+    }
+
+-- whether a word names a file, where it may be a label or an address too: it has a `.` or a `/`, and these
+-- have neither
+abbrev pub names_file : Text → Bool
+names_file word = list_any (λ byte. byte == 46 || byte == 47) word
+
+abbrev pub with_file : Text → Asked → Asked
+with_file name asked = record asked { files = asked.files ++ name ∷ [] }
 
 -- with the value of an argument of a form too; numbers are read by their names
 abbrev pub with_value_by : Form → Text → Asked → Asked
-with_value_by form.File name asked = record asked { files = asked.files ++ name ∷ [] }
-with_value_by form.FileOption name asked = record asked { files = asked.files ++ name ∷ [] }
+with_value_by form.File name asked = with_file name asked
+with_value_by form.FileOption name asked = with_file name asked
+with_value_by form.FilesOption name asked = with_file name asked
 with_value_by form.Word word asked = record asked { word = word }
+with_value_by form.FileOrWord value asked =
+    if names_file value then with_file value asked else record asked { word = value }
 with_value_by form.ProfileOption name asked = record asked { profile = Some name }
 with_value_by form.Why value asked = record asked { why = bytes_eq value (codes "true") }
 with_value_by form.Each value asked = record asked { each = bytes_eq value (codes "true") }
-with_value_by form.Number value asked = asked
+with_value_by form.OptionalNumber value asked = asked
 with_value_by form.NumberOption value asked = asked
 with_value_by form.TicksOption value asked = asked
 
+-- whether the value is a word where it might name a file
+abbrev pub is_word : Form → Text → Bool
+is_word form.FileOrWord value = not (names_file value)
+is_word f value = false
+
+-- what is asked for where an argument has this value
+abbrev pub command_by : Argument → Text → Command → Command
+command_by a value command = if is_word a.form value then command else unwrap_or a.instead command
+
 abbrev pub with_value : Argument → Text → Asked → Asked
 with_value a value asked =
-    with_value_by a.form value (record asked { command = unwrap_or a.instead asked.command })
+    with_value_by a.form value (record asked { command = command_by a value asked.command })
 
--- with the value of an argument, if it is given
+-- with each value of an argument, in their order; none where it is not given
 abbrev pub with_argument : List Row → Asked → Argument → Asked
-with_argument rows asked a = option_map_or (λ value. with_value a value asked) (first_of a.id rows) asked
+with_argument rows asked a =
+    fold (λ (asked : Asked) value. with_value a value asked) asked (unwrap_or (all_of a.id rows) [])
 
 -- with those of a command's arguments, in their order
 abbrev pub asked_as : Usage → List Row → Asked
 asked_as u rows =
     with_argument rows (fold (with_argument rows) (plainly u.command (numbers_in rows)) u.arguments) why
 
--- `asm` writes no image over a file that it reads, and beside the certificate of a verdict neither a number
--- nor `--each` is given, which would have no effect
+-- one of two numbers is given, and the other not
+abbrev pub is_one : Option ℕ → Option ℕ → Bool
+is_one first second = if is_none first then not (is_none second) else is_none second
+
+-- `asm` writes no image over a file that it reads, `visits` has either a number of visits or a period, and
+-- beside the certificate of a verdict neither a number nor `--each` is given, which would have no effect
 abbrev pub is_allowed_of : Command → Asked → Bool
 is_allowed_of command.Asm asked = not (list_any (λ name. bytes_eq name asked.word) asked.files)
+is_allowed_of command.Visits asked = is_one asked.numbers.visits asked.numbers.every
 is_allowed_of command.Verdict asked =
     not asked.each
     && (is_none asked.numbers.at_most

@@ -11,12 +11,16 @@ pub(crate) enum Form {
     File,
     /// A word that names no file to be read, in its place.
     Word,
-    /// A whole number of 32 bits, in its place.
-    Number,
+    /// In its place, the name of a file to be read, where it has a `.` or a `/`, else a word that names none.
+    FileOrWord,
+    /// A whole number of 32 bits, in its place, if it is given.
+    OptionalNumber,
     /// The name of the cycle profile's file, by an option.
     ProfileOption,
     /// The name of a file to be read, by an option.
     FileOption,
+    /// The names of files to be read, by an option that may be given again.
+    FilesOption,
     /// A whole number of 32 bits, by an option.
     NumberOption,
     /// A number of ticks, to 2^63 - 1, by an option.
@@ -28,7 +32,7 @@ pub(crate) enum Form {
 }
 
 /// An argument, what the help says of it, and what is asked for instead where it is given, if that is another
-/// command than its row's.
+/// command than its row's; of a [`Form::FileOrWord`] where it names a file.
 pub(crate) struct ArgumentRow {
     pub id: &'static str,
     pub form: Form,
@@ -91,8 +95,57 @@ const IMAGE: ArgumentRow = ArgumentRow {
 
 const ENTRY: ArgumentRow = ArgumentRow {
     id: "entry",
+    form: Form::FileOrWord,
+    help: "Where the handler begins: a label or an address; or the file of its statement, if it is begun",
+    instead: Some(Command::DraftOn),
+};
+
+const LABEL: ArgumentRow = ArgumentRow {
+    id: "label",
     form: Form::Word,
-    help: "Where the handler begins: a label or an address",
+    help: "Where it responds: a label or an address",
+    instead: None,
+};
+
+const LONGEST: ArgumentRow = ArgumentRow {
+    id: "longest",
+    form: Form::TicksOption,
+    help: "The most ticks of the step in progress [default: those of any program's longest step]",
+    instead: None,
+};
+
+const MASKED: ArgumentRow = ArgumentRow {
+    id: "masked",
+    form: Form::TicksOption,
+    help: "For how many ticks the interrupt is held back [default: 0]",
+    instead: None,
+};
+
+const MASKED_BY: ArgumentRow = ArgumentRow {
+    id: "masked-by",
+    form: Form::FilesOption,
+    help: "Statement on a stretch of code that holds the interrupt back too; may be given again",
+    instead: None,
+};
+
+const RESPONSE_BURSTS: ArgumentRow = ArgumentRow {
+    id: "bursts",
+    form: Form::NumberOption,
+    help: "Print the response with N DMA bursts too",
+    instead: None,
+};
+
+const RESPONSE_BURST_EVERY: ArgumentRow = ArgumentRow {
+    id: "burst-every",
+    form: Form::NumberOption,
+    help: "Print the response with a DMA burst every N ticks too",
+    instead: None,
+};
+
+const WITHIN: ArgumentRow = ArgumentRow {
+    id: "within",
+    form: Form::TicksOption,
+    help: "Status 1 where the greatest time that is printed is more than N ticks",
     instead: None,
 };
 
@@ -161,13 +214,27 @@ const FIQ: ArgumentRow = ArgumentRow {
 
 const VISITS: ArgumentRow = ArgumentRow {
     id: "visits",
-    form: Form::Number,
-    help: "How often FIQ interrupts it, at most",
+    form: Form::OptionalNumber,
+    help: "How often FIQ interrupts it, at most; or give --every",
+    instead: None,
+};
+
+const EVERY: ArgumentRow = ArgumentRow {
+    id: "every",
+    form: Form::NumberOption,
+    help: "FIQ interrupts it once in N ticks, at most",
+    instead: None,
+};
+
+const FIQ_SOURCE: ArgumentRow = ArgumentRow {
+    id: "fiq-source",
+    form: Form::FileOption,
+    help: "Source of FIQ's handler, where it is another one",
     instead: None,
 };
 
 /// The commands, in the order of the help.
-pub(crate) const COMMANDS: [CommandRow; 12] = [
+pub(crate) const COMMANDS: [CommandRow; 13] = [
     CommandRow {
         name: "asm",
         command: Command::Asm,
@@ -220,7 +287,32 @@ pub(crate) const COMMANDS: [CommandRow; 12] = [
         name: "visits",
         command: Command::Visits,
         summary: "Print the greatest run time of a handler that FIQ interrupts",
-        arguments: &[PROFILE, SOURCE, STATEMENT, FIQ_STATEMENT, VISITS],
+        arguments: &[
+            PROFILE,
+            SOURCE,
+            STATEMENT,
+            FIQ_STATEMENT,
+            VISITS,
+            EVERY,
+            FIQ_SOURCE,
+        ],
+    },
+    CommandRow {
+        name: "respond",
+        command: Command::Respond,
+        summary: "Print how long after an interrupt its handler's step at a label ends",
+        arguments: &[
+            PROFILE,
+            SOURCE,
+            STATEMENT,
+            LABEL,
+            LONGEST,
+            MASKED,
+            MASKED_BY,
+            RESPONSE_BURSTS,
+            RESPONSE_BURST_EVERY,
+            WITHIN,
+        ],
     },
     CommandRow {
         name: "explain",

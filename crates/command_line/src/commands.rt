@@ -16,12 +16,13 @@ fn argument<'a>(alloc: Global, row: &ArgumentRow) -> Arg<'a>
 {
     let arg = Arg::new(alloc, row.id).help(row.help);
     match row.form {
-        Form::File | Form::Word => arg.required(true),
-        Form::Number => arg
-            .required(true)
-            .value_name("K")
-            .value_parser(value_parser!(u32)),
+        Form::File | Form::Word | Form::FileOrWord => arg.required(true),
+        Form::OptionalNumber => arg.value_name("K").value_parser(value_parser!(u32)),
         Form::ProfileOption | Form::FileOption => arg.long(row.id).value_name("FILE"),
+        Form::FilesOption => arg
+            .long(row.id)
+            .value_name("FILE")
+            .action(ArgAction::Append),
         Form::NumberOption => arg
             .long(row.id)
             .value_name("N")

@@ -12,6 +12,8 @@ pub enum Command {
     /// What has to be stated of the handler that begins where [`Request::word`] says: at a label or an
     /// address.
     Draft,
+    /// What is left to be stated of the handler whose statement, the second file, is begun.
+    DraftOn,
     /// The registers and the ticks of a run of a source's image, by a machine file.
     Run,
     /// The lines of its steps.
@@ -25,8 +27,12 @@ pub enum Command {
     /// The verdict on a certificate, the third file.
     Check,
     /// The greatest run time of that handler with [`CommandNumbers::visits`] visits of FIQ's handler at most,
-    /// on which the third file is the statement.
+    /// or with one in [`CommandNumbers::every`] ticks. On FIQ's handler the third file is the statement; its
+    /// source is the fourth, if there is one.
     Visits,
+    /// How long after an interrupt its handler's step at the label or address [`Request::word`] ends. The
+    /// files from the third on are the statements on the stretches of code that hold the interrupt back.
+    Respond,
     /// Where the ticks of the handler's run time go.
     Explain,
     /// The verdict on a certificate, the third file, and what fails in it.
@@ -45,14 +51,22 @@ pub enum Command {
 pub struct CommandNumbers {
     /// The number of an edge of the flow graph, from 0; 0 where none is given.
     pub edge: u32,
-    /// How often FIQ interrupts the handler, at most; 0 where it is not given.
-    pub visits: u32,
+    /// How often FIQ interrupts the handler, at most.
+    pub visits: Option<u32>,
+    /// FIQ interrupts it at most once in so many ticks.
+    pub every: Option<u32>,
     /// The most ticks that are wanted of the bound, to 2^63 - 1.
     pub at_most: Option<u64>,
     /// So many DMA bursts.
     pub bursts: Option<u32>,
     /// A DMA burst every so many ticks.
     pub burst_every: Option<u32>,
+    /// The most ticks of the step that is in progress at an interrupt, to 2^63 - 1.
+    pub longest: Option<u64>,
+    /// So many ticks for which an interrupt is held back, to 2^63 - 1.
+    pub masked: Option<u64>,
+    /// The most ticks that are wanted of a response, to 2^63 - 1.
+    pub within: Option<u64>,
 }
 
 /// What a line of words asks for.
@@ -81,6 +95,8 @@ pub enum CommandLineFault {
     Usage(Error),
     /// `asm` would write the image over its source.
     SourceReplaced,
+    /// `visits` is given neither a number of visits nor a period, or both.
+    VisitsOrPeriod,
     /// `explain` is given a certificate, and an option that has no effect beside it.
     OptionBesideCertificate,
 }

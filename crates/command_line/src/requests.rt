@@ -5,9 +5,9 @@ ghost use Rattle.std.specs.Str.{bytes_eq};
 ghost use Rattle.clap.specs.Matches.{found_of};
 ghost use Rattle.clap.specs.Walk.{rows_of};
 ghost use Rattle.clap.specs.Words.{kind_of, subcommand_rows_of};
-ghost use Rattle.command_line.specs.Line.{asked_as, asked_by, asked_in, asks_version, is_allowed};
-ghost use Rattle.command_line.specs.Line.{no_numbers, number_at, numbers_in, plainly, ticks_at};
-ghost use Rattle.command_line.specs.Line.{with_argument, with_value};
+ghost use Rattle.command_line.specs.Line.{asked_as, asked_by, asked_in, asks_version, command_by, is_allowed};
+ghost use Rattle.command_line.specs.Line.{is_one, names_file, no_numbers, number_at, numbers_in, plainly};
+ghost use Rattle.command_line.specs.Line.{ticks_at, with_argument, with_value, with_value_by};
 ghost use Rattle.command_line.specs.Rows.{argument_of, asked_of, usage_of};
 
 use crate::command_rows::{ArgumentRow, COMMANDS, CommandRow, Form, WHY};
@@ -36,11 +36,52 @@ fn numbers_in(values: &ArgMatches<'_>) -> CommandNumbers
 {
     CommandNumbers {
         edge: number_at(values, "tight").unwrap_or(0),
-        visits: number_at(values, "visits").unwrap_or(0),
+        visits: number_at(values, "visits"),
+        every: number_at(values, "every"),
         at_most: ticks_at(values, "at-most"),
         bursts: number_at(values, "bursts"),
         burst_every: number_at(values, "burst-every"),
+        longest: ticks_at(values, "longest"),
+        masked: ticks_at(values, "masked"),
+        within: ticks_at(values, "within"),
     }
+}
+
+// Whether a word names a file, where it may be a label or an address too: these have neither sign.
+fn names_file(word: &str) -> bool
+    ensures { result ≡ names_file word.now }
+{
+    let bytes = word.as_bytes();
+    bytes.iter().any(|byte| *byte == b'.' || *byte == b'/')
+}
+
+// The command that is asked for where an argument has a value.
+fn command_by(row: &ArgumentRow, value: &str, command: Command) -> Command
+    ensures { result ≡ command_by (argument_of row.now) value.now command }
+{
+    match row.form {
+        Form::FileOrWord => {
+            if names_file(value) {
+                row.instead.unwrap_or(command)
+            } else {
+                command
+            }
+        }
+        _ => row.instead.unwrap_or(command),
+    }
+}
+
+// Adds a value that is a file's name or a word.
+fn add_file_or_word<'a>(request: &mut Request<'a>, value: &'a str) -> Result<(), AllocError>
+    ensures { OnOk result (asked_of request.new
+        ≡ with_value_by Form.FileOrWord value.now (asked_of request.old)) }
+{
+    if names_file(value) {
+        request.files.push(value)?;
+    } else {
+        request.word = value;
+    }
+    Ok(())
 }
 
 // Adds to what is asked the value of an argument.
@@ -52,19 +93,20 @@ fn add_value<'a>(
     ensures { OnOk result (asked_of request.new
         ≡ with_value (argument_of row.now) value.now (asked_of request.old)) }
 {
-    request.command = row.instead.unwrap_or(request.command);
+    request.command = command_by(row, value, request.command);
     match row.form {
-        Form::File | Form::FileOption => request.files.push(value)?,
+        Form::File | Form::FileOption | Form::FilesOption => request.files.push(value)?,
+        Form::FileOrWord => add_file_or_word(request, value)?,
         Form::Word => request.word = value,
         Form::ProfileOption => request.profile = Some(value),
         Form::Why => request.why = value == "true",
         Form::Each => request.each = value == "true",
-        Form::Number | Form::NumberOption | Form::TicksOption => {}
+        Form::OptionalNumber | Form::NumberOption | Form::TicksOption => {}
     }
     Ok(())
 }
 
-// The same of an argument that may be given.
+// The same of each value of an argument, which may have none.
 fn add_argument<'a>(
     request: &mut Request<'a>,
     row: &ArgumentRow,
@@ -73,10 +115,13 @@ fn add_argument<'a>(
     ensures { OnOk result (asked_of request.new
         ≡ with_argument (rows_of (found_of values.now)) (asked_of request.old) (argument_of row.now)) }
 {
-    match values.get_str(row.id) {
-        Some(value) => add_value(request, row, value),
-        None => Ok(()),
+    let Some(given) = values.get_strs(row.id) else {
+        return Ok(());
+    };
+    for value in given {
+        add_value(request, row, value)?;
     }
+    Ok(())
 }
 
 // What the command of a row is asked with.
@@ -111,13 +156,25 @@ fn is_among(names: &[&str], word: &str) -> bool
     names.iter().any(|name| *name == word)
 }
 
-// Whether what is asked may be: the image of `asm` is no file that it reads, and no option that has no effect
-// stands beside the certificate of a verdict.
+// Whether one of two numbers is given, and the other not.
+fn is_one(first: Option<u32>, second: Option<u32>) -> bool
+    ensures { result ≡ is_one first second }
+{
+    if first.is_none() {
+        second.is_some()
+    } else {
+        second.is_none()
+    }
+}
+
+// Whether what is asked may be: the image of `asm` is no file that it reads, `visits` has a number or a
+// period, and no option that has no effect stands beside the certificate of a verdict.
 fn is_allowed(request: &Request<'_>) -> bool
     ensures { result ≡ is_allowed (asked_of request.now) }
 {
     match request.command {
         Command::Asm => !is_among(&request.files, request.word),
+        Command::Visits => is_one(request.numbers.visits, request.numbers.every),
         Command::Verdict => {
             let numbers = request.numbers;
             !request.each
@@ -193,6 +250,7 @@ fn line_fault(error: Error) -> CommandLineFault
 fn unasked(matches: &ArgMatches<'_>) -> CommandLineFault {
     match matches.subcommand() {
         Some(("explain", _)) => CommandLineFault::OptionBesideCertificate,
+        Some(("visits", _)) => CommandLineFault::VisitsOrPeriod,
         _ => CommandLineFault::SourceReplaced,
     }
 }
@@ -222,10 +280,14 @@ fn version<'a>(alloc: Global) -> Request<'a>
         word: "",
         numbers: CommandNumbers {
             edge: 0,
-            visits: 0,
+            visits: None,
+            every: None,
             at_most: None,
             bursts: None,
             burst_every: None,
+            longest: None,
+            masked: None,
+            within: None,
         },
     }
 }
@@ -235,8 +297,9 @@ fn version<'a>(alloc: Global) -> Request<'a>
 /// # Errors
 ///
 /// Where the words ask for nothing: `Usage` with the command-line crate's own refusal, or its help;
-/// `SourceReplaced` where `asm` would write the image over its source; `OptionBesideCertificate` where
-/// `explain` has a certificate and an option for bounds. `Memory`: an allocation failed.
+/// `SourceReplaced` where `asm` would write the image over its source; `VisitsOrPeriod` where `visits` has
+/// neither a number of visits nor a period, or both; `OptionBesideCertificate` where `explain` has a
+/// certificate and an option for bounds. `Memory`: an allocation failed.
 pub fn request<'a>(alloc: Global, words: &'a [String]) -> Result<Request<'a>, CommandLineFault>
     ensures read { IfOk result (λ q. asked_in words.entry.now ≡ Some (asked_of q)) }
     ensures refused { IfErr result

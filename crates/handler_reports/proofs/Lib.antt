@@ -15,3 +15,6 @@ pub mod GraphLemmas
 pub mod RunTimeLemmas
 mod SaidLemmas
 pub mod VisitsReportLemmas
+mod FewestLemmas
+mod SummaryLemmas
+mod VisitRateLemmas

@@ -61,17 +61,16 @@ enough_more price bound every few more some enough =
     let right : (few + more) * every ≡ few * every + more * every = grind arith in
     omega (arith, enough, each, left, right)
 
--- more bursts than are enough would come after the end
-few_come : (price bound every fewest n end : ℕ) → 1 ≤ bound → AreEnough price bound every fewest
-    → n * every + price < end → end ≤ bound + price * suc n → suc n ≤ fewest
-few_come price bound every fewest n end some enough last most = ⊎_elim
+-- where so many are not enough, more are
+pub not_enough : (price bound every fewest n : ℕ) → 1 ≤ bound → AreEnough price bound every fewest
+    → n * every < with_bursts price bound n → suc n ≤ fewest
+not_enough price bound every fewest n some enough short = ⊎_elim
     (λ (lt : n < fewest). let le : suc n ≤ fewest = omega (arith, lt) in le)
     (λ (le : fewest ≤ n).
     let more = n - fewest in
     let whole : fewest + more ≡ n = omega (arith, le) in
-    let all = subst (AreEnough price bound every) whole (enough_more price bound every fewest more some enough) in
-    let same : price * suc n ≡ n * price + price = mul-suc price n ∙ ap (λ k. k + price) (mul_comm price n) in
-    absurd (omega (arith, all, last, most, same)))
+    let all : with_bursts price bound n ≤ n * every = subst (AreEnough price bound every) whole (enough_more price bound every fewest more some enough) in
+    absurd (omega (arith, all, short)))
     (cases_lt n fewest)
 
 ends_by : (price bound every fewest end n : ℕ) (times : List ℕ) → 1 ≤ bound → AreEnough price bound every fewest
@@ -83,7 +82,8 @@ ends_by price bound every fewest end n [] some enough apart inside is most =
 ends_by price bound every fewest end n (t ∷ times) some enough apart inside is most =
     let last = last_after every price end t times apart inside in
     let within : end ≤ bound + price * suc (length times) = subst (λ k. end ≤ bound + price * k) (sym is) most in
-    let few = few_come price bound every fewest (length times) end some enough (omega (arith, last)) within in
+    let turned : price * suc (length times) ≡ length times * price + price = mul-suc price (length times) ∙ ap (λ k. k + price) (mul_comm price (length times)) in
+    let few = not_enough price bound every fewest (length times) some enough (omega (arith, last, within, turned)) in
     let dear : suc (length times) * price ≤ fewest * price = mul-le (suc (length times)) price fewest price few (omega arith) in
     let same : price * suc (length times) ≡ suc (length times) * price = mul_comm price (suc (length times)) in
     omega (arith, within, dear, same)

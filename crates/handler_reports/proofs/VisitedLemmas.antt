@@ -85,7 +85,7 @@ module _ (words : Words) (st : Stated) (flow : Flow) (tree : Tree) (of : IsTreeO
   fiq_by_tree : (s : State) (is : List Input) → KeepsStatement words fiq flow.profile fiq_flow s is → KeepsTo words fiq fiq_flow fiq_tree s is
   fiq_by_tree s is h = by_tree words fiq fiq_flow fiq_tree fiq_of s is (subst (λ (p : Profile). KeepsStatement words fiq p fiq_flow s is) (sym prices) h)
 
-  keeps_visited : (s : State) (main : List MainStep) → KeepsBoth irq_handled fiq_handled s main → KeepsVisited words fiq flow.profile fiq_flow st flow s main
+  keeps_visited : (s : State) (main : List MainStep) → KeepsBoth irq_handled fiq_handled s main → KeepsVisited words words fiq flow.profile fiq_flow st flow s main
   keeps_visited s main h = record {
     walk = h.walk;
     complete = h.complete;
@@ -93,7 +93,7 @@ module _ (words : Words) (st : Stated) (flow : Flow) (tree : Tree) (of : IsTreeO
     follows = follows_as (KeepsTo words fiq fiq_flow fiq_tree) (KeepsStatement words fiq flow.profile fiq_flow) flow.profile fiq_states words st s main h.walk h.follows;
   }
 
-  keeps_both : (s : State) (main : List MainStep) → KeepsVisited words fiq flow.profile fiq_flow st flow s main → KeepsBoth irq_handled fiq_handled s main
+  keeps_both : (s : State) (main : List MainStep) → KeepsVisited words words fiq flow.profile fiq_flow st flow s main → KeepsBoth irq_handled fiq_handled s main
   keeps_both s main h = record {
     walk = h.walk;
     complete = h.complete;
@@ -115,7 +115,7 @@ module _ (words : Words) (st : Stated) (flow : Flow) (tree : Tree) (of : IsTreeO
         let runs : Runs s (inputs_of k.main) k.ran after = subst (λ (is : List Input). Runs s is k.ran after) (sym k.inputs_are) k.runs in
         let few : visits_of k.main ≤ visits = omega (arith, k.visits_are) in
         let most : TakesAtMost flow.profile (visits_bound flow.profile bound fiq_bound visits) (inputs_of k.main) k.ran =
-        bounds_visited words fiq flow.profile fiq_flow fiq_bound (fiq_entry_greatest flow.profile (fiq_entry flow.profile) refl) fiq_greatest st flow bound visits greatest s k.main k.ran after keeps few runs in
+        bounds_visited words words fiq flow.profile fiq_flow fiq_bound (fiq_entry_greatest flow.profile (fiq_entry flow.profile) refl) fiq_greatest st flow bound visits greatest s k.main k.ran after keeps few runs in
         record {
           steps = steps;
           few = k.few;

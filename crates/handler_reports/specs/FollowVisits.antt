@@ -45,8 +45,8 @@ module _ (irq fiq : BoundHandler) (profile : Profile) (s : State) (inputs : List
   -- from this state the main steps and the visits before them keep both statements
   abbrev pub KeepsStatements : List MainStep → Type 0
   KeepsStatements =
-      KeepsVisited irq.handled.words fiq.handled.stated profile fiq.handled.flow irq.handled.stated
-      irq.handled.flow s
+      KeepsVisited irq.handled.words fiq.handled.words fiq.handled.stated profile fiq.handled.flow
+      irq.handled.stated irq.handled.flow s
 
   -- so many of the inputs make a run that keeps both statements, with so many visits and in so many ticks, at
   -- most the total for so many

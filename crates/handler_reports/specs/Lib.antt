@@ -16,3 +16,4 @@ pub mod FollowVisits
 pub mod VisitedText
 pub mod VisitedWork
 pub mod VisitsReport
+pub mod VisitStops

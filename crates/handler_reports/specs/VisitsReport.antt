@@ -1,5 +1,6 @@
 -- What the report of a handler that FIQ interrupts prints, and when it is refused.
-use Rattle.std.specs.Prelude.{◌≡◌, ◌⊎◌, ◌≤◌, ◌<◌, ◌++◌, ℕ, List, Option, Result, codes, decimal}
+use Rattle.std.specs.Prelude.{◌≡◌, ◌⊎◌, ◌+◌, ◌≤◌, ◌<◌, ◌++◌, ℕ, Bool, is_some, List, [], ◌∷◌}
+use Rattle.std.specs.Prelude.{Option, Some, None, IfSome, option_map, Result, codes, decimal}
 use Rattle.bus_ticks.specs.declared.profile.Profile.{Profile}
 use Rattle.bus_ticks.specs.declared.space.TheConstants.{FIQ_VECTOR}
 use Rattle.walks.specs.declared.limits.TheConstants.{COST_LIMIT}
@@ -9,21 +10,76 @@ use Rattle.longest_walk.specs.Visits.{visits_bound}
 use Rattle.numbered_walks.specs.declared.fault.WalkFault.TheVariants as walk_fault
 use Rattle.handlers.specs.Answers.{Answers}
 use Rattle.handlers.specs.Report.{IsAccepted, IsBoundReport, IsRefused, IsReport}
+use Rattle.text_explained.specs.Bursts.{AreFewest, with_bursts}
 use Rattle.handlers.specs.FiqHandler.{IsFiqRefused}
-use Rattle.handlers.specs.Visits.{BoundsVisitedRuns}
+use Rattle.handlers.specs.Meeting.{SourcesShare}
+use Rattle.handlers.specs.Refusal.{StatedSource}
+use Rattle.handlers.specs.Visits.{BoundsRunsEvery, BoundsVisitedRuns}
 use Rattle.handlers.specs.declared.fault.ReportFault.{ReportFault}
 use Rattle.handlers.specs.declared.fault.ReportFault.TheVariants as report_fault
+use Rattle.handler_reports.specs.declared.visit_rate.VisitRate.{VisitRate}
+use Rattle.handler_reports.specs.declared.visit_rate.VisitRate.TheVariants.{Times, Every}
 
--- the number of visits, the bound of the interrupted handler, that of FIQ's, the price of taking FIQ, and the
--- total, in ticks
-abbrev pub summary : Profile → (irq fiq k : ℕ) → List ℕ
-summary profile irq fiq k =
-    codes "arcwcet visits\nvisits "
-    ++ (decimal k ++ (codes "\nirq "
-    ++ (decimal irq ++ (codes "\nfiq "
-    ++ (decimal fiq ++ (codes "\nentry "
-    ++ (decimal (fiq_entry profile) ++ (codes "\ntotal "
-    ++ (decimal (visits_bound profile irq fiq k) ++ codes "\n")))))))))
+-- ## How many visits
+
+-- the most visits, each of which adds up to `price` ticks: so many, or the fewest that are enough where one
+-- comes every so many ticks; None where no number is enough, and the handler never ends
+abbrev pub AreMostVisits : VisitRate → (price irq : ℕ) → Option ℕ → Type 0
+AreMostVisits (Times k) price irq visits = visits ≡ Some k
+AreMostVisits (Every every) price irq visits = AreFewest price irq every visits
+
+-- ## The text
+
+-- a name and a number
+abbrev pub number_line : List ℕ → ℕ → List ℕ
+number_line name number = name ++ (decimal number ++ codes "\n")
+
+-- how often FIQ comes, where that is no number of visits
+abbrev pub rate_text : VisitRate → List ℕ
+rate_text (Times k) = []
+rate_text (Every every) = number_line (codes "every ") every
+
+-- the most visits
+abbrev pub visits_text : Option ℕ → List ℕ
+visits_text None = []
+visits_text (Some k) = number_line (codes "visits ") k
+
+-- both bounds and the price of taking FIQ, in ticks
+abbrev pub bounds_text : (irq fiq entry : ℕ) → List ℕ
+bounds_text irq fiq entry =
+    number_line (codes "irq ") irq ++ (number_line (codes "fiq ") fiq ++ number_line (codes "entry ") entry)
+
+-- the most ticks, if there is an end
+abbrev pub total_text : Option ℕ → List ℕ
+total_text None = codes "it never ends\n"
+total_text (Some total) = number_line (codes "total ") total
+
+abbrev pub summary : VisitRate → (irq fiq entry : ℕ) → (visits total : Option ℕ) → List ℕ
+summary rate irq fiq entry visits total =
+    codes "arcwcet visits\n"
+    ++ (rate_text rate
+    ++ (visits_text visits
+    ++ (bounds_text irq fiq entry ++ total_text total)))
+
+-- of handlers with these bounds and reports, by the price of taking FIQ: the most visits, with a total that
+-- is not too large, and the text
+pub record AreJoined (rate : VisitRate) (irq fiq entry : ℕ) (irq_text fiq_text : List ℕ) (ends : Bool)
+    (text : List ℕ) : Type 0 where
+  pub visits : Option ℕ
+  pub visits_are : AreMostVisits rate (fiq + entry) irq visits
+  pub small : IfSome visits (λ k. with_bursts (fiq + entry) irq k < COST_LIMIT)
+  pub ends_is : ends ≡ is_some visits
+  pub text_is : text
+      ≡ summary rate irq fiq entry visits (option_map (with_bursts (fiq + entry) irq) visits)
+      ++ (irq_text ++ fiq_text)
+
+-- so many visits, the most, take 2^63 ticks or more
+pub record AreTooMany (rate : VisitRate) (irq fiq entry : ℕ) : Type 0 where
+  pub visits : ℕ
+  pub visits_are : AreMostVisits rate (fiq + entry) irq (Some visits)
+  pub large : COST_LIMIT ≤ with_bursts (fiq + entry) irq visits
+
+-- ## Both handlers
 
 -- a source and a statement have this bound and this report
 abbrev pub HasBound : List ℕ → List ℕ → Profile → (bound : ℕ) → List ℕ → Type 0
@@ -35,47 +91,92 @@ abbrev pub HasFiqBound : List ℕ → List ℕ → Profile → (bound : ℕ) →
 HasFiqBound source fiq profile bound text =
     (stated : Stated) × IsBoundReport source fiq profile stated bound text × (stated.entry ≡ FIQ_VECTOR)
 
--- both handlers have reports, and FIQ's begins at its vector
-pub record HaveReports (source irq fiq : List ℕ) (profile : Profile) : Type 0 where
-  pub irq_text : List ℕ
-  pub irq_is : IsReport source irq profile irq_text
-  pub fiq_text : List ℕ
-  pub fiq_is : IsReport source fiq profile fiq_text
-  pub entry_is : fiq_is.bounded.accepted.stated.entry ≡ FIQ_VECTOR
+-- the source of FIQ's handler: its own, or that of the interrupted handler
+abbrev pub fiq_bytes : (source : List ℕ) → (own : Option (List ℕ)) → List ℕ
+fiq_bytes source None = source
+fiq_bytes source (Some own) = own
 
-module _ (source irq fiq : List ℕ) (k : ℕ) (profile : Profile) where
-  -- the most ticks of the interrupted handler with k visits
-  abbrev pub total_of : HaveReports source irq fiq profile → ℕ
-  total_of both = visits_bound profile both.irq_is.bounded.longest.bound both.fiq_is.bounded.longest.bound k
+-- two sources share no address
+abbrev pub AreApart : (source : List ℕ) → (own : Option (List ℕ)) → Type 0
+AreApart source own = IfSome own (λ other. SourcesShare source other None)
 
-  -- The report of a source and two statements, of which FIQ's handler has the second: the summary, and the
-  -- reports of both statements. Every run of the machine that keeps both with at most k visits takes at most
-  -- the total.
-  pub record IsVisitsReport (text : List ℕ) : Type 0 where
-    pub both : HaveReports source irq fiq profile
-    pub small : total_of both < COST_LIMIT
-    pub runs : BoundsVisitedRuns both.irq_is.bounded.accepted.loops.graph.words
-        both.fiq_is.bounded.accepted.stated profile both.fiq_is.bounded.accepted.flow
-        both.irq_is.bounded.accepted.stated both.irq_is.bounded.accepted.flow k (total_of both)
-    pub spelled : text ≡ summary profile both.irq_is.bounded.longest.bound both.fiq_is.bounded.longest.bound k
-        ++ (both.irq_text ++ both.fiq_text)
+module _ (source : List ℕ) (own : Option (List ℕ)) (irq fiq : List ℕ) where
+  -- both handlers have reports, FIQ's begins at its vector, and no word of one is where one of the other is
+  pub record HaveReports (profile : Profile) : Type 0 where
+    pub apart : AreApart source own
+    pub irq_text : List ℕ
+    pub irq_is : IsReport source irq profile irq_text
+    pub fiq_text : List ℕ
+    pub fiq_is : IsReport (fiq_bytes source own) fiq profile fiq_text
+    pub entry_is : fiq_is.bounded.accepted.stated.entry ≡ FIQ_VECTOR
 
-  -- what has a report
-  abbrev pub AreAccepted : Type 0
-  AreAccepted = (both : HaveReports source irq fiq profile) × (total_of both < COST_LIMIT)
+  module _ (rate : VisitRate) (profile : Profile) where
+    -- ## The report
+
+    -- every run that keeps both statements with at most k visits takes at most the total, and so does every
+    -- one in which FIQ is taken at this rate
+    pub record BoundRuns (both : HaveReports profile) (k : ℕ) : Type 0 where
+      pub counted : BoundsVisitedRuns both.irq_is.bounded.accepted.loops.graph.words
+          both.fiq_is.bounded.accepted.loops.graph.words both.fiq_is.bounded.accepted.stated profile
+          both.fiq_is.bounded.accepted.flow both.irq_is.bounded.accepted.stated
+          both.irq_is.bounded.accepted.flow k
+          (visits_bound profile both.irq_is.bounded.longest.bound both.fiq_is.bounded.longest.bound k)
+      pub timed : (every : ℕ) → rate ≡ Every every
+          → BoundsRunsEvery both.irq_is.bounded.accepted.loops.graph.words
+          both.fiq_is.bounded.accepted.loops.graph.words both.fiq_is.bounded.accepted.stated profile
+          both.fiq_is.bounded.accepted.flow both.irq_is.bounded.accepted.stated
+          both.irq_is.bounded.accepted.flow every
+          (visits_bound profile both.irq_is.bounded.longest.bound both.fiq_is.bounded.longest.bound k)
+
+    -- The report of both statements on their sources, with the answer whether the interrupted handler ends.
+    pub record IsVisitsReport (ends : Bool) (text : List ℕ) : Type 0 where
+      pub both : HaveReports profile
+      pub joined : AreJoined rate both.irq_is.bounded.longest.bound both.fiq_is.bounded.longest.bound
+          (fiq_entry profile) both.irq_text both.fiq_text ends text
+      pub runs : IfSome joined.visits (BoundRuns both)
+
+    -- what has a report
+    pub record AreAccepted : Type 0 where
+      pub both : HaveReports profile
+      pub not_too_many : AreTooMany rate both.irq_is.bounded.longest.bound
+          both.fiq_is.bounded.longest.bound (fiq_entry profile) → ⊥
+
+    -- ## Refusals
+
+    -- both handlers have reports, and the most visits take 2^63 ticks or more
+    pub record IsTotalTooLarge : Type 0 where
+      pub both : HaveReports profile
+      pub too_many : AreTooMany rate both.irq_is.bounded.longest.bound both.fiq_is.bounded.longest.bound
+          (fiq_entry profile)
+
+-- When FIQ's handler is refused. That its own source shares an address with the other one comes after the
+-- faults of reading it, and before all else.
+abbrev pub IsFiqsRefused : (source : List ℕ) → (own : Option (List ℕ)) → List ℕ → Profile → ReportFault
+    → Type 0
+IsFiqsRefused source None fiq profile fault = IsFiqRefused source fiq profile fault
+IsFiqsRefused source (Some own) fiq profile report_fault.Memory = Unit {0}
+IsFiqsRefused source (Some own) fiq profile (report_fault.WordsMeet address) =
+    SourcesShare source own (Some address)
+IsFiqsRefused source (Some own) fiq profile fault =
+    IsFiqRefused own fiq profile fault × ((address : ℕ) → SourcesShare source own (Some address) → ⊥)
+
+-- the sources and the statements on them, in the order of the work
+abbrev pub parts_of : (source : List ℕ) → (own : Option (List ℕ)) → (irq fiq : List ℕ) → List StatedSource
+parts_of source own irq fiq = (source, irq) ∷ (fiq_bytes source own, fiq) ∷ []
 
 -- When each refusal is answered: those of the interrupted handler, then those of FIQ's, and last that the
 -- total is 2^63 ticks or more.
-abbrev pub AreRefused : List ℕ → List ℕ → List ℕ → ℕ → Profile → ReportFault → Type 0
-AreRefused source irq fiq k profile fault =
+abbrev pub AreRefused : List ℕ → Option (List ℕ) → List ℕ → List ℕ → VisitRate → Profile → ReportFault
+    → Type 0
+AreRefused source own irq fiq rate profile fault =
     IsRefused source irq profile fault
-    ⊎ ((IsAccepted source irq profile × IsFiqRefused source fiq profile fault)
+    ⊎ ((IsAccepted source irq profile × IsFiqsRefused source own fiq profile fault)
     ⊎ ((fault ≡ report_fault.Walk walk_fault.BoundTooLarge)
-    × ((both : HaveReports source irq fiq profile) × (COST_LIMIT ≤ total_of source irq fiq k profile both))))
+    × IsTotalTooLarge source own irq fiq rate profile))
 
--- the answer to a source, two statements and a number of visits: their report
-abbrev pub ReportsVisits : {O T : Type 0} → (O → Option (List ℕ)) → (O → ℕ) → List ℕ → List ℕ → List ℕ → ℕ
-    → Profile → O → O → Result T ReportFault → Type 0
-ReportsVisits taken failures source irq fiq k profile old new result =
-    Answers taken failures (λ _ text. IsVisitsReport source irq fiq k profile text)
-    (AreAccepted source irq fiq k profile) (AreRefused source irq fiq k profile) old new result
+-- the answer to both sources, both statements and how often FIQ interrupts: their report
+abbrev pub ReportsVisits : {O : Type 0} → (O → Option (List ℕ)) → (O → ℕ) → List ℕ → Option (List ℕ)
+    → List ℕ → List ℕ → VisitRate → Profile → O → O → Result Bool ReportFault → Type 0
+ReportsVisits taken failures source own irq fiq rate profile old new result =
+    Answers taken failures (IsVisitsReport source own irq fiq rate profile)
+    (AreAccepted source own irq fiq rate profile) (AreRefused source own irq fiq rate profile) old new result

@@ -16,8 +16,10 @@ mod graph;
 mod law;
 mod tight;
 mod verdict;
+mod visit_rate;
 mod visited_text;
 mod visits;
+mod visits_summary;
 mod warnings;
 
 pub use bound::{BoundReport, bound_report, longest_report, print_bound};
@@ -29,4 +31,5 @@ pub use graph::graph_report;
 pub use law::certificates_are_accepted;
 pub use tight::{AskedEdge, print_tight, tight_report};
 pub use verdict::verdict_report;
-pub use visits::{VisitedHandler, print_visits, visits_report};
+pub use visit_rate::VisitRate;
+pub use visits::{VisitedHandler, visits_report};

@@ -1,38 +1,91 @@
-ghost use Rattle.std.specs.Prelude.{◌≡◌, ◌⊎◌, ◌++◌, ◌∷◌, [], ◌≤◌, ◌<◌, List, ℕ, IfErr, IfOk, OnOk};
-ghost use Rattle.walks.specs.declared.limits.TheConstants.{COST_LIMIT};
-ghost use Rattle.longest_walk.specs.Visits.{visits_bound};
+ghost use Rattle.std.specs.Prelude.{◌≡◌, ◌⊎◌, ◌∷◌, [], List, ℕ, None, Some, IfErr, IfOk, OnOk};
+ghost use Rattle.bus_ticks.specs.Worst.{fiq_entry};
 ghost use Rattle.handlers.specs.Priced.{Priced};
 ghost use Rattle.handlers.specs.FiqHandler.{IsFiqRefused};
-ghost use Rattle.handlers.specs.Refusal.{Carries, CarriesOneOf, CarriesRead, CarriesReadBy, fault_only};
-ghost use Rattle.handlers.specs.Refusal.{stop_fault};
+ghost use Rattle.handlers.specs.Meeting.{SourcesShare};
+ghost use Rattle.handlers.specs.Refusal.{Carries, CarriesBy, CarriesReadOf, fault_only};
+ghost use Rattle.handlers.specs.Refusal.{refusal_fault, stop_fault};
 ghost use Rattle.handler_reports.specs.Bound.{given};
 ghost use Rattle.handlers.specs.Report.{BeforeOutput, IsRefused};
-ghost use Rattle.sources.specs.Source.{Says};
-ghost use Rattle.handler_reports.specs.VisitsReport.{AreRefused, HasBound, HasFiqBound};
-ghost use Rattle.handler_reports.specs.VisitsReport.{IsVisitsReport, ReportsVisits, summary};
+ghost use Rattle.sources.specs.Source.{IsSource, Says};
+ghost use Rattle.handler_reports.specs.VisitsReport.{AreApart, AreJoined, AreRefused, AreTooMany, HasBound};
+ghost use Rattle.handler_reports.specs.VisitsReport.{HasFiqBound, IsFiqsRefused, IsVisitsReport};
+ghost use Rattle.handler_reports.specs.VisitsReport.{ReportsVisits, fiq_bytes, parts_of};
+ghost use Rattle.handler_reports.specs.VisitStops.{refusal_on, refused_on};
 
 use crate::bound::{BoundReport, longest_report};
+use crate::visit_rate::{VisitRate, VisitedBound};
+use crate::visits_summary::put_summary;
 use bus_ticks::{Profile, fiq_entry};
 use handlers::{
-    Refusal, ReportFault, Stop, fault_only, fiq_handler, print_or_refuse, profile_of, read_handler,
-    read_source, with_source,
+    Refusal, ReportFault, Stop, fiq_handler, first_shared, print_or_refuse, profile_of,
+    read_handler, read_source, with_source,
 };
-use longest_walk::{WalkFault, visits_bound};
+use longest_walk::WalkFault;
 use outputs::Output;
 use sources::Source;
 use std::alloc::Global;
-use std::fmt::Write;
 
-/// An interrupt handler, FIQ's, and how often FIQ interrupts it at most.
+/// An interrupt handler, FIQ's, and how often FIQ interrupts it.
 #[derive(Clone, Copy)]
 pub struct VisitedHandler<'a> {
-    /// The bytes of the source of both, a text or an image.
+    /// The bytes of the source of the interrupted handler, a text or an image.
     pub source: &'a [u8],
-    /// The text of the statement on the handler.
+    /// The text of the statement on that handler.
     pub irq: &'a [u8],
-    /// That of the statement on FIQ's handler.
+    /// The bytes of the source of FIQ's handler, where it is another one. Both are loaded at the same time.
+    pub fiq_source: Option<&'a [u8]>,
+    /// The text of the statement on FIQ's handler.
     pub fiq: &'a [u8],
-    pub visits: u32,
+    /// How often FIQ interrupts the handler.
+    pub rate: VisitRate,
+}
+
+// Whether the interrupted handler ends, and the report.
+#[derive(Drop)]
+struct VisitsText {
+    ends: bool,
+    text: Vec<u8>,
+}
+
+// Where the work on both handlers has stopped.
+#[derive(Drop)]
+enum VisitStop<'a> {
+    // On the source that was read first.
+    OnRead(Stop<'a>),
+    // On FIQ's own source, or where that is read.
+    OnOwn(Refusal<'a>),
+}
+
+impl<'a> From<Stop<'a>> for VisitStop<'a> {
+    ghost use Rattle.handler_reports.specs.declared.visits.VisitStop.TheVariants.{OnRead};
+
+    ghost from_gives = { λ lower stop. stop ≡ OnRead lower };
+
+    fn from(lower: Stop<'a>) -> VisitStop<'a> {
+        VisitStop::OnRead(lower)
+    }
+}
+
+impl<'a> From<Refusal<'a>> for VisitStop<'a> {
+    ghost use Rattle.handler_reports.specs.declared.visits.VisitStop.TheVariants.{OnOwn};
+
+    ghost from_gives = { λ lower stop. stop ≡ OnOwn lower };
+
+    fn from(lower: Refusal<'a>) -> VisitStop<'a> {
+        VisitStop::OnOwn(lower)
+    }
+}
+
+impl<'a> From<ReportFault> for VisitStop<'a> {
+    ghost use Rattle.handlers.specs.declared.refusal.Stop.TheVariants.{Alone};
+    ghost use Rattle.handler_reports.specs.declared.visits.VisitStop.TheVariants.{OnRead};
+
+    ghost from_gives = { λ lower stop. stop ≡ OnRead (Alone lower) };
+
+    fn from(lower: ReportFault) -> VisitStop<'a> {
+        VisitStop::OnRead(Stop::Alone(lower))
+    }
 }
 
 // The report of the interrupted handler.
@@ -69,132 +122,200 @@ fn fiq_report<'a>(
     Ok(longest_report(alloc, &handler)?)
 }
 
+// The same on its own source, whose words have to be apart from those of the source that was read first.
+fn apart_report<'a>(
+    alloc: Global,
+    said: &Source<'_>,
+    own: &Source<'_>,
+    statement: &'a [u8],
+    profile: &Profile,
+) -> Result<BoundReport, Stop<'a>>
+    ensures apart { (source bytes : List ℕ) → Says source said.now → Says bytes own.now
+        → OnOk result (SourcesShare source bytes None) }
+    ensures report { (bytes : List ℕ) → Says bytes own.now
+        → IfOk result (λ r. HasFiqBound bytes statement.now profile.now r.bound r.text.items) }
+    ensures fault { (source bytes : List ℕ) → Says source said.now → Says bytes own.now
+        → IfErr result (λ s. BeforeOutput (IsFiqsRefused source (Some bytes) statement.now profile.now)
+        (stop_fault s)) }
+    ensures carries { IfErr result (Carries own.now statement.now profile.now) }
+{
+    if let Some(address) = first_shared(&said.image, &own.image) {
+        return Err(Stop::Alone(ReportFault::WordsMeet(address)));
+    }
+    fiq_report(alloc, own, statement, profile)
+}
+
+// The same, of its source's bytes.
+fn own_report<'a>(
+    alloc: Global,
+    said: &Source<'_>,
+    own: &'a [u8],
+    statement: &'a [u8],
+    profile: &Profile,
+) -> Result<BoundReport, Refusal<'a>>
+    ensures apart { (source : List ℕ) → Says source said.now
+        → OnOk result (SourcesShare source own.now None) }
+    ensures report { IfOk result
+        (λ r. HasFiqBound own.now statement.now profile.now r.bound r.text.items) }
+    ensures fault { (source : List ℕ) → Says source said.now
+        → IfErr (fault_only result)
+        (BeforeOutput (IsFiqsRefused source (Some own.now) statement.now profile.now)) }
+    ensures carries { IfErr result (CarriesReadOf ((own.now, statement.now) ∷ []) profile.now) }
+{
+    let read = read_source(alloc, own)?;
+    let report = apart_report(alloc, said, &read, statement, profile);
+    with_source(read, report)
+}
+
+// The report of FIQ's handler, on the source that was read first or on its own.
+fn fiqs_report<'a>(
+    alloc: Global,
+    said: &Source<'_>,
+    asked: VisitedHandler<'a>,
+    profile: &Profile,
+) -> Result<BoundReport, VisitStop<'a>>
+    ensures apart { (source : List ℕ) → Says source said.now
+        → OnOk result (AreApart source (given asked.entry.fiq_source)) }
+    ensures report { (source : List ℕ) → Says source said.now
+        → IfOk result (λ r. HasFiqBound (fiq_bytes source (given asked.entry.fiq_source))
+        asked.entry.fiq.now profile.now r.bound r.text.items) }
+    ensures fault { (source : List ℕ) → Says source said.now
+        → IfErr result
+        (λ s. BeforeOutput (IsFiqsRefused source (given asked.entry.fiq_source) asked.entry.fiq.now
+        profile.now) (refusal_fault (refusal_on said.now s))) }
+    ensures carries { (source : List ℕ) → IsSource source said.now
+        → IfErr result (λ s. CarriesReadOf
+        ((fiq_bytes source (given asked.entry.fiq_source), asked.entry.fiq.now) ∷ []) profile.now
+        (refusal_on said.now s)) }
+{
+    match asked.fiq_source {
+        Some(own) => Ok(own_report(alloc, said, own, asked.fiq, profile)?),
+        None => Ok(fiq_report(alloc, said, asked.fiq, profile)?),
+    }
+}
+
 // The summary and both reports.
 fn joined_text(
     alloc: Global,
     profile: &Profile,
-    visits: u32,
+    rate: VisitRate,
     irq: &BoundReport,
     fiq: &BoundReport,
-) -> Result<Vec<u8>, ReportFault>
-    ensures text { IfOk result (λ v. v.items ≡ summary profile.now irq.now.bound fiq.now.bound visits
-        ++ (irq.now.text.items ++ fiq.now.text.items)) }
-    ensures small { OnOk result (visits_bound profile.now irq.now.bound fiq.now.bound visits < COST_LIMIT) }
+) -> Result<VisitsText, ReportFault>
+    ensures text { IfOk result (λ v. AreJoined rate irq.now.bound fiq.now.bound (fiq_entry profile.now)
+        irq.now.text.items fiq.now.text.items v.ends v.text.items) }
     ensures fault { IfErr result (λ e. (e ≡ ReportFault.Memory)
         ⊎ ((e ≡ ReportFault.Walk WalkFault.BoundTooLarge)
-        × (COST_LIMIT ≤ visits_bound profile.now irq.now.bound fiq.now.bound visits))) }
+        × AreTooMany rate irq.now.bound fiq.now.bound (fiq_entry profile.now))) }
 {
-    let total = visits_bound(profile, irq.bound, fiq.bound, visits)?;
-    let entry = fiq_entry(profile);
-    let (irq_bound, fiq_bound) = (irq.bound, fiq.bound);
-    let mut lines = String::new(alloc);
-    write!(
-        lines,
-        "arcwcet visits\nvisits {visits}\nirq {irq_bound}\nfiq {fiq_bound}\n"
-    )?;
-    write!(lines, "entry {entry}\ntotal {total}\n")?;
-    let mut text = lines.into_bytes();
+    let bound = VisitedBound {
+        irq: irq.bound,
+        fiq: fiq.bound,
+        entry: fiq_entry(profile),
+    };
+    let most = bound.most_visits(rate)?;
+    let mut text = Vec::new(alloc);
+    put_summary(&mut text, bound, rate, most)?;
     text.extend_from_slice(&irq.text)?;
     text.extend_from_slice(&fiq.text)?;
-    Ok(text)
+    Ok(VisitsText {
+        ends: most.is_some(),
+        text,
+    })
 }
 
-// The report of a source that was read.
+// The report of a source that was read, with FIQ's own source if there is one.
 fn source_visits<'a>(
     alloc: Global,
     said: &Source<'_>,
     asked: VisitedHandler<'a>,
     profile: &Profile,
-) -> Result<Vec<u8>, Stop<'a>>
+) -> Result<VisitsText, VisitStop<'a>>
     ensures report { (source : List ℕ) → Says source said.now
-        → IfOk result (λ v. IsVisitsReport source asked.entry.irq.now asked.entry.fiq.now asked.entry.visits
-        profile.now v.items) }
+        → IfOk result (λ v. IsVisitsReport source (given asked.entry.fiq_source) asked.entry.irq.now
+        asked.entry.fiq.now asked.entry.rate profile.now v.ends v.text.items) }
     ensures fault { (source : List ℕ) → Says source said.now
         → IfErr result
-        (λ s. BeforeOutput (AreRefused source asked.entry.irq.now asked.entry.fiq.now asked.entry.visits
-        profile.now) (stop_fault s)) }
-    ensures carries { (source : List ℕ) → Says source said.now
-        → IfErr result
-        (CarriesOneOf source said.now (asked.entry.irq.now ∷ asked.entry.fiq.now ∷ []) profile.now) }
+        (λ s. BeforeOutput (AreRefused source (given asked.entry.fiq_source) asked.entry.irq.now
+        asked.entry.fiq.now asked.entry.rate profile.now) (refusal_fault (refusal_on said.now s))) }
+    ensures carries { (source : List ℕ) → IsSource source said.now
+        → IfErr result (λ s. CarriesReadOf
+        (parts_of source (given asked.entry.fiq_source) asked.entry.irq.now asked.entry.fiq.now)
+        profile.now (refusal_on said.now s)) }
 {
     let irq = irq_report(alloc, said, asked.irq, profile)?;
-    let fiq = fiq_report(alloc, said, asked.fiq, profile)?;
-    Ok(joined_text(alloc, profile, asked.visits, &irq, &fiq)?)
+    let fiq = fiqs_report(alloc, said, asked, profile)?;
+    Ok(joined_text(alloc, profile, asked.rate, &irq, &fiq)?)
 }
 
-// The report of a source.
+// The answer, with the source that was read where the work on it stopped.
+fn refused_on<'a>(
+    said: Source<'a>,
+    answer: Result<VisitsText, VisitStop<'a>>,
+) -> Result<VisitsText, Refusal<'a>>
+    ensures { result ≡ refused_on said.entry answer.entry }
+{
+    match answer {
+        Ok(found) => Ok(found),
+        Err(VisitStop::OnRead(stop)) => Err(Refusal::OnSource(said, stop)),
+        Err(VisitStop::OnOwn(refusal)) => Err(refusal),
+    }
+}
+
+// The report of the sources' bytes.
 fn read_visits<'a>(
     alloc: Global,
     asked: VisitedHandler<'a>,
     profile: &Profile,
-) -> Result<Vec<u8>, Refusal<'a>>
-    ensures report { IfOk result (λ v. IsVisitsReport asked.entry.source.now asked.entry.irq.now
-        asked.entry.fiq.now asked.entry.visits profile.now v.items) }
+) -> Result<VisitsText, Refusal<'a>>
+    ensures report { IfOk result
+        (λ v. IsVisitsReport asked.entry.source.now (given asked.entry.fiq_source) asked.entry.irq.now
+        asked.entry.fiq.now asked.entry.rate profile.now v.ends v.text.items) }
     ensures fault { IfErr (fault_only result)
-        (BeforeOutput (AreRefused asked.entry.source.now asked.entry.irq.now asked.entry.fiq.now
-        asked.entry.visits profile.now)) }
-    ensures carries { IfErr result
-        (CarriesRead asked.entry.source.now (asked.entry.irq.now ∷ asked.entry.fiq.now ∷ []) profile.now) }
+        (BeforeOutput (AreRefused asked.entry.source.now (given asked.entry.fiq_source)
+        asked.entry.irq.now asked.entry.fiq.now asked.entry.rate profile.now)) }
+    ensures carries { IfErr result (CarriesReadOf
+        (parts_of asked.entry.source.now (given asked.entry.fiq_source) asked.entry.irq.now
+        asked.entry.fiq.now) profile.now) }
 {
     let said = read_source(alloc, asked.source)?;
     let text = source_visits(alloc, &said, asked, profile);
-    with_source(said, text)
+    refused_on(said, text)
 }
 
-/// Writes the report of a source, the statement of an interrupt handler and that of FIQ's, which interrupts
-/// it up to `visits` times, by a cycle profile's file or the first profile: the bounds of both handlers, the
-/// greatest price of taking FIQ and the total, in ticks, and then the report of each statement as
+/// Writes the report of an interrupt handler that FIQ interrupts, by a cycle profile's file or the first
+/// profile: how often FIQ comes, the most visits, the bounds of both handlers, the greatest price of taking
+/// FIQ and the total, in ticks, and then the report of each statement as
 /// [`bound_report`](crate::bound_report) writes it. No run of the machine that keeps both statements with at
-/// most so many visits takes more than the total, but for the profile's burst price for each DMA burst.
+/// most so many visits takes more than the total, but for the profile's burst price for each DMA burst; nor
+/// does one in which FIQ is taken at most once in the ticks of [`VisitRate::Every`], for which the most
+/// visits are the fewest after which none comes before the end. Answers whether there is an end: where visits
+/// come so often that there is none, the report says so in place of the most visits and the total.
 ///
 /// Nothing is written until the report is finished.
 ///
 /// # Errors
 ///
 /// Of several faults the first in the order of the work is answered: profile, source, the handler's
-/// statement, graph, loops and walk, those of FIQ's handler with `NotFiqEntry` after its statement, and last
-/// `Walk` with `BoundTooLarge` for the total. `Device`: the output failed, and took a front of the report.
-/// `Memory`: an allocation failed. After any but `Device` nothing was written.
-pub fn visits_report<O: Output>(
-    alloc: Global,
-    source: &[u8],
-    irq_statement: &[u8],
-    fiq_statement: &[u8],
-    visits: u32,
-    profile: Option<&[u8]>,
-    out: &mut O,
-) -> Result<(), ReportFault>
-    ensures { Priced (given profile.entry)
-        (λ p. ReportsVisits O.taken O.failures source.now irq_statement.now fiq_statement.now visits p out.old
-        out.new result) out.old out.new result }
-{
-    let asked = VisitedHandler {
-        source,
-        irq: irq_statement,
-        fiq: fiq_statement,
-        visits,
-    };
-    fault_only(print_visits(alloc, asked, profile, out))
-}
-
-/// As [`visits_report`]; a refusal comes with what its fault was found in.
-///
-/// # Errors
-///
-/// Those of [`visits_report`].
-pub fn print_visits<'a, O: Output>(
+/// statement, graph, loops and walk; FIQ's own source, `WordsMeet` where it has a word at an address of the
+/// other one, and the faults of FIQ's handler with `NotFiqEntry` after its statement; and last `Walk` with
+/// `BoundTooLarge` for the total. `Device`: the output failed, and took a front of the report. `Memory`: an
+/// allocation failed. After any but `Device` nothing was written. Each comes with what it was found in.
+pub fn visits_report<'a, O: Output>(
     alloc: Global,
     asked: VisitedHandler<'a>,
     profile: Option<&'a [u8]>,
     out: &mut O,
-) -> Result<(), Refusal<'a>>
+) -> Result<bool, Refusal<'a>>
     ensures answers { Priced (given profile.entry)
-        (λ p. ReportsVisits O.taken O.failures asked.entry.source.now asked.entry.irq.now asked.entry.fiq.now
-        asked.entry.visits p out.old out.new (fault_only result)) out.old out.new (fault_only result) }
-    ensures carries { IfErr result (CarriesReadBy (given profile.entry) asked.entry.source.now
-        (asked.entry.irq.now ∷ asked.entry.fiq.now ∷ [])) }
+        (λ p. ReportsVisits O.taken O.failures asked.entry.source.now (given asked.entry.fiq_source)
+        asked.entry.irq.now asked.entry.fiq.now asked.entry.rate p out.old out.new (fault_only result))
+        out.old out.new (fault_only result) }
+    ensures carries { IfErr result (CarriesBy (given profile.entry) (CarriesReadOf
+        (parts_of asked.entry.source.now (given asked.entry.fiq_source) asked.entry.irq.now
+        asked.entry.fiq.now))) }
 {
     let profile = profile_of(alloc, profile)?;
-    let text = read_visits(alloc, asked, &profile)?;
-    print_or_refuse((), &text, out)
+    let found = read_visits(alloc, asked, &profile)?;
+    print_or_refuse(found.ends, &found.text, out)
 }

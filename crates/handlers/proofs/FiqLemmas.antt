@@ -30,7 +30,10 @@ module _ (source fiq : List ℕ) (profile : Profile) where
   fiq_refusal NotFiqEntry right r = absurd r.1
   fiq_refusal report_fault.NoSuchEdge right r = absurd r.1
   fiq_refusal report_fault.NoSuchEntry right r = absurd r.1
+  fiq_refusal report_fault.NotVector right r = absurd r.1
+  fiq_refusal report_fault.NotReached right r = absurd r.1
   fiq_refusal (report_fault.NotFree at) right r = absurd r.1
+  fiq_refusal (report_fault.WordsMeet at) right r = absurd r.1
   fiq_refusal Device right r = absurd (r.0 refl)
   fiq_refusal e right r = (λ e. cc e, (r.1, right))
 
@@ -66,7 +69,10 @@ module _ (source fiq : List ℕ) (profile : Profile) where
     fiq_accepted NotFiqEntry r = absurd (own_entry r)
     fiq_accepted report_fault.NoSuchEdge r = absurd r.0
     fiq_accepted report_fault.NoSuchEntry r = absurd r.0
+    fiq_accepted report_fault.NotVector r = absurd r.0
+    fiq_accepted report_fault.NotReached r = absurd r.0
     fiq_accepted (report_fault.NotFree at) r = absurd r.0
+    fiq_accepted (report_fault.WordsMeet at) r = absurd r.0
     fiq_accepted Device r = inr refl
     fiq_accepted e r = accepted_refusals source fiq profile e a r.0
 

@@ -1,6 +1,7 @@
 pub mod AloneLemmas
 pub mod FiqLemmas
 pub mod HandlerLemmas
+pub mod MeetingLemmas
 pub mod PlacingLemmas
 pub mod PricedLemmas
 pub mod RefusalLemmas

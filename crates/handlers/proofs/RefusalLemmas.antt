@@ -12,7 +12,7 @@ use Rattle.sources.specs.declared.read.Source.{Source}
 use Rattle.handlers.specs.Answers.{Answers}
 use Rattle.handlers.specs.Placing.{IsRunRefused}
 use Rattle.handlers.specs.Priced.{HasNoProfile, IsProfile}
-use Rattle.handlers.specs.Refusal.{Carries, CarriesGraph, CarriesOneOf, CarriesRead, CarriesReadBy, ComesAlone, ComesWithoutSource, HasNoHandler, HasNoStatement, fault_only, refusal_fault, stop_fault, with_source}
+use Rattle.handlers.specs.Refusal.{Carries, CarriesBy, CarriesGraph, CarriesOneOf, CarriesRead, CarriesReadBy, CarriesReadOf, ComesAlone, ComesWithoutSource, HasNoHandler, HasNoStatement, StatedSource, fault_only, refusal_fault, stop_fault, with_source}
 use Rattle.handlers.specs.Report.{BeforeOutput, HasGraph, IsAccepted, IsHandlerRefused}
 use Rattle.control_flow.specs.Flow.{Flow}
 use Rattle.statement.specs.Stated.{Stated}
@@ -136,21 +136,54 @@ run_alone bytes machine profile (report_fault.Graph fault) h = h
 run_alone bytes machine profile (report_fault.Loops fault) h = h
 run_alone bytes machine profile fault h = tt
 
+-- ## Of several sources
+
+module _ {T : Type 0} (profile : Profile) where
+  -- a fault that comes alone
+  pub alone_of : (parts : List StatedSource) (q : Result T Refusal) (fault : ReportFault) → IsErrAnd q (λ x. x ≡ refusal.Alone fault) → ComesWithoutSource fault → IfErr q (CarriesReadOf parts profile)
+  alone_of parts q fault is h = refused_as q (refusal.Alone fault) (CarriesReadOf parts profile) is h
+
+  -- where work on one source stopped
+  pub told_of : (source : Source) (r : Result T Stop) (q : Result T Refusal) → q ≡ with_source source r → (bytes text : List ℕ) → IsSource bytes source → IfErr r (Carries source text profile)
+      → IfErr q (CarriesReadOf ((bytes, text) ∷ []) profile)
+  told_of source r q e bytes text is h = subst (λ (x : Result T Refusal). IfErr x (CarriesReadOf ((bytes, text) ∷ []) profile)) (sym e) (shows r h)
+    where
+      shows : (r : Result T Stop) → IfErr r (Carries source text profile) → IfErr (with_source source r) (CarriesReadOf ((bytes, text) ∷ []) profile)
+      shows (Ok x) h = tt
+      shows (Err s) h = inl (is, h)
+
+-- after work on another source, which is accepted
+pub then_of : (profile : Profile) (bytes text : List ℕ) (parts : List StatedSource) → IsAccepted bytes text profile → (e : Refusal) → CarriesReadOf parts profile e → CarriesReadOf ((bytes, text) ∷ parts) profile e
+then_of profile bytes text parts accepted (refusal.Alone fault) h = h
+then_of profile bytes text parts accepted (refusal.OnSource source stopped) h = inr (accepted, h)
+
 -- ## Answers by the profile of a file, or of none
+
+module _ {T : Type 0} (file : Option (List ℕ)) (Shows : Profile → Refusal → Type 0) (q : Result T Refusal) where
+  pub unpriced_by : (fault : ReportFault) → IsErrAnd q (λ x. x ≡ refusal.Alone fault) → HasNoProfile file fault → IfErr q (CarriesBy file Shows)
+  unpriced_by fault is none = refused_as q (refusal.Alone fault) (CarriesBy file Shows) is (inr (fault, refl, none))
+
+  module _ (profile : Profile) (is_profile : IsProfile file profile) where
+    pub refused_by : (e : Refusal) → IsErrAnd q (λ x. x ≡ e) → Shows profile e → IfErr q (CarriesBy file Shows)
+    refused_by e is h = refused_as q e (CarriesBy file Shows) is (inl (record { profile = profile; is = is_profile; holds = h }))
+
+    pub device_by : (P : Type 0) → Shows profile (refusal.Alone report_fault.Device) → IfErr q (λ e. (e ≡ refusal.Alone report_fault.Device) × P) → IfErr q (CarriesBy file Shows)
+    device_by P alone h =
+        IfErr-weaker q _ _ (λ e d. subst (CarriesBy file Shows) (sym d.0) (inl (record { profile = profile; is = is_profile; holds = alone }))) h
 
 pub carries_by : (file : Option (List ℕ)) (bytes : List ℕ) (texts : List (List ℕ)) (profile : Profile) → IsProfile file profile → (e : Refusal) → CarriesRead bytes texts profile e → CarriesReadBy file bytes texts e
 carries_by file bytes texts profile is e h = inl (record { profile = profile; is = is; holds = h })
 
 module _ {T : Type 0} (file : Option (List ℕ)) (bytes : List ℕ) (texts : List (List ℕ)) (q : Result T Refusal) where
   pub no_profile_carries : (fault : ReportFault) → IsErrAnd q (λ x. x ≡ refusal.Alone fault) → HasNoProfile file fault → IfErr q (CarriesReadBy file bytes texts)
-  no_profile_carries fault is none = refused_as q (refusal.Alone fault) (CarriesReadBy file bytes texts) is (inr (fault, refl, none))
+  no_profile_carries = unpriced_by file (CarriesRead bytes texts) q
 
   module _ (profile : Profile) (is_profile : IsProfile file profile) where
     pub profile_carries : (e : Refusal) → IsErrAnd q (λ x. x ≡ e) → CarriesRead bytes texts profile e → IfErr q (CarriesReadBy file bytes texts)
-    profile_carries e is h = refused_as q e (CarriesReadBy file bytes texts) is (carries_by file bytes texts profile is_profile e h)
+    profile_carries = refused_by file (CarriesRead bytes texts) q profile is_profile
 
     pub device_carries : (P : Type 0) → IfErr q (λ e. (e ≡ refusal.Alone report_fault.Device) × P) → IfErr q (CarriesReadBy file bytes texts)
-    device_carries P h = IfErr-weaker q _ _ (λ e d. subst (CarriesReadBy file bytes texts) (sym d.0) (carries_by file bytes texts profile is_profile (refusal.Alone report_fault.Device) tt)) h
+    device_carries P h = device_by file (CarriesRead bytes texts) q profile is_profile P tt h
 
 -- ## How a report that comes with what was read ends
 

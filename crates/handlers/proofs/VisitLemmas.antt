@@ -87,7 +87,7 @@ module _ (profile : Profile) where
 
 -- ## Visits
 
-module _ (words : Words) (fiq : Stated) (profile : Profile) (fiq_flow : Flow) (bound : ℕ) (dearest : IsGreatest (IsTargetOf Any) (fiq_entry_price profile) (fiq_entry profile))
+module _ (irq_words fiq_words : Words) (fiq : Stated) (profile : Profile) (fiq_flow : Flow) (bound : ℕ) (dearest : IsGreatest (IsTargetOf Any) (fiq_entry_price profile) (fiq_entry profile))
     (greatest : IsGreatestCost fiq_flow fiq.loops bound) where
   -- what a visit costs at most
   abbrev visit_cost : ℕ
@@ -96,24 +96,24 @@ module _ (words : Words) (fiq : Stated) (profile : Profile) (fiq_flow : Flow) (b
   in_memory : (s : State) → address_in s.regs < 0x4000000
   in_memory s = omega arith
 
-  takes_fiq_within : (s : State) (v : Visit) (after : State) (is : IsVisit (KeepsStatement words fiq profile fiq_flow) profile s v after) → is.stepped.ticks ≤ fiq_entry profile
+  pub takes_fiq_within : (s : State) (v : Visit) (after : State) (is : IsVisit (KeepsStatement fiq_words fiq profile fiq_flow) profile s v after) → is.stepped.ticks ≤ fiq_entry profile
   takes_fiq_within s v after is =
       let ticks : is.stepped.ticks ≡ fiq_entry_price profile (interrupted_in s) =
       fiq_costs s v.taking is.stepped is.entered is.step is.takes_fiq ∙ ap (λ (p : Profile). fiq_entry_price p (interrupted_in s)) is.prices in
       let most = dearest.none_above (interrupted_in s) (record { below = in_memory s; is_of = tt }) in
       omega (arith, ticks, most)
 
-  a_visit : (s : State) (v : Visit) (rest : List Input) (ran : Ran) (next after : State) → IsVisit (KeepsStatement words fiq profile fiq_flow) profile s v next → Runs s (v.taking ∷ (v.handling ++ rest)) ran after
+  a_visit : (s : State) (v : Visit) (rest : List Input) (ran : Ran) (next after : State) → IsVisit (KeepsStatement fiq_words fiq profile fiq_flow) profile s v next → Runs s (v.taking ∷ (v.handling ++ rest)) ran after
       → StartsWithin profile visit_cost (v.taking ∷ (v.handling ++ rest)) ran next rest after
   a_visit s v rest ran next after is runs =
       let taken = a_step profile (fiq_entry profile) s v.taking (v.handling ++ rest) ran after is.stepped is.entered is.prices is.step (ap why_stopped is.takes_fiq) (takes_fiq_within s v next is) runs in
       let walk = is.keeps.walk in
       let most : cost_of edge_shape walk ≤ bound = greatest.upper walk is.keeps.complete is.keeps.kept in
-      let handled = along profile words fiq is.entered v.handling rest walk is.ran taken.more next after is.keeps.follows is.runs taken.runs in
+      let handled = along profile fiq_words fiq is.entered v.handling rest walk is.ran taken.more next after is.keeps.follows is.runs taken.runs in
       cheaper profile (fiq_entry profile + cost_of edge_shape walk) visit_cost (v.taking ∷ (v.handling ++ rest)) ran next rest after (omega (arith, most))
       (joined profile (fiq_entry profile) (cost_of edge_shape walk) (v.taking ∷ (v.handling ++ rest)) (v.handling ++ rest) rest ran is.entered next after taken handled)
 
-  all_visits : (s : State) (visits : List Visit) (rest : List Input) (ran : Ran) (visited after : State) → AreVisits (KeepsStatement words fiq profile fiq_flow) profile s visits visited
+  all_visits : (s : State) (visits : List Visit) (rest : List Input) (ran : Ran) (visited after : State) → AreVisits (KeepsStatement fiq_words fiq profile fiq_flow) profile s visits visited
       → Runs s (visits_before visits rest) ran after → StartsWithin profile (length visits * visit_cost) (visits_before visits rest) ran visited rest after
   all_visits s [] rest ran visited after are runs =
       cheaper profile 0 (0 * visit_cost) rest ran visited rest after (omega arith) (no_start profile ran visited after rest (subst (λ n. Runs n rest ran after) (sym are) runs))
@@ -127,7 +127,7 @@ module _ (words : Words) (fiq : Stated) (profile : Profile) (fiq_flow : Flow) (b
   -- ## Whole runs
 
   module _ (irq : Stated) where
-    main_steps : (s : State) (steps : List MainStep) (walk : List Edge) (ran : Ran) (after : State) → FollowsVisited (KeepsStatement words fiq profile fiq_flow) profile words irq s steps walk → Runs s (inputs_of steps) ran after
+    main_steps : (s : State) (steps : List MainStep) (walk : List Edge) (ran : Ran) (after : State) → FollowsVisited (KeepsStatement fiq_words fiq profile fiq_flow) profile irq_words irq s steps walk → Runs s (inputs_of steps) ran after
         → TakesAtMost profile (cost_of edge_shape walk + visits_of steps * visit_cost) (inputs_of steps) ran
     main_steps s [] [] ran after follows runs =
         let ticks : ran.ticks ≡ 0 = ap (λ (r : Ran). r.ticks) runs.0 in
@@ -141,7 +141,7 @@ module _ (words : Words) (fiq : Stated) (profile : Profile) (fiq_flow : Flow) (b
         let next : State = follows.2.1 in
         let n = length m.visits in
         let front = all_visits s m.visits (m.input ∷ inputs_of steps) ran visited after follows.1 runs in
-        let step = an_edge profile words irq visited m.input (inputs_of steps) front.more after stepped next e follows.2.2 front.runs in
+        let step = an_edge profile irq_words irq visited m.input (inputs_of steps) front.more after stepped next e follows.2.2 front.runs in
         let both = joined profile (n * visit_cost) e.cost (inputs_of (m ∷ steps)) (m.input ∷ inputs_of steps) (inputs_of steps) ran visited next after front step in
         let left = main_steps next steps walk both.more after follows.2.3 both.runs in
         let walked : cost_of edge_shape (e ∷ walk) ≡ e.cost + cost_of edge_shape walk = sum_by-cons (λ (x : Edge). x.cost) e walk in
@@ -153,7 +153,7 @@ module _ (words : Words) (fiq : Stated) (profile : Profile) (fiq_flow : Flow) (b
         }
 
     -- a run with at most k visits takes at most both bounds' total
-    pub bounds_visited : (irq_flow : Flow) (irq_bound k : ℕ) → IsGreatestCost irq_flow irq.loops irq_bound → BoundsVisitedRuns words fiq profile fiq_flow irq irq_flow k (visits_bound profile irq_bound bound k)
+    pub bounds_visited : (irq_flow : Flow) (irq_bound k : ℕ) → IsGreatestCost irq_flow irq.loops irq_bound → BoundsVisitedRuns irq_words fiq_words fiq profile fiq_flow irq irq_flow k (visits_bound profile irq_bound bound k)
     bounds_visited irq_flow irq_bound k most s steps ran after keeps few runs =
         let taken = main_steps s steps keeps.walk ran after keeps.follows runs in
         let walked : cost_of edge_shape keeps.walk ≤ irq_bound = most.upper keeps.walk keeps.complete keeps.kept in

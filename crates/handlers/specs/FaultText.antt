@@ -38,6 +38,7 @@ fault_place (report_fault.Source fault) = source_fault_place fault
 fault_place (report_fault.Graph fault) = graph_fault_place fault
 fault_place (report_fault.Cert fault) = cert_fault_place fault
 fault_place (report_fault.NotFree address) = Address address
+fault_place (report_fault.WordsMeet address) = Address address
 fault_place fault = Nowhere
 
 -- ## The text

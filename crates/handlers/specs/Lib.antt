@@ -1,6 +1,7 @@
 pub mod Alone
 pub mod FiqHandler
 pub mod Keeping
+pub mod Meeting
 pub mod Placing
 pub mod Priced
 pub mod Refusal

@@ -124,9 +124,31 @@ CarriesRead bytes texts profile (refusal.Alone fault) = ComesWithoutSource fault
 CarriesRead bytes texts profile (refusal.OnSource source stopped) =
     IsSource bytes source × CarriesOneOf bytes source texts profile stopped
 
--- the same by the profile of a file, or by the first one where there is no file; or the file has none, and
--- that fault comes alone
-abbrev pub CarriesReadBy : Option (List ℕ) → (bytes : List ℕ) → (texts : List (List ℕ)) → Refusal → Type 0
-CarriesReadBy file bytes texts refused =
-    ByProfile file (λ profile. CarriesRead bytes texts profile refused)
+-- by the profile of a file, or by the first one where there is no file; or the file has none, and that fault
+-- comes alone
+abbrev pub CarriesBy : Option (List ℕ) → (Profile → Refusal → Type 0) → Refusal → Type 0
+CarriesBy file CarriesPriced refused =
+    ByProfile file (λ profile. CarriesPriced profile refused)
     ⊎ ((fault : ReportFault) × (refused ≡ refusal.Alone fault) × HasNoProfile file fault)
+
+abbrev pub CarriesReadBy : Option (List ℕ) → (bytes : List ℕ) → (texts : List (List ℕ)) → Refusal → Type 0
+CarriesReadBy file bytes texts refused = CarriesBy file (CarriesRead bytes texts) refused
+
+-- ## Of several sources
+
+-- the bytes of a source, and the text of a statement on it
+abbrev pub StatedSource : Type 0
+StatedSource = List ℕ × List ℕ
+
+-- what work on one source after another carries where it stops: the source that the bytes of one say, and
+-- what work on it does; those before it are accepted
+abbrev pub CarriesOf : List StatedSource → Profile → Source → Stop → Type 0
+CarriesOf [] profile source stopped = ⊥
+CarriesOf (part ∷ parts) profile source stopped =
+    (IsSource part.0 source × Carries source part.1 profile stopped)
+    ⊎ (IsAccepted part.0 part.1 profile × CarriesOf parts profile source stopped)
+
+-- what a refusal of such work carries
+abbrev pub CarriesReadOf : List StatedSource → Profile → Refusal → Type 0
+CarriesReadOf parts profile (refusal.Alone fault) = ComesWithoutSource fault
+CarriesReadOf parts profile (refusal.OnSource source stopped) = CarriesOf parts profile source stopped

@@ -62,4 +62,14 @@ pub enum ReportFault {
     /// The word is no label of the source, and no address.
     #[error("NoSuchEntry")]
     NoSuchEntry,
+    /// The statement's entry is the vector of no interrupt: neither FIQ's, 1C, nor IRQ's, 18.
+    #[error("NotVector")]
+    NotVector,
+    /// No walk of the handler comes to the address.
+    #[error("NotReached")]
+    NotReached,
+    /// Two sources that are loaded at the same time both have a word at the address, in bytes; it is the
+    /// least such.
+    #[error("WordsMeet at {0:X}")]
+    WordsMeet(u32),
 }

@@ -158,5 +158,8 @@ pub fn fault_name(fault: ReportFault) -> &'static [u8]
         ReportFault::NoSuchEdge => b"NoSuchEdge",
         ReportFault::NotFree(_) => b"NotFree",
         ReportFault::NoSuchEntry => b"NoSuchEntry",
+        ReportFault::NotVector => b"NotVector",
+        ReportFault::NotReached => b"NotReached",
+        ReportFault::WordsMeet(_) => b"WordsMeet",
     }
 }

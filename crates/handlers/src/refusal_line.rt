@@ -65,6 +65,7 @@ pub fn fault_place(fault: ReportFault) -> FaultPlace
         ReportFault::Graph(fault) => graph_fault_place(fault),
         ReportFault::Cert(fault) => cert_fault_place(fault),
         ReportFault::NotFree(address) => FaultPlace::Address(address),
+        ReportFault::WordsMeet(address) => FaultPlace::Address(address),
         _ => FaultPlace::Nowhere,
     }
 }

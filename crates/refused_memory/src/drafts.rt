@@ -4,8 +4,8 @@ use sources::Source;
 use std::alloc::Global;
 use text_draft::draft;
 
-// A byte of a device, a loop that is counted, and a jump through a table that is none.
-const SOURCE: &[u8] = b"start MOV R1,#&3200000\nread LDRB R0,[R1]\n MOV R2,#3\n\
+/// A byte of a device, a loop that is counted, and a jump through a table that is none.
+pub(crate) const SOURCE: &[u8] = b"start MOV R1,#&3200000\nread LDRB R0,[R1]\n MOV R2,#3\n\
     again SUBS R2,R2,#1\nturn BNE again\njump ADD PC,PC,R0,LSL #2\n DCD 0\n MUL R2,R3,R4\n";
 
 const DRAFT: &[u8] = b"\
@@ -30,7 +30,32 @@ bound = \"?\"  # 2, if no other way leads into the loop
 [[target]]
 at = \"jump\"  # line 6: jump ADD PC,PC,R0,LSL #2
 kind = \"jump\"  # or \"call\", \"return\", \"leave\"
-to = \"?\"  # a list, or nothing for a return or a leave: draft from each of them too
+to = \"?\"  # a list, or nothing for a return or a leave; then draft from this statement
+";
+
+/// A begun statement, with a list for rows, and a destination behind whose word there is none.
+pub(crate) const BEGUN: &[u8] = b"entry = \"start\"\naccess = [\n]\n\
+    [[target]]\nat = \"jump\"\nkind = \"jump\"\nto = [0x801C, \"?\"]\n";
+
+/// What a draft makes of it. The open destination may lead into the loop.
+pub(crate) const DRAFT_ON: &[u8] = b"\
+entry = \"start\"
+access = [
+  {at = \"read\", class = \"any\"},  # line 2: read LDRB R0,[R1]
+]
+[[target]]
+at = \"jump\"
+kind = \"jump\"
+to = [0x801C, \"?\"]
+
+# Added by draft, beside rows in apart, base and access:
+# 00008020: reached, and no word is there.
+
+[[loop]]
+header = \"again\"  # line 4: again SUBS R2,R2,#1
+first = \"again\"  # line 4: again SUBS R2,R2,#1
+last = \"turn\"  # line 5: turn BNE again
+bound = \"?\"  # 2, if no other way leads into the loop
 ";
 
 /// The draft of a handler. It changes no value.

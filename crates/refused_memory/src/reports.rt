@@ -1,14 +1,15 @@
 use crate::explanations::NESTED_LINES;
-use crate::followed;
 use crate::trial::{Answer, Trial};
+use crate::{drafts, followed};
 use arcwcet::{
-    Bursts, Explained, FollowedRun, FollowedVisits, MemoryOutput, Output, ReportFault, asm_report,
-    bound_report, check_report, debug_report, draft_report, explain_report, fault_only,
-    follow_report, follow_visits_report, graph_report, list_report, run_report, tight_report,
-    trace_report, visits_report,
+    AskedResponse, Bursts, Explained, FollowedRun, FollowedVisits, MemoryOutput, Output,
+    ReportFault, VisitRate, VisitedHandler, asm_report, bound_report, check_report, debug_report,
+    draft_on_report, draft_report, explain_report, fault_only, follow_report, follow_visits_report,
+    graph_report, list_report, respond_report, run_report, tight_report, trace_report,
+    visits_report,
 };
 use samples::{countdown, nested_countdown};
-use std::alloc::Global;
+use std::alloc::{AllocError, Global};
 
 /// Room for each report.
 pub(crate) const ROOM: usize = 4096;
@@ -85,6 +86,20 @@ const IRQ_STATEMENT: &[u8] = b"entry = \"start\"\nleave = \"ram\"\n\
 
 const FIQ_STATEMENT: &[u8] = b"entry = \"fiq\"\nleave = \"ram\"\n";
 
+// The same two, each of a source of its own.
+const COUNTDOWN: &[u8] = b" ORG &8000\n\
+    start MOV R0,#3\nagain SUBS R0,R0,#1\nturn BNE again\n SUBS PC,R14,#4\n";
+
+const FIQ_SOURCE: &[u8] = b" ORG &1C\nfiq SUBS PC,R14,#4\n";
+
+const INTERRUPTED: VisitedHandler<'static> = VisitedHandler {
+    source: COUNTDOWN,
+    irq: IRQ_STATEMENT,
+    fiq_source: Some(FIQ_SOURCE),
+    fiq: FIQ_STATEMENT,
+    rate: VisitRate::Times(2),
+};
+
 const VISITED: &[u8] = b"arcwcet visits
 visits 2
 irq 21
@@ -114,6 +129,21 @@ step 1C do exit 5
 close
 place - 1C 0
 stop
+";
+
+// The countdown holds FIQ back. With bursts there are 6 ticks more for each of 3, or of the 53 that come within
+// 530 ticks.
+const RESPONSE: &[u8] = b"arcwcet respond
+fiq to fiq
+in progress 173
+masked 23
+entry 8
+arrival 0
+step 5
+response 209 ticks, 26.125 microseconds at 8 MHz
+with 3 bursts 227 ticks, 28.375 microseconds at 8 MHz
+with a burst every 10 ticks 527 ticks, 65.875 microseconds at 8 MHz
+within 530 ticks: 3 ticks, 0.375 microseconds at 8 MHz to spare
 ";
 
 // The edge of the countdown's return, and the line of its report that shows it.
@@ -184,10 +214,31 @@ pub(crate) enum Report {
     Bound,
     Check,
     Visits,
+    Respond,
     Tight,
     Explain,
     Graph,
     Draft,
+    DraftOn,
+}
+
+fn write_response(alloc: Global, out: &mut MemoryOutput) -> Result<bool, ReportFault> {
+    let countdown = Vec::from_slice(alloc, IRQ_STATEMENT)?;
+    let masked_by = match vec![in alloc; countdown] {
+        Ok(statements) => statements,
+        Err(failed) => return Err(AllocError::from(failed).into()),
+    };
+    let asked = AskedResponse {
+        source: TWO_HANDLERS,
+        statement: FIQ_STATEMENT,
+        label: b"fiq",
+        longest: None,
+        masked: Some(2),
+        masked_by: &masked_by,
+        bursts: EXPLAINED.bursts,
+        within: Some(530),
+    };
+    fault_only(respond_report(alloc, asked, None, out))
 }
 
 impl Report {
@@ -205,10 +256,12 @@ impl Report {
             Report::Bound => nested_countdown::CERTIFICATE,
             Report::Check => b"yes\n",
             Report::Visits => VISITED,
+            Report::Respond => RESPONSE,
             Report::Tight => EDGE_LINE,
             Report::Explain => NESTED_LINES,
             Report::Graph => DRAWN,
             Report::Draft => DRAFTED,
+            Report::DraftOn => drafts::DRAFT_ON,
         }
     }
 
@@ -217,7 +270,8 @@ impl Report {
             Report::Run | Report::Trace | Report::Follow | Report::FollowVisits =>
                 self.write_of_machine(alloc, out),
             Report::Check | Report::Explain => self.write_of_bound(alloc, out),
-            Report::Asm | Report::List | Report::Debug | Report::Draft => {
+            Report::Respond => write_response(alloc, out),
+            Report::Asm | Report::List | Report::Debug | Report::Draft | Report::DraftOn => {
                 self.write_of_source(alloc, out)?;
                 Ok(true)
             }
@@ -234,6 +288,7 @@ impl Report {
             Report::List => list_report(alloc, source, out),
             Report::Debug => debug_report(alloc, source, countdown::MACHINE, COMMANDS, None, out),
             Report::Draft => draft_report(alloc, source, b"start", out),
+            Report::DraftOn => draft_on_report(alloc, drafts::SOURCE, drafts::BEGUN, out),
             _ => asm_report(alloc, source, out),
         }
     }
@@ -260,10 +315,7 @@ impl Report {
     fn write_of_handler(self, alloc: Global, out: &mut MemoryOutput) -> Result<(), ReportFault> {
         let (source, statement) = (countdown::SOURCE, countdown::STATEMENT);
         match self {
-            Report::Visits => {
-                let (irq, fiq) = (IRQ_STATEMENT, FIQ_STATEMENT);
-                visits_report(alloc, TWO_HANDLERS, irq, fiq, 2, None, out)
-            }
+            Report::Visits => fault_only(visits_report(alloc, INTERRUPTED, None, out)).and(Ok(())),
             Report::Tight => tight_report(alloc, source, statement, EDGE, None, out),
             Report::Graph => fault_only(graph_report(alloc, source, statement, None, out)),
             _ => {

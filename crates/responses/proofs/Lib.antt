@@ -3,3 +3,8 @@ pub mod LongestLemmas
 pub mod LongestReached
 pub mod ResponseLemmas
 pub mod Served
+pub mod Cutting
+pub mod WayLemmas
+pub mod ArrivalLemmas
+pub mod StepsAt
+pub mod VisitedLemmas

@@ -19,8 +19,7 @@ use Rattle.flow_graph.proofs.StepLemmas.{goes_on, run_law}
 use Rattle.statement.specs.Stated.{Stated}
 use Rattle.responses.specs.declared.interrupts.Interrupt.{Interrupt}
 use Rattle.responses.specs.Entry.{entry_ticks}
-use Rattle.responses.specs.Longest.{longest_step}
-use Rattle.responses.specs.Response.{BoundsArrivals, BoundsStepsAt, ResponseLaw, Serves, Service, TakesAtMost, Waits, inputs_of, is_at, response_time}
+use Rattle.responses.specs.Response.{BoundsArrivals, BoundsStepsAt, NoneIsLonger, ResponseLaw, Serves, Service, TakesAtMost, Waits, inputs_of, is_at, response_time}
 use Rattle.responses.proofs.EntryLemmas.{takes_within}
 use Rattle.responses.proofs.LongestLemmas.{none_above}
 
@@ -85,8 +84,8 @@ module _ (profile : Profile) where
 
 -- ## The handler's steps
 
-module _ (words : Words) (st : Stated) (flow : Flow) (interrupt : Interrupt) (address masked arrival own : ℕ) (s : State) (service : Service)
-    (is : Serves words st flow interrupt address masked s service) (arrivals : BoundsArrivals flow st.loops address arrival) (steps : BoundsStepsAt flow address own) where
+module _ (words : Words) (st : Stated) (flow : Flow) (interrupt : Interrupt) (address longest masked arrival own : ℕ) (s : State) (service : Service)
+    (is : Serves words st flow interrupt address masked s service) (arrivals : BoundsArrivals flow st.loops address arrival) (steps : BoundsStepsAt flow address own) (long : is.in_progress.ticks ≤ longest) where
   handled : (ran : Ran) (after : State) → Runs is.entered service.handling ran after → TakesAtMost flow.profile (arrival + own) service.handling ran
   handled ran after runs =
       let within : IsWithin flow.profile (is.walk ++ is.last ∷ []) service.handling ran = run_law words st flow.profile is.entered service.handling (is.walk ++ is.last ∷ []) ran after runs is.follows in
@@ -95,19 +94,21 @@ module _ (words : Words) (st : Stated) (flow : Flow) (interrupt : Interrupt) (ad
       let then : is.last.cost ≤ own = steps is.last is.is_edge (ap (is_at address) is.from ∙ is.comes.there) in
       record { ticks = omega (arith, within.ticks, cost, first, then); elapsed = omega (arith, within.elapsed, cost, first, then) }
 
-  whole : (ran : Ran) (after : State) → Runs s (inputs_of service) ran after → TakesAtMost flow.profile (response_time flow.profile interrupt masked arrival own) (inputs_of service) ran
+  whole : (ran : Ran) (after : State) → Runs s (inputs_of service) ran after → TakesAtMost flow.profile (response_time flow.profile interrupt longest masked arrival own) (inputs_of service) ran
   whole ran after runs =
       let p : Profile = flow.profile in
       let rest : List Input = service.waiting ++ service.taking ∷ service.handling in
       let begun = a_step p s service.in_progress rest ran after is.in_progress is.risen is.progresses.prices is.progresses.step is.progresses.goes_on runs in
-      let long : is.in_progress.ticks ≤ longest_step p = none_above p s service.in_progress is.in_progress is.risen is.progresses in
       let prices : is.risen.profile ≡ p = same_profile s service.in_progress is.in_progress is.risen is.progresses.step ∙ is.progresses.prices in
       let waited = waiting p interrupt is.risen service.waiting (service.taking ∷ service.handling) is.waited is.unmasked begun.more after prices is.waits begun.runs in
       let taken = a_step p is.unmasked service.taking service.handling waited.more after is.taking is.entered waited.prices is.takes (ap why_stopped is.taken) waited.runs in
       let entry : is.taking.ticks ≤ entry_ticks p interrupt = subst (λ (q : Profile). is.taking.ticks ≤ entry_ticks q interrupt) waited.prices (takes_within interrupt is.unmasked service.taking is.taking is.entered is.takes is.taken) in
       let few : is.waited ≤ masked = is.waited_most in
       let all = begun.within (is.waited + (is.taking.ticks + (arrival + own))) (waited.within (is.taking.ticks + (arrival + own)) (taken.within (arrival + own) (handled taken.more after taken.runs))) in
-      higher p (is.in_progress.ticks + (is.waited + (is.taking.ticks + (arrival + own)))) (response_time p interrupt masked arrival own) (inputs_of service) ran (omega (arith, long, few, entry)) all
+      higher p (is.in_progress.ticks + (is.waited + (is.taking.ticks + (arrival + own)))) (response_time p interrupt longest masked arrival own) (inputs_of service) ran (omega (arith, long, few, entry)) all
 
 pub law : ResponseLaw
-law words st flow interrupt address masked arrival own s service ran after is arrivals steps runs = whole words st flow interrupt address masked arrival own s service is arrivals steps ran after runs
+law words st flow interrupt address longest masked arrival own arrivals steps s service ran after is long runs = whole words st flow interrupt address longest masked arrival own s service is arrivals steps long ran after runs
+
+pub none_longer : NoneIsLonger
+none_longer words st flow interrupt address masked s service is = none_above flow.profile s service.in_progress is.in_progress is.risen is.progresses

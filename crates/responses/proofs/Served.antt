@@ -48,6 +48,7 @@ use Rattle.control_flow.proofs.LabelLemmas.{only_one}
 use Rattle.control_flow.proofs.SortedLemmas.{no_member}
 use Rattle.flow_graph.specs.StepLaw.{Executes, Follows, IsTaken}
 use Rattle.flow_graph.proofs.TightTicks.{onward_short, takes_within}
+use Rattle.kept_runs.specs.Visited.{IsVisit, Visit}
 use Rattle.loop_bounds.specs.Bounds.{KeepsTheBounds}
 use Rattle.statement.specs.Stated.{Stated, cycles_at}
 use Rattle.statement.specs.declared.stated.Returns.TheVariants.{Assumed}
@@ -56,6 +57,7 @@ use Rattle.responses.specs.declared.interrupts.Interrupt.{Interrupt}
 use Rattle.responses.specs.declared.interrupts.Interrupt.TheVariants.{Irq, Fiq}
 use Rattle.responses.specs.Entry.{is_active, is_active_at, is_held_back, is_held_back_at, vector_of}
 use Rattle.responses.specs.Response.{HasService, Serves, Service, inputs_of, is_at}
+use Rattle.responses.specs.Visited.{HasVisitedService, KeepsStated, ServesVisited, VisitedService, service_inputs}
 use Rattle.responses.proofs.EntryLemmas.{is_due}
 
 abbrev word : ℕ
@@ -607,4 +609,220 @@ served profile interrupt = record {
   ran = ran profile interrupt;
   after = left profile interrupt;
   runs = runs profile interrupt;
+}
+
+-- ## A run with a visit
+
+-- back from FIQ's handler, and then in IRQ's
+abbrev back_regs : List ℕ
+back_regs = replicate 21 0 ++ 0x3800007 ∷ 0 ∷ 0x3800007 ∷ 0 ∷ 0xF800006 ∷ 0x3800003 ∷ []
+
+abbrev visited_regs : List ℕ
+visited_regs = replicate 21 0 ++ 0x3800007 ∷ 0 ∷ 0x3800007 ∷ 0 ∷ 0xF800006 ∷ 0x800001A ∷ []
+
+from_fiq : Returns (handler_regs Fiq) back_regs
+unfolding memory handler_regs instr operation_effect data_immediate_effect outcome_effect jumped operands.word_of bits_from
+from_fiq = record { fetches = refl; moves = λ port bus. refl }
+
+takes_visited : (taken (vector_of Irq) back_regs).regs ≡ visited_regs
+unfolding taken
+takes_visited = refl
+
+handles_visited : Returns visited_regs (left_regs visited_regs)
+unfolding memory instr operation_effect data_immediate_effect outcome_effect jumped operands.word_of bits_from
+handles_visited = record { fetches = refl; moves = λ port bus. refl }
+
+visited_free : (profile : Profile) (c : ioc.Controller) → c.lines ≡ lines_of Irq → c.mask_f ≡ 1 → interrupt_of c (r15_in visited_regs) ≡ None
+unfolding handler_regs
+visited_free profile c lines mask_f = handler_free Irq profile c lines mask_f
+
+module _ (profile : Profile) where
+  abbrev fiq_input : Input
+  fiq_input = input (lines_of Fiq)
+
+  abbrev irq_input : Input
+  irq_input = input (lines_of Irq)
+
+  abbrev ready : State
+  ready = unmasked profile Irq
+
+  ready_on : IsOn profile (program_regs 0x3800003) (unmasked profile Irq)
+  ready_on = unmasked_on profile Irq
+
+  fiq_due : interrupt_due (with_lines (lines_of Fiq) ready.bus) (r15_in ready.regs) ≡ Some (vector_of Fiq)
+  fiq_due =
+      due_in profile Irq (program_regs 0x3800003) ready fiq_input (Some (vector_of Fiq)) ready_on
+      (due_by Fiq profile (with_lines (lines_of Fiq) ready.bus).ioc refl ready_on.mask_b ready_on.mask_f)
+
+  abbrev in_fiq : State
+  in_fiq = entered profile (program_regs 0x3800003) (handler_regs Fiq) ready fiq_input ready_on (vector_of Fiq) (takes_regs Fiq) fiq_due
+
+  in_fiq_on : IsOn profile (handler_regs Fiq) in_fiq
+  in_fiq_on = entered_on profile (program_regs 0x3800003) (handler_regs Fiq) ready fiq_input ready_on (vector_of Fiq) (takes_regs Fiq) fiq_due
+
+  fiq_free : interrupt_due (with_lines (lines_of Fiq) in_fiq.bus) (r15_in in_fiq.regs) ≡ None
+  fiq_free = due_in profile Irq (handler_regs Fiq) in_fiq fiq_input None in_fiq_on (handler_free Fiq profile (with_lines (lines_of Fiq) in_fiq.bus).ioc refl in_fiq_on.mask_f)
+
+  abbrev returned : State
+  returned = after profile (handler_regs Fiq) back_regs in_fiq fiq_input in_fiq_on from_fiq fiq_free
+
+  returned_on : IsOn profile back_regs returned
+  returned_on = after_on profile (handler_regs Fiq) back_regs in_fiq fiq_input in_fiq_on from_fiq fiq_free
+
+  irq_due : interrupt_due (with_lines (lines_of Irq) returned.bus) (r15_in returned.regs) ≡ Some (vector_of Irq)
+  irq_due =
+      due_in profile Irq back_regs returned irq_input (Some (vector_of Irq)) returned_on
+      (due_by Irq profile (with_lines (lines_of Irq) returned.bus).ioc refl returned_on.mask_b returned_on.mask_f)
+
+  abbrev in_irq : State
+  in_irq = entered profile back_regs visited_regs returned irq_input returned_on (vector_of Irq) takes_visited irq_due
+
+  in_irq_on : IsOn profile visited_regs in_irq
+  in_irq_on = entered_on profile back_regs visited_regs returned irq_input returned_on (vector_of Irq) takes_visited irq_due
+
+  irq_free : interrupt_due (with_lines (lines_of Irq) in_irq.bus) (r15_in in_irq.regs) ≡ None
+  irq_free = due_in profile Irq visited_regs in_irq irq_input None in_irq_on (visited_free profile (with_lines (lines_of Irq) in_irq.bus).ioc refl in_irq_on.mask_f)
+
+  abbrev gone : State
+  gone = after profile visited_regs (left_regs visited_regs) in_irq irq_input in_irq_on handles_visited irq_free
+
+  abbrev fiq_taking : Stepped
+  fiq_taking = taking_stepped profile (program_regs 0x3800003) (handler_regs Fiq) ready fiq_input ready_on (vector_of Fiq) (takes_regs Fiq) fiq_due
+
+  fiq_taken : Step ready fiq_input fiq_taking in_fiq
+  fiq_taken = taking_step profile (program_regs 0x3800003) (handler_regs Fiq) ready fiq_input ready_on (vector_of Fiq) (takes_regs Fiq) fiq_due
+
+  fiq_kind : fiq_taking.kind ≡ Taken (vector_of Fiq)
+  fiq_kind = taking_kind profile (program_regs 0x3800003) (handler_regs Fiq) ready fiq_input ready_on (vector_of Fiq) (takes_regs Fiq) fiq_due
+
+  abbrev fiq_stepped : Stepped
+  fiq_stepped = stepped profile (handler_regs Fiq) back_regs in_fiq fiq_input in_fiq_on from_fiq fiq_free
+
+  fiq_step : Step in_fiq fiq_input fiq_stepped returned
+  fiq_step = step profile (handler_regs Fiq) back_regs in_fiq fiq_input in_fiq_on from_fiq fiq_free
+
+  fiq_goes : why_stopped fiq_stepped.kind ≡ None
+  fiq_goes = goes_on profile (handler_regs Fiq) back_regs in_fiq fiq_input in_fiq_on from_fiq fiq_free
+
+  abbrev irq_taking : Stepped
+  irq_taking = taking_stepped profile back_regs visited_regs returned irq_input returned_on (vector_of Irq) takes_visited irq_due
+
+  irq_taken : Step returned irq_input irq_taking in_irq
+  irq_taken = taking_step profile back_regs visited_regs returned irq_input returned_on (vector_of Irq) takes_visited irq_due
+
+  irq_kind : irq_taking.kind ≡ Taken (vector_of Irq)
+  irq_kind = taking_kind profile back_regs visited_regs returned irq_input returned_on (vector_of Irq) takes_visited irq_due
+
+  abbrev irq_stepped : Stepped
+  irq_stepped = stepped profile visited_regs (left_regs visited_regs) in_irq irq_input in_irq_on handles_visited irq_free
+
+  irq_step : Step in_irq irq_input irq_stepped gone
+  irq_step = step profile visited_regs (left_regs visited_regs) in_irq irq_input in_irq_on handles_visited irq_free
+
+  irq_goes : why_stopped irq_stepped.kind ≡ None
+  irq_goes = goes_on profile visited_regs (left_regs visited_regs) in_irq irq_input in_irq_on handles_visited irq_free
+
+  abbrev visit : Visit
+  visit = record { taking = fiq_input; handling = fiq_input ∷ [] }
+
+  abbrev KeepsFiq : State → List Input → Type 0
+  KeepsFiq = KeepsStated (words 0x1C profile) (stated 0x1C profile) profile (flow 0x1C profile)
+
+  fiq_keeps : KeepsFiq in_fiq (fiq_input ∷ [])
+  unfolding flow edge
+  fiq_keeps = record {
+    walk = edge 0x1C profile ∷ [];
+    complete = ((0, lit< tt, refl), refl, refl);
+    kept = λ i is. absurd (no_member is.stated_loop is.stated);
+    follows = follows profile (handler_regs Fiq) back_regs in_fiq fiq_input in_fiq_on from_fiq fiq_free 0x1C (handler_long Fiq) (handler_at Fiq);
+  }
+
+  visit_is : IsVisit KeepsFiq profile ready visit returned
+  visit_is = record {
+    stepped = fiq_taking;
+    entered = in_fiq;
+    step = fiq_taken;
+    takes_fiq = fiq_kind;
+    prices = ready_on.prices;
+    keeps = fiq_keeps;
+    ran = counted in_fiq.profile.burst fiq_input fiq_stepped (at_rest None);
+    runs = goes_before profile Irq in_fiq fiq_input [] fiq_stepped returned (at_rest None) returned fiq_step fiq_goes (refl, refl);
+    back = ap (λ (r : List ℕ). address_of (r15_in r)) returned_on.regs_are ∙ sym (ap (λ (r : List ℕ). address_of (r15_in r)) ready_on.regs_are);
+  }
+
+  abbrev visited_service : VisitedService
+  visited_service = record {
+    in_progress = input 0;
+    waiting = record { visits = []; input = irq_input } ∷ [];
+    taking = record { visits = visit ∷ []; input = irq_input };
+    handling = record { visits = []; input = irq_input } ∷ [];
+  }
+
+  serves_visited : ServesVisited (words 0x18 profile) (words 0x1C profile) (stated 0x18 profile) (stated 0x1C profile) (flow 0x18 profile) (flow 0x1C profile) 0x18 ((second_stepped profile Irq).ticks + 0) (start profile Irq) visited_service
+  unfolding flow edge serves
+  serves_visited =
+      let f = follows profile visited_regs (left_regs visited_regs) in_irq irq_input in_irq_on handles_visited irq_free 0x18 refl refl in
+      record {
+        in_progress = first_stepped profile Irq;
+        risen = risen profile Irq;
+        progresses = (serves profile Irq).progresses;
+        waited = (second_stepped profile Irq).ticks + 0;
+        unmasked = ready;
+        waits = (risen profile Irq, refl, (second_stepped profile Irq, ready, second_step profile Irq, second_goes profile Irq, second_held profile Irq, (0, (refl, refl), refl)));
+        waited_most = omega arith;
+        visited = returned;
+        visits = (returned, visit_is, refl);
+        taking = irq_taking;
+        entered = in_irq;
+        takes = irq_taken;
+        taken = irq_kind;
+        walk = [];
+        place = At [] 0x18;
+        comes = (serves profile Irq).comes;
+        last = edge 0x18 profile;
+        is_edge = (0, lit< tt, refl);
+        from = refl;
+        follows = (in_irq, refl, (f.0, f.1, f.2, tt));
+      }
+
+  visited_ran : Ran
+  visited_ran =
+      counted (start profile Irq).profile.burst (input 0) (first_stepped profile Irq)
+      (counted (risen profile Irq).profile.burst irq_input (second_stepped profile Irq)
+      (counted ready.profile.burst fiq_input fiq_taking
+      (counted in_fiq.profile.burst fiq_input fiq_stepped
+      (counted returned.profile.burst irq_input irq_taking
+      (counted in_irq.profile.burst irq_input irq_stepped (at_rest None))))))
+
+  visited_runs : Runs (start profile Irq) (service_inputs visited_service) visited_ran gone
+  unfolding visited_ran
+  visited_runs =
+      goes_before profile Irq (start profile Irq) (input 0) (irq_input ∷ fiq_input ∷ fiq_input ∷ irq_input ∷ irq_input ∷ []) (first_stepped profile Irq) (risen profile Irq) _ gone (first_step profile Irq) (first_goes profile Irq)
+      (goes_before profile Irq (risen profile Irq) irq_input (fiq_input ∷ fiq_input ∷ irq_input ∷ irq_input ∷ []) (second_stepped profile Irq) ready _ gone (second_step profile Irq) (second_goes profile Irq)
+      (goes_before profile Irq ready fiq_input (fiq_input ∷ irq_input ∷ irq_input ∷ []) fiq_taking in_fiq _ gone fiq_taken (ap why_stopped fiq_kind)
+      (goes_before profile Irq in_fiq fiq_input (irq_input ∷ irq_input ∷ []) fiq_stepped returned _ gone fiq_step fiq_goes
+      (goes_before profile Irq returned irq_input (irq_input ∷ []) irq_taking in_irq _ gone irq_taken (ap why_stopped irq_kind)
+      (goes_before profile Irq in_irq irq_input [] irq_stepped gone (at_rest None) gone irq_step irq_goes (refl, refl))))))
+
+pub served_visited : (profile : Profile) → HasVisitedService profile
+unfolding serves_visited
+served_visited profile = record {
+  words = words 0x18 profile;
+  fiq_words = words 0x1C profile;
+  irq = stated 0x18 profile;
+  fiq = stated 0x1C profile;
+  flow = flow 0x18 profile;
+  fiq_flow = flow 0x1C profile;
+  graph_is = graph_is 0x18 profile;
+  fiq_graph_is = graph_is 0x1C profile;
+  fiq_entry_is = refl;
+  address = 0x18;
+  masked = (second_stepped profile Irq).ticks + 0;
+  s = start profile Irq;
+  service = visited_service profile;
+  serves = serves_visited profile;
+  one = refl;
+  ran = visited_ran profile;
+  after = gone profile;
+  runs = visited_runs profile;
 }

@@ -1,3 +1,5 @@
 pub mod Entry
 pub mod Longest
 pub mod Response
+pub mod Arriving
+pub mod Visited

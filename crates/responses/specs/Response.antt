@@ -1,7 +1,7 @@
 -- Response time: how long after an interrupt's line rises the handler's first step at an address ends, whether
 -- the condition of its instruction holds or not.
 use Rattle.std.specs.Prelude.{◌≡◌, ℕ, ◌+◌, ◌*◌, ◌≤◌, ◌==◌, Bool, true, false, List, [], ◌∷◌, ◌++◌}
-use Rattle.std.specs.Prelude.{All, None}
+use Rattle.std.specs.Prelude.{All, Option, Some, None}
 use Rattle.walks.specs.Walk.{Leads, cost_of}
 use Rattle.bus_ticks.specs.declared.profile.Profile.{Profile}
 use Rattle.image.specs.Image.{Words}
@@ -60,10 +60,36 @@ BoundsArrivals flow loops address arrival =
     (walk : List Edge) (place : Place)
     → FirstComesTo flow loops address walk place → cost_of edge_shape walk ≤ arrival
 
+-- one costs as many
+pub record HasArrival (flow : Flow) (loops : StatedLoops) (address arrival : ℕ) : Type 0 where
+  pub walk : List Edge
+  pub place : Place
+  pub comes : FirstComesTo flow loops address walk place
+  pub costs : cost_of edge_shape walk ≡ arrival
+
+-- the greatest cost of such a walk; None where none comes to the address
+abbrev pub IsWorstArrival : Flow → StatedLoops → (address : ℕ) → Option ℕ → Type 0
+IsWorstArrival flow loops address None =
+    (walk : List Edge) (place : Place) → FirstComesTo flow loops address walk place → ⊥
+IsWorstArrival flow loops address (Some arrival) =
+    HasArrival flow loops address arrival × BoundsArrivals flow loops address arrival
+
 -- no edge from the address costs more
 abbrev pub BoundsStepsAt : Flow → (address own : ℕ) → Type 0
 BoundsStepsAt flow address own =
     (e : Edge) → HasEdge flow e → is_at address e.from ≡ true → e.cost ≤ own
+
+-- one costs as many
+pub record HasStepAt (flow : Flow) (address own : ℕ) : Type 0 where
+  pub edge : Edge
+  pub is_edge : HasEdge flow edge
+  pub from : is_at address edge.from ≡ true
+  pub costs : edge.cost ≡ own
+
+-- the greatest cost of an edge from the address; None where none leaves it
+abbrev pub IsWorstStepAt : Flow → (address : ℕ) → Option ℕ → Type 0
+IsWorstStepAt flow address None = (e : Edge) → HasEdge flow e → is_at address e.from ≡ true → ⊥
+IsWorstStepAt flow address (Some own) = HasStepAt flow address own × BoundsStepsAt flow address own
 
 -- ## Runs that serve an interrupt
 
@@ -107,23 +133,35 @@ pub record TakesAtMost (profile : Profile) (most : ℕ) (inputs : List Input) (r
   pub ticks : ran.ticks ≤ most
   pub elapsed : ran.elapsed ≤ most + profile.burst * bursts_of inputs
 
--- the longest step, the time for which the interrupt is held back, its entry, the handler's way to the
+-- the step in progress, the time for which the interrupt is held back, its entry, the handler's way to the
 -- address, and the step there
-abbrev pub response_time : Profile → Interrupt → (masked arrival own : ℕ) → ℕ
-response_time p interrupt masked arrival own =
-    longest_step p + masked + entry_ticks p interrupt + arrival + own
+abbrev pub response_time : Profile → Interrupt → (longest masked arrival own : ℕ) → ℕ
+response_time p interrupt longest masked arrival own =
+    longest + (masked + (entry_ticks p interrupt + (arrival + own)))
 
--- Each run that serves takes at most the sum, from the beginning of the step in progress to the end of the
--- handler's first step at the address.
+-- Each run that serves, and whose step in progress takes at most so many ticks as its longest, takes at most
+-- the sum, from the beginning of the step in progress to the end of the handler's first step at the address.
+abbrev pub RespondsWithin : (words : Words) → (st : Stated) → (flow : Flow) → (interrupt : Interrupt)
+    → (address longest masked most : ℕ) → Type 0
+RespondsWithin words st flow interrupt address longest masked most =
+    (s : State) (service : Service) (ran : Ran) (after : State)
+    → (is : Serves words st flow interrupt address masked s service) → is.in_progress.ticks ≤ longest
+    → Runs s (inputs_of service) ran after → TakesAtMost flow.profile most (inputs_of service) ran
+
 abbrev pub ResponseLaw : Type 0
 ResponseLaw =
-    (words : Words) (st : Stated) (flow : Flow) (interrupt : Interrupt) (address masked arrival own : ℕ)
-    (s : State) (service : Service) (ran : Ran) (after : State)
-    → Serves words st flow interrupt address masked s service
+    (words : Words) (st : Stated) (flow : Flow) (interrupt : Interrupt)
+    (address longest masked arrival own : ℕ)
     → BoundsArrivals flow st.loops address arrival → BoundsStepsAt flow address own
-    → Runs s (inputs_of service) ran after
-    → TakesAtMost flow.profile (response_time flow.profile interrupt masked arrival own)
-    (inputs_of service) ran
+    → RespondsWithin words st flow interrupt address longest masked
+    (response_time flow.profile interrupt longest masked arrival own)
+
+-- the step in progress takes at most as many ticks as the longest step of any program
+abbrev pub NoneIsLonger : Type 0
+NoneIsLonger =
+    (words : Words) (st : Stated) (flow : Flow) (interrupt : Interrupt) (address masked : ℕ) (s : State)
+    (service : Service) (is : Serves words st flow interrupt address masked s service)
+    → is.in_progress.ticks ≤ longest_step flow.profile
 
 -- ## Some run
 

@@ -1,14 +1,24 @@
 ghost use Rattle.bus_ticks.specs.declared.profile.Profile.{Profile};
 ghost use Rattle.responses.specs.Entry.{IrqCostsItsEntry, UnmaskedIsTaken};
-ghost use Rattle.responses.specs.Response.{HasService, ResponseLaw};
+ghost use Rattle.responses.specs.Response.{HasService, NoneIsLonger, ResponseLaw};
+ghost use Rattle.responses.specs.Visited.{HasVisitedService, VisitedResponseLaw};
 
 use crate::interrupts::Interrupt;
 
 /// Each run that serves an interrupt takes, from the beginning of the step in progress to the end of the
 /// handler's first step at the address, at most the sum of its parts, and the price of its DMA bursts more.
-/// The call does nothing.
+/// No step in progress takes more than the longest step of any program. The call does nothing.
 pub fn response_law()
-    ensures { ResponseLaw }
+    ensures sum { ResponseLaw }
+    ensures longest { NoneIsLonger }
+{}
+
+/// The same of IRQ where FIQ's handler may visit each step after that in progress: at most so many visits add
+/// at most their number times FIQ's entry and the greatest cost of its handler. Under every profile some run
+/// serves IRQ with one visit. The call does nothing.
+pub fn visited_response_law()
+    ensures sum { VisitedResponseLaw }
+    ensures some { (profile : Profile) → HasVisitedService profile }
 {}
 
 /// The wait for an interrupt ends: a step at whose beginning IOC asks for it and the processor does not hold

@@ -1,11 +1,17 @@
 -- What has to be stated of a handler.
-use Rattle.std.specs.Prelude.{◌≡◌, ℕ, if◌then◌else◌, List, Option, Some, None, Ok}
+use Rattle.std.specs.Prelude.{◌≡◌, ℕ, if◌then◌else◌, List, Option, Some, None, Ok, Err, ◌≢◌}
 use Rattle.std.specs.Prelude.{option_and_then}
 use Rattle.asm_text.specs.Numbers.{read_number}
 use Rattle.bus_ticks.specs.Prices.{is_word_address}
+use Rattle.statement.specs.Stated.{Stated}
+use Rattle.statement.specs.Statement.{IsStatement}
+use Rattle.statement.specs.declared.faults.StatementFault.TheVariants as statement_fault
+use Rattle.text_draft.specs.Closed.{closed}
 use Rattle.text_draft.specs.Draft.{IsDraft}
+use Rattle.text_draft.specs.DraftOn.{IsDraftOn}
 use Rattle.image.specs.Image.{Words}
 use Rattle.image.specs.Labels.{Names, address_of}
+use Rattle.handlers.specs.Report.{IsStatementRefused}
 use Rattle.handlers.specs.Source.{IsSourceFault}
 use Rattle.handlers.specs.declared.fault.ReportFault.{ReportFault}
 use Rattle.handlers.specs.declared.fault.ReportFault.TheVariants as report_fault
@@ -57,3 +63,36 @@ module _ (source entry : List ℕ) where
   IsDraftRefused report_fault.Device = Unit {0}
   IsDraftRefused report_fault.NoSuchEntry = HasNoEntry
   IsDraftRefused fault = IsSourceFault source fault
+
+-- ## Of a statement that is begun
+
+-- why a text says no statement by the labels: lack of memory, or its fault
+abbrev pub IsBegunFault : List ℕ → Names → ReportFault → Type 0
+IsBegunFault text names report_fault.Memory = Unit {0}
+IsBegunFault text names (report_fault.Statement fault) =
+    (fault ≢ statement_fault.Memory) × IsStatement text names (Err fault)
+IsBegunFault text names fault = ⊥
+
+module _ (source begun : List ℕ) where
+  -- the source has words and labels, and the begun text, where something stands for each "?", is a statement
+  -- by them
+  pub record IsDraftableOn : Type 0 where
+    pub words : Words
+    pub names : Names
+    pub source_is : source_of source ≡ Ok (words, names)
+    pub stated : Stated
+    pub statement_is : IsStatement (closed begun) names (Ok stated)
+
+  -- a draft on that statement, with labels and comments of the source's lines
+  pub record IsDraftOnReport (text : List ℕ) : Type 0 where
+    pub read : Source
+    pub is_read : IsSource source read
+    pub stated : Stated
+    pub statement_is : IsStatement (closed begun) (address_of read.labels) (Ok stated)
+    pub is_draft : IsDraftOn read begun stated text
+
+  -- when each refusal is answered; an output fails whatever the source and the statement
+  abbrev pub IsDraftOnRefused : ReportFault → Type 0
+  IsDraftOnRefused report_fault.Device = Unit {0}
+  IsDraftOnRefused (report_fault.Statement fault) = IsStatementRefused source (closed begun) fault
+  IsDraftOnRefused fault = IsSourceFault source fault

@@ -26,8 +26,9 @@ fn address_in(text: &[u8]) -> Option<u32>
     None
 }
 
-// Where a handler begins, by a label or by its address.
-fn entry_of(labels: &Labels, entry: &[u8]) -> Option<u32>
+/// The address of a label; or the one that the text says, decimal, or hexadecimal after `0x`, of a word. None
+/// where it is neither.
+pub fn entry_of(labels: &Labels, entry: &[u8]) -> Option<u32>
     ensures { result ≡ entry_of (address_of labels.now) entry.now }
 {
     match labels.get(entry) {

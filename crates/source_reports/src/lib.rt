@@ -2,9 +2,11 @@
 #![tactic(auto)]
 
 mod assembly;
+mod begun;
 mod draft;
 mod list;
 
 pub use assembly::{Written, asm_report, image_written};
-pub use draft::draft_report;
+pub use begun::draft_on_report;
+pub use draft::{draft_report, entry_of};
 pub use list::list_report;

@@ -1,17 +1,19 @@
 -- The search for addresses goes on.
 use Rattle.std.proofs.Common.{◌≡◌, ℕ, ◌+◌, ◌<◌, ◌≤◌, inl, inr, List, [], ◌∷◌, ◌++◌, length, take, get_or, ⊎_elim, sym, ap, ◌∙◌, subst, arith}
-use Rattle.std.specs.Prelude.{Contains, ◌↔◌}
+use Rattle.std.specs.Prelude.{Contains, ◌↔◌, Option}
+use Rattle.statement.specs.Stated.{Stated}
 use Rattle.std.specs.BTreeSet.{BTreeSet}
 use Rattle.std.specs.Cmp.{nat_cmp_total}
 use Rattle.std.proofs.lemmas.List.{get_or_append_left, get_or_read, take_more}
 use Rattle.std.proofs.lemmas.List.Elements.{Contains-append_left, Contains-push, Contains-push_cases, Contains-get_or}
 use Rattle.std.proofs.lemmas.Map.Lookups.{exact_unsigned}
 use borrow.Author.Count.{below_more}
-use Rattle.text_draft.specs.Exploring.{HasRoom, IsFound}
+use Rattle.text_draft.specs.Exploring.{Gains, HasRoom, IsFound}
 use Rattle.control_flow.specs.declared.search.TheConstants.{MOST_PLACES}
 use Rattle.text_draft.specs.Reach.{AreReached, LeadsTo, Reaches, begins, leads_on}
 use Rattle.image.specs.Image.{Words}
 use Rattle.word_shapes.specs.Growing.{Adds, Grows}
+use Rattle.text_draft.proofs.WayLaws.{gains_from_none}
 use Rattle.word_shapes.proofs.GrowLaws.{grows_on, grows_one, kept, keys_listed, no_shorter}
 
 -- ## Lists that grow
@@ -30,17 +32,28 @@ grows_more ways i to old mid new lt is g adds =
     ))
     (λ longer room. omega (arith, longer, room)) g (grows_one (λ a. to ≡ a) mid to new (λ a. ((λ e. e), (λ e. e))) adds)
 
+-- the addresses of a list that was empty before it gained them
+pub grows_gained : (P : ℕ → Type 0) (none ways old new : List ℕ) → none ≡ [] → Gains P none ways
+    → Grows HasRoom (Contains ways) old new → Grows HasRoom P old new
+grows_gained P none ways old new empty gained g =
+    let are = gains_from_none P none ways empty gained in
+    record {
+      more = g.more;
+      from = λ a h. ⊎_elim (λ w. inl w) (λ w. inr ((are a).0 w)) (g.from a h);
+      to = λ room a p. g.to room a ((are a).1 p);
+    }
+
 -- ## Addresses that were looked at
 
-module _ (words : Words) where
+module _ (words : Words) (given : Option Stated) where
   -- all to which an address leads are in the list, if that is not full
   abbrev pub IsFollowed : List ℕ → ℕ → Type 0
-  IsFollowed order at = HasRoom order → (to : ℕ) → LeadsTo words at to → Contains order to
+  IsFollowed order at = HasRoom order → (to : ℕ) → LeadsTo words given at to → Contains order to
 
   -- the search goes on: from the entry, where all is reached, and what the addresses before the next one lead to is there
   pub record IsSearch (entry : ℕ) (order : List ℕ) (next : ℕ) : Type 0 where
     pub begun : Contains order entry
-    pub reached : (at : ℕ) → Contains order at → Reaches words entry at
+    pub reached : (at : ℕ) → Contains order at → Reaches words given entry at
     pub bound : next ≤ length order
     pub followed : (k : ℕ) (d : ℕ) → k < next → IsFollowed order (get_or order k d)
 
@@ -48,17 +61,17 @@ module _ (words : Words) where
   search_begun entry order (inl (same, there)) = absurd (omega (arith, (there (omega arith)).1))
   search_begun entry order (inr new) = record {
     begun = subst (λ t. Contains t entry) (sym new) (Contains-push [] entry);
-    reached = λ at h. ⊎_elim (λ w. absurd (omega (arith, w.1))) (λ e. subst (Reaches words entry) e begins)
+    reached = λ at h. ⊎_elim (λ w. absurd (omega (arith, w.1))) (λ e. subst (Reaches words given entry) e begins)
         (Contains-push_cases [] entry at (subst (λ t. Contains t at) new h));
     bound = omega arith;
     followed = λ k d h. absurd (omega arith);
   }
 
   pub search_more : (entry : ℕ) (order new : List ℕ) (next at : ℕ) → IsSearch entry order next → next < length order
-      → at ≡ get_or order next at → Grows HasRoom (LeadsTo words at) order new → IsSearch entry new (next + 1)
+      → at ≡ get_or order next at → Grows HasRoom (LeadsTo words given at) order new → IsSearch entry new (next + 1)
   search_more entry order new next at s lt is g =
       let longer = no_shorter order new g in
-      let here : Reaches words entry at =
+      let here : Reaches words given entry at =
       s.reached at (subst (Contains order) (sym is) (Contains-get_or order next at lt)) in
       let each : (k : ℕ) → k < next + 1 → (d : ℕ) → IsFollowed new (get_or order k d) =
       below_more (λ (j : ℕ). (d : ℕ) → IsFollowed new (get_or order j d)) next
@@ -75,24 +88,24 @@ module _ (words : Words) where
 
   -- what holds all to which it leads holds all that is reached
   pub closed : (entry : ℕ) (order : List ℕ) → Contains order entry
-      → ((at to : ℕ) → Contains order at → LeadsTo words at to → Contains order to) → (at : ℕ) → Reaches words entry at
+      → ((at to : ℕ) → Contains order at → LeadsTo words given at to → Contains order to) → (at : ℕ) → Reaches words given entry at
       → Contains order at
   closed entry order begun next at begins = begun
   closed entry order begun next at (leads_on from to r leads) = next from to (closed entry order begun next from r) leads
 
   pub search_done : (entry : ℕ) (seen : BTreeSet ℕ) (order : List ℕ) (next : ℕ) → IsFound seen order
-      → IsSearch entry order next → length order ≤ next → AreReached words entry order
+      → IsSearch entry order next → length order ≤ next → AreReached words given entry order
   search_done entry seen order next found s all = record {
     few = found.few;
     begun = s.begun;
     reached = s.reached;
     all = λ room. closed entry order s.begun
-        (λ at to h leads. s.followed h.0 at (omega (arith, h.1, all)) room to (subst (λ x. LeadsTo words x to) (sym h.2) leads));
+        (λ at to h leads. s.followed h.0 at (omega (arith, h.1, all)) room to (subst (λ x. LeadsTo words given x to) (sym h.2) leads));
   }
 
   -- the same addresses in another order
   pub reached_keys : (entry : ℕ) (seen : BTreeSet ℕ) (order addresses : List ℕ) → IsFound seen order
-      → AreReached words entry order → addresses ≡ seen.keys → AreReached words entry addresses
+      → AreReached words given entry order → addresses ≡ seen.keys → AreReached words given entry addresses
   reached_keys entry seen order addresses found r is =
       let listed : (a : ℕ) → Contains seen.keys a ↔ Contains order a =
       keys_listed nat_cmp_total exact_unsigned seen order found.members in

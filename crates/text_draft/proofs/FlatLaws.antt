@@ -1,5 +1,5 @@
 -- Texts of one part after another.
-use Rattle.std.proofs.Common.{◌≡◌, ◌+◌, ◌-◌, ◌*◌, ℕ, suc, List, [], ◌∷◌, ◌++◌, length, take, arith, length-append, codes, ap, replicate, subst, sym, Bool, false, ◌==◌, if◌then◌else◌, decimal, Some, ◌∙◌, append_assoc}
+use Rattle.std.proofs.Common.{◌≡◌, ◌+◌, ◌-◌, ◌*◌, ℕ, suc, List, [], ◌∷◌, ◌++◌, length, take, arith, length-append, codes, ap, replicate, subst, sym, Bool, false, ◌==◌, if◌then◌else◌, decimal, Some, None, ◌∙◌, append_assoc}
 use Rattle.std.specs.BTreeMap.{BTreeMap}
 use Rattle.std.specs.Prelude.{Option}
 use Rattle.text_rows.specs.declared.line_labels.SourceLine.{SourceLine}
@@ -62,7 +62,7 @@ destinations_whole lines table branches old a b new some h1 h2 h3 =
     let front = codes "to = [\n" in
     let rows = flat_map (destination_text lines) (words_from table branches) in
     let back = codes "  \"?\",  # what else it may reach, or nothing\n]\n" in
-    let none = codes "to = \"?\"  # a list, or nothing for a return or a leave: draft from each of them too\n" in
+    let none = codes "to = \"?\"  # a list, or nothing for a return or a leave; then draft from this statement\n" in
     three old front rows back h1 h2 h3 ∙ ap (λ (x : Bool). old ++ (if x then none else front ++ (rows ++ back))) (sym some)
 
 -- a number that was counted, part by part
@@ -97,8 +97,8 @@ pub draft_whole : (lines : BTreeMap ℕ SourceLine) (entry : ℕ) (full : Bool) 
     (apart : List ApartStretch) (rules : List FoundRule) (entries : List FoundAccess) (loops : List FoundLoop) (candidates : List ℕ) (targets : List FoundTarget)
     (old p o q r v s t u new : List ℕ) → p ≡ old ++ head_text lines entry → o ≡ p ++ full_text full
     → q ≡ o ++ flat_map (end_text lines) ends → r ≡ q ++ flat_map (cycle_text lines) cycles
-    → v ≡ r ++ apart_text lines apart → s ≡ v ++ accesses_text lines rules entries → t ≡ s ++ flat_map (loop_text lines (leaves_open full targets)) loops
-    → u ≡ t ++ candidates_text lines (any_open targets) candidates → new ≡ u ++ flat_map (target_text lines) targets
+    → v ≡ r ++ apart_text lines apart → s ≡ v ++ accesses_text lines rules entries → t ≡ s ++ flat_map (loop_text lines (leaves_open full None targets)) loops
+    → u ≡ t ++ candidates_text lines (codes "below") (any_open targets) candidates → new ≡ u ++ flat_map (target_text lines) targets
     → new ≡ old ++ draft_text lines entry full ends cycles apart rules entries loops candidates targets
 draft_whole lines entry full ends cycles apart rules entries loops candidates targets old p o q r v s t u new h1 h2 h3 h4 h45 h5 h6 h7 h8 =
     let i = apart_text lines apart in
@@ -107,8 +107,8 @@ draft_whole lines entry full ends cycles apart rules entries loops candidates ta
     let c = flat_map (end_text lines) ends in
     let d = flat_map (cycle_text lines) cycles in
     let e = accesses_text lines rules entries in
-    let f = flat_map (loop_text lines (leaves_open full targets)) loops in
-    let g = candidates_text lines (any_open targets) candidates in
+    let f = flat_map (loop_text lines (leaves_open full None targets)) loops in
+    let g = candidates_text lines (codes "below") (any_open targets) candidates in
     let h = flat_map (target_text lines) targets in
     joined old p new a (b ++ (c ++ (d ++ (i ++ (e ++ (f ++ (g ++ h))))))) h1
     (joined p o new b (c ++ (d ++ (i ++ (e ++ (f ++ (g ++ h)))))) h2

@@ -4,6 +4,7 @@ mod Explored
 mod FlatLaws
 mod Picked
 mod RuleLaws
+mod StatedLaws
 mod TallyLaws
 mod TargetLaws
 mod WayLaws

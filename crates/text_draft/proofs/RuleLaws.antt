@@ -13,8 +13,10 @@ use Rattle.arm2_decode.specs.declared.names.Register.{Register}
 use Rattle.arm2_decode.specs.declared.names.Register.TheVariants.{R0, R1, R2, R3, R4, R5, R6, R7, R8, R9, R10, R11, R12, R13, R14, R15}
 use Rattle.bus_ticks.specs.declared.profile.Class.{Class}
 use Rattle.image.specs.Image.{Words, word_of}
+use Rattle.statement.specs.Stated.{Stated}
 use Rattle.text_draft.specs.Accesses.{IsByPc, base_used}
-use Rattle.text_draft.specs.Rules.{is_same_class, AreRules, IsMostFrequent, IsRule, MayRule, Shows, count, of_both}
+use Rattle.text_draft.specs.Begun.{has_rule}
+use Rattle.text_draft.specs.Rules.{is_same_class, AreRules, IsMostFrequent, IsNewRule, IsRule, MayRule, Shows, count, of_both}
 use Rattle.text_draft.specs.Tallies.{ShowsNth, tally_of, with_rule}
 use Rattle.text_draft.specs.declared.accesses.FoundAccess.{FoundAccess}
 use Rattle.text_draft.specs.declared.rules.FoundRule.{FoundRule}
@@ -196,11 +198,12 @@ module _ (words : Words) (open_left : Bool) (accesses : List FoundAccess) where
         ap Some (ap (λ g. made g class t.count t.first) (sym at) ∙ ap (λ x. made r.register x t.count t.first) k
         ∙ ap (λ x. made r.register r.class x t.first) n ∙ ap (made r.register r.class r.count) f)
 
-  -- ## All registers
+-- ## All registers
 
+module _ (words : Words) (open_left : Bool) (accesses : List FoundAccess) (begun : Option Stated) where
   pub record RulesBelow (n : ℕ) (rules : List FoundRule) : Type 0 where
     pub ascend : AllPairs (λ r q. register_number r.register < register_number q.register) rules
-    pub each : (r : FoundRule) → Contains rules r ↔ (IsRule words open_left accesses r × (register_number r.register < n))
+    pub each : (r : FoundRule) → Contains rules r ↔ (IsNewRule words open_left accesses begun r × (register_number r.register < n))
 
   pub no_rules : (rules : List FoundRule) → rules ≡ [] → RulesBelow 0 rules
   no_rules rules empty = record {
@@ -213,8 +216,8 @@ module _ (words : Words) (open_left : Bool) (accesses : List FoundAccess) where
     parts : (r : FoundRule) → register_number r.register < n + 1 → (register_number r.register < n) ⊎ (r.register ≡ register)
     parts r lt = ⊎_elim (λ low. inl low) (λ (high : n ≤ register_number r.register). inr (one_register r.register register (omega (arith, at, lt, high)))) (cases_lt (register_number r.register) n)
 
-    pub rules_more : (rule : Option FoundRule) (new : List FoundRule) → IfSome rule (λ r. IsRule words open_left accesses r × (r.register ≡ register))
-        → ((r : FoundRule) → IsRule words open_left accesses r → r.register ≡ register → rule ≡ Some r) → new ≡ with_rule old rule → RulesBelow (n + 1) new
+    pub rules_more : (rule : Option FoundRule) (new : List FoundRule) → IfSome rule (λ r. IsNewRule words open_left accesses begun r × (r.register ≡ register))
+        → ((r : FoundRule) → IsNewRule words open_left accesses begun r → r.register ≡ register → rule ≡ Some r) → new ≡ with_rule old rule → RulesBelow (n + 1) new
     rules_more None new some only is = record {
       ascend = subst (AllPairs (λ r q. register_number r.register < register_number q.register)) (sym is) before.ascend;
       each = λ r. (
@@ -233,7 +236,7 @@ module _ (words : Words) (open_left : Bool) (accesses : List FoundAccess) where
       each = λ r. (
         λ h. ⊎_elim
             (λ was0. let was = (before.each r).0 was0 in (was.0, let lt : register_number r.register < n = was.1 in omega (arith, lt)))
-            (λ (same : x ≡ r). (subst (IsRule words open_left accesses) same some.0, let mine : register_number r.register ≡ n = ap (λ (q : FoundRule). register_number q.register) (sym same) ∙ ap register_number some.1 ∙ at in omega (arith, mine)))
+            (λ (same : x ≡ r). (subst (IsNewRule words open_left accesses begun) same some.0, let mine : register_number r.register ≡ n = ap (λ (q : FoundRule). register_number q.register) (sym same) ∙ ap register_number some.1 ∙ at in omega (arith, mine)))
             (Contains-push_cases old x r (subst (λ xs. Contains xs r) is h)),
         λ h. subst (λ xs. Contains xs r) (sym is)
             (⊎_elim
@@ -243,8 +246,15 @@ module _ (words : Words) (open_left : Bool) (accesses : List FoundAccess) where
       );
     }
 
-  pub all_rules : (n : ℕ) (rules : List FoundRule) → 16 ≤ n → RulesBelow n rules → AreRules words open_left accesses rules
+  pub all_rules : (n : ℕ) (rules : List FoundRule) → 16 ≤ n → RulesBelow n rules → AreRules words open_left accesses begun rules
   all_rules n rules le h = record {
     ascend = h.ascend;
     each = λ r. (λ there. ((h.each r).0 there).0, λ is. (h.each r).1 (is, let s = register_small r.register in omega (arith, s, le)));
   }
+
+-- a rule that is found where none is stated
+pub new_some : (words : Words) (open_left : Bool) (accesses : List FoundAccess) (begun : Option Stated) (register : Register) (found : Option FoundRule)
+    → IfSome found (λ r. IsRule words open_left accesses r × (r.register ≡ register)) → has_rule begun register ≡ false
+    → IfSome found (λ r. IsNewRule words open_left accesses begun r × (r.register ≡ register))
+new_some words open_left accesses begun register None h lacks = tt
+new_some words open_left accesses begun register (Some r) h lacks = ((h.0, ap (has_rule begun) h.1 ∙ lacks), h.1)

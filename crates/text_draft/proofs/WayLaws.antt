@@ -1,11 +1,12 @@
 -- Where control goes from a word.
 use Rattle.std.proofs.Common.{◌≡◌, ℕ, ◌+◌, ◌<◌, ◌≤◌, List, [], ◌∷◌, ◌++◌, Some, inl, inr, ⊎_elim, arith, refl, sym, ap, ◌∙◌, subst}
-use Rattle.std.specs.Prelude.{Contains, ◌↔◌, ◌⊎◌}
+use Rattle.std.specs.Prelude.{Contains, Option, ◌↔◌, ◌⊎◌}
 use Rattle.std.proofs.lemmas.List.Elements.{Contains-append_left, Contains-push, Contains-push_cases}
 use Rattle.std.proofs.lemmas.Bool.{cases_lt}
 use Rattle.text_draft.specs.Exploring.{Gains}
 use Rattle.arm2_effect.specs.ProgramCounter.{branch_target}
-use Rattle.text_draft.specs.Reach.{Calls, HasPlaces, IsBranchAt, IsTablePlace, JumpsIntoTable, LeadsAway, Steps, StepsTo}
+use Rattle.statement.specs.Stated.{Stated}
+use Rattle.text_draft.specs.Reach.{Calls, HasPlaces, IsBranchAt, IsTablePlace, JumpsIntoTable, LeadsAway, LeadsByTable, Steps, StepsTo}
 use Rattle.control_flow.specs.Edges.{HasAction}
 use Rattle.control_flow.specs.declared.actions.Action.{Action}
 use Rattle.control_flow.specs.declared.actions.Kind.{Kind}
@@ -23,15 +24,6 @@ pub same_action : (r s : Action) → Some r ≡ Some s → r ≡ s
 same_action r s both = cc
 
 module _ (words : Words) (at : ℕ) where
-  -- what is no call calls nothing
-  pub no_call : (w : Kind) (to : ℕ) → ((offset : ℕ) → w ≡ kind.Call offset → ⊥) → Calls words at w to → ⊥
-  no_call kind.Plain to not h = h
-  no_call (kind.Branch offset) to not h = h
-  no_call (kind.Call offset) to not h = not offset refl
-  no_call kind.Writer to not h = h
-  no_call kind.Trap to not h = h
-  no_call kind.Unallocated to not h = h
-
   -- the first so many places of a table are branches
   pub record AreBranches (n : ℕ) : Type 0 where
     pub each : (m : ℕ) → m < n → IsBranchAt words (branch_target at m)
@@ -63,15 +55,26 @@ module _ (words : Words) (at : ℕ) where
 
   -- the places of the table after a word are all others to which it leads
   pub places_lead : (count n : ℕ) → HasPlaces words at count → count ≤ n → n ≤ count → (to : ℕ)
-      → IsPlaceBelow at n to ↔ LeadsAway words at kind.Writer to
+      → IsPlaceBelow at n to ↔ LeadsByTable words at to
   places_lead count n has all few to = (
     (λ h. (h.0, (has h.0).0 (omega (arith, h.1, few)), h.2)),
     (λ h. let place = (has h.0).1 h.1 in (h.0, omega (arith, place, all), h.2)),
   )
 
+-- what is no call and no other writer of R15 calls nothing
+pub calls_nothing : (begun : Option Stated) (at : ℕ) (w : Kind) (to : ℕ) → ((offset : ℕ) → w ≡ kind.Call offset → ⊥)
+    → (w ≡ kind.Writer → ⊥) → Calls begun at w to → ⊥
+calls_nothing begun at kind.Plain to call writer h = h
+calls_nothing begun at (kind.Branch offset) to call writer h = h
+calls_nothing begun at (kind.Call offset) to call writer h = call offset refl
+calls_nothing begun at kind.Writer to call writer h = writer refl
+calls_nothing begun at kind.Trap to call writer h = h
+calls_nothing begun at kind.Unallocated to call writer h = h
+
+module _ (words : Words) (begun : Option Stated) (at : ℕ) where
   -- a word that is no branch and no other writer of R15 leads nowhere else inside its routine
   pub leads_nowhere : (w : Kind) (to : ℕ) → ((offset : ℕ) → w ≡ kind.Branch offset → ⊥) → (w ≡ kind.Writer → ⊥)
-      → LeadsAway words at w to → ⊥
+      → LeadsAway words begun at w to → ⊥
   leads_nowhere kind.Plain to branch writer h = h
   leads_nowhere (kind.Branch offset) to branch writer h = branch offset refl
   leads_nowhere (kind.Call offset) to branch writer h = h
@@ -81,10 +84,10 @@ module _ (words : Words) (at : ℕ) where
 
   -- the one action of an address shows all steps from there
   pub steps_are : (r : Action) → HasAction words at r → ((s : Action) → HasAction words at s → r ≡ s) → (to : ℕ)
-      → Steps words at r to ↔ StepsTo words at to
+      → Steps words begun at r to ↔ StepsTo words begun at to
   steps_are r has only to = (
     (λ h. (r, has, h)),
-    (λ h. subst (λ s. Steps words at s to) (sym (only h.0 h.1)) h.2),
+    (λ h. subst (λ s. Steps words begun at s to) (sym (only h.0 h.1)) h.2),
   )
 
 -- ## Lists that gain addresses

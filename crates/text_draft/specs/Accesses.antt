@@ -1,5 +1,5 @@
 -- The loads and stores, and what their classes rest on.
-use Rattle.std.specs.Prelude.{◌≡◌, ◌⊎◌, ℕ, Bool, true, if◌then◌else◌, List, All, Option, Some, None, map}
+use Rattle.std.specs.Prelude.{◌≡◌, ◌⊎◌, ℕ, Bool, true, false, if◌then◌else◌, List, All, Option, Some, None, map}
 use Rattle.arm2_decode.specs.Names.{is_never, is_pc}
 use Rattle.arm2_decode.specs.Writers.{is_transfer}
 use Rattle.arm2_decode.specs.declared.instr.Instr.{Instr}
@@ -12,6 +12,8 @@ use Rattle.bus_ticks.specs.Prices.{ahead_of, narrowest_class}
 use Rattle.bus_ticks.specs.declared.profile.Class.{Class}
 use Rattle.bus_ticks.specs.declared.profile.Class.TheVariants.{Any}
 use Rattle.control_flow.specs.Kinds.{base_of}
+use Rattle.statement.specs.Stated.{Stated}
+use Rattle.text_draft.specs.Begun.{has_class}
 use Rattle.text_draft.specs.Picks.{Picks}
 use Rattle.text_draft.specs.declared.accesses.FoundAccess.{FoundAccess}
 use Rattle.image.specs.Image.{Words}
@@ -51,3 +53,7 @@ module _ (words : Words) where
     pub at : Picks (MayDo is_transfer words) addresses (places_of accesses)
     pub bases : All (λ e. HasBase e.at e.base) accesses
     pub rest : open_left ≡ true → All (λ e. RestsOnWord e.at e.class) accesses
+
+-- those to which nothing that is stated gives a class, in their order
+abbrev pub AreUnclassed : Option Stated → List FoundAccess → List FoundAccess → Type 0
+AreUnclassed begun = Picks (λ e. has_class begun e ≡ false)

@@ -155,7 +155,7 @@ module _ (lines : BTreeMap ℕ SourceLine) where
   abbrev pub destinations_text : ℕ → ℕ → List ℕ
   destinations_text table branches =
       if branches == 0 then
-      codes "to = \"?\"  # a list, or nothing for a return or a leave: draft from each of them too\n"
+      codes "to = \"?\"  # a list, or nothing for a return or a leave; then draft from this statement\n"
       else codes "to = [\n"
       ++ (flat_map destination_text (words_from table branches)
       ++ codes "  \"?\",  # what else it may reach, or nothing\n]\n")
@@ -186,15 +186,16 @@ module _ (lines : BTreeMap ℕ SourceLine) where
   abbrev pub candidate_text : ℕ → List ℕ
   candidate_text at = element_text (codes "#   ") at []
 
-  abbrev pub candidate_list_text : List ℕ → List ℕ
-  candidate_list_text candidates =
-      codes "\n# The words name these addresses of the source, to which a \"?\" below may lead:\n"
-      ++ flat_map candidate_text candidates
+  abbrev pub candidate_list_text : (side : List ℕ) → List ℕ → List ℕ
+  candidate_list_text side candidates =
+      codes "\n# The words name these addresses of the source, to which a \"?\" "
+      ++ (side ++ (codes " may lead:\n" ++ flat_map candidate_text candidates))
 
-  -- where words may lead of which it is left open
-  abbrev pub candidates_text : (open_left : Bool) → List ℕ → List ℕ
-  candidates_text true candidates = if length candidates == 0 then [] else candidate_list_text candidates
-  candidates_text false candidates = []
+  -- where words may lead of which it is left open, to that side of the text
+  abbrev pub candidates_text : (side : List ℕ) → (open_left : Bool) → List ℕ → List ℕ
+  candidates_text side true candidates =
+      if length candidates == 0 then [] else candidate_list_text side candidates
+  candidates_text side false candidates = []
 
   -- the whole text
   abbrev pub draft_text : ℕ → (full : Bool) → (ends : List (ℕ × End)) → (cycles : List ℕ)
@@ -203,5 +204,6 @@ module _ (lines : BTreeMap ℕ SourceLine) where
   draft_text entry full ends cycles apart rules entries loops candidates targets =
       head_text entry ++ (full_text full ++ (flat_map end_text ends ++ (flat_map cycle_text cycles
       ++ (apart_text apart ++ (accesses_text rules entries
-      ++ (flat_map (loop_text (leaves_open full targets)) loops
-      ++ (candidates_text (any_open targets) candidates ++ flat_map target_text targets)))))))
+      ++ (flat_map (loop_text (leaves_open full None targets)) loops
+      ++ (candidates_text (codes "below") (any_open targets) candidates
+      ++ flat_map target_text targets)))))))

@@ -1,10 +1,16 @@
 pub mod Accesses
+pub mod Begun
 pub mod Candidates
+pub mod Closed
 pub mod Draft
+pub mod DraftOn
+pub mod DraftOnText
 pub mod DraftText
 pub mod Ends
 pub mod Exploring
+pub mod Forms
 pub mod Found
+pub mod Lacking
 pub mod Picks
 pub mod Reach
 pub mod Rows

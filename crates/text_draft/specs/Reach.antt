@@ -1,6 +1,7 @@
 -- Where control goes from the words of a handler, as far as they show it (VL86C010 data sheet, but for the
--- choice of shapes).
-use Rattle.std.specs.Prelude.{◌≡◌, ◌⊎◌, ◌↔◌, ℕ, ◌-◌, ◌<◌, ◌≤◌, true, false, List, length, Contains}
+-- choice of shapes), or as is stated.
+use Rattle.std.specs.Prelude.{◌≡◌, ◌≢◌, ◌⊎◌, ◌↔◌, ℕ, ◌-◌, ◌<◌, ◌≤◌, true, false, List, length, Contains}
+use Rattle.std.specs.Prelude.{Option, Some}
 use Rattle.arm2_decode.specs.Names.{is_always, is_never}
 use Rattle.arm2_effect.specs.ProgramCounter.{branch_target}
 use Rattle.bus_ticks.specs.declared.space.TheConstants.{SPACE_END}
@@ -11,7 +12,11 @@ use Rattle.control_flow.specs.declared.actions.Kind.{Kind}
 use Rattle.control_flow.specs.declared.actions.Kind.TheVariants as kind
 use Rattle.control_flow.specs.declared.search.TheConstants.{MOST_PLACES}
 use Rattle.image.specs.Image.{Words}
+use Rattle.statement.specs.Stated.{Stated, Target}
 use Rattle.statement.specs.declared.entries.TheConstants.{MOST_DESTINATIONS}
+use Rattle.statement.specs.declared.stated.TargetKind.{TargetKind}
+use Rattle.statement.specs.declared.stated.TargetKind.TheVariants as target_kind
+use Rattle.text_draft.specs.Begun.{is_unsettled, target_in}
 use Rattle.word_shapes.specs.Shapes.{is_table_jump, keeps_return_address}
 use Rattle.word_shapes.specs.Words.{HasShape, MayDo}
 
@@ -55,28 +60,55 @@ module _ (words : Words) where
   abbrev pub HasPlaces : ℕ → ℕ → Type 0
   HasPlaces at count = (n : ℕ) → (n < count) ↔ IsTablePlace at n
 
+  -- the word jumps into a table of branches, of which this is one
+  abbrev pub LeadsByTable : ℕ → ℕ → Type 0
+  LeadsByTable at to = (n : ℕ) × IsTablePlace at n × (to ≡ branch_target at n)
+
+-- ## What is stated so far
+
+module _ (given : Option Stated) where
+  -- where the words show that the word at an address leads counts: no target is stated for it, or an open one
+  abbrev pub IsUnsettled : ℕ → Type 0
+  IsUnsettled at = is_unsettled (target_in given at) ≡ true
+
+  -- a target of that kind is stated for the word, and the other address is one of its destinations; 0 is none
+  pub record IsStatedTo (kind : TargetKind) (at to : ℕ) : Type 0 where
+    pub target : Target
+    pub stated : target_in given at ≡ Some target
+    pub kind_is : target.kind ≡ kind
+    pub goes : Contains target.to to
+    pub known : to ≢ 0
+
+  -- the word is stated to call
+  abbrev pub IsStatedCall : ℕ → Type 0
+  IsStatedCall at = (t : Target) × (target_in given at ≡ Some t) × (t.kind ≡ target_kind.Call)
+
+  -- the routine that a word calls that is carried out
+  abbrev pub Calls : ℕ → Kind → ℕ → Type 0
+  Calls at (kind.Call offset) to = to ≡ branch_target at offset
+  Calls at kind.Writer to = IsStatedTo target_kind.Call at to
+  Calls at _ to = ⊥
+
+module _ (words : Words) (given : Option Stated) where
   -- control reaches the next word past one that is carried out: at once; or back from where that one leads,
-  -- as it does from any writer of R15 that has the return address in R14, whatever it looks like
+  -- as it does from a stated call, and from any other writer of R15 that has the return address in R14,
+  -- whatever it looks like, and of which it is left open where it leads
   abbrev pub ComesPast : ℕ → Kind → Type 0
   ComesPast at kind.Plain = Unit {0}
   ComesPast at (kind.Call offset) = Unit {0}
-  ComesPast at kind.Writer = HasReturnAddress at
+  ComesPast at kind.Writer = IsStatedCall given at ⊎ (IsUnsettled given at × HasReturnAddress words at)
   ComesPast at _ = ⊥
 
   -- it comes past that, or the word may be passed over
   abbrev pub GoesOn : ℕ → Action → Type 0
   GoesOn at a = (is_always a.cond ≡ false) ⊎ ComesPast at a.kind
 
-  -- where else inside its routine a word leads that is carried out
+  -- where else inside its routine a word leads that is carried out: a branch and a stated jump; and through
+  -- its table a word of which it is left open
   abbrev pub LeadsAway : ℕ → Kind → ℕ → Type 0
   LeadsAway at (kind.Branch offset) to = to ≡ branch_target at offset
-  LeadsAway at kind.Writer to = (n : ℕ) × IsTablePlace at n × (to ≡ branch_target at n)
+  LeadsAway at kind.Writer to = IsStatedTo given target_kind.Jump at to ⊎ (IsUnsettled given at × LeadsByTable words at to)
   LeadsAway at _ to = ⊥
-
-  -- the routine that it calls
-  abbrev pub Calls : ℕ → Kind → ℕ → Type 0
-  Calls at (kind.Call offset) to = to ≡ branch_target at offset
-  Calls at _ to = ⊥
 
   -- a step inside a routine
   abbrev pub Steps : ℕ → Action → ℕ → Type 0
@@ -86,7 +118,7 @@ module _ (words : Words) where
   StepsTo at to = (a : Action) × HasAction words at a × Steps at a to
 
   abbrev pub CallsTo : ℕ → ℕ → Type 0
-  CallsTo at to = (a : Action) × HasAction words at a × (is_never a.cond ≡ false) × Calls at a.kind to
+  CallsTo at to = (a : Action) × HasAction words at a × (is_never a.cond ≡ false) × Calls given at a.kind to
 
   -- a word is there, and by it control may go to the other address
   abbrev pub LeadsTo : ℕ → ℕ → Type 0

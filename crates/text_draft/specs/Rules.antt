@@ -1,7 +1,7 @@
 -- The rules for base registers, each in place of the entries of loads and stores that have one base and one
 -- class.
 use Rattle.std.specs.Prelude.{◌≡◌, ◌⊎◌, ◌↔◌, ◌&&◌, ◌==◌, ◌<◌, ◌≤◌, ℕ, Bool, true, false, List, length, filter}
-use Rattle.std.specs.Prelude.{AllPairs, Contains, Some}
+use Rattle.std.specs.Prelude.{AllPairs, Contains, Option, Some}
 use Rattle.std.specs.List.{list_any, slice_get}
 use Rattle.arm2_decode.specs.Names.{is_pc, is_same, register_number}
 use Rattle.arm2_decode.specs.declared.instr.Instr.{Instr}
@@ -10,7 +10,9 @@ use Rattle.bus_ticks.specs.declared.profile.Class.{Class}
 use Rattle.bus_ticks.specs.declared.profile.Class.TheVariants.{Ram, Rom, Io, Any, Slow, Medium, Fast}
 use Rattle.bus_ticks.specs.declared.profile.Class.TheVariants.{Synchronous}
 use Rattle.image.specs.Image.{Words}
+use Rattle.statement.specs.Stated.{Stated}
 use Rattle.text_draft.specs.Accesses.{IsByPc, base_used}
+use Rattle.text_draft.specs.Begun.{has_rule}
 use Rattle.text_draft.specs.Picks.{Picks}
 use Rattle.text_draft.specs.declared.accesses.FoundAccess.{FoundAccess}
 use Rattle.text_draft.specs.declared.rules.FoundRule.{FoundRule}
@@ -78,10 +80,14 @@ module _ (words : Words) (open_left : Bool) (accesses : List FoundAccess) where
     pub first_is : slice_get (of_both accesses r.register r.class) 0 ≡ Some first
     pub at_first : r.first ≡ first.at
 
-  -- exactly the rules, by ascending registers
-  pub record AreRules (rules : List FoundRule) : Type 0 where
+  -- and none is stated for its register
+  abbrev pub IsNewRule : Option Stated → FoundRule → Type 0
+  IsNewRule begun r = IsRule r × (has_rule begun r.register ≡ false)
+
+  -- exactly the rules for registers that have none, by ascending registers
+  pub record AreRules (begun : Option Stated) (rules : List FoundRule) : Type 0 where
     pub ascend : AllPairs (λ r q. register_number r.register < register_number q.register) rules
-    pub each : (r : FoundRule) → Contains rules r ↔ IsRule r
+    pub each : (r : FoundRule) → Contains rules r ↔ IsNewRule begun r
 
 -- ## What is left
 

@@ -1,7 +1,9 @@
 -- The words of which is to be stated where they lead.
-use Rattle.std.specs.Prelude.{◌≡◌, ◌⊎◌, ◌||◌, ℕ, Bool, false, true, not, List, All, Contains}
+use Rattle.std.specs.Prelude.{◌≡◌, ◌⊎◌, ◌||◌, ℕ, Bool, false, true, not, List, All, Contains, Option}
 use Rattle.std.specs.List.{list_any}
 use Rattle.arm2_decode.specs.Names.{is_never}
+use Rattle.statement.specs.Stated.{Stated}
+use Rattle.text_draft.specs.Begun.{any_stated_open, has_target}
 use Rattle.text_draft.specs.Found.{addresses_of}
 use Rattle.text_draft.specs.Picks.{Picks}
 use Rattle.text_draft.specs.Reach.{HasPlaces, HasReturnAddress, next_of}
@@ -28,9 +30,17 @@ is_open t = not (is_return t.way)
 abbrev pub any_open : List FoundTarget → Bool
 any_open targets = list_any is_open targets
 
--- something may be left out of what was looked at, or it is left open where a word leads
-abbrev pub leaves_open : (full : Bool) → List FoundTarget → Bool
-leaves_open full targets = full || any_open targets
+-- it is left open where a word leads, by what is stated or among these
+abbrev pub any_left : Option Stated → List FoundTarget → Bool
+any_left begun targets = any_stated_open begun || any_open targets
+
+-- that is so, or something may be left out of what was looked at
+abbrev pub leaves_open : (full : Bool) → Option Stated → List FoundTarget → Bool
+leaves_open full begun targets = full || any_left begun targets
+
+-- those for which no target is stated, in their order
+abbrev pub ArePending : Option Stated → List FoundTarget → List FoundTarget → Type 0
+ArePending begun = Picks (λ t. has_target begun t ≡ false)
 
 -- ## What the words show
 

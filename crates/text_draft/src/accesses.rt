@@ -1,6 +1,7 @@
-ghost use Rattle.std.specs.Prelude.{◌≡◌, ◌⊎◌, true, All, IfOk, IfSome, OnOk, Some};
-ghost use Rattle.text_draft.specs.Accesses.{AreAccesses, HasBase, IsByPc, RestsOn, RestsOnWord, base_used};
-ghost use Rattle.text_draft.specs.Accesses.{places_of};
+ghost use Rattle.std.specs.Prelude.{◌≡◌, ◌⊎◌, true, false, All, IfOk, IfSome, OnOk, Some};
+ghost use Rattle.text_draft.specs.Accesses.{AreAccesses, AreUnclassed, HasBase, IsByPc, RestsOn};
+ghost use Rattle.text_draft.specs.Accesses.{RestsOnWord, base_used, places_of};
+ghost use Rattle.text_draft.specs.Begun.{has_class};
 ghost use Rattle.text_draft.specs.Picks.{Keeps};
 ghost use Rattle.arm2_decode.specs.Writers.{is_transfer};
 ghost use Rattle.arm2_transfer.specs.Registers.{address_by};
@@ -8,7 +9,8 @@ ghost use Rattle.bus_ticks.specs.Prices.{ahead_of, narrowest_class};
 ghost use Rattle.bus_ticks.specs.declared.profile.Class.{Class};
 ghost use Rattle.word_shapes.specs.Words.{MayDo};
 
-use crate::constants::Constants;
+use crate::begun::Begun;
+use crate::constants::{Constants, Literals};
 use crate::reach::Reached;
 use crate::ways::before;
 use arm2_decode::{Block, Instr, Operation, Register, SingleImmediate};
@@ -176,10 +178,10 @@ fn keep_access(
 }
 
 // What is known where control goes on from an address to the next.
-fn passed(image: &Image, known: Constants, at: u32) -> Constants {
+fn passed(image: &Image, literals: &Literals<'_>, known: Constants, at: u32) -> Constants {
     let mut known = known;
     if let Some(instr) = instr_at(image, at) {
-        known.pass(image, at, &instr);
+        known.pass(literals, at, &instr);
     }
     known
 }
@@ -198,12 +200,44 @@ pub(crate) fn find_accesses(
 {
     let mut found = Vec::new(alloc);
     let mut known = Constants::none();
+    let literals = Literals::of(alloc, image, addresses)?;
     for at in addresses {
         if !reach.follows_alone(*at, before(*at)) {
             known = Constants::none();
         }
         keep_access(&mut found, image, &known, *at, by_word)?;
-        known = passed(image, known, *at);
+        known = passed(image, &literals, known, *at);
     }
     Ok(found)
+}
+
+// Takes a load or store for which no class is stated.
+fn keep_unclassed(
+    unclassed: &mut Vec<FoundAccess>,
+    begun: &Begun<'_>,
+    found: &FoundAccess,
+) -> Result<(), AllocError>
+    ensures { OnOk result
+        (Keeps (λ e. has_class begun.now e ≡ false) found.now unclassed.old.items unclassed.new.items) }
+{
+    if begun.has_class(found) {
+        return Ok(());
+    }
+    unclassed.push(*found)?;
+    Ok(())
+}
+
+/// Those of the loads and stores for which no class is stated, in their order.
+pub(crate) fn unclassed_of(
+    alloc: Global,
+    begun: &Begun<'_>,
+    transfers: &[FoundAccess],
+) -> Result<Vec<FoundAccess>, AllocError>
+    ensures { IfOk result (λ unclassed. AreUnclassed begun.now transfers.now unclassed.items) }
+{
+    let mut unclassed = Vec::new(alloc);
+    for found in transfers {
+        keep_unclassed(&mut unclassed, begun, found)?;
+    }
+    Ok(unclassed)
 }

@@ -6,11 +6,12 @@ ghost use Rattle.text_draft.specs.Draft.{AreFound, IsDraft, is_full};
 ghost use Rattle.text_draft.specs.DraftText.{draft_text};
 ghost use Rattle.text_draft.specs.Reach.{AreReached};
 
-use crate::accesses::{FoundAccess, find_accesses};
+use crate::accesses::{FoundAccess, find_accesses, unclassed_of};
+use crate::begun::Begun;
 use crate::candidates::find_candidates;
 use crate::ends::{End, find_ends};
 use crate::loops::{Loops, find_loops};
-use crate::pc_writers::{FoundTarget, any_open, find_targets, leaves_open};
+use crate::pc_writers::{FoundTarget, any_open, find_targets, leaves_open, pending_targets};
 use crate::reach::{MOST_ADDRESSES, Reached, reach};
 use crate::rules::{FoundRule, find_entries, find_rules};
 use crate::statement_text::{Sheet, put_full};
@@ -45,25 +46,28 @@ fn is_full(addresses: &[u32]) -> bool
 fn find_at(
     alloc: Global,
     image: &Image,
+    begun: &Begun<'_>,
     entry: u32,
     reach: &Reached,
 ) -> Result<DraftParts, AllocError>
     requires ascend { IsStrictlySortedBy nat_cmp reach.now.addresses.items }
-    requires reached { AreReached image.now entry reach.now.addresses.items }
+    requires reached { AreReached image.now begun.now entry reach.now.addresses.items }
     ensures { IfOk result
-        (λ found. AreFound image.now entry found.full found.ends.items found.rules.items found.entries.items
-        found.candidates.items found.targets.items) }
+        (λ found. AreFound image.now begun.now entry found.full found.ends.items found.rules.items
+        found.entries.items found.loops.loops.items found.candidates.items found.targets.items) }
 {
     let addresses = reach.addresses.as_slice();
     let full = is_full(addresses);
     let ends = find_ends(alloc, image, addresses)?;
-    let targets = find_targets(alloc, image, addresses)?;
-    let open_left = leaves_open(full, &targets);
-    let accesses = find_accesses(alloc, image, reach, addresses, open_left)?;
-    let rules = find_rules(alloc, image, open_left, &accesses)?;
+    let writers = find_targets(alloc, image, addresses)?;
+    let targets = pending_targets(alloc, begun, &writers)?;
+    let open_left = leaves_open(full, begun, &targets);
+    let transfers = find_accesses(alloc, image, reach, addresses, open_left)?;
+    let accesses = unclassed_of(alloc, begun, &transfers)?;
+    let rules = find_rules(alloc, image, open_left, begun, &accesses)?;
     let entries = find_entries(alloc, &rules, &accesses)?;
     let candidates = find_candidates(alloc, image, addresses)?;
-    let loops = find_loops(alloc, image, reach, entry)?;
+    let loops = find_loops(alloc, image, begun, reach, entry)?;
     Ok(DraftParts {
         full,
         ends,
@@ -75,13 +79,19 @@ fn find_at(
     })
 }
 
-fn find(alloc: Global, image: &Image, entry: u32) -> Result<DraftParts, AllocError>
+/// What the words show of what is to be stated of the handler that begins at an entry, and is not stated.
+pub(crate) fn find(
+    alloc: Global,
+    image: &Image,
+    begun: &Begun<'_>,
+    entry: u32,
+) -> Result<DraftParts, AllocError>
     ensures { IfOk result
-        (λ found. AreFound image.now entry found.full found.ends.items found.rules.items found.entries.items
-        found.candidates.items found.targets.items) }
+        (λ found. AreFound image.now begun.now entry found.full found.ends.items found.rules.items
+        found.entries.items found.loops.loops.items found.candidates.items found.targets.items) }
 {
-    let reach = reach(alloc, image, entry)?;
-    find_at(alloc, image, entry, &reach)
+    let reach = reach(alloc, image, begun, entry)?;
+    find_at(alloc, image, begun, entry, &reach)
 }
 
 fn put_found(
@@ -104,9 +114,9 @@ fn put_found(
     sheet.put_cycles(out, &found.loops.cycles)?;
     sheet.put_apart(out, &found.loops.apart)?;
     sheet.put_accesses(out, &found.rules, &found.entries)?;
-    let open_left = leaves_open(found.full, &found.targets);
+    let open_left = leaves_open(found.full, &Begun::nothing(), &found.targets);
     sheet.put_loops(out, open_left, &found.loops.loops)?;
-    sheet.put_candidates(out, any_open(&found.targets), &found.candidates)?;
+    sheet.put_candidates(out, b"below", any_open(&found.targets), &found.candidates)?;
     sheet.put_targets(out, &found.targets)
 }
 
@@ -138,7 +148,7 @@ fn draft_by_lines(
     requires { AreLines source.now lines.now }
     ensures { IfOk result (λ text. IsDraft source.now entry text.items) }
 {
-    let found = find(alloc, &source.image, entry)?;
+    let found = find(alloc, &source.image, &Begun::nothing(), entry)?;
     draft_text(alloc, lines, entry, &found)
 }
 

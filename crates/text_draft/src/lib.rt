@@ -2,12 +2,16 @@
 #![tactic(auto)]
 
 mod accesses;
+mod additions;
+mod begun;
 mod candidates;
+mod closing;
 mod constants;
 mod counted;
 mod draft_rows;
 mod drafts;
 mod ends;
+mod forms;
 mod found_loop;
 mod loop_members;
 mod loops;
@@ -20,4 +24,6 @@ mod tallies;
 mod ways;
 mod word_actions;
 
+pub use additions::draft_on;
+pub use closing::closed;
 pub use drafts::draft;

@@ -1,3 +1,4 @@
+use crate::begun::Begun;
 use crate::found_loop::FoundLoop;
 use crate::paths::Descent;
 use crate::reach::{MOST_ADDRESSES, Reached};
@@ -138,16 +139,17 @@ pub(crate) fn add_strangers(
     Ok(())
 }
 
-/// The stretches of some of the addresses, each as long as no other address lies between.
+/// The stretches of some of the addresses that are not stated, each as long as no other address lies between.
 pub(crate) fn stretches_of(
     alloc: Global,
+    begun: &Begun<'_>,
     addresses: &[u32],
     apart: &BTreeSet<u32>,
 ) -> Result<Vec<ApartStretch>, AllocError> {
     let mut stretches = Vec::new(alloc);
     let mut open: Option<ApartStretch> = None;
     for at in addresses {
-        if apart.contains(at) {
+        if apart.contains(at) && !begun.is_apart(*at) {
             let first = open.map_or(*at, |stretch| stretch.first);
             open = Some(ApartStretch { first, last: *at });
         } else if let Some(stretch) = open {

@@ -1,3 +1,7 @@
+ghost use Rattle.std.specs.Prelude.{◌≡◌, false, All, IfOk, OnOk};
+ghost use Rattle.text_draft.specs.Begun.{has_loop};
+
+use crate::begun::Begun;
 use crate::counted::turns_back;
 use crate::found_loop::FoundLoop;
 use crate::loop_members::{add_strangers, is_entered_in_middle, natural_loop, stretches_of};
@@ -25,7 +29,6 @@ struct LoopSearch<'a> {
     // All members of loops, and the words that are set apart from loops.
     members: BTreeSet<u32>,
     apart: BTreeSet<u32>,
-    loops: Vec<FoundLoop>,
     cycles: Vec<u32>,
 }
 
@@ -60,10 +63,19 @@ fn nest(loops: &mut [FoundLoop]) {
 }
 
 impl LoopSearch<'_> {
+    // Adds the cycle that turns back to a header, unless a loop is stated for it.
+    fn add_cycle(&mut self, begun: &Begun<'_>, header: u32) -> Result<(), AllocError> {
+        if !begun.has_header(header) {
+            self.cycles.push(header)?;
+        }
+        Ok(())
+    }
+
     // Adds the loop of a header to others, as far as its members show, or its cycle.
     fn add_natural(
         &mut self,
         alloc: Global,
+        begun: &Begun<'_>,
         natural: &mut Vec<FoundLoop>,
         backs: &[(u32, u32)],
     ) -> Result<(), AllocError> {
@@ -71,25 +83,33 @@ impl LoopSearch<'_> {
             return Ok(());
         };
         if natural.len() >= MOST_LOOPS {
-            self.cycles.push(*header)?;
-            return Ok(());
+            return self.add_cycle(begun, *header);
         }
         match natural_loop(alloc, self.reach, *header, backs, &mut self.members)? {
             Some(found) => natural.push(found)?,
-            None => self.cycles.push(*header)?,
+            None => self.add_cycle(begun, *header)?,
         }
         Ok(())
     }
 
     // The loops, as far as their members show. Adds the other cycles.
-    fn natural_loops(&mut self, alloc: Global) -> Result<Vec<FoundLoop>, AllocError> {
+    fn natural_loops(
+        &mut self,
+        alloc: Global,
+        begun: &Begun<'_>,
+    ) -> Result<Vec<FoundLoop>, AllocError> {
         let descent = self.descent;
         let mut natural = Vec::new(alloc);
         let mut done = None;
         for (header, _) in &descent.backs {
             if done != Some(*header) {
                 done = Some(*header);
-                self.add_natural(alloc, &mut natural, pairs_at(&descent.backs, *header))?;
+                self.add_natural(
+                    alloc,
+                    begun,
+                    &mut natural,
+                    pairs_at(&descent.backs, *header),
+                )?;
             }
         }
         natural.sort_by_key(order_of)?;
@@ -117,51 +137,89 @@ impl LoopSearch<'_> {
         Ok(!self.is_mid(found))
     }
 
-    // Adds a loop, or its cycle where a way leads into its middle.
-    fn add(&mut self, image: &Image, found: &FoundLoop) -> Result<(), AllocError> {
-        if !self.clear(found)? {
-            self.cycles.push(found.header)?;
+    // Adds a loop to others unless it is stated, or its cycle where a way leads into its middle.
+    fn add(
+        &mut self,
+        loops: &mut Vec<FoundLoop>,
+        image: &Image,
+        begun: &Begun<'_>,
+        found: &FoundLoop,
+    ) -> Result<(), AllocError>
+        ensures { OnOk result
+            (All (λ l. has_loop begun.now l ≡ false) loops.old.items
+            → All (λ l. has_loop begun.now l ≡ false) loops.new.items) }
+    {
+        if begun.has_header(found.header) {
             return Ok(());
+        }
+        if !self.clear(found)? {
+            return self.add_cycle(begun, found.header);
         }
         let backs = pairs_at(&self.descent.backs, found.header);
         let mut counted = *found;
         counted.turns = turns_back(image, self.reach, found, backs);
-        self.loops.push(counted)?;
+        loops.push(counted)?;
         Ok(())
     }
 
-    // Adds the loops and the other cycles among what is reached.
-    fn add_all(&mut self, alloc: Global, image: &Image) -> Result<(), AllocError> {
-        let mut natural = self.natural_loops(alloc)?;
+    // The loops that are not stated among what is reached. Adds the other cycles.
+    fn all_loops(
+        &mut self,
+        alloc: Global,
+        image: &Image,
+        begun: &Begun<'_>,
+    ) -> Result<Vec<FoundLoop>, AllocError>
+        ensures { IfOk result (λ loops. All (λ l. has_loop begun.now l ≡ false) loops.items) }
+    {
+        let mut natural = self.natural_loops(alloc, begun)?;
         nest(&mut natural);
+        let mut loops = Vec::new(alloc);
         for found in &natural {
-            self.add(image, found)?;
+            self.add(&mut loops, image, begun, found)?;
         }
-        self.cycles.sort()
+        self.cycles.sort()?;
+        Ok(loops)
     }
 }
 
-/// The loops among what is reached. Where a way leads among a loop's addresses, the words there that belong
-/// to no loop are set apart.
+// Those of the addresses that are stated to be apart from loops.
+fn stated_apart(
+    alloc: Global,
+    begun: &Begun<'_>,
+    addresses: &[u32],
+) -> Result<BTreeSet<u32>, AllocError> {
+    let mut apart = BTreeSet::new(alloc);
+    for at in addresses {
+        if begun.is_apart(*at) {
+            apart.insert(*at)?;
+        }
+    }
+    Ok(apart)
+}
+
+/// The loops among what is reached whose headers no stated loop has. Where a way leads among the addresses of
+/// one, the words there that belong to no loop are set apart.
 pub(crate) fn find_loops(
     alloc: Global,
     image: &Image,
+    begun: &Begun<'_>,
     reach: &Reached,
     entry: u32,
-) -> Result<Loops, AllocError> {
+) -> Result<Loops, AllocError>
+    ensures { IfOk result (λ found. All (λ l. has_loop begun.now l ≡ false) found.loops.items) }
+{
     let descent = descend(alloc, reach, entry)?;
     let mut search = LoopSearch {
         reach,
         descent: &descent,
         members: BTreeSet::new(alloc),
-        apart: BTreeSet::new(alloc),
-        loops: Vec::new(alloc),
+        apart: stated_apart(alloc, begun, &reach.addresses)?,
         cycles: Vec::new(alloc),
     };
-    search.add_all(alloc, image)?;
-    let apart = stretches_of(alloc, &reach.addresses, &search.apart)?;
+    let loops = search.all_loops(alloc, image, begun)?;
+    let apart = stretches_of(alloc, begun, &reach.addresses, &search.apart)?;
     Ok(Loops {
-        loops: search.loops,
+        loops,
         apart,
         cycles: search.cycles,
     })

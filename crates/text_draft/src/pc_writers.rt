@@ -1,9 +1,12 @@
-ghost use Rattle.std.specs.Prelude.{◌≡◌, ◌↔◌, ℕ, List, true, All, IfOk, IsTrue, OnOk};
+ghost use Rattle.std.specs.Prelude.{◌≡◌, ◌↔◌, ℕ, List, true, false, All, IfOk, IsTrue, OnOk};
+ghost use Rattle.text_draft.specs.Begun.{has_target};
 ghost use Rattle.text_draft.specs.Found.{addresses_of};
 ghost use Rattle.text_draft.specs.Picks.{Keeps};
-ghost use Rattle.text_draft.specs.Targets.{AnySetsLink, AreTargets, IsTarget, IsWay, LeadsOddly, Returns};
-ghost use Rattle.text_draft.specs.Targets.{SetsLink, WritesPc, any_open, is_open, leaves_open};
+ghost use Rattle.text_draft.specs.Targets.{AnySetsLink, ArePending, AreTargets, IsTarget, IsWay};
+ghost use Rattle.text_draft.specs.Targets.{LeadsOddly, Returns, SetsLink, WritesPc, any_left, any_open};
+ghost use Rattle.text_draft.specs.Targets.{is_open, leaves_open};
 
+use crate::begun::Begun;
 use crate::ways::{has_return_address, table_len};
 use crate::word_actions::action_at;
 use bus_ticks::ahead_of;
@@ -154,9 +157,47 @@ pub(crate) fn any_open(targets: &[FoundTarget]) -> bool
     targets.iter().any(|target| target.is_open())
 }
 
-/// Whether that is so, or more may be reached than was looked at.
-pub(crate) fn leaves_open(full: bool, targets: &[FoundTarget]) -> bool
-    ensures { result ≡ leaves_open full targets.now }
+/// Whether that is so, or of a stated target.
+pub(crate) fn any_left(begun: &Begun<'_>, targets: &[FoundTarget]) -> bool
+    ensures { result ≡ any_left begun.now targets.now }
 {
-    full | any_open(targets)
+    begun.any_open() | any_open(targets)
+}
+
+/// Whether that is so, or more may be reached than was looked at.
+pub(crate) fn leaves_open(full: bool, begun: &Begun<'_>, targets: &[FoundTarget]) -> bool
+    ensures { result ≡ leaves_open full begun.now targets.now }
+{
+    full | any_left(begun, targets)
+}
+
+// Takes a word for which no target is stated.
+fn keep_pending(
+    pending: &mut Vec<FoundTarget>,
+    begun: &Begun<'_>,
+    found: &FoundTarget,
+) -> Result<(), AllocError>
+    ensures { OnOk result
+        (Keeps (λ t. has_target begun.now t ≡ false) found.now pending.old.items pending.new.items) }
+{
+    if begun.has_target(found) {
+        return Ok(());
+    }
+    pending.push(*found)?;
+    Ok(())
+}
+
+/// Those of the words for which no target is stated, in their order.
+pub(crate) fn pending_targets(
+    alloc: Global,
+    begun: &Begun<'_>,
+    writers: &[FoundTarget],
+) -> Result<Vec<FoundTarget>, AllocError>
+    ensures { IfOk result (λ pending. ArePending begun.now writers.now pending.items) }
+{
+    let mut pending = Vec::new(alloc);
+    for found in writers {
+        keep_pending(&mut pending, begun, found)?;
+    }
+    Ok(pending)
 }

@@ -2,10 +2,11 @@ ghost use Rattle.std.specs.Prelude.{◌≡◌, ◌≤◌, [], length, IfOk, OnOk
 ghost use Rattle.std.specs.List.Sorted.{IsStrictlySortedBy};
 ghost use Rattle.std.specs.Ordering.{nat_cmp};
 ghost use Rattle.text_draft.specs.Exploring.{HasRoom, IsFound};
-ghost use Rattle.text_draft.specs.Reach.{AreReached, CallsTo, LeadsTo};
+ghost use Rattle.text_draft.specs.Reach.{AreReached, CallsTo, LeadsTo, StepsTo};
 ghost use Rattle.word_shapes.specs.Growing.{Adds, Grows};
 
-use crate::ways::{called, push_ways};
+use crate::begun::Begun;
+use crate::ways::{push_calls, push_ways};
 use control_flow::MOST_PLACES;
 use image::Image;
 use std::alloc::{AllocError, Global};
@@ -124,37 +125,82 @@ impl Exploration {
         Ok(())
     }
 
-    // Adds the routine that the word at an address calls.
-    fn add_called(&mut self, image: &Image, at: u32) -> Result<(), AllocError>
+    // Adds each of some addresses at which routines begin.
+    fn add_roots(&mut self, routines: &[u32]) -> Result<(), AllocError>
         requires { IsFound self.old.seen self.old.order.items }
         ensures found { OnOk result (IsFound self.new.seen self.new.order.items) }
         ensures grows { OnOk result
-            (Grows HasRoom (CallsTo image.now at) self.old.order.items self.new.order.items) }
+            (Grows HasRoom (Contains routines.now) self.old.order.items self.new.order.items) }
     {
-        match called(image, at) {
-            Some(to) => self.add_root(to),
-            None => Ok(()),
+        for to in routines {
+            self.add_root(*to)?;
         }
+        Ok(())
     }
 
-    // Adds all to which the word at an address leads, by a list for its steps.
-    fn look_at(&mut self, ways: &mut Vec<u32>, image: &Image, at: u32) -> Result<(), AllocError>
+    // Adds the steps from the word at an address, by a list for them.
+    fn add_steps(
+        &mut self,
+        ways: &mut Vec<u32>,
+        image: &Image,
+        begun: &Begun<'_>,
+        at: u32,
+    ) -> Result<(), AllocError>
         requires { IsFound self.old.seen self.old.order.items }
         ensures found { OnOk result (IsFound self.new.seen self.new.order.items) }
         ensures grows { OnOk result
-            (Grows HasRoom (LeadsTo image.now at) self.old.order.items self.new.order.items) }
+            (Grows HasRoom (StepsTo image.now begun.now at) self.old.order.items self.new.order.items) }
     {
         ways.clear();
-        push_ways(ways, image, at)?;
-        self.add_all(ways)?;
-        self.add_called(image, at)
+        push_ways(ways, image, begun, at)?;
+        self.add_all(ways)
+    }
+
+    // Adds the routines that the word at an address calls, by a list for them.
+    fn add_called(
+        &mut self,
+        ways: &mut Vec<u32>,
+        image: &Image,
+        begun: &Begun<'_>,
+        at: u32,
+    ) -> Result<(), AllocError>
+        requires { IsFound self.old.seen self.old.order.items }
+        ensures found { OnOk result (IsFound self.new.seen self.new.order.items) }
+        ensures grows { OnOk result
+            (Grows HasRoom (CallsTo image.now begun.now at) self.old.order.items self.new.order.items) }
+    {
+        ways.clear();
+        push_calls(ways, image, begun, at)?;
+        self.add_roots(ways)
+    }
+
+    // Adds all to which the word at an address leads, by a list for its ways.
+    fn look_at(
+        &mut self,
+        ways: &mut Vec<u32>,
+        image: &Image,
+        begun: &Begun<'_>,
+        at: u32,
+    ) -> Result<(), AllocError>
+        requires { IsFound self.old.seen self.old.order.items }
+        ensures found { OnOk result (IsFound self.new.seen self.new.order.items) }
+        ensures grows { OnOk result
+            (Grows HasRoom (LeadsTo image.now begun.now at) self.old.order.items self.new.order.items) }
+    {
+        self.add_steps(ways, image, begun, at)?;
+        self.add_called(ways, image, begun, at)
     }
 }
 
 // Finds the addresses. The list grows at its end while its next one is looked at, so each is looked at once.
-fn explore(alloc: Global, image: &Image, entry: u32) -> Result<Exploration, AllocError>
+fn explore(
+    alloc: Global,
+    image: &Image,
+    begun: &Begun<'_>,
+    entry: u32,
+) -> Result<Exploration, AllocError>
     ensures found { IfOk result (λ x. IsFound x.seen x.order.items) }
-    ensures reached { IfOk result (λ x. AreReached image.now entry x.order.items) }
+    ensures reached { IfOk result (λ x. AreReached image.now begun.now entry x.order.items) }
 {
     let mut found = Exploration::of(alloc, entry)?;
     let mut ways = Vec::new(alloc);
@@ -163,7 +209,7 @@ fn explore(alloc: Global, image: &Image, entry: u32) -> Result<Exploration, Allo
             return Ok(found);
         }
         let at = found.order[next];
-        found.look_at(&mut ways, image, at)?;
+        found.look_at(&mut ways, image, begun, at)?;
     }
     Ok(found)
 }
@@ -181,10 +227,11 @@ fn push_steps(
     steps: &mut Vec<(u32, u32)>,
     ways: &mut Vec<u32>,
     image: &Image,
+    begun: &Begun<'_>,
     at: u32,
 ) -> Result<(), AllocError> {
     ways.clear();
-    push_ways(ways, image, at)?;
+    push_ways(ways, image, begun, at)?;
     for to in ways {
         steps.push((at, *to))?;
     }
@@ -195,12 +242,13 @@ fn push_steps(
 fn steps_from(
     alloc: Global,
     image: &Image,
+    begun: &Begun<'_>,
     addresses: &[u32],
 ) -> Result<Vec<(u32, u32)>, AllocError> {
     let mut steps = Vec::new(alloc);
     let mut ways = Vec::new(alloc);
     for at in addresses {
-        push_steps(&mut steps, &mut ways, image, *at)?;
+        push_steps(&mut steps, &mut ways, image, begun, *at)?;
     }
     steps.sort()?;
     Ok(steps)
@@ -217,13 +265,18 @@ fn turned(alloc: Global, pairs: &[(u32, u32)]) -> Result<Vec<(u32, u32)>, AllocE
 }
 
 // What the addresses that were found say of the steps between them.
-fn reached_from(alloc: Global, image: &Image, found: &Exploration) -> Result<Reached, AllocError>
+fn reached_from(
+    alloc: Global,
+    image: &Image,
+    begun: &Begun<'_>,
+    found: &Exploration,
+) -> Result<Reached, AllocError>
     ensures keys { IfOk result (λ reached. reached.addresses.items ≡ found.now.seen.keys) }
     ensures ascend { IfOk result (λ reached. IsStrictlySortedBy nat_cmp reached.addresses.items) }
 {
     let addresses = ascending(alloc, &found.seen)?;
     let roots = ascending(alloc, &found.roots)?;
-    let leaving = steps_from(alloc, image, &addresses)?;
+    let leaving = steps_from(alloc, image, begun, &addresses)?;
     let entering = turned(alloc, &leaving)?;
     Ok(Reached {
         addresses,
@@ -234,10 +287,16 @@ fn reached_from(alloc: Global, image: &Image, found: &Exploration) -> Result<Rea
 }
 
 /// What is reached from an entry.
-pub(crate) fn reach(alloc: Global, image: &Image, entry: u32) -> Result<Reached, AllocError>
-    ensures reached { IfOk result (λ reached. AreReached image.now entry reached.addresses.items) }
+pub(crate) fn reach(
+    alloc: Global,
+    image: &Image,
+    begun: &Begun<'_>,
+    entry: u32,
+) -> Result<Reached, AllocError>
+    ensures reached { IfOk result
+        (λ reached. AreReached image.now begun.now entry reached.addresses.items) }
     ensures ascend { IfOk result (λ reached. IsStrictlySortedBy nat_cmp reached.addresses.items) }
 {
-    let found = explore(alloc, image, entry)?;
-    reached_from(alloc, image, &found)
+    let found = explore(alloc, image, begun, entry)?;
+    reached_from(alloc, image, begun, &found)
 }

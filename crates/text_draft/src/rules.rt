@@ -2,13 +2,14 @@
 
 ghost use Rattle.std.specs.Prelude.{◌≡◌, ◌↔◌, ◌+◌, ℕ, List, false, IfOk, IfSome, IsTrue, OnOk, Some, length};
 ghost use Rattle.text_draft.specs.Picks.{Keeps};
-ghost use Rattle.text_draft.specs.Rules.{AreEntries, AreRules, IsMostFrequent, IsRule, MayRule};
-ghost use Rattle.text_draft.specs.Rules.{Shows, class_number, has_both, is_covered, is_same_class};
+ghost use Rattle.text_draft.specs.Rules.{AreEntries, AreRules, IsMostFrequent, IsNewRule, IsRule};
+ghost use Rattle.text_draft.specs.Rules.{MayRule, Shows, class_number, has_both, is_covered, is_same_class};
 ghost use Rattle.text_draft.specs.Tallies.{AreTallies, Leads, ShowsNth, with_rule};
 ghost use Rattle.text_draft.specs.declared.accesses.FoundAccess.{FoundAccess};
 ghost use Rattle.text_draft.specs.declared.rules.FoundRule.{FoundRule};
 
 use crate::accesses::{FoundAccess, base_used, shown_by_pc};
+use crate::begun::Begun;
 use crate::tallies::{Tally, tallies, tally_at};
 use arm2_decode::Register;
 use bus_ticks::Class;
@@ -137,6 +138,27 @@ fn rule_of(image: &Image, table: &[Tally], open_left: bool, register: Register) 
     })
 }
 
+// The rule of a base, if it has one and none is stated for it.
+fn new_rule_of(
+    image: &Image,
+    table: &[Tally],
+    open_left: bool,
+    begun: &Begun<'_>,
+    register: Register,
+) -> Option<FoundRule>
+    requires { length table.now ≡ 128 }
+    ensures some { (accesses : List FoundAccess) → AreTallies accesses table.now
+        → IfSome result
+        (λ r. IsNewRule image.now open_left accesses begun.now r × (r.register ≡ register)) }
+    ensures only { (accesses : List FoundAccess) → AreTallies accesses table.now → (r : FoundRule)
+        → IsNewRule image.now open_left accesses begun.now r → r.register ≡ register → result ≡ Some r }
+{
+    if begun.has_rule(register) {
+        return None;
+    }
+    rule_of(image, table, open_left, register)
+}
+
 // Takes a rule, if there is one.
 fn push_rule(rules: &mut Vec<FoundRule>, rule: Option<FoundRule>) -> Result<(), AllocError>
     ensures { OnOk result (rules.new.items ≡ with_rule rules.old.items rule) }
@@ -147,20 +169,22 @@ fn push_rule(rules: &mut Vec<FoundRule>, rule: Option<FoundRule>) -> Result<(), 
     Ok(())
 }
 
-/// The rules for base registers, by ascending registers.
+/// The rules for base registers for which none is stated, by ascending registers.
 pub(crate) fn find_rules(
     alloc: Global,
     image: &Image,
     open_left: bool,
+    begun: &Begun<'_>,
     accesses: &[FoundAccess],
 ) -> Result<Vec<FoundRule>, AllocError>
-    ensures { IfOk result (λ rules. AreRules image.now open_left accesses.now rules.items) }
+    ensures { IfOk result (λ rules. AreRules image.now open_left accesses.now begun.now rules.items) }
 {
     let table = tallies(alloc, accesses)?;
     let mut rules = Vec::new(alloc);
     for number in 0..16 {
         let register = Register::of(number);
-        push_rule(&mut rules, rule_of(image, &table, open_left, register))?;
+        let rule = new_rule_of(image, &table, open_left, begun, register);
+        push_rule(&mut rules, rule)?;
     }
     Ok(rules)
 }

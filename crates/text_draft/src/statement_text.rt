@@ -45,8 +45,8 @@ impl<'a> Sheet<'_, 'a> {
         self.lines.get(&at).copied()
     }
 
-    // Adds a key with an address, beside the line that is there.
-    fn put_place(
+    /// Adds a key with an address, beside the line that is there.
+    pub(crate) fn put_place(
         &self,
         out: &mut Vec<u8>,
         indent: usize,
@@ -111,7 +111,12 @@ impl<'a> Sheet<'_, 'a> {
         put(out, b"\n")
     }
 
-    fn put_each_rule(&self, out: &mut Vec<u8>, rules: &[FoundRule]) -> Result<(), AllocError>
+    /// Adds a row for each rule.
+    pub(crate) fn put_each_rule(
+        &self,
+        out: &mut Vec<u8>,
+        rules: &[FoundRule],
+    ) -> Result<(), AllocError>
         ensures { OnOk result
             (out.new.items ≡ out.old.items ++ flat_map (rule_text self.now.lines.now) rules.now) }
     {
@@ -133,7 +138,8 @@ impl<'a> Sheet<'_, 'a> {
         put(out, b"]\n")
     }
 
-    fn put_rules(&self, out: &mut Vec<u8>, rules: &[FoundRule]) -> Result<(), AllocError>
+    /// Adds the rules, if there are any.
+    pub(crate) fn put_rules(&self, out: &mut Vec<u8>, rules: &[FoundRule]) -> Result<(), AllocError>
         ensures { OnOk result
             (out.new.items ≡ out.old.items ++ rules_text self.now.lines.now rules.now) }
     {
@@ -154,7 +160,12 @@ impl<'a> Sheet<'_, 'a> {
         end_row(out, start, line)
     }
 
-    fn put_each_entry(&self, out: &mut Vec<u8>, entries: &[FoundAccess]) -> Result<(), AllocError>
+    /// Adds a row for each load and store.
+    pub(crate) fn put_each_entry(
+        &self,
+        out: &mut Vec<u8>,
+        entries: &[FoundAccess],
+    ) -> Result<(), AllocError>
         ensures { OnOk result
             (out.new.items ≡ out.old.items ++ flat_map (entry_text self.now.lines.now) entries.now) }
     {
@@ -173,7 +184,12 @@ impl<'a> Sheet<'_, 'a> {
         put(out, b"]\n")
     }
 
-    fn put_entries(&self, out: &mut Vec<u8>, entries: &[FoundAccess]) -> Result<(), AllocError>
+    /// Adds the loads and stores, if there are any.
+    pub(crate) fn put_entries(
+        &self,
+        out: &mut Vec<u8>,
+        entries: &[FoundAccess],
+    ) -> Result<(), AllocError>
         ensures { OnOk result
             (out.new.items ≡ out.old.items ++ entries_text self.now.lines.now entries.now) }
     {
@@ -286,7 +302,7 @@ impl<'a> Sheet<'_, 'a> {
         if table.branches == 0 {
             return put(
                 out,
-                b"to = \"?\"  # a list, or nothing for a return or a leave: draft from each of them too\n",
+                b"to = \"?\"  # a list, or nothing for a return or a leave; then draft from this statement\n",
             );
         }
         put(out, b"to = [\n")?;
@@ -357,19 +373,26 @@ impl<'a> Sheet<'_, 'a> {
         Ok(())
     }
 
-    fn put_candidate_list(&self, out: &mut Vec<u8>, candidates: &[u32]) -> Result<(), AllocError>
+    fn put_candidate_list(
+        &self,
+        out: &mut Vec<u8>,
+        side: &[u8],
+        candidates: &[u32],
+    ) -> Result<(), AllocError>
         ensures { OnOk result
             (out.new.items
-            ≡ out.old.items ++ candidate_list_text self.now.lines.now candidates.now) }
+            ≡ out.old.items ++ candidate_list_text self.now.lines.now side.now candidates.now) }
     {
         put(
             out,
-            b"\n# The words name these addresses of the source, to which a \"?\" below may lead:\n",
+            b"\n# The words name these addresses of the source, to which a \"?\" ",
         )?;
+        put(out, side)?;
+        put(out, b" may lead:\n")?;
         self.put_each_candidate(out, candidates)
     }
 
-    /// Adds a comment with addresses to which words may lead, if any are left open.
+    /// Adds a comment with addresses to which words may lead, to a side of it, if any are left open.
     ///
     /// # Errors
     ///
@@ -377,12 +400,13 @@ impl<'a> Sheet<'_, 'a> {
     pub fn put_candidates(
         &self,
         out: &mut Vec<u8>,
+        side: &[u8],
         open_left: bool,
         candidates: &[u32],
     ) -> Result<(), AllocError>
         ensures { OnOk result
             (out.new.items
-            ≡ out.old.items ++ candidates_text self.now.lines.now open_left candidates.now) }
+            ≡ out.old.items ++ candidates_text self.now.lines.now side.now open_left candidates.now) }
     {
         if !open_left {
             return Ok(());
@@ -390,7 +414,7 @@ impl<'a> Sheet<'_, 'a> {
         if candidates.is_empty() {
             return Ok(());
         }
-        self.put_candidate_list(out, candidates)
+        self.put_candidate_list(out, side, candidates)
     }
 
     /// Adds a comment for each address at which the handler cannot go on.
@@ -431,7 +455,8 @@ impl<'a> Sheet<'_, 'a> {
         self.put_element(out, b"   ", stretch.last, b"],")
     }
 
-    fn put_each_stretch(
+    /// Adds the rows of each stretch.
+    pub(crate) fn put_each_stretch(
         &self,
         out: &mut Vec<u8>,
         stretches: &[ApartStretch],
@@ -501,7 +526,8 @@ impl<'a> Sheet<'_, 'a> {
     }
 }
 
-fn put_register(out: &mut Vec<u8>, register: Register) -> Result<(), AllocError>
+/// Adds the name of a register.
+pub(crate) fn put_register(out: &mut Vec<u8>, register: Register) -> Result<(), AllocError>
     ensures { OnOk result (out.new.items ≡ out.old.items ++ register_text register) }
 {
     put(out, b"R")?;

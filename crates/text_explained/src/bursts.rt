@@ -17,24 +17,24 @@ pub struct Bursts {
     pub every: Option<u32>,
 }
 
-// A bound, and the price of a DMA burst, both in ticks.
+/// A bound, and the price of a DMA burst, both in ticks.
 #[derive(Clone, Copy)]
-struct PricedBound {
-    ticks: u64,
-    burst: u32,
+pub struct PricedBound {
+    pub ticks: u64,
+    pub burst: u32,
 }
 
 impl PricedBound {
-    // The ticks of the bound and so many bursts.
-    fn with_bursts(self, count: u64) -> u128
+    /// The ticks of the bound and so many bursts.
+    pub fn with_bursts(self, count: u64) -> u128
         ensures { result ≡ with_bursts self.burst self.ticks count }
     {
         u128::from(self.ticks) + u128::from(count) * u128::from(self.burst)
     }
 
-    // The least number of bursts after which none comes before the end, where one comes every so many ticks.
-    // None where there is no end: a burst then takes all the time up to the next.
-    fn fewest(self, every: u32) -> Option<u64>
+    /// The least number of bursts after which none comes before the end, where one comes every so many ticks.
+    /// None where there is no end: a burst then takes all the time up to the next.
+    pub fn fewest(self, every: u32) -> Option<u64>
         ensures { AreFewest self.burst self.ticks every result }
     {
         if self.ticks == 0 {

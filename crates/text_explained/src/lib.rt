@@ -23,7 +23,7 @@ mod starts;
 mod table;
 mod walk_tally;
 
-pub use bursts::{Bursts, burst_lines};
+pub use bursts::{Bursts, PricedBound, burst_lines};
 pub use done_returns::done_text;
 pub use idle::idle_entries;
 pub use law::{

@@ -2,8 +2,8 @@ use crate::sample_handlers::followed::{Followed, follow_run};
 use crate::sample_handlers::sample::Sample;
 use crate::sample_handlers::tight::{Edges, edges_of};
 use arcwcet::{
-    MemoryOutput, ReportFault, Store, StoreFault, bound_report, check_report, run_report,
-    visits_report,
+    MemoryOutput, ReportFault, Store, StoreFault, VisitRate, VisitedHandler, bound_report,
+    check_report, fault_only, run_report, visits_report,
 };
 use std::alloc::{AllocError, Global};
 use std::fmt::Write;
@@ -170,15 +170,14 @@ fn bounded_with_visits(
     visits: u32,
 ) -> Result<Bounded, HandlerFault> {
     let mut report = MemoryOutput::with_room(alloc, 0)?;
-    visits_report(
-        alloc,
-        &files.source,
-        &files.statement,
+    let asked = VisitedHandler {
+        source: &files.source,
+        irq: &files.statement,
+        fiq_source: None,
         fiq,
-        visits,
-        None,
-        &mut report,
-    )?;
+        rate: VisitRate::Times(visits),
+    };
+    fault_only(visits_report(alloc, asked, None, &mut report))?;
     let (of_irq, of_fiq) = certificates_of(report.bytes()).ok_or(HandlerFault::Text)?;
     Ok(Bounded {
         ticks: number_in(report.bytes(), 5, "total").ok_or(HandlerFault::Text)?,

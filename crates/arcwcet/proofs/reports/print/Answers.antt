@@ -4,7 +4,7 @@ use Rattle.handlers.specs.Placing.{IsRunRefused, IsRunnable}
 use Rattle.handlers.specs.Refusal.{fault_only}
 use Rattle.handlers.specs.Report.{IsAccepted, IsRefused, IsReport}
 use Rattle.source_reports.specs.Assembly.{IsAsmReport, IsSource, IsSourceRefused}
-use Rattle.source_reports.specs.DraftReport.{IsDraftRefused, IsDraftReport, IsDraftable}
+use Rattle.source_reports.specs.DraftReport.{IsDraftOnRefused, IsDraftOnReport, IsDraftRefused, IsDraftReport, IsDraftable, IsDraftableOn}
 use Rattle.source_reports.specs.ListReport.{IsListReport}
 use Rattle.machine_reports.specs.Debug.{IsDebugReport}
 use Rattle.machine_reports.specs.Machine.{IsMachineReport, ShowsRegisters, ShowsSteps}
@@ -14,8 +14,11 @@ use Rattle.handler_reports.specs.FollowReport.{IsFollowRefused, IsFollowReport, 
 use Rattle.handler_reports.specs.FollowVisits.{AreFollowable, AreNotFollowed, IsFollowVisitsReport}
 use Rattle.handler_reports.specs.GraphReport.{IsGraphReport}
 use Rattle.handler_reports.specs.Verdict.{IsVerdictReport}
+use Rattle.handler_reports.specs.VisitsReport.{AreAccepted, AreRefused, IsVisitsReport}
+use Rattle.command_line.specs.Rows.{asked_of}
+use Rattle.response_reports.specs.RespondReport.{HasResponse, IsRespondRefused, IsRespondReport}
 use Rattle.arcwcet.specs.Kept.{inputs_lent}
-use Rattle.arcwcet.specs.Reports.{answered, bursts_of, judged, report_by, version_report}
+use Rattle.arcwcet.specs.Reports.{answered, bursts_of, fiq_source_in, judged, question_in, rate_of, report_by, version_report}
 use Rattle.arcwcet.proofs.RunLemmas.{answered_judged, answered_unpriced_report, answered_yes, same_answer}
 use Rattle.arcwcet.proofs.reports.print.Goals as goal
 
@@ -51,6 +54,23 @@ returns-in-Draft g c =
     rw (c.in-Draft.is)
     (answered_unpriced_report g.O.Output.taken g.O.Output.failures c.args.out.now c.draft_report.new.out (IsDraftReport i.source word) (IsDraftable i.source word) (IsDraftRefused i.source word)
     c.draft_report.result answers (fault_only c.answered-in-Draft.result) (c.answered-in-Draft.ensures ∙ ap answered c.alone-in-Draft.ensures))
+
+pub returns-in-DraftOn : goal.returns-in-DraftOn
+unfolding report_by
+returns-in-DraftOn g c =
+    let i = inputs_lent c.args.job.inputs in
+    rw (c.in-DraftOn.is)
+    (answered_unpriced_report g.O.Output.taken g.O.Output.failures c.args.out.now c.draft_on_report.new.out (IsDraftOnReport i.source i.second) (IsDraftableOn i.source i.second) (IsDraftOnRefused i.source i.second)
+    c.draft_on_report.result c.draft_on_report.ensures (fault_only c.answered-in-DraftOn.result) (c.answered-in-DraftOn.ensures ∙ ap answered c.alone-in-DraftOn.ensures))
+
+pub returns-in-Respond : goal.returns-in-Respond
+unfolding report_by
+returns-in-Respond g c =
+    let i = inputs_lent c.args.job.inputs in
+    let q = question_in (asked_of c.args.job.request.now) i in
+    rw (c.in-Respond.is)
+    (answered_judged g.O.Output.taken g.O.Output.failures c.args.out.now c.print_response.new.out i.profile (IsRespondReport q) (HasResponse q) (IsRespondRefused q)
+    (fault_only c.print_response.result) c.print_response.ensures)
 
 pub returns-in-Run : goal.returns-in-Run
 unfolding report_by
@@ -92,12 +112,6 @@ returns-in-Tight g c =
     rw (c.in-Tight.is)
     c.print_edge.ensures
 
-pub returns-in-Visits : goal.returns-in-Visits
-unfolding report_by
-returns-in-Visits g c =
-    rw (c.in-Visits.is)
-    c.print_visited.ensures
-
 pub returns-in-Check : goal.returns-in-Check
 unfolding report_by
 returns-in-Check g c =
@@ -121,6 +135,16 @@ returns-in-Verdict g c =
     rw (c.in-Verdict.is)
     (answered_judged g.O.Output.taken g.O.Output.failures c.args.out.now c.print_verdict.new.out i.profile (IsVerdictReport i.source i.second i.third) (IsCheckable i.source i.second i.third) (IsCheckRefused i.source i.second i.third)
     (fault_only c.print_verdict.result) c.print_verdict.ensures)
+
+pub returns-in-Visits : goal.returns-in-Visits
+unfolding report_by
+returns-in-Visits g c =
+    let i = inputs_lent c.args.job.inputs in
+    let own = fiq_source_in i in
+    let rate = rate_of c.args.job.request.now.numbers in
+    rw (c.in-Visits.is)
+    (answered_judged g.O.Output.taken g.O.Output.failures c.args.out.now c.print_visited.new.out i.profile (IsVisitsReport i.source own i.second i.third rate) (AreAccepted i.source own i.second i.third rate) (AreRefused i.source own i.second i.third rate)
+    (fault_only c.print_visited.result) c.print_visited.ensures)
 
 pub returns-in-Follow : goal.returns-in-Follow
 unfolding report_by

@@ -1,11 +1,19 @@
-use Rattle.handler_reports.specs.VisitsReport.{AreAccepted, AreRefused, IsVisitsReport}
+use Rattle.std.proofs.Common.{ℕ, List, Option, subst}
+use Rattle.handlers.specs.Priced.{Priced}
 use Rattle.handlers.specs.Refusal.{fault_only}
+use Rattle.handler_reports.specs.Bound.{given}
+use Rattle.handler_reports.specs.VisitsReport.{ReportsVisits}
+use Rattle.handler_reports.specs.declared.visit_rate.VisitRate.{VisitRate}
 use Rattle.arcwcet.specs.Kept.{inputs_lent}
-use Rattle.arcwcet.proofs.RunLemmas.{answered_yes}
+use Rattle.arcwcet.specs.Reports.{rate_of}
 use Rattle.arcwcet.proofs.reports.print_visited.Goals as goal
 
 pub returns : goal.returns
 returns g c =
     let i = inputs_lent c.args.inputs in
-    answered_yes g.O.Output.taken g.O.Output.failures c.args.out.now c.print_visits.new.out i.profile (IsVisitsReport i.source i.second i.third c.args.numbers.visits) (AreAccepted i.source i.second i.third c.args.numbers.visits) (AreRefused i.source i.second i.third c.args.numbers.visits)
-    (fault_only c.print_visits.result) c.print_visits.ensures.answers (fault_only c.answered.result) c.answered.ensures
+    let old = c.args.out.now in
+    let new = c.visits_report.new.out in
+    let answer = fault_only c.visits_report.result in
+    let by = λ (own : Option (List ℕ)) (rate : VisitRate). Priced i.profile (λ p. ReportsVisits g.O.Output.taken g.O.Output.failures i.source own i.second i.third rate p old new answer) old new answer in
+    subst (λ (own : Option (List ℕ)). by own (rate_of c.args.numbers)) c.fiq_source.ensures
+    (subst (λ (rate : VisitRate). by (given c.fiq_source.result) rate) c.rate_of.ensures c.visits_report.ensures.answers)

@@ -1,16 +1,25 @@
-use Rattle.std.proofs.Common.{◌∷◌, []}
-use Rattle.handlers.proofs.RefusalLemmas.{told_carries, told_err, told_ok}
+use Rattle.handlers.specs.Refusal.{CarriesReadOf, refusal_fault}
+use Rattle.handlers.specs.Report.{BeforeOutput}
+use Rattle.handler_reports.specs.Bound.{given}
+use Rattle.handler_reports.specs.VisitsReport.{AreRefused, parts_of}
+use Rattle.handler_reports.proofs.VisitsReportLemmas.{fault_of, placed_err, placed_ok}
 use Rattle.handler_reports.proofs.visits.read_visits.Goals as goal
 
 pub returns-clause-report : goal.returns-clause-report
 returns-clause-report c =
-    told_ok c.in_ok-said.said c.source_visits-text.result c.with_source.result c.with_source.ensures _ (c.source_visits-text.ensures.report c.args.asked.source.now c.in_ok-said.ensures.is.said)
+    placed_ok c.in_ok-said.said c.source_visits-text.result c.refused_on.result c.refused_on.ensures _ (c.source_visits-text.ensures.report c.args.asked.source.now c.in_ok-said.ensures.is.said)
 
 pub returns-clause-carries : goal.returns-clause-carries
 returns-clause-carries c =
-    told_carries c.in_ok-said.said c.source_visits-text.result c.with_source.result c.with_source.ensures c.args.asked.source.now (c.args.asked.irq.now ∷ c.args.asked.fiq.now ∷ []) c.args.profile.now c.in_ok-said.ensures.is
-    (c.source_visits-text.ensures.carries c.args.asked.source.now c.in_ok-said.ensures.is.said)
+    let asked = c.args.asked in
+    placed_err c.in_ok-said.said c.source_visits-text.result c.refused_on.result c.refused_on.ensures
+    (CarriesReadOf (parts_of asked.source.now (given asked.fiq_source) asked.irq.now asked.fiq.now) c.args.profile.now)
+    (c.source_visits-text.ensures.carries asked.source.now c.in_ok-said.ensures.is)
 
 pub returns-clause-fault : goal.returns-clause-fault
 returns-clause-fault c =
-    told_err c.in_ok-said.said c.source_visits-text.result c.with_source.result c.with_source.ensures _ (c.source_visits-text.ensures.fault c.args.asked.source.now c.in_ok-said.ensures.is.said)
+    let asked = c.args.asked in
+    let refused = BeforeOutput (AreRefused asked.source.now (given asked.fiq_source) asked.irq.now asked.fiq.now asked.rate c.args.profile.now) in
+    fault_of c.refused_on.result refused
+    (placed_err c.in_ok-said.said c.source_visits-text.result c.refused_on.result c.refused_on.ensures (λ e. refused (refusal_fault e))
+    (c.source_visits-text.ensures.fault asked.source.now c.in_ok-said.ensures.is.said))

@@ -1,3 +1,5 @@
+use Rattle.std.proofs.Common.{subst}
+use Rattle.text_draft.specs.Draft.{AreFound}
 use Rattle.std.proofs.lemmas.Result.{IfOk-weaker}
 use Rattle.text_draft.proofs.drafts.draft_by_lines.Goals as goal
 
@@ -16,7 +18,9 @@ returns c =
       loops = c.in_ok-found.found.loops.loops.items;
       candidates = c.in_ok-found.found.candidates.items;
       targets = c.in_ok-found.found.targets.items;
-      found = c.in_ok-found.ensures;
+      found = subst (λ b. AreFound c.args.source.now.image b c.args.entry c.in_ok-found.found.full c.in_ok-found.found.ends.items
+          c.in_ok-found.found.rules.items c.in_ok-found.found.entries.items c.in_ok-found.found.loops.loops.items
+          c.in_ok-found.found.candidates.items c.in_ok-found.found.targets.items) c.nothing.ensures c.in_ok-found.ensures;
       text_is = text_is;
     })
     c.draft_text.ensures

@@ -1,4 +1,4 @@
-use Rattle.std.proofs.Common.{◌∙◌, ◌++◌, ap}
+use Rattle.std.proofs.Common.{◌∙◌, ◌++◌, None, ap, codes}
 use Rattle.std.proofs.lemmas.Result.{on_ok_weaker}
 use Rattle.std.specs.List.{flat_map}
 use Rattle.text_draft.specs.DraftText.{accesses_text, apart_text, candidates_text, cycle_text, end_text, loop_text, target_text}
@@ -25,10 +25,11 @@ returns c =
     (c.in_ok-put_loops.ensures
     ∙ ap (λ xs. c.put_accesses.new.out.items ++ flat_map (loop_text lines c.leaves_open-open_left.result) xs) c.deref-7.ensures.value
     ∙ ap (λ b. c.put_accesses.new.out.items ++ flat_map (loop_text lines b) found.loops.loops.items)
-    (c.leaves_open-open_left.ensures ∙ ap (λ ts. leaves_open found.full ts) c.deref-6.ensures.value))
+    (c.leaves_open-open_left.ensures ∙ ap (λ b. leaves_open found.full b c.deref-6.result.now) c.nothing.ensures
+    ∙ ap (λ ts. leaves_open found.full None ts) c.deref-6.ensures.value))
     (c.in_ok-put_candidates.ensures
-    ∙ ap (λ xs. c.put_loops.new.out.items ++ candidates_text lines c.any_open.result xs) c.deref-9.ensures.value
-    ∙ ap (λ b. c.put_loops.new.out.items ++ candidates_text lines b found.candidates.items)
+    ∙ ap (λ xs. c.put_loops.new.out.items ++ candidates_text lines (codes "below") c.any_open.result xs) c.deref-9.ensures.value
+    ∙ ap (λ b. c.put_loops.new.out.items ++ candidates_text lines (codes "below") b found.candidates.items)
     (c.any_open.ensures ∙ ap (λ ts. any_open ts) c.deref-8.ensures.value))
     (last ∙ ap (λ xs. c.put_candidates.new.out.items ++ flat_map (target_text lines) xs) c.deref-10.ensures.value))
     c.put_targets.ensures

@@ -1,6 +1,5 @@
 use Rattle.std.proofs.Common.{arith}
-use Rattle.text_draft.specs.Reach.{LeadsAway}
-use Rattle.control_flow.specs.declared.actions.Kind.TheVariants as kind
+use Rattle.text_draft.specs.Reach.{LeadsByTable}
 use Rattle.text_draft.proofs.WayLaws.{IsPlaceBelow, gains_as, gains_none, places_lead, places_more}
 use Rattle.text_draft.proofs.ways.push_table.Goals as goal
 
@@ -14,7 +13,7 @@ loop-n-preserved c =
 
 pub returns : goal.returns
 returns c =
-    gains_as (IsPlaceBelow c.args.at c.loop-n.n) (LeadsAway c.args.image.now c.args.at kind.Writer) c.args.out.now.items
+    gains_as (IsPlaceBelow c.args.at c.loop-n.n) (LeadsByTable c.args.image.now c.args.at) c.args.out.now.items
     c.loop-n.out.items
     (places_lead c.args.image.now c.args.at _ c.loop-n.n c.table_len-n-end.ensures c.loop-n-test.false c.loop-n.auto.n-end)
     c.loop-n.invariant

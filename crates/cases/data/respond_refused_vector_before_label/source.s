@@ -1,0 +1,15 @@
+; IRQ's handler reads a byte, and two routines of the same source run with IRQ disabled.
+         ORG    &18
+irq      B      start
+         ORG    &8000
+start    SUB    R14,R14,#4
+         STMFD  R13!,{R0,R14}
+read     LDRB   R0,[R12]
+leave    LDMFD  R13!,{R0,PC}^
+reset    MOV    R0,#0
+         MOV    PC,R14
+wait     MOV    R0,#4
+less     SUBS   R0,R0,#1
+turn     BNE    less
+         MOV    PC,R14
+never    MOV    R0,#1

@@ -1,0 +1,5 @@
+         ORG    &8000
+start    MOV    R0,#3
+again    SUBS   R0,R0,#1
+turn     BNE    again
+         SUBS   PC,R14,#4

@@ -1,0 +1,72 @@
+ghost use Rattle.std.specs.Prelude.{◌≡◌, ◌++◌, OnOk, option_map};
+ghost use Rattle.handler_reports.specs.VisitsReport.{bounds_text, number_line, rate_text};
+ghost use Rattle.handler_reports.specs.VisitsReport.{summary, total_text, visits_text};
+
+use crate::visit_rate::{MostVisits, VisitRate, VisitedBound};
+use std::alloc::AllocError;
+use text_rows::{put, put_number};
+
+// Adds a line of a name and a number.
+fn put_line(out: &mut Vec<u8>, name: &[u8], number: u64) -> Result<(), AllocError>
+    ensures { OnOk result (out.new.items ≡ out.old.items ++ number_line name.now number) }
+{
+    put(out, name)?;
+    put_number(out, number, 0)?;
+    put(out, b"\n")
+}
+
+fn put_rate(out: &mut Vec<u8>, rate: VisitRate) -> Result<(), AllocError>
+    ensures { OnOk result (out.new.items ≡ out.old.items ++ rate_text rate) }
+{
+    match rate {
+        VisitRate::Times(_) => Ok(()),
+        VisitRate::Every(every) => put_line(out, b"every ", u64::from(every)),
+    }
+}
+
+fn put_visits(out: &mut Vec<u8>, most: Option<MostVisits>) -> Result<(), AllocError>
+    ensures { OnOk result
+        (out.new.items ≡ out.old.items ++ visits_text (option_map (λ m. m.visits) most)) }
+{
+    match most {
+        Some(most) => put_line(out, b"visits ", most.visits),
+        None => Ok(()),
+    }
+}
+
+fn put_bounds(out: &mut Vec<u8>, bound: VisitedBound) -> Result<(), AllocError>
+    ensures { OnOk result (out.new.items ≡ out.old.items ++ bounds_text bound.irq bound.fiq bound.entry) }
+{
+    put_line(out, b"irq ", bound.irq)?;
+    put_line(out, b"fiq ", bound.fiq)?;
+    put_line(out, b"entry ", u64::from(bound.entry))
+}
+
+fn put_total(out: &mut Vec<u8>, most: Option<MostVisits>) -> Result<(), AllocError>
+    ensures { OnOk result
+        (out.new.items ≡ out.old.items ++ total_text (option_map (λ m. m.total) most)) }
+{
+    match most {
+        Some(most) => put_line(out, b"total ", most.total),
+        None => put(out, b"it never ends\n"),
+    }
+}
+
+/// Adds the lines in front of both reports: how often FIQ comes, the most visits, the bounds of both
+/// handlers and the price of taking FIQ, and the total.
+pub(crate) fn put_summary(
+    out: &mut Vec<u8>,
+    bound: VisitedBound,
+    rate: VisitRate,
+    most: Option<MostVisits>,
+) -> Result<(), AllocError>
+    ensures { OnOk result (out.new.items ≡ out.old.items
+        ++ summary rate bound.irq bound.fiq bound.entry (option_map (λ m. m.visits) most)
+        (option_map (λ m. m.total) most)) }
+{
+    put(out, b"arcwcet visits\n")?;
+    put_rate(out, rate)?;
+    put_visits(out, most)?;
+    put_bounds(out, bound)?;
+    put_total(out, most)
+}

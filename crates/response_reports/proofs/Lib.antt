@@ -1,0 +1,4 @@
+pub mod HeldBackLemmas
+pub mod ReachLemmas
+pub mod RespondLemmas
+pub mod TextLemmas

@@ -1,0 +1,4 @@
+pub mod Question
+pub mod RespondReport
+pub mod RespondText
+pub mod RespondWork
