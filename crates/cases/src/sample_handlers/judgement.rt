@@ -163,10 +163,10 @@ fn certificates_of(report: &[u8]) -> Option<(&str, &str)> {
 }
 
 // By `visits`.
-fn bounded_with_visits(
+fn bounded_with_visits<'a>(
     alloc: Global,
-    files: &Files,
-    fiq: &[u8],
+    files: &'a Files,
+    fiq: &'a [u8],
     visits: u32,
 ) -> Result<Bounded, HandlerFault> {
     let mut report = MemoryOutput::with_room(alloc, 0)?;
