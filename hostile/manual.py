@@ -22,7 +22,7 @@ MET_BY = {
     "graph": (*OF_HANDLER, PATH),
     "check": (*OF_HANDLER, CERTIFICATES),
     "visits": (*OF_HANDLER, PATH, VISITS),
-    "respond": (*OF_HANDLER, PATH, DRAFTS, RESPONSES),
+    "respond": (*OF_HANDLER, PATH, DRAFTS, RESPONSES, VISITS),
     "follow": (*OF_HANDLER, PATH, MACHINES, VISITS),
     **{name: (*OF_SOURCE, PROFILES, MACHINES) for name in ("run", "trace", "debug")},
 }

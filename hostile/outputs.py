@@ -279,6 +279,8 @@ def lines(command):
     for number in ("", "4294967296", "9" * 1000, "-1", "2.5"):
         usage.append((["visits", "handler.s", "a", "b", number], f"{number:.10} visits"))
         usage.append((["visits", f"--every={number}", "handler.s", "a", "b"], f"every {number:.10}"))
+        words = ["respond", "--fiq-statement=b", f"--every={number}", "handler.s", "a", "start"]
+        usage.append((words, f"FIQ's visits every {number:.10}"))
     for words, name in usage:
         yield Trial(f"the command line: {name}", words, Usage(), command.files)
     for word in ("--version", "-V"):

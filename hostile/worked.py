@@ -52,6 +52,15 @@ OWN_FIQ = b"""\
          ORG    &1C
          SUBS   PC,R14,#4
 """
+# IRQ's handler by itself, and the statement on it.
+OWN_IRQ = b"""\
+         ORG    &18
+         SUBS   PC,R14,#4
+"""
+IRQ = b"""\
+entry = 0x18
+leave = "ram"
+"""
 # A statement that is begun.
 BEGUN = b"""\
 entry = 0x8000
@@ -163,6 +172,11 @@ def commands(bench):
     files = {"handler.s": SOURCE[SOURCE.index(b"         ORG    &8000") :], "own.s": OWN_FIQ}
     files = {**files, "handler.toml": STATEMENT, "fiq.toml": FIQ}
     found.append(command(bench, "visits --fiq-source own.s handler.s handler.toml fiq.toml 2", files))
+    files = {"irq.s": OWN_IRQ, "irq.toml": IRQ, "own.s": OWN_FIQ, "fiq.toml": FIQ}
+    visited = "respond --fiq-statement fiq.toml --fiq-source own.s"
+    found.append(command(bench, f"{visited} --every 200 irq.s irq.toml 0x18", files))
+    # FIQ leaves the handler no time: the status is 1.
+    found.append(command(bench, f"{visited} --every 5 --waited 7 --within 300 irq.s irq.toml 0x18", files))
     complete((it.words[0] for it in found), "hostile/worked.py, commands")
     return found
 

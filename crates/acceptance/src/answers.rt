@@ -1,8 +1,8 @@
 //! What the reports say of bytes as one of their inputs.
 
 use arcwcet::{
-    Bursts, Explained, MemoryOutput, ReportFault, asm_report, bound_report, check_report,
-    draft_report, explain_report, fault_only, list_report, run_report,
+    Bursts, Explained, MemoryOutput, ReportFault, TableForm, asm_report, bound_report,
+    check_report, draft_report, explain_report, fault_only, list_report, run_report,
 };
 use samples::countdown::{SOURCE, STATEMENT};
 use std::alloc::{AllocError, Global};
@@ -35,6 +35,7 @@ fn explained(alloc: Global, statement: &[u8], out: &mut MemoryOutput) -> Result<
             count: None,
             every: None,
         },
+        form: TableForm { first: false },
         each: false,
     };
     fault_only(explain_report(alloc, explained, None, out))

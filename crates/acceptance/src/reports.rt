@@ -1,10 +1,10 @@
 //! Each report of one short handler, and what it prints.
 
 use arcwcet::{
-    AskedResponse, Bursts, Explained, MemoryOutput, Output, ReportFault, VisitRate, VisitedHandler,
-    asm_report, bound_report, check_report, debug_report, draft_on_report, draft_report,
-    explain_report, fault_only, graph_report, list_report, respond_report, run_report,
-    tight_report, trace_report, visits_report,
+    AskedResponse, Bursts, DrawnHandler, Explained, Extent, MemoryOutput, Output, ReportFault,
+    TableForm, VisitRate, VisitedHandler, asm_report, bound_report, check_report, debug_report,
+    draft_on_report, draft_report, explain_report, fault_only, graph_report, list_report,
+    respond_report, run_report, tight_report, trace_report, visits_report,
 };
 use samples::lone_return::{CERTIFICATE, SOURCE, STATEMENT};
 use std::alloc::{AllocError, Global};
@@ -29,7 +29,14 @@ const EXPLAINED: Explained<'static> = Explained {
         count: None,
         every: None,
     },
+    form: TableForm { first: false },
     each: false,
+};
+
+const DRAWN: DrawnHandler<'static> = DrawnHandler {
+    source: SOURCE,
+    statement: STATEMENT,
+    extent: Extent::Whole,
 };
 
 // The longest step loads 16 words from the slowest devices, the last into R15: 4 ticks for its own fetch, 161
@@ -62,8 +69,11 @@ const TABLE: &[u8] = b"passes  each  ticks  share latest priced as line  text
        total      9 100.0%
 bound 9 ticks, 1.125 microseconds at 8 MHz
 
+The longest step, 9 ticks:
+  0000001C     2   SUBS PC,R14,#4
+
 What would save most, in ticks at most (state only what is true):
-        2   leave io for any
+        4  leave ram for any
 ";
 
 const DRAFT: &[u8] = b"\
@@ -84,11 +94,12 @@ const BEGUN: &[u8] = b"entry = 28\n[[target]]\nat = 28\nkind = \"return\"\n";
 const NOTHING_LACKS: &[u8] = b"\n# Draft adds nothing: all that it asks for is stated.\n";
 
 const DRAWING: &[u8] = b"digraph handler {
-node [shape=box, fontname=\"Courier\"];
-edge [fontname=\"Courier\"];
-graph [fontname=\"Courier\"];
-n0 [label=\"0000001C   SUBS PC,R14,#4\\lpasses 1, ticks in all 9\\l\", style=bold];
-n0 -> n1 [label=\"do, passes 1, ticks each 9\", style=bold];
+node [shape=box, style=filled, fillcolor=white, margin=\"0.08,0.04\"];
+node [fontname=\"Courier\", fontsize=10];
+edge [fontname=\"Courier\", fontsize=10];
+graph [fontname=\"Courier\", fontsize=10, labeljust=l, ranksep=0.3, nodesep=0.2];
+n0 [label=\"0000001C   SUBS PC,R14,#4\\lpasses 1, ticks 9, 100.0%\\l\", fillcolor=\"#f07818\"];
+n0 -> n1 [label=\" do 9\", style=bold];
 n1 [label=\"Exit\", shape=oval];
 }
 ";
@@ -150,6 +161,7 @@ fn print_response<O: Output>(alloc: Global, out: &mut O) -> Result<bool, ReportF
         masked: Some(10),
         masked_by: &[],
         bursts: EXPLAINED.bursts,
+        fiq: None,
         within: Some(200),
     };
     fault_only(respond_report(alloc, asked, None, out))
@@ -165,9 +177,7 @@ impl Report {
             Report::Visits => fault_only(visits_report(alloc, VISITED, None, out)),
             Report::Respond => print_response(alloc, out),
             Report::Explain => fault_only(explain_report(alloc, EXPLAINED, None, out)),
-            Report::Graph => fault_only(graph_report(alloc, SOURCE, STATEMENT, None, out)).and(Ok(
-                true,
-            )),
+            Report::Graph => fault_only(graph_report(alloc, DRAWN, None, out)).and(Ok(true)),
             Report::Draft => draft_report(alloc, SOURCE, b"28", out).and(Ok(true)),
             Report::DraftOn => draft_on_report(alloc, SOURCE, BEGUN, out).and(Ok(true)),
             Report::Tight => tight_report(alloc, SOURCE, STATEMENT, 0, None, out).and(Ok(true)),

@@ -30,7 +30,7 @@ ByWords source Is = (words : WordLines) × AreWordsOf source words × Is words
 -- the lines of the source's bytes that have faults
 abbrev pub IsSourceReason : List ℕ → List ℕ → Type 0
 IsSourceReason bytes text =
-    (lines : List FaultyLine) × AreFaultyLines bytes lines × AreRows IsFaultyRow lines text
+    (lines : List FaultyLine) × AreFaultyLines bytes lines × AreRows (IsFaultyRow bytes) lines text
 
 -- of a file that is refused; nothing where the one line says all
 abbrev pub IsFileReason : RefusedFiles → ReportFault → List ℕ → Type 0

@@ -1,9 +1,12 @@
 -- What a command prints of the bytes of its files, and why it refuses them: a line for each command.
-use Rattle.std.specs.Prelude.{◌≡◌, ℕ, Bool, true, false, List, codes, Option, Result, Ok, Err, unwrap_or}
+use Rattle.std.specs.Prelude.{◌≡◌, ℕ, Bool, true, false, List, codes, drop, Option, Some, None, Result, Ok}
+use Rattle.std.specs.Prelude.{Err, if◌then◌else◌, unwrap_or}
 use Rattle.std.specs.List.{slice_get}
 use Rattle.std.specs.Option.{option_map_or}
 use Rattle.bus_ticks.specs.declared.profile.Profile.{Profile}
 use Rattle.text_explained.specs.declared.bursts.Bursts.{Bursts}
+use Rattle.text_graph.specs.declared.extent.Extent.{Extent}
+use Rattle.text_graph.specs.declared.extent.Extent.TheVariants.{Path, Whole}
 use Rattle.handlers.specs.Placing.{IsRunRefused}
 use Rattle.handlers.specs.Priced.{ByProfile, PricedFault}
 use Rattle.handlers.specs.Report.{IsRefused, IsReport}
@@ -23,9 +26,10 @@ use Rattle.handler_reports.specs.GraphReport.{IsGraphReport}
 use Rattle.handler_reports.specs.TightReport.{IsTightRefused, IsTightReport}
 use Rattle.handler_reports.specs.Verdict.{IsVerdictReport}
 use Rattle.handler_reports.specs.VisitsReport.{AreRefused, IsVisitsReport}
+use Rattle.handler_reports.specs.declared.explain.TableForm.{TableForm}
 use Rattle.handler_reports.specs.declared.visit_rate.VisitRate.{VisitRate}
 use Rattle.handler_reports.specs.declared.visit_rate.VisitRate.TheVariants.{Times, Every}
-use Rattle.response_reports.specs.Question.{Question}
+use Rattle.response_reports.specs.Question.{FiqQuestion, Question}
 use Rattle.response_reports.specs.RespondReport.{IsRespondRefused, IsRespondReport}
 use Rattle.command_line.specs.Line.{Asked}
 use Rattle.command_line.specs.declared.line.Command.{Command}
@@ -63,13 +67,37 @@ priced file Is IsFault = judged file (λ p. Plain (Is p)) IsFault
 abbrev pub bursts_of : CommandNumbers → Bursts
 bursts_of n = record { count = n.bursts; every = n.burst_every }
 
+-- how `explain` prints its table
+abbrev pub form_of : Asked → TableForm
+form_of asked = record { first = asked.first }
+
+-- how much `graph` draws
+abbrev pub extent_of : Bool → Extent
+extent_of path = if path then Path else Whole
+
 -- how often FIQ interrupts the handler of `visits`
 abbrev pub rate_of : CommandNumbers → VisitRate
-rate_of n = option_map_or (λ every. Every every) n.every (Times (unwrap_or n.visits 0))
+rate_of n = option_map_or (λ every. Every every n.waited) n.every (Times (unwrap_or n.visits 0))
 
 -- the source of FIQ's handler, where it is another one
 abbrev pub fiq_source_in : Inputs → Option (List ℕ)
 fiq_source_in i = slice_get i.rest 1
+
+-- FIQ's handler, of the files of `respond` behind the second; None where its statement is not among them
+abbrev pub fiq_asked_in : Asked → Inputs → Option FiqQuestion
+fiq_asked_in asked i =
+    if asked.fiq_statement
+    then Some (record {
+      own = if asked.fiq_source then Some i.fourth else None;
+      statement = i.third;
+      every = unwrap_or asked.numbers.every 0;
+      waited = asked.numbers.waited;
+    })
+    else None
+
+-- how many files are FIQ's
+abbrev pub fiq_files : Asked → ℕ
+fiq_files asked = if asked.fiq_statement then (if asked.fiq_source then 2 else 1) else 0
 
 -- what `respond` is asked, of the bytes of its files
 abbrev pub question_in : Asked → Inputs → Question
@@ -80,8 +108,9 @@ question_in asked i =
       label = asked.word;
       longest = asked.numbers.longest;
       masked = asked.numbers.masked;
-      masked_by = i.rest;
+      masked_by = drop (fiq_files asked) i.rest;
       bursts = bursts_of asked.numbers;
+      fiq = fiq_asked_in asked i;
       within = asked.numbers.within;
     }
 
@@ -123,7 +152,8 @@ module _ (asked : Asked) (i : Inputs) (typed : List ℕ) where
       judged i.profile (IsRespondReport (question_in asked i)) (IsRespondRefused (question_in asked i))
   report_by command.Explain =
       judged i.profile
-      (IsExplainReport i.source i.second asked.numbers.at_most (bursts_of asked.numbers) asked.each)
+      (IsExplainReport i.source i.second asked.numbers.at_most (bursts_of asked.numbers) (form_of asked)
+      asked.each)
       (IsRefused i.source i.second)
   report_by command.Verdict =
       judged i.profile (IsVerdictReport i.source i.second i.third) (IsCheckRefused i.source i.second i.third)
@@ -132,7 +162,8 @@ module _ (asked : Asked) (i : Inputs) (typed : List ℕ) where
   report_by command.FollowVisits =
       judged i.profile (IsFollowVisitsReport i.source i.second i.third i.fourth)
       (AreNotFollowed i.source i.second i.third i.fourth)
-  report_by command.Graph = priced i.profile (IsGraphReport i.source i.second) (IsRefused i.source i.second)
+  report_by command.Graph =
+      priced i.profile (IsGraphReport i.source i.second (extent_of asked.path)) (IsRefused i.source i.second)
 
   abbrev pub report_of : Report
   report_of = report_by asked.command

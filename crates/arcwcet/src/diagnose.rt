@@ -35,7 +35,7 @@ fn source_text(alloc: Global, bytes: &[u8]) -> Result<Vec<u8>, AllocError>
     ensures { IfOk result (λ text. IsSourceReason bytes.now text.items) }
 {
     let lines = faulty_lines(alloc, bytes)?;
-    faulty_text(alloc, &lines)
+    faulty_text(alloc, bytes, &lines)
 }
 
 // What shows why a file is refused; nothing where the one line says all.

@@ -195,8 +195,18 @@ fn bytes_at(files: &[Vec<u8>], place: usize) -> &[u8]
     }
 }
 
-// The files behind the first two.
-fn behind_two(files: &[Vec<u8>]) -> &[Vec<u8>]
+/// The files behind the first one.
+pub(crate) fn behind_one(files: &[Vec<u8>]) -> &[Vec<u8>]
+    ensures { map (λ v. v.items) result.now ≡ drop 1 (map (λ v. v.items) files.now) }
+{
+    match files {
+        [_, rest @ ..] => rest,
+        _ => &[],
+    }
+}
+
+/// Those behind the first two.
+pub(crate) fn behind_two(files: &[Vec<u8>]) -> &[Vec<u8>]
     ensures { map (λ v. v.items) result.now ≡ drop 2 (map (λ v. v.items) files.now) }
 {
     match files {

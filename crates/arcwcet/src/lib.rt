@@ -16,10 +16,10 @@ pub use diagnose::{RefusedFiles, reasons};
 pub use fault::{FileFault, StoreFault};
 pub use files::{HostStore, MOST_INPUT_BYTES, Store, read_limited};
 pub use handler_reports::{
-    AskedEdge, CheckInputs, Explained, FollowedRun, FollowedVisits, VisitRate, VisitedHandler,
-    bound_report, certificates_are_accepted, check_report, explain_report, follow_report,
-    follow_visits_report, graph_report, print_bound, print_check, print_tight, tight_report,
-    verdict_report, visits_report,
+    AskedEdge, CheckInputs, DrawnHandler, Explained, Extent, FollowedRun, FollowedVisits,
+    TableForm, VisitRate, VisitedHandler, bound_report, certificates_are_accepted, check_report,
+    explain_report, follow_report, follow_visits_report, graph_report, print_bound, print_check,
+    print_tight, tight_report, verdict_report, visits_report,
 };
 pub use handlers::{MemoryOutput, Refusal, ReportFault, Stop, StreamOutput, fault_only};
 pub use input::{Input, InputFault, StreamInput};
@@ -27,7 +27,7 @@ pub use law::{input_limit, some_run_has_visits, some_run_keeps};
 pub use machine_file::{MachineFile, read_machine, read_profile};
 pub use machine_reports::{debug_report, run_report, trace_report};
 pub use outputs::{Output, OutputFault, write_whole};
-pub use response_reports::{AskedResponse, respond_report};
+pub use response_reports::{AskedFiq, AskedResponse, respond_report};
 pub use responses::{
     irq_costs_its_entry, response_law, some_run_serves, unmasked_is_taken, visited_response_law,
 };

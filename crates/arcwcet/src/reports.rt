@@ -1,34 +1,38 @@
 //! The reports that commands print.
 
-ghost use Rattle.std.specs.Prelude.{◌≡◌, option_map};
+ghost use Rattle.std.specs.Prelude.{◌≡◌, drop, map, option_map};
 ghost use Rattle.outputs.specs.OnTheWay.{Adds};
 ghost use Rattle.handlers.specs.Priced.{Priced};
 ghost use Rattle.handlers.specs.Refusal.{fault_only};
+ghost use Rattle.handlers.specs.Report.{IsRefused};
 ghost use Rattle.handler_reports.specs.Check.{Checks};
 ghost use Rattle.handler_reports.specs.ExplainReport.{Explains};
 ghost use Rattle.handler_reports.specs.FollowReport.{FollowsRun};
 ghost use Rattle.handler_reports.specs.FollowVisits.{FollowsVisitedRun};
+ghost use Rattle.handler_reports.specs.GraphReport.{IsGraphReport};
 ghost use Rattle.handler_reports.specs.TightReport.{IsTightRefused, IsTightReport};
 ghost use Rattle.handler_reports.specs.Verdict.{ExplainsVerdict};
 ghost use Rattle.handler_reports.specs.VisitsReport.{ReportsVisits};
+ghost use Rattle.response_reports.specs.Question.{fiq_question};
 ghost use Rattle.response_reports.specs.RespondReport.{Responds};
 ghost use Rattle.command_line.specs.Rows.{asked_of};
 ghost use Rattle.arcwcet.specs.Kept.{inputs_lent};
-ghost use Rattle.arcwcet.specs.Reports.{answered, bursts_of, fiq_source_in, priced, question_in, rate_of};
+ghost use Rattle.arcwcet.specs.Reports.{answered, bursts_of, extent_of, fiq_asked_in, fiq_files};
+ghost use Rattle.arcwcet.specs.Reports.{fiq_source_in, form_of, priced, question_in, rate_of};
 ghost use Rattle.arcwcet.specs.Reports.{report_of, version_line, version_report};
 ghost use Rattle.arcwcet.specs.Run.{PrintsReport};
 
-use crate::files::Inputs;
+use crate::files::{Inputs, behind_one, behind_two};
 use command_line::{Command, CommandNumbers, Request, VERSION};
 use handler_reports::{
-    AskedEdge, CheckInputs, Explained, FollowedRun, FollowedVisits, VisitRate, VisitedHandler,
-    explain_report, follow_report, follow_visits_report, graph_report, print_bound, print_check,
-    print_tight, verdict_report, visits_report,
+    AskedEdge, CheckInputs, DrawnHandler, Explained, Extent, FollowedRun, FollowedVisits,
+    TableForm, VisitRate, VisitedHandler, explain_report, follow_report, follow_visits_report,
+    graph_report, print_bound, print_check, print_tight, verdict_report, visits_report,
 };
 use handlers::{Refusal, ReportFault};
 use machine_reports::{ShownRegisters, ShownSteps, debug_report, machine_report};
 use outputs::{Output, Page};
-use response_reports::{AskedResponse, respond_report};
+use response_reports::{AskedFiq, AskedResponse, respond_report};
 use source_reports::{asm_report, draft_on_report, draft_report, list_report};
 use std::alloc::Global;
 use text_explained::Bursts;
@@ -98,6 +102,33 @@ fn print_edge<'b, O: Output>(
     answered(print_tight(alloc, asked, inputs.profile, out))
 }
 
+// How much `graph` draws.
+fn extent_of(path: bool) -> Extent
+    ensures { result ≡ extent_of path }
+{
+    if path { Extent::Path } else { Extent::Whole }
+}
+
+// `graph`, of a source and a statement.
+fn print_drawing<'b, O: Output>(
+    alloc: Global,
+    inputs: Inputs<'b>,
+    path: bool,
+    out: &mut O,
+) -> Result<bool, Refusal<'b>>
+    ensures { PrintsReport O.taken O.failures
+        (priced (inputs_lent inputs.entry).profile
+        (IsGraphReport inputs.entry.source.now inputs.entry.second.now (extent_of path))
+        (IsRefused inputs.entry.source.now inputs.entry.second.now)) out.old out.new (fault_only result) }
+{
+    let drawn = DrawnHandler {
+        source: inputs.source,
+        statement: inputs.second,
+        extent: extent_of(path),
+    };
+    answered(graph_report(alloc, drawn, inputs.profile, out))
+}
+
 // `check`, of a source, a statement and a certificate.
 fn print_checked<'b, O: Output>(
     alloc: Global,
@@ -121,7 +152,10 @@ fn rate_of(numbers: CommandNumbers) -> VisitRate
     ensures { result ≡ rate_of numbers }
 {
     match numbers.every {
-        Some(every) => VisitRate::Every(every),
+        Some(every) => VisitRate::Every {
+            every,
+            waited: numbers.waited,
+        },
         None => VisitRate::Times(numbers.visits.unwrap_or(0)),
     }
 }
@@ -167,7 +201,44 @@ fn bursts_of(numbers: CommandNumbers) -> Bursts
     }
 }
 
-// `respond`, of a source, the handler's statement and those of what holds the interrupt back.
+// FIQ's handler, of the files of `respond`.
+fn fiq_asked<'b>(request: &Request<'_>, inputs: Inputs<'b>) -> Option<AskedFiq<'b>>
+    ensures { option_map fiq_question result
+        ≡ fiq_asked_in (asked_of request.now) (inputs_lent inputs.entry) }
+{
+    if !request.fiq_statement {
+        return None;
+    }
+    let source = if request.fiq_source {
+        Some(inputs.fourth)
+    } else {
+        None
+    };
+    Some(AskedFiq {
+        source,
+        statement: inputs.third,
+        every: request.numbers.every.unwrap_or(0),
+        waited: request.numbers.waited,
+    })
+}
+
+// The statements on what holds the interrupt back, behind FIQ's files.
+fn masked_by<'b>(request: &Request<'_>, inputs: Inputs<'b>) -> &'b [Vec<u8>]
+    ensures { map (λ v. v.items) result.now
+        ≡ drop (fiq_files (asked_of request.now)) (inputs_lent inputs.entry).rest }
+{
+    if !request.fiq_statement {
+        return inputs.rest;
+    }
+    if request.fiq_source {
+        behind_two(inputs.rest)
+    } else {
+        behind_one(inputs.rest)
+    }
+}
+
+// `respond`, of a source, the handler's statement, FIQ's handler, and the statements on what holds the
+// interrupt back.
 fn print_response<'b, O: Output>(
     alloc: Global,
     job: Job<'b, '_>,
@@ -185,32 +256,43 @@ fn print_response<'b, O: Output>(
         label: job.request.word.as_bytes(),
         longest: numbers.longest,
         masked: numbers.masked,
-        masked_by: inputs.rest,
+        masked_by: masked_by(job.request, inputs),
         bursts: bursts_of(numbers),
+        fiq: fiq_asked(job.request, inputs),
         within: numbers.within,
     };
     respond_report(alloc, asked, inputs.profile, out)
 }
 
+fn form_of(request: &Request<'_>) -> TableForm
+    ensures { result ≡ form_of (asked_of request.now) }
+{
+    TableForm {
+        first: request.first,
+    }
+}
+
 // `explain`, of a source and a statement.
 fn print_explanation<'b, O: Output>(
     alloc: Global,
-    inputs: Inputs<'b>,
-    numbers: CommandNumbers,
-    each: bool,
+    job: Job<'b, '_>,
     out: &mut O,
 ) -> Result<bool, Refusal<'b>>
-    ensures { Priced (inputs_lent inputs.entry).profile
-        (λ p. Explains O.taken O.failures inputs.entry.source.now inputs.entry.second.now
-        numbers.at_most (bursts_of numbers) each p out.old out.new (fault_only result)) out.old out.new
-        (fault_only result) }
+    ensures { let inputs = inputs_lent job.entry.inputs in
+        let asked = asked_of job.entry.request.now in
+        Priced inputs.profile
+        (λ p. Explains O.taken O.failures inputs.source inputs.second asked.numbers.at_most
+        (bursts_of asked.numbers) (form_of asked) asked.each p out.old out.new (fault_only result)) out.old
+        out.new (fault_only result) }
 {
+    let (inputs, numbers) = (job.inputs, job.request.numbers);
     let explained = Explained {
         source: inputs.source,
         statement: inputs.second,
         at_most: numbers.at_most,
         bursts: bursts_of(numbers),
-        each,
+        form: form_of(job.request),
+        each: job.request.each,
     };
     explain_report(alloc, explained, inputs.profile, out)
 }
@@ -308,10 +390,10 @@ pub(crate) fn print<'b, O: Output>(
         Command::Check => print_checked(alloc, inputs, out),
         Command::Visits => print_visited(alloc, inputs, numbers, out),
         Command::Respond => print_response(alloc, job, out),
-        Command::Explain => print_explanation(alloc, inputs, numbers, job.request.each, out),
+        Command::Explain => print_explanation(alloc, job, out),
         Command::Verdict => print_verdict(alloc, inputs, out),
         Command::Follow => print_followed(alloc, inputs, out),
         Command::FollowVisits => print_followed_visits(alloc, inputs, out),
-        Command::Graph => answered(graph_report(alloc, source, second, profile, out)),
+        Command::Graph => print_drawing(alloc, inputs, job.request.path, out),
     }
 }

@@ -55,7 +55,17 @@ pub(crate) fn line_status<E: Output>(fault: CommandLineFault, err: &mut E) -> u8
             2
         }
         CommandLineFault::VisitsOrPeriod => {
-            let _ = write_whole(err, b"error: either K or --every N has to be given\n");
+            let _ = write_whole(
+                err,
+                b"error: either K or --every N has to be given, --waited with the latter alone\n",
+            );
+            2
+        }
+        CommandLineFault::FiqOptions => {
+            let _ = write_whole(
+                err,
+                b"error: --fiq-statement needs --every and no bursts; --fiq-source and --waited need it\n",
+            );
             2
         }
         CommandLineFault::OptionBesideCertificate => {

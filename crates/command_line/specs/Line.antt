@@ -77,19 +77,24 @@ usages =
     ∷ usage (codes "visits") command.Visits
     (profile ∷ source ∷ statement ∷ argument (codes "fiq_statement") form.File
     ∷ argument (codes "visits") form.OptionalNumber ∷ argument (codes "every") form.NumberOption
-    ∷ argument (codes "fiq-source") form.FileOption ∷ [])
+    ∷ argument (codes "fiq-source") form.FileOption ∷ argument (codes "waited") form.TicksOption ∷ [])
     ∷ usage (codes "respond") command.Respond
     (profile ∷ source ∷ statement ∷ argument (codes "label") form.Word
     ∷ argument (codes "longest") form.TicksOption ∷ argument (codes "masked") form.TicksOption
+    ∷ argument (codes "fiq-statement") form.FiqStatementOption
+    ∷ argument (codes "fiq-source") form.FiqSourceOption
     ∷ argument (codes "masked-by") form.FilesOption ∷ argument (codes "bursts") form.NumberOption
-    ∷ argument (codes "burst-every") form.NumberOption ∷ argument (codes "within") form.TicksOption ∷ [])
+    ∷ argument (codes "burst-every") form.NumberOption ∷ argument (codes "every") form.NumberOption
+    ∷ argument (codes "waited") form.TicksOption ∷ argument (codes "within") form.TicksOption ∷ [])
     ∷ usage (codes "explain") command.Explain
     (profile ∷ source ∷ statement ∷ argument (codes "at-most") form.TicksOption
     ∷ argument (codes "bursts") form.NumberOption ∷ argument (codes "burst-every") form.NumberOption
-    ∷ argument (codes "each") form.Each ∷ other (codes "certificate") form.FileOption command.Verdict ∷ [])
+    ∷ argument (codes "each") form.Each ∷ argument (codes "first") form.First
+    ∷ other (codes "certificate") form.FileOption command.Verdict ∷ [])
     ∷ usage (codes "follow") command.Follow
     (profile ∷ source ∷ statement ∷ other (codes "fiq") form.FileOption command.FollowVisits ∷ machine ∷ [])
-    ∷ usage (codes "graph") command.Graph (profile ∷ source ∷ statement ∷ [])
+    ∷ usage (codes "graph") command.Graph
+    (profile ∷ source ∷ statement ∷ argument (codes "path") form.Path ∷ [])
     ∷ []
 
 -- ## The words that clap takes
@@ -121,11 +126,15 @@ rule_by form.FileOrWord id = required_rule id
 rule_by form.OptionalNumber id = numbered (new_rule id)
 rule_by form.ProfileOption id = record (option_rule id) { value_names = 1 }
 rule_by form.FileOption id = record (option_rule id) { value_names = 1 }
+rule_by form.FiqStatementOption id = record (option_rule id) { value_names = 1 }
+rule_by form.FiqSourceOption id = record (option_rule id) { value_names = 1 }
 rule_by form.FilesOption id = record (option_rule id) { value_names = 1; action = Some Append }
 rule_by form.NumberOption id = numbered (option_rule id)
 rule_by form.TicksOption id = in_ticks (option_rule id)
 rule_by form.Why id = record (option_rule id) { action = Some SetTrue }
 rule_by form.Each id = record (option_rule id) { action = Some SetTrue }
+rule_by form.First id = record (option_rule id) { action = Some SetTrue }
+rule_by form.Path id = record (option_rule id) { action = Some SetTrue }
 
 abbrev pub rule_as : Argument → Rule
 rule_as a = rule_by a.form a.id
@@ -150,12 +159,17 @@ arcwcet_command = with_commands arcwcet_top usages
 
 -- ## What is asked for
 
--- a command, whether to print what shows the reason of a refusal, and the bound of each destination alone,
--- the names of files, the cycle profile's apart, a word that names no file to be read, and numbers
+-- a command, whether to print what shows the reason of a refusal, the bound of each destination alone, and first
+-- starts, whether the first files behind the second are FIQ's statement and its source, the names of files, the
+-- cycle profile's apart, a word that names no file to be read, and numbers
 pub record Asked : Type 0 where
   pub command : Command
   pub why : Bool
   pub each : Bool
+  pub first : Bool
+  pub fiq_statement : Bool
+  pub fiq_source : Bool
+  pub path : Bool
   pub profile : Option Text
   pub files : List Text
   pub word : Text
@@ -168,6 +182,10 @@ plainly command numbers =
       command = command;
       why = false;
       each = false;
+      first = false;
+      fiq_statement = false;
+      fiq_source = false;
+      path = false;
       profile = None;
       files = [];
       word = [];
@@ -193,6 +211,7 @@ numbers_in rows =
       edge = unwrap_or (number_at (codes "tight") rows) 0;
       visits = number_at (codes "visits") rows;
       every = number_at (codes "every") rows;
+      waited = ticks_at (codes "waited") rows;
       at_most = ticks_at (codes "at-most") rows;
       bursts = number_at (codes "bursts") rows;
       burst_every = number_at (codes "burst-every") rows;
@@ -207,6 +226,7 @@ no_numbers =
       edge = 0;
       visits = None;
       every = None;
+      waited = None;
       at_most = None;
       bursts = None;
       burst_every = None;
@@ -227,6 +247,8 @@ with_file name asked = record asked { files = asked.files ++ name ∷ [] }
 abbrev pub with_value_by : Form → Text → Asked → Asked
 with_value_by form.File name asked = with_file name asked
 with_value_by form.FileOption name asked = with_file name asked
+with_value_by form.FiqStatementOption name asked = with_file name (record asked { fiq_statement = true })
+with_value_by form.FiqSourceOption name asked = with_file name (record asked { fiq_source = true })
 with_value_by form.FilesOption name asked = with_file name asked
 with_value_by form.Word word asked = record asked { word = word }
 with_value_by form.FileOrWord value asked =
@@ -234,6 +256,8 @@ with_value_by form.FileOrWord value asked =
 with_value_by form.ProfileOption name asked = record asked { profile = Some name }
 with_value_by form.Why value asked = record asked { why = bytes_eq value (codes "true") }
 with_value_by form.Each value asked = record asked { each = bytes_eq value (codes "true") }
+with_value_by form.First value asked = record asked { first = bytes_eq value (codes "true") }
+with_value_by form.Path value asked = record asked { path = bytes_eq value (codes "true") }
 with_value_by form.OptionalNumber value asked = asked
 with_value_by form.NumberOption value asked = asked
 with_value_by form.TicksOption value asked = asked
@@ -265,15 +289,30 @@ asked_as u rows =
 abbrev pub is_one : Option ℕ → Option ℕ → Bool
 is_one first second = if is_none first then not (is_none second) else is_none second
 
--- `asm` writes no image over a file that it reads, `visits` has either a number of visits or a period, and
--- beside the certificate of a verdict neither a number nor `--each` is given, which would have no effect
+-- how often FIQ comes is given once, and for how long it may have waited beside a period alone
+abbrev pub is_rate : CommandNumbers → Bool
+is_rate n = if not (is_one n.visits n.every) then false else (is_none n.visits || is_none n.waited)
+
+-- FIQ's statement has a period, and no bursts beside it; and without it nothing else of FIQ is given
+abbrev pub are_fiq_options : Asked → Bool
+are_fiq_options asked =
+    if asked.fiq_statement
+    then not (is_none asked.numbers.every)
+    && (is_none asked.numbers.bursts && is_none asked.numbers.burst_every)
+    else not asked.fiq_source && (is_none asked.numbers.every && is_none asked.numbers.waited)
+
+-- `asm` writes no image over a file that it reads, `visits` has either a number of visits or a period,
+-- `respond` has all or nothing of FIQ, and beside the certificate of a verdict neither a number nor `--each` nor
+-- `--first` is given, which would have no effect
 abbrev pub is_allowed_of : Command → Asked → Bool
 is_allowed_of command.Asm asked = not (list_any (λ name. bytes_eq name asked.word) asked.files)
-is_allowed_of command.Visits asked = is_one asked.numbers.visits asked.numbers.every
+is_allowed_of command.Visits asked = is_rate asked.numbers
+is_allowed_of command.Respond asked = are_fiq_options asked
 is_allowed_of command.Verdict asked =
     not asked.each
+    && (not asked.first
     && (is_none asked.numbers.at_most
-    && (is_none asked.numbers.bursts && is_none asked.numbers.burst_every))
+    && (is_none asked.numbers.bursts && is_none asked.numbers.burst_every)))
 is_allowed_of c asked = true
 
 abbrev pub is_allowed : Asked → Bool

@@ -19,6 +19,10 @@ pub(crate) enum Form {
     ProfileOption,
     /// The name of a file to be read, by an option.
     FileOption,
+    /// The name of the file of FIQ's statement, by an option.
+    FiqStatementOption,
+    /// The name of the file of FIQ's source, by an option.
+    FiqSourceOption,
     /// The names of files to be read, by an option that may be given again.
     FilesOption,
     /// A whole number of 32 bits, by an option.
@@ -29,6 +33,10 @@ pub(crate) enum Form {
     Why,
     /// The option that asks for the bound of each destination alone.
     Each,
+    /// The option that asks for first starts.
+    First,
+    /// The option that asks for the longest run's path alone.
+    Path,
 }
 
 /// An argument, what the help says of it, and what is asked for instead where it is given, if that is another
@@ -184,6 +192,20 @@ const EACH: ArgumentRow = ArgumentRow {
     instead: None,
 };
 
+const FIRST: ArgumentRow = ArgumentRow {
+    id: "first",
+    form: Form::First,
+    help: "Print by which tick each word begins for the first time too, which takes longer",
+    instead: None,
+};
+
+const PATH: ArgumentRow = ArgumentRow {
+    id: "path",
+    form: Form::Path,
+    help: "Draw what the longest run takes alone",
+    instead: None,
+};
+
 const CERTIFICATE: ArgumentRow = ArgumentRow {
     id: "certificate",
     form: Form::FileOption,
@@ -230,6 +252,41 @@ const FIQ_SOURCE: ArgumentRow = ArgumentRow {
     id: "fiq-source",
     form: Form::FileOption,
     help: "Source of FIQ's handler, where it is another one",
+    instead: None,
+};
+
+const WAITED: ArgumentRow = ArgumentRow {
+    id: "waited",
+    form: Form::TicksOption,
+    help: "For how many ticks FIQ may have waited, with --every [default: as IRQ's taking lasts]",
+    instead: None,
+};
+
+const RESPONSE_FIQ_STATEMENT: ArgumentRow = ArgumentRow {
+    id: "fiq-statement",
+    form: Form::FiqStatementOption,
+    help: "Statement on FIQ's handler: print the response of IRQ's with its visits too; give --every",
+    instead: None,
+};
+
+const RESPONSE_FIQ_SOURCE: ArgumentRow = ArgumentRow {
+    id: "fiq-source",
+    form: Form::FiqSourceOption,
+    help: "Source of FIQ's handler, where it is another one",
+    instead: None,
+};
+
+const RESPONSE_EVERY: ArgumentRow = ArgumentRow {
+    id: "every",
+    form: Form::NumberOption,
+    help: "FIQ is taken once in N ticks, at most",
+    instead: None,
+};
+
+const RESPONSE_WAITED: ArgumentRow = ArgumentRow {
+    id: "waited",
+    form: Form::TicksOption,
+    help: "For how many ticks FIQ may have waited [default: 0, or all while IRQ is held back]",
     instead: None,
 };
 
@@ -295,6 +352,7 @@ pub(crate) const COMMANDS: [CommandRow; 13] = [
             VISITS,
             EVERY,
             FIQ_SOURCE,
+            WAITED,
         ],
     },
     CommandRow {
@@ -308,9 +366,13 @@ pub(crate) const COMMANDS: [CommandRow; 13] = [
             LABEL,
             LONGEST,
             MASKED,
+            RESPONSE_FIQ_STATEMENT,
+            RESPONSE_FIQ_SOURCE,
             MASKED_BY,
             RESPONSE_BURSTS,
             RESPONSE_BURST_EVERY,
+            RESPONSE_EVERY,
+            RESPONSE_WAITED,
             WITHIN,
         ],
     },
@@ -326,6 +388,7 @@ pub(crate) const COMMANDS: [CommandRow; 13] = [
             BURSTS,
             BURST_EVERY,
             EACH,
+            FIRST,
             CERTIFICATE,
         ],
     },
@@ -339,6 +402,6 @@ pub(crate) const COMMANDS: [CommandRow; 13] = [
         name: "graph",
         command: Command::Graph,
         summary: "Print a handler's flow graph in DOT, the language of Graphviz",
-        arguments: &[PROFILE, SOURCE, STATEMENT],
+        arguments: &[PROFILE, SOURCE, STATEMENT, PATH],
     },
 ];

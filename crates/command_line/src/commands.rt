@@ -18,7 +18,8 @@ fn argument<'a>(alloc: Global, row: &ArgumentRow) -> Arg<'a>
     match row.form {
         Form::File | Form::Word | Form::FileOrWord => arg.required(true),
         Form::OptionalNumber => arg.value_name("K").value_parser(value_parser!(u32)),
-        Form::ProfileOption | Form::FileOption => arg.long(row.id).value_name("FILE"),
+        Form::ProfileOption | Form::FileOption | Form::FiqStatementOption | Form::FiqSourceOption =>
+            arg.long(row.id).value_name("FILE"),
         Form::FilesOption => arg
             .long(row.id)
             .value_name("FILE")
@@ -31,7 +32,9 @@ fn argument<'a>(alloc: Global, row: &ArgumentRow) -> Arg<'a>
             .long(row.id)
             .value_name("N")
             .value_parser(value_parser!(u64).range(..=i64::MAX)),
-        Form::Why | Form::Each => arg.long(row.id).action(ArgAction::SetTrue),
+        Form::Why | Form::Each | Form::First | Form::Path => {
+            arg.long(row.id).action(ArgAction::SetTrue)
+        }
     }
 }
 

@@ -30,8 +30,9 @@ pub enum Command {
     /// or with one in [`CommandNumbers::every`] ticks. On FIQ's handler the third file is the statement; its
     /// source is the fourth, if there is one.
     Visits,
-    /// How long after an interrupt its handler's step at the label or address [`Request::word`] ends. The
-    /// files from the third on are the statements on the stretches of code that hold the interrupt back.
+    /// How long after an interrupt its handler's step at the label or address [`Request::word`] ends. Behind
+    /// the second file come those of FIQ's handler, as [`Request::fiq_statement`] and [`Request::fiq_source`]
+    /// say, and then the statements on the stretches of code that hold the interrupt back.
     Respond,
     /// Where the ticks of the handler's run time go.
     Explain,
@@ -55,6 +56,8 @@ pub struct CommandNumbers {
     pub visits: Option<u32>,
     /// FIQ interrupts it at most once in so many ticks.
     pub every: Option<u32>,
+    /// For how many ticks FIQ may have waited at the beginning, to 2^63 - 1.
+    pub waited: Option<u64>,
     /// The most ticks that are wanted of the bound, to 2^63 - 1.
     pub at_most: Option<u64>,
     /// So many DMA bursts.
@@ -77,6 +80,14 @@ pub struct Request<'a> {
     pub why: bool,
     /// Whether the bound for each destination of each target alone is to be printed too.
     pub each: bool,
+    /// Whether the table of an explanation has the ticks by which words begin for the first time too.
+    pub first: bool,
+    /// Whether the third file of `respond` is the statement on FIQ's handler.
+    pub fiq_statement: bool,
+    /// Whether the file behind that is its source.
+    pub fiq_source: bool,
+    /// Whether of a drawing what the longest run takes is to be printed alone.
+    pub path: bool,
     /// The name of a cycle profile's file.
     pub profile: Option<&'a str>,
     /// The names of the other files to be read, in their order.
@@ -95,8 +106,11 @@ pub enum CommandLineFault {
     Usage(Error),
     /// `asm` would write the image over its source.
     SourceReplaced,
-    /// `visits` is given neither a number of visits nor a period, or both.
+    /// `visits` is given neither a number of visits nor a period, or both, or a number and FIQ's wait.
     VisitsOrPeriod,
+    /// `respond` is given FIQ's statement without a period or beside bursts, or another option of FIQ's without
+    /// the statement.
+    FiqOptions,
     /// `explain` is given a certificate, and an option that has no effect beside it.
     OptionBesideCertificate,
 }

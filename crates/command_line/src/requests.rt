@@ -5,8 +5,9 @@ ghost use Rattle.std.specs.Str.{bytes_eq};
 ghost use Rattle.clap.specs.Matches.{found_of};
 ghost use Rattle.clap.specs.Walk.{rows_of};
 ghost use Rattle.clap.specs.Words.{kind_of, subcommand_rows_of};
-ghost use Rattle.command_line.specs.Line.{asked_as, asked_by, asked_in, asks_version, command_by, is_allowed};
-ghost use Rattle.command_line.specs.Line.{is_one, names_file, no_numbers, number_at, numbers_in, plainly};
+ghost use Rattle.command_line.specs.Line.{are_fiq_options, asked_as, asked_by, asked_in, asks_version};
+ghost use Rattle.command_line.specs.Line.{command_by, is_allowed, is_one, is_rate};
+ghost use Rattle.command_line.specs.Line.{names_file, no_numbers, number_at, numbers_in, plainly};
 ghost use Rattle.command_line.specs.Line.{ticks_at, with_argument, with_value, with_value_by};
 ghost use Rattle.command_line.specs.Rows.{argument_of, asked_of, usage_of};
 
@@ -38,6 +39,7 @@ fn numbers_in(values: &ArgMatches<'_>) -> CommandNumbers
         edge: number_at(values, "tight").unwrap_or(0),
         visits: number_at(values, "visits"),
         every: number_at(values, "every"),
+        waited: ticks_at(values, "waited"),
         at_most: ticks_at(values, "at-most"),
         bursts: number_at(values, "bursts"),
         burst_every: number_at(values, "burst-every"),
@@ -84,6 +86,26 @@ fn add_file_or_word<'a>(request: &mut Request<'a>, value: &'a str) -> Result<(),
     Ok(())
 }
 
+// Adds the file of FIQ's statement.
+fn add_fiq_statement<'a>(request: &mut Request<'a>, name: &'a str) -> Result<(), AllocError>
+    ensures { OnOk result (asked_of request.new
+        ≡ with_value_by Form.FiqStatementOption name.now (asked_of request.old)) }
+{
+    request.fiq_statement = true;
+    request.files.push(name)?;
+    Ok(())
+}
+
+// Adds that of FIQ's source.
+fn add_fiq_source<'a>(request: &mut Request<'a>, name: &'a str) -> Result<(), AllocError>
+    ensures { OnOk result (asked_of request.new
+        ≡ with_value_by Form.FiqSourceOption name.now (asked_of request.old)) }
+{
+    request.fiq_source = true;
+    request.files.push(name)?;
+    Ok(())
+}
+
 // Adds to what is asked the value of an argument.
 fn add_value<'a>(
     request: &mut Request<'a>,
@@ -96,11 +118,15 @@ fn add_value<'a>(
     request.command = command_by(row, value, request.command);
     match row.form {
         Form::File | Form::FileOption | Form::FilesOption => request.files.push(value)?,
+        Form::FiqStatementOption => add_fiq_statement(request, value)?,
+        Form::FiqSourceOption => add_fiq_source(request, value)?,
         Form::FileOrWord => add_file_or_word(request, value)?,
         Form::Word => request.word = value,
         Form::ProfileOption => request.profile = Some(value),
         Form::Why => request.why = value == "true",
         Form::Each => request.each = value == "true",
+        Form::First => request.first = value == "true",
+        Form::Path => request.path = value == "true",
         Form::OptionalNumber | Form::NumberOption | Form::TicksOption => {}
     }
     Ok(())
@@ -137,6 +163,10 @@ fn asked<'a>(
         command: row.command,
         why: false,
         each: false,
+        first: false,
+        fiq_statement: false,
+        fiq_source: false,
+        path: false,
         profile: None,
         files: Vec::new(alloc),
         word: "",
@@ -167,17 +197,41 @@ fn is_one(first: Option<u32>, second: Option<u32>) -> bool
     }
 }
 
+// Whether how often FIQ comes is given once, and for how long it may have waited beside a period alone.
+fn is_rate(numbers: CommandNumbers) -> bool
+    ensures { result ≡ is_rate numbers }
+{
+    if !is_one(numbers.visits, numbers.every) {
+        return false;
+    }
+    numbers.visits.is_none() || numbers.waited.is_none()
+}
+
+// Whether FIQ's statement has a period, and no bursts beside it; and without it there is nothing of FIQ.
+fn are_fiq_options(request: &Request<'_>) -> bool
+    ensures { result ≡ are_fiq_options (asked_of request.now) }
+{
+    let numbers = request.numbers;
+    if request.fiq_statement {
+        return numbers.every.is_some() && numbers.bursts.is_none() && numbers.burst_every.is_none();
+    }
+    !request.fiq_source && numbers.every.is_none() && numbers.waited.is_none()
+}
+
 // Whether what is asked may be: the image of `asm` is no file that it reads, `visits` has a number or a
-// period, and no option that has no effect stands beside the certificate of a verdict.
+// period, `respond` has all or nothing of FIQ, and no option that has no effect stands beside the certificate
+// of a verdict.
 fn is_allowed(request: &Request<'_>) -> bool
     ensures { result ≡ is_allowed (asked_of request.now) }
 {
     match request.command {
         Command::Asm => !is_among(&request.files, request.word),
-        Command::Visits => is_one(request.numbers.visits, request.numbers.every),
+        Command::Visits => is_rate(request.numbers),
+        Command::Respond => are_fiq_options(request),
         Command::Verdict => {
             let numbers = request.numbers;
             !request.each
+                && !request.first
                 && numbers.at_most.is_none()
                 && numbers.bursts.is_none()
                 && numbers.burst_every.is_none()
@@ -251,6 +305,7 @@ fn unasked(matches: &ArgMatches<'_>) -> CommandLineFault {
     match matches.subcommand() {
         Some(("explain", _)) => CommandLineFault::OptionBesideCertificate,
         Some(("visits", _)) => CommandLineFault::VisitsOrPeriod,
+        Some(("respond", _)) => CommandLineFault::FiqOptions,
         _ => CommandLineFault::SourceReplaced,
     }
 }
@@ -275,6 +330,10 @@ fn version<'a>(alloc: Global) -> Request<'a>
         command: Command::Version,
         why: false,
         each: false,
+        first: false,
+        fiq_statement: false,
+        fiq_source: false,
+        path: false,
         profile: None,
         files: Vec::new(alloc),
         word: "",
@@ -282,6 +341,7 @@ fn version<'a>(alloc: Global) -> Request<'a>
             edge: 0,
             visits: None,
             every: None,
+            waited: None,
             at_most: None,
             bursts: None,
             burst_every: None,
@@ -298,8 +358,10 @@ fn version<'a>(alloc: Global) -> Request<'a>
 ///
 /// Where the words ask for nothing: `Usage` with the command-line crate's own refusal, or its help;
 /// `SourceReplaced` where `asm` would write the image over its source; `VisitsOrPeriod` where `visits` has
-/// neither a number of visits nor a period, or both; `OptionBesideCertificate` where `explain` has a
-/// certificate and an option for bounds. `Memory`: an allocation failed.
+/// neither a number of visits nor a period, or both, or FIQ's wait beside a number; `FiqOptions` where
+/// `respond` has FIQ's statement without a period or beside bursts, or else an option of FIQ's;
+/// `OptionBesideCertificate` where `explain` has a certificate and an option for explanations. `Memory`: an
+/// allocation failed.
 pub fn request<'a>(alloc: Global, words: &'a [String]) -> Result<Request<'a>, CommandLineFault>
     ensures read { IfOk result (λ q. asked_in words.entry.now ≡ Some (asked_of q)) }
     ensures refused { IfErr result

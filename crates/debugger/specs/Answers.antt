@@ -3,6 +3,7 @@ use Rattle.std.specs.Prelude.{◌≡◌, ◌⊎◌, ℕ, ◌+◌, ◌*◌, ◌<�
 use Rattle.std.specs.Prelude.{◌∷◌, ◌++◌, codes, length, Option, Some, None, Ok, Err, is_some}
 use Rattle.std.specs.Int.RustNames.{bit_or}
 use Rattle.bitflags.specs.Sets.{without}
+use Rattle.image.specs.Labels.{Names}
 use Rattle.ioc.specs.declared.lines.Lines.{Lines}
 use Rattle.memc.specs.Memory.{Memory, located}
 use Rattle.arm2_exec.specs.declared.machine.Input.{Input}
@@ -16,8 +17,8 @@ use Rattle.asm_text.specs.Hex.{hex8}
 use Rattle.arm2_exec.specs.declared.machine.Traced.{Traced}
 use Rattle.text_trace.specs.TraceText.{IsTraceLine, TracesRun, registers_text, ticks_text}
 use Rattle.debugger.specs.declared.command.Command.{Command}
-use Rattle.debugger.specs.declared.command.Command.TheVariants.{Step, Run, ListBreaks, Break, Regs, Mem, Dis}
-use Rattle.debugger.specs.declared.command.Command.TheVariants.{Ticks, Burst, Line, Port}
+use Rattle.debugger.specs.declared.command.Command.TheVariants.{Nothing, Step, Run, ListBreaks, Break, Regs}
+use Rattle.debugger.specs.declared.command.Command.TheVariants.{Mem, Dis, Ticks, Burst, Line, Port}
 use Rattle.debugger.specs.declared.fault.DebugFault.{DebugFault}
 use Rattle.debugger.specs.declared.fault.DebugFault.TheVariants.{NoPage, MachineStopped, TooManyBreaks}
 use Rattle.debugger.specs.declared.rows.Row.{Row}
@@ -115,6 +116,7 @@ Shows s after is_answer = is_answer × (after ≡ s)
 -- ## Commands
 
 abbrev pub Answers : SessionState → Command → (answer : List ℕ) → (after : SessionState) → Type 0
+Answers s Nothing answer after = Sets answer after s
 Answers s (Step n) answer after = AnswersStep s n answer after
 Answers s (Run n) answer after = AnswersRun s n answer after
 Answers s ListBreaks answer after = Shows s after (Ascending s.breaks × (answer ≡ breaks_text s.breaks))
@@ -140,11 +142,12 @@ Refuses s _ fault = ⊥
 
 -- ## Lines
 
-abbrev pub AnswersLine : SessionState → (line answer : List ℕ) → SessionState → Type 0
-AnswersLine s line answer after =
-    (command : Command) × (command_of line ≡ Ok command) × Answers s command answer after
+-- by the labels of the source
+abbrev pub AnswersLine : Names → SessionState → (line answer : List ℕ) → SessionState → Type 0
+AnswersLine names s line answer after =
+    (command : Command) × (command_of names line ≡ Ok command) × Answers s command answer after
 
-abbrev pub RefusesLine : SessionState → (line : List ℕ) → DebugFault → Type 0
-RefusesLine s line fault =
-    (command_of line ≡ Err fault)
-    ⊎ ((command : Command) × (command_of line ≡ Ok command) × Refuses s command fault)
+abbrev pub RefusesLine : Names → SessionState → (line : List ℕ) → DebugFault → Type 0
+RefusesLine names s line fault =
+    (command_of names line ≡ Err fault)
+    ⊎ ((command : Command) × (command_of names line ≡ Ok command) × Refuses s command fault)

@@ -1,6 +1,7 @@
 -- A whole session.
 use Rattle.std.specs.Prelude.{◌≡◌, ◌⊎◌, ℕ, Bool, true, false, List, [], ◌∷◌, ◌++◌, codes}
 use Rattle.std.specs.Str.{bytes_eq}
+use Rattle.image.specs.Labels.{Names}
 use Rattle.debugger.specs.declared.fault.DebugFault.{DebugFault}
 use Rattle.debugger.specs.Answers.{AnswersLine, RefusesLine}
 use Rattle.debugger.specs.Faults.{fault_name}
@@ -23,14 +24,14 @@ Unless true text goes_on = text ≡ []
 Unless false text goes_on = goes_on
 
 -- a command changes the session and adds its answer; a refused one adds a line that names why
-abbrev pub AnswersOrRefuses : SessionState → (line text : List ℕ) → SessionState → Type 0
-AnswersOrRefuses s line text after =
-    AnswersLine s line text after
-    ⊎ ((fault : DebugFault) × RefusesLine s line fault × (text ≡ refusal_text fault) × (after ≡ s))
+abbrev pub AnswersOrRefuses : Names → SessionState → (line text : List ℕ) → SessionState → Type 0
+AnswersOrRefuses names s line text after =
+    AnswersLine names s line text after
+    ⊎ ((fault : DebugFault) × RefusesLine names s line fault × (text ≡ refusal_text fault) × (after ≡ s))
 
--- what a session answers to some lines, in their order, up to one that quits
-abbrev pub Converses : SessionState → (lines : List (List ℕ)) → (text : List ℕ) → Type 0
-Converses s [] text = text ≡ []
-Converses s (line ∷ rest) text = Unless (is_quit line) text (
-    (own : List ℕ) × (after : SessionState) × AnswersOrRefuses s line own after × (more : List ℕ)
-    × Converses after rest more × (text ≡ own ++ more))
+-- what a session answers to some lines, in their order, up to one that quits, by the labels of the source
+abbrev pub Converses : Names → SessionState → (lines : List (List ℕ)) → (text : List ℕ) → Type 0
+Converses names s [] text = text ≡ []
+Converses names s (line ∷ rest) text = Unless (is_quit line) text (
+    (own : List ℕ) × (after : SessionState) × AnswersOrRefuses names s line own after × (more : List ℕ)
+    × Converses names after rest more × (text ≡ own ++ more))

@@ -12,6 +12,8 @@ pub(crate) const MOST_SHOWN_WORDS: usize = 16;
 /// A command, with its numbers in their ranges.
 #[derive(Clone, Copy)]
 pub enum Command {
+    /// A line without words.
+    Nothing,
     /// A number of steps.
     Step(u32),
     /// A number of steps, up to a breakpoint.

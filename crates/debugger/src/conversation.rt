@@ -3,12 +3,14 @@ ghost use Rattle.asm_text.specs.Source.{lines_of};
 ghost use Rattle.asm_text.specs.Appended.{Appends};
 ghost use Rattle.debugger.specs.Conversation.{Converses, AnswersOrRefuses, is_quit, refusal_text};
 ghost use Rattle.debugger.specs.SessionState.{begun};
+ghost use Rattle.image.specs.Labels.{address_of};
 
 use crate::fault::{DebugFault, fault_name};
 use crate::session::Session;
 use crate::words::first_word;
 use arm2_exec::Machine;
 use asm_text::first_line;
+use image::Labels;
 use std::alloc::{AllocError, Global};
 
 // Whether the line's one word is `quit`.
@@ -34,14 +36,15 @@ fn put_answer(
     out: &mut Vec<u8>,
     alloc: Global,
     session: &mut Session,
+    labels: &Labels,
     line: &[u8],
 ) -> Result<(), DebugFault>
     ensures ok { OnOk result
-        (Appends (λ text. AnswersOrRefuses session.old line.now text session.new) out.old.items
-        out.new.items) }
+        (Appends (λ text. AnswersOrRefuses (address_of labels.now) session.old line.now text session.new)
+        out.old.items out.new.items) }
     ensures fault { IfErr result (λ fault. fault ≡ DebugFault.Memory) }
 {
-    match session.command(alloc, line) {
+    match session.command(alloc, labels, line) {
         Ok(answer) => {
             out.extend_from_slice(&answer)?;
             Ok(())
@@ -59,10 +62,12 @@ fn put_answers(
     out: &mut Vec<u8>,
     alloc: Global,
     session: &mut Session,
+    labels: &Labels,
     lines: &[u8],
 ) -> Result<(), DebugFault>
     requires { out.old.items ≡ [] }
-    ensures ok { OnOk result (Converses session.old (lines_of lines.now) out.new.items) }
+    ensures ok { OnOk result
+        (Converses (address_of labels.now) session.old (lines_of lines.now) out.new.items) }
     ensures fault { IfErr result (λ fault. fault ≡ DebugFault.Memory) }
 {
     let mut rest = lines;
@@ -70,26 +75,33 @@ fn put_answers(
         if is_quit(line) {
             return Ok(());
         }
-        put_answer(out, alloc, session, line)?;
+        put_answer(out, alloc, session, labels, line)?;
         rest = after;
     }
     Ok(())
 }
 
 // Adds what a session answers, whole.
-fn hold(out: &mut Vec<u8>, alloc: Global, session: Session, lines: &[u8]) -> Result<(), DebugFault>
+fn hold(
+    out: &mut Vec<u8>,
+    alloc: Global,
+    session: Session,
+    labels: &Labels,
+    lines: &[u8],
+) -> Result<(), DebugFault>
     requires { out.old.items ≡ [] }
-    ensures ok { OnOk result (Converses session (lines_of lines.now) out.new.items) }
+    ensures ok { OnOk result
+        (Converses (address_of labels.now) session (lines_of lines.now) out.new.items) }
     ensures fault { IfErr result (λ fault. fault ≡ DebugFault.Memory) }
 {
     let mut session = session;
-    put_answers(out, alloc, &mut session, lines)
+    put_answers(out, alloc, &mut session, labels, lines)
 }
 
 /// A whole session: what it answers to command lines, in their order, up to a line whose one word is `quit`.
 ///
-/// The port holds the word `port` until `port N`. Lines are those of a source's text. A refused command
-/// answers `refused: ` and the fault's name, and the session goes on.
+/// The port holds the word `port` until `port N`. Addresses may be said by labels. Lines are those of a
+/// source's text. A refused command answers `refused: ` and the fault's name, and the session goes on.
 ///
 /// # Errors
 ///
@@ -98,14 +110,16 @@ pub fn converse(
     alloc: Global,
     machine: Machine,
     port: u32,
+    labels: &Labels,
     commands: &[u8],
 ) -> Result<Vec<u8>, DebugFault>
     ensures ok { IfOk result
-        (λ answers. Converses (begun machine port) (lines_of commands.now) answers.items) }
+        (λ answers. Converses (address_of labels.now) (begun machine port) (lines_of commands.now)
+        answers.items) }
     ensures fault { IfErr result (λ fault. fault ≡ DebugFault.Memory) }
 {
     let mut answers = Vec::new(alloc);
     let session = Session::with_port(machine, port);
-    hold(&mut answers, alloc, session, commands)?;
+    hold(&mut answers, alloc, session, labels, commands)?;
     Ok(answers)
 }

@@ -1,6 +1,8 @@
 ghost use Rattle.std.specs.Prelude.{◌≡◌, ◌+◌, ◌*◌, ◌≤◌, IfOk};
 ghost use Rattle.debugger.specs.Commands.{IsInRange, address_in, command_of, line_command};
-ghost use Rattle.debugger.specs.Commands.{number_in, one_word};
+ghost use Rattle.debugger.specs.Commands.{number_in, number_or_label, one_word};
+ghost use Rattle.debugger.specs.Words.{number_of};
+ghost use Rattle.image.specs.Labels.{address_of};
 ghost use Rattle.ioc.specs.LineNames.{line_named};
 ghost use Rattle.debugger.specs.Commands.{switch_command, three_words, two_words};
 
@@ -9,6 +11,7 @@ use crate::fault::DebugFault;
 use crate::words::{first_word, number_of};
 use bitflags::Flags;
 use bus_ticks::SPACE_END;
+use image::Labels;
 use ioc::Lines;
 
 fn number_in(low: u32, high: u32, word: &[u8]) -> Result<u32, DebugFault>
@@ -21,13 +24,23 @@ fn number_in(low: u32, high: u32, word: &[u8]) -> Result<u32, DebugFault>
     }
 }
 
-// The address of so many words.
-fn address_in(count: u32, word: &[u8]) -> Result<u32, DebugFault>
-    requires { count ≤ MOST_SHOWN_WORDS }
-    ensures address { result ≡ address_in count word.now }
-    ensures bound { IfOk result (λ a. a + 4 * count ≤ SPACE_END) }
+// The number of a word, or the address of the label where it is none.
+fn number_or_label(labels: &Labels, word: &[u8]) -> Option<u32>
+    ensures { result ≡ number_or_label (number_of word.now) (address_of labels.now word.now) }
 {
     match number_of(word) {
+        Some(n) => Some(n),
+        None => labels.get(word),
+    }
+}
+
+// The address of so many words.
+fn address_in(labels: &Labels, count: u32, word: &[u8]) -> Result<u32, DebugFault>
+    requires { count ≤ MOST_SHOWN_WORDS }
+    ensures address { result ≡ address_in (address_of labels.now) count word.now }
+    ensures bound { IfOk result (λ a. a + 4 * count ≤ SPACE_END) }
+{
+    match number_or_label(labels, word) {
         Some(a) if a % 4 == 0 && a <= SPACE_END - 4 * count => Ok(a),
         _ => Err(DebugFault::BadNumber),
     }
@@ -50,8 +63,8 @@ fn one_word(name: &[u8]) -> Result<Command, DebugFault>
     }
 }
 
-fn two_words(name: &[u8], number: &[u8]) -> Result<Command, DebugFault>
-    ensures command { result ≡ two_words name.now number.now }
+fn two_words(labels: &Labels, name: &[u8], number: &[u8]) -> Result<Command, DebugFault>
+    ensures command { result ≡ two_words (address_of labels.now) name.now number.now }
     ensures range { IfOk result IsInRange }
 {
     if name == b"step".as_slice() {
@@ -59,7 +72,7 @@ fn two_words(name: &[u8], number: &[u8]) -> Result<Command, DebugFault>
     } else if name == b"run".as_slice() {
         Ok(Command::Run(number_in(1, MOST_STEPS, number)?))
     } else if name == b"break".as_slice() {
-        Ok(Command::Break(address_in(1, number)?))
+        Ok(Command::Break(address_in(labels, 1, number)?))
     } else if name == b"burst".as_slice() {
         Ok(Command::Burst(number_in(0, 65535, number)? as u16))
     } else if name == b"port".as_slice() {
@@ -102,16 +115,21 @@ fn line_command(name: &[u8], state: &[u8]) -> Result<Command, DebugFault>
     }
 }
 
-fn three_words(name: &[u8], first: &[u8], second: &[u8]) -> Result<Command, DebugFault>
-    ensures command { result ≡ three_words name.now first.now second.now }
+fn three_words(
+    labels: &Labels,
+    name: &[u8],
+    first: &[u8],
+    second: &[u8],
+) -> Result<Command, DebugFault>
+    ensures command { result ≡ three_words (address_of labels.now) name.now first.now second.now }
     ensures range { IfOk result IsInRange }
 {
     if name == b"mem".as_slice() {
         let count = number_in(1, MOST_SHOWN_WORDS as u32, second)?;
-        Ok(Command::Mem(address_in(count, first)?, count))
+        Ok(Command::Mem(address_in(labels, count, first)?, count))
     } else if name == b"dis".as_slice() {
         let count = number_in(1, MOST_SHOWN_WORDS as u32, second)?;
-        Ok(Command::Dis(address_in(count, first)?, count))
+        Ok(Command::Dis(address_in(labels, count, first)?, count))
     } else if name == b"line".as_slice() {
         line_command(first, second)
     } else {
@@ -119,22 +137,22 @@ fn three_words(name: &[u8], first: &[u8], second: &[u8]) -> Result<Command, Debu
     }
 }
 
-/// The command that a line says, without its end.
-pub(crate) fn command_of(line: &[u8]) -> Result<Command, DebugFault>
-    ensures command { result ≡ command_of line.now }
+/// The command that a line says, without its end, by the labels of the source.
+pub(crate) fn command_of(labels: &Labels, line: &[u8]) -> Result<Command, DebugFault>
+    ensures command { result ≡ command_of (address_of labels.now) line.now }
     ensures range { IfOk result IsInRange }
 {
     let Some((name, rest)) = first_word(line) else {
-        return Err(DebugFault::UnknownCommand);
+        return Ok(Command::Nothing);
     };
     let Some((first, rest)) = first_word(rest) else {
         return one_word(name);
     };
     let Some((second, rest)) = first_word(rest) else {
-        return two_words(name, first);
+        return two_words(labels, name, first);
     };
     if first_word(rest).is_some() {
         return Err(DebugFault::UnknownCommand);
     }
-    three_words(name, first, second)
+    three_words(labels, name, first, second)
 }

@@ -2,6 +2,7 @@ ghost use Rattle.std.specs.Prelude.{◌≡◌, ◌⊎◌, ◌+◌, ◌*◌, ◌<
 ghost use Rattle.std.specs.Prelude.{IfOk, IfErr, OnErr, OnOk, MatchOption, length};
 ghost use Rattle.std.specs.List.{prefix_len};
 ghost use Rattle.bus_ticks.specs.declared.space.TheConstants.{SPACE_END};
+ghost use Rattle.image.specs.Labels.{address_of};
 ghost use Rattle.text_trace.specs.TraceText.{registers_text, ticks_text};
 ghost use Rattle.debugger.specs.Answers.{Answers, AnswersLine, AnswersRun, AnswersStep, AreSeen, HasGap};
 ghost use Rattle.debugger.specs.Answers.{IsStopped, Refuses, RefusesLine, Sets, ShowsSpan, breaks_text};
@@ -18,6 +19,7 @@ use crate::stepping::{put_steps, run_watched};
 use arm2_exec::{Input, Machine, Ran};
 use arrayvec::ArrayVec;
 use bitflags::Flags;
+use image::Labels;
 use ioc::Lines;
 use memc::Spot;
 use std::alloc::Global;
@@ -80,7 +82,8 @@ impl Session {
         }
     }
 
-    /// Obeys one command line, without its end. The answer's lines end with LF; a setting answers nothing.
+    /// Obeys one command line, without its end. The answer's lines end with LF; a setting answers nothing, and
+    /// so does a line without words. An address A is a number, or else one of the labels.
     ///
     /// - `step N`, 1 to 1024 steps, 1 where there is no number: their trace lines, up to a step that is
     ///   stopped.
@@ -100,13 +103,20 @@ impl Session {
     /// `UnknownCommand` and `BadNumber` by the line alone. Of a command that is spelled well: `NoPage` of
     /// `mem` and `dis`, `MachineStopped` of `step` and `run`, `TooManyBreaks` of `break`. `Memory`: an
     /// allocation failed, of any command.
-    pub fn command(&mut self, alloc: Global, line: &[u8]) -> Result<Vec<u8>, DebugFault>
-        ensures ok { IfOk result (λ answer. AnswersLine self.old line.now answer.items self.new) }
+    pub fn command(
+        &mut self,
+        alloc: Global,
+        labels: &Labels,
+        line: &[u8],
+    ) -> Result<Vec<u8>, DebugFault>
+        ensures ok { IfOk result
+            (λ answer. AnswersLine (address_of labels.now) self.old line.now answer.items self.new) }
         ensures fault { IfErr result
-            (λ fault. (fault ≡ DebugFault.Memory) ⊎ RefusesLine self.old line.now fault) }
+            (λ fault. (fault ≡ DebugFault.Memory)
+            ⊎ RefusesLine (address_of labels.now) self.old line.now fault) }
         ensures unchanged { OnErr result (self.new ≡ self.old) }
     {
-        let command = command_of(line)?;
+        let command = command_of(labels, line)?;
         self.obey(alloc, command)
     }
 
@@ -118,6 +128,7 @@ impl Session {
     {
         let next = self.next;
         match command {
+            Command::Nothing => Ok(Vec::new(alloc)),
             Command::Step(steps) => self.step(alloc, steps),
             Command::Run(steps) => self.run(alloc, steps),
             Command::ListBreaks => self.list_breaks(alloc),

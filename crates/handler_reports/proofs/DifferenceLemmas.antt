@@ -1,13 +1,12 @@
 -- What a run does at each address, and the rows where it and a walk differ.
-use Rattle.std.proofs.Common.{◌≡◌, ◌∙◌, ℕ, ◌+◌, ◌-◌, ◌*◌, ◌<◌, Bool, true, false, cond, eqb, List, [], ◌∷◌, ◌++◌, append-nil, append_assoc, length, get_or, ⊎_elim, refl, sym, ap, subst, arith, add-one}
-use Rattle.std.specs.Prelude.{All, sum_by, if◌then◌else◌}
+use Rattle.std.proofs.Common.{◌≡◌, ◌∙◌, ℕ, ◌+◌, ◌-◌, ◌*◌, ◌<◌, Bool, true, false, cond, eqb, List, [], ◌∷◌, ◌++◌, append-nil, append_assoc, length, get_or, take, Bor, Option, Some, None, Vec, ⊎_elim, refl, sym, ap, subst, arith, add-one}
+use Rattle.std.specs.Prelude.{All, flat_map, sum_by, if◌then◌else◌}
 use Rattle.std.specs.List.{range_with_len}
 use Rattle.std.proofs.lemmas.Bool.{cases_Bool, false≢true}
-use Rattle.std.proofs.lemmas.List.{get_or_default, length-append}
+use Rattle.std.specs.Global.{Global}
+use Rattle.std.proofs.lemmas.List.{flat_map_more, get_or_default, length-append, take_more}
 use Rattle.std.proofs.lemmas.List.Elements.{All-head, All-tail}
 use Rattle.std.proofs.lemmas.List.Sums.{sum_by-cons, sum_by_push}
-use Rattle.asm_text.specs.Appended.{Appends}
-use Rattle.text_rows.specs.Rows.{IsShownRow}
 use Rattle.text_explained.specs.Taken.{IsTally as IsWalkTally, is_at}
 use Rattle.text_explained.specs.declared.walk_tally.WalkTally.{WalkTally}
 use Rattle.control_flow.specs.Flow.{Flow}
@@ -21,10 +20,25 @@ use Rattle.kept_runs.specs.declared.tally.Passed.{Passed}
 use Rattle.image.specs.Image.{Words}
 use Rattle.walk_counts.specs.Counts.{capped}
 use Rattle.walk_counts.proofs.SumLemmas.{picked, range_push, same_sums, sum_none}
+use Rattle.statement.specs.Stated.{Stated}
 use Rattle.handler_reports.specs.declared.differences.Compared.{Compared}
+use Rattle.handler_reports.specs.declared.differences.Difference.{Difference}
 use Rattle.handler_reports.specs.declared.differences.Numbers.{Numbers}
 use Rattle.handler_reports.specs.declared.differences.RunTally.{RunTally}
-use Rattle.handler_reports.specs.Differences.{Adds, HasAdded, IsRowIfApart, IsTable, agree, compared_in, compared_text, capped_run_at, in_all, numbers_of, tallied, capped_at, with_place}
+use Rattle.asm_text.specs.Appended.{Appends}
+use Rattle.text_rows.specs.WordLines.{Numbered}
+use Rattle.assembler.specs.declared.placed_line.PlacedLine.{PlacedLine}
+use Rattle.text_rows.specs.Rows.{AreRows}
+use Rattle.sources.specs.Lines.{line_of}
+use Rattle.sources.specs.declared.read.Source.{Source}
+use Rattle.sources.specs.declared.read.SourceText.{SourceText}
+use Rattle.sources.specs.declared.read.SourceText.TheVariants.{Lines, Image}
+use Rattle.handler_reports.specs.declared.differences.Cause.{Cause}
+use Rattle.handler_reports.specs.DifferenceText.{IsDifferenceRow, IsEnd, cause_row, compared_text, lines_in}
+use Rattle.std.specs.List.Sorted.{IsPermutation, IsSortedByKey, IsStableByKey}
+use Rattle.text_explained.specs.declared.pricing.Pricing.{Pricing}
+use Rattle.text_savings.specs.Savings.{falling}
+use Rattle.handler_reports.specs.Differences.{Adds, AreDifferences, HasAdded, IsListed, compared_in, differences_at, ticks_apart, capped_run_at, in_all, numbers_of, tallied, capped_at, with_place}
 use Rattle.walks.proofs.SumLe.{sum_by-both}
 
 -- ## Sums over places
@@ -83,12 +97,12 @@ module _ (flow : Flow) (passes : List Pass) (by_place : List Passed) (t : RunTal
 pub same_compared : (c d : Compared) → c.run ≡ d.run → c.bound ≡ d.bound → c ≡ d
 same_compared c d run bound = λ i. record { run = run i; bound = bound i }
 
--- the table by the tallies is the one by the run and the walk
-pub table_capped : (source : List ℕ) (words : Words) (flow : Flow) (walk : List Edge) (by_place : List Passed) (run : RunTally) (of_walk : WalkTally) (text : List ℕ)
-    → HasAdded flow.places by_place (length flow.places) run → IsWalkTally flow walk of_walk → IsTable source words (compared_in run of_walk) text
-    → (passes : List Pass) → IsTally flow passes by_place → IsTable source words (capped_at flow passes walk) text
-table_capped source words flow walk by_place run of_walk text added taken table passes tally =
-    subst (λ (f : ℕ → Compared). IsTable source words f text) same table
+-- the list by the tallies is the one by the run and the walk
+pub listed_capped : (words : Words) (st : Stated) (flow : Flow) (walk : List Edge) (by_place : List Passed) (run : RunTally) (of_walk : WalkTally) (list : List Difference)
+    → HasAdded flow.places by_place (length flow.places) run → IsWalkTally flow walk of_walk → IsListed words st flow (compared_in run of_walk) list
+    → (passes : List Pass) → IsTally flow passes by_place → IsListed words st flow (capped_at flow passes walk) list
+listed_capped words st flow walk by_place run of_walk list added taken listed passes tally =
+    subst (λ (f : ℕ → Compared). IsListed words st flow f list) same listed
   where
     at : (a : ℕ) → compared_in run of_walk a ≡ capped_at flow passes walk a
     at a = same_compared (compared_in run of_walk a) (capped_at flow passes walk a)
@@ -151,19 +165,49 @@ place_added places by_place i place p old new in_places place_is p_is h adds a =
 
 -- ## Rows
 
-module _ (compared : ℕ → Compared) where
-  -- a word where the two agree has no row
-  pub no_row : (e : ℕ × ℕ) (text : List ℕ) → agree (compared e.0) ≡ true → Appends (IsRowIfApart compared e) text text
-  no_row e text same = ([], record { apart = λ apart. absurd (false≢true (sym apart ∙ same)); same = λ s. refl }, sym (append-nil text))
+-- the end of a row after so many columns
+pub whole_row : (lines : Option (ℕ → Option Numbered)) (d : Difference) (used : ℕ) (old mid new : List ℕ) → mid ≡ old ++ compared_text d.compared → used ≡ length mid - length old
+    → Appends (IsEnd lines used d) mid new → Appends (IsDifferenceRow lines d) old new
+whole_row lines d used old mid new front is adds =
+    let columns = compared_text d.compared in
+    let long : length mid ≡ length old + length columns = ap length front ∙ length-append old columns in
+    let same : used ≡ length columns = omega (arith, is, long) in (
+      columns ++ adds.0,
+      (adds.0, subst (λ n. IsEnd lines n d adds.0) same adds.1, refl),
+      adds.2 ∙ ap (λ (xs : List ℕ). xs ++ adds.0) front ∙ append_assoc old columns adds.0,
+    )
 
-  -- one where they differ has its own
-  pub its_row : (e : ℕ × ℕ) (used : ℕ) (old mid new : List ℕ) → agree (compared e.0) ≡ false → mid ≡ old ++ compared_text (compared e.0) → used ≡ length mid - length old
-      → Appends (IsShownRow used e) mid new → Appends (IsRowIfApart compared e) old new
-  its_row e used old mid new apart numbers is adds =
-      let columns = compared_text (compared e.0) in
-      let long : length mid ≡ length old + length columns = ap length numbers ∙ length-append old columns in
-      let counted : used ≡ length columns = omega (arith, is, long) in (
-        columns ++ adds.0,
-        record { apart = λ a. (adds.0, subst (λ n. IsShownRow n e adds.0) counted adds.1, refl); same = λ same. absurd (false≢true (sym apart ∙ same)) },
-        adds.2 ∙ ap (λ xs. xs ++ adds.0) numbers ∙ append_assoc old columns adds.0,
-      )
+-- by the lines of a text that are found beforehand
+pub by_lines : (read : Source) (text : SourceText) (bytes : Bor (List ℕ)) (placed : Vec PlacedLine Global) (lines : ℕ → Option Numbered) (list : List Difference) (rows : List ℕ)
+    → text ≡ Lines bytes placed → ((at : ℕ) → lines at ≡ line_of read at) → AreRows (IsDifferenceRow (Some lines)) list rows → AreRows (IsDifferenceRow (lines_in read text)) list rows
+by_lines read text bytes placed lines list rows is are_lines are =
+    subst (λ (t : SourceText). AreRows (IsDifferenceRow (lines_in read t)) list rows) (sym is)
+    (subst (λ (f : ℕ → Option Numbered). AreRows (IsDifferenceRow (Some f)) list rows) (λ i x. are_lines x i) are)
+
+-- by the words of an image
+pub by_image : (read : Source) (text : SourceText) (list : List Difference) (rows : List ℕ) → text ≡ Image → AreRows (IsDifferenceRow None) list rows
+    → AreRows (IsDifferenceRow (lines_in read text)) list rows
+by_image read text list rows is are = subst (λ (t : SourceText). AreRows (IsDifferenceRow (lines_in read t)) list rows) (sym is) are
+
+-- an element more of a list, each of whose elements gives some
+pub mapped_more : {A B : Type 0} (f : A → List B) (xs : List A) (i : ℕ) (d : A) (mid new : List B) → i < length xs → mid ≡ flat_map f (take i xs)
+    → new ≡ mid ++ f (get_or xs i d) → new ≡ flat_map f (take (i + 1) xs)
+mapped_more f xs i d mid new lt before one =
+    one ∙ ap (λ ys. ys ++ f (get_or xs i d)) before ∙ flat_map_more f [] (take i xs) (get_or xs i d)
+    ∙ ap (flat_map f) (sym (take_more xs i d lt))
+
+-- what is sorted is a list of the differences
+pub sorted_of : (compared : ℕ → Compared) (priced : ℕ → Option Pricing) (words : Words) (found list : List Difference) → found ≡ flat_map (differences_at compared priced) words
+    → IsPermutation found list → IsSortedByKey ticks_apart falling list → IsStableByKey ticks_apart falling found list → AreDifferences compared priced words list
+sorted_of compared priced words found list is same ordered stable = record {
+  same = subst (λ (f : List Difference). IsPermutation f list) is same;
+  ordered = ordered;
+  stable = subst (λ (f : List Difference). IsStableByKey ticks_apart falling f list) is stable;
+}
+
+-- a cause more
+pub cause_more : (list : List Difference) (causes : List Cause) (i : ℕ) (d : Cause) (old mid new : List ℕ) → i < length causes → mid ≡ old ++ flat_map (cause_row list) (take i causes)
+    → new ≡ mid ++ cause_row list (get_or causes i d) → new ≡ old ++ flat_map (cause_row list) (take (i + 1) causes)
+cause_more list causes i d old mid new lt before one =
+    one ∙ ap (λ xs. xs ++ cause_row list (get_or causes i d)) before ∙ flat_map_more (cause_row list) old (take i causes) (get_or causes i d)
+    ∙ ap (λ cs. old ++ flat_map (cause_row list) cs) (sym (take_more causes i d lt))

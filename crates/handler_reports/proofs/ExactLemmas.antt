@@ -30,7 +30,8 @@ use Rattle.walk_counts.specs.Counts.{capped}
 use Rattle.handler_reports.proofs.DifferenceLemmas.{same_compared, same_numbers}
 use Rattle.handler_reports.proofs.ExplainLemmas.{bound_fits}
 use Rattle.handler_reports.specs.declared.differences.Compared.{Compared}
-use Rattle.handler_reports.specs.Differences.{IsTable, compared_at, run_at, capped_at, walk_at}
+use Rattle.handler_reports.specs.Differences.{compared_at, run_at, capped_at, walk_at}
+use Rattle.handler_reports.specs.DifferenceText.{IsTable}
 
 capped_is : (n : ℕ) → n < 2 ^ 64 → capped n ≡ n
 capped_is n small = omega arith
@@ -83,13 +84,13 @@ module _ (flow : Flow) (well : IsWellFormed flow) (tree : Tree) (longest : Longe
 
   passes_exact : passes_of (taken_at flow (unfolded longest.walk) a) ≡ sum_by (pass_at a) (unfolded longest.walk)
   passes_exact = walk_exact (λ o. passes_of o) (sum_by (pass_at a) (unfolded longest.walk))
-      (λ known. ap (λ (o : Option Taken). passes_of o) (numbers_of_walk flow tree longest.bound longest.walk a well is.walk_is (bound_fits flow tree longest is) known).2)
+      (λ known. ap (λ (o : Option Taken). passes_of o) (numbers_of_walk flow tree longest.bound longest.walk a well is.walk_is (bound_fits flow tree longest is) known).4)
       refl
       (λ none. none_leaves flow well a none (pass_at a) (λ e out. ap (λ (b : Bool). cond b 1 0) out) flow.entry (unfolded longest.walk) is.walk_is.complete)
 
   ticks_exact : ticks_of (taken_at flow (unfolded longest.walk) a) ≡ sum_by (cost_at a) (unfolded longest.walk)
   ticks_exact = walk_exact (λ o. ticks_of o) (sum_by (cost_at a) (unfolded longest.walk))
-      (λ known. ap (λ (o : Option Taken). ticks_of o) (numbers_of_walk flow tree longest.bound longest.walk a well is.walk_is (bound_fits flow tree longest is) known).2)
+      (λ known. ap (λ (o : Option Taken). ticks_of o) (numbers_of_walk flow tree longest.bound longest.walk a well is.walk_is (bound_fits flow tree longest is) known).4)
       refl
       (λ none. none_leaves flow well a none (cost_at a) (λ e out. ap (λ (b : Bool). cond b e.cost 0) out) flow.entry (unfolded longest.walk) is.walk_is.complete)
 
@@ -97,9 +98,9 @@ module _ (flow : Flow) (well : IsWellFormed flow) (tree : Tree) (longest : Longe
 
 pub table_exact : (source : List ℕ) (words : Words) (st : Stated) (flow : Flow) (tree : Tree) (longest : Longest) (s : State) (inputs : List Input) (walk : List Edge) (passes : List Pass) (text : List ℕ)
     → IsWellFormed flow → StepCost → IsLongest flow tree longest → Leads edge_shape (HasEdge flow) flow.entry walk Exit → Follows words st flow.profile s inputs walk → ArePasses flow s inputs walk passes
-    → cost_of edge_shape walk ≤ longest.bound → IsTable source words (capped_at flow passes (unfolded longest.walk)) text → IsTable source words (compared_at flow passes (unfolded longest.walk)) text
+    → cost_of edge_shape walk ≤ longest.bound → IsTable source words st flow (capped_at flow passes (unfolded longest.walk)) text → IsTable source words st flow (compared_at flow passes (unfolded longest.walk)) text
 table_exact source words st flow tree longest s inputs walk passes text well law is leads follows are most table =
-    subst (λ (f : ℕ → Compared). IsTable source words f text) same table
+    subst (λ (f : ℕ → Compared). IsTable source words st flow f text) same table
   where
     small : (weight : Pass → ℕ) → ((p : Pass) (cost : ℕ) → 0 < cost → p.ticks ≤ cost → weight p ≤ cost) → sum_by weight passes < 2 ^ 64
     small weight fits =

@@ -9,12 +9,11 @@ mod DoneLemmas
 mod LineLemmas
 mod VisitedLemmas
 pub mod ExplainLemmas
+mod FirstLemmas
 pub mod ExactLemmas
 pub mod FollowLemmas
 pub mod GraphLemmas
 pub mod RunTimeLemmas
 mod SaidLemmas
 pub mod VisitsReportLemmas
-mod FewestLemmas
 mod SummaryLemmas
-mod VisitRateLemmas

@@ -1,7 +1,6 @@
 -- The times of an explanation bound machine runs.
-use Rattle.std.proofs.Common.{◌≡◌, ◌∙◌, ℕ, ◌+◌, ◌-◌, ◌*◌, ◌<◌, ◌≤◌, suc, List, [], ◌∷◌, length, take, All, Option, Some, None, refl, ap, sym, subst, arith, ⊎_elim}
+use Rattle.std.proofs.Common.{◌≡◌, ◌∙◌, ℕ, ◌+◌, ◌-◌, ◌*◌, ◌<◌, ◌≤◌, suc, List, [], ◌∷◌, length, take, All, Option, Some, None, refl, ap, sym, subst, arith}
 use Rattle.std.proofs.Math.Nat.{mul_comm, mul-suc, mul-zero, suc-mul}
-use Rattle.std.proofs.lemmas.Bool.{cases_lt}
 use Rattle.std.proofs.lemmas.Nat.{mul-le}
 use Rattle.std.proofs.lemmas.List.Sums.{sum_by-cons}
 use Rattle.std.proofs.lemmas.List.Elements.{All-head, All-tail}
@@ -12,17 +11,19 @@ use Rattle.walks.specs.Walk.{Leads, cost_of}
 use Rattle.control_flow.specs.Flow.{Flow, HasEdge, IsWellFormed, edge_shape}
 use Rattle.control_flow.specs.Graph.{IsFlowGraph, start_of}
 use Rattle.flow_graph.specs.StepLaw.{RunLaw, bursts_of}
-use Rattle.loop_bounds.specs.Bounds.{IsGreatestCost}
+use Rattle.loop_bounds.specs.Bounds.{IsGreatestCost, KeepsTheBounds}
 use Rattle.control_flow.specs.declared.edges.Edge.{Edge}
 use Rattle.control_flow.specs.declared.places.Place.{Place}
 use Rattle.control_flow.specs.declared.places.Place.TheVariants.{Exit}
 use Rattle.loop_bounds.specs.Tree.{Tree}
 use Rattle.longest_walk.specs.Folded.{unfolded}
-use Rattle.longest_walk.specs.Longest.{IsLongest}
+use Rattle.longest_walk.specs.Longest.{IsLongest, KeepsTree}
 use Rattle.longest_walk.specs.declared.folded.Longest.{Longest}
 use Rattle.text_explained.specs.Bursts.{AreEnough, with_bursts}
 use Rattle.text_explained.specs.Starts.{IsLatestStart, ReachesAt}
-use Rattle.handler_reports.specs.RunTimes.{AreApart, AreApartAfter, BeginsWithin, EndsWithin}
+use Rattle.handler_reports.specs.RunTimes.{AreApart, AreApartAfter, BeginsWithin, EndsWithin, FirstBeginsWithin}
+use Rattle.handlers.proofs.FewestLemmas.{not_enough}
+use Rattle.responses.specs.Response.{IsWorstArrival}
 use Rattle.handlers.proofs.ReportLemmas.{bounds_runs}
 
 -- ## When a word begins
@@ -38,6 +39,15 @@ begins_within words st flow tree law a (Some ticks) is s inputs steps place now 
     let within = law words st flow.profile s (take steps inputs) run.walk run.ran now run.runs run.follows in
     record { ticks = omega (arith, within.ticks, most); elapsed = omega (arith, within.elapsed, most) }
 
+pub first_within : (words : Words) (st : Stated) (flow : Flow) (tree : Tree) → RunLaw → ((walk : List Edge) → KeepsTree tree walk → KeepsTheBounds flow st.loops walk) → (a : ℕ) (first : Option ℕ)
+    → IsWorstArrival flow st.loops a first → FirstBeginsWithin words st flow tree a first
+first_within words st flow tree law bounds a None none s inputs steps place now run at before =
+    absurd (none run.walk place (record { leads = run.leads; kept = bounds run.walk run.kept; before = before; there = at }))
+first_within words st flow tree law bounds a (Some ticks) is s inputs steps place now run at before =
+    let most = is.1 run.walk place (record { leads = run.leads; kept = bounds run.walk run.kept; before = before; there = at }) in
+    let within = law words st flow.profile s (take steps inputs) run.walk run.ran now run.runs run.follows in
+    record { ticks = omega (arith, within.ticks, most); elapsed = omega (arith, within.elapsed, most) }
+
 -- ## When a run ends
 
 -- the last of the times is so many stretches after the first
@@ -47,31 +57,6 @@ last_after every price end t [] apart inside = let here = All-head (λ u. u + pr
 last_after every price end t (u ∷ times) apart inside =
     let rest = last_after every price end u times apart.1 (All-tail (λ u. u + price < end) t (u ∷ times) inside) in
     omega (arith, rest, apart.0, suc-mul (length times) every)
-
--- so many bursts and more are enough
-enough_more : (price bound every few more : ℕ) → 1 ≤ bound → AreEnough price bound every few
-    → AreEnough price bound every (few + more)
-enough_more price bound every few more some enough =
-    let seldom : price ≤ every = ⊎_elim
-    (λ (lt : every < price). let dear = mul-le few every few price (omega arith) (omega (arith, lt)) in absurd (omega (arith, enough, dear)))
-    (λ (le : price ≤ every). le)
-    (cases_lt every price) in
-    let each : more * price ≤ more * every = mul-le more price more every (omega arith) seldom in
-    let left : (few + more) * price ≡ few * price + more * price = grind arith in
-    let right : (few + more) * every ≡ few * every + more * every = grind arith in
-    omega (arith, enough, each, left, right)
-
--- where so many are not enough, more are
-pub not_enough : (price bound every fewest n : ℕ) → 1 ≤ bound → AreEnough price bound every fewest
-    → n * every < with_bursts price bound n → suc n ≤ fewest
-not_enough price bound every fewest n some enough short = ⊎_elim
-    (λ (lt : n < fewest). let le : suc n ≤ fewest = omega (arith, lt) in le)
-    (λ (le : fewest ≤ n).
-    let more = n - fewest in
-    let whole : fewest + more ≡ n = omega (arith, le) in
-    let all : with_bursts price bound n ≤ n * every = subst (AreEnough price bound every) whole (enough_more price bound every fewest more some enough) in
-    absurd (omega (arith, all, short)))
-    (cases_lt n fewest)
 
 ends_by : (price bound every fewest end n : ℕ) (times : List ℕ) → 1 ≤ bound → AreEnough price bound every fewest
     → AreApart every times → All (λ t. t + price < end) times → length times ≡ n → end ≤ bound + price * n

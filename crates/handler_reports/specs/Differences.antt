@@ -1,23 +1,25 @@
 -- Where a run that keeps its statement and a greatest walk differ.
-use Rattle.std.specs.Prelude.{◌≡◌, ℕ, ◌+◌, ◌==◌, ◌&&◌, Bool, true, false, cond, Option}
-use Rattle.std.specs.Prelude.{if◌then◌else◌, List}
-use Rattle.std.specs.Prelude.{[], ◌++◌, codes, decimal, count_by, length, sum_by, unwrap_or}
+use Rattle.std.specs.Prelude.{◌≡◌, ℕ, ◌+◌, ◌-◌, ◌==◌, ◌&&◌, Bool, true, false, cond, Option, Some, None, is_some}
+use Rattle.std.specs.Prelude.{if◌then◌else◌, List, [], ◌∷◌, count_by, flat_map, sum_by, unwrap_or}
 use Rattle.std.specs.Prelude.{slice_index_or}
 use Rattle.std.specs.BTreeMap.{get}
 use Rattle.std.specs.List.{range_with_len}
+use Rattle.std.specs.List.Sorted.{IsPermutation, IsSortedByKey, IsStableByKey}
 use Rattle.std.specs.Ordering.{nat_cmp}
+use Rattle.bus_ticks.specs.declared.profile.Class.{Class}
+use Rattle.bus_ticks.specs.declared.profile.Class.TheVariants.{Any, Ram, Rom, Io}
+use Rattle.bus_ticks.specs.declared.profile.Class.TheVariants.{Slow, Medium, Fast, Synchronous}
+use Rattle.statement.specs.Stated.{Stated}
+use Rattle.text_explained.specs.Pricing.{ArePriced}
+use Rattle.text_explained.specs.declared.pricing.Granted.{Granted}
+use Rattle.text_explained.specs.declared.pricing.Granted.TheVariants as granted
+use Rattle.text_explained.specs.declared.pricing.Granted.TheVariants.{Nothing, Multiplier}
+use Rattle.text_explained.specs.declared.pricing.Pricing.{Pricing}
 use Rattle.text_explained.specs.declared.walk_tally.Taken.{Taken}
-use Rattle.text_rows.specs.Columns.{in_columns}
-use Rattle.text_rows.specs.Lines.{rows_by_word}
-use Rattle.text_rows.specs.Rows.{IsShownRow, named_row, section}
-use Rattle.sources.specs.Rows.{AreSourceRows}
-use Rattle.sources.specs.Source.{IsSource}
-use Rattle.sources.specs.declared.read.Source.{Source}
-use Rattle.sources.specs.declared.read.SourceText.{SourceText}
-use Rattle.sources.specs.declared.read.SourceText.TheVariants.{Lines, Image}
 use Rattle.text_explained.specs.Table.{passes_of, ticks_of}
 use Rattle.text_explained.specs.Taken.{cost_at, is_at, pass_at, taken_at}
 use Rattle.text_explained.specs.declared.walk_tally.WalkTally.{WalkTally}
+use Rattle.text_savings.specs.Savings.{falling}
 use Rattle.control_flow.specs.Flow.{Flow}
 use Rattle.control_flow.specs.Places.{place_at}
 use Rattle.control_flow.specs.declared.edges.Edge.{Edge}
@@ -27,7 +29,11 @@ use Rattle.kept_runs.specs.Passing.{Pass}
 use Rattle.kept_runs.specs.declared.tally.Passed.{Passed}
 use Rattle.image.specs.Image.{Words}
 use Rattle.walk_counts.specs.Counts.{capped}
+use Rattle.handler_reports.specs.declared.differences.Cause.{Cause}
+use Rattle.handler_reports.specs.declared.differences.Cause.TheVariants.{Access, Fetches, Leaving, Multiply}
+use Rattle.handler_reports.specs.declared.differences.Cause.TheVariants.{OtherWay}
 use Rattle.handler_reports.specs.declared.differences.Compared.{Compared}
+use Rattle.handler_reports.specs.declared.differences.Difference.{Difference}
 use Rattle.handler_reports.specs.declared.differences.Numbers.{Numbers}
 use Rattle.handler_reports.specs.declared.differences.RunTally.{RunTally}
 
@@ -48,60 +54,77 @@ walk_at walk a = record { passes = sum_by (pass_at a) walk; ticks = sum_by (cost
 abbrev pub compared_at : Flow → List Pass → List Edge → ℕ → Compared
 compared_at flow passes walk a = record { run = run_at flow passes a; bound = walk_at walk a }
 
--- ## Rows
-
 abbrev pub agree : Compared → Bool
 agree c = (c.run.passes == c.bound.passes) && (c.run.ticks == c.bound.ticks)
 
--- each number with a blank in front
-abbrev pub numbers_text : Numbers → List ℕ
-numbers_text n =
-    codes " " ++ (in_columns 7 (decimal n.passes) ++ (codes " " ++ in_columns 8 (decimal n.ticks)))
+-- ## Causes
 
-abbrev pub compared_text : Compared → List ℕ
-compared_text c = numbers_text c.run ++ numbers_text c.bound
+-- where both pass as often, by what the price takes for granted of a transfer: a class of devices, or of any
+-- address, may be dearer than what a run finds there; in memory it is quads that differ
+abbrev pub access_cause : Class → Cause
+access_cause Any = Access
+access_cause Io = Access
+access_cause Slow = Access
+access_cause Medium = Access
+access_cause Fast = Access
+access_cause Synchronous = Access
+access_cause Ram = Fetches
+access_cause Rom = Fetches
 
--- what is compared at each address
-module _ (compared : ℕ → Compared) where
-  -- of a word, with its address, and the number and the text of its line; nothing where the two agree
-  abbrev pub row_if_apart : (n : ℕ) → (text : List ℕ) → (at : ℕ) → List ℕ
-  row_if_apart n text at =
-      if agree (compared at) then []
-      else compared_text (compared at) ++ named_row (length (compared_text (compared at))) at n text
+abbrev pub granted_cause : Granted → Cause
+granted_cause Nothing = Fetches
+granted_cause (Multiplier cycles) = Multiply
+granted_cause (granted.Access class) = access_cause class
 
-  -- of an image's word, with its address, the word and its line; nothing where the two agree
-  pub record IsRowIfApart (e : ℕ × ℕ) (row : List ℕ) : Type 0 where
-    pub apart : agree (compared e.0) ≡ false
-        → (shown : List ℕ) × IsShownRow (length (compared_text (compared e.0))) e shown
-        × (row ≡ compared_text (compared e.0) ++ shown)
-    pub same : agree (compared e.0) ≡ true → row ≡ []
+-- a word from where the handler leaves does so at the price of the class that it leaves to
+abbrev pub pricing_cause : Pricing → Cause
+pricing_cause p = if is_some p.leave then Leaving else granted_cause p.granted
 
--- ## The table
+abbrev pub same_way_cause : Option Pricing → Cause
+same_way_cause None = Fetches
+same_way_cause (Some p) = pricing_cause p
 
-abbrev pub upper_heading : List ℕ
-upper_heading = codes "              run            bound\n"
+-- else the run goes another way, or turns a loop less often
+abbrev pub cause_of : Option Pricing → Compared → Cause
+cause_of p c = if c.run.passes == c.bound.passes then same_way_cause p else OtherWay
 
-abbrev pub heading : List ℕ
-heading = upper_heading ++ codes "  passes    ticks  passes    ticks   address  line  text\n"
+-- ## Words where the two differ
 
-abbrev pub image_heading : List ℕ
-image_heading =
-    upper_heading ++ codes "  passes    ticks  passes    ticks   address      word  text\n"
+-- by how many ticks the run takes less there, or more
+abbrev pub less : Difference → ℕ
+less d = d.compared.bound.ticks - d.compared.run.ticks
 
--- above the rows of a text, or of an image
-abbrev pub heading_of : SourceText → List ℕ
-heading_of (Lines bytes placed) = heading
-heading_of Image = image_heading
+abbrev pub more : Difference → ℕ
+more d = d.compared.run.ticks - d.compared.bound.ticks
 
--- a row for each word of the source, which has these words, where the two differ: by its lines, with numbers
--- from one on, or by the words of an image; no text where they nowhere do
-pub record IsTable (source : List ℕ) (words : Words) (compared : ℕ → Compared) (text : List ℕ) : Type 0 where
-  pub read : Source
-  pub is_read : IsSource source read
-  pub words_are : read.image ≡ words
-  pub rows : List ℕ
-  pub are_rows : AreSourceRows (rows_by_word (row_if_apart compared)) (IsRowIfApart compared) read rows
-  pub text_is : text ≡ section (heading_of read.text) rows
+abbrev pub ticks_apart : Difference → ℕ
+ticks_apart d = less d + more d
+
+-- what is compared at each address, and what its price takes for granted
+module _ (compared : ℕ → Compared) (priced : ℕ → Option Pricing) where
+  -- at a word of an image, if the two differ there
+  abbrev pub differences_at : ℕ × ℕ → List Difference
+  differences_at e =
+      if agree (compared e.0) then []
+      else record {
+        at = e.0;
+        word = e.1;
+        compared = compared e.0;
+        cause = cause_of (priced e.0) (compared e.0);
+      } ∷ []
+
+  -- at all words, the greatest first, and of equal ones that of the lower address
+  pub record AreDifferences (words : Words) (list : List Difference) : Type 0 where
+    pub same : IsPermutation (flat_map differences_at words) list
+    pub ordered : IsSortedByKey ticks_apart falling list
+    pub stable : IsStableByKey ticks_apart falling (flat_map differences_at words) list
+
+-- the differences at the words, by what their prices take for granted
+pub record IsListed (words : Words) (st : Stated) (flow : Flow) (compared : ℕ → Compared)
+    (list : List Difference) : Type 0 where
+  pub priced : ℕ → Option Pricing
+  pub are_priced : ArePriced words st flow priced
+  pub are_differences : AreDifferences compared priced words list
 
 -- ## Tallies
 

@@ -16,7 +16,8 @@ use Rattle.kept_runs.specs.Keeping.{IsStrayedRun}
 use Rattle.kept_runs.specs.Passing.{ArePasses, Pass}
 use Rattle.kept_runs.specs.declared.following.Unkept.{Unkept}
 use Rattle.handlers.specs.Answers.{Answers}
-use Rattle.handler_reports.specs.Differences.{IsTable, compared_at}
+use Rattle.handler_reports.specs.Differences.{compared_at}
+use Rattle.handler_reports.specs.DifferenceText.{IsTable}
 use Rattle.handler_reports.specs.FollowText.{AreWarnings, IsLeftText, IsLineNumberAt, kept_text, strayed_text}
 use Rattle.handler_reports.specs.FollowText.{why_text}
 use Rattle.handlers.specs.Keeping.{KeepsStatement}
@@ -55,7 +56,7 @@ module _ (words : Words) (stated : Stated) (profile : Profile) (flow : Flow) (st
       pub passes : List Pass
       pub passes_are : ArePasses flow state (take keeps.steps inputs) keeps.keeps.walk passes
       pub table : List ℕ
-      pub table_is : IsTable source words (compared_at flow passes (unfolded longest.walk)) table
+      pub table_is : IsTable source words stated flow (compared_at flow passes (unfolded longest.walk)) table
       pub warnings : List ℕ
       pub are_warnings : AreWarnings source words stated flow passes warnings
       pub text_is : text ≡ kept_text ticks longest.bound ++ (left ++ (table ++ warnings))

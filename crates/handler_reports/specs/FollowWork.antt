@@ -19,7 +19,8 @@ use Rattle.kept_runs.specs.declared.following.Followed.{Followed}
 use Rattle.kept_runs.specs.declared.following.Followed.TheVariants.{Kept, Strayed}
 use Rattle.machine_file.specs.Inputs.{AreInputs}
 use Rattle.machine_file.specs.Stated.{Stated}
-use Rattle.handler_reports.specs.Differences.{IsTable, capped_at}
+use Rattle.handler_reports.specs.Differences.{capped_at}
+use Rattle.handler_reports.specs.DifferenceText.{IsTable}
 use Rattle.handler_reports.specs.FollowReport.{IsFollowRefused, IsFollowReport, IsRunText}
 use Rattle.handler_reports.specs.FollowText.{AreWarnings, IsLeftText, IsLineNumberAt, kept_text}
 use Rattle.handler_reports.specs.FollowText.{strayed_text, why_text}
@@ -35,7 +36,7 @@ pub record IsTallyText (source : List ℕ) (words : Words) (st : statement.State
   pub left_is : IsLeftText source words at left
   pub table : List ℕ
   pub table_is : (passes : List Pass) → IsTally flow passes by_place
-      → IsTable source words (capped_at flow passes (unfolded longest.walk)) table
+      → IsTable source words st flow (capped_at flow passes (unfolded longest.walk)) table
   pub warnings : List ℕ
   pub are_warnings : (passes : List Pass) → IsTally flow passes by_place
       → AreWarnings source words st flow passes warnings

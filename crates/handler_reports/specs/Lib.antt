@@ -5,8 +5,10 @@ pub mod Verdict
 pub mod TightReport
 pub mod TightText
 pub mod Differences
+pub mod DifferenceText
 pub mod Each
 pub mod ExplainReport
+pub mod FirstStarts
 pub mod FollowReport
 pub mod FollowText
 pub mod FollowWork
@@ -16,4 +18,3 @@ pub mod FollowVisits
 pub mod VisitedText
 pub mod VisitedWork
 pub mod VisitsReport
-pub mod VisitStops

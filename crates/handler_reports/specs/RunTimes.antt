@@ -1,6 +1,6 @@
 -- What the times of an explanation say of machine runs: when words begin, and when runs end where DMA bursts
 -- come in the midst.
-use Rattle.std.specs.Prelude.{◌≡◌, ℕ, ◌+◌, ◌<◌, ◌≤◌, true, List, [], ◌∷◌, length, take, All, Option, Some}
+use Rattle.std.specs.Prelude.{◌≡◌, ℕ, ◌+◌, ◌<◌, ◌≤◌, true, false, List, [], ◌∷◌, length, take, All, Option, Some}
 use Rattle.std.specs.Prelude.{IsSomeAnd}
 use Rattle.bus_ticks.specs.declared.profile.Profile.{Profile}
 use Rattle.image.specs.Image.{Words}
@@ -28,6 +28,14 @@ BeginsWithin words stated flow tree a latest =
     (s : State) (inputs : List Input) (steps : ℕ) (place : Place) (now : State)
     → (run : RunsTo words stated flow tree s inputs steps place now) → is_at a place ≡ true
     → IsSomeAnd latest (λ ticks. TakesAtMost flow.profile ticks (take steps inputs) run.ran)
+
+-- The same of runs that come to the address with their next step for the first time.
+abbrev pub FirstBeginsWithin : Words → Stated → Flow → Tree → ℕ → Option ℕ → Type 0
+FirstBeginsWithin words stated flow tree a first =
+    (s : State) (inputs : List Input) (steps : ℕ) (place : Place) (now : State)
+    → (run : RunsTo words stated flow tree s inputs steps place now) → is_at a place ≡ true
+    → All (λ e. is_at a e.from ≡ false) run.walk
+    → IsSomeAnd first (λ ticks. TakesAtMost flow.profile ticks (take steps inputs) run.ran)
 
 -- ## When a run ends
 

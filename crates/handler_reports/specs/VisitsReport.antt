@@ -1,6 +1,6 @@
 -- What the report of a handler that FIQ interrupts prints, and when it is refused.
 use Rattle.std.specs.Prelude.{◌≡◌, ◌⊎◌, ◌+◌, ◌≤◌, ◌<◌, ◌++◌, ℕ, Bool, is_some, List, [], ◌∷◌}
-use Rattle.std.specs.Prelude.{Option, Some, None, IfSome, option_map, Result, codes, decimal}
+use Rattle.std.specs.Prelude.{Option, Some, None, IfSome, option_map, Result, codes, decimal, unwrap_or}
 use Rattle.bus_ticks.specs.declared.profile.Profile.{Profile}
 use Rattle.bus_ticks.specs.declared.space.TheConstants.{FIQ_VECTOR}
 use Rattle.walks.specs.declared.limits.TheConstants.{COST_LIMIT}
@@ -10,11 +10,10 @@ use Rattle.longest_walk.specs.Visits.{visits_bound}
 use Rattle.numbered_walks.specs.declared.fault.WalkFault.TheVariants as walk_fault
 use Rattle.handlers.specs.Answers.{Answers}
 use Rattle.handlers.specs.Report.{IsAccepted, IsBoundReport, IsRefused, IsReport}
-use Rattle.text_explained.specs.Bursts.{AreFewest, with_bursts}
-use Rattle.handlers.specs.FiqHandler.{IsFiqRefused}
-use Rattle.handlers.specs.Meeting.{SourcesShare}
+use Rattle.responses.specs.Entry.{irq_entry}
+use Rattle.handlers.specs.FiqHandler.{AreApart, IsFiqsRefused, fiq_bytes}
 use Rattle.handlers.specs.Refusal.{StatedSource}
-use Rattle.handlers.specs.Visits.{BoundsRunsEvery, BoundsVisitedRuns}
+use Rattle.handlers.specs.Visits.{AreFewestVisits, BoundsRunsEvery, BoundsVisitedRuns}
 use Rattle.handlers.specs.declared.fault.ReportFault.{ReportFault}
 use Rattle.handlers.specs.declared.fault.ReportFault.TheVariants as report_fault
 use Rattle.handler_reports.specs.declared.visit_rate.VisitRate.{VisitRate}
@@ -22,11 +21,16 @@ use Rattle.handler_reports.specs.declared.visit_rate.VisitRate.TheVariants.{Time
 
 -- ## How many visits
 
--- the most visits, each of which adds up to `price` ticks: so many, or the fewest that are enough where one
--- comes every so many ticks; None where no number is enough, and the handler never ends
-abbrev pub AreMostVisits : VisitRate → (price irq : ℕ) → Option ℕ → Type 0
-AreMostVisits (Times k) price irq visits = visits ≡ Some k
-AreMostVisits (Every every) price irq visits = AreFewest price irq every visits
+-- for how many ticks FIQ may have waited as the handler begins: its line may rise while IRQ is taken
+abbrev pub waited_by : Profile → (waited : Option ℕ) → ℕ
+waited_by profile waited = unwrap_or waited (irq_entry profile)
+
+-- the most visits: so many, or the fewest that are enough where one comes every so many ticks; None where no
+-- number is enough, and the handler never ends
+abbrev pub AreMostVisits : VisitRate → Profile → (irq fiq : ℕ) → Option ℕ → Type 0
+AreMostVisits (Times k) profile irq fiq visits = visits ≡ Some k
+AreMostVisits (Every every waited) profile irq fiq visits =
+    AreFewestVisits profile irq fiq every (waited_by profile waited) visits
 
 -- ## The text
 
@@ -34,10 +38,11 @@ AreMostVisits (Every every) price irq visits = AreFewest price irq every visits
 abbrev pub number_line : List ℕ → ℕ → List ℕ
 number_line name number = name ++ (decimal number ++ codes "\n")
 
--- how often FIQ comes, where that is no number of visits
-abbrev pub rate_text : VisitRate → List ℕ
-rate_text (Times k) = []
-rate_text (Every every) = number_line (codes "every ") every
+-- how often FIQ comes, and for how long it may have waited, where that is no number of visits
+abbrev pub rate_text : Profile → VisitRate → List ℕ
+rate_text profile (Times k) = []
+rate_text profile (Every every waited) =
+    number_line (codes "every ") every ++ number_line (codes "waited ") (waited_by profile waited)
 
 -- the most visits
 abbrev pub visits_text : Option ℕ → List ℕ
@@ -45,39 +50,40 @@ visits_text None = []
 visits_text (Some k) = number_line (codes "visits ") k
 
 -- both bounds and the price of taking FIQ, in ticks
-abbrev pub bounds_text : (irq fiq entry : ℕ) → List ℕ
-bounds_text irq fiq entry =
-    number_line (codes "irq ") irq ++ (number_line (codes "fiq ") fiq ++ number_line (codes "entry ") entry)
+abbrev pub bounds_text : Profile → (irq fiq : ℕ) → List ℕ
+bounds_text profile irq fiq =
+    number_line (codes "irq ") irq
+    ++ (number_line (codes "fiq ") fiq ++ number_line (codes "entry ") (fiq_entry profile))
 
 -- the most ticks, if there is an end
 abbrev pub total_text : Option ℕ → List ℕ
 total_text None = codes "it never ends\n"
 total_text (Some total) = number_line (codes "total ") total
 
-abbrev pub summary : VisitRate → (irq fiq entry : ℕ) → (visits total : Option ℕ) → List ℕ
-summary rate irq fiq entry visits total =
+abbrev pub summary : VisitRate → Profile → (irq fiq : ℕ) → (visits total : Option ℕ) → List ℕ
+summary rate profile irq fiq visits total =
     codes "arcwcet visits\n"
-    ++ (rate_text rate
+    ++ (rate_text profile rate
     ++ (visits_text visits
-    ++ (bounds_text irq fiq entry ++ total_text total)))
+    ++ (bounds_text profile irq fiq ++ total_text total)))
 
--- of handlers with these bounds and reports, by the price of taking FIQ: the most visits, with a total that
--- is not too large, and the text
-pub record AreJoined (rate : VisitRate) (irq fiq entry : ℕ) (irq_text fiq_text : List ℕ) (ends : Bool)
-    (text : List ℕ) : Type 0 where
+-- of handlers with these bounds and reports: the most visits, with a total that is not too large, and the
+-- text
+pub record AreJoined (rate : VisitRate) (profile : Profile) (irq fiq : ℕ) (irq_text fiq_text : List ℕ)
+    (ends : Bool) (text : List ℕ) : Type 0 where
   pub visits : Option ℕ
-  pub visits_are : AreMostVisits rate (fiq + entry) irq visits
-  pub small : IfSome visits (λ k. with_bursts (fiq + entry) irq k < COST_LIMIT)
+  pub visits_are : AreMostVisits rate profile irq fiq visits
+  pub small : IfSome visits (λ k. visits_bound profile irq fiq k < COST_LIMIT)
   pub ends_is : ends ≡ is_some visits
   pub text_is : text
-      ≡ summary rate irq fiq entry visits (option_map (with_bursts (fiq + entry) irq) visits)
+      ≡ summary rate profile irq fiq visits (option_map (visits_bound profile irq fiq) visits)
       ++ (irq_text ++ fiq_text)
 
 -- so many visits, the most, take 2^63 ticks or more
-pub record AreTooMany (rate : VisitRate) (irq fiq entry : ℕ) : Type 0 where
+pub record AreTooMany (rate : VisitRate) (profile : Profile) (irq fiq : ℕ) : Type 0 where
   pub visits : ℕ
-  pub visits_are : AreMostVisits rate (fiq + entry) irq (Some visits)
-  pub large : COST_LIMIT ≤ with_bursts (fiq + entry) irq visits
+  pub visits_are : AreMostVisits rate profile irq fiq (Some visits)
+  pub large : COST_LIMIT ≤ visits_bound profile irq fiq visits
 
 -- ## Both handlers
 
@@ -90,15 +96,6 @@ HasBound source statement profile bound text =
 abbrev pub HasFiqBound : List ℕ → List ℕ → Profile → (bound : ℕ) → List ℕ → Type 0
 HasFiqBound source fiq profile bound text =
     (stated : Stated) × IsBoundReport source fiq profile stated bound text × (stated.entry ≡ FIQ_VECTOR)
-
--- the source of FIQ's handler: its own, or that of the interrupted handler
-abbrev pub fiq_bytes : (source : List ℕ) → (own : Option (List ℕ)) → List ℕ
-fiq_bytes source None = source
-fiq_bytes source (Some own) = own
-
--- two sources share no address
-abbrev pub AreApart : (source : List ℕ) → (own : Option (List ℕ)) → Type 0
-AreApart source own = IfSome own (λ other. SourcesShare source other None)
 
 module _ (source : List ℕ) (own : Option (List ℕ)) (irq fiq : List ℕ) where
   -- both handlers have reports, FIQ's begins at its vector, and no word of one is where one of the other is
@@ -121,44 +118,33 @@ module _ (source : List ℕ) (own : Option (List ℕ)) (irq fiq : List ℕ) wher
           both.fiq_is.bounded.accepted.flow both.irq_is.bounded.accepted.stated
           both.irq_is.bounded.accepted.flow k
           (visits_bound profile both.irq_is.bounded.longest.bound both.fiq_is.bounded.longest.bound k)
-      pub timed : (every : ℕ) → rate ≡ Every every
+      pub timed : (every : ℕ) (waited : Option ℕ) → rate ≡ Every every waited
           → BoundsRunsEvery both.irq_is.bounded.accepted.loops.graph.words
           both.fiq_is.bounded.accepted.loops.graph.words both.fiq_is.bounded.accepted.stated profile
           both.fiq_is.bounded.accepted.flow both.irq_is.bounded.accepted.stated
-          both.irq_is.bounded.accepted.flow every
+          both.irq_is.bounded.accepted.flow every (waited_by profile waited)
           (visits_bound profile both.irq_is.bounded.longest.bound both.fiq_is.bounded.longest.bound k)
 
     -- The report of both statements on their sources, with the answer whether the interrupted handler ends.
     pub record IsVisitsReport (ends : Bool) (text : List ℕ) : Type 0 where
       pub both : HaveReports profile
-      pub joined : AreJoined rate both.irq_is.bounded.longest.bound both.fiq_is.bounded.longest.bound
-          (fiq_entry profile) both.irq_text both.fiq_text ends text
+      pub joined : AreJoined rate profile both.irq_is.bounded.longest.bound
+          both.fiq_is.bounded.longest.bound both.irq_text both.fiq_text ends text
       pub runs : IfSome joined.visits (BoundRuns both)
 
     -- what has a report
     pub record AreAccepted : Type 0 where
       pub both : HaveReports profile
-      pub not_too_many : AreTooMany rate both.irq_is.bounded.longest.bound
-          both.fiq_is.bounded.longest.bound (fiq_entry profile) → ⊥
+      pub not_too_many : AreTooMany rate profile both.irq_is.bounded.longest.bound
+          both.fiq_is.bounded.longest.bound → ⊥
 
     -- ## Refusals
 
     -- both handlers have reports, and the most visits take 2^63 ticks or more
     pub record IsTotalTooLarge : Type 0 where
       pub both : HaveReports profile
-      pub too_many : AreTooMany rate both.irq_is.bounded.longest.bound both.fiq_is.bounded.longest.bound
-          (fiq_entry profile)
-
--- When FIQ's handler is refused. That its own source shares an address with the other one comes after the
--- faults of reading it, and before all else.
-abbrev pub IsFiqsRefused : (source : List ℕ) → (own : Option (List ℕ)) → List ℕ → Profile → ReportFault
-    → Type 0
-IsFiqsRefused source None fiq profile fault = IsFiqRefused source fiq profile fault
-IsFiqsRefused source (Some own) fiq profile report_fault.Memory = Unit {0}
-IsFiqsRefused source (Some own) fiq profile (report_fault.WordsMeet address) =
-    SourcesShare source own (Some address)
-IsFiqsRefused source (Some own) fiq profile fault =
-    IsFiqRefused own fiq profile fault × ((address : ℕ) → SourcesShare source own (Some address) → ⊥)
+      pub too_many : AreTooMany rate profile both.irq_is.bounded.longest.bound
+          both.fiq_is.bounded.longest.bound
 
 -- the sources and the statements on them, in the order of the work
 abbrev pub parts_of : (source : List ℕ) → (own : Option (List ℕ)) → (irq fiq : List ℕ) → List StatedSource

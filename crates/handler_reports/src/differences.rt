@@ -1,47 +1,64 @@
 //! Where a run that keeps its statement and a greatest walk differ.
 
-ghost use Rattle.std.specs.Prelude.{◌≡◌, ◌+◌, ◌++◌, ℕ, IfOk, List, OnOk, length};
-ghost use Rattle.asm_text.specs.Appended.{Appends};
+ghost use Rattle.std.specs.Prelude.{◌≡◌, ◌+◌, ◌++◌, ℕ, IfOk, List, OnOk, flat_map, length};
+ghost use Rattle.std.specs.BTreeMap.{get};
+ghost use Rattle.std.specs.Ordering.{nat_cmp};
 ghost use Rattle.kept_runs.specs.Passing.{IsTally, Pass};
 ghost use Rattle.longest_walk.specs.Folded.{unfolded};
 ghost use Rattle.walk_counts.specs.Counts.{capped};
-ghost use Rattle.handler_reports.specs.Differences.{Adds, HasAdded, IsRowIfApart, IsTable, agree};
-ghost use Rattle.handler_reports.specs.Differences.{compared_in, compared_text};
-ghost use Rattle.handler_reports.specs.Differences.{heading_of, numbers_text};
-ghost use Rattle.handler_reports.specs.Differences.{row_if_apart, tallied, capped_at, with_place};
-ghost use Rattle.sources.specs.Source.{IsSource};
+ghost use Rattle.handler_reports.specs.Differences.{Adds, HasAdded, access_cause, agree};
+ghost use Rattle.handler_reports.specs.Differences.{capped_at, cause_of, compared_in, differences_at};
+ghost use Rattle.handler_reports.specs.Differences.{less, more, pricing_cause, tallied, ticks_apart};
+ghost use Rattle.handler_reports.specs.Differences.{IsListed, with_place};
 
+use bus_ticks::Class;
 use control_flow::{Graph, Place};
 use kept_runs::Passed;
 use longest_walk::FoldedWalk;
-use sources::{ImageRows, Source, SourceText};
+use loop_bounds::Handler;
 use std::alloc::{AllocError, Global};
+use std::cmp::Reverse;
 use std::collections::BTreeMap;
-use text_explained::WalkTally;
-use text_rows::{NumberedLine, WordRows, put, put_named_row, put_number, put_shown_row, section};
+use text_explained::{Granted, Pricing, WalkTally, priced};
 use walk_counts::capped_sum;
 
-// The names of the columns, of a text's rows and of an image's.
-const HEADING: &[u8] = b"              run            bound
-  passes    ticks  passes    ticks   address  line  text
-";
-
-const IMAGE_HEADING: &[u8] = b"              run            bound
-  passes    ticks  passes    ticks   address      word  text
-";
-
-// How often an address is passed, and the ticks there, each counted up to 2^64 - 1.
+/// How often an address is passed, and the ticks there, each counted up to 2^64 - 1.
 #[derive(Clone, Copy)]
-struct Numbers {
-    passes: u64,
-    ticks: u64,
+pub(crate) struct Numbers {
+    pub(crate) passes: u64,
+    pub(crate) ticks: u64,
 }
 
-// What a run and a greatest walk do at an address.
+/// What a run and a greatest walk do at an address.
 #[derive(Clone, Copy)]
-struct Compared {
-    run: Numbers,
-    bound: Numbers,
+pub(crate) struct Compared {
+    pub(crate) run: Numbers,
+    pub(crate) bound: Numbers,
+}
+
+/// Why a run and a greatest walk differ at an address.
+#[derive(Clone, Copy)]
+pub(crate) enum Cause {
+    /// The run goes another way, or turns a loop less or more often.
+    OtherWay,
+    /// A multiply takes fewer cycles.
+    Multiply,
+    /// What is loaded or stored is of another class, or of a device of another speed.
+    Access,
+    /// Fetches or transfers are cheaper in memory.
+    Fetches,
+    /// The handler leaves to another class.
+    Leaving,
+}
+
+/// A word at which a run and a greatest walk differ.
+#[derive(Clone, Copy)]
+pub(crate) struct Difference {
+    /// Its address.
+    pub(crate) at: u32,
+    pub(crate) word: u32,
+    pub(crate) compared: Compared,
+    pub(crate) cause: Cause,
 }
 
 // What a run does at each address.
@@ -148,104 +165,157 @@ impl Tallies<'_> {
     }
 }
 
-fn put_numbers(out: &mut Vec<u8>, numbers: Numbers) -> Result<(), AllocError>
-    ensures { OnOk result (out.new.items ≡ out.old.items ++ numbers_text numbers) }
+// What the class of a transfer has to do with it.
+fn access_cause(class: Class) -> Cause
+    ensures { result ≡ access_cause class }
 {
-    put(out, b" ")?;
-    put_number(out, numbers.passes, 7)?;
-    put(out, b" ")?;
-    put_number(out, numbers.ticks, 8)
-}
-
-fn put_compared(out: &mut Vec<u8>, compared: Compared) -> Result<(), AllocError>
-    ensures { OnOk result (out.new.items ≡ out.old.items ++ compared_text compared) }
-{
-    put_numbers(out, compared.run)?;
-    put_numbers(out, compared.bound)
-}
-
-// A line's word has a row where run and walk differ.
-impl WordRows for Tallies<'_> {
-    ghost word_row = { λ t. row_if_apart (compared_in t.run.now t.walk.now) };
-
-    fn put(&self, out: &mut Vec<u8>, line: NumberedLine<'_>, at: u32) -> Result<(), AllocError> {
-        let compared = self.compared_in(at);
-        if compared.agree() {
-            return Ok(());
-        }
-        let begun = out.len();
-        put_compared(out, compared)?;
-        put_named_row(out, out.len() - begun, line, at)
+    match class {
+        Class::Ram | Class::Rom => Cause::Fetches,
+        Class::Any | Class::Io | Class::Slow | Class::Medium | Class::Fast | Class::Synchronous =>
+            Cause::Access,
     }
 }
 
-// Adds the row of an image's word, if run and walk differ there.
-fn put_word(out: &mut Vec<u8>, tallies: Tallies<'_>, at: u32, word: u32) -> Result<(), AllocError>
+// What the price of a word takes for granted that may be otherwise.
+fn pricing_cause(pricing: Pricing) -> Cause
+    ensures { result ≡ pricing_cause pricing }
+{
+    if pricing.leave.is_some() {
+        return Cause::Leaving;
+    }
+    match pricing.granted {
+        Granted::Nothing => Cause::Fetches,
+        Granted::Multiplier(_) => Cause::Multiply,
+        Granted::Access(class) => access_cause(class),
+    }
+}
+
+fn cause_of(pricing: Option<Pricing>, compared: Compared) -> Cause
+    ensures { result ≡ cause_of pricing compared }
+{
+    if compared.run.passes != compared.bound.passes {
+        return Cause::OtherWay;
+    }
+    match pricing {
+        Some(pricing) => pricing_cause(pricing),
+        None => Cause::Fetches,
+    }
+}
+
+impl Difference {
+    /// By how many ticks the run takes less there.
+    pub(crate) fn less(&self) -> u64
+        ensures { result ≡ less self.now }
+    {
+        self.compared
+            .bound
+            .ticks
+            .saturating_sub(self.compared.run.ticks)
+    }
+
+    /// By how many it takes more.
+    pub(crate) fn more(&self) -> u64
+        ensures { result ≡ more self.now }
+    {
+        self.compared
+            .run
+            .ticks
+            .saturating_sub(self.compared.bound.ticks)
+    }
+
+    fn ticks_apart(&self) -> u64
+        ensures { result ≡ ticks_apart self.now }
+    {
+        self.compared.run.ticks.abs_diff(self.compared.bound.ticks)
+    }
+}
+
+// Adds a word, if run and walk differ there.
+fn push_word(
+    found: &mut Vec<Difference>,
+    tallies: Tallies<'_>,
+    prices: &BTreeMap<u32, Pricing>,
+    at: u32,
+    word: u32,
+) -> Result<(), AllocError>
     ensures { OnOk result
-        (Appends (IsRowIfApart (compared_in tallies.entry.run.now tallies.entry.walk.now) (at, word))
-        out.old.items out.new.items) }
+        (found.new.items
+        ≡ found.old.items
+        ++ differences_at (compared_in tallies.entry.run.now tallies.entry.walk.now)
+        (get nat_cmp prices.now) (at, word)) }
 {
     let compared = tallies.compared_in(at);
     if compared.agree() {
         return Ok(());
     }
-    let begun = out.len();
-    put_compared(out, compared)?;
-    put_shown_row(out, out.len() - begun, at, word)
+    let cause = cause_of(prices.get(&at).copied(), compared);
+    found.push(Difference {
+        at,
+        word,
+        compared,
+        cause,
+    })?;
+    Ok(())
 }
 
-impl ImageRows for Tallies<'_> {
-    ghost is_row = { λ t. IsRowIfApart (compared_in t.run.now t.walk.now) };
-
-    fn put_word(&self, out: &mut Vec<u8>, at: u32, word: u32) -> Result<(), AllocError> {
-        put_word(out, *self, at, word)
-    }
-}
-
-fn heading_of(text: &SourceText<'_>) -> &'static [u8]
-    ensures { result.now ≡ heading_of text.now }
+// Those of the words at which run and walk differ, in their order.
+fn found_at(
+    alloc: Global,
+    tallies: Tallies<'_>,
+    prices: &BTreeMap<u32, Pricing>,
+    words: &[(u32, u32)],
+) -> Result<Vec<Difference>, AllocError>
+    ensures { IfOk result
+        (λ found. found.items
+        ≡ flat_map (differences_at (compared_in tallies.entry.run.now tallies.entry.walk.now)
+        (get nat_cmp prices.now)) words.now) }
 {
-    match text {
-        SourceText::Lines(_, _) => HEADING,
-        SourceText::Image => IMAGE_HEADING,
+    let mut found = Vec::new(alloc);
+    for (at, word) in words {
+        push_word(&mut found, tallies, prices, *at, *word)?;
     }
+    Ok(found)
 }
 
-// The table by the tallies.
-fn table_by(alloc: Global, read: &Source<'_>, tallies: Tallies<'_>) -> Result<Vec<u8>, AllocError>
-    ensures { (source : List ℕ) → IsSource source read.now
-        → IfOk result
-        (λ text. IsTable source read.now.image
-        (compared_in tallies.entry.run.now tallies.entry.walk.now) text.items) }
+// The words of the handler's image at which run and walk differ, the greatest difference first.
+fn listed_by(
+    alloc: Global,
+    handler: &Handler<'_>,
+    tallies: Tallies<'_>,
+) -> Result<Vec<Difference>, AllocError>
+    ensures { IfOk result
+        (λ list. IsListed handler.now.image.now handler.now.statement handler.now.graph
+        (compared_in tallies.entry.run.now tallies.entry.walk.now) list.items) }
 {
-    let mut rows = Vec::new(alloc);
-    read.put_word_rows(&mut rows, &tallies)?;
-    section(alloc, heading_of(&read.text), &rows)
+    let prices = priced(alloc, handler)?;
+    let words = handler.image.listed(alloc)?;
+    let mut list = found_at(alloc, tallies, &prices, &words)?;
+    list.sort_by_key(|difference| Reverse(difference.ticks_apart()))?;
+    Ok(list)
 }
 
-/// Where a run and a walk of the graph differ: of each word of a source's lines, or of an image, where one
-/// passes more often or takes other ticks than the other, a row with how often the run passes it and its
-/// ticks there, and those of the walk. `by_place` says what the run does at each place of the graph, in their
-/// order. No text where the two nowhere differ.
+/// Where a run and a walk of the handler's graph differ: each word of its image where one passes more often or
+/// takes other ticks than the other, with how often the run passes it and its ticks there, those of the walk,
+/// and why they differ; the greatest difference first, and of equal ones that of the lower address.
+/// `by_place` says what the run does at each place of the graph, in their order. `AllocError`: an allocation
+/// failed.
 pub(crate) fn differences(
     alloc: Global,
-    read: &Source<'_>,
-    graph: &Graph,
+    handler: &Handler<'_>,
     by_place: &[Passed],
     walk: &FoldedWalk,
-) -> Result<Vec<u8>, AllocError>
-    requires { length by_place.now ≡ length graph.now.places }
-    ensures { (source : List ℕ) (passes : List Pass) → IsSource source read.now
-        → IsTally graph.now passes by_place.now
+) -> Result<Vec<Difference>, AllocError>
+    requires { length by_place.now ≡ length handler.now.graph.places }
+    ensures { (passes : List Pass) → IsTally handler.now.graph passes by_place.now
         → IfOk result
-        (λ text. IsTable source read.now.image (capped_at graph.now passes (unfolded walk.now))
-        text.items) }
+        (λ list. IsListed handler.now.image.now handler.now.statement handler.now.graph
+        (capped_at handler.now.graph passes (unfolded walk.now)) list.items) }
 {
-    let run_tally = RunTally::of_places(alloc, graph, by_place)?;
-    let walk_tally = WalkTally::of_walk(alloc, graph, walk)?;
+    let run_tally = RunTally::of_places(alloc, &handler.graph, by_place)?;
+    let walk_tally = WalkTally::of_walk(alloc, &handler.graph, walk)?;
     let tallies = Tallies {
         run: &run_tally,
         walk: &walk_tally,
     };
-    table_by(alloc, read, tallies)
+    listed_by(alloc, handler, tallies)
 }

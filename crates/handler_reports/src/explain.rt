@@ -2,12 +2,14 @@
 
 ghost use Rattle.std.specs.Prelude.{◌≡◌, ◌∷◌, [], ℕ, List, IfErr, IfOk, true};
 ghost use Rattle.bus_ticks.specs.declared.profile.Profile.{Profile};
-ghost use Rattle.text_explained.specs.Starts.{latest_at};
+ghost use Rattle.text_explained.specs.Costing.{first_of};
+ghost use Rattle.text_explained.specs.Table.{starts_of};
 ghost use Rattle.loop_bounds.specs.Handler.{HasItsTree};
 ghost use Rattle.handler_reports.specs.Bound.{given};
 ghost use Rattle.control_flow.specs.Flow.{Flow};
 ghost use Rattle.handler_reports.specs.ExplainReport.{Explains, IsExplanation, IsFullExplanation};
 ghost use Rattle.handler_reports.specs.ExplainReport.{IsTextOf, is_enough};
+ghost use Rattle.handler_reports.specs.FirstStarts.{AreAskedFirst};
 ghost use Rattle.handlers.specs.Priced.{Priced};
 ghost use Rattle.handlers.specs.Refusal.{Carries, CarriesRead, CarriesReadBy, ComesAlone, fault_only};
 ghost use Rattle.handlers.specs.Refusal.{stop_fault};
@@ -15,6 +17,7 @@ ghost use Rattle.handlers.specs.Report.{BeforeOutput, HasGraph, HasLoops, IsRefu
 ghost use Rattle.sources.specs.Source.{IsSource, Says};
 
 use crate::each::each_lines;
+use crate::first_starts::asked_first;
 use bus_ticks::Profile;
 use control_flow::graphs_are_well_formed;
 use flow_graph::run_law;
@@ -27,11 +30,21 @@ use outputs::Output;
 use sources::Source;
 use statement::Statement;
 use std::alloc::{AllocError, Global};
+use std::collections::BTreeMap;
 use text_explained::{
     Bursts, TimedWalk, assumed_text, burst_lines, cost_table, idle_entries,
     latest_starts_are_of_walks, places_are_listed_once, rule_lines, totals_are_the_bound,
 };
+use text_masked::masks_text;
 use text_savings::savings_text;
+
+/// How the table of an explanation is printed.
+#[derive(Clone, Copy)]
+pub struct TableForm {
+    /// Whether it has the ticks by which the words begin for the first time at the latest, each of which takes
+    /// a search of its own.
+    pub first: bool,
+}
 
 /// A handler whose bound is explained.
 #[derive(Clone, Copy)]
@@ -44,8 +57,20 @@ pub struct Explained<'a> {
     pub at_most: Option<u64>,
     /// The DMA bursts with which its bound is printed too.
     pub bursts: Bursts,
+    /// How the table is printed.
+    pub form: TableForm,
     /// Whether its bound for each destination of each target alone is printed too.
     pub each: bool,
+}
+
+// What an explanation is made by: the profile, the bursts, how the table is printed, and first starts, if
+// that asks for them.
+#[derive(Clone, Copy)]
+struct Means<'p, 'f> {
+    profile: &'p Profile,
+    bursts: Bursts,
+    form: TableForm,
+    first: Option<&'f BTreeMap<u32, u64>>,
 }
 
 // A greatest walk with the worst starts of its places, and the bursts that are added to its cost, by the
@@ -80,11 +105,12 @@ fn text_of(
     handler: &Handler<'_>,
     walk: BurstWalk<'_, '_>,
 ) -> Result<Vec<u8>, AllocError>
-    requires { handler.now.image.now ≡ read.now.image }
+    requires image { handler.now.image.now ≡ read.now.image }
+    requires tree { HasItsTree handler.now }
     ensures { IfOk result
         (λ text. IsTextOf read.now handler.now.statement handler.now.graph walk.entry.timed.longest.now
-        (latest_at handler.now.graph.places walk.entry.timed.starts.now) walk.entry.profile.now.burst
-        walk.entry.bursts text.items) }
+        (starts_of handler.now.graph.places walk.entry.timed.starts.now (first_of walk.entry.timed.first))
+        walk.entry.profile.now.burst walk.entry.bursts text.items) }
 {
     let mut text = cost_table(alloc, read, handler, walk.timed)?;
     let mut rest = burst_lines(alloc, walk.profile, walk.timed.longest.bound, walk.bursts)?;
@@ -94,6 +120,8 @@ fn text_of(
     rest.extend_from_slice(&rules)?;
     let idle = idle_entries(alloc, handler)?;
     rest.extend_from_slice(&idle)?;
+    let masks = masks_text(alloc, read, handler)?;
+    rest.extend_from_slice(&masks)?;
     let saved = savings_text(alloc, read, handler, walk.timed.longest)?;
     rest.extend_from_slice(&saved)?;
     text.extend_from_slice(&rest)?;
@@ -104,18 +132,20 @@ fn text_of(
 fn explanation_of(
     alloc: Global,
     read: &Source<'_>,
-    bursts: Bursts,
-    profile: &Profile,
+    means: Means<'_, '_>,
     handler: &Handler<'_>,
 ) -> Result<Explanation, ReportFault>
     requires image { handler.now.image.now ≡ read.now.image }
     requires tree { HasItsTree handler.now }
+    requires first { AreAskedFirst handler.now.graph handler.now.statement.loops means.form.first
+        (first_of means.first) }
     ensures explains { (source statement : List ℕ) → IsSource source read.now
-        → HasLoops source statement profile.now handler.now.statement handler.now.graph
-        → IfOk result (λ e. IsExplanation source statement bursts profile.now e.bound e.text.items) }
+        → HasLoops source statement means.entry.profile.now handler.now.statement handler.now.graph
+        → IfOk result (λ e. IsExplanation source statement means.entry.bursts means.entry.form
+        means.entry.profile.now e.bound e.text.items) }
     ensures fault { (source statement : List ℕ)
-        → HasLoops source statement profile.now handler.now.statement handler.now.graph
-        → IfErr result (BeforeOutput (IsRefused source statement profile.now)) }
+        → HasLoops source statement means.entry.profile.now handler.now.statement handler.now.graph
+        → IfErr result (BeforeOutput (IsRefused source statement means.entry.profile.now)) }
     ensures alone { IfErr result ComesAlone }
 {
     let found = longest_of(alloc, handler)?;
@@ -129,15 +159,46 @@ fn explanation_of(
         timed: TimedWalk {
             longest: &found,
             starts: &starts,
+            first: means.first,
         },
-        profile,
-        bursts,
+        profile: means.profile,
+        bursts: means.bursts,
     };
     let text = text_of(alloc, read, handler, walk)?;
     Ok(Explanation {
         bound: found.bound,
         text,
     })
+}
+
+// The explanation, with first starts if they are asked for.
+fn asked_explanation(
+    alloc: Global,
+    read: &Source<'_>,
+    explained: Explained<'_>,
+    profile: &Profile,
+    handler: &Handler<'_>,
+) -> Result<Explanation, ReportFault>
+    requires image { handler.now.image.now ≡ read.now.image }
+    requires tree { HasItsTree handler.now }
+    ensures explains { (source statement : List ℕ) → IsSource source read.now
+        → HasLoops source statement profile.now handler.now.statement handler.now.graph
+        → IfOk result (λ e. IsExplanation source statement explained.entry.bursts explained.entry.form
+        profile.now e.bound e.text.items) }
+    ensures fault { (source statement : List ℕ)
+        → HasLoops source statement profile.now handler.now.statement handler.now.graph
+        → IfErr result (BeforeOutput (IsRefused source statement profile.now)) }
+    ensures alone { IfErr result ComesAlone }
+{
+    let starts = asked_first(alloc, handler, explained.form.first)?;
+    let first = starts.as_ref();
+    let means = Means {
+        profile,
+        bursts: explained.bursts,
+        form: explained.form,
+        first,
+    };
+    explanation_of(alloc, read, means, handler)
 }
 
 // The explanation with the bounds for each destination of a target alone after it.
@@ -148,11 +209,11 @@ fn with_each(
     profile: &Profile,
     found: Explanation,
 ) -> Result<Explanation, AllocError>
-    ensures { (source text : List ℕ) (flow : Flow) (bursts : Bursts) → IsSource source read.now
-        → HasGraph source text profile.now statement.old flow
-        → IsExplanation source text bursts profile.now found.bound found.text.items
+    ensures { (source text : List ℕ) (flow : Flow) (bursts : Bursts) (form : TableForm)
+        → IsSource source read.now → HasGraph source text profile.now statement.old flow
+        → IsExplanation source text bursts form profile.now found.bound found.text.items
         → IfOk result
-        (λ e. IsFullExplanation source text bursts true profile.now e.bound e.text.items) }
+        (λ e. IsFullExplanation source text bursts form true profile.now e.bound e.text.items) }
 {
     let mut found = found;
     let each = each_lines(alloc, read, statement, profile)?;
@@ -172,14 +233,14 @@ fn full_explanation(
     requires tree { HasItsTree handler.now }
     ensures explains { (source statement : List ℕ) → IsSource source read.now
         → HasLoops source statement profile.now handler.old.statement handler.old.graph
-        → IfOk result (λ e. IsFullExplanation source statement explained.entry.bursts explained.entry.each
-        profile.now e.bound e.text.items) }
+        → IfOk result (λ e. IsFullExplanation source statement explained.entry.bursts explained.entry.form
+        explained.entry.each profile.now e.bound e.text.items) }
     ensures fault { (source statement : List ℕ)
         → HasLoops source statement profile.now handler.old.statement handler.old.graph
         → IfErr result (BeforeOutput (IsRefused source statement profile.now)) }
     ensures alone { IfErr result ComesAlone }
 {
-    let found = explanation_of(alloc, read, explained.bursts, profile, handler)?;
+    let found = asked_explanation(alloc, read, explained, profile, handler)?;
     if !explained.each {
         return Ok(found);
     }
@@ -195,7 +256,7 @@ fn source_explanation<'a>(
 ) -> Result<Explanation, Stop<'a>>
     ensures explains { (source : List ℕ) → IsSource source said.now
         → IfOk result (λ e. IsFullExplanation source explained.entry.statement.now explained.entry.bursts
-        explained.entry.each profile.now e.bound e.text.items) }
+        explained.entry.form explained.entry.each profile.now e.bound e.text.items) }
     ensures fault { (source : List ℕ) → Says source said.now
         → IfErr result (λ s. BeforeOutput (IsRefused source explained.entry.statement.now profile.now)
         (stop_fault s)) }
@@ -213,7 +274,7 @@ fn read_explanation<'a>(
 ) -> Result<Explanation, Refusal<'a>>
     ensures explains { IfOk result
         (λ e. IsFullExplanation explained.entry.source.now explained.entry.statement.now
-        explained.entry.bursts explained.entry.each profile.now e.bound e.text.items) }
+        explained.entry.bursts explained.entry.form explained.entry.each profile.now e.bound e.text.items) }
     ensures fault { IfErr (fault_only result)
         (BeforeOutput (IsRefused explained.entry.source.now explained.entry.statement.now profile.now)) }
     ensures carries { IfErr result
@@ -226,15 +287,17 @@ fn read_explanation<'a>(
 
 /// Writes where the ticks of a handler's greatest run time go, by a cycle profile's file or by the first
 /// profile: a table by the lines of the source, or by the words of an image, with how often a greatest walk
-/// passes each, the ticks of a pass and of all, the tick by which it begins at the latest, and what the price
-/// takes for granted; then the bound, in ticks and in microseconds; then the
+/// passes each, the ticks of a pass and of all, the tick by which it begins for the first time at the latest,
+/// if that is asked for, and by which it begins at all, and what the price takes for granted; then the bound,
+/// in ticks and in microseconds; then the
 /// bound with DMA bursts, if any are given; then what is taken for granted: words that count as returns but
 /// do not look like returns, words that leave the handler of an interrupt and restore no flags, words that
 /// return by R14 after a call, or an address of the source, has overwritten it, and loads and stores of which
 /// no class is stated; then how many words each rule for a base register covers; then the entries of the
-/// statement without effect; and then what better entries would save; and then, if it is asked for, the bound
-/// for each destination of each target alone, for each of which the handler is bounded anew. Answers whether
-/// the bound is enough: without bursts at most so many ticks as are wanted.
+/// statement without effect; then the longest step, and how long at most the handler's own words mask
+/// interrupts at a time; and then what better entries would save; and then, if it is asked for, the bound for
+/// each destination of each target alone, for each of which the handler is bounded anew. Answers whether the
+/// bound is enough: without bursts at most so many ticks as are wanted.
 ///
 /// # Errors
 ///
@@ -247,8 +310,8 @@ pub fn explain_report<'a, O: Output>(
 ) -> Result<bool, Refusal<'a>>
     ensures answers { Priced (given profile.entry)
         (λ p. Explains O.taken O.failures explained.entry.source.now explained.entry.statement.now
-        explained.entry.at_most explained.entry.bursts explained.entry.each p out.old out.new
-        (fault_only result)) out.old out.new (fault_only result) }
+        explained.entry.at_most explained.entry.bursts explained.entry.form explained.entry.each p out.old
+        out.new (fault_only result)) out.old out.new (fault_only result) }
     ensures carries { IfErr result (CarriesReadBy (given profile.entry) explained.entry.source.now
         (explained.entry.statement.now ∷ [])) }
 {

@@ -17,7 +17,7 @@ ghost use Rattle.handler_reports.specs.Bound.{given};
 ghost use Rattle.handlers.specs.Report.{BeforeOutput, HasLoops};
 ghost use Rattle.sources.specs.Source.{IsSource};
 
-use crate::differences::differences;
+use crate::difference_text::difference_table;
 use crate::follow_text::{kept_text, left_text, line_number_at, strayed_text, why_text};
 use crate::warnings::warnings;
 use bus_ticks::Profile;
@@ -78,10 +78,10 @@ fn kept_run(
         ticks by_place.now text.items) }
 {
     let warned = warnings(alloc, bounded.read, bounded.handler, by_place)?;
-    let table = differences(
+    let table = difference_table(
         alloc,
         bounded.read,
-        &bounded.handler.graph,
+        bounded.handler,
         by_place,
         &bounded.longest.walk,
     )?;

@@ -1,25 +1,23 @@
 ghost use Rattle.std.specs.Prelude.{◌≡◌, ◌⊎◌, ◌∷◌, [], List, ℕ, None, Some, IfErr, IfOk, OnOk};
-ghost use Rattle.bus_ticks.specs.Worst.{fiq_entry};
 ghost use Rattle.handlers.specs.Priced.{Priced};
-ghost use Rattle.handlers.specs.FiqHandler.{IsFiqRefused};
+ghost use Rattle.handlers.specs.FiqHandler.{AreApart, IsFiqRefused, IsFiqsRefused, fiq_bytes};
 ghost use Rattle.handlers.specs.Meeting.{SourcesShare};
 ghost use Rattle.handlers.specs.Refusal.{Carries, CarriesBy, CarriesReadOf, fault_only};
 ghost use Rattle.handlers.specs.Refusal.{refusal_fault, stop_fault};
 ghost use Rattle.handler_reports.specs.Bound.{given};
 ghost use Rattle.handlers.specs.Report.{BeforeOutput, IsRefused};
 ghost use Rattle.sources.specs.Source.{IsSource, Says};
-ghost use Rattle.handler_reports.specs.VisitsReport.{AreApart, AreJoined, AreRefused, AreTooMany, HasBound};
-ghost use Rattle.handler_reports.specs.VisitsReport.{HasFiqBound, IsFiqsRefused, IsVisitsReport};
-ghost use Rattle.handler_reports.specs.VisitsReport.{ReportsVisits, fiq_bytes, parts_of};
-ghost use Rattle.handler_reports.specs.VisitStops.{refusal_on, refused_on};
+ghost use Rattle.handlers.specs.VisitStops.{refusal_on};
+ghost use Rattle.handler_reports.specs.VisitsReport.{AreJoined, AreRefused, AreTooMany, HasBound};
+ghost use Rattle.handler_reports.specs.VisitsReport.{HasFiqBound, IsVisitsReport, ReportsVisits, parts_of};
 
 use crate::bound::{BoundReport, longest_report};
-use crate::visit_rate::{VisitRate, VisitedBound};
+use crate::visit_rate::{VisitRate, most_visits};
 use crate::visits_summary::put_summary;
-use bus_ticks::{Profile, fiq_entry};
+use bus_ticks::Profile;
 use handlers::{
-    Refusal, ReportFault, Stop, fiq_handler, first_shared, print_or_refuse, profile_of,
-    read_handler, read_source, with_source,
+    Refusal, ReportFault, Stop, VisitStop, VisitedBound, fiq_handler, print_or_refuse, profile_of,
+    read_apart, read_handler, read_source, refused_on, with_source,
 };
 use longest_walk::WalkFault;
 use outputs::Output;
@@ -46,46 +44,6 @@ pub struct VisitedHandler<'a> {
 struct VisitsText {
     ends: bool,
     text: Vec<u8>,
-}
-
-// Where the work on both handlers has stopped.
-#[derive(Drop)]
-enum VisitStop<'a> {
-    // On the source that was read first.
-    OnRead(Stop<'a>),
-    // On FIQ's own source, or where that is read.
-    OnOwn(Refusal<'a>),
-}
-
-impl<'a> From<Stop<'a>> for VisitStop<'a> {
-    ghost use Rattle.handler_reports.specs.declared.visits.VisitStop.TheVariants.{OnRead};
-
-    ghost from_gives = { λ lower stop. stop ≡ OnRead lower };
-
-    fn from(lower: Stop<'a>) -> VisitStop<'a> {
-        VisitStop::OnRead(lower)
-    }
-}
-
-impl<'a> From<Refusal<'a>> for VisitStop<'a> {
-    ghost use Rattle.handler_reports.specs.declared.visits.VisitStop.TheVariants.{OnOwn};
-
-    ghost from_gives = { λ lower stop. stop ≡ OnOwn lower };
-
-    fn from(lower: Refusal<'a>) -> VisitStop<'a> {
-        VisitStop::OnOwn(lower)
-    }
-}
-
-impl<'a> From<ReportFault> for VisitStop<'a> {
-    ghost use Rattle.handlers.specs.declared.refusal.Stop.TheVariants.{Alone};
-    ghost use Rattle.handler_reports.specs.declared.visits.VisitStop.TheVariants.{OnRead};
-
-    ghost from_gives = { λ lower stop. stop ≡ OnRead (Alone lower) };
-
-    fn from(lower: ReportFault) -> VisitStop<'a> {
-        VisitStop::OnRead(Stop::Alone(lower))
-    }
 }
 
 // The report of the interrupted handler.
@@ -122,30 +80,8 @@ fn fiq_report<'a>(
     Ok(longest_report(alloc, &handler)?)
 }
 
-// The same on its own source, whose words have to be apart from those of the source that was read first.
-fn apart_report<'a>(
-    alloc: Global,
-    said: &Source<'_>,
-    own: &Source<'_>,
-    statement: &'a [u8],
-    profile: &Profile,
-) -> Result<BoundReport, Stop<'a>>
-    ensures apart { (source bytes : List ℕ) → Says source said.now → Says bytes own.now
-        → OnOk result (SourcesShare source bytes None) }
-    ensures report { (bytes : List ℕ) → Says bytes own.now
-        → IfOk result (λ r. HasFiqBound bytes statement.now profile.now r.bound r.text.items) }
-    ensures fault { (source bytes : List ℕ) → Says source said.now → Says bytes own.now
-        → IfErr result (λ s. BeforeOutput (IsFiqsRefused source (Some bytes) statement.now profile.now)
-        (stop_fault s)) }
-    ensures carries { IfErr result (Carries own.now statement.now profile.now) }
-{
-    if let Some(address) = first_shared(&said.image, &own.image) {
-        return Err(Stop::Alone(ReportFault::WordsMeet(address)));
-    }
-    fiq_report(alloc, own, statement, profile)
-}
-
-// The same, of its source's bytes.
+// The same of its own source's bytes, whose words have to be apart from those of the source that was read
+// first.
 fn own_report<'a>(
     alloc: Global,
     said: &Source<'_>,
@@ -162,8 +98,8 @@ fn own_report<'a>(
         (BeforeOutput (IsFiqsRefused source (Some own.now) statement.now profile.now)) }
     ensures carries { IfErr result (CarriesReadOf ((own.now, statement.now) ∷ []) profile.now) }
 {
-    let read = read_source(alloc, own)?;
-    let report = apart_report(alloc, said, &read, statement, profile);
+    let read = read_apart(alloc, said, own)?;
+    let report = fiq_report(alloc, &read, statement, profile);
     with_source(read, report)
 }
 
@@ -202,20 +138,19 @@ fn joined_text(
     irq: &BoundReport,
     fiq: &BoundReport,
 ) -> Result<VisitsText, ReportFault>
-    ensures text { IfOk result (λ v. AreJoined rate irq.now.bound fiq.now.bound (fiq_entry profile.now)
+    ensures text { IfOk result (λ v. AreJoined rate profile.now irq.now.bound fiq.now.bound
         irq.now.text.items fiq.now.text.items v.ends v.text.items) }
     ensures fault { IfErr result (λ e. (e ≡ ReportFault.Memory)
         ⊎ ((e ≡ ReportFault.Walk WalkFault.BoundTooLarge)
-        × AreTooMany rate irq.now.bound fiq.now.bound (fiq_entry profile.now))) }
+        × AreTooMany rate profile.now irq.now.bound fiq.now.bound)) }
 {
     let bound = VisitedBound {
         irq: irq.bound,
         fiq: fiq.bound,
-        entry: fiq_entry(profile),
     };
-    let most = bound.most_visits(rate)?;
+    let most = most_visits(bound, profile, rate)?;
     let mut text = Vec::new(alloc);
-    put_summary(&mut text, bound, rate, most)?;
+    put_summary(&mut text, bound, profile, rate, most)?;
     text.extend_from_slice(&irq.text)?;
     text.extend_from_slice(&fiq.text)?;
     Ok(VisitsText {
@@ -248,20 +183,6 @@ fn source_visits<'a>(
     Ok(joined_text(alloc, profile, asked.rate, &irq, &fiq)?)
 }
 
-// The answer, with the source that was read where the work on it stopped.
-fn refused_on<'a>(
-    said: Source<'a>,
-    answer: Result<VisitsText, VisitStop<'a>>,
-) -> Result<VisitsText, Refusal<'a>>
-    ensures { result ≡ refused_on said.entry answer.entry }
-{
-    match answer {
-        Ok(found) => Ok(found),
-        Err(VisitStop::OnRead(stop)) => Err(Refusal::OnSource(said, stop)),
-        Err(VisitStop::OnOwn(refusal)) => Err(refusal),
-    }
-}
-
 // The report of the sources' bytes.
 fn read_visits<'a>(
     alloc: Global,
@@ -284,8 +205,8 @@ fn read_visits<'a>(
 }
 
 /// Writes the report of an interrupt handler that FIQ interrupts, by a cycle profile's file or the first
-/// profile: how often FIQ comes, the most visits, the bounds of both handlers, the greatest price of taking
-/// FIQ and the total, in ticks, and then the report of each statement as
+/// profile: how often FIQ comes, and for how long it may have waited; the most visits, the bounds of both
+/// handlers, the greatest price of taking FIQ and the total, in ticks, and then the report of each statement as
 /// [`bound_report`](crate::bound_report) writes it. No run of the machine that keeps both statements with at
 /// most so many visits takes more than the total, but for the profile's burst price for each DMA burst; nor
 /// does one in which FIQ is taken at most once in the ticks of [`VisitRate::Every`], for which the most

@@ -9,4 +9,7 @@ pub mod ReportLemmas
 pub mod SourceLemmas
 pub mod StatementLemmas
 pub mod VisitLemmas
+pub mod VisitRateLemmas
+pub mod FewestLemmas
+pub mod ApartLemmas
 pub mod AnswerLemmas

@@ -1,11 +1,12 @@
 -- The handler of FIQ, and when it is refused.
-use Rattle.std.specs.Prelude.{◌≡◌, ◌≢◌, List, ℕ, Ok}
+use Rattle.std.specs.Prelude.{◌≡◌, ◌≢◌, ℕ, List, Option, Some, None, IfSome, Ok}
 use Rattle.bus_ticks.specs.declared.profile.Profile.{Profile}
 use Rattle.bus_ticks.specs.declared.space.TheConstants.{FIQ_VECTOR}
 use Rattle.image.specs.Image.{Words}
 use Rattle.image.specs.Labels.{Names}
 use Rattle.statement.specs.Stated.{Stated}
 use Rattle.statement.specs.Statement.{IsStatement}
+use Rattle.handlers.specs.Meeting.{SourcesShare}
 use Rattle.handlers.specs.Report.{IsRefused}
 use Rattle.sources.specs.Source.{source_of}
 use Rattle.handlers.specs.declared.fault.ReportFault.{ReportFault}
@@ -27,3 +28,25 @@ IsFiqRefused source fiq profile report_fault.Memory = Unit {0}
 IsFiqRefused source fiq profile report_fault.NotFiqEntry = EntersElsewhere source fiq
 IsFiqRefused source fiq profile fault =
     IsRefused source fiq profile fault × (EntersElsewhere source fiq → ⊥)
+
+-- ## Of its own source
+
+-- the source of FIQ's handler: its own, or that of the interrupted handler
+abbrev pub fiq_bytes : (source : List ℕ) → (own : Option (List ℕ)) → List ℕ
+fiq_bytes source None = source
+fiq_bytes source (Some own) = own
+
+-- two sources share no address
+abbrev pub AreApart : (source : List ℕ) → (own : Option (List ℕ)) → Type 0
+AreApart source own = IfSome own (λ other. SourcesShare source other None)
+
+-- When each refusal is answered. That its own source shares an address with the other one comes after the
+-- faults of reading it, and before all else.
+abbrev pub IsFiqsRefused : (source : List ℕ) → (own : Option (List ℕ)) → List ℕ → Profile → ReportFault
+    → Type 0
+IsFiqsRefused source None fiq profile fault = IsFiqRefused source fiq profile fault
+IsFiqsRefused source (Some own) fiq profile report_fault.Memory = Unit {0}
+IsFiqsRefused source (Some own) fiq profile (report_fault.WordsMeet address) =
+    SourcesShare source own (Some address)
+IsFiqsRefused source (Some own) fiq profile fault =
+    IsFiqRefused own fiq profile fault × ((address : ℕ) → SourcesShare source own (Some address) → ⊥)

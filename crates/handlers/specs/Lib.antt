@@ -8,6 +8,7 @@ pub mod Refusal
 pub mod Report
 pub mod Source
 pub mod Visits
+pub mod VisitStops
 pub mod Answers
 pub mod FaultNames
 pub mod FaultText

@@ -1,9 +1,10 @@
 -- Runs of an interrupt handler that FIQ interrupts, and what a bound says of them.
-use Rattle.std.specs.Prelude.{◌≡◌, ℕ, ◌+◌, ◌<◌, ◌≤◌, List, ◌∷◌, ◌++◌, length, None}
+use Rattle.std.specs.Prelude.{◌≡◌, ℕ, ◌+◌, ◌*◌, ◌≤◌, List, [], ◌∷◌, ◌++◌, Option, Some, None}
 use Rattle.bus_ticks.specs.declared.profile.Profile.{Profile}
 use Rattle.bus_ticks.specs.declared.space.TheConstants.{FIQ_VECTOR}
 use Rattle.image.specs.Image.{Words}
 use Rattle.arm2_effect.specs.declared.exceptions.Vector.TheVariants.{Fiq}
+use Rattle.arm2_effect.specs.declared.step_end.Kind.{Kind}
 use Rattle.arm2_effect.specs.declared.step_end.Kind.TheVariants.{Taken}
 use Rattle.arm2_exec.specs.Run.{Runs}
 use Rattle.arm2_exec.specs.State.{State}
@@ -14,12 +15,25 @@ use Rattle.arm2_exec.specs.declared.machine.Stepped.{Stepped}
 use Rattle.control_flow.specs.Flow.{Flow}
 use Rattle.control_flow.specs.Graph.{IsFlowGraph}
 use Rattle.statement.specs.Stated.{Stated}
+use Rattle.longest_walk.specs.Visits.{visits_bound}
 use Rattle.kept_runs.specs.Visited.{FollowsVisited, MainStep, inputs_of, visits_of}
 use Rattle.handlers.specs.Keeping.{HasKeptWalk, KeepsStatement, TakesAtMost}
 
 -- ## How often FIQ is taken
 
--- a step of a run takes FIQ; what ran before it gives the ticks at which it begins
+-- how many of a run's steps take FIQ
+abbrev pub fiqs_of : Kind → ℕ
+fiqs_of (Taken Fiq) = 1
+fiqs_of kind = 0
+
+abbrev pub TakeFiq : State → List Input → (count : ℕ) → Type 0
+TakeFiq s [] count = count ≡ 0
+TakeFiq s (i ∷ rest) count =
+    (stepped : Stepped) × (next : State) × Step s i stepped next
+    × ((more : ℕ) × TakeFiq next rest more × (count ≡ fiqs_of stepped.kind + more))
+
+-- a step of a run takes FIQ; what ran before it gives the ticks at which it begins, and how many steps took
+-- FIQ earlier
 pub record TakesFiq (s : State) (inputs : List Input) : Type 0 where
   pub before : List Input
   pub taking : Input
@@ -29,17 +43,33 @@ pub record TakesFiq (s : State) (inputs : List Input) : Type 0 where
   pub now : State
   pub runs : Runs s before ran now
   pub goes_on : ran.stopped ≡ None
+  pub earlier : ℕ
+  pub earlier_are : TakeFiq s before earlier
   pub stepped : Stepped
   pub entered : State
   pub step : Step now taking stepped entered
   pub takes_fiq : stepped.kind ≡ Taken Fiq
 
--- FIQ is taken at most once in so many ticks of the processor: of two steps of the run that take it, the
--- later begins at least so many ticks after the earlier.
-abbrev pub IsTakenEvery : (every : ℕ) → State → List Input → Type 0
-IsTakenEvery every s inputs =
-    (one other : TakesFiq s inputs) → length one.before < length other.before
-    → one.ran.ticks + every ≤ other.ran.ticks
+-- FIQ's device asks for it at most once in `every` ticks of the processor, and may have waited for so many
+-- ticks as the run begins: a step that takes FIQ, k others before it, does not begin earlier than `waited`
+-- ticks before k times `every`. It may begin later.
+abbrev pub IsTakenEvery : (every waited : ℕ) → State → List Input → Type 0
+IsTakenEvery every waited s inputs = (x : TakesFiq s inputs) → x.earlier * every ≤ x.ran.ticks + waited
+
+-- ## How many visits are enough
+
+-- by the bounds of the interrupted handler and of FIQ's, no more than k come before the end of a run with k
+-- visits
+abbrev pub AreEnoughVisits : Profile → (irq fiq every waited k : ℕ) → Type 0
+AreEnoughVisits profile irq fiq every waited k = visits_bound profile irq fiq k + waited ≤ k * every
+
+-- the fewest that are enough; None where no number is, and the handler never ends
+abbrev pub AreFewestVisits : Profile → (irq fiq every waited : ℕ) → Option ℕ → Type 0
+AreFewestVisits profile irq fiq every waited (Some k) =
+    AreEnoughVisits profile irq fiq every waited k
+    × ((other : ℕ) → AreEnoughVisits profile irq fiq every waited other → k ≤ other)
+AreFewestVisits profile irq fiq every waited None =
+    (k : ℕ) → AreEnoughVisits profile irq fiq every waited k → ⊥
 
 -- ## Runs that keep both statements
 
@@ -60,10 +90,10 @@ module _ (irq_words fiq_words : Words) (fiq : Stated) (profile : Profile) (fiq_f
       → TakesAtMost profile total (inputs_of steps) ran
 
   -- so does every run in which FIQ is taken at most once in so many ticks
-  abbrev pub BoundsRunsEvery : (irq : Stated) (irq_flow : Flow) → (every total : ℕ) → Type 0
-  BoundsRunsEvery irq irq_flow every total =
+  abbrev pub BoundsRunsEvery : (irq : Stated) (irq_flow : Flow) → (every waited total : ℕ) → Type 0
+  BoundsRunsEvery irq irq_flow every waited total =
       (s : State) (steps : List MainStep) (ran : Ran) (after : State)
-      → KeepsVisited irq irq_flow s steps → IsTakenEvery every s (inputs_of steps)
+      → KeepsVisited irq irq_flow s steps → IsTakenEvery every waited s (inputs_of steps)
       → Runs s (inputs_of steps) ran after
       → TakesAtMost profile total (inputs_of steps) ran
 

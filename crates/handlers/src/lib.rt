@@ -4,6 +4,7 @@
 #![tactic(auto)]
 
 mod alone;
+mod apart;
 mod fault;
 mod fault_names;
 mod fiq;
@@ -14,8 +15,10 @@ mod parts;
 mod placing;
 mod refusal;
 mod refusal_line;
+mod visited_bound;
 
 pub use alone::bound_of;
+pub use apart::{VisitStop, read_apart, refused_on};
 pub use fault::ReportFault;
 pub use fault_names::fault_name;
 pub use fiq::fiq_handler;
@@ -26,3 +29,4 @@ pub use output::{MemoryOutput, StreamOutput, print_answer};
 pub use placing::{Placed, place, place_image};
 pub use refusal::{Refusal, Stop, fault_only, print_or_refuse, with_source};
 pub use refusal_line::{FaultPlace, fault_place, print_refusal_line};
+pub use visited_bound::VisitedBound;

@@ -8,10 +8,10 @@ use Rattle.debugger.specs.Conversation.{Converses}
 use Rattle.debugger.specs.SessionState.{begun}
 use Rattle.handlers.specs.Placing.{IsPlaced}
 
--- the session of the loaded machine by the lines of the commands, with the file's word at the port; its steps
--- and events are not used
+-- the session of the loaded machine by the lines of the commands and the labels of the source, with the file's
+-- word at the port; its steps and events are not used
 pub record IsDebugReport (source machine commands : List ℕ) (profile : Profile) (text : List ℕ) : Type 0 where
   pub file : Stated
   pub state : State
   pub placed : IsPlaced source machine profile file state
-  pub converses : Converses (begun state file.schedule.port) (lines_of commands) text
+  pub converses : Converses placed.stated.names (begun state file.schedule.port) (lines_of commands) text

@@ -4,11 +4,13 @@ ghost use Rattle.machine_reports.specs.Debug.{IsDebugReport};
 ghost use Rattle.handlers.specs.Placing.{IsRunRefused, IsRunnable};
 ghost use Rattle.handlers.specs.Priced.{Priced};
 ghost use Rattle.handlers.specs.Report.{BeforeOutput};
+ghost use Rattle.sources.specs.Source.{Says};
 
 use bus_ticks::Profile;
 use debugger::converse;
-use handlers::{ReportFault, place, print_answer, profile_of};
+use handlers::{ReportFault, place_image, print_answer, profile_of, read_source};
 use outputs::Output;
+use sources::Source;
 use std::alloc::Global;
 
 // The bytes of a source, a machine file and a session's commands.
@@ -17,6 +19,26 @@ struct SessionInputs<'a> {
     source: &'a [u8],
     machine: &'a [u8],
     commands: &'a [u8],
+}
+
+// What the session on a source that was read prints.
+fn converse_on(
+    alloc: Global,
+    said: &Source<'_>,
+    inputs: SessionInputs<'_>,
+    profile: Profile,
+) -> Result<Vec<u8>, ReportFault>
+    ensures session { Says inputs.entry.source.now said.now
+        → IfOk result
+        (λ text. IsDebugReport inputs.entry.source.now inputs.entry.machine.now inputs.entry.commands.now
+        profile text.items) }
+    ensures fault { Says inputs.entry.source.now said.now
+        → IfErr result (BeforeOutput (IsRunRefused inputs.entry.source.now inputs.entry.machine.now profile)) }
+{
+    let placed = place_image(alloc, said, inputs.machine, profile)?;
+    let port = placed.file.port();
+    let text = converse(alloc, placed.machine, port, &said.labels, inputs.commands)?;
+    Ok(text)
 }
 
 // What the session prints.
@@ -33,10 +55,8 @@ fn session_text(
     ensures only { IsRunnable inputs.entry.source.now inputs.entry.machine.now profile
         → IfErr result (λ e. e ≡ ReportFault.Memory) }
 {
-    let placed = place(alloc, inputs.source, inputs.machine, profile)?;
-    let port = placed.file.port();
-    let text = converse(alloc, placed.machine, port, inputs.commands)?;
-    Ok(text)
+    let said = read_source(alloc, inputs.source)?;
+    converse_on(alloc, &said, inputs, profile)
 }
 
 /// Writes a session of the debugger on the machine of a source and a machine file, by a cycle profile's file

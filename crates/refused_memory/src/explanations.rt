@@ -15,7 +15,7 @@ use text_explained::{TimedWalk, cost_table};
 use walk_counts::edge_counts;
 
 /// The bound of the nested countdown, by the lines of its source.
-pub(crate) const NESTED_LINES: &[u8] = b"passes  each  ticks  share latest priced as line  text
+const NESTED_LINES: &[u8] = b"passes  each  ticks  share latest priced as line  text
      1     1      1   2.0%      0              1  start MOV R1,#2
      2     1      2   4.0%     22              2  outer MOV R0,#3
      6     2     12  24.0%     35              3  inner SUBS R0,R0,#1
@@ -89,6 +89,7 @@ impl ExplainedCall {
         let timed = TimedWalk {
             longest: &found,
             starts: starts.as_slice(),
+            first: None,
         };
         match self {
             ExplainedCall::Lines => Ok(table(alloc, source, handler, timed, NESTED_LINES)),

@@ -4,7 +4,7 @@ use arm2_exec::{Machine, Reg};
 use assembler::assemble;
 use bus_ticks::Profile;
 use debugger::{DebugFault, Session};
-use loader::load;
+use loader::{Labels, load};
 use memc::PageSize;
 use std::alloc::Global;
 use std::str;
@@ -155,7 +155,7 @@ impl Obeyed {
         line: &[u8],
         wanted: &[u8],
     ) -> Result<bool, ReportFault> {
-        match self.session.command(alloc, line) {
+        match self.session.command(alloc, &Labels::new(alloc), line) {
             Ok(answer) => Ok(answer.as_slice() == wanted),
             Err(DebugFault::Memory) => Err(ReportFault::Memory),
             Err(_) => Ok(false),
@@ -165,7 +165,10 @@ impl Obeyed {
 
 impl Trial for Obeyed {
     fn make(&mut self, alloc: Global) -> Result<Answer, ReportFault> {
-        let is_right = match self.session.command(alloc, self.command.line()) {
+        let is_right = match self
+            .session
+            .command(alloc, &Labels::new(alloc), self.command.line())
+        {
             Ok(answer) => self.command.is_answered(&answer),
             Err(DebugFault::Memory) => return Ok(Answer::Refused),
             Err(_) => return Ok(Answer::Wrong),

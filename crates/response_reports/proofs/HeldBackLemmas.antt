@@ -5,12 +5,16 @@ use Rattle.control_flow.specs.Flow.{Flow}
 use Rattle.statement.specs.Stated.{Stated}
 use Rattle.loop_bounds.specs.Bounds.{IsGreatestCost}
 use Rattle.sources.specs.declared.read.Source.{Source}
-use Rattle.handlers.specs.Refusal.{Carries, CarriesOneOf}
+use Rattle.std.specs.Prelude.{◌++◌, map}
+use Rattle.sources.specs.Source.{IsSource}
+use Rattle.handlers.specs.Refusal.{Carries, CarriesOf, CarriesOneOf, CarriesReadOf, StatedSource}
 use Rattle.handlers.specs.Report.{BeforeOutput, IsBounded, IsRefused}
 use Rattle.handlers.specs.declared.fault.ReportFault.{ReportFault}
 use Rattle.handlers.specs.declared.fault.ReportFault.TheVariants.{Memory, Device}
+use Rattle.handlers.specs.declared.refusal.Refusal.{Refusal}
 use Rattle.handlers.specs.declared.refusal.Stop.{Stop}
 use Rattle.handlers.proofs.HandlerLemmas.{one_graph}
+use Rattle.handlers.proofs.RefusalLemmas.{then_of}
 use Rattle.handlers.proofs.ReportLemmas.{accepted_refusals}
 use Rattle.response_reports.specs.RespondReport.{AddUpTo, OneIsRefused}
 use Rattle.response_reports.specs.RespondWork.{IsBoundOf}
@@ -24,7 +28,7 @@ one_greatest flow st n m g h =
     omega (arith, up, down, g.costs, h.costs)
 
 module _ (source : List ℕ) (profile : Profile) where
-  one_bound : (statement : List ℕ) (r s : IsBounded source statement profile) → r.longest.bound ≡ s.longest.bound
+  pub one_bound : (statement : List ℕ) (r s : IsBounded source statement profile) → r.longest.bound ≡ s.longest.bound
   one_bound statement r s =
       let a = r.accepted in
       let b = s.accepted in
@@ -46,6 +50,18 @@ module _ (source : List ℕ) (profile : Profile) where
   none_refused [] n e h r = absurd r
   none_refused (text ∷ texts) n e h (inl r) = accepted_refusals source text profile e h.0.accepted r
   none_refused (text ∷ texts) n e h (inr r) = none_refused texts h.1 e h.2 r.1
+
+  -- where they add up, what is found behind them is found behind all
+  pub after_all : (parts : List StatedSource) (texts : List (List ℕ)) (n : ℕ) → AddUpTo source profile texts n → (e : Refusal) → CarriesReadOf parts profile e → CarriesReadOf (map (λ text. (source, text)) texts ++ parts) profile e
+  after_all parts [] n h e c = c
+  after_all parts (text ∷ texts) n h e c = then_of profile source text (map (λ text. (source, text)) texts ++ parts) h.0.accepted e (after_all parts texts h.1 h.2 e c)
+
+  -- what is found in one of them is
+  pub one_of_all : (parts : List StatedSource) (said : Source) → IsSource source said → (texts : List (List ℕ)) (s : Stop) → CarriesOneOf source said texts profile s
+      → CarriesOf (map (λ text. (source, text)) texts ++ parts) profile said s
+  one_of_all parts said is [] s h = absurd h
+  one_of_all parts said is (text ∷ texts) s (inl h) = inl (is, h)
+  one_of_all parts said is (text ∷ texts) s (inr h) = inr (h.0, one_of_all parts said is texts s h.1)
 
   -- ## So far
 

@@ -2,3 +2,5 @@ pub mod HeldBackLemmas
 pub mod ReachLemmas
 pub mod RespondLemmas
 pub mod TextLemmas
+pub mod VisitedRunLemmas
+pub mod VisitsLemmas

@@ -22,7 +22,7 @@ use Rattle.handlers.specs.declared.fault.ReportFault.TheVariants as report_fault
 use Rattle.handlers.proofs.HandlerLemmas.{handler_refusals, one_graph, one_ok}
 use Rattle.handlers.proofs.ReportLemmas.{none_holds}
 use Rattle.response_reports.specs.Question.{Question}
-use Rattle.response_reports.specs.RespondReport.{EntersElsewhere, HasNoAddress, IsAimed, IsAimRefused, IsEntered, IsNotReached, vector_at}
+use Rattle.response_reports.specs.RespondReport.{EntersElsewhere, HasNoAddress, IsAimed, IsAimRefused, IsAskedOf, IsEntered, IsNotReached, vector_at}
 use Rattle.response_reports.specs.RespondWork.{IsReachedAs}
 use Rattle.response_reports.specs.declared.reaching.Reached.{Reached}
 
@@ -33,24 +33,24 @@ only_memory flow tree walk_fault.NoCompleteWalk allowed h = absurd (allowed walk
 only_memory flow tree walk_fault.BoundTooLarge allowed h = absurd (allowed walk_fault.BoundTooLarge (λ e. cc e) h)
 
 module _ (q : Question) (profile : Profile) (st : Stated) (flow : Flow) (loops : HasLoops q.source q.statement profile st flow)
-    (said : Source) (says : Says q.source said) (label : List ℕ) (label_is : q.label ≡ label) where
-  pub entry_there : entry_of loops.graph.names q.label ≡ entry_of (address_of said.labels) label
+    (said : Source) (says : Says q.source said) where
+  pub entry_there : entry_of loops.graph.names q.label ≡ entry_of (address_of said.labels) q.label
   entry_there =
       let names : loops.graph.names ≡ address_of said.labels =
       ap (λ (p : Said). p.1) (one_ok (loops.graph.words, loops.graph.names) (said.image, address_of said.labels) (source_of q.source) loops.graph.source_is says) in
-      ap (λ (n : Names). entry_of n q.label) names ∙ ap (entry_of (address_of said.labels)) label_is
+      ap (λ (n : Names). entry_of n q.label) names
 
-  pub not_vector : ((i : Interrupt) → st.entry ≢ vector_at i) → EntersElsewhere q profile
+  pub not_vector : ((i : Interrupt) → IsAskedOf q.fiq i → st.entry ≢ vector_at i) → EntersElsewhere q profile
   not_vector elsewhere = record { stated = st; flow = flow; loops = loops; elsewhere = elsewhere }
 
-  module _ (interrupt : Interrupt) (entry_is : st.entry ≡ vector_at interrupt) where
+  module _ (interrupt : Interrupt) (asked_of : IsAskedOf q.fiq interrupt) (entry_is : st.entry ≡ vector_at interrupt) where
     abbrev entered : IsEntered q profile
-    entered = record { stated = st; flow = flow; loops = loops; interrupt = interrupt; entry_is = entry_is }
+    entered = record { stated = st; flow = flow; loops = loops; interrupt = interrupt; asked_of = asked_of; entry_is = entry_is }
 
-    pub no_address : None ≡ entry_of (address_of said.labels) label → HasNoAddress q profile
+    pub no_address : None ≡ entry_of (address_of said.labels) q.label → HasNoAddress q profile
     no_address none = record { entered = entered; at_is = entry_there ∙ sym none }
 
-    module _ (at : ℕ) (found : Some at ≡ entry_of (address_of said.labels) label) where
+    module _ (at : ℕ) (found : Some at ≡ entry_of (address_of said.labels) q.label) where
       abbrev aimed : IsAimed q profile
       aimed = record { entered = entered; at = at; at_is = entry_there ∙ sym found }
 

@@ -1,7 +1,9 @@
 -- The text of a response time.
-use Rattle.std.specs.Prelude.{◌≡◌, ℕ, ◌-◌, nat_le, max, if◌then◌else◌, Bool, true, false, List, [], ◌++◌}
-use Rattle.std.specs.Prelude.{codes, decimal, Option, Some, None, option_map}
+use Rattle.std.specs.Prelude.{◌≡◌, ℕ, ◌+◌, ◌-◌, nat_le, max, if◌then◌else◌, Bool, true, false, List, []}
+use Rattle.std.specs.Prelude.{◌++◌, codes, decimal, Option, Some, None, option_map}
+use Rattle.bus_ticks.specs.Worst.{fiq_entry}
 use Rattle.bus_ticks.specs.declared.profile.Profile.{Profile}
+use Rattle.longest_walk.specs.Visits.{visits_bound}
 use Rattle.responses.specs.Entry.{entry_ticks}
 use Rattle.responses.specs.Response.{response_time}
 use Rattle.responses.specs.declared.interrupts.Interrupt.{Interrupt}
@@ -11,6 +13,7 @@ use Rattle.text_explained.specs.Bursts.{AreBurstLines, AreFewest, with_bursts}
 use Rattle.text_explained.specs.Columns.{microseconds_text}
 use Rattle.text_explained.specs.declared.bursts.Bursts.{Bursts}
 use Rattle.response_reports.specs.Question.{Question}
+use Rattle.response_reports.specs.declared.visits.FiqVisits.{FiqVisits}
 
 -- the sum of the parts
 abbrev pub response_of : Profile → ResponseParts → ℕ
@@ -65,12 +68,45 @@ IsEveryTime price response (Some every) time =
     (fewest : Option ℕ) × AreFewest price response every fewest
     × (time ≡ option_map (with_bursts price response) fewest)
 
--- the greatest of the times that are printed: no time with bursts is less than the one without; None where
--- one never ends
+-- the greatest of the times with bursts that are printed: none is less than the one without; None where one
+-- never ends
 abbrev pub IsGreatestTime : (price response : ℕ) → Bursts → Option ℕ → Type 0
 IsGreatestTime price response bursts time =
     (every : Option ℕ) × IsEveryTime price response bursts.every every
     × (time ≡ option_map (max (count_time price response bursts.count)) every)
+
+-- ## With visits of FIQ's handler
+
+-- the response with them; None where it never ends
+abbrev pub visited_time : Profile → (response : ℕ) → FiqVisits → Option ℕ
+visited_time profile response v = option_map (visits_bound profile response v.bound) v.visits
+
+abbrev pub visits_text : Profile → (response bound : ℕ) → Option ℕ → List ℕ
+visits_text profile response bound None = codes "it never ends\n"
+visits_text profile response bound (Some k) =
+    decimal k
+    ++ (codes " visits of "
+    ++ (decimal (bound + fiq_entry profile)
+    ++ (codes ": " ++ (time_words (visits_bound profile response bound k) ++ codes "\n"))))
+
+-- nothing where FIQ is not asked for
+abbrev pub fiq_line : Profile → (response : ℕ) → Option FiqVisits → List ℕ
+fiq_line profile response None = []
+fiq_line profile response (Some v) =
+    codes "with fiq every "
+    ++ (decimal v.every
+    ++ (codes " ticks, waited "
+    ++ (decimal v.waited ++ (codes ": " ++ visits_text profile response v.bound v.visits))))
+
+-- the greater of two times; None where one never ends
+abbrev pub greater_time : Option ℕ → Option ℕ → Option ℕ
+greater_time None other = None
+greater_time (Some time) other = option_map (max time) other
+
+-- with the time with visits, where FIQ is asked for
+abbrev pub with_visits : Profile → (response : ℕ) → Option FiqVisits → Option ℕ → Option ℕ
+with_visits profile response None time = time
+with_visits profile response (Some v) time = greater_time time (visited_time profile response v)
 
 -- ## What is wanted
 
@@ -95,14 +131,18 @@ within_line (Some within) time =
 
 -- ## The text
 
--- the parts, then the times with bursts, then whether the greatest time is within what is wanted, which is
--- the answer
-pub record IsResponseText (profile : Profile) (q : Question) (parts : ResponseParts) (answer : Bool)
-    (text : List ℕ) : Type 0 where
+-- the parts, then the times with bursts and with visits, then whether the greatest of the times is within
+-- what is wanted, which is the answer
+pub record IsResponseText (profile : Profile) (q : Question) (parts : ResponseParts)
+    (visits : Option FiqVisits) (answer : Bool) (text : List ℕ) : Type 0 where
   pub burst_lines : List ℕ
   pub are_burst_lines : AreBurstLines profile.burst (response_of profile parts) q.bursts burst_lines
+  pub without : Option ℕ
+  pub is_greatest : IsGreatestTime profile.burst (response_of profile parts) q.bursts without
   pub greatest : Option ℕ
-  pub is_greatest : IsGreatestTime profile.burst (response_of profile parts) q.bursts greatest
+  pub greatest_is : greatest ≡ with_visits profile (response_of profile parts) visits without
   pub answer_is : answer ≡ is_within q.within greatest
   pub text_is : text
-      ≡ parts_text profile q.label parts ++ (burst_lines ++ within_line q.within greatest)
+      ≡ parts_text profile q.label parts
+      ++ (burst_lines
+      ++ (fiq_line profile (response_of profile parts) visits ++ within_line q.within greatest))

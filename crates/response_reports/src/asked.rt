@@ -1,5 +1,20 @@
 use text_explained::Bursts;
 
+/// FIQ's handler, which visits the response of IRQ's, and how often.
+#[derive(Clone, Copy)]
+pub struct AskedFiq<'a> {
+    /// The bytes of its source, where it is another one. Both are loaded at the same time.
+    pub source: Option<&'a [u8]>,
+    /// The text of the statement on it.
+    pub statement: &'a [u8],
+    /// FIQ is taken at most once in so many ticks of the processor, from 1 on. For 0 no number of visits is
+    /// enough.
+    pub every: u32,
+    /// For how many ticks FIQ may have waited as the step in progress begins; for `None` as long as IRQ is held
+    /// back and the step in progress takes, or none where IRQ is not held back.
+    pub waited: Option<u64>,
+}
+
 /// What is asked of a handler's response.
 #[derive(Clone, Copy)]
 pub struct AskedResponse<'a> {
@@ -19,6 +34,8 @@ pub struct AskedResponse<'a> {
     pub masked_by: &'a [Vec<u8>],
     /// The DMA bursts with which the response is printed too.
     pub bursts: Bursts,
+    /// FIQ's handler with whose visits the response of IRQ's is printed too.
+    pub fiq: Option<AskedFiq<'a>>,
     /// The most ticks that are wanted of the times that are printed; for `None` any are.
     pub within: Option<u64>,
 }

@@ -1,5 +1,5 @@
 //! The report of a handler's response time: from when an interrupt's line rises until the handler's first step
-//! at an address ends.
+//! at an address ends, with the visits of FIQ's handler too.
 #![tactic(auto)]
 
 mod asked;
@@ -7,6 +7,7 @@ mod held_back;
 mod reaching;
 mod respond;
 mod texts;
+mod visits;
 
-pub use asked::AskedResponse;
+pub use asked::{AskedFiq, AskedResponse};
 pub use respond::respond_report;

@@ -1,16 +1,17 @@
 //! How a handler comes to the address where it responds.
 
-ghost use Rattle.std.specs.Prelude.{◌≡◌, ◌≢◌, ◌⊎◌, IfErr, IfOk, MatchOption};
-ghost use Rattle.bus_ticks.specs.declared.profile.Profile.{Profile as Prices};
+ghost use Rattle.std.specs.Prelude.{◌≡◌, ◌≢◌, ◌⊎◌, IfErr, IfOk, MatchOption, option_map};
+ghost use Rattle.bus_ticks.specs.declared.profile.Profile.{Profile};
 ghost use Rattle.loop_bounds.specs.Handler.{HasItsTree};
 ghost use Rattle.handlers.specs.Refusal.{Carries, ComesAlone, stop_fault};
 ghost use Rattle.handlers.specs.Report.{BeforeOutput, HasLoops, IsHandlerRefused};
 ghost use Rattle.sources.specs.Source.{Says};
-ghost use Rattle.response_reports.specs.Question.{Question};
-ghost use Rattle.response_reports.specs.RespondReport.{IsAimRefused, vector_at};
+ghost use Rattle.response_reports.specs.Question.{fiq_question, question_of};
+ghost use Rattle.response_reports.specs.RespondReport.{IsAimRefused, IsAskedOf, vector_at};
 ghost use Rattle.response_reports.specs.RespondWork.{IsReachedAs};
 
-use bus_ticks::{FIQ_VECTOR, Profile};
+use crate::asked::{AskedFiq, AskedResponse};
+use bus_ticks::FIQ_VECTOR;
 use handlers::{Handler, ReportFault, Stop, longest_of, read_handler};
 use responses::{Interrupt, worst_arrival, worst_step_at};
 use source_reports::entry_of;
@@ -29,17 +30,23 @@ pub(crate) struct Reached {
     pub(crate) own: u32,
 }
 
-// The interrupt whose handler begins at an address.
-fn interrupt_at(address: u32) -> Option<Interrupt>
-    ensures { MatchOption result ((interrupt : Interrupt) → address ≢ vector_at interrupt)
-        (λ interrupt. address ≡ vector_at interrupt) }
+// The interrupt whose handler begins at an address, among those that have a response.
+fn interrupt_at(address: u32, fiq: Option<AskedFiq<'_>>) -> Option<Interrupt>
+    ensures { MatchOption result
+        ((interrupt : Interrupt) → IsAskedOf (option_map fiq_question fiq.entry) interrupt
+        → address ≢ vector_at interrupt)
+        (λ interrupt. IsAskedOf (option_map fiq_question fiq.entry) interrupt
+        × (address ≡ vector_at interrupt)) }
 {
     if address == IRQ_VECTOR {
-        Some(Interrupt::Irq)
-    } else if address == FIQ_VECTOR {
-        Some(Interrupt::Fiq)
-    } else {
-        None
+        return Some(Interrupt::Irq);
+    }
+    if address != FIQ_VECTOR {
+        return None;
+    }
+    match fiq {
+        Some(_) => None,
+        None => Some(Interrupt::Fiq),
     }
 }
 
@@ -48,21 +55,21 @@ fn reached_on(
     alloc: Global,
     said: &Source<'_>,
     handler: &Handler<'_>,
-    label: &[u8],
+    asked: AskedResponse<'_>,
 ) -> Result<Reached, ReportFault>
-    requires { HasItsTree handler.now }
-    ensures reached { (q : Question) (profile : Prices) → Says q.source said.now → q.label ≡ label.now
-        → HasLoops q.source q.statement profile handler.now.statement handler.now.graph
-        → IfOk result (IsReachedAs q profile) }
-    ensures fault { (q : Question) (profile : Prices) → Says q.source said.now → q.label ≡ label.now
-        → HasLoops q.source q.statement profile handler.now.statement handler.now.graph
-        → IfErr result (λ e. (e ≡ ReportFault.Memory) ⊎ IsAimRefused q profile e) }
+    requires says { Says asked.source.now said.now }
+    requires tree { HasItsTree handler.now }
+    ensures reached { (profile : Profile) → HasLoops asked.entry.source.now asked.entry.statement.now profile
+        handler.now.statement handler.now.graph → IfOk result (IsReachedAs (question_of asked.entry) profile) }
+    ensures fault { (profile : Profile) → HasLoops asked.entry.source.now asked.entry.statement.now profile
+        handler.now.statement handler.now.graph → IfErr result
+        (λ e. (e ≡ ReportFault.Memory) ⊎ IsAimRefused (question_of asked.entry) profile e) }
     ensures alone { IfErr result ComesAlone }
 {
-    let Some(interrupt) = interrupt_at(handler.statement.entry()) else {
+    let Some(interrupt) = interrupt_at(handler.statement.entry(), asked.fiq) else {
         return Err(ReportFault::NotVector);
     };
-    let Some(address) = entry_of(&said.labels, label) else {
+    let Some(address) = entry_of(&said.labels, asked.label) else {
         return Err(ReportFault::NoSuchEntry);
     };
     // As for any other report, some walk has to leave the handler.
@@ -89,18 +96,16 @@ fn reached_on(
 pub(crate) fn reached_by<'a>(
     alloc: Global,
     said: &Source<'_>,
-    statement: &'a [u8],
-    label: &[u8],
-    profile: &Profile,
+    asked: AskedResponse<'a>,
+    profile: &bus_ticks::Profile,
 ) -> Result<Reached, Stop<'a>>
-    ensures reached { (q : Question) → Says q.source said.now → q.statement ≡ statement.now
-        → q.label ≡ label.now → IfOk result (IsReachedAs q profile.now) }
-    ensures fault { (q : Question) → Says q.source said.now → q.statement ≡ statement.now
-        → q.label ≡ label.now → IfErr result
-        (λ s. IsHandlerRefused q.source q.statement profile.now (stop_fault s)
-        ⊎ IsAimRefused q profile.now (stop_fault s)) }
-    ensures carries { IfErr result (Carries said.now statement.now profile.now) }
+    requires { Says asked.source.now said.now }
+    ensures reached { IfOk result (IsReachedAs (question_of asked.entry) profile.now) }
+    ensures fault { IfErr result
+        (λ s. IsHandlerRefused asked.entry.source.now asked.entry.statement.now profile.now (stop_fault s)
+        ⊎ IsAimRefused (question_of asked.entry) profile.now (stop_fault s)) }
+    ensures carries { IfErr result (Carries said.now asked.entry.statement.now profile.now) }
 {
-    let handler = read_handler(alloc, said, statement, profile)?;
-    Ok(reached_on(alloc, said, &handler, label)?)
+    let handler = read_handler(alloc, said, asked.statement, profile)?;
+    Ok(reached_on(alloc, said, &handler, asked)?)
 }

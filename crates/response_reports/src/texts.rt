@@ -1,14 +1,18 @@
 //! The text of a response time.
 
-ghost use Rattle.std.specs.Prelude.{◌≡◌, ◌++◌, IfOk, OnOk, string_bytes};
+ghost use Rattle.std.specs.Prelude.{◌≡◌, ◌++◌, ℕ, IfOk, IfSome, OnOk, option_map, string_bytes};
+ghost use Rattle.bus_ticks.specs.declared.profile.Profile.{Profile};
 ghost use Rattle.response_reports.specs.Question.{question_of};
 ghost use Rattle.response_reports.specs.RespondText.{IsEveryTime, IsGreatestTime, IsResponseText, count_time};
 ghost use Rattle.response_reports.specs.RespondText.{heading_text, interrupt_name, is_within, margin_text};
 ghost use Rattle.response_reports.specs.RespondText.{part_line, part_lines, parts_text, response_line};
-ghost use Rattle.response_reports.specs.RespondText.{response_of, time_words, within_line};
+ghost use Rattle.response_reports.specs.RespondText.{fiq_line, response_of, time_words, visited_time};
+ghost use Rattle.response_reports.specs.RespondText.{visits_text, with_visits, within_line};
 
 use crate::asked::AskedResponse;
+use crate::visits::{Response, VisitedTime};
 use bus_ticks::Profile;
+use handlers::VisitedBound;
 use responses::{Interrupt, ResponseParts, entry_ticks};
 use std::alloc::{AllocError, Global};
 use text_explained::{Bursts, PricedBound, burst_lines};
@@ -188,26 +192,95 @@ fn put_within(out: &mut Vec<u8>, within: Option<u64>, time: Option<u128>) -> Res
     put(out, b"\n")
 }
 
-/// The text of a response that is the sum of these parts, and whether it is within what is wanted.
+// So many visits of so many ticks, and the time with them.
+fn visits_words(
+    alloc: Global,
+    profile: &Profile,
+    response: u64,
+    timed: VisitedTime,
+) -> Result<String, AllocError>
+    requires { visited_time profile.now response timed.visits ≡ timed.time }
+    ensures { IfOk result (λ text. string_bytes text
+        ≡ visits_text profile.now response timed.visits.bound timed.visits.visits) }
+{
+    let (Some(visits), Some(time)) = (timed.visits.visits, timed.time) else {
+        return String::from_str(alloc, "it never ends\n");
+    };
+    let bound = VisitedBound {
+        irq: response,
+        fiq: timed.visits.bound,
+    };
+    let visit = bound.visit(profile);
+    let time = time_words(alloc, u128::from(time))?;
+    format!(in alloc; "{visits} visits of {visit}: {time}\n")
+}
+
+// Adds the line of the visits of FIQ's handler, if it is asked for.
+fn put_visits(
+    out: &mut Vec<u8>,
+    profile: &Profile,
+    response: u64,
+    timed: Option<VisitedTime>,
+) -> Result<(), AllocError>
+    requires { IfSome timed (λ t. visited_time profile.now response t.visits ≡ t.time) }
+    ensures { OnOk result (out.new.items
+        ≡ out.old.items ++ fiq_line profile.now response (option_map (λ t. t.visits) timed)) }
+{
+    let Some(timed) = timed else {
+        return Ok(());
+    };
+    put(out, b"with fiq every ")?;
+    put_decimal(out, u64::from(timed.visits.every))?;
+    put(out, b" ticks, waited ")?;
+    put_decimal(out, timed.visits.waited)?;
+    put(out, b": ")?;
+    let text = visits_words(*out.allocator(), profile, response, timed)?;
+    put(out, text.as_bytes())
+}
+
+// With the time with visits, where FIQ is asked for.
+fn with_visits(time: Option<u128>, timed: Option<VisitedTime>) -> Option<u128>
+    ensures { (profile : Profile) (response : ℕ)
+        → IfSome timed (λ t. visited_time profile response t.visits ≡ t.time)
+        → result ≡ with_visits profile response (option_map (λ t. t.visits) timed) time }
+{
+    let Some(timed) = timed else {
+        return time;
+    };
+    match (time, timed.time) {
+        (Some(time), Some(visited)) => Some(time.max(u128::from(visited))),
+        _ => None,
+    }
+}
+
+/// The text of a response with its visits, and whether it is within what is wanted.
 pub(crate) fn response_answer(
     alloc: Global,
     asked: AskedResponse<'_>,
     profile: &Profile,
-    parts: ResponseParts,
-    response: u64,
+    response: Response,
+    timed: Option<VisitedTime>,
 ) -> Result<ResponseAnswer, AllocError>
-    requires { response ≡ response_of profile.now parts }
-    ensures { IfOk result
-        (λ a. IsResponseText profile.now (question_of asked.entry) parts a.within a.text.items) }
+    requires ticks { response.ticks ≡ response_of profile.now response.parts }
+    requires timed { IfSome timed (λ t. visited_time profile.now response.ticks t.visits ≡ t.time) }
+    ensures { IfOk result (λ a. IsResponseText profile.now (question_of asked.entry) response.parts
+        (option_map (λ t. t.visits) timed) a.within a.text.items) }
 {
     let priced = PricedBound {
-        ticks: response,
+        ticks: response.ticks,
         burst: profile.burst,
     };
-    let greatest = greatest_time(priced, asked.bursts);
+    let greatest = with_visits(greatest_time(priced, asked.bursts), timed);
     let mut text = Vec::new(alloc);
-    put_parts(&mut text, profile, asked.label, parts, response)?;
-    let mut rest = burst_lines(alloc, profile, response, asked.bursts)?;
+    put_parts(
+        &mut text,
+        profile,
+        asked.label,
+        response.parts,
+        response.ticks,
+    )?;
+    let mut rest = burst_lines(alloc, profile, response.ticks, asked.bursts)?;
+    put_visits(&mut rest, profile, response.ticks, timed)?;
     put_within(&mut rest, asked.within, greatest)?;
     text.extend_from_slice(&rest)?;
     Ok(ResponseAnswer {

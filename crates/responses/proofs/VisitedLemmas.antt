@@ -19,6 +19,7 @@ use Rattle.control_flow.specs.Flow.{Flow, edge_shape}
 use Rattle.flow_graph.specs.StepLaw.{Follows, IsEdgeOf, bursts_of}
 use Rattle.flow_graph.proofs.StepLemmas.{cost, goes_on}
 use Rattle.statement.specs.Stated.{Stated}
+use Rattle.longest_walk.specs.Visits.{visits_bound}
 use Rattle.kept_runs.specs.Visited.{AreVisits, FollowsVisited, IsVisit, MainStep, Visit, inputs_of, visits_before, visits_of}
 use Rattle.responses.specs.declared.interrupts.Interrupt.TheVariants.{Irq, Fiq}
 use Rattle.responses.specs.Entry.{entry_ticks}
@@ -105,7 +106,7 @@ module _ (fiq_words : Words) (fiq : Stated) (profile : Profile) (fiq_flow : Flow
 
   -- what a visit takes at most
   abbrev visit : ℕ
-  visit = fiq_entry profile + most
+  visit = most + fiq_entry profile
 
   a_visit : (s : State) (v : Visit) (rest : List Input) (ran : Ran) (next after : State) → IsVisit Keeps profile s v next → Runs s (v.taking ∷ (v.handling ++ rest)) ran after
       → StartsWithin profile visit (v.taking ∷ (v.handling ++ rest)) ran next rest after
@@ -129,7 +130,7 @@ module _ (fiq_words : Words) (fiq : Stated) (profile : Profile) (fiq_flow : Flow
       (joined profile visit (length visits * visit) (visits_before (v ∷ visits) rest) (visits_before visits rest) rest ran are.0 visited after first
       (all_visits are.0 visits rest first.more visited after are.2 first.runs))
 
-  visit_prices : (s : State) (visits : List Visit) (after : State) → AreVisits Keeps profile s visits after → s.profile ≡ profile → after.profile ≡ profile
+  pub visit_prices : (s : State) (visits : List Visit) (after : State) → AreVisits Keeps profile s visits after → s.profile ≡ profile → after.profile ≡ profile
   visit_prices s [] after are prices = ap (λ (t : State). t.profile) are ∙ prices
   visit_prices s (v ∷ visits) after are prices =
       let is : IsVisit Keeps profile s v are.0 = are.1 in
@@ -213,7 +214,7 @@ module _ (words fiq_words : Words) (irq fiq : Stated) (flow fiq_flow : Flow) (ad
   p = flow.profile
 
   abbrev each : ℕ
-  each = fiq_entry flow.profile + most
+  each = most + fiq_entry flow.profile
 
   walked : cost_of edge_shape (is.walk ++ is.last ∷ []) ≤ arrival + own
   walked =
@@ -234,7 +235,7 @@ module _ (words fiq_words : Words) (irq fiq : Stated) (flow fiq_flow : Flow) (ad
       let most_is : (n + (m + k)) * each ≤ visits * each = mul-le-mul_right each (subst (λ i. i ≤ visits) parts few) in
       omega (arith, all, most_is)
 
-  whole : (ran : Ran) (after : State) → Runs s (service_inputs service) ran after → TakesAtMost flow.profile (response_time flow.profile Irq longest masked arrival own + visits * each) (service_inputs service) ran
+  whole : (ran : Ran) (after : State) → Runs s (service_inputs service) ran after → TakesAtMost flow.profile (visits_bound flow.profile (response_time flow.profile Irq longest masked arrival own) most visits) (service_inputs service) ran
   whole ran after runs =
       let served : List MainStep = service.taking ∷ service.handling in
       let begun = a_step p longest s service.in_progress (inputs_of (steps_of service)) ran after is.in_progress is.risen is.progresses.prices is.progresses.step is.progresses.goes_on long runs in

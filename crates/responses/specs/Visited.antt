@@ -1,8 +1,7 @@
 -- Response time of IRQ where FIQ's handler visits the steps that wait, the one that takes IRQ, and those of
 -- IRQ's handler.
-use Rattle.std.specs.Prelude.{◌≡◌, ℕ, ◌+◌, ◌*◌, ◌≤◌, true, List, [], ◌∷◌, ◌++◌, None}
+use Rattle.std.specs.Prelude.{◌≡◌, ℕ, ◌+◌, ◌≤◌, true, List, [], ◌∷◌, ◌++◌, None}
 use Rattle.walks.specs.Walk.{cost_of}
-use Rattle.bus_ticks.specs.Worst.{fiq_entry}
 use Rattle.bus_ticks.specs.declared.profile.Profile.{Profile}
 use Rattle.bus_ticks.specs.declared.space.TheConstants.{FIQ_VECTOR}
 use Rattle.image.specs.Image.{Words}
@@ -21,6 +20,7 @@ use Rattle.control_flow.specs.Flow.{Flow, HasEdge, edge_shape}
 use Rattle.control_flow.specs.Graph.{IsFlowGraph}
 use Rattle.flow_graph.specs.StepLaw.{Follows}
 use Rattle.loop_bounds.specs.Bounds.{IsCompleteWalk, KeepsTheBounds}
+use Rattle.longest_walk.specs.Visits.{visits_bound}
 use Rattle.kept_runs.specs.Visited.{AreVisits, FollowsVisited, MainStep, inputs_of, visits_of}
 use Rattle.responses.specs.declared.interrupts.Interrupt.TheVariants.{Irq}
 use Rattle.responses.specs.Entry.{is_held_back_at}
@@ -104,7 +104,7 @@ pub record ServesVisited (words fiq_words : Words) (irq fiq : Stated) (flow fiq_
 
 -- ## How long they take
 
--- The sum of the parts without visits, and for each visit its entry and its handler's greatest cost.
+-- The sum of the parts without visits, and for each visit its handler's greatest cost and its entry.
 abbrev pub VisitedResponseLaw : Type 0
 VisitedResponseLaw =
     (words fiq_words : Words) (irq fiq : Stated) (flow fiq_flow : Flow)
@@ -116,7 +116,7 @@ VisitedResponseLaw =
     → is.in_progress.ticks ≤ longest → visits_of (steps_of service) ≤ visits
     → Runs s (service_inputs service) ran after
     → TakesAtMost flow.profile
-    (response_time flow.profile Irq longest masked arrival own + visits * (fiq_entry flow.profile + most))
+    (visits_bound flow.profile (response_time flow.profile Irq longest masked arrival own) most visits)
     (service_inputs service) ran
 
 -- ## Some run

@@ -14,7 +14,7 @@ pub fn response_law()
 {}
 
 /// The same of IRQ where FIQ's handler may visit each step after that in progress: at most so many visits add
-/// at most their number times FIQ's entry and the greatest cost of its handler. Under every profile some run
+/// at most their number times the greatest cost of its handler and FIQ's entry. Under every profile some run
 /// serves IRQ with one visit. The call does nothing.
 pub fn visited_response_law()
     ensures sum { VisitedResponseLaw }

@@ -1,6 +1,7 @@
 -- The rows of a table, and the whole of it.
 use Rattle.std.proofs.Common.{◌≡◌, ◌∙◌, ℕ, ◌+◌, ◌<◌, List, ◌++◌, length, get_or, take, sum_by, Option, refl, sym, ap, subst, arith, append_assoc}
 use Rattle.std.proofs.lemmas.List.Sums.{sum_by_more}
+use Rattle.std.specs.Prelude.{is_some}
 use Rattle.std.specs.BTreeMap.{get}
 use Rattle.std.specs.Ordering.{nat_cmp}
 use Rattle.walk_counts.specs.Counts.{capped}
@@ -15,8 +16,7 @@ use Rattle.sources.specs.Rows.{AreSourceRows}
 use Rattle.sources.specs.declared.read.Source.{Source}
 use Rattle.text_explained.specs.Columns.{heading}
 use Rattle.text_explained.specs.Costing.{IsCosting, figures_of}
-use Rattle.text_explained.specs.Starts.{latest_at}
-use Rattle.text_explained.specs.Table.{IsTableOf, IsWordRow, WalkFigures, all_ticks, image_ticks, line_rows, rows_by, table_end, ticks_of, walk_figures, word_figures, word_row}
+use Rattle.text_explained.specs.Table.{IsTableOf, IsWordRow, WalkFigures, all_ticks, image_ticks, line_rows, rows_by, starts_of, table_end, ticks_of, walk_figures, word_figures, word_row}
 use Rattle.text_explained.specs.declared.cost_columns.Column.{Column}
 use Rattle.text_explained.specs.declared.cost_figures.Costing.{Costing}
 use Rattle.text_explained.specs.declared.cost_figures.RowFigures.{RowFigures}
@@ -24,9 +24,10 @@ use Rattle.text_explained.specs.declared.walk_tally.Taken.{Taken}
 
 -- with the figures of its word
 pub row_written : (walk : WalkFigures) (at word : ℕ) (figures : RowFigures) (line old new : List ℕ) → figures ≡ word_figures walk at → IsShown word at line
-    → new ≡ old ++ word_row figures at line → Appends (IsWordRow walk (at, word)) old new
+    → new ≡ old ++ word_row (is_some walk.starts.first) figures at line → Appends (IsWordRow walk (at, word)) old new
 row_written walk at word figures line old new same shown row =
-    (word_row (word_figures walk at) at line, (line, shown, refl), row ∙ ap (λ (f : RowFigures). old ++ word_row f at line) same)
+    let has_first = is_some walk.starts.first in
+    (word_row has_first (word_figures walk at) at line, (line, shown, refl), row ∙ ap (λ (f : RowFigures). old ++ word_row has_first f at line) same)
 
 -- the ticks of a word more
 pub image_more : (taken : ℕ → Option Taken) (words : Words) (i : ℕ) (d : ℕ × ℕ) (ticks one new : ℕ) → i < length words → ticks ≡ image_ticks taken (take i words)
@@ -38,13 +39,19 @@ image_more taken words i d ticks one new lt before here sum_is =
     sum_is ∙ ap (λ n. capped (n + one)) before ∙ once ∙ ap capped (sym all)
 
 -- the figures of a walk, by the maps of its costing
-pub figures_are : (words : Words) (st : Stated) (flow : Flow) (longest : Longest) (starts : List ℕ) (c : Costing) → IsCosting words st flow longest starts c
-    → figures_of c ≡ walk_figures flow (unfolded longest.walk) (latest_at flow.places starts) longest.bound (get nat_cmp c.prices)
-figures_are words st flow longest starts c is =
-    λ i. record { taken = λ a. is.tally a i; latest = λ a. is.latest a i; priced = get nat_cmp c.prices; bound = is.bound i }
+pub figures_are : (words : Words) (st : Stated) (flow : Flow) (longest : Longest) (starts : List ℕ) (first : Option (ℕ → Option ℕ)) (c : Costing)
+    → IsCosting words st flow longest starts first c
+    → figures_of c ≡ walk_figures flow (unfolded longest.walk) (starts_of flow.places starts first) longest.bound (get nat_cmp c.prices)
+figures_are words st flow longest starts first c is =
+    λ i. record {
+      taken = λ a. is.tally a i;
+      starts = record { first = is.first i; latest = λ a. is.latest a i };
+      priced = get nat_cmp c.prices;
+      bound = is.bound i;
+    }
 
 -- the heading, the rows and the end
-pub table_whole : (lookup walk : WalkFigures) (total : ℕ) (source : Source) (column : Column) (start rows new : List ℕ) → lookup ≡ walk → column ≡ rows_by source.text → start ≡ heading column
+pub table_whole : (lookup walk : WalkFigures) (total : ℕ) (source : Source) (column : Column) (start rows new : List ℕ) → lookup ≡ walk → column ≡ rows_by source.text → start ≡ heading (is_some lookup.starts.first) column
     → Appends (AreSourceRows (line_rows lookup) (IsWordRow lookup) source) start rows → total ≡ all_ticks lookup.taken source.image source.text → new ≡ rows ++ table_end total walk.bound
     → IsTableOf walk source new
 table_whole lookup walk total source column start rows new same by heading_is adds total_is last =
@@ -53,7 +60,7 @@ table_whole lookup walk total source column start rows new same by heading_is ad
       adds.0,
       adds.1,
       last ∙ ap (λ n. rows ++ table_end n walk.bound) total_is ∙ ap (λ (w : WalkFigures). rows ++ table_end ticks w.bound) (sym same)
-          ∙ ap (λ xs. xs ++ table_end ticks lookup.bound) (adds.2 ∙ ap (λ xs. xs ++ adds.0) (heading_is ∙ ap heading by))
-          ∙ append_assoc (heading (rows_by source.text)) adds.0 (table_end ticks lookup.bound),
+          ∙ ap (λ xs. xs ++ table_end ticks lookup.bound) (adds.2 ∙ ap (λ xs. xs ++ adds.0) (heading_is ∙ ap (heading (is_some lookup.starts.first)) by))
+          ∙ append_assoc (heading (is_some lookup.starts.first) (rows_by source.text)) adds.0 (table_end ticks lookup.bound),
     ) in
     subst (λ (w : WalkFigures). IsTableOf w source new) same table

@@ -15,7 +15,7 @@ use Rattle.control_flow.proofs.Firsts.{no_edge}
 use Rattle.longest_walk.specs.Built.{step_at}
 use Rattle.walk_counts.specs.Counts.{capped, occurrences}
 use Rattle.walk_counts.proofs.SumLemmas.{capped_times, range_push}
-use Rattle.text_explained.specs.Taken.{Adds, HasAdded, Starts, cost_at, costs_from, in_all, is_at, is_reached, is_taken_from, with_edge, nothing, pass_at, range_of, taken_by, taken_of, widened}
+use Rattle.text_explained.specs.Taken.{Adds, HasAdded, Starts, cost_at, costs_where, in_all, is_at, is_from, is_reached, is_taken_from, with_edge, nothing, pass_at, range_of, taken_by, taken_of, widened}
 use Rattle.text_explained.proofs.RangeLaws.{range_kept, range_left}
 use Rattle.text_explained.specs.declared.walk_tally.Costs.{Costs}
 use Rattle.text_explained.specs.declared.walk_tally.Taken.{Taken}
@@ -46,8 +46,8 @@ module _ (edges walk : List Edge) (i : ℕ) (number : Edge → ℕ) where
       let same : s ≡ s + occurrences edges walk i * 0 = omega arith in
       ap capped (same ∙ ap (λ m. s + occurrences edges walk i * m) (sym none) ∙ sym (in_all_more edges walk i number))
 
-pub same_taken : (s t : Taken) → s.passes ≡ t.passes → s.ticks ≡ t.ticks → s.costs ≡ t.costs → s ≡ t
-same_taken s t passes ticks costs = λ i. record { passes = passes i; ticks = ticks i; costs = costs i }
+pub same_taken : (s t : Taken) → s.passes ≡ t.passes → s.ticks ≡ t.ticks → s.costs ≡ t.costs → s.prices ≡ t.prices → s ≡ t
+same_taken s t passes ticks costs prices = λ i. record { passes = passes i; ticks = ticks i; costs = costs i; prices = prices i }
 
 -- the place of an edge is reached
 pub reached : (places : List Place) (p : Place) (a : ℕ) → Contains places p → is_at a p ≡ true → is_reached places a ≡ true
@@ -56,7 +56,7 @@ reached places p a has at = list_any_at (is_at a) places has.0 p has.1 (ap (is_a
 module _ (edges walk : List Edge) (i : ℕ) (e : Edge) (count : ℕ) (e_is : e ≡ step_at edges i) (count_is : count ≡ capped (occurrences edges walk i)) where
   -- an edge that leaves the address
   leaving : (a : ℕ) → is_at a e.from ≡ true → with_edge (taken_of edges walk i a) e count ≡ taken_of edges walk (i + 1) a
-  leaving a at = same_taken (with_edge (taken_of edges walk i a) e count) (taken_of edges walk (i + 1) a) passes ticks costs
+  leaving a at = same_taken (with_edge (taken_of edges walk i a) e count) (taken_of edges walk (i + 1) a) passes ticks costs prices
     where
       n : ℕ
       n = occurrences edges walk i
@@ -81,9 +81,9 @@ module _ (edges walk : List Edge) (i : ℕ) (e : Edge) (count : ℕ) (e_is : e �
           ∙ ap (λ m. capped (s + m)) (sym all) ∙ ap capped (sym (in_all_more edges walk i (cost_at a)))
 
       before : Option Costs
-      before = range_of (costs_from edges walk i a)
+      before = range_of (costs_where edges (is_taken_from edges walk a) i)
 
-      costs : (if count == 0 then before else widened before e.cost) ≡ range_of (costs_from edges walk (i + 1) a)
+      costs : (if count == 0 then before else widened before e.cost) ≡ range_of (costs_where edges (is_taken_from edges walk a) (i + 1))
       costs = ⊎_elim
           (λ (some : 0 < n).
           let counted : (count == 0) ≡ false = ne_eqb count 0 (λ none. absurd (let both : capped n ≡ 0 = sym count_is ∙ none in omega arith)) in
@@ -97,12 +97,18 @@ module _ (edges walk : List Edge) (i : ℕ) (e : Edge) (count : ℕ) (e_is : e �
           ∙ sym (range_left (is_taken_from edges walk a) (λ k. (step_at edges k).cost) i unmet))
           (cases_lt 0 n)
 
+      prices : widened (range_of (costs_where edges (is_from edges a) i)) e.cost ≡ range_of (costs_where edges (is_from edges a) (i + 1))
+      prices =
+          ap (λ c. widened (range_of (costs_where edges (is_from edges a) i)) c) (sym cost)
+          ∙ sym (range_kept (is_from edges a) (λ k. (step_at edges k).cost) i here)
+
   -- one that does not
   passing : (a : ℕ) → is_at a e.from ≡ false → taken_of edges walk i a ≡ taken_of edges walk (i + 1) a
   passing a at = same_taken (taken_of edges walk i a) (taken_of edges walk (i + 1) a)
       (counts_not edges walk i (pass_at a) (ap (λ b. cond b 1 0) here))
       (counts_not edges walk i (cost_at a) (ap (λ b. cond b (step_at edges i).cost 0) here))
       (sym (range_left (is_taken_from edges walk a) (λ k. (step_at edges k).cost) i (ap (λ b. b && nat_lt 0 (occurrences edges walk i)) here)))
+      (sym (range_left (is_from edges a) (λ k. (step_at edges k).cost) i here))
     where
       here : is_at a (step_at edges i).from ≡ false
       here = ap (λ (x : Edge). is_at a x.from) (sym e_is) ∙ at

@@ -3,11 +3,13 @@ use Rattle.std.proofs.Common.{◌≡◌, ◌∙◌, refl, ℕ, ◌-◌, ◌*◌,
 use Rattle.std.specs.Prelude.{◌↔◌, ◌&&◌, ◌==◌, All, Contains, if◌then◌else◌, is_some, nat_lt, sum_by}
 use Rattle.std.proofs.lemmas.Bool.{and_parts, both_ways, cases_Bool, eq-eqb, eqb-true, lt-ltb, ltb-true}
 use Rattle.std.proofs.lemmas.List.Elements.{All-contains, All-contains_itself, All-weaker}
+use Rattle.std.proofs.lemmas.List.{get_or_default}
 use Rattle.std.proofs.lemmas.List.Folds.{list_any_at, list_any_none}
 use Rattle.assembler.specs.declared.placed_line.PlacedLine.{PlacedLine}
 use Rattle.control_flow.specs.declared.places.Place.TheVariants.{Exit}
 use Rattle.control_flow.specs.declared.edges.Edge.{Edge}
 use Rattle.control_flow.specs.Flow.{Flow, HasEdge, IsWellFormed, edge_shape}
+use Rattle.control_flow.proofs.Firsts.{no_edge}
 use Rattle.image.specs.Image.{Words}
 use Rattle.loop_bounds.specs.Tree.{Tree}
 use Rattle.longest_walk.specs.Built.{step_at}
@@ -20,8 +22,8 @@ use Rattle.walk_counts.specs.Counts.{capped, number_of, occurrences}
 use Rattle.walk_counts.proofs.CountLemmas.{along}
 use Rattle.walk_counts.proofs.NumberLemmas.{known_edge}
 use Rattle.walk_counts.proofs.SumLemmas.{sum_none, sums_by_number}
-use Rattle.text_explained.specs.Table.{costs_of, image_ticks, is_any_reached, line_taken, passes_of, source_ticks, ticks_in, ticks_of, told_at, words_of}
-use Rattle.text_explained.specs.Taken.{AreCostsAt, IsCostAt, AreListedOnce, cost_at, costs_from, in_all, is_at, is_reached, is_taken_from, pass_at, range_of, taken_at, taken_of}
+use Rattle.text_explained.specs.Table.{costs_of, image_ticks, is_any_reached, line_taken, passes_of, prices_of, source_ticks, ticks_in, ticks_of, told_at, words_of}
+use Rattle.text_explained.specs.Taken.{AreCostsAt, IsCostAt, AreListedOnce, cost_at, costs_where, in_all, is_at, is_from, is_reached, is_taken_from, pass_at, range_of, taken_at, taken_of}
 use Rattle.text_explained.specs.declared.walk_tally.Costs.{Costs}
 use Rattle.text_explained.specs.declared.walk_tally.Taken.{Taken}
 use Rattle.text_explained.proofs.RangeLaws.{HasCost, IsRange, is_counted, range_is, some_counted}
@@ -56,14 +58,18 @@ module _ (flow : Flow) (walk : List Edge) (well : IsWellFormed flow) (on : All (
   ticks_is a = part_of_cost (cost_at a) (λ e some. cond_within (is_at a e.from) e.cost e.cost (omega arith))
 
   abbrev pub costs_here : ℕ → Option Costs
-  costs_here a = range_of (costs_from flow.edges walk (length flow.edges) a)
+  costs_here a = range_of (costs_where flow.edges (is_taken_from flow.edges walk a) (length flow.edges))
 
-  exact_taken : (a : ℕ) → taken_of flow.edges walk (length flow.edges) a ≡ record { passes = sum_by (pass_at a) walk; ticks = sum_by (cost_at a) walk; costs = costs_here a }
-  exact_taken a =
-      same_taken (taken_of flow.edges walk (length flow.edges) a)
-      (record { passes = sum_by (pass_at a) walk; ticks = sum_by (cost_at a) walk; costs = costs_here a }) (passes_is a) (ticks_is a) refl
+  abbrev pub prices_here : ℕ → Option Costs
+  prices_here a = range_of (costs_where flow.edges (is_from flow.edges a) (length flow.edges))
 
-  taken_is : (a : ℕ) → is_reached flow.places a ≡ true → taken_at flow walk a ≡ Some (record { passes = sum_by (pass_at a) walk; ticks = sum_by (cost_at a) walk; costs = costs_here a })
+  abbrev pub taken_here : ℕ → Taken
+  taken_here a = record { passes = sum_by (pass_at a) walk; ticks = sum_by (cost_at a) walk; costs = costs_here a; prices = prices_here a }
+
+  exact_taken : (a : ℕ) → taken_of flow.edges walk (length flow.edges) a ≡ taken_here a
+  exact_taken a = same_taken (taken_of flow.edges walk (length flow.edges) a) (taken_here a) (passes_is a) (ticks_is a) refl refl
+
+  taken_is : (a : ℕ) → is_reached flow.places a ≡ true → taken_at flow walk a ≡ Some (taken_here a)
   taken_is a known =
       ap (λ b. if b then Some (taken_of flow.edges walk (length flow.edges) a) else None) known ∙ ap (λ (t : Taken). Some t) (exact_taken a)
 
@@ -83,7 +89,7 @@ module _ (flow : Flow) (walk : List Edge) (well : IsWellFormed flow) (on : All (
         let same : step_at flow.edges h.number ≡ found.0 = ap (step_at flow.edges) (sym number) ∙ known.1 in
         record {
           edge = found.0;
-          taken = found.1;
+          among = found.1;
           leaves = ap (λ (e : Edge). is_at a e.from) (sym same) ∙ parts.0;
           costs = ap (λ (e : Edge). e.cost) (sym same) ∙ h.costs;
         }
@@ -92,8 +98,8 @@ module _ (flow : Flow) (walk : List Edge) (well : IsWellFormed flow) (on : All (
     is_taken : (n : ℕ) → IsCostAt a walk n → Has n
     is_taken n c =
         let k = number_of flow.edges c.edge in
-        let known = known_edge flow.edges c.edge (All-contains (HasEdge flow) walk c.edge on c.taken) in
-        let some : 0 < occurrences flow.edges walk k = is_counted (λ e. number_of flow.edges e == k) walk c.edge c.taken (eq-eqb k k refl) in
+        let known = known_edge flow.edges c.edge (All-contains (HasEdge flow) walk c.edge on c.among) in
+        let some : 0 < occurrences flow.edges walk k = is_counted (λ e. number_of flow.edges e == k) walk c.edge c.among (eq-eqb k k refl) in
         record {
           number = k;
           below = known.0;
@@ -105,11 +111,39 @@ module _ (flow : Flow) (walk : List Edge) (well : IsWellFormed flow) (on : All (
     are_costs None none = λ n c. none n (is_taken n c)
     are_costs (Some c) all = (of_walk c.least all.0, of_walk c.greatest all.1, λ n h. all.2 n (is_taken n h))
 
+    -- ## The costs of the graph's edges
+
+    abbrev pub Leaves : ℕ → Type 0
+    Leaves = HasCost (is_from flow.edges a) (λ k. (step_at flow.edges k).cost) (length flow.edges)
+
+    of_graph : (n : ℕ) → Leaves n → IsCostAt a flow.edges n
+    of_graph n h =
+        let e = step_at flow.edges h.number in
+        record { edge = e; among = (h.number, h.below, get_or_default flow.edges h.number e no_edge h.below); leaves = h.passes; costs = h.costs }
+
+    leaves_it : (n : ℕ) → IsCostAt a flow.edges n → Leaves n
+    leaves_it n c =
+        let k = c.among.0 in
+        let same : step_at flow.edges k ≡ c.edge = sym (get_or_default flow.edges k c.edge no_edge c.among.1) ∙ c.among.2 in
+        record {
+          number = k;
+          below = c.among.1;
+          passes = ap (λ (e : Edge). is_at a e.from) same ∙ c.leaves;
+          costs = ap (λ (e : Edge). e.cost) same ∙ c.costs;
+        }
+
+    are_prices : (r : Option Costs) → IsRange (is_from flow.edges a) (λ k. (step_at flow.edges k).cost) (length flow.edges) r → AreCostsAt a flow.edges r
+    are_prices None none = λ n c. none n (leaves_it n c)
+    are_prices (Some c) all = (of_graph c.least all.0, of_graph c.greatest all.1, λ n h. all.2 n (leaves_it n h))
+
   pub numbers_are : (a : ℕ) → is_reached flow.places a ≡ true
-      → (costs : Option Costs) × AreCostsAt a walk costs × (taken_at flow walk a ≡ Some (record { passes = sum_by (pass_at a) walk; ticks = sum_by (cost_at a) walk; costs = costs }))
+      → (costs prices : Option Costs) × AreCostsAt a walk costs × AreCostsAt a flow.edges prices
+      × (taken_at flow walk a ≡ Some (record { passes = sum_by (pass_at a) walk; ticks = sum_by (cost_at a) walk; costs = costs; prices = prices }))
   numbers_are a known = (
     costs_here a,
+    prices_here a,
     are_costs a (costs_here a) (range_is (is_taken_from flow.edges walk a) (λ k. (step_at flow.edges k).cost) (length flow.edges)),
+    are_prices a (prices_here a) (range_is (is_from flow.edges a) (λ k. (step_at flow.edges k).cost) (length flow.edges)),
     taken_is a known,
   )
 
@@ -163,8 +197,8 @@ fitting : (flow : Flow) (tree : Tree) (cost : ℕ) (items : List Item) → IsWal
 fitting flow tree cost items walk fits = subst (λ n. n < 2 ^ 64) (sym walk.costs) fits
 
 pub numbers_of_walk : (flow : Flow) (tree : Tree) (cost : ℕ) (items : List Item) (a : ℕ) → IsWellFormed flow → IsWalkOf flow tree cost items → cost < 2 ^ 64 → is_reached flow.places a ≡ true
-    → (costs : Option Costs) × AreCostsAt a (unfolded items) costs
-    × (taken_at flow (unfolded items) a ≡ Some (record { passes = sum_by (pass_at a) (unfolded items); ticks = sum_by (cost_at a) (unfolded items); costs = costs }))
+    → (costs prices : Option Costs) × AreCostsAt a (unfolded items) costs × AreCostsAt a flow.edges prices
+    × (taken_at flow (unfolded items) a ≡ Some (record { passes = sum_by (pass_at a) (unfolded items); ticks = sum_by (cost_at a) (unfolded items); costs = costs; prices = prices }))
 numbers_of_walk flow tree cost items a well walk fits known =
     numbers_are flow (unfolded items) well (on_graph flow tree cost items walk) (fitting flow tree cost items walk fits) a known
 
@@ -198,7 +232,7 @@ unreached flow walk line = (
     taken = taken_at flow walk
 
     found : Taken
-    found = record { passes = passes_of (taken (told_at taken line)); ticks = ticks_in taken line.at line.words; costs = costs_of (taken (told_at taken line)) }
+    found = record { passes = passes_of (taken (told_at taken line)); ticks = ticks_in taken line.at line.words; costs = costs_of (taken (told_at taken line)); prices = prices_of (taken (told_at taken line)) }
 
     not_any : line_taken taken line ≡ None → is_any_reached taken line.at line.words ≡ false
     not_any none = ⊎_elim

@@ -1,9 +1,11 @@
 -- The columns of the table of a bound.
-use Rattle.std.specs.Prelude.{ℕ, ◌+◌, ◌*◌, ◌/◌, ◌%◌, max, List, [], ◌∷◌, ◌++◌, codes, decimal, flat_map}
+use Rattle.std.specs.Prelude.{ℕ, ◌+◌, ◌*◌, ◌/◌, ◌%◌, max, Bool, if◌then◌else◌, List, [], ◌∷◌, ◌++◌}
+use Rattle.std.specs.Prelude.{codes, decimal, flat_map}
 use Rattle.text_rows.specs.Columns.{in_columns}
 use Rattle.text_explained.specs.declared.cost_columns.Column.{Column}
-use Rattle.text_explained.specs.declared.cost_columns.Column.TheVariants.{Passes, Each, Ticks, Share, Latest}
-use Rattle.text_explained.specs.declared.cost_columns.Column.TheVariants.{PricedAs, Line, Address, Text}
+use Rattle.text_explained.specs.declared.cost_columns.Column.TheVariants.{Passes, Each, Ticks, Share, First}
+use Rattle.text_explained.specs.declared.cost_columns.Column.TheVariants.{Latest, PricedAs, Line, Address}
+use Rattle.text_explained.specs.declared.cost_columns.Column.TheVariants.{Text}
 
 -- ## Columns
 
@@ -18,6 +20,7 @@ layout Passes = record { name = codes "passes"; gap = 0; width = 6 }
 layout Each = record { name = codes "each"; gap = 1; width = 5 }
 layout Ticks = record { name = codes "ticks"; gap = 1; width = 6 }
 layout Share = record { name = codes "share"; gap = 1; width = 6 }
+layout First = record { name = codes "first"; gap = 1; width = 6 }
 layout Latest = record { name = codes "latest"; gap = 1; width = 6 }
 layout PricedAs = record { name = codes "priced as"; gap = 1; width = 9 }
 layout Line = record { name = codes "line"; gap = 1; width = 4 }
@@ -44,13 +47,20 @@ name_text c = in_column c (layout c).name
 abbrev pub names_text : List Column → List ℕ
 names_text columns = flat_map name_text columns
 
--- the columns that each row has, in their order
-abbrev pub figure_columns : List Column
-figure_columns = Passes ∷ Each ∷ Ticks ∷ Share ∷ Latest ∷ PricedAs ∷ []
+-- the columns of what is taken, in their order
+abbrev pub taken_columns : List Column
+taken_columns = Passes ∷ Each ∷ Ticks ∷ Share ∷ []
+
+-- that of first starts, if they are asked for
+abbrev pub first_columns : Bool → List Column
+first_columns has_first = if has_first then First ∷ [] else []
 
 -- of rows that are told apart by the numbers of lines, or by addresses
-abbrev pub heading : Column → List ℕ
-heading rows_by = names_text figure_columns ++ (names_text (rows_by ∷ Text ∷ []) ++ codes "\n")
+abbrev pub heading : (has_first : Bool) → Column → List ℕ
+heading has_first rows_by =
+    names_text taken_columns
+    ++ (names_text (first_columns has_first)
+    ++ (names_text (Latest ∷ PricedAs ∷ rows_by ∷ Text ∷ []) ++ codes "\n"))
 
 -- ## Texts
 

@@ -38,19 +38,19 @@ widened (Some c) cost = Some (record { least = min c.least cost; greatest = max 
 abbrev pub range_of : List ℕ → Option Costs
 range_of costs = fold widened None costs
 
--- an edge of the walk leaves the address and costs so much
-pub record IsCostAt (a : ℕ) (walk : List Edge) (n : ℕ) : Type 0 where
+-- one of the edges leaves the address and costs so much
+pub record IsCostAt (a : ℕ) (edges : List Edge) (n : ℕ) : Type 0 where
   pub edge : Edge
-  pub taken : Contains walk edge
+  pub among : Contains edges edge
   pub leaves : is_at a edge.from ≡ true
   pub costs : edge.cost ≡ n
 
--- the least and the greatest of such costs; None where no edge of the walk leaves the address
+-- the least and the greatest of such costs; None where none of the edges leaves the address
 abbrev pub AreCostsAt : ℕ → List Edge → Option Costs → Type 0
-AreCostsAt a walk None = (n : ℕ) → IsCostAt a walk n → ⊥
-AreCostsAt a walk (Some c) =
-    IsCostAt a walk c.least × IsCostAt a walk c.greatest
-    × ((n : ℕ) → IsCostAt a walk n → (c.least ≤ n) × (n ≤ c.greatest))
+AreCostsAt a edges None = (n : ℕ) → IsCostAt a edges n → ⊥
+AreCostsAt a edges (Some c) =
+    IsCostAt a edges c.least × IsCostAt a edges c.greatest
+    × ((n : ℕ) → IsCostAt a edges n → (c.least ≤ n) × (n ≤ c.greatest))
 
 -- ## Numbers
 
@@ -66,38 +66,42 @@ abbrev pub in_all : (edges walk : List Edge) → (count : ℕ) → (Edge → ℕ
 in_all edges walk count number =
     sum_by (λ k. occurrences edges walk k * number (step_at edges k)) (range_with_len 0 count)
 
--- the edge with the number leaves the address, and the walk takes it
+-- the edge with the number leaves the address
+abbrev pub is_from : List Edge → (a k : ℕ) → Bool
+is_from edges a k = is_at a (step_at edges k).from
+
+-- and the walk takes it
 abbrev pub is_taken_from : (edges walk : List Edge) → (a k : ℕ) → Bool
-is_taken_from edges walk a k = is_at a (step_at edges k).from && nat_lt 0 (occurrences edges walk k)
+is_taken_from edges walk a k = is_from edges a k && nat_lt 0 (occurrences edges walk k)
 
--- the costs of those of the first edges of which that holds
-abbrev pub costs_from : (edges walk : List Edge) → (count a : ℕ) → List ℕ
-costs_from edges walk count a =
-    map (λ k. (step_at edges k).cost) (filter (is_taken_from edges walk a) (range_with_len 0 count))
+-- the costs of those of the first edges that pass a test of their numbers
+abbrev pub costs_where : List Edge → (ℕ → Bool) → (count : ℕ) → List ℕ
+costs_where edges test count = map (λ k. (step_at edges k).cost) (filter test (range_with_len 0 count))
 
--- how often the walk takes those of them that leave the address, the ticks of that, and the least and the
--- greatest cost of one that it takes
+-- how often the walk takes those of them that leave the address, the ticks of that, the least and the
+-- greatest cost of one that it takes, and of any
 abbrev pub taken_of : (edges walk : List Edge) → (count a : ℕ) → Taken
 taken_of edges walk count a =
     record {
       passes = capped (in_all edges walk count (pass_at a));
       ticks = capped (in_all edges walk count (cost_at a));
-      costs = range_of (costs_from edges walk count a);
+      costs = range_of (costs_where edges (is_taken_from edges walk a) count);
+      prices = range_of (costs_where edges (is_from edges a) count);
     }
 
 abbrev pub taken_by : Flow → List Edge → (count a : ℕ) → Option Taken
 taken_by flow walk count a =
     if is_reached flow.places a then Some (taken_of flow.edges walk count a) else None
 
--- what the walk takes at the address: how often it leaves it, the ticks of that, and the least and the
--- greatest of a time; None where the graph has no place
+-- what the walk takes at the address: how often it leaves it, the ticks of that, the least and the greatest of
+-- a time, and of any time that the graph allows; None where the graph has no place
 abbrev pub taken_at : Flow → List Edge → ℕ → Option Taken
 taken_at flow walk a = taken_by flow walk (length flow.edges) a
 
 -- ## Tallies
 
 abbrev pub nothing : Taken
-nothing = record { passes = 0; ticks = 0; costs = None }
+nothing = record { passes = 0; ticks = 0; costs = None; prices = None }
 
 -- what is taken at the place's address is set
 abbrev pub Puts : Place → Taken → (old new : WalkTally) → Type 0
@@ -112,6 +116,7 @@ with_edge t e count =
       passes = capped (t.passes + count);
       ticks = capped (t.ticks + capped (count * e.cost));
       costs = if count == 0 then t.costs else widened t.costs e.cost;
+      prices = widened t.prices e.cost;
     }
 
 -- a tally of the places, before any edge

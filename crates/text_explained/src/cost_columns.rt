@@ -1,9 +1,9 @@
 //! The columns of the table of a bound, and its last rows.
 
 ghost use Rattle.std.specs.Prelude.{◌≡◌, ◌+◌, ◌≤◌, ◌++◌, IfOk, OnOk, decimal, string_bytes};
-ghost use Rattle.text_explained.specs.Columns.{bound_line, gap_text, heading, in_column, layout, name_text};
-ghost use Rattle.text_explained.specs.Columns.{names_text, share_text, span, ticks_text, time_text};
-ghost use Rattle.text_explained.specs.Columns.{total_row};
+ghost use Rattle.text_explained.specs.Columns.{bound_line, first_columns, gap_text, heading, in_column};
+ghost use Rattle.text_explained.specs.Columns.{layout, name_text, names_text, share_text, span};
+ghost use Rattle.text_explained.specs.Columns.{ticks_text, time_text, total_row};
 
 use std::alloc::{AllocError, Global};
 use text_rows::{WIDEST_COLUMN, put, put_number, put_right};
@@ -19,7 +19,9 @@ pub(crate) enum Column {
     Ticks,
     /// What part of the bound these are.
     Share,
-    /// The tick by which a word begins at the latest.
+    /// The tick by which a word begins for the first time, at the latest.
+    First,
+    /// The tick by which it begins at the latest.
     Latest,
     /// What the price takes for granted.
     PricedAs,
@@ -41,15 +43,8 @@ struct Layout {
     width: usize,
 }
 
-// The columns that each row has, in their order.
-const FIGURE_COLUMNS: [Column; 6] = [
-    Column::Passes,
-    Column::Each,
-    Column::Ticks,
-    Column::Share,
-    Column::Latest,
-    Column::PricedAs,
-];
+// The columns of what is taken, in their order.
+const TAKEN_COLUMNS: [Column; 4] = [Column::Passes, Column::Each, Column::Ticks, Column::Share];
 
 impl Layout {
     fn new(name: &'static [u8], gap: usize, width: usize) -> Layout
@@ -74,6 +69,7 @@ impl Column {
             Column::Each => Layout::new(b"each", 1, 5),
             Column::Ticks => Layout::new(b"ticks", 1, 6),
             Column::Share => Layout::new(b"share", 1, 6),
+            Column::First => Layout::new(b"first", 1, 6),
             Column::Latest => Layout::new(b"latest", 1, 6),
             Column::PricedAs => Layout::new(b"priced as", 1, 9),
             Column::Line => Layout::new(b"line", 1, 4),
@@ -131,14 +127,32 @@ fn put_names(out: &mut Vec<u8>, columns: &[Column]) -> Result<(), AllocError>
     Ok(())
 }
 
-/// The names of the columns of a table whose rows are told apart by the numbers of lines, or by addresses.
-/// `AllocError`: an allocation failed.
-pub(crate) fn heading(alloc: Global, rows_by: Column) -> Result<Vec<u8>, AllocError>
-    ensures { IfOk result (λ text. text.items ≡ heading rows_by) }
+// Adds the name of the column of first starts, if they are asked for.
+fn put_first_name(out: &mut Vec<u8>, has_first: bool) -> Result<(), AllocError>
+    ensures { OnOk result (out.new.items ≡ out.old.items ++ names_text (first_columns has_first)) }
+{
+    if has_first {
+        return put_names(out, &[Column::First]);
+    }
+    put_names(out, &[])
+}
+
+/// The names of the columns of a table, with first starts if they are asked for, whose rows are told apart by
+/// the numbers of lines, or by addresses. `AllocError`: an allocation failed.
+pub(crate) fn heading(
+    alloc: Global,
+    has_first: bool,
+    rows_by: Column,
+) -> Result<Vec<u8>, AllocError>
+    ensures { IfOk result (λ text. text.items ≡ heading has_first rows_by) }
 {
     let mut out = Vec::new(alloc);
-    put_names(&mut out, &FIGURE_COLUMNS)?;
-    put_names(&mut out, &[rows_by, Column::Text])?;
+    put_names(&mut out, &TAKEN_COLUMNS)?;
+    put_first_name(&mut out, has_first)?;
+    put_names(
+        &mut out,
+        &[Column::Latest, Column::PricedAs, rows_by, Column::Text],
+    )?;
     put(&mut out, b"\n")?;
     Ok(out)
 }

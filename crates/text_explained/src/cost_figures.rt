@@ -5,11 +5,12 @@ ghost use Rattle.std.specs.Ordering.{nat_cmp};
 ghost use Rattle.assembler.specs.Assembles.{addresses_from};
 ghost use Rattle.bus_ticks.specs.declared.space.TheConstants.{SPACE_END};
 ghost use Rattle.text_explained.specs.Columns.{in_column};
-ghost use Rattle.text_explained.specs.Costing.{IsCosting, figures_of};
-ghost use Rattle.text_explained.specs.Table.{costs_of, each_text, figures_text, is_any_reached, is_passed};
-ghost use Rattle.text_explained.specs.Table.{latest_text, line_taken, passes_of, row_figures, taken_span};
-ghost use Rattle.text_explained.specs.Table.{taken_text, ticks_in, ticks_of, told_at};
-ghost use Rattle.text_explained.specs.declared.cost_columns.Column.TheVariants.{Each, Latest};
+ghost use Rattle.text_explained.specs.Costing.{IsCosting, figures_of, first_of};
+ghost use Rattle.text_explained.specs.Table.{costs_of, costs_text, each_text, figures_text, first_at};
+ghost use Rattle.text_explained.specs.Table.{first_shown, first_text, is_any_reached, is_passed};
+ghost use Rattle.text_explained.specs.Table.{line_taken, passes_of, prices_of, row_figures, start_text};
+ghost use Rattle.text_explained.specs.Table.{taken_span, taken_text, ticks_in, ticks_of, told_at};
+ghost use Rattle.text_explained.specs.declared.cost_columns.Column.TheVariants.{Each};
 
 use crate::cost_columns::{Column, put_ticks};
 use crate::pricing::{Pricing, priced, put_pricing};
@@ -27,6 +28,9 @@ use walk_counts::capped_sum;
 pub(crate) struct RowFigures {
     /// What the walk takes there; None where the graph has no place.
     pub(crate) taken: Option<Taken>,
+    /// When it begins for the first time, at the latest, in ticks; None where the graph has no place, or where
+    /// that is not asked for.
+    pub(crate) first: Option<u64>,
     /// When it begins at the latest, in ticks; None where the graph has no place.
     pub(crate) latest: Option<u64>,
     /// What the price takes for granted; None where the graph has no place.
@@ -37,8 +41,11 @@ pub(crate) struct RowFigures {
 
 /// What the rows of a table are made of.
 #[derive(Drop)]
-pub(crate) struct Costing {
+pub(crate) struct Costing<'a> {
     pub(crate) tally: WalkTally,
+    /// When the words begin for the first time, at the latest, by the same addresses; None where that is not
+    /// asked for.
+    first: Option<&'a BTreeMap<u32, u64>>,
     /// When the words begin at the latest, by the addresses where the graph has a place.
     latest: BTreeMap<u32, u64>,
     /// By the addresses where the graph has a place.
@@ -46,26 +53,44 @@ pub(crate) struct Costing {
     bound: u64,
 }
 
-impl Costing {
+impl<'a> Costing<'a> {
     /// Those of a greatest walk. `AllocError`: an allocation failed.
     pub(crate) fn of_walk(
         alloc: Global,
         handler: &Handler<'_>,
-        walk: TimedWalk<'_>,
-    ) -> Result<Costing, AllocError>
+        walk: TimedWalk<'a>,
+    ) -> Result<Costing<'a>, AllocError>
         ensures { IfOk result
             (IsCosting handler.now.image.now handler.now.statement handler.now.graph walk.entry.longest.now
-            walk.entry.starts.now) }
+            walk.entry.starts.now (first_of walk.entry.first)) }
     {
         let tally = WalkTally::of_walk(alloc, &handler.graph, &walk.longest.walk)?;
         let latest = latest_starts(alloc, &handler.graph, walk.starts)?;
         let prices = priced(alloc, handler)?;
         Ok(Costing {
             tally,
+            first: walk.first,
             latest,
             prices,
             bound: walk.longest.bound,
         })
+    }
+
+    /// Whether first starts are asked for.
+    pub(crate) fn has_first(&self) -> bool
+        ensures { result ≡ is_some (figures_of self.now).starts.first }
+    {
+        self.first.is_some()
+    }
+
+    // When the word at an address begins for the first time; None where that is not asked for.
+    fn first_at(&self, at: u32) -> Option<u64>
+        ensures { result ≡ first_at (figures_of self.now).starts.first at }
+    {
+        match self.first {
+            Some(first) => first.get(&at).copied(),
+            None => None,
+        }
     }
 
     /// The figures of a row: what is taken there, and what is said of the word at an address.
@@ -74,6 +99,7 @@ impl Costing {
     {
         RowFigures {
             taken,
+            first: self.first_at(at),
             latest: self.latest.get(&at).copied(),
             pricing: self.prices.get(&at).copied(),
             bound: self.bound,
@@ -105,6 +131,15 @@ fn costs_of(tally: &WalkTally, at: u32) -> Option<Costs>
 {
     match tally.at(at) {
         Some(taken) => taken.costs,
+        None => None,
+    }
+}
+
+fn prices_of(tally: &WalkTally, at: u32) -> Option<Costs>
+    ensures { result ≡ prices_of (get nat_cmp tally.now.by_address at) }
+{
+    match tally.at(at) {
+        Some(taken) => taken.prices,
         None => None,
     }
 }
@@ -193,12 +228,13 @@ pub(crate) fn line_taken(tally: &WalkTally, line: PlacedLine) -> Option<Taken>
         passes: passes_of(tally, told),
         ticks: ticks_in(tally, line.at, line.words),
         costs: costs_of(tally, told),
+        prices: prices_of(tally, told),
     })
 }
 
-// The ticks of a pass.
-fn each_text(alloc: Global, costs: Option<Costs>) -> Result<String, AllocError>
-    ensures { IfOk result (λ text. string_bytes text ≡ each_text costs) }
+// One number, or from the least to the greatest.
+fn costs_text(alloc: Global, costs: Option<Costs>) -> Result<String, AllocError>
+    ensures { IfOk result (λ text. string_bytes text ≡ costs_text costs) }
 {
     let Some(costs) = costs else {
         return format!(in alloc; "-");
@@ -209,11 +245,11 @@ fn each_text(alloc: Global, costs: Option<Costs>) -> Result<String, AllocError>
     format!(in alloc; "{}-{}", costs.least, costs.greatest)
 }
 
-// Adds the ticks of a pass.
-fn put_each(out: &mut Vec<u8>, costs: Option<Costs>) -> Result<(), AllocError>
-    ensures { OnOk result (out.new.items ≡ out.old.items ++ in_column Each (each_text costs)) }
+// Adds the ticks of a pass; where the walk never passes, those that one may have.
+fn put_each(out: &mut Vec<u8>, taken: Taken) -> Result<(), AllocError>
+    ensures { OnOk result (out.new.items ≡ out.old.items ++ in_column Each (each_text taken)) }
 {
-    let each = each_text(*out.allocator(), costs)?;
+    let each = costs_text(*out.allocator(), taken.costs.or(taken.prices))?;
     Column::Each.put(out, each.as_bytes())
 }
 
@@ -231,28 +267,60 @@ fn put_taken(out: &mut Vec<u8>, taken: Option<Taken>, bound: u64) -> Result<(), 
     match taken {
         Some(taken) => {
             Column::Passes.put_number(out, taken.passes)?;
-            put_each(out, taken.costs)?;
+            put_each(out, taken)?;
             put_ticks(out, taken.ticks, bound)
         }
         None => put_right(out, b"never reached", taken_span()),
     }
 }
 
-// Adds the tick by which a word begins at the latest, or blanks where the graph has no place.
-fn put_latest(out: &mut Vec<u8>, latest: Option<u64>) -> Result<(), AllocError>
-    ensures { OnOk result (out.new.items ≡ out.old.items ++ in_column Latest (latest_text latest)) }
+// Adds the tick by which a word begins, or blanks where there is none.
+fn put_start(out: &mut Vec<u8>, column: Column, start: Option<u64>) -> Result<(), AllocError>
+    ensures { OnOk result (out.new.items ≡ out.old.items ++ in_column column (start_text start)) }
 {
-    match latest {
-        Some(ticks) => Column::Latest.put_number(out, ticks),
-        None => Column::Latest.put(out, b""),
+    match start {
+        Some(ticks) => column.put_number(out, ticks),
+        None => column.put(out, b""),
     }
 }
 
-/// Adds the figures of a row.
-pub(crate) fn put_figures(out: &mut Vec<u8>, figures: RowFigures) -> Result<(), AllocError>
-    ensures { OnOk result (out.new.items ≡ out.old.items ++ figures_text figures) }
+// The tick by which a word begins for the first time, unless the latest is the same.
+fn first_shown(first: Option<u64>, latest: Option<u64>) -> Option<u64>
+    ensures { result ≡ first_shown first latest }
+{
+    let Some(latest) = latest else {
+        return first;
+    };
+    match first {
+        Some(ticks) => { if ticks == latest { None } else { Some(ticks) } }
+        None => None,
+    }
+}
+
+// Adds the tick by which a word begins for the first time, if that is asked for.
+fn put_first(out: &mut Vec<u8>, has_first: bool, figures: RowFigures) -> Result<(), AllocError>
+    ensures { OnOk result (out.new.items ≡ out.old.items ++ first_text has_first figures) }
+{
+    if !has_first {
+        return Ok(());
+    }
+    put_start(
+        out,
+        Column::First,
+        first_shown(figures.first, figures.latest),
+    )
+}
+
+/// Adds the figures of a row, with the first start if that is asked for.
+pub(crate) fn put_figures(
+    out: &mut Vec<u8>,
+    has_first: bool,
+    figures: RowFigures,
+) -> Result<(), AllocError>
+    ensures { OnOk result (out.new.items ≡ out.old.items ++ figures_text has_first figures) }
 {
     put_taken(out, figures.taken, figures.bound)?;
-    put_latest(out, figures.latest)?;
+    put_first(out, has_first, figures)?;
+    put_start(out, Column::Latest, figures.latest)?;
     put_pricing(out, figures.pricing)
 }

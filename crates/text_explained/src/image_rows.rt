@@ -15,11 +15,17 @@ use text_rows::put_cut_row;
 use walk_counts::capped_sum;
 
 // Adds the row of a word whose line this is.
-fn put_line(out: &mut Vec<u8>, figures: RowFigures, at: u32, line: &[u8]) -> Result<(), AllocError>
-    ensures { OnOk result (out.new.items ≡ out.old.items ++ word_row figures at line.now) }
+fn put_line(
+    out: &mut Vec<u8>,
+    has_first: bool,
+    figures: RowFigures,
+    at: u32,
+    line: &[u8],
+) -> Result<(), AllocError>
+    ensures { OnOk result (out.new.items ≡ out.old.items ++ word_row has_first figures at line.now) }
 {
     let begun = out.len();
-    put_figures(out, figures)?;
+    put_figures(out, has_first, figures)?;
     Column::Address.put(out, &hex8(at))?;
     Column::Text.put_gap(out)?;
     put_cut_row(out, out.len() - begun, line)
@@ -28,7 +34,7 @@ fn put_line(out: &mut Vec<u8>, figures: RowFigures, at: u32, line: &[u8]) -> Res
 /// Adds the row of a word, with what is taken there. `AllocError`: an allocation failed.
 pub(crate) fn put_row(
     out: &mut Vec<u8>,
-    costing: &Costing,
+    costing: &Costing<'_>,
     at: u32,
     word: u32,
 ) -> Result<(), AllocError>
@@ -37,7 +43,7 @@ pub(crate) fn put_row(
 {
     let figures = costing.figures(costing.tally.at(at), at);
     let line = disassemble(word, at);
-    put_line(out, figures, at, line.items())
+    put_line(out, costing.has_first(), figures, at, line.items())
 }
 
 /// The ticks at all words.

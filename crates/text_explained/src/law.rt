@@ -29,18 +29,20 @@ use asm_text::lines_are_spelled;
 use assembler::sources_are_assembled;
 
 /// States that of a walk of the graph that costs less than 2^64 ticks the numbers at an address are exact:
-/// how often the walk leaves the address, the ticks of that, and the least and the greatest cost of an edge
-/// on which it does. It does nothing.
+/// how often the walk leaves the address, the ticks of that, the least and the greatest cost of an edge on
+/// which it does, and of any edge of the graph that leaves the address. It does nothing.
 pub fn numbers_are_of_the_walk()
     ensures { (flow : Flow) (tree : Tree) (cost : ℕ) (items : List Item) (a : ℕ)
         → IsWellFormed flow → IsWalkOf flow tree cost items → cost < 2 ^ 64
         → is_reached flow.places a ≡ true
-        → (costs : Option Costs) × AreCostsAt a (unfolded items) costs
+        → (costs prices : Option Costs) × AreCostsAt a (unfolded items) costs
+        × AreCostsAt a flow.edges prices
         × (taken_at flow (unfolded items) a
         ≡ Some (record {
           passes = sum_by (pass_at a) (unfolded items);
           ticks = sum_by (cost_at a) (unfolded items);
           costs = costs;
+          prices = prices;
         })) }
 {}
 

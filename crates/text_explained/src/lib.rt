@@ -32,6 +32,8 @@ pub use law::{
     unreached_lines_have_no_place,
 };
 pub use links::{Overwrite, lost_links};
+pub use named_words::named_rows;
+pub use pricing::{Granted, Pricing, priced};
 pub use rules::rule_lines;
 pub use sections::assumed_text;
 pub use starts::TimedWalk;

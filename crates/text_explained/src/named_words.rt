@@ -61,11 +61,7 @@ impl ImageRows for Named<'_> {
 /// # Errors
 ///
 /// An allocation failed.
-pub(crate) fn named_rows(
-    alloc: Global,
-    source: &Source<'_>,
-    named: &[u32],
-) -> Result<Vec<u8>, AllocError>
+pub fn named_rows(alloc: Global, source: &Source<'_>, named: &[u32]) -> Result<Vec<u8>, AllocError>
     requires { IsStrictlySortedBy nat_cmp named.now }
     ensures { IfOk result (λ rows. AreNamedRows source.now named.now rows.items) }
 {

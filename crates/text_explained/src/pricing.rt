@@ -24,7 +24,7 @@ use word_shapes::instr_at;
 
 /// What the price of an instruction takes for granted of what it does besides its fetches.
 #[derive(Clone, Copy)]
-pub(crate) enum Granted {
+pub enum Granted {
     Nothing,
     /// That a multiply takes so many cycles: its most, 16, or those that are stated.
     Multiplier(u32),
@@ -34,10 +34,10 @@ pub(crate) enum Granted {
 
 /// What the price of an instruction takes for granted.
 #[derive(Clone, Copy)]
-pub(crate) struct Pricing {
-    pub(crate) granted: Granted,
+pub struct Pricing {
+    pub granted: Granted,
     /// The class of the addresses to which the handler leaves, if it does so there.
-    pub(crate) leave: Option<Class>,
+    pub leave: Option<Class>,
 }
 
 fn operation_granted(statement: &Statement, at: u32, operation: &Operation) -> Granted
@@ -111,11 +111,11 @@ fn put_pricing_of(
 }
 
 /// What the prices of the words take for granted, by the addresses where the graph has a place.
-/// `AllocError`: an allocation failed.
-pub(crate) fn priced(
-    alloc: Global,
-    handler: &Handler<'_>,
-) -> Result<BTreeMap<u32, Pricing>, AllocError>
+///
+/// # Errors
+///
+/// An allocation failed.
+pub fn priced(alloc: Global, handler: &Handler<'_>) -> Result<BTreeMap<u32, Pricing>, AllocError>
     ensures { IfOk result
         (λ prices. ArePriced handler.now.image.now handler.now.statement handler.now.graph
         (get nat_cmp prices)) }

@@ -15,6 +15,9 @@ pub struct TimedWalk<'a> {
     /// The worst start of each place of the graph, in their order, in ticks from the handler's beginning
     /// ([`worst_starts`](longest_walk::worst_starts)).
     pub starts: &'a [u64],
+    /// By the addresses where the graph has a place the greatest ticks after which a walk comes there for the
+    /// first time; None where that is not asked for.
+    pub first: Option<&'a BTreeMap<u32, u64>>,
 }
 
 fn later(latest: Option<u64>, start: u64) -> u64

@@ -10,20 +10,22 @@ use std::alloc::{AllocError, Global};
 use std::collections::BTreeMap;
 use walk_counts::{capped_product, capped_sum, edge_counts};
 
-/// The least and the greatest cost in ticks of the edges that a walk takes from an instruction.
+/// The least and the greatest cost in ticks of some edges from an instruction.
 #[derive(Clone, Copy)]
 pub struct Costs {
     pub least: u32,
     pub greatest: u32,
 }
 
-/// How often a walk passes an instruction, and what that costs in ticks, each counted up to 2^64 - 1; and
-/// what it costs each time, unless the walk never passes it.
+/// How often a walk passes an instruction, and what that costs in ticks, each counted up to 2^64 - 1.
 #[derive(Clone, Copy)]
 pub struct Taken {
     pub passes: u64,
     pub ticks: u64,
+    /// What a pass costs, by the edges that the walk takes; None where it never passes.
     pub costs: Option<Costs>,
+    /// What a pass may cost, by all edges of the graph.
+    pub prices: Option<Costs>,
 }
 
 /// What a walk takes at each address where the graph has a place.
@@ -53,6 +55,7 @@ impl Taken {
         passes: 0,
         ticks: 0,
         costs: None,
+        prices: None,
     };
 
     // The costs with an edge's, if that is taken.
@@ -103,6 +106,7 @@ impl WalkTally {
             passes: capped_sum(before.passes, count),
             ticks: capped_sum(before.ticks, capped_product(count, edge.cost)),
             costs: before.costs_with(edge, count),
+            prices: widened(before.prices, edge.cost),
         };
         self.put(&edge.from, after)
     }

@@ -5,5 +5,6 @@ mod LabelLaws
 mod NodeLaws
 mod StraightLaws
 mod StretchLaws
+mod TableLaws
 mod TogetherLaws
 mod TotalLaws

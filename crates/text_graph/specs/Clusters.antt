@@ -1,14 +1,18 @@
--- Clusters of a drawing: one for each list of calls, and one for each instance of a loop. A cluster that is
--- named again is the same one (a choice of what the DOT language of Graphviz offers).
-use Rattle.std.specs.Prelude.{ℕ, ◌+◌, max, min, List, [], ◌∷◌, ◌++◌, length, take, replicate, reverse}
-use Rattle.std.specs.Prelude.{slice_index, codes, decimal}
+-- Frames of a drawing, which are clusters: one for each list of calls, and one for each instance of a loop. A
+-- cluster that is named again is the same one (a choice of what the DOT language of Graphviz offers).
+use Rattle.std.specs.Prelude.{ℕ, ◌+◌, ◌==◌, max, min, if◌then◌else◌, List, [], ◌∷◌, ◌++◌, length, take}
+use Rattle.std.specs.Prelude.{replicate, reverse, slice_index, sum_by, codes, decimal}
 use Rattle.std.specs.List.{flat_map}
 use Rattle.asm_text.specs.Hex.{hex8}
-use Rattle.control_flow.specs.Flow.{Flow}
 use Rattle.control_flow.specs.Places.{place_address}
-use Rattle.loop_bounds.specs.Tree.{Tree, place_in}
+use Rattle.loop_bounds.specs.Tree.{place_in}
+use Rattle.numbered_walks.specs.Index.{edge_at}
 use Rattle.numbered_walks.specs.declared.span.Span.{Span}
-use Rattle.text_graph.specs.Stretches.{between, calls_in, loops_of}
+use Rattle.walk_counts.specs.Counts.{capped}
+use Rattle.text_graph.specs.Labels.{name_by}
+use Rattle.text_graph.specs.Pieces.{shared}
+use Rattle.text_graph.specs.Scene.{Scene}
+use Rattle.text_graph.specs.Stretches.{between, calls_in, leaving, loops_of, stretch_ticks}
 
 -- the name of a routine's cluster goes on with its calls
 abbrev pub call_names : List ℕ → List ℕ
@@ -25,32 +29,75 @@ abbrev pub routines : List ℕ → (from to : ℕ) → List ℕ
 routines calls from to =
     flat_map (λ d. routine_text (take (d + 1) calls) (slice_index calls d)) (between from to)
 
-module _ (flow : Flow) (tree : Tree) where
-  -- how many of these calls a loop is inside of
-  abbrev pub depth_in : List ℕ → Span → ℕ
-  depth_in calls s = min (length (calls_in flow tree s.header)) (length calls)
+-- the numbers of a loop's members
+abbrev pub members : Span → List ℕ
+members s = between s.header (s.last + 1)
+
+-- what the walk takes in a loop, if it comes there
+abbrev pub loop_taken : (turns ticks bound : ℕ) → List ℕ
+loop_taken turns ticks bound =
+    if ticks == 0 then [] else codes ", turns " ++ (decimal turns ++ (codes ", " ++ shared ticks bound))
+
+module _ (scene : Scene) where
+  -- the label of the word at an address, else the address
+  abbrev pub name_at : ℕ → List ℕ
+  name_at a = name_by (scene.line a) a
+
+  -- ## Loops
+
+  -- how often the walk takes an edge that leads back to a loop's header
+  abbrev pub back_count : Span → ℕ → ℕ
+  back_count s k = if (edge_at scene.tree.edges k).to == s.header then slice_index scene.counts k else 0
+
+  -- how often it goes back to the header from a member
+  abbrev pub turns_from : Span → ℕ → ℕ
+  turns_from s n = capped (sum_by (back_count s) (leaving scene.flow scene.tree n))
+
+  -- and from all members
+  abbrev pub turns : Span → ℕ
+  turns s = capped (sum_by (turns_from s) (members s))
+
+  -- the ticks of the walk's edges from the members
+  abbrev pub loop_ticks : Span → ℕ
+  loop_ticks s = stretch_ticks scene.flow scene.tree scene.counts (members s)
+
+  -- what stands at the frame of a loop: its header by name, and what the walk takes in it
+  abbrev pub loop_label : Span → List ℕ
+  loop_label s =
+      codes "label=\"loop "
+      ++ (name_at (place_address (place_in scene.flow scene.tree s.header))
+      ++ (loop_taken (turns s) (loop_ticks s) scene.bound ++ codes "\"; "))
+
+  -- the node that begins with the header says it
+  abbrev pub loop_label_by : (first : ℕ) → Span → List ℕ
+  loop_label_by first s = if first == s.header then loop_label s else []
 
   -- the cluster of a loop, by its header's number: no two loops of a tree have one header, so none share a
   -- name
-  abbrev pub loop_text : Span → List ℕ
-  loop_text s =
-      codes "subgraph cluster_loop_"
-      ++ (decimal s.header
-      ++ (codes " { label=\"loop at "
-      ++ (hex8 (place_address (place_in flow tree s.header))
-      ++ (codes ", at most " ++ (decimal s.bound ++ codes " back edges\"; ")))))
+  abbrev pub loop_text : (first : ℕ) → Span → List ℕ
+  loop_text first s =
+      codes "subgraph cluster_loop_" ++ (decimal s.header ++ (codes " { " ++ loop_label_by first s))
+
+  -- ## Both
+
+  -- how many of these calls a loop is inside of
+  abbrev pub depth_in : List ℕ → Span → ℕ
+  depth_in calls s = min (length (calls_in scene.flow scene.tree s.header)) (length calls)
 
   -- the clusters inside so many calls: of the loops, the outermost first, each after the calls that it is
   -- inside of, and of the other calls
-  abbrev pub clusters : List ℕ → (inside : ℕ) → List Span → List ℕ
-  clusters calls inside [] = routines calls inside (length calls)
-  clusters calls inside (s ∷ loops) =
+  abbrev pub clusters : (first : ℕ) → (calls : List ℕ) → (inside : ℕ) → List Span → List ℕ
+  clusters first calls inside [] = routines calls inside (length calls)
+  clusters first calls inside (s ∷ loops) =
       routines calls inside (depth_in calls s)
-      ++ (loop_text s ++ clusters calls (max inside (depth_in calls s)) loops)
+      ++ (loop_text first s ++ clusters first calls (max inside (depth_in calls s)) loops)
 
   -- what is around the node of a number
   abbrev pub opened : ℕ → List ℕ
-  opened n = clusters (calls_in flow tree n) 0 (reverse (loops_of flow tree n))
+  opened n =
+      clusters n (calls_in scene.flow scene.tree n) 0 (reverse (loops_of scene.flow scene.tree n))
 
   abbrev pub closed : ℕ → List ℕ
-  closed n = replicate (length (calls_in flow tree n) + length (loops_of flow tree n)) 125
+  closed n =
+      replicate
+      (length (calls_in scene.flow scene.tree n) + length (loops_of scene.flow scene.tree n)) 125

@@ -1,8 +1,11 @@
 pub mod Chains
 pub mod Clusters
+pub mod Fills
 pub mod Labels
 pub mod Nodes
 pub mod Parts
+pub mod Pieces
+pub mod Scene
 pub mod Straight
 pub mod Stretches
 pub mod Text

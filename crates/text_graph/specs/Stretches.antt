@@ -2,7 +2,7 @@
 -- graph, is said by `Straight`.
 use Rattle.std.specs.Prelude.{◌≡◌, ℕ, ◌+◌, ◌-◌, ◌*◌, ◌<◌, ◌≤◌, Bool, ◌&&◌, ◌==◌, not, if◌then◌else◌}
 use Rattle.std.specs.Prelude.{List, length, count_by, nat_lt, sum_by, slice_index, slice_index_or}
-use Rattle.std.specs.Prelude.{Option, Some, None, false}
+use Rattle.std.specs.Prelude.{All, Option, Some, None, false}
 use Rattle.std.specs.Bool.{beq}
 use Rattle.std.specs.Cmp.Lexicographic.{pointwise}
 use Rattle.std.specs.List.{filter, list_all, range_with_len}
@@ -101,6 +101,10 @@ pub record AreTables (flow : Flow) (tree : Tree) (index : Index) (counted : List
   pub all_held : length index.holders.items ≡ length flow.places + 1
   pub all_counted : length counted ≡ length flow.places + 1
   pub are_counted : (n : ℕ) → n ≤ length flow.places → slice_index counted n ≡ arrivals flow tree n
+
+-- each member of these loops is a place
+abbrev pub AreInside : Flow → List Span → Type 0
+AreInside flow loops = All (λ s. s.last < length flow.places) loops
 
 -- numbers of places, one at least
 pub record AreNumbers (flow : Flow) (numbers : List ℕ) : Type 0 where

@@ -1,111 +1,104 @@
 -- The drawing of a flow graph, with what a greatest walk takes, in the DOT language of Graphviz.
-use Rattle.std.specs.Prelude.{◌≡◌, ℕ, zero, suc, ◌==◌, ◌&&◌, nat_le, if◌then◌else◌, List, [], ◌∷◌, ◌++◌}
-use Rattle.std.specs.Prelude.{length, codes, decimal, Vec, Option, Some, None, slice_index}
+use Rattle.std.specs.Prelude.{◌≡◌, ℕ, ◌&&◌, if◌then◌else◌, List, [], ◌++◌, length, codes, Vec, Option}
+use Rattle.std.specs.Prelude.{Some, None, slice_index}
 use Rattle.std.specs.Global.{Global}
 use Rattle.std.specs.List.{flat_map, range_with_len, slice_get}
 use Rattle.asm_text.specs.Hex.{hex8}
 use Rattle.control_flow.specs.Flow.{Flow}
 use Rattle.control_flow.specs.Places.{place_address}
-use Rattle.control_flow.specs.declared.edges.Label.{Label}
-use Rattle.control_flow.specs.declared.edges.Label.TheVariants.{Skip, Do}
 use Rattle.longest_walk.specs.Built.{step_at}
 use Rattle.longest_walk.specs.Folded.{unfolded}
 use Rattle.longest_walk.specs.declared.folded.Longest.{Longest}
 use Rattle.loop_bounds.specs.Tree.{Tree, place_in}
 use Rattle.numbered_walks.specs.Index.{edge_at}
+use Rattle.sources.specs.Lines.{line_of}
+use Rattle.sources.specs.declared.read.Source.{Source}
 use Rattle.walk_counts.specs.Counts.{AreCounts}
 use Rattle.text_graph.specs.Chains.{first_in, last_in}
 use Rattle.text_graph.specs.Clusters.{closed, opened}
+use Rattle.text_graph.specs.Labels.{AreLabels}
+use Rattle.text_graph.specs.Pieces.{edge_end, escaped, heading, name, node_end}
+use Rattle.text_graph.specs.Scene.{Scene, is_drawn}
 use Rattle.text_graph.specs.Stretches.{is_begin, leaving, passes, stretch_from, stretch_ticks}
-
--- ## Pieces
-
--- a byte inside of quotes: marks of the language by their escapes, a tab as a blank, what is not ASCII as ?
-abbrev pub escape : ℕ → List ℕ
-escape b =
-    if b == 34 then codes "\\\"" else if b == 92 then codes "\\\\" else if b == 38 then codes "&amp;"
-    else if b == 9 then codes " " else if nat_le 32 b && nat_le b 126 then b ∷ [] else codes "?"
-
-abbrev pub escaped : List ℕ → List ℕ
-escaped text = flat_map escape text
-
-abbrev pub name : ℕ → List ℕ
-name n = codes "n" ++ decimal n
-
--- grey where the walk never comes, else bold; the end of a node or an edge
-abbrev pub style : ℕ → List ℕ
-style zero = codes "\", color=grey, fontcolor=grey];"
-style (suc n) = codes "\", style=bold];"
-
-abbrev pub edge_name : Label → List ℕ
-edge_name Skip = codes "skip, passes "
-edge_name Do = codes "do, passes "
+use Rattle.text_graph.specs.declared.extent.Extent.{Extent}
 
 abbrev pub label_of : Option (Vec ℕ Global) → List ℕ
 label_of None = []
 label_of (Some label) = label.items
 
-abbrev pub heading : List ℕ
-heading =
-    codes "digraph handler {\nnode [shape=box, fontname=\"Courier\"];\n"
-    ++ codes "edge [fontname=\"Courier\"];\ngraph [fontname=\"Courier\"];\n"
+module _ (scene : Scene) where
+  -- how often the walk passes the number, and its ticks in a stretch
+  abbrev pub passed : ℕ → ℕ
+  passed n = passes scene.flow scene.tree scene.counts n
 
--- ## The drawing
+  abbrev pub ticks_in : List ℕ → ℕ
+  ticks_in numbers = stretch_ticks scene.flow scene.tree scene.counts numbers
 
--- Edges have their counts, and places their labels.
-module _ (flow : Flow) (tree : Tree) (counts : List ℕ) (labels : List (Vec ℕ Global)) where
   -- the address of a number and its label
   abbrev pub row : ℕ → List ℕ
   row n =
-      hex8 (place_address (place_in flow tree n))
-      ++ (codes "  " ++ (escaped (label_of (slice_get labels (slice_index tree.order n))) ++ codes "\\l"))
+      hex8 (place_address (place_in scene.flow scene.tree n))
+      ++ (codes "  "
+      ++ (escaped (label_of (slice_get scene.labels (slice_index scene.tree.order n))) ++ codes "\\l"))
 
-  -- those of a stretch, with its ticks in all and how often the walk passes it; the node has the name of its
-  -- first number
+  -- those of a stretch, and what the walk takes there; the node has the name of its first number
   abbrev pub node : List ℕ → List ℕ
   node numbers =
       name (first_in numbers)
       ++ (codes " [label=\""
-      ++ (flat_map row numbers
-      ++ (codes "passes "
-      ++ (decimal (passes flow tree counts (first_in numbers))
-      ++ (codes ", ticks in all "
-      ++ (decimal (stretch_ticks flow tree counts numbers)
-      ++ (codes "\\l" ++ style (passes flow tree counts (first_in numbers)))))))))
+      ++ (flat_map row numbers ++ node_end (passed (first_in numbers)) (ticks_in numbers) scene.bound))
 
-  -- an edge that leaves the stretch that begins with a number: how often the walk takes it, and its ticks
+  -- an edge that leaves the stretch that begins with a number
   abbrev pub edge : (first k : ℕ) → List ℕ
   edge first k =
       name first
       ++ (codes " -> "
-      ++ (name (edge_at tree.edges k).to
-      ++ (codes " [label=\""
-      ++ (edge_name (step_at flow.edges k).label
-      ++ (decimal (slice_index counts k)
-      ++ (codes ", ticks each "
-      ++ (decimal (step_at flow.edges k).cost ++ (style (slice_index counts k) ++ codes "\n"))))))))
+      ++ (name (edge_at scene.tree.edges k).to
+      ++ edge_end (step_at scene.flow.edges k).label (slice_index scene.counts k)
+      (step_at scene.flow.edges k).cost))
+
+  abbrev pub drawn_edge : (first k : ℕ) → List ℕ
+  drawn_edge first k =
+      if is_drawn scene.extent (slice_index scene.counts k) then edge first k else []
 
   -- the node, inside its clusters, and the edges that leave its last number
   abbrev pub stretch : List ℕ → List ℕ
   stretch numbers =
-      opened flow tree (first_in numbers)
+      opened scene (first_in numbers)
       ++ (node numbers
-      ++ (closed flow tree (first_in numbers)
-      ++ (codes "\n" ++ flat_map (edge (first_in numbers)) (leaving flow tree (last_in numbers)))))
+      ++ (closed scene (first_in numbers)
+      ++ (codes "\n"
+      ++ flat_map (drawn_edge (first_in numbers)) (leaving scene.flow scene.tree (last_in numbers)))))
 
   -- the stretch that begins with a number, if one does
   abbrev pub begun : ℕ → List ℕ
-  begun n = if is_begin flow tree n then stretch (stretch_from flow tree n) else []
+  begun n =
+      if is_begin scene.flow scene.tree n && is_drawn scene.extent (passed n)
+      then stretch (stretch_from scene.flow scene.tree n)
+      else []
 
   abbrev pub drawing_text : List ℕ
   drawing_text =
       heading
-      ++ (flat_map begun (range_with_len 0 (length flow.places))
-      ++ (name (length flow.places) ++ codes " [label=\"Exit\", shape=oval];\n}\n"))
+      ++ (flat_map begun (range_with_len 0 (length scene.flow.places))
+      ++ (name (length scene.flow.places) ++ codes " [label=\"Exit\", shape=oval];\n}\n"))
 
--- the drawing of a graph with what a walk takes, in which places have these labels
-pub record IsDrawing (flow : Flow) (tree : Tree) (longest : Longest) (labels : List (Vec ℕ Global))
+-- the drawing of a graph with what a greatest walk takes, or of this alone, with the lines of a source
+pub record IsDrawing (source : Source) (flow : Flow) (tree : Tree) (longest : Longest) (extent : Extent)
     (text : List ℕ) : Type 0 where
   pub counts : List ℕ
   pub are_counts : AreCounts flow.edges (unfolded longest.walk) counts
-  pub text_is : text ≡ drawing_text flow tree counts labels
+  pub labels : List (Vec ℕ Global)
+  pub labels_are : AreLabels source flow.places labels
+  pub scene : Scene
+  pub scene_is : scene
+      ≡ record {
+        flow = flow;
+        tree = tree;
+        counts = counts;
+        labels = labels;
+        line = line_of source;
+        bound = longest.bound;
+        extent = extent;
+      }
+  pub text_is : text ≡ drawing_text scene

@@ -1,5 +1,7 @@
-ghost use Rattle.std.specs.Prelude.{◌≡◌, IfOk};
-ghost use Rattle.text_graph.specs.Labels.{AreLabels, IsImageLabel, IsLabelBy, text_of};
+ghost use Rattle.std.specs.Prelude.{◌≡◌, ◌≤◌, IfOk, length};
+ghost use Rattle.asm_text.specs.Statements.{body_len, is_in_body};
+ghost use Rattle.sources.specs.Lines.{AreLines};
+ghost use Rattle.text_graph.specs.Labels.{AreLabels, IsImageLabel, IsLabelBy, text_of, without_comment};
 ghost use Rattle.text_rows.specs.WordLines.{numbered_at};
 
 use assembler::disassemble;
@@ -10,7 +12,28 @@ use std::alloc::{AllocError, Global};
 use std::collections::BTreeMap;
 use text_rows::SourceLine;
 
-// The text at an address, empty where there is none.
+fn is_in_body(byte: u8) -> bool
+    ensures { result ≡ is_in_body byte }
+{
+    byte != b';'
+}
+
+// The bytes of a line in front of its comment.
+fn body_len(line: &[u8]) -> usize
+    ensures len { result ≡ body_len line.now }
+    ensures within { result ≤ length line.now }
+{
+    line.iter().take_while(|b| is_in_body(**b)).count()
+}
+
+// What a line has in front of its comment, without the blanks at its end.
+fn without_comment(line: &[u8]) -> &[u8]
+    ensures { result.now ≡ without_comment line.now }
+{
+    line[..body_len(line)].trim_ascii_end()
+}
+
+// What the line of an address has in front of its comment, empty where there is none.
 fn text_of(
     alloc: Global,
     lines: &BTreeMap<u32, SourceLine<'_>>,
@@ -19,7 +42,7 @@ fn text_of(
     ensures { IfOk result (λ text. text.items ≡ text_of (numbered_at lines.now at)) }
 {
     match lines.get(&at) {
-        Some(line) => Vec::from_slice(alloc, line.text),
+        Some(line) => Vec::from_slice(alloc, without_comment(line.text)),
         None => Ok(Vec::new(alloc)),
     }
 }
@@ -50,23 +73,24 @@ fn label_by(
     }
 }
 
-/// For each place of a graph, in their order, the text of the line that its word is of; of an image what the
-/// word says, as [`disassemble`] shows it.
+/// For each place of a graph, in their order, what the line of its word has in front of its comment; of an
+/// image what the word says, as [`disassemble`] shows it.
 ///
 /// # Errors
 ///
 /// An allocation failed.
-pub fn place_labels(
+pub(crate) fn place_labels(
     alloc: Global,
     source: &Source<'_>,
+    lines: &BTreeMap<u32, SourceLine<'_>>,
     graph: &Graph,
 ) -> Result<Vec<Vec<u8>>, AllocError>
+    requires { AreLines source.now lines.now }
     ensures { IfOk result (λ labels. AreLabels source.now graph.now.places labels.items) }
 {
-    let lines = source.lines(alloc)?;
     let mut labels = Vec::new(alloc);
     for place in graph.places() {
-        labels.push(label_by(alloc, source, &lines, place.address())?)?;
+        labels.push(label_by(alloc, source, lines, place.address())?)?;
     }
     Ok(labels)
 }

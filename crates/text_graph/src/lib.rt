@@ -6,13 +6,15 @@
 mod clusters;
 mod document;
 mod drawn_edges;
+mod extent;
 mod labels;
 mod law;
+mod loops;
 mod nodes;
 mod pieces;
 mod stretches;
 mod tables;
 
 pub use document::drawing;
-pub use labels::place_labels;
+pub use extent::Extent;
 pub use law::{node_ticks_are_the_bound, nodes_are_stretches_of_the_graph, places_are_drawn_once};

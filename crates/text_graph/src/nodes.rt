@@ -1,17 +1,18 @@
 ghost use Rattle.std.specs.Prelude.{◌≡◌, ◌<◌, ◌++◌, OnOk, length};
 ghost use Rattle.std.specs.List.{flat_map, slice_get};
+ghost use Rattle.text_graph.specs.Parts.{scene_of};
+ghost use Rattle.text_graph.specs.Pieces.{escaped};
 ghost use Rattle.text_graph.specs.Stretches.{AreNumbers, CanDraw};
-ghost use Rattle.text_graph.specs.Parts.{drawn_node, drawn_row, drawn_stretch};
-ghost use Rattle.text_graph.specs.Text.{escaped, label_of};
+ghost use Rattle.text_graph.specs.Text.{label_of, node, row, stretch};
 
 use crate::clusters::{put_closed, put_opened};
 use crate::drawn_edges::put_edges;
-use crate::pieces::{put_address, put_escaped, put_name, put_style};
+use crate::pieces::{put_address, put_escaped, put_name, put_node_end};
 use crate::stretches::{passes, stretch_ticks};
 use crate::tables::Drawn;
 use loop_bounds::place_in;
 use std::alloc::AllocError;
-use text_rows::{put, put_decimal};
+use text_rows::put;
 
 // Adds the label of a place, by its position among the graph's places.
 fn put_label(out: &mut Vec<u8>, labels: &[Vec<u8>], place: usize) -> Result<(), AllocError>
@@ -25,11 +26,10 @@ fn put_label(out: &mut Vec<u8>, labels: &[Vec<u8>], place: usize) -> Result<(), 
 }
 
 // Adds the address of a number and its label.
-fn put_row(out: &mut Vec<u8>, drawn: Drawn<'_>, number: usize) -> Result<(), AllocError>
+fn put_row(out: &mut Vec<u8>, drawn: Drawn<'_, '_>, number: usize) -> Result<(), AllocError>
     requires drawn { CanDraw drawn }
     requires known { number < length drawn.graph.now.places }
-    ensures { OnOk result
-        (out.new.items ≡ out.old.items ++ drawn_row drawn.entry number) }
+    ensures { OnOk result (out.new.items ≡ out.old.items ++ row (scene_of drawn.entry) number) }
 {
     put_address(out, place_in(drawn.graph, drawn.tree, number).address())?;
     put(out, b"  ")?;
@@ -38,11 +38,11 @@ fn put_row(out: &mut Vec<u8>, drawn: Drawn<'_>, number: usize) -> Result<(), All
 }
 
 // Adds the addresses and labels of a stretch.
-fn put_rows(out: &mut Vec<u8>, drawn: Drawn<'_>, numbers: &[usize]) -> Result<(), AllocError>
+fn put_rows(out: &mut Vec<u8>, drawn: Drawn<'_, '_>, numbers: &[usize]) -> Result<(), AllocError>
     requires drawn { CanDraw drawn }
     requires known { AreNumbers drawn.graph.now numbers.now }
     ensures { OnOk result
-        (out.new.items ≡ out.old.items ++ flat_map (drawn_row drawn.entry) numbers.now) }
+        (out.new.items ≡ out.old.items ++ flat_map (row (scene_of drawn.entry)) numbers.now) }
 {
     for number in numbers {
         put_row(out, drawn, *number)?;
@@ -51,33 +51,32 @@ fn put_rows(out: &mut Vec<u8>, drawn: Drawn<'_>, numbers: &[usize]) -> Result<()
 }
 
 // Adds the node of a stretch.
-fn put_node(out: &mut Vec<u8>, drawn: Drawn<'_>, numbers: &[usize]) -> Result<(), AllocError>
+fn put_node(out: &mut Vec<u8>, drawn: Drawn<'_, '_>, numbers: &[usize]) -> Result<(), AllocError>
     requires drawn { CanDraw drawn }
     requires known { AreNumbers drawn.graph.now numbers.now }
-    ensures { OnOk result (out.new.items ≡ out.old.items ++ drawn_node drawn.entry numbers.now) }
+    ensures { OnOk result (out.new.items ≡ out.old.items ++ node (scene_of drawn.entry) numbers.now) }
 {
     let first = numbers[0];
-    let passes = passes(drawn, first);
     put_name(out, first)?;
     put(out, b" [label=\"")?;
     put_rows(out, drawn, numbers)?;
-    put(out, b"passes ")?;
-    put_decimal(out, passes)?;
-    put(out, b", ticks in all ")?;
-    put_decimal(out, stretch_ticks(drawn, numbers))?;
-    put(out, b"\\l")?;
-    put_style(out, passes)
+    put_node_end(
+        out,
+        passes(drawn, first),
+        stretch_ticks(drawn, numbers),
+        drawn.bound,
+    )
 }
 
 /// Adds a stretch: its node inside its clusters, and the edges that leave its last number.
 pub(crate) fn put_stretch(
     out: &mut Vec<u8>,
-    drawn: Drawn<'_>,
+    drawn: Drawn<'_, '_>,
     numbers: &[usize],
 ) -> Result<(), AllocError>
     requires drawn { CanDraw drawn }
     requires known { AreNumbers drawn.graph.now numbers.now }
-    ensures { OnOk result (out.new.items ≡ out.old.items ++ drawn_stretch drawn.entry numbers.now) }
+    ensures { OnOk result (out.new.items ≡ out.old.items ++ stretch (scene_of drawn.entry) numbers.now) }
 {
     let first = numbers[0];
     put_opened(out, drawn, first)?;

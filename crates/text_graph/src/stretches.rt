@@ -13,7 +13,7 @@ use std::alloc::{AllocError, Global};
 use walk_counts::{capped_product, capped_sum, is_in};
 
 /// The calls inside of which the place of a number is.
-pub(crate) fn calls_in(drawn: Drawn<'_>, number: usize) -> Calls
+pub(crate) fn calls_in(drawn: Drawn<'_, '_>, number: usize) -> Calls
     ensures { result ≡ calls_in drawn.entry.graph.now drawn.entry.tree.now number }
 {
     match place_in(drawn.graph, drawn.tree, number) {
@@ -23,7 +23,7 @@ pub(crate) fn calls_in(drawn: Drawn<'_>, number: usize) -> Calls
 }
 
 /// The loops that hold a number, the inner ones first.
-pub(crate) fn loops_of<'a>(drawn: Drawn<'a>, number: usize) -> &'a [Span]
+pub(crate) fn loops_of<'a>(drawn: Drawn<'a, '_>, number: usize) -> &'a [Span]
     requires drawn { CanDraw drawn }
     requires known { number ≤ length drawn.graph.now.places }
     ensures { result.now ≡ loops_of drawn.entry.graph.now drawn.entry.tree.now number }
@@ -44,7 +44,7 @@ fn all_hold(loops: &[Span], number: usize) -> bool
 
 // Where the edge leads that leaves a number, if it is the only way out of it and into where it leads, which
 // is neither Exit nor the entry.
-fn only_way(drawn: Drawn<'_>, number: usize) -> Option<usize>
+fn only_way(drawn: Drawn<'_, '_>, number: usize) -> Option<usize>
     requires drawn { CanDraw drawn }
     requires known { number < length drawn.graph.now.places }
     ensures { result ≡ only_way drawn.entry.graph.now drawn.entry.tree.now number }
@@ -61,7 +61,7 @@ fn only_way(drawn: Drawn<'_>, number: usize) -> Option<usize>
 }
 
 // Whether two numbers are inside the same calls and the same loops.
-fn are_together(drawn: Drawn<'_>, left: usize, right: usize) -> bool
+fn are_together(drawn: Drawn<'_, '_>, left: usize, right: usize) -> bool
     requires drawn { CanDraw drawn }
     requires left { left < length drawn.graph.now.places }
     requires right { right < length drawn.graph.now.places }
@@ -80,7 +80,7 @@ fn are_together(drawn: Drawn<'_>, left: usize, right: usize) -> bool
 }
 
 /// The number with which the stretch of one goes on, if it does.
-pub(crate) fn next_of(drawn: Drawn<'_>, number: usize) -> Option<usize>
+pub(crate) fn next_of(drawn: Drawn<'_, '_>, number: usize) -> Option<usize>
     requires drawn { CanDraw drawn }
     requires known { number < length drawn.graph.now.places }
     ensures { result ≡ next_of drawn.entry.graph.now drawn.entry.tree.now number }
@@ -104,7 +104,7 @@ pub(crate) fn next_of(drawn: Drawn<'_>, number: usize) -> Option<usize>
 /// An allocation failed.
 pub(crate) fn stretch_from(
     alloc: Global,
-    drawn: Drawn<'_>,
+    drawn: Drawn<'_, '_>,
     first: usize,
 ) -> Result<Vec<usize>, AllocError>
     requires drawn { CanDraw drawn }
@@ -129,7 +129,7 @@ pub(crate) fn stretch_from(
 /// # Errors
 ///
 /// An allocation failed.
-pub(crate) fn begins(alloc: Global, drawn: Drawn<'_>) -> Result<Vec<bool>, AllocError>
+pub(crate) fn begins(alloc: Global, drawn: Drawn<'_, '_>) -> Result<Vec<bool>, AllocError>
     requires drawn { CanDraw drawn }
     ensures { IfOk result (λ begins. AreBegins drawn.entry.graph.now drawn.entry.tree.now begins.items) }
 {
@@ -143,7 +143,7 @@ pub(crate) fn begins(alloc: Global, drawn: Drawn<'_>) -> Result<Vec<bool>, Alloc
 }
 
 /// How often the walk takes an edge.
-pub(crate) fn count_of(drawn: Drawn<'_>, edge: usize) -> u64
+pub(crate) fn count_of(drawn: Drawn<'_, '_>, edge: usize) -> u64
     requires drawn { CanDraw drawn }
     requires known { edge < length drawn.graph.now.edges }
     ensures { result ≡ slice_index drawn.entry.counts.now edge }
@@ -152,7 +152,7 @@ pub(crate) fn count_of(drawn: Drawn<'_>, edge: usize) -> u64
 }
 
 /// How often the walk leaves a number.
-pub(crate) fn passes(drawn: Drawn<'_>, number: usize) -> u64
+pub(crate) fn passes(drawn: Drawn<'_, '_>, number: usize) -> u64
     requires drawn { CanDraw drawn }
     requires known { number < length drawn.graph.now.places }
     ensures { result ≡ passes drawn.entry.graph.now drawn.entry.tree.now drawn.entry.counts.now number }
@@ -166,7 +166,7 @@ pub(crate) fn passes(drawn: Drawn<'_>, number: usize) -> u64
 }
 
 // The ticks of an edge, as often as the walk takes it.
-fn edge_ticks(drawn: Drawn<'_>, edge: usize) -> u64
+fn edge_ticks(drawn: Drawn<'_, '_>, edge: usize) -> u64
     requires drawn { CanDraw drawn }
     requires known { edge < length drawn.graph.now.edges }
     ensures { result ≡ edge_ticks drawn.entry.graph.now drawn.entry.counts.now edge }
@@ -174,8 +174,8 @@ fn edge_ticks(drawn: Drawn<'_>, edge: usize) -> u64
     capped_product(count_of(drawn, edge), drawn.graph.edges()[edge].cost)
 }
 
-// The ticks that the walk takes at a number.
-fn ticks(drawn: Drawn<'_>, number: usize) -> u64
+/// The ticks that the walk takes at a number.
+pub(crate) fn ticks(drawn: Drawn<'_, '_>, number: usize) -> u64
     requires drawn { CanDraw drawn }
     requires known { number < length drawn.graph.now.places }
     ensures { result ≡ ticks drawn.entry.graph.now drawn.entry.tree.now drawn.entry.counts.now number }
@@ -189,7 +189,7 @@ fn ticks(drawn: Drawn<'_>, number: usize) -> u64
 }
 
 /// The ticks that the walk takes in a stretch.
-pub(crate) fn stretch_ticks(drawn: Drawn<'_>, numbers: &[usize]) -> u64
+pub(crate) fn stretch_ticks(drawn: Drawn<'_, '_>, numbers: &[usize]) -> u64
     requires drawn { CanDraw drawn }
     requires known { AreNumbers drawn.graph.now numbers.now }
     ensures { result

@@ -35,7 +35,7 @@ use Rattle.text_refusals.specs.Courses.{after, at_front, begun, entry_list, is_a
 use Rattle.text_refusals.specs.FaultyItems.{has_destination, has_end, has_no_list, has_no_stretch, has_no_stretches, has_no_table, has_part, has_reversed_stretch, has_second, has_unknown, has_value, is_faulty, is_hidden, is_listed, is_shown, lent, second_key, target_number}
 use Rattle.text_refusals.specs.Outline.{Begins, Ends, Item, KeyValue, States, Table}
 use Rattle.text_refusals.specs.Placed.{AreOf, IsEntry, IsThere, Shows, TableShows, ValueShows, placed}
-use Rattle.text_refusals.specs.Refused.{Limit, Row, access_limit, all_rows, apart_table_rows, branch_limit, limits, multiply_limit, reversed_rows, rows_of_limits, rule_limit, entry_rows, extra_row, extra_rows, extra_stretch_row, extra_stretch_rows, extra_table_row, first_after, header_rows, is_stretch_item, item_rows, list_rows, long_rows, loop_limit, misplaced_rows, missing_row, missing_rows, no_list_rows, no_table_rows, one_stretch_rows, past_stretches, past_stretches_rows, row_if, rows, rows_of_table, said_row, stretch_header_rows, stretch_rows, stretch_table_rows, stretches_in, table_row, table_rows, tables_in, target_limit, target_rows, unknown_rows, unwanted_rows, value_row, value_rows, value_table_rows, whole_rows}
+use Rattle.text_refusals.specs.Refused.{Limit, Row, access_limit, all_rows, apart_table_rows, branch_limit, limits, multiply_limit, reversed_rows, rows_of_limits, rule_limit, entry_rows, extra_row, extra_rows, extra_stretch_row, extra_stretch_rows, extra_table_row, first_after, header_rows, is_stretch_item, item_rows, list_rows, long_rows, loop_limit, misplaced_rows, missing_row, missing_rows, no_list_rows, no_table_rows, one_stretch_rows, past_stretches, past_stretches_rows, row_if, rows, rows_of_table, said_row, stretch_header_rows, stretch_rows, stretch_table_rows, stretches_in, table_row, table_rows, tables_in, target_limit, target_rows, unknown_rows, unwanted_rows, value_rows, value_words, value_table_rows, whole_rows}
 use Rattle.text_refusals.specs.declared.course.Course.{Course}
 use Rattle.text_refusals.proofs.RefusedLemmas.{one_row}
 
@@ -139,7 +139,7 @@ module _ (names : NamedAddresses) (ms : Members) (f : StatementFault) (has : Spo
       ∙ (ap (holds_of (λ x. has (spot.Listed x.0 x.1 part))) at ∙ e)
 
   faulty_row : (c : Course) (p : KeyValue) → is_faulty has c p ≡ true → HasRow (value_rows has c p)
-  faulty_row c p e = in_first (row_if (is_faulty has c p) (value_row p)) (stretch_rows has c p) (row_of_if (is_faulty has c p) (value_row p) e)
+  faulty_row c p e = in_first (row_if (is_faulty has c p) (said_row p (value_words has c p))) (stretch_rows has c p) (row_of_if (is_faulty has c p) (said_row p (value_words has c p)) e)
 
   shown_faulty : (c : Course) (p : KeyValue) → is_hidden p ≡ false → is_shown has c p ≡ true → HasRow (value_rows has c p)
   shown_faulty c p hidden e =
@@ -147,7 +147,7 @@ module _ (names : NamedAddresses) (ms : Members) (f : StatementFault) (has : Spo
 
   one_stretch_row : (c : Course) (p : KeyValue) → HasRow (one_stretch_rows has c p) → HasRow (value_rows has c p)
   one_stretch_row c p h =
-      in_second (row_if (is_faulty has c p) (value_row p)) (stretch_rows has c p)
+      in_second (row_if (is_faulty has c p) (said_row p (value_words has c p))) (stretch_rows has c p)
       (in_second (row_if (has_no_stretches has p) (said_row p (codes " has to be a list of lists of two addresses"))) (one_stretch_rows has c p) h)
 
   value_shown :
@@ -218,7 +218,7 @@ module _ (names : NamedAddresses) (ms : Members) (f : StatementFault) (has : Spo
       (ap (holds_of (λ e. is_at_key 0 (second_key e.0) p && has (spot.Second e.0 e.1))) v.2
       ∙ both_true v.1 (found (spot.Second list n) h)))))))
   value_faulty c p spot.NoStretches h v =
-      in_second (row_if (is_faulty has c p) (value_row p)) (stretch_rows has c p)
+      in_second (row_if (is_faulty has c p) (said_row p (value_words has c p))) (stretch_rows has c p)
       (in_first (row_if (has_no_stretches has p) (said_row p (codes " has to be a list of lists of two addresses"))) (one_stretch_rows has c p)
       (row_of_if (has_no_stretches has p) (said_row p (codes " has to be a list of lists of two addresses"))
       (both_true v.0 (both_true v.1 (both_true v.2 (found spot.NoStretches h))))))

@@ -21,7 +21,7 @@ use Rattle.text_refusals.specs.Courses.{after, at_front, begun, entry_list, is_a
 use Rattle.text_refusals.specs.FaultyItems.{has_destination, has_end, has_no_list, has_no_stretch, has_no_stretches, has_reversed_stretch, has_no_table, has_part, has_second, has_unknown, has_value, is_faulty, is_hidden, is_listed, is_shown, lent, second_key, target_number}
 use Rattle.text_refusals.specs.Outline.{Begins, Ends, Item, KeyValue, States, Table}
 use Rattle.text_refusals.specs.Placed.{IsPartOf, IsRowOf, Shows, TableShows, ValueShows, line_of, placed}
-use Rattle.text_refusals.specs.Refused.{Limit, Row, all_rows, apart_table_rows, extra_destination_row, extra_row, extra_rows, extra_stretch_row, extra_stretch_rows, past_stretches, past_stretches_rows, limits, rows_of_limits, extra_table_row, first_after, header_rows, item_rows, list_rows, long_rows, loop_limit, missing_row, missing_rows, no_list_rows, no_table_rows, one_stretch_rows, row_if, rows, rows_of_table, said_row, stated_at, stretch_header_rows, stretch_rows, stretch_table_rows, stretches_in, table_row, table_rows, tables_in, target_limit, unknown_rows, unwanted_rows, value_row, value_rows, value_table_rows, whole_rows}
+use Rattle.text_refusals.specs.Refused.{Limit, Row, all_rows, apart_table_rows, extra_destination_row, extra_row, extra_rows, extra_stretch_row, extra_stretch_rows, past_stretches, past_stretches_rows, limits, rows_of_limits, extra_table_row, first_after, header_rows, item_rows, list_rows, long_rows, missing_row, missing_rows, no_list_rows, no_table_rows, one_stretch_rows, row_if, rows, rows_of_table, said_row, stated_at, stretch_header_rows, stretch_rows, stretch_table_rows, stretches_in, table_row, table_rows, tables_in, unknown_rows, unwanted_rows, value_rows, value_words, value_table_rows, whole_rows}
 use Rattle.text_refusals.specs.declared.course.Course.{Course}
 use Rattle.text_refusals.proofs.RefusedLemmas.{no_items, one_row}
 
@@ -183,8 +183,8 @@ module _ (has : Spot → Bool) where
       ]
 
   rows_of_value_sound : (c : Course) (p : KeyValue) (r : Row) → Contains (value_rows has c p) r → OfValue c p × (r.line ≡ p.line)
-  rows_of_value_sound c p r h = elim (Contains-append_cases (row_if (is_faulty has c p) (value_row p)) (stretch_rows has c p) r h) [
-    | inl u ↦ let k = in_if (is_faulty has c p) (value_row p) r u in (value_sound c p k.0, ap (λ (x : Row). x.line) k.1)
+  rows_of_value_sound c p r h = elim (Contains-append_cases (row_if (is_faulty has c p) (said_row p (value_words has c p))) (stretch_rows has c p) r h) [
+    | inl u ↦ let k = in_if (is_faulty has c p) (said_row p (value_words has c p)) r u in (value_sound c p k.0, ap (λ (x : Row). x.line) k.1)
     | inr u ↦ stretch_sound c p r u
   ]
 

@@ -27,7 +27,7 @@ use Rattle.statement.specs.declared.spots.TableList.TheVariants.{Branches}
 use Rattle.text_refusals.specs.Courses.{after, at_front, begun, entry_list, is_at_key, is_stretch}
 use Rattle.text_refusals.specs.Courses.{is_stretch_table, key_head, named_list}
 use Rattle.text_refusals.specs.FaultyItems.{has_no_stretch, has_no_stretches, has_reversed_stretch, is_faulty}
-use Rattle.text_refusals.specs.FaultyItems.{lent}
+use Rattle.text_refusals.specs.FaultyItems.{has_unknown, has_value, lent}
 use Rattle.text_refusals.specs.Outline.{Array, Bare, Begins, Cut, Ends, InlineTable, Item, KeyValue, Quoted}
 use Rattle.text_refusals.specs.Outline.{States, Table, TableKeys, Value, items_of}
 use Rattle.text_refusals.specs.declared.course.Course.{Course}
@@ -77,6 +77,46 @@ table_row t words key = record { line = t.line; text = name_text t ++ (words ++ 
 -- the row, where it applies
 abbrev pub row_if : Bool → Row → List Row
 row_if b row = if b then row ∷ [] else []
+
+-- ## What may stand at a key
+
+-- of which table the key is none
+abbrev pub unknown_words : Option TableList → List ℕ
+unknown_words None = codes " is no key of statements"
+unknown_words (Some Loops) = codes " is no key of [[loop]]"
+unknown_words (Some Targets) = codes " is no key of [[target]]"
+unknown_words (Some Accesses) = codes " is no key of [[access]]"
+unknown_words (Some Rules) = codes " is no key of [[base]]"
+unknown_words (Some Multiplies) = codes " is no key of [[multiply]]"
+unknown_words (Some Branches) = codes " is no key of [[branch]]"
+
+-- the words or numbers that may be its value; nothing where that may be an address
+abbrev pub wanted_words : Key → List ℕ
+wanted_words key.Entry = []
+wanted_words key.Leave = codes " has to be \"any\", \"ram\", \"rom\" or \"io\""
+wanted_words key.Returns = codes " has to be \"assumed\" or \"stated\""
+wanted_words key.Header = []
+wanted_words key.First = []
+wanted_words key.Last = []
+wanted_words key.Bound = codes " has to be a number, at most 1048576"
+wanted_words key.At = []
+wanted_words key.Kind = codes " has to be \"jump\", \"call\", \"return\" or \"leave\""
+wanted_words key.To = []
+wanted_words key.Class =
+    codes " has to be \"any\", \"ram\", \"rom\", \"io\", \"slow\", \"medium\", \"fast\" or \"synchronous\""
+wanted_words key.Register = codes " has to be a register"
+wanted_words key.Cycles = codes " has to be a number from 1 to 16"
+wanted_words key.Taken = codes " has to be \"always\" or \"never\""
+
+abbrev pub wanted_at : Option Key → List ℕ
+wanted_at None = []
+wanted_at (Some k) = wanted_words k
+
+-- what is said of a faulty value: that its key is none of its table's, or what may stand there
+abbrev pub value_words : (has : Spot → Bool) → Course → KeyValue → List ℕ
+value_words has c p =
+    if has_unknown has c p then unknown_words (named_list p.list)
+    else (if has_value has c p then wanted_at (named_key (key_head p.key)) else [])
 
 -- ## Items that are counted
 
@@ -238,7 +278,7 @@ module _ (has : Spot → Bool) where
       ++ one_stretch_rows c p
 
   abbrev pub value_rows : Course → KeyValue → List Row
-  value_rows c p = row_if (is_faulty has c p) (value_row p) ++ stretch_rows c p
+  value_rows c p = row_if (is_faulty has c p) (said_row p (value_words has c p)) ++ stretch_rows c p
 
   abbrev pub item_rows : Course → Item → List Item → List Row
   item_rows c (Begins t) items = table_rows c t items

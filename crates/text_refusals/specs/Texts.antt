@@ -1,7 +1,13 @@
 -- What is printed of a cycle and of an entry.
-use Rattle.std.specs.Prelude.{◌≡◌, ℕ, List, [], ◌∷◌, ◌++◌, codes, decimal, length, map, Option, Some, None}
+use Rattle.std.specs.Prelude.{◌≡◌, ℕ, ◌-◌, Bool, true, false, if◌then◌else◌, List, [], ◌∷◌, ◌++◌, codes}
+use Rattle.std.specs.Prelude.{decimal, drop, length, map, slice_index_or, Option, Some, None}
+use Rattle.std.specs.List.{prefix_len}
 use Rattle.std.specs.BTreeMap.{BTreeMap}
+use Rattle.asm_text.specs.Pieces.{is_blank}
+use Rattle.asm_text.specs.Source.{lines_of}
 use Rattle.assembler.specs.Faults.{name}
+use Rattle.assembler.specs.declared.fault.LineFault.{LineFault}
+use Rattle.assembler.specs.declared.fault.LineFault.TheVariants.{NotText}
 use Rattle.control_flow.specs.declared.edges.Edge.{Edge}
 use Rattle.control_flow.specs.declared.faults.BuildFault.{BuildFault}
 use Rattle.control_flow.specs.declared.faults.BuildFault.TheVariants as build
@@ -10,7 +16,7 @@ use Rattle.control_flow.specs.declared.places.Place.{Place}
 use Rattle.control_flow.specs.declared.places.Place.TheVariants.{At, Exit}
 use Rattle.loop_bounds.specs.declared.loop_instances.LoopInstance.{LoopInstance}
 use Rattle.statement.specs.declared.stated.Loop.{Loop}
-use Rattle.text_rows.specs.Rows.{AreRows}
+use Rattle.text_rows.specs.Rows.{AreRows, row_end}
 use Rattle.text_rows.specs.Addresses.{name_text}
 use Rattle.text_rows.specs.declared.line_labels.SourceLine.{SourceLine}
 use Rattle.text_rows.specs.WordLines.{label_at}
@@ -153,7 +159,28 @@ IsFaultText words faulty _ text = IsPlaceRow words faulty.place text
 
 -- ## Lines that cannot be assembled
 
--- a line of text on such a line: its number, and what is wrong with it
-abbrev pub IsFaultyRow : FaultyLine → List ℕ → Type 0
-IsFaultyRow line row =
-    row ≡ codes "line " ++ (decimal line.number ++ (codes ": " ++ (name line.fault ++ codes "\n")))
+abbrev pub without_blanks : List ℕ → List ℕ
+without_blanks text = drop (prefix_len is_blank text) text
+
+-- the text of the line with a number, without the blanks in front; empty where the source has no such line
+abbrev pub text_at : (source : List ℕ) → (number : ℕ) → List ℕ
+text_at source number = without_blanks (slice_index_or (lines_of source) (number - 1) [])
+
+-- the text is shown, but where it may hold bytes that are none of a source's
+abbrev pub shows_text : LineFault → Bool
+shows_text NotText = false
+shows_text _ = true
+
+-- the number of such a line, and what is wrong with it
+abbrev pub faulty_front : FaultyLine → List ℕ
+faulty_front line = codes "line " ++ (decimal line.number ++ (codes ": " ++ name line.fault))
+
+-- and its text
+abbrev pub faulty_row : (source : List ℕ) → FaultyLine → List ℕ
+faulty_row source line =
+    if shows_text line.fault
+    then row_end 0 (faulty_front line ++ codes ": ") (text_at source line.number)
+    else faulty_front line ++ codes "\n"
+
+abbrev pub IsFaultyRow : (source : List ℕ) → FaultyLine → List ℕ → Type 0
+IsFaultyRow source line row = row ≡ faulty_row source line

@@ -1,5 +1,6 @@
 ghost use Rattle.std.specs.Prelude.{◌≡◌};
 ghost use Rattle.text_refusals.specs.FaultyItems.{is_cut, is_hidden, may_be_text, second_key, target_number};
+ghost use Rattle.text_refusals.specs.Refused.{unknown_words, value_words, wanted_words};
 ghost use Rattle.text_refusals.specs.Outline.{key_value_of, value_of};
 
 use crate::course::{
@@ -8,6 +9,9 @@ use crate::course::{
 use crate::outline::KeyValue;
 use crate::outline_tokens::OutlineValue;
 use statement::{Document, Key, Part, Spot, StatementFault, TableList, named_key};
+
+const CLASSES: &[u8] =
+    b" has to be \"any\", \"ram\", \"rom\", \"io\", \"slow\", \"medium\", \"fast\" or \"synchronous\"";
 
 // Whether the value is a text that goes on after its line.
 fn is_cut(value: OutlineValue<'_>) -> bool
@@ -66,6 +70,38 @@ fn second_key(list: TableList) -> &'static [u8]
     }
 }
 
+// Of which table a key is none.
+fn unknown_words(list: Option<TableList>) -> &'static [u8]
+    ensures { result.now ≡ unknown_words list }
+{
+    match list {
+        None => b" is no key of statements",
+        Some(TableList::Loops) => b" is no key of [[loop]]",
+        Some(TableList::Targets) => b" is no key of [[target]]",
+        Some(TableList::Accesses) => b" is no key of [[access]]",
+        Some(TableList::Rules) => b" is no key of [[base]]",
+        Some(TableList::Multiplies) => b" is no key of [[multiply]]",
+        Some(TableList::Branches) => b" is no key of [[branch]]",
+    }
+}
+
+// The words or numbers that may be the value of a key; nothing where that may be an address.
+fn wanted_words(key: Key) -> &'static [u8]
+    ensures { result.now ≡ wanted_words key }
+{
+    match key {
+        Key::Leave => b" has to be \"any\", \"ram\", \"rom\" or \"io\"",
+        Key::Returns => b" has to be \"assumed\" or \"stated\"",
+        Key::Bound => b" has to be a number, at most 1048576",
+        Key::Kind => b" has to be \"jump\", \"call\", \"return\" or \"leave\"",
+        Key::Class => CLASSES,
+        Key::Register => b" has to be a register",
+        Key::Cycles => b" has to be a number from 1 to 16",
+        Key::Taken => b" has to be \"always\" or \"never\"",
+        Key::Entry | Key::Header | Key::First | Key::Last | Key::At | Key::To => b"",
+    }
+}
+
 /// The document of a statement's text, and the fault that is looked for in it.
 #[derive(Clone, Copy)]
 pub(crate) struct Asked<'a> {
@@ -116,6 +152,22 @@ impl Asked<'_> {
         match named_key(key_head(pair.key)) {
             Some(key) => self.has_part(course, pair, Part::Value(key)),
             None => false,
+        }
+    }
+
+    /// What is said of a faulty value: that its key is none of its table's, or what may stand there.
+    pub(crate) fn value_words(&self, course: &Course, pair: &KeyValue<'_>) -> &'static [u8]
+        ensures { result.now ≡ value_words (has_in self.now) course.now (key_value_of pair.now) }
+    {
+        if self.has_unknown(course, pair) {
+            return unknown_words(named_list(pair.list));
+        }
+        if !self.has_value(course, pair) {
+            return b"";
+        }
+        match named_key(key_head(pair.key)) {
+            Some(key) => wanted_words(key),
+            None => b"",
         }
     }
 

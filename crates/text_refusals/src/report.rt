@@ -154,13 +154,6 @@ impl Report {
         self.put_row(pair.line, &text)
     }
 
-    pub(crate) fn put_value(&mut self, pair: &KeyValue<'_>) -> Result<(), AllocError>
-        ensures { OnOk result (Adds (value_row (key_value_of pair.now) ∷ []) self.old self.new) }
-    {
-        let text = value_text(self.alloc, pair)?;
-        self.put_row(pair.line, &text)
-    }
-
     /// Adds what is said of a table.
     pub(crate) fn put_table(
         &mut self,

@@ -1,15 +1,15 @@
-ghost use Rattle.std.specs.Prelude.{◌≡◌, IfOk, MatchOption, OnOk};
+ghost use Rattle.std.specs.Prelude.{◌≡◌, ◌++◌, [], IfOk, MatchOption, OnOk, slice_index_or};
+ghost use Rattle.asm_text.specs.Source.{lines_of};
 ghost use Rattle.text_refusals.specs.FaultyLines.{AreFaults, AreFaultyLines, IsAssembled, IsFaultOf};
 ghost use Rattle.text_refusals.specs.FaultyLines.{keeps_label, label_left, left_after, line_left, without};
-ghost use Rattle.asm_text.specs.Appended.{Appends};
 ghost use Rattle.text_rows.specs.Rows.{AreRows};
-ghost use Rattle.text_refusals.specs.Texts.{IsFaultyRow};
+ghost use Rattle.text_refusals.specs.Texts.{IsFaultyRow, faulty_front, faulty_row, shows_text, text_at};
 
 use crate::word_rows::MOST_LINES;
-use asm_text::{TextFault, first_line, read_line};
+use asm_text::{TextFault, after_blanks, first_line, read_line};
 use assembler::{AsmFault, LineFault, assemble};
 use std::alloc::{AllocError, Global};
-use text_rows::{first_word, put, put_decimal};
+use text_rows::{first_word, put, put_cut_row, put_decimal};
 
 /// A line that cannot be assembled.
 #[derive(Clone, Copy)]
@@ -132,28 +132,78 @@ pub fn faulty_lines(alloc: Global, source: &[u8]) -> Result<Vec<FaultyLine>, All
     Ok(lines)
 }
 
-// Adds a line of text on a faulty line.
-fn put_faulty(out: &mut Vec<u8>, line: &FaultyLine) -> Result<(), AllocError>
-    ensures { OnOk result (Appends (IsFaultyRow line.now) out.old.items out.new.items) }
+// The line at an index; empty past the end.
+fn line_at(source: &[u8], index: usize) -> &[u8]
+    ensures { result.now ≡ slice_index_or (lines_of source.now) index [] }
+{
+    let mut rest = source;
+    let mut left = index;
+    while let Some((line, after)) = first_line(rest) {
+        if left == 0 {
+            return line;
+        }
+        rest = after;
+        left -= 1;
+    }
+    b""
+}
+
+// The text of the line with a number, without the blanks in front.
+fn text_at(source: &[u8], number: usize) -> &[u8]
+    ensures { result.now ≡ text_at source.now number }
+{
+    after_blanks(line_at(source, number.saturating_sub(1)))
+}
+
+// Whether the text is shown, which is not where it may hold bytes that are none of a source's.
+fn shows_text(fault: LineFault) -> bool
+    ensures { result ≡ shows_text fault }
+{
+    match fault {
+        LineFault::NotText => false,
+        _ => true,
+    }
+}
+
+// Adds the number of a faulty line, and what is wrong with it.
+fn put_front(out: &mut Vec<u8>, line: &FaultyLine) -> Result<(), AllocError>
+    ensures { OnOk result (out.new.items ≡ out.old.items ++ faulty_front line.now) }
 {
     put(out, b"line ")?;
     put_decimal(out, line.number as u64)?;
     put(out, b": ")?;
-    put(out, line.fault.name())?;
-    put(out, b"\n")
+    put(out, line.fault.name())
 }
 
-/// A line of text for each of the lines, with its number and what is wrong with it.
+// Adds a line of text on a faulty line.
+fn put_faulty(out: &mut Vec<u8>, source: &[u8], line: &FaultyLine) -> Result<(), AllocError>
+    ensures { OnOk result (out.new.items ≡ out.old.items ++ faulty_row source.now line.now) }
+{
+    let begun = out.len();
+    put_front(out, line)?;
+    if !shows_text(line.fault) {
+        return put(out, b"\n");
+    }
+    put(out, b": ")?;
+    put_cut_row(out, out.len() - begun, text_at(source, line.number))
+}
+
+/// A line of text for each of the lines of the source, with its number, what is wrong with it, and its text,
+/// cut where it would go past column 80.
 ///
 /// # Errors
 ///
 /// An allocation failed.
-pub fn faulty_text(alloc: Global, lines: &[FaultyLine]) -> Result<Vec<u8>, AllocError>
-    ensures { IfOk result (λ text. AreRows IsFaultyRow lines.now text.items) }
+pub fn faulty_text(
+    alloc: Global,
+    source: &[u8],
+    lines: &[FaultyLine],
+) -> Result<Vec<u8>, AllocError>
+    ensures { IfOk result (λ text. AreRows (IsFaultyRow source.now) lines.now text.items) }
 {
     let mut out = Vec::new(alloc);
     for line in lines {
-        put_faulty(&mut out, line)?;
+        put_faulty(&mut out, source, line)?;
     }
     Ok(out)
 }

@@ -11,7 +11,7 @@ ghost use Rattle.text_refusals.specs.Refused.{extra_rows, header_rows, item_rows
 ghost use Rattle.text_refusals.specs.Refused.{long_rows, misplaced_rows, missing_row, missing_rows};
 ghost use Rattle.text_refusals.specs.Refused.{no_list_rows, value_rows};
 ghost use Rattle.text_refusals.specs.Refused.{no_table_rows, reversed_rows, rows, shown, stated_at};
-ghost use Rattle.text_refusals.specs.Refused.{row_if, statement_tables, value_row};
+ghost use Rattle.text_refusals.specs.Refused.{row_if, said_row, statement_tables, value_words};
 ghost use Rattle.text_refusals.specs.Refused.{table_rows, tables_in, target_rows, unknown_rows};
 ghost use Rattle.text_refusals.specs.Refused.{unwanted_rows, value_table_rows, whole_rows};
 
@@ -396,7 +396,7 @@ impl Report {
         }
     }
 
-    // Adds the value, if it has the fault.
+    // Adds the value and what is said of it, if it has the fault.
     fn put_if_faulty(
         &mut self,
         asked: &Asked<'_>,
@@ -405,10 +405,11 @@ impl Report {
     ) -> Result<(), AllocError>
         ensures { OnOk result
             (Adds (row_if (is_faulty (has_in asked.now) course.now (key_value_of pair.now))
-            (value_row (key_value_of pair.now))) self.old self.new) }
+            (said_row (key_value_of pair.now)
+            (value_words (has_in asked.now) course.now (key_value_of pair.now)))) self.old self.new) }
     {
         if asked.is_faulty(course, pair) {
-            return self.put_value(pair);
+            return self.put_value_with(pair, asked.value_words(course, pair));
         }
         Ok(())
     }

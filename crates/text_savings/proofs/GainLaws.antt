@@ -16,7 +16,9 @@ use Rattle.bus_ticks.specs.declared.profile.Class.{Class}
 use Rattle.bus_ticks.specs.declared.profile.Class.TheVariants.{Any, Io, Ram, Rom}
 use Rattle.bus_ticks.specs.declared.profile.Class.TheVariants.{Slow, Medium, Fast, Synchronous}
 use Rattle.bus_ticks.specs.declared.profile.Profile.{Profile}
+use Rattle.bus_ticks.specs.Prices.{by_class, class_of, narrowest_class, speed_class, speed_of}
 use Rattle.bus_ticks.specs.Worst.{IsOf, worst_leave}
+use Rattle.bus_ticks.specs.declared.space.TheConstants.{IO_START, ROM_START}
 use Rattle.control_flow.specs.declared.actions.Kind.{Kind}
 use Rattle.control_flow.specs.declared.actions.Work.{Work}
 use Rattle.control_flow.specs.declared.actions.Work.TheVariants.{Internal}
@@ -29,7 +31,7 @@ use Rattle.control_flow.specs.Kinds.{action, base_of, instr_action, kind_of, tra
 use Rattle.statement.specs.Stated.{Stated, class_at, cycles_at, ruled_class}
 use Rattle.walks.proofs.RowLemmas.{find_some}
 use Rattle.text_savings.specs.Changed.{with_access, with_cycles, with_leave}
-use Rattle.text_savings.specs.Gains.{IsDearestBelow, class_gain, leave_gain, multiply_gain, next_class, next_gain, next_price, offered, offered_ways_out, operands_of, operation_gain, priced, transfer_gain, unstated_gain}
+use Rattle.text_savings.specs.Gains.{IsDearestBelow, class_gain, leave_gain, multiply_gain, next_class, next_gain, next_price, known_address, offered, offered_at, offered_of, offered_ways_out, operands_of, operation_gain, priced, transfer_gain, unstated_gain}
 use Rattle.text_savings.specs.declared.classes.ClassChange.{ClassChange}
 use Rattle.text_savings.specs.declared.classes.PricedClass.{PricedClass}
 use Rattle.text_savings.specs.declared.gains.Gain.{Gain}
@@ -115,8 +117,8 @@ module _ (price : Class → ℕ) (present : ℕ) where
       pub better : price change.better ≡ next
       pub ticks : g.ticks ≡ present - next
 
-    by_class : eqb next 0 ≡ false → (x : Class) × (next_class (map (priced price) cs) next ≡ Some x) × (next_gain class present next x ≡ g) → IsNextClass
-    by_class some by =
+    by_next : eqb next 0 ≡ false → (x : Class) × (next_class (map (priced price) cs) next ≡ Some x) × (next_gain class present next x ≡ g) → IsNextClass
+    by_next some by =
         let named : Addresses (record { present = class; better = by.0 }) ≡ Addresses change = ap (λ (k : Gain). k.refinement) by.2 ∙ is in
         let change_is : record { present = class; better = by.0 } ≡ change = cc in
         let better_is : by.0 ≡ change.better = ap (λ (k : ClassChange). k.better) change_is in
@@ -133,7 +135,7 @@ module _ (price : Class → ℕ) (present : ℕ) where
     next_is = ⊎_elim
         (λ (none : (eqb next 0 ≡ true) × (None ≡ Some g)). absurd (not_none g none.1))
         (λ (some : (eqb next 0 ≡ false) × (option_map (next_gain class present next) (next_class (map (priced price) cs) next) ≡ Some g)).
-        by_class some.0 (map_is (next_gain class present next) (next_class (map (priced price) cs) next) g some.1))
+        by_next some.0 (map_is (next_gain class present next) (next_class (map (priced price) cs) next) g some.1))
         (chosen (eqb next 0) None (option_map (next_gain class present next) (next_class (map (priced price) cs) next)) (Some g) gain)
 
     less : next < present
@@ -162,13 +164,13 @@ no_cycles : (st : Stated) (a : ℕ) (load : Bool) (words : ℕ) → stated_work 
 no_cycles st a true words = refl
 no_cycles st a false words = refl
 
-by_work : (st : Stated) (profile : Profile) (a : ℕ) (c : Cond) (k : Kind) (load : Bool) (words : ℕ) (base : Option Register) (to : Place) (g : Gain) (change : ClassChange)
-    → transfer_gain profile (class_at st a base) (transfer_work load words) ≡ Some g → g.refinement ≡ Addresses change
+by_work : (st : Stated) (profile : Profile) (a : ℕ) (c : Cond) (k : Kind) (load : Bool) (words : ℕ) (base : Option Register) (address : Option ℕ) (to : Place) (g : Gain) (change : ClassChange)
+    → transfer_gain profile (class_at st a base) address (transfer_work load words) ≡ Some g → g.refinement ≡ Addresses change
     → do_ticks (with_access st a change.better) profile a (action c k (transfer_work load words) base) to + g.ticks ≡ do_ticks st profile a (action c k (transfer_work load words) base) to
-by_work st profile a c k load words base to g change gain is =
+by_work st profile a c k load words base address to g change gain is =
     let work = transfer_work load words in
     let class = class_at st a base in
-    let less = falls (λ x. work_ticks profile x work) (work_ticks profile class work) class (offered class) g change gain is in
+    let less = falls (λ x. work_ticks profile x work) (work_ticks profile class work) class (offered_at address class) g change gain is in
     let fetch = fetch_ticks profile a work in
     let arrival = arrival_ticks profile st.leave k to in
     ap (λ (x : Class). fetch + work_ticks profile x (stated_work st a work) + arrival + g.ticks) (first_class st a change.better base)
@@ -198,9 +200,9 @@ module _ (st : Stated) (profile : Profile) (a : ℕ) (c : Cond) (to : Place) (g 
   of_operation (operation.DataRegister x) gain = absurd (not_none g gain)
   of_operation (operation.DataRegisterShift x) gain = absurd (not_none g gain)
   of_operation (operation.DataImmediate x) gain = absurd (not_none g gain)
-  of_operation (operation.SingleImmediate x) gain = by_work st profile a c (kind_of (operation.SingleImmediate x)) x.load 1 (base_of (operation.SingleImmediate x)) to g change gain is
-  of_operation (operation.SingleRegister x) gain = by_work st profile a c (kind_of (operation.SingleRegister x)) x.load 1 (base_of (operation.SingleRegister x)) to g change gain is
-  of_operation (operation.Block x) gain = by_work st profile a c (kind_of (operation.Block x)) x.load (word_count x.list) (base_of (operation.Block x)) to g change gain is
+  of_operation (operation.SingleImmediate x) gain = by_work st profile a c (kind_of (operation.SingleImmediate x)) x.load 1 (base_of (operation.SingleImmediate x)) (known_address a (operation.SingleImmediate x)) to g change gain is
+  of_operation (operation.SingleRegister x) gain = by_work st profile a c (kind_of (operation.SingleRegister x)) x.load 1 (base_of (operation.SingleRegister x)) (known_address a (operation.SingleRegister x)) to g change gain is
+  of_operation (operation.Block x) gain = by_work st profile a c (kind_of (operation.Block x)) x.load (word_count x.list) (base_of (operation.Block x)) (known_address a (operation.Block x)) to g change gain is
   of_operation (operation.Branch x) gain = absurd (not_none g gain)
   of_operation (operation.Swi x) gain = absurd (not_none g gain)
   of_operation (operation.UndefinedTransfer x) gain = absurd (not_none g gain)
@@ -265,11 +267,11 @@ module _ (st : Stated) (profile : Profile) (a : ℕ) (c : Cond) (to : Place) (g 
       (free.0, ap (λ (x : Gain). x.ticks) same))
       (chosen (is_some (lookup (eqb a) st.multiplies)) None (Some (multiply_gain profile o)) (Some g) gain)
 
-  moves : (o : Operation) (load : Bool) (words : ℕ) → transfer_gain profile (class_at st a (base_of o)) (transfer_work load words) ≡ Some g → FallsByCycles o
+  moves : (o : Operation) (load : Bool) (words : ℕ) → transfer_gain profile (class_at st a (base_of o)) (known_address a o) (transfer_work load words) ≡ Some g → FallsByCycles o
   moves o load words gain =
       let class = class_at st a (base_of o) in
       let work = transfer_work load words in
-      absurd (not_class class (work_ticks profile class work) (map (priced (λ x. work_ticks profile x work)) (offered class)) g operands gain is)
+      absurd (not_class class (work_ticks profile class work) (map (priced (λ x. work_ticks profile x work)) (offered_at (known_address a o) class)) g operands gain is)
 
   by_operation : (o : Operation) → operation_gain st profile a o ≡ Some g → FallsByCycles o
   by_operation (operation.Multiply x) gain =
@@ -298,9 +300,9 @@ leave_gains st profile g change gain is = falls (worst_leave profile) (worst_lea
 
 -- ## Which class is next
 
-pub next_access : (profile : Profile) (class : Class) (work : Work) (g : Gain) (change : ClassChange) → transfer_gain profile class work ≡ Some g → g.refinement ≡ Addresses change
-    → IsDearestBelow (λ c. work_ticks profile c work) (work_ticks profile class work) (offered class) change.better
-next_access profile class work g change gain is = dearest (λ c. work_ticks profile c work) (work_ticks profile class work) class (offered class) g change gain is
+pub next_access : (profile : Profile) (class : Class) (address : Option ℕ) (work : Work) (g : Gain) (change : ClassChange) → transfer_gain profile class address work ≡ Some g → g.refinement ≡ Addresses change
+    → IsDearestBelow (λ c. work_ticks profile c work) (work_ticks profile class work) (offered_at address class) change.better
+next_access profile class address work g change gain is = dearest (λ c. work_ticks profile c work) (work_ticks profile class work) class (offered_at address class) g change gain is
 
 pub next_leave : (profile : Profile) (class : Class) (g : Gain) (change : ClassChange) → leave_gain profile class ≡ Some g → g.refinement ≡ Addresses change
     → IsDearestBelow (worst_leave profile) (worst_leave profile class) (offered_ways_out class) change.better
@@ -308,18 +310,75 @@ next_leave profile class g change gain is = dearest (worst_leave profile) (worst
 
 -- ## Where the classes offered lie
 
-pub within : (class better : Class) (x : ℕ) → Contains (offered class) better → IsOf better x → IsOf class x
-within Any better x at is_of = tt
-within Io better x at is_of = All-contains (λ (k : Class). IsOf k x → IsOf Io x) (offered Io) better each at is_of
+anywhere : (class better : Class) (x : ℕ) → Contains (offered class) better → IsOf better x → IsOf class x
+anywhere Any better x at is_of = tt
+anywhere Io better x at is_of = All-contains (λ (k : Class). IsOf k x → IsOf Io x) (offered Io) better each at is_of
   where
     each : All (λ (k : Class). IsOf k x → IsOf Io x) (offered Io)
     each = All-from_recursion (λ (k : Class). IsOf k x → IsOf Io x) (offered Io) (λ d. d.0, (λ d. d.0, (λ d. d.0, (λ d. d.0, tt))))
-within Ram better x at is_of = absurd (no_member better at)
-within Rom better x at is_of = absurd (no_member better at)
-within Slow better x at is_of = absurd (no_member better at)
-within Medium better x at is_of = absurd (no_member better at)
-within Fast better x at is_of = absurd (no_member better at)
-within Synchronous better x at is_of = absurd (no_member better at)
+anywhere Ram better x at is_of = absurd (no_member better at)
+anywhere Rom better x at is_of = absurd (no_member better at)
+anywhere Slow better x at is_of = absurd (no_member better at)
+anywhere Medium better x at is_of = absurd (no_member better at)
+anywhere Fast better x at is_of = absurd (no_member better at)
+anywhere Synchronous better x at is_of = absurd (no_member better at)
+
+-- devices of a speed
+device : (x : ℕ) (slow medium fast : Bool) → IsOf (if slow then Slow else (if medium then Medium else (if fast then Fast else Synchronous))) x → class_of x ≡ Io
+device x true medium fast is = is.0
+device x false true fast is = is.0
+device x false false true is = is.0
+device x false false false is = is.0
+
+of_speed : (x speed : ℕ) (slow medium fast : Bool) → class_of x ≡ Io → speed_of x ≡ speed → speed < 4 → eqb speed 0 ≡ slow → eqb speed 1 ≡ medium → eqb speed 2 ≡ fast
+    → IsOf (if slow then Slow else (if medium then Medium else (if fast then Fast else Synchronous))) x
+of_speed x speed true medium fast io is few e0 e1 e2 = (io, is ∙ eqb-true speed 0 e0)
+of_speed x speed false true fast io is few e0 e1 e2 = (io, is ∙ eqb-true speed 1 e1)
+of_speed x speed false false true io is few e0 e1 e2 = (io, is ∙ eqb-true speed 2 e2)
+of_speed x speed false false false io is few e0 e1 e2 =
+    let last : speed ≡ 3 = omega (arith, few, eqb-false speed 0 e0, eqb-false speed 1 e1, eqb-false speed 2 e2) in
+    (io, is ∙ last)
+
+-- an address is of its narrowest class
+narrowest : (x : ℕ) (ram io : Bool) → class_of x ≡ (if ram then Ram else (if io then Io else Rom)) → IsOf (by_class (if ram then Ram else (if io then Io else Rom)) Ram Rom (speed_class (speed_of x))) x
+narrowest x true io is = is
+narrowest x false true is =
+    let few : speed_of x < 4 = omega arith in
+    of_speed x (speed_of x) (eqb (speed_of x) 0) (eqb (speed_of x) 1) (eqb (speed_of x) 2) is refl few refl refl refl
+narrowest x false false is = is
+
+is_narrowest : (x : ℕ) → IsOf (narrowest_class x) x
+is_narrowest x = narrowest x (nat_lt x IO_START) (nat_lt x ROM_START) refl
+
+the_one : (class better : Class) → Contains (class ∷ []) better → class ≡ better
+the_one class better at = ⊎_elim (λ (is : class ≡ better). is) (λ (later : Contains [] better). absurd (no_member better later)) (cons_cases class [] better at)
+
+in_devices : (k class better : Class) → Contains (by_class k [] [] (class ∷ [])) better → class ≡ better
+in_devices Ram class better at = absurd (no_member better at)
+in_devices Rom class better at = absurd (no_member better at)
+in_devices Io class better at = the_one class better at
+in_devices Any class better at = the_one class better at
+in_devices Slow class better at = the_one class better at
+in_devices Medium class better at = the_one class better at
+in_devices Fast class better at = the_one class better at
+in_devices Synchronous class better at = the_one class better at
+
+speeds : (address : ℕ) (better : Class) (x : ℕ) → Contains (speed_class (speed_of address) ∷ []) better → IsOf better x → class_of x ≡ Io
+speeds address better x at is_of =
+    let speed = speed_of address in
+    let P : Class → Type 0 = λ k. IsOf k x in
+    device x (eqb speed 0) (eqb speed 1) (eqb speed 2) (subst P (sym (the_one (speed_class speed) better at)) is_of)
+
+-- of a known address a device's class is offered for io, or none
+devices : (address : ℕ) (k better : Class) (x : ℕ) → Contains (by_class k [] [] (by_class k Ram Rom (speed_class (speed_of address)) ∷ [])) better → IsOf better x → class_of x ≡ Io
+devices address Ram better x at is_of = absurd (no_member better at)
+devices address Rom better x at is_of = absurd (no_member better at)
+devices address Io better x at is_of = speeds address better x at is_of
+devices address Any better x at is_of = speeds address better x at is_of
+devices address Slow better x at is_of = speeds address better x at is_of
+devices address Medium better x at is_of = speeds address better x at is_of
+devices address Fast better x at is_of = speeds address better x at is_of
+devices address Synchronous better x at is_of = speeds address better x at is_of
 
 pub way_out_within : (class better : Class) (x : ℕ) → Contains (offered_ways_out class) better → IsOf better x → IsOf class x
 way_out_within Any better x at is_of = tt
@@ -330,3 +389,28 @@ way_out_within Slow better x at is_of = absurd (no_member better at)
 way_out_within Medium better x at is_of = absurd (no_member better at)
 way_out_within Fast better x at is_of = absurd (no_member better at)
 way_out_within Synchronous better x at is_of = absurd (no_member better at)
+
+known_within : (class better : Class) (address x : ℕ) → Contains (offered_of address class) better → IsOf better x → IsOf class x
+known_within Any better address x at is_of = tt
+known_within Io better address x at is_of = devices address (class_of address) better x at is_of
+known_within Ram better address x at is_of = absurd (no_member better at)
+known_within Rom better address x at is_of = absurd (no_member better at)
+known_within Slow better address x at is_of = absurd (no_member better at)
+known_within Medium better address x at is_of = absurd (no_member better at)
+known_within Fast better address x at is_of = absurd (no_member better at)
+known_within Synchronous better address x at is_of = absurd (no_member better at)
+
+pub within : (class better : Class) (address : Option ℕ) (x : ℕ) → Contains (offered_at address class) better → IsOf better x → IsOf class x
+within class better None x at is_of = anywhere class better x at is_of
+within class better (Some address) x at is_of = known_within class better address x at is_of
+
+-- a class that is offered for a known address is that address's
+pub of_known : (class better : Class) (address : ℕ) → Contains (offered_of address class) better → IsOf better address
+of_known Any better address at = let P : Class → Type 0 = λ k. IsOf k address in subst P (the_one (narrowest_class address) better at) (is_narrowest address)
+of_known Io better address at = let P : Class → Type 0 = λ k. IsOf k address in subst P (in_devices (class_of address) (narrowest_class address) better at) (is_narrowest address)
+of_known Ram better address at = absurd (no_member better at)
+of_known Rom better address at = absurd (no_member better at)
+of_known Slow better address at = absurd (no_member better at)
+of_known Medium better address at = absurd (no_member better at)
+of_known Fast better address at = absurd (no_member better at)
+of_known Synchronous better address at = absurd (no_member better at)

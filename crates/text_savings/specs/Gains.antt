@@ -4,11 +4,13 @@ use Rattle.std.specs.Prelude.{Bool, true, false, not, ◌&&◌, is_some}
 use Rattle.std.specs.Prelude.{List, [], ◌∷◌, Contains, filter, find, fold, map}
 use Rattle.std.specs.Prelude.{Option, Some, None, option_map}
 use Rattle.std.specs.Map.{lookup}
-use Rattle.arm2_decode.specs.Names.{is_same}
+use Rattle.arm2_decode.specs.Names.{is_pc, is_same}
 use Rattle.arm2_decode.specs.Writers.{moved}
 use Rattle.arm2_decode.specs.declared.instr.Operation.{Operation}
 use Rattle.arm2_decode.specs.declared.instr.Operation.TheVariants as operation
 use Rattle.arm2_decode.specs.declared.transfers.Moved.{Moved}
+use Rattle.arm2_transfer.specs.Registers.{address_by}
+use Rattle.bus_ticks.specs.Prices.{ahead_of, by_class, class_of, narrowest_class}
 use Rattle.bus_ticks.specs.declared.profile.Class.{Class}
 use Rattle.bus_ticks.specs.declared.profile.Class.TheVariants.{Any, Ram, Rom, Io}
 use Rattle.bus_ticks.specs.declared.profile.Class.TheVariants.{Slow, Medium, Fast, Synchronous}
@@ -73,10 +75,42 @@ offered Medium = []
 offered Fast = []
 offered Synchronous = []
 
+-- of a transfer whose address is known: the narrowest class of that address alone, if it is within the
+-- present one
+abbrev pub offered_of : (address : ℕ) → Class → List Class
+offered_of address Any = narrowest_class address ∷ []
+offered_of address Io = by_class (class_of address) [] [] (narrowest_class address ∷ [])
+offered_of address Ram = []
+offered_of address Rom = []
+offered_of address Slow = []
+offered_of address Medium = []
+offered_of address Fast = []
+offered_of address Synchronous = []
+
+abbrev pub offered_at : Option ℕ → Class → List Class
+offered_at None class = offered class
+offered_at (Some address) class = offered_of address class
+
+-- the address of what an operation at an address transfers, where that is a number of bytes from PC
+abbrev pub known_address : (at : ℕ) → Operation → Option ℕ
+known_address at (operation.SingleImmediate x) =
+    if is_pc x.rn then Some (address_by x.before x.up (ahead_of at 8) x.offset) else None
+known_address at (operation.Multiply x) = None
+known_address at (operation.DataRegister x) = None
+known_address at (operation.DataRegisterShift x) = None
+known_address at (operation.DataImmediate x) = None
+known_address at (operation.SingleRegister x) = None
+known_address at (operation.Block x) = None
+known_address at (operation.Branch x) = None
+known_address at (operation.Swi x) = None
+known_address at (operation.UndefinedTransfer x) = None
+known_address at (operation.CoprocessorTransfer x) = None
+known_address at (operation.Coprocessor x) = None
+
 -- what a transfer gains, by what each class costs besides its fetches
-abbrev pub transfer_gain : Profile → Class → Work → Option Gain
-transfer_gain p class w =
-    class_gain class (work_ticks p class w) (map (priced (λ c. work_ticks p c w)) (offered class))
+abbrev pub transfer_gain : Profile → Class → Option ℕ → Work → Option Gain
+transfer_gain p class address w =
+    class_gain class (work_ticks p class w) (map (priced (λ c. work_ticks p c w)) (offered_at address class))
 
 -- the multiplier and the other operand of a multiply may be exchanged: they are two registers, and the one
 -- that becomes Rm is not Rd
@@ -111,18 +145,20 @@ unstated_gain st p a o =
     if is_some (lookup (nat_eq a) st.multiplies) then None else Some (multiply_gain p o)
 
 -- of what it moves, if it moves anything
-abbrev pub moved_gain : Profile → Class → Option Moved → Option Gain
-moved_gain p class None = None
-moved_gain p class (Some m) = transfer_gain p class (transfer_work m.load m.words)
+abbrev pub moved_gain : Profile → Class → (address : Option ℕ) → Option Moved → Option Gain
+moved_gain p class address None = None
+moved_gain p class address (Some m) = transfer_gain p class address (transfer_work m.load m.words)
 
 -- what is no multiply and moves nothing is priced by no entry
 abbrev pub operation_gain : Stated → Profile → ℕ → Operation → Option Gain
 operation_gain st p a o =
-    if is_multiply o then unstated_gain st p a o else moved_gain p (class_at st a (base_of o)) (moved o)
+    if is_multiply o then unstated_gain st p a o
+    else moved_gain p (class_at st a (base_of o)) (known_address a o) (moved o)
 
--- what a statement may say in place of the class to which the handler leaves: no speed
+-- what a statement may say in place of the class to which the handler leaves: memory, since no handler goes
+-- back to a program in a device
 abbrev pub offered_ways_out : Class → List Class
-offered_ways_out Any = Ram ∷ Rom ∷ Io ∷ []
+offered_ways_out Any = Ram ∷ Rom ∷ []
 offered_ways_out Ram = []
 offered_ways_out Rom = []
 offered_ways_out Io = []

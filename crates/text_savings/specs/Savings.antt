@@ -1,6 +1,7 @@
 -- What each better entry of a statement would save by a walk, in ticks. Another walk may then cost more, so a
 -- bound would be less by that at most.
 use Rattle.std.specs.Prelude.{◌≡◌, ℕ, ◌*◌, ◌==◌, if◌then◌else◌, List, [], ◌∷◌, ◌++◌, Option, Some, None}
+use Rattle.std.specs.Prelude.{sum_by}
 use Rattle.std.specs.List.Sorted.{IsPermutation, IsSortedByKey, IsStableByKey}
 use Rattle.std.specs.Ordering.{nat_cmp}
 use Rattle.std.specs.declared.cmp.Ordering.{Ordering}
@@ -64,3 +65,7 @@ pub record AreSavings (words : Words) (st : Stated) (flow : Flow) (walk : List E
   pub same : IsPermutation found list
   pub ordered : IsSortedByKey ticks_saved falling list
   pub stable : IsStableByKey ticks_saved falling found list
+
+-- what the walk costs less by all of them
+abbrev pub together : List Saving → ℕ
+together list = capped (sum_by ticks_saved list)

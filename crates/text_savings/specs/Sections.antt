@@ -1,5 +1,6 @@
 -- What better entries of a statement would save, as text.
-use Rattle.std.specs.Prelude.{◌≡◌, ℕ, List, ◌++◌, codes, decimal, length, Option, Some, None}
+use Rattle.std.specs.Prelude.{◌≡◌, ℕ, List, [], ◌++◌, codes, decimal, length, Option, Some, None}
+use Rattle.std.specs.Prelude.{if◌then◌else◌, nat_le}
 use Rattle.sources.specs.Lines.{line_of}
 use Rattle.sources.specs.declared.read.Source.{Source}
 use Rattle.sources.specs.declared.read.SourceText.{SourceText}
@@ -12,7 +13,7 @@ use Rattle.control_flow.specs.declared.edges.Edge.{Edge}
 use Rattle.statement.specs.Stated.{Stated}
 use Rattle.text_rows.specs.Rows.{AreRows}
 use Rattle.text_rows.specs.WordLines.{Numbered}
-use Rattle.text_savings.specs.Savings.{AreSavings}
+use Rattle.text_savings.specs.Savings.{AreSavings, together}
 use Rattle.text_savings.specs.declared.classes.ClassChange.{ClassChange}
 use Rattle.image.specs.Image.{Words}
 use Rattle.text_savings.specs.declared.gains.Operands.{Operands}
@@ -79,12 +80,21 @@ AreSavingRows source = AreRows (IsSavingRow (IsEndIn source.text (line_of source
 abbrev pub heading : List ℕ
 heading = codes "\nWhat would save most, in ticks at most (state only what is true):\n"
 
--- a row for each saving at a word of an image under the heading, by the lines of a source, and nothing where
--- there are none
+-- what they save together at most
+abbrev pub together_row : List Saving → List ℕ
+together_row list =
+    in_columns 9 (decimal (together list)) ++ (in_columns 19 (codes "together at most") ++ codes "\n")
+
+-- where there are several
+abbrev pub total_row : List Saving → List ℕ
+total_row list = if nat_le (length list) 1 then [] else together_row list
+
+-- a row for each saving at a word of an image under the heading, by the lines of a source, and last what they
+-- save together; nothing where there are none
 pub record IsSavingsText (source : Source) (image : Words) (st : Stated) (flow : Flow) (walk : List Edge)
     (text : List ℕ) : Type 0 where
   pub list : List Saving
   pub rows : List ℕ
   pub are_savings : AreSavings image st flow walk list
   pub are_rows : AreSavingRows source list rows
-  pub text_is : text ≡ section heading rows
+  pub text_is : text ≡ section heading (rows ++ total_row list)

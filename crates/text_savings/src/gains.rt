@@ -1,13 +1,15 @@
-ghost use Rattle.std.specs.Prelude.{◌≡◌, is_some, nat_eq};
+ghost use Rattle.std.specs.Prelude.{◌≡◌, [], None, Some, is_some, nat_eq};
 ghost use Rattle.std.specs.Map.{lookup};
 ghost use Rattle.arm2_decode.specs.Names.{is_same};
+ghost use Rattle.bus_ticks.specs.Prices.{by_class, class_of};
 ghost use Rattle.control_flow.specs.Kinds.{IsWork, work_of};
-ghost use Rattle.text_savings.specs.Gains.{leave_gain, may_exchange, operands_of, operation_gain};
-ghost use Rattle.text_savings.specs.Gains.{transfer_gain, unstated_gain};
+ghost use Rattle.text_savings.specs.Gains.{class_gain, known_address, leave_gain, may_exchange, operands_of};
+ghost use Rattle.text_savings.specs.Gains.{operation_gain, transfer_gain, unstated_gain};
 
 use crate::classes::{ClassChange, PricedClass, class_gain};
 use arm2_decode::{Operation, Register};
-use bus_ticks::{Class, Profile, worst_leave};
+use arm2_transfer::address_by;
+use bus_ticks::{Class, Profile, ahead_of, class_of, narrowest_class, worst_leave};
 use control_flow::{Work, base_of, is_multiply, transfer_work, work_ticks};
 use statement::Statement;
 
@@ -18,7 +20,7 @@ const FOR_ANY: [Class; 3] = [Class::Ram, Class::Rom, Class::Io];
 const FOR_IO: [Class; 4] = [Class::Slow, Class::Medium, Class::Fast, Class::Synchronous];
 
 // What the way out is offered in place of any.
-const WAYS_OUT: [Class; 3] = [Class::Ram, Class::Rom, Class::Io];
+const WAYS_OUT: [Class; 2] = [Class::Ram, Class::Rom];
 
 /// Whether the operands Rm and Rs of a multiply may be exchanged.
 #[derive(Clone, Copy)]
@@ -45,9 +47,9 @@ pub(crate) struct Gain {
 
 // What the next better class takes off the price of a transfer of 1 to 16 words. A stated class is true, so
 // only a class within it may be better.
-fn transfer_gain(profile: &Profile, class: Class, work: Work) -> Option<Gain>
+fn gain_anywhere(profile: &Profile, class: Class, work: Work) -> Option<Gain>
     requires { IsWork work }
-    ensures { result ≡ transfer_gain profile.now class work }
+    ensures { result ≡ transfer_gain profile.now class None work }
 {
     let present = work_ticks(profile, class, work);
     let priced = |class| PricedClass {
@@ -60,6 +62,60 @@ fn transfer_gain(profile: &Profile, class: Class, work: Work) -> Option<Gain>
         Class::Ram | Class::Rom | Class::Slow | Class::Medium | Class::Fast | Class::Synchronous =>
             None,
     }
+}
+
+// What a class takes off the price of a transfer of devices, where the address is one of a device.
+fn gain_in_io(class: Class, present: u32, address: u32, narrow: &[PricedClass]) -> Option<Gain>
+    ensures { result ≡ class_gain class present (by_class (class_of address) [] [] narrow.now) }
+{
+    match class_of(address) {
+        Class::Ram | Class::Rom => None,
+        Class::Io | Class::Any | Class::Slow | Class::Medium | Class::Fast | Class::Synchronous =>
+            class_gain(class, present, narrow),
+    }
+}
+
+// The same of an address that is known: its narrowest class.
+fn gain_at(profile: &Profile, class: Class, address: u32, work: Work) -> Option<Gain>
+    requires { IsWork work }
+    ensures { result ≡ transfer_gain profile.now class (Some address) work }
+{
+    let present = work_ticks(profile, class, work);
+    let narrow = narrowest_class(address);
+    let priced = [PricedClass {
+        class: narrow,
+        ticks: work_ticks(profile, narrow, work),
+    }];
+    match class {
+        Class::Any => class_gain(class, present, &priced),
+        Class::Io => gain_in_io(class, present, address, &priced),
+        Class::Ram | Class::Rom | Class::Slow | Class::Medium | Class::Fast | Class::Synchronous =>
+            None,
+    }
+}
+
+// What the next better class takes off the price of a transfer, by its address where that is known.
+fn transfer_gain(profile: &Profile, class: Class, address: Option<u32>, work: Work) -> Option<Gain>
+    requires { IsWork work }
+    ensures { result ≡ transfer_gain profile.now class address work }
+{
+    match address {
+        Some(address) => gain_at(profile, class, address, work),
+        None => gain_anywhere(profile, class, work),
+    }
+}
+
+// The address of what an operation at an address transfers, where that is a number of bytes from PC.
+fn known_address(at: u32, operation: &Operation) -> Option<u32>
+    ensures { result ≡ known_address at operation.now }
+{
+    let Operation::SingleImmediate(x) = operation else {
+        return None;
+    };
+    if !x.rn.is_pc() {
+        return None;
+    }
+    Some(address_by(x.before, x.up, ahead_of(at, 8), x.offset))
 }
 
 fn is_same(register: Register, other: Register) -> bool
@@ -132,6 +188,7 @@ pub(crate) fn operation_gain(
         Some(moved) => transfer_gain(
             profile,
             statement.class_at(at, base_of(operation)),
+            known_address(at, operation),
             transfer_work(moved.load, moved.words),
         ),
         None => None,

@@ -1,4 +1,4 @@
-ghost use Rattle.std.specs.Prelude.{◌≡◌, ◌+◌, ◌<◌, ◌^◌, ℕ, Contains, List, Some, count_by};
+ghost use Rattle.std.specs.Prelude.{◌≡◌, ◌+◌, ◌<◌, ◌^◌, ℕ, Contains, List, Option, Some, count_by};
 ghost use Rattle.arm2_decode.specs.declared.instr.Instr.{Instr};
 ghost use Rattle.bus_ticks.specs.Worst.{IsOf, worst_leave};
 ghost use Rattle.bus_ticks.specs.declared.profile.Class.{Class};
@@ -10,8 +10,8 @@ ghost use Rattle.control_flow.specs.declared.places.Place.{Place};
 ghost use Rattle.control_flow.specs.declared.places.Place.TheVariants.{Exit};
 ghost use Rattle.statement.specs.Stated.{Stated};
 ghost use Rattle.text_savings.specs.Changed.{with_access, with_cycles, with_leave};
-ghost use Rattle.text_savings.specs.Gains.{IsDearestBelow, leave_gain, offered, offered_ways_out};
-ghost use Rattle.text_savings.specs.Gains.{operation_gain, transfer_gain};
+ghost use Rattle.text_savings.specs.Gains.{IsDearestBelow, leave_gain, offered_at, offered_of};
+ghost use Rattle.text_savings.specs.Gains.{offered_ways_out, operation_gain, transfer_gain};
 ghost use Rattle.text_savings.specs.declared.classes.ClassChange.{ClassChange};
 ghost use Rattle.text_savings.specs.declared.gains.Gain.{Gain};
 ghost use Rattle.text_savings.specs.declared.gains.Operands.{Operands};
@@ -54,10 +54,11 @@ pub fn gains_are_of_the_prices()
 /// States which class is the next better: one of those offered whose price is below the present one's, and
 /// none of those below it has a greater price. It does nothing.
 pub fn next_class_is_the_dearest_below()
-    ensures access { (profile : Profile) (class : Class) (work : Work) (gain : Gain) (change : ClassChange)
-        → transfer_gain profile class work ≡ Some gain → gain.refinement ≡ Addresses change
-        → IsDearestBelow (λ c. work_ticks profile c work) (work_ticks profile class work) (offered class)
-        change.better }
+    ensures access { (profile : Profile) (class : Class) (address : Option ℕ) (work : Work) (gain : Gain)
+        (change : ClassChange) → transfer_gain profile class address work ≡ Some gain
+        → gain.refinement ≡ Addresses change
+        → IsDearestBelow (λ c. work_ticks profile c work) (work_ticks profile class work)
+        (offered_at address class) change.better }
     ensures leave { (profile : Profile) (class : Class) (gain : Gain) (change : ClassChange)
         → leave_gain profile class ≡ Some gain → gain.refinement ≡ Addresses change
         → IsDearestBelow (worst_leave profile) (worst_leave profile class) (offered_ways_out class)
@@ -65,10 +66,12 @@ pub fn next_class_is_the_dearest_below()
 {}
 
 /// States that a class is offered in place of one that contains it: each address of the class offered is of
-/// the present one. It does nothing.
+/// the present one. Where a transfer's address is known, it is of the class offered. It does nothing.
 pub fn offered_classes_lie_within()
-    ensures access { (class better : Class) (x : ℕ)
-        → Contains (offered class) better → IsOf better x → IsOf class x }
+    ensures access { (class better : Class) (address : Option ℕ) (x : ℕ)
+        → Contains (offered_at address class) better → IsOf better x → IsOf class x }
+    ensures known { (class better : Class) (address : ℕ)
+        → Contains (offered_of address class) better → IsOf better address }
     ensures leave { (class better : Class) (x : ℕ)
         → Contains (offered_ways_out class) better → IsOf better x → IsOf class x }
 {}

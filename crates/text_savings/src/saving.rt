@@ -4,6 +4,7 @@ ghost use Rattle.text_savings.specs.Carried.{times_in};
 ghost use Rattle.asm_text.specs.Appended.{Appends};
 ghost use Rattle.text_rows.specs.Rows.{AreRows};
 ghost use Rattle.text_savings.specs.Savings.{AreFound, AreSavings, IsWordGain, IsWordSaved, saved};
+ghost use Rattle.text_savings.specs.Savings.{together};
 
 use crate::carried::{times_carried_out, times_in};
 use crate::gains::{Gain, Refinement, leave_gain, operation_gain};
@@ -15,6 +16,7 @@ use statement::Statement;
 use std::alloc::{AllocError, Global};
 use std::cmp::Reverse;
 use std::collections::BTreeMap;
+use walk_counts::capped_sum;
 
 /// Whose price would be less.
 #[derive(Clone, Copy)]
@@ -137,6 +139,8 @@ fn found_savings(
 /// any or io, and for the way out of the handler if its class is any, the next better class, and for each
 /// multiply whose cycles are not stated one of 15 cycles. The next better class is, of those that may be
 /// stated there and lie within the present one, the one whose price is the greatest below the present one's.
+/// Of a load or store that is a number of bytes from PC it is the narrowest class of its address, and no
+/// handler leaves to a device.
 /// A stated class is true, so none outside it is better. Another walk may then be the greatest, so the bound
 /// would be less by that at most.
 ///
@@ -158,4 +162,15 @@ pub(crate) fn savings(
     let mut list = found_savings(alloc, handler, longest)?;
     list.sort_by_key(|saving| Reverse(saving.ticks))?;
     Ok(list)
+}
+
+/// What all of them save together, in ticks, capped at 2^64 - 1.
+pub(crate) fn together(list: &[Saving]) -> u64
+    ensures { result ≡ together list.now }
+{
+    let mut ticks = 0;
+    for saving in list {
+        ticks = capped_sum(ticks, saving.ticks);
+    }
+    ticks
 }

@@ -4,12 +4,12 @@ ghost use Rattle.asm_text.specs.Appended.{Appends};
 ghost use Rattle.text_rows.specs.Rows.{AreRows};
 ghost use Rattle.text_savings.specs.Sections.{AreSavingRows, IsImageEnd, IsLineEnd, IsSavingRow};
 ghost use Rattle.text_savings.specs.Sections.{IsSavingsText, entry_text, front_text, line_row};
-ghost use Rattle.text_savings.specs.Sections.{refinement_text};
+ghost use Rattle.text_savings.specs.Sections.{refinement_text, together_row, total_row};
 ghost use Rattle.text_savings.specs.declared.saving.Subject.{Subject};
 ghost use Rattle.text_rows.specs.WordLines.{numbered_at};
 
 use crate::gains::{Operands, Refinement};
-use crate::saving::{Saving, Subject, savings};
+use crate::saving::{Saving, Subject, savings, together};
 use longest_walk::Longest;
 use loop_bounds::Handler;
 use sources::{Source, SourceText};
@@ -152,10 +152,30 @@ fn source_rows(alloc: Global, source: &Source<'_>, list: &[Saving]) -> Result<Ve
     }
 }
 
+// Adds the row of what they save together.
+fn put_together(out: &mut Vec<u8>, list: &[Saving]) -> Result<(), AllocError>
+    ensures { OnOk result (out.new.items ≡ out.old.items ++ together_row list.now) }
+{
+    put_number(out, together(list), 9)?;
+    put_right(out, b"together at most", 19)?;
+    put(out, b"\n")
+}
+
+// Adds it where there are several.
+fn put_total(out: &mut Vec<u8>, list: &[Saving]) -> Result<(), AllocError>
+    ensures { OnOk result (out.new.items ≡ out.old.items ++ total_row list.now) }
+{
+    if list.len() <= 1 {
+        return Ok(());
+    }
+    put_together(out, list)
+}
+
 /// What better entries of a statement would save by a greatest walk: under a heading a row for each of the
 /// [`savings`], with the ticks, the better entry, and the address, the number and the text of its line,
 /// or, of an image, the address, the word and the line that [`disassemble`](assembler::disassemble) shows.
-/// A row ends at column 80. Nothing where there are no savings. Words are those of the handler's image.
+/// A row ends at column 80. Below two rows or more stands what all of them save together at most. Nothing
+/// where there are no savings. Words are those of the handler's image.
 ///
 /// # Errors
 ///
@@ -171,6 +191,7 @@ pub fn savings_text(
         (unfolded longest.now.walk) text.items) }
 {
     let list = savings(alloc, handler, longest)?;
-    let rows = source_rows(alloc, source, &list)?;
+    let mut rows = source_rows(alloc, source, &list)?;
+    put_total(&mut rows, &list)?;
     section(alloc, HEADING, &rows)
 }

@@ -12,13 +12,12 @@ use Rattle.handler_reports.specs.Check.{IsAnswer, IsCheckRefused, IsCheckable}
 use Rattle.handler_reports.specs.ExplainReport.{IsExplainReport}
 use Rattle.handler_reports.specs.FollowReport.{IsFollowRefused, IsFollowReport, IsFollowable}
 use Rattle.handler_reports.specs.FollowVisits.{AreFollowable, AreNotFollowed, IsFollowVisitsReport}
-use Rattle.handler_reports.specs.GraphReport.{IsGraphReport}
 use Rattle.handler_reports.specs.Verdict.{IsVerdictReport}
 use Rattle.handler_reports.specs.VisitsReport.{AreAccepted, AreRefused, IsVisitsReport}
 use Rattle.command_line.specs.Rows.{asked_of}
-use Rattle.response_reports.specs.RespondReport.{HasResponse, IsRespondRefused, IsRespondReport}
+use Rattle.response_reports.specs.RespondReport.{IsAnswerable, IsRespondRefused, IsRespondReport}
 use Rattle.arcwcet.specs.Kept.{inputs_lent}
-use Rattle.arcwcet.specs.Reports.{answered, bursts_of, fiq_source_in, judged, question_in, rate_of, report_by, version_report}
+use Rattle.arcwcet.specs.Reports.{answered, bursts_of, fiq_source_in, form_of, judged, question_in, rate_of, report_by, version_report}
 use Rattle.arcwcet.proofs.RunLemmas.{answered_judged, answered_unpriced_report, answered_yes, same_answer}
 use Rattle.arcwcet.proofs.reports.print.Goals as goal
 
@@ -69,7 +68,7 @@ returns-in-Respond g c =
     let i = inputs_lent c.args.job.inputs in
     let q = question_in (asked_of c.args.job.request.now) i in
     rw (c.in-Respond.is)
-    (answered_judged g.O.Output.taken g.O.Output.failures c.args.out.now c.print_response.new.out i.profile (IsRespondReport q) (HasResponse q) (IsRespondRefused q)
+    (answered_judged g.O.Output.taken g.O.Output.failures c.args.out.now c.print_response.new.out i.profile (IsRespondReport q) (IsAnswerable q) (IsRespondRefused q)
     (fault_only c.print_response.result) c.print_response.ensures)
 
 pub returns-in-Run : goal.returns-in-Run
@@ -125,7 +124,7 @@ unfolding report_by
 returns-in-Explain g c =
     let i = inputs_lent c.args.job.inputs in
     rw (c.in-Explain.is)
-    (answered_judged g.O.Output.taken g.O.Output.failures c.args.out.now c.print_explanation.new.out i.profile (IsExplainReport i.source i.second c.args.job.request.now.numbers.at_most (bursts_of c.args.job.request.now.numbers) c.args.job.request.now.each) (IsAccepted i.source i.second) (IsRefused i.source i.second)
+    (answered_judged g.O.Output.taken g.O.Output.failures c.args.out.now c.print_explanation.new.out i.profile (IsExplainReport i.source i.second c.args.job.request.now.numbers.at_most (bursts_of c.args.job.request.now.numbers) (form_of (asked_of c.args.job.request.now)) c.args.job.request.now.each) (IsAccepted i.source i.second) (IsRefused i.source i.second)
     (fault_only c.print_explanation.result) c.print_explanation.ensures)
 
 pub returns-in-Verdict : goal.returns-in-Verdict
@@ -165,7 +164,5 @@ returns-in-FollowVisits g c =
 pub returns-in-Graph : goal.returns-in-Graph
 unfolding report_by
 returns-in-Graph g c =
-    let i = inputs_lent c.args.job.inputs in
     rw (c.in-Graph.is)
-    (answered_yes g.O.Output.taken g.O.Output.failures c.args.out.now c.graph_report.new.out i.profile (IsGraphReport i.source i.second) (IsAccepted i.source i.second) (IsRefused i.source i.second)
-    (fault_only c.graph_report.result) c.graph_report.ensures.answers (fault_only c.answered-in-Graph.result) c.answered-in-Graph.ensures)
+    c.print_drawing.ensures

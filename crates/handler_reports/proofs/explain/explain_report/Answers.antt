@@ -25,7 +25,7 @@ returns-clause-answers g c =
     let x = c.args.explained in
     let profile = c.in_ok-profile.profile in
     let bound = c.in_ok-found.found.bound in
-    let explains = subst (IsFullExplanation x.source.now x.statement.now x.bursts x.each profile bound) (sym c.deref.ensures.value) c.in_ok-found.ensures.explains in
+    let explains = subst (IsFullExplanation x.source.now x.statement.now x.bursts x.form x.each profile bound) (sym c.deref.ensures.value) c.in_ok-found.ensures.explains in
     by_profile profile c.in_ok-profile.ensures.is
     (ends_told _ _ _ _ _ c.args.out.now c.print_or_refuse.new.out c.is_enough.result c.deref.result.now c.print_or_refuse.result
     (record { bound = bound; explains = explains; answer_is = c.is_enough.ensures }) explains.explains.bounded.accepted tt c.print_or_refuse.ensures.printed c.print_or_refuse.ensures.device)

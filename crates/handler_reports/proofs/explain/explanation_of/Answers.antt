@@ -1,5 +1,6 @@
 use Rattle.std.proofs.Common.{subst, sym}
-use Rattle.text_explained.specs.Starts.{latest_at}
+use Rattle.text_explained.specs.Costing.{first_of}
+use Rattle.text_explained.specs.Table.{starts_of}
 use Rattle.text_explained.specs.Taken.{AreOnWords}
 use Rattle.image.specs.Image.{Words}
 use Rattle.image.specs.Labels.{address_of}
@@ -15,12 +16,12 @@ use Rattle.handler_reports.proofs.explain.explanation_of.Goals as goal
 
 pub returns-in_err-found-clause-fault : goal.returns-in_err-found-clause-fault
 returns-in_err-found-clause-fault c = λ source statement loops.
-    refused_as c.from_residual.result c.in_err-found.field-0.0 (BeforeOutput (IsRefused source statement c.args.profile.now)) c.from_residual.ensures.1
-    (c.in_err-found.ensures.fault source statement c.args.profile.now loops)
+    refused_as c.from_residual.result c.in_err-found.field-0.0 (BeforeOutput (IsRefused source statement c.args.means.profile.now)) c.from_residual.ensures.1
+    (c.in_err-found.ensures.fault source statement c.args.means.profile.now loops)
 
 pub returns-in_err-starts-clause-fault : goal.returns-in_err-starts-clause-fault
 returns-in_err-starts-clause-fault c = λ source statement loops.
-    let profile = c.args.profile.now in
+    let profile = c.args.means.profile.now in
     let h = c.args.handler.now in
     let f = c.in_err-starts.field-0.0 in
     refused_as c.from_residual-in_err-starts.result (of_walk f) (BeforeOutput (IsRefused source statement profile)) c.from_residual-in_err-starts.ensures.1
@@ -28,7 +29,7 @@ returns-in_err-starts-clause-fault c = λ source statement loops.
 
 pub returns-clause-explains : goal.returns-clause-explains
 returns-clause-explains c = λ source statement is_read loops.
-    let profile = c.args.profile.now in
+    let profile = c.args.means.profile.now in
     let read = c.args.read.now in
     let h = c.args.handler.now in
     let found = c.in_ok-found.found in
@@ -42,5 +43,5 @@ returns-clause-explains c = λ source statement is_read loops.
     c.totals_are_the_bound.ensures h.graph h.tree found.bound found.walk read.image read.text formed walk fits (c.places_are_listed_once.ensures.source source read h.graph formed is_read on) in
     let starts = subst (AreWorstStarts h.graph h.tree) (sym c.deref.ensures.value) c.in_ok-starts.ensures.starts in
     explained source statement profile read is_read h.statement h.graph h.tree loops c.requires.tree c.run_law.ensures formed
-    c.args.bursts found (latest_at h.graph.places c.deref.result.now) c.in_ok-text.text.items c.in_ok-found.ensures.longest
+    c.args.means.bursts c.args.means.form found (starts_of h.graph.places c.deref.result.now (first_of c.args.means.first)) c.requires.first c.in_ok-text.text.items c.in_ok-found.ensures.longest
     (λ a. c.latest_starts_are_of_walks.ensures h.graph h.tree c.deref.result.now a formed starts) c.in_ok-found.ensures.allowed c.in_ok-text.ensures total

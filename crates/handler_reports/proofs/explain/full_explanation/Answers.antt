@@ -15,13 +15,13 @@ returns-then-not-explained-clause-explains c = λ source statement is loops.
     let x = c.args.explained in
     let profile = c.args.profile.now in
     let found = c.in_ok-found.found in
-    subst (λ (b : Bool). IsFullExplanation source statement x.bursts b profile found.bound found.text.items) (sym c.if-not-explained.true)
-    (full_without source statement x.bursts profile found.bound found.text.items (c.in_ok-found.ensures.explains source statement is loops))
+    subst (λ (b : Bool). IsFullExplanation source statement x.bursts x.form b profile found.bound found.text.items) (sym c.if-not-explained.true)
+    (full_without source statement x.bursts x.form profile found.bound found.text.items (c.in_ok-found.ensures.explains source statement is loops))
 
 pub returns-clause-explains : goal.returns-clause-explains
 returns-clause-explains c = λ source statement is loops.
     let x = c.args.explained in
     let profile = c.args.profile.now in
     let found = c.in_ok-with_each.field-0 in
-    subst (λ (b : Bool). IsFullExplanation source statement x.bursts b profile found.bound found.text.items) (sym c.if-not-explained.false)
-    (c.in_ok-with_each.ensures source statement c.args.handler.now.graph x.bursts is loops.graph (c.in_ok-found.ensures.explains source statement is loops))
+    subst (λ (b : Bool). IsFullExplanation source statement x.bursts x.form b profile found.bound found.text.items) (sym c.if-not-explained.false)
+    (c.in_ok-with_each.ensures source statement c.args.handler.now.graph x.bursts x.form is loops.graph (c.in_ok-found.ensures.explains source statement is loops))

@@ -1,10 +1,7 @@
-use Rattle.std.proofs.Common.{List, Vec, ℕ, subst, sym}
-use Rattle.std.specs.Global.{Global}
 use Rattle.handlers.specs.Report.{BeforeOutput, IsRefused}
 use Rattle.handler_reports.proofs.ExplainLemmas.{bound_fits}
 use Rattle.handler_reports.proofs.GraphLemmas.{drawn}
 use Rattle.handlers.proofs.HandlerLemmas.{refused_as}
-use Rattle.text_graph.specs.Labels.{AreLabels}
 use Rattle.handler_reports.proofs.graph.drawing_of.Goals as goal
 
 pub returns-in_err-found-clause-fault : goal.returns-in_err-found-clause-fault
@@ -20,7 +17,6 @@ returns-clause-draws c = λ source statement profile is_read loops.
     let is = c.in_ok-found.ensures.longest in
     let d = c.in_ok-text.ensures in
     drawn source statement profile read is_read h.statement h.graph h.tree loops c.requires
-    found c.deref.result.now c.in_ok-text.text.items is c.in_ok-found.ensures.allowed
-    (subst (λ (ls : List (Vec ℕ Global)). AreLabels read h.graph.places ls) (sym c.deref.ensures.value) c.in_ok-labels.ensures)
+    found c.args.extent c.in_ok-text.text.items is c.in_ok-found.ensures.allowed
     (c.places_are_drawn_once.ensures.places h.graph h.tree c.graphs_are_well_formed.ensures c.requires.tree_is) (c.places_are_drawn_once.ensures.edges h.graph h.tree c.graphs_are_well_formed.ensures c.requires.tree_is) d
     (c.node_ticks_are_the_bound.ensures h.graph h.tree found.bound found.walk d.counts c.graphs_are_well_formed.ensures c.requires.tree_is is.walk_is (bound_fits h.graph h.tree found is) d.are_counts)

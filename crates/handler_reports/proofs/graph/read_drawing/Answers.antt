@@ -6,11 +6,11 @@ use Rattle.handler_reports.proofs.graph.read_drawing.Goals as goal
 pub returns-clause-draws : goal.returns-clause-draws
 returns-clause-draws c =
     let said = c.in_ok-said.said in
-    told_ok said c.source_drawing-drawn.result c.with_source.result c.with_source.ensures _
-    (c.source_drawing-drawn.ensures.draws c.args.source.now c.in_ok-said.ensures.is)
+    told_ok said c.source_drawing-text.result c.with_source.result c.with_source.ensures _
+    (c.source_drawing-text.ensures.draws c.args.drawn.source.now c.in_ok-said.ensures.is)
 
 pub returns-clause-carries : goal.returns-clause-carries
 returns-clause-carries c =
     let said = c.in_ok-said.said in
-    told_carries said c.source_drawing-drawn.result c.with_source.result c.with_source.ensures c.args.source.now (c.args.statement.now ∷ []) c.args.profile.now c.in_ok-said.ensures.is
-    (IfErr-weaker c.source_drawing-drawn.result _ _ (first_carries said c.args.statement.now c.args.profile.now c.args.source.now []) c.source_drawing-drawn.ensures.carries)
+    told_carries said c.source_drawing-text.result c.with_source.result c.with_source.ensures c.args.drawn.source.now (c.args.drawn.statement.now ∷ []) c.args.profile.now c.in_ok-said.ensures.is
+    (IfErr-weaker c.source_drawing-text.result _ _ (first_carries said c.args.drawn.statement.now c.args.profile.now c.args.drawn.source.now []) c.source_drawing-text.ensures.carries)

@@ -1,8 +1,8 @@
 use Rattle.handlers.specs.Refusal.{CarriesReadOf, refusal_fault}
 use Rattle.handlers.specs.Report.{BeforeOutput}
+use Rattle.handlers.proofs.ApartLemmas.{fault_of, placed_err, placed_ok}
 use Rattle.handler_reports.specs.Bound.{given}
 use Rattle.handler_reports.specs.VisitsReport.{AreRefused, parts_of}
-use Rattle.handler_reports.proofs.VisitsReportLemmas.{fault_of, placed_err, placed_ok}
 use Rattle.handler_reports.proofs.visits.read_visits.Goals as goal
 
 pub returns-clause-report : goal.returns-clause-report

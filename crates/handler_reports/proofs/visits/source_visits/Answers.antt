@@ -1,14 +1,14 @@
 use Rattle.std.proofs.Common.{◌∷◌, [], inl, inr}
-use Rattle.bus_ticks.specs.Worst.{fiq_entry}
 use Rattle.handlers.specs.Refusal.{CarriesReadOf, refusal_fault}
 use Rattle.handlers.specs.Report.{BeforeOutput}
 use Rattle.handlers.specs.declared.refusal.Stop.TheVariants.{Alone}
 use Rattle.handlers.proofs.HandlerLemmas.{refused_as}
 use Rattle.handlers.proofs.RefusalLemmas.{then_of}
 use Rattle.handler_reports.specs.Bound.{given}
-use Rattle.handler_reports.specs.VisitsReport.{AreRefused, fiq_bytes, parts_of}
-use Rattle.handler_reports.specs.VisitStops.{refusal_on}
-use Rattle.handler_reports.specs.declared.visits.VisitStop.TheVariants.{OnRead}
+use Rattle.handlers.specs.FiqHandler.{fiq_bytes}
+use Rattle.handlers.specs.VisitStops.{refusal_on}
+use Rattle.handlers.specs.declared.apart.VisitStop.TheVariants.{OnRead}
+use Rattle.handler_reports.specs.VisitsReport.{AreRefused, parts_of}
 use Rattle.handler_reports.proofs.VisitsReportLemmas.{joined_alone, joined_refusal, visits_reported}
 use Rattle.handler_reports.proofs.visits.source_visits.Goals as goal
 
@@ -66,7 +66,7 @@ returns-in_err-joined_text-clause-carries c = λ source is.
     refused_as c.from_residual-in_err-joined_text.result (OnRead (Alone e))
     (λ v. CarriesReadOf (parts_of source (given asked.fiq_source) asked.irq.now asked.fiq.now) c.args.profile.now (refusal_on c.args.said.now v))
     c.from_residual-in_err-joined_text.ensures.1
-    (inl (is, joined_alone asked.rate c.in_ok-irq.irq.bound c.in_ok-fiq.fiq.bound (fiq_entry c.args.profile.now) e c.in_err-joined_text.ensures.fault))
+    (inl (is, joined_alone asked.rate c.args.profile.now c.in_ok-irq.irq.bound c.in_ok-fiq.fiq.bound e c.in_err-joined_text.ensures.fault))
 
 pub returns-clause-report : goal.returns-clause-report
 returns-clause-report c = λ source is.

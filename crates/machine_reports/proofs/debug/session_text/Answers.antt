@@ -1,20 +1,15 @@
-use Rattle.std.proofs.Common.{◌≡◌, ℕ, refl, subst}
-use Rattle.asm_text.specs.Source.{lines_of}
-use Rattle.debugger.specs.Conversation.{Converses}
-use Rattle.debugger.specs.SessionState.{begun}
-use Rattle.handlers.specs.declared.fault.ReportFault.TheVariants.{Memory}
-use Rattle.handlers.proofs.HandlerLemmas.{refused_as}
+use Rattle.std.proofs.lemmas.Result.{IfErr-weaker}
+use Rattle.handlers.proofs.PlacingLemmas.{runnable_memory}
 use Rattle.machine_reports.proofs.debug.session_text.Goals as goal
 
-pub returns-in_err-text-clause-only : goal.returns-in_err-text-clause-only
-returns-in_err-text-clause-only c = λ able. refused_as c.from_residual-in_err-text.result Memory (λ e. e ≡ Memory) c.from_residual-in_err-text.ensures.1 refl
-
-pub returns-clause-session : goal.returns-clause-session
-returns-clause-session c =
-    let placed = c.in_ok-placed.placed in
+pub returns : goal.returns
+returns c =
+    let i = c.args.inputs in
+    let said = c.in_ok-said.ensures.is.said in
     record {
-      file = placed.file;
-      state = placed.machine;
-      placed = c.in_ok-placed.ensures.placed;
-      converses = subst (λ (port : ℕ). Converses (begun placed.machine port) (lines_of c.args.inputs.commands.now) c.in_ok-text.text.items) c.port-port.ensures c.in_ok-text.ensures.ok;
+      session = c.converse_on.ensures.session said;
+      fault = c.converse_on.ensures.fault said;
+      only = λ able. IfErr-weaker c.converse_on.result _ _
+          (λ e h. runnable_memory i.source.now i.machine.now c.args.profile e h able)
+          (c.converse_on.ensures.fault said);
     }

@@ -1,12 +1,23 @@
-use Rattle.handlers.proofs.RefusalLemmas.{told_carries, told_err}
-use Rattle.response_reports.specs.Question.{question_of, statements_of}
+use Rattle.handlers.specs.Refusal.{CarriesReadOf, refusal_fault}
+use Rattle.handlers.specs.Report.{BeforeOutput}
+use Rattle.handlers.proofs.ApartLemmas.{fault_of, placed_err, placed_ok}
+use Rattle.response_reports.specs.Question.{parts_asked, question_of}
+use Rattle.response_reports.specs.RespondReport.{IsRespondRefused}
 use Rattle.response_reports.proofs.respond.read_response.Goals as goal
 
-pub returns-clause-fault : goal.returns-clause-fault
-returns-clause-fault c =
-    told_err c.in_ok-said.said c.source_response-answer.result c.with_source.result c.with_source.ensures _ c.source_response-answer.ensures.fault
+pub returns-clause-report : goal.returns-clause-report
+returns-clause-report c =
+    placed_ok c.in_ok-said.said c.source_response-answer.result c.refused_on.result c.refused_on.ensures _ c.source_response-answer.ensures.report
 
 pub returns-clause-carries : goal.returns-clause-carries
 returns-clause-carries c =
-    told_carries c.in_ok-said.said c.source_response-answer.result c.with_source.result c.with_source.ensures c.args.asked.source.now (statements_of (question_of c.args.asked)) c.args.profile.now
-    c.in_ok-said.ensures.is c.source_response-answer.ensures.carries
+    placed_err c.in_ok-said.said c.source_response-answer.result c.refused_on.result c.refused_on.ensures
+    (CarriesReadOf (parts_asked (question_of c.args.asked)) c.args.profile.now)
+    (c.source_response-answer.ensures.carries c.in_ok-said.ensures.is)
+
+pub returns-clause-fault : goal.returns-clause-fault
+returns-clause-fault c =
+    let refused = BeforeOutput (IsRespondRefused (question_of c.args.asked) c.args.profile.now) in
+    fault_of c.refused_on.result refused
+    (placed_err c.in_ok-said.said c.source_response-answer.result c.refused_on.result c.refused_on.ensures (λ e. refused (refusal_fault e))
+    c.source_response-answer.ensures.fault)

@@ -1,10 +1,10 @@
 use Rattle.std.proofs.Common.{option_map, subst, sym}
 use Rattle.handlers.proofs.PricedLemmas.{by_profile}
-use Rattle.handlers.proofs.RefusalLemmas.{device_carries, ends_refused, ends_told, profile_carries}
-use Rattle.handlers.specs.Refusal.{fault_only}
-use Rattle.response_reports.specs.Question.{question_of, statements_of}
+use Rattle.handlers.proofs.RefusalLemmas.{device_by, ends_refused, ends_told, refused_by}
+use Rattle.handlers.specs.Refusal.{CarriesReadOf, fault_only}
+use Rattle.response_reports.specs.Question.{parts_asked, question_of}
 use Rattle.response_reports.specs.RespondReport.{IsRespondReport}
-use Rattle.response_reports.proofs.RespondLemmas.{device_refused, only_memory_or_device}
+use Rattle.response_reports.proofs.RespondLemmas.{answerable, device_refused, only_memory_or_device}
 use Rattle.response_reports.proofs.respond.respond_report.Goals as goal
 
 pub returns-in_err-answer-clause-answers : goal.returns-in_err-answer-clause-answers
@@ -17,7 +17,7 @@ returns-in_err-answer-clause-answers g c =
 
 pub returns-in_err-answer-clause-carries : goal.returns-in_err-answer-clause-carries
 returns-in_err-answer-clause-carries g c =
-    profile_carries (option_map (λ f. f.now) c.args.profile) c.args.asked.source.now (statements_of (question_of c.args.asked)) c.from_residual-in_err-answer.result c.in_ok-profile.profile c.in_ok-profile.ensures.is
+    refused_by (option_map (λ f. f.now) c.args.profile) (CarriesReadOf (parts_asked (question_of c.args.asked))) c.from_residual-in_err-answer.result c.in_ok-profile.profile c.in_ok-profile.ensures.is
     c.in_err-answer.field-0.0 c.from_residual-in_err-answer.ensures.1 c.in_err-answer.ensures.carries
 
 pub returns-clause-answers : goal.returns-clause-answers
@@ -28,8 +28,8 @@ returns-clause-answers g c =
     let report = subst (IsRespondReport q profile within) (sym c.deref.ensures.value) c.in_ok-answer.ensures.report in
     by_profile profile c.in_ok-profile.ensures.is
     (ends_told _ _ _ _ _ c.args.out.now c.print_or_refuse.new.out within c.deref.result.now c.print_or_refuse.result
-    report report.has (device_refused q profile) c.print_or_refuse.ensures.printed c.print_or_refuse.ensures.device)
+    report (answerable q profile within c.deref.result.now report) (device_refused q profile) c.print_or_refuse.ensures.printed c.print_or_refuse.ensures.device)
 
 pub returns-clause-carries : goal.returns-clause-carries
 returns-clause-carries g c =
-    device_carries (option_map (λ f. f.now) c.args.profile) c.args.asked.source.now (statements_of (question_of c.args.asked)) c.print_or_refuse.result c.in_ok-profile.profile c.in_ok-profile.ensures.is _ c.print_or_refuse.ensures.device
+    device_by (option_map (λ f. f.now) c.args.profile) (CarriesReadOf (parts_asked (question_of c.args.asked))) c.print_or_refuse.result c.in_ok-profile.profile c.in_ok-profile.ensures.is _ tt c.print_or_refuse.ensures.device

@@ -14,7 +14,7 @@ returns-in_err-reached-clause-fault c =
     let profile = c.args.profile.now in
     let s = c.in_err-reached.field-0.0 in
     refused_as c.from_residual.result s (λ s. BeforeOutput (IsRespondRefused q profile) (stop_fault s)) c.from_residual.ensures.1
-    (reach_refused q profile (stop_fault s) (c.in_err-reached.ensures.fault q c.requires refl refl))
+    (reach_refused q profile (stop_fault s) c.in_err-reached.ensures.fault)
 
 pub returns-in_err-reached-clause-carries : goal.returns-in_err-reached-clause-carries
 returns-in_err-reached-clause-carries c =
@@ -27,7 +27,7 @@ returns-in_err-stretches-clause-fault c =
     let q = question_of c.args.asked in
     let profile = c.args.profile.now in
     let s = c.in_err-stretches.field-0.0 in
-    let reached = c.in_ok-reached.ensures.reached q c.requires refl refl in
+    let reached = c.in_ok-reached.ensures.reached in
     refused_as c.from_residual-in_err-stretches.result s (λ s. BeforeOutput (IsRespondRefused q profile) (stop_fault s)) c.from_residual-in_err-stretches.ensures.1
     (stretch_refused q profile reached.is (stop_fault s) (c.in_err-stretches.ensures.fault q.source c.requires))
 
@@ -36,7 +36,7 @@ returns-in_err-stretches-clause-carries c =
     let q = question_of c.args.asked in
     let profile = c.args.profile.now in
     let s = c.in_err-stretches.field-0.0 in
-    let reached = c.in_ok-reached.ensures.reached q c.requires refl refl in
+    let reached = c.in_ok-reached.ensures.reached in
     refused_as c.from_residual-in_err-stretches.result s (CarriesOneOf q.source c.args.said.now (statements_of q) profile) c.from_residual-in_err-stretches.ensures.1
     (later_carries q profile c.args.said.now reached.is s (c.in_err-stretches.ensures.carries q.source c.requires))
 
@@ -45,11 +45,11 @@ returns-in_default-clause-fault c =
     let q = question_of c.args.asked in
     let profile = c.args.profile.now in
     too_long q profile
-    (masked_too_long q profile c.in_ok-reached.reached (c.in_ok-reached.ensures.reached q c.requires refl refl) c.in_ok-stretches.stretches (c.in_ok-stretches.ensures.add_up q.source c.requires)
+    (masked_too_long q profile c.in_ok-reached.reached c.in_ok-reached.ensures.reached c.in_ok-stretches.stretches (c.in_ok-stretches.ensures.add_up q.source c.requires)
     c.in_default.ensures)
 
 pub returns-clause-parts : goal.returns-clause-parts
 returns-clause-parts c =
     let q = question_of c.args.asked in
-    made q c.args.profile.now c.in_ok-reached.reached (c.in_ok-reached.ensures.reached q c.requires refl refl) c.in_ok-stretches.stretches (c.in_ok-stretches.ensures.add_up q.source c.requires)
+    made q c.args.profile.now c.in_ok-reached.reached c.in_ok-reached.ensures.reached c.in_ok-stretches.stretches (c.in_ok-stretches.ensures.add_up q.source c.requires)
     c.unwrap_or.result c.in-Some.masked (sym (c.unwrap_or.ensures ∙ ap (λ (n : ℕ). unwrap_or q.longest n) (c.from-most.ensures ∙ c.longest_step.ensures.number))) (sym c.in-Some.ensures)

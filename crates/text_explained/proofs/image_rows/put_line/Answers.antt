@@ -15,6 +15,6 @@ returns c =
     let address = c.in_ok-put.ensures ∙ ap (λ digits. columns ++ in_column Address digits) c.hex8.ensures in
     let used : c.len.result - c.len-begun.result ≡ length mid.items - length old.items = omega (arith, c.len.ensures, c.len-begun.ensures, mid.ok, old.ok) in
     on_ok_weaker c.put_cut_row.result
-    (counted_row old.items (figures_text c.args.figures) (in_column Address (hex8 c.args.at)) (gap_text Text) c.args.line.now columns c.put.new.out.items mid.items
+    (counted_row old.items (figures_text c.args.has_first c.args.figures) (in_column Address (hex8 c.args.at)) (gap_text Text) c.args.line.now columns c.put.new.out.items mid.items
     c.put_cut_row.new.out.items (c.len.result - c.len-begun.result) c.in_ok-put_figures.ensures address c.in_ok-put_gap.ensures used)
     c.put_cut_row.ensures

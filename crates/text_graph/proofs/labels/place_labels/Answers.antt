@@ -12,7 +12,7 @@ loop-place-preserved c =
     let label = c.in_ok-label_by.field-0 in
     let same = c.places-place-items.ensures.value in
     let here : IsLabel source c.address.result label.items =
-    subst (λ (line : Option Numbered). IsLabelBy line source.image source.text c.address.result label.items) (c.in_ok-lines.ensures.each c.address.result) c.in_ok-label_by.ensures in
+    subst (λ (line : Option Numbered). IsLabelBy line source.image source.text c.address.result label.items) (c.requires.each c.address.result) c.in_ok-label_by.ensures in
     subst (λ (ps : List Place). AreLabels source (take (i + 1) ps) c.push.new.self.items) same
     (labels_more source c.places-place-items.result.now i c.place-item.result c.loop-place.labels.items c.push.new.self.items label
     (subst (λ (ps : List Place). AreLabels source (take i ps) c.loop-place.labels.items) (sym same) c.loop-place.invariant)

@@ -5,7 +5,8 @@ use Rattle.asm_text.specs.Hex.{hex8}
 use Rattle.control_flow.specs.Places.{place_address}
 use Rattle.loop_bounds.specs.Tree.{place_in}
 use Rattle.text_rows.proofs.ColumnLaws.{four_parts}
-use Rattle.text_graph.specs.Text.{escaped, label_of}
+use Rattle.text_graph.specs.Pieces.{escaped}
+use Rattle.text_graph.specs.Text.{label_of}
 use Rattle.text_graph.proofs.nodes.put_row.Goals as goal
 
 pub returns : goal.returns

@@ -1,5 +1,5 @@
 use Rattle.std.proofs.Common.{◌++◌}
-use Rattle.text_graph.specs.Text.{escape, escaped}
+use Rattle.text_graph.specs.Pieces.{escape, escaped}
 use Rattle.text_rows.proofs.ColumnLaws.{item_more}
 use Rattle.text_graph.proofs.DrawLaws.{items_end}
 use Rattle.text_graph.proofs.pieces.put_escaped.Goals as goal

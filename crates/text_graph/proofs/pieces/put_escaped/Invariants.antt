@@ -1,5 +1,5 @@
 use Rattle.std.proofs.Common.{◌≡◌, ◌++◌, drop, flat_map}
-use Rattle.text_graph.specs.Text.{escape, escaped}
+use Rattle.text_graph.specs.Pieces.{escape, escaped}
 use Rattle.text_graph.proofs.pieces.put_escaped.Given as goal
 
 abbrev pub invariant-loop-byte : goal.invariant-loop-byte

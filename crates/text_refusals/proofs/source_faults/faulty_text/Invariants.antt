@@ -4,4 +4,4 @@ use Rattle.text_rows.proofs.RowLaws.{SoFar}
 use Rattle.text_refusals.proofs.source_faults.faulty_text.Given as goal
 
 abbrev pub invariant-loop-line : goal.invariant-loop-line
-invariant-loop-line l = SoFar IsFaultyRow l.lines l.line-index [] l.out.items
+invariant-loop-line l = SoFar (IsFaultyRow l.source) l.lines l.line-index [] l.out.items

@@ -1,0 +1,2 @@
+ ORG &1C
+fiq SUBS PC,R14,#4

@@ -1,0 +1,3 @@
+ ORG &1C
+fiq SUBS PC,R14,#4
+ FROB

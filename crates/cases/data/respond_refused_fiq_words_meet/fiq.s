@@ -1,0 +1,4 @@
+ ORG &1C
+fiq SUBS PC,R14,#4
+ ORG &8008
+ DCD 0,0

@@ -1,0 +1,8 @@
+mod HeldLemmas
+mod TurnLemmas
+mod OrderLemmas
+mod CountLemmas
+mod StretchLemmas
+mod NoteLemmas
+mod ShownLemmas
+mod MarkLemmas
