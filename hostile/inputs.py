@@ -73,8 +73,10 @@ class Explains:
         table = outcome.out.partition(b"\n\n")[0].rstrip(b"\n") + b"\n"
         ticks = re.findall(rb"^ *\d+ +\d+(?:-\d+)? +(\d+) +\d+\.\d% ", table, re.M)
         microseconds = f"{number // 8}.{number % 8 * 125:03}"
-        end = f"       total {number:6} 100.0%\nbound {number} ticks, {microseconds} microseconds at 8 MHz\n"
-        is_right = not outcome.status and table.endswith(end.encode()) and sum(map(int, ticks)) == number
+        total = re.search(rb"^ *total +(\d+) +100\.0%$", table, re.M)
+        end = f"bound {number} ticks, {microseconds} microseconds at 8 MHz\n"
+        is_right = not outcome.status and total and int(total[1]) == sum(map(int, ticks)) == number
+        is_right = is_right and table.endswith(end.encode())
         return None if is_right and not outcome.err else f"{outcome}, where the bound is {number}"
 
 

@@ -1,7 +1,7 @@
 //! What the reports say of bytes as one of their inputs.
 
 use arcwcet::{
-    Bursts, Explained, MemoryOutput, ReportFault, TableForm, asm_report, bound_report,
+    Bursts, Explained, MemoryOutput, ReportFault, RowForm, TableForm, asm_report, bound_report,
     check_report, draft_report, explain_report, fault_only, list_report, run_report,
 };
 use samples::countdown::{SOURCE, STATEMENT};
@@ -35,7 +35,14 @@ fn explained(alloc: Global, statement: &[u8], out: &mut MemoryOutput) -> Result<
             count: None,
             every: None,
         },
-        form: TableForm { first: false },
+        form: TableForm {
+            first: false,
+            rows: RowForm {
+                all: false,
+                top: None,
+                width: 80,
+            },
+        },
         each: false,
     };
     fault_only(explain_report(alloc, explained, None, out))

@@ -2,9 +2,9 @@
 
 use arcwcet::{
     AskedResponse, Bursts, DrawnHandler, Explained, Extent, MemoryOutput, Output, ReportFault,
-    TableForm, VisitRate, VisitedHandler, asm_report, bound_report, check_report, debug_report,
-    draft_on_report, draft_report, explain_report, fault_only, graph_report, list_report,
-    respond_report, run_report, tight_report, trace_report, visits_report,
+    RowForm, TableForm, VisitRate, VisitedHandler, asm_report, bound_report, check_report,
+    debug_report, draft_on_report, draft_report, explain_report, fault_only, graph_report,
+    list_report, respond_report, run_report, tight_report, trace_report, visits_report,
 };
 use samples::lone_return::{CERTIFICATE, SOURCE, STATEMENT};
 use std::alloc::{AllocError, Global};
@@ -29,7 +29,14 @@ const EXPLAINED: Explained<'static> = Explained {
         count: None,
         every: None,
     },
-    form: TableForm { first: false },
+    form: TableForm {
+        first: false,
+        rows: RowForm {
+            all: false,
+            top: None,
+            width: 80,
+        },
+    },
     each: false,
 };
 
@@ -64,9 +71,9 @@ const VISITED: VisitedHandler<'static> = VisitedHandler {
 // What `visits` prints above both certificates.
 const SUMMARY: &[u8] = b"arcwcet visits\nvisits 1\nirq 9\nfiq 9\nentry 8\ntotal 26\n";
 
-const TABLE: &[u8] = b"passes  each  ticks  share latest priced as line  text
-     1     9      9 100.0%      0     > any    2   SUBS PC,R14,#4
-       total      9 100.0%
+const TABLE: &[u8] = b"passes each ticks  share latest priced as address line  text
+     1    9     9 100.0%      0     > any      1C    2   SUBS PC,R14,#4
+      total     9 100.0%
 bound 9 ticks, 1.125 microseconds at 8 MHz
 
 The longest step, 9 ticks:

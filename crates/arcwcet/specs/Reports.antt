@@ -18,17 +18,17 @@ use Rattle.source_reports.specs.DraftReport.{IsDraftRefused, IsDraftReport}
 use Rattle.source_reports.specs.ListReport.{IsListReport}
 use Rattle.machine_reports.specs.Debug.{IsDebugReport}
 use Rattle.machine_reports.specs.Machine.{IsMachineReport, ShowsRegisters, ShowsSteps}
-use Rattle.handler_reports.specs.Check.{IsAnswer, IsCheckRefused}
-use Rattle.handler_reports.specs.ExplainReport.{IsExplainReport}
-use Rattle.handler_reports.specs.FollowReport.{IsFollowRefused, IsFollowReport}
-use Rattle.handler_reports.specs.FollowVisits.{AreNotFollowed, IsFollowVisitsReport}
-use Rattle.handler_reports.specs.GraphReport.{IsGraphReport}
-use Rattle.handler_reports.specs.TightReport.{IsTightRefused, IsTightReport}
-use Rattle.handler_reports.specs.Verdict.{IsVerdictReport}
-use Rattle.handler_reports.specs.VisitsReport.{AreRefused, IsVisitsReport}
-use Rattle.handler_reports.specs.declared.explain.TableForm.{TableForm}
-use Rattle.handler_reports.specs.declared.visit_rate.VisitRate.{VisitRate}
-use Rattle.handler_reports.specs.declared.visit_rate.VisitRate.TheVariants.{Times, Every}
+use Rattle.bound_reports.specs.TightReport.{IsTightRefused, IsTightReport}
+use Rattle.bound_reports.specs.VisitsReport.{AreRefused, IsVisitsReport}
+use Rattle.bound_reports.specs.declared.visit_rate.VisitRate.{VisitRate}
+use Rattle.bound_reports.specs.declared.visit_rate.VisitRate.TheVariants.{Times, Every}
+use Rattle.explain_reports.specs.Check.{IsAnswer, IsCheckRefused}
+use Rattle.explain_reports.specs.ExplainReport.{IsExplainReport}
+use Rattle.explain_reports.specs.GraphReport.{IsGraphReport}
+use Rattle.explain_reports.specs.Verdict.{IsVerdictReport}
+use Rattle.explain_reports.specs.declared.explain.TableForm.{TableForm}
+use Rattle.follow_reports.specs.FollowReport.{IsFollowRefused, IsFollowReport}
+use Rattle.follow_reports.specs.FollowVisits.{AreNotFollowed, IsFollowVisitsReport}
 use Rattle.response_reports.specs.Question.{FiqQuestion, Question}
 use Rattle.response_reports.specs.RespondReport.{IsRespondRefused, IsRespondReport}
 use Rattle.command_line.specs.Line.{Asked}
@@ -69,7 +69,15 @@ bursts_of n = record { count = n.bursts; every = n.burst_every }
 
 -- how `explain` prints its table
 abbrev pub form_of : Asked → TableForm
-form_of asked = record { first = asked.first }
+form_of asked =
+    record {
+      first = asked.first;
+      rows = record {
+        all = asked.all;
+        top = asked.numbers.top;
+        width = unwrap_or asked.numbers.width 80;
+      };
+    }
 
 -- how much `graph` draws
 abbrev pub extent_of : Bool → Extent
@@ -79,7 +87,7 @@ extent_of path = if path then Path else Whole
 abbrev pub rate_of : CommandNumbers → VisitRate
 rate_of n = option_map_or (λ every. Every every n.waited) n.every (Times (unwrap_or n.visits 0))
 
--- the source of FIQ's handler, where it is another one
+-- the source of FIQ's handler of `visits`, where it is another one
 abbrev pub fiq_source_in : Inputs → Option (List ℕ)
 fiq_source_in i = slice_get i.rest 1
 

@@ -11,16 +11,19 @@ mod law;
 mod reports;
 mod status;
 
+pub use bound_reports::{
+    AskedEdge, VisitRate, VisitedHandler, bound_report, print_bound, print_tight, tight_report,
+    visits_report,
+};
 pub use commands::program;
 pub use diagnose::{RefusedFiles, reasons};
+pub use explain_reports::{
+    CheckInputs, DrawnHandler, Explained, Extent, TableForm, certificates_are_accepted,
+    check_report, explain_report, graph_report, print_check, verdict_report,
+};
 pub use fault::{FileFault, StoreFault};
 pub use files::{HostStore, MOST_INPUT_BYTES, Store, read_limited};
-pub use handler_reports::{
-    AskedEdge, CheckInputs, DrawnHandler, Explained, Extent, FollowedRun, FollowedVisits,
-    TableForm, VisitRate, VisitedHandler, bound_report, certificates_are_accepted, check_report,
-    explain_report, follow_report, follow_visits_report, graph_report, print_bound, print_check,
-    print_tight, tight_report, verdict_report, visits_report,
-};
+pub use follow_reports::{FollowedRun, FollowedVisits, follow_report, follow_visits_report};
 pub use handlers::{MemoryOutput, Refusal, ReportFault, Stop, StreamOutput, fault_only};
 pub use input::{Input, InputFault, StreamInput};
 pub use law::{input_limit, some_run_has_visits, some_run_keeps};
@@ -32,4 +35,4 @@ pub use responses::{
     irq_costs_its_entry, response_law, some_run_serves, unmasked_is_taken, visited_response_law,
 };
 pub use source_reports::{asm_report, draft_on_report, draft_report, list_report};
-pub use text_explained::Bursts;
+pub use text_explained::{Bursts, RowForm};

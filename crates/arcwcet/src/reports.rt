@@ -5,14 +5,14 @@ ghost use Rattle.outputs.specs.OnTheWay.{Adds};
 ghost use Rattle.handlers.specs.Priced.{Priced};
 ghost use Rattle.handlers.specs.Refusal.{fault_only};
 ghost use Rattle.handlers.specs.Report.{IsRefused};
-ghost use Rattle.handler_reports.specs.Check.{Checks};
-ghost use Rattle.handler_reports.specs.ExplainReport.{Explains};
-ghost use Rattle.handler_reports.specs.FollowReport.{FollowsRun};
-ghost use Rattle.handler_reports.specs.FollowVisits.{FollowsVisitedRun};
-ghost use Rattle.handler_reports.specs.GraphReport.{IsGraphReport};
-ghost use Rattle.handler_reports.specs.TightReport.{IsTightRefused, IsTightReport};
-ghost use Rattle.handler_reports.specs.Verdict.{ExplainsVerdict};
-ghost use Rattle.handler_reports.specs.VisitsReport.{ReportsVisits};
+ghost use Rattle.bound_reports.specs.TightReport.{IsTightRefused, IsTightReport};
+ghost use Rattle.bound_reports.specs.VisitsReport.{ReportsVisits};
+ghost use Rattle.explain_reports.specs.Check.{Checks};
+ghost use Rattle.explain_reports.specs.ExplainReport.{Explains};
+ghost use Rattle.explain_reports.specs.GraphReport.{IsGraphReport};
+ghost use Rattle.explain_reports.specs.Verdict.{ExplainsVerdict};
+ghost use Rattle.follow_reports.specs.FollowReport.{FollowsRun};
+ghost use Rattle.follow_reports.specs.FollowVisits.{FollowsVisitedRun};
 ghost use Rattle.response_reports.specs.Question.{fiq_question};
 ghost use Rattle.response_reports.specs.RespondReport.{Responds};
 ghost use Rattle.command_line.specs.Rows.{asked_of};
@@ -23,19 +23,22 @@ ghost use Rattle.arcwcet.specs.Reports.{report_of, version_line, version_report}
 ghost use Rattle.arcwcet.specs.Run.{PrintsReport};
 
 use crate::files::{Inputs, behind_one, behind_two};
-use command_line::{Command, CommandNumbers, Request, VERSION};
-use handler_reports::{
-    AskedEdge, CheckInputs, DrawnHandler, Explained, Extent, FollowedRun, FollowedVisits,
-    TableForm, VisitRate, VisitedHandler, explain_report, follow_report, follow_visits_report,
-    graph_report, print_bound, print_check, print_tight, verdict_report, visits_report,
+use bound_reports::{
+    AskedEdge, VisitRate, VisitedHandler, print_bound, print_tight, visits_report,
 };
+use command_line::{Command, CommandNumbers, Request, VERSION};
+use explain_reports::{
+    CheckInputs, DrawnHandler, Explained, Extent, TableForm, explain_report, graph_report,
+    print_check, verdict_report,
+};
+use follow_reports::{FollowedRun, FollowedVisits, follow_report, follow_visits_report};
 use handlers::{Refusal, ReportFault};
 use machine_reports::{ShownRegisters, ShownSteps, debug_report, machine_report};
 use outputs::{Output, Page};
 use response_reports::{AskedFiq, AskedResponse, respond_report};
 use source_reports::{asm_report, draft_on_report, draft_report, list_report};
 use std::alloc::Global;
-use text_explained::Bursts;
+use text_explained::{Bursts, RowForm};
 
 /// What is asked for, and the bytes of its files.
 #[derive(Clone, Copy)]
@@ -269,6 +272,11 @@ fn form_of(request: &Request<'_>) -> TableForm
 {
     TableForm {
         first: request.first,
+        rows: RowForm {
+            all: request.all,
+            top: request.numbers.top,
+            width: request.numbers.width.unwrap_or(80),
+        },
     }
 }
 

@@ -90,6 +90,8 @@ usages =
     (profile ∷ source ∷ statement ∷ argument (codes "at-most") form.TicksOption
     ∷ argument (codes "bursts") form.NumberOption ∷ argument (codes "burst-every") form.NumberOption
     ∷ argument (codes "each") form.Each ∷ argument (codes "first") form.First
+    ∷ argument (codes "all") form.All ∷ argument (codes "top") form.NumberOption
+    ∷ argument (codes "width") form.WidthOption
     ∷ other (codes "certificate") form.FileOption command.Verdict ∷ [])
     ∷ usage (codes "follow") command.Follow
     (profile ∷ source ∷ statement ∷ other (codes "fiq") form.FileOption command.FollowVisits ∷ machine ∷ [])
@@ -119,6 +121,10 @@ numbered rule = record rule { value_names = 1; parser = Some (parser.Signed (pos
 abbrev pub in_ticks : Rule → Rule
 in_ticks rule = record rule { value_names = 1; parser = Some (parser.Unsigned 0 9223372036854775807) }
 
+-- an argument's value is the number of a column, from 80 to 250
+abbrev pub in_columns : Rule → Rule
+in_columns rule = record rule { value_names = 1; parser = Some (parser.Signed (pos 80) (pos 250)) }
+
 abbrev pub rule_by : Form → Text → Rule
 rule_by form.File id = required_rule id
 rule_by form.Word id = required_rule id
@@ -131,9 +137,11 @@ rule_by form.FiqSourceOption id = record (option_rule id) { value_names = 1 }
 rule_by form.FilesOption id = record (option_rule id) { value_names = 1; action = Some Append }
 rule_by form.NumberOption id = numbered (option_rule id)
 rule_by form.TicksOption id = in_ticks (option_rule id)
+rule_by form.WidthOption id = in_columns (option_rule id)
 rule_by form.Why id = record (option_rule id) { action = Some SetTrue }
 rule_by form.Each id = record (option_rule id) { action = Some SetTrue }
 rule_by form.First id = record (option_rule id) { action = Some SetTrue }
+rule_by form.All id = record (option_rule id) { action = Some SetTrue }
 rule_by form.Path id = record (option_rule id) { action = Some SetTrue }
 
 abbrev pub rule_as : Argument → Rule
@@ -159,14 +167,16 @@ arcwcet_command = with_commands arcwcet_top usages
 
 -- ## What is asked for
 
--- a command, whether to print what shows the reason of a refusal, the bound of each destination alone, and first
--- starts, whether the first files behind the second are FIQ's statement and its source, the names of files, the
--- cycle profile's apart, a word that names no file to be read, and numbers
+-- a command; whether to print what shows the reason of a refusal, the bound of each destination alone,
+-- first starts, and each row of a table; whether of the files of `respond` the first behind the second are
+-- FIQ's statement and its source; whether to draw the path alone; the names of files, the cycle profile's
+-- apart; a word that names no file to be read; and numbers
 pub record Asked : Type 0 where
   pub command : Command
   pub why : Bool
   pub each : Bool
   pub first : Bool
+  pub all : Bool
   pub fiq_statement : Bool
   pub fiq_source : Bool
   pub path : Bool
@@ -183,6 +193,7 @@ plainly command numbers =
       why = false;
       each = false;
       first = false;
+      all = false;
       fiq_statement = false;
       fiq_source = false;
       path = false;
@@ -218,6 +229,8 @@ numbers_in rows =
       longest = ticks_at (codes "longest") rows;
       masked = ticks_at (codes "masked") rows;
       within = ticks_at (codes "within") rows;
+      top = number_at (codes "top") rows;
+      width = number_at (codes "width") rows;
     }
 
 abbrev pub no_numbers : CommandNumbers
@@ -233,6 +246,8 @@ no_numbers =
       longest = None;
       masked = None;
       within = None;
+      top = None;
+      width = None;
     }
 
 -- whether a word names a file, where it may be a label or an address too: it has a `.` or a `/`, and these
@@ -257,10 +272,12 @@ with_value_by form.ProfileOption name asked = record asked { profile = Some name
 with_value_by form.Why value asked = record asked { why = bytes_eq value (codes "true") }
 with_value_by form.Each value asked = record asked { each = bytes_eq value (codes "true") }
 with_value_by form.First value asked = record asked { first = bytes_eq value (codes "true") }
+with_value_by form.All value asked = record asked { all = bytes_eq value (codes "true") }
 with_value_by form.Path value asked = record asked { path = bytes_eq value (codes "true") }
 with_value_by form.OptionalNumber value asked = asked
 with_value_by form.NumberOption value asked = asked
 with_value_by form.TicksOption value asked = asked
+with_value_by form.WidthOption value asked = asked
 
 -- whether the value is a word where it might name a file
 abbrev pub is_word : Form → Text → Bool
@@ -302,8 +319,8 @@ are_fiq_options asked =
     else not asked.fiq_source && (is_none asked.numbers.every && is_none asked.numbers.waited)
 
 -- `asm` writes no image over a file that it reads, `visits` has either a number of visits or a period,
--- `respond` has all or nothing of FIQ, and beside the certificate of a verdict neither a number nor `--each` nor
--- `--first` is given, which would have no effect
+-- `respond` has all or nothing of FIQ, and beside the certificate of a verdict neither a number nor `--each`
+-- nor `--first` nor `--all` is given, which would have no effect
 abbrev pub is_allowed_of : Command → Asked → Bool
 is_allowed_of command.Asm asked = not (list_any (λ name. bytes_eq name asked.word) asked.files)
 is_allowed_of command.Visits asked = is_rate asked.numbers
@@ -311,8 +328,11 @@ is_allowed_of command.Respond asked = are_fiq_options asked
 is_allowed_of command.Verdict asked =
     not asked.each
     && (not asked.first
+    && (not asked.all
+    && (is_none asked.numbers.top
+    && (is_none asked.numbers.width
     && (is_none asked.numbers.at_most
-    && (is_none asked.numbers.bursts && is_none asked.numbers.burst_every)))
+    && (is_none asked.numbers.bursts && is_none asked.numbers.burst_every))))))
 is_allowed_of c asked = true
 
 abbrev pub is_allowed : Asked → Bool

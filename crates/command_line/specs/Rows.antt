@@ -20,6 +20,7 @@ asked_of q =
       why = q.why;
       each = q.each;
       first = q.first;
+      all = q.all;
       fiq_statement = q.fiq_statement;
       fiq_source = q.fiq_source;
       path = q.path;

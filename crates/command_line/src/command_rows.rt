@@ -29,12 +29,16 @@ pub(crate) enum Form {
     NumberOption,
     /// A number of ticks, to 2^63 - 1, by an option.
     TicksOption,
+    /// The last column of a row, from 80 to 250, by an option.
+    WidthOption,
     /// The option that asks for what shows the reason of a refusal.
     Why,
     /// The option that asks for the bound of each destination alone.
     Each,
     /// The option that asks for first starts.
     First,
+    /// The option that asks for each row of a table.
+    All,
     /// The option that asks for the longest run's path alone.
     Path,
 }
@@ -199,6 +203,27 @@ const FIRST: ArgumentRow = ArgumentRow {
     instead: None,
 };
 
+const ALL: ArgumentRow = ArgumentRow {
+    id: "all",
+    form: Form::All,
+    help: "Print each row, also of lines off the path and never reached",
+    instead: None,
+};
+
+const TOP: ArgumentRow = ArgumentRow {
+    id: "top",
+    form: Form::NumberOption,
+    help: "Print the N rows with the most ticks alone, the dearest first",
+    instead: None,
+};
+
+const WIDTH: ArgumentRow = ArgumentRow {
+    id: "width",
+    form: Form::WidthOption,
+    help: "Cut rows past column N, from 80 to 250 [default: 80]",
+    instead: None,
+};
+
 const PATH: ArgumentRow = ArgumentRow {
     id: "path",
     form: Form::Path,
@@ -244,7 +269,7 @@ const VISITS: ArgumentRow = ArgumentRow {
 const EVERY: ArgumentRow = ArgumentRow {
     id: "every",
     form: Form::NumberOption,
-    help: "FIQ interrupts it once in N ticks, at most",
+    help: "FIQ is asked for once in N ticks, at most",
     instead: None,
 };
 
@@ -279,7 +304,7 @@ const RESPONSE_FIQ_SOURCE: ArgumentRow = ArgumentRow {
 const RESPONSE_EVERY: ArgumentRow = ArgumentRow {
     id: "every",
     form: Form::NumberOption,
-    help: "FIQ is taken once in N ticks, at most",
+    help: "FIQ is asked for once in N ticks, at most",
     instead: None,
 };
 
@@ -389,6 +414,9 @@ pub(crate) const COMMANDS: [CommandRow; 13] = [
             BURST_EVERY,
             EACH,
             FIRST,
+            ALL,
+            TOP,
+            WIDTH,
             CERTIFICATE,
         ],
     },

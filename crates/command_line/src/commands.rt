@@ -32,7 +32,11 @@ fn argument<'a>(alloc: Global, row: &ArgumentRow) -> Arg<'a>
             .long(row.id)
             .value_name("N")
             .value_parser(value_parser!(u64).range(..=i64::MAX)),
-        Form::Why | Form::Each | Form::First | Form::Path => {
+        Form::WidthOption => arg
+            .long(row.id)
+            .value_name("N")
+            .value_parser(value_parser!(u32).range(80..=250)),
+        Form::Why | Form::Each | Form::First | Form::All | Form::Path => {
             arg.long(row.id).action(ArgAction::SetTrue)
         }
     }

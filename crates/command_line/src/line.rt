@@ -54,7 +54,7 @@ pub struct CommandNumbers {
     pub edge: u32,
     /// How often FIQ interrupts the handler, at most.
     pub visits: Option<u32>,
-    /// FIQ interrupts it at most once in so many ticks.
+    /// FIQ is asked for at most once in so many ticks.
     pub every: Option<u32>,
     /// For how many ticks FIQ may have waited at the beginning, to 2^63 - 1.
     pub waited: Option<u64>,
@@ -70,6 +70,10 @@ pub struct CommandNumbers {
     pub masked: Option<u64>,
     /// The most ticks that are wanted of a response, to 2^63 - 1.
     pub within: Option<u64>,
+    /// How many rows of a table are wanted alone, the dearest.
+    pub top: Option<u32>,
+    /// The last column of its rows, from 80 to 250.
+    pub width: Option<u32>,
 }
 
 /// What a line of words asks for.
@@ -82,6 +86,8 @@ pub struct Request<'a> {
     pub each: bool,
     /// Whether the table of an explanation has the ticks by which words begin for the first time too.
     pub first: bool,
+    /// Whether each of its rows is to be printed.
+    pub all: bool,
     /// Whether the third file of `respond` is the statement on FIQ's handler.
     pub fiq_statement: bool,
     /// Whether the file behind that is its source.
@@ -108,8 +114,8 @@ pub enum CommandLineFault {
     SourceReplaced,
     /// `visits` is given neither a number of visits nor a period, or both, or a number and FIQ's wait.
     VisitsOrPeriod,
-    /// `respond` is given FIQ's statement without a period or beside bursts, or another option of FIQ's without
-    /// the statement.
+    /// `respond` is given FIQ's statement without a period or beside bursts, or another option of FIQ's
+    /// without the statement.
     FiqOptions,
     /// `explain` is given a certificate, and an option that has no effect beside it.
     OptionBesideCertificate,

@@ -46,6 +46,8 @@ fn numbers_in(values: &ArgMatches<'_>) -> CommandNumbers
         longest: ticks_at(values, "longest"),
         masked: ticks_at(values, "masked"),
         within: ticks_at(values, "within"),
+        top: number_at(values, "top"),
+        width: number_at(values, "width"),
     }
 }
 
@@ -126,8 +128,9 @@ fn add_value<'a>(
         Form::Why => request.why = value == "true",
         Form::Each => request.each = value == "true",
         Form::First => request.first = value == "true",
+        Form::All => request.all = value == "true",
         Form::Path => request.path = value == "true",
-        Form::OptionalNumber | Form::NumberOption | Form::TicksOption => {}
+        Form::OptionalNumber | Form::NumberOption | Form::TicksOption | Form::WidthOption => {}
     }
     Ok(())
 }
@@ -164,6 +167,7 @@ fn asked<'a>(
         why: false,
         each: false,
         first: false,
+        all: false,
         fiq_statement: false,
         fiq_source: false,
         path: false,
@@ -232,6 +236,9 @@ fn is_allowed(request: &Request<'_>) -> bool
             let numbers = request.numbers;
             !request.each
                 && !request.first
+                && !request.all
+                && numbers.top.is_none()
+                && numbers.width.is_none()
                 && numbers.at_most.is_none()
                 && numbers.bursts.is_none()
                 && numbers.burst_every.is_none()
@@ -331,6 +338,7 @@ fn version<'a>(alloc: Global) -> Request<'a>
         why: false,
         each: false,
         first: false,
+        all: false,
         fiq_statement: false,
         fiq_source: false,
         path: false,
@@ -348,6 +356,8 @@ fn version<'a>(alloc: Global) -> Request<'a>
             longest: None,
             masked: None,
             within: None,
+            top: None,
+            width: None,
         },
     }
 }

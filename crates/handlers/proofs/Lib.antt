@@ -10,6 +10,7 @@ pub mod SourceLemmas
 pub mod StatementLemmas
 pub mod VisitLemmas
 pub mod VisitRateLemmas
+pub mod TakenLemmas
 pub mod FewestLemmas
 pub mod ApartLemmas
 pub mod AnswerLemmas

@@ -1,5 +1,6 @@
 -- Along the words of two images side by side, up to the first address that they share.
-use Rattle.std.proofs.Common.{◌≡◌, ◌⊎◌, ℕ, zero, suc, ◌+◌, ◌<◌, ◌≤◌, List, [], ◌∷◌, length, drop, map, Option, Some, None, refl, sym, subst, inl, inr, ⊎_elim, arith, add-one}
+use Rattle.std.proofs.Common.{◌≡◌, ◌⊎◌, ℕ, zero, suc, ◌+◌, ◌<◌, ◌≤◌, List, [], ◌∷◌, length, drop, map, Option}
+use Rattle.std.proofs.Common.{Some, None, refl, sym, subst, inl, inr, ⊎_elim, arith, add-one}
 use Rattle.std.specs.Prelude.{IsSome, if◌then◌else◌, Bool}
 use Rattle.std.specs.List.{AllByRecursion, slice_get}
 use Rattle.std.proofs.lemmas.Bool.{eq-eqb}
@@ -10,7 +11,8 @@ use Rattle.handlers.specs.Meeting.{IsFirstShared, MeetAt}
 
 -- ## A word in front of others
 
-in_front : (e : ℕ × ℕ) (rest : Words) (a : ℕ) → IsSome (word_of (e ∷ rest) a) → (e.0 ≡ a) ⊎ IsSome (word_of rest a)
+in_front : (e : ℕ × ℕ) (rest : Words) (a : ℕ) → IsSome (word_of (e ∷ rest) a) → (e.0 ≡ a)
+    ⊎ IsSome (word_of rest a)
 in_front e rest a has =
     ⊎_elim
     (λ same. inl same.1)
@@ -18,7 +20,8 @@ in_front e rest a has =
     (eqb_tells e.0 a)
 
 at_front : (e : ℕ × ℕ) (rest : Words) (a : ℕ) → e.0 ≡ a → IsSome (word_of (e ∷ rest) a)
-at_front e rest a same = subst (λ (b : Bool). IsSome (if b then Some e.1 else word_of rest a)) (sym (eq-eqb e.0 a same)) refl
+at_front e rest a same = subst (λ (b : Bool). IsSome (if b then Some e.1 else word_of rest a))
+    (sym (eq-eqb e.0 a same)) refl
 
 behind : (e : ℕ × ℕ) (rest : Words) (a : ℕ) → IsSome (word_of rest a) → IsSome (word_of (e ∷ rest) a)
 behind e rest a has =
@@ -27,10 +30,12 @@ behind e rest a has =
     (λ other. subst (λ (b : Bool). IsSome (if b then Some e.1 else word_of rest a)) (sym other.0) has)
     (eqb_tells e.0 a)
 
-above : (low a : ℕ) (words : Words) → AllByRecursion (λ f. low < f.0) words → IsSome (word_of words a) → low < a
+above : (low a : ℕ) (words : Words) → AllByRecursion (λ f. low < f.0) words → IsSome (word_of words a)
+    → low < a
 above low a [] all has = absurd cc
 above low a (e ∷ rest) all has =
-    ⊎_elim (λ same. subst (λ n. low < n) same all.0) (λ more. above low a rest all.1 more) (in_front e rest a has)
+    ⊎_elim (λ same. subst (λ n. low < n) same all.0) (λ more. above low a rest all.1 more)
+    (in_front e rest a has)
 
 -- ## The word of a number
 
@@ -49,7 +54,8 @@ is_held (e ∷ rest) zero address nth = let same : address ≡ e.0 = cc nth in a
 is_held (e ∷ rest) (suc n) address nth = behind e rest address (is_held rest n address nth)
 
 -- no address from there on is less
-least : (words : Words) (n address a : ℕ) → IsNth words n address → Ascends words → IsSome (word_of (drop n words) a) → address ≤ a
+least : (words : Words) (n address a : ℕ) → IsNth words n address → Ascends words
+    → IsSome (word_of (drop n words) a) → address ≤ a
 least [] n address a nth up has = absurd cc
 least (e ∷ rest) zero address a nth up has =
     let same : address ≡ e.0 = cc nth in
@@ -60,14 +66,17 @@ least (e ∷ rest) zero address a nth up has =
 least (e ∷ rest) (suc n) address a nth up has = least rest n address a nth up.1 has
 
 -- another address from there on is behind it
-next : (words : Words) (n address a : ℕ) → IsNth words n address → (address ≡ a → ⊥) → IsSome (word_of (drop n words) a) → IsSome (word_of (drop (suc n) words) a)
+next : (words : Words) (n address a : ℕ) → IsNth words n address → (address ≡ a → ⊥)
+    → IsSome (word_of (drop n words) a) → IsSome (word_of (drop (suc n) words) a)
 next [] n address a nth other has = absurd cc
 next (e ∷ rest) zero address a nth other has =
     let same : address ≡ e.0 = cc nth in
-    ⊎_elim (λ is. let hit : address ≡ a = omega (arith, same, is) in absurd (other hit)) (λ more. more) (in_front e rest a has)
+    ⊎_elim (λ is. let hit : address ≡ a = omega (arith, same, is) in absurd (other hit)) (λ more. more)
+    (in_front e rest a has)
 next (e ∷ rest) (suc n) address a nth other has = next rest n address a nth other has
 
-ended : (words : Words) (n a : ℕ) → None ≡ slice_get (map (λ e. e.0) words) n → IsSome (word_of (drop n words) a) → ⊥
+ended : (words : Words) (n a : ℕ) → None ≡ slice_get (map (λ e. e.0) words) n
+    → IsSome (word_of (drop n words) a) → ⊥
 ended [] zero a none has = cc
 ended [] (suc n) a none has = cc
 ended (e ∷ rest) zero a none has = cc
@@ -77,7 +86,8 @@ ended (e ∷ rest) (suc n) a none has = ended rest n a none has
 
 -- each address that both have is ahead in both
 pub record AreAhead (words others : Words) (here there : ℕ) : Type 0 where
-  pub ahead : (a : ℕ) → MeetAt words others a → IsSome (word_of (drop here words) a) × IsSome (word_of (drop there others) a)
+  pub ahead : (a : ℕ) → MeetAt words others a → IsSome (word_of (drop here words) a)
+      × IsSome (word_of (drop there others) a)
 
 module _ (words others : Words) where
   pub all_ahead : AreAhead words others 0 0
@@ -93,7 +103,11 @@ module _ (words others : Words) where
     module _ (address other : ℕ) (nth : IsNth words here address) (nth_other : IsNth others there other) where
       pub is_shared : Ascends words → address ≡ other → IsFirstShared words others (Some address)
       is_shared up same = (
-        (is_held words here address nth, subst (λ a. IsSome (word_of others a)) (sym same) (is_held others there other nth_other)),
+        (
+          is_held words here address nth,
+          subst (λ a. IsSome (word_of others a)) (sym same)
+              (is_held others there other nth_other),
+        ),
         λ a both. least words here address a nth up (ahead.ahead a both).0,
       )
 

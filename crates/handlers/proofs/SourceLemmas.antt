@@ -16,5 +16,7 @@ reported bytes (source_fault.Text f) h = h
 reported bytes (source_fault.Image f) h = h
 
 -- the fault of a source, as a `?` answers it
-pub source_refused : {T : Type 0} (bytes : List ℕ) (f : SourceFault) (r : Result T ReportFault) → IsErrAnd r (λ e. e ≡ of_source f) → source.IsFaultOf bytes f → IfErr r (IsSourceFault bytes)
-source_refused bytes f r answered is = refused_as r (of_source f) (IsSourceFault bytes) answered (reported bytes f is)
+pub source_refused : {T : Type 0} (bytes : List ℕ) (f : SourceFault) (r : Result T ReportFault)
+    → IsErrAnd r (λ e. e ≡ of_source f) → source.IsFaultOf bytes f → IfErr r (IsSourceFault bytes)
+source_refused bytes f r answered is =
+    refused_as r (of_source f) (IsSourceFault bytes) answered (reported bytes f is)

@@ -22,5 +22,7 @@ pub carries_text :
 carries_text source text answer fault is found other = record {
   own_is = refl;
   not_memory = other;
-  fault_is = subst (IsStatement text (address_of source.labels)) found (is (λ memory. other (ap (fault_in fault) (sym found ∙ memory))));
+  fault_is =
+      subst (IsStatement text (address_of source.labels)) found
+      (is (λ memory. other (ap (fault_in fault) (sym found ∙ memory))));
 }

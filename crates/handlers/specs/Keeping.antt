@@ -22,8 +22,8 @@ pub record HasKeptWalk (stated : Stated) (flow : Flow) (GoesAlong : List Edge �
 
 -- From this state the steps are the edges of a walk from the entry to Exit that keeps the loop bounds: each
 -- does the image's word at its address, takes no exception and does not stop, moves words of the stated class
--- alone, multiplies in at most the stated cycles, goes the stated way, and goes where its edge leads; the last
--- one to an address of the leave class.
+-- alone, multiplies in at most the stated cycles, goes the stated way, and goes where its edge leads; the
+-- last one to an address of the leave class.
 abbrev pub KeepsStatement : Words → Stated → Profile → Flow → State → List Input → Type 0
 KeepsStatement words stated profile flow s inputs =
     HasKeptWalk stated flow (Follows words stated profile s inputs)

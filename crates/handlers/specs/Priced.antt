@@ -1,10 +1,15 @@
 -- The cycle profile of a call: that of a file, or where there is no file the first one.
-use Rattle.std.specs.Prelude.{◌≡◌, ◌⊎◌, ℕ, List, Option, Some, None, Result, Ok, Err}
+use Rattle.std.specs.Prelude.{◌≡◌, ◌⊎◌, ℕ, List, Option, Some, None, Result, Ok, Err, option_map}
+use Rattle.std.specs.Borrow.{Bor}
 use Rattle.bus_ticks.specs.Numbers.{numbers_of, profile_one}
 use Rattle.bus_ticks.specs.declared.profile.Profile.{Profile}
 use Rattle.machine_file.specs.ProfileFile.{IsProfileFile}
 use Rattle.handlers.specs.declared.fault.ReportFault.{ReportFault}
 use Rattle.handlers.specs.declared.fault.ReportFault.TheVariants as report_fault
+
+-- the bytes of a file, if one is given
+abbrev pub given : Option (Bor (List ℕ)) → Option (List ℕ)
+given file = option_map (λ f. f.now) file
 
 abbrev pub IsProfile : Option (List ℕ) → Profile → Type 0
 IsProfile None profile = numbers_of profile ≡ profile_one

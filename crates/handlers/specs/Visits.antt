@@ -56,6 +56,17 @@ pub record TakesFiq (s : State) (inputs : List Input) : Type 0 where
 abbrev pub IsTakenEvery : (every waited : ℕ) → State → List Input → Type 0
 IsTakenEvery every waited s inputs = (x : TakesFiq s inputs) → x.earlier * every ≤ x.ran.ticks + waited
 
+-- any two steps that take FIQ, one after the other, begin at least so many ticks apart
+abbrev pub AreTakenApart : (every : ℕ) → State → List Input → Type 0
+AreTakenApart every s inputs =
+    (x y : TakesFiq s inputs) → y.earlier ≡ x.earlier + 1 → x.ran.ticks + every ≤ y.ran.ticks
+
+-- where they do, FIQ is taken at most once in so many ticks, for however long it may have waited
+abbrev pub ApartIsTakenEvery : Type 0
+ApartIsTakenEvery =
+    (every waited : ℕ) (s : State) (inputs : List Input)
+    → AreTakenApart every s inputs → IsTakenEvery every waited s inputs
+
 -- ## How many visits are enough
 
 -- by the bounds of the interrupted handler and of FIQ's, no more than k come before the end of a run with k
@@ -63,7 +74,7 @@ IsTakenEvery every waited s inputs = (x : TakesFiq s inputs) → x.earlier * eve
 abbrev pub AreEnoughVisits : Profile → (irq fiq every waited k : ℕ) → Type 0
 AreEnoughVisits profile irq fiq every waited k = visits_bound profile irq fiq k + waited ≤ k * every
 
--- the fewest that are enough; None where no number is, and the handler never ends
+-- the fewest that are enough; None where no number is, and so no time is found in which the handler ends
 abbrev pub AreFewestVisits : Profile → (irq fiq every waited : ℕ) → Option ℕ → Type 0
 AreFewestVisits profile irq fiq every waited (Some k) =
     AreEnoughVisits profile irq fiq every waited k
@@ -89,7 +100,7 @@ module _ (irq_words fiq_words : Words) (fiq : Stated) (profile : Profile) (fiq_f
       → KeepsVisited irq irq_flow s steps → visits_of steps ≤ k → Runs s (inputs_of steps) ran after
       → TakesAtMost profile total (inputs_of steps) ran
 
-  -- so does every run in which FIQ is taken at most once in so many ticks
+  -- so does every run in which FIQ's device asks for it at most once in so many ticks
   abbrev pub BoundsRunsEvery : (irq : Stated) (irq_flow : Flow) → (every waited total : ℕ) → Type 0
   BoundsRunsEvery irq irq_flow every waited total =
       (s : State) (steps : List MainStep) (ran : Ran) (after : State)
@@ -114,3 +125,9 @@ pub record HasVisitedRun (profile : Profile) : Type 0 where
   pub ran : Ran
   pub after : State
   pub runs : Runs s (inputs_of steps) ran after
+
+-- in such a run FIQ is taken at most once in so many ticks, where it may have waited for as many
+abbrev pub VisitedIsTakenEvery : Type 0
+VisitedIsTakenEvery =
+    (profile : Profile) (has : HasVisitedRun profile) (every waited : ℕ) → every ≤ waited
+    → IsTakenEvery every waited has.s (inputs_of has.steps)

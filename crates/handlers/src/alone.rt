@@ -29,8 +29,8 @@ fn bound_or_fault(
     Ok(found.bound)
 }
 
-/// The greatest run time, in ticks, of the handler that has these words and of which this is stated; or why it
-/// has none, the first in the order of the work: graph, loops, walk.
+/// The greatest run time, in ticks, of the handler that has these words and of which this is stated; or why
+/// it has none, the first in the order of the work: graph, loops, walk.
 ///
 /// # Errors
 ///

@@ -86,8 +86,8 @@ pub fn refused_on<'a, T: Drop>(
 ///
 /// # Errors
 ///
-/// `Source`, with its line, of a text; `Image` of an image; then `WordsMeet`, with the address, where it has a
-/// word at an address of the other one. `Memory`: an allocation failed.
+/// `Source`, with its line, of a text; `Image` of an image; then `WordsMeet`, with the address, where it has
+/// a word at an address of the other one. `Memory`: an allocation failed.
 pub fn read_apart<'a>(
     alloc: Global,
     said: &Source<'_>,

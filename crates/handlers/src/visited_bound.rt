@@ -24,9 +24,9 @@ impl VisitedBound {
         u128::from(self.fiq) + u128::from(fiq_entry(profile))
     }
 
-    /// The fewest visits after which none comes before the end, where FIQ is taken at most once in `every`
-    /// ticks and may have waited for `waited` ticks at the beginning. None where there is no end: a visit then
-    /// takes all the time up to the next.
+    /// The fewest visits after which none comes before the end, where FIQ is asked for at most once in
+    /// `every` ticks and may have waited for `waited` ticks at the beginning. None where there is no end: a
+    /// visit then takes all the time up to the next.
     pub fn fewest_visits(self, profile: &Profile, every: u32, waited: u64) -> Option<u128>
         ensures { AreFewestVisits profile.now self.irq self.fiq every waited result }
     {

@@ -11,32 +11,32 @@ use loop_bounds::Handler;
 use samples::nested_countdown::{SOURCE, STATEMENT};
 use sources::Source;
 use std::alloc::Global;
-use text_explained::{TimedWalk, cost_table};
+use text_explained::{RowForm, TimedWalk, cost_table};
 use walk_counts::edge_counts;
 
 /// The bound of the nested countdown, by the lines of its source.
-const NESTED_LINES: &[u8] = b"passes  each  ticks  share latest priced as line  text
-     1     1      1   2.0%      0              1  start MOV R1,#2
-     2     1      2   4.0%     22              2  outer MOV R0,#3
-     6     2     12  24.0%     35              3  inner SUBS R0,R0,#1
-     6   1-4     18  36.0%     37              4  turn BNE inner
-     2     1      2   4.0%     38              5   SUBS R1,R1,#1
-     2   1-4      5  10.0%     39              6  back BNE outer
-     1    10     10  20.0%     40     > any    7   SUBS PC,R14,#4
-       total     50 100.0%
+const NESTED_LINES: &[u8] = b"passes each ticks  share latest priced as address line  text
+     1    1     1   2.0%      0              8000    1  start MOV R1,#2
+     2    1     2   4.0%     22              8004    2  outer MOV R0,#3
+     6    2    12  24.0%     35              8008    3  inner SUBS R0,R0,#1
+     6  1-4    18  36.0%     37              800C    4  turn BNE inner
+     2    1     2   4.0%     38              8010    5   SUBS R1,R1,#1
+     2  1-4     5  10.0%     39              8014    6  back BNE outer
+     1   10    10  20.0%     40     > any    8018    7   SUBS PC,R14,#4
+      total    50 100.0%
 bound 50 ticks, 6.250 microseconds at 8 MHz
 ";
 
 // The same by its words.
-const NESTED_WORDS: &[u8] = b"passes  each  ticks  share latest priced as   address  text
-     1     1      1   2.0%      0            00008000  MOV R1,#2
-     2     1      2   4.0%     22            00008004  MOV R0,#3
-     6     2     12  24.0%     35            00008008  SUBS R0,R0,#1
-     6   1-4     18  36.0%     37            0000800C  BNE &8008
-     2     1      2   4.0%     38            00008010  SUBS R1,R1,#1
-     2   1-4      5  10.0%     39            00008014  BNE &8004
-     1    10     10  20.0%     40     > any  00008018  SUBS R15,R14,#4
-       total     50 100.0%
+const NESTED_WORDS: &[u8] = b"passes each ticks  share latest priced as address  text
+     1    1     1   2.0%      0              8000  MOV R1,#2
+     2    1     2   4.0%     22              8004  MOV R0,#3
+     6    2    12  24.0%     35              8008  SUBS R0,R0,#1
+     6  1-4    18  36.0%     37              800C  BNE &8008
+     2    1     2   4.0%     38              8010  SUBS R1,R1,#1
+     2  1-4     5  10.0%     39              8014  BNE &8004
+     1   10    10  20.0%     40     > any    8018  SUBS R15,R14,#4
+      total    50 100.0%
 bound 50 ticks, 6.250 microseconds at 8 MHz
 ";
 
@@ -64,7 +64,12 @@ fn table(
 ) -> Answer
     requires { handler.now.image.now ≡ source.now.image }
 {
-    Answer::of_text(cost_table(alloc, source, handler, walk), expected)
+    let form = RowForm {
+        all: false,
+        top: None,
+        width: 80,
+    };
+    Answer::of_text(cost_table(alloc, source, handler, walk, form), expected)
 }
 
 fn counted(alloc: Global, graph: &Graph, found: &Longest) -> Answer {

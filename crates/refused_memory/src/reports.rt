@@ -2,7 +2,7 @@ use crate::trial::{Answer, Trial};
 use crate::{drafts, followed};
 use arcwcet::{
     AskedResponse, Bursts, DrawnHandler, Explained, Extent, FollowedRun, FollowedVisits,
-    MemoryOutput, Output, ReportFault, TableForm, VisitRate, VisitedHandler, asm_report,
+    MemoryOutput, Output, ReportFault, RowForm, TableForm, VisitRate, VisitedHandler, asm_report,
     bound_report, check_report, debug_report, draft_on_report, draft_report, explain_report,
     fault_only, follow_report, follow_visits_report, graph_report, list_report, respond_report,
     run_report, tight_report, trace_report, visits_report,
@@ -131,8 +131,8 @@ place - 1C 0
 stop
 ";
 
-// The countdown holds FIQ back. With bursts there are 6 ticks more for each of 3, or of the 53 that come within
-// 530 ticks.
+// The countdown holds FIQ back. With bursts there are 6 ticks more for each of 3, or of the 53 that come
+// within 530 ticks.
 const RESPONSE: &[u8] = b"arcwcet respond
 fiq to fiq
 in progress 173
@@ -160,6 +160,11 @@ const EDGE_TICKS: &[u8] = b"ticks 9 elapsed 9\n";
 const UNDER_TABLE: &[u8] = b"with 3 bursts 68 ticks, 8.500 microseconds at 8 MHz
 with a burst every 10 ticks 128 ticks, 16.000 microseconds at 8 MHz
 
+Loops, with what they call:
+   turns     ticks   share  header
+       1        39   78.0%  \"outer\"
+       4        30   60.0%  \"inner\"
+
 The longest step, 10 ticks:
   00008018     7   SUBS PC,R14,#4
 
@@ -182,15 +187,15 @@ left to 0, line 2, a word of the source
 ";
 
 // The table of its bound, with first starts.
-const FIRST_STARTS: &[u8] = b"passes  each  ticks  share  first latest priced as line  text
-     1     1      1   2.0%             0              1  start MOV R1,#2
-     2     1      2   4.0%      1     22              2  outer MOV R0,#3
-     6     2     12  24.0%      2     35              3  inner SUBS R0,R0,#1
-     6   1-4     18  36.0%      4     37              4  turn BNE inner
-     2     1      2   4.0%     17     38              5   SUBS R1,R1,#1
-     2   1-4      5  10.0%     18     39              6  back BNE outer
-     1    10     10  20.0%            40     > any    7   SUBS PC,R14,#4
-       total     50 100.0%
+const FIRST_STARTS: &[u8] = b"passes each ticks  share first latest priced as address line  text
+     1    1     1   2.0%            0              8000    1  start MOV R1,#2
+     2    1     2   4.0%     1     22              8004    2  outer MOV R0,#3
+     6    2    12  24.0%     2     35              8008    3  inner SUBS R0,R0,#
+     6  1-4    18  36.0%     4     37              800C    4  turn BNE inner
+     2    1     2   4.0%    17     38              8010    5   SUBS R1,R1,#1
+     2  1-4     5  10.0%    18     39              8014    6  back BNE outer
+     1   10    10  20.0%           40     > any    8018    7   SUBS PC,R14,#4
+      total    50 100.0%
 bound 50 ticks, 6.250 microseconds at 8 MHz
 ";
 
@@ -203,7 +208,14 @@ const EXPLAINED: Explained<'static> = Explained {
         count: Some(3),
         every: Some(10),
     },
-    form: TableForm { first: true },
+    form: TableForm {
+        first: true,
+        rows: RowForm {
+            all: false,
+            top: None,
+            width: 80,
+        },
+    },
     each: false,
 };
 

@@ -4,3 +4,4 @@ pub mod RespondLemmas
 pub mod TextLemmas
 pub mod VisitedRunLemmas
 pub mod VisitsLemmas
+pub mod ServedEveryLemmas

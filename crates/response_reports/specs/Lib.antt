@@ -2,3 +2,4 @@ pub mod Question
 pub mod RespondReport
 pub mod RespondText
 pub mod RespondWork
+pub mod ServedEvery

@@ -6,8 +6,9 @@ use Rattle.handlers.specs.Refusal.{StatedSource}
 use Rattle.response_reports.specs.declared.asked.AskedFiq.{AskedFiq}
 use Rattle.response_reports.specs.declared.asked.AskedResponse.{AskedResponse}
 
--- FIQ's handler, which visits the response: its own source, if it is another one, and the statement on it; FIQ
--- is taken at most once in `every` ticks, and may have waited for so many ticks as the response begins
+-- FIQ's handler, which visits the response: its own source, if it is another one, and the statement on it;
+-- FIQ is asked for at most once in `every` ticks, and may have waited for so many ticks as the response
+-- begins
 pub record FiqQuestion : Type 0 where
   pub own : Option (List ℕ)
   pub statement : List ℕ
@@ -16,8 +17,8 @@ pub record FiqQuestion : Type 0 where
 
 -- a source, the statement on a handler of it, and the label or address where the response ends; the most
 -- ticks of the step in progress, if they are given; so many ticks for which the interrupt is held back, and
--- the statements on the stretches of code that hold it back too; bursts; FIQ's visits; and the most ticks that
--- are wanted
+-- the statements on the stretches of code that hold it back too; bursts; FIQ's visits; and the most ticks
+-- that are wanted
 pub record Question : Type 0 where
   pub source : List ℕ
   pub statement : List ℕ

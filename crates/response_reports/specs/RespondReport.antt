@@ -48,8 +48,8 @@ RespondsIn words st flow interrupt address longest masked most =
     → (is : Serves words st flow interrupt address masked s service) → MayTake longest is.in_progress.ticks
     → Runs s (inputs_of service) ran after → TakesAtMost flow.profile most (inputs_of service) ran
 
--- The same of IRQ with visits of FIQ's handler, where FIQ is taken at most once in `every` ticks, and may have
--- waited for so many as the step in progress begins.
+-- The same of IRQ with visits of FIQ's handler, where FIQ is asked for at most once in `every` ticks, and may
+-- have waited for so many as the step in progress begins.
 abbrev pub RespondsVisited : (words fiq_words : Words) → (irq fiq : Stated) → (flow fiq_flow : Flow)
     → (address : ℕ) → (longest : Option ℕ) → (masked every waited most : ℕ) → Type 0
 RespondsVisited words fiq_words irq fiq flow fiq_flow address longest masked every waited most =
@@ -77,8 +77,8 @@ module _ (source : List ℕ) (profile : Profile) where
 
 -- ## FIQ's handler, which visits the response
 
--- for how many ticks FIQ may have waited, if that is not given: code that holds IRQ back may hold FIQ back as
--- long, and the step in progress too
+-- for how many ticks FIQ may have waited, if that is not given: where F is clear no longer than I, code that
+-- holds IRQ back holds FIQ back as long, and the step in progress too
 abbrev pub waited_of : Option ℕ → ResponseParts → ℕ
 waited_of waited p = unwrap_or waited (if p.masked == 0 then 0 else p.longest + p.masked)
 
@@ -137,8 +137,8 @@ module _ (q : Question) (profile : Profile) where
     pub at : ℕ
     pub at_is : entry_of entered.loops.graph.names q.label ≡ Some at
 
-  -- and no refusal of its walks holds, and some come to a step there: the greatest ticks of the way and of the
-  -- step
+  -- and no refusal of its walks holds, and some come to a step there: the greatest ticks of the way and of
+  -- the step
   pub record IsReached : Type 0 where
     pub aimed : IsAimed
     pub no_fault : (f : WalkFault) → f ≢ walk_fault.Memory
@@ -196,7 +196,7 @@ module _ (q : Question) (profile : Profile) where
         × AreVisits profile parts fiq visitor.bounded.longest.bound v × BoundsVisited fiq visitor v
         × (visits ≡ Some v)
 
-    -- FIQ's handler is accepted, where FIQ is asked for
+    -- where FIQ is asked for its handler is accepted, and the sum with its visits is less than 2^63 ticks
     abbrev pub MayBeVisited : Option FiqQuestion → Type 0
     MayBeVisited fiq =
         IfSome fiq (λ f. (visitor : IsVisitor q.source profile f)

@@ -7,11 +7,11 @@ pub struct AskedFiq<'a> {
     pub source: Option<&'a [u8]>,
     /// The text of the statement on it.
     pub statement: &'a [u8],
-    /// FIQ is taken at most once in so many ticks of the processor, from 1 on. For 0 no number of visits is
-    /// enough.
+    /// FIQ is asked for at most once in so many ticks of the processor, from 1 on. For 0 no number of visits
+    /// is enough.
     pub every: u32,
-    /// For how many ticks FIQ may have waited as the step in progress begins; for `None` as long as IRQ is held
-    /// back and the step in progress takes, or none where IRQ is not held back.
+    /// For how many ticks FIQ may have waited as the step in progress begins; for `None` as long as IRQ is
+    /// held back and the step in progress takes, or none where IRQ is not held back.
     pub waited: Option<u64>,
 }
 

@@ -60,7 +60,8 @@ fn reached_on(
     requires says { Says asked.source.now said.now }
     requires tree { HasItsTree handler.now }
     ensures reached { (profile : Profile) → HasLoops asked.entry.source.now asked.entry.statement.now profile
-        handler.now.statement handler.now.graph → IfOk result (IsReachedAs (question_of asked.entry) profile) }
+        handler.now.statement handler.now.graph
+        → IfOk result (IsReachedAs (question_of asked.entry) profile) }
     ensures fault { (profile : Profile) → HasLoops asked.entry.source.now asked.entry.statement.now profile
         handler.now.statement handler.now.graph → IfErr result
         (λ e. (e ≡ ReportFault.Memory) ⊎ IsAimRefused (question_of asked.entry) profile e) }

@@ -10,7 +10,7 @@ ghost use Rattle.handlers.specs.VisitStops.{refusal_on};
 ghost use Rattle.sources.specs.Source.{IsSource, Says};
 ghost use Rattle.response_reports.specs.Question.{parts_asked, question_of, statements_of};
 ghost use Rattle.response_reports.specs.RespondReport.{IsRespondRefused, IsRespondReport, Responds};
-ghost use Rattle.response_reports.specs.RespondWork.{AreParts, IsResponseOf};
+ghost use Rattle.response_reports.specs.RespondWork.{IsResponseOf};
 
 use crate::asked::AskedResponse;
 use crate::held_back::stretches_ticks;
@@ -40,35 +40,6 @@ fn masked_ticks(masked: Option<u64>, stretches: u128) -> Option<u64>
     }
 }
 
-// The parts of the response of a source that was read.
-fn response_parts<'a>(
-    alloc: Global,
-    said: &Source<'_>,
-    asked: AskedResponse<'a>,
-    profile: &Profile,
-) -> Result<ResponseParts, Stop<'a>>
-    requires { Says asked.source.now said.now }
-    ensures parts { IfOk result (AreParts (question_of asked.entry) profile.now) }
-    ensures fault { IfErr result
-        (λ s. BeforeOutput (IsRespondRefused (question_of asked.entry) profile.now) (stop_fault s)) }
-    ensures carries { IfErr result (CarriesOneOf asked.entry.source.now said.now
-        (statements_of (question_of asked.entry)) profile.now) }
-{
-    let reached = reached_by(alloc, said, asked, profile)?;
-    let stretches = stretches_ticks(alloc, said, asked.masked_by, profile)?;
-    let Some(masked) = masked_ticks(asked.masked, stretches) else {
-        return Err(Stop::Alone(TOO_LONG));
-    };
-    let most = u64::from(longest_step(profile));
-    Ok(ResponseParts {
-        interrupt: reached.interrupt,
-        longest: asked.longest.unwrap_or(most),
-        masked,
-        arrival: reached.arrival,
-        own: reached.own,
-    })
-}
-
 // The response of a source that was read, without visits.
 fn response_of<'a>(
     alloc: Global,
@@ -83,7 +54,19 @@ fn response_of<'a>(
     ensures carries { IfErr result (CarriesOneOf asked.entry.source.now said.now
         (statements_of (question_of asked.entry)) profile.now) }
 {
-    let parts = response_parts(alloc, said, asked, profile)?;
+    let reached = reached_by(alloc, said, asked, profile)?;
+    let stretches = stretches_ticks(alloc, said, asked.masked_by, profile)?;
+    let Some(masked) = masked_ticks(asked.masked, stretches) else {
+        return Err(Stop::Alone(TOO_LONG));
+    };
+    let most = u64::from(longest_step(profile));
+    let parts = ResponseParts {
+        interrupt: reached.interrupt,
+        longest: asked.longest.unwrap_or(most),
+        masked,
+        arrival: reached.arrival,
+        own: reached.own,
+    };
     match parts.sum(profile) {
         Some(ticks) => Ok(Response { parts, ticks }),
         None => Err(Stop::Alone(TOO_LONG)),
@@ -130,14 +113,14 @@ fn read_response<'a>(
     refused_on(said, answer)
 }
 
-/// Writes how long after the line of IRQ or FIQ rises the handler's first step at a label ends, at most, by a
-/// cycle profile's file or by the first profile: the interrupt and the label; then, in ticks, the step in
+/// Writes how long after the line of IRQ or FIQ rises the handler's first step at a label ends, at most, by
+/// a cycle profile's file or by the first profile: the interrupt and the label; then, in ticks, the step in
 /// progress, for how long the processor holds the interrupt back, its entry, the handler's way to the label,
-/// and the step there; their sum, in ticks and in microseconds; the sum with DMA bursts, if any are given, and
-/// with the visits of FIQ's handler, if it is asked for; and, if ticks are wanted, by how much the greatest of
-/// these times is less, or more. No run that serves the interrupt takes more than the sum, nor with FIQ's
-/// visits at the rate that is asked more than the sum with them, but for the profile's burst price for each DMA
-/// burst. Answers whether the greatest time is at most what is wanted.
+/// and the step there; their sum, in ticks and in microseconds; the sum with DMA bursts, if any are given,
+/// and with the visits of FIQ's handler, if it is asked for; and, if ticks are wanted, by how much the
+/// greatest of these times is less, or more. No run that serves the interrupt takes more than the sum, nor
+/// with FIQ's visits at the rate that is asked more than the sum with them, but for the profile's burst price
+/// for each DMA burst. Answers whether the greatest time is at most what is wanted.
 ///
 /// # Errors
 ///
@@ -145,10 +128,10 @@ fn read_response<'a>(
 /// `NotVector`, `NoSuchEntry`, `Walk`, `NotReached`; then those of each statement of a stretch that holds the
 /// interrupt back, with `Walk` where it has no bound, and `Walk` with `BoundTooLarge` where the sum is 2^63
 /// ticks or more; then those of FIQ's own source, `WordsMeet` where it has a word at an address of the other
-/// one, and those of FIQ's handler with `NotFiqEntry` after its statement; and last `Walk` with `BoundTooLarge`
-/// where the sum with its visits is too large. `Memory`: an allocation failed. `Device`: the output failed, and
-/// took a front of the report. After any but `Device` nothing was written. Where FIQ is asked for, a handler
-/// that does not begin at IRQ's vector is refused with `NotVector`.
+/// one, and those of FIQ's handler with `NotFiqEntry` after its statement; and last `Walk` with
+/// `BoundTooLarge` where the sum with its visits is too large. `Memory`: an allocation failed. `Device`: the
+/// output failed, and took a front of the report. After any but `Device` nothing was written. Where FIQ is
+/// asked for, a handler that does not begin at IRQ's vector is refused with `NotVector`.
 pub fn respond_report<'a, O: Output>(
     alloc: Global,
     asked: AskedResponse<'a>,

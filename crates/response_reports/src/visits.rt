@@ -32,7 +32,7 @@ pub(crate) const TOO_LONG: ReportFault = ReportFault::Walk(WalkFault::BoundTooLa
 pub(crate) struct FiqVisits {
     /// The bound of FIQ's handler, in ticks.
     pub(crate) bound: u64,
-    /// FIQ is taken at most once in so many ticks.
+    /// FIQ is asked for at most once in so many ticks.
     pub(crate) every: u32,
     /// For how many ticks it may have waited as the response begins.
     pub(crate) waited: u64,
@@ -174,8 +174,8 @@ fn timed_visits(
 ///
 /// # Errors
 ///
-/// Those of FIQ's own source and statement; then `Walk` with `BoundTooLarge` where the time with the visits is
-/// 2^63 ticks or more. `Memory`: an allocation failed.
+/// Those of FIQ's own source and statement; then `Walk` with `BoundTooLarge` where the time with the visits
+/// is 2^63 ticks or more. `Memory`: an allocation failed.
 pub(crate) fn response_visits<'a>(
     alloc: Global,
     said: &Source<'_>,

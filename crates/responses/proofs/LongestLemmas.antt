@@ -1,5 +1,7 @@
 -- No step takes more than the longest.
-use Rattle.std.proofs.Common.{◌≡◌, ◌∙◌, ℕ, ◌+◌, ◌-◌, ◌*◌, ◌%◌, ◌^◌, ◌<◌, ◌≤◌, ◌⊎◌, inl, inr, Bool, true, false, cond, nat_lt, ◌&&◌, List, [], length, Option, Some, None, refl, sym, ap, subst, arith, eqb, max}
+use Rattle.std.proofs.Common.{◌≡◌, ◌∙◌, ℕ, ◌+◌, ◌-◌, ◌*◌, ◌%◌, ◌^◌, ◌<◌, ◌≤◌, ◌⊎◌, inl, inr, Bool, true}
+use Rattle.std.proofs.Common.{false, cond, nat_lt, ◌&&◌, List, [], length, Option, Some, None, refl, sym, ap}
+use Rattle.std.proofs.Common.{subst, arith, eqb, max}
 use Rattle.std.specs.Prelude.{IfSome}
 use Rattle.std.proofs.Math.Nat.{pow-le-pow_right}
 use Rattle.std.proofs.lemmas.Bool.{cases_lt, cond-false, le-leb, le-ltb, lt-ltb}
@@ -34,7 +36,8 @@ use Rattle.arm2_transfer.specs.Moved.{Moved, on_bus}
 use Rattle.arm2_transfer.specs.Operations.{operation_moved}
 use Rattle.arm2_exec.specs.Run.{why_stopped}
 use Rattle.arm2_exec.specs.State.{State}
-use Rattle.arm2_exec.specs.Step.{Obeys, ObeysFetched, address_in, answer_of, fetched, fetched_at, interrupt_due, ticks_in, with_lines}
+use Rattle.arm2_exec.specs.Step.{Obeys, ObeysFetched, address_in, answer_of, fetched, fetched_at}
+use Rattle.arm2_exec.specs.Step.{interrupt_due, ticks_in, with_lines}
 use Rattle.arm2_exec.specs.declared.machine.Input.{Input}
 use Rattle.arm2_exec.specs.declared.machine.Stepped.{Stepped}
 use Rattle.arm2_exec.proofs.TakenLemmas.{took}
@@ -68,18 +71,23 @@ pub before : {A : Type 0} (a limit : ℕ) (x y : A) → a < limit → cond (nat_
 before a limit x y h = rw (lt-ltb a limit h) refl
 
 -- no word past the RAM that the largest pages give
-past_ram : (m : Memory) (place : ℕ) (user : Bool) → m.shift ≤ 15 → 0x400000 ≤ place → fetched_at m (physical_at (fitted_bytes m.shift) place user) ≡ None
+past_ram : (m : Memory) (place : ℕ) (user : Bool) → m.shift ≤ 15 → 0x400000 ≤ place
+    → fetched_at m (physical_at (fitted_bytes m.shift) place user) ≡ None
 past_ram m place user few high =
     let size : 2 ^ m.shift ≤ 2 ^ 15 = pow-le-pow_right {n = 2} (omega arith) {i = m.shift} {j = 15} few in
     rw (le-leb (fitted_bytes m.shift) place (omega (arith, size))) refl
 
-among_devices : (m : Memory) (a : ℕ) (user : Bool) → 0x3000000 ≤ a → a < 0x3400000 → fetched_at m (located m a user false) ≡ None
+among_devices : (m : Memory) (a : ℕ) (user : Bool) → 0x3000000 ≤ a → a < 0x3400000
+    → fetched_at m (located m a user false) ≡ None
 among_devices m a true low high =
-    ap (fetched_at m) (past a 0x2000000 _ _ (omega arith) ∙ past a 0x3000000 _ _ low ∙ before a 0x3400000 _ _ high)
+    ap (fetched_at m) (past a 0x2000000 _ _ (omega arith) ∙ past a 0x3000000 _ _ low
+    ∙ before a 0x3400000 _ _ high)
 among_devices m a false low high =
-    ap (fetched_at m) (past a 0x2000000 _ _ (omega arith) ∙ past a 0x3000000 _ _ low ∙ before a 0x3400000 _ _ high)
+    ap (fetched_at m) (past a 0x2000000 _ _ (omega arith) ∙ past a 0x3000000 _ _ low
+    ∙ before a 0x3400000 _ _ high)
 
-unfetched : (m : Memory) (a : ℕ) (user : Bool) → m.shift ≤ 15 → 0x2400000 ≤ a → a < 0x3400000 → fetched_at m (located m a user false) ≡ None
+unfetched : (m : Memory) (a : ℕ) (user : Bool) → m.shift ≤ 15 → 0x2400000 ≤ a → a < 0x3400000
+    → fetched_at m (located m a user false) ≡ None
 unfetched m a user few low high =
     elim (cases_lt a 0x3000000) [
       | inl below ↦
@@ -93,7 +101,8 @@ pub record IsFetchedAt (a : ℕ) : Type 0 where
   pub small : a < 2 ^ 26
   pub where_ : (a < 0x2400000) ⊎ (0x3400000 ≤ a)
 
-fetched_where : (m : Memory) (r15 word : ℕ) → m.shift ≤ 15 → fetched m r15 ≡ Some word → IsFetchedAt (address_of r15)
+fetched_where : (m : Memory) (r15 word : ℕ) → m.shift ≤ 15 → fetched m r15 ≡ Some word
+    → IsFetchedAt (address_of r15)
 fetched_where m r15 word few is =
     let a = address_of r15 in
     record {
@@ -113,7 +122,8 @@ module _ (p : Profile) where
   abbrev pub first_fetch : ℕ
   first_fetch = max p.quad (worst_rom p)
 
-  by_at : (ram : ℕ) (x : ℕ) → ((class_of x ≡ Ram) ⊎ (class_of x ≡ Rom)) → by_class (class_of x) ram (worst_rom p) p.unfitted ≤ max ram (worst_rom p)
+  by_at : (ram : ℕ) (x : ℕ) → ((class_of x ≡ Ram) ⊎ (class_of x ≡ Rom))
+      → by_class (class_of x) ram (worst_rom p) p.unfitted ≤ max ram (worst_rom p)
   by_at ram x (inl is) = rw is (omega arith)
   by_at ram x (inr is) = rw is (omega arith)
 
@@ -122,14 +132,18 @@ module _ (p : Profile) where
       let small : a < 2 ^ 26 = at.small in
       elim (class_cases (ahead_of a 8)) [
         | inl r ↦ inl r.0
-        | inr (inl r) ↦ absurd (elim at.where_ [ inl low ↦ omega (arith, r.1, low) | inr high ↦ omega (arith, r.1, r.2, high, small) ])
+        | inr (inl r) ↦ absurd (elim at.where_ [
+          | inl low ↦ omega (arith, r.1, low)
+          | inr high ↦ omega (arith, r.1, r.2, high, small)
+        ])
         | inr (inr r) ↦ inr r.0
       ]
 
   s_fetch : (a : ℕ) → IsFetchedAt a → worst_fetch_s p (ahead_of a 8) ≤ first_fetch
   s_fetch a at =
       let next = ahead_of a 8 in
-      let most : worst_fetch_s p next ≤ max (ram_price p next) (worst_rom p) = by_at (ram_price p next) next (next_class a at) in
+      let most : worst_fetch_s p next ≤ max (ram_price p next) (worst_rom p) =
+      by_at (ram_price p next) next (next_class a at) in
       omega (arith, most, s_ram_le p (eqb (next % 16) 0))
 
   n_fetch : (a : ℕ) → IsFetchedAt a → worst_fetch_n p (ahead_of a 8) ≤ max p.n (worst_rom p)
@@ -137,29 +151,45 @@ module _ (p : Profile) where
 
 -- ## Sums
 
-sum_taken : (quad rom unfitted n io internal leave f last : ℕ) → f ≤ max quad (max rom unfitted) → quad ≤ n → n ≤ io → unfitted ≤ leave → last ≤ quad
+sum_taken : (quad rom unfitted n io internal leave f last : ℕ) → f ≤ max quad (max rom unfitted) → quad ≤ n
+    → n ≤ io → unfitted ≤ leave → last ≤ quad
     → f + n + last ≤ max quad rom + max (16 * io + internal + leave) (16 * internal)
 sum_taken quad rom unfitted n io internal leave f last fetch second n_below jump s = omega arith
 
-sum_internal : (first io internal leave f j w : ℕ) → f ≤ first → w ≤ internal → j ≤ leave → f + w + j ≤ first + max (16 * io + internal + leave) (16 * internal)
+sum_internal : (first io internal leave f j w : ℕ) → f ≤ first → w ≤ internal → j ≤ leave
+    → f + w + j ≤ first + max (16 * io + internal + leave) (16 * internal)
 sum_internal first io internal leave f j w fetch few jump = omega arith
 
-sum_multiply : (first io internal leave f : ℕ) → f ≤ first → f + 16 * internal ≤ first + max (16 * io + internal + leave) (16 * internal)
+sum_multiply : (first io internal leave f : ℕ) → f ≤ first
+    → f + 16 * internal ≤ first + max (16 * io + internal + leave) (16 * internal)
 sum_multiply first io internal leave f fetch = omega arith
 
-sum_load : (first io internal leave f w j : ℕ) → f ≤ first → w ≤ 16 * io → j ≤ leave → f + (w + internal) + j ≤ first + max (16 * io + internal + leave) (16 * internal)
+sum_load : (first io internal leave f w j : ℕ) → f ≤ first → w ≤ 16 * io → j ≤ leave
+    → f + (w + internal) + j ≤ first + max (16 * io + internal + leave) (16 * internal)
 sum_load first io internal leave f w j fetch words jump = omega arith
 
-sum_store : (quad rom n io internal leave f w : ℕ) → f ≤ max n rom → n ≤ leave → w ≤ 16 * io → f + w ≤ max quad rom + max (16 * io + internal + leave) (16 * internal)
+sum_store : (quad rom n io internal leave f w : ℕ) → f ≤ max n rom → n ≤ leave → w ≤ 16 * io
+    → f + w ≤ max quad rom + max (16 * io + internal + leave) (16 * internal)
 sum_store quad rom n io internal leave f w fetch jump words = omega arith
 
-leave_most : (n unfitted a b c : ℕ) → (n ≤ max (max (n + a) b) (unfitted + c)) × (unfitted ≤ max (max (n + a) b) (unfitted + c))
+leave_most : (n unfitted a b c : ℕ) → (n ≤ max (max (n + a) b) (unfitted + c))
+    × (unfitted ≤ max (max (n + a) b) (unfitted + c))
 leave_most n unfitted a b c = (omega arith, omega arith)
 
 -- ## What words cost
 
 abbrev pub stated : Stated
-stated = record { entry = 0; leave = Any; returns = Assumed; loops = record { list = []; apart = [] }; targets = []; accesses = []; rules = []; multiplies = []; branches = [] }
+stated = record {
+  entry = 0;
+  leave = Any;
+  returns = Assumed;
+  loops = record { list = []; apart = [] };
+  targets = [];
+  accesses = [];
+  rules = [];
+  multiplies = [];
+  branches = [];
+}
 
 leaves_any : (p : Profile) (k : FlowKind) → arrival_ticks p Any k Exit ≤ worst_leave p Any
 leaves_any p kind.Plain = omega arith
@@ -181,42 +211,56 @@ module _ (p : Profile) (rom : RomTimes) (a t : ℕ) (at : IsFetchedAt a) (small 
 
   internal_most : (k : FlowKind) (cycles : ℕ) → cycles ≤ 1 → price k (work.Internal cycles) ≤ longest_step p
   internal_most k cycles few =
-      let product : cycles * p.internal ≤ 1 * p.internal = mul-le cycles p.internal 1 p.internal few (omega arith) in
+      let product : cycles * p.internal ≤ 1 * p.internal =
+      mul-le cycles p.internal 1 p.internal few (omega arith) in
       let one : cycles * p.internal ≤ p.internal = omega (arith, product) in
-      sum_internal (first_fetch p) (worst_io p) p.internal (worst_leave p Any) (worst_fetch_s p (ahead_of a 8)) (jump k) (cycles * p.internal) (s_fetch p a at) one (jump_most k)
+      sum_internal (first_fetch p) (worst_io p) p.internal (worst_leave p Any)
+      (worst_fetch_s p (ahead_of a 8)) (jump k) (cycles * p.internal) (s_fetch p a at) one (jump_most k)
 
   words_most : (words : ℕ) → words ≤ 16 → words * worst_io p ≤ 16 * worst_io p
   words_most words few = mul-le words (worst_io p) 16 (worst_io p) few (omega arith)
 
   load_most : (k : FlowKind) (words : ℕ) → words ≤ 16 → price k (work.Load words) ≤ longest_step p
   load_most k words few =
-      sum_load (first_fetch p) (worst_io p) p.internal (worst_leave p Any) (worst_fetch_s p (ahead_of a 8)) (words * worst_io p) (jump k) (s_fetch p a at) (words_most words few) (jump_most k)
+      sum_load (first_fetch p) (worst_io p) p.internal (worst_leave p Any) (worst_fetch_s p (ahead_of a 8))
+      (words * worst_io p) (jump k) (s_fetch p a at) (words_most words few) (jump_most k)
 
   store_most : (words : ℕ) → words ≤ 16 → price kind.Plain (work.Store words) ≤ longest_step p
   store_most words few =
       let all : worst_fetch_n p (ahead_of a 8) + words * worst_io p ≤ longest_step p =
-      sum_store p.quad (worst_rom p) p.n (worst_io p) p.internal (worst_leave p Any) (worst_fetch_n p (ahead_of a 8)) (words * worst_io p) (n_fetch p a at) (leave_most p.n p.unfitted _ _ _).0 (words_most words few) in
-      let zero : price kind.Plain (work.Store words) ≡ worst_fetch_n p (ahead_of a 8) + words * worst_io p + 0 = refl in
+      sum_store p.quad (worst_rom p) p.n (worst_io p) p.internal (worst_leave p Any)
+      (worst_fetch_n p (ahead_of a 8)) (words * worst_io p) (n_fetch p a at)
+      (leave_most p.n p.unfitted _ _ _).0 (words_most words few) in
+      let zero : price kind.Plain (work.Store words) ≡ worst_fetch_n p (ahead_of a 8) + words * worst_io
+      p + 0 = refl in
       omega (arith, all, zero)
 
   multiply_most : price kind.Plain (work.Internal 16) ≤ longest_step p
   multiply_most =
-      let all = sum_multiply (first_fetch p) (worst_io p) p.internal (worst_leave p Any) (worst_fetch_s p (ahead_of a 8)) (s_fetch p a at) in
-      let zero : price kind.Plain (work.Internal 16) ≡ worst_fetch_s p (ahead_of a 8) + 16 * p.internal + 0 = refl in
+      let all = sum_multiply (first_fetch p) (worst_io p) p.internal (worst_leave p Any)
+      (worst_fetch_s p (ahead_of a 8)) (s_fetch p a at) in
+      let zero : price kind.Plain (work.Internal 16) ≡ worst_fetch_s p (ahead_of a 8) + 16 * p.internal + 0 =
+      refl in
       omega (arith, all, zero)
 
-  transfer_most : (load jumps : Bool) (words : ℕ) → IsWork (transfer_work load words) → price (writer_if (load && jumps)) (stated_work stated a (transfer_work load words)) ≤ longest_step p
+  transfer_most : (load jumps : Bool) (words : ℕ) → IsWork (transfer_work load words)
+      → price (writer_if (load && jumps)) (stated_work stated a (transfer_work load words)) ≤ longest_step p
   transfer_most true jumps words few = load_most (writer_if jumps) words few.1
   transfer_most false jumps words few = store_most words few.1
 
-  operation_most : (o : Operation) → IsWork (work_of o) → price (kind_of o) (stated_work stated a (work_of o)) ≤ longest_step p
+  operation_most : (o : Operation) → IsWork (work_of o)
+      → price (kind_of o) (stated_work stated a (work_of o)) ≤ longest_step p
   operation_most (operation.Multiply x) fits = multiply_most
-  operation_most (operation.DataRegister x) fits = internal_most (kind_of (operation.DataRegister x)) 0 (omega arith)
-  operation_most (operation.DataRegisterShift x) fits = internal_most (kind_of (operation.DataRegisterShift x)) 1 (omega arith)
-  operation_most (operation.DataImmediate x) fits = internal_most (kind_of (operation.DataImmediate x)) 0 (omega arith)
+  operation_most (operation.DataRegister x) fits =
+      internal_most (kind_of (operation.DataRegister x)) 0 (omega arith)
+  operation_most (operation.DataRegisterShift x) fits =
+      internal_most (kind_of (operation.DataRegisterShift x)) 1 (omega arith)
+  operation_most (operation.DataImmediate x) fits =
+      internal_most (kind_of (operation.DataImmediate x)) 0 (omega arith)
   operation_most (operation.SingleImmediate x) fits = transfer_most x.load (is_pc x.rd) 1 fits
   operation_most (operation.SingleRegister x) fits = transfer_most x.load (is_pc x.rd) 1 fits
-  operation_most (operation.Block x) fits = transfer_most x.load (is_listed x.list R15) (word_count x.list) fits
+  operation_most (operation.Block x) fits =
+      transfer_most x.load (is_listed x.list R15) (word_count x.list) fits
   operation_most (operation.Branch x) fits = internal_most (kind_of (operation.Branch x)) 0 (omega arith)
   operation_most (operation.Swi x) fits = internal_most kind.Trap 0 (omega arith)
   operation_most (operation.UndefinedTransfer x) fits = internal_most kind.Trap 0 (omega arith)
@@ -239,13 +283,15 @@ few_cycles (operation.UndefinedTransfer x) regs = tt
 few_cycles (operation.CoprocessorTransfer x) regs = tt
 few_cycles (operation.Coprocessor x) regs = tt
 
-few_if : (holds : Bool) (o : Operation) (regs : List ℕ) → IfSome (cycles_if holds o regs) (λ cycles. cycles ≤ 16)
+few_if : (holds : Bool) (o : Operation) (regs : List ℕ)
+    → IfSome (cycles_if holds o regs) (λ cycles. cycles ≤ 16)
 few_if true o regs = few_cycles o regs
 few_if false o regs = tt
 
 -- ## Steps
 
-module _ (p : Profile) (s : State) (i : Input) (stepped : Stepped) (after : State) (is : IsStepAt p s i stepped after) where
+module _ (p : Profile) (s : State) (i : Input) (stepped : Stepped) (after : State)
+    (is : IsStepAt p s i stepped after) where
   abbrev rom : RomTimes
   rom = s.bus.memc.control.rom_times
 
@@ -260,7 +306,8 @@ module _ (p : Profile) (s : State) (i : Input) (stepped : Stepped) (after : Stat
 
   -- a step that ends as other instructions do costs no more than the longest
   abbrev Costs_ : Moved → Type 0
-  Costs_ m = TakesWithin 16 m.accesses → m.kind ≡ ended.Plain → ticks_of (record { profile = p; rom = rom }) m.accesses ≤ longest_step p
+  Costs_ m = TakesWithin 16 m.accesses → m.kind ≡ ended.Plain
+      → ticks_of (record { profile = p; rom = rom }) m.accesses ≤ longest_step p
 
   either_most : (holds : Bool) (x y : Moved) → Costs_ x → Costs_ y → Costs_ (cond holds x y)
   either_most true x y h k = h
@@ -269,44 +316,64 @@ module _ (p : Profile) (s : State) (i : Input) (stepped : Stepped) (after : Stat
   small : (m : Moved) → address_of (r15_in m.regs) < 2 ^ 26
   small m = (word_address_of (r15_in m.regs)).0
 
-  done_most : IsFetchedAt at_ → (o : Operation) → IsWork (work_of o) → Costs_ (operation_moved o i.port s.regs bus)
+  done_most : IsFetchedAt at_ → (o : Operation) → IsWork (work_of o)
+      → Costs_ (operation_moved o i.port s.regs bus)
   done_most at o fits within plain =
       let m : Moved = operation_moved o i.port s.regs bus in
-      let costs = operation_costs stated p rom Any s.regs long o i.port bus fits (λ store first address there. tt) within plain in
+      let costs = operation_costs stated p rom Any s.regs long o i.port bus fits
+      (λ store first address there. tt) within plain in
       omega (arith, costs.most, operation_most p rom at_ (address_of (r15_in m.regs)) at (small m) o fits)
 
   skipped_most : IsFetchedAt at_ → Costs_ (on_bus bus (skipped s.regs))
   skipped_most at within plain =
       let m : Moved = on_bus bus (skipped s.regs) in
-      let costs = skipped_costs stated p rom Any s.regs long bus (λ store first address there. tt) within plain in
-      omega (arith, costs.most, internal_most p rom at_ (address_of (r15_in m.regs)) at (small m) kind.Plain 0 (omega arith))
+      let costs =
+      skipped_costs stated p rom Any s.regs long bus (λ store first address there. tt) within plain in
+      omega (
+        arith,
+        costs.most,
+        internal_most p rom at_ (address_of (r15_in m.regs)) at (small m) kind.Plain 0
+            (omega arith),
+      )
 
   stopped_most : (w : Why) → Costs_ (on_bus bus (stopped w s.regs))
   unfolding stopped
   stopped_most w within plain = absurd (cc)
 
-  obeys_most : (word : ℕ) → IsFetchedAt at_ → (m : Moved) → Obeys word i.port s.regs bus m → m.kind ≡ ended.Plain → ticks_of (record { profile = p; rom = rom }) m.accesses ≤ longest_step p
+  obeys_most : (word : ℕ) → IsFetchedAt at_ → (m : Moved) → Obeys word i.port s.regs bus m
+      → m.kind ≡ ended.Plain → ticks_of (record { profile = p; rom = rom }) m.accesses ≤ longest_step p
   obeys_most word at m (inl (x, means, e)) plain =
-      let moves = word_moves Any s.regs bus word i.port (instr_reading x s.regs) m (inl (x, means, refl)) (inl (x, means, e)) in
-      let within : TakesWithin 16 m.accesses = moves.within plain 16 (omega arith) (few_if (holds_in s.regs x.cond) x.operation s.regs) in
+      let moves = word_moves Any s.regs bus word i.port (instr_reading x s.regs) m (inl (x, means, refl))
+      (inl (x, means, e)) in
+      let within : TakesWithin 16 m.accesses =
+      moves.within plain 16 (omega arith) (few_if (holds_in s.regs x.cond) x.operation s.regs) in
       let fits : IsWork (work_of x.operation) = action_fits word (instr_action x) (inl (x, means, refl)) in
-      subst Costs_ (sym e) (either_most (holds_in s.regs x.cond) (operation_moved x.operation i.port s.regs bus) (on_bus bus (skipped s.regs)) (done_most at x.operation fits) (skipped_most at)) within plain
+      subst Costs_ (sym e) (either_most (holds_in s.regs x.cond)
+      (operation_moved x.operation i.port s.regs bus) (on_bus bus (skipped s.regs))
+      (done_most at x.operation fits) (skipped_most at)) within plain
   obeys_most word at m (inr (u, none, e)) plain =
-      let moves = word_moves Any s.regs bus word i.port (unallocated_reading u s.regs) m (inr (u, none, refl)) (inr (u, none, e)) in
+      let moves = word_moves Any s.regs bus word i.port (unallocated_reading u s.regs) m (inr (u, none, refl))
+      (inr (u, none, e)) in
       let within : TakesWithin 16 m.accesses = moves.within plain 16 (omega arith) tt in
-      subst Costs_ (sym e) (either_most (holds_in s.regs u.cond) (on_bus bus (stopped why.Unallocated s.regs)) (on_bus bus (skipped s.regs)) (stopped_most why.Unallocated) (skipped_most at)) within plain
+      subst Costs_ (sym e) (either_most (holds_in s.regs u.cond) (on_bus bus (stopped why.Unallocated s.regs))
+      (on_bus bus (skipped s.regs)) (stopped_most why.Unallocated) (skipped_most at)) within plain
 
-  fetched_most : (word : Option ℕ) → fetched s.bus.memc (r15_in s.regs) ≡ word → (m : Moved) → ObeysFetched word i.port s.regs bus m → m.kind ≡ ended.Plain → ticks_of (record { profile = p; rom = rom }) m.accesses ≤ longest_step p
+  fetched_most : (word : Option ℕ) → fetched s.bus.memc (r15_in s.regs) ≡ word → (m : Moved)
+      → ObeysFetched word i.port s.regs bus m → m.kind ≡ ended.Plain
+      → ticks_of (record { profile = p; rom = rom }) m.accesses ≤ longest_step p
   unfolding taken
   fetched_most None fetches m obeys plain = absurd (let kind = ap (λ (x : Moved). x.kind) obeys in cc)
-  fetched_most (Some word) fetches m obeys plain = obeys_most word (fetched_where s.bus.memc (r15_in s.regs) word is.pages.1 fetches) m obeys plain
+  fetched_most (Some word) fetches m obeys plain =
+      obeys_most word (fetched_where s.bus.memc (r15_in s.regs) word is.pages.1 fetches) m obeys plain
 
   plain_most : stepped.kind ≡ ended.Plain → stepped.ticks ≤ longest_step p
   plain_most plain =
       let m : Moved = is.step.moved in
       let does = plain_step s m stepped is.step.stepped_is plain in
-      let ticks : stepped.ticks ≡ ticks_of (record { profile = p; rom = rom }) m.accesses = does.ticks ∙ ap (λ (q : Profile). ticks_of (record { profile = q; rom = rom }) m.accesses) is.prices in
-      let obeyed : ObeysFetched (fetched bus.memc (r15_in s.regs)) i.port s.regs bus m = works_plain (interrupt_due bus (r15_in s.regs)) i.port s.regs bus m is.step.works does.kind in
+      let ticks : stepped.ticks ≡ ticks_of (record { profile = p; rom = rom }) m.accesses = does.ticks
+      ∙ ap (λ (q : Profile). ticks_of (record { profile = q; rom = rom }) m.accesses) is.prices in
+      let obeyed : ObeysFetched (fetched bus.memc (r15_in s.regs)) i.port s.regs bus m =
+      works_plain (interrupt_due bus (r15_in s.regs)) i.port s.regs bus m is.step.works does.kind in
       omega (arith, ticks, fetched_most (fetched s.bus.memc (r15_in s.regs)) refl m obeyed does.kind)
 
   -- ## Exceptions
@@ -329,7 +396,10 @@ module _ (p : Profile) (s : State) (i : Input) (stepped : Stepped) (after : Stat
   entry_s vector.Irq = p.s_first
   entry_s vector.Fiq = omega arith
 
-  taken_ticks : (v : Vector) → ticks_of (record { profile = p; rom = rom }) (taken v s.regs).accesses ≡ 0 + fetch_s p (ahead_of at_ 8) rom + fetch_n p (entry_at v).address rom + fetch_s p (ahead_of (entry_at v).address 4) rom
+  taken_ticks : (v : Vector)
+      → ticks_of (record { profile = p; rom = rom }) (taken v s.regs).accesses ≡ 0 + fetch_s p
+      (ahead_of at_ 8) rom + fetch_n p (entry_at v).address rom + fetch_s p (ahead_of (entry_at v).address 4)
+      rom
   unfolding taken
   taken_ticks v = refl
 
@@ -341,11 +411,14 @@ module _ (p : Profile) (s : State) (i : Input) (stepped : Stepped) (after : Stat
       let ticks : stepped.ticks ≡ ticks_of (record { profile = p; rom = rom }) (taken v s.regs).accesses =
       ap (λ (t : Stepped). t.ticks) (is.step.stepped_is ∙ cond-false (is_stopped m.kind) _ _ done.1)
       ∙ ap (λ (x : Moved). ticks_in s x) done.0
-      ∙ ap (λ (q : Profile). ticks_of (record { profile = q; rom = rom }) (taken v s.regs).accesses) is.prices in
+      ∙ ap (λ (q : Profile). ticks_of (record { profile = q; rom = rom }) (taken v s.regs).accesses)
+      is.prices in
       let first = fetch_s p (ahead_of at_ 8) rom in
       let last = fetch_s p (ahead_of (entry_at v).address 4) rom in
       let most : first + p.n + last ≤ longest_step p =
-      sum_taken p.quad (worst_rom p) p.unfitted p.n (worst_io p) p.internal (worst_leave p Any) first last (following_le p rom (ahead_of at_ 8)) p.quad_second p.n_below (leave_most p.n p.unfitted _ _ _).1 (entry_s v) in
+      sum_taken p.quad (worst_rom p) p.unfitted p.n (worst_io p) p.internal (worst_leave p Any) first last
+      (following_le p rom (ahead_of at_ 8)) p.quad_second p.n_below (leave_most p.n p.unfitted _ _ _).1
+      (entry_s v) in
       omega (arith, ticks, taken_ticks v, entry_n v, most)
 
   by_kind : (k : Kind) → stepped.kind ≡ k → stepped.ticks ≤ longest_step p

@@ -1,14 +1,14 @@
 -- How the walks that first come to an address are searched, over numbers of places, along edges that are cut
 -- where no such walk goes on. Only private functions cite these.
-use Rattle.std.specs.Prelude.{◌≡◌, ℕ, ◌<◌, ◌≤◌, ◌⊎◌, Bool, true, false, cond, not, ◌&&◌, List, length, map, max}
-use Rattle.std.specs.Prelude.{Contains, Option, Some, None, slice_index_or}
+use Rattle.std.specs.Prelude.{◌≡◌, ℕ, ◌<◌, ◌≤◌, ◌⊎◌, Bool, true, false, cond, not, ◌&&◌, List, length, map}
+use Rattle.std.specs.Prelude.{max, Contains, Option, Some, None, slice_index_or}
 use Rattle.control_flow.specs.Flow.{Flow}
 use Rattle.numbered_walks.specs.declared.span.NumberedEdge.{NumberedEdge}
 use Rattle.numbered_walks.specs.declared.span.Span.{Span}
 use Rattle.numbered_walks.specs.Ordered.{IsGreatest}
 use Rattle.loop_bounds.specs.Tree.{Tree, place_in}
-use Rattle.responses.specs.declared.arriving.Way.{Way}
-use Rattle.responses.specs.declared.arriving.Way.TheVariants.{Apart, Before, There}
+use Rattle.responses.specs.declared.ways.Way.{Way}
+use Rattle.responses.specs.declared.ways.Way.TheVariants.{Apart, Before, There}
 use Rattle.responses.specs.Response.{is_at}
 
 -- ## Where a number lies

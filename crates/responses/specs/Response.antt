@@ -1,5 +1,5 @@
--- Response time: how long after an interrupt's line rises the handler's first step at an address ends, whether
--- the condition of its instruction holds or not.
+-- Response time: how long after an interrupt's line rises the handler's first step at an address ends,
+-- whether the condition of its instruction holds or not.
 use Rattle.std.specs.Prelude.{◌≡◌, ℕ, ◌+◌, ◌*◌, ◌≤◌, ◌==◌, Bool, true, false, List, [], ◌∷◌, ◌++◌}
 use Rattle.std.specs.Prelude.{All, Option, Some, None}
 use Rattle.walks.specs.Walk.{Leads, cost_of}
@@ -165,8 +165,8 @@ NoneIsLonger =
 
 -- ## Some run
 
--- a handler with a flow graph, and a run that serves the interrupt: IOC does not ask for it as the run begins,
--- it asks as the one step that waits begins
+-- a handler with a flow graph, and a run that serves the interrupt: IOC does not ask for it as the run
+-- begins, it asks as the one step that waits begins
 pub record HasService (profile : Profile) (interrupt : Interrupt) : Type 0 where
   pub words : Words
   pub stated : Stated

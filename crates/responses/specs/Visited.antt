@@ -83,8 +83,8 @@ pub record ServesVisited (words fiq_words : Words) (irq fiq : Stated) (flow fiq_
   pub progresses : IsStepAt flow.profile s service.in_progress in_progress risen
   pub waited : ℕ
   pub unmasked : State
-  pub waits : WaitsVisited (KeepsStated fiq_words fiq flow.profile fiq_flow) flow.profile risen service.waiting
-      waited unmasked
+  pub waits : WaitsVisited (KeepsStated fiq_words fiq flow.profile fiq_flow) flow.profile risen
+      service.waiting waited unmasked
   pub waited_most : waited ≤ masked
   pub visited : State
   pub visits : AreVisits (KeepsStated fiq_words fiq flow.profile fiq_flow) flow.profile unmasked
@@ -99,8 +99,8 @@ pub record ServesVisited (words fiq_words : Words) (irq fiq : Stated) (flow fiq_
   pub last : Edge
   pub is_edge : HasEdge flow last
   pub from : last.from ≡ place
-  pub follows : FollowsVisited (KeepsStated fiq_words fiq flow.profile fiq_flow) flow.profile words irq entered
-      service.handling (walk ++ last ∷ [])
+  pub follows : FollowsVisited (KeepsStated fiq_words fiq flow.profile fiq_flow) flow.profile words irq
+      entered service.handling (walk ++ last ∷ [])
 
 -- ## How long they take
 

@@ -9,6 +9,7 @@ mod interrupts;
 mod law;
 mod longest;
 mod response;
+mod ways;
 
 pub use arriving::{worst_arrival, worst_step_at};
 pub use interrupts::{Interrupt, entry_ticks, irq_entry};

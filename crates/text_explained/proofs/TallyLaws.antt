@@ -1,6 +1,6 @@
 -- An edge more in a tally.
 use Rattle.std.proofs.Common.{◌≡◌, ◌∙◌, ℕ, ◌+◌, ◌-◌, ◌*◌, ◌^◌, ◌<◌, ◌≤◌, min, true, false, cond, List, length, get_or, Some, None, unwrap_or, ⊎_elim, sym, ap, arith, add-one}
-use Rattle.std.specs.Prelude.{Contains, Option, ◌&&◌, ◌==◌, if◌then◌else◌, nat_lt, sum_by}
+use Rattle.std.specs.Prelude.{Bool, Contains, Option, ◌&&◌, ◌==◌, if◌then◌else◌, nat_lt, sum_by}
 use Rattle.std.specs.BTreeMap.{get}
 use Rattle.std.specs.List.{range_with_len}
 use Rattle.std.specs.Ordering.{nat_cmp}
@@ -10,12 +10,13 @@ use Rattle.std.proofs.lemmas.List.Folds.{list_any_at}
 use Rattle.std.proofs.lemmas.List.Sums.{sum_by_push}
 use Rattle.control_flow.specs.declared.places.Place.{Place}
 use Rattle.control_flow.specs.declared.edges.Edge.{Edge}
+use Rattle.control_flow.specs.declared.edges.Label.TheVariants.{Do}
 use Rattle.control_flow.specs.Flow.{Flow, IsWellFormed}
 use Rattle.control_flow.proofs.Firsts.{no_edge}
 use Rattle.longest_walk.specs.Built.{step_at}
-use Rattle.walk_counts.specs.Counts.{capped, occurrences}
+use Rattle.walk_counts.specs.Counts.{capped, is_same_label, occurrences}
 use Rattle.walk_counts.proofs.SumLemmas.{capped_times, range_push}
-use Rattle.text_explained.specs.Taken.{Adds, HasAdded, Starts, cost_at, costs_where, in_all, is_at, is_from, is_reached, is_taken_from, with_edge, nothing, pass_at, range_of, taken_by, taken_of, widened}
+use Rattle.text_explained.specs.Taken.{Adds, HasAdded, Starts, cost_at, costs_where, done_at, in_all, is_at, is_from, is_reached, is_taken_from, with_edge, nothing, pass_at, range_of, taken_by, taken_of, widened}
 use Rattle.text_explained.proofs.RangeLaws.{range_kept, range_left}
 use Rattle.text_explained.specs.declared.walk_tally.Costs.{Costs}
 use Rattle.text_explained.specs.declared.walk_tally.Taken.{Taken}
@@ -46,8 +47,19 @@ module _ (edges walk : List Edge) (i : ℕ) (number : Edge → ℕ) where
       let same : s ≡ s + occurrences edges walk i * 0 = omega arith in
       ap capped (same ∙ ap (λ m. s + occurrences edges walk i * m) (sym none) ∙ sym (in_all_more edges walk i number))
 
-pub same_taken : (s t : Taken) → s.passes ≡ t.passes → s.ticks ≡ t.ticks → s.costs ≡ t.costs → s.prices ≡ t.prices → s ≡ t
-same_taken s t passes ticks costs prices = λ i. record { passes = passes i; ticks = ticks i; costs = costs i; prices = prices i }
+  -- or so many ticks each time
+  pub counts_cost : (count cost : ℕ) → count ≡ capped (occurrences edges walk i) → number (step_at edges i) ≡ cost
+      → capped (capped (in_all edges walk i number) + capped (count * cost)) ≡ capped (in_all edges walk (i + 1) number)
+  counts_cost count cost count_is each =
+      let s = in_all edges walk i number in
+      let n = occurrences edges walk i in
+      let once : capped (capped n * cost) ≡ capped (n * cost) = zero_more (2 ^ 64 - 1) (capped n * cost) ∙ capped_times (2 ^ 64 - 1) 0 n cost ∙ sym (zero_more (2 ^ 64 - 1) (n * cost)) in
+      let sum : capped (capped s + capped (n * cost)) ≡ capped (s + n * cost) = omega arith in
+      ap (λ c. capped (capped s + capped (c * cost))) count_is ∙ ap (λ c. capped (capped s + c)) once ∙ sum
+      ∙ ap (λ c. capped (s + n * c)) (sym each) ∙ ap capped (sym (in_all_more edges walk i number))
+
+pub same_taken : (s t : Taken) → s.passes ≡ t.passes → s.done ≡ t.done → s.ticks ≡ t.ticks → s.costs ≡ t.costs → s.prices ≡ t.prices → s ≡ t
+same_taken s t passes done ticks costs prices = λ i. record { passes = passes i; done = done i; ticks = ticks i; costs = costs i; prices = prices i }
 
 -- the place of an edge is reached
 pub reached : (places : List Place) (p : Place) (a : ℕ) → Contains places p → is_at a p ≡ true → is_reached places a ≡ true
@@ -56,7 +68,7 @@ reached places p a has at = list_any_at (is_at a) places has.0 p has.1 (ap (is_a
 module _ (edges walk : List Edge) (i : ℕ) (e : Edge) (count : ℕ) (e_is : e ≡ step_at edges i) (count_is : count ≡ capped (occurrences edges walk i)) where
   -- an edge that leaves the address
   leaving : (a : ℕ) → is_at a e.from ≡ true → with_edge (taken_of edges walk i a) e count ≡ taken_of edges walk (i + 1) a
-  leaving a at = same_taken (with_edge (taken_of edges walk i a) e count) (taken_of edges walk (i + 1) a) passes ticks costs prices
+  leaving a at = same_taken (with_edge (taken_of edges walk i a) e count) (taken_of edges walk (i + 1) a) passes done ticks costs prices
     where
       n : ℕ
       n = occurrences edges walk i
@@ -69,6 +81,23 @@ module _ (edges walk : List Edge) (i : ℕ) (e : Edge) (count : ℕ) (e_is : e �
 
       passes : capped (capped (in_all edges walk i (pass_at a)) + count) ≡ capped (in_all edges walk (i + 1) (pass_at a))
       passes = counts_once edges walk i (pass_at a) count count_is (ap (λ b. cond b 1 0) here)
+
+      label : is_same_label (step_at edges i).label Do ≡ is_same_label e.label Do
+      label = ap (λ (x : Edge). is_same_label x.label Do) (sym e_is)
+
+      does : (b : Bool) → is_same_label e.label Do ≡ b → done_at a (step_at edges i) ≡ cond b 1 0
+      does b is = ap (λ c. cond (c && is_same_label (step_at edges i).label Do) 1 0) here ∙ ap (λ c. cond c 1 0) (label ∙ is)
+
+      done : capped (capped (in_all edges walk i (done_at a)) + cond (is_same_label e.label Do) count 0) ≡ capped (in_all edges walk (i + 1) (done_at a))
+      done =
+          let s = in_all edges walk i (done_at a) in
+          ⊎_elim
+          (λ (yes : is_same_label e.label Do ≡ true).
+          ap (λ b. capped (capped s + cond b count 0)) yes ∙ counts_once edges walk i (done_at a) count count_is (does true yes))
+          (λ (no : is_same_label e.label Do ≡ false).
+          let still : capped (capped s + 0) ≡ capped s = omega arith in
+          ap (λ b. capped (capped s + cond b count 0)) no ∙ still ∙ counts_not edges walk i (done_at a) (does false no))
+          (cases_Bool (is_same_label e.label Do))
 
       ticks : capped (capped (in_all edges walk i (cost_at a)) + capped (count * e.cost)) ≡ capped (in_all edges walk (i + 1) (cost_at a))
       ticks =
@@ -106,6 +135,7 @@ module _ (edges walk : List Edge) (i : ℕ) (e : Edge) (count : ℕ) (e_is : e �
   passing : (a : ℕ) → is_at a e.from ≡ false → taken_of edges walk i a ≡ taken_of edges walk (i + 1) a
   passing a at = same_taken (taken_of edges walk i a) (taken_of edges walk (i + 1) a)
       (counts_not edges walk i (pass_at a) (ap (λ b. cond b 1 0) here))
+      (counts_not edges walk i (done_at a) (ap (λ b. cond (b && is_same_label (step_at edges i).label Do) 1 0) here))
       (counts_not edges walk i (cost_at a) (ap (λ b. cond b (step_at edges i).cost 0) here))
       (sym (range_left (is_taken_from edges walk a) (λ k. (step_at edges k).cost) i (ap (λ b. b && nat_lt 0 (occurrences edges walk i)) here)))
       (sym (range_left (is_from edges a) (λ k. (step_at edges k).cost) i here))

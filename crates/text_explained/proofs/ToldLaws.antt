@@ -1,16 +1,19 @@
 -- The word of which a line's row tells: it is passed where the line has ticks.
 use Rattle.std.proofs.Common.{◌≡◌, ◌∙◌, ℕ, ◌+◌, ◌*◌, ◌<◌, ◌≤◌, ◌⊎◌, Bool, true, false, cond, List, [], ◌∷◌, length, Option, Some, None, inl, inr, ⊎_elim, refl, sym, ap, subst, arith}
-use Rattle.std.specs.Prelude.{find, if◌then◌else◌, is_some, sum_by, unwrap_or}
+use Rattle.std.specs.Prelude.{◌==◌, find, if◌then◌else◌, is_some, sum_by, unwrap_or}
 use Rattle.std.specs.List.{range_with_len}
-use Rattle.std.proofs.lemmas.Bool.{cases_lt, lt-ltb, ltb-true}
+use Rattle.std.proofs.lemmas.Bool.{cases_lt, eqb-true, lt-ltb, ltb-true}
 use Rattle.std.proofs.lemmas.List.Sums.{sum_by-cons}
 use Rattle.assembler.specs.declared.placed_line.PlacedLine.{PlacedLine}
 use Rattle.control_flow.specs.Flow.{Flow}
 use Rattle.control_flow.specs.declared.edges.Edge.{Edge}
 use Rattle.longest_walk.specs.Built.{step_at}
 use Rattle.walk_counts.specs.Counts.{capped, occurrences}
-use Rattle.text_explained.specs.Table.{is_passed, passes_of, ticks_in, ticks_of, told_at, words_of}
+use Rattle.text_explained.specs.Folding.{kind_of}
+use Rattle.text_explained.specs.Table.{costs_of, done_of, is_any_reached, is_passed, line_taken, passes_of, prices_of, ticks_in, ticks_of, told_at, words_of}
 use Rattle.text_explained.specs.Taken.{cost_at, in_all, is_at, is_reached, pass_at, taken_at, taken_of}
+use Rattle.text_explained.specs.declared.folding.FoldKind.{FoldKind}
+use Rattle.text_explained.specs.declared.folding.FoldKind.TheVariants.{OffPath}
 use Rattle.text_explained.specs.declared.walk_tally.Taken.{Taken}
 
 -- ## Sums
@@ -57,6 +60,11 @@ pub times_beside : (o cost : ℕ) (b : Bool) → 0 < o * cond b cost 0 → 0 < o
 times_beside o cost true more = ⊎_elim (λ (some : 0 < o). omega (arith, some)) (λ (none : o ≤ 0). absurd (times_none o cost none more)) (cases_lt 0 o)
 times_beside o cost false more = absurd (let e : 0 < o * 0 = more in omega (arith, e))
 
+-- no passes, where they make a kind
+zero_passes : (n : ℕ) (kind : FoldKind) (b : Bool) → (n == 0) ≡ b → (if b then Some OffPath else None) ≡ Some kind → n ≡ 0
+zero_passes n kind true zero is = eqb-true n 0 zero
+zero_passes n kind false some is = absurd (let e : None ≡ Some kind = is in cc)
+
 -- ## Addresses
 
 module _ (flow : Flow) (walk : List Edge) where
@@ -89,3 +97,36 @@ module _ (flow : Flow) (walk : List Edge) where
       let told : told_at (taken_at flow walk) line ≡ w.0 =
       ap (λ o. unwrap_or o (unwrap_or (find (λ a. is_some (taken_at flow walk a)) (words_of line)) line.at)) w.1 in
       subst (λ a. 0 < passes_of (taken_at flow walk a)) (sym told) (ltb-true 0 (passes_of (taken_at flow walk w.0)) w.2)
+
+  -- ## Rows that are folded
+
+  -- no passes, where what is taken is of a kind
+  none_passed : (t : Option Taken) (kind : FoldKind) → kind_of t ≡ Some kind → passes_of t ≡ 0
+  none_passed None kind is = refl
+  none_passed (Some t) kind is = zero_passes t.passes kind (t.passes == 0) refl is
+
+  pub no_ticks_at : (a : ℕ) (kind : FoldKind) → kind_of (taken_at flow walk a) ≡ Some kind → ticks_of (taken_at flow walk a) ≡ 0
+  no_ticks_at a kind is =
+      let none : passes_of (taken_at flow walk a) ≡ 0 = none_passed (taken_at flow walk a) kind is in
+      ⊎_elim (λ (more : 0 < ticks_of (taken_at flow walk a)). absurd (let e : 0 < passes_of (taken_at flow walk a) = reached_is_passed a (is_reached flow.places a) refl more in omega (arith, e, none)))
+      (λ (least : ticks_of (taken_at flow walk a) ≤ 0). omega (arith, least)) (cases_lt 0 (ticks_of (taken_at flow walk a)))
+
+  -- of a line as it is told: with so many passes and ticks, if a place is there
+  pub no_ticks_on : (line : PlacedLine) (kind : FoldKind) → kind_of (line_taken (taken_at flow walk) line) ≡ Some kind → ticks_of (line_taken (taken_at flow walk) line) ≡ 0
+  no_ticks_on line kind = by_reached (is_any_reached (taken_at flow walk) line.at line.words)
+    where
+      told : Taken
+      told = record {
+        passes = passes_of (taken_at flow walk (told_at (taken_at flow walk) line));
+        done = done_of (taken_at flow walk (told_at (taken_at flow walk) line));
+        ticks = ticks_in (taken_at flow walk) line.at line.words;
+        costs = costs_of (taken_at flow walk (told_at (taken_at flow walk) line));
+        prices = prices_of (taken_at flow walk (told_at (taken_at flow walk) line));
+      }
+
+      by_reached : (b : Bool) → kind_of (if b then Some told else None) ≡ Some kind → ticks_of (if b then Some told else None) ≡ 0
+      by_reached false is = refl
+      by_reached true is =
+          let none : told.passes ≡ 0 = none_passed (Some told) kind is in
+          ⊎_elim (λ (more : 0 < told.ticks). absurd (let e : 0 < told.passes = told_is_passed line more in omega (arith, e, none)))
+          (λ (least : told.ticks ≤ 0). omega (arith, least)) (cases_lt 0 told.ticks)

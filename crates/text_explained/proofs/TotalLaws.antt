@@ -8,6 +8,7 @@ use Rattle.std.proofs.lemmas.List.Folds.{list_any_at, list_any_none}
 use Rattle.assembler.specs.declared.placed_line.PlacedLine.{PlacedLine}
 use Rattle.control_flow.specs.declared.places.Place.TheVariants.{Exit}
 use Rattle.control_flow.specs.declared.edges.Edge.{Edge}
+use Rattle.control_flow.specs.declared.edges.Label.TheVariants.{Do}
 use Rattle.control_flow.specs.Flow.{Flow, HasEdge, IsWellFormed, edge_shape}
 use Rattle.control_flow.proofs.Firsts.{no_edge}
 use Rattle.image.specs.Image.{Words}
@@ -18,12 +19,12 @@ use Rattle.longest_walk.specs.Longest.{IsWalkOf}
 use Rattle.longest_walk.specs.declared.folded.Item.{Item}
 use Rattle.walks.proofs.SumLe.{sum_by-le_all}
 use Rattle.walks.specs.Walk.{cost_of}
-use Rattle.walk_counts.specs.Counts.{capped, number_of, occurrences}
+use Rattle.walk_counts.specs.Counts.{capped, is_same_label, number_of, occurrences}
 use Rattle.walk_counts.proofs.CountLemmas.{along}
 use Rattle.walk_counts.proofs.NumberLemmas.{known_edge}
 use Rattle.walk_counts.proofs.SumLemmas.{sum_none, sums_by_number}
-use Rattle.text_explained.specs.Table.{costs_of, image_ticks, is_any_reached, line_taken, passes_of, prices_of, source_ticks, ticks_in, ticks_of, told_at, words_of}
-use Rattle.text_explained.specs.Taken.{AreCostsAt, IsCostAt, AreListedOnce, cost_at, costs_where, in_all, is_at, is_from, is_reached, is_taken_from, pass_at, range_of, taken_at, taken_of}
+use Rattle.text_explained.specs.Table.{costs_of, done_of, image_ticks, is_any_reached, line_taken, passes_of, prices_of, source_ticks, ticks_in, ticks_of, told_at, words_of}
+use Rattle.text_explained.specs.Taken.{AreCostsAt, IsCostAt, AreListedOnce, cost_at, costs_where, done_at, in_all, is_at, is_from, is_reached, is_taken_from, pass_at, range_of, taken_at, taken_of}
 use Rattle.text_explained.specs.declared.walk_tally.Costs.{Costs}
 use Rattle.text_explained.specs.declared.walk_tally.Taken.{Taken}
 use Rattle.text_explained.proofs.RangeLaws.{HasCost, IsRange, is_counted, range_is, some_counted}
@@ -54,6 +55,9 @@ module _ (flow : Flow) (walk : List Edge) (well : IsWellFormed flow) (on : All (
   passes_is : (a : ℕ) → capped (in_all flow.edges walk (length flow.edges) (pass_at a)) ≡ sum_by (pass_at a) walk
   passes_is a = part_of_cost (pass_at a) (λ e some. cond_within (is_at a e.from) 1 e.cost (omega arith))
 
+  done_is : (a : ℕ) → capped (in_all flow.edges walk (length flow.edges) (done_at a)) ≡ sum_by (done_at a) walk
+  done_is a = part_of_cost (done_at a) (λ e some. cond_within (is_at a e.from && is_same_label e.label Do) 1 e.cost (omega arith))
+
   ticks_is : (a : ℕ) → capped (in_all flow.edges walk (length flow.edges) (cost_at a)) ≡ sum_by (cost_at a) walk
   ticks_is a = part_of_cost (cost_at a) (λ e some. cond_within (is_at a e.from) e.cost e.cost (omega arith))
 
@@ -64,10 +68,10 @@ module _ (flow : Flow) (walk : List Edge) (well : IsWellFormed flow) (on : All (
   prices_here a = range_of (costs_where flow.edges (is_from flow.edges a) (length flow.edges))
 
   abbrev pub taken_here : ℕ → Taken
-  taken_here a = record { passes = sum_by (pass_at a) walk; ticks = sum_by (cost_at a) walk; costs = costs_here a; prices = prices_here a }
+  taken_here a = record { passes = sum_by (pass_at a) walk; done = sum_by (done_at a) walk; ticks = sum_by (cost_at a) walk; costs = costs_here a; prices = prices_here a }
 
   exact_taken : (a : ℕ) → taken_of flow.edges walk (length flow.edges) a ≡ taken_here a
-  exact_taken a = same_taken (taken_of flow.edges walk (length flow.edges) a) (taken_here a) (passes_is a) (ticks_is a) refl refl
+  exact_taken a = same_taken (taken_of flow.edges walk (length flow.edges) a) (taken_here a) (passes_is a) (done_is a) (ticks_is a) refl refl
 
   taken_is : (a : ℕ) → is_reached flow.places a ≡ true → taken_at flow walk a ≡ Some (taken_here a)
   taken_is a known =
@@ -138,7 +142,7 @@ module _ (flow : Flow) (walk : List Edge) (well : IsWellFormed flow) (on : All (
 
   pub numbers_are : (a : ℕ) → is_reached flow.places a ≡ true
       → (costs prices : Option Costs) × AreCostsAt a walk costs × AreCostsAt a flow.edges prices
-      × (taken_at flow walk a ≡ Some (record { passes = sum_by (pass_at a) walk; ticks = sum_by (cost_at a) walk; costs = costs; prices = prices }))
+      × (taken_at flow walk a ≡ Some (record { passes = sum_by (pass_at a) walk; done = sum_by (done_at a) walk; ticks = sum_by (cost_at a) walk; costs = costs; prices = prices }))
   numbers_are a known = (
     costs_here a,
     prices_here a,
@@ -198,7 +202,7 @@ fitting flow tree cost items walk fits = subst (λ n. n < 2 ^ 64) (sym walk.cost
 
 pub numbers_of_walk : (flow : Flow) (tree : Tree) (cost : ℕ) (items : List Item) (a : ℕ) → IsWellFormed flow → IsWalkOf flow tree cost items → cost < 2 ^ 64 → is_reached flow.places a ≡ true
     → (costs prices : Option Costs) × AreCostsAt a (unfolded items) costs × AreCostsAt a flow.edges prices
-    × (taken_at flow (unfolded items) a ≡ Some (record { passes = sum_by (pass_at a) (unfolded items); ticks = sum_by (cost_at a) (unfolded items); costs = costs; prices = prices }))
+    × (taken_at flow (unfolded items) a ≡ Some (record { passes = sum_by (pass_at a) (unfolded items); done = sum_by (done_at a) (unfolded items); ticks = sum_by (cost_at a) (unfolded items); costs = costs; prices = prices }))
 numbers_of_walk flow tree cost items a well walk fits known =
     numbers_are flow (unfolded items) well (on_graph flow tree cost items walk) (fitting flow tree cost items walk fits) a known
 
@@ -232,7 +236,7 @@ unreached flow walk line = (
     taken = taken_at flow walk
 
     found : Taken
-    found = record { passes = passes_of (taken (told_at taken line)); ticks = ticks_in taken line.at line.words; costs = costs_of (taken (told_at taken line)); prices = prices_of (taken (told_at taken line)) }
+    found = record { passes = passes_of (taken (told_at taken line)); done = done_of (taken (told_at taken line)); ticks = ticks_in taken line.at line.words; costs = costs_of (taken (told_at taken line)); prices = prices_of (taken (told_at taken line)) }
 
     not_any : line_taken taken line ≡ None → is_any_reached taken line.at line.words ≡ false
     not_any none = ⊎_elim

@@ -1,66 +1,59 @@
--- The columns of the table of a bound.
+-- The columns of the table of a bound, and what stands in them.
 use Rattle.std.specs.Prelude.{ℕ, ◌+◌, ◌*◌, ◌/◌, ◌%◌, max, Bool, if◌then◌else◌, List, [], ◌∷◌, ◌++◌}
-use Rattle.std.specs.Prelude.{codes, decimal, flat_map}
+use Rattle.std.specs.Prelude.{codes, decimal}
 use Rattle.text_rows.specs.Columns.{in_columns}
 use Rattle.text_explained.specs.declared.cost_columns.Column.{Column}
 use Rattle.text_explained.specs.declared.cost_columns.Column.TheVariants.{Passes, Each, Ticks, Share, First}
-use Rattle.text_explained.specs.declared.cost_columns.Column.TheVariants.{Latest, PricedAs, Line, Address}
-use Rattle.text_explained.specs.declared.cost_columns.Column.TheVariants.{Text}
+use Rattle.text_explained.specs.declared.cost_columns.Column.TheVariants.{Latest, PricedAs, Address, Line}
+use Rattle.text_explained.specs.declared.cost_columns.Widths.{Widths}
 
 -- ## Columns
 
--- a column's name, the blanks in front of it, and how many columns on its texts end
-pub record Layout : Type 0 where
-  pub name : List ℕ
-  pub gap : ℕ
-  pub width : ℕ
+abbrev pub name_of : Column → List ℕ
+name_of Passes = codes "passes"
+name_of Each = codes "each"
+name_of Ticks = codes "ticks"
+name_of Share = codes "share"
+name_of First = codes "first"
+name_of Latest = codes "latest"
+name_of PricedAs = codes "priced as"
+name_of Address = codes "address"
+name_of Line = codes "line"
 
-abbrev pub layout : Column → Layout
-layout Passes = record { name = codes "passes"; gap = 0; width = 6 }
-layout Each = record { name = codes "each"; gap = 1; width = 5 }
-layout Ticks = record { name = codes "ticks"; gap = 1; width = 6 }
-layout Share = record { name = codes "share"; gap = 1; width = 6 }
-layout First = record { name = codes "first"; gap = 1; width = 6 }
-layout Latest = record { name = codes "latest"; gap = 1; width = 6 }
-layout PricedAs = record { name = codes "priced as"; gap = 1; width = 9 }
-layout Line = record { name = codes "line"; gap = 1; width = 4 }
-layout Address = record { name = codes "address"; gap = 2; width = 8 }
-layout Text = record { name = codes "text"; gap = 2; width = 0 }
-
--- the blanks in front of it
+-- what parts it from the column in front of it
 abbrev pub gap_text : Column → List ℕ
-gap_text c = in_columns (layout c).gap []
+gap_text Passes = []
+gap_text c = codes " "
 
--- a text in a column; a longer one goes past it
-abbrev pub in_column : Column → List ℕ → List ℕ
-in_column c text = gap_text c ++ in_columns (layout c).width text
-
--- how much of a row it takes
-abbrev pub span : Column → ℕ
-span c = (layout c).gap + (layout c).width
-
--- ## The heading
-
-abbrev pub name_text : Column → List ℕ
-name_text c = in_column c (layout c).name
-
-abbrev pub names_text : List Column → List ℕ
-names_text columns = flat_map name_text columns
-
--- the columns of what is taken, in their order
+-- those of what is taken, in their order
 abbrev pub taken_columns : List Column
 taken_columns = Passes ∷ Each ∷ Ticks ∷ Share ∷ []
 
--- that of first starts, if they are asked for
-abbrev pub first_columns : Bool → List Column
-first_columns has_first = if has_first then First ∷ [] else []
+-- a column, if it is asked for
+abbrev pub if_asked : Bool → Column → List Column
+if_asked asked c = if asked then c ∷ [] else []
 
--- of rows that are told apart by the numbers of lines, or by addresses
-abbrev pub heading : (has_first : Bool) → Column → List ℕ
-heading has_first rows_by =
-    names_text taken_columns
-    ++ (names_text (first_columns has_first)
-    ++ (names_text (Latest ∷ PricedAs ∷ rows_by ∷ Text ∷ []) ++ codes "\n"))
+-- the others: with first starts, if they are asked for, and of a source with the numbers of its lines
+abbrev pub other_columns : (has_first has_lines : Bool) → List Column
+other_columns has_first has_lines =
+    if_asked has_first First ++ (Latest ∷ PricedAs ∷ Address ∷ if_asked has_lines Line)
+
+-- ## Widths
+
+abbrev pub width_of : Widths → Column → ℕ
+width_of w Passes = w.passes
+width_of w Each = w.each
+width_of w Ticks = w.ticks
+width_of w Share = w.share
+width_of w First = w.first
+width_of w Latest = w.latest
+width_of w PricedAs = w.priced_as
+width_of w Address = w.address
+width_of w Line = w.line
+
+-- a text that ends where its column does
+abbrev pub in_column : Widths → Column → List ℕ → List ℕ
+in_column w c text = gap_text c ++ in_columns (width_of w c) text
 
 -- ## Texts
 
@@ -74,10 +67,6 @@ share_text ticks bound =
     decimal (thousandths ticks bound / 10)
     ++ (codes "." ++ (decimal (thousandths ticks bound % 10) ++ codes "%"))
 
--- ticks, and what part of the bound they are
-abbrev pub ticks_text : (ticks bound : ℕ) → List ℕ
-ticks_text ticks bound = in_column Ticks (decimal ticks) ++ in_column Share (share_text ticks bound)
-
 -- three digits
 abbrev pub three_digits : ℕ → List ℕ
 three_digits n = decimal (n / 100) ++ (decimal (n / 10 % 10) ++ decimal (n % 10))
@@ -85,10 +74,6 @@ three_digits n = decimal (n / 100) ++ (decimal (n / 10 % 10) ++ decimal (n % 10)
 -- eight ticks are a microsecond
 abbrev pub microseconds_text : ℕ → List ℕ
 microseconds_text ticks = decimal (ticks / 8) ++ (codes "." ++ three_digits (ticks % 8 * 125))
-
-abbrev pub total_row : (total bound : ℕ) → List ℕ
-total_row total bound =
-    in_columns (span Passes + span Each) (codes "total") ++ (ticks_text total bound ++ codes "\n")
 
 -- a time, up to the end of the line
 abbrev pub time_text : ℕ → List ℕ

@@ -8,10 +8,11 @@ use Rattle.std.specs.Ordering.{nat_cmp}
 use Rattle.control_flow.specs.declared.places.Place.{Place}
 use Rattle.control_flow.specs.declared.places.Place.TheVariants.{At, Exit}
 use Rattle.control_flow.specs.declared.edges.Edge.{Edge}
+use Rattle.control_flow.specs.declared.edges.Label.TheVariants.{Do}
 use Rattle.control_flow.specs.Flow.{Flow}
 use Rattle.image.specs.Image.{Words, word_of}
 use Rattle.longest_walk.specs.Built.{step_at}
-use Rattle.walk_counts.specs.Counts.{capped, occurrences}
+use Rattle.walk_counts.specs.Counts.{capped, is_same_label, occurrences}
 use Rattle.text_explained.specs.declared.walk_tally.Costs.{Costs}
 use Rattle.text_explained.specs.declared.walk_tally.Taken.{Taken}
 use Rattle.text_explained.specs.declared.walk_tally.WalkTally.{WalkTally}
@@ -58,6 +59,10 @@ AreCostsAt a edges (Some c) =
 abbrev pub pass_at : ℕ → Edge → ℕ
 pass_at a e = cond (is_at a e.from) 1 0
 
+-- 1 where its instruction is done, too
+abbrev pub done_at : ℕ → Edge → ℕ
+done_at a e = cond (is_at a e.from && is_same_label e.label Do) 1 0
+
 abbrev pub cost_at : ℕ → Edge → ℕ
 cost_at a e = cond (is_at a e.from) e.cost 0
 
@@ -78,12 +83,13 @@ is_taken_from edges walk a k = is_from edges a k && nat_lt 0 (occurrences edges 
 abbrev pub costs_where : List Edge → (ℕ → Bool) → (count : ℕ) → List ℕ
 costs_where edges test count = map (λ k. (step_at edges k).cost) (filter test (range_with_len 0 count))
 
--- how often the walk takes those of them that leave the address, the ticks of that, the least and the
--- greatest cost of one that it takes, and of any
+-- how often the walk takes those of them that leave the address, and does the instruction there, the ticks of
+-- all that, the least and the greatest cost of one that it takes, and of any
 abbrev pub taken_of : (edges walk : List Edge) → (count a : ℕ) → Taken
 taken_of edges walk count a =
     record {
       passes = capped (in_all edges walk count (pass_at a));
+      done = capped (in_all edges walk count (done_at a));
       ticks = capped (in_all edges walk count (cost_at a));
       costs = range_of (costs_where edges (is_taken_from edges walk a) count);
       prices = range_of (costs_where edges (is_from edges a) count);
@@ -93,15 +99,16 @@ abbrev pub taken_by : Flow → List Edge → (count a : ℕ) → Option Taken
 taken_by flow walk count a =
     if is_reached flow.places a then Some (taken_of flow.edges walk count a) else None
 
--- what the walk takes at the address: how often it leaves it, the ticks of that, the least and the greatest of
--- a time, and of any time that the graph allows; None where the graph has no place
+-- what the walk takes at the address: how often it leaves it, and does its instruction, the ticks of all that,
+-- the least and the greatest of a time, and of any time that the graph allows; None where the graph has no
+-- place
 abbrev pub taken_at : Flow → List Edge → ℕ → Option Taken
 taken_at flow walk a = taken_by flow walk (length flow.edges) a
 
 -- ## Tallies
 
 abbrev pub nothing : Taken
-nothing = record { passes = 0; ticks = 0; costs = None; prices = None }
+nothing = record { passes = 0; done = 0; ticks = 0; costs = None; prices = None }
 
 -- what is taken at the place's address is set
 abbrev pub Puts : Place → Taken → (old new : WalkTally) → Type 0
@@ -114,6 +121,7 @@ abbrev pub with_edge : Taken → Edge → ℕ → Taken
 with_edge t e count =
     record {
       passes = capped (t.passes + count);
+      done = capped (t.done + cond (is_same_label e.label Do) count 0);
       ticks = capped (t.ticks + capped (count * e.cost));
       costs = if count == 0 then t.costs else widened t.costs e.cost;
       prices = widened t.prices e.cost;

@@ -1,12 +1,12 @@
-//! The columns of the table of a bound, and its last rows.
+//! The columns of the table of a bound, and what is said of ticks.
 
-ghost use Rattle.std.specs.Prelude.{◌≡◌, ◌+◌, ◌≤◌, ◌++◌, IfOk, OnOk, decimal, string_bytes};
-ghost use Rattle.text_explained.specs.Columns.{bound_line, first_columns, gap_text, heading, in_column};
-ghost use Rattle.text_explained.specs.Columns.{layout, name_text, names_text, share_text, span};
-ghost use Rattle.text_explained.specs.Columns.{ticks_text, time_text, total_row};
+ghost use Rattle.std.specs.Prelude.{◌≡◌, ◌++◌, IfOk, OnOk, replicate, string_bytes};
+ghost use Rattle.text_rows.specs.Columns.{in_columns};
+ghost use Rattle.text_explained.specs.Columns.{bound_line, gap_text, if_asked, in_column, name_of};
+ghost use Rattle.text_explained.specs.Columns.{other_columns, share_text, time_text, width_of};
 
 use std::alloc::{AllocError, Global};
-use text_rows::{WIDEST_COLUMN, put, put_number, put_right};
+use text_rows::put;
 
 /// A column of the table.
 #[derive(Clone, Copy)]
@@ -25,153 +25,148 @@ pub(crate) enum Column {
     Latest,
     /// What the price takes for granted.
     PricedAs,
+    /// The address of the word.
+    Address,
     /// The number of a source's line.
     Line,
-    /// The address of an image's word.
-    Address,
-    /// The text of the line, or the line that the word is shown as.
-    Text,
 }
 
-// How a column is laid out.
+/// How wide each column is.
 #[derive(Clone, Copy)]
-struct Layout {
-    name: &'static [u8],
-    // The blanks in front of it.
-    gap: usize,
-    // How many columns on its texts end; a longer one goes past that.
-    width: usize,
-}
-
-// The columns of what is taken, in their order.
-const TAKEN_COLUMNS: [Column; 4] = [Column::Passes, Column::Each, Column::Ticks, Column::Share];
-
-impl Layout {
-    fn new(name: &'static [u8], gap: usize, width: usize) -> Layout
-        ensures name { result.name.now ≡ name.now }
-        ensures gap { result.gap ≡ gap }
-        ensures width { result.width ≡ width }
-    {
-        Layout { name, gap, width }
-    }
+pub(crate) struct Widths {
+    pub(crate) passes: usize,
+    pub(crate) each: usize,
+    pub(crate) ticks: usize,
+    pub(crate) share: usize,
+    pub(crate) first: usize,
+    pub(crate) latest: usize,
+    pub(crate) priced_as: usize,
+    pub(crate) address: usize,
+    pub(crate) line: usize,
 }
 
 impl Column {
-    // The table of columns: name, blanks in front, width.
-    fn layout(self) -> Layout
-        ensures name { result.name.now ≡ (layout self).name }
-        ensures gap { result.gap ≡ (layout self).gap }
-        ensures width { result.width ≡ (layout self).width }
-        ensures room { result.gap + result.width ≤ WIDEST_COLUMN }
+    /// The name of the column.
+    pub(crate) fn name(self) -> &'static [u8]
+        ensures { result.now ≡ name_of self }
     {
         match self {
-            Column::Passes => Layout::new(b"passes", 0, 6),
-            Column::Each => Layout::new(b"each", 1, 5),
-            Column::Ticks => Layout::new(b"ticks", 1, 6),
-            Column::Share => Layout::new(b"share", 1, 6),
-            Column::First => Layout::new(b"first", 1, 6),
-            Column::Latest => Layout::new(b"latest", 1, 6),
-            Column::PricedAs => Layout::new(b"priced as", 1, 9),
-            Column::Line => Layout::new(b"line", 1, 4),
-            Column::Address => Layout::new(b"address", 2, 8),
-            Column::Text => Layout::new(b"text", 2, 0),
+            Column::Passes => b"passes",
+            Column::Each => b"each",
+            Column::Ticks => b"ticks",
+            Column::Share => b"share",
+            Column::First => b"first",
+            Column::Latest => b"latest",
+            Column::PricedAs => b"priced as",
+            Column::Address => b"address",
+            Column::Line => b"line",
         }
     }
 
-    /// How much of a row it takes, with the blanks in front of it.
-    pub(crate) fn span(self) -> usize
-        ensures { result ≡ span self }
+    // What parts it from the column in front of it.
+    fn gap(self) -> &'static [u8]
+        ensures { result.now ≡ gap_text self }
     {
-        let layout = self.layout();
-        layout.gap + layout.width
-    }
-
-    /// Adds the blanks in front of the column.
-    pub(crate) fn put_gap(self, out: &mut Vec<u8>) -> Result<(), AllocError>
-        ensures { OnOk result (out.new.items ≡ out.old.items ++ gap_text self) }
-    {
-        put_right(out, b"", self.layout().gap)
-    }
-
-    /// Adds a text in the column, after its blanks.
-    pub(crate) fn put(self, out: &mut Vec<u8>, text: &[u8]) -> Result<(), AllocError>
-        ensures { OnOk result (out.new.items ≡ out.old.items ++ in_column self text.now) }
-    {
-        self.put_gap(out)?;
-        put_right(out, text, self.layout().width)
-    }
-
-    // Adds the name of the column.
-    fn put_name(self, out: &mut Vec<u8>) -> Result<(), AllocError>
-        ensures { OnOk result (out.new.items ≡ out.old.items ++ name_text self) }
-    {
-        self.put(out, self.layout().name)
-    }
-
-    /// Adds a number in the column, after its blanks.
-    pub(crate) fn put_number(self, out: &mut Vec<u8>, number: u64) -> Result<(), AllocError>
-        ensures { OnOk result (out.new.items ≡ out.old.items ++ in_column self (decimal number)) }
-    {
-        self.put_gap(out)?;
-        put_number(out, number, self.layout().width)
+        match self {
+            Column::Passes => b"",
+            Column::Each
+            | Column::Ticks
+            | Column::Share
+            | Column::First
+            | Column::Latest
+            | Column::PricedAs
+            | Column::Address
+            | Column::Line => b" ",
+        }
     }
 }
 
-// Adds the names of the columns.
-fn put_names(out: &mut Vec<u8>, columns: &[Column]) -> Result<(), AllocError>
-    ensures { OnOk result (out.new.items ≡ out.old.items ++ names_text columns.now) }
+impl Widths {
+    // That of a column.
+    fn of(&self, column: Column) -> usize
+        ensures { result ≡ width_of self.now column }
+    {
+        match column {
+            Column::Passes => self.passes,
+            Column::Each => self.each,
+            Column::Ticks => self.ticks,
+            Column::Share => self.share,
+            Column::First => self.first,
+            Column::Latest => self.latest,
+            Column::PricedAs => self.priced_as,
+            Column::Address => self.address,
+            Column::Line => self.line,
+        }
+    }
+}
+
+// Adds a column, if it is asked for.
+fn add_asked(columns: &mut Vec<Column>, asked: bool, column: Column) -> Result<(), AllocError>
+    ensures { OnOk result (columns.new.items ≡ columns.old.items ++ if_asked asked column) }
 {
-    for column in columns {
-        column.put_name(out)?;
+    if !asked {
+        return Ok(());
+    }
+    columns.push(column)?;
+    Ok(())
+}
+
+/// The columns after those of what is taken: with first starts, if they are asked for, and of a source with the
+/// numbers of its lines. `AllocError`: an allocation failed.
+pub(crate) fn other_columns(
+    alloc: Global,
+    has_first: bool,
+    has_lines: bool,
+) -> Result<Vec<Column>, AllocError>
+    ensures { IfOk result (λ columns. columns.items ≡ other_columns has_first has_lines) }
+{
+    let mut columns = Vec::new(alloc);
+    add_asked(&mut columns, has_first, Column::First)?;
+    columns.push(Column::Latest)?;
+    columns.push(Column::PricedAs)?;
+    columns.push(Column::Address)?;
+    add_asked(&mut columns, has_lines, Column::Line)?;
+    Ok(columns)
+}
+
+// Adds so many blanks.
+fn put_blanks(out: &mut Vec<u8>, count: usize) -> Result<(), AllocError>
+    ensures { OnOk result (out.new.items ≡ out.old.items ++ replicate count 32) }
+{
+    for _ in 0..count {
+        out.push(b' ')?;
     }
     Ok(())
 }
 
-// Adds the name of the column of first starts, if they are asked for.
-fn put_first_name(out: &mut Vec<u8>, has_first: bool) -> Result<(), AllocError>
-    ensures { OnOk result (out.new.items ≡ out.old.items ++ names_text (first_columns has_first)) }
+/// Adds a text that ends so many columns on; a longer one has no blank in front. `AllocError`: an allocation
+/// failed.
+pub(crate) fn put_ending(out: &mut Vec<u8>, text: &[u8], width: usize) -> Result<(), AllocError>
+    ensures { OnOk result (out.new.items ≡ out.old.items ++ in_columns width text.now) }
 {
-    if has_first {
-        return put_names(out, &[Column::First]);
-    }
-    put_names(out, &[])
+    put_blanks(out, width.saturating_sub(text.len()))?;
+    put(out, text)
 }
 
-/// The names of the columns of a table, with first starts if they are asked for, whose rows are told apart by
-/// the numbers of lines, or by addresses. `AllocError`: an allocation failed.
-pub(crate) fn heading(
-    alloc: Global,
-    has_first: bool,
-    rows_by: Column,
-) -> Result<Vec<u8>, AllocError>
-    ensures { IfOk result (λ text. text.items ≡ heading has_first rows_by) }
+/// Adds a text in a column. `AllocError`: an allocation failed.
+pub(crate) fn put_in_column(
+    out: &mut Vec<u8>,
+    widths: &Widths,
+    column: Column,
+    text: &[u8],
+) -> Result<(), AllocError>
+    ensures { OnOk result (out.new.items ≡ out.old.items ++ in_column widths.now column text.now) }
 {
-    let mut out = Vec::new(alloc);
-    put_names(&mut out, &TAKEN_COLUMNS)?;
-    put_first_name(&mut out, has_first)?;
-    put_names(
-        &mut out,
-        &[Column::Latest, Column::PricedAs, rows_by, Column::Text],
-    )?;
-    put(&mut out, b"\n")?;
-    Ok(out)
+    put(out, column.gap())?;
+    put_ending(out, text, widths.of(column))
 }
 
-// What part of the bound the ticks are, in per cent.
-fn share_text(alloc: Global, ticks: u64, bound: u64) -> Result<String, AllocError>
+/// What part of the bound the ticks are, in per cent. `AllocError`: an allocation failed.
+pub(crate) fn share_text(alloc: Global, ticks: u64, bound: u64) -> Result<String, AllocError>
     ensures { IfOk result (λ text. string_bytes text ≡ share_text ticks bound) }
 {
     let thousandths = u128::from(ticks) * 1000 / u128::from(bound.max(1));
     format!(in alloc; "{}.{}%", thousandths / 10, thousandths % 10)
-}
-
-/// Adds ticks and what part of the bound they are.
-pub(crate) fn put_ticks(out: &mut Vec<u8>, ticks: u64, bound: u64) -> Result<(), AllocError>
-    ensures { OnOk result (out.new.items ≡ out.old.items ++ ticks_text ticks bound) }
-{
-    Column::Ticks.put_number(out, ticks)?;
-    let share = share_text(*out.allocator(), ticks, bound)?;
-    Column::Share.put(out, share.as_bytes())
 }
 
 // So many ticks of the 8 MHz processor, and in microseconds.
@@ -196,12 +191,10 @@ pub(crate) fn put_time(out: &mut Vec<u8>, ticks: u128) -> Result<(), AllocError>
     put(out, time.as_bytes())
 }
 
-/// Adds the row of the ticks of all rows, and a line that states the bound.
-pub(crate) fn put_end(out: &mut Vec<u8>, total: u64, bound: u64) -> Result<(), AllocError>
-    ensures { OnOk result (out.new.items ≡ out.old.items ++ (total_row total bound ++ bound_line bound)) }
+/// Adds a line that states the bound.
+pub(crate) fn put_bound(out: &mut Vec<u8>, bound: u64) -> Result<(), AllocError>
+    ensures { OnOk result (out.new.items ≡ out.old.items ++ bound_line bound) }
 {
-    put_right(out, b"total", Column::Passes.span() + Column::Each.span())?;
-    put_ticks(out, total, bound)?;
-    put(out, b"\nbound ")?;
+    put(out, b"bound ")?;
     put_time(out, u128::from(bound))
 }

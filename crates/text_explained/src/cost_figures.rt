@@ -1,26 +1,20 @@
-ghost use Rattle.std.specs.Prelude.{◌≡◌, ◌+◌, ◌*◌, ◌≤◌, ◌++◌, IfOk, OnOk, find, is_some};
-ghost use Rattle.std.specs.Prelude.{string_bytes};
+ghost use Rattle.std.specs.Prelude.{◌≡◌, ◌+◌, ◌*◌, ◌≤◌, IfOk, find, is_some};
 ghost use Rattle.std.specs.BTreeMap.{get};
 ghost use Rattle.std.specs.Ordering.{nat_cmp};
 ghost use Rattle.assembler.specs.Assembles.{addresses_from};
 ghost use Rattle.bus_ticks.specs.declared.space.TheConstants.{SPACE_END};
-ghost use Rattle.text_explained.specs.Columns.{in_column};
 ghost use Rattle.text_explained.specs.Costing.{IsCosting, figures_of, first_of};
-ghost use Rattle.text_explained.specs.Table.{costs_of, costs_text, each_text, figures_text, first_at};
-ghost use Rattle.text_explained.specs.Table.{first_shown, first_text, is_any_reached, is_passed};
-ghost use Rattle.text_explained.specs.Table.{line_taken, passes_of, prices_of, row_figures, start_text};
-ghost use Rattle.text_explained.specs.Table.{taken_span, taken_text, ticks_in, ticks_of, told_at};
-ghost use Rattle.text_explained.specs.declared.cost_columns.Column.TheVariants.{Each};
+ghost use Rattle.text_explained.specs.Table.{costs_of, done_of, first_at, is_any_reached, is_passed};
+ghost use Rattle.text_explained.specs.Table.{line_taken, passes_of, prices_of, row_figures, ticks_in, ticks_of};
+ghost use Rattle.text_explained.specs.Table.{told_at};
 
-use crate::cost_columns::{Column, put_ticks};
-use crate::pricing::{Pricing, priced, put_pricing};
+use crate::pricing::{Pricing, priced};
 use crate::starts::{TimedWalk, latest_starts};
 use crate::walk_tally::{Costs, Taken, WalkTally};
 use assembler::PlacedLine;
 use loop_bounds::Handler;
 use std::alloc::{AllocError, Global};
 use std::collections::BTreeMap;
-use text_rows::put_right;
 use walk_counts::capped_sum;
 
 /// The figures of a row.
@@ -50,7 +44,7 @@ pub(crate) struct Costing<'a> {
     latest: BTreeMap<u32, u64>,
     /// By the addresses where the graph has a place.
     prices: BTreeMap<u32, Pricing>,
-    bound: u64,
+    pub(crate) bound: u64,
 }
 
 impl<'a> Costing<'a> {
@@ -122,6 +116,15 @@ fn passes_of(tally: &WalkTally, at: u32) -> u64
 {
     match tally.at(at) {
         Some(taken) => taken.passes,
+        None => 0,
+    }
+}
+
+fn done_of(tally: &WalkTally, at: u32) -> u64
+    ensures { result ≡ done_of (get nat_cmp tally.now.by_address at) }
+{
+    match tally.at(at) {
+        Some(taken) => taken.done,
         None => 0,
     }
 }
@@ -226,101 +229,9 @@ pub(crate) fn line_taken(tally: &WalkTally, line: PlacedLine) -> Option<Taken>
     let told = told_at(tally, line);
     Some(Taken {
         passes: passes_of(tally, told),
+        done: done_of(tally, told),
         ticks: ticks_in(tally, line.at, line.words),
         costs: costs_of(tally, told),
         prices: prices_of(tally, told),
     })
-}
-
-// One number, or from the least to the greatest.
-fn costs_text(alloc: Global, costs: Option<Costs>) -> Result<String, AllocError>
-    ensures { IfOk result (λ text. string_bytes text ≡ costs_text costs) }
-{
-    let Some(costs) = costs else {
-        return format!(in alloc; "-");
-    };
-    if costs.least == costs.greatest {
-        return format!(in alloc; "{}", costs.least);
-    }
-    format!(in alloc; "{}-{}", costs.least, costs.greatest)
-}
-
-// Adds the ticks of a pass; where the walk never passes, those that one may have.
-fn put_each(out: &mut Vec<u8>, taken: Taken) -> Result<(), AllocError>
-    ensures { OnOk result (out.new.items ≡ out.old.items ++ in_column Each (each_text taken)) }
-{
-    let each = costs_text(*out.allocator(), taken.costs.or(taken.prices))?;
-    Column::Each.put(out, each.as_bytes())
-}
-
-// The columns of what is taken.
-fn taken_span() -> usize
-    ensures { result ≡ taken_span }
-{
-    Column::Passes.span() + Column::Each.span() + Column::Ticks.span() + Column::Share.span()
-}
-
-// Adds what is taken and what part of the bound that is, or that nothing ever can be.
-fn put_taken(out: &mut Vec<u8>, taken: Option<Taken>, bound: u64) -> Result<(), AllocError>
-    ensures { OnOk result (out.new.items ≡ out.old.items ++ taken_text bound taken) }
-{
-    match taken {
-        Some(taken) => {
-            Column::Passes.put_number(out, taken.passes)?;
-            put_each(out, taken)?;
-            put_ticks(out, taken.ticks, bound)
-        }
-        None => put_right(out, b"never reached", taken_span()),
-    }
-}
-
-// Adds the tick by which a word begins, or blanks where there is none.
-fn put_start(out: &mut Vec<u8>, column: Column, start: Option<u64>) -> Result<(), AllocError>
-    ensures { OnOk result (out.new.items ≡ out.old.items ++ in_column column (start_text start)) }
-{
-    match start {
-        Some(ticks) => column.put_number(out, ticks),
-        None => column.put(out, b""),
-    }
-}
-
-// The tick by which a word begins for the first time, unless the latest is the same.
-fn first_shown(first: Option<u64>, latest: Option<u64>) -> Option<u64>
-    ensures { result ≡ first_shown first latest }
-{
-    let Some(latest) = latest else {
-        return first;
-    };
-    match first {
-        Some(ticks) => { if ticks == latest { None } else { Some(ticks) } }
-        None => None,
-    }
-}
-
-// Adds the tick by which a word begins for the first time, if that is asked for.
-fn put_first(out: &mut Vec<u8>, has_first: bool, figures: RowFigures) -> Result<(), AllocError>
-    ensures { OnOk result (out.new.items ≡ out.old.items ++ first_text has_first figures) }
-{
-    if !has_first {
-        return Ok(());
-    }
-    put_start(
-        out,
-        Column::First,
-        first_shown(figures.first, figures.latest),
-    )
-}
-
-/// Adds the figures of a row, with the first start if that is asked for.
-pub(crate) fn put_figures(
-    out: &mut Vec<u8>,
-    has_first: bool,
-    figures: RowFigures,
-) -> Result<(), AllocError>
-    ensures { OnOk result (out.new.items ≡ out.old.items ++ figures_text has_first figures) }
-{
-    put_taken(out, figures.taken, figures.bound)?;
-    put_first(out, has_first, figures)?;
-    put_start(out, Column::Latest, figures.latest)?;
-    put_pricing(out, figures.pricing)
 }

@@ -7,8 +7,10 @@ mod bursts;
 mod caveats;
 mod cost_columns;
 mod cost_figures;
+mod dearest;
 mod doing;
 mod done_returns;
+mod folding;
 mod idle;
 mod idle_stretches;
 mod image_rows;
@@ -17,25 +19,32 @@ mod leaving;
 mod links;
 mod named_words;
 mod pricing;
+mod printed_rows;
+mod routines;
 mod rules;
 mod sections;
+mod shown_texts;
 mod starts;
+mod sums;
 mod table;
+mod table_rows;
 mod walk_tally;
 
 pub use bursts::{Bursts, PricedBound, burst_lines};
 pub use done_returns::done_text;
 pub use idle::idle_entries;
 pub use law::{
-    burst_time_is_the_least, latest_starts_are_of_walks, numbers_are_of_the_walk,
-    places_are_listed_once, rows_with_ticks_have_passes, totals_are_the_bound,
-    unreached_lines_have_no_place,
+    burst_time_is_the_least, folded_rows_have_no_ticks, latest_starts_are_of_walks,
+    numbers_are_of_the_walk, places_are_listed_once, places_in_loops_are_members,
+    rows_with_ticks_have_passes, totals_are_the_bound, unreached_lines_have_no_place,
 };
 pub use links::{Overwrite, lost_links};
 pub use named_words::named_rows;
 pub use pricing::{Granted, Pricing, priced};
+pub use routines::routine_sums;
 pub use rules::rule_lines;
 pub use sections::assumed_text;
 pub use starts::TimedWalk;
-pub use table::cost_table;
+pub use sums::loop_sums;
+pub use table::{RowForm, cost_table};
 pub use walk_tally::{Costs, Taken, WalkTally};

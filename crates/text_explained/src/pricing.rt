@@ -2,13 +2,10 @@ ghost use Rattle.std.specs.Prelude.{◌≡◌, ◌++◌, if◌then◌else◌, If
 ghost use Rattle.std.specs.BTreeMap.{get};
 ghost use Rattle.std.specs.BTreeSet.{contains};
 ghost use Rattle.std.specs.Ordering.{nat_cmp};
-ghost use Rattle.text_explained.specs.Columns.{in_column};
 ghost use Rattle.text_explained.specs.Pricing.{ArePriced, IsGranted, both_text, column_name, granted_text};
 ghost use Rattle.text_explained.specs.Pricing.{instr_granted, leave_text, operation_granted, pricing_text};
 ghost use Rattle.text_explained.specs.PricingParts.{Prices, IsPricedBy};
-ghost use Rattle.text_explained.specs.declared.cost_columns.Column.TheVariants.{PricedAs};
 
-use crate::cost_columns::Column;
 use crate::doing::may_be_done;
 use crate::leaving::{EdgeKind, addresses_left};
 use arm2_decode::{Instr, Operation};
@@ -170,26 +167,22 @@ fn put_leave(out: &mut Vec<u8>, granted: Granted, class: Class) -> Result<(), Al
     put(out, class_name(class).as_bytes())
 }
 
-fn both_text(alloc: Global, granted: Granted, leave: Option<Class>) -> Result<Vec<u8>, AllocError>
-    ensures { IfOk result (λ text. text.items ≡ both_text granted leave) }
+// Adds what a price takes for granted, and the class of the addresses to which the handler leaves there.
+fn put_both(out: &mut Vec<u8>, granted: Granted, leave: Option<Class>) -> Result<(), AllocError>
+    ensures { OnOk result (out.new.items ≡ out.old.items ++ both_text granted leave) }
 {
-    let mut out = Vec::new(alloc);
     match leave {
-        Some(class) => put_leave(&mut out, granted, class)?,
-        None => put_granted(&mut out, granted)?,
+        Some(class) => put_leave(out, granted, class),
+        None => put_granted(out, granted),
     }
-    Ok(out)
 }
 
-/// Adds what a price takes for granted.
+/// Adds what a price takes for granted; nothing where there is none. `AllocError`: an allocation failed.
 pub(crate) fn put_pricing(out: &mut Vec<u8>, pricing: Option<Pricing>) -> Result<(), AllocError>
-    ensures { OnOk result (out.new.items ≡ out.old.items ++ in_column PricedAs (pricing_text pricing)) }
+    ensures { OnOk result (out.new.items ≡ out.old.items ++ pricing_text pricing) }
 {
     match pricing {
-        Some(pricing) => {
-            let text = both_text(*out.allocator(), pricing.granted, pricing.leave)?;
-            Column::PricedAs.put(out, &text)
-        }
-        None => Column::PricedAs.put(out, b""),
+        Some(pricing) => put_both(out, pricing.granted, pricing.leave),
+        None => Ok(()),
     }
 }

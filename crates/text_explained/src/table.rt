@@ -1,71 +1,50 @@
-ghost use Rattle.std.specs.Prelude.{◌≡◌, ◌++◌, IfOk, OnOk};
+//! The table of a bound.
+
+ghost use Rattle.std.specs.Prelude.{◌≡◌, IfOk};
 ghost use Rattle.std.specs.BTreeMap.{get};
 ghost use Rattle.std.specs.Ordering.{nat_cmp};
 ghost use Rattle.longest_walk.specs.Folded.{unfolded};
 ghost use Rattle.text_explained.specs.Costing.{figures_of, first_of};
-ghost use Rattle.text_explained.specs.Table.{IsTable, IsWordRow, all_ticks, line_row, line_rows, rows_by};
-ghost use Rattle.text_explained.specs.Table.{source_ticks, starts_of};
+ghost use Rattle.text_explained.specs.Dearest.{is_unfolded};
+ghost use Rattle.text_explained.specs.Printed.{AreLines, IsTable, IsTableOf, has_lines};
+ghost use Rattle.text_explained.specs.Table.{all_ticks, source_ticks, starts_of};
 
-use crate::cost_columns::{Column, heading, put_end};
-use crate::cost_figures::{Costing, RowFigures, line_taken, put_figures, ticks_in, told_at};
-use crate::image_rows::{image_ticks, put_row};
+use crate::cost_columns::{Column, other_columns, put_bound};
+use crate::cost_figures::{Costing, ticks_in};
+use crate::dearest::keep_dearest;
+use crate::folding::{TableLine, Total, put_shown};
+use crate::image_rows::image_ticks;
+use crate::printed_rows::{Layout, put_lines, widths_of};
 use crate::starts::TimedWalk;
+use crate::table_rows::{TableRow, source_rows};
 use crate::walk_tally::WalkTally;
 use assembler::PlacedLine;
 use loop_bounds::Handler;
-use sources::{ImageRows, Source, SourceText};
+use sources::{Source, SourceText};
 use std::alloc::{AllocError, Global};
-use text_rows::{LineRows, NumberedLine, put_cut_row};
 use walk_counts::capped_sum;
 
-// Adds the row of a line.
-fn put_line(
-    out: &mut Vec<u8>,
-    has_first: bool,
-    figures: RowFigures,
-    line: NumberedLine<'_>,
-) -> Result<(), AllocError>
-    ensures { OnOk result (out.new.items
-        ≡ out.old.items ++ line_row has_first figures line.entry.number line.entry.text.now) }
+/// Which rows of a table are printed, and how.
+#[derive(Clone, Copy)]
+pub struct RowForm {
+    /// Whether each row is printed: neighbours that the walk does not pass, and such that no walk ever reaches,
+    /// are then not folded into one.
+    pub all: bool,
+    /// How many rows are printed, one by one: those with the most ticks, the dearest first, and of equals as
+    /// they come; for `None` all, in the source's order.
+    pub top: Option<u32>,
+    /// The column past which a row is cut.
+    pub width: u32,
+}
+
+// Whether no rows are folded.
+fn is_unfolded(form: RowForm) -> bool
+    ensures { result ≡ is_unfolded form }
 {
-    let begun = out.len();
-    put_figures(out, has_first, figures)?;
-    Column::Line.put_number(out, line.number)?;
-    Column::Text.put_gap(out)?;
-    put_cut_row(out, out.len() - begun, line.text)
-}
-
-// A line has a row if it has words.
-impl LineRows for Costing<'_> {
-    ghost rows = { λ c. line_rows (figures_of c) };
-
-    fn put(
-        &self,
-        out: &mut Vec<u8>,
-        line: NumberedLine<'_>,
-        placed: PlacedLine,
-    ) -> Result<(), AllocError> {
-        if placed.words == 0 {
-            return Ok(());
-        }
-        put_line(
-            out,
-            self.has_first(),
-            self.figures(
-                line_taken(&self.tally, placed),
-                told_at(&self.tally, placed),
-            ),
-            line,
-        )
+    if form.all {
+        return true;
     }
-}
-
-impl ImageRows for Costing<'_> {
-    ghost is_row = { λ c. IsWordRow (figures_of c) };
-
-    fn put_word(&self, out: &mut Vec<u8>, at: u32, word: u32) -> Result<(), AllocError> {
-        put_row(out, self, at, word)
-    }
+    form.top.is_some()
 }
 
 // The ticks of all lines.
@@ -94,14 +73,58 @@ fn all_ticks(alloc: Global, tally: &WalkTally, source: &Source<'_>) -> Result<u6
     }
 }
 
-// What the rows are told apart by.
-fn rows_by(text: &SourceText<'_>) -> Column
-    ensures { result ≡ rows_by text.now }
+// Whether its rows are of lines, which have numbers.
+fn has_lines(text: &SourceText<'_>) -> bool
+    ensures { result ≡ has_lines text.now }
 {
     match text {
-        SourceText::Lines(_, _) => Column::Line,
-        SourceText::Image => Column::Address,
+        SourceText::Lines(_, _) => true,
+        SourceText::Image => false,
     }
+}
+
+// The lines of a table: the names of the columns, what is shown of the rows, and the ticks of all rows.
+fn table_lines<'a>(
+    alloc: Global,
+    all: bool,
+    rows: &[TableRow<'a>],
+    total: Total,
+) -> Result<Vec<TableLine<'a>>, AllocError>
+    ensures { IfOk result (λ lines. AreLines all rows.now total lines.items) }
+{
+    let mut lines = Vec::new(alloc);
+    lines.push(TableLine::Names)?;
+    put_shown(&mut lines, all, rows)?;
+    lines.push(TableLine::Total(total))?;
+    Ok(lines)
+}
+
+// The table, by what its lines are made of.
+fn costed_table(
+    alloc: Global,
+    source: &Source<'_>,
+    costing: &Costing<'_>,
+    form: RowForm,
+) -> Result<Vec<u8>, AllocError>
+    ensures { IfOk result (λ text. IsTableOf (figures_of costing.now) form source.now text.items) }
+{
+    let total = Total {
+        ticks: all_ticks(alloc, &costing.tally, source)?,
+        bound: costing.bound,
+    };
+    let columns = other_columns(alloc, costing.has_first(), has_lines(&source.text))?;
+    let mut rows = source_rows(alloc, costing, source)?;
+    keep_dearest(&mut rows, form.top)?;
+    let lines = table_lines(alloc, is_unfolded(form), &rows, total)?;
+    let layout = Layout {
+        widths: widths_of(alloc, &lines)?,
+        columns: &columns,
+        width: form.width as usize,
+    };
+    let mut out = Vec::new(alloc);
+    put_lines(&mut out, &layout, &lines)?;
+    put_bound(&mut out, costing.bound)?;
+    Ok(out)
 }
 
 /// Where the ticks of a greatest walk go: a row for each line of the source that has words, with how often
@@ -109,13 +132,18 @@ fn rows_by(text: &SourceText<'_>) -> Column
 /// differ; where the walk never passes, those that a pass may have by the graph), the ticks at its words, what
 /// part of the bound those are, the tick by which its word begins for the first time at the latest, if that is
 /// asked for and is another than the next, the tick by which it begins at the latest, what the price of that
-/// word takes for granted, the number of the line and its text; then the ticks of all rows, and the bound in
-/// ticks and in microseconds. Of a line of several words that word is the first that the walk passes, or,
-/// where it passes none, the first at which the graph has a place. Of an image a row for each of its words,
-/// with its address and the line that [`disassemble`](assembler::disassemble) shows.
+/// word takes for granted, the word's address, the number of the line and its text; then the ticks of all rows,
+/// and the bound in ticks and in microseconds. Of a line of several words that word is the first that the walk
+/// passes, or, where it passes none, the first at which the graph has a place. Of an image a row for each of
+/// its words, with its address and the line that [`disassemble`](assembler::disassemble) shows.
 ///
-/// A text is cut where it would go past column 80: the source has all of it. A byte counts as a column, and
-/// columns grow with their numbers.
+/// Where no place of the graph is on a line, or at a word, the row says so in place of the numbers. Neighbouring
+/// rows of which the walk passes none, and such where no place is, are one row that says how many they are, and
+/// from which to which, unless each row is asked for; no ticks are at them. Where some rows are asked for, these
+/// are those with the most ticks, and the ticks of all rows are still those of all.
+///
+/// A column is as wide as its widest text. Of a line's text one blank stands for each run of blanks and tabs,
+/// and it is cut where it would go past the last column: the source has all of it. A byte counts as a column.
 ///
 /// The latest tick is the greatest of the starts of the places at the word's address. Ticks are counted from
 /// the handler's beginning.
@@ -123,8 +151,6 @@ fn rows_by(text: &SourceText<'_>) -> Column
 /// The price of a load or a store takes the class of what it transfers for granted, that of a multiply its
 /// most cycles (m = 16, or as stated), and that of a way out of the handler the class of the addresses to
 /// which it leaves, after `>`. Prices are by the words of the handler's image.
-///
-/// Where no place of the graph is on a line, or at a word, the row says so in place of the numbers.
 ///
 /// # Errors
 ///
@@ -134,17 +160,14 @@ pub fn cost_table(
     source: &Source<'_>,
     handler: &Handler<'_>,
     walk: TimedWalk<'_>,
+    form: RowForm,
 ) -> Result<Vec<u8>, AllocError>
     ensures { IfOk result
         (λ text. IsTable source.now handler.now.image.now handler.now.statement handler.now.graph
         (unfolded walk.entry.longest.now.walk)
         (starts_of handler.now.graph.places walk.entry.starts.now (first_of walk.entry.first))
-        walk.entry.longest.now.bound text.items) }
+        walk.entry.longest.now.bound form text.items) }
 {
     let costing = Costing::of_walk(alloc, handler, walk)?;
-    let ticks = all_ticks(alloc, &costing.tally, source)?;
-    let mut out = heading(alloc, costing.has_first(), rows_by(&source.text))?;
-    source.put_rows(&mut out, &costing)?;
-    put_end(&mut out, ticks, walk.longest.bound)?;
-    Ok(out)
+    costed_table(alloc, source, &costing, form)
 }

@@ -1,10 +1,12 @@
-ghost use Rattle.std.specs.Prelude.{◌≡◌, IfOk, OnOk};
+ghost use Rattle.std.specs.Prelude.{◌≡◌, IfOk, OnOk, cond};
 ghost use Rattle.std.specs.BTreeMap.{get};
 ghost use Rattle.std.specs.Ordering.{nat_cmp};
+ghost use Rattle.control_flow.specs.declared.edges.Label.TheVariants.{Do};
 ghost use Rattle.longest_walk.specs.Folded.{unfolded};
+ghost use Rattle.walk_counts.specs.Counts.{is_same_label};
 ghost use Rattle.text_explained.specs.Taken.{Adds, IsTally, Puts, Starts, with_edge, widened};
 
-use control_flow::{Edge, Graph, Place};
+use control_flow::{Edge, Graph, Label, Place};
 use longest_walk::FoldedWalk;
 use std::alloc::{AllocError, Global};
 use std::collections::BTreeMap;
@@ -21,6 +23,8 @@ pub struct Costs {
 #[derive(Clone, Copy)]
 pub struct Taken {
     pub passes: u64,
+    /// How many of the passes do it, as its condition holds.
+    pub done: u64,
     pub ticks: u64,
     /// What a pass costs, by the edges that the walk takes; None where it never passes.
     pub costs: Option<Costs>,
@@ -50,9 +54,20 @@ fn widened(costs: Option<Costs>, cost: u32) -> Option<Costs>
     }
 }
 
+// How often the instruction is done, where an edge is taken so many times.
+fn done_count(edge: &Edge, count: u64) -> u64
+    ensures { result ≡ cond (is_same_label edge.now.label Do) count 0 }
+{
+    match edge.label {
+        Label::Do => count,
+        Label::Skip => 0,
+    }
+}
+
 impl Taken {
     const NOTHING: Taken = Taken {
         passes: 0,
+        done: 0,
         ticks: 0,
         costs: None,
         prices: None,
@@ -104,6 +119,7 @@ impl WalkTally {
         let before = self.at(address).unwrap_or(Taken::NOTHING);
         let after = Taken {
             passes: capped_sum(before.passes, count),
+            done: capped_sum(before.done, done_count(edge, count)),
             ticks: capped_sum(before.ticks, capped_product(count, edge.cost)),
             costs: before.costs_with(edge, count),
             prices: widened(before.prices, edge.cost),

@@ -6,7 +6,7 @@ use Rattle.control_flow.specs.declared.edges.Label.TheVariants.{Skip, Do}
 use Rattle.text_explained.specs.Columns.{share_text, thousandths}
 use Rattle.text_graph.specs.Fills.{fill}
 
--- a byte inside of quotes: marks of the language by their escapes, a tab as a blank, what is not ASCII as ?
+-- a byte inside of quotes: marks of the language by their escapes, a tab as a blank, controls and what is not ASCII as ?
 abbrev pub escape : ℕ → List ℕ
 escape b =
     if b == 34 then codes "\\\"" else if b == 92 then codes "\\\\" else if b == 38 then codes "&amp;"

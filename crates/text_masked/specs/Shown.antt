@@ -1,6 +1,7 @@
 -- Words that show of a mask of R15 whether it is set or clear after them: TEQP PC,#n (VL86C010 data
--- sheet, data processing and registers). TEQ with R15 for Rd writes the PSR by the bits of its result; of R15 as
--- first operand the address bits alone count, so the PSR becomes that of n.
+-- sheet, data processing and registers). TEQ with R15 for Rd writes the PSR by the bits of its result; of R15
+-- as first operand the address bits alone count, so the PSR becomes that of n. In User mode TEQP changes
+-- neither mask, and its word counts here all the same.
 use Rattle.std.specs.Prelude.{◌≡◌, ◌↔◌, ℕ, ◌*◌, ◌&&◌, Bool, true, false, if◌then◌else◌}
 use Rattle.arm2_decode.specs.Names.{is_pc}
 use Rattle.arm2_decode.specs.declared.instr.DataImmediate.{DataImmediate}

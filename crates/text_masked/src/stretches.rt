@@ -1,7 +1,7 @@
 //! How long a mask is set at a time.
 
 ghost use Rattle.std.specs.Prelude.{◌≡◌, ◌+◌, ◌<◌, ◌^◌, Contains, IfOk, map};
-ghost use Rattle.numbered_walks.specs.Found as numbered;
+ghost use Rattle.numbered_walks.specs.Found.{AreFound};
 ghost use Rattle.numbered_walks.specs.Index.{IsNumberedGraph};
 ghost use Rattle.numbered_walks.specs.Ordered.{IsOrdered};
 ghost use Rattle.loop_bounds.specs.Handler.{HasItsTree};
@@ -33,7 +33,7 @@ pub(crate) enum MaskedTime {
 // The greatest cost of a walk to any number.
 fn greatest_of_all(graph: NumberedGraph<'_>, tables: &Tables) -> u64
     requires graph { IsNumberedGraph graph }
-    requires found { numbered.AreFound graph.exit graph.edges.now graph.spans.now tables.now }
+    requires found { AreFound graph.exit graph.edges.now graph.spans.now tables.now }
     ensures { IsGreatestOfAll graph.entry.edges.now graph.entry.spans.now (graph.entry.exit + 1) result }
 {
     let mut greatest = greatest_cost_to(graph, tables, 0);

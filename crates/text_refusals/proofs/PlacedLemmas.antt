@@ -35,7 +35,8 @@ use Rattle.text_refusals.specs.Courses.{after, at_front, begun, entry_list, is_a
 use Rattle.text_refusals.specs.FaultyItems.{has_destination, has_end, has_no_list, has_no_stretch, has_no_stretches, has_no_table, has_part, has_reversed_stretch, has_second, has_unknown, has_value, is_faulty, is_hidden, is_listed, is_shown, lent, second_key, target_number}
 use Rattle.text_refusals.specs.Outline.{Begins, Ends, Item, KeyValue, States, Table}
 use Rattle.text_refusals.specs.Placed.{AreOf, IsEntry, IsThere, Shows, TableShows, ValueShows, placed}
-use Rattle.text_refusals.specs.Refused.{Limit, Row, access_limit, all_rows, apart_table_rows, branch_limit, limits, multiply_limit, reversed_rows, rows_of_limits, rule_limit, entry_rows, extra_row, extra_rows, extra_stretch_row, extra_stretch_rows, extra_table_row, first_after, header_rows, is_stretch_item, item_rows, list_rows, long_rows, loop_limit, misplaced_rows, missing_row, missing_rows, no_list_rows, no_table_rows, one_stretch_rows, past_stretches, past_stretches_rows, row_if, rows, rows_of_table, said_row, stretch_header_rows, stretch_rows, stretch_table_rows, stretches_in, table_row, table_rows, tables_in, target_limit, target_rows, unknown_rows, unwanted_rows, value_rows, value_words, value_table_rows, whole_rows}
+use Rattle.text_refusals.specs.Nearest.{meant_text}
+use Rattle.text_refusals.specs.Refused.{Limit, Row, list_names, access_limit, all_rows, apart_table_rows, branch_limit, limits, multiply_limit, reversed_rows, rows_of_limits, rule_limit, entry_rows, extra_row, extra_rows, extra_stretch_row, extra_stretch_rows, extra_table_row, first_after, header_rows, is_stretch_item, item_rows, list_rows, long_rows, loop_limit, misplaced_rows, missing_row, missing_rows, no_list_rows, no_table_rows, one_stretch_rows, past_stretches, past_stretches_rows, row_if, rows, rows_of_table, said_row, stretch_header_rows, stretch_rows, stretch_table_rows, stretches_in, table_row, table_rows, tables_in, target_limit, target_rows, unknown_rows, unwanted_rows, value_rows, value_words, value_table_rows, whole_rows}
 use Rattle.text_refusals.specs.declared.course.Course.{Course}
 use Rattle.text_refusals.proofs.RefusedLemmas.{one_row}
 
@@ -301,7 +302,7 @@ module _ (names : NamedAddresses) (ms : Members) (f : StatementFault) (has : Spo
   table_row_of c t rest (spot.Own (Unknown k)) h v =
       header_row c t rest v.0
       (in_first (unknown_rows has t) (value_table_rows has t ++ stretch_header_rows has c t)
-      (row_of_if (has (spot.Own (Unknown (lent (key_head t.name))))) (table_row t (codes " is no list of statements") [])
+      (row_of_if (has (spot.Own (Unknown (lent (key_head t.name))))) (table_row t (codes " is no list of statements") (meant_text list_names (key_head t.name)))
       (found (spot.Own (Unknown (lent (key_head t.name))))
       (subst (λ (w : List ℕ). IsSome (get_member w ms) × (is_one_of (keys_of None) w ≡ false) × (f ≡ UnknownKey)) (sym v.1) h))))
   table_row_of c t rest (spot.Own (Value k)) h v =

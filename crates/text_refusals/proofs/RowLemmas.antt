@@ -21,7 +21,8 @@ use Rattle.text_refusals.specs.Courses.{after, at_front, begun, entry_list, is_a
 use Rattle.text_refusals.specs.FaultyItems.{has_destination, has_end, has_no_list, has_no_stretch, has_no_stretches, has_reversed_stretch, has_no_table, has_part, has_second, has_unknown, has_value, is_faulty, is_hidden, is_listed, is_shown, lent, second_key, target_number}
 use Rattle.text_refusals.specs.Outline.{Begins, Ends, Item, KeyValue, States, Table}
 use Rattle.text_refusals.specs.Placed.{IsPartOf, IsRowOf, Shows, TableShows, ValueShows, line_of, placed}
-use Rattle.text_refusals.specs.Refused.{Limit, Row, all_rows, apart_table_rows, extra_destination_row, extra_row, extra_rows, extra_stretch_row, extra_stretch_rows, past_stretches, past_stretches_rows, limits, rows_of_limits, extra_table_row, first_after, header_rows, item_rows, list_rows, long_rows, missing_row, missing_rows, no_list_rows, no_table_rows, one_stretch_rows, row_if, rows, rows_of_table, said_row, stated_at, stretch_header_rows, stretch_rows, stretch_table_rows, stretches_in, table_row, table_rows, tables_in, unknown_rows, unwanted_rows, value_rows, value_words, value_table_rows, whole_rows}
+use Rattle.text_refusals.specs.Nearest.{meant_text}
+use Rattle.text_refusals.specs.Refused.{Limit, Row, list_names, all_rows, apart_table_rows, extra_destination_row, extra_row, extra_rows, extra_stretch_row, extra_stretch_rows, past_stretches, past_stretches_rows, limits, rows_of_limits, extra_table_row, first_after, header_rows, item_rows, list_rows, long_rows, missing_row, missing_rows, no_list_rows, no_table_rows, one_stretch_rows, row_if, rows, rows_of_table, said_row, stated_at, stretch_header_rows, stretch_rows, stretch_table_rows, stretches_in, table_row, table_rows, tables_in, unknown_rows, unwanted_rows, value_rows, value_words, value_table_rows, whole_rows}
 use Rattle.text_refusals.specs.declared.course.Course.{Course}
 use Rattle.text_refusals.proofs.RefusedLemmas.{no_items, one_row}
 
@@ -214,7 +215,7 @@ module _ (has : Spot → Bool) where
   header_sound : (c : Course) (t : Table) (rest : List Item) (r : Row) → entry_list t ≡ None → Contains (header_rows has c t) r → OfTable c t rest r
   header_sound c t rest r none h = elim (Contains-append_cases (unknown_rows has t) (value_table_rows has t ++ stretch_header_rows has c t) r h) [
     | inl u ↦
-        let k = in_if (has (spot.Own (Unknown (lent (key_head t.name))))) (table_row t (codes " is no list of statements") []) r u in
+        let k = in_if (has (spot.Own (Unknown (lent (key_head t.name))))) (table_row t (codes " is no list of statements") (meant_text list_names (key_head t.name))) r u in
         (spot.Own (Unknown (lent (key_head t.name))), k.0, inl ((none, refl), ap (λ (x : Row). x.line) k.1))
     | inr w ↦ elim (Contains-append_cases (value_table_rows has t) (stretch_header_rows has c t) r w) [
       | inl v ↦ elim (Contains-append_cases (no_table_rows has t) (no_list_rows has t) r v) [

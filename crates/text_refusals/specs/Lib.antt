@@ -10,6 +10,7 @@ pub mod FileRows
 pub mod FileTexts
 pub mod MachineSpots
 pub mod Mends
+pub mod Nearest
 pub mod Nested
 pub mod Outline
 pub mod Placed

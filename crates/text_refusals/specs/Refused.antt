@@ -9,7 +9,7 @@ use Rattle.toml.specs.Data.{Members}
 use Rattle.toml.specs.Parse.{parse_document}
 use Rattle.toml_reading.specs.Documents.{IsDocument, IsNoDocument}
 use Rattle.statement.specs.PlaceTests.{holds_of}
-use Rattle.statement.specs.Places.{IsFaultAt, all_keys, key_name, list_key, most_of, named_key}
+use Rattle.statement.specs.Places.{IsFaultAt, all_keys, key_name, keys_of, list_key, most_of, named_key}
 use Rattle.statement.specs.declared.entries.TheConstants.{MOST_DESTINATIONS}
 use Rattle.statement.specs.declared.faults.StatementFault.{StatementFault}
 use Rattle.statement.specs.declared.faults.StatementFault.TheVariants.{NotToml}
@@ -28,6 +28,7 @@ use Rattle.text_refusals.specs.Courses.{after, at_front, begun, entry_list, is_a
 use Rattle.text_refusals.specs.Courses.{is_stretch_table, key_head, named_list}
 use Rattle.text_refusals.specs.FaultyItems.{has_no_stretch, has_no_stretches, has_reversed_stretch, is_faulty}
 use Rattle.text_refusals.specs.FaultyItems.{has_unknown, has_value, lent}
+use Rattle.text_refusals.specs.Nearest.{meant_text}
 use Rattle.text_refusals.specs.Outline.{Array, Bare, Begins, Cut, Ends, InlineTable, Item, KeyValue, Quoted}
 use Rattle.text_refusals.specs.Outline.{States, Table, TableKeys, Value, items_of}
 use Rattle.text_refusals.specs.declared.course.Course.{Course}
@@ -70,9 +71,9 @@ abbrev pub name_text : Table → List ℕ
 name_text t =
     if t.is_listed then codes "[[" ++ (t.name ++ codes "]]") else codes "[" ++ (t.name ++ codes "]")
 
--- a table, what is said of it, and a key
-abbrev pub table_row : Table → (words key : List ℕ) → Row
-table_row t words key = record { line = t.line; text = name_text t ++ (words ++ key) }
+-- a table, what is said of it, and what follows
+abbrev pub table_row : Table → (words rest : List ℕ) → Row
+table_row t words rest = record { line = t.line; text = name_text t ++ (words ++ rest) }
 
 -- the row, where it applies
 abbrev pub row_if : Bool → Row → List Row
@@ -90,6 +91,10 @@ unknown_words (Some Rules) = codes " is no key of [[base]]"
 unknown_words (Some Multiplies) = codes " is no key of [[multiply]]"
 unknown_words (Some Branches) = codes " is no key of [[branch]]"
 
+-- and which of its keys that may be
+abbrev pub unknown_text : Option TableList → List ℕ → List ℕ
+unknown_text list word = unknown_words list ++ meant_text (keys_of list) word
+
 -- the words or numbers that may be its value; nothing where that may be an address
 abbrev pub wanted_words : Key → List ℕ
 wanted_words key.Entry = []
@@ -98,25 +103,34 @@ wanted_words key.Returns = codes " has to be \"assumed\" or \"stated\""
 wanted_words key.Header = []
 wanted_words key.First = []
 wanted_words key.Last = []
-wanted_words key.Bound = codes " has to be a number, at most 1048576"
+wanted_words key.Bound = codes " has to be a whole number from 0 to 1048576"
 wanted_words key.At = []
 wanted_words key.Kind = codes " has to be \"jump\", \"call\", \"return\" or \"leave\""
 wanted_words key.To = []
 wanted_words key.Class =
     codes " has to be \"any\", \"ram\", \"rom\", \"io\", \"slow\", \"medium\", \"fast\" or \"synchronous\""
-wanted_words key.Register = codes " has to be a register"
-wanted_words key.Cycles = codes " has to be a number from 1 to 16"
+wanted_words key.Register = codes " has to be \"R0\" to \"R15\", \"SP\", \"LR\" or \"PC\""
+wanted_words key.Cycles = codes " has to be a whole number from 1 to 16"
 wanted_words key.Taken = codes " has to be \"always\" or \"never\""
 
 abbrev pub wanted_at : Option Key → List ℕ
 wanted_at None = []
 wanted_at (Some k) = wanted_words k
 
+-- what may stand at the key of a value, where that is what has the fault
+abbrev pub wanted_of : (has : Spot → Bool) → Course → KeyValue → List ℕ
+wanted_of has c p = if has_value has c p then wanted_at (named_key (key_head p.key)) else []
+
 -- what is said of a faulty value: that its key is none of its table's, or what may stand there
 abbrev pub value_words : (has : Spot → Bool) → Course → KeyValue → List ℕ
 value_words has c p =
-    if has_unknown has c p then unknown_words (named_list p.list)
-    else (if has_value has c p then wanted_at (named_key (key_head p.key)) else [])
+    if has_unknown has c p then unknown_text (named_list p.list) (key_head p.key)
+    else wanted_of has c p
+
+-- the lists that a statement may have
+abbrev pub list_names : List (List ℕ)
+list_names =
+    codes "loop" ∷ codes "target" ∷ codes "access" ∷ codes "base" ∷ codes "multiply" ∷ codes "branch" ∷ []
 
 -- ## Items that are counted
 
@@ -223,7 +237,7 @@ module _ (has : Spot → Bool) where
   abbrev pub unknown_rows : Table → List Row
   unknown_rows t =
       row_if (has (Own (part.Unknown (lent (key_head t.name)))))
-      (table_row t (codes " is no list of statements") [])
+      (table_row t (codes " is no list of statements") (meant_text list_names (key_head t.name)))
 
   abbrev pub no_table_rows : Table → List Row
   no_table_rows t =
@@ -359,9 +373,7 @@ module _ (has : Spot → Bool) where
 abbrev pub statement_tables : TableKeys
 statement_tables =
     record {
-      lists =
-          codes "loop" ∷ codes "target" ∷ codes "access" ∷ codes "base" ∷ codes "multiply"
-          ∷ codes "branch" ∷ [];
+      lists = list_names;
       tables = [];
     }
 

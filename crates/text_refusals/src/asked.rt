@@ -1,14 +1,22 @@
-ghost use Rattle.std.specs.Prelude.{◌≡◌};
+ghost use Rattle.std.specs.Prelude.{◌≡◌, IfOk, map};
+ghost use Rattle.statement.specs.Places.{keys_of};
 ghost use Rattle.text_refusals.specs.FaultyItems.{is_cut, is_hidden, may_be_text, second_key, target_number};
-ghost use Rattle.text_refusals.specs.Refused.{unknown_words, value_words, wanted_words};
+ghost use Rattle.text_refusals.specs.Refused.{unknown_text, unknown_words, value_words, wanted_of};
+ghost use Rattle.text_refusals.specs.Refused.{wanted_words};
 ghost use Rattle.text_refusals.specs.Outline.{key_value_of, value_of};
 
 use crate::course::{
     Course, is_at_key, is_destination, is_end, is_stretch, key_head, named_list, value_list,
 };
+use crate::nearest::meant_text;
 use crate::outline::KeyValue;
 use crate::outline_tokens::OutlineValue;
-use statement::{Document, Key, Part, Spot, StatementFault, TableList, named_key};
+use statement::{
+    ACCESS_KEYS, BRANCH_KEYS, Document, Key, LOOP_KEYS, MULTIPLY_KEYS, Part, RULE_KEYS,
+    STATEMENT_KEYS, Spot, StatementFault, TARGET_KEYS, TableList, named_key,
+};
+use std::alloc::{AllocError, Global};
+use text_rows::put;
 
 const CLASSES: &[u8] =
     b" has to be \"any\", \"ram\", \"rom\", \"io\", \"slow\", \"medium\", \"fast\" or \"synchronous\"";
@@ -70,19 +78,49 @@ fn second_key(list: TableList) -> &'static [u8]
     }
 }
 
-// Of which table a key is none.
-fn unknown_words(list: Option<TableList>) -> &'static [u8]
-    ensures { result.now ≡ unknown_words list }
+// The keys that a table may have, and what is said of another.
+#[derive(Clone, Copy)]
+struct KnownKeys {
+    keys: &'static [&'static str],
+    unknown: &'static [u8],
+}
+
+impl KnownKeys {
+    fn new(keys: &'static [&'static str], unknown: &'static [u8]) -> KnownKeys
+        ensures keys { map (λ k. k.now) result.keys.now ≡ map (λ k. k.now) keys.now }
+        ensures unknown { result.unknown.now ≡ unknown.now }
+    {
+        KnownKeys { keys, unknown }
+    }
+}
+
+// Those of a list's tables, or of the statement itself.
+fn known_keys(list: Option<TableList>) -> KnownKeys
+    ensures keys { map (λ k. k.now) result.keys.now ≡ keys_of list }
+    ensures unknown { result.unknown.now ≡ unknown_words list }
 {
     match list {
-        None => b" is no key of statements",
-        Some(TableList::Loops) => b" is no key of [[loop]]",
-        Some(TableList::Targets) => b" is no key of [[target]]",
-        Some(TableList::Accesses) => b" is no key of [[access]]",
-        Some(TableList::Rules) => b" is no key of [[base]]",
-        Some(TableList::Multiplies) => b" is no key of [[multiply]]",
-        Some(TableList::Branches) => b" is no key of [[branch]]",
+        None => KnownKeys::new(STATEMENT_KEYS, b" is no key of statements"),
+        Some(TableList::Loops) => KnownKeys::new(LOOP_KEYS, b" is no key of [[loop]]"),
+        Some(TableList::Targets) => KnownKeys::new(TARGET_KEYS, b" is no key of [[target]]"),
+        Some(TableList::Accesses) => KnownKeys::new(ACCESS_KEYS, b" is no key of [[access]]"),
+        Some(TableList::Rules) => KnownKeys::new(RULE_KEYS, b" is no key of [[base]]"),
+        Some(TableList::Multiplies) => {
+            KnownKeys::new(MULTIPLY_KEYS, b" is no key of [[multiply]]")
+        }
+        Some(TableList::Branches) => KnownKeys::new(BRANCH_KEYS, b" is no key of [[branch]]"),
     }
+}
+
+// Of which table a key is none, and which of its keys that may be.
+fn unknown_text(alloc: Global, list: Option<TableList>, word: &[u8]) -> Result<Vec<u8>, AllocError>
+    ensures { IfOk result (λ text. text.items ≡ unknown_text list word.now) }
+{
+    let known = known_keys(list);
+    let mut out = Vec::from_slice(alloc, known.unknown)?;
+    let meant = meant_text(alloc, known.keys, word)?;
+    put(&mut out, &meant)?;
+    Ok(out)
 }
 
 // The words or numbers that may be the value of a key; nothing where that may be an address.
@@ -92,11 +130,11 @@ fn wanted_words(key: Key) -> &'static [u8]
     match key {
         Key::Leave => b" has to be \"any\", \"ram\", \"rom\" or \"io\"",
         Key::Returns => b" has to be \"assumed\" or \"stated\"",
-        Key::Bound => b" has to be a number, at most 1048576",
+        Key::Bound => b" has to be a whole number from 0 to 1048576",
         Key::Kind => b" has to be \"jump\", \"call\", \"return\" or \"leave\"",
         Key::Class => CLASSES,
-        Key::Register => b" has to be a register",
-        Key::Cycles => b" has to be a number from 1 to 16",
+        Key::Register => b" has to be \"R0\" to \"R15\", \"SP\", \"LR\" or \"PC\"",
+        Key::Cycles => b" has to be a whole number from 1 to 16",
         Key::Taken => b" has to be \"always\" or \"never\"",
         Key::Entry | Key::Header | Key::First | Key::Last | Key::At | Key::To => b"",
     }
@@ -155,13 +193,10 @@ impl Asked<'_> {
         }
     }
 
-    /// What is said of a faulty value: that its key is none of its table's, or what may stand there.
-    pub(crate) fn value_words(&self, course: &Course, pair: &KeyValue<'_>) -> &'static [u8]
-        ensures { result.now ≡ value_words (has_in self.now) course.now (key_value_of pair.now) }
+    // What may stand at the key of a value, where that is what has the fault.
+    fn wanted_at(&self, course: &Course, pair: &KeyValue<'_>) -> &'static [u8]
+        ensures { result.now ≡ wanted_of (has_in self.now) course.now (key_value_of pair.now) }
     {
-        if self.has_unknown(course, pair) {
-            return unknown_words(named_list(pair.list));
-        }
         if !self.has_value(course, pair) {
             return b"";
         }
@@ -169,6 +204,23 @@ impl Asked<'_> {
             Some(key) => wanted_words(key),
             None => b"",
         }
+    }
+
+    /// What is said of a faulty value: that its key is none of its table's, or what may stand there.
+    /// `AllocError`: an allocation failed.
+    pub(crate) fn value_words(
+        &self,
+        alloc: Global,
+        course: &Course,
+        pair: &KeyValue<'_>,
+    ) -> Result<Vec<u8>, AllocError>
+        ensures { IfOk result
+            (λ words. words.items ≡ value_words (has_in self.now) course.now (key_value_of pair.now)) }
+    {
+        if self.has_unknown(course, pair) {
+            return unknown_text(alloc, named_list(pair.list), key_head(pair.key));
+        }
+        Vec::from_slice(alloc, self.wanted_at(course, pair))
     }
 
     // Whether the value is of a list's key, and no list.

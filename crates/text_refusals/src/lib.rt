@@ -18,6 +18,7 @@ mod machine_spots;
 mod members;
 mod mends;
 mod mid_entries;
+mod nearest;
 mod nested;
 mod no_toml;
 mod outline;

@@ -17,6 +17,7 @@ ghost use Rattle.text_refusals.specs.Refused.{unwanted_rows, value_table_rows, w
 
 use crate::asked::Asked;
 use crate::course::{Course, entry_list, is_at_key, key_head, named_list};
+use crate::nearest::meant_text;
 use crate::no_toml::no_toml_text;
 use crate::outline::{KeyValue, OutlineItem, OutlineTable, TableKeys, items_of};
 use crate::report::Report;
@@ -308,7 +309,8 @@ impl Report {
             (Adds (unknown_rows (has_in asked.now) (table_of table.now)) self.old self.new) }
     {
         if has_unknown(asked, table) {
-            return self.put_table(table, b" is no list of statements", b"");
+            let meant = meant_text(self.alloc, STATEMENT_TABLES.lists, key_head(table.name))?;
+            return self.put_table(table, b" is no list of statements", &meant);
         }
         Ok(())
     }
@@ -409,7 +411,8 @@ impl Report {
             (value_words (has_in asked.now) course.now (key_value_of pair.now)))) self.old self.new) }
     {
         if asked.is_faulty(course, pair) {
-            return self.put_value_with(pair, asked.value_words(course, pair));
+            let words = asked.value_words(self.alloc, course, pair)?;
+            return self.put_value_with(pair, &words);
         }
         Ok(())
     }

@@ -8,12 +8,12 @@ use Rattle.source_reports.specs.DraftReport.{IsDraftOnRefused, IsDraftOnReport, 
 use Rattle.source_reports.specs.ListReport.{IsListReport}
 use Rattle.machine_reports.specs.Debug.{IsDebugReport}
 use Rattle.machine_reports.specs.Machine.{IsMachineReport, ShowsRegisters, ShowsSteps}
-use Rattle.handler_reports.specs.Check.{IsAnswer, IsCheckRefused, IsCheckable}
-use Rattle.handler_reports.specs.ExplainReport.{IsExplainReport}
-use Rattle.handler_reports.specs.FollowReport.{IsFollowRefused, IsFollowReport, IsFollowable}
-use Rattle.handler_reports.specs.FollowVisits.{AreFollowable, AreNotFollowed, IsFollowVisitsReport}
-use Rattle.handler_reports.specs.Verdict.{IsVerdictReport}
-use Rattle.handler_reports.specs.VisitsReport.{AreAccepted, AreRefused, IsVisitsReport}
+use Rattle.bound_reports.specs.VisitsReport.{AreAccepted, AreRefused, IsVisitsReport}
+use Rattle.explain_reports.specs.Check.{IsAnswer, IsCheckRefused, IsCheckable}
+use Rattle.explain_reports.specs.ExplainReport.{IsExplainReport}
+use Rattle.explain_reports.specs.Verdict.{IsVerdictReport}
+use Rattle.follow_reports.specs.FollowReport.{IsFollowRefused, IsFollowReport, IsFollowable}
+use Rattle.follow_reports.specs.FollowVisits.{AreFollowable, AreNotFollowed, IsFollowVisitsReport}
 use Rattle.command_line.specs.Rows.{asked_of}
 use Rattle.response_reports.specs.RespondReport.{IsAnswerable, IsRespondRefused, IsRespondReport}
 use Rattle.arcwcet.specs.Kept.{inputs_lent}

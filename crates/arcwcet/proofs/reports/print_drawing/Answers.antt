@@ -1,7 +1,7 @@
 use Rattle.std.proofs.Common.{subst}
 use Rattle.text_graph.specs.declared.extent.Extent.{Extent}
 use Rattle.handlers.specs.Priced.{Priced}
-use Rattle.handler_reports.specs.GraphReport.{Draws, IsGraphReport}
+use Rattle.explain_reports.specs.GraphReport.{Draws, IsGraphReport}
 use Rattle.handlers.specs.Refusal.{fault_only}
 use Rattle.handlers.specs.Report.{IsAccepted, IsRefused}
 use Rattle.arcwcet.specs.Kept.{inputs_lent}

@@ -1,4 +1,4 @@
-use Rattle.handler_reports.specs.TightReport.{HasTightReport, IsTightRefused, IsTightReport}
+use Rattle.bound_reports.specs.TightReport.{HasTightReport, IsTightRefused, IsTightReport}
 use Rattle.handlers.specs.Refusal.{fault_only}
 use Rattle.arcwcet.specs.Kept.{inputs_lent}
 use Rattle.arcwcet.proofs.RunLemmas.{answered_yes}

@@ -2,8 +2,8 @@ use Rattle.std.proofs.Common.{subst}
 use Rattle.text_explained.specs.declared.bursts.Bursts.{Bursts}
 use Rattle.handlers.specs.Priced.{Priced}
 use Rattle.handlers.specs.Refusal.{fault_only}
-use Rattle.handler_reports.specs.ExplainReport.{Explains}
-use Rattle.handler_reports.specs.declared.explain.TableForm.{TableForm}
+use Rattle.explain_reports.specs.ExplainReport.{Explains}
+use Rattle.explain_reports.specs.declared.explain.TableForm.{TableForm}
 use Rattle.arcwcet.specs.Kept.{inputs_lent}
 use Rattle.arcwcet.specs.Reports.{bursts_of}
 use Rattle.arcwcet.proofs.reports.print_explanation.Goals as goal

@@ -1,9 +1,8 @@
 use Rattle.std.proofs.Common.{ℕ, List, Option, subst}
-use Rattle.handlers.specs.Priced.{Priced}
+use Rattle.handlers.specs.Priced.{Priced, given}
 use Rattle.handlers.specs.Refusal.{fault_only}
-use Rattle.handler_reports.specs.Bound.{given}
-use Rattle.handler_reports.specs.VisitsReport.{ReportsVisits}
-use Rattle.handler_reports.specs.declared.visit_rate.VisitRate.{VisitRate}
+use Rattle.bound_reports.specs.VisitsReport.{ReportsVisits}
+use Rattle.bound_reports.specs.declared.visit_rate.VisitRate.{VisitRate}
 use Rattle.arcwcet.specs.Kept.{inputs_lent}
 use Rattle.arcwcet.specs.Reports.{rate_of}
 use Rattle.arcwcet.proofs.reports.print_visited.Goals as goal

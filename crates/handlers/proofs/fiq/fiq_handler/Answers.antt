@@ -12,13 +12,17 @@ use Rattle.handlers.proofs.fiq.fiq_handler.Goals as goal
 pub returns-in_err-statement-clause-fault : goal.returns-in_err-statement-clause-fault
 returns-in_err-statement-clause-fault c = λ bytes is.
     let s = c.in_err-statement.field-0.0 in
-    refused_as c.from_residual.result s (λ s. BeforeOutput (IsFiqRefused bytes c.args.text.now c.args.profile.now) (stop_fault s)) c.from_residual.ensures.1
-    (fiq_unstated c.args.source.now c.args.text.now c.args.profile.now bytes is s c.in_err-statement.ensures.stops)
+    refused_as c.from_residual.result s
+    (λ s. BeforeOutput (IsFiqRefused bytes c.args.text.now c.args.profile.now) (stop_fault s))
+    c.from_residual.ensures.1
+    (fiq_unstated c.args.source.now c.args.text.now c.args.profile.now bytes is s
+    c.in_err-statement.ensures.stops)
 
 pub returns-in_err-statement-clause-carries : goal.returns-in_err-statement-clause-carries
 returns-in_err-statement-clause-carries c =
     let s = c.in_err-statement.field-0.0 in
-    refused_as c.from_residual.result s (Carries c.args.source.now c.args.text.now c.args.profile.now) c.from_residual.ensures.1
+    refused_as c.from_residual.result s (Carries c.args.source.now c.args.text.now c.args.profile.now)
+    c.from_residual.ensures.1
     (carried c.args.source.now c.args.text.now c.args.profile.now s
     (unstated c.args.source.now c.args.text.now c.args.profile.now s c.in_err-statement.ensures.stops))
 
@@ -27,8 +31,11 @@ returns-clause-fault c = λ bytes is.
     let source = c.args.source.now in
     let text = c.args.text.now in
     let profile = c.args.profile.now in
-    let right = enters_there bytes text profile source.image (address_of source.labels) is c.in_ok-statement.statement c.in_ok-statement.ensures.is (sym c.entry.ensures.value ∙ c.if-entry-ne-FIQ_VECTOR.false) in
-    IfErr-weaker c.stated_handler.result _ _ (λ s. fiq_stopped source text profile bytes is s right) (c.stated_handler.ensures.stops text c.in_ok-statement.ensures.is)
+    let right =
+    enters_there bytes text profile source.image (address_of source.labels) is c.in_ok-statement.statement
+    c.in_ok-statement.ensures.is (sym c.entry.ensures.value ∙ c.if-entry-ne-FIQ_VECTOR.false) in
+    IfErr-weaker c.stated_handler.result _ _ (λ s. fiq_stopped source text profile bytes is s right)
+    (c.stated_handler.ensures.stops text c.in_ok-statement.ensures.is)
 
 pub returns-clause-carries : goal.returns-clause-carries
 returns-clause-carries c =

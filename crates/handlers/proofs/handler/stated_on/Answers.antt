@@ -8,5 +8,6 @@ returns-in-Err c =
     let other : c.in-Err.fault ≢ statement_fault.Memory = search rules in
     record {
       is = tt;
-      stops = carries_text c.args.source.now c.args.text.now c.read_statement.result c.in-Err.fault c.read_statement.ensures c.in-Err.is other;
+      stops = carries_text c.args.source.now c.args.text.now c.read_statement.result c.in-Err.fault
+          c.read_statement.ensures c.in-Err.is other;
     }

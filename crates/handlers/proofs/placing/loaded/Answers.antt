@@ -6,8 +6,10 @@ use Rattle.handlers.proofs.placing.loaded.Goals as goal
 pub returns-in_err-put_all-clause-fault : goal.returns-in_err-put_all-clause-fault
 returns-in_err-put_all-clause-fault c = λ source machine is.
     let f = c.in_err-put_all.field-0.0 in
-    refused_as c.from_residual-in_err-put_all.result (of_load f) (Refused source machine c.args.profile) c.from_residual-in_err-put_all.ensures.1
-    (load_refuses source machine c.args.profile c.args.image.now is.names is.source_is c.args.file.now is.file_is
+    refused_as c.from_residual-in_err-put_all.result (of_load f) (Refused source machine c.args.profile)
+    c.from_residual-in_err-put_all.ensures.1
+    (load_refuses source machine c.args.profile c.args.image.now is.names is.source_is c.args.file.now
+    is.file_is
     c.in_ok-machine.machine c.in_ok-machine.ensures f c.in_err-put_all.ensures.fault)
 
 pub returns-clause-loaded : goal.returns-clause-loaded

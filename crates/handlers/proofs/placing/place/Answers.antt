@@ -9,5 +9,7 @@ returns c =
     record {
       placed = c.place_image.ensures.placed source said;
       fault = c.place_image.ensures.fault source said;
-      only = λ able. IfErr-weaker c.place_image.result _ _ (λ e h. runnable_memory source c.args.machine.now c.args.profile e h able) (c.place_image.ensures.fault source said);
+      only = λ able. IfErr-weaker c.place_image.result _ _
+          (λ e h. runnable_memory source c.args.machine.now c.args.profile e h able)
+          (c.place_image.ensures.fault source said);
     }

@@ -10,6 +10,9 @@ either (Err e) P Q h = inr h
 
 pub returns : goal.returns
 returns g c =
-    let start = on_from_start g.O.Output.taken g.O.Output.failures c.args.out.now c.new-page.result c.new-page.ensures.bytes c.new-page.ensures.failed in
+    let start =
+    on_from_start g.O.Output.taken g.O.Output.failures c.args.out.now c.new-page.result
+    c.new-page.ensures.bytes c.new-page.ensures.failed in
     let line = refusal_line (c.args.name.now ++ place_text c.args.place) in
-    either c.finish.result _ _ (c.finish.ensures c.args.out.now line (c.put_refusal_line.ensures c.args.out.now [] start))
+    either c.finish.result _ _
+    (c.finish.ensures c.args.out.now line (c.put_refusal_line.ensures c.args.out.now [] start))

@@ -7,5 +7,6 @@ use Rattle.responses.proofs.interrupts.entry_ticks.Goals as goal
 
 pub returns-clause-greatest : goal.returns-clause-greatest
 returns-clause-greatest c =
-    subst (IsGreatest (IsTargetOf Any) (entry_price c.args.profile.now c.args.interrupt)) (sym c.entry_ticks_number.ensures.number)
+    subst (IsGreatest (IsTargetOf Any) (entry_price c.args.profile.now c.args.interrupt))
+    (sym c.entry_ticks_number.ensures.number)
     (entry_greatest c.args.profile.now c.args.interrupt)

@@ -11,8 +11,12 @@ returns c =
     let bound = c.args.self in
     let visit = bound.fiq + fiq_entry profile in
     let left = c.args.every - visit in
-    let often : visit < c.args.every = omega (arith, c.if-every-visit.false, c.from-every.ensures, c.visit-visit.ensures) in
-    let same : div_ceil (c.from.result + c.from-2.result) (c.from-every.result - c.visit-visit.result) ≡ div_ceil (bound.irq + c.args.waited) left =
-    λ i. div_ceil (c.from.ensures i + c.from-2.ensures i) (c.from-every.ensures i - c.visit-visit.ensures i) in
-    subst (λ (n : ℕ). AreFewestVisits profile bound.irq bound.fiq c.args.every c.args.waited (Some n)) (sym (c.div_ceil.ensures ∙ same))
+    let often : visit < c.args.every =
+    omega (arith, c.if-every-visit.false, c.from-every.ensures, c.visit-visit.ensures) in
+    let same : div_ceil (c.from.result + c.from-2.result)
+    (c.from-every.result - c.visit-visit.result) ≡ div_ceil (bound.irq + c.args.waited) left =
+    λ i. div_ceil (c.from.ensures i + c.from-2.ensures i)
+    (c.from-every.ensures i - c.visit-visit.ensures i) in
+    subst (λ (n : ℕ). AreFewestVisits profile bound.irq bound.fiq c.args.every c.args.waited (Some n))
+    (sym (c.div_ceil.ensures ∙ same))
     (fewest profile bound.irq bound.fiq c.args.waited c.args.every left often refl)

@@ -1,0 +1,4 @@
+pub mod Bound
+pub mod TightReport
+pub mod TightText
+pub mod VisitsReport

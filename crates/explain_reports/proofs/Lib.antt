@@ -1,0 +1,7 @@
+mod EachLemmas
+pub mod CheckLemmas
+mod VerdictLemmas
+pub mod ExplainLemmas
+mod FirstLemmas
+pub mod GraphLemmas
+pub mod RunTimeLemmas

@@ -1,0 +1,199 @@
+-- A report on a followed run, from what is found of a source, a statement and a machine file.
+use Rattle.std.proofs.Common.{◌≡◌, ◌≢◌, ◌∙◌, ◌⊎◌, ◌++◌, ◌∷◌, [], ℕ, ◌+◌, ◌≤◌, Bool, List, append_assoc, length, take, Result, Ok, Err, sym, ap, subst}
+use Rattle.std.specs.Prelude.{IfErr}
+use Rattle.std.proofs.lemmas.List.{length-append}
+use Rattle.bus_ticks.specs.declared.profile.Profile.{Profile}
+use Rattle.image.specs.Image.{Words}
+use Rattle.statement.specs.Stated.{Stated}
+use Rattle.image.specs.Labels.{Names}
+use Rattle.arm2_exec.specs.State.{State}
+use Rattle.arm2_exec.specs.Step.{address_in}
+use Rattle.arm2_exec.specs.declared.machine.Input.{Input}
+use Rattle.control_flow.specs.Flow.{Flow, IsWellFormed}
+use Rattle.control_flow.specs.Graph.{IsFlowGraph}
+use Rattle.flow_graph.specs.StepLaw.{RunLaw, StepCost}
+use Rattle.loop_bounds.specs.Bounds.{IsGreatestCost}
+use Rattle.loop_bounds.specs.Handler.{IsTreeOf}
+use Rattle.loop_bounds.specs.Tree.{Tree}
+use Rattle.longest_walk.specs.Longest.{IsLongest, IsWalkFault}
+use Rattle.longest_walk.specs.declared.folded.Longest.{Longest}
+use Rattle.kept_runs.specs.declared.tally.Passed.{Passed}
+use Rattle.numbered_walks.specs.declared.fault.WalkFault.{WalkFault}
+use Rattle.numbered_walks.specs.declared.fault.WalkFault.TheVariants as walk_fault
+use Rattle.machine_file.specs.Started.{r15_in}
+use Rattle.machine_file.specs.Stated as machine_file
+use Rattle.kept_runs.specs.Judging.{IsMachineFor}
+use Rattle.kept_runs.specs.Keeping.{IsFollowed, IsKeptRun, KeepsNone, KeepsTo}
+use Rattle.kept_runs.specs.declared.following.Followed.{Followed}
+use Rattle.kept_runs.specs.declared.following.Followed.TheVariants.{Kept, Strayed}
+use Rattle.follow_reports.specs.FollowReport.{IsFollowRefused, IsFollowReport, IsFollowable, KeepsWithin, NoneKeeps, IsRunText}
+use Rattle.follow_reports.specs.FollowWork.{HasAllPlaces, IsJudgedRun, IsFollowedText}
+use Rattle.handlers.specs.Keeping.{KeepsStatement, TakesAtMost}
+use Rattle.handlers.specs.Placing.{IsPlaced, IsRunRefused}
+use Rattle.handlers.specs.Report.{BeforeOutput, HasLoops, IsAccepted, IsRefused}
+use Rattle.sources.specs.Source.{source_of}
+use Rattle.handlers.specs.declared.fault.ReportFault.{ReportFault}
+use Rattle.handlers.specs.declared.fault.ReportFault.TheVariants.{Memory, Source, Image, MachineFile, Load, Device}
+use Rattle.follow_reports.proofs.ExactLemmas.{table_exact}
+use Rattle.handlers.proofs.PlacingLemmas.{runnable_refusals}
+use Rattle.handlers.proofs.ReportLemmas.{accepted, accepted_refusals, bounded, bounds_runs, kept_here, kept_there}
+use Rattle.handlers.proofs.HandlerLemmas.{same_words}
+
+-- ## The run
+
+module _ (words : Words) (st : Stated) (flow : Flow) (tree : Tree) (of : IsTreeOf flow st.loops tree) (s : State) where
+  -- the bounds of the tree's instances are those of the stated loops
+  abbrev pub states : (is : List Input) → KeepsTo words st flow tree s is → KeepsStatement words st flow.profile flow s is
+  states is k = record { walk = k.walk; complete = k.complete; kept = kept_here flow st.loops tree of.instances k.walk k.kept; follows = k.follows }
+
+  pub by_tree : (is : List Input) → KeepsStatement words st flow.profile flow s is → KeepsTo words st flow tree s is
+  by_tree is k = record { walk = k.walk; complete = k.complete; kept = kept_there flow st.loops tree of.instances k.walk k.kept; follows = k.follows }
+
+module _ (words : Words) (st : Stated) (flow : Flow) (tree : Tree) (of : IsTreeOf flow st.loops tree) (source : List ℕ) (longest : Longest) (s : State) (inputs : List Input) where
+  at_most : RunLaw → IsGreatestCost flow st.loops longest.bound → (steps ticks : ℕ) (by_place : List Passed) (after : State)
+      → IsKeptRun words st flow tree s inputs steps ticks by_place after → ticks ≤ longest.bound
+  at_most law greatest steps ticks by_place after k =
+      let most : TakesAtMost flow.profile longest.bound (take steps inputs) k.ran =
+      bounds_runs words flow.profile st flow longest.bound law greatest s (take steps inputs) k.ran after (states words st flow tree of s (take steps inputs) k.keeps) k.runs in
+      subst (λ (n : ℕ). n ≤ longest.bound) k.ticks_are most.ticks
+
+  abbrev within : RunLaw → IsGreatestCost flow st.loops longest.bound → (steps ticks : ℕ) (by_place : List Passed) (after : State)
+      → IsKeptRun words st flow tree s inputs steps ticks by_place after → KeepsWithin words st flow.profile flow s inputs longest.bound ticks
+  within law greatest steps ticks by_place after k = record {
+    steps = steps;
+    few = k.few;
+    keeps = states words st flow tree of s (take steps inputs) k.keeps;
+    ran = k.ran;
+    after = after;
+    runs = k.runs;
+    ticks_are = k.ticks_are;
+    at_most = at_most law greatest steps ticks by_place after k;
+  }
+
+  none_keeps : KeepsNone words st flow tree s inputs → NoneKeeps words st flow.profile flow s inputs
+  none_keeps none steps keeps = none steps (by_tree words st flow tree of s (take steps inputs) keeps)
+
+  -- what is said of a followed run
+  pub run_text : IsWellFormed flow → StepCost → RunLaw → IsLongest flow tree longest → IsGreatestCost flow st.loops longest.bound → (after : State) (followed : Followed) (kept : Bool) (text : List ℕ)
+      → IsFollowed words st flow tree s inputs after followed → IsFollowedText source words st flow longest (address_in after.regs) followed kept text → IsRunText words st flow.profile flow s inputs source tree longest kept text
+  run_text well cost law longest_is greatest after (Kept steps ticks by_place) kept text is said =
+      subst (λ (b : Bool). IsRunText words st flow.profile flow s inputs source tree longest b text) (sym said.0)
+      (record {
+        ticks = ticks;
+        keeps = within law greatest steps ticks by_place.items after is;
+        left = said.1.left;
+        left_is = said.1.left_is;
+        passes = is.passes;
+        passes_are = is.passes_are;
+        table = said.1.table;
+        table_is =
+            let keeps = states words st flow tree of s (take steps inputs) is.keeps in
+            table_exact source words st flow tree longest s (take steps inputs) is.keeps.walk is.passes said.1.table well cost longest_is is.keeps.complete is.keeps.follows is.passes_are
+            (greatest.upper keeps.walk keeps.complete keeps.kept) (said.1.table_is is.passes is.tally_is);
+        warnings = said.1.warnings;
+        are_warnings = said.1.are_warnings is.passes is.tally_is;
+        text_is = said.1.text_is;
+      })
+  run_text well cost law longest_is greatest after (Strayed steps at why) kept text is said =
+      subst (λ (b : Bool). IsRunText words st flow.profile flow s inputs source tree longest b text) (sym said.0)
+      (record {
+        steps = steps;
+        at = at;
+        why = why;
+        after = after;
+        line = said.1.0;
+        none = none_keeps is.none;
+        strays = is;
+        line_is = said.1.1;
+        text_is = said.1.2;
+      })
+
+-- a text of a line and three pieces, of which two were appended to the first
+pub told_in_pieces : (line first second third two three begun text : List ℕ) → begun ≡ line → two ≡ first ++ second → three ≡ two ++ third → text ≡ begun ++ three
+    → text ≡ line ++ (first ++ (second ++ third))
+told_in_pieces line first second third two three begun text begins twos threes is =
+    is ∙ (λ i. begins i ++ (threes ∙ ap (λ xs. xs ++ third) twos ∙ append_assoc first second third) i)
+
+-- what is said of a kept run is said of each place
+pub all_places : (words : Words) (st : Stated) (flow : Flow) (tree : Tree) (s : State) (inputs : List Input) (after : State) (followed : Followed)
+    → IsFollowed words st flow tree s inputs after followed → HasAllPlaces flow followed
+all_places words st flow tree s inputs after (Kept steps ticks by_place) is = is.tally_is.whole
+all_places words st flow tree s inputs after (Strayed steps at why) is = tt
+
+-- the machine that a file states has all its registers, and the prices of the graph
+pub machine_for : (source machine : List ℕ) (profile : Profile) (file : machine_file.Stated) (state : State) (flow : Flow) → flow.profile ≡ profile → length file.processor.registers ≡ 26
+    → IsPlaced source machine profile file state → IsMachineFor flow state
+machine_for source machine profile file state flow same count placed =
+    let all : length (file.processor.registers ++ r15_in file.processor ∷ []) ≡ length file.processor.registers + 1 = length-append file.processor.registers (r15_in file.processor ∷ []) in
+    record {
+      registers = ap (λ (x : State). length x.regs) placed.loaded ∙ ap length placed.started.registers ∙ all ∙ ap (λ (n : ℕ). n + 1) count;
+      prices = ap (λ (x : State). x.profile) placed.loaded ∙ placed.started.prices ∙ sym same;
+    }
+
+-- ## The report
+
+module _ (source statement machine : List ℕ) (profile : Profile) (words : Words) (names : Names) (said : source_of source ≡ Ok (words, names))
+    (st : Stated) (flow : Flow) (tree : Tree) (loops : HasLoops source statement profile st flow) (of : IsTreeOf flow st.loops tree) where
+  -- the graph is that of the words that the source says
+  own_words : loops.graph.words ≡ words
+  own_words = sym (same_words source statement profile words names st flow said loops)
+
+  pub own_graph : IsFlowGraph words st flow.profile flow
+  own_graph =
+      subst (λ (p : Profile). IsFlowGraph words st p flow) (sym loops.graph.graph_is.profile_is)
+      (subst (λ (w : Words). IsFlowGraph w st profile flow) own_words loops.graph.graph_is)
+
+  pub followed : (longest : Longest) (file : machine_file.Stated) (state : State) (kept : Bool) (text : List ℕ)
+      → ((f : WalkFault) → f ≢ walk_fault.Memory → IsWalkFault flow tree f → ⊥) → IsLongest flow tree longest
+      → IsPlaced source machine profile file state → IsJudgedRun words st flow tree source longest file state kept text → IsFollowReport source statement machine profile kept text
+  unfolding accepted bounded
+  followed longest file state kept text allowed is_longest placed j = record {
+    bounded = bounded source statement profile st flow tree loops of longest is_longest allowed;
+    state = state;
+    inputs = j.inputs;
+    loaded = record { file = file; placed = placed; inputs_are = j.inputs_are };
+    is_text =
+        subst (λ (p : Profile). IsRunText loops.graph.words st p flow state j.inputs source tree longest kept text) loops.graph.graph_is.profile_is
+        (subst (λ (w : Words). IsRunText w st flow.profile flow state j.inputs source tree longest kept text) (sym own_words) j.is_text);
+  }
+
+-- ## Refusals
+
+module _ (source statement machine : List ℕ) (profile : Profile) where
+  abbrev pub Refused : ReportFault → Type 0
+  Refused = BeforeOutput (IsFollowRefused source statement machine profile)
+
+  -- of the handler
+  handler_refuses : (e : ReportFault) → IsRefused source statement profile e → IsFollowRefused source statement machine profile e
+  handler_refuses (MachineFile f) h = absurd h
+  handler_refuses (Load f) h = absurd h
+  handler_refuses e h = h
+
+  pub handler_refused : (e : ReportFault) → BeforeOutput (IsRefused source statement profile) e → Refused e
+  handler_refused e h = (h.0, handler_refuses e h.1)
+
+  -- of the machine
+  machine_refuses : (e : ReportFault) → IsAccepted source statement profile → IsRunRefused source machine profile e → IsFollowRefused source statement machine profile e
+  machine_refuses Memory a h = tt
+  machine_refuses Device a h = tt
+  machine_refuses (Source f) a h = h
+  machine_refuses (Image f) a h = h
+  machine_refuses (MachineFile f) a h = (a, h)
+  machine_refuses (Load f) a h = (a, h)
+  machine_refuses e a h = absurd h
+
+  pub machine_refused : (e : ReportFault) → IsAccepted source statement profile → BeforeOutput (IsRunRefused source machine profile) e → Refused e
+  machine_refused e a h = (h.0, machine_refuses e a h.1)
+
+  -- what can be followed is refused for lack of memory alone, or as the output fails
+  follow_refusals : (e : ReportFault) → IsFollowable source statement machine profile → IsFollowRefused source statement machine profile e → (e ≡ Memory) ⊎ (e ≡ Device)
+  follow_refusals (MachineFile f) a h = runnable_refusals source machine profile (MachineFile f) a.runnable h.1
+  follow_refusals (Load f) a h = runnable_refusals source machine profile (Load f) a.runnable h.1
+  follow_refusals e a h = accepted_refusals source statement profile e a.accepted h
+
+  pub only_memory : {T : Type 0} (r : Result T ReportFault) → IfErr r Refused → IsFollowable source statement machine profile → IfErr r (λ e. (e ≡ Memory) ⊎ (e ≡ Device))
+  only_memory (Ok x) h a = tt
+  only_memory (Err e) h a = follow_refusals e a h.1
+
+  pub followable : (kept : Bool) (text : List ℕ) → IsFollowReport source statement machine profile kept text → IsFollowable source statement machine profile
+  followable kept text r = record { accepted = r.bounded.accepted; runnable = record { file = r.loaded.file; state = r.state; placed = r.loaded.placed } }

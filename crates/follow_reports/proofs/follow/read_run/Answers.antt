@@ -1,0 +1,14 @@
+use Rattle.std.proofs.Common.{◌∷◌, []}
+use Rattle.std.proofs.lemmas.Result.{IfErr-weaker}
+use Rattle.handlers.proofs.RefusalLemmas.{first_carries, told_ok, told_carries}
+use Rattle.follow_reports.proofs.follow.read_run.Goals as goal
+
+pub returns-clause-judged : goal.returns-clause-judged
+returns-clause-judged c =
+    told_ok c.in_ok-said.said c.source_run-judged.result c.with_source.result c.with_source.ensures _ c.source_run-judged.ensures.judged
+
+pub returns-clause-carries : goal.returns-clause-carries
+returns-clause-carries c =
+    let said = c.in_ok-said.said in
+    told_carries said c.source_run-judged.result c.with_source.result c.with_source.ensures c.args.run.source.now (c.args.run.statement.now ∷ []) c.args.profile.now c.in_ok-said.ensures.is
+    (IfErr-weaker c.source_run-judged.result _ _ (first_carries said c.args.run.statement.now c.args.profile.now c.args.run.source.now []) c.source_run-judged.ensures.carries)

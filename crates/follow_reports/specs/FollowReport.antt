@@ -1,0 +1,116 @@
+-- Whether a machine's run keeps the statement of its handler, and where it does not.
+use Rattle.std.specs.Prelude.{◌≡◌, ℕ, ◌≤◌, Bool, true, false, List, ◌++◌, length, take, Option, Result}
+use Rattle.bus_ticks.specs.declared.profile.Profile.{Profile}
+use Rattle.image.specs.Image.{Words}
+use Rattle.statement.specs.Stated.{Stated}
+use Rattle.arm2_exec.specs.Run.{Runs}
+use Rattle.arm2_exec.specs.State.{State}
+use Rattle.arm2_exec.specs.Step.{address_in}
+use Rattle.arm2_exec.specs.declared.machine.Input.{Input}
+use Rattle.arm2_exec.specs.declared.machine.Ran.{Ran}
+use Rattle.control_flow.specs.Flow.{Flow}
+use Rattle.loop_bounds.specs.Tree.{Tree}
+use Rattle.longest_walk.specs.Folded.{unfolded}
+use Rattle.longest_walk.specs.declared.folded.Longest.{Longest}
+use Rattle.kept_runs.specs.Keeping.{IsStrayedRun}
+use Rattle.kept_runs.specs.Passing.{ArePasses, Pass}
+use Rattle.kept_runs.specs.declared.following.Unkept.{Unkept}
+use Rattle.handlers.specs.Answers.{Answers}
+use Rattle.follow_reports.specs.Differences.{compared_at}
+use Rattle.follow_reports.specs.DifferenceText.{IsTable}
+use Rattle.follow_reports.specs.FollowText.{AreWarnings, IsLeftText, IsLineNumberAt, kept_text, strayed_text}
+use Rattle.follow_reports.specs.FollowText.{why_text}
+use Rattle.handlers.specs.Keeping.{KeepsStatement}
+use Rattle.handlers.specs.Placing.{IsFileRefused, IsLoadRefused, IsLoaded, IsRunnable}
+use Rattle.handlers.specs.Report.{IsAccepted, IsBounded, IsRefused}
+use Rattle.handlers.specs.declared.fault.ReportFault.{ReportFault}
+use Rattle.handlers.specs.declared.fault.ReportFault.TheVariants as report_fault
+
+-- ## Runs from a state, by inputs that may be more than the run needs
+
+module _ (words : Words) (stated : Stated) (profile : Profile) (flow : Flow) (state : State)
+    (inputs : List Input) where
+  -- so many of the inputs make a run that keeps the statement, in so many ticks, at most the bound
+  pub record KeepsWithin (bound ticks : ℕ) : Type 0 where
+    pub steps : ℕ
+    pub few : steps ≤ length inputs
+    pub keeps : KeepsStatement words stated profile flow state (take steps inputs)
+    pub ran : Ran
+    pub after : State
+    pub runs : Runs state (take steps inputs) ran after
+    pub ticks_are : ran.ticks ≡ ticks
+    pub at_most : ticks ≤ bound
+
+  -- no number of the inputs does
+  abbrev pub NoneKeeps : Type 0
+  NoneKeeps = (steps : ℕ) → KeepsStatement words stated profile flow state (take steps inputs) → ⊥
+
+  module _ (source : List ℕ) (tree : Tree) (longest : Longest) where
+    -- how many ticks the run takes, whether it goes on at a word of the source, where it and the greatest
+    -- walk differ, and which of the words that it does an explanation warns of
+    pub record IsKeptText (text : List ℕ) : Type 0 where
+      pub ticks : ℕ
+      pub keeps : KeepsWithin longest.bound ticks
+      pub left : List ℕ
+      pub left_is : IsLeftText source words (address_in keeps.after.regs) left
+      pub passes : List Pass
+      pub passes_are : ArePasses flow state (take keeps.steps inputs) keeps.keeps.walk passes
+      pub table : List ℕ
+      pub table_is : IsTable source words stated flow (compared_at flow passes (unfolded longest.walk)) table
+      pub warnings : List ℕ
+      pub are_warnings : AreWarnings source words stated flow passes warnings
+      pub text_is : text ≡ kept_text ticks longest.bound ++ (left ++ (table ++ warnings))
+
+    -- after how many steps, where and why the first one strays
+    pub record IsStrayedText (text : List ℕ) : Type 0 where
+      pub steps : ℕ
+      pub at : ℕ
+      pub why : Unkept
+      pub after : State
+      pub line : Option ℕ
+      pub none : NoneKeeps
+      pub strays : IsStrayedRun words stated flow tree state inputs steps at why after
+      pub line_is : IsLineNumberAt source at line
+      pub text_is : text ≡ strayed_text steps at line (why_text stated at why)
+
+    -- true exactly where some number of the inputs makes a run that keeps the statement
+    abbrev pub IsRunText : Bool → List ℕ → Type 0
+    IsRunText true text = IsKeptText text
+    IsRunText false text = IsStrayedText text
+
+-- ## The report
+
+-- the answer on the run of a machine through an accepted handler, and its text
+pub record IsFollowReport (source statement machine : List ℕ) (profile : Profile) (kept : Bool)
+    (text : List ℕ) : Type 0 where
+  pub bounded : IsBounded source statement profile
+  pub state : State
+  pub inputs : List Input
+  pub loaded : IsLoaded source machine profile state inputs
+  pub is_text : IsRunText bounded.accepted.loops.graph.words bounded.accepted.stated profile
+      bounded.accepted.flow state inputs source bounded.tree bounded.longest kept text
+
+-- ## Refusals
+
+-- an accepted handler, and a machine that can be loaded
+pub record IsFollowable (source statement machine : List ℕ) (profile : Profile) : Type 0 where
+  pub accepted : IsAccepted source statement profile
+  pub runnable : IsRunnable source machine profile
+
+-- when each refusal is answered: those of the handler, and then those of the machine
+abbrev pub IsFollowRefused : List ℕ → List ℕ → List ℕ → Profile → ReportFault → Type 0
+IsFollowRefused source statement machine profile (report_fault.MachineFile fault) =
+    IsAccepted source statement profile × IsFileRefused source machine fault
+IsFollowRefused source statement machine profile (report_fault.Load fault) =
+    IsAccepted source statement profile × IsLoadRefused source machine profile fault
+IsFollowRefused source statement machine profile fault = IsRefused source statement profile fault
+
+-- ## The call
+
+-- the answer to a source, a statement and a machine file
+abbrev pub FollowsRun : {O : Type 0} → (O → Option (List ℕ)) → (O → ℕ) → List ℕ → List ℕ → List ℕ → Profile
+    → O → O → Result Bool ReportFault → Type 0
+FollowsRun taken failures source statement machine profile old new result =
+    Answers taken failures (IsFollowReport source statement machine profile)
+    (IsFollowable source statement machine profile)
+    (IsFollowRefused source statement machine profile) old new result

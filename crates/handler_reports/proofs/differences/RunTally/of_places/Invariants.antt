@@ -1,5 +1,0 @@
-use Rattle.handler_reports.specs.Differences.{HasAdded}
-use Rattle.handler_reports.proofs.differences.RunTally.of_places.Given as goal
-
-abbrev pub invariant-loop-index : goal.invariant-loop-index
-invariant-loop-index l = HasAdded l.graph.places l.by_place l.index l.tally

@@ -1,7 +1,0 @@
-use Rattle.std.specs.BTreeSet.{contains}
-use Rattle.std.specs.Ordering.{nat_cmp}
-use Rattle.handler_reports.specs.FollowWork.{HasDone}
-use Rattle.handler_reports.proofs.warnings.done_words.Given as goal
-
-abbrev pub invariant-loop-index : goal.invariant-loop-index
-invariant-loop-index l = HasDone l.graph.places l.by_place l.index (contains nat_cmp l.done)

@@ -1,0 +1,5 @@
+pub mod SumLemmas
+pub mod ShiftLemmas
+pub mod HoldLemmas
+pub mod ForgetLemmas
+pub mod TransferLemmas

@@ -1,0 +1,23 @@
+use Rattle.std.proofs.Common.{◌≡◌, ◌∙◌, ◌⊎◌, ℕ, true, ap, subst}
+use Rattle.std.specs.Prelude.{◌↔◌}
+use Rattle.std.specs.BTreeSet.{contains}
+use Rattle.std.specs.List.{list_any}
+use Rattle.std.specs.Ordering.{nat_cmp}
+use Rattle.control_flow.specs.declared.edges.Edge.{Edge}
+use Rattle.text_explained.specs.Sums.{is_call_to}
+use Rattle.text_explained.proofs.AnyLaws.{answers_all, answers_more}
+use Rattle.text_explained.proofs.routines.called_addresses.Goals as goal
+
+pub loop-edge-preserved : goal.loop-edge-preserved
+loop-edge-preserved c =
+    answers_more is_call_to c.edges-edge-items.result.now (contains nat_cmp c.loop-edge.called) (contains nat_cmp c.note_called.new.called) c.loop-edge.edge-index
+    c.edge-item.result c.loop-edge-test.true c.loop-edge.invariant
+    (subst
+    (λ (e : Edge). (a : ℕ) → (contains nat_cmp c.note_called.new.called a ≡ true)
+    ↔ ((contains nat_cmp c.loop-edge.called a ≡ true) ⊎ (is_call_to a e ≡ true)))
+    c.edge-item.is c.in_ok-note_called.ensures)
+
+pub returns : goal.returns
+returns c = λ a.
+    answers_all is_call_to c.edges-edge-items.result.now (contains nat_cmp c.loop-edge.called) c.loop-edge.edge-index c.loop-edge-test.false c.loop-edge.invariant a
+    ∙ ap (list_any (is_call_to a)) c.edges-edge-items.ensures.value

@@ -1,0 +1,17 @@
+use Rattle.std.proofs.Common.{◌∙◌, ap}
+use Rattle.std.proofs.lemmas.Result.{IfOk-weaker}
+use Rattle.longest_walk.specs.Folded.{unfolded}
+use Rattle.statement.specs.Stated.{StatedLoops}
+use Rattle.text_explained.proofs.PartLaws.{sums_whole}
+use Rattle.text_explained.proofs.sums.loop_sums.Goals as goal
+
+pub returns : goal.returns
+returns c =
+    let handler = c.args.handler.now in
+    let longest = c.args.longest.now in
+    let loops = handler.statement.loops in
+    IfOk-weaker c.section.result _ _
+    (λ text is. sums_whole c.args.source.now loops handler.graph (unfolded longest.walk) longest.bound c.in_ok-lines.lines c.apart.result.now c.list.result.now c.new-rows.result.items
+    c.put_loops.new.out.items c.deref-2.result.now text.items (c.apart.ensures ∙ ap (λ (ls : StatedLoops). ls.apart) c.loops-loops.ensures)
+    (c.list.ensures.value ∙ ap (λ (ls : StatedLoops). ls.list) c.loops-loops.ensures) c.in_ok-lines.ensures c.new-rows.ensures.items c.in_ok-put_loops.ensures c.deref-2.ensures.value is)
+    c.section.ensures
