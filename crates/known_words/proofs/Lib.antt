@@ -3,3 +3,4 @@ pub mod ShiftLemmas
 pub mod HoldLemmas
 pub mod ForgetLemmas
 pub mod TransferLemmas
+mod ImplyLemmas

@@ -6,3 +6,4 @@ pub mod Entering
 pub mod After
 pub mod Transfers
 pub mod Edges
+pub mod Implying

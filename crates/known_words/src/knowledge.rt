@@ -123,8 +123,8 @@ impl Knowledge {
         }
     }
 
-    // A register as the first operand or as a base, by the address of the instruction.
-    pub(crate) fn first_of(&self, bytes: u32, register: Register, address: u32) -> Known
+    /// A register as the first operand or as a base, by the address of the instruction.
+    pub fn first_of(&self, bytes: u32, register: Register, address: u32) -> Known
         ensures { (entry turns regs : List ℕ) → address_of (r15_in regs) ≡ address
             → Holds entry turns self.now regs → IsKnown entry turns result (first_of bytes register regs) }
     {
@@ -145,8 +145,8 @@ impl Knowledge {
         self.of(register)
     }
 
-    // A register that is shifted by an amount in the instruction.
-    pub(crate) fn shifted_of(&self, shift: Shift, amount: u32, rm: Register, address: u32) -> Known
+    /// A register that is shifted by an amount in the instruction.
+    pub fn shifted_of(&self, shift: Shift, amount: u32, rm: Register, address: u32) -> Known
         requires { amount < 32 }
         ensures { (entry turns regs : List ℕ) → address_of (r15_in regs) ≡ address
             → Holds entry turns self.now regs

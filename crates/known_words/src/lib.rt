@@ -8,6 +8,8 @@
 mod data;
 mod edges;
 mod forgetting;
+mod implying;
+mod joining;
 mod knowledge;
 mod operands;
 mod stepping;
@@ -20,5 +22,7 @@ pub use edges::narrowed;
 pub use knowledge::{Compared, Knowledge};
 pub use operands::{rotated, shifted};
 pub use stepping::{after, known_where_skipped};
+pub use sums::{added, subtracted};
+pub use transfers::moved;
 pub use values::computed;
 pub use words::{Known, Range, Start, Steps, Sum, Word};

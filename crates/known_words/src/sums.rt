@@ -127,7 +127,7 @@ fn in_range(sum: Option<Sum>, range: Range) -> Known
 }
 
 /// The sum of two words, on 32 bits.
-pub(crate) fn added(first: Known, second: Known) -> Known
+pub fn added(first: Known, second: Known) -> Known
     ensures { Adds first second result }
 {
     match first {
@@ -140,7 +140,7 @@ pub(crate) fn added(first: Known, second: Known) -> Known
 }
 
 /// The first word less the second, on 32 bits.
-pub(crate) fn subtracted(first: Known, second: Known) -> Known
+pub fn subtracted(first: Known, second: Known) -> Known
     ensures { Subtracts first second result }
 {
     match first {

@@ -13,7 +13,8 @@ use crate::sums::{added, subtracted};
 use crate::words::Known;
 use arm2_decode::{Block, Operation, Register, SingleImmediate, SingleRegister, writes_base};
 
-fn moved(up: bool, base: Known, offset: Known) -> Known
+/// What is known of a base that is moved by an offset, up or down.
+pub fn moved(up: bool, base: Known, offset: Known) -> Known
     ensures { Moves up base offset result }
 {
     if up {

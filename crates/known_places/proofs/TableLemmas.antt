@@ -1,0 +1,79 @@
+-- What is shown of one edge or one place, for all that stand there.
+use Rattle.std.proofs.Common.{◌≡◌, ◌∙◌, ℕ, ◌<◌, arith, ◌⊎◌, inl, inr, List, [], ◌∷◌, ◌++◌, length, Some, refl, sym, ap, subst}
+use Rattle.std.specs.Prelude.{Contains}
+use Rattle.std.proofs.lemmas.List.Elements.{Contains-append_left, Contains-append_right}
+use Rattle.std.proofs.lemmas.Option.{same_Some}
+use Rattle.control_flow.proofs.SortedLemmas.{here}
+use Rattle.image.specs.Image.{Words, word_of}
+use Rattle.statement.specs.Stated.{Stated, class_at}
+use Rattle.control_flow.specs.Flow.{Flow}
+use Rattle.control_flow.specs.Kinds.{IsAction}
+use Rattle.control_flow.specs.Places.{place_address}
+use Rattle.control_flow.specs.declared.actions.Action.{Action}
+use Rattle.control_flow.specs.declared.edges.Edge.{Edge}
+use Rattle.control_flow.specs.declared.edges.Label.{Label}
+use Rattle.control_flow.specs.declared.places.Place.{Place}
+use Rattle.control_flow.specs.declared.places.Place.TheVariants.{At}
+use Rattle.loop_bounds.specs.Tree.{Tree, place_in}
+use Rattle.longest_walk.specs.Built.{step_at}
+use Rattle.numbered_walks.specs.Index.{edge_at}
+use Rattle.numbered_walks.specs.declared.span.NumberedEdge.{NumberedEdge}
+use Rattle.known_words.specs.declared.knowledge.Knowledge.{Knowledge}
+use Rattle.known_places.specs.Table.{KeepsAlong, StaysAt, known_at}
+use Rattle.known_places.specs.Words.{Carries, StaysIn}
+
+-- one address has one word
+one_word : (words : Words) (a b v w : ℕ) → a ≡ b → word_of words a ≡ Some v → word_of words b ≡ Some w → v ≡ w
+one_word words a b v w same first second = same_Some v w (sym first ∙ ap (word_of words) same ∙ second)
+
+pub carried_there : (words : Words) (from : Place) (label : Label) (before next : Knowledge) (calls : List ℕ) (address word : ℕ)
+    → from ≡ At calls address → word_of words address ≡ Some word → Carries word address label before next
+    → (others : List ℕ) (a w : ℕ) → from ≡ At others a → word_of words a ≡ Some w → Carries w a label before next
+carried_there words from label before next calls address word place has carries others a w is also =
+    let at : address ≡ a = ap place_address (sym place ∙ is) in
+    subst (λ n. Carries w n label before next) at
+    (subst (λ v. Carries v address label before next) (one_word words address a word w at has also) carries)
+
+module _ (words : Words) (flow : Flow) (tree : Tree) (table : List Knowledge) where
+  -- by an edge that is that of the graph, and a list that is that of the tree
+  pub along_edge : (k : ℕ) (edge : Edge) (numbered : List NumberedEdge) → edge ≡ step_at flow.edges k → numbered ≡ tree.edges
+      → length table ≡ length flow.places
+      → ((calls : List ℕ) (address word : ℕ) → edge.from ≡ At calls address → word_of words address ≡ Some word
+      → (edge_at numbered k).to < length table
+      → Carries word address edge.label (known_at table (edge_at numbered k).from) (known_at table (edge_at numbered k).to))
+      → KeepsAlong words flow tree table k
+  along_edge k edge numbered e n whole carries calls address word from has low =
+      subst (λ (d : Edge). Carries word address d.label (known_at table (edge_at tree.edges k).from) (known_at table (edge_at tree.edges k).to)) e
+      (subst (λ ns. Carries word address edge.label (known_at table (edge_at ns k).from) (known_at table (edge_at ns k).to)) n
+      (carries calls address word (subst (λ (d : Edge). d.from ≡ At calls address) (sym e) from) has
+      (subst (λ ns. (edge_at ns k).to < length table) (sym n) (omega (arith, low, whole)))))
+
+  module _ (st : Stated) where
+    pub stays_known : (trusted : List ℕ) (number : ℕ) (calls : List ℕ) (address word : ℕ) → place_in flow tree number ≡ At calls address
+        → word_of words address ≡ Some word
+        → ((action : Action) → IsAction word action → StaysIn (class_at st address action.base) word address (known_at table number))
+        → StaysAt words st flow tree table trusted number
+    stays_known trusted number calls address word place has stays others a w action is also acts =
+        let at : address ≡ a = ap place_address (sym place ∙ is) in
+        let same : w ≡ word = sym (one_word words address a word w at has also) in
+        inr (subst (λ n. StaysIn (class_at st n action.base) w n (known_at table number)) at
+        (subst (λ v. StaysIn (class_at st address action.base) v address (known_at table number)) (sym same)
+        (stays action (subst (λ v. IsAction v action) same acts))))
+
+    pub stays_before : (trusted more : List ℕ) (number : ℕ) → StaysAt words st flow tree table trusted number
+        → StaysAt words st flow tree table (trusted ++ more) number
+    stays_before trusted more number stays calls a w action is also acts = by_case (stays calls a w action is also acts)
+      where
+        by_case : Contains trusted a ⊎ StaysIn (class_at st a action.base) w a (known_at table number)
+            → Contains (trusted ++ more) a ⊎ StaysIn (class_at st a action.base) w a (known_at table number)
+        by_case (inl has) = inl (Contains-append_left trusted more a has)
+        by_case (inr other) = inr other
+
+    pub stays_after : (trusted more : List ℕ) (number : ℕ) → StaysAt words st flow tree table more number
+        → StaysAt words st flow tree table (trusted ++ more) number
+    stays_after trusted more number stays calls a w action is also acts = by_case (stays calls a w action is also acts)
+      where
+        by_case : Contains more a ⊎ StaysIn (class_at st a action.base) w a (known_at table number)
+            → Contains (trusted ++ more) a ⊎ StaysIn (class_at st a action.base) w a (known_at table number)
+        by_case (inl has) = inl (Contains-append_right trusted more a has)
+        by_case (inr other) = inr other

@@ -1,0 +1,133 @@
+-- What is known after a word, and of what class its transfers are.
+use Rattle.std.proofs.Common.{◌≡◌, ◌∙◌, ℕ, ◌⊎◌, inl, inr, Bool, true, false, cond, List, length, Option, Some, None, refl, sym, ap, subst}
+use Rattle.std.specs.Prelude.{IfSome}
+use Rattle.bus_ticks.specs.declared.profile.Class.{Class}
+use Rattle.arm2_decode.specs.Conditions.{condition_holds}
+use Rattle.arm2_decode.specs.Table.{IsUnallocated, Means}
+use Rattle.arm2_decode.specs.declared.instr.Instr.{Instr}
+use Rattle.arm2_decode.specs.declared.instr.Operation.{Operation}
+use Rattle.arm2_decode.specs.declared.instr.Unallocated.{Unallocated}
+use Rattle.arm2_decode.specs.declared.names.Cond.{Cond}
+use Rattle.arm2_decode.proofs.Unique.{never_both, one_instr, one_unallocated}
+use Rattle.arm2_effect.specs.declared.step_end.Kind.{Kind}
+use Rattle.arm2_effect.specs.declared.step_end.Kind.TheVariants as ended
+use Rattle.arm2_effect.specs.declared.step_end.Why.TheVariants as why
+use Rattle.arm2_effect.specs.Effects.{skipped, stopped}
+use Rattle.arm2_effect.specs.Modes.{r15_in}
+use Rattle.arm2_effect.specs.ProgramCounter.{flags_of}
+use Rattle.arm2_transfer.specs.Moved.{Moved, on_bus}
+use Rattle.arm2_transfer.specs.Operations.{operation_moved}
+use Rattle.arm2_transfer.specs.declared.bus.Bus.{Bus}
+use Rattle.arm2_exec.specs.Step.{Obeys, address_in, instruction_moved, unallocated_moved}
+use Rattle.control_flow.specs.Kinds.{IsAction, instr_action, unallocated_action}
+use Rattle.control_flow.specs.declared.actions.Action.{Action}
+use Rattle.control_flow.specs.declared.edges.Label.{Label}
+use Rattle.control_flow.specs.declared.edges.Label.TheVariants.{Do, Skip}
+use Rattle.flow_graph.specs.StepLaw.{TransfersIn, holds_in, label_in}
+use Rattle.kept_runs.specs.Reading.{instr_reading, transfer_if, unallocated_reading}
+use Rattle.kept_runs.specs.Transfers.{HasNoOther, words_of}
+use Rattle.kept_runs.proofs.MovedLemmas.{Moves, word_moves}
+use Rattle.known_words.specs.After.{After}
+use Rattle.known_words.specs.Knowledge.{Holds}
+use Rattle.known_words.specs.declared.knowledge.Knowledge.{Knowledge}
+use Rattle.known_words.proofs.ForgetLemmas.{skipped_holds}
+use Rattle.known_places.specs.Words.{Carries, MovesIn, StaysIn}
+
+-- ## Labels
+
+done_only : (b : Bool) → cond b Do Skip ≡ Do → b ≡ true
+done_only true is = refl
+done_only false is = absurd (cc)
+
+skipped_only : (b : Bool) → cond b Do Skip ≡ Skip → b ≡ false
+skipped_only false is = refl
+skipped_only true is = absurd (cc)
+
+-- an instruction's action has its condition
+action_cond : (word : ℕ) (i : Instr) (action : Action) → Means word i → IsAction word action → action.cond ≡ i.cond
+action_cond word i action means (inl (j, other, is)) =
+    ap (λ (a : Action). a.cond) is ∙ ap (λ (x : Instr). x.cond) (one_instr word j i other means)
+action_cond word i action means (inr (u, none, is)) = absurd (never_both word i u means none)
+
+-- ## What the word does
+
+-- what an instruction does
+obeyed : (word port : ℕ) (regs : List ℕ) (bus : Bus) (m : Moved) (i : Instr) → Means word i → Obeys word port regs bus m
+    → m ≡ instruction_moved i port regs bus
+obeyed word port regs bus m i means (inl (j, other, is)) =
+    is ∙ ap (λ (x : Instr). instruction_moved x port regs bus) (one_instr word j i other means)
+obeyed word port regs bus m i means (inr (u, none, is)) = absurd (never_both word i u means none)
+
+-- what is known along the edges of an instruction
+pub instr_done : (i : Instr) (address : ℕ) (before there result : Knowledge)
+    → ((entry turns now : List ℕ) → condition_holds i.cond (flags_of (r15_in now)) ≡ true → Holds entry turns before now → Holds entry turns there now)
+    → After i.operation address there result → (word : ℕ) → Means word i → Carries word address Do before result
+instr_done i address before there result narrows after word means entry turns regs port bus m action long at is label obeys plain holds =
+    let does : holds_in regs i.cond ≡ true =
+    ap (holds_in regs) (sym (action_cond word i action means is)) ∙ done_only (holds_in regs action.cond) label in
+    let moved : m ≡ operation_moved i.operation port regs bus =
+    obeyed word port regs bus m i means obeys
+    ∙ ap (λ (b : Bool). cond b (operation_moved i.operation port regs bus) (on_bus bus (skipped regs))) does in
+    subst (λ (x : Moved). Holds entry turns result x.regs) (sym moved)
+    (after entry turns regs port bus long at (ap (λ (x : Moved). x.kind) (sym moved) ∙ plain) (narrows entry turns regs does holds))
+
+pub instr_skipped : (i : Instr) (address : ℕ) (before result : Knowledge)
+    → ((entry turns now : List ℕ) → condition_holds i.cond (flags_of (r15_in now)) ≡ false → Holds entry turns before now → Holds entry turns result now)
+    → (word : ℕ) → Means word i → Carries word address Skip before result
+instr_skipped i address before result narrows word means entry turns regs port bus m action long at is label obeys plain holds =
+    let fails : holds_in regs i.cond ≡ false =
+    ap (holds_in regs) (sym (action_cond word i action means is)) ∙ skipped_only (holds_in regs action.cond) label in
+    let moved : m ≡ on_bus bus (skipped regs) =
+    obeyed word port regs bus m i means obeys
+    ∙ ap (λ (b : Bool). cond b (operation_moved i.operation port regs bus) (on_bus bus (skipped regs))) fails in
+    subst (λ (x : Moved). Holds entry turns result x.regs) (sym moved)
+    (skipped_holds entry turns regs result long (narrows entry turns regs fails holds))
+
+-- ## Unallocated words
+
+not_stopped : (b : Bool) (regs : List ℕ) (bus : Bus) (m : Moved) → m ≡ cond b (on_bus bus (stopped why.Unallocated regs)) (on_bus bus (skipped regs))
+    → m.kind ≡ ended.Plain → m ≡ on_bus bus (skipped regs)
+unfolding stopped
+not_stopped true regs bus m is plain =
+    let both : ended.Stopped why.Unallocated ≡ ended.Plain = sym (ap (λ (x : Moved). x.kind) is) ∙ plain in
+    absurd (cc)
+not_stopped false regs bus m is plain = is
+
+unallocated_skipped : (word port : ℕ) (regs : List ℕ) (bus : Bus) (m : Moved) (u : Unallocated) → IsUnallocated word u
+    → Obeys word port regs bus m → m.kind ≡ ended.Plain → m ≡ on_bus bus (skipped regs)
+unallocated_skipped word port regs bus m u none (inl (i, means, is)) plain = absurd (never_both word i u means none)
+unallocated_skipped word port regs bus m u none (inr (v, also, is)) plain = not_stopped (holds_in regs v.cond) regs bus m is plain
+
+pub unallocated_carries : (word address : ℕ) (label : Label) (known : Knowledge) (u : Unallocated) → IsUnallocated word u
+    → Carries word address label known known
+unallocated_carries word address label known u none entry turns regs port bus m action long at is labelled obeys plain holds =
+    subst (λ (x : Moved). Holds entry turns known x.regs) (sym (unallocated_skipped word port regs bus m u none obeys plain))
+    (skipped_holds entry turns regs known long holds)
+
+-- ## Classes
+
+no_other_if : (class : Class) (b : Bool) (o : Operation) (regs : List ℕ) → (b ≡ true → HasNoOther class (words_of o regs))
+    → HasNoOther class (transfer_if b o regs)
+no_other_if class true o regs none = none refl
+no_other_if class false o regs none = tt
+
+pub instr_stays : (class : Class) (i : Instr) (address : ℕ) (before there : Knowledge)
+    → ((entry turns now : List ℕ) → condition_holds i.cond (flags_of (r15_in now)) ≡ true → Holds entry turns before now → Holds entry turns there now)
+    → MovesIn class i.operation address there → (word : ℕ) → Means word i → StaysIn class word address before
+instr_stays class i address before there narrows moves word means entry turns regs port bus m long at obeys plain holds =
+    (word_moves class regs bus word port (instr_reading i regs) m (inl (i, means, refl)) obeys).in_class plain
+    (no_other_if class (holds_in regs i.cond) i.operation regs (λ does. moves entry turns regs at (narrows entry turns regs does holds)))
+
+pub unallocated_stays : (class : Class) (word address : ℕ) (known : Knowledge) (u : Unallocated) → IsUnallocated word u
+    → StaysIn class word address known
+unallocated_stays class word address known u none entry turns regs port bus m long at obeys plain holds =
+    (word_moves class regs bus word port (unallocated_reading u regs) m (inr (u, none, refl)) obeys).in_class plain tt
+
+-- ## Options
+
+pub done_known : (i : Instr) (address : ℕ) (before there : Knowledge)
+    → ((entry turns now : List ℕ) → condition_holds i.cond (flags_of (r15_in now)) ≡ true → Holds entry turns before now → Holds entry turns there now)
+    → (result : Option Knowledge) → IfSome result (λ known. After i.operation address there known) → (word : ℕ) → Means word i
+    → IfSome result (λ known. Carries word address Do before known)
+done_known i address before there narrows None after word means = tt
+done_known i address before there narrows (Some known) after word means = instr_done i address before there known narrows after word means

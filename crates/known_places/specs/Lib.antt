@@ -1,0 +1,3 @@
+pub mod OnTrust
+pub mod Words
+pub mod Table

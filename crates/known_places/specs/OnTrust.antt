@@ -1,0 +1,61 @@
+-- Runs of which not all that is stated is granted: what classes of accesses follow from the code, and which are
+-- on trust.
+use Rattle.std.specs.Prelude.{◌≡◌, ℕ, true, List, [], ◌∷◌, length, Contains}
+use Rattle.walks.specs.Walk.{Leads}
+use Rattle.bus_ticks.specs.declared.profile.Profile.{Profile}
+use Rattle.image.specs.Image.{Words, word_of}
+use Rattle.statement.specs.Stated.{Stated, class_at, cycles_at, taken_at}
+use Rattle.arm2_effect.specs.Modes.{r15_in}
+use Rattle.arm2_effect.specs.declared.step_end.Kind.TheVariants.{Plain}
+use Rattle.arm2_exec.specs.Run.{Runs}
+use Rattle.arm2_exec.specs.State.{State}
+use Rattle.arm2_exec.specs.Step.{Step, address_in, fetched}
+use Rattle.arm2_exec.specs.declared.machine.Input.{Input}
+use Rattle.arm2_exec.specs.declared.machine.Ran.{Ran}
+use Rattle.arm2_exec.specs.declared.machine.Stepped.{Stepped}
+use Rattle.control_flow.specs.Edges.{HasAction, may_go}
+use Rattle.control_flow.specs.Flow.{Flow, HasEdge, edge_shape}
+use Rattle.control_flow.specs.declared.actions.Action.{Action}
+use Rattle.control_flow.specs.declared.edges.Edge.{Edge}
+use Rattle.control_flow.specs.declared.places.Place.{Place}
+use Rattle.flow_graph.specs.StepLaw.{Follows, IsTaken, TakesWithin, TransfersIn, label_in}
+use Rattle.known_words.specs.Knowledge.{AreWords}
+
+module _ (words : Words) (st : Stated) (profile : Profile) (trusted : List ℕ) where
+  -- A step that executes the image's word at its address as stated, but that its accesses are of the stated
+  -- class is granted of the words at trusted addresses alone.
+  pub record ExecutesOnTrust (action : Action) (s : State) (i : Input) (stepped : Stepped)
+      (after : State) : Type 0 where
+    pub registers : length s.regs ≡ 27
+    pub prices : s.profile ≡ profile
+    pub has : HasAction words (address_in s.regs) action
+    pub fetches : fetched s.bus.memc (r15_in s.regs) ≡ word_of words (address_in s.regs)
+    pub step : Step s i stepped after
+    pub plain : stepped.kind ≡ Plain
+    pub transfers : Contains trusted (address_in s.regs)
+        → TransfersIn (class_at st (address_in s.regs) action.base) step.moved.accesses
+    pub cycles : TakesWithin (cycles_at st (address_in s.regs)) step.moved.accesses
+    pub way : may_go (label_in s.regs action.cond) action.cond (taken_at st (address_in s.regs)) ≡ true
+
+  -- such a step along an edge of the statement's graph
+  pub record IsEdgeOnTrust (s : State) (i : Input) (stepped : Stepped) (after : State) (e : Edge) : Type 0 where
+    pub calls : List ℕ
+    pub action : Action
+    pub executes : ExecutesOnTrust action s i stepped after
+    pub taken : IsTaken words st profile calls action s stepped e
+
+  -- the steps by the inputs are such steps along the edges of the walk, one each and in order
+  abbrev pub GoesOnTrust : State → List Input → List Edge → Type 0
+  GoesOnTrust s [] [] = Unit {0}
+  GoesOnTrust s [] (e ∷ walk) = ⊥
+  GoesOnTrust s (i ∷ inputs) [] = ⊥
+  GoesOnTrust s (i ∷ inputs) (e ∷ walk) =
+      (stepped : Stepped) × (next : State) × IsEdgeOnTrust s i stepped next e × GoesOnTrust next inputs walk
+
+-- Each run from the entry, finished or not, that goes along the graph and of which the classes of the words at
+-- trusted addresses are granted, has all its accesses of the stated classes.
+abbrev pub Justifies : Words → Stated → Flow → (trusted : List ℕ) → Type 0
+Justifies words st flow trusted =
+    (s : State) (inputs : List Input) (walk : List Edge) (place : Place) → AreWords s.regs
+    → Leads edge_shape (HasEdge flow) flow.entry walk place → GoesOnTrust words st flow.profile trusted s inputs walk
+    → Follows words st flow.profile s inputs walk

@@ -1,0 +1,190 @@
+ghost use Rattle.std.specs.Prelude.{◌≡◌, ◌<◌, ◌++◌, ◌∷◌, [], ℕ, List, IfOk, IfSome, IsTrue, MatchOption, OnOk, Some, length};
+ghost use Rattle.control_flow.specs.Graph.{IsFlowGraph};
+ghost use Rattle.control_flow.specs.Kinds.{IsAction};
+ghost use Rattle.control_flow.specs.declared.actions.Action.{Action};
+ghost use Rattle.image.specs.Image.{word_of};
+ghost use Rattle.loop_bounds.specs.Tree.{IsTree};
+ghost use Rattle.statement.specs.Stated.{class_at};
+ghost use Rattle.known_places.specs.OnTrust.{Justifies};
+ghost use Rattle.known_places.specs.Table.{BeginsKnown, KeepsAlong, StaysAt, known_at};
+ghost use Rattle.known_places.specs.Words.{Carries, StaysIn};
+
+use crate::word::{known_after, stays_in};
+use control_flow::{Edge, Label, Place, action_of};
+use known_words::Knowledge;
+use loop_bounds::{Handler, place_in};
+use numbered_walks::NumberedEdge;
+use std::alloc::{AllocError, Global};
+
+// Whether the one, before the word at the address, is seen to give the other after it.
+fn carries(word: u32, address: u32, label: Label, before: &Knowledge, next: &Knowledge) -> bool
+    ensures { IsTrue result → Carries word address label before.now next.now }
+{
+    match known_after(word, address, label, before) {
+        Some(known) => known.implies(next),
+        None => false,
+    }
+}
+
+// Whether what is known before an edge's word is seen to give what is known after it.
+fn edge_carries(
+    handler: &Handler<'_>,
+    table: &[Knowledge],
+    edge: &Edge,
+    numbered: NumberedEdge,
+) -> bool
+    ensures { IsTrue result → (calls : List ℕ) → (address : ℕ) → (word : ℕ) → edge.now.from ≡ Place.At calls address
+        → word_of handler.now.image.now address ≡ Some word → numbered.to < length table.now
+        → Carries word address edge.now.label (known_at table.now numbered.from) (known_at table.now numbered.to) }
+{
+    if table.len() <= numbered.to {
+        return true;
+    }
+    if table.len() <= numbered.from {
+        return false;
+    }
+    let Place::At(_, address) = edge.from else {
+        return true;
+    };
+    let Some(word) = handler.image.word_at(address) else {
+        return true;
+    };
+    let before = &table[numbered.from];
+    carries(word, address, edge.label, before, &table[numbered.to])
+}
+
+fn keeps_along(handler: &Handler<'_>, table: &[Knowledge], number: usize) -> bool
+    requires whole { length table.now ≡ length handler.now.graph.places }
+    requires tree { IsTree handler.now.graph handler.now.tree }
+    requires known { number < length handler.now.graph.edges }
+    ensures { IsTrue result
+        → KeepsAlong handler.now.image.now handler.now.graph handler.now.tree table.now number }
+{
+    let numbered = handler.tree.edges()[number];
+    edge_carries(handler, table, &handler.graph.edges()[number], numbered)
+}
+
+// Whether that is so along all edges.
+fn keeps_along_all(handler: &Handler<'_>, table: &[Knowledge]) -> bool
+    requires whole { length table.now ≡ length handler.now.graph.places }
+    requires tree { IsTree handler.now.graph handler.now.tree }
+    ensures { IsTrue result → (k : ℕ) → k < length handler.now.graph.edges
+        → KeepsAlong handler.now.image.now handler.now.graph handler.now.tree table.now k }
+{
+    for number in 0..handler.graph.edges().len() {
+        if !keeps_along(handler, table, number) {
+            return false;
+        }
+    }
+    true
+}
+
+// Whether the stated class of the word at an address is seen to follow from what is known before it.
+fn follows(handler: &Handler<'_>, known: &Knowledge, address: u32, word: u32) -> bool
+    ensures { IsTrue result → (action : Action) → IsAction word action
+        → StaysIn (class_at handler.now.statement address action.base) word address known.now }
+{
+    let base = action_of(word).base;
+    let class = handler.statement.class_at(address, base);
+    stays_in(class, word, address, known)
+}
+
+// Whether it is seen to follow at the place of a number, and if not at which address it is on trust.
+fn on_trust_at(handler: &Handler<'_>, table: &[Knowledge], number: usize) -> Option<u32>
+    requires { number < length table.now }
+    ensures { MatchOption result
+        (StaysAt handler.now.image.now handler.now.statement handler.now.graph handler.now.tree table.now [] number)
+        (λ address. StaysAt handler.now.image.now handler.now.statement handler.now.graph handler.now.tree
+        table.now (address ∷ []) number) }
+{
+    let Place::At(_, address) = place_in(&handler.graph, &handler.tree, number) else {
+        return None;
+    };
+    let Some(word) = handler.image.word_at(address) else {
+        return None;
+    };
+    if follows(handler, &table[number], address, word) {
+        return None;
+    }
+    Some(address)
+}
+
+// Adds the address of the place of a number, where the class of its word is on trust.
+fn put_on_trust(
+    trusted: &mut Vec<u32>,
+    handler: &Handler<'_>,
+    table: &[Knowledge],
+    number: usize,
+) -> Result<(), AllocError>
+    requires { number < length table.now }
+    ensures { OnOk result ((more : List ℕ) × (trusted.new.items ≡ trusted.old.items ++ more)
+        × StaysAt handler.entry.now.image.now handler.entry.now.statement handler.entry.now.graph
+        handler.entry.now.tree table.entry.now more number) }
+{
+    if let Some(address) = on_trust_at(handler, table, number) {
+        trusted.push(address)?;
+    }
+    Ok(())
+}
+
+// The addresses at which the classes are on trust.
+fn addresses_on_trust(
+    alloc: Global,
+    handler: &Handler<'_>,
+    table: &[Knowledge],
+) -> Result<Vec<u32>, AllocError>
+    ensures { IfOk result (λ trusted. (number : ℕ) → number < length table.now
+        → StaysAt handler.now.image.now handler.now.statement handler.now.graph handler.now.tree table.now
+        trusted.items number) }
+{
+    let mut trusted = Vec::new(alloc);
+    for number in 0..table.len() {
+        put_on_trust(&mut trusted, handler, table, number)?;
+    }
+    Ok(trusted)
+}
+
+// Whether what is known before the first step is seen to be known at the entry.
+fn begins_known(table: &[Knowledge]) -> bool
+    ensures { IsTrue result → BeginsKnown table.now }
+{
+    if table.is_empty() {
+        return false;
+    }
+    Knowledge::at_entry().implies(&table[0])
+}
+
+/// By a table of what is known of the registers before each place's word, by the numbers of the places: the
+/// addresses, in bytes, of the words whose stated class is on trust, once for each place. Those of all other
+/// words follow: each run from the entry that goes along the graph, and of which the classes at these
+/// addresses are granted, has all its accesses of the stated classes. None where the table is not seen to
+/// say what holds.
+///
+/// It takes time linear in the edges.
+///
+/// # Errors
+///
+/// An allocation failed.
+pub fn classes_on_trust(
+    alloc: Global,
+    handler: &Handler<'_>,
+    table: &[Knowledge],
+) -> Result<Option<Vec<u32>>, AllocError>
+    requires graph { IsFlowGraph handler.now.image.now handler.now.statement handler.now.graph.profile
+        handler.now.graph }
+    requires tree { IsTree handler.now.graph handler.now.tree }
+    ensures { IfOk result (λ found. IfSome found (λ trusted. Justifies handler.now.image.now
+        handler.now.statement handler.now.graph trusted.items)) }
+{
+    if table.len() != handler.graph.places().len() {
+        return Ok(None);
+    }
+    if !begins_known(table) {
+        return Ok(None);
+    }
+    if !keeps_along_all(handler, table) {
+        return Ok(None);
+    }
+    let trusted = addresses_on_trust(alloc, handler, table)?;
+    Ok(Some(trusted))
+}
