@@ -68,6 +68,37 @@ def streams(commands):
             yield Trial(f"{it.name}: {name}", it.words, judge, it.files, stdin=it.stdin, shell=shell)
 
 
+class Announced:
+    """An answer with the lines of `--progress` in front of what standard error takes without them."""
+
+    def __init__(self, right):
+        self.right = right
+
+    def __call__(self, outcome, folder):
+        status, out, err = self.right.wanted
+        lines = outcome.err.removesuffix(err).splitlines()
+        if (outcome.status, outcome.out) != (status, out) or not outcome.err.endswith(err):
+            return f"{outcome}; not the answer without --progress"
+        # All answers here are shorter than 16 MiB.
+        begun = [b"writing: 0 MiB"] if out else []
+        announced = [it for it in lines if it.startswith(b"reading ")]
+        if not announced or lines != announced + begun:
+            return f"{outcome}; not the lines of --progress"
+        return None
+
+
+def progress(commands):
+    """Each command with `--progress`, and where its lines are lost: the answer is the one without it."""
+    for it in commands:
+        words = [it.words[0], "--progress", *it.words[1:]]
+        right = Is(it.outcome.status, it.outcome.out, it.outcome.err)
+        lost = Is(it.outcome.status, it.outcome.out)
+        for name, shell, judge in (("", "", Announced(right)), (", lost", "exec {} 2>/dev/full", lost)):
+            if it.image is not None:
+                judge = Leaves(judge, "made.image", it.image)
+            yield Trial(f"{it.name} --progress{name}", words, judge, it.files, stdin=it.stdin, shell=shell)
+
+
 def long_answers(bench):
     """A trace that does not fit into a pipe."""
     files = {"handler.s": worked.ROUND, "machine.toml": worked.LONG}
@@ -271,6 +302,7 @@ def lines(command):
         (["--version", "bound"], "the version of a command"),
         (["bound", "--version"], "a command's version"),
         (["bound", "--why", "--why", "handler.s", "handler.toml"], "two reasons"),
+        (["bound", "--progress", "--progress", "handler.s", "handler.toml"], "progress twice"),
         (["bound", "--profile"], "no profile"),
         (["bound", "--profile", "a", "--profile", "b", "handler.s", "handler.toml"], "two profiles"),
         (["asm", *["handler.s"] * 5000], "5,000 words"),
@@ -307,6 +339,7 @@ def trials(bench):
     plain = [it for it in commands if "handler.s" in it.words and "--profile" not in it.words]
     return [
         *streams([*commands, *worked.each_answer(bench)]),
+        *progress(commands),
         *long_answers(bench),
         *fronts(it for it in plain if it.words[0] != "asm"),
         *image_files(asm),

@@ -1,3 +1,4 @@
+pub mod Announced
 pub mod Files
 pub mod Input
 pub mod FileFaults

@@ -1,13 +1,16 @@
-ghost use Rattle.std.specs.Prelude.{◌≡◌, ◌≢◌, ◌⊎◌, None, Some, codes};
+ghost use Rattle.std.specs.Prelude.{◌≡◌, ◌≢◌, ◌⊎◌, None, Some, codes, true, false};
 ghost use Rattle.command_line.specs.Line.{Asked, asked_in};
 ghost use Rattle.command_line.specs.Rows.{asked_of};
 ghost use Rattle.handlers.specs.FaultText.{TakesOrFails, refusal_line};
+ghost use Rattle.progress.specs.Watched.{inner};
+ghost use Rattle.arcwcet.specs.Announced.{reads_announced, writes_announced};
 ghost use Rattle.arcwcet.specs.Files.{ReadsAll, Texts, inputs_of, names_of};
 ghost use Rattle.arcwcet.specs.Kept.{inputs_lent};
 ghost use Rattle.arcwcet.specs.Refusals.{Says};
 ghost use Rattle.arcwcet.specs.Reports.{report_of};
 ghost use Rattle.arcwcet.specs.Run.{HasAnswered, RunsAsked, RunsAsm};
 
+use crate::announced::AnnouncedStore;
 use crate::diagnose::{alone_status, answered_status};
 use crate::files::{Store, read_files, read_limited};
 use crate::input::Input;
@@ -16,6 +19,7 @@ use crate::status::{line_status, report_status, store_status, unread_status};
 use command_line::{Command, Request, request};
 use handlers::ReportFault;
 use outputs::{Output, write_whole};
+use progress::WatchedOutput;
 use source_reports::image_written;
 use std::alloc::Global;
 
@@ -136,4 +140,49 @@ pub fn program<S: Store, I: Input, O: Output, E: Output>(
         Err(fault) => return line_status(fault, err),
     };
     obey(alloc, asked, store, input, out, err)
+}
+
+/// Runs the program as [`program`] does, and shows what is being done where the words ask for it by
+/// `--progress`: a line with its name before a file is read, and one where each 16 MiB of what is printed
+/// begin. Where these lines are lost, nothing else changes. Without `--progress` there are none.
+pub fn shown_program<S: Store, I: Input, O: Output, E: Output, L: Output>(
+    alloc: Global,
+    words: &[String],
+    store: &mut AnnouncedStore<S, L>,
+    input: &mut I,
+    out: &mut WatchedOutput<O, L>,
+    err: &mut E,
+) -> u8
+    // Words that ask for nothing are wrong usage, and no others are, unless memory runs out.
+    ensures usage { asked_in words.now ≡ None
+        → ((result ≡ 2) ⊎ ((result ≡ 3)
+        × TakesOrFails E.taken E.failures err.old err.new (refusal_line (codes "Memory"))))
+        × (out.new ≡ out.old) × (store.new ≡ store.old) × (input.new ≡ input.old) }
+    ensures no_usage { asked_in words.now ≢ None → result ≢ 2 }
+
+    // What the words ask for was done, with a line before each file that was read.
+    ensures shown { (asked : Asked) → asked_in words.now ≡ Some asked → asked.progress ≡ true
+        → RunsAsked (reads_announced L.taken L.failures S.read_gives) (writes_announced S.write_gives)
+        I.remaining I.failures (inner O.taken) (inner O.failures)
+        (Says E.taken E.failures asked err.old err.new) asked store.old store.new input.old input.new
+        out.old out.new result }
+
+    // Without `--progress` the same was done, and no line was shown.
+    ensures unshown { (asked : Asked) → asked_in words.now ≡ Some asked → asked.progress ≡ false
+        → RunsAsked S.read_gives S.write_gives I.remaining I.failures O.taken O.failures
+        (Says E.taken E.failures asked err.old err.new) asked store.old.store store.new.store input.old
+        input.new out.old.out out.new.out result
+        × (store.new.lines ≡ store.old.lines) × (out.new.lines ≡ out.old.lines) }
+
+    // Nothing but these lines is printed on standard error at 0.
+    ensures silent { result ≡ 0 → err.new ≡ err.old }
+{
+    let asked = match request(alloc, words) {
+        Ok(asked) => asked,
+        Err(fault) => return line_status(fault, err),
+    };
+    if asked.progress {
+        return obey(alloc, asked, store, input, out, err);
+    }
+    obey(alloc, asked, &mut store.store, input, &mut out.out, err)
 }

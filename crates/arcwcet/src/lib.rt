@@ -2,6 +2,7 @@
 //! reports, and the program that prints them.
 #![tactic(auto)]
 
+mod announced;
 mod commands;
 mod diagnose;
 mod fault;
@@ -11,11 +12,12 @@ mod law;
 mod reports;
 mod status;
 
+pub use announced::AnnouncedStore;
 pub use bound_reports::{
     AskedEdge, VisitRate, VisitedHandler, bound_report, print_bound, print_tight, tight_report,
     visits_report,
 };
-pub use commands::program;
+pub use commands::{program, shown_program};
 pub use diagnose::{RefusedFiles, reasons};
 pub use explain_reports::{
     CheckInputs, DrawnHandler, Explained, Extent, TableForm, certificates_are_accepted,
@@ -30,6 +32,7 @@ pub use law::{input_limit, some_run_has_visits, some_run_keeps};
 pub use machine_file::{MachineFile, read_machine, read_profile};
 pub use machine_reports::{debug_report, run_report, trace_report};
 pub use outputs::{Output, OutputFault, write_whole};
+pub use progress::WatchedOutput;
 pub use response_reports::{AskedFiq, AskedResponse, respond_report};
 pub use responses::{
     irq_costs_its_entry, response_law, some_run_serves, unmasked_is_taken, visited_response_law,

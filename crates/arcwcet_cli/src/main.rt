@@ -1,7 +1,7 @@
 //! Bounds the run time of interrupt handlers.
 #![tactic(auto)]
 
-use arcwcet::{HostStore, StreamInput, StreamOutput, program};
+use arcwcet::{AnnouncedStore, HostStore, StreamInput, StreamOutput, WatchedOutput, shown_program};
 use std::process::ExitCode;
 use std::rt::Env;
 use std::{env, io};
@@ -46,11 +46,15 @@ fn main(rt: HostRuntime) -> ExitCode {
             return ExitCode::from(fault.status());
         }
     };
-    let mut store = HostStore::new(&rt);
+    // Lines on what is being done go to standard error too.
+    let mut store = AnnouncedStore::new(HostStore::new(&rt), StreamOutput::new(rt.stderr()));
     let mut input = StreamInput::new(rt.reader());
-    let mut out = StreamOutput::new(rt.stdout());
+    let mut out = WatchedOutput::new(
+        StreamOutput::new(rt.stdout()),
+        StreamOutput::new(rt.stderr()),
+    );
     let mut err = StreamOutput::new(rt.stderr());
-    ExitCode::from(program(
+    ExitCode::from(shown_program(
         alloc,
         words.as_slice(),
         &mut store,

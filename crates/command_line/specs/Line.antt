@@ -57,9 +57,12 @@ machine = argument (codes "machine") form.File
 abbrev pub statement : Argument
 statement = argument (codes "statement") form.File
 
--- the option that each command has
+-- the options that each command has
 abbrev pub why : Argument
 why = argument (codes "why") form.Why
+
+abbrev pub progress : Argument
+progress = argument (codes "progress") form.Progress
 
 abbrev pub usages : List Usage
 usages =
@@ -139,6 +142,7 @@ rule_by form.NumberOption id = numbered (option_rule id)
 rule_by form.TicksOption id = in_ticks (option_rule id)
 rule_by form.WidthOption id = in_columns (option_rule id)
 rule_by form.Why id = record (option_rule id) { action = Some SetTrue }
+rule_by form.Progress id = record (option_rule id) { action = Some SetTrue }
 rule_by form.Each id = record (option_rule id) { action = Some SetTrue }
 rule_by form.First id = record (option_rule id) { action = Some SetTrue }
 rule_by form.All id = record (option_rule id) { action = Some SetTrue }
@@ -151,7 +155,8 @@ abbrev pub with_arguments : App → List Argument → App
 with_arguments app arguments = fold (λ (a : App) argument. with_rule a (rule_as argument)) app arguments
 
 abbrev pub app_in : Usage → App
-app_in u = with_rule (with_arguments (new_app u.name) u.arguments) (rule_as why)
+app_in u =
+    with_rule (with_rule (with_arguments (new_app u.name) u.arguments) (rule_as why)) (rule_as progress)
 
 -- a command with these subcommands
 abbrev pub with_commands : App → List Usage → App
@@ -167,13 +172,14 @@ arcwcet_command = with_commands arcwcet_top usages
 
 -- ## What is asked for
 
--- a command; whether to print what shows the reason of a refusal, the bound of each destination alone,
--- first starts, and each row of a table; whether of the files of `respond` the first behind the second are
--- FIQ's statement and its source; whether to draw the path alone; the names of files, the cycle profile's
--- apart; a word that names no file to be read; and numbers
+-- a command; whether to print what shows the reason of a refusal, what is being done, the bound of each
+-- destination alone, first starts, and each row of a table; whether of the files of `respond` the first
+-- behind the second are FIQ's statement and its source; whether to draw the path alone; the names of files,
+-- the cycle profile's apart; a word that names no file to be read; and numbers
 pub record Asked : Type 0 where
   pub command : Command
   pub why : Bool
+  pub progress : Bool
   pub each : Bool
   pub first : Bool
   pub all : Bool
@@ -191,6 +197,7 @@ plainly command numbers =
     record {
       command = command;
       why = false;
+      progress = false;
       each = false;
       first = false;
       all = false;
@@ -270,6 +277,7 @@ with_value_by form.FileOrWord value asked =
     if names_file value then with_file value asked else record asked { word = value }
 with_value_by form.ProfileOption name asked = record asked { profile = Some name }
 with_value_by form.Why value asked = record asked { why = bytes_eq value (codes "true") }
+with_value_by form.Progress value asked = record asked { progress = bytes_eq value (codes "true") }
 with_value_by form.Each value asked = record asked { each = bytes_eq value (codes "true") }
 with_value_by form.First value asked = record asked { first = bytes_eq value (codes "true") }
 with_value_by form.All value asked = record asked { all = bytes_eq value (codes "true") }
@@ -300,7 +308,8 @@ with_argument rows asked a =
 -- with those of a command's arguments, in their order
 abbrev pub asked_as : Usage → List Row → Asked
 asked_as u rows =
-    with_argument rows (fold (with_argument rows) (plainly u.command (numbers_in rows)) u.arguments) why
+    with_argument rows
+    (with_argument rows (fold (with_argument rows) (plainly u.command (numbers_in rows)) u.arguments) why) progress
 
 -- one of two numbers is given, and the other not
 abbrev pub is_one : Option ℕ → Option ℕ → Bool

@@ -18,6 +18,7 @@ asked_of q =
     record {
       command = q.command;
       why = q.why;
+      progress = q.progress;
       each = q.each;
       first = q.first;
       all = q.all;

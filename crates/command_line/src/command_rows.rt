@@ -33,6 +33,8 @@ pub(crate) enum Form {
     WidthOption,
     /// The option that asks for what shows the reason of a refusal.
     Why,
+    /// The option that asks for lines on what is being done.
+    Progress,
     /// The option that asks for the bound of each destination alone.
     Each,
     /// The option that asks for first starts.
@@ -54,7 +56,7 @@ pub(crate) struct ArgumentRow {
 
 /// A command: its name, what it asks for, what the help says of it, and its arguments, with the files in the
 /// order in which they are read: an option's too, so that `--fiq` stands before the machine file. Each
-/// command has [`WHY`] too.
+/// command has [`WHY`] and [`PROGRESS`] too.
 pub(crate) struct CommandRow {
     pub name: &'static str,
     pub command: Command,
@@ -62,11 +64,19 @@ pub(crate) struct CommandRow {
     pub arguments: &'static [ArgumentRow],
 }
 
-/// The option that each command has.
+/// An option that each command has.
 pub(crate) const WHY: ArgumentRow = ArgumentRow {
     id: "why",
     form: Form::Why,
     help: "Print after a refusal what shows its reason",
+    instead: None,
+};
+
+/// The other one.
+pub(crate) const PROGRESS: ArgumentRow = ArgumentRow {
+    id: "progress",
+    form: Form::Progress,
+    help: "Print on standard error what is being done",
     instead: None,
 };
 

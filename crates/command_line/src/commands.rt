@@ -6,7 +6,7 @@ ghost use Rattle.clap.specs.declared.builder.command.Command.TheViews.{out-Comma
 ghost use Rattle.command_line.specs.Line.{app_in, arcwcet_command, rule_as, with_commands};
 ghost use Rattle.command_line.specs.Rows.{argument_of, usage_of};
 
-use crate::command_rows::{ArgumentRow, COMMANDS, CommandRow, Form, VERSION, WHY};
+use crate::command_rows::{ArgumentRow, COMMANDS, CommandRow, Form, PROGRESS, VERSION, WHY};
 use clap::{Arg, ArgAction, Command, value_parser};
 use std::alloc::{AllocError, Global};
 
@@ -36,7 +36,7 @@ fn argument<'a>(alloc: Global, row: &ArgumentRow) -> Arg<'a>
             .long(row.id)
             .value_name("N")
             .value_parser(value_parser!(u32).range(80..=250)),
-        Form::Why | Form::Each | Form::First | Form::All | Form::Path => {
+        Form::Why | Form::Progress | Form::Each | Form::First | Form::All | Form::Path => {
             arg.long(row.id).action(ArgAction::SetTrue)
         }
     }
@@ -50,7 +50,8 @@ fn command<'a>(alloc: Global, row: &CommandRow) -> Result<Command<'a>, AllocErro
     for argument_row in row.arguments {
         command = command.arg(argument(alloc, argument_row))?;
     }
-    command.arg(argument(alloc, &WHY))
+    let command = command.arg(argument(alloc, &WHY))?;
+    command.arg(argument(alloc, &PROGRESS))
 }
 
 // A command with those of the rows.

@@ -82,6 +82,8 @@ pub struct Request<'a> {
     pub command: Command,
     /// Whether what shows the reason of a refusal is to be printed too.
     pub why: bool,
+    /// Whether lines on what is being done are to be printed.
+    pub progress: bool,
     /// Whether the bound for each destination of each target alone is to be printed too.
     pub each: bool,
     /// Whether the table of an explanation has the ticks by which words begin for the first time too.

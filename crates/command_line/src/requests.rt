@@ -11,7 +11,7 @@ ghost use Rattle.command_line.specs.Line.{names_file, no_numbers, number_at, num
 ghost use Rattle.command_line.specs.Line.{ticks_at, with_argument, with_value, with_value_by};
 ghost use Rattle.command_line.specs.Rows.{argument_of, asked_of, usage_of};
 
-use crate::command_rows::{ArgumentRow, COMMANDS, CommandRow, Form, WHY};
+use crate::command_rows::{ArgumentRow, COMMANDS, CommandRow, Form, PROGRESS, WHY};
 use crate::commands::arcwcet;
 use crate::line::{Command, CommandLineFault, CommandNumbers, Request};
 use clap::error::ErrorKind;
@@ -126,6 +126,7 @@ fn add_value<'a>(
         Form::Word => request.word = value,
         Form::ProfileOption => request.profile = Some(value),
         Form::Why => request.why = value == "true",
+        Form::Progress => request.progress = value == "true",
         Form::Each => request.each = value == "true",
         Form::First => request.first = value == "true",
         Form::All => request.all = value == "true",
@@ -165,6 +166,7 @@ fn asked<'a>(
     let mut request = Request {
         command: row.command,
         why: false,
+        progress: false,
         each: false,
         first: false,
         all: false,
@@ -180,6 +182,7 @@ fn asked<'a>(
         add_argument(&mut request, argument, values)?;
     }
     add_argument(&mut request, &WHY, values)?;
+    add_argument(&mut request, &PROGRESS, values)?;
     Ok(request)
 }
 
@@ -336,6 +339,7 @@ fn version<'a>(alloc: Global) -> Request<'a>
     Request {
         command: Command::Version,
         why: false,
+        progress: false,
         each: false,
         first: false,
         all: false,

@@ -2,7 +2,8 @@ use crate::cases::case::{Case, CaseFault, read_case};
 use crate::cases::case_store::CaseStore;
 use crate::cases::difference::Difference;
 use crate::cases::wanted::first_difference;
-use arcwcet::{MemoryOutput, StreamInput, program};
+use arcwcet::{AnnouncedStore, MemoryOutput, StreamInput, WatchedOutput, shown_program};
+use std::alloc::{AllocError, Global};
 use std::rt::Files;
 
 // The results of a run of the program.
@@ -39,6 +40,15 @@ fn difference(case: &Case, found: Found<'_>) -> Option<Difference> {
     }
 }
 
+// All that standard error took: the lines on what is done come before those of a refusal.
+fn joined(alloc: Global, parts: [&[u8]; 3]) -> Result<Vec<u8>, AllocError> {
+    let mut whole = Vec::new(alloc);
+    for part in parts {
+        whole.extend_from_slice(part)?;
+    }
+    Ok(whole)
+}
+
 /// Judges the case in the folder of that name.
 pub(crate) fn judge<R: Files + AllocGlobal>(
     rt: &R,
@@ -46,11 +56,17 @@ pub(crate) fn judge<R: Files + AllocGlobal>(
 ) -> Result<Option<Difference>, CaseFault> {
     let alloc = rt.alloc();
     let case = read_case(rt, name)?;
-    let mut store = CaseStore::new(rt, name);
+    let mut store = AnnouncedStore::new(
+        CaseStore::new(rt, name),
+        MemoryOutput::with_room(alloc, 0)?,
+    );
     let mut input = StreamInput::new(case.input.as_slice());
-    let mut out = MemoryOutput::with_room(alloc, 0)?;
+    let mut out = WatchedOutput::new(
+        MemoryOutput::with_room(alloc, 0)?,
+        MemoryOutput::with_room(alloc, 0)?,
+    );
     let mut err = MemoryOutput::with_room(alloc, 0)?;
-    let status = program(
+    let status = shown_program(
         alloc,
         &case.words,
         &mut store,
@@ -58,11 +74,12 @@ pub(crate) fn judge<R: Files + AllocGlobal>(
         &mut out,
         &mut err,
     );
+    let shown = joined(alloc, [store.lines.bytes(), out.lines.bytes(), err.bytes()])?;
     let found = Found {
         status,
-        out: out.bytes(),
-        err: err.bytes(),
-        image: &store.written,
+        out: out.out.bytes(),
+        err: &shown,
+        image: &store.store.written,
     };
     Ok(difference(&case, found))
 }
