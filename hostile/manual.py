@@ -24,7 +24,8 @@ MET_BY = {
     "visits": (*OF_HANDLER, PATH, VISITS),
     "respond": (*OF_HANDLER, PATH, DRAFTS, RESPONSES, VISITS),
     "follow": (*OF_HANDLER, PATH, MACHINES, VISITS),
-    **{name: (*OF_SOURCE, PROFILES, MACHINES) for name in ("run", "trace", "debug")},
+    **{name: (*OF_SOURCE, PROFILES, MACHINES, DRAFTS) for name in ("run", "trace")},
+    "debug": (*OF_SOURCE, PROFILES, MACHINES),
 }
 STATUSES = {"Memory": 3, "Device": 4}
 

@@ -213,6 +213,7 @@ def priced(bench, words, files):
         command(bench, f"follow {words} handler.toml machine.toml", short),
         command(bench, f"follow --fiq fiq.toml {words} handler.toml machine.toml", {**followed, "fiq.toml": FIQ}),
         command(bench, f"run {words} machine.toml", machine),
+        command(bench, f"run --to 0x8004 {words} machine.toml", machine),
         command(bench, f"trace {words} machine.toml", machine),
         command(bench, f"debug {words} machine.toml", machine, SESSION),
     ]

@@ -417,7 +417,9 @@ module _ {S I O : Type 0} (reads : Reading S) (writes : Writing S) (remaining : 
     by_form command.Draft asm debug plain = plain
     by_form command.DraftOn asm debug plain = plain
     by_form command.Run asm debug plain = plain
+    by_form command.RunTo asm debug plain = plain
     by_form command.Trace asm debug plain = plain
+    by_form command.TraceTo asm debug plain = plain
     by_form command.Bound asm debug plain = plain
     by_form command.Tight asm debug plain = plain
     by_form command.Check asm debug plain = plain

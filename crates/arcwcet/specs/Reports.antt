@@ -18,6 +18,7 @@ use Rattle.source_reports.specs.DraftReport.{IsDraftRefused, IsDraftReport}
 use Rattle.source_reports.specs.ListReport.{IsListReport}
 use Rattle.machine_reports.specs.Debug.{IsDebugReport}
 use Rattle.machine_reports.specs.Machine.{IsMachineReport, ShowsRegisters, ShowsSteps}
+use Rattle.machine_reports.specs.RunTo.{IsRunToRefused, IsRunToReport}
 use Rattle.bound_reports.specs.TightReport.{IsTightRefused, IsTightReport}
 use Rattle.bound_reports.specs.VisitsReport.{AreRefused, IsVisitsReport}
 use Rattle.bound_reports.specs.declared.visit_rate.VisitRate.{VisitRate}
@@ -142,8 +143,14 @@ module _ (asked : Asked) (i : Inputs) (typed : List ℕ) where
       unpriced (IsDraftOnReport i.source i.second) (IsDraftOnRefused i.source i.second)
   report_by command.Run =
       judged i.profile (IsMachineReport ShowsRegisters i.source i.second) (IsRunRefused i.source i.second)
+  report_by command.RunTo =
+      judged i.profile (IsRunToReport ShowsRegisters i.source i.second asked.word)
+      (IsRunToRefused i.source i.second asked.word)
   report_by command.Trace =
       judged i.profile (IsMachineReport ShowsSteps i.source i.second) (IsRunRefused i.source i.second)
+  report_by command.TraceTo =
+      judged i.profile (IsRunToReport ShowsSteps i.source i.second asked.word)
+      (IsRunToRefused i.source i.second asked.word)
   report_by command.Debug =
       priced i.profile (IsDebugReport i.source i.second typed) (IsRunRefused i.source i.second)
   report_by command.Bound = priced i.profile (IsReport i.source i.second) (IsRefused i.source i.second)

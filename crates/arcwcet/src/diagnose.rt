@@ -101,7 +101,8 @@ pub fn reasons(
 fn files_of<'b>(job: Job<'b, '_>) -> RefusedFiles<'b> {
     let inputs = job.inputs;
     let machine = match job.request.command {
-        Command::Run | Command::Trace | Command::Debug => inputs.second,
+        Command::Run | Command::RunTo | Command::Trace | Command::TraceTo | Command::Debug =>
+            inputs.second,
         Command::Follow => inputs.third,
         Command::FollowVisits => inputs.fourth,
         _ => &[],

@@ -30,7 +30,9 @@ pub use handlers::{MemoryOutput, Refusal, ReportFault, Stop, StreamOutput, fault
 pub use input::{Input, InputFault, StreamInput};
 pub use law::{input_limit, some_run_has_visits, some_run_keeps};
 pub use machine_file::{MachineFile, read_machine, read_profile};
-pub use machine_reports::{debug_report, run_report, trace_report};
+pub use machine_reports::{
+    RunTo, ShownRegisters, ShownSteps, debug_report, run_report, run_to_report, trace_report,
+};
 pub use outputs::{Output, OutputFault, write_whole};
 pub use progress::WatchedOutput;
 pub use response_reports::{AskedFiq, AskedResponse, respond_report};

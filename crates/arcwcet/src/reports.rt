@@ -13,6 +13,7 @@ ghost use Rattle.explain_reports.specs.GraphReport.{IsGraphReport};
 ghost use Rattle.explain_reports.specs.Verdict.{ExplainsVerdict};
 ghost use Rattle.follow_reports.specs.FollowReport.{FollowsRun};
 ghost use Rattle.follow_reports.specs.FollowVisits.{FollowsVisitedRun};
+ghost use Rattle.machine_reports.specs.RunTo.{ReportsRunTo};
 ghost use Rattle.response_reports.specs.Question.{fiq_question};
 ghost use Rattle.response_reports.specs.RespondReport.{Responds};
 ghost use Rattle.command_line.specs.Rows.{asked_of};
@@ -33,7 +34,9 @@ use explain_reports::{
 };
 use follow_reports::{FollowedRun, FollowedVisits, follow_report, follow_visits_report};
 use handlers::{Refusal, ReportFault};
-use machine_reports::{ShownRegisters, ShownSteps, debug_report, machine_report};
+use machine_reports::{
+    Front, RunTo, ShownRegisters, ShownSteps, debug_report, machine_report, run_to_report,
+};
 use outputs::{Output, Page};
 use response_reports::{AskedFiq, AskedResponse, respond_report};
 use source_reports::{asm_report, draft_on_report, draft_report, list_report};
@@ -130,6 +133,27 @@ fn print_drawing<'b, O: Output>(
         extent: extent_of(path),
     };
     answered(graph_report(alloc, drawn, inputs.profile, out))
+}
+
+// `run --to` and `trace --to`, of a source, a machine file and a word.
+fn print_run_to<'b, F: Front, O: Output>(
+    alloc: Global,
+    job: Job<'b, '_>,
+    out: &mut O,
+) -> Result<bool, Refusal<'b>>
+    ensures { let inputs = inputs_lent job.entry.inputs in
+        Priced inputs.profile
+        (λ p. ReportsRunTo F.shows O.taken O.failures inputs.source inputs.second
+        (asked_of job.entry.request.now).word p out.old out.new (fault_only result)) out.old out.new
+        (fault_only result) }
+{
+    let inputs = job.inputs;
+    let asked = RunTo {
+        source: inputs.source,
+        machine: inputs.second,
+        to: job.request.word.as_bytes(),
+    };
+    alone(run_to_report::<F, O>(alloc, asked, inputs.profile, out))
 }
 
 // `check`, of a source, a statement and a certificate.
@@ -389,9 +413,11 @@ pub(crate) fn print<'b, O: Output>(
         Command::Run => alone(machine_report::<ShownRegisters, O>(
             alloc, source, second, profile, out,
         )),
+        Command::RunTo => print_run_to::<ShownRegisters, O>(alloc, job, out),
         Command::Trace => alone(machine_report::<ShownSteps, O>(
             alloc, source, second, profile, out,
         )),
+        Command::TraceTo => print_run_to::<ShownSteps, O>(alloc, job, out),
         Command::Debug => answered(alone(debug_report(alloc, source, second, typed, profile, out))),
         Command::Bound => answered(print_bound(alloc, source, second, profile, out)),
         Command::Tight => print_edge(alloc, inputs, numbers, out),

@@ -70,8 +70,10 @@ usages =
     ∷ usage (codes "list") command.List (source ∷ [])
     ∷ usage (codes "draft") command.Draft
     (source ∷ other (codes "entry") form.FileOrWord command.DraftOn ∷ [])
-    ∷ usage (codes "run") command.Run (profile ∷ source ∷ machine ∷ [])
-    ∷ usage (codes "trace") command.Trace (profile ∷ source ∷ machine ∷ [])
+    ∷ usage (codes "run") command.Run
+    (profile ∷ source ∷ machine ∷ other (codes "to") form.WordOption command.RunTo ∷ [])
+    ∷ usage (codes "trace") command.Trace
+    (profile ∷ source ∷ machine ∷ other (codes "to") form.WordOption command.TraceTo ∷ [])
     ∷ usage (codes "debug") command.Debug (profile ∷ source ∷ machine ∷ [])
     ∷ usage (codes "bound") command.Bound
     (profile ∷ source ∷ statement ∷ other (codes "tight") form.NumberOption command.Tight ∷ [])
@@ -138,6 +140,7 @@ rule_by form.FileOption id = record (option_rule id) { value_names = 1 }
 rule_by form.FiqStatementOption id = record (option_rule id) { value_names = 1 }
 rule_by form.FiqSourceOption id = record (option_rule id) { value_names = 1 }
 rule_by form.FilesOption id = record (option_rule id) { value_names = 1; action = Some Append }
+rule_by form.WordOption id = record (option_rule id) { value_names = 1 }
 rule_by form.NumberOption id = numbered (option_rule id)
 rule_by form.TicksOption id = in_ticks (option_rule id)
 rule_by form.WidthOption id = in_columns (option_rule id)
@@ -273,6 +276,7 @@ with_value_by form.FiqStatementOption name asked = with_file name (record asked 
 with_value_by form.FiqSourceOption name asked = with_file name (record asked { fiq_source = true })
 with_value_by form.FilesOption name asked = with_file name asked
 with_value_by form.Word word asked = record asked { word = word }
+with_value_by form.WordOption word asked = record asked { word = word }
 with_value_by form.FileOrWord value asked =
     if names_file value then with_file value asked else record asked { word = value }
 with_value_by form.ProfileOption name asked = record asked { profile = Some name }

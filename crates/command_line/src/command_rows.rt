@@ -25,6 +25,8 @@ pub(crate) enum Form {
     FiqSourceOption,
     /// The names of files to be read, by an option that may be given again.
     FilesOption,
+    /// A word that names no file to be read, by an option.
+    WordOption,
     /// A whole number of 32 bits, by an option.
     NumberOption,
     /// A number of ticks, to 2^63 - 1, by an option.
@@ -99,6 +101,20 @@ const MACHINE: ArgumentRow = ArgumentRow {
     form: Form::File,
     help: "Machine file",
     instead: None,
+};
+
+const RUN_TO: ArgumentRow = ArgumentRow {
+    id: "to",
+    form: Form::WordOption,
+    help: "End before the instruction at LABEL, a label or an address, if the run comes there",
+    instead: Some(Command::RunTo),
+};
+
+const TRACE_TO: ArgumentRow = ArgumentRow {
+    id: "to",
+    form: Form::WordOption,
+    help: "End before the instruction at LABEL, a label or an address, if the run comes there",
+    instead: Some(Command::TraceTo),
 };
 
 const STATEMENT: ArgumentRow = ArgumentRow {
@@ -349,13 +365,13 @@ pub(crate) const COMMANDS: [CommandRow; 13] = [
         name: "run",
         command: Command::Run,
         summary: "Run a machine, and print its registers and ticks",
-        arguments: &[PROFILE, SOURCE, MACHINE],
+        arguments: &[PROFILE, SOURCE, MACHINE, RUN_TO],
     },
     CommandRow {
         name: "trace",
         command: Command::Trace,
         summary: "Run a machine, and print a line for each step",
-        arguments: &[PROFILE, SOURCE, MACHINE],
+        arguments: &[PROFILE, SOURCE, MACHINE, TRACE_TO],
     },
     CommandRow {
         name: "debug",

@@ -24,6 +24,7 @@ fn argument<'a>(alloc: Global, row: &ArgumentRow) -> Arg<'a>
             .long(row.id)
             .value_name("FILE")
             .action(ArgAction::Append),
+        Form::WordOption => arg.long(row.id).value_name("LABEL"),
         Form::NumberOption => arg
             .long(row.id)
             .value_name("N")

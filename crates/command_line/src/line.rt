@@ -16,8 +16,12 @@ pub enum Command {
     DraftOn,
     /// The registers and the ticks of a run of a source's image, by a machine file.
     Run,
-    /// The lines of its steps.
+    /// The same of the run that ends before the instruction at [`Request::word`], a label or an address.
+    RunTo,
+    /// The lines of the steps of a run by a machine file.
     Trace,
+    /// The same of the run that ends before the instruction at [`Request::word`], a label or an address.
+    TraceTo,
     /// A session of the debugger on that machine, by the commands on standard input.
     Debug,
     /// The greatest run time of the handler in a source, under a statement.

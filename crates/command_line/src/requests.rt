@@ -123,7 +123,7 @@ fn add_value<'a>(
         Form::FiqStatementOption => add_fiq_statement(request, value)?,
         Form::FiqSourceOption => add_fiq_source(request, value)?,
         Form::FileOrWord => add_file_or_word(request, value)?,
-        Form::Word => request.word = value,
+        Form::Word | Form::WordOption => request.word = value,
         Form::ProfileOption => request.profile = Some(value),
         Form::Why => request.why = value == "true",
         Form::Progress => request.progress = value == "true",

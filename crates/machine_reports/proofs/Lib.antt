@@ -1,1 +1,3 @@
 pub mod MachineLemmas
+mod RunToLemmas
+mod RunToReportLemmas

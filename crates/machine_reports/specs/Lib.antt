@@ -1,2 +1,3 @@
 pub mod Debug
 pub mod Machine
+pub mod RunTo

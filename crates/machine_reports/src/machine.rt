@@ -6,9 +6,11 @@ ghost use Rattle.asm_text.specs.Appended.{Appends};
 ghost use Rattle.handlers.specs.Placing.{IsPlaced, IsRunRefused, IsRunnable};
 ghost use Rattle.machine_reports.specs.Machine.{Front, IsMachineReport, ReportsRun, ShowsRegisters};
 ghost use Rattle.machine_reports.specs.Machine.{ShowsSteps, end_text};
+ghost use Rattle.machine_reports.specs.RunTo.{ShowsRunTo};
 ghost use Rattle.handlers.specs.Priced.{Priced};
 ghost use Rattle.handlers.specs.Report.{BeforeOutput};
 
+use crate::steps_to::{write_registers_to, write_run_to};
 use arm2_exec::{Input, Machine, Ran};
 use bus_ticks::Profile;
 use handlers::{Placed, ReportFault, place, print_answer, profile_of};
@@ -16,15 +18,15 @@ use outputs::Output;
 use std::alloc::{AllocError, Global};
 use text_trace::{write_registers, write_run, write_stop, write_ticks};
 
-// A report's text, and whether the run did all its steps.
+/// A report's text, and whether the machine did not stop.
 #[derive(Drop)]
-struct Shown {
-    text: String,
-    done: bool,
+pub(crate) struct Shown {
+    pub(crate) text: String,
+    pub(crate) done: bool,
 }
 
-// Why and where the machine stopped, if it did, and the ticks of the run.
-fn put_end(out: &mut String, machine: &Machine, ran: &Ran) -> Result<(), AllocError>
+/// Why and where the machine stopped, if it did, and the ticks of the run.
+pub(crate) fn put_end(out: &mut String, machine: &Machine, ran: &Ran) -> Result<(), AllocError>
     ensures { OnOk result (string_bytes out.new ≡ string_bytes out.old ++ end_text ran.now machine.now) }
 {
     if let Some(why) = ran.stopped {
@@ -52,6 +54,21 @@ pub trait Front {
         ensures text { OnOk result
             (Appends (shows machine.old inputs.now machine.new) (string_bytes out.old)
             (string_bytes out.new)) };
+
+    /// The same of the run that ends before the instruction at an address.
+    ///
+    /// # Errors
+    ///
+    /// An allocation failed.
+    fn write_front_to(
+        out: &mut String,
+        machine: &mut Machine,
+        inputs: &[Input],
+        to: u32,
+    ) -> Result<Ran, AllocError>
+        ensures { IfOk result
+            (λ ran. Appends (ShowsRunTo shows to machine.old inputs.now ran machine.new)
+            (string_bytes out.old) (string_bytes out.new)) };
 }
 
 /// The registers in which the run ends.
@@ -69,6 +86,15 @@ impl Front for ShownRegisters {
         write_registers(out, machine)?;
         Ok(ran)
     }
+
+    fn write_front_to(
+        out: &mut String,
+        machine: &mut Machine,
+        inputs: &[Input],
+        to: u32,
+    ) -> Result<Ran, AllocError> {
+        write_registers_to(out, machine, inputs, to)
+    }
 }
 
 /// A line for each step.
@@ -83,6 +109,15 @@ impl Front for ShownSteps {
         inputs: &[Input],
     ) -> Result<Ran, AllocError> {
         write_run(out, machine, inputs)
+    }
+
+    fn write_front_to(
+        out: &mut String,
+        machine: &mut Machine,
+        inputs: &[Input],
+        to: u32,
+    ) -> Result<Ran, AllocError> {
+        write_run_to(out, machine, inputs, to)
     }
 }
 

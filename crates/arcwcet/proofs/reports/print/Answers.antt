@@ -8,6 +8,7 @@ use Rattle.source_reports.specs.DraftReport.{IsDraftOnRefused, IsDraftOnReport, 
 use Rattle.source_reports.specs.ListReport.{IsListReport}
 use Rattle.machine_reports.specs.Debug.{IsDebugReport}
 use Rattle.machine_reports.specs.Machine.{IsMachineReport, ShowsRegisters, ShowsSteps}
+use Rattle.machine_reports.specs.RunTo.{IsRunToRefused, IsRunToReport, IsRunnableTo}
 use Rattle.bound_reports.specs.VisitsReport.{AreAccepted, AreRefused, IsVisitsReport}
 use Rattle.explain_reports.specs.Check.{IsAnswer, IsCheckRefused, IsCheckable}
 use Rattle.explain_reports.specs.ExplainReport.{IsExplainReport}
@@ -88,6 +89,24 @@ returns-in-Trace g c =
     (same_answer g.O.Output.taken g.O.Output.failures c.args.out.now c.machine_report-in-Trace.new.out (judged i.profile (IsMachineReport ShowsSteps i.source i.second) (IsRunRefused i.source i.second)) c.machine_report-in-Trace.result (fault_only c.alone-in-Trace.result) c.alone-in-Trace.ensures
     (answered_judged g.O.Output.taken g.O.Output.failures c.args.out.now c.machine_report-in-Trace.new.out i.profile (IsMachineReport ShowsSteps i.source i.second) (IsRunnable i.source i.second) (IsRunRefused i.source i.second)
     c.machine_report-in-Trace.result c.machine_report-in-Trace.ensures))
+
+pub returns-in-RunTo : goal.returns-in-RunTo
+unfolding report_by
+returns-in-RunTo g c =
+    let i = inputs_lent c.args.job.inputs in
+    let word = c.args.job.request.now.word.now in
+    rw (c.in-RunTo.is)
+    (answered_judged g.O.Output.taken g.O.Output.failures c.args.out.now c.print_run_to.new.out i.profile (IsRunToReport ShowsRegisters i.source i.second word) (IsRunnableTo i.source i.second word) (IsRunToRefused i.source i.second word)
+    (fault_only c.print_run_to.result) c.print_run_to.ensures)
+
+pub returns-in-TraceTo : goal.returns-in-TraceTo
+unfolding report_by
+returns-in-TraceTo g c =
+    let i = inputs_lent c.args.job.inputs in
+    let word = c.args.job.request.now.word.now in
+    rw (c.in-TraceTo.is)
+    (answered_judged g.O.Output.taken g.O.Output.failures c.args.out.now c.print_run_to-in-TraceTo.new.out i.profile (IsRunToReport ShowsSteps i.source i.second word) (IsRunnableTo i.source i.second word) (IsRunToRefused i.source i.second word)
+    (fault_only c.print_run_to-in-TraceTo.result) c.print_run_to-in-TraceTo.ensures)
 
 pub returns-in-Debug : goal.returns-in-Debug
 unfolding report_by
