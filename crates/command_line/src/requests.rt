@@ -130,6 +130,7 @@ fn add_value<'a>(
         Form::First => request.first = value == "true",
         Form::All => request.all = value == "true",
         Form::Path => request.path = value == "true",
+        Form::Html => request.html = value == "true",
         Form::OptionalNumber | Form::NumberOption | Form::TicksOption | Form::WidthOption => {}
     }
     Ok(())
@@ -171,6 +172,7 @@ fn asked<'a>(
         fiq_statement: false,
         fiq_source: false,
         path: false,
+        html: false,
         profile: None,
         files: Vec::new(alloc),
         word: "",
@@ -342,6 +344,7 @@ fn version<'a>(alloc: Global) -> Request<'a>
         fiq_statement: false,
         fiq_source: false,
         path: false,
+        html: false,
         profile: None,
         files: Vec::new(alloc),
         word: "",
