@@ -1,5 +1,5 @@
 -- The page of HTML on a handler's greatest run time.
-use Rattle.std.proofs.Common.{◌≡◌, ◌≢◌, ℕ, List}
+use Rattle.std.proofs.Common.{◌≢◌, ℕ, List}
 use Rattle.bus_ticks.specs.declared.profile.Profile.{Profile}
 use Rattle.statement.specs.Stated.{Stated}
 use Rattle.control_flow.specs.Flow.{Flow}

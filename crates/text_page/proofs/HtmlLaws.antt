@@ -1,9 +1,9 @@
 -- What escaped text has.
-use Rattle.std.proofs.Common.{◌≡◌, ◌∙◌, ◌⊎◌, ℕ, Bool, true, false, List, [], ◌∷◌, ◌++◌, length, refl, ap, inl, inr, arith, codes}
-use Rattle.std.specs.Prelude.{◌==◌, ◌&&◌, ◌||◌, not, nat_le, if◌then◌else◌, Contains}
-use Rattle.std.specs.List.{flat_map, list_all}
+use Rattle.std.proofs.Common.{◌≡◌, ℕ, Bool, true, false, List, [], ◌∷◌, refl, inl, inr, arith}
+use Rattle.std.specs.Prelude.{◌==◌, ◌&&◌, ◌||◌, not, nat_le, if◌then◌else◌}
+use Rattle.std.specs.List.{list_all}
 use Rattle.assembler.proofs.PutLaws.{all_append}
-use Rattle.text_page.specs.Html.{IsPiece, entities, escape, escaped, is_no_bracket}
+use Rattle.text_page.specs.Html.{IsPiece, escape, escaped, is_no_bracket}
 
 -- what holds of both holds of the one that is chosen
 choose : (P : List ℕ → Type 0) (b : Bool) (x y : List ℕ) → (b ≡ true → P x) → (b ≡ false → P y) → P (if b then x else y)

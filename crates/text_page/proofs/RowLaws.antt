@@ -1,5 +1,5 @@
 -- Rows that are put, and texts of which all is put.
-use Rattle.std.proofs.Common.{◌≡◌, ◌∙◌, ℕ, List, [], ◌∷◌, ◌++◌, ◌≤◌, append-nil, append_assoc, length, drop, get_or, refl, sym, ap, codes}
+use Rattle.std.proofs.Common.{◌≡◌, ◌∙◌, ℕ, List, [], ◌++◌, ◌≤◌, append-nil, append_assoc, length, drop, refl, sym, ap, codes}
 use Rattle.std.specs.List.{flat_map}
 use Rattle.std.proofs.Math.ListN.{drop_of_length-le}
 use Rattle.asm_text.specs.Appended.{Appends}

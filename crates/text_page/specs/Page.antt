@@ -1,7 +1,6 @@
 -- A page of HTML that shows where the ticks of a greatest walk go.
 use Rattle.std.specs.Prelude.{◌≡◌, ℕ, Bool, List, [], ◌∷◌, ◌++◌, codes, Option, Some, None}
 use Rattle.std.specs.List.{filter}
-use Rattle.asm_text.specs.Hex.{hex}
 use Rattle.control_flow.specs.Flow.{Flow}
 use Rattle.control_flow.specs.declared.edges.Edge.{Edge}
 use Rattle.image.specs.Image.{Words}

@@ -7,7 +7,6 @@ use Rattle.text_rows.specs.Rows.{section}
 use Rattle.text_explained.specs.Columns.{share_text, thousandths}
 use Rattle.text_explained.specs.Pricing.{pricing_text}
 use Rattle.text_explained.specs.Printed.{each_text}
-use Rattle.text_explained.specs.declared.cost_figures.RowFigures.{RowFigures}
 use Rattle.text_explained.specs.declared.pricing.Pricing.{Pricing}
 use Rattle.text_explained.specs.declared.table_rows.RowLine.{RowLine}
 use Rattle.text_explained.specs.declared.table_rows.RowLine.TheVariants.{Text, Word}

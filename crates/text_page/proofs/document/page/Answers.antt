@@ -1,4 +1,4 @@
-use Rattle.std.proofs.Common.{◌≡◌, ◌∙◌, ℕ, List, ◌++◌, ap, subst, codes}
+use Rattle.std.proofs.Common.{◌≡◌, ◌∙◌, List, ◌++◌, ap, subst, codes}
 use Rattle.sources.specs.Lines.{line_of}
 use Rattle.text_rows.specs.Rows.{AreRows}
 use Rattle.text_explained.specs.declared.table_rows.TableRow.{TableRow}
