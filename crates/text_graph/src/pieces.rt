@@ -88,7 +88,7 @@ fn put_node_taken(out: &mut Vec<u8>, passes: u64, ticks: u64, bound: u64) -> Res
     put(out, b", ")?;
     put_shared(out, ticks, bound)?;
     put(out, b"\\l\", fillcolor=\"")?;
-    put(out, share_fill(ticks, bound))?;
+    put(out, fill(thousandths(ticks, bound)))?;
     put(out, b"\"];")
 }
 
