@@ -26,6 +26,7 @@ use Rattle.bound_reports.specs.declared.visit_rate.VisitRate.TheVariants.{Times,
 use Rattle.explain_reports.specs.Check.{IsAnswer, IsCheckRefused}
 use Rattle.explain_reports.specs.ExplainReport.{IsExplainReport}
 use Rattle.explain_reports.specs.GraphReport.{IsGraphReport}
+use Rattle.explain_reports.specs.PageReport.{IsPageReport}
 use Rattle.explain_reports.specs.Verdict.{IsVerdictReport}
 use Rattle.explain_reports.specs.declared.explain.TableForm.{TableForm}
 use Rattle.follow_reports.specs.FollowReport.{IsFollowRefused, IsFollowReport}
@@ -83,6 +84,11 @@ form_of asked =
 -- how much `graph` draws
 abbrev pub extent_of : Bool → Extent
 extent_of path = if path then Path else Whole
+
+-- what `graph` prints: a page of HTML, or else a drawing
+abbrev pub IsDrawn : (html : Bool) → List ℕ → List ℕ → Extent → Profile → List ℕ → Type 0
+IsDrawn true = IsPageReport
+IsDrawn false = IsGraphReport
 
 -- how often FIQ interrupts the handler of `visits`
 abbrev pub rate_of : CommandNumbers → VisitRate
@@ -178,7 +184,8 @@ module _ (asked : Asked) (i : Inputs) (typed : List ℕ) where
       judged i.profile (IsFollowVisitsReport i.source i.second i.third i.fourth)
       (AreNotFollowed i.source i.second i.third i.fourth)
   report_by command.Graph =
-      priced i.profile (IsGraphReport i.source i.second (extent_of asked.path)) (IsRefused i.source i.second)
+      priced i.profile (IsDrawn asked.html i.source i.second (extent_of asked.path))
+      (IsRefused i.source i.second)
 
   abbrev pub report_of : Report
   report_of = report_by asked.command

@@ -21,7 +21,7 @@ pub use commands::{program, shown_program};
 pub use diagnose::{RefusedFiles, reasons};
 pub use explain_reports::{
     CheckInputs, DrawnHandler, Explained, Extent, TableForm, certificates_are_accepted,
-    check_report, explain_report, graph_report, print_check, verdict_report,
+    check_report, explain_report, graph_report, page_report, print_check, verdict_report,
 };
 pub use fault::{FileFault, StoreFault};
 pub use files::{HostStore, MOST_INPUT_BYTES, Store, read_limited};

@@ -10,6 +10,7 @@ ghost use Rattle.bound_reports.specs.VisitsReport.{ReportsVisits};
 ghost use Rattle.explain_reports.specs.Check.{Checks};
 ghost use Rattle.explain_reports.specs.ExplainReport.{Explains};
 ghost use Rattle.explain_reports.specs.GraphReport.{IsGraphReport};
+ghost use Rattle.explain_reports.specs.PageReport.{IsPageReport};
 ghost use Rattle.explain_reports.specs.Verdict.{ExplainsVerdict};
 ghost use Rattle.follow_reports.specs.FollowReport.{FollowsRun};
 ghost use Rattle.follow_reports.specs.FollowVisits.{FollowsVisitedRun};
@@ -18,7 +19,7 @@ ghost use Rattle.response_reports.specs.Question.{fiq_question};
 ghost use Rattle.response_reports.specs.RespondReport.{Responds};
 ghost use Rattle.command_line.specs.Rows.{asked_of};
 ghost use Rattle.arcwcet.specs.Kept.{inputs_lent};
-ghost use Rattle.arcwcet.specs.Reports.{answered, bursts_of, extent_of, fiq_asked_in, fiq_files};
+ghost use Rattle.arcwcet.specs.Reports.{IsDrawn, answered, bursts_of, extent_of, fiq_asked_in, fiq_files};
 ghost use Rattle.arcwcet.specs.Reports.{fiq_source_in, form_of, priced, question_in, rate_of};
 ghost use Rattle.arcwcet.specs.Reports.{report_of, version_line, version_report};
 ghost use Rattle.arcwcet.specs.Run.{PrintsReport};
@@ -30,7 +31,7 @@ use bound_reports::{
 use command_line::{Command, CommandNumbers, Request, VERSION};
 use explain_reports::{
     CheckInputs, DrawnHandler, Explained, Extent, TableForm, explain_report, graph_report,
-    print_check, verdict_report,
+    page_report, print_check, verdict_report,
 };
 use follow_reports::{FollowedRun, FollowedVisits, follow_report, follow_visits_report};
 use handlers::{Refusal, ReportFault};
@@ -115,7 +116,7 @@ fn extent_of(path: bool) -> Extent
     if path { Extent::Path } else { Extent::Whole }
 }
 
-// `graph`, of a source and a statement.
+// `graph` without `--html`, of a source and a statement.
 fn print_drawing<'b, O: Output>(
     alloc: Global,
     inputs: Inputs<'b>,
@@ -154,6 +155,45 @@ fn print_run_to<'b, F: Front, O: Output>(
         to: job.request.word.as_bytes(),
     };
     alone(run_to_report::<F, O>(alloc, asked, inputs.profile, out))
+}
+
+// `graph --html`, of a source and a statement.
+fn print_page<'b, O: Output>(
+    alloc: Global,
+    inputs: Inputs<'b>,
+    path: bool,
+    out: &mut O,
+) -> Result<bool, Refusal<'b>>
+    ensures { PrintsReport O.taken O.failures
+        (priced (inputs_lent inputs.entry).profile
+        (IsPageReport inputs.entry.source.now inputs.entry.second.now (extent_of path))
+        (IsRefused inputs.entry.source.now inputs.entry.second.now)) out.old out.new (fault_only result) }
+{
+    let shown = DrawnHandler {
+        source: inputs.source,
+        statement: inputs.second,
+        extent: extent_of(path),
+    };
+    answered(page_report(alloc, shown, inputs.profile, out))
+}
+
+// `graph`: the page of HTML, if that is asked for, and else the drawing.
+fn print_graph<'b, O: Output>(
+    alloc: Global,
+    inputs: Inputs<'b>,
+    html: bool,
+    path: bool,
+    out: &mut O,
+) -> Result<bool, Refusal<'b>>
+    ensures { PrintsReport O.taken O.failures
+        (priced (inputs_lent inputs.entry).profile
+        (IsDrawn html inputs.entry.source.now inputs.entry.second.now (extent_of path))
+        (IsRefused inputs.entry.source.now inputs.entry.second.now)) out.old out.new (fault_only result) }
+{
+    if html {
+        return print_page(alloc, inputs, path, out);
+    }
+    print_drawing(alloc, inputs, path, out)
 }
 
 // `check`, of a source, a statement and a certificate.
@@ -428,6 +468,9 @@ pub(crate) fn print<'b, O: Output>(
         Command::Verdict => print_verdict(alloc, inputs, out),
         Command::Follow => print_followed(alloc, inputs, out),
         Command::FollowVisits => print_followed_visits(alloc, inputs, out),
-        Command::Graph => print_drawing(alloc, inputs, job.request.path, out),
+        Command::Graph => {
+            let request = job.request;
+            print_graph(alloc, inputs, request.html, request.path, out)
+        }
     }
 }

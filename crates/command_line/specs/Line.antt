@@ -101,7 +101,8 @@ usages =
     ∷ usage (codes "follow") command.Follow
     (profile ∷ source ∷ statement ∷ other (codes "fiq") form.FileOption command.FollowVisits ∷ machine ∷ [])
     ∷ usage (codes "graph") command.Graph
-    (profile ∷ source ∷ statement ∷ argument (codes "path") form.Path ∷ [])
+    (profile ∷ source ∷ statement ∷ argument (codes "path") form.Path
+    ∷ argument (codes "html") form.Html ∷ [])
     ∷ []
 
 -- ## The words that clap takes
@@ -150,6 +151,7 @@ rule_by form.Each id = record (option_rule id) { action = Some SetTrue }
 rule_by form.First id = record (option_rule id) { action = Some SetTrue }
 rule_by form.All id = record (option_rule id) { action = Some SetTrue }
 rule_by form.Path id = record (option_rule id) { action = Some SetTrue }
+rule_by form.Html id = record (option_rule id) { action = Some SetTrue }
 
 abbrev pub rule_as : Argument → Rule
 rule_as a = rule_by a.form a.id
@@ -177,8 +179,9 @@ arcwcet_command = with_commands arcwcet_top usages
 
 -- a command; whether to print what shows the reason of a refusal, what is being done, the bound of each
 -- destination alone, first starts, and each row of a table; whether of the files of `respond` the first
--- behind the second are FIQ's statement and its source; whether to draw the path alone; the names of files,
--- the cycle profile's apart; a word that names no file to be read; and numbers
+-- behind the second are FIQ's statement and its source; whether to draw the path alone, and whether to print a
+-- page in place of a drawing; the names of files, the cycle profile's apart; a word that names no file to be
+-- read; and numbers
 pub record Asked : Type 0 where
   pub command : Command
   pub why : Bool
@@ -189,6 +192,7 @@ pub record Asked : Type 0 where
   pub fiq_statement : Bool
   pub fiq_source : Bool
   pub path : Bool
+  pub html : Bool
   pub profile : Option Text
   pub files : List Text
   pub word : Text
@@ -207,6 +211,7 @@ plainly command numbers =
       fiq_statement = false;
       fiq_source = false;
       path = false;
+      html = false;
       profile = None;
       files = [];
       word = [];
@@ -286,6 +291,7 @@ with_value_by form.Each value asked = record asked { each = bytes_eq value (code
 with_value_by form.First value asked = record asked { first = bytes_eq value (codes "true") }
 with_value_by form.All value asked = record asked { all = bytes_eq value (codes "true") }
 with_value_by form.Path value asked = record asked { path = bytes_eq value (codes "true") }
+with_value_by form.Html value asked = record asked { html = bytes_eq value (codes "true") }
 with_value_by form.OptionalNumber value asked = asked
 with_value_by form.NumberOption value asked = asked
 with_value_by form.TicksOption value asked = asked

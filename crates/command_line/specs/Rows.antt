@@ -25,6 +25,7 @@ asked_of q =
       fiq_statement = q.fiq_statement;
       fiq_source = q.fiq_source;
       path = q.path;
+      html = q.html;
       profile = option_map (λ s. s.now) q.profile;
       files = map (λ s. s.now) q.files.items;
       word = q.word.now;

@@ -45,6 +45,8 @@ pub(crate) enum Form {
     All,
     /// The option that asks for the longest run's path alone.
     Path,
+    /// The option that asks for a page of HTML.
+    Html,
 }
 
 /// An argument, what the help says of it, and what is asked for instead where it is given, if that is another
@@ -257,6 +259,13 @@ const PATH: ArgumentRow = ArgumentRow {
     instead: None,
 };
 
+const HTML: ArgumentRow = ArgumentRow {
+    id: "html",
+    form: Form::Html,
+    help: "Print instead a page of HTML: the listing with ticks and bars",
+    instead: None,
+};
+
 const CERTIFICATE: ArgumentRow = ArgumentRow {
     id: "certificate",
     form: Form::FileOption,
@@ -456,6 +465,6 @@ pub(crate) const COMMANDS: [CommandRow; 13] = [
         name: "graph",
         command: Command::Graph,
         summary: "Print a handler's flow graph in DOT, the language of Graphviz",
-        arguments: &[PROFILE, SOURCE, STATEMENT, PATH],
+        arguments: &[PROFILE, SOURCE, STATEMENT, PATH, HTML],
     },
 ];

@@ -37,9 +37,13 @@ fn argument<'a>(alloc: Global, row: &ArgumentRow) -> Arg<'a>
             .long(row.id)
             .value_name("N")
             .value_parser(value_parser!(u32).range(80..=250)),
-        Form::Why | Form::Progress | Form::Each | Form::First | Form::All | Form::Path => {
-            arg.long(row.id).action(ArgAction::SetTrue)
-        }
+        Form::Why
+        | Form::Progress
+        | Form::Each
+        | Form::First
+        | Form::All
+        | Form::Path
+        | Form::Html => { arg.long(row.id).action(ArgAction::SetTrue) }
     }
 }
 

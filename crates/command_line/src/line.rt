@@ -100,6 +100,8 @@ pub struct Request<'a> {
     pub fiq_source: bool,
     /// Whether of a drawing what the longest run takes is to be printed alone.
     pub path: bool,
+    /// Whether in place of a drawing a page of HTML is to be printed.
+    pub html: bool,
     /// The name of a cycle profile's file.
     pub profile: Option<&'a str>,
     /// The names of the other files to be read, in their order.

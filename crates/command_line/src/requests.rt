@@ -131,6 +131,7 @@ fn add_value<'a>(
         Form::First => request.first = value == "true",
         Form::All => request.all = value == "true",
         Form::Path => request.path = value == "true",
+        Form::Html => request.html = value == "true",
         Form::OptionalNumber | Form::NumberOption | Form::TicksOption | Form::WidthOption => {}
     }
     Ok(())
@@ -173,6 +174,7 @@ fn asked<'a>(
         fiq_statement: false,
         fiq_source: false,
         path: false,
+        html: false,
         profile: None,
         files: Vec::new(alloc),
         word: "",
@@ -346,6 +348,7 @@ fn version<'a>(alloc: Global) -> Request<'a>
         fiq_statement: false,
         fiq_source: false,
         path: false,
+        html: false,
         profile: None,
         files: Vec::new(alloc),
         word: "",

@@ -4,4 +4,5 @@ mod VerdictLemmas
 pub mod ExplainLemmas
 mod FirstLemmas
 pub mod GraphLemmas
+mod PageLemmas
 pub mod RunTimeLemmas

@@ -5,4 +5,5 @@ pub mod Each
 pub mod ExplainReport
 pub mod FirstStarts
 pub mod GraphReport
+pub mod PageReport
 pub mod RunTimes

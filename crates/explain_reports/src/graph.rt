@@ -21,7 +21,7 @@ use sources::Source;
 use std::alloc::Global;
 use text_graph::{Extent, drawing, node_ticks_are_the_bound, places_are_drawn_once};
 
-/// What is drawn.
+/// What is drawn, or shown on a page.
 #[derive(Clone, Copy)]
 pub struct DrawnHandler<'a> {
     /// The bytes of its source, a text or an image.

@@ -1,5 +1,5 @@
 -- The figures of a table, and the whole of it.
-use Rattle.std.proofs.Common.{◌≡◌, ◌∙◌, ℕ, ◌+◌, ◌<◌, List, ◌++◌, length, get_or, take, sum_by, Option, refl, sym, ap, subst, arith, append_assoc}
+use Rattle.std.proofs.Common.{◌≡◌, ◌∙◌, ℕ, ◌+◌, ◌<◌, List, ◌++◌, length, get_or, take, sum_by, map, Option, refl, sym, ap, subst, arith, append_assoc}
 use Rattle.std.proofs.lemmas.List.Sums.{sum_by_more}
 use Rattle.std.specs.BTreeMap.{get}
 use Rattle.std.specs.Ordering.{nat_cmp}
@@ -12,9 +12,10 @@ use Rattle.statement.specs.Stated.{Stated}
 use Rattle.sources.specs.declared.read.Source.{Source}
 use Rattle.text_explained.specs.Costing.{IsCosting, figures_of}
 use Rattle.text_explained.specs.Printed.{IsTableOf}
-use Rattle.text_explained.specs.Table.{WalkFigures, image_ticks, starts_of, ticks_of, walk_figures}
+use Rattle.text_explained.specs.Table.{WalkFigures, image_ticks, row_of, source_rows, starts_of, ticks_of, walk_figures}
 use Rattle.text_explained.specs.declared.cost_figures.Costing.{Costing}
 use Rattle.text_explained.specs.declared.table.RowForm.{RowForm}
+use Rattle.text_explained.specs.declared.table_rows.TableRow.{TableRow}
 use Rattle.text_explained.specs.declared.walk_tally.Taken.{Taken}
 
 -- the ticks of a word more
@@ -41,3 +42,8 @@ figures_are words st flow longest starts first c is =
 -- the table by the maps of its costing, and by the walk
 pub table_same : (lookup walk : WalkFigures) (form : RowForm) (source : Source) (text : List ℕ) → lookup ≡ walk → IsTableOf lookup form source text → IsTableOf walk form source text
 table_same lookup walk form source text same table = subst (λ (w : WalkFigures). IsTableOf w form source text) same table
+
+-- the same of its rows
+pub rows_same : (lookup walk : WalkFigures) (source : Source) (rows : List TableRow) → lookup ≡ walk → map row_of rows ≡ source_rows lookup source.image source.text
+    → map row_of rows ≡ source_rows walk source.image source.text
+rows_same lookup walk source rows same are = subst (λ (w : WalkFigures). map row_of rows ≡ source_rows w source.image source.text) same are

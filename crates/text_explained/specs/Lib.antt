@@ -19,3 +19,4 @@ pub mod Starts
 pub mod Sums
 pub mod Table
 pub mod Taken
+pub mod WalkRows

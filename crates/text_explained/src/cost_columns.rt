@@ -161,8 +161,12 @@ pub(crate) fn put_in_column(
     put_ending(out, text, widths.of(column))
 }
 
-/// What part of the bound the ticks are, in per cent. `AllocError`: an allocation failed.
-pub(crate) fn share_text(alloc: Global, ticks: u64, bound: u64) -> Result<String, AllocError>
+/// What part of the bound the ticks are, in per cent with one decimal, rounded down.
+///
+/// # Errors
+///
+/// An allocation failed.
+pub fn share_text(alloc: Global, ticks: u64, bound: u64) -> Result<String, AllocError>
     ensures { IfOk result (λ text. string_bytes text ≡ share_text ticks bound) }
 {
     let thousandths = u128::from(ticks) * 1000 / u128::from(bound.max(1));
@@ -183,8 +187,12 @@ fn time_text(alloc: Global, ticks: u128) -> Result<String, AllocError>
     )
 }
 
-/// Adds so many ticks, and in microseconds, up to the end of the line.
-pub(crate) fn put_time(out: &mut Vec<u8>, ticks: u128) -> Result<(), AllocError>
+/// Adds so many ticks, and in microseconds at 8 MHz, up to the end of the line.
+///
+/// # Errors
+///
+/// An allocation failed.
+pub fn put_time(out: &mut Vec<u8>, ticks: u128) -> Result<(), AllocError>
     ensures { OnOk result (out.new.items ≡ out.old.items ++ time_text ticks) }
 {
     let time = time_text(*out.allocator(), ticks)?;

@@ -19,18 +19,18 @@ use walk_counts::capped_sum;
 
 /// The figures of a row.
 #[derive(Clone, Copy)]
-pub(crate) struct RowFigures {
+pub struct RowFigures {
     /// What the walk takes there; None where the graph has no place.
-    pub(crate) taken: Option<Taken>,
+    pub taken: Option<Taken>,
     /// When it begins for the first time, at the latest, in ticks; None where the graph has no place, or where
     /// that is not asked for.
-    pub(crate) first: Option<u64>,
+    pub first: Option<u64>,
     /// When it begins at the latest, in ticks; None where the graph has no place.
-    pub(crate) latest: Option<u64>,
+    pub latest: Option<u64>,
     /// What the price takes for granted; None where the graph has no place.
-    pub(crate) pricing: Option<Pricing>,
+    pub pricing: Option<Pricing>,
     /// The bound, of which the ticks are a part.
-    pub(crate) bound: u64,
+    pub bound: u64,
 }
 
 /// What the rows of a table are made of.

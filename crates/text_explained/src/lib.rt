@@ -17,6 +17,7 @@ mod image_rows;
 mod law;
 mod leaving;
 mod links;
+mod listed_rows;
 mod named_words;
 mod pricing;
 mod printed_rows;
@@ -31,6 +32,8 @@ mod table_rows;
 mod walk_tally;
 
 pub use bursts::{Bursts, PricedBound, burst_lines};
+pub use cost_columns::{put_time, share_text};
+pub use cost_figures::RowFigures;
 pub use done_returns::done_text;
 pub use idle::idle_entries;
 pub use law::{
@@ -39,12 +42,15 @@ pub use law::{
     rows_with_ticks_have_passes, totals_are_the_bound, unreached_lines_have_no_place,
 };
 pub use links::{Overwrite, lost_links};
+pub use listed_rows::walk_rows;
 pub use named_words::named_rows;
-pub use pricing::{Granted, Pricing, priced};
+pub use pricing::{Granted, Pricing, priced, put_pricing};
+pub use printed_rows::put_each;
 pub use routines::routine_sums;
 pub use rules::rule_lines;
 pub use sections::assumed_text;
 pub use starts::TimedWalk;
 pub use sums::loop_sums;
 pub use table::{RowForm, cost_table};
+pub use table_rows::{RowLine, TableRow};
 pub use walk_tally::{Costs, Taken, WalkTally};

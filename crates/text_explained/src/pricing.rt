@@ -177,8 +177,14 @@ fn put_both(out: &mut Vec<u8>, granted: Granted, leave: Option<Class>) -> Result
     }
 }
 
-/// Adds what a price takes for granted; nothing where there is none. `AllocError`: an allocation failed.
-pub(crate) fn put_pricing(out: &mut Vec<u8>, pricing: Option<Pricing>) -> Result<(), AllocError>
+/// Adds what a price takes for granted: the cycles of a multiply, as `m = 16`, the class of what a load or a
+/// store transfers, as `ram`, and after `>` the class to which the handler leaves; nothing where there is
+/// none.
+///
+/// # Errors
+///
+/// An allocation failed.
+pub fn put_pricing(out: &mut Vec<u8>, pricing: Option<Pricing>) -> Result<(), AllocError>
     ensures { OnOk result (out.new.items ≡ out.old.items ++ pricing_text pricing) }
 {
     match pricing {

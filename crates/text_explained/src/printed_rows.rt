@@ -48,8 +48,13 @@ fn costs_text(alloc: Global, costs: Option<Costs>) -> Result<String, AllocError>
     format!(in alloc; "{}-{}", costs.least, costs.greatest)
 }
 
-// Adds the ticks of a pass; where the walk never passes, those that one may have.
-fn put_each(out: &mut Vec<u8>, taken: Taken) -> Result<(), AllocError>
+/// Adds the ticks of a pass, from the least to the greatest where they differ; where the walk never passes,
+/// those that one may have.
+///
+/// # Errors
+///
+/// An allocation failed.
+pub fn put_each(out: &mut Vec<u8>, taken: Taken) -> Result<(), AllocError>
     ensures { OnOk result (out.new.items ≡ out.old.items ++ each_text taken) }
 {
     let each = costs_text(*out.allocator(), taken.costs.or(taken.prices))?;

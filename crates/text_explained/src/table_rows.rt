@@ -14,7 +14,7 @@ use text_rows::NumberedLine;
 
 /// What a row is of.
 #[derive(Clone, Copy)]
-pub(crate) enum RowLine<'a> {
+pub enum RowLine<'a> {
     /// A line of a source.
     Text(NumberedLine<'a>),
     /// A word of an image.
@@ -23,11 +23,11 @@ pub(crate) enum RowLine<'a> {
 
 /// A row.
 #[derive(Clone, Copy)]
-pub(crate) struct TableRow<'a> {
+pub struct TableRow<'a> {
     /// The address of the word of which it tells.
-    pub(crate) at: u32,
-    pub(crate) figures: RowFigures,
-    pub(crate) line: RowLine<'a>,
+    pub at: u32,
+    pub figures: RowFigures,
+    pub line: RowLine<'a>,
 }
 
 // Adds the row of a line, if it has words.

@@ -1,7 +1,7 @@
 ghost use Rattle.std.specs.Prelude.{◌≡◌};
 ghost use Rattle.text_graph.specs.Scene.{is_drawn};
 
-/// How much of a flow graph is drawn.
+/// How much of a flow graph, or of a listing with it, is shown.
 #[derive(Clone, Copy)]
 pub enum Extent {
     /// All of it.
@@ -10,8 +10,8 @@ pub enum Extent {
     Path,
 }
 
-/// Whether what the walk takes so often is drawn.
-pub(crate) fn is_drawn(extent: Extent, count: u64) -> bool
+/// Whether what a greatest walk takes so often is shown.
+pub fn is_drawn(extent: Extent, count: u64) -> bool
     ensures { result ≡ is_drawn extent count }
 {
     match extent {

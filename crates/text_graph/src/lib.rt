@@ -16,5 +16,6 @@ mod stretches;
 mod tables;
 
 pub use document::drawing;
-pub use extent::Extent;
+pub use extent::{Extent, is_drawn};
 pub use law::{node_ticks_are_the_bound, nodes_are_stretches_of_the_graph, places_are_drawn_once};
+pub use pieces::share_fill;

@@ -71,6 +71,14 @@ fn fill(share: u128) -> &'static [u8]
     b"#fff5eb"
 }
 
+/// The fill of what takes so many ticks of the bound, by its share: an HTML colour, of five, the darker the
+/// larger the share is.
+pub fn share_fill(ticks: u64, bound: u64) -> &'static [u8]
+    ensures { result.now ≡ fill (thousandths ticks bound) }
+{
+    fill(thousandths(ticks, bound))
+}
+
 // Adds what the walk takes in a node that it passes, and ends the node.
 fn put_node_taken(out: &mut Vec<u8>, passes: u64, ticks: u64, bound: u64) -> Result<(), AllocError>
     ensures { OnOk result (out.new.items ≡ out.old.items ++ node_taken passes ticks bound) }

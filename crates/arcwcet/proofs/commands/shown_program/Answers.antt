@@ -26,11 +26,10 @@ returns-in-Err-clause-unshown g c = λ asked wanted unshown.
     elim c.line_status.ensures [
       | inl two ↦ absurd (let both : None ≡ Some asked = sym (c.in-Err.ensures.refused two.1) ∙ wanted in cc both)
       | inr three ↦
-          let says = Says g.E.Output.taken g.E.Output.failures asked c.args.err.now c.line_status.new.err in
-          (
+          let says = Says g.E.Output.taken g.E.Output.failures asked c.args.err.now c.line_status.new.err in (
             subst (λ (s : ℕ). RunsAsked g.S.Store.read_gives g.S.Store.write_gives g.I.Input.remaining g.I.Input.failures g.O.Output.taken g.O.Output.failures says asked c.args.store.now.store c.args.store.now.store c.args.input.now c.args.input.now c.args.out.now.out c.args.out.now.out s) (sym three.0)
-            (asked_out_of_memory g.S.Store.read_gives g.S.Store.write_gives g.I.Input.remaining g.I.Input.failures g.O.Output.taken g.O.Output.failures says asked
-            (says_line g.E.Output.taken g.E.Output.failures c.args.err.now c.line_status.new.err asked (codes "Memory") three.2) c.args.store.now.store c.args.input.now c.args.out.now.out),
+                (asked_out_of_memory g.S.Store.read_gives g.S.Store.write_gives g.I.Input.remaining g.I.Input.failures g.O.Output.taken g.O.Output.failures says asked
+                (says_line g.E.Output.taken g.E.Output.failures c.args.err.now c.line_status.new.err asked (codes "Memory") three.2) c.args.store.now.store c.args.input.now c.args.out.now.out),
             refl,
             refl,
           )

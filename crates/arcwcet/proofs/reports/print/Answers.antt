@@ -184,4 +184,4 @@ pub returns-in-Graph : goal.returns-in-Graph
 unfolding report_by
 returns-in-Graph g c =
     rw (c.in-Graph.is)
-    c.print_drawing.ensures
+    c.print_graph.ensures

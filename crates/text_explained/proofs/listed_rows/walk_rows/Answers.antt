@@ -1,0 +1,22 @@
+use Rattle.std.proofs.lemmas.Result.{IfOk-weaker}
+use Rattle.std.specs.BTreeMap.{get}
+use Rattle.std.specs.Ordering.{nat_cmp}
+use Rattle.longest_walk.specs.Folded.{unfolded}
+use Rattle.text_explained.specs.Costing.{figures_of, first_of}
+use Rattle.text_explained.specs.Table.{starts_of, walk_figures}
+use Rattle.text_explained.proofs.ImageLaws.{figures_are, rows_same}
+use Rattle.text_explained.proofs.listed_rows.walk_rows.Goals as goal
+
+pub returns : goal.returns
+returns c =
+    let handler = c.args.handler.now in
+    let longest = c.args.walk.longest.now in
+    let starts = c.args.walk.starts.now in
+    let first = first_of c.args.walk.first in
+    let costing = c.in_ok-costing.costing in
+    let is = c.in_ok-costing.ensures in
+    let prices = get nat_cmp costing.prices in
+    let walk = walk_figures handler.graph (unfolded longest.walk) (starts_of handler.graph.places starts first) longest.bound prices in
+    IfOk-weaker c.source_rows.result _ _
+    (λ rows are. (prices, is.prices, rows_same (figures_of costing) walk c.args.source.now rows.items (figures_are handler.image.now handler.statement handler.graph longest starts first costing is) are))
+    c.source_rows.ensures

@@ -1,0 +1,2 @@
+mod HtmlLaws
+mod RowLaws

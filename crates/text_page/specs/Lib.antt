@@ -1,0 +1,3 @@
+pub mod Html
+pub mod Page
+pub mod Rows

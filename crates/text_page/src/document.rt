@@ -1,0 +1,63 @@
+ghost use Rattle.std.specs.Prelude.{◌≡◌, IfOk};
+ghost use Rattle.longest_walk.specs.Folded.{unfolded};
+ghost use Rattle.text_rows.specs.WordLines.{numbered_at};
+ghost use Rattle.text_explained.specs.Costing.{first_of};
+ghost use Rattle.text_explained.specs.Table.{starts_of};
+ghost use Rattle.text_page.specs.Page.{IsPage, label_of};
+
+use crate::heading::{put_heading, put_names};
+use crate::listing::{keep_shown, put_rows};
+use loop_bounds::Handler;
+use sources::Source;
+use std::alloc::{AllocError, Global};
+use std::collections::BTreeMap;
+use text_explained::{TimedWalk, walk_rows};
+use text_graph::Extent;
+use text_rows::{SourceLine, put};
+
+// The label of the word at an address, empty where it has none.
+fn label_at<'a>(lines: &BTreeMap<u32, SourceLine<'a>>, at: u32) -> &'a [u8]
+    ensures { result.now ≡ label_of (numbered_at lines.now at) }
+{
+    match lines.get(&at) {
+        Some(line) => line.label,
+        None => b"",
+    }
+}
+
+/// A page of HTML that shows where the ticks of a handler's greatest run time go: the bound in ticks and in
+/// microseconds and the handler's entry, and below a row for each line of the source that has words, or for
+/// each word of an image, in their order, with its address, how often a greatest walk passes it, the ticks of
+/// that, their share of the bound in per cent and as a bar, and the line. The rows of what the walk does not
+/// pass, and of what no walk reaches, are grey, or left out where the path alone is shown. Under the pointer
+/// a row says the number of the line, the ticks of a pass, what their price takes for granted, and the tick
+/// by which the word begins at the latest. A row is found by its address, as `#a8018`. What comes from the
+/// source is escaped. The page has no script, and loads nothing.
+///
+/// # Errors
+///
+/// An allocation failed.
+pub fn page(
+    alloc: Global,
+    source: &Source<'_>,
+    handler: &Handler<'_>,
+    walk: TimedWalk<'_>,
+    extent: Extent,
+) -> Result<Vec<u8>, AllocError>
+    ensures { IfOk result
+        (λ text. IsPage source.now handler.now.image.now handler.now.statement handler.now.graph
+        (unfolded walk.entry.longest.now.walk)
+        (starts_of handler.now.graph.places walk.entry.starts.now (first_of walk.entry.first))
+        walk.entry.longest.now.bound extent text.items) }
+{
+    let lines = source.lines(alloc)?;
+    let mut rows = walk_rows(alloc, source, handler, walk)?;
+    keep_shown(&mut rows, extent);
+    let entry = handler.statement.entry();
+    let mut out = Vec::new(alloc);
+    put_heading(&mut out, walk.longest.bound, entry, label_at(&lines, entry))?;
+    put_names(&mut out)?;
+    put_rows(&mut out, &rows)?;
+    put(&mut out, b"</body>\n</html>\n")?;
+    Ok(out)
+}

@@ -1,0 +1,14 @@
+//! A page of HTML that shows where the ticks of a handler's greatest run time go, for a browser, with no
+//! script and nothing that is loaded.
+#![tactic(auto)]
+
+mod cells;
+mod document;
+mod heading;
+mod hover;
+mod html;
+mod law;
+mod listing;
+
+pub use document::page;
+pub use law::escaped_texts_have_no_marks;
