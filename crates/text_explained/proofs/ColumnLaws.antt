@@ -1,6 +1,6 @@
 -- Texts in columns.
 use Rattle.std.proofs.Common.{◌≡◌, ◌∙◌, ℕ, ◌+◌, ◌-◌, ◌<◌, ◌≤◌, max, List, [], ◌∷◌, ◌++◌, append-nil, append_assoc, length, get_or, take, drop, replicate, sym, ap}
-use Rattle.std.specs.Prelude.{Bool, fold}
+use Rattle.std.specs.Prelude.{Bool}
 use Rattle.std.proofs.Math.ListN.{drop_of_length-le}
 use Rattle.std.proofs.lemmas.List.{drop_more, flat_map_more, replicate_more, take_more}
 use Rattle.std.proofs.lemmas.List.Sums.{fold_more}

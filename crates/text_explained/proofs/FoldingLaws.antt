@@ -1,5 +1,5 @@
 -- What is shown of rows.
-use Rattle.std.proofs.Common.{◌≡◌, ◌∙◌, ℕ, Bool, List, [], ◌∷◌, ◌++◌, append-nil, append_assoc, take, drop, refl, sym, ap, subst}
+use Rattle.std.proofs.Common.{◌≡◌, ◌∙◌, Bool, List, [], ◌∷◌, ◌++◌, append-nil, append_assoc, sym, ap, subst}
 use Rattle.asm_text.specs.Appended.{Appends}
 use Rattle.text_explained.specs.Folding.{AreShown, IsFirstShown}
 use Rattle.text_explained.specs.Printed.{AreLines}

@@ -8,13 +8,17 @@ mod IdleLaws
 mod ImageLaws
 mod InstrLaws
 mod LinkLaws
+mod LoopPartLaws
+mod LoopTableLaws
 mod PricingLaws
 pub mod RangeLaws
 mod PartLaws
+mod PartSumLaws
 pub mod RowLaws
 mod RuleLaws
 mod ListedOnceLaws
 mod MemberLaws
+mod SetLaws
 mod StartLaws
 mod SourceLaws
 mod SumLaws

@@ -1,5 +1,5 @@
 -- Where R14 is lost: words, edges, and the search for places step by step.
-use Rattle.std.proofs.Common.{◌≡◌, ◌∙◌, ℕ, ◌+◌, ◌-◌, ◌<◌, ◌≤◌, Bool, true, false, cond, List, [], ◌∷◌, ◌++◌, length, length-append, get_or, take, drop, Ok, Err, Some, None, inl, inr, ⊎_elim, refl, sym, ap, subst, arith}
+use Rattle.std.proofs.Common.{◌≡◌, ◌∙◌, ℕ, ◌+◌, ◌-◌, ◌<◌, ◌≤◌, Bool, true, false, cond, List, [], ◌∷◌, ◌++◌, length, length-append, get_or, take, drop, Ok, Err, inl, inr, ⊎_elim, refl, sym, ap, subst, arith}
 use Rattle.std.specs.Prelude.{◌↔◌, Contains, IsTrue}
 use Rattle.std.specs.BTreeSet as sets
 use Rattle.std.specs.BTreeSet.{BTreeSet, btree_set_len}

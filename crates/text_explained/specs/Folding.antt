@@ -2,7 +2,6 @@
 use Rattle.std.specs.Prelude.{◌≡◌, ℕ, ◌+◌, ◌-◌, ◌==◌, ◌&&◌, not, Bool, true, false, if◌then◌else◌, List, []}
 use Rattle.std.specs.Prelude.{◌∷◌, length, take, drop, slice_get, Option, Some, None}
 use Rattle.std.specs.List.{prefix_len}
-use Rattle.text_explained.specs.declared.folding.Fold.{Fold}
 use Rattle.text_explained.specs.declared.folding.FoldKind.{FoldKind}
 use Rattle.text_explained.specs.declared.folding.FoldKind.TheVariants.{OffPath, NeverReached}
 use Rattle.text_explained.specs.declared.folding.TableLine.{TableLine}
@@ -30,8 +29,8 @@ goes_with all first row = not all && is_one_kind (kind_of first.figures.taken) (
 
 -- a row with so many rows after it, of which this is the last: by itself, if there is none
 abbrev pub shown_with : TableRow → (count : ℕ) → (last : Option TableRow) → TableLine
-shown_with first count None = table_line.Row first
-shown_with first count (Some last) = table_line.Fold (record { first = first; last = last; count = count + 1 })
+shown_with first n None = table_line.Row first
+shown_with first n (Some last) = table_line.Fold (record { first = first; last = last; count = n + 1 })
 
 -- a row with these rows after it
 abbrev pub shown_run : TableRow → List TableRow → TableLine

@@ -119,8 +119,8 @@ abbrev pub AreEntryRows : Words → Flow → Entry → (addresses rows : List �
 AreEntryRows words flow entry =
     AreRows (IsEntryRow words (is_carried_out flow.edges) (is_reached flow.places) entry)
 
--- the rows of exactly the loops, the stretches apart, the targets, the accesses, the rules, the multiplies and
--- the branches without effect, each kind in the statement's order
+-- the rows of exactly the loops, the stretches apart, the targets, the accesses, the rules, the multiplies
+-- and the branches without effect, each kind in the statement's order
 pub record AreIdleRows (words : Words) (st : Stated) (flow : Flow) (rows : List ℕ) : Type 0 where
   pub loops : List ℕ
   pub stretches : List ℕ

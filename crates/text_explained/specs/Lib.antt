@@ -8,7 +8,9 @@ pub mod Folding
 pub mod Idle
 pub mod Leaving
 pub mod Links
+pub mod LoopTable
 pub mod Losing
+pub mod PartSums
 pub mod Pricing
 pub mod PricingParts
 pub mod Printed

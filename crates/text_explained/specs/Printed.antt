@@ -1,6 +1,7 @@
 -- The table of a bound as it is printed.
 use Rattle.std.specs.Prelude.{◌≡◌, ℕ, ◌-◌, max, Bool, ◌==◌, true, false, if◌then◌else◌, List, [], ◌∷◌, ◌++◌}
-use Rattle.std.specs.Prelude.{length, codes, decimal, flat_map, fold, map, option_and_then, Option, Some, None, is_some}
+use Rattle.std.specs.Prelude.{length, codes, decimal, flat_map, fold, map, option_and_then}
+use Rattle.std.specs.Prelude.{Option, Some, None, is_some}
 use Rattle.std.specs.Option.{option_or}
 use Rattle.asm_text.specs.Appended.{Appends}
 use Rattle.asm_text.specs.Hex.{hex}
@@ -228,8 +229,8 @@ pub record IsTableOf (walk : WalkFigures) (form : RowForm) (source : Source) (te
   pub table_is : AreRows (IsLineText layout) lines table
   pub text_is : text ≡ table ++ bound_line walk.bound
 
--- by the source, an image, the statement, the flow graph, a walk that costs so much, when its words begin, and
--- how it is printed
+-- by the source, an image, the statement, the flow graph, a walk that costs so much, when its words begin,
+-- and how it is printed
 abbrev pub IsTable : Source → Words → Stated → Flow → List Edge → WordStarts → ℕ → RowForm → List ℕ → Type 0
 IsTable source image st flow walk starts bound form text =
     (priced : ℕ → Option Pricing) × ArePriced image st flow priced

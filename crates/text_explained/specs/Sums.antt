@@ -1,5 +1,6 @@
 -- What a walk takes in all in a stated loop, and in a routine that is called.
-use Rattle.std.specs.Prelude.{◌≡◌, ℕ, ◌==◌, ◌&&◌, ◌||◌, Bool, false, if◌then◌else◌, nat_lt, List, [], ◌∷◌, ◌++◌, length}
+use Rattle.std.specs.Prelude.{◌≡◌, ℕ, ◌==◌, ◌&&◌, ◌||◌, Bool, false, if◌then◌else◌, nat_lt, List, []}
+use Rattle.std.specs.Prelude.{◌++◌, length}
 use Rattle.std.specs.Prelude.{codes, decimal}
 use Rattle.std.specs.BTreeMap.{BTreeMap}
 use Rattle.std.specs.List.{list_any}
@@ -22,7 +23,7 @@ use Rattle.text_rows.specs.declared.line_labels.SourceLine.{SourceLine}
 use Rattle.walk_counts.specs.Counts.{capped}
 use Rattle.text_explained.specs.Columns.{share_text}
 use Rattle.text_explained.specs.Taken.{in_all, is_at}
-use Rattle.text_explained.specs.declared.sums.PartSum.{PartSum}
+use Rattle.text_explained.specs.declared.part_sums.PartSum.{PartSum}
 
 -- ## Edges that count
 
@@ -43,10 +44,6 @@ sum_to edges walk count begins inside =
 
 abbrev pub sum_of : Flow → List Edge → (begins inside : Edge → Bool) → PartSum
 sum_of flow walk = sum_to flow.edges walk (length flow.edges)
-
--- with an edge more, taken so many times
-abbrev pub count_if : Bool → ℕ → ℕ
-count_if counts n = if counts then n else 0
 
 -- ## Loops
 
@@ -92,12 +89,15 @@ routine_sum flow walk a = sum_of flow walk (is_call_to a) (λ e. is_in_routine f
 
 -- ## Rows
 
+-- the label or the number of an address, which ends a row
+abbrev pub row_name : BTreeMap ℕ SourceLine → ℕ → List ℕ
+row_name lines a = codes "  " ++ (name_text (label_at lines a) a ++ codes "\n")
+
 -- how often, the ticks, what part of the bound those are, and the label or the number of an address
 abbrev pub sum_row : BTreeMap ℕ SourceLine → (bound : ℕ) → ℕ → PartSum → List ℕ
 sum_row lines bound a s =
     in_columns 8 (decimal s.times)
-    ++ (in_columns 10 (decimal s.ticks)
-    ++ (in_columns 8 (share_text s.ticks bound) ++ (codes "  " ++ (name_text (label_at lines a) a ++ codes "\n"))))
+    ++ (in_columns 10 (decimal s.ticks) ++ (in_columns 8 (share_text s.ticks bound) ++ row_name lines a))
 
 abbrev pub loops_heading : List ℕ
 loops_heading = codes "\nLoops, with what they call:\n   turns     ticks   share  header\n"

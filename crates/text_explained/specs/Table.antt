@@ -1,5 +1,7 @@
--- What the table of a bound is about: the lines of a source or the words of an image, and what is said of each.
-use Rattle.std.specs.Prelude.{◌≡◌, ℕ, ◌+◌, Bool, ◌==◌, if◌then◌else◌, List, [], ◌∷◌, ◌++◌, find, flat_map, map}
+-- What the table of a bound is about: the lines of a source or the words of an image, and what is said of
+-- each.
+use Rattle.std.specs.Prelude.{ℕ, ◌+◌, Bool, ◌==◌, if◌then◌else◌, List, [], ◌∷◌, ◌++◌, find}
+use Rattle.std.specs.Prelude.{flat_map, map}
 use Rattle.std.specs.Prelude.{nat_lt, option_and_then, sum_by, unwrap_or, Option, Some, None, is_some}
 use Rattle.std.specs.List.{list_any}
 use Rattle.asm_text.specs.Source.{lines_of}

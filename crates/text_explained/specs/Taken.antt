@@ -99,9 +99,9 @@ abbrev pub taken_by : Flow → List Edge → (count a : ℕ) → Option Taken
 taken_by flow walk count a =
     if is_reached flow.places a then Some (taken_of flow.edges walk count a) else None
 
--- what the walk takes at the address: how often it leaves it, and does its instruction, the ticks of all that,
--- the least and the greatest of a time, and of any time that the graph allows; None where the graph has no
--- place
+-- what the walk takes at the address: how often it leaves it, and does its instruction, the ticks of all
+-- that, the least and the greatest of a time, and of any time that the graph allows; None where the graph
+-- has no place
 abbrev pub taken_at : Flow → List Edge → ℕ → Option Taken
 taken_at flow walk a = taken_by flow walk (length flow.edges) a
 

@@ -111,8 +111,8 @@ fn add_asked(columns: &mut Vec<Column>, asked: bool, column: Column) -> Result<(
     Ok(())
 }
 
-/// The columns after those of what is taken: with first starts, if they are asked for, and of a source with the
-/// numbers of its lines. `AllocError`: an allocation failed.
+/// The columns after those of what is taken: with first starts, if they are asked for, and of a source with
+/// the numbers of its lines. `AllocError`: an allocation failed.
 pub(crate) fn other_columns(
     alloc: Global,
     has_first: bool,

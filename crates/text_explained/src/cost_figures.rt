@@ -5,7 +5,8 @@ ghost use Rattle.assembler.specs.Assembles.{addresses_from};
 ghost use Rattle.bus_ticks.specs.declared.space.TheConstants.{SPACE_END};
 ghost use Rattle.text_explained.specs.Costing.{IsCosting, figures_of, first_of};
 ghost use Rattle.text_explained.specs.Table.{costs_of, done_of, first_at, is_any_reached, is_passed};
-ghost use Rattle.text_explained.specs.Table.{line_taken, passes_of, prices_of, row_figures, ticks_in, ticks_of};
+ghost use Rattle.text_explained.specs.Table.{line_taken, passes_of, prices_of, row_figures, ticks_in};
+ghost use Rattle.text_explained.specs.Table.{ticks_of};
 ghost use Rattle.text_explained.specs.Table.{told_at};
 
 use crate::pricing::{Pricing, priced};
@@ -22,8 +23,8 @@ use walk_counts::capped_sum;
 pub struct RowFigures {
     /// What the walk takes there; None where the graph has no place.
     pub taken: Option<Taken>,
-    /// When it begins for the first time, at the latest, in ticks; None where the graph has no place, or where
-    /// that is not asked for.
+    /// When it begins for the first time, at the latest, in ticks; None where the graph has no place, or
+    /// where that is not asked for.
     pub first: Option<u64>,
     /// When it begins at the latest, in ticks; None where the graph has no place.
     pub latest: Option<u64>,

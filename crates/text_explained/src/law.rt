@@ -37,8 +37,9 @@ use asm_text::lines_are_spelled;
 use assembler::sources_are_assembled;
 
 /// States that of a walk of the graph that costs less than 2^64 ticks the numbers at an address are exact:
-/// how often the walk leaves the address, and does the instruction there, the ticks of all that, the least and
-/// the greatest cost of an edge on which it leaves it, and of any edge of the graph that does. It does nothing.
+/// how often the walk leaves the address, and does the instruction there, the ticks of all that, the least
+/// and the greatest cost of an edge on which it leaves it, and of any edge of the graph that does. It does
+/// nothing.
 pub fn numbers_are_of_the_walk()
     ensures { (flow : Flow) (tree : Tree) (cost : ℕ) (items : List Item) (a : ℕ)
         → IsWellFormed flow → IsWalkOf flow tree cost items → cost < 2 ^ 64
@@ -123,8 +124,8 @@ pub fn burst_time_is_the_least()
         → (ticks : ℕ) → IsBurstTime price bound every ticks → ⊥ }
 {}
 
-/// States that the places at which a loop's ticks are counted are the members of its instances, in all stays. It
-/// does nothing.
+/// States that the places at which a loop's ticks are counted are the members of its instances, in all
+/// stays. It does nothing.
 pub fn places_in_loops_are_members()
     ensures { (apart : List ApartStretch) (l : Loop) (p : Place) → (is_in_loop apart l p ≡ true)
         ↔ ((list : List ℕ) × (is_member (instance_of apart l list) p ≡ true)) }

@@ -1,6 +1,6 @@
 //! What a walk takes in all in the routines that are called.
 
-ghost use Rattle.std.specs.Prelude.{◌≡◌, ◌++◌, ◌↔◌, ◌⊎◌, ℕ, IfOk, OnOk, length, nat_lt, true};
+ghost use Rattle.std.specs.Prelude.{◌≡◌, ◌++◌, ◌||◌, ℕ, IfOk, OnOk, length, nat_lt};
 ghost use Rattle.std.specs.BTreeSet.{contains};
 ghost use Rattle.std.specs.List.{list_any};
 ghost use Rattle.std.specs.Ordering.{nat_cmp};
@@ -8,11 +8,13 @@ ghost use Rattle.asm_text.specs.Appended.{Appends};
 ghost use Rattle.longest_walk.specs.Folded.{unfolded};
 ghost use Rattle.text_rows.specs.Rows.{AreRows};
 ghost use Rattle.walk_counts.specs.Counts.{AreCounts};
+ghost use Rattle.text_explained.specs.PartSums.{in_group};
 ghost use Rattle.text_explained.specs.Sums.{AreRoutineSums, begun_row, calls_from, calls_of, is_call_to};
-ghost use Rattle.text_explained.specs.Sums.{is_called, is_site, routine_row};
-ghost use Rattle.text_explained.specs.Taken.{is_at};
+ghost use Rattle.text_explained.specs.Sums.{is_site, routine_row};
 
-use crate::sums::{Counted, Part, PartSum, put_sum, sum_of};
+use crate::part_groups::{PartGroups, insert_if};
+use crate::part_sums::{Counted, PartSum, PartSums, Parts};
+use crate::sums::put_sum;
 use control_flow::{Edge, Graph, Place};
 use longest_walk::Longest;
 use loop_bounds::Handler;
@@ -32,15 +34,6 @@ fn calls_of(place: &Place) -> &[u32]
     }
 }
 
-fn is_at(at: u32, place: &Place) -> bool
-    ensures { result ≡ is_at at place.now }
-{
-    match place {
-        Place::At(_, address) => *address == at,
-        Place::Exit => false,
-    }
-}
-
 // Whether an edge leads deeper than the place from which it comes.
 fn is_deeper(edge: &Edge) -> bool
     ensures { result ≡ nat_lt (length (calls_of edge.now.from)) (length (calls_of edge.now.to)) }
@@ -48,95 +41,80 @@ fn is_deeper(edge: &Edge) -> bool
     calls_of(&edge.from).len() < calls_of(&edge.to).len()
 }
 
-// Whether the edge does, to the address.
-fn is_call_to(at: u32, edge: &Edge) -> bool
-    ensures { result ≡ is_call_to at edge.now }
-{
-    is_deeper(edge) && is_at(at, &edge.to)
+// The routines, whose numbers are their addresses.
+#[derive(Drop)]
+struct Routines {
+    // under the address of each word those that it may call
+    called_by: PartGroups,
 }
 
-// A routine, by its address and those of the words that call it.
-#[derive(Clone, Copy)]
-struct RoutinePart<'a> {
-    at: u32,
-    sites: &'a BTreeSet<u32>,
-}
+impl Parts for Routines {
+    ghost begins = { λ _ n. is_call_to n };
 
-// Whether one of the calls is from one of the words.
-fn is_from_one(sites: &BTreeSet<u32>, calls: &[u32]) -> bool
-    ensures { result ≡ list_any (contains nat_cmp sites.now) calls.now }
-{
-    calls.iter().any(|call| sites.contains(call))
-}
+    ghost inside = { λ r n e. list_any (λ call. in_group r.called_by.by_key call n) (calls_of e.from) };
 
-impl Part for RoutinePart<'_> {
-    ghost begins = { λ p. is_call_to p.at };
-
-    ghost inside = { λ p e. list_any (contains nat_cmp p.sites.now) (calls_of e.from) };
-
-    fn is_begun_by(&self, edge: &Edge) -> bool {
-        is_call_to(self.at, edge)
+    fn begun_by(&self, alloc: Global, edge: &Edge) -> Result<BTreeSet<usize>, AllocError> {
+        let mut begun = BTreeSet::new(alloc);
+        let Place::At(_, address) = edge.to else {
+            return Ok(begun);
+        };
+        insert_if(&mut begun, address as usize, is_deeper(edge))?;
+        Ok(begun)
     }
 
-    fn has_inside(&self, edge: &Edge) -> bool {
-        is_from_one(self.sites, calls_of(&edge.from))
+    fn around(&self, alloc: Global, edge: &Edge) -> Result<BTreeSet<usize>, AllocError> {
+        let mut parts = BTreeSet::new(alloc);
+        self.add_called(&mut parts, calls_of(&edge.from))?;
+        Ok(parts)
     }
 }
 
-// Adds the address from which the edge calls the other one, if it does.
-fn note_site(sites: &mut BTreeSet<u32>, edge: &Edge, at: u32) -> Result<(), AllocError>
-    ensures { OnOk result
-        ((a : ℕ) → (contains nat_cmp sites.new a ≡ true)
-        ↔ ((contains nat_cmp sites.old a ≡ true) ⊎ (calls_from at a edge.now ≡ true))) }
-{
-    if !is_call_to(at, edge) {
-        return Ok(());
+impl Routines {
+    // Adds those that one of the words may call.
+    fn add_called(&self, parts: &mut BTreeSet<usize>, calls: &[u32]) -> Result<(), AllocError>
+        ensures { OnOk result
+            ((n : ℕ) → contains nat_cmp parts.new n
+            ≡ (contains nat_cmp parts.old n
+            || list_any (λ call. in_group self.now.called_by.by_key call n) calls.now)) }
+    {
+        for call in calls {
+            self.called_by.add_to(parts, u64::from(*call))?;
+        }
+        Ok(())
     }
-    let Place::At(_, address) = edge.from else {
-        return Ok(());
-    };
-    sites.insert(address)?;
-    Ok(())
-}
 
-// The addresses of the words that call an address.
-fn sites_of(alloc: Global, graph: &Graph, at: u32) -> Result<BTreeSet<u32>, AllocError>
-    ensures { IfOk result
-        (λ sites. (a : ℕ) → contains nat_cmp sites a ≡ is_site graph.now.edges at a) }
-{
-    let mut sites = BTreeSet::new(alloc);
-    for edge in graph.edges() {
-        note_site(&mut sites, edge, at)?;
+    // Adds the routine that the edge calls, if it does.
+    fn note(&mut self, alloc: Global, edge: &Edge) -> Result<(), AllocError>
+        ensures { OnOk result
+            ((site n : ℕ) → in_group self.new.called_by.by_key site n
+            ≡ (in_group self.old.called_by.by_key site n || calls_from n site edge.now)) }
+    {
+        if !is_deeper(edge) {
+            return Ok(());
+        }
+        let Place::At(_, site) = edge.from else {
+            return Ok(());
+        };
+        let Place::At(_, called) = edge.to else {
+            return Ok(());
+        };
+        self.called_by.note(alloc, u64::from(site), called as usize)
     }
-    Ok(sites)
-}
 
-// Adds the address that the edge calls, if it does.
-fn note_called(called: &mut BTreeSet<u32>, edge: &Edge) -> Result<(), AllocError>
-    ensures { OnOk result
-        ((a : ℕ) → (contains nat_cmp called.new a ≡ true)
-        ↔ ((contains nat_cmp called.old a ≡ true) ⊎ (is_call_to a edge.now ≡ true))) }
-{
-    if !is_deeper(edge) {
-        return Ok(());
+    // Those of a graph.
+    fn of_graph(alloc: Global, graph: &Graph) -> Result<Routines, AllocError>
+        ensures { IfOk result
+            (λ routines. (site n : ℕ) → in_group routines.called_by.by_key site n
+            ≡ is_site graph.now.edges n site) }
+    {
+        let mut routines = Routines {
+            called_by: PartGroups::new(alloc),
+        };
+        for edge in graph.edges() {
+            routines.note(alloc, edge)?;
+        }
+        Ok(routines)
     }
-    let Place::At(_, address) = edge.to else {
-        return Ok(());
-    };
-    called.insert(address)?;
-    Ok(())
-}
-
-// The addresses that are called.
-fn called_addresses(alloc: Global, graph: &Graph) -> Result<BTreeSet<u32>, AllocError>
-    ensures { IfOk result
-        (λ called. (a : ℕ) → contains nat_cmp called a ≡ is_called graph.now.edges a) }
-{
-    let mut called = BTreeSet::new(alloc);
-    for edge in graph.edges() {
-        note_called(&mut called, edge)?;
-    }
-    Ok(called)
 }
 
 // Adds the row of a part, if the walk begins it.
@@ -155,46 +133,26 @@ fn put_begun(
     put_sum(out, lines, bound, at, sum)
 }
 
-// Adds the row of a word, if it is called, and the walk does so.
-fn put_routine(
-    out: &mut Vec<u8>,
-    lines: &BTreeMap<u32, SourceLine<'_>>,
-    walk: Counted<'_>,
-    called: &BTreeSet<u32>,
-    at: u32,
-) -> Result<(), AllocError>
-    requires counts { AreCounts walk.graph.now.edges (unfolded walk.longest.now.walk) walk.counts.now }
-    requires called { (a : ℕ) → contains nat_cmp called.now a ≡ is_called walk.graph.now.edges a }
-    ensures { OnOk result
-        (out.new.items ≡ out.old.items ++ routine_row lines.now walk.entry.graph.now
-        (unfolded walk.entry.longest.now.walk) walk.entry.longest.now.bound at) }
-{
-    if !called.contains(&at) {
-        return Ok(());
-    }
-    let sites = sites_of(*out.allocator(), walk.graph, at)?;
-    let part = RoutinePart { at, sites: &sites };
-    let sum = sum_of(walk, &part);
-    put_begun(out, lines, walk.longest.bound, at, sum)
-}
-
-// Adds the rows of words.
+// Adds the rows of words: of those that the walk calls as routines.
 fn put_routines(
     out: &mut Vec<u8>,
     lines: &BTreeMap<u32, SourceLine<'_>>,
     walk: Counted<'_>,
-    called: &BTreeSet<u32>,
+    routines: &Routines,
     words: &[(u32, u32)],
 ) -> Result<(), AllocError>
     requires counts { AreCounts walk.graph.now.edges (unfolded walk.longest.now.walk) walk.counts.now }
-    requires called { (a : ℕ) → contains nat_cmp called.now a ≡ is_called walk.graph.now.edges a }
+    requires called { (site n : ℕ) → in_group routines.now.called_by.by_key site n
+        ≡ is_site walk.graph.now.edges n site }
     ensures { OnOk result
         (Appends (AreRows (λ e row. row ≡ routine_row lines.now walk.entry.graph.now
         (unfolded walk.entry.longest.now.walk) walk.entry.longest.now.bound e.0) words.now)
         out.old.items out.new.items) }
 {
+    let sums = PartSums::of_walk(*out.allocator(), walk, routines)?;
     for (at, _) in words {
-        put_routine(out, lines, walk, called, *at)?;
+        let sum = sums.of_part(*at as usize);
+        put_begun(out, lines, walk.longest.bound, *at, sum)?;
     }
     Ok(())
 }
@@ -219,7 +177,7 @@ pub fn routine_sums(
 {
     let lines = source.lines(alloc)?;
     let counts = edge_counts(alloc, &handler.graph, &longest.walk)?;
-    let called = called_addresses(alloc, &handler.graph)?;
+    let routines = Routines::of_graph(alloc, &handler.graph)?;
     let words = handler.image.listed(alloc)?;
     let walk = Counted {
         graph: &handler.graph,
@@ -227,7 +185,7 @@ pub fn routine_sums(
         counts: &counts,
     };
     let mut rows = Vec::new(alloc);
-    put_routines(&mut rows, &lines, walk, &called, &words)?;
+    put_routines(&mut rows, &lines, walk, &routines, &words)?;
     section(
         alloc,
         b"\nRoutines, with what they call:\n   calls     ticks   share  routine\n",

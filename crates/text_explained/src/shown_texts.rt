@@ -21,8 +21,8 @@ fn put_byte(out: &mut Vec<u8>, after_blanks: bool, byte: u8) -> Result<(), Alloc
     put(out, &[byte])
 }
 
-/// A text in which one blank stands for each run of blanks and tabs, and for none at its end. `AllocError`: an
-/// allocation failed.
+/// A text in which one blank stands for each run of blanks and tabs, and for none at its end. `AllocError`:
+/// an allocation failed.
 pub(crate) fn squeezed(alloc: Global, text: &[u8]) -> Result<Vec<u8>, AllocError>
     ensures { IfOk result (λ shown. shown.items ≡ squeezed text.now) }
 {

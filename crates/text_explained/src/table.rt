@@ -27,8 +27,8 @@ use walk_counts::capped_sum;
 /// Which rows of a table are printed, and how.
 #[derive(Clone, Copy)]
 pub struct RowForm {
-    /// Whether each row is printed: neighbours that the walk does not pass, and such that no walk ever reaches,
-    /// are then not folded into one.
+    /// Whether each row is printed: neighbours that the walk does not pass, and such that no walk ever
+    /// reaches, are then not folded into one.
     pub all: bool,
     /// How many rows are printed, one by one: those with the most ticks, the dearest first, and of equals as
     /// they come; for `None` all, in the source's order.
@@ -129,18 +129,20 @@ fn costed_table(
 
 /// Where the ticks of a greatest walk go: a row for each line of the source that has words, with how often
 /// the walk passes the line's word, the ticks of such a pass (from the least to the greatest, where they
-/// differ; where the walk never passes, those that a pass may have by the graph), the ticks at its words, what
-/// part of the bound those are, the tick by which its word begins for the first time at the latest, if that is
-/// asked for and is another than the next, the tick by which it begins at the latest, what the price of that
-/// word takes for granted, the word's address, the number of the line and its text; then the ticks of all rows,
-/// and the bound in ticks and in microseconds. Of a line of several words that word is the first that the walk
-/// passes, or, where it passes none, the first at which the graph has a place. Of an image a row for each of
-/// its words, with its address and the line that [`disassemble`](assembler::disassemble) shows.
+/// differ; where the walk never passes, those that a pass may have by the graph), the ticks at its words,
+/// what part of the bound those are, the tick by which its word begins for the first time at the latest, if
+/// that is asked for and is another than the next, the tick by which it begins at the latest, what the price
+/// of that word takes for granted, the word's address, the number of the line and its text; then the ticks
+/// of all rows, and the bound in ticks and in microseconds. Of a line of several words that word is the
+/// first that the walk passes, or, where it passes none, the first at which the graph has a place. Of an
+/// image a row for each of its words, with its address and the line that
+/// [`disassemble`](assembler::disassemble) shows.
 ///
-/// Where no place of the graph is on a line, or at a word, the row says so in place of the numbers. Neighbouring
-/// rows of which the walk passes none, and such where no place is, are one row that says how many they are, and
-/// from which to which, unless each row is asked for; no ticks are at them. Where some rows are asked for, these
-/// are those with the most ticks, and the ticks of all rows are still those of all.
+/// Where no place of the graph is on a line, or at a word, the row says so in place of the numbers.
+/// Neighbouring rows of which the walk passes none, and such where no place is, are one row that says how
+/// many they are, and from which to which, unless each row is asked for; no ticks are at them. Where some
+/// rows are asked for, these are those with the most ticks, and the ticks of all rows are still those of
+/// all.
 ///
 /// A column is as wide as its widest text. Of a line's text one blank stands for each run of blanks and tabs,
 /// and it is cut where it would go past the last column: the source has all of it. A byte counts as a column.

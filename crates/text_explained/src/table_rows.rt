@@ -95,7 +95,8 @@ fn rows_of_words<'a>(
     costing: &Costing<'_>,
     words: &[(u32, u32)],
 ) -> Result<Vec<TableRow<'a>>, AllocError>
-    ensures { IfOk result (λ rows. map row_of rows.items ≡ map (word_row (figures_of costing.now)) words.now) }
+    ensures { IfOk result
+        (λ rows. map row_of rows.items ≡ map (word_row (figures_of costing.now)) words.now) }
 {
     let mut rows = Vec::new(alloc);
     for (at, word) in words {

@@ -1,4 +1,3 @@
-use Rattle.std.proofs.Common.{◌∙◌, ◌++◌, ap}
 use Rattle.text_explained.proofs.ColumnLaws.{blank_more}
 use Rattle.text_explained.proofs.cost_columns.put_blanks.Goals as goal
 

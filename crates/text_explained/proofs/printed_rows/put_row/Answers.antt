@@ -1,4 +1,4 @@
-use Rattle.std.proofs.Common.{◌≡◌, ◌∙◌, ◌-◌, ap, arith, length, subst}
+use Rattle.std.proofs.Common.{◌≡◌, ◌-◌, arith, length, subst}
 use Rattle.std.proofs.lemmas.Result.{on_ok_weaker}
 use Rattle.asm_text.specs.Appended.{Appends}
 use Rattle.text_explained.specs.Printed.{IsRowEnd}

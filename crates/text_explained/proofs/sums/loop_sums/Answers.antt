@@ -10,8 +10,10 @@ returns c =
     let handler = c.args.handler.now in
     let longest = c.args.longest.now in
     let loops = handler.statement.loops in
+    let table = c.in_ok-table.table in
     IfOk-weaker c.section.result _ _
-    (λ text is. sums_whole c.args.source.now loops handler.graph (unfolded longest.walk) longest.bound c.in_ok-lines.lines c.apart.result.now c.list.result.now c.new-rows.result.items
-    c.put_loops.new.out.items c.deref-2.result.now text.items (c.apart.ensures ∙ ap (λ (ls : StatedLoops). ls.apart) c.loops-loops.ensures)
-    (c.list.ensures.value ∙ ap (λ (ls : StatedLoops). ls.list) c.loops-loops.ensures) c.in_ok-lines.ensures c.new-rows.ensures.items c.in_ok-put_loops.ensures c.deref-2.ensures.value is)
+    (λ text is. sums_whole c.args.source.now loops handler.graph (unfolded longest.walk) longest.bound c.in_ok-lines.lines table.apart.now table.loops.now c.new-rows.result.items
+    c.put_loops.new.out.items c.deref-2.result.now text.items (c.in_ok-table.ensures.0 ∙ c.apart.ensures ∙ ap (λ (ls : StatedLoops). ls.apart) c.loops-loops.ensures)
+    (c.in_ok-table.ensures.1 ∙ c.list.ensures.value ∙ ap (λ (ls : StatedLoops). ls.list) c.loops-loops.ensures) c.in_ok-lines.ensures c.new-rows.ensures.items c.in_ok-put_loops.ensures
+    c.deref-2.ensures.value is)
     c.section.ensures
