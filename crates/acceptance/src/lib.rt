@@ -30,4 +30,6 @@ mod reports;
 #[cfg(test)]
 mod tight;
 #[cfg(test)]
+mod watched;
+#[cfg(test)]
 mod writers;
