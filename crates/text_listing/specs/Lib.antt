@@ -1,2 +1,1 @@
-pub mod ListOrder
 pub mod Listing

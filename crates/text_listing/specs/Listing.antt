@@ -7,7 +7,6 @@ use Rattle.assembler.specs.declared.placed_line.PlacedLine.{PlacedLine}
 use Rattle.image.specs.Image.{Words, word_of}
 use Rattle.sources.specs.Rows.{AreSourceRows}
 use Rattle.sources.specs.declared.read.Source.{Source}
-use Rattle.text_listing.specs.ListOrder.{order_note}
 use Rattle.text_listing.specs.declared.listing_columns.TheConstants.{WORD_COLUMNS}
 use Rattle.text_rows.specs.Columns.{in_columns}
 use Rattle.text_rows.specs.Lines.{rows_from}
@@ -36,9 +35,8 @@ rows_beside image n text at zero = no_columns ++ line_row n text
 rows_beside image n text at (suc more) =
     (word_columns at (word_of image at) ++ line_row n text) ++ word_rows image (at + 4) more
 
--- .. and then, if its list of registers is out of order, a row that says so
 abbrev pub line_rows : Words → (n : ℕ) → (text : List ℕ) → PlacedLine → List ℕ
-line_rows image n text p = rows_beside image n text p.at p.words ++ order_note text
+line_rows image n text p = rows_beside image n text p.at p.words
 
 -- the address, the word and its line
 abbrev pub IsWordRow : ℕ × ℕ → List ℕ → Type 0

@@ -1,9 +1,7 @@
 ghost use Rattle.std.specs.Prelude.{◌≡◌, ◌≤◌, ◌+◌, ◌*◌, ◌++◌, IfOk, OnOk};
 ghost use Rattle.bus_ticks.specs.declared.space.TheConstants.{SPACE_END};
-ghost use Rattle.text_listing.specs.Listing.{AreListed, IsWordRow, line_rows, rows_beside};
-ghost use Rattle.text_listing.specs.Listing.{word_rows};
+ghost use Rattle.text_listing.specs.Listing.{AreListed, IsWordRow, line_rows, word_rows};
 
-use crate::list_order::put_order_note;
 use crate::listing_columns::{WORD_COLUMNS, put_line_row, put_word_columns, put_word_row};
 use assembler::PlacedLine;
 use image::Image;
@@ -25,27 +23,6 @@ fn put_words(out: &mut Vec<u8>, image: &Image, from: u32, count: usize) -> Resul
     Ok(())
 }
 
-// Adds the number and the text of a line beside its first word, if it has one, and below it its other words.
-fn put_beside(
-    out: &mut Vec<u8>,
-    image: &Image,
-    line: NumberedLine<'_>,
-    placed: PlacedLine,
-) -> Result<(), AllocError>
-    ensures { OnOk result
-        (out.new.items
-        ≡ out.old.items
-        ++ rows_beside image.now line.entry.number line.entry.text.now placed.at placed.words) }
-{
-    if placed.words == 0 {
-        put_right(out, b"", WORD_COLUMNS)?;
-        return put_line_row(out, line);
-    }
-    put_word_columns(out, placed.at, image.word_at(placed.at))?;
-    put_line_row(out, line)?;
-    put_words(out, image, placed.at + 4, placed.words - 1)
-}
-
 // The rows of lines beside the words of an image, and of these words alone.
 #[derive(Clone, Copy)]
 struct BesideWords<'a> {
@@ -61,8 +38,13 @@ impl LineRows for BesideWords<'_> {
         line: NumberedLine<'_>,
         placed: PlacedLine,
     ) -> Result<(), AllocError> {
-        put_beside(out, self.image, line, placed)?;
-        put_order_note(out, line.text)
+        if placed.words == 0 {
+            put_right(out, b"", WORD_COLUMNS)?;
+            return put_line_row(out, line);
+        }
+        put_word_columns(out, placed.at, self.image.word_at(placed.at))?;
+        put_line_row(out, line)?;
+        put_words(out, self.image, placed.at + 4, placed.words - 1)
     }
 }
 
@@ -75,9 +57,9 @@ impl ImageRows for BesideWords<'_> {
 }
 
 /// The lines of a source beside the words of its image: a row for each line, with the address and the word
-/// of its first word, if it has one, its number from 1 and its text; below it a row for each further word, and
-/// one that says which register is moved first, where its list of registers is not in order. Of an image a row
-/// for each word: its address, itself, and its line as [`disassemble`](assembler::disassemble) shows it.
+/// of its first word, if it has one, its number from 1 and its text; below it a row for each further word. Of
+/// an image a row for each word: its address, itself, and its line as
+/// [`disassemble`](assembler::disassemble) shows it.
 ///
 /// The text is bytes, since a comment may be other than UTF-8. A row ends at column 80, and a longer text is
 /// cut there: the source has all of it. A byte counts as a column. Dashes stand for a word that the image
