@@ -31,10 +31,10 @@ use Rattle.handlers.specs.declared.fault.ReportFault.{ReportFault}
 
 -- ## The explanation
 
--- by the lines of a text, or by the words of an image: the table, then what bursts add to the bound, then what
--- the walk takes of each loop and of each routine, then what is taken for granted, then how many words each rule for a base register covers, then the entries of
--- the statement without effect, then the longest step and how long interrupts are masked, and then what
--- better entries would save
+-- by the lines of a text, or by the words of an image: the table, then what bursts add to the bound, then
+-- what the walk takes of each loop and of each routine, then what is taken for granted, then how many words
+-- each rule for a base register covers, then the entries of the statement without effect, then the longest
+-- step and how long interrupts are masked, and then what better entries would save
 pub record IsTextOf (source : Source) (stated : Stated) (flow : Flow) (longest : Longest)
     (starts : WordStarts) (rows : RowForm) (price : ℕ) (bursts : Bursts) (text : List ℕ) : Type 0 where
   pub table : List ℕ
