@@ -9,6 +9,8 @@ mod graphs;
 #[cfg(test)]
 mod handlers;
 #[cfg(test)]
+mod known;
+#[cfg(test)]
 mod nesting;
 #[cfg(test)]
 mod prices_and_chips;

@@ -1,5 +1,5 @@
--- Runs of which not all that is stated is granted: what classes of accesses follow from the code, and which are
--- on trust.
+-- Runs of which not all that is stated is granted: the classes of what words load or store are on trust at some
+-- addresses, and follow from the code at all others.
 use Rattle.std.specs.Prelude.{◌≡◌, ℕ, true, List, [], ◌∷◌, length, Contains}
 use Rattle.walks.specs.Walk.{Leads}
 use Rattle.bus_ticks.specs.declared.profile.Profile.{Profile}
@@ -7,11 +7,9 @@ use Rattle.image.specs.Image.{Words, word_of}
 use Rattle.statement.specs.Stated.{Stated, class_at, cycles_at, taken_at}
 use Rattle.arm2_effect.specs.Modes.{r15_in}
 use Rattle.arm2_effect.specs.declared.step_end.Kind.TheVariants.{Plain}
-use Rattle.arm2_exec.specs.Run.{Runs}
 use Rattle.arm2_exec.specs.State.{State}
 use Rattle.arm2_exec.specs.Step.{Step, address_in, fetched}
 use Rattle.arm2_exec.specs.declared.machine.Input.{Input}
-use Rattle.arm2_exec.specs.declared.machine.Ran.{Ran}
 use Rattle.arm2_exec.specs.declared.machine.Stepped.{Stepped}
 use Rattle.control_flow.specs.Edges.{HasAction, may_go}
 use Rattle.control_flow.specs.Flow.{Flow, HasEdge, edge_shape}
@@ -22,8 +20,8 @@ use Rattle.flow_graph.specs.StepLaw.{Follows, IsTaken, TakesWithin, TransfersIn,
 use Rattle.known_words.specs.Knowledge.{AreWords}
 
 module _ (words : Words) (st : Stated) (profile : Profile) (trusted : List ℕ) where
-  -- A step that executes the image's word at its address as stated, but that its accesses are of the stated
-  -- class is granted of the words at trusted addresses alone.
+  -- A step that executes the image's word at its address as stated. That the words which it loads or stores are
+  -- of the stated class is granted at trusted addresses alone.
   pub record ExecutesOnTrust (action : Action) (s : State) (i : Input) (stepped : Stepped)
       (after : State) : Type 0 where
     pub registers : length s.regs ≡ 27
@@ -52,8 +50,9 @@ module _ (words : Words) (st : Stated) (profile : Profile) (trusted : List ℕ) 
   GoesOnTrust s (i ∷ inputs) (e ∷ walk) =
       (stepped : Stepped) × (next : State) × IsEdgeOnTrust s i stepped next e × GoesOnTrust next inputs walk
 
--- Each run from the entry, finished or not, that goes along the graph and of which the classes of the words at
--- trusted addresses are granted, has all its accesses of the stated classes.
+-- Each run from the entry, finished or not, whose registers of the entry's mode but R15 are words of 32 bits at
+-- the start, that keeps the statement step by step but for its loop bounds and its classes, and keeps the classes
+-- at trusted addresses, keeps all classes: each word that it loads or stores is of its stated class.
 abbrev pub Justifies : Words → Stated → Flow → (trusted : List ℕ) → Type 0
 Justifies words st flow trusted =
     (s : State) (inputs : List Input) (walk : List Edge) (place : Place) → AreWords s.regs

@@ -18,12 +18,12 @@ use Rattle.known_places.specs.Words.{Carries, StaysIn}
 abbrev pub known_at : List Knowledge → ℕ → Knowledge
 known_at table number = slice_index_or table number (record { registers = []; compared = Nothing })
 
--- what is known before the first step is known at the entry
+-- what is known at the first place holds of any registers at the entry whose words are of 32 bits
 abbrev pub BeginsKnown : List Knowledge → Type 0
 BeginsKnown table =
     (entry : List ℕ) → AreWords entry → Holds entry [] (known_at table 0) entry
 
--- along the edge of the number, unless it leaves the handler, what is known goes over into what is known
+-- what is known before the edge of the number gives what is known after it, unless it leaves the handler
 abbrev pub KeepsAlong : Words → Flow → Tree → List Knowledge → ℕ → Type 0
 KeepsAlong words flow tree table k =
     (calls : List ℕ) (address word : ℕ) → (step_at flow.edges k).from ≡ At calls address
@@ -39,7 +39,7 @@ StaysAt words st flow tree table trusted number =
     → Contains trusted address
     ⊎ StaysIn (class_at st address action.base) word address (known_at table number)
 
--- what is known at each place is so whenever a run has come there, and each class follows or is on trust
+-- what is known holds at the entry and along each edge, and each class follows from it or is on trust
 pub record IsProof (words : Words) (st : Stated) (flow : Flow) (tree : Tree) (table : List Knowledge)
     (trusted : List ℕ) : Type 0 where
   pub whole : length table ≡ length flow.places

@@ -22,7 +22,8 @@ Carries word address label before result =
     → address_in regs ≡ address → IsAction word action → label_in regs action.cond ≡ label
     → Obeys word port regs bus m → m.kind ≡ Plain → Holds entry turns before regs → Holds entry turns result m.regs
 
--- the same, where this is known before it: the words that it transfers are of the class
+-- Wherever the word at the address is done or passed over, with neither an exception nor a stop, and this is known
+-- before it, the words that it transfers are of the class.
 abbrev pub StaysIn : Class → (word address : ℕ) → Knowledge → Type 0
 StaysIn class word address known =
     (entry turns regs : List ℕ) (port : ℕ) (bus : Bus) (m : Moved) → length regs ≡ 27

@@ -156,9 +156,9 @@ fn begins_known(table: &[Knowledge]) -> bool
 
 /// By a table of what is known of the registers before each place's word, by the numbers of the places: the
 /// addresses, in bytes, of the words whose stated class is on trust, once for each place. Those of all other
-/// words follow: each run from the entry that goes along the graph, and of which the classes at these
-/// addresses are granted, has all its accesses of the stated classes. None where the table is not seen to
-/// say what holds.
+/// words follow: each run from the entry, finished or not, that keeps the statement step by step but for its
+/// loop bounds and its classes, and keeps the classes at these addresses, keeps all its classes. None where
+/// the table is not seen to hold along each edge; so of a handler inside of which a word restores R15's mode.
 ///
 /// It takes time linear in the edges.
 ///

@@ -41,6 +41,16 @@ fn words_are_in(class: Class, low: u32, high: u32, words: u32) -> bool
     are_of(class, low / 4 * 4, last)
 }
 
+// Whether it is the class of all addresses.
+fn is_any(class: Class) -> bool
+    ensures { IsTrue result → class ≡ Class.Any }
+{
+    match class {
+        Class::Any => true,
+        _ => false,
+    }
+}
+
 // Whether words from a known address on are of the class.
 fn known_words_are_in(class: Class, lowest: Known, words: u32) -> bool
     requires { words ≤ 16 }
@@ -48,12 +58,12 @@ fn known_words_are_in(class: Class, lowest: Known, words: u32) -> bool
         → (store : Bool)
         → HasNoOther class (Some (record { address = address; words = words; store = store })) }
 {
+    if is_any(class) {
+        return true;
+    }
     match lowest {
         Known::Word(word) => words_are_in(class, word.range.low, word.range.high, words),
-        _ => match class {
-            Class::Any => true,
-            _ => false,
-        },
+        _ => false,
     }
 }
 

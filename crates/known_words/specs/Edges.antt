@@ -1,4 +1,4 @@
--- What is known more where a condition holds.
+-- What is known where a condition holds, by what is known before.
 use Rattle.std.specs.Prelude.{◌≡◌, ℕ, true, List}
 use Rattle.arm2_decode.specs.Conditions.{condition_holds}
 use Rattle.arm2_decode.specs.declared.names.Cond.{Cond}

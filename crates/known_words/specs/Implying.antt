@@ -1,4 +1,4 @@
--- What is known more where something is known.
+-- When one piece of knowledge implies another.
 use Rattle.std.specs.Prelude.{ℕ, List}
 use Rattle.known_words.specs.Known.{IsIn, IsKnown, IsSum}
 use Rattle.known_words.specs.Knowledge.{Holds}

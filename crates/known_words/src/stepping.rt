@@ -101,7 +101,7 @@ fn carried_on(operation: &Operation, address: u32, before: &Knowledge) -> Knowle
 }
 
 /// What is known after the instruction at the address, where its condition holds and it ends with neither an
-/// exception nor a stop; nothing where it restores another mode.
+/// exception nor a stop; nothing where it writes the PSR and the mode of R15.
 pub fn after(operation: &Operation, address: u32, before: &Knowledge) -> Option<Knowledge>
     ensures known { IfSome result (λ known. After operation.now address before.now known) }
     ensures nothing { is_none result ≡ restores operation.now }
