@@ -1,5 +1,5 @@
--- Runs of which not all that is stated is granted: the classes of what words load or store are on trust at some
--- addresses, and follow from the code at all others.
+-- Runs of which not all that is stated is granted: the classes of what words load or store are on trust at
+-- some addresses, and follow from the code at all others.
 use Rattle.std.specs.Prelude.{◌≡◌, ℕ, true, List, [], ◌∷◌, length, Contains}
 use Rattle.walks.specs.Walk.{Leads}
 use Rattle.bus_ticks.specs.declared.profile.Profile.{Profile}
@@ -20,8 +20,8 @@ use Rattle.flow_graph.specs.StepLaw.{Follows, IsTaken, TakesWithin, TransfersIn,
 use Rattle.known_words.specs.Knowledge.{AreWords}
 
 module _ (words : Words) (st : Stated) (profile : Profile) (trusted : List ℕ) where
-  -- A step that executes the image's word at its address as stated. That the words which it loads or stores are
-  -- of the stated class is granted at trusted addresses alone.
+  -- A step that executes the image's word at its address as stated. That the words which it loads or stores
+  -- are of the stated class is granted at trusted addresses alone.
   pub record ExecutesOnTrust (action : Action) (s : State) (i : Input) (stepped : Stepped)
       (after : State) : Type 0 where
     pub registers : length s.regs ≡ 27
@@ -36,7 +36,8 @@ module _ (words : Words) (st : Stated) (profile : Profile) (trusted : List ℕ) 
     pub way : may_go (label_in s.regs action.cond) action.cond (taken_at st (address_in s.regs)) ≡ true
 
   -- such a step along an edge of the statement's graph
-  pub record IsEdgeOnTrust (s : State) (i : Input) (stepped : Stepped) (after : State) (e : Edge) : Type 0 where
+  pub record IsEdgeOnTrust (s : State) (i : Input) (stepped : Stepped) (after : State)
+      (e : Edge) : Type 0 where
     pub calls : List ℕ
     pub action : Action
     pub executes : ExecutesOnTrust action s i stepped after
@@ -50,11 +51,12 @@ module _ (words : Words) (st : Stated) (profile : Profile) (trusted : List ℕ) 
   GoesOnTrust s (i ∷ inputs) (e ∷ walk) =
       (stepped : Stepped) × (next : State) × IsEdgeOnTrust s i stepped next e × GoesOnTrust next inputs walk
 
--- Each run from the entry, finished or not, whose registers of the entry's mode but R15 are words of 32 bits at
--- the start, that keeps the statement step by step but for its loop bounds and its classes, and keeps the classes
--- at trusted addresses, keeps all classes: each word that it loads or stores is of its stated class.
+-- Each run from the entry, finished or not, whose registers of the entry's mode but R15 are words of 32 bits
+-- at the start, that keeps the statement step by step but for its loop bounds and its classes, and keeps the
+-- classes at trusted addresses, keeps all classes: each word that it loads or stores is of its stated class.
 abbrev pub Justifies : Words → Stated → Flow → (trusted : List ℕ) → Type 0
 Justifies words st flow trusted =
     (s : State) (inputs : List Input) (walk : List Edge) (place : Place) → AreWords s.regs
-    → Leads edge_shape (HasEdge flow) flow.entry walk place → GoesOnTrust words st flow.profile trusted s inputs walk
+    → Leads edge_shape (HasEdge flow) flow.entry walk place
+    → GoesOnTrust words st flow.profile trusted s inputs walk
     → Follows words st flow.profile s inputs walk

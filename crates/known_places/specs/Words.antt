@@ -14,16 +14,17 @@ use Rattle.kept_runs.specs.Transfers.{HasNoOther, words_of}
 use Rattle.known_words.specs.Knowledge.{Holds}
 use Rattle.known_words.specs.declared.knowledge.Knowledge.{Knowledge}
 
--- Wherever the word at the address is done, or passed over, as the label says, with neither an exception nor a
--- stop, and the first is known of the registers before it, the second is known of those after it.
+-- Wherever the word at the address is done, or passed over, as the label says, with neither an exception nor
+-- a stop, and the first is known of the registers before it, the second is known of those after it.
 abbrev pub Carries : (word address : ℕ) → Label → (before result : Knowledge) → Type 0
 Carries word address label before result =
     (entry turns regs : List ℕ) (port : ℕ) (bus : Bus) (m : Moved) (action : Action) → length regs ≡ 27
     → address_in regs ≡ address → IsAction word action → label_in regs action.cond ≡ label
-    → Obeys word port regs bus m → m.kind ≡ Plain → Holds entry turns before regs → Holds entry turns result m.regs
+    → Obeys word port regs bus m → m.kind ≡ Plain → Holds entry turns before regs
+    → Holds entry turns result m.regs
 
--- Wherever the word at the address is done or passed over, with neither an exception nor a stop, and this is known
--- before it, the words that it transfers are of the class.
+-- Wherever the word at the address is done or passed over, with neither an exception nor a stop, and this is
+-- known before it, the words that it transfers are of the class.
 abbrev pub StaysIn : Class → (word address : ℕ) → Knowledge → Type 0
 StaysIn class word address known =
     (entry turns regs : List ℕ) (port : ℕ) (bus : Bus) (m : Moved) → length regs ≡ 27

@@ -1,4 +1,5 @@
-ghost use Rattle.std.specs.Prelude.{◌≡◌, ◌<◌, ◌++◌, ◌∷◌, [], ℕ, List, IfOk, IfSome, IsTrue, MatchOption, OnOk, Some, length};
+ghost use Rattle.std.specs.Prelude.{◌≡◌, ◌<◌, ◌++◌, ◌∷◌, [], ℕ, List, Some, length};
+ghost use Rattle.std.specs.Prelude.{IfOk, IfSome, IsTrue, MatchOption, OnOk};
 ghost use Rattle.control_flow.specs.Graph.{IsFlowGraph};
 ghost use Rattle.control_flow.specs.Kinds.{IsAction};
 ghost use Rattle.control_flow.specs.declared.actions.Action.{Action};
@@ -33,9 +34,11 @@ fn edge_carries(
     edge: &Edge,
     numbered: NumberedEdge,
 ) -> bool
-    ensures { IsTrue result → (calls : List ℕ) → (address : ℕ) → (word : ℕ) → edge.now.from ≡ Place.At calls address
+    ensures { IsTrue result → (calls : List ℕ) → (address : ℕ) → (word : ℕ)
+        → edge.now.from ≡ Place.At calls address
         → word_of handler.now.image.now address ≡ Some word → numbered.to < length table.now
-        → Carries word address edge.now.label (known_at table.now numbered.from) (known_at table.now numbered.to) }
+        → Carries word address edge.now.label (known_at table.now numbered.from)
+        (known_at table.now numbered.to) }
 {
     if table.len() <= numbered.to {
         return true;
@@ -93,7 +96,8 @@ fn follows(handler: &Handler<'_>, known: &Knowledge, address: u32, word: u32) ->
 fn on_trust_at(handler: &Handler<'_>, table: &[Knowledge], number: usize) -> Option<u32>
     requires { number < length table.now }
     ensures { MatchOption result
-        (StaysAt handler.now.image.now handler.now.statement handler.now.graph handler.now.tree table.now [] number)
+        (StaysAt handler.now.image.now handler.now.statement handler.now.graph handler.now.tree table.now []
+        number)
         (λ address. StaysAt handler.now.image.now handler.now.statement handler.now.graph handler.now.tree
         table.now (address ∷ []) number) }
 {

@@ -23,12 +23,12 @@ abbrev pub start_in : Start → (entry : List ℕ) → ℕ
 start_in Zero entry = 0
 start_in (Entry register) entry = current_in register entry
 
--- what the turns of the four outermost loops around add, the outermost first; a loop that is not there has not
--- turned. No law counts turns yet: along runs there are none.
+-- what the turns of the four outermost loops around add, the outermost first; a loop that is not there has
+-- not turned. No law counts turns yet: along runs there are none.
 abbrev pub turned : Steps → (turns : List ℕ) → ℕ
 turned steps turns =
-    steps.outermost * slice_index turns 0 + steps.second * slice_index turns 1 + steps.third * slice_index turns 2
-    + steps.fourth * slice_index turns 3
+    steps.outermost * slice_index turns 0 + steps.second * slice_index turns 1
+    + steps.third * slice_index turns 2 + steps.fourth * slice_index turns 3
 
 -- a word is the start word and a number of the range above it, with what the turns add, on 32 bits
 pub record IsSum (entry turns : List ℕ) (sum : Sum) (word : ℕ) : Type 0 where
@@ -40,7 +40,8 @@ pub record IsSum (entry turns : List ℕ) (sum : Sum) (word : ℕ) : Type 0 wher
 abbrev pub IsIn : Range → ℕ → Type 0
 IsIn range word = (range.low ≤ word) × (word ≤ range.high)
 
--- what is known of a word is so, by the registers at the entry and where the loops around have turned so often
+-- what is known of a word is so, by the registers at the entry and where the loops around have turned so
+-- often
 abbrev pub IsKnown : (entry turns : List ℕ) → Known → (word : ℕ) → Type 0
 IsKnown entry turns Any word = Unit {0}
 IsKnown entry turns (Address address) word = address_of word ≡ address
