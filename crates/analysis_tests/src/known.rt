@@ -1,31 +1,38 @@
-//! Which of the classes that are stated follow from the code.
+//! Which of the classes and the loop bounds that are stated follow from the code.
 
 ghost use Rattle.control_flow.specs.Graph.{IsFlowGraph};
 ghost use Rattle.loop_bounds.specs.Tree.{IsTree};
 
 use crate::handlers::{self, stated};
+use arm2_decode::Register;
 use bus_ticks::Profile;
 use flow_graph::{Statement, build};
-use known_places::{classes_on_trust, proposed};
+use known_places::{OnTrust, left_on_trust, proposed};
+use known_words::Given;
 use loader::Image;
 use loop_bounds::{Handler, nest};
 use std::alloc::{AllocError, Global};
 use std::test::Fail;
 
-fn addresses_of(alloc: Global, handler: &Handler<'_>) -> Result<Option<Vec<u32>>, AllocError>
+fn left_of(
+    alloc: Global,
+    handler: &Handler<'_>,
+    given: &[Given],
+) -> Result<Option<OnTrust>, AllocError>
     requires graph { IsFlowGraph handler.now.image.now handler.now.statement handler.now.graph.profile
         handler.now.graph }
     requires tree { IsTree handler.now.graph handler.now.tree }
 {
-    let table = proposed(alloc, handler)?;
-    classes_on_trust(alloc, handler, &table)
+    let table = proposed(alloc, handler, given)?;
+    left_on_trust(alloc, handler, given, &table)
 }
 
-fn addresses_in(
+fn left_in(
     alloc: Global,
     image: &Image,
     statement: Statement,
-) -> Result<Option<Vec<u32>>, Fail> {
+    given: &[Given],
+) -> Result<Option<OnTrust>, Fail> {
     let graph = build(alloc, image, &statement, &Profile::one())?;
     let tree = nest(alloc, &graph, &statement)?;
     let handler = Handler {
@@ -34,13 +41,39 @@ fn addresses_in(
         graph,
         tree,
     };
-    Ok(addresses_of(alloc, &handler)?)
+    Ok(left_of(alloc, &handler, given)?)
 }
 
-// The addresses at which classes are on trust; none where nothing is known.
-fn on_trust(alloc: Global, source: &[u8], statement: &[u8]) -> Result<Option<Vec<u32>>, Fail> {
+// What is on trust; none where nothing is known.
+fn left(
+    alloc: Global,
+    source: &[u8],
+    statement: &[u8],
+    given: &[Given],
+) -> Result<Option<OnTrust>, Fail> {
     let handlers::Handler { image, statement } = stated(alloc, source, statement)?;
-    addresses_in(alloc, &image, statement)
+    left_in(alloc, &image, statement, given)
+}
+
+// The addresses at which classes are on trust.
+fn classes(
+    alloc: Global,
+    source: &[u8],
+    statement: &[u8],
+    given: &[Given],
+) -> Result<Vec<u32>, Fail> {
+    match left(alloc, source, statement, given)? {
+        Some(trusted) => Ok(trusted.classes),
+        None => Ok(Vec::new(alloc)),
+    }
+}
+
+// The addresses of the headers of loops whose bounds are on trust.
+fn loops(alloc: Global, source: &[u8], statement: &[u8]) -> Result<Vec<u32>, Fail> {
+    match left(alloc, source, statement, &[])? {
+        Some(trusted) => Ok(trusted.loops),
+        None => Ok(Vec::new(alloc)),
+    }
 }
 
 // Of an exact base, a masked index, a register at the entry, a word of memory, and the stack.
@@ -89,22 +122,50 @@ const MASKED: &[u8] = b"
 const DEVICE: &[u8] = b"entry = 0x8000
 access = [{at = 0x8008, class = \"io\"}]";
 
+// A device and the stack, of which facts tell.
+const GIVEN: &[Given] = &[
+    Given {
+        register: Register::R12,
+        low: 0x331_0000,
+        high: 0x331_0000,
+    },
+    Given {
+        register: Register::R13,
+        low: 0x9000,
+        high: 0x9FFC,
+    },
+];
+
 #[test]
 fn bases_that_are_known(rt: HostRuntime) -> Result<(), Fail> {
-    let found = on_trust(rt.alloc(), BASES, CLASSES)?.unwrap_or(Vec::new(rt.alloc()));
+    let found = classes(rt.alloc(), BASES, CLASSES, &[])?;
     assert!(rt; found.as_slice() == [0x8008, 0x8018, 0x801C].as_slice());
     Ok(())
 }
 
 #[test]
+fn bases_that_are_given(rt: HostRuntime) -> Result<(), Fail> {
+    let found = classes(rt.alloc(), BASES, CLASSES, GIVEN)?;
+    assert!(rt; found.as_slice() == [0x8008, 0x8018].as_slice());
+    Ok(())
+}
+
+#[test]
 fn bases_in_a_loop(rt: HostRuntime) -> Result<(), Fail> {
-    let found = on_trust(rt.alloc(), TURNS, LOOP)?.unwrap_or(Vec::new(rt.alloc()));
+    let found = classes(rt.alloc(), TURNS, LOOP, &[])?;
     assert!(rt; found.as_slice() == [0x8010].as_slice());
     Ok(())
 }
 
 #[test]
+fn loops_on_trust(rt: HostRuntime) -> Result<(), Fail> {
+    let found = loops(rt.alloc(), TURNS, LOOP)?;
+    assert!(rt; found.as_slice() == [0x800C].as_slice());
+    Ok(())
+}
+
+#[test]
 fn mode_that_is_written(rt: HostRuntime) -> Result<(), Fail> {
-    assert!(rt; on_trust(rt.alloc(), MASKED, DEVICE)?.is_none());
+    assert!(rt; left(rt.alloc(), MASKED, DEVICE, &[])?.is_none());
     Ok(())
 }
