@@ -1,3 +1,4 @@
 mod WordLemmas
+mod AroundLemmas
 mod TableLemmas
 mod RunLemmas

@@ -1,3 +1,4 @@
 pub mod OnTrust
 pub mod Words
+pub mod Around
 pub mod Table

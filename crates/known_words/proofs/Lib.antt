@@ -4,3 +4,4 @@ pub mod HoldLemmas
 pub mod ForgetLemmas
 pub mod TransferLemmas
 mod ImplyLemmas
+mod TurningLemmas

@@ -8,3 +8,4 @@ pub mod After
 pub mod Transfers
 pub mod Edges
 pub mod Implying
+pub mod Turning

@@ -13,7 +13,7 @@ fn is_part_of(range: Range, other: Range) -> bool
     other.low <= range.low && range.high <= other.high
 }
 
-fn is_zero(start: Start) -> bool
+pub(crate) fn is_zero(start: Start) -> bool
     ensures { IsTrue result → start ≡ Start.Zero }
 {
     match start {

@@ -16,6 +16,7 @@ mod operands;
 mod stepping;
 mod sums;
 mod transfers;
+mod turning;
 mod values;
 mod words;
 
@@ -26,5 +27,6 @@ pub use operands::{rotated, shifted};
 pub use stepping::{after, known_where_skipped};
 pub use sums::{added, subtracted};
 pub use transfers::moved;
+pub use turning::{Depth, Turn, Turns};
 pub use values::computed;
 pub use words::{Known, Range, Start, Steps, Sum, Word};
