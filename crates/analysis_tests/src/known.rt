@@ -136,7 +136,7 @@ const UP_BELOW: &[u8] = b"
         MOV  R0,#0
 wait    ADD  R0,R0,#3
         CMP  R0,#10
-again   BLO  wait
+again   BCC  wait
         SUBS PC,R14,#4
 ";
 

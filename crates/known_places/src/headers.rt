@@ -78,19 +78,13 @@ impl Header {
     }
 
     fn known_at(&self, old: Known, entered: Known, back: Known, numbers: &[u32]) -> Known {
-        if back.implies(entered) {
-            return entered;
+        match (old, entered, back) {
+            (Known::Word(old), Known::Word(entered), Known::Word(back)) => {
+                self.word_at(old, entered, back, numbers)
+            }
+            _ if back.implies(entered) => entered,
+            _ => Known::Any,
         }
-        let Known::Word(old) = old else {
-            return Known::Any;
-        };
-        let Known::Word(entered) = entered else {
-            return Known::Any;
-        };
-        let Known::Word(back) = back else {
-            return Known::Any;
-        };
-        self.word_at(old, entered, back, numbers)
     }
 
     // By what was known there before, where it is entered, and after its turns.

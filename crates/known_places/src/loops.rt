@@ -18,9 +18,9 @@ pub(crate) struct Table<'a> {
 }
 
 // Whether at the header of the span of a number one turn more than the bound is seen to be none.
-fn is_never_over(table: Table<'_>, number: usize, span: &Span) -> bool
+fn is_never_over(table: &Table<'_>, number: usize, span: &Span) -> bool
     ensures { IsTrue result → (spans : List Span) → span_at spans number ≡ span.now
-        → NeverOver spans table.around.now table.known.now span.now }
+        → NeverOver spans table.now.around.now table.now.known.now span.now }
 {
     if table.known.len() <= span.header {
         return false;
@@ -38,11 +38,11 @@ fn is_never_over(table: Table<'_>, number: usize, span: &Span) -> bool
 }
 
 // Whether the bound of the instance of a number is seen to follow, and if not the address of its header.
-fn bound_on_trust(handler: &Handler<'_>, table: Table<'_>, number: usize) -> Option<u32>
+fn bound_on_trust(handler: &Handler<'_>, table: &Table<'_>, number: usize) -> Option<u32>
     requires { number < length handler.now.tree.spans }
     ensures { MatchOption result
-        (BoundFollows handler.now.graph handler.now.tree table.around.now table.known.now [] number)
-        (λ address. BoundFollows handler.now.graph handler.now.tree table.around.now table.known.now
+        (BoundFollows handler.now.graph handler.now.tree table.now.around.now table.now.known.now [] number)
+        (λ address. BoundFollows handler.now.graph handler.now.tree table.now.around.now table.now.known.now
         (address ∷ []) number) }
 {
     let span = handler.tree.spans()[number];
@@ -59,13 +59,13 @@ fn bound_on_trust(handler: &Handler<'_>, table: Table<'_>, number: usize) -> Opt
 fn put_on_trust(
     trusted: &mut Vec<u32>,
     handler: &Handler<'_>,
-    table: Table<'_>,
+    table: &Table<'_>,
     number: usize,
 ) -> Result<(), AllocError>
     requires { number < length handler.now.tree.spans }
     ensures { OnOk result ((more : List ℕ) × (trusted.new.items ≡ trusted.old.items ++ more)
-        × BoundFollows handler.entry.now.graph handler.entry.now.tree table.entry.around.now
-        table.entry.known.now more number) }
+        × BoundFollows handler.entry.now.graph handler.entry.now.tree table.entry.now.around.now
+        table.entry.now.known.now more number) }
 {
     if let Some(address) = bound_on_trust(handler, table, number) {
         trusted.push(address)?;
@@ -77,10 +77,10 @@ fn put_on_trust(
 pub(crate) fn loops_on_trust(
     alloc: Global,
     handler: &Handler<'_>,
-    table: Table<'_>,
+    table: &Table<'_>,
 ) -> Result<Vec<u32>, AllocError>
     ensures { IfOk result (λ trusted. (number : ℕ) → number < length handler.now.tree.spans
-        → BoundFollows handler.now.graph handler.now.tree table.around.now table.known.now trusted.items
+        → BoundFollows handler.now.graph handler.now.tree table.now.around.now table.now.known.now trusted.items
         number) }
 {
     let mut trusted = Vec::new(alloc);

@@ -49,9 +49,9 @@ fn word_carries(handler: &Handler<'_>, edge: &Edge, before: &Knowledge, next: &K
 }
 
 // Whether what is known before an edge is seen to give what is known after it.
-fn edge_keeps(handler: &Handler<'_>, table: Table<'_>, edge: &Edge, numbered: NumberedEdge) -> bool
-    ensures { IsTrue result → EdgeKeeps handler.now.image.now handler.now.tree.spans table.around.now
-        table.known.now edge.now numbered }
+fn edge_keeps(handler: &Handler<'_>, table: &Table<'_>, edge: &Edge, numbered: NumberedEdge) -> bool
+    ensures { IsTrue result → EdgeKeeps handler.now.image.now handler.now.tree.spans table.now.around.now
+        table.now.known.now edge.now numbered }
 {
     if table.known.len() <= numbered.to {
         return true;
@@ -75,22 +75,22 @@ fn edge_keeps(handler: &Handler<'_>, table: Table<'_>, edge: &Edge, numbered: Nu
     word_carries(handler, edge, &table.known[numbered.from], &next)
 }
 
-fn keeps_along(handler: &Handler<'_>, table: Table<'_>, number: usize) -> bool
+fn keeps_along(handler: &Handler<'_>, table: &Table<'_>, number: usize) -> bool
     requires tree { IsTree handler.now.graph handler.now.tree }
     requires known { number < length handler.now.graph.edges }
     ensures { IsTrue result → KeepsAlong handler.now.image.now handler.now.graph handler.now.tree
-        table.around.now table.known.now number }
+        table.now.around.now table.now.known.now number }
 {
     let numbered = handler.tree.edges()[number];
     edge_keeps(handler, table, &handler.graph.edges()[number], numbered)
 }
 
 // Whether that is so along all edges.
-fn keeps_along_all(handler: &Handler<'_>, table: Table<'_>) -> bool
+fn keeps_along_all(handler: &Handler<'_>, table: &Table<'_>) -> bool
     requires tree { IsTree handler.now.graph handler.now.tree }
     ensures { IsTrue result → (k : ℕ) → k < length handler.now.graph.edges
-        → KeepsAlong handler.now.image.now handler.now.graph handler.now.tree table.around.now
-        table.known.now k }
+        → KeepsAlong handler.now.image.now handler.now.graph handler.now.tree table.now.around.now
+        table.now.known.now k }
 {
     for number in 0..handler.graph.edges().len() {
         if !keeps_along(handler, table, number) {
@@ -213,10 +213,10 @@ pub fn left_on_trust(
         known: table,
         around: &around,
     };
-    if !keeps_along_all(handler, found) {
+    if !keeps_along_all(handler, &found) {
         return Ok(None);
     }
     let classes = addresses_on_trust(alloc, handler, table)?;
-    let loops = loops_on_trust(alloc, handler, found)?;
+    let loops = loops_on_trust(alloc, handler, &found)?;
     Ok(Some(OnTrust { classes, loops }))
 }

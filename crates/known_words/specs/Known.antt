@@ -24,7 +24,7 @@ start_in Zero entry = 0
 start_in (Entry register) entry = current_in register entry
 
 -- what the turns of the four outermost loops around add, the outermost first; a loop that is not there has
--- not turned. No law counts turns yet: along runs there are none.
+-- not turned
 abbrev pub turned : Steps → (turns : List ℕ) → ℕ
 turned steps turns =
     steps.outermost * slice_index turns 0 + steps.second * slice_index turns 1

@@ -8,7 +8,7 @@ use Rattle.known_places.proofs.AroundLemmas.{turns_of_depth}
 pub returns : goal.returns
 returns c = λ seen spans is entry now walk over holds.
     let span = c.args.span.now in
-    let around = around_at c.args.table.around.now span.header in
+    let around = around_at c.args.table.now.around.now span.header in
     let there : turns_at c.in-Some.depth (turns_in spans around walk) ≡ turns_at_end span walk =
     turns_of_depth spans c.in-Some.depth around walk ∙ ap (λ o. turns_of spans o walk) c.in-Some.ensures
     ∙ ap (λ s. turns_at_end s walk) is in

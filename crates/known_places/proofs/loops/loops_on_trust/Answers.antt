@@ -6,8 +6,8 @@ use Rattle.known_places.proofs.AroundLemmas.{bound_after, bound_before}
 pub loop-number-preserved : goal.loop-number-preserved
 loop-number-preserved c =
     let h = c.args.handler.now in
-    let around = c.args.table.around.now in
-    let known = c.args.table.known.now in
+    let around = c.args.table.now.around.now in
+    let known = c.args.table.now.known.now in
     let put = c.in_ok-put_on_trust.ensures in
     let old = c.loop-number.trusted.items in
     below_more _ _

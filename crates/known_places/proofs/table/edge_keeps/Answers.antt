@@ -4,7 +4,7 @@ use Rattle.known_places.proofs.table.edge_keeps.Goals as goal
 
 pub returns : goal.returns
 returns c = λ seen low.
-    let around = c.args.table.around.now in
+    let around = c.args.table.now.around.now in
     let edge = c.args.numbered in (
       c.in-Some.turns,
       subst (λ spans. TurnsAlong spans edge (around_at around edge.from) (around_at around edge.to) c.in-Some.turns)

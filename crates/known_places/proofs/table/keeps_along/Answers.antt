@@ -8,7 +8,7 @@ use Rattle.known_places.proofs.TableLemmas.{along_edge}
 pub returns : goal.returns
 returns c = λ seen.
     let h = c.args.handler.now in
-    let table = c.args.table in
+    let table = c.args.table.now in
     let k = c.args.number in
     let edges = c.edges-2.result.now in
     let edge = c.index-edges-number.result in
