@@ -31,13 +31,13 @@ module _ (span : Span) (counted : Bool) (edge : NumberedEdge) where
       (edge_from_outside exit edges spans order edge has walk span in_spans out).1
 
   pub again_there : span.header ≡ edge.to → is_in span edge.from ≡ true → counted ≡ true → TurnsSpan span counted edge Again
-  again_there at inner yes exit edges walk spans old order has in_spans is =
+  again_there at inner is_counted exit edges walk spans old order has in_spans is =
       (edge_back exit edges spans order edge has walk span in_spans at inner).1
-      ∙ ap (λ (n : ℕ). n + 1) (sym (is yes))
+      ∙ ap (λ (n : ℕ). n + 1) (sym (is is_counted))
 
   pub stays_there : span.header ≢ edge.to → is_in span edge.to ≡ true → counted ≡ true → TurnsSpan span counted edge Stays
-  stays_there other here yes exit edges walk spans old order has in_spans is =
-      (edge_in_stay exit edges spans order edge has walk span in_spans other here).1 ∙ sym (is yes)
+  stays_there other here is_counted exit edges walk spans old order has in_spans is =
+      (edge_in_stay exit edges spans order edge has walk span in_spans other here).1 ∙ sym (is is_counted)
 
 pub span_turns : (spans : List Span) (edge : NumberedEdge) (before : Option ℕ) (number : ℕ) (counted : Bool) (turn : Turn)
     → number < length spans → (counted ≡ true → before ≡ Some number) → TurnsSpan (span_at spans number) counted edge turn
@@ -45,7 +45,7 @@ pub span_turns : (spans : List Span) (edge : NumberedEdge) (before : Option ℕ)
 span_turns spans edge before number counted turn inside same turns exit edges walk order has =
     turns exit edges walk spans (turns_of spans before walk) order has
     (number, inside, get_or_default spans number (span_at spans number) no_span inside)
-    (λ yes. ap (λ (o : Option ℕ). turns_of spans o walk) (same yes))
+    (λ is_counted. ap (λ (o : Option ℕ). turns_of spans o walk) (same is_counted))
 
 pub turns_of_depth : (spans : List Span) (depth : Depth) (around : Around) (walk : List NumberedEdge)
     → turns_at depth (turns_in spans around walk) ≡ turns_of spans (loop_at depth around) walk

@@ -95,7 +95,7 @@ module _ (words : Words) (st : Stated) (flow : Flow) (tree : Tree) (well : IsWel
   header_of : (x : Span) → Contains tree.spans x → HasHeader x
   header_of x has =
       let shape = t.ordered.shape x has in
-      let low : x.header < length flow.places = omega (arith, shape.0, shape.1.0) in
+      let low : x.header < length flow.places = omega (arith, shape.0, shape.1) in
       by_place (place_in flow tree x.header) refl ((place_numbers flow tree well t).place x.header low)
     where
       by_place : (v : Place) → place_in flow tree x.header ≡ v → Contains flow.places (place_in flow tree x.header) → HasHeader x
@@ -113,7 +113,7 @@ module _ (words : Words) (st : Stated) (flow : Flow) (tree : Tree) (well : IsWel
       let found = instance_of flow tree well t x has in
       let i : Instance = found.instance in
       let shape = t.ordered.shape x has in
-      let low : x.header ≤ length flow.places = omega (arith, shape.0, shape.1.0) in
+      let low : x.header ≤ length flow.places = omega (arith, shape.0, shape.1) in
       let at_header : is_header i (At h.calls h.address) ≡ true =
       header_same flow tree well t i x found.span_is (At h.calls h.address) x.header low h.place ∙ eq-eqb x.header x.header refl in
       let same : h.address ≡ i.header = header_is i h.calls h.address at_header in
@@ -249,7 +249,7 @@ module _ (words : Words) (st : Stated) (flow : Flow) (tree : Tree) (well : IsWel
           subst (λ w. most_in x w ≤ x.bound) down_on (trusted_keeps x has (ks ++ k ∷ []) inside_on (header_of x has) trusts granted)
       not_over at over (inr never) =
           let shape = t.ordered.shape x has in
-          let low : x.header < length flow.places = omega (arith, shape.0, shape.1.0) in
+          let low : x.header < length flow.places = omega (arith, shape.0, shape.1) in
           absurd (never entry after.regs (w_of ks ++ edge_at tree.edges k ∷ []) over
           (subst (λ n. Holds entry (turns_in tree.spans (around_at around n) (w_of ks ++ edge_at tree.edges k ∷ [])) (known_at table n) after.regs) (sym at)
           (there (subst (λ n. n < length flow.places) at low))))
@@ -304,11 +304,11 @@ module _ (words : Words) (st : Stated) (flow : Flow) (tree : Tree) (well : IsWel
       → KeepsTheBoundsAt flow st.loops trusted.loops (steps_of flow.edges ks ++ walk)
       → GoesOnTrust words st flow.profile trusted.classes s inputs walk
       → KeepsTree tree (steps_of flow.edges ks ++ walk) × Follows words st flow.profile s inputs walk
-  follows_from [] [] s number end ks within inside kept holds leads granted goes =
-      (subst (KeepsTree tree) (sym (append-nil (steps_of flow.edges ks))) (tree_kept ks inside kept), tt)
-  follows_from [] (e ∷ walk) s number end ks within inside kept holds leads granted goes = absurd goes
-  follows_from (i ∷ inputs) [] s number end ks within inside kept holds leads granted goes = absurd goes
-  follows_from (i ∷ inputs) (e ∷ walk) s number end ks within inside kept holds (has, from, rest) granted (stepped, next, edge, on) =
+  follows_from [] [] s number end ks within ins so_far holds leads granted goes =
+      (subst (KeepsTree tree) (sym (append-nil (steps_of flow.edges ks))) (tree_kept ks ins so_far), tt)
+  follows_from [] (e ∷ walk) s number end ks within ins so_far holds leads granted goes = absurd goes
+  follows_from (i ∷ inputs) [] s number end ks within ins so_far holds leads granted goes = absurd goes
+  follows_from (i ∷ inputs) (e ∷ walk) s number end ks within ins so_far holds (has, from, rest) granted (stepped, next, edge, on) =
       let c = comes (w_of ks) s i stepped next e edge number within (sym from) holds has in
       let more : List ℕ = ks ++ c.number ∷ [] in
       let up : steps_of flow.edges (ks ++ c.number ∷ []) ++ walk ≡ steps_of flow.edges ks ++ e ∷ walk =
@@ -321,8 +321,8 @@ module _ (words : Words) (st : Stated) (flow : Flow) (tree : Tree) (well : IsWel
       granted_front (steps_of flow.edges (ks ++ c.number ∷ [])) walk granted_on in
       let down : w_of (ks ++ c.number ∷ []) ≡ w_of ks ++ edge_at tree.edges c.number ∷ [] = map_append (edge_at tree.edges) ks (c.number ∷ []) in
       let on_there = follows_from inputs walk next (edge_at tree.edges c.number).to end (ks ++ c.number ∷ []) c.within
-      (all_inside ks inside c.number c.number_in kept next c.there granted_so)
-      (all_kept ks inside c.number c.number_in kept next c.there granted_so)
+      (all_inside ks ins c.number c.number_in so_far next c.there granted_so)
+      (all_kept ks ins c.number c.number_in so_far next c.there granted_so)
       (subst (λ w. IsThere (edge_at tree.edges c.number).to w next) (sym down) c.there)
       (subst (λ (v : Place). Leads edge_shape (HasEdge flow) v walk end) (sym c.place) rest) granted_on on in
       (subst (KeepsTree tree) up on_there.0, (stepped, next, c.kept, on_there.1))

@@ -2,8 +2,8 @@ use Rattle.std.proofs.Common.{◌∙◌, sym}
 use Rattle.known_places.proofs.around.turn_at_header.Goals as goal
 use Rattle.known_places.proofs.AroundLemmas.{again_there, begins_there}
 
-pub returns-then-is_in : goal.returns-then-is_in
-returns-then-is_in c =
+pub returns-then-not-is_in : goal.returns-then-not-is_in
+returns-then-not-is_in c =
     begins_there c.args.span.now c.args.counted c.args.edge (sym c.is_in.ensures ∙ c.if-not-is_in.true)
 
 pub returns : goal.returns

@@ -18,4 +18,4 @@ loop-number-preserved c =
     (bound_after h.graph h.tree around known old put.0 c.loop-number.number put.2))
 
 pub returns : goal.returns
-returns c = λ number h. c.loop-number.invariant number (omega (arith, h, c.loop-number-test.false, ap length c.spans.ensures))
+returns c = λ number h. c.loop-number.invariant number (omega (arith, h, c.loop-number-test.false, ap length c.spans-number-end.ensures))

@@ -8,7 +8,7 @@ returns c = λ seen low.
     let edge = c.args.numbered in (
       c.in-Some.turns,
       subst (λ spans. TurnsAlong spans edge (around_at around edge.from) (around_at around edge.to) c.in-Some.turns)
-          c.spans.ensures c.in-Some.ensures,
+          c.spans-spans.ensures c.in-Some.ensures,
       λ calls address word from has entry old new regs port bus m action long at is labelled obeys plain turned holds.
           c.before-next.ensures entry old new m.regs turned
           (c.word_carries.ensures seen calls address word from has entry old regs port bus m action long at is labelled

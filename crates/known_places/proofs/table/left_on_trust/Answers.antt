@@ -6,7 +6,7 @@ pub returns : goal.returns
 returns c =
     let h = c.args.handler.now in
     let whole = c.if-table-places.false ∙ ap length c.places.ensures.value in
-    let around = c.in_ok-around.around.items in
+    let around = c.deref.result.now in
     justified h.image.now h.statement h.graph h.tree c.places.ensures.well_formed c.requires.tree c.args.given.now around
     c.args.table.now (record { classes = c.in_ok-classes.classes.items; loops = c.in_ok-loops.loops.items })
     (record {
