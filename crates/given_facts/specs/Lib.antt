@@ -1,0 +1,2 @@
+pub mod GivenFaults
+pub mod GivenFile

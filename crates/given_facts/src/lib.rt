@@ -1,0 +1,8 @@
+//! Facts on the words of registers at the entry of a handler, read from TOML.
+#![tactic(auto)]
+
+mod facts;
+mod faults;
+
+pub use facts::{FILE_KEYS, RANGE_KEYS, VALUE_KEYS, named_register, read_facts};
+pub use faults::GivenFault;
