@@ -1,2 +1,4 @@
 pub mod GivenFaults
 pub mod GivenFile
+pub mod GivenPlaces
+pub mod GivenPlaceTests

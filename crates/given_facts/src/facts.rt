@@ -1,9 +1,8 @@
-ghost use Rattle.std.specs.Prelude.{◌≡◌, ◌≢◌, ◌≤◌, All, Err, IfOk, false, true};
-ghost use Rattle.arm2_decode.specs.Names.{is_pc};
+ghost use Rattle.std.specs.Prelude.{◌≡◌, ◌≢◌, Err, IfOk, map};
 ghost use Rattle.toml.specs.View.{table_view, view};
 ghost use Rattle.toml_reading.specs.Documents.{are_distinct, once};
 ghost use Rattle.toml_reading.specs.Readings.{items_in};
-ghost use Rattle.given_facts.specs.GivenFile.{IsFactsFile, ends_in, fact_at, fact_in, facts_in, has_key};
+ghost use Rattle.given_facts.specs.GivenFile.{IsFactsFile, ends_in, fact_at, fact_in, fact_keys, facts_in, has_key};
 ghost use Rattle.given_facts.specs.GivenFile.{is_range, listed_facts, named_register, numbers, ordered};
 ghost use Rattle.given_facts.specs.GivenFile.{range_in, register_at, register_in, unless_pc, value_in, word_in};
 
@@ -36,6 +35,16 @@ fn is_range(table: &Table) -> bool
     has_key(table, "from") || has_key(table, "to")
 }
 
+/// The keys that a fact may have, all of which it has to have.
+pub(crate) fn fact_keys(table: &Table) -> &'static [&'static str]
+    ensures { map (λ k. k.now) result.now ≡ fact_keys (table_view table.now) }
+{
+    if is_range(table) {
+        return RANGE_KEYS;
+    }
+    VALUE_KEYS
+}
+
 fn unless_pc(register: Register) -> Option<Register>
     ensures { result ≡ unless_pc register }
 {
@@ -65,7 +74,7 @@ fn register_in(table: &Table) -> Read<Register>
     required(value_at(table, "register"), register_at)
 }
 
-fn word_in(table: &Table, key: &str) -> Read<u32>
+pub(crate) fn word_in(table: &Table, key: &str) -> Read<u32>
     ensures { result ≡ word_in key.now (table_view table.now) }
 {
     number_in(table, key, u32::MAX)
@@ -110,10 +119,7 @@ fn fact_in(table: &Table) -> Read<Given>
         low,
         high,
     });
-    if is_range(table) {
-        return of_keys(RANGE_KEYS, table, fact);
-    }
-    of_keys(VALUE_KEYS, table, fact)
+    of_keys(fact_keys(table), table, fact)
 }
 
 impl Entry<(), GivenFault> for Given {

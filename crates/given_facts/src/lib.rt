@@ -3,6 +3,11 @@
 
 mod facts;
 mod faults;
+mod places;
+mod repeats;
+mod spots;
 
 pub use facts::{FILE_KEYS, RANGE_KEYS, VALUE_KEYS, named_register, read_facts};
 pub use faults::GivenFault;
+pub use places::GivenDocument;
+pub use spots::GivenSpot;
