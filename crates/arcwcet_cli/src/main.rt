@@ -1,7 +1,11 @@
 //! Bounds the run time of interrupt handlers.
 #![tactic(auto)]
 
-use arcwcet::{AnnouncedStore, HostStore, StreamInput, StreamOutput, WatchedOutput, shown_program};
+use arcwcet::{
+    AnnouncedStore, ClockTimer, HostStore, LateOutput, StreamInput, StreamOutput, WatchedOutput,
+    shown_program,
+};
+use std::io::IsTerminal;
 use std::process::ExitCode;
 use std::rt::Env;
 use std::{env, io};
@@ -46,13 +50,12 @@ fn main(rt: HostRuntime) -> ExitCode {
             return ExitCode::from(fault.status());
         }
     };
-    // Lines on what is being done go to standard error too.
-    let mut store = AnnouncedStore::new(HostStore::new(&rt), StreamOutput::new(rt.stderr()));
+    // Lines on what is being done go to standard error too: at a terminal of themselves, but late.
+    let at_once = asks_for_progress(&words);
+    let mut store = AnnouncedStore::new(HostStore::new(&rt), late_output(&rt, at_once));
+    store.unasked = rt.stderr().is_terminal();
     let mut input = StreamInput::new(rt.reader());
-    let mut out = WatchedOutput::new(
-        StreamOutput::new(rt.stdout()),
-        StreamOutput::new(rt.stderr()),
-    );
+    let mut out = WatchedOutput::new(StreamOutput::new(rt.stdout()), late_output(&rt, at_once));
     let mut err = StreamOutput::new(rt.stderr());
     ExitCode::from(shown_program(
         alloc,

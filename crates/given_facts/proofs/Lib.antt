@@ -1,1 +1,4 @@
-mod PlaceLemmas
+mod TestLemmas
+mod KeyNameLemmas
+mod RepeatLemmas
+pub mod PlaceLemmas

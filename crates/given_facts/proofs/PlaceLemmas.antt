@@ -1,5 +1,5 @@
 -- What is tested at a spot of a file of facts, against the fault that the document has there.
-use Rattle.std.proofs.Common.{◌≡◌, ◌≢◌, ◌⊎◌, ℕ, ◌<◌, ◌-◌, ◌^◌, ◌↔◌, Bool, true, false, not, ◌&&◌, cond, ltb, List, Option, Some, None, Ok, Err, IsSomeAnd, MatchOption, inl, inr, refl, sym, ap, subst, ◌∙◌, arith}
+use Rattle.std.proofs.Common.{◌≡◌, ◌≢◌, ◌⊎◌, ℕ, ◌<◌, ◌-◌, ◌^◌, ◌↔◌, Bool, true, false, not, ◌&&◌, cond, ltb, get_or, List, [], ◌∷◌, Option, Some, None, Ok, Err, IsSomeAnd, MatchOption, inl, inr, refl, sym, ap, subst, ◌∙◌, arith}
 use Rattle.std.specs.Prelude.{codes, is_none, is_some}
 use Rattle.std.specs.List.{slice_get}
 use Rattle.std.specs.Option.{option_and_then}
@@ -10,16 +10,16 @@ use Rattle.toml.specs.Data.{Data, Members, as_integer, as_str, as_table, get_mem
 use Rattle.toml_reading.specs.Documents.{is_one_of, items_at}
 use Rattle.toml_reading.specs.Lowest.{AtKey, IsNumber, IsOutside, NameFault, NumberFault}
 use Rattle.toml_reading.specs.Readings.{pair}
-use Rattle.toml_reading.proofs.LowestLemmas.{AnswersBy, pair_judged}
+use Rattle.toml_reading.proofs.LowestLemmas.{AnswersBy, one_by_rank, pair_judged}
 use Rattle.toml_reading.proofs.LowestParts.{number_in_judged}
 use Rattle.machine_file.specs.MachinePlaceTests.{holds_of, is_outside}
 use Rattle.machine_file.specs.declared.spots.Part.{Part}
 use Rattle.machine_file.specs.declared.spots.Part.TheVariants.{Unknown, Value, Missing}
 use Rattle.machine_file.proofs.PlaceLemmas.{bytes_is, in_line, never, outside_is, three}
-use Rattle.machine_file.proofs.RepeatLemmas.{repeat_is}
-use Rattle.machine_file.proofs.TestLemmas.{and_is, by_way, holds_inside, holds_is, none_is, not_is, same_test}
+use Rattle.given_facts.proofs.RepeatLemmas.{repeat_is}
+use Rattle.given_facts.proofs.TestLemmas.{and_is, by_way, holds_inside, holds_is, none_is, not_is, same_test}
 use Rattle.given_facts.specs.GivenFaults.{given_faults, number_of}
-use Rattle.given_facts.specs.GivenFile.{Read, fact_keys, named_register, word_in}
+use Rattle.given_facts.specs.GivenFile.{Read, fact_keys, file_keys, named_register, word_in}
 use Rattle.given_facts.specs.GivenPlaces.{IsDisordered, IsGivenFaultAt, PartFault, ValueFault, entries, number_in}
 use Rattle.given_facts.specs.GivenPlaceTests.{entry_at, found, has_unknown, is_disordered, is_no_word, is_same, names_none, number_gives, part_gives, takes, value_gives}
 use Rattle.given_facts.specs.declared.faults.GivenFault.{GivenFault}
@@ -29,26 +29,16 @@ use Rattle.given_facts.specs.declared.spots.GivenSpot.TheVariants as spot
 
 -- ## Faults
 
-at_number : ℕ → GivenFault
-at_number 1 = Memory
-at_number 2 = NotToml
-at_number 3 = UnknownKey
-at_number 4 = WrongKind
-at_number 5 = OutOfRange
-at_number _ = Twice
+abbrev fault_at : ℕ → GivenFault
+fault_at n = get_or (Memory ∷ Memory ∷ NotToml ∷ UnknownKey ∷ WrongKind ∷ OutOfRange ∷ Twice ∷ []) n Memory
 
-back : (f : GivenFault) → at_number (number_of f) ≡ f
-unfolding at_number
-back Memory = refl
-back NotToml = refl
-back UnknownKey = refl
-back WrongKind = refl
-back OutOfRange = refl
-back Twice = refl
+at_rank : (f : GivenFault) → fault_at (number_of f) ≡ f
+at_rank Memory = refl
+at_rank _ = refl
 
 -- no two faults have one number
 pub one_rank : (f g : GivenFault) → number_of f ≡ number_of g → f ≡ g
-one_rank f g e = sym (back f) ∙ ap at_number e ∙ back g
+one_rank = one_by_rank given_faults fault_at at_rank
 
 same_is : (g f : GivenFault) → is_same g f ≡ true ↔ (f ≡ g)
 same_is g f = (
@@ -172,7 +162,7 @@ disordered_is ms =
 -- ## Spots
 
 pub found_is : (ms : Members) (s : GivenSpot) (f : GivenFault) → found ms s f ≡ true ↔ IsGivenFaultAt ms s f
-found_is ms (spot.Unknown key) f = unknown_is _ key.now ms f
+found_is ms (spot.Unknown key) f = unknown_is file_keys key.now ms f
 found_is ms spot.NoList f =
     beside WrongKind f _ _
     (holds_is (λ d. is_none (items_at d)) (λ d. items_at d ≡ None) (λ d. none_is (items_at d)) (get_member (codes "given") ms))

@@ -2,7 +2,7 @@ use Rattle.std.proofs.Common.{◌≡◌, ap, map, subst, ◌∙◌}
 use Rattle.std.specs.Prelude.{IfOk}
 use Rattle.toml.specs.View.{view}
 use Rattle.machine_file.specs.MachinePlaceTests.{repeats}
-use Rattle.machine_file.proofs.RepeatLemmas.{map_twice}
+use Rattle.given_facts.proofs.RepeatLemmas.{map_twice}
 use Rattle.given_facts.specs.GivenPlaces.{number_in}
 use Rattle.given_facts.proofs.places.register_repeats.Goals as goal
 

@@ -1,8 +1,8 @@
 use Rattle.std.proofs.Common.{sym}
 use Rattle.toml.specs.Data.{get_member}
 use Rattle.toml.specs.View.{table_view}
-use Rattle.machine_file.proofs.KeyNameLemmas.{utf8_in_table}
-use Rattle.machine_file.proofs.TestLemmas.{none_if}
+use Rattle.given_facts.proofs.KeyNameLemmas.{utf8_in_table}
+use Rattle.given_facts.proofs.TestLemmas.{none_if}
 use Rattle.given_facts.proofs.places.value_named.Goals as goal
 
 pub returns-in-Err : goal.returns-in-Err

@@ -1,6 +1,6 @@
 use Rattle.std.proofs.Common.{◌+◌, ◌++◌, None, drop, ap, subst, take, ◌∙◌}
 use Rattle.machine_file.specs.MachinePlaceTests.{AreSeen, repeats_after}
-use Rattle.machine_file.proofs.RepeatLemmas.{all_tested, repeats_more, take_next}
+use Rattle.given_facts.proofs.RepeatLemmas.{all_tested, repeats_more, take_next}
 use Rattle.given_facts.proofs.repeats.repeats.Goals as goal
 
 pub loop-number-preserved : goal.loop-number-preserved
