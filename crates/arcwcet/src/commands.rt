@@ -142,6 +142,13 @@ pub fn program<S: Store, I: Input, O: Output, E: Output>(
     obey(alloc, asked, store, input, out, err)
 }
 
+// Whether lines on what is being done are shown.
+fn shows_lines<S: Store, L: Output>(asked: &Request<'_>, store: &AnnouncedStore<S, L>) -> bool
+    ensures { result ≡ shows_lines (asked_of asked.now) store.now }
+{
+    asked.progress || store.unasked
+}
+
 /// Runs the program as [`program`] does, and shows what is being done where the words ask for it by
 /// `--progress`, or the store shows it unasked: a line with its name before a file is read, and one where each
 /// 16 MiB of what is printed begin. Where these lines are lost, nothing else changes. Else there are none.
@@ -181,7 +188,8 @@ pub fn shown_program<S: Store, I: Input, O: Output, E: Output, L: Output>(
         Ok(asked) => asked,
         Err(fault) => return line_status(fault, err),
     };
-    if asked.progress || store.unasked {
+    let shown = shows_lines(&asked, store);
+    if shown {
         return obey(alloc, asked, store, input, out, err);
     }
     obey(alloc, asked, &mut store.store, input, &mut out.out, err)

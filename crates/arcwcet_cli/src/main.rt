@@ -5,7 +5,7 @@ use arcwcet::{
     AnnouncedStore, ClockTimer, HostStore, LateOutput, StreamInput, StreamOutput, WatchedOutput,
     shown_program,
 };
-use std::io::IsTerminal;
+use std::io::{IsTerminal, Stderr};
 use std::process::ExitCode;
 use std::rt::Env;
 use std::{env, io};
@@ -38,6 +38,22 @@ fn words_of<R: Env + AllocGlobal>(rt: &R) -> Result<Vec<String>, WordsFault> {
         Ok(words) => words.collect(rt.alloc()).map_err(|_| WordsFault::Memory),
         Err(error) if error.kind() == io::ErrorKind::OutOfMemory => Err(WordsFault::Memory),
         Err(_) => Err(WordsFault::NotText),
+    }
+}
+
+// Whether a word is the option for lines on what is being done, wherever it stands.
+fn asks_for_progress(words: &[String]) -> bool {
+    words.iter().any(|word| word.as_str() == "--progress")
+}
+
+fn late_output(
+    rt: &HostRuntime,
+    at_once: bool,
+) -> LateOutput<StreamOutput<Stderr>, ClockTimer<'_, HostRuntime>> {
+    LateOutput {
+        out: StreamOutput::new(rt.stderr()),
+        timer: ClockTimer::new(rt),
+        at_once,
     }
 }
 

@@ -2,3 +2,4 @@ mod TestLemmas
 mod KeyNameLemmas
 mod RepeatLemmas
 pub mod PlaceLemmas
+mod RuleLemmas

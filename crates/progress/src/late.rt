@@ -4,10 +4,10 @@ ghost use Rattle.outputs.specs.Output.{failures_after};
 ghost use Rattle.progress.specs.Late.{late_failures, late_taken};
 
 use outputs::{Output, OutputFault};
-use std::time::{Clock, Duration, Instant};
+use std::time::{Clock, Instant};
 
-// How long nothing is shown.
-const PATIENCE: Duration = Duration::from_secs(2);
+// For how many seconds nothing is shown.
+const PATIENCE: u64 = 2;
 
 /// Says when it is time to show what is being done. No contract says what it answers.
 pub trait Timer {
@@ -40,7 +40,7 @@ impl<C: Clock> Timer for ClockTimer<'_, C> {
             return false;
         };
         match start.elapsed(self.clock) {
-            Ok(elapsed) => elapsed >= PATIENCE,
+            Ok(elapsed) => elapsed.as_secs() >= PATIENCE,
             Err(_) => false,
         }
     }
@@ -65,7 +65,8 @@ impl<O: Output, T: Timer + Drop> Output for LateOutput<O, T> {
 
     fn write(&mut self, bytes: &[u8]) -> Result<usize, OutputFault>
         ensures bound { IfOk result (λ n. n ≤ length bytes.now) }
-        ensures bytes { WriteAppends (late_taken O.taken self.old) (late_taken O.taken self.new) result bytes.now }
+        ensures bytes { WriteAppends (late_taken O.taken self.old) (late_taken O.taken self.new) result
+            bytes.now }
         ensures failures { O.failures self.new.out
             ≡ failures_after result bytes.now (O.failures self.old.out) }
         ensures at_once { self.new.at_once ≡ self.old.at_once }
