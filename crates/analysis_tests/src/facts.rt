@@ -14,10 +14,22 @@ fn reads_facts_in_their_order(rt: HostRuntime) -> Result<(), Fail> {
     let text = "[[given]]\nregister = \"r12\"\nvalue = 0x3310000\n\n\
         [[given]]\nregister = \"SP\"\nfrom = 0x8000\nto = 0x9000\n";
     let facts = read_facts(rt.alloc(), text.as_bytes())?;
-    assert!(rt; facts.as_slice() == [
-        Given { register: Register::R12, low: 0x331_0000, high: 0x331_0000 },
-        Given { register: Register::R13, low: 0x8000, high: 0x9000 },
-    ].as_slice());
+    assert!(rt;
+        facts.as_slice()
+            == [
+                Given {
+                    register: Register::R12,
+                    low: 0x331_0000,
+                    high: 0x331_0000
+                },
+                Given {
+                    register: Register::R13,
+                    low: 0x8000,
+                    high: 0x9000
+                },
+            ]
+            .as_slice()
+    );
     Ok(())
 }
 
@@ -26,12 +38,24 @@ fn refuses_facts_by_the_lowest_fault(rt: HostRuntime) -> Result<(), Fail> {
     for (text, fault) in [
         ("given = ", GivenFault::NotToml),
         ("fact = 1", GivenFault::UnknownKey),
-        ("[[given]]\nregister = \"r0\"\nvalue = 1\nto = 2\n", GivenFault::UnknownKey),
+        (
+            "[[given]]\nregister = \"r0\"\nvalue = 1\nto = 2\n",
+            GivenFault::UnknownKey,
+        ),
         ("given = 1", GivenFault::WrongKind),
         ("[[given]]\nregister = \"r0\"\n", GivenFault::WrongKind),
-        ("[[given]]\nregister = \"r15\"\nvalue = 1\n", GivenFault::WrongKind),
-        ("[[given]]\nregister = \"r0\"\nvalue = 0x100000000\n", GivenFault::OutOfRange),
-        ("[[given]]\nregister = \"r0\"\nfrom = 2\nto = 1\n", GivenFault::OutOfRange),
+        (
+            "[[given]]\nregister = \"r15\"\nvalue = 1\n",
+            GivenFault::WrongKind,
+        ),
+        (
+            "[[given]]\nregister = \"r0\"\nvalue = 0x100000000\n",
+            GivenFault::OutOfRange,
+        ),
+        (
+            "[[given]]\nregister = \"r0\"\nfrom = 2\nto = 1\n",
+            GivenFault::OutOfRange,
+        ),
         (
             "[[given]]\nregister = \"r13\"\nvalue = 1\n[[given]]\nregister = \"sp\"\nvalue = 1\n",
             GivenFault::Twice,
@@ -44,7 +68,8 @@ fn refuses_facts_by_the_lowest_fault(rt: HostRuntime) -> Result<(), Fail> {
 
 #[test]
 fn asks_facts_where_their_faults_are(rt: HostRuntime) -> Result<(), Fail> {
-    let text = "[[given]]\nregister = \"r13\"\nfrom = 3\nto = 2\n[[given]]\nregister = \"sp\"\nvalue = 1\n";
+    let text =
+        "[[given]]\nregister = \"r13\"\nfrom = 3\nto = 2\n[[given]]\nregister = \"sp\"\nvalue = 1\n";
     let Some(table) = document(rt.alloc(), text.as_bytes())? else {
         return Ok(());
     };

@@ -150,8 +150,9 @@ fn shows_lines<S: Store, L: Output>(asked: &Request<'_>, store: &AnnouncedStore<
 }
 
 /// Runs the program as [`program`] does, and shows what is being done where the words ask for it by
-/// `--progress`, or the store shows it unasked: a line with its name before a file is read, and one where each
-/// 16 MiB of what is printed begin. Where these lines are lost, nothing else changes. Else there are none.
+/// `--progress`, or the store shows it unasked: a line with its name before a file is read, and one where
+/// each 16 MiB of what is printed begin. Where these lines are lost, nothing else changes. Else there are
+/// none.
 pub fn shown_program<S: Store, I: Input, O: Output, E: Output, L: Output>(
     alloc: Global,
     words: &[String],

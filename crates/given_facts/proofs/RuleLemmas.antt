@@ -137,13 +137,13 @@ module _ (ms : Members) where
   both_judged : Judges given_faults StatesBoth BothFault (ends_in ms)
   both_judged = elim (cases_Bool (is_range ms)) [
     | inl e ↦ rw e (judged_as given_faults _ StatesBoth _ BothFault
-      (λ p. (to_range e p, of_range e p))
-      (λ f. (λ h. inl (e, h), λ h. elim h [ inl x ↦ x.1 | inr y ↦ absurd (true≢false (sym e ∙ y.0)) ]))
-      (range_in ms) range_judged)
+        (λ p. (to_range e p, of_range e p))
+        (λ f. (λ h. inl (e, h), λ h. elim h [ inl x ↦ x.1 | inr y ↦ absurd (true≢false (sym e ∙ y.0)) ]))
+        (range_in ms) range_judged)
     | inr e ↦ rw e (judged_as given_faults IsValue StatesBoth (NeedsWord (codes "value") ms) BothFault
-      (λ p. (λ t. inr (e, t.0, t.1), of_value e p))
-      (λ f. (λ h. inr (e, h), λ h. elim h [ inl x ↦ absurd (true≢false (sym x.0 ∙ e)) | inr y ↦ y.1 ]))
-      (value_in ms) value_judged)
+        (λ p. (λ t. inr (e, t.0, t.1), of_value e p))
+        (λ f. (λ h. inr (e, h), λ h. elim h [ inl x ↦ absurd (true≢false (sym x.0 ∙ e)) | inr y ↦ y.1 ]))
+        (value_in ms) value_judged)
   ]
 
   -- ## One fact
@@ -357,9 +357,9 @@ module _ (ms : Members) (f : GivenFault) where
 
   -- ## From a spot
 
-  some_or : {M : Type 0} (P : Data → Type 0) (o : Option Data) → IsSomeAnd o P → MatchOption o M P
-  some_or P None h = absurd h
-  some_or P (Some e) h = h
+  some_or : (M : Type 0) (P : Data → Type 0) (o : Option Data) → IsSomeAnd o P → MatchOption o M P
+  some_or M P None h = absurd h
+  some_or M P (Some e) h = h
 
   missing : (P : Data → Type 0) (o : Option Data) → o ≡ None → f ≡ WrongKind → MatchOption o (f ≡ WrongKind) P
   missing P None is e = e
@@ -401,7 +401,7 @@ module _ (ms : Members) (f : GivenFault) where
           | inl two ↦ inr (inl (e, inl (same_key (codes "from") key two)))
           | inr last ↦ elim (or_either (bytes_eq (codes "to") key) false last) [
             | inl three ↦ inr (inl (e, inr (same_key (codes "to") key three)))
-            | inr no ↦ absurd (false≢true no)
+            | inr past ↦ absurd (false≢true past)
           ]
         ]
       ]
@@ -409,7 +409,7 @@ module _ (ms : Members) (f : GivenFault) where
         | inl one ↦ inl (same_key (codes "register") key one)
         | inr more ↦ elim (or_either (bytes_eq (codes "value") key) false more) [
           | inl two ↦ inr (inr (e, same_key (codes "value") key two))
-          | inr no ↦ absurd (false≢true no)
+          | inr past ↦ absurd (false≢true past)
         ]
       ]
     ]
@@ -420,12 +420,12 @@ module _ (ms : Members) (f : GivenFault) where
 
     needs_word : (key : List ℕ) → key ≢ codes "register" → AtTaken key → NeedsWord key t f
     needs_word key other (inl h) =
-        some_or WordAt (get_member key t) (some_weaker (ValueFault key f) WordAt (as_word key other) (get_member key t) h)
+        some_or (f ≡ WrongKind) WordAt (get_member key t) (some_weaker (ValueFault key f) WordAt (as_word key other) (get_member key t) h)
     needs_word key other (inr h) = missing WordAt (get_member key t) h.0 h.1
 
     needs_register : AtTaken (codes "register") → NeedsRegister t f
     needs_register (inl h) =
-        some_or NameAt (get_member (codes "register") t)
+        some_or (f ≡ WrongKind) NameAt (get_member (codes "register") t)
         (some_weaker (ValueFault (codes "register") f) NameAt as_name (get_member (codes "register") t) h)
     needs_register (inr h) = missing NameAt (get_member (codes "register") t) h.0 h.1
 

@@ -2,9 +2,10 @@ ghost use Rattle.std.specs.Prelude.{◌≡◌, ◌≢◌, Err, IfOk, map};
 ghost use Rattle.toml.specs.View.{table_view, view};
 ghost use Rattle.toml_reading.specs.Documents.{are_distinct, once};
 ghost use Rattle.toml_reading.specs.Readings.{items_in};
-ghost use Rattle.given_facts.specs.GivenFile.{IsFactsFile, ends_in, fact_at, fact_in, fact_keys, facts_in, has_key};
-ghost use Rattle.given_facts.specs.GivenFile.{is_range, listed_facts, named_register, numbers, ordered};
-ghost use Rattle.given_facts.specs.GivenFile.{range_in, register_at, register_in, unless_pc, value_in, word_in};
+ghost use Rattle.given_facts.specs.GivenFile.{IsFactsFile, ends_in, fact_at, fact_in, fact_keys, facts_in};
+ghost use Rattle.given_facts.specs.GivenFile.{has_key, is_range, listed_facts, named_register, numbers};
+ghost use Rattle.given_facts.specs.GivenFile.{ordered, range_in, register_at, register_in, unless_pc};
+ghost use Rattle.given_facts.specs.GivenFile.{value_in, word_in};
 
 use crate::faults::{GivenFault, Read};
 use arm2_decode::Register;
@@ -20,6 +21,7 @@ pub const FILE_KEYS: &[&str] = &["given"];
 
 /// The keys of a fact: of one value, or of a range.
 pub const VALUE_KEYS: &[&str] = &["register", "value"];
+
 pub const RANGE_KEYS: &[&str] = &["register", "from", "to"];
 
 fn has_key(table: &Table, key: &str) -> bool
@@ -134,7 +136,10 @@ impl Entry<(), GivenFault> for Given {
 fn have_own_registers(alloc: Global, facts: &[Given]) -> Result<bool, AllocError>
     ensures { IfOk result (λ test. test ≡ are_distinct (numbers facts.now)) }
 {
-    let numbers: Vec<u32> = facts.iter().map(|fact| fact.register.number()).collect(alloc)?;
+    let numbers: Vec<u32> = facts
+        .iter()
+        .map(|fact| fact.register.number())
+        .collect(alloc)?;
     are_all_distinct(alloc, &numbers)
 }
 

@@ -10,9 +10,10 @@ ghost use Rattle.machine_file.specs.MachinePlaceTests.{holds_of, is_outside, is_
 ghost use Rattle.given_facts.specs.GivenFaults.{given_faults};
 ghost use Rattle.given_facts.specs.GivenFile.{named_register, word_in};
 ghost use Rattle.given_facts.specs.GivenPlaces.{IsGivenFaultAt, entries, number_in};
-ghost use Rattle.given_facts.specs.GivenPlaceTests.{IsStored, entry_at, fact_at, found, has_unknown, is_disordered};
-ghost use Rattle.given_facts.specs.GivenPlaceTests.{is_no_list, is_no_table, is_no_word, is_same, names_none};
-ghost use Rattle.given_facts.specs.GivenPlaceTests.{number_gives, part_gives, register_repeats, takes, value_gives};
+ghost use Rattle.given_facts.specs.GivenPlaceTests.{IsStored, entry_at, fact_at, found, has_unknown};
+ghost use Rattle.given_facts.specs.GivenPlaceTests.{is_disordered, is_no_list, is_no_table, is_no_word};
+ghost use Rattle.given_facts.specs.GivenPlaceTests.{is_same, names_none, number_gives, part_gives};
+ghost use Rattle.given_facts.specs.GivenPlaceTests.{register_repeats, takes, value_gives};
 
 use crate::facts::{FILE_KEYS, fact_keys, named_register, word_in};
 use crate::faults::{GivenFault, Read};

@@ -1,5 +1,6 @@
 -- What is named of a machine file, a cycle profile or a file of facts that is refused: first what the whole
--- lacks, and then the values and the tables that show where its document has the fault, in the order of the text.
+-- lacks, and then the values and the tables that show where its document has the fault, in the order of the
+-- text.
 use Rattle.std.specs.Prelude.{◌≡◌, ◌⊎◌, ℕ, Bool, false, List, [], ◌∷◌, ◌++◌, Contains, map, if◌then◌else◌}
 use Rattle.std.specs.Prelude.{Option, Some, None}
 use Rattle.toml.specs.View.{table_view}

@@ -53,11 +53,7 @@ fn faulty_profile(
     file_text(alloc, &asked, PROFILE_TABLES, text)
 }
 
-fn faulty_given(
-    alloc: Global,
-    text: &[u8],
-    fault: GivenFault,
-) -> Result<Vec<u8>, AllocError>
+fn faulty_given(alloc: Global, text: &[u8], fault: GivenFault) -> Result<Vec<u8>, AllocError>
     ensures { IfOk result
         (λ out. IsRowsText IsGivenFaultAt given_rows given_tables text.now fault out.items) }
 {

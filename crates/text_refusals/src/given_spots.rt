@@ -124,10 +124,7 @@ fn put_missing_spots(
         ++ map Given (missing_spots index (map (λ k. k.now) keys.now))) }
 {
     for key in keys {
-        put_spot(
-            spots,
-            GivenSpot::Fact(index, Part::Missing(key.as_bytes())),
-        )?;
+        put_spot(spots, GivenSpot::Fact(index, Part::Missing(key.as_bytes())))?;
     }
     Ok(())
 }

@@ -49,8 +49,9 @@ pub fn rows_show_faults()
 {}
 
 /// States which rows there are of a machine file, of a cycle profile and of a file of facts, by the spots at
-/// which a document has the fault: each row is of such a spot, and says that the file lacks its key, or is of a table or a value
-/// that shows it; and where the text shows a spot that has the fault, there is a row. It does nothing.
+/// which a document has the fault: each row is of such a spot, and says that the file lacks its key, or is of
+/// a table or a value that shows it; and where the text shows a spot that has the fault, there is a row. It
+/// does nothing.
 pub fn file_rows_show_faults()
     ensures machine { (ms : Members) (fault : MachineFileFault) (has : MachineSpot → Bool)
         (items : List Item) → ((s : MachineSpot) → has s ≡ true ↔ IsMachineFaultAt ms s fault)
