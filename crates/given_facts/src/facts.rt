@@ -17,12 +17,13 @@ use toml_reading::{
 };
 
 /// The keys of a file of facts.
-pub const FILE_KEYS: &[&str] = &["given"];
+pub(crate) const FILE_KEYS: &[&str] = &["given"];
 
-/// The keys of a fact: of one value, or of a range.
-pub const VALUE_KEYS: &[&str] = &["register", "value"];
+// The keys of a fact of one word.
+const VALUE_KEYS: &[&str] = &["register", "value"];
 
-pub const RANGE_KEYS: &[&str] = &["register", "from", "to"];
+// Those of a range.
+const RANGE_KEYS: &[&str] = &["register", "from", "to"];
 
 fn has_key(table: &Table, key: &str) -> bool
     ensures { result ≡ has_key key.now (table_view table.now) }
@@ -57,7 +58,7 @@ fn unless_pc(register: Register) -> Option<Register>
 }
 
 /// The register from R0 to R14 that a word names, as in a source: wholly in upper or in lower case.
-pub fn named_register(word: &[u8]) -> Option<Register>
+pub(crate) fn named_register(word: &[u8]) -> Option<Register>
     ensures { result ≡ named_register word.now }
 {
     asm_text::register_of(word).and_then(unless_pc)

@@ -8,7 +8,7 @@ mod places;
 mod repeats;
 mod spots;
 
-pub use facts::{FILE_KEYS, RANGE_KEYS, VALUE_KEYS, named_register, read_facts};
+pub use facts::read_facts;
 pub use faults::GivenFault;
 pub use law::facts_are_read;
 pub use places::GivenDocument;
