@@ -5,8 +5,6 @@
 #![tactic(auto)]
 
 #[cfg(test)]
-mod facts;
-#[cfg(test)]
 mod graphs;
 #[cfg(test)]
 mod handlers;

@@ -8,7 +8,6 @@
 mod data;
 mod edges;
 mod forgetting;
-mod given;
 mod implying;
 mod joining;
 mod knowledge;
@@ -20,7 +19,6 @@ mod values;
 mod words;
 
 pub use edges::narrowed;
-pub use given::Given;
 pub use knowledge::{Compared, Knowledge};
 pub use operands::{rotated, shifted};
 pub use stepping::{after, known_where_skipped};
