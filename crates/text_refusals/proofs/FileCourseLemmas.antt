@@ -6,10 +6,10 @@ use Rattle.text_refusals.specs.FileCourses.{HasRoom, after, counted, counted_if,
 use Rattle.text_refusals.specs.Outline.{Begins, Ends, Item, States}
 use Rattle.text_refusals.specs.declared.file_course.FileCourse.{FileCourse}
 use Rattle.text_refusals.specs.declared.file_course.FileList.{FileList}
-use Rattle.text_refusals.specs.declared.file_course.FileList.TheVariants.{Tables, Prices}
+use Rattle.text_refusals.specs.declared.file_course.FileList.TheVariants.{Tables, Prices, Facts}
 
 abbrev pub total : FileCourse → ℕ
-total c = c.pages + (c.events + (c.words + (c.rom + c.io)))
+total c = c.pages + (c.events + (c.words + (c.rom + (c.io + c.facts))))
 
 pub has_room : (n : ℕ) (c : FileCourse) → total c ≤ n → n + 1 < 18446744073709551616 → HasRoom c
 has_room n c h low = record {
@@ -18,6 +18,7 @@ has_room n c h low = record {
   words = omega (arith, h, low);
   rom = omega (arith, h, low);
   io = omega (arith, h, low);
+  facts = omega (arith, h, low);
 }
 
 counted_one : (list : FileList) (c : FileCourse) → total (counted list c) ≡ total c + 1
@@ -26,6 +27,7 @@ counted_one (Tables Events) c = omega arith
 counted_one (Tables Words) c = omega arith
 counted_one (Prices Rom) c = omega arith
 counted_one (Prices Io) c = omega arith
+counted_one Facts c = omega arith
 
 counted_most : (o : Option FileList) (c : FileCourse) → total (counted_if o c) ≤ total c + 1
 counted_most None c = omega arith

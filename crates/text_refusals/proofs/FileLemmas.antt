@@ -7,6 +7,12 @@ use Rattle.std.specs.declared.alloc.Global.{Global}
 use Rattle.toml.specs.Data.{Members}
 use Rattle.toml.specs.View.{table_view}
 use Rattle.toml.specs.declared.value.Value.{Value}
+use Rattle.given_facts.specs.GivenPlaceTests.{found as found_fact}
+use Rattle.given_facts.specs.GivenPlaces.{IsGivenFaultAt}
+use Rattle.given_facts.specs.declared.faults.GivenFault.{GivenFault}
+use Rattle.given_facts.specs.declared.spots.GivenSpot.{GivenSpot}
+use Rattle.given_facts.specs.declared.spots.GivenSpot.TheVariants as given
+use Rattle.given_facts.proofs.PlaceLemmas.{found_is as found_fact_is}
 use Rattle.machine_file.specs.MachinePlaceTests.{found}
 use Rattle.machine_file.specs.MachinePlaces.{IsMachineFaultAt}
 use Rattle.machine_file.specs.ProfilePlaceTests.{found as found_price}
@@ -21,7 +27,7 @@ use Rattle.machine_file.specs.declared.spots.ProfileSpot.TheVariants as profile
 use Rattle.machine_file.proofs.PlaceLemmas.{found_is}
 use Rattle.machine_file.proofs.PricePlaceLemmas.{found_is as found_price_is}
 use Rattle.text_refusals.specs.FileCourses.{after}
-use Rattle.text_refusals.specs.FileRows.{each_row, first_row, item_rows, machine_spot_of, profile_spot_of, rows, spot_of}
+use Rattle.text_refusals.specs.FileRows.{each_row, first_row, given_spot_of, item_rows, machine_spot_of, profile_spot_of, rows, spot_of}
 use Rattle.text_refusals.specs.Outline.{Item, item_of}
 use Rattle.text_refusals.specs.Refused.{Row, row_if}
 use Rattle.text_refusals.specs.declared.asked_file.FileKind.{FileKind}
@@ -85,6 +91,16 @@ profile_same ms (profile.Item list n) f = refl
 profile_same ms (profile.Price n) f = refl
 profile_same ms (profile.Disordered order) f = refl
 
+pub given_same : (ms : Members) (s : GivenSpot) (f : GivenFault) → found_fact ms (given_spot_of s) f ≡ found_fact ms s f
+given_same ms (given.Unknown k) f = refl
+given_same ms given.NoList f = refl
+given_same ms (given.NoTable n) f = refl
+given_same ms (given.Fact n (part.Unknown k)) f = refl
+given_same ms (given.Fact n (part.Value k)) f = refl
+given_same ms (given.Fact n (part.Missing k)) f = refl
+given_same ms (given.Disordered n) f = refl
+given_same ms (given.Second n) f = refl
+
 -- a fault at a spot is one at the spot as it is listed
 pub machine_fault_of : (ms : Members) (s : MachineSpot) (f : MachineFileFault) → IsMachineFaultAt ms s f → IsMachineFaultAt ms (machine_spot_of s) f
 machine_fault_of ms s f h = (found_is ms (machine_spot_of s) f).0 (machine_same ms s f ∙ (found_is ms s f).1 h)
@@ -92,7 +108,14 @@ machine_fault_of ms s f h = (found_is ms (machine_spot_of s) f).0 (machine_same 
 pub profile_fault_of : (ms : Members) (s : ProfileSpot) (f : ProfileFileFault) → IsProfileFaultAt ms s f → IsProfileFaultAt ms (profile_spot_of s) f
 profile_fault_of ms s f h = (found_price_is ms (profile_spot_of s) f).0 (profile_same ms s f ∙ (found_price_is ms s f).1 h)
 
+pub given_fault_of : (ms : Members) (s : GivenSpot) (f : GivenFault) → IsGivenFaultAt ms s f → IsGivenFaultAt ms (given_spot_of s) f
+given_fault_of ms s f h = (found_fact_is ms (given_spot_of s) f).0 (given_same ms s f ∙ (found_fact_is ms s f).1 h)
+
 -- ## The document answers as its table says
+
+pub given_tells : (t u : BTreeMap (String Global) Value) (f : GivenFault) → t ≡ u → (s : GivenSpot) → found_fact (table_view t) s f ≡ true ↔ IsGivenFaultAt (table_view u) s f
+given_tells t u f same s =
+    subst (λ (m : Members). found_fact (table_view t) s f ≡ true ↔ IsGivenFaultAt m s f) (ap table_view same) (found_fact_is (table_view t) s f)
 
 pub machine_tells : (t u : BTreeMap (String Global) Value) (f : MachineFileFault) → t ≡ u → (s : MachineSpot) → found (table_view t) s f ≡ true ↔ IsMachineFaultAt (table_view u) s f
 machine_tells t u f same s =

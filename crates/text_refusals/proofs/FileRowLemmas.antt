@@ -3,17 +3,18 @@ use Rattle.std.proofs.Common.{◌≡◌, Bool, true, false, List, [], ◌∷◌,
 use Rattle.std.specs.Prelude.{Contains, if◌then◌else◌}
 use Rattle.std.proofs.lemmas.Bool.{false≢true}
 use Rattle.std.proofs.lemmas.List.Elements.{Contains-append_cases}
+use Rattle.given_facts.specs.declared.spots.GivenSpot.{GivenSpot}
 use Rattle.machine_file.specs.declared.spots.MachineSpot.{MachineSpot}
 use Rattle.machine_file.specs.declared.spots.ProfileSpot.{ProfileSpot}
 use Rattle.text_refusals.specs.FileCourses.{after, at_front}
-use Rattle.text_refusals.specs.FileRows.{IsItemRow, IsFileRowOf, IsShown, absent_row, absent_spots, each_row, file_rows, first_row, item_rows, item_spots, machine_has, placed, profile_has, rows, said_table, said_value, table_spots, value_spots}
-use Rattle.text_refusals.specs.FileTexts.{machine_rows, profile_rows}
+use Rattle.text_refusals.specs.FileRows.{IsItemRow, IsFileRowOf, IsShown, absent_row, absent_spots, each_row, file_rows, first_row, given_has, item_rows, item_spots, machine_has, placed, profile_has, rows, said_table, said_value, table_spots, value_spots}
+use Rattle.text_refusals.specs.FileTexts.{given_rows, machine_rows, profile_rows}
 use Rattle.text_refusals.specs.Outline.{Begins, Ends, Item, States}
 use Rattle.text_refusals.specs.Refused.{Row, row_if}
 use Rattle.text_refusals.specs.declared.asked_file.FileKind.{FileKind}
 use Rattle.text_refusals.specs.declared.asked_file.FileKind.TheVariants as kind
 use Rattle.text_refusals.specs.declared.asked_file.FileSpot.{FileSpot}
-use Rattle.text_refusals.specs.declared.asked_file.FileSpot.TheVariants.{Machine, Profile}
+use Rattle.text_refusals.specs.declared.asked_file.FileSpot.TheVariants.{Given, Machine, Profile}
 use Rattle.text_refusals.specs.declared.file_course.FileCourse.{FileCourse}
 use Rattle.text_refusals.proofs.FileLemmas.{no_items, one_row}
 use Rattle.text_refusals.proofs.PlacedLemmas.{HasRow, in_first, in_second, row_of_if}
@@ -124,6 +125,7 @@ machine_sound has items r h = let u = file_sound (machine_has has) kind.Machine 
     of_machine : (s : FileSpot) → machine_has has s ≡ true → IsFileRowOf kind.Machine items r s → (s : MachineSpot) × (has s ≡ true) × IsFileRowOf kind.Machine items r (Machine s)
     of_machine (Machine s) e is = (s, e, is)
     of_machine (Profile s) e is = absurd (false≢true e)
+    of_machine (Given s) e is = absurd (false≢true e)
 
 pub profile_sound : (has : ProfileSpot → Bool) (items : List Item) (r : Row) → Contains (profile_rows has items) r → (s : ProfileSpot) × (has s ≡ true) × IsFileRowOf kind.Profile items r (Profile s)
 profile_sound has items r h = let u = file_sound (profile_has has) kind.Profile items r h in of_profile u.0 u.1 u.2
@@ -131,3 +133,12 @@ profile_sound has items r h = let u = file_sound (profile_has has) kind.Profile 
     of_profile : (s : FileSpot) → profile_has has s ≡ true → IsFileRowOf kind.Profile items r s → (s : ProfileSpot) × (has s ≡ true) × IsFileRowOf kind.Profile items r (Profile s)
     of_profile (Profile s) e is = (s, e, is)
     of_profile (Machine s) e is = absurd (false≢true e)
+    of_profile (Given s) e is = absurd (false≢true e)
+
+pub given_sound : (has : GivenSpot → Bool) (items : List Item) (r : Row) → Contains (given_rows has items) r → (s : GivenSpot) × (has s ≡ true) × IsFileRowOf kind.Given items r (Given s)
+given_sound has items r h = let u = file_sound (given_has has) kind.Given items r h in of_given u.0 u.1 u.2
+  where
+    of_given : (s : FileSpot) → given_has has s ≡ true → IsFileRowOf kind.Given items r s → (s : GivenSpot) × (has s ≡ true) × IsFileRowOf kind.Given items r (Given s)
+    of_given (Given s) e is = (s, e, is)
+    of_given (Machine s) e is = absurd (false≢true e)
+    of_given (Profile s) e is = absurd (false≢true e)

@@ -1,6 +1,6 @@
--- Of which entry of which list each item of the text of a machine file, or of a cycle profile, is: by the
--- tables and values before it.
-use Rattle.std.specs.Prelude.{◌==◌, ◌&&◌, ◌+◌, ◌<◌, ℕ, List, length}
+-- Of which entry of which list each item of the text of a machine file, a cycle profile or a file of facts
+-- is: by the tables and values before it.
+use Rattle.std.specs.Prelude.{◌==◌, ◌&&◌, ◌+◌, ◌<◌, ℕ, List, codes, length}
 use Rattle.std.specs.Prelude.{Option, Some, None, if◌then◌else◌}
 use Rattle.std.specs.Str.{bytes_eq}
 use Rattle.machine_file.specs.MachinePlaces.{list_key}
@@ -10,7 +10,7 @@ use Rattle.machine_file.specs.declared.spots.PriceList.TheVariants.{Rom, Io}
 use Rattle.text_refusals.specs.Outline.{Begins, Ends, Item, KeyValue, States, Table}
 use Rattle.text_refusals.specs.declared.file_course.FileCourse.{FileCourse}
 use Rattle.text_refusals.specs.declared.file_course.FileList.{FileList}
-use Rattle.text_refusals.specs.declared.file_course.FileList.TheVariants.{Tables, Prices}
+use Rattle.text_refusals.specs.declared.file_course.FileList.TheVariants.{Tables, Prices, Facts}
 
 -- the list that a word names
 abbrev pub named_list : List ℕ → Option FileList
@@ -19,7 +19,8 @@ named_list w =
     else (if bytes_eq w (list_key Events) then Some (Tables Events)
     else (if bytes_eq w (list_key Words) then Some (Tables Words)
     else (if bytes_eq w (price_key Rom) then Some (Prices Rom)
-    else (if bytes_eq w (price_key Io) then Some (Prices Io) else None))))
+    else (if bytes_eq w (price_key Io) then Some (Prices Io)
+    else (if bytes_eq w (codes "given") then Some Facts else None)))))
 
 -- the list of which the table is an entry
 abbrev pub entry_list : Table → Option FileList
@@ -32,7 +33,7 @@ value_list p = if length p.list == 0 && p.depth == 1 then named_list p.key else 
 -- ## Courses
 
 abbrev pub at_front : FileCourse
-at_front = record { pages = 0; events = 0; words = 0; rom = 0; io = 0; entry = None }
+at_front = record { pages = 0; events = 0; words = 0; rom = 0; io = 0; facts = 0; entry = None }
 
 -- how many entries of the list have begun
 abbrev pub begun : FileList → FileCourse → ℕ
@@ -41,6 +42,7 @@ begun (Tables Events) c = c.events
 begun (Tables Words) c = c.words
 begun (Prices Rom) c = c.rom
 begun (Prices Io) c = c.io
+begun Facts c = c.facts
 
 -- one entry of the list more
 abbrev pub counted : FileList → FileCourse → FileCourse
@@ -49,6 +51,7 @@ counted (Tables Events) c = record c { events = c.events + 1 }
 counted (Tables Words) c = record c { words = c.words + 1 }
 counted (Prices Rom) c = record c { rom = c.rom + 1 }
 counted (Prices Io) c = record c { io = c.io + 1 }
+counted Facts c = record c { facts = c.facts + 1 }
 
 abbrev pub counted_if : Option FileList → FileCourse → FileCourse
 counted_if None c = c
@@ -71,3 +74,4 @@ pub record HasRoom (c : FileCourse) : Type 0 where
   pub words : c.words + 1 < 18446744073709551616
   pub rom : c.rom + 1 < 18446744073709551616
   pub io : c.io + 1 < 18446744073709551616
+  pub facts : c.facts + 1 < 18446744073709551616

@@ -1,8 +1,12 @@
--- What is named of a machine file or a cycle profile that is refused: first what the whole lacks, and then
--- the values and the tables that show where its document has the fault, in the order of the text.
+-- What is named of a machine file, a cycle profile or a file of facts that is refused: first what the whole
+-- lacks, and then the values and the tables that show where its document has the fault, in the order of the
+-- text.
 use Rattle.std.specs.Prelude.{◌≡◌, ◌⊎◌, ℕ, Bool, false, List, [], ◌∷◌, ◌++◌, Contains, map, if◌then◌else◌}
 use Rattle.std.specs.Prelude.{Option, Some, None}
 use Rattle.toml.specs.View.{table_view}
+use Rattle.given_facts.specs.GivenPlaceTests as given_tests
+use Rattle.given_facts.specs.declared.spots.GivenSpot.{GivenSpot}
+use Rattle.given_facts.specs.declared.spots.GivenSpot.TheVariants as given
 use Rattle.machine_file.specs.MachinePlaceTests as machine_tests
 use Rattle.machine_file.specs.Names.{file_keys}
 use Rattle.machine_file.specs.ProfileFile.{profile_keys}
@@ -15,6 +19,7 @@ use Rattle.machine_file.specs.declared.spots.ProfileSpot.{ProfileSpot}
 use Rattle.machine_file.specs.declared.spots.ProfileSpot.TheVariants as profile
 use Rattle.text_refusals.specs.FaultyItems.{lent}
 use Rattle.text_refusals.specs.FileCourses.{after, at_front}
+use Rattle.text_refusals.specs.GivenSpots as of_given
 use Rattle.text_refusals.specs.MachineSpots as of_machine
 use Rattle.text_refusals.specs.Outline.{Begins, Ends, Item, KeyValue, States, Table}
 use Rattle.text_refusals.specs.ProfileSpots as of_profile
@@ -24,23 +29,26 @@ use Rattle.text_refusals.specs.declared.asked_file.AskedFile.TheVariants as aske
 use Rattle.text_refusals.specs.declared.asked_file.FileKind.{FileKind}
 use Rattle.text_refusals.specs.declared.asked_file.FileKind.TheVariants as kind
 use Rattle.text_refusals.specs.declared.asked_file.FileSpot.{FileSpot}
-use Rattle.text_refusals.specs.declared.asked_file.FileSpot.TheVariants.{Machine, Profile}
+use Rattle.text_refusals.specs.declared.asked_file.FileSpot.TheVariants.{Given, Machine, Profile}
 use Rattle.text_refusals.specs.declared.file_course.FileCourse.{FileCourse}
 
 -- ## What shows a spot
 
--- the spots of a file's keys, each as missing
+-- the spots of a file's keys, each as missing; a file of facts may be empty
 abbrev pub absent_spots : FileKind → List FileSpot
 absent_spots kind.Machine = map Machine (of_machine.absent_spots file_keys)
 absent_spots kind.Profile = map Profile (of_profile.absent_spots profile_keys)
+absent_spots kind.Given = []
 
 abbrev pub value_spots : FileKind → FileCourse → KeyValue → List FileSpot
 value_spots kind.Machine c p = map Machine (of_machine.value_spots c p)
 value_spots kind.Profile c p = map Profile (of_profile.value_spots c p)
+value_spots kind.Given c p = map Given (of_given.value_spots c p)
 
 abbrev pub table_spots : FileKind → FileCourse → Table → List FileSpot
 table_spots kind.Machine c t = map Machine (of_machine.table_spots c t)
 table_spots kind.Profile c t = map Profile (of_profile.table_spots c t)
+table_spots kind.Given c t = map Given (of_given.table_spots c t)
 
 -- the spots that an item shows
 abbrev pub item_spots : FileKind → FileCourse → Item → List FileSpot
@@ -53,15 +61,18 @@ item_spots k c Ends = []
 abbrev pub absent_words : FileSpot → List ℕ
 absent_words (Machine s) = of_machine.absent_words s
 absent_words (Profile s) = of_profile.absent_words s
+absent_words (Given s) = []
 
 abbrev pub table_words : FileSpot → List ℕ
 table_words (Machine s) = of_machine.table_words s
 table_words (Profile s) = of_profile.table_words s
+table_words (Given s) = of_given.table_words s
 
 -- of a machine file's value its line says enough
 abbrev pub value_words : FileSpot → List ℕ
 value_words (Machine s) = []
 value_words (Profile s) = of_profile.value_words s
+value_words (Given s) = of_given.value_words s
 
 -- that the file lacks a key is said on the first line
 abbrev pub absent_row : FileSpot → Row
@@ -83,12 +94,17 @@ said_value p s = record { line = p.line; text = (value_row p).text ++ value_word
 -- the spots of a machine file that have the fault
 abbrev pub machine_has : (MachineSpot → Bool) → FileSpot → Bool
 machine_has has (Machine s) = has s
-machine_has has (Profile s) = false
+machine_has has _ = false
 
 -- those of a cycle profile
 abbrev pub profile_has : (ProfileSpot → Bool) → FileSpot → Bool
-profile_has has (Machine s) = false
 profile_has has (Profile s) = has s
+profile_has has _ = false
+
+-- those of a file of facts
+abbrev pub given_has : (GivenSpot → Bool) → FileSpot → Bool
+given_has has (Given s) = has s
+given_has has _ = false
 
 module _ (has : FileSpot → Bool) where
   -- the row of each of the spots that has the fault
@@ -155,11 +171,13 @@ IsFileRowOf k items row s =
 abbrev pub kind_of : AskedFile → FileKind
 kind_of (asked.Machine document fault) = kind.Machine
 kind_of (asked.Profile document fault) = kind.Profile
+kind_of (asked.Given document fault) = kind.Given
 
 -- the document has the fault that is looked for at the spot
 abbrev pub has_in : AskedFile → FileSpot → Bool
 has_in (asked.Machine d fault) = machine_has (λ s. machine_tests.found (table_view d.now.table.now) s fault)
 has_in (asked.Profile d fault) = profile_has (λ s. profile_tests.found (table_view d.table.now) s fault)
+has_in (asked.Given d fault) = given_has (λ s. given_tests.found (table_view d.now.table.now) s fault)
 
 abbrev pub part_of : Part → Part
 part_of (part.Unknown k) = part.Unknown (lent k.now)
@@ -176,6 +194,12 @@ abbrev pub profile_spot_of : ProfileSpot → ProfileSpot
 profile_spot_of (profile.Own p) = profile.Own (part_of p)
 profile_spot_of s = s
 
+abbrev pub given_spot_of : GivenSpot → GivenSpot
+given_spot_of (given.Unknown k) = given.Unknown (lent k.now)
+given_spot_of (given.Fact n p) = given.Fact n (part_of p)
+given_spot_of s = s
+
 abbrev pub spot_of : FileSpot → FileSpot
 spot_of (Machine s) = Machine (machine_spot_of s)
 spot_of (Profile s) = Profile (profile_spot_of s)
+spot_of (Given s) = Given (given_spot_of s)

@@ -8,6 +8,7 @@ pub mod FaultyLines
 pub mod FileCourses
 pub mod FileRows
 pub mod FileTexts
+pub mod GivenSpots
 pub mod MachineSpots
 pub mod Mends
 pub mod Nearest

@@ -1,11 +1,13 @@
-//! What is asked of the document of a machine file or of a cycle profile.
+//! What is asked of the document of a machine file, of a cycle profile or of a file of facts.
 
 ghost use Rattle.std.specs.Prelude.{◌≡◌};
 ghost use Rattle.toml.specs.View.{table_view};
 ghost use Rattle.machine_file.specs.MachinePlaceTests.{found};
 ghost use Rattle.text_refusals.specs.FileRows.{has_in, kind_of, machine_spot_of, spot_of};
 
+use crate::asked_given::given_has;
 use crate::asked_profile::profile_has;
+use given_facts::{GivenDocument, GivenFault, GivenSpot};
 use machine_file::{
     MachineDocument, MachineFileFault, MachineSpot, ProfileDocument, ProfileFileFault, ProfileSpot,
 };
@@ -17,6 +19,8 @@ pub(crate) enum FileKind {
     Machine,
     /// A cycle profile.
     Profile,
+    /// A file of facts.
+    Given,
 }
 
 /// What of a file may have a fault.
@@ -24,6 +28,7 @@ pub(crate) enum FileKind {
 pub(crate) enum FileSpot<'a> {
     Machine(MachineSpot<'a>),
     Profile(ProfileSpot<'a>),
+    Given(GivenSpot<'a>),
 }
 
 /// The document of a file, and the fault that is looked for in it.
@@ -31,6 +36,7 @@ pub(crate) enum FileSpot<'a> {
 pub(crate) enum AskedFile<'a> {
     Machine(&'a MachineDocument<'a>, MachineFileFault),
     Profile(ProfileDocument<'a>, ProfileFileFault),
+    Given(&'a GivenDocument<'a>, GivenFault),
 }
 
 fn machine_has(
@@ -52,6 +58,7 @@ impl AskedFile<'_> {
         match self {
             AskedFile::Machine(_, _) => FileKind::Machine,
             AskedFile::Profile(_, _) => FileKind::Profile,
+            AskedFile::Given(_, _) => FileKind::Given,
         }
     }
 
@@ -62,11 +69,15 @@ impl AskedFile<'_> {
         match self {
             AskedFile::Machine(document, fault) => match spot {
                 FileSpot::Machine(spot) => machine_has(document, spot, *fault),
-                FileSpot::Profile(_) => false,
+                FileSpot::Profile(_) | FileSpot::Given(_) => false,
             },
             AskedFile::Profile(document, fault) => match spot {
-                FileSpot::Machine(_) => false,
                 FileSpot::Profile(spot) => profile_has(*document, spot, *fault),
+                FileSpot::Machine(_) | FileSpot::Given(_) => false,
+            },
+            AskedFile::Given(document, fault) => match spot {
+                FileSpot::Given(spot) => given_has(document, spot, *fault),
+                FileSpot::Machine(_) | FileSpot::Profile(_) => false,
             },
         }
     }

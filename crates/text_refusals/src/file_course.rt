@@ -6,16 +6,18 @@ ghost use Rattle.text_refusals.specs.Outline.{item_of, key_value_of, table_of};
 use crate::outline::{KeyValue, OutlineItem, OutlineTable};
 use machine_file::{MachineList, PriceList, list_key, price_key};
 
-/// A list of a machine file or of a cycle profile.
+/// A list of a machine file, of a cycle profile or of a file of facts.
 #[derive(Clone, Copy)]
 pub(crate) enum FileList {
     /// Of tables in a machine file.
     Tables(MachineList),
     /// Of prices in a cycle profile.
     Prices(PriceList),
+    /// Of tables in a file of facts.
+    Facts,
 }
 
-/// Where in its document an item of the text of a machine file or a cycle profile is, by the items before it.
+/// Where in its document an item of the text of such a file is, by the items before it.
 #[derive(Clone, Copy)]
 pub(crate) struct FileCourse {
     // how many entries of each list have begun
@@ -24,6 +26,7 @@ pub(crate) struct FileCourse {
     words: usize,
     rom: usize,
     io: usize,
+    facts: usize,
     /// The list and the number of the entry that began last, if the last table is an entry.
     pub entry: Option<(FileList, usize)>,
 }
@@ -46,6 +49,9 @@ pub(crate) fn named_list(word: &[u8]) -> Option<FileList>
     }
     if word == price_key(PriceList::Io).as_bytes() {
         return Some(FileList::Prices(PriceList::Io));
+    }
+    if word == b"given".as_slice() {
+        return Some(FileList::Facts);
     }
     None
 }
@@ -81,6 +87,7 @@ impl FileCourse {
             words: 0,
             rom: 0,
             io: 0,
+            facts: 0,
             entry: None,
         }
     }
@@ -95,6 +102,7 @@ impl FileCourse {
             FileList::Tables(MachineList::Words) => self.words,
             FileList::Prices(PriceList::Rom) => self.rom,
             FileList::Prices(PriceList::Io) => self.io,
+            FileList::Facts => self.facts,
         }
     }
 
@@ -109,6 +117,7 @@ impl FileCourse {
             FileList::Tables(MachineList::Words) => self.words += 1,
             FileList::Prices(PriceList::Rom) => self.rom += 1,
             FileList::Prices(PriceList::Io) => self.io += 1,
+            FileList::Facts => self.facts += 1,
         }
         self
     }

@@ -1,4 +1,4 @@
-//! The rows of a machine file or of a cycle profile that is refused.
+//! The rows of a machine file, of a cycle profile or of a file of facts that is refused.
 
 ghost use Rattle.std.specs.Prelude.{◌≡◌, ◌++◌, ◌∷◌, [], IfOk, OnOk, map, option_map};
 ghost use Rattle.text_refusals.specs.FileCourses.{at_front};
@@ -15,7 +15,7 @@ use crate::file_course::FileCourse;
 use crate::outline::{KeyValue, OutlineItem, OutlineTable, TableKeys, items_of};
 use crate::report::{Report, put_name, value_text};
 use crate::word_rows::MOST_LINES;
-use crate::{machine_spots, profile_spots};
+use crate::{given_spots, machine_spots, profile_spots};
 use std::alloc::{AllocError, Global};
 
 // ## Spots
@@ -28,6 +28,7 @@ fn absent_spots<'a>(alloc: Global, kind: FileKind) -> Result<Vec<FileSpot<'a>>, 
     match kind {
         FileKind::Machine => machine_spots::put_absent_spots(&mut spots)?,
         FileKind::Profile => profile_spots::put_absent_spots(&mut spots)?,
+        FileKind::Given => {}
     }
     Ok(spots)
 }
@@ -46,6 +47,7 @@ fn value_spots<'a>(
     match kind {
         FileKind::Machine => machine_spots::put_value_spots(&mut spots, course, pair)?,
         FileKind::Profile => profile_spots::put_value_spots(&mut spots, course, pair)?,
+        FileKind::Given => given_spots::put_value_spots(&mut spots, course, pair)?,
     }
     Ok(spots)
 }
@@ -64,6 +66,7 @@ fn table_spots<'a>(
     match kind {
         FileKind::Machine => machine_spots::put_table_spots(&mut spots, course, table)?,
         FileKind::Profile => profile_spots::put_table_spots(&mut spots, course, table)?,
+        FileKind::Given => given_spots::put_table_spots(&mut spots, course, table)?,
     }
     Ok(spots)
 }
@@ -76,6 +79,7 @@ fn put_absent_words(out: &mut Vec<u8>, spot: FileSpot<'_>) -> Result<(), AllocEr
     match spot {
         FileSpot::Machine(spot) => machine_spots::put_absent_words(out, spot),
         FileSpot::Profile(spot) => profile_spots::put_absent_words(out, spot),
+        FileSpot::Given(_) => Ok(()),
     }
 }
 
@@ -85,6 +89,7 @@ fn put_table_words(out: &mut Vec<u8>, spot: FileSpot<'_>) -> Result<(), AllocErr
     match spot {
         FileSpot::Machine(spot) => machine_spots::put_table_words(out, spot),
         FileSpot::Profile(spot) => profile_spots::put_table_words(out, spot),
+        FileSpot::Given(spot) => given_spots::put_table_words(out, spot),
     }
 }
 
@@ -94,6 +99,7 @@ fn put_value_words(out: &mut Vec<u8>, spot: FileSpot<'_>) -> Result<(), AllocErr
     match spot {
         FileSpot::Machine(_) => Ok(()),
         FileSpot::Profile(spot) => profile_spots::put_value_words(out, spot),
+        FileSpot::Given(spot) => given_spots::put_value_words(out, spot),
     }
 }
 

@@ -1,18 +1,23 @@
-//! The texts that show why a machine file, or a cycle profile, is refused.
+//! The texts that show why a machine file, a cycle profile or a file of facts is refused.
 
 ghost use Rattle.std.specs.Prelude.{IfOk};
+ghost use Rattle.given_facts.specs.GivenPlaces.{IsGivenFaultAt};
 ghost use Rattle.machine_file.specs.MachinePlaces.{IsMachineFaultAt};
 ghost use Rattle.machine_file.specs.ProfilePlaces.{IsProfileFaultAt};
-ghost use Rattle.text_refusals.specs.FileTexts.{IsMachineText, IsProfileText, machine_rows, profile_rows};
+ghost use Rattle.text_refusals.specs.FileTexts.{IsGivenText, IsMachineText, IsProfileText, given_rows};
+ghost use Rattle.text_refusals.specs.FileTexts.{machine_rows, profile_rows};
+ghost use Rattle.text_refusals.specs.GivenSpots.{given_tables};
 ghost use Rattle.text_refusals.specs.MachineSpots.{machine_tables};
 ghost use Rattle.text_refusals.specs.ProfileSpots.{profile_tables};
 ghost use Rattle.text_refusals.specs.Refused.{IsRowsText};
 
 use crate::asked_file::AskedFile;
 use crate::file_rows::file_text;
+use crate::given_spots::GIVEN_TABLES;
 use crate::machine_spots::MACHINE_TABLES;
 use crate::no_toml::no_toml_text;
 use crate::profile_spots::PROFILE_TABLES;
+use given_facts::{GivenDocument, GivenFault};
 use machine_file::{MachineDocument, MachineFileFault, ProfileDocument, ProfileFileFault};
 use std::alloc::{AllocError, Global};
 use toml_reading::document;
@@ -46,6 +51,18 @@ fn faulty_profile(
     };
     let asked = AskedFile::Profile(ProfileDocument { table: &table }, fault);
     file_text(alloc, &asked, PROFILE_TABLES, text)
+}
+
+fn faulty_given(alloc: Global, text: &[u8], fault: GivenFault) -> Result<Vec<u8>, AllocError>
+    ensures { IfOk result
+        (λ out. IsRowsText IsGivenFaultAt given_rows given_tables text.now fault out.items) }
+{
+    let Some(table) = document(alloc, text)? else {
+        return Ok(Vec::new(alloc));
+    };
+    let document = GivenDocument::new(alloc, &table)?;
+    let asked = AskedFile::Given(&document, fault);
+    file_text(alloc, &asked, GIVEN_TABLES, text)
 }
 
 /// The lines of a machine file's text that show where its document has the fault: at most twenty, each with
@@ -83,5 +100,20 @@ pub fn profile_text(
     match fault {
         ProfileFileFault::NotToml => no_toml_text(alloc, text),
         _ => faulty_profile(alloc, text, fault),
+    }
+}
+
+/// The lines of the text of a file of facts that show where its document has the fault, as [`machine_text`]
+/// does.
+///
+/// # Errors
+///
+/// An allocation failed.
+pub fn given_text(alloc: Global, text: &[u8], fault: GivenFault) -> Result<Vec<u8>, AllocError>
+    ensures { IfOk result (λ out. IsGivenText text.now fault out.items) }
+{
+    match fault {
+        GivenFault::NotToml => no_toml_text(alloc, text),
+        _ => faulty_given(alloc, text, fault),
     }
 }

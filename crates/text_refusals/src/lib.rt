@@ -1,10 +1,11 @@
 //! What the one line of a refusal has no room for: a cycle that no loop bounds, an edge that enters a loop
 //! elsewhere than at its header, how a place without edges is reached, and where these are in the source; and
-//! which lines of a statement, a machine file or a cycle profile are wrong.
+//! which lines of a statement, a machine file, a cycle profile or a file of facts are wrong.
 #![tactic(auto)]
 
 mod asked;
 mod asked_file;
+mod asked_given;
 mod asked_profile;
 mod course;
 mod crossings;
@@ -13,6 +14,7 @@ mod extents;
 mod file_course;
 mod file_rows;
 mod file_texts;
+mod given_spots;
 mod law;
 mod machine_spots;
 mod members;
@@ -39,7 +41,7 @@ mod word_rows;
 pub use crossings::{Crossing, loops_that_cross};
 pub use cycles::unbounded_cycle;
 pub use extents::{CycleExtent, extent_of};
-pub use file_texts::{machine_text, profile_text};
+pub use file_texts::{given_text, machine_text, profile_text};
 pub use law::{file_rows_show_faults, most_lines, plain_lines_are_seen, rows_show_faults};
 pub use mid_entries::{MidEntry, mid_entry};
 pub use nested::{DeepPlace, deep_place};

@@ -65,7 +65,7 @@ fn put_no_list_spots<'a>(
 {
     match list {
         Some(FileList::Tables(list)) => put_spot(spots, MachineSpot::NoList(list)),
-        Some(FileList::Prices(_)) | None => Ok(()),
+        Some(FileList::Prices(_) | FileList::Facts) | None => Ok(()),
     }
 }
 
@@ -188,7 +188,7 @@ fn put_entry_spots<'a>(
 {
     match entry {
         Some((FileList::Tables(list), index)) => put_listed_spots(spots, list, index, key),
-        Some((FileList::Prices(_), _)) | None => Ok(()),
+        Some((FileList::Prices(_) | FileList::Facts, _)) | None => Ok(()),
     }
 }
 
@@ -228,7 +228,7 @@ fn put_no_table_spots(
             let index = course.begun(FileList::Tables(list));
             put_spot(spots, MachineSpot::NoTable(list, index))
         }
-        Some(FileList::Prices(_)) | None => Ok(()),
+        Some(FileList::Prices(_) | FileList::Facts) | None => Ok(()),
     }
 }
 
@@ -297,7 +297,7 @@ pub(crate) fn put_table_spots<'a>(
             let index = course.begun(FileList::Tables(list));
             put_missing_spots(spots, list, index, keys_in(list))
         }
-        Some(FileList::Prices(_)) | None => put_own_spots(spots, table.name),
+        Some(FileList::Prices(_) | FileList::Facts) | None => put_own_spots(spots, table.name),
     }
 }
 

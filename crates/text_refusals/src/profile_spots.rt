@@ -174,7 +174,7 @@ fn put_entry_spots(
             put_spot(spots, ProfileSpot::Item(list, index))?;
             put_four_spots(spots, list, index)
         }
-        Some(FileList::Tables(_)) | None => Ok(()),
+        Some(FileList::Tables(_) | FileList::Facts) | None => Ok(()),
     }
 }
 

@@ -1,0 +1,5 @@
+mod TestLemmas
+mod KeyNameLemmas
+mod RepeatLemmas
+pub mod PlaceLemmas
+mod RuleLemmas
