@@ -1,5 +1,6 @@
 -- Lists of registers that are not in the order of their numbers.
-use Rattle.std.specs.Prelude.{ℕ, ◌+◌, ◌==◌, not, drop, take, ◌||◌, Bool, false, if◌then◌else◌, List, [], ◌∷◌, ◌++◌, codes, nat_lt}
+use Rattle.std.specs.Prelude.{ℕ, ◌+◌, ◌==◌, not, drop, take, ◌||◌, Bool, false}
+use Rattle.std.specs.Prelude.{if◌then◌else◌, List, [], ◌∷◌, ◌++◌, codes, nat_lt}
 use Rattle.std.specs.Prelude.{Option, Some, None}
 use Rattle.std.specs.List.{prefix_len, slice_split}
 use Rattle.arm2_decode.specs.Names.{register_number}
