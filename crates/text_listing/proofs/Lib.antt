@@ -1,1 +1,2 @@
 mod ListLaws
+mod OrderLaws

@@ -1,1 +1,2 @@
+pub mod ListOrder
 pub mod Listing

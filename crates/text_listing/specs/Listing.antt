@@ -7,6 +7,7 @@ use Rattle.assembler.specs.declared.placed_line.PlacedLine.{PlacedLine}
 use Rattle.image.specs.Image.{Words, word_of}
 use Rattle.sources.specs.Rows.{AreSourceRows}
 use Rattle.sources.specs.declared.read.Source.{Source}
+use Rattle.text_listing.specs.ListOrder.{order_note}
 use Rattle.text_listing.specs.declared.listing_columns.TheConstants.{WORD_COLUMNS}
 use Rattle.text_rows.specs.Columns.{in_columns}
 use Rattle.text_rows.specs.Lines.{rows_from}
@@ -35,8 +36,9 @@ rows_beside image n text at zero = no_columns ++ line_row n text
 rows_beside image n text at (suc more) =
     (word_columns at (word_of image at) ++ line_row n text) ++ word_rows image (at + 4) more
 
+-- that, and a note on a list of registers that is out of order
 abbrev pub line_rows : Words → (n : ℕ) → (text : List ℕ) → PlacedLine → List ℕ
-line_rows image n text p = rows_beside image n text p.at p.words
+line_rows image n text p = rows_beside image n text p.at p.words ++ order_note text
 
 -- the address, the word and its line
 abbrev pub IsWordRow : ℕ × ℕ → List ℕ → Type 0

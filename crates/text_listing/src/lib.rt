@@ -1,6 +1,7 @@
 //! Listings: the lines of a source beside their words, and the words of an image with what they say.
 #![tactic(auto)]
 
+mod list_order;
 mod listing_columns;
 mod source;
 

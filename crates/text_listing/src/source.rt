@@ -1,7 +1,8 @@
 ghost use Rattle.std.specs.Prelude.{◌≡◌, ◌≤◌, ◌+◌, ◌*◌, ◌++◌, IfOk, OnOk};
 ghost use Rattle.bus_ticks.specs.declared.space.TheConstants.{SPACE_END};
-ghost use Rattle.text_listing.specs.Listing.{AreListed, IsWordRow, line_rows, word_rows};
+ghost use Rattle.text_listing.specs.Listing.{AreListed, IsWordRow, line_rows, rows_beside, word_rows};
 
+use crate::list_order::put_order_note;
 use crate::listing_columns::{WORD_COLUMNS, put_line_row, put_word_columns, put_word_row};
 use assembler::PlacedLine;
 use image::Image;
@@ -29,6 +30,29 @@ struct BesideWords<'a> {
     image: &'a Image,
 }
 
+impl BesideWords<'_> {
+    // Adds the rows of a line and of its words.
+    fn put_beside(
+        &self,
+        out: &mut Vec<u8>,
+        line: NumberedLine<'_>,
+        placed: PlacedLine,
+    ) -> Result<(), AllocError>
+        ensures { OnOk result
+            (out.new.items
+            ≡ out.old.items
+            ++ rows_beside self.now.image.now line.entry.number line.entry.text.now placed.at placed.words) }
+    {
+        if placed.words == 0 {
+            put_right(out, b"", WORD_COLUMNS)?;
+            return put_line_row(out, line);
+        }
+        put_word_columns(out, placed.at, self.image.word_at(placed.at))?;
+        put_line_row(out, line)?;
+        put_words(out, self.image, placed.at + 4, placed.words - 1)
+    }
+}
+
 impl LineRows for BesideWords<'_> {
     ghost rows = { λ b n text p. line_rows b.image.now n text p };
 
@@ -38,13 +62,8 @@ impl LineRows for BesideWords<'_> {
         line: NumberedLine<'_>,
         placed: PlacedLine,
     ) -> Result<(), AllocError> {
-        if placed.words == 0 {
-            put_right(out, b"", WORD_COLUMNS)?;
-            return put_line_row(out, line);
-        }
-        put_word_columns(out, placed.at, self.image.word_at(placed.at))?;
-        put_line_row(out, line)?;
-        put_words(out, self.image, placed.at + 4, placed.words - 1)
+        self.put_beside(out, line, placed)?;
+        put_order_note(out, line.text)
     }
 }
 

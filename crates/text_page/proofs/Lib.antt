@@ -1,2 +1,5 @@
 mod HtmlLaws
+mod LineLaws
+mod MadeLaws
+mod NoteLaws
 mod RowLaws

@@ -1,5 +1,5 @@
 -- A page of HTML that shows where the ticks of a greatest walk go.
-use Rattle.std.specs.Prelude.{◌≡◌, ℕ, Bool, List, [], ◌∷◌, ◌++◌, codes, Option, Some, None}
+use Rattle.std.specs.Prelude.{◌≡◌, ℕ, Bool, List, [], ◌∷◌, ◌++◌, codes}
 use Rattle.std.specs.List.{filter}
 use Rattle.control_flow.specs.Flow.{Flow}
 use Rattle.control_flow.specs.declared.edges.Edge.{Edge}
@@ -8,7 +8,6 @@ use Rattle.sources.specs.Lines.{line_of}
 use Rattle.sources.specs.declared.read.Source.{Source}
 use Rattle.statement.specs.Stated.{Stated}
 use Rattle.text_rows.specs.Rows.{AreRows}
-use Rattle.text_rows.specs.WordLines.{Numbered}
 use Rattle.text_explained.specs.Columns.{time_text}
 use Rattle.text_explained.specs.Table.{WordStarts, passes_of}
 use Rattle.text_explained.specs.WalkRows.{AreWalkRows}
@@ -16,7 +15,9 @@ use Rattle.text_explained.specs.declared.table_rows.TableRow.{TableRow}
 use Rattle.text_graph.specs.Scene.{is_drawn}
 use Rattle.text_graph.specs.declared.extent.Extent.{Extent}
 use Rattle.text_page.specs.Html.{escaped}
-use Rattle.text_page.specs.Rows.{IsRow, address_link}
+use Rattle.text_page.specs.Noted.{label_of, noted}
+use Rattle.text_page.specs.Rows.{IsLine, address_link}
+use Rattle.text_page.specs.Folds.{lines_from, parts_of}
 
 -- ## The head
 
@@ -46,11 +47,6 @@ marked_style = codes ".off i{outline:0}.row:hover,.row:target{background:#e8f0ff
 abbrev pub style : List ℕ
 style = body_style ++ (row_style ++ (cells_style ++ (greys_style ++ (bars_style ++ marked_style))))
 
--- the label of the word at an address, if its line has one
-abbrev pub label_of : Option Numbered → List ℕ
-label_of None = []
-label_of (Some line) = line.label
-
 -- after an address
 abbrev pub label_text : List ℕ → List ℕ
 label_text [] = []
@@ -70,7 +66,7 @@ heading bound entry label =
 
 abbrev pub names : List ℕ
 names =
-    codes "<div class=\"row names\"><span>address</span><span>times</span><span>ticks</span>"
+    codes "<div class=\"row names\"><span>address</span><span>passes</span><span>ticks</span>"
     ++ codes "<span>share</span><span class=\"bar\">of the bound</span><code>line</code></div>\n"
 
 abbrev pub ending : List ℕ
@@ -83,13 +79,14 @@ abbrev pub is_shown : Extent → TableRow → Bool
 is_shown extent row = is_drawn extent (passes_of row.figures.taken)
 
 -- By the source, an image, the statement, the flow graph, a walk that costs so much, when its words begin,
--- and how much is shown: the heading, a row for each line of the source or each word of the image that is shown,
--- in their order, and the ending.
+-- and how much is shown: the heading, a row for each line of the source or each word of the image that is
+-- shown, in their order, the stretches of loops and routines folded, and the ending.
 pub record IsPage (source : Source) (image : Words) (st : Stated) (flow : Flow) (walk : List Edge)
     (starts : WordStarts) (bound : ℕ) (extent : Extent) (text : List ℕ) : Type 0 where
   pub rows : List TableRow
   pub rows_are : AreWalkRows source image st flow walk starts bound rows
   pub listing : List ℕ
-  pub listing_is : AreRows IsRow (filter (is_shown extent) rows) listing
+  pub listing_is : AreRows (IsLine (noted source image st (filter (is_shown extent) rows)) bound)
+      (lines_from (parts_of st flow) [] (filter (is_shown extent) rows)) listing
   pub text_is : text
       ≡ heading bound st.entry (label_of (line_of source st.entry)) ++ (names ++ (listing ++ ending))

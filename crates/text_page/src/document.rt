@@ -1,38 +1,31 @@
 ghost use Rattle.std.specs.Prelude.{◌≡◌, IfOk};
 ghost use Rattle.longest_walk.specs.Folded.{unfolded};
-ghost use Rattle.text_rows.specs.WordLines.{numbered_at};
 ghost use Rattle.text_explained.specs.Costing.{first_of};
 ghost use Rattle.text_explained.specs.Table.{starts_of};
-ghost use Rattle.text_page.specs.Page.{IsPage, label_of};
+ghost use Rattle.text_page.specs.Page.{IsPage};
 
+use crate::folds::Foldable;
 use crate::heading::{put_heading, put_names};
-use crate::listing::{keep_shown, put_rows};
+use crate::listing::{keep_shown, put_lines};
+use crate::notes::Notes;
+use crate::page_lines::page_lines;
 use loop_bounds::Handler;
 use sources::Source;
 use std::alloc::{AllocError, Global};
-use std::collections::BTreeMap;
 use text_explained::{TimedWalk, walk_rows};
 use text_graph::Extent;
-use text_rows::{SourceLine, put};
-
-// The label of the word at an address, empty where it has none.
-fn label_at<'a>(lines: &BTreeMap<u32, SourceLine<'a>>, at: u32) -> &'a [u8]
-    ensures { result.now ≡ label_of (numbered_at lines.now at) }
-{
-    match lines.get(&at) {
-        Some(line) => line.label,
-        None => b"",
-    }
-}
+use text_rows::put;
 
 /// A page of HTML that shows where the ticks of a handler's greatest run time go: the bound in ticks and in
 /// microseconds and the handler's entry, and below a row for each line of the source that has words, or for
 /// each word of an image, in their order, with its address, how often a greatest walk passes it, the ticks of
 /// that, their share of the bound in per cent and as a bar, and the line. The rows of what the walk does not
 /// pass, and of what no walk reaches, are grey, or left out where the path alone is shown. Under the pointer
-/// a row says the number of the line, the ticks of a pass, what their price takes for granted, and the tick
-/// by which the word begins at the latest. A row is found by its address, as `#a8018`. What comes from the
-/// source is escaped. The page has no script, and loads nothing.
+/// a row says the number of the line, the ticks of a pass, what their price takes for granted, the tick by
+/// which the word begins at the latest, the bound of the loop whose header it is, and what is stated that it
+/// does. A row is found by its address, as `#a8018`, and the line of a branch leads to the row of its target.
+/// Stated loops and routines that are called are folded. What comes from the source is escaped. The page has
+/// no script, and loads nothing.
 ///
 /// # Errors
 ///
@@ -53,11 +46,14 @@ pub fn page(
     let lines = source.lines(alloc)?;
     let mut rows = walk_rows(alloc, source, handler, walk)?;
     keep_shown(&mut rows, extent);
+    let notes = Notes::new(alloc, handler, &lines, &rows)?;
+    let foldable = Foldable::new(alloc, handler)?;
+    let shown = page_lines(alloc, &foldable, &rows)?;
     let entry = handler.statement.entry();
     let mut out = Vec::new(alloc);
-    put_heading(&mut out, walk.longest.bound, entry, label_at(&lines, entry))?;
+    put_heading(&mut out, walk.longest.bound, entry, notes.label_at(entry))?;
     put_names(&mut out)?;
-    put_rows(&mut out, &rows)?;
+    put_lines(&mut out, &notes, walk.longest.bound, &shown)?;
     put(&mut out, b"</body>\n</html>\n")?;
     Ok(out)
 }

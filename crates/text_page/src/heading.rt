@@ -80,7 +80,7 @@ pub(crate) fn put_names(out: &mut Vec<u8>) -> Result<(), AllocError>
 {
     put(
         out,
-        b"<div class=\"row names\"><span>address</span><span>times</span><span>ticks</span>",
+        b"<div class=\"row names\"><span>address</span><span>passes</span><span>ticks</span>",
     )?;
     put(
         out,

@@ -4,11 +4,15 @@
 
 mod cells;
 mod document;
+mod folds;
 mod heading;
 mod hover;
 mod html;
 mod law;
 mod listing;
+mod notes;
+mod page_lines;
+mod summary;
 
 pub use document::page;
 pub use law::escaped_texts_have_no_marks;
