@@ -21,6 +21,7 @@ use Rattle.text_explained.specs.Table.{WordStarts, all_ticks}
 use Rattle.text_explained.specs.Taken.{is_reached, taken_at}
 use Rattle.text_masked.specs.Sections.{AreMaskSections}
 use Rattle.text_savings.specs.Sections.{IsSavingsText}
+use Rattle.walk_contradictions.specs.Contradictions.{IsContradictionSection}
 use Rattle.handlers.specs.Answers.{Answers}
 use Rattle.explain_reports.specs.Each.{IsAskedEach}
 use Rattle.explain_reports.specs.FirstStarts.{AreAskedFirst}
@@ -32,7 +33,8 @@ use Rattle.handlers.specs.declared.fault.ReportFault.{ReportFault}
 -- ## The explanation
 
 -- by the lines of a text, or by the words of an image: the table, then what bursts add to the bound, then
--- what the walk takes of each loop and of each routine, then what is taken for granted, then how many words
+-- what the walk takes of each loop and of each routine, then where its conditions exclude one another, then what
+-- is taken for granted, then how many words
 -- each rule for a base register covers, then the entries of the statement without effect, then the longest
 -- step and how long interrupts are masked, and then what better entries would save
 pub record IsTextOf (source : Source) (stated : Stated) (flow : Flow) (longest : Longest)
@@ -41,6 +43,7 @@ pub record IsTextOf (source : Source) (stated : Stated) (flow : Flow) (longest :
   pub burst_lines : List ℕ
   pub loop_sums : List ℕ
   pub routine_sums : List ℕ
+  pub contradictions : List ℕ
   pub assumptions : List ℕ
   pub rules : List ℕ
   pub idle : List ℕ
@@ -52,13 +55,15 @@ pub record IsTextOf (source : Source) (stated : Stated) (flow : Flow) (longest :
   pub are_loop_sums : AreLoopSums source stated.loops flow (unfolded longest.walk) longest.bound loop_sums
   pub are_routine_sums : AreRoutineSums source source.image flow (unfolded longest.walk) longest.bound
       routine_sums
+  pub are_contradictions : IsContradictionSection source source.image (unfolded longest.walk) contradictions
   pub are_assumptions : AreAssumptions source source.image stated flow assumptions
   pub are_rules : AreRuleLines source.image stated flow rules
   pub are_idle : AreIdleEntries source.image stated flow idle
   pub are_masks : AreMaskSections source source.image stated.loops flow masks
   pub are_savings : IsSavingsText source source.image stated flow (unfolded longest.walk) savings
   pub text_is : text
-      ≡ table ++ (burst_lines ++ loop_sums ++ routine_sums ++ assumptions ++ rules ++ idle ++ masks ++ savings)
+      ≡ table ++ (burst_lines ++ loop_sums ++ routine_sums ++ contradictions ++ assumptions ++ rules ++ idle ++ masks
+      ++ savings)
 
 -- the ticks of all rows of the table are the bound
 abbrev pub IsTotal : Source → Flow → Longest → Type 0

@@ -37,6 +37,7 @@ use text_explained::{
 };
 use text_masked::masks_text;
 use text_savings::savings_text;
+use walk_contradictions::contradiction_text;
 
 /// How the table of an explanation is printed.
 #[derive(Clone, Copy)]
@@ -121,6 +122,9 @@ fn text_of(
     rest.extend_from_slice(&loops)?;
     let routines = routine_sums(alloc, read, handler, walk.timed.longest)?;
     rest.extend_from_slice(&routines)?;
+    let taken = &walk.timed.longest.walk;
+    let contradictions = contradiction_text(alloc, read, handler.image, taken)?;
+    rest.extend_from_slice(&contradictions)?;
     let assumptions = assumed_text(alloc, read, handler)?;
     rest.extend_from_slice(&assumptions)?;
     let rules = rule_lines(alloc, handler)?;

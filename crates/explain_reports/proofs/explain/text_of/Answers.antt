@@ -10,6 +10,7 @@ use Rattle.text_explained.specs.Table.{starts_of}
 use Rattle.text_explained.specs.Sums.{AreRoutineSums}
 use Rattle.text_masked.specs.Sections.{AreMaskSections}
 use Rattle.text_savings.specs.Sections.{IsSavingsText}
+use Rattle.walk_contradictions.specs.Contradictions.{IsContradictionSection}
 use Rattle.explain_reports.proofs.explain.text_of.Goals as goal
 
 -- the handler's image is the source's
@@ -24,6 +25,7 @@ returns c =
       burst_lines = c.in_ok-rest.rest.items;
       loop_sums = c.in_ok-loops.loops.items;
       routine_sums = c.in_ok-routines.routines.items;
+      contradictions = c.in_ok-contradictions.contradictions.items;
       assumptions = c.in_ok-assumptions.assumptions.items;
       rules = c.in_ok-rules.rules.items;
       idle = c.in_ok-idle.idle.items;
@@ -33,6 +35,7 @@ returns c =
       are_burst_lines = c.in_ok-rest.ensures;
       are_loop_sums = c.in_ok-loops.ensures;
       are_routine_sums = subst (λ (w : Words). AreRoutineSums read w h.graph (unfolded longest.walk) longest.bound c.in_ok-routines.routines.items) c.requires.image c.in_ok-routines.ensures;
+      are_contradictions = subst (λ (w : Words). IsContradictionSection read w (unfolded longest.walk) c.in_ok-contradictions.contradictions.items) c.requires.image c.in_ok-contradictions.ensures;
       are_assumptions = subst (λ (w : Words). AreAssumptions read w h.statement h.graph c.in_ok-assumptions.assumptions.items) c.requires.image c.in_ok-assumptions.ensures;
       are_rules = subst (λ (w : Words). AreRuleLines w h.statement h.graph c.in_ok-rules.rules.items) c.requires.image c.in_ok-rules.ensures;
       are_idle = subst (λ (w : Words). AreIdleEntries w h.statement h.graph c.in_ok-idle.idle.items) c.requires.image c.in_ok-idle.ensures;

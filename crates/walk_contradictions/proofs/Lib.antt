@@ -1,0 +1,5 @@
+pub mod PassLemmas
+pub mod OrderLemmas
+pub mod LinkLemmas
+pub mod FlagLemmas
+pub mod TellLemmas

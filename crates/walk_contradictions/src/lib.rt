@@ -1,0 +1,8 @@
+//! Where a walk takes two words' conditions as no flags have it, so that no run takes the walk.
+#![tactic(auto)]
+
+mod contradictions;
+mod outcomes;
+mod passing;
+
+pub use contradictions::contradiction_text;
