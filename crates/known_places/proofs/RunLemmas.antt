@@ -1,10 +1,11 @@
 -- A run from the entry, by a table that is kept along each edge.
-use Rattle.std.proofs.Common.{◌≡◌, ◌∙◌, ℕ, ◌<◌, ◌≤◌, ◌⊎◌, inl, inr, Bool, true, false, cond, List, [], ◌∷◌, length, Option, Some, refl, sym, ap, subst, arith}
+use Rattle.std.proofs.Common.{◌≡◌, ◌∙◌, ℕ, ◌<◌, ◌≤◌, ◌⊎◌, inl, inr, Bool, true, false, cond, List, [], ◌∷◌, length, map, Option, Some, refl, sym, ap, subst, arith}
 use Rattle.std.specs.Prelude.{Contains, get_or}
 use Rattle.std.proofs.lemmas.List.{get_or_default}
 use Rattle.walks.specs.Walk.{Leads}
 use Rattle.image.specs.Image.{Words}
-use Rattle.statement.specs.Stated.{Stated, class_at}
+use Rattle.statement.specs.Stated.{Stated, StatedLoops, class_at}
+use Rattle.statement.specs.declared.stated.Loop.{Loop}
 use Rattle.arm2_effect.specs.declared.step_end.Kind.TheVariants as ended
 use Rattle.arm2_effect.specs.Effects.{is_stopped}
 use Rattle.arm2_effect.specs.Modes.{r15_in}
@@ -22,13 +23,16 @@ use Rattle.control_flow.specs.declared.places.Place.TheVariants.{At}
 use Rattle.control_flow.proofs.Firsts.{no_edge}
 use Rattle.flow_graph.specs.StepLaw.{Follows, IsEdgeOf, TransfersIn}
 use Rattle.flow_graph.proofs.StepLemmas.{IsPlainStep, plain_step, works_plain}
+use Rattle.loop_bounds.specs.Bounds.{KeepsTheBounds}
+use Rattle.loop_bounds.specs.Instance.{Instance}
 use Rattle.loop_bounds.specs.Tree.{IsTree, Tree, place_in}
 use Rattle.longest_walk.specs.Built.{step_at}
 use Rattle.longest_walk.proofs.CarryWalks.{edge_same, number_is}
 use Rattle.numbered_walks.specs.Index.{edge_at}
 use Rattle.known_words.specs.Knowledge.{AreWords, Holds}
+use Rattle.known_words.specs.declared.given.Given.{Given}
 use Rattle.known_words.specs.declared.knowledge.Knowledge.{Knowledge}
-use Rattle.known_places.specs.OnTrust.{ExecutesOnTrust, GoesOnTrust, IsEdgeOnTrust, Justifies}
+use Rattle.known_places.specs.OnTrust.{ExecutesOnTrust, GoesOnTrust, IsEdgeOnTrust, Justifies, KeepsTheBoundsAt, OnTrust}
 use Rattle.known_places.specs.Table.{IsProof, known_at}
 use Rattle.known_places.specs.Words.{StaysIn}
 
@@ -42,7 +46,7 @@ unfolding state_after
 regs_after s i m plain = regs_by (is_stopped m.kind) s _ (ap is_stopped plain)
 
 module _ (words : Words) (st : Stated) (flow : Flow) (tree : Tree) (well : IsWellFormed flow) (t : IsTree flow tree)
-    (table : List Knowledge) (trusted : List ℕ) (p : IsProof words st flow tree table trusted) (entry : List ℕ) where
+    (given : List Given) (table : List Knowledge) (trusted : List ℕ) (p : IsProof words st flow tree given table trusted) (entry : List ℕ) where
   -- at the place of the number what is known holds
   abbrev IsThere : ℕ → State → Type 0
   IsThere number s = number < length flow.places → Holds entry [] (known_at table number) s.regs
@@ -155,8 +159,25 @@ module _ (words : Words) (st : Stated) (flow : Flow) (tree : Tree) (well : IsWel
             (subst (λ (v : Place). Leads edge_shape (HasEdge flow) v walk end) (sym c.place) rest) on,
       )
 
+contains_map : {X Y : Type 0} (f : X → Y) (xs : List X) (x : X) → Contains xs x → Contains (map f xs) (f x)
+contains_map f xs x has = (has.0, omega (arith, has.1, length-map xs f), get_or-map f xs has.0 x (f x) has.1 ∙ ap f has.2)
+
+-- where the bounds of all loops are on trust, they are kept
+all_kept : (flow : Flow) (loops : StatedLoops) (headers : List ℕ) (walk : List Edge) → headers ≡ map (λ (l : Loop). l.header) loops.list
+    → KeepsTheBoundsAt flow loops headers walk → KeepsTheBounds flow loops walk
+all_kept flow loops headers walk are keeps i is =
+    keeps i (
+      is,
+      subst (λ hs. Contains hs i.header) (sym are)
+          (subst (Contains (map (λ (l : Loop). l.header) loops.list)) (sym (ap (λ (x : Instance). x.header) is.parts))
+          (contains_map (λ (l : Loop). l.header) loops.list is.stated_loop is.stated)),
+    )
+
 pub justified : (words : Words) (st : Stated) (flow : Flow) (tree : Tree) → IsWellFormed flow → IsTree flow tree
-    → (table : List Knowledge) (trusted : List ℕ) → IsProof words st flow tree table trusted → Justifies words st flow trusted
-justified words st flow tree well t table trusted p s inputs walk place fit leads goes =
-    follows_from words st flow tree well t table trusted p s.regs inputs walk s 0 place (omega arith) (λ low. p.begins s.regs fit)
-    (subst (λ (v : Place). Leads edge_shape (HasEdge flow) v walk place) (sym t.entry_first) leads) goes
+    → (given : List Given) (table : List Knowledge) (trusted : OnTrust) → IsProof words st flow tree given table trusted.classes
+    → trusted.loops ≡ map (λ (l : Loop). l.header) st.loops.list → Justifies words st flow given trusted
+justified words st flow tree well t given table trusted p all s inputs walk place fit are leads keeps goes = (
+  all_kept flow st.loops trusted.loops walk all keeps,
+  follows_from words st flow tree well t given table trusted.classes p s.regs inputs walk s 0 place (omega arith) (λ low. p.begins s.regs fit are)
+      (subst (λ (v : Place). Leads edge_shape (HasEdge flow) v walk place) (sym t.entry_first) leads) goes,
+)

@@ -9,7 +9,9 @@ use Rattle.control_flow.specs.declared.places.Place.TheVariants.{At}
 use Rattle.loop_bounds.specs.Tree.{Tree, place_in}
 use Rattle.longest_walk.specs.Built.{step_at}
 use Rattle.numbered_walks.specs.Index.{edge_at}
+use Rattle.known_words.specs.Given.{AreGiven}
 use Rattle.known_words.specs.Knowledge.{AreWords, Holds}
+use Rattle.known_words.specs.declared.given.Given.{Given}
 use Rattle.known_words.specs.declared.knowledge.Compared.TheVariants.{Nothing}
 use Rattle.known_words.specs.declared.knowledge.Knowledge.{Knowledge}
 use Rattle.known_places.specs.Words.{Carries, StaysIn}
@@ -18,10 +20,10 @@ use Rattle.known_places.specs.Words.{Carries, StaysIn}
 abbrev pub known_at : List Knowledge → ℕ → Knowledge
 known_at table number = slice_index_or table number (record { registers = []; compared = Nothing })
 
--- what is known at the first place holds of any registers at the entry whose words are of 32 bits
-abbrev pub BeginsKnown : List Knowledge → Type 0
-BeginsKnown table =
-    (entry : List ℕ) → AreWords entry → Holds entry [] (known_at table 0) entry
+-- what is known at the first place holds of any registers at the entry whose words are of 32 bits and as given
+abbrev pub BeginsKnown : List Given → List Knowledge → Type 0
+BeginsKnown given table =
+    (entry : List ℕ) → AreWords entry → AreGiven given entry → Holds entry [] (known_at table 0) entry
 
 -- what is known before the edge of the number gives what is known after it, unless it leaves the handler
 abbrev pub KeepsAlong : Words → Flow → Tree → List Knowledge → ℕ → Type 0
@@ -40,9 +42,9 @@ StaysAt words st flow tree table trusted number =
     ⊎ StaysIn (class_at st address action.base) word address (known_at table number)
 
 -- what is known holds at the entry and along each edge, and each class follows from it or is on trust
-pub record IsProof (words : Words) (st : Stated) (flow : Flow) (tree : Tree) (table : List Knowledge)
-    (trusted : List ℕ) : Type 0 where
+pub record IsProof (words : Words) (st : Stated) (flow : Flow) (tree : Tree) (given : List Given)
+    (table : List Knowledge) (trusted : List ℕ) : Type 0 where
   pub whole : length table ≡ length flow.places
-  pub begins : BeginsKnown table
+  pub begins : BeginsKnown given table
   pub keeps : (k : ℕ) → k < length flow.edges → KeepsAlong words flow tree table k
   pub stays : (number : ℕ) → number < length flow.places → StaysAt words st flow tree table trusted number

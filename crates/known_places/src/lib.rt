@@ -1,11 +1,14 @@
 //! What is known of the registers at each place of a handler, and which of the classes that are stated of its
-//! accesses follow from that.
+//! accesses, and of the bounds of its loops, follow from that.
 #![tactic(auto)]
 
+mod loops;
+mod on_trust;
 mod search;
 mod table;
 mod transfers;
 mod word;
 
+pub use on_trust::OnTrust;
 pub use search::proposed;
-pub use table::classes_on_trust;
+pub use table::left_on_trust;

@@ -3,7 +3,7 @@ ghost use Rattle.loop_bounds.specs.Tree.{IsTree};
 
 use crate::word::known_after;
 use control_flow::{Edge, Place};
-use known_words::Knowledge;
+use known_words::{Given, Knowledge};
 use loop_bounds::{Handler, edge_range_in};
 use std::alloc::{AllocError, Global};
 
@@ -16,6 +16,7 @@ const SWEEPS_THAT_JOIN: u32 = 3;
 #[derive(Drop)]
 struct Search {
     found: Vec<Option<Knowledge>>,
+    start: Knowledge,
     joins: bool,
     changed: bool,
 }
@@ -108,30 +109,37 @@ impl Search {
     fn known_at(&self, number: usize) -> Knowledge {
         match self.found.get(number) {
             Some(Some(known)) => *known,
-            _ => Knowledge::at_entry(),
+            _ => self.start,
         }
     }
 }
 
-/// A table of what may be known of the registers before each place's word, by the numbers of the places, for
-/// `classes_on_trust` to check: nothing is claimed of it but its length.
+/// A table of what may be known of the registers before each place's word, by the numbers of the places and
+/// from facts on registers before the first step, for
+/// `left_on_trust` to check: nothing is claimed of it but its length.
 ///
 /// It takes time linear in the edges.
 ///
 /// # Errors
 ///
 /// An allocation failed.
-pub fn proposed(alloc: Global, handler: &Handler<'_>) -> Result<Vec<Knowledge>, AllocError>
+pub fn proposed(
+    alloc: Global,
+    handler: &Handler<'_>,
+    given: &[Given],
+) -> Result<Vec<Knowledge>, AllocError>
     requires { IsTree handler.now.graph handler.now.tree }
     ensures { IfOk result (λ table. length table.items ≡ length handler.now.graph.places) }
 {
     let places = handler.graph.places().len();
+    let start = Knowledge::given(given);
     let mut search = Search {
         found: vec![in alloc; None; places]?,
+        start,
         joins: true,
         changed: false,
     };
-    search.put(0, &Knowledge::at_entry());
+    search.put(0, &start);
     search.run(handler);
     let mut table = Vec::with_capacity(alloc, places)?;
     for number in 0..places {

@@ -10,9 +10,11 @@ ghost use Rattle.known_places.specs.OnTrust.{Justifies};
 ghost use Rattle.known_places.specs.Table.{BeginsKnown, KeepsAlong, StaysAt, known_at};
 ghost use Rattle.known_places.specs.Words.{Carries, StaysIn};
 
+use crate::loops::stated_headers;
+use crate::on_trust::OnTrust;
 use crate::word::{known_after, stays_in};
 use control_flow::{Edge, Label, Place, action_of};
-use known_words::Knowledge;
+use known_words::{Given, Knowledge};
 use loop_bounds::{Handler, place_in};
 use numbered_walks::NumberedEdge;
 use std::alloc::{AllocError, Global};
@@ -148,47 +150,51 @@ fn addresses_on_trust(
     Ok(trusted)
 }
 
-// Whether what is known before the first step is seen to be known at the entry.
-fn begins_known(table: &[Knowledge]) -> bool
-    ensures { IsTrue result → BeginsKnown table.now }
+// Whether what is known before the first step, by the facts, is seen to be known at the entry.
+fn begins_known(table: &[Knowledge], given: &[Given]) -> bool
+    ensures { IsTrue result → BeginsKnown given.now table.now }
 {
     if table.is_empty() {
         return false;
     }
-    Knowledge::at_entry().implies(&table[0])
+    Knowledge::given(given).implies(&table[0])
 }
 
-/// By a table of what is known of the registers before each place's word, by the numbers of the places: the
-/// addresses, in bytes, of the words whose stated class is on trust, once for each place. Those of all other
-/// words follow: each run from the entry, finished or not, that keeps the statement step by step but for its
-/// loop bounds and its classes, and keeps the classes at these addresses, keeps all its classes. None where
-/// the table is not seen to hold along each edge; so of a handler inside of which a word restores R15's mode.
+/// What is left on trust of the statement, by facts on registers before the first step and by a table of what
+/// is known of the registers before each place's word, by the numbers of the places: the addresses, in bytes,
+/// of the words whose stated class is on trust, once for each place, and of the headers of the loops whose
+/// bound is, which are all. The classes of all other words follow: each run from the entry, finished or not,
+/// that starts as the facts say, keeps the statement step by step but for its classes and its loops' bounds,
+/// and keeps those on trust, keeps all of them. None where the table is not seen to hold along each edge; so of
+/// a handler inside of which a word restores R15's mode.
 ///
-/// It takes time linear in the edges.
+/// It takes time linear in the edges, the facts and the loops.
 ///
 /// # Errors
 ///
 /// An allocation failed.
-pub fn classes_on_trust(
+pub fn left_on_trust(
     alloc: Global,
     handler: &Handler<'_>,
+    given: &[Given],
     table: &[Knowledge],
-) -> Result<Option<Vec<u32>>, AllocError>
+) -> Result<Option<OnTrust>, AllocError>
     requires graph { IsFlowGraph handler.now.image.now handler.now.statement handler.now.graph.profile
         handler.now.graph }
     requires tree { IsTree handler.now.graph handler.now.tree }
     ensures { IfOk result (λ found. IfSome found (λ trusted. Justifies handler.now.image.now
-        handler.now.statement handler.now.graph trusted.items)) }
+        handler.now.statement handler.now.graph given.now trusted)) }
 {
     if table.len() != handler.graph.places().len() {
         return Ok(None);
     }
-    if !begins_known(table) {
+    if !begins_known(table, given) {
         return Ok(None);
     }
     if !keeps_along_all(handler, table) {
         return Ok(None);
     }
-    let trusted = addresses_on_trust(alloc, handler, table)?;
-    Ok(Some(trusted))
+    let classes = addresses_on_trust(alloc, handler, table)?;
+    let loops = stated_headers(alloc, &handler.statement)?;
+    Ok(Some(OnTrust { classes, loops }))
 }

@@ -2,6 +2,7 @@ pub mod Known
 pub mod Sums
 pub mod Values
 pub mod Knowledge
+pub mod Given
 pub mod Entering
 pub mod After
 pub mod Transfers

@@ -3,12 +3,12 @@ ghost use Rattle.arm2_decode.specs.Names.{is_pc, is_same};
 ghost use Rattle.arm2_effect.specs.Modes.{r15_in};
 ghost use Rattle.arm2_effect.specs.Operands.{current_in, first_of, operand_of, shifted_by_amount};
 ghost use Rattle.arm2_effect.specs.ProgramCounter.{address_of};
-ghost use Rattle.known_words.specs.Known.{IsKnown};
+ghost use Rattle.known_words.specs.Known.{IsIn, IsKnown};
 ghost use Rattle.known_words.specs.Knowledge.{AreWords, Holds, known_of, without};
 
 use crate::operands::shifted;
 use crate::sums::ALL;
-use crate::words::{Known, NO_STEPS, Start, Sum, Word};
+use crate::words::{Known, NO_STEPS, Range, Start, Sum, Word};
 use arm2_decode::{Register, Shift};
 use bus_ticks::ahead_of;
 
@@ -58,9 +58,10 @@ macro_rules! words_at_entry {
     };
 }
 
-fn at_entry(register: Register) -> Known
+/// The word that a register has at the entry, which is in the range.
+pub(crate) fn at_entry_in(register: Register, range: Range) -> Known
     ensures { (entry turns : List ℕ) → current_in register entry < 2 ^ 32
-        → IsKnown entry turns result (current_in register entry) }
+        → IsIn range (current_in register entry) → IsKnown entry turns result (current_in register entry) }
 {
     Known::Word(Word {
         sum: Sum {
@@ -69,8 +70,15 @@ fn at_entry(register: Register) -> Known
             width: 0,
             steps: NO_STEPS,
         },
-        range: ALL,
+        range,
     })
+}
+
+fn at_entry(register: Register) -> Known
+    ensures { (entry turns : List ℕ) → current_in register entry < 2 ^ 32
+        → IsKnown entry turns result (current_in register entry) }
+{
+    at_entry_in(register, ALL)
 }
 
 /// What is known of R0 to R14 of the current mode, which is that of the entry, and of the flags.

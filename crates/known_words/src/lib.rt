@@ -8,6 +8,7 @@
 mod data;
 mod edges;
 mod forgetting;
+mod given;
 mod implying;
 mod joining;
 mod knowledge;
@@ -19,6 +20,7 @@ mod values;
 mod words;
 
 pub use edges::narrowed;
+pub use given::Given;
 pub use knowledge::{Compared, Knowledge};
 pub use operands::{rotated, shifted};
 pub use stepping::{after, known_where_skipped};
