@@ -1,6 +1,6 @@
 //! The words of which a class is stated or on trust.
 
-ghost use Rattle.std.specs.Prelude.{◌≡◌, ◌≢◌, ◌↔◌, ◌||◌, ℕ, true, IfOk, IsTrue, OnOk};
+ghost use Rattle.std.specs.Prelude.{◌≡◌, ◌≢◌, ◌↔◌, ◌⊎◌, ◌||◌, ℕ, true, IfOk, IsTrue, OnOk};
 ghost use Rattle.std.specs.BTreeSet.{contains};
 ghost use Rattle.std.specs.List.Sorted.{IsStrictlySortedBy};
 ghost use Rattle.std.specs.Ordering.{nat_cmp};
@@ -65,6 +65,15 @@ fn has_class(image: &Image, statement: &Statement, at: u32) -> bool
     }
 }
 
+fn add(named: &mut BTreeSet<u32>, at: u32) -> Result<(), AllocError>
+    ensures { OnOk result
+        ((a : ℕ) → (contains nat_cmp named.new a ≡ true)
+        ↔ ((contains nat_cmp named.old a ≡ true) ⊎ (at ≡ a))) }
+{
+    named.insert(at)?;
+    Ok(())
+}
+
 // Adds the address of the place, if its word has a stated class.
 fn note(
     named: &mut BTreeSet<u32>,
@@ -79,7 +88,7 @@ fn note(
         return Ok(());
     };
     if has_class(handler.image, &handler.statement, *address) {
-        named.insert(*address)?;
+        add(named, *address)?;
     }
     Ok(())
 }

@@ -3,7 +3,6 @@
 ghost use Rattle.std.specs.Prelude.{◌≡◌, ◌∷◌, [], ◌==◌, ◌||◌, ℕ, List, IfErr, IfOk, IfSome, not};
 ghost use Rattle.control_flow.specs.Graph.{IsFlowGraph};
 ghost use Rattle.loop_bounds.specs.Handler.{HasItsTree};
-ghost use Rattle.loop_bounds.specs.Tree.{IsTree};
 ghost use Rattle.known_places.specs.OnTrust.{Justifies};
 ghost use Rattle.handlers.specs.Priced.{Priced, given};
 ghost use Rattle.handlers.specs.Refusal.{Carries, CarriesRead, CarriesReadBy, ComesAlone, fault_only};
@@ -63,7 +62,7 @@ fn left_of(
 ) -> Result<Option<OnTrust>, AllocError>
     requires graph { IsFlowGraph handler.now.image.now handler.now.statement handler.now.graph.profile
         handler.now.graph }
-    requires tree { IsTree handler.now.graph handler.now.tree }
+    requires tree { HasItsTree handler.now }
     ensures { IfOk result (λ left. IfSome left
         (Justifies handler.now.image.now handler.now.statement handler.now.graph given.now)) }
 {

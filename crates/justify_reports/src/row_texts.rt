@@ -1,12 +1,12 @@
 //! The rows as they are printed.
 
-ghost use Rattle.std.specs.Prelude.{◌≡◌, ◌++◌, OnOk, length};
+ghost use Rattle.std.specs.Prelude.{◌≡◌, ◌++◌, IfOk, OnOk, length};
+ghost use Rattle.text_rows.specs.Rows.{named_row};
 ghost use Rattle.asm_text.specs.Appended.{Appends};
-ghost use Rattle.sources.specs.Lines.{AreLines, line_of};
+ghost use Rattle.sources.specs.Lines.{AreLines};
 ghost use Rattle.text_rows.specs.WordLines.{numbered_at};
 ghost use Rattle.justify_reports.specs.RowTexts.{AreRowTexts, IsEnd, IsRowText, IsWordEnd, front_text};
 ghost use Rattle.justify_reports.specs.RowTexts.{kind_text, stated_text, trust_text};
-ghost use Rattle.image.specs.Image.{word_of};
 
 use crate::rows::{Entry, Row};
 use image::Image;
@@ -87,25 +87,37 @@ fn put_word_end(out: &mut Vec<u8>, used: usize, at: u32, word: Option<u32>) -> R
     }
 }
 
+// Ends such a row with a word of a text's line.
+fn put_line_end(
+    out: &mut Vec<u8>,
+    used: usize,
+    at: u32,
+    line: &SourceLine<'_>,
+) -> Result<(), AllocError>
+    ensures { OnOk result
+        (out.new.items ≡ out.old.items ++ named_row used at line.now.number line.now.text.now) }
+{
+    let line = NumberedLine {
+        number: line.number as u64,
+        text: line.text,
+    };
+    put_named_row(out, used, line, at)
+}
+
+// Ends the row that begins so with the word at an address.
 fn put_end(
     out: &mut Vec<u8>,
     sight: Sight<'_, '_, '_>,
-    used: usize,
+    front: &[u8],
     at: u32,
 ) -> Result<(), AllocError>
     ensures { OnOk result
-        (Appends (IsEnd sight.entry.read.now.image used at (numbered_at sight.entry.lines.now at))
-        out.old.items out.new.items) }
+        (Appends (IsEnd sight.entry.read.now.image (length front.now) at
+        (numbered_at sight.entry.lines.now at)) out.old.items out.new.items) }
 {
     match sight.lines.get(&at) {
-        Some(line) => {
-            let line = NumberedLine {
-                number: line.number as u64,
-                text: line.text,
-            };
-            put_named_row(out, used, line, at)
-        }
-        None => put_word_end(out, used, at, sight.read.image.word_at(at)),
+        Some(line) => put_line_end(out, front.len(), at, line),
+        None => put_word_end(out, front.len(), at, sight.read.image.word_at(at)),
     }
 }
 
@@ -117,7 +129,7 @@ fn put_row(out: &mut Vec<u8>, sight: Sight<'_, '_, '_>, row: Row) -> Result<(), 
 {
     let front = front_of(*out.allocator(), row)?;
     put(out, &front)?;
-    put_end(out, sight, front.len(), row.at)
+    put_end(out, sight, &front, row.at)
 }
 
 fn put_rows(out: &mut Vec<u8>, sight: Sight<'_, '_, '_>, rows: &[Row]) -> Result<(), AllocError>

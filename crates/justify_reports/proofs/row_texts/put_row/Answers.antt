@@ -8,6 +8,6 @@ returns c =
     let sight = c.args.sight in
     let front = c.in_ok-front.front.items in
     on_ok_weaker c.put_end.result
-    (row_put sight.read.now sight.read.now.image c.args.row sight.lines.now front c.args.out.now.items c.put.new.out.items c.put_end.new.out.items c.len.result c.requires c.in_ok-front.ensures
-    c.len.ensures (c.in_ok-put.ensures ∙ ap (λ (xs : List ℕ). c.args.out.now.items ++ xs) c.deref.ensures.value))
+    (row_put sight.read.now sight.read.now.image c.args.row sight.lines.now front c.args.out.now.items c.put.new.out.items c.put_end.new.out.items (length c.deref-2.result.now) c.requires c.in_ok-front.ensures
+    (ap (λ (xs : List ℕ). length xs) c.deref-2.ensures.value) (c.in_ok-put.ensures ∙ ap (λ (xs : List ℕ). c.args.out.now.items ++ xs) c.deref.ensures.value))
     c.put_end.ensures
