@@ -55,9 +55,9 @@ module _ (words : Words) (st : Stated) (flow : Flow) (left : Option OnTrust) (ba
               ⊎_elim (λ was. inl ((known a).0 was)) (λ among. inr among) (or_cases (contains nat_cmp base a) (lists_class left a) (sym (put a) ∙ in_set)),
           λ h.
               let in_set : contains nat_cmp set a ≡ true = put a ∙ ⊎_elim
-                  (λ here. ap (λ b. b || lists_class left a) ((known a).1 here))
-                  (λ among. or_right (contains nat_cmp base a) (lists_class left a) among)
-                  h in
+              (λ here. ap (λ b. b || lists_class left a) ((known a).1 here))
+              (λ among. or_right (contains nat_cmp base a) (lists_class left a) among)
+              h in
               subst (λ xs. Contains xs a) (sym is) (iff.0 in_set),
         );
   }

@@ -75,11 +75,7 @@ fn add(named: &mut BTreeSet<u32>, at: u32) -> Result<(), AllocError>
 }
 
 // Adds the address of the place, if its word has a stated class.
-fn note(
-    named: &mut BTreeSet<u32>,
-    place: &Place,
-    handler: &Handler<'_>,
-) -> Result<(), AllocError>
+fn note(named: &mut BTreeSet<u32>, place: &Place, handler: &Handler<'_>) -> Result<(), AllocError>
     ensures { OnOk result
         (Notes (HasClass handler.now.image.now handler.now.statement) place.now
         (contains nat_cmp named.old) (contains nat_cmp named.new)) }

@@ -70,11 +70,7 @@ fn left_of(
     left_on_trust(alloc, handler, given, &table)
 }
 
-fn text_of(
-    alloc: Global,
-    read: &Source<'_>,
-    summary: Summary<'_>,
-) -> Result<Vec<u8>, AllocError>
+fn text_of(alloc: Global, read: &Source<'_>, summary: Summary<'_>) -> Result<Vec<u8>, AllocError>
     ensures { IfOk result
         (λ text. IsJustifyText read.now summary.entry.given.now summary.entry.left.now
         summary.entry.rows.now summary.entry.bound summary.entry.price text.items) }

@@ -78,7 +78,12 @@ fn front_of(alloc: Global, row: Row) -> Result<Vec<u8>, AllocError>
 }
 
 // Ends a row that has so many columns with a word of an image, or with the address where none is.
-fn put_word_end(out: &mut Vec<u8>, used: usize, at: u32, word: Option<u32>) -> Result<(), AllocError>
+fn put_word_end(
+    out: &mut Vec<u8>,
+    used: usize,
+    at: u32,
+    word: Option<u32>,
+) -> Result<(), AllocError>
     ensures { OnOk result (Appends (IsWordEnd used at word) out.old.items out.new.items) }
 {
     match word {
