@@ -1,5 +1,6 @@
 -- The rows as they are printed.
-use Rattle.std.specs.Prelude.{◌≡◌, ℕ, Bool, true, false, List, ◌++◌, codes, decimal, length, Option, Some, None}
+use Rattle.std.specs.Prelude.{◌≡◌, ℕ, Bool, true, false, List, ◌++◌, codes, decimal, length, Option, Some}
+use Rattle.std.specs.Prelude.{None}
 use Rattle.image.specs.Image.{Words, word_of}
 use Rattle.sources.specs.Lines.{line_of}
 use Rattle.sources.specs.declared.read.Source.{Source}

@@ -13,7 +13,8 @@ use Rattle.justify_reports.specs.declared.rows.Row.{Row}
 -- from the lowest to the highest word that a register may have
 abbrev pub range_text : (low high : ℕ) → List ℕ
 range_text low high =
-    if low == high then codes " = " ++ hex8 low else codes " from " ++ (hex8 low ++ (codes " to " ++ hex8 high))
+    if low == high then codes " = " ++ hex8 low
+    else codes " from " ++ (hex8 low ++ (codes " to " ++ hex8 high))
 
 abbrev pub fact_row : Given → List ℕ
 fact_row g = codes "given " ++ (register_text g.register ++ (range_text g.low g.high ++ codes "\n"))
@@ -36,13 +37,15 @@ others_text = codes "On trust too: returns, other stated targets, ways of branch
 
 abbrev pub facts_text : List Given → List ℕ
 facts_text [] = codes "without facts at the entry"
-facts_text (g ∷ given) = codes "given " ++ (decimal (length (g ∷ given)) ++ codes " of the registers at the entry")
+facts_text (g ∷ given) =
+    codes "given " ++ (decimal (length (g ∷ given)) ++ codes " of the registers at the entry")
 
 -- how many entries follow
 abbrev pub counts_text : List Row → List Given → List ℕ
 counts_text rows given =
     decimal (follows_count rows)
-    ++ (codes " of " ++ (decimal (length rows) ++ (codes " entries follow, " ++ (facts_text given ++ codes ".\n"))))
+    ++ (codes " of "
+    ++ (decimal (length rows) ++ (codes " entries follow, " ++ (facts_text given ++ codes ".\n"))))
 
 -- ## The theorem
 
