@@ -449,8 +449,8 @@ fn print_followed_visits<'b, O: Output>(
 
 /// Prints the report of a job, with the commands that were typed for `debug`, and answers yes; or whether a
 /// run did all its steps, a bound is enough, a response is within what is wanted, a handler with visits ends,
-/// a certificate proves a bound, enough of a statement follows, or a run keeps its statement. Of `asm`, which writes the image's file too,
-/// it prints the line alone.
+/// a certificate proves a bound, enough of a statement follows, or a run keeps its statement. Of `asm`, which
+/// writes the image's file too, it prints the line alone.
 pub(crate) fn print<'b, O: Output>(
     alloc: Global,
     job: Job<'b, '_>,
