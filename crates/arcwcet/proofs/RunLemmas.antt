@@ -427,6 +427,7 @@ module _ {S I O : Type 0} (reads : Reading S) (writes : Writing S) (remaining : 
     by_form command.Respond asm debug plain = plain
     by_form command.Explain asm debug plain = plain
     by_form command.Verdict asm debug plain = plain
+    by_form command.Justify asm debug plain = plain
     by_form command.Follow asm debug plain = plain
     by_form command.FollowVisits asm debug plain = plain
     by_form command.Graph asm debug plain = plain

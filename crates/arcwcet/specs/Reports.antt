@@ -1,5 +1,5 @@
 -- What a command prints of the bytes of its files, and why it refuses them: a line for each command.
-use Rattle.std.specs.Prelude.{◌≡◌, ℕ, Bool, true, false, List, codes, drop, Option, Some, None, Result, Ok}
+use Rattle.std.specs.Prelude.{◌≡◌, ℕ, Bool, true, false, List, [], codes, drop, Option, Some, None, Result, Ok}
 use Rattle.std.specs.Prelude.{Err, if◌then◌else◌, unwrap_or}
 use Rattle.std.specs.List.{slice_get}
 use Rattle.std.specs.Option.{option_map_or}
@@ -31,6 +31,7 @@ use Rattle.explain_reports.specs.Verdict.{IsVerdictReport}
 use Rattle.explain_reports.specs.declared.explain.TableForm.{TableForm}
 use Rattle.follow_reports.specs.FollowReport.{IsFollowRefused, IsFollowReport}
 use Rattle.follow_reports.specs.FollowVisits.{AreNotFollowed, IsFollowVisitsReport}
+use Rattle.justify_reports.specs.JustifyReport.{IsJustifyReport}
 use Rattle.response_reports.specs.Question.{FiqQuestion, Question}
 use Rattle.response_reports.specs.RespondReport.{IsRespondRefused, IsRespondReport}
 use Rattle.command_line.specs.Line.{Asked}
@@ -137,8 +138,8 @@ abbrev pub version_report : Report
 version_report = unpriced (λ text. text ≡ version_line) (λ fault. fault ≡ report_fault.Device)
 
 -- What a command prints, with its answer: whether a run did all its steps, a bound is enough, a response is
--- within what is wanted, a handler with visits ends, a certificate proves a bound, a run keeps its statement;
--- the others answer yes.
+-- within what is wanted, a handler with visits ends, a certificate proves a bound, enough of a statement
+-- follows, a run keeps its statement; the others answer yes.
 module _ (asked : Asked) (i : Inputs) (typed : List ℕ) where
   unfoldable pub report_by : Command → Report
   report_by command.Version = version_report
@@ -178,6 +179,8 @@ module _ (asked : Asked) (i : Inputs) (typed : List ℕ) where
       (IsRefused i.source i.second)
   report_by command.Verdict =
       judged i.profile (IsVerdictReport i.source i.second i.third) (IsCheckRefused i.source i.second i.third)
+  report_by command.Justify =
+      judged i.profile (IsJustifyReport i.source i.second [] asked.all) (IsRefused i.source i.second)
   report_by command.Follow =
       judged i.profile (IsFollowReport i.source i.second i.third) (IsFollowRefused i.source i.second i.third)
   report_by command.FollowVisits =

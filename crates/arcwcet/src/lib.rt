@@ -28,6 +28,10 @@ pub use files::{HostStore, MOST_INPUT_BYTES, Store, read_limited};
 pub use follow_reports::{FollowedRun, FollowedVisits, follow_report, follow_visits_report};
 pub use handlers::{MemoryOutput, Refusal, ReportFault, Stop, StreamOutput, fault_only};
 pub use input::{Input, InputFault, StreamInput};
+pub use justify_reports::{
+    JustifiedHandler, justify_report, kept_is_on_trust, on_trust_is_bounded,
+};
+pub use known_words::Given;
 pub use law::{input_limit, some_run_has_visits, some_run_keeps};
 pub use machine_file::{MachineFile, read_machine, read_profile};
 pub use machine_reports::{

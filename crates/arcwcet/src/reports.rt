@@ -1,6 +1,6 @@
 //! The reports that commands print.
 
-ghost use Rattle.std.specs.Prelude.{◌≡◌, drop, map, option_map};
+ghost use Rattle.std.specs.Prelude.{◌≡◌, [], drop, map, option_map};
 ghost use Rattle.outputs.specs.OnTheWay.{Adds};
 ghost use Rattle.handlers.specs.Priced.{Priced};
 ghost use Rattle.handlers.specs.Refusal.{fault_only};
@@ -14,6 +14,7 @@ ghost use Rattle.explain_reports.specs.PageReport.{IsPageReport};
 ghost use Rattle.explain_reports.specs.Verdict.{ExplainsVerdict};
 ghost use Rattle.follow_reports.specs.FollowReport.{FollowsRun};
 ghost use Rattle.follow_reports.specs.FollowVisits.{FollowsVisitedRun};
+ghost use Rattle.justify_reports.specs.JustifyReport.{ReportsJustified};
 ghost use Rattle.machine_reports.specs.RunTo.{ReportsRunTo};
 ghost use Rattle.response_reports.specs.Question.{fiq_question};
 ghost use Rattle.response_reports.specs.RespondReport.{Responds};
@@ -35,6 +36,7 @@ use explain_reports::{
 };
 use follow_reports::{FollowedRun, FollowedVisits, follow_report, follow_visits_report};
 use handlers::{Refusal, ReportFault};
+use justify_reports::{JustifiedHandler, justify_report};
 use machine_reports::{
     Front, RunTo, ShownRegisters, ShownSteps, debug_report, machine_report, run_to_report,
 };
@@ -387,6 +389,26 @@ fn print_verdict<'b, O: Output>(
     verdict_report(alloc, checked, inputs.profile, out)
 }
 
+// `justify`, of a source and a statement.
+fn print_justified<'b, O: Output>(
+    alloc: Global,
+    inputs: Inputs<'b>,
+    all: bool,
+    out: &mut O,
+) -> Result<bool, Refusal<'b>>
+    ensures { Priced (inputs_lent inputs.entry).profile
+        (λ p. ReportsJustified O.taken O.failures inputs.entry.source.now inputs.entry.second.now [] all p
+        out.old out.new (fault_only result)) out.old out.new (fault_only result) }
+{
+    let justified = JustifiedHandler {
+        source: inputs.source,
+        statement: inputs.second,
+        given: &[],
+        all,
+    };
+    justify_report(alloc, justified, inputs.profile, out)
+}
+
 // `follow`, of a source, a statement and a machine file.
 fn print_followed<'b, O: Output>(
     alloc: Global,
@@ -427,8 +449,8 @@ fn print_followed_visits<'b, O: Output>(
 
 /// Prints the report of a job, with the commands that were typed for `debug`, and answers yes; or whether a
 /// run did all its steps, a bound is enough, a response is within what is wanted, a handler with visits ends,
-/// a certificate proves a bound, or a run keeps its statement. Of `asm`, which writes the image's file too,
-/// it prints the line alone.
+/// a certificate proves a bound, enough of a statement follows, or a run keeps its statement. Of `asm`, which
+/// writes the image's file too, it prints the line alone.
 pub(crate) fn print<'b, O: Output>(
     alloc: Global,
     job: Job<'b, '_>,
@@ -466,6 +488,7 @@ pub(crate) fn print<'b, O: Output>(
         Command::Respond => print_response(alloc, job, out),
         Command::Explain => print_explanation(alloc, job, out),
         Command::Verdict => print_verdict(alloc, inputs, out),
+        Command::Justify => print_justified(alloc, inputs, job.request.all, out),
         Command::Follow => print_followed(alloc, inputs, out),
         Command::FollowVisits => print_followed_visits(alloc, inputs, out),
         Command::Graph => {

@@ -98,6 +98,8 @@ usages =
     ∷ argument (codes "all") form.All ∷ argument (codes "top") form.NumberOption
     ∷ argument (codes "width") form.WidthOption
     ∷ other (codes "certificate") form.FileOption command.Verdict ∷ [])
+    ∷ usage (codes "justify") command.Justify
+    (profile ∷ source ∷ statement ∷ argument (codes "all") form.All ∷ [])
     ∷ usage (codes "follow") command.Follow
     (profile ∷ source ∷ statement ∷ other (codes "fiq") form.FileOption command.FollowVisits ∷ machine ∷ [])
     ∷ usage (codes "graph") command.Graph

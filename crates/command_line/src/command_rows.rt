@@ -41,7 +41,7 @@ pub(crate) enum Form {
     Each,
     /// The option that asks for first starts.
     First,
-    /// The option that asks for each row of a table.
+    /// The option that asks for all: each row of a table, or that each entry follows.
     All,
     /// The option that asks for the longest run's path alone.
     Path,
@@ -252,6 +252,13 @@ const WIDTH: ArgumentRow = ArgumentRow {
     instead: None,
 };
 
+const ALL_FOLLOW: ArgumentRow = ArgumentRow {
+    id: "all",
+    form: Form::All,
+    help: "Status 1 where a class or a loop's bound is on trust",
+    instead: None,
+};
+
 const PATH: ArgumentRow = ArgumentRow {
     id: "path",
     form: Form::Path,
@@ -351,7 +358,7 @@ const RESPONSE_WAITED: ArgumentRow = ArgumentRow {
 };
 
 /// The commands, in the order of the help.
-pub(crate) const COMMANDS: [CommandRow; 13] = [
+pub(crate) const COMMANDS: [CommandRow; 14] = [
     CommandRow {
         name: "asm",
         command: Command::Asm,
@@ -454,6 +461,12 @@ pub(crate) const COMMANDS: [CommandRow; 13] = [
             WIDTH,
             CERTIFICATE,
         ],
+    },
+    CommandRow {
+        name: "justify",
+        command: Command::Justify,
+        summary: "Print which entries of a statement follow from the handler's code",
+        arguments: &[PROFILE, SOURCE, STATEMENT, ALL_FOLLOW],
     },
     CommandRow {
         name: "follow",

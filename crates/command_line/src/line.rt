@@ -42,6 +42,9 @@ pub enum Command {
     Explain,
     /// The verdict on a certificate, the third file, and what fails in it.
     Verdict,
+    /// Which entries of the statement follow from the handler's code; all are to where [`Request::all`] says
+    /// so.
+    Justify,
     /// Whether a machine's run through the handler, by the machine file, the third one, keeps the statement.
     Follow,
     /// The same of a run that FIQ interrupts: the third file is the statement on its handler, and the fourth
@@ -92,7 +95,7 @@ pub struct Request<'a> {
     pub each: bool,
     /// Whether the table of an explanation has the ticks by which words begin for the first time too.
     pub first: bool,
-    /// Whether each of its rows is to be printed.
+    /// Whether each of its rows is to be printed; or, of `justify`, whether all entries are to follow.
     pub all: bool,
     /// Whether the third file of `respond` is the statement on FIQ's handler.
     pub fiq_statement: bool,

@@ -1,0 +1,5 @@
+mod ClassedLemmas
+mod RowLemmas
+mod SetLemmas
+mod TextLemmas
+mod TrustLemmas

@@ -1,0 +1,40 @@
+use Rattle.std.proofs.Common.{◌∙◌, List, ap, subst, sym}
+use Rattle.std.specs.Prelude.{IfSome}
+use Rattle.control_flow.specs.Graph.{IsFlowGraph}
+use Rattle.image.specs.Image.{Words}
+use Rattle.handlers.specs.Report.{BeforeOutput, IsRefused}
+use Rattle.handlers.proofs.HandlerLemmas.{refused_as}
+use Rattle.known_places.specs.OnTrust.{Justifies}
+use Rattle.justify_reports.specs.JustifyReport.{IsJustifyText, is_enough}
+use Rattle.justify_reports.specs.Rows.{AreStatedRows}
+use Rattle.justify_reports.specs.declared.rows.Row.{Row}
+use Rattle.justify_reports.proofs.TrustLemmas.{justified, own_graph}
+use Rattle.justify_reports.proofs.justify.handler_justified.Goals as goal
+
+pub returns-in_err-found-clause-fault : goal.returns-in_err-found-clause-fault
+returns-in_err-found-clause-fault c =
+    let j = c.args.justified in
+    refused_as c.from_residual.result c.in_err-found.field-0.0 (BeforeOutput (IsRefused j.source.now j.statement.now c.args.profile.now)) c.from_residual.ensures.1
+    (c.in_err-found.ensures.fault j.source.now j.statement.now c.args.profile.now c.requires.loops)
+
+pub left_of-requires-clause-graph : goal.left_of-requires-clause-graph
+left_of-requires-clause-graph c =
+    let j = c.args.justified in
+    let h = c.args.handler.now in
+    subst (λ (w : Words). IsFlowGraph w h.statement h.graph.profile h.graph) (sym c.requires.image)
+    (own_graph j.source.now j.statement.now c.args.profile.now c.args.said.now c.requires.said h.statement h.graph h.tree c.requires.loops)
+
+pub returns-clause-shows : goal.returns-clause-shows
+returns-clause-shows c =
+    let j = c.args.justified in
+    let h = c.args.handler.now in
+    let found = c.in_ok-found.found in
+    let read = c.args.said.now in
+    let left = c.in_ok-left.left in
+    let rows = c.in_ok-rows.rows.items in
+    justified j.source.now j.statement.now c.args.profile.now read c.requires.said h.statement h.graph h.tree c.requires.loops c.requires.tree c.run_law.ensures
+    j.given.now j.all c.is_enough.result left rows found c.in_ok-text.text.items c.in_ok-found.ensures.longest c.in_ok-found.ensures.allowed
+    (subst (λ (w : Words). IfSome left (Justifies w h.statement h.graph j.given.now)) c.requires.image c.in_ok-left.ensures)
+    (subst (λ (w : Words). AreStatedRows w h.statement h.graph left rows) c.requires.image c.in_ok-rows.ensures)
+    (subst (λ (rs : List Row). IsJustifyText read j.given.now left rs found.bound c.args.profile.now.burst c.in_ok-text.text.items) c.deref.ensures.value c.in_ok-text.ensures)
+    (c.is_enough.ensures ∙ ap (is_enough j.all) c.deref-2.ensures.value)

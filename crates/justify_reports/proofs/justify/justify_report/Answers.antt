@@ -1,0 +1,35 @@
+use Rattle.std.proofs.Common.{◌∷◌, [], sym, subst}
+use Rattle.handlers.proofs.PricedLemmas.{by_profile}
+use Rattle.handlers.proofs.RefusalLemmas.{device_carries, ends_refused, ends_told, profile_carries}
+use Rattle.handlers.specs.Refusal.{fault_only}
+use Rattle.handlers.proofs.ReportLemmas.{only_memory}
+use Rattle.handlers.specs.Priced.{given}
+use Rattle.justify_reports.specs.JustifyReport.{IsJustifyReport}
+use Rattle.justify_reports.proofs.justify.justify_report.Goals as goal
+
+pub returns-in_err-found-clause-answers : goal.returns-in_err-found-clause-answers
+returns-in_err-found-clause-answers g c =
+    let profile = c.in_ok-profile.profile in
+    let q = c.from_residual-in_err-found.result in
+    by_profile profile c.in_ok-profile.ensures.is
+    (ends_refused _ _ _ _ _ c.args.out.now q c.in_err-found.field-0.0 c.from_residual-in_err-found.ensures.1 c.in_err-found.ensures.fault
+    (only_memory c.args.justified.source.now c.args.justified.statement.now profile (fault_only q)))
+
+pub returns-in_err-found-clause-carries : goal.returns-in_err-found-clause-carries
+returns-in_err-found-clause-carries g c =
+    profile_carries (given c.args.profile) c.args.justified.source.now (c.args.justified.statement.now ∷ []) c.from_residual-in_err-found.result c.in_ok-profile.profile c.in_ok-profile.ensures.is
+    c.in_err-found.field-0.0 c.from_residual-in_err-found.ensures.1 c.in_err-found.ensures.carries
+
+pub returns-clause-answers : goal.returns-clause-answers
+returns-clause-answers g c =
+    let j = c.args.justified in
+    let profile = c.in_ok-profile.profile in
+    let enough = c.in_ok-found.found.enough in
+    let shows = subst (IsJustifyReport j.source.now j.statement.now j.given.now j.all profile enough) (sym c.deref.ensures.value) c.in_ok-found.ensures.shows in
+    by_profile profile c.in_ok-profile.ensures.is
+    (ends_told _ _ _ _ _ c.args.out.now c.print_or_refuse.new.out enough c.deref.result.now c.print_or_refuse.result
+    shows shows.bounded.accepted tt c.print_or_refuse.ensures.printed c.print_or_refuse.ensures.device)
+
+pub returns-clause-carries : goal.returns-clause-carries
+returns-clause-carries g c =
+    device_carries (given c.args.profile) c.args.justified.source.now (c.args.justified.statement.now ∷ []) c.print_or_refuse.result c.in_ok-profile.profile c.in_ok-profile.ensures.is _ c.print_or_refuse.ensures.device

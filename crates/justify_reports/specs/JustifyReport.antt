@@ -1,0 +1,50 @@
+-- What of a statement follows from its handler's code.
+use Rattle.std.specs.Prelude.{◌≡◌, ◌==◌, ℕ, Bool, true, not, ◌||◌, List, ◌++◌, length, Option, Result}
+use Rattle.bus_ticks.specs.declared.profile.Profile.{Profile}
+use Rattle.known_places.specs.OnTrust.{OnTrust}
+use Rattle.known_words.specs.declared.given.Given.{Given}
+use Rattle.sources.specs.Source.{IsSource}
+use Rattle.sources.specs.declared.read.Source.{Source}
+use Rattle.handlers.specs.Answers.{Answers}
+use Rattle.handlers.specs.Report.{IsAccepted, IsBounded, IsRefused}
+use Rattle.handlers.specs.declared.fault.ReportFault.{ReportFault}
+use Rattle.justify_reports.specs.Rows.{AreStatedRows}
+use Rattle.justify_reports.specs.RowTexts.{AreRowTexts}
+use Rattle.justify_reports.specs.Summary.{AreFactRows, follows_count, summary_text}
+use Rattle.justify_reports.specs.Trust.{IsJustified}
+use Rattle.justify_reports.specs.declared.rows.Row.{Row}
+
+-- the facts, a row for each entry, and what they say together
+pub record IsJustifyText (read : Source) (given : List Given) (left : Option OnTrust) (rows : List Row)
+    (bound price : ℕ) (text : List ℕ) : Type 0 where
+  pub facts : List ℕ
+  pub entries : List ℕ
+  pub are_facts : AreFactRows given facts
+  pub are_entries : AreRowTexts read read.image rows entries
+  pub text_is : text ≡ facts ++ (entries ++ summary_text left rows given bound price)
+
+-- whether that is enough: it is unless all entries are to follow and one does not
+abbrev pub is_enough : (all : Bool) → List Row → Bool
+is_enough all rows = not all || (follows_count rows == length rows)
+
+-- Of an accepted source and statement: what is left on trust, where each other entry is proved to follow; the
+-- rows that say so, and the bound of each run that keeps what is on trust.
+pub record IsJustifyReport (source statement : List ℕ) (given : List Given) (all : Bool) (profile : Profile)
+    (answer : Bool) (text : List ℕ) : Type 0 where
+  pub bounded : IsBounded source statement profile
+  pub read : Source
+  pub left : Option OnTrust
+  pub rows : List Row
+  pub is_read : IsSource source read
+  pub justified : IsJustified bounded.accepted.loops.graph.words bounded.accepted.stated profile
+      bounded.accepted.flow given left bounded.longest.bound
+  pub are_rows : AreStatedRows read.image bounded.accepted.stated bounded.accepted.flow left rows
+  pub text_is : IsJustifyText read given left rows bounded.longest.bound profile.burst text
+  pub answer_is : answer ≡ is_enough all rows
+
+-- the answer to a source and a statement
+abbrev pub ReportsJustified : {O : Type 0} → (O → Option (List ℕ)) → (O → ℕ) → List ℕ → List ℕ → List Given
+    → (all : Bool) → Profile → O → O → Result Bool ReportFault → Type 0
+ReportsJustified taken failures source statement given all profile old new result =
+    Answers taken failures (IsJustifyReport source statement given all profile)
+    (IsAccepted source statement profile) (IsRefused source statement profile) old new result

@@ -1,0 +1,6 @@
+pub mod Trust
+pub mod TrustSets
+pub mod Rows
+pub mod RowTexts
+pub mod Summary
+pub mod JustifyReport

@@ -1,0 +1,81 @@
+-- The entries of a statement that may follow from the code, a row for each.
+use Rattle.std.specs.Prelude.{◌≡◌, ◌≢◌, ◌↔◌, ◌⊎◌, ℕ, Bool, true, if◌then◌else◌, List, [], ◌∷◌, ◌++◌, Contains}
+use Rattle.std.specs.Prelude.{Option, is_some, nat_eq}
+use Rattle.std.specs.List.Sorted.{IsStrictlySortedBy}
+use Rattle.std.specs.Map.{lookup}
+use Rattle.std.specs.Ordering.{nat_cmp}
+use Rattle.arm2_decode.specs.Writers.{is_transfer}
+use Rattle.arm2_decode.specs.declared.instr.Instr.{Instr}
+use Rattle.bus_ticks.specs.declared.profile.Class.{Class}
+use Rattle.bus_ticks.specs.declared.profile.Class.TheVariants.{Any}
+use Rattle.control_flow.specs.Flow.{Flow}
+use Rattle.control_flow.specs.Kinds.{base_of}
+use Rattle.image.specs.Image.{Words}
+use Rattle.statement.specs.Stated.{Stated, class_at}
+use Rattle.statement.specs.declared.stated.Loop.{Loop}
+use Rattle.text_explained.specs.Doing.{may_do_shape}
+use Rattle.text_explained.specs.Taken.{is_reached}
+use Rattle.text_rows.specs.Rows.{AreRows}
+use Rattle.word_shapes.specs.Words.{HasInstr}
+use Rattle.known_places.specs.OnTrust.{OnTrust}
+use Rattle.justify_reports.specs.Trust.{lists_class, trusts_class, trusts_loop}
+use Rattle.justify_reports.specs.declared.rows.Entry.{Entry}
+use Rattle.justify_reports.specs.declared.rows.Entry.TheVariants as entry
+use Rattle.justify_reports.specs.declared.rows.Row.{Row}
+
+-- ## Which words have a row
+
+-- a load or a store that may be done, and whose class is stated: it is not Any
+pub record IsClassed (st : Stated) (a : ℕ) (i : Instr) : Type 0 where
+  pub transfers : may_do_shape is_transfer st a i ≡ true
+  pub stated : class_at st a (base_of i.operation) ≢ Any
+
+abbrev pub HasClass : Words → Stated → ℕ → Type 0
+HasClass words st a = (i : Instr) × HasInstr words a i × IsClassed st a i
+
+-- exactly the addresses where the graph has a place and the word a stated class, and those of the words whose
+-- class is on trust, ascending
+pub record AreClassed (words : Words) (st : Stated) (flow : Flow) (left : Option OnTrust)
+    (named : List ℕ) : Type 0 where
+  pub ascending : IsStrictlySortedBy nat_cmp named
+  pub each : (a : ℕ) → Contains named a
+      ↔ (((is_reached flow.places a ≡ true) × HasClass words st a) ⊎ (lists_class left a ≡ true))
+
+-- ## Rows
+
+-- the class stated of what the word at the address transfers
+abbrev pub IsClassAt : Words → Stated → ℕ → Class → Type 0
+IsClassAt words st a class = (i : Instr) → HasInstr words a i → class ≡ class_at st a (base_of i.operation)
+
+-- by an entry of its own, or by a rule for a base register
+abbrev pub entry_of : Stated → ℕ → Class → Entry
+entry_of st a class = if is_some (lookup (nat_eq a) st.accesses) then entry.Access class else entry.Base class
+
+-- the row of a word's class
+pub record IsClassRow (words : Words) (st : Stated) (left : Option OnTrust) (a : ℕ) (row : Row) : Type 0 where
+  pub class : Class
+  pub class_is : IsClassAt words st a class
+  pub row_is : row
+      ≡ record { entry = entry_of st a class; at = a; on_trust = trusts_class left a }
+
+abbrev pub loop_row : Option OnTrust → Loop → Row
+loop_row left l = record { entry = entry.Loop l.bound; at = l.header; on_trust = trusts_loop left l.header }
+
+-- one row for each address, and for each loop
+abbrev pub AreClassRows : Words → Stated → Option OnTrust → List ℕ → List Row → Type 0
+AreClassRows words st left =
+    AreRows (λ a part. (row : Row) × IsClassRow words st left a row × (part ≡ row ∷ []))
+
+abbrev pub AreLoopRows : Option OnTrust → List Loop → List Row → Type 0
+AreLoopRows left = AreRows (λ l part. part ≡ loop_row left l ∷ [])
+
+-- the rows of those words, by their addresses, and then of all stated loops, in the statement's order
+pub record AreStatedRows (words : Words) (st : Stated) (flow : Flow) (left : Option OnTrust)
+    (rows : List Row) : Type 0 where
+  pub named : List ℕ
+  pub classes : List Row
+  pub loops : List Row
+  pub are_classed : AreClassed words st flow left named
+  pub are_classes : AreClassRows words st left named classes
+  pub are_loops : AreLoopRows left st.loops.list loops
+  pub rows_are : rows ≡ classes ++ loops

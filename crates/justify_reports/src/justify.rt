@@ -1,0 +1,189 @@
+//! Which entries of a statement follow from its handler's code.
+
+ghost use Rattle.std.specs.Prelude.{◌≡◌, ◌∷◌, [], ◌==◌, ◌||◌, ℕ, List, IfErr, IfOk, IfSome, not};
+ghost use Rattle.control_flow.specs.Graph.{IsFlowGraph};
+ghost use Rattle.loop_bounds.specs.Handler.{HasItsTree};
+ghost use Rattle.known_places.specs.OnTrust.{Justifies};
+ghost use Rattle.handlers.specs.Priced.{Priced, given};
+ghost use Rattle.handlers.specs.Refusal.{Carries, CarriesRead, CarriesReadBy, ComesAlone, fault_only};
+ghost use Rattle.handlers.specs.Refusal.{stop_fault};
+ghost use Rattle.handlers.specs.Report.{BeforeOutput, HasLoops, IsRefused};
+ghost use Rattle.sources.specs.Source.{IsSource};
+ghost use Rattle.justify_reports.specs.JustifyReport.{IsJustifyReport, IsJustifyText, ReportsJustified};
+ghost use Rattle.justify_reports.specs.JustifyReport.{is_enough};
+
+use crate::row_texts::put_row_texts;
+use crate::rows::{Row, stated_rows};
+use crate::summary::{Summary, follows_count, put_facts, put_summary};
+use bus_ticks::Profile;
+use control_flow::graphs_are_well_formed;
+use flow_graph::run_law;
+use handlers::{
+    Handler, Refusal, ReportFault, Stop, longest_of, print_or_refuse, profile_of, read_handler,
+    read_source, with_source,
+};
+use known_places::{OnTrust, left_on_trust, proposed};
+use known_words::Given;
+use outputs::Output;
+use sources::Source;
+use std::alloc::{AllocError, Global};
+
+/// A handler of whose statement it is asked what follows from the code.
+#[derive(Clone, Copy)]
+pub struct JustifiedHandler<'a> {
+    /// The bytes of its source, a text or an image.
+    pub source: &'a [u8],
+    /// The text of the statement on it.
+    pub statement: &'a [u8],
+    /// What is given of the registers at its entry.
+    pub given: &'a [Given],
+    /// Whether all entries are to follow.
+    pub all: bool,
+}
+
+// The text of a report, and whether enough follows.
+#[derive(Drop)]
+struct Justified {
+    enough: bool,
+    text: Vec<u8>,
+}
+
+fn is_enough(all: bool, rows: &[Row]) -> bool
+    ensures { result ≡ is_enough all rows.now }
+{
+    !all || follows_count(rows) == rows.len()
+}
+
+// What is left on trust; `None` where nothing is seen to follow.
+fn left_of(
+    alloc: Global,
+    handler: &Handler<'_>,
+    given: &[Given],
+) -> Result<Option<OnTrust>, AllocError>
+    requires graph { IsFlowGraph handler.now.image.now handler.now.statement handler.now.graph.profile
+        handler.now.graph }
+    requires tree { HasItsTree handler.now }
+    ensures { IfOk result (λ left. IfSome left
+        (Justifies handler.now.image.now handler.now.statement handler.now.graph given.now)) }
+{
+    let table = proposed(alloc, handler, given)?;
+    left_on_trust(alloc, handler, given, &table)
+}
+
+fn text_of(alloc: Global, read: &Source<'_>, summary: Summary<'_>) -> Result<Vec<u8>, AllocError>
+    ensures { IfOk result
+        (λ text. IsJustifyText read.now summary.entry.given.now summary.entry.left.now
+        summary.entry.rows.now summary.entry.bound summary.entry.price text.items) }
+{
+    let mut text = Vec::new(alloc);
+    put_facts(&mut text, summary.given)?;
+    put_row_texts(&mut text, read, summary.rows)?;
+    put_summary(&mut text, summary)?;
+    Ok(text)
+}
+
+// The report on a handler that was read.
+fn handler_justified(
+    alloc: Global,
+    justified: JustifiedHandler<'_>,
+    said: &Source<'_>,
+    handler: &Handler<'_>,
+    profile: &Profile,
+) -> Result<Justified, ReportFault>
+    requires said { IsSource justified.source.now said.now }
+    requires image { handler.now.image.now ≡ said.now.image }
+    requires loops { HasLoops justified.source.now justified.statement.now profile.now handler.now.statement
+        handler.now.graph }
+    requires tree { HasItsTree handler.now }
+    ensures shows { IfOk result
+        (λ j. IsJustifyReport justified.entry.source.now justified.entry.statement.now
+        justified.entry.given.now justified.entry.all profile.now j.enough j.text.items) }
+    ensures fault { IfErr result (BeforeOutput
+        (IsRefused justified.entry.source.now justified.entry.statement.now profile.now)) }
+    ensures alone { IfErr result ComesAlone }
+{
+    let found = longest_of(alloc, handler)?;
+    let left = left_of(alloc, handler, justified.given)?;
+    let rows = stated_rows(alloc, handler, &left)?;
+    graphs_are_well_formed(&handler.graph);
+    run_law();
+    let summary = Summary {
+        left: &left,
+        rows: &rows,
+        given: justified.given,
+        bound: found.bound,
+        price: profile.burst,
+    };
+    let text = text_of(alloc, said, summary)?;
+    Ok(Justified {
+        enough: is_enough(justified.all, &rows),
+        text,
+    })
+}
+
+// The report on the handler of a source that was read.
+fn source_justified<'a>(
+    alloc: Global,
+    justified: JustifiedHandler<'a>,
+    said: &Source<'_>,
+    profile: &Profile,
+) -> Result<Justified, Stop<'a>>
+    requires { IsSource justified.source.now said.now }
+    ensures shows { IfOk result
+        (λ j. IsJustifyReport justified.entry.source.now justified.entry.statement.now
+        justified.entry.given.now justified.entry.all profile.now j.enough j.text.items) }
+    ensures fault { IfErr result (λ s. BeforeOutput
+        (IsRefused justified.entry.source.now justified.entry.statement.now profile.now) (stop_fault s)) }
+    ensures carries { IfErr result (Carries said.now justified.entry.statement.now profile.now) }
+{
+    let handler = read_handler(alloc, said, justified.statement, profile)?;
+    Ok(handler_justified(alloc, justified, said, &handler, profile)?)
+}
+
+// The report on a source's handler.
+fn read_justified<'a>(
+    alloc: Global,
+    justified: JustifiedHandler<'a>,
+    profile: &Profile,
+) -> Result<Justified, Refusal<'a>>
+    ensures shows { IfOk result
+        (λ j. IsJustifyReport justified.entry.source.now justified.entry.statement.now
+        justified.entry.given.now justified.entry.all profile.now j.enough j.text.items) }
+    ensures fault { IfErr (fault_only result) (BeforeOutput
+        (IsRefused justified.entry.source.now justified.entry.statement.now profile.now)) }
+    ensures carries { IfErr result
+        (CarriesRead justified.entry.source.now (justified.entry.statement.now ∷ []) profile.now) }
+{
+    let said = read_source(alloc, justified.source)?;
+    let found = source_justified(alloc, justified, &said, profile);
+    with_source(said, found)
+}
+
+/// Writes which entries of a statement follow from its handler's code, by a cycle profile's file or by the
+/// first profile: the facts that are given of the registers at the entry; a row for each load or store that
+/// has a stated class, by its address, and for each stated loop, in the statement's order, with what is
+/// stated, `follows` or `ON TRUST`, and the line in the source; then how many follow; then the bound, in
+/// ticks, of each run that begins as given and keeps what is on trust. Each entry that follows is proved to
+/// hold in each such run, whether it ends or not. Answers no where all are to follow and one does not, and
+/// else yes.
+///
+/// # Errors
+///
+/// Those of `bound_report`. After any but `Device` nothing was written.
+pub fn justify_report<'a, O: Output>(
+    alloc: Global,
+    justified: JustifiedHandler<'a>,
+    profile: Option<&'a [u8]>,
+    out: &mut O,
+) -> Result<bool, Refusal<'a>>
+    ensures answers { Priced (given profile.entry)
+        (λ p. ReportsJustified O.taken O.failures justified.entry.source.now justified.entry.statement.now
+        justified.entry.given.now justified.entry.all p out.old out.new (fault_only result)) out.old out.new
+        (fault_only result) }
+    ensures carries { IfErr result (CarriesReadBy (given profile.entry) justified.entry.source.now
+        (justified.entry.statement.now ∷ [])) }
+{
+    let profile = profile_of(alloc, profile)?;
+    let found = read_justified(alloc, justified, &profile)?;
+    print_or_refuse(found.enough, &found.text, out)
+}

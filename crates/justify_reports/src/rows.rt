@@ -1,0 +1,178 @@
+//! A row for each entry of a statement that may follow from the code.
+
+ghost use Rattle.std.specs.Prelude.{◌≡◌, ◌∷◌, [], IfOk, OnOk, is_some, nat_eq};
+ghost use Rattle.std.specs.Map.{lookup};
+ghost use Rattle.asm_text.specs.Appended.{Appends};
+ghost use Rattle.justify_reports.specs.Rows.{AreClassRows, AreLoopRows, AreStatedRows, IsClassAt, IsClassRow};
+ghost use Rattle.justify_reports.specs.Rows.{entry_of, loop_row};
+ghost use Rattle.justify_reports.specs.TrustSets.{AreSetsOf};
+
+use crate::classed::classed;
+use crate::trusted::TrustSets;
+use bus_ticks::Class;
+use control_flow::base_of;
+use image::Image;
+use known_places::OnTrust;
+use loop_bounds::Handler;
+use statement::{Loop, Statement};
+use std::alloc::{AllocError, Global};
+use word_shapes::instr_at;
+
+/// An entry of a statement.
+#[derive(Clone, Copy)]
+pub(crate) enum Entry {
+    /// The class that a word's own entry states.
+    Access(Class),
+    /// The class that a rule for a base register states of a word.
+    Base(Class),
+    /// The most back edges that a stay in a loop takes.
+    Loop(u32),
+}
+
+/// An entry, at the address of its word or its loop's header, and whether it is on trust; else it follows.
+#[derive(Clone, Copy)]
+pub(crate) struct Row {
+    pub(crate) entry: Entry,
+    pub(crate) at: u32,
+    pub(crate) on_trust: bool,
+}
+
+// What is left on trust, and the same to be looked up.
+#[derive(Clone, Copy)]
+struct Left<'a> {
+    trusted: &'a Option<OnTrust>,
+    sets: &'a TrustSets,
+}
+
+// The class that is stated of what the word at an address transfers.
+fn class_here(image: &Image, statement: &Statement, at: u32) -> Class
+    ensures { IsClassAt image.now statement.now at result }
+{
+    match instr_at(image, at) {
+        Some(instr) => statement.class_at(at, base_of(&instr.operation)),
+        None => Class::Any,
+    }
+}
+
+fn has_access(statement: &Statement, at: u32) -> bool
+    ensures { result ≡ is_some (lookup (nat_eq at) statement.now.accesses) }
+{
+    statement.accesses().contains_key(&at)
+}
+
+fn entry_of(statement: &Statement, at: u32, class: Class) -> Entry
+    ensures { result ≡ entry_of statement.now at class }
+{
+    if has_access(statement, at) {
+        Entry::Access(class)
+    } else {
+        Entry::Base(class)
+    }
+}
+
+fn class_row(handler: &Handler<'_>, left: Left<'_>, at: u32) -> Row
+    requires { AreSetsOf left.trusted.now left.sets.now }
+    ensures { IsClassRow handler.now.image.now handler.now.statement left.entry.trusted.now at result }
+{
+    let class = class_here(handler.image, &handler.statement, at);
+    Row {
+        entry: entry_of(&handler.statement, at, class),
+        at,
+        on_trust: left.sets.has_class(at),
+    }
+}
+
+fn put_class_row(
+    rows: &mut Vec<Row>,
+    handler: &Handler<'_>,
+    left: Left<'_>,
+    at: u32,
+) -> Result<(), AllocError>
+    requires { AreSetsOf left.trusted.now left.sets.now }
+    ensures { OnOk result
+        (Appends (λ part. (row : Row) × IsClassRow handler.now.image.now handler.now.statement
+        left.entry.trusted.now at row × (part ≡ row ∷ [])) rows.old.items rows.new.items) }
+{
+    let row = class_row(handler, left, at);
+    rows.push(row)?;
+    Ok(())
+}
+
+fn put_class_rows(
+    rows: &mut Vec<Row>,
+    handler: &Handler<'_>,
+    left: Left<'_>,
+    named: &[u32],
+) -> Result<(), AllocError>
+    requires { AreSetsOf left.trusted.now left.sets.now }
+    ensures { OnOk result
+        (Appends (AreClassRows handler.now.image.now handler.now.statement left.entry.trusted.now named.now)
+        rows.old.items rows.new.items) }
+{
+    for at in named {
+        put_class_row(rows, handler, left, *at)?;
+    }
+    Ok(())
+}
+
+fn loop_row(left: Left<'_>, stated: &Loop) -> Row
+    requires { AreSetsOf left.trusted.now left.sets.now }
+    ensures { result ≡ loop_row left.entry.trusted.now stated.now }
+{
+    Row {
+        entry: Entry::Loop(stated.bound),
+        at: stated.header,
+        on_trust: left.sets.has_loop(stated.header),
+    }
+}
+
+fn put_loop_row(rows: &mut Vec<Row>, left: Left<'_>, stated: &Loop) -> Result<(), AllocError>
+    requires { AreSetsOf left.trusted.now left.sets.now }
+    ensures { OnOk result
+        (Appends (λ part. part ≡ loop_row left.entry.trusted.now stated.now ∷ []) rows.old.items
+        rows.new.items) }
+{
+    let row = loop_row(left, stated);
+    rows.push(row)?;
+    Ok(())
+}
+
+fn put_loop_rows(rows: &mut Vec<Row>, left: Left<'_>, loops: &[Loop]) -> Result<(), AllocError>
+    requires { AreSetsOf left.trusted.now left.sets.now }
+    ensures { OnOk result
+        (Appends (AreLoopRows left.entry.trusted.now loops.now) rows.old.items rows.new.items) }
+{
+    for stated in loops {
+        put_loop_row(rows, left, stated)?;
+    }
+    Ok(())
+}
+
+/// The rows of a handler's statement, by what is left on trust: where that is `None`, all is. The classes
+/// come first, by their words' addresses, and then the loops in the statement's order.
+///
+/// Its time is that of sorting the words.
+///
+/// # Errors
+///
+/// An allocation failed.
+pub(crate) fn stated_rows(
+    alloc: Global,
+    handler: &Handler<'_>,
+    trusted: &Option<OnTrust>,
+) -> Result<Vec<Row>, AllocError>
+    ensures { IfOk result
+        (λ rows. AreStatedRows handler.now.image.now handler.now.statement handler.now.graph trusted.now
+        rows.items) }
+{
+    let sets = TrustSets::of(alloc, trusted)?;
+    let named = classed(alloc, handler, trusted)?;
+    let left = Left {
+        trusted,
+        sets: &sets,
+    };
+    let mut rows = Vec::new(alloc);
+    put_class_rows(&mut rows, handler, left, &named)?;
+    put_loop_rows(&mut rows, left, handler.statement.loops().list())?;
+    Ok(rows)
+}
