@@ -1,4 +1,3 @@
 mod WordLemmas
-mod AroundLemmas
 mod TableLemmas
 mod RunLemmas

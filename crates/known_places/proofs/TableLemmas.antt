@@ -19,9 +19,7 @@ use Rattle.longest_walk.specs.Built.{step_at}
 use Rattle.numbered_walks.specs.Index.{edge_at}
 use Rattle.numbered_walks.specs.declared.span.NumberedEdge.{NumberedEdge}
 use Rattle.known_words.specs.declared.knowledge.Knowledge.{Knowledge}
-use Rattle.known_places.specs.Around.{known_at}
-use Rattle.known_places.specs.Table.{EdgeKeeps, KeepsAlong, StaysAt}
-use Rattle.known_places.specs.declared.around.Around.{Around}
+use Rattle.known_places.specs.Table.{KeepsAlong, StaysAt, known_at}
 use Rattle.known_places.specs.Words.{Carries, StaysIn}
 
 -- one address has one word
@@ -36,15 +34,20 @@ carried_there words from label before next calls address word place has carries 
     subst (λ n. Carries w n label before next) at
     (subst (λ v. Carries v address label before next) (one_word words address a word w at has also) carries)
 
--- by an edge that is that of the graph, and a list that is that of the tree
-pub along_edge : (words : Words) (flow : Flow) (tree : Tree) (around : List Around) (known : List Knowledge) (k : ℕ) (edge : Edge)
-    (numbered : List NumberedEdge) → edge ≡ step_at flow.edges k → numbered ≡ tree.edges
-    → EdgeKeeps words tree.spans around known edge (edge_at numbered k) → KeepsAlong words flow tree around known k
-along_edge words flow tree around known k edge numbered e n keeps =
-    subst (λ (d : Edge). EdgeKeeps words tree.spans around known d (edge_at tree.edges k)) e
-    (subst (λ ns. EdgeKeeps words tree.spans around known edge (edge_at ns k)) n keeps)
-
 module _ (words : Words) (flow : Flow) (tree : Tree) (table : List Knowledge) where
+  -- by an edge that is that of the graph, and a list that is that of the tree
+  pub along_edge : (k : ℕ) (edge : Edge) (numbered : List NumberedEdge) → edge ≡ step_at flow.edges k → numbered ≡ tree.edges
+      → length table ≡ length flow.places
+      → ((calls : List ℕ) (address word : ℕ) → edge.from ≡ At calls address → word_of words address ≡ Some word
+      → (edge_at numbered k).to < length table
+      → Carries word address edge.label (known_at table (edge_at numbered k).from) (known_at table (edge_at numbered k).to))
+      → KeepsAlong words flow tree table k
+  along_edge k edge numbered e n whole carries calls address word from has low =
+      subst (λ (d : Edge). Carries word address d.label (known_at table (edge_at tree.edges k).from) (known_at table (edge_at tree.edges k).to)) e
+      (subst (λ ns. Carries word address edge.label (known_at table (edge_at ns k).from) (known_at table (edge_at ns k).to)) n
+      (carries calls address word (subst (λ (d : Edge). d.from ≡ At calls address) (sym e) from) has
+      (subst (λ ns. (edge_at ns k).to < length table) (sym n) (omega (arith, low, whole)))))
+
   module _ (st : Stated) where
     pub stays_known : (trusted : List ℕ) (number : ℕ) (calls : List ℕ) (address word : ℕ) → place_in flow tree number ≡ At calls address
         → word_of words address ≡ Some word

@@ -1,4 +1,3 @@
 pub mod OnTrust
 pub mod Words
-pub mod Around
 pub mod Table

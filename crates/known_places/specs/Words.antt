@@ -12,9 +12,7 @@ use Rattle.control_flow.specs.declared.edges.Label.{Label}
 use Rattle.flow_graph.specs.StepLaw.{TransfersIn, label_in}
 use Rattle.kept_runs.specs.Transfers.{HasNoOther, words_of}
 use Rattle.known_words.specs.Knowledge.{Holds}
-use Rattle.known_words.specs.Turning.{AreTurned}
 use Rattle.known_words.specs.declared.knowledge.Knowledge.{Knowledge}
-use Rattle.known_words.specs.declared.turning.Turns.{Turns}
 
 -- Wherever the word at the address is done, or passed over, as the label says, with neither an exception nor
 -- a stop, and the first is known of the registers before it, the second is known of those after it.
@@ -24,14 +22,6 @@ Carries word address label before result =
     → address_in regs ≡ address → IsAction word action → label_in regs action.cond ≡ label
     → Obeys word port regs bus m → m.kind ≡ Plain → Holds entry turns before regs
     → Holds entry turns result m.regs
-
--- the same along an edge on which the loops around turn so
-abbrev pub CarriesAlong : (word address : ℕ) → Label → Turns → (before result : Knowledge) → Type 0
-CarriesAlong word address label turned before result =
-    (entry old new regs : List ℕ) (port : ℕ) (bus : Bus) (m : Moved) (action : Action) → length regs ≡ 27
-    → address_in regs ≡ address → IsAction word action → label_in regs action.cond ≡ label
-    → Obeys word port regs bus m → m.kind ≡ Plain → AreTurned turned old new → Holds entry old before regs
-    → Holds entry new result m.regs
 
 -- Wherever the word at the address is done or passed over, with neither an exception nor a stop, and this is
 -- known before it, the words that it transfers are of the class.

@@ -2,14 +2,11 @@
 //! accesses, and of the bounds of its loops, follow from that.
 #![tactic(auto)]
 
-mod around;
-mod headers;
 mod loops;
 mod on_trust;
 mod search;
 mod table;
 mod transfers;
-mod turned;
 mod word;
 
 pub use on_trust::OnTrust;

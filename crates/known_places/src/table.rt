@@ -4,17 +4,13 @@ ghost use Rattle.control_flow.specs.Graph.{IsFlowGraph};
 ghost use Rattle.control_flow.specs.Kinds.{IsAction};
 ghost use Rattle.control_flow.specs.declared.actions.Action.{Action};
 ghost use Rattle.image.specs.Image.{word_of};
-ghost use Rattle.loop_bounds.specs.Handler.{HasItsTree};
 ghost use Rattle.loop_bounds.specs.Tree.{IsTree};
-ghost use Rattle.numbered_walks.specs.declared.span.Span.{Span};
 ghost use Rattle.statement.specs.Stated.{class_at};
 ghost use Rattle.known_places.specs.OnTrust.{Justifies};
-ghost use Rattle.known_places.specs.Table.{BeginsKnown, EdgeKeeps, KeepsAlong, StaysAt};
-ghost use Rattle.known_places.specs.declared.around.Around.{Around};
+ghost use Rattle.known_places.specs.Table.{BeginsKnown, KeepsAlong, StaysAt, known_at};
 ghost use Rattle.known_places.specs.Words.{Carries, StaysIn};
 
-use crate::around::{loops_around, turns_along};
-use crate::loops::{Table, loops_on_trust};
+use crate::loops::stated_headers;
 use crate::on_trust::OnTrust;
 use crate::word::{known_after, stays_in};
 use control_flow::{Edge, Label, Place, action_of};
@@ -33,64 +29,52 @@ fn carries(word: u32, address: u32, label: Label, before: &Knowledge, next: &Kno
     }
 }
 
-// Whether that is seen of the word that an edge leaves.
-fn word_carries(handler: &Handler<'_>, edge: &Edge, before: &Knowledge, next: &Knowledge) -> bool
-    ensures { IsTrue result → (calls : List ℕ) → (address word : ℕ) → edge.now.from ≡ Place.At calls address
-        → word_of handler.now.image.now address ≡ Some word
-        → Carries word address edge.now.label before.now next.now }
+// Whether what is known before an edge's word is seen to give what is known after it.
+fn edge_carries(
+    handler: &Handler<'_>,
+    table: &[Knowledge],
+    edge: &Edge,
+    numbered: NumberedEdge,
+) -> bool
+    ensures { IsTrue result → (calls : List ℕ) → (address : ℕ) → (word : ℕ)
+        → edge.now.from ≡ Place.At calls address
+        → word_of handler.now.image.now address ≡ Some word → numbered.to < length table.now
+        → Carries word address edge.now.label (known_at table.now numbered.from)
+        (known_at table.now numbered.to) }
 {
+    if table.len() <= numbered.to {
+        return true;
+    }
+    if table.len() <= numbered.from {
+        return false;
+    }
     let Place::At(_, address) = edge.from else {
         return true;
     };
     let Some(word) = handler.image.word_at(address) else {
         return true;
     };
-    carries(word, address, edge.label, before, next)
+    let before = &table[numbered.from];
+    carries(word, address, edge.label, before, &table[numbered.to])
 }
 
-// Whether what is known before an edge is seen to give what is known after it.
-fn edge_keeps(handler: &Handler<'_>, table: Table<'_>, edge: &Edge, numbered: NumberedEdge) -> bool
-    ensures { IsTrue result → EdgeKeeps handler.now.image.now handler.now.tree.spans table.around.now
-        table.known.now edge.now numbered }
-{
-    if table.known.len() <= numbered.to {
-        return true;
-    }
-    if table.known.len() <= numbered.from {
-        return false;
-    }
-    if table.around.len() <= numbered.to {
-        return false;
-    }
-    if table.around.len() <= numbered.from {
-        return false;
-    }
-    let spans = handler.tree.spans();
-    let before = table.around[numbered.from];
-    let after = table.around[numbered.to];
-    let Some(turns) = turns_along(spans, before, after, numbered) else {
-        return false;
-    };
-    let next = table.known[numbered.to].before(turns);
-    word_carries(handler, edge, &table.known[numbered.from], &next)
-}
-
-fn keeps_along(handler: &Handler<'_>, table: Table<'_>, number: usize) -> bool
+fn keeps_along(handler: &Handler<'_>, table: &[Knowledge], number: usize) -> bool
+    requires whole { length table.now ≡ length handler.now.graph.places }
     requires tree { IsTree handler.now.graph handler.now.tree }
     requires known { number < length handler.now.graph.edges }
-    ensures { IsTrue result → KeepsAlong handler.now.image.now handler.now.graph handler.now.tree
-        table.around.now table.known.now number }
+    ensures { IsTrue result
+        → KeepsAlong handler.now.image.now handler.now.graph handler.now.tree table.now number }
 {
     let numbered = handler.tree.edges()[number];
-    edge_keeps(handler, table, &handler.graph.edges()[number], numbered)
+    edge_carries(handler, table, &handler.graph.edges()[number], numbered)
 }
 
 // Whether that is so along all edges.
-fn keeps_along_all(handler: &Handler<'_>, table: Table<'_>) -> bool
+fn keeps_along_all(handler: &Handler<'_>, table: &[Knowledge]) -> bool
+    requires whole { length table.now ≡ length handler.now.graph.places }
     requires tree { IsTree handler.now.graph handler.now.tree }
     ensures { IsTrue result → (k : ℕ) → k < length handler.now.graph.edges
-        → KeepsAlong handler.now.image.now handler.now.graph handler.now.tree table.around.now
-        table.known.now k }
+        → KeepsAlong handler.now.image.now handler.now.graph handler.now.tree table.now k }
 {
     for number in 0..handler.graph.edges().len() {
         if !keeps_along(handler, table, number) {
@@ -168,8 +152,7 @@ fn addresses_on_trust(
 
 // Whether what is known before the first step, by the facts, is seen to be known at the entry.
 fn begins_known(table: &[Knowledge], given: &[Given]) -> bool
-    ensures { IsTrue result → (spans : List Span) → (around : List Around)
-        → BeginsKnown spans around given.now table.now }
+    ensures { IsTrue result → BeginsKnown given.now table.now }
 {
     if table.is_empty() {
         return false;
@@ -180,12 +163,12 @@ fn begins_known(table: &[Knowledge], given: &[Given]) -> bool
 /// What is left on trust of the statement, by facts on registers before the first step and by a table of what
 /// is known of the registers before each place's word, by the numbers of the places: the addresses, in bytes,
 /// of the words whose stated class is on trust, once for each place, and of the headers of the loops whose
-/// bound is, once for each list of calls. All other classes and bounds follow: each run from the entry,
-/// finished or not, that starts as the facts say, keeps the statement step by step but for its classes and its
-/// loops' bounds, and keeps those on trust, keeps all of them. None where the table is not seen to hold along
-/// each edge; so of a handler inside of which a word restores R15's mode.
+/// bound is, which are all. The classes of all other words follow: each run from the entry, finished or not,
+/// that starts as the facts say, keeps the statement step by step but for its classes and its loops' bounds,
+/// and keeps those on trust, keeps all of them. None where the table is not seen to hold along each edge; so of
+/// a handler inside of which a word restores R15's mode.
 ///
-/// It takes time linear in the edges, the facts and the loops, and in the places of each loop.
+/// It takes time linear in the edges, the facts and the loops.
 ///
 /// # Errors
 ///
@@ -198,7 +181,7 @@ pub fn left_on_trust(
 ) -> Result<Option<OnTrust>, AllocError>
     requires graph { IsFlowGraph handler.now.image.now handler.now.statement handler.now.graph.profile
         handler.now.graph }
-    requires tree { HasItsTree handler.now }
+    requires tree { IsTree handler.now.graph handler.now.tree }
     ensures { IfOk result (λ found. IfSome found (λ trusted. Justifies handler.now.image.now
         handler.now.statement handler.now.graph given.now trusted)) }
 {
@@ -208,15 +191,10 @@ pub fn left_on_trust(
     if !begins_known(table, given) {
         return Ok(None);
     }
-    let around = loops_around(alloc, handler)?;
-    let found = Table {
-        known: table,
-        around: &around,
-    };
-    if !keeps_along_all(handler, found) {
+    if !keeps_along_all(handler, table) {
         return Ok(None);
     }
     let classes = addresses_on_trust(alloc, handler, table)?;
-    let loops = loops_on_trust(alloc, handler, found)?;
+    let loops = stated_headers(alloc, &handler.statement)?;
     Ok(Some(OnTrust { classes, loops }))
 }

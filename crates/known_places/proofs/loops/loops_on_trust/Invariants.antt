@@ -1,8 +1,0 @@
-use Rattle.std.proofs.Common.{ℕ, ◌<◌}
-use Rattle.known_places.specs.Around.{BoundFollows}
-use Rattle.known_places.proofs.loops.loops_on_trust.Given as goal
-
-abbrev pub invariant-loop-number : goal.invariant-loop-number
-invariant-loop-number l =
-    (k : ℕ) → k < l.number
-    → BoundFollows l.handler.graph l.handler.tree l.table.around.now l.table.known.now l.trusted.items k
