@@ -47,7 +47,7 @@ TurnsSpan span counted edge turn =
     → Contains edges edge → Contains spans span → (counted ≡ true → old ≡ turns_at_end span walk)
     → IsTurned turn old (turns_at_end span (walk ++ edge ∷ []))
 
--- whatever walk comes before the edge, the one instance has turned so after it, where the other had before
+-- whatever walk comes before the edge, the one instance has turned so after it, by the other's turns before
 abbrev pub TurnsOne : List Span → NumberedEdge → (before after : Option ℕ) → Turn → Type 0
 TurnsOne spans edge before after turn =
     (exit : ℕ) (edges walk : List NumberedEdge) → IsOrdered exit edges spans → Contains edges edge

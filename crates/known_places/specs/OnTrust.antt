@@ -65,7 +65,8 @@ module _ (words : Words) (st : Stated) (profile : Profile) (trusted : List ℕ) 
 -- the loop's bound of back edges
 abbrev pub KeepsTheBoundsAt : Flow → StatedLoops → (headers : List ℕ) → List Edge → Type 0
 KeepsTheBoundsAt flow loops headers walk =
-    KeepsBounds edge_shape place_loops (λ (i : Instance). IsInstance flow loops i × Contains headers i.header) walk
+    KeepsBounds edge_shape place_loops
+    (λ (i : Instance). IsInstance flow loops i × Contains headers i.header) walk
 
 -- Each run from the entry, finished or not, whose registers of the entry's mode but R15 are words of 32 bits
 -- and as given at the start, that keeps the statement step by step but for its classes and its loops' bounds,

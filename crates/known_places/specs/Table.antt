@@ -22,7 +22,8 @@ use Rattle.known_places.specs.OnTrust.{OnTrust}
 use Rattle.known_places.specs.Words.{CarriesAlong, StaysIn}
 use Rattle.known_places.specs.declared.around.Around.{Around}
 
--- what is known at the first place holds of any registers at the entry whose words are of 32 bits and as given
+-- what is known at the first place holds of any registers at the entry whose words are of 32 bits and as
+-- given
 abbrev pub BeginsKnown : List Span → List Around → List Given → List Knowledge → Type 0
 BeginsKnown spans around given known =
     (entry : List ℕ) → AreWords entry → AreGiven given entry
@@ -32,7 +33,8 @@ BeginsKnown spans around given known =
 abbrev pub EdgeKeeps : Words → List Span → List Around → List Knowledge → Edge → NumberedEdge → Type 0
 EdgeKeeps words spans around known edge numbered =
     numbered.to < length known
-    → (turned : Turns) × TurnsAlong spans numbered (around_at around numbered.from) (around_at around numbered.to) turned
+    → (turned : Turns)
+    × TurnsAlong spans numbered (around_at around numbered.from) (around_at around numbered.to) turned
     × ((calls : List ℕ) (address word : ℕ) → edge.from ≡ At calls address → word_of words address ≡ Some word
     → CarriesAlong word address edge.label turned (known_at known numbered.from) (known_at known numbered.to))
 
@@ -49,8 +51,8 @@ StaysAt words st flow tree known trusted number =
     → Contains trusted address
     ⊎ StaysIn (class_at st address action.base) word address (known_at known number)
 
--- what is known holds at the entry and along each edge, and each class and each bound follows from it or is on
--- trust
+-- what is known holds at the entry and along each edge, and each class and each bound follows from it or is
+-- on trust
 pub record IsProof (words : Words) (st : Stated) (flow : Flow) (tree : Tree) (given : List Given)
     (around : List Around) (known : List Knowledge) (trusted : OnTrust) : Type 0 where
   pub whole : length known ≡ length flow.places

@@ -80,8 +80,8 @@ pub(crate) fn loops_on_trust(
     table: &Table<'_>,
 ) -> Result<Vec<u32>, AllocError>
     ensures { IfOk result (λ trusted. (number : ℕ) → number < length handler.now.tree.spans
-        → BoundFollows handler.now.graph handler.now.tree table.now.around.now table.now.known.now trusted.items
-        number) }
+        → BoundFollows handler.now.graph handler.now.tree table.now.around.now table.now.known.now
+        trusted.items number) }
 {
     let mut trusted = Vec::new(alloc);
     for number in 0..handler.tree.spans().len() {

@@ -1,7 +1,7 @@
 use std::marker::Model;
 
-/// What is left on trust of a statement: the addresses, in bytes, of the words whose stated class is on trust,
-/// and of the headers of the loops whose bound is.
+/// What is left on trust of a statement: the addresses, in bytes, of the words whose stated class is on
+/// trust, and of the headers of the loops whose bound is.
 #[derive(Drop)]
 pub struct OnTrust {
     pub classes: Vec<u32>,

@@ -181,9 +181,9 @@ fn begins_known(table: &[Knowledge], given: &[Given]) -> bool
 /// is known of the registers before each place's word, by the numbers of the places: the addresses, in bytes,
 /// of the words whose stated class is on trust, once for each place, and of the headers of the loops whose
 /// bound is, once for each list of calls. All other classes and bounds follow: each run from the entry,
-/// finished or not, that starts as the facts say, keeps the statement step by step but for its classes and its
-/// loops' bounds, and keeps those on trust, keeps all of them. None where the table is not seen to hold along
-/// each edge; so of a handler inside of which a word restores R15's mode.
+/// finished or not, that starts as the facts say, keeps the statement step by step but for its classes and
+/// its loops' bounds, and keeps those on trust, keeps all of them. None where the table is not seen to hold
+/// along each edge; so of a handler inside of which a word restores R15's mode.
 ///
 /// It takes time linear in the edges, the facts and the loops, and in the places of each loop.
 ///

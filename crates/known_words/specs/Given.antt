@@ -6,4 +6,5 @@ use Rattle.known_words.specs.declared.given.Given.{Given}
 -- each fact holds of the registers before the first step
 abbrev pub AreGiven : List Given → (entry : List ℕ) → Type 0
 AreGiven given entry =
-    (g : Given) → Contains given g → (g.low ≤ current_in g.register entry) × (current_in g.register entry ≤ g.high)
+    (g : Given) → Contains given g
+    → (g.low ≤ current_in g.register entry) × (current_in g.register entry ≤ g.high)
