@@ -19,6 +19,7 @@ MET_BY = {
     "draft": (*OF_SOURCE, DRAFTS, STATEMENTS),
     "bound": (*OF_HANDLER, PATH, EDGES),
     "explain": (*OF_HANDLER, PATH, CERTIFICATES),
+    "justify": (*OF_HANDLER, PATH, CERTIFICATES),
     "graph": (*OF_HANDLER, PATH),
     "check": (*OF_HANDLER, CERTIFICATES),
     "visits": (*OF_HANDLER, PATH, VISITS),
