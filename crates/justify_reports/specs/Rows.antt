@@ -25,7 +25,7 @@ use Rattle.justify_reports.specs.declared.rows.Row.{Row}
 
 -- ## Which words have a row
 
--- a load or a store that may be done, and whose class is stated: it is not Any
+-- a load or a store that may be done, and the class stated of it is not Any
 pub record IsClassed (st : Stated) (a : ℕ) (i : Instr) : Type 0 where
   pub transfers : may_do_shape is_transfer st a i ≡ true
   pub stated : class_at st a (base_of i.operation) ≢ Any

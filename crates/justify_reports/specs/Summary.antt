@@ -32,8 +32,11 @@ abbrev pub unseen_text : Option OnTrust → List ℕ
 unseen_text None = codes "Nothing is seen of the registers along this handler: all is on trust.\n"
 unseen_text (Some trusted) = []
 
+-- what is on trust of every handler: the rest of what it is to keep a statement
 abbrev pub others_text : List ℕ
-others_text = codes "On trust too: returns, other stated targets, ways of branches, cycles of multiplies.\n"
+others_text =
+    codes "On trust too: code unchanged, no exception or stop, the class of leave, returns,\n"
+    ++ codes "other stated targets, ways of branches, cycles of multiplies.\n"
 
 abbrev pub facts_text : List Given → List ℕ
 facts_text [] = codes "without facts at the entry"

@@ -24,21 +24,21 @@ abbrev pub lists_class : Option OnTrust → ℕ → Bool
 lists_class None address = false
 lists_class (Some trusted) address = list_any (λ a. a == address) trusted.classes
 
--- where nothing is seen to follow, all is on trust:
--- the stated class of what the word at the address transfers
+-- the stated class of what the word at the address transfers is on trust; all is, where nothing is seen
 abbrev pub trusts_class : Option OnTrust → ℕ → Bool
 trusts_class None address = true
 trusts_class (Some trusted) address = list_any (λ a. a == address) trusted.classes
 
--- the stated bound of the loop whose header is at the address
+-- the stated bound of the loop whose header is at the address is on trust; all is, where nothing is seen
 abbrev pub trusts_loop : Option OnTrust → ℕ → Bool
 trusts_loop None address = true
 trusts_loop (Some trusted) address = list_any (λ a. a == address) trusted.loops
 
 -- ## Runs
 
--- A run that begins with words of 32 bits in the registers, as given, and goes from the entry to Exit as the
--- statement says, but for its classes and its loops' bounds; those on trust it keeps.
+-- A run that begins with words of 32 bits in the registers of the entry's mode but R15, as given, goes from the
+-- entry to Exit and keeps the statement step by step but for its classes and its loops' bounds, and keeps those
+-- that are left on trust.
 pub record KeepsOnTrust (words : Words) (st : Stated) (flow : Flow) (given : List Given) (trusted : OnTrust)
     (s : State) (inputs : List Input) : Type 0 where
   pub are_words : AreWords s.regs

@@ -24,7 +24,7 @@ pub fn on_trust_is_bounded()
 
 /// States that a run that keeps a statement keeps what is on trust of it, whatever that is, if it begins with
 /// words of 32 bits, as given. So what is said of each run that keeps what is on trust is not said of none,
-/// where some run keeps the statement. It does nothing.
+/// where some run that begins so keeps the statement. It does nothing.
 pub fn kept_is_on_trust()
     ensures { (words : Words) → (st : Stated) → (flow : Flow) → (given : List Given) → (trusted : OnTrust)
         → (s : State) → (inputs : List Input) → KeepsStatement words st flow.profile flow s inputs

@@ -17,6 +17,11 @@ use known_words::Given;
 use std::alloc::AllocError;
 use text_rows::{put, put_decimal};
 
+// What is on trust of every handler.
+const OTHERS: &[u8] =
+    b"On trust too: code unchanged, no exception or stop, the class of leave, returns,\n\
+    other stated targets, ways of branches, cycles of multiplies.\n";
+
 /// What is said behind the rows.
 #[derive(Clone, Copy)]
 pub(crate) struct Summary<'a> {
@@ -155,10 +160,7 @@ pub(crate) fn put_summary(out: &mut Vec<u8>, summary: Summary<'_>) -> Result<(),
 {
     put(out, b"\n")?;
     put(out, unseen_text(summary.left))?;
-    put(
-        out,
-        b"On trust too: returns, other stated targets, ways of branches, cycles of multiplies.\n",
-    )?;
+    put(out, OTHERS)?;
     put_counts(out, summary.rows, summary.given)?;
     put_theorem(out, summary.given, summary.bound, summary.price)
 }
