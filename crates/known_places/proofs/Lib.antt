@@ -1,4 +1,5 @@
 mod WordLemmas
 mod AroundLemmas
+mod LimitLemmas
 mod TableLemmas
 mod RunLemmas

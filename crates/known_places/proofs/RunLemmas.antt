@@ -52,7 +52,8 @@ use Rattle.known_words.specs.declared.knowledge.Knowledge.{Knowledge}
 use Rattle.known_places.specs.Around.{NeverOver, around_at, known_at, turns_in}
 use Rattle.known_places.specs.OnTrust.{ExecutesOnTrust, GoesOnTrust, IsEdgeOnTrust, Justifies, KeepsTheBoundsAt, OnTrust}
 use Rattle.known_places.specs.Table.{IsProof}
-use Rattle.known_places.specs.Words.{StaysIn}
+use Rattle.known_places.specs.Limits.{KeepsSpans}
+use Rattle.known_places.specs.Words.{StaysWithin}
 use Rattle.known_places.specs.declared.around.Around.{Around}
 
 second : (x y : Bool) → (x && y) ≡ true → y ≡ true
@@ -82,7 +83,7 @@ module _ (words : Words) (st : Stated) (flow : Flow) (tree : Tree) (well : IsWel
   IsThere number w s = number < length flow.places → Holds entry (turns_in tree.spans (around_at around number) w) (known_at table number) s.regs
 
   abbrev AreKept : List NumberedEdge → Type 0
-  AreKept w = (x : Span) → Contains tree.spans x → most_in x w ≤ x.bound
+  AreKept w = KeepsSpans tree.spans w
 
   -- ## Bounds
 
@@ -135,7 +136,7 @@ module _ (words : Words) (st : Stated) (flow : Flow) (tree : Tree) (well : IsWel
     pub there : IsThere (edge_at tree.edges number).to (w ++ edge_at tree.edges number ∷ []) after
 
   module _ (w : List NumberedEdge) (s : State) (i : Input) (stepped : Stepped) (after : State) (e : Edge) (h : IsEdgeOnTrust words st flow.profile trusted.classes s i stepped after e)
-      (number : ℕ) (within : number ≤ length flow.places) (at : place_in flow tree number ≡ e.from) (holds : IsThere number w s) (has : HasEdge flow e) where
+      (number : ℕ) (within : number ≤ length flow.places) (at : place_in flow tree number ≡ e.from) (holds : IsThere number w s) (has : HasEdge flow e) (bounded : AreKept w) where
     abbrev x : ExecutesOnTrust words st flow.profile trusted.classes h.action s i stepped after
     x = h.executes
 
@@ -176,10 +177,11 @@ module _ (words : Words) (st : Stated) (flow : Flow) (tree : Tree) (well : IsWel
     known = holds inside
 
     -- the stated class is granted, or follows
-    transfers : Contains trusted.classes (address_in s.regs) ⊎ StaysIn (class_at st (address_in s.regs) h.action.base) x.has.word (address_in s.regs) (known_at table number)
+    transfers : Contains trusted.classes (address_in s.regs)
+        ⊎ StaysWithin tree.spans (around_at around number) (class_at st (address_in s.regs) h.action.base) x.has.word (address_in s.regs) (known_at table number)
         → TransfersIn (class_at st (address_in s.regs) h.action.base) x.step.moved.accesses
     transfers (inl granted) = x.transfers granted
-    transfers (inr stays) = stays entry (turns_in tree.spans (around_at around number) w) s.regs i.port bus x.step.moved x.registers refl obeys plain_is.kind known
+    transfers (inr stays) = stays entry s.regs w i.port bus x.step.moved bounded x.registers refl obeys plain_is.kind known
 
     kept : IsEdgeOf words st flow.profile s i stepped after e
     kept = record {
@@ -309,7 +311,7 @@ module _ (words : Words) (st : Stated) (flow : Flow) (tree : Tree) (well : IsWel
   follows_from [] (e ∷ walk) s number end ks within ins so_far holds leads granted goes = absurd goes
   follows_from (i ∷ inputs) [] s number end ks within ins so_far holds leads granted goes = absurd goes
   follows_from (i ∷ inputs) (e ∷ walk) s number end ks within ins so_far holds (has, from, rest) granted (stepped, next, edge, on) =
-      let c = comes (w_of ks) s i stepped next e edge number within (sym from) holds has in
+      let c = comes (w_of ks) s i stepped next e edge number within (sym from) holds has so_far in
       let more : List ℕ = ks ++ c.number ∷ [] in
       let up : steps_of flow.edges (ks ++ c.number ∷ []) ++ walk ≡ steps_of flow.edges ks ++ e ∷ walk =
       ap (λ (v : List Edge). v ++ walk) (map_append (step_at flow.edges) ks (c.number ∷ []))

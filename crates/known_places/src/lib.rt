@@ -4,6 +4,7 @@
 
 mod around;
 mod headers;
+mod limits;
 mod loops;
 mod on_trust;
 mod search;
