@@ -2,3 +2,4 @@ pub mod OnTrust
 pub mod Words
 pub mod Around
 pub mod Table
+pub mod Destinations
