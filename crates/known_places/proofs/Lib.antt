@@ -1,4 +1,5 @@
 mod WordLemmas
 mod AroundLemmas
 mod TableLemmas
+mod ArriveLemmas
 mod RunLemmas

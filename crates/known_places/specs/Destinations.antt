@@ -33,8 +33,8 @@ use Rattle.known_words.specs.declared.knowledge.Knowledge.{Knowledge}
 use Rattle.known_words.specs.declared.words.Known.{Known}
 use Rattle.known_places.specs.Around.{known_at}
 use Rattle.known_places.specs.OnTrust.{ExecutesOnTrust, IsEdgeOnTrust}
-use Rattle.known_places.specs.declared.destinations.Destination.{Destination}
-use Rattle.known_places.specs.declared.destinations.Destination.TheVariants.{LinkLess, To, Unknown}
+use Rattle.known_places.specs.declared.destination.Destination.{Destination}
+use Rattle.known_places.specs.declared.destination.Destination.TheVariants.{LinkLess, To, Unknown}
 
 -- the address is that one, or the one in R14 of the entry's mode at the entry, less so many bytes
 abbrev pub IsDestination : (entry : List ℕ) → Destination → (address : ℕ) → Type 0
@@ -102,9 +102,8 @@ GoesTo words st flow given place destination =
 abbrev pub destination_at : List Destination → ℕ → Destination
 destination_at destinations number = slice_index_or destinations number Unknown
 
--- one for each place, by the places' numbers
-pub record AreDestinations (words : Words) (st : Stated) (flow : Flow) (tree : Tree) (given : List Given)
-    (destinations : List Destination) : Type 0 where
-  pub whole : length destinations ≡ length flow.places
-  pub each : (number : ℕ) → number < length flow.places
-      → GoesTo words st flow given (place_in flow tree number) (destination_at destinations number)
+-- each is where the word at the place of its number goes
+abbrev pub AreDestinations : Words → Stated → Flow → Tree → List Given → List Destination → Type 0
+AreDestinations words st flow tree given destinations =
+    (number : ℕ) → number < length flow.places
+    → GoesTo words st flow given (place_in flow tree number) (destination_at destinations number)
