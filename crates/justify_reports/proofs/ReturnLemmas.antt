@@ -33,15 +33,15 @@ use Rattle.justify_reports.specs.declared.rows.Row.{Row}
 module _ (Goes : ℕ → Going → Type 0) (end : ℕ) where
   -- a place from which it does not go
   pub found_none : (found : Option Going) → ((g : Going) → Goes end g → ⊥) → IsFound Goes end found → IsFound Goes (end + 1) found
-  found_none None no none k g lt goes =
+  found_none None never none = λ k g lt goes.
       ⊎_elim (λ (less : k < end). none k g less goes)
-      (λ (more : end ≤ k). no g (let same : k ≡ end = omega (arith, lt, more) in subst (λ n. Goes n g) same goes)) (cases_lt k end)
-  found_none (Some going) no found = record {
+      (λ (more : end ≤ k). never g (let same : k ≡ end = omega (arith, lt, more) in subst (λ n. Goes n g) same goes)) (cases_lt k end)
+  found_none (Some going) never found = record {
     number = found.number;
     inside = let lt = found.inside in omega (arith, lt);
     is = found.is;
     most = λ k g lt goes. ⊎_elim (λ (less : k < end). found.most k g less goes)
-        (λ (more : end ≤ k). absurd (no g (let same : k ≡ end = omega (arith, lt, more) in subst (λ n. Goes n g) same goes))) (cases_lt k end);
+        (λ (more : end ≤ k). absurd (never g (let same : k ≡ end = omega (arith, lt, more) in subst (λ n. Goes n g) same goes))) (cases_lt k end);
     first = found.first;
   }
 

@@ -1,4 +1,3 @@
-use Rattle.known_places.specs.OnTrust.{OnTrust}
 use Rattle.justify_reports.specs.Returns.{IsReturn}
 use Rattle.justify_reports.proofs.ClassedLemmas.{instr_decides, none_decides}
 use Rattle.justify_reports.proofs.returns.has_return.Goals as goal
