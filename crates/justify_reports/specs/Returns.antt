@@ -52,8 +52,8 @@ abbrev pub leaves : Option Target → Bool
 leaves None = false
 leaves (Some target) = is_leave target.kind
 
--- Out of the handler: back to what was interrupted, or to an address; a word of the source there is no way out,
--- unless it is stated.
+-- Out of the handler: back to what was interrupted, or to an address; a word of the source there is no way
+-- out, unless it is stated.
 abbrev pub going_out : Words → (stated : Bool) → Destination → Going
 going_out words stated Unknown = Unseen
 going_out words stated (LinkLess bytes) = Back bytes
@@ -85,8 +85,8 @@ gravity Unseen = 1
 gravity (Elsewhere a) = 2
 
 -- the place of the number is one of the return at the address, which goes so from there
-pub record GoesFrom (words : Words) (st : Stated) (flow : Flow) (tree : Tree) (destinations : List Destination)
-    (a number : ℕ) (going : Going) : Type 0 where
+pub record GoesFrom (words : Words) (st : Stated) (flow : Flow) (tree : Tree)
+    (destinations : List Destination) (a number : ℕ) (going : Going) : Type 0 where
   pub calls : List ℕ
   pub place : place_in flow tree number ≡ At calls a
   pub returns : HasReturn words st a
@@ -117,6 +117,7 @@ IsFound Goes end None = (k : ℕ) (going : Going) → k < end → Goes k going �
 IsFound Goes end (Some going) = IsGravest Goes end going
 
 -- of the places below the end
-abbrev pub AreFound : Words → Stated → Flow → Tree → List Destination → (end : ℕ) → (ℕ → Option Going) → Type 0
+abbrev pub AreFound : Words → Stated → Flow → Tree → List Destination → (end : ℕ) → (ℕ → Option Going)
+    → Type 0
 AreFound words st flow tree destinations end found =
     (a : ℕ) → IsFound (GoesFrom words st flow tree destinations a) end (found a)

@@ -100,7 +100,8 @@ pub record AreReturnRows (words : Words) (st : Stated) (flow : Flow) (tree : Tre
   pub named : List ℕ
   pub are_returns : AreReturns words st flow named
   pub are_rows : AreRows
-      (λ a part. (row : Row) × IsReturnRow words st flow tree destinations a row × (part ≡ row ∷ [])) named rows
+      (λ a part. (row : Row) × IsReturnRow words st flow tree destinations a row × (part ≡ row ∷ []))
+      named rows
 
 -- by what was found
 abbrev pub AreFoundRows : (ℕ → Option Going) → List ℕ → List Row → Type 0
@@ -109,8 +110,8 @@ AreFoundRows found = AreRows (λ a part. part ≡ return_row (unwrap_or (found a
 abbrev pub AreLoopRows : Option OnTrust → List Loop → List Row → Type 0
 AreLoopRows left = AreRows (λ l part. part ≡ loop_row left l ∷ [])
 
--- the rows of the words with a class, then of those that return or leave, both by their addresses, and then of
--- all stated loops, in the statement's order
+-- the rows of the words with a class, then of those that return or leave, both by their addresses, and then
+-- of all stated loops, in the statement's order
 pub record AreStatedRows (words : Words) (st : Stated) (flow : Flow) (tree : Tree) (left : Option OnTrust)
     (destinations : List Destination) (rows : List Row) : Type 0 where
   pub named : List ℕ

@@ -1,6 +1,6 @@
 -- What is printed around the rows: the facts, how many entries follow, and what that says of runs.
-use Rattle.std.specs.Prelude.{◌≡◌, ◌==◌, ℕ, Bool, true, false, if◌then◌else◌, List, [], ◌∷◌, ◌++◌, codes, count_by, decimal}
-use Rattle.std.specs.Prelude.{length, Option, Some, None}
+use Rattle.std.specs.Prelude.{◌≡◌, ◌==◌, ℕ, Bool, true, false, if◌then◌else◌, List, [], ◌∷◌, ◌++◌, codes}
+use Rattle.std.specs.Prelude.{count_by, decimal, length, Option, Some, None}
 use Rattle.asm_text.specs.Hex.{hex8}
 use Rattle.known_places.specs.OnTrust.{OnTrust}
 use Rattle.known_words.specs.declared.given.Given.{Given}

@@ -187,10 +187,10 @@ fn read_justified<'a>(
 /// Writes which entries of a statement follow from its handler's code, by a cycle profile's file or by the
 /// first profile: the facts that are given of the registers at the entry; a row for each load or store that
 /// has a stated class, by its address, for each word that returns or leaves, by its address, and for each
-/// stated loop, in the statement's order, with what is stated or where the word goes, `follows`, `ON TRUST` or
-/// `FALSE`, and the line in the source; then how many follow; then the bound, in ticks, of each run that begins
-/// as given and keeps what is on trust. Each entry that follows is proved to hold in each such run, whether it
-/// ends or not. Answers no where one is false, or all are to follow and one does not, and else yes.
+/// stated loop, in the statement's order, with what is stated or where the word goes, `follows`, `ON TRUST`
+/// or `FALSE`, and the line in the source; then how many follow; then the bound, in ticks, of each run that
+/// begins as given and keeps what is on trust. Each entry that follows is proved to hold in each such run,
+/// whether it ends or not. Answers no where one is false, or all are to follow and one does not, and else yes.
 ///
 /// # Errors
 ///

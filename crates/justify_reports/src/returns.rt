@@ -14,7 +14,8 @@ ghost use Rattle.text_explained.specs.Links.{counts_as_return, is_return_kind};
 ghost use Rattle.text_explained.specs.Taken.{is_reached};
 ghost use Rattle.known_places.specs.Destinations.{destination_at};
 ghost use Rattle.justify_reports.specs.Returns.{AreFound, AreReturns, HasReturn, IsReturn, going_back};
-ghost use Rattle.justify_reports.specs.Returns.{going_of, going_out, going_to, gravity, graver, is_leave, leaves};
+ghost use Rattle.justify_reports.specs.Returns.{going_of, going_out, going_to, gravity, graver};
+ghost use Rattle.justify_reports.specs.Returns.{is_leave, leaves};
 
 use crate::classed::{add, sorted};
 use arm2_decode::Instr;

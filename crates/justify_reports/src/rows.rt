@@ -250,9 +250,9 @@ fn put_loop_rows(rows: &mut Vec<Row>, left: Left<'_>, loops: &[Loop]) -> Result<
     Ok(())
 }
 
-/// The rows of a handler's statement, by what is left on trust: where that is `None`, all is; and by where the
-/// word of each place goes. The classes come first and then the returns, both by their words' addresses, and
-/// then the loops in the statement's order.
+/// The rows of a handler's statement, by what is left on trust: where that is `None`, all is; and by where
+/// the word of each place goes. The classes come first and then the returns, both by their words' addresses,
+/// and then the loops in the statement's order.
 ///
 /// Its time is that of sorting the words.
 ///

@@ -6,7 +6,8 @@ ghost use Rattle.asm_text.specs.Hex.{hex8};
 ghost use Rattle.text_explained.specs.Rules.{register_text};
 ghost use Rattle.justify_reports.specs.Summary.{AreFactRows, counts_text, fact_row, facts_text};
 ghost use Rattle.justify_reports.specs.Summary.{false_count, false_text, follows_count, is_false};
-ghost use Rattle.justify_reports.specs.Summary.{is_following, others_text, range_text, runs_text, summary_text};
+ghost use Rattle.justify_reports.specs.Summary.{is_following, others_text, range_text, runs_text};
+ghost use Rattle.justify_reports.specs.Summary.{summary_text};
 ghost use Rattle.justify_reports.specs.Summary.{theorem_text, unseen_text};
 
 use crate::rows::{Row, Verdict};

@@ -85,9 +85,9 @@ module _ (words : Words) (st : Stated) (profile : Profile) (trusted : List ℕ) 
       (stepped : Stepped) × (next : State) × IsEdgeOnTrust words st profile trusted s i stepped next e
       × ComesOnTrust next inputs walk now
 
--- Each run from the entry whose registers of the entry's mode but R15 are words of 32 bits and as given at the
--- start, and that keeps the statement step by step but for its classes and its loops' bounds: wherever it comes
--- to the place and then does the word there, the next instruction's address is the destination.
+-- Each run from the entry whose registers of the entry's mode but R15 are words of 32 bits and as given at
+-- the start, and that keeps the statement step by step but for its classes and its loops' bounds: wherever it
+-- comes to the place and then does the word there, the next instruction's address is the destination.
 abbrev pub GoesTo : Words → Stated → Flow → List Given → Place → Destination → Type 0
 GoesTo words st flow given place destination =
     (s now after : State) (inputs : List Input) (walk : List Edge) (calls : List ℕ) (action : Action)
