@@ -2,4 +2,5 @@ mod WordLemmas
 mod AroundLemmas
 mod LimitLemmas
 mod TableLemmas
+mod ArriveLemmas
 mod RunLemmas

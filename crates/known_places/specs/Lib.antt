@@ -3,3 +3,4 @@ pub mod Around
 pub mod Limits
 pub mod Words
 pub mod Table
+pub mod Destinations

@@ -53,13 +53,17 @@ StaysAt words st flow tree around known trusted number =
     ⊎ StaysWithin tree.spans (around_at around number) (class_at st address action.base) word address
     (known_at known number)
 
--- what is known holds at the entry and along each edge, and each class and each bound follows from it or is
--- on trust
-pub record IsProof (words : Words) (st : Stated) (flow : Flow) (tree : Tree) (given : List Given)
-    (around : List Around) (known : List Knowledge) (trusted : OnTrust) : Type 0 where
+-- a row for each place; what is known holds at the entry and along each edge
+pub record HoldsAlong (words : Words) (flow : Flow) (tree : Tree) (given : List Given) (around : List Around)
+    (known : List Knowledge) : Type 0 where
   pub whole : length known ≡ length flow.places
   pub begins : BeginsKnown tree.spans around given known
   pub keeps : (k : ℕ) → k < length flow.edges → KeepsAlong words flow tree around known k
+
+-- the table holds, and each class and each bound follows from it or is on trust
+pub record IsProof (words : Words) (st : Stated) (flow : Flow) (tree : Tree) (given : List Given)
+    (around : List Around) (known : List Knowledge) (trusted : OnTrust) : Type 0 where
+  pub table : HoldsAlong words flow tree given around known
   pub stays : (number : ℕ) → number < length flow.places
       → StaysAt words st flow tree around known trusted.classes number
   pub bounds : (k : ℕ) → k < length tree.spans → BoundFollows flow tree around known trusted.loops k

@@ -9,7 +9,7 @@ ghost use Rattle.loop_bounds.specs.Tree.{IsTree};
 ghost use Rattle.numbered_walks.specs.declared.span.Span.{Span};
 ghost use Rattle.statement.specs.Stated.{class_at};
 ghost use Rattle.known_places.specs.OnTrust.{Justifies};
-ghost use Rattle.known_places.specs.Table.{BeginsKnown, EdgeKeeps, KeepsAlong, StaysAt};
+ghost use Rattle.known_places.specs.Table.{BeginsKnown, EdgeKeeps, HoldsAlong, KeepsAlong, StaysAt};
 ghost use Rattle.known_places.specs.declared.around.Around.{Around};
 ghost use Rattle.known_places.specs.Words.{Carries, StaysIn, StaysWithin};
 
@@ -198,6 +198,35 @@ fn begins_known(table: &[Knowledge], given: &[Given]) -> bool
     Knowledge::given(given).implies(&table[0])
 }
 
+/// The loops that are counted at each place, where the table has a row for each place, holds at the entry by
+/// the facts, and is seen to go over along each edge. `AllocError`: an allocation failed.
+pub(crate) fn holds_along(
+    alloc: Global,
+    handler: &Handler<'_>,
+    given: &[Given],
+    table: &[Knowledge],
+) -> Result<Option<Vec<Around>>, AllocError>
+    requires { HasItsTree handler.now }
+    ensures { IfOk result (λ found. IfSome found (λ around. HoldsAlong handler.now.image.now handler.now.graph
+        handler.now.tree given.now around.items table.now)) }
+{
+    if table.len() != handler.graph.places().len() {
+        return Ok(None);
+    }
+    if !begins_known(table, given) {
+        return Ok(None);
+    }
+    let around = loops_around(alloc, handler)?;
+    let found = Table {
+        known: table,
+        around: &around,
+    };
+    if !keeps_along_all(handler, &found) {
+        return Ok(None);
+    }
+    Ok(Some(around))
+}
+
 /// What is left on trust of the statement, by facts on registers before the first step and by a table of what
 /// is known of the registers before each place's word, by the numbers of the places: the addresses, in bytes,
 /// of the words whose stated class is on trust, once for each place, and of the headers of the loops whose
@@ -223,13 +252,9 @@ pub fn left_on_trust(
     ensures { IfOk result (λ found. IfSome found (λ trusted. Justifies handler.now.image.now
         handler.now.statement handler.now.graph given.now trusted)) }
 {
-    if table.len() != handler.graph.places().len() {
+    let Some(around) = holds_along(alloc, handler, given, table)? else {
         return Ok(None);
-    }
-    if !begins_known(table, given) {
-        return Ok(None);
-    }
-    let around = loops_around(alloc, handler)?;
+    };
     if around.len() != table.len() {
         return Ok(None);
     }
@@ -237,9 +262,6 @@ pub fn left_on_trust(
         known: table,
         around: &around,
     };
-    if !keeps_along_all(handler, &found) {
-        return Ok(None);
-    }
     let classes = addresses_on_trust(alloc, handler, &found)?;
     let loops = loops_on_trust(alloc, handler, &found)?;
     Ok(Some(OnTrust { classes, loops }))
