@@ -2,7 +2,9 @@
 #![tactic(auto)]
 
 mod contradictions;
+mod law;
 mod outcomes;
 mod passing;
 
 pub use contradictions::contradiction_text;
+pub use law::contradicted_walks_are_not_taken;
