@@ -1,10 +1,9 @@
 -- The ticks of a stretch are those of the rows that are shown inside of it.
 use Rattle.std.proofs.Common.{◌≡◌, ◌∙◌, ℕ, ◌+◌, ◌-◌, ◌<◌, ◌≤◌, zero, suc, Bool, true, false, List, [], ◌∷◌, ◌++◌, Option, Some, None, append-nil, append_assoc, length, replicate, take, refl, sym, ap, subst, length-append, length-take-le, arith}
-use Rattle.std.specs.Prelude.{◌&&◌, if◌then◌else◌}
 use Rattle.std.specs.List.{list_all, prefix_len}
 use Rattle.std.proofs.lemmas.List.Sums.{prefix_len-le-length}
 use Rattle.text_explained.specs.declared.table_rows.TableRow.{TableRow}
-use Rattle.text_page.specs.Folds.{Parts, begun, borders, fits, fold_ticks, folded, holds, in_loop, in_routine, kept, kept_count, lines_from, loop_at, opened, routine_at, rows_inside, rows_ticks}
+use Rattle.text_page.specs.Folds.{Parts, begun, fits, folded, holds, in_loop, in_routine, kept, kept_count, lines_from, loop_at, opened, routine_at, rows_inside, rows_ticks}
 use Rattle.text_page.specs.declared.folds.Fold.{Fold}
 use Rattle.text_page.specs.declared.page_lines.PageLine.{PageLine}
 use Rattle.text_page.specs.declared.page_lines.PageLine.TheVariants.{Begun, Row, Ended}

@@ -1,10 +1,8 @@
 -- No run takes a walk with a contradiction: from the first word to the second the flags stay.
-use Rattle.std.proofs.Common.{◌≡◌, ◌∙◌, ℕ, ◌⊎◌, inl, inr, Bool, true, false, cond, List, [], ◌∷◌, ◌++◌, append_assoc, length, Option, Some, None, refl, sym, ap, subst}
+use Rattle.std.proofs.Common.{◌≡◌, ◌∙◌, ℕ, inl, inr, Bool, true, false, cond, List, [], ◌∷◌, ◌++◌, append_assoc, length, refl, sym, ap, subst}
 use Rattle.std.specs.Prelude.{◌&&◌}
-use Rattle.std.proofs.lemmas.Bool.{false≢true}
 use Rattle.std.proofs.lemmas.List.Elements.{All-head, All-tail}
-use Rattle.arm2_decode.specs.Conditions.{condition_holds}
-use Rattle.arm2_decode.specs.Table.{IsUnallocated, Means}
+use Rattle.arm2_decode.specs.Table.{Means}
 use Rattle.arm2_decode.specs.declared.flags.Flags.{Flags}
 use Rattle.arm2_decode.specs.declared.instr.Instr.{Instr}
 use Rattle.arm2_decode.specs.declared.instr.Operation.{Operation}
@@ -21,7 +19,7 @@ use Rattle.arm2_transfer.specs.Moved.{Moved, on_bus}
 use Rattle.arm2_transfer.specs.Operations.{operation_moved}
 use Rattle.arm2_transfer.specs.declared.bus.Bus.{Bus}
 use Rattle.arm2_exec.specs.State.{State}
-use Rattle.arm2_exec.specs.Step.{Obeys, ObeysFetched, address_in, fetched, instruction_moved, interrupt_due, state_after, unallocated_moved, with_lines}
+use Rattle.arm2_exec.specs.Step.{Obeys, ObeysFetched, address_in, fetched, interrupt_due, state_after, with_lines}
 use Rattle.arm2_exec.specs.declared.machine.Input.{Input}
 use Rattle.arm2_exec.specs.declared.machine.Stepped.{Stepped}
 use Rattle.bus_ticks.specs.declared.profile.Profile.{Profile}
@@ -30,20 +28,18 @@ use Rattle.control_flow.specs.Kinds.{instr_action}
 use Rattle.control_flow.specs.Places.{place_address}
 use Rattle.control_flow.specs.declared.actions.Action.{Action}
 use Rattle.control_flow.specs.declared.edges.Edge.{Edge}
-use Rattle.control_flow.specs.declared.edges.Label.{Label}
 use Rattle.control_flow.specs.declared.edges.Label.TheVariants.{Do, Skip}
-use Rattle.control_flow.specs.declared.places.Place.{Place}
 use Rattle.control_flow.proofs.EdgeLemmas.{one_action, one_action_at}
 use Rattle.control_flow.proofs.SortedLemmas.{here}
-use Rattle.flow_graph.specs.StepLaw.{Executes, Follows, IsEdgeOf, holds_in, label_in}
+use Rattle.flow_graph.specs.StepLaw.{Executes, Follows, IsEdgeOf, holds_in}
 use Rattle.flow_graph.proofs.StepLemmas.{IsPlainStep, plain_step, works_plain}
 use Rattle.image.specs.Image.{Words, word_of}
 use Rattle.operation_laws.specs.Left.{Psr, Kept, flags_left}
 use Rattle.operation_laws.proofs.OperationLaws.{operation_law, skip_law}
 use Rattle.statement.specs.Stated.{Stated}
 use Rattle.text_explained.specs.Leaving.{is_done}
-use Rattle.walk_contradictions.specs.Contradictions.{AreContradicted, Contradicts, IsContradicted}
-use Rattle.walk_contradictions.specs.NotTaken.{ContradictionLaw, IsNotTaken, NamedLaw}
+use Rattle.walk_contradictions.specs.Contradictions.{Contradicts, IsContradicted}
+use Rattle.walk_contradictions.specs.NotTaken.{ContradictionLaw, NamedLaw}
 use Rattle.walk_contradictions.specs.Outcomes.{Gives, MaySet, NoneSets, Tells, may_set_flags}
 use Rattle.walk_contradictions.specs.declared.outcomes.Outcome.{Outcome}
 

@@ -1,8 +1,8 @@
 ; A routine with a loop around a call of another routine, which stands inside of the loop.
 start    MOV    R4,R14
-         BL     routine
+         BL     around
          SUBS   PC,R4,#4
-routine  MOV    R6,R14
+around   MOV    R6,R14
          MOV    R0,#2
 again    BL     inside
          B      next
