@@ -1,5 +1,6 @@
 -- What can be folded on a page, and which lines the page then has.
-use Rattle.std.specs.Prelude.{ℕ, zero, suc, ◌-◌, ◌==◌, ◌&&◌, nat_le, not, Bool, true, false, if◌then◌else◌, List, []}
+use Rattle.std.specs.Prelude.{ℕ, zero, suc, ◌-◌, ◌==◌, ◌&&◌, nat_le, not, Bool, true, false}
+use Rattle.std.specs.Prelude.{if◌then◌else◌, List, []}
 use Rattle.std.specs.Prelude.{◌∷◌, ◌++◌, ◌||◌, length, map, nat_eq, take, replicate, sum_by}
 use Rattle.std.specs.Prelude.{Option, Some, None, option_map}
 use Rattle.std.specs.List.{list_all, prefix_len}
@@ -89,8 +90,8 @@ module _ (parts : Parts) where
   abbrev pub kept : ℕ → List Fold → List Fold
   kept at nest = take (kept_count at nest) nest
 
-  -- the rows that the innermost of the open stretches hides where it begins at the first row: that row, and the
-  -- rows behind it up to one that it, or one around it, does not hold
+  -- the rows that the innermost of the open stretches hides where it begins at the first row: that row, and
+  -- the rows behind it up to one that it, or one around it, does not hold
   abbrev pub folded : (nest : List Fold) → List TableRow → List TableRow
   folded nest [] = []
   folded nest (r ∷ rows) = r ∷ take (prefix_len (λ later. list_all (holds later.at) nest) rows) rows

@@ -14,8 +14,8 @@ pub fn escaped_texts_have_no_marks()
     ensures brackets { (text : List ℕ) → list_all is_no_bracket (escaped text) ≡ true }
 {}
 
-/// States that what is said of a stretch's ticks is true of the page: they are those of the rows that are shown
-/// between its beginning and its end, which are the rows that it hides. It does nothing.
+/// States that what is said of a stretch's ticks is true of the page: they are those of the rows that are
+/// shown between its beginning and its end, which are the rows that it hides. It does nothing.
 pub fn fold_ticks_are_of_hidden_rows()
     ensures { (parts : Parts) (rows : List TableRow) (before behind : List PageLine) (f : Fold) (ticks : ℕ)
         → lines_from parts [] rows ≡ before ++ Begun f ticks ∷ behind

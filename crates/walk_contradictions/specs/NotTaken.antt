@@ -1,4 +1,4 @@
--- No run takes a walk on which conditions come out as no flags have it.
+-- No run takes a walk on which conditions come out as no flags have it, unless another handler visits it.
 use Rattle.std.specs.Prelude.{ℕ, List, ◌∷◌}
 use Rattle.bus_ticks.specs.declared.profile.Profile.{Profile}
 use Rattle.arm2_exec.specs.State.{State}

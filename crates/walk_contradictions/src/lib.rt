@@ -1,4 +1,5 @@
-//! Where a walk takes two words' conditions as no flags have it, so that no run takes the walk.
+//! Where a walk takes two words' conditions as no flags have it, so that no run takes the walk unless another
+//! handler visits it.
 #![tactic(auto)]
 
 mod contradictions;
