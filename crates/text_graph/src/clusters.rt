@@ -1,17 +1,19 @@
 ghost use Rattle.std.specs.Prelude.{◌≡◌, ◌≤◌, ◌<◌, ◌^◌, ◌++◌, OnOk, length, replicate};
-ghost use Rattle.text_graph.specs.Clusters.{call_names, closed, clusters, depth_in, loop_label, loop_taken};
-ghost use Rattle.text_graph.specs.Clusters.{loop_label_by};
-ghost use Rattle.text_graph.specs.Clusters.{loop_text, name_at, opened, routine_text, routines};
+ghost use Rattle.numbered_walks.specs.Index.{edge_at};
+ghost use Rattle.text_graph.specs.Clusters.{call_label, call_label_by, call_names, call_text, call_texts};
+ghost use Rattle.text_graph.specs.Clusters.{closed, clusters, depth_in, loop_label, loop_label_by};
+ghost use Rattle.text_graph.specs.Clusters.{loop_taken, loop_text, name_at, opened, routine_name};
+ghost use Rattle.text_graph.specs.Clusters.{routine_names};
 ghost use Rattle.text_graph.specs.Labels.{label_or_address};
 ghost use Rattle.text_graph.specs.Parts.{scene_of};
-ghost use Rattle.text_graph.specs.Stretches.{AreInside, CanDraw};
+ghost use Rattle.text_graph.specs.Stretches.{AreInside, CanDraw, calls_in};
 
 use crate::loops::{loop_ticks, turns};
 use crate::pieces::{put_address, put_escaped, put_shared};
 use crate::stretches::{calls_in, loops_of};
-use crate::tables::Drawn;
-use loop_bounds::place_in;
-use numbered_walks::Span;
+use crate::tables::{Drawn, is_call};
+use loop_bounds::{edge_range_in, place_in};
+use numbered_walks::{NumberedEdge, Span};
 use std::alloc::AllocError;
 use text_rows::{put, put_decimal};
 
@@ -46,33 +48,144 @@ fn put_call_names(out: &mut Vec<u8>, calls: &[u32]) -> Result<(), AllocError>
     Ok(())
 }
 
-// Opens the cluster of a routine.
-fn put_routine(out: &mut Vec<u8>, calls: &[u32], last: u32) -> Result<(), AllocError>
-    ensures { OnOk result (out.new.items ≡ out.old.items ++ routine_text calls.now last) }
+fn edge_at(drawn: Drawn<'_, '_>, number: usize) -> NumberedEdge
+    requires drawn { CanDraw drawn }
+    requires known { number < length drawn.graph.now.edges }
+    ensures { result ≡ edge_at drawn.entry.tree.now.edges number }
 {
-    put(out, b"subgraph cluster_call")?;
-    put_call_names(out, calls)?;
-    put(out, b" { label=\"called at ")?;
-    put_address(out, last)?;
-    put(out, b"\"; ")
+    drawn.tree.edges()[number]
 }
 
-// Opens the clusters of the first calls, those with more than one number and at most another.
-fn put_routines(out: &mut Vec<u8>, calls: &[u32], from: usize, to: usize) -> Result<(), AllocError>
-    requires { to ≤ length calls.now }
-    ensures { OnOk result (out.new.items ≡ out.old.items ++ routines calls.now from to) }
+// Adds the name of the routine into which an edge leads, if it does.
+fn put_routine_name(
+    out: &mut Vec<u8>,
+    drawn: Drawn<'_, '_>,
+    number: usize,
+) -> Result<(), AllocError>
+    requires drawn { CanDraw drawn }
+    requires known { number < length drawn.graph.now.edges }
+    ensures { OnOk result (out.new.items ≡ out.old.items ++ routine_name (scene_of drawn.entry) number) }
 {
-    for depth in from..to {
-        put_routine(out, &calls[..depth + 1], calls[depth])?;
+    let edge = edge_at(drawn, number);
+    if is_call(drawn.graph, drawn.tree, edge) {
+        put_name_at(
+            out,
+            drawn,
+            place_in(drawn.graph, drawn.tree, edge.to).address(),
+        )?;
+        return put(out, b", ");
     }
     Ok(())
 }
 
-// How many of these calls a loop is inside of.
-fn depth_in(drawn: Drawn<'_, '_>, calls: &[u32], span: &Span) -> usize
-    ensures { result ≡ depth_in (scene_of drawn.entry) calls.now span.now }
+// Adds the names of the routines that a place calls.
+fn put_routine_names(
+    out: &mut Vec<u8>,
+    drawn: Drawn<'_, '_>,
+    caller: usize,
+) -> Result<(), AllocError>
+    requires drawn { CanDraw drawn }
+    requires known { caller < length drawn.graph.now.places }
+    ensures { OnOk result (out.new.items ≡ out.old.items ++ routine_names (scene_of drawn.entry) caller) }
 {
-    calls_in(drawn, span.header).items().len().min(calls.len())
+    let (first, end) = edge_range_in(drawn.graph, drawn.tree, caller);
+    for number in first..end {
+        put_routine_name(out, drawn, number)?;
+    }
+    Ok(())
+}
+
+// Adds what stands at the frame of a call.
+fn put_call_label(
+    out: &mut Vec<u8>,
+    drawn: Drawn<'_, '_>,
+    caller: usize,
+    at: u32,
+) -> Result<(), AllocError>
+    requires drawn { CanDraw drawn }
+    requires known { caller < length drawn.graph.now.places }
+    ensures { OnOk result (out.new.items ≡ out.old.items ++ call_label (scene_of drawn.entry) caller at) }
+{
+    put(out, b"label=\"routine ")?;
+    put_routine_names(out, drawn, caller)?;
+    put(out, b"called at ")?;
+    put_address(out, at)?;
+    put(out, b"\"; ")
+}
+
+// Adds it at the frame of the last call, where the node begins with the routine.
+fn put_call_label_by(
+    out: &mut Vec<u8>,
+    drawn: Drawn<'_, '_>,
+    first: usize,
+    calls: &[u32],
+    depth: usize,
+) -> Result<(), AllocError>
+    requires drawn { CanDraw drawn }
+    requires calls { calls.now ≡ calls_in drawn.graph.now drawn.tree.now first }
+    requires inside { depth < length calls.now }
+    ensures { OnOk result
+        (out.new.items ≡ out.old.items ++ call_label_by (scene_of drawn.entry) first depth) }
+{
+    if depth + 1 != calls.len() {
+        return Ok(());
+    }
+    match drawn.callers.get(&first) {
+        Some(caller) => put_call_label(out, drawn, *caller, calls[depth]),
+        None => Ok(()),
+    }
+}
+
+// Opens the cluster of a call around the node that begins with a number.
+fn put_call(
+    out: &mut Vec<u8>,
+    drawn: Drawn<'_, '_>,
+    first: usize,
+    calls: &[u32],
+    depth: usize,
+) -> Result<(), AllocError>
+    requires drawn { CanDraw drawn }
+    requires calls { calls.now ≡ calls_in drawn.graph.now drawn.tree.now first }
+    requires inside { depth < length calls.now }
+    ensures { OnOk result (out.new.items ≡ out.old.items ++ call_text (scene_of drawn.entry) first depth) }
+{
+    put(out, b"subgraph cluster_call")?;
+    put_call_names(out, &calls[..depth + 1])?;
+    put(out, b" { ")?;
+    put_call_label_by(out, drawn, first, calls, depth)
+}
+
+// Opens the clusters of the calls around the node that begins with a number, from one on, before another.
+fn put_calls(
+    out: &mut Vec<u8>,
+    drawn: Drawn<'_, '_>,
+    first: usize,
+    from: usize,
+    to: usize,
+) -> Result<(), AllocError>
+    requires drawn { CanDraw drawn }
+    requires inside { to ≤ length (calls_in drawn.graph.now drawn.tree.now first) }
+    ensures { OnOk result (out.new.items ≡ out.old.items ++ call_texts (scene_of drawn.entry) first from to) }
+{
+    let calls = calls_in(drawn, first);
+    for depth in from..to {
+        put_call(out, drawn, first, calls.items(), depth)?;
+    }
+    Ok(())
+}
+
+// How many calls a number is inside of.
+fn call_count(drawn: Drawn<'_, '_>, number: usize) -> usize
+    ensures { result ≡ length (calls_in drawn.entry.graph.now drawn.entry.tree.now number) }
+{
+    calls_in(drawn, number).items().len()
+}
+
+// How many of the calls around a number a loop is inside of.
+fn depth_in(drawn: Drawn<'_, '_>, first: usize, span: &Span) -> usize
+    ensures { result ≡ depth_in (scene_of drawn.entry) first span.now }
+{
+    call_count(drawn, span.header).min(call_count(drawn, first))
 }
 
 // Adds what the walk takes in a loop, if it comes there.
@@ -150,22 +263,21 @@ fn put_clusters(
     out: &mut Vec<u8>,
     drawn: Drawn<'_, '_>,
     first: usize,
-    calls: &[u32],
     loops: &[Span],
 ) -> Result<(), AllocError>
     requires drawn { CanDraw drawn }
     requires inside { AreInside drawn.graph.now loops.now }
     ensures { OnOk result
-        (out.new.items ≡ out.old.items ++ clusters (scene_of drawn.entry) first calls.now 0 loops.now) }
+        (out.new.items ≡ out.old.items ++ clusters (scene_of drawn.entry) first 0 loops.now) }
 {
     let mut inside = 0;
     for span in loops {
-        let depth = depth_in(drawn, calls, span);
-        put_routines(out, calls, inside, depth)?;
+        let depth = depth_in(drawn, first, span);
+        put_calls(out, drawn, first, inside, depth)?;
         put_loop(out, drawn, first, span)?;
         inside = inside.max(depth);
     }
-    put_routines(out, calls, inside, calls.len())
+    put_calls(out, drawn, first, inside, call_count(drawn, first))
 }
 
 /// Opens the clusters around the node of a number.
@@ -180,7 +292,7 @@ pub(crate) fn put_opened(
 {
     let mut loops = Vec::from_slice(*out.allocator(), loops_of(drawn, number))?;
     loops.reverse();
-    put_clusters(out, drawn, number, calls_in(drawn, number).items(), &loops)
+    put_clusters(out, drawn, number, &loops)
 }
 
 // Closes so many clusters.
@@ -202,6 +314,6 @@ pub(crate) fn put_closed(
     requires known { number ≤ length drawn.graph.now.places }
     ensures { OnOk result (out.new.items ≡ out.old.items ++ closed (scene_of drawn.entry) number) }
 {
-    put_ends(out, calls_in(drawn, number).items().len())?;
+    put_ends(out, call_count(drawn, number))?;
     put_ends(out, loops_of(drawn, number).len())
 }
