@@ -1,6 +1,5 @@
-use Rattle.std.proofs.Common.{ℕ, List, Option, option_map, refl, subst, sym}
+use Rattle.std.proofs.Common.{ℕ, List, Option, refl, subst}
 use Rattle.handlers.specs.Refusal.{fault_only}
-use Rattle.handlers.specs.declared.fault.ReportFault.{ReportFault}
 use Rattle.handlers.proofs.RefusalLemmas.{only_err}
 use Rattle.known_words.specs.declared.given.Given.{Given}
 use Rattle.handlers.specs.declared.refusal.Refusal.TheVariants as refusal
@@ -27,4 +26,4 @@ returns g c =
     with_facts g.O.Output.taken g.O.Output.failures c.args.out.now c.print_justified.new.out (facts_file i) (justified i c.args.all) facts
     (subst (λ (file : Option (List ℕ)). AreFacts file facts) c.facts_file.ensures c.in_ok-facts.ensures.are)
     (fault_only c.print_justified.result)
-    (subst (λ (l : List Given). PrintsReport g.O.Output.taken g.O.Output.failures (justified i c.args.all l) c.args.out.now c.print_justified.new.out (fault_only c.print_justified.result)) (sym c.deref.ensures.value) c.print_justified.ensures)
+    (subst (λ (l : List Given). PrintsReport g.O.Output.taken g.O.Output.failures (justified i c.args.all l) c.args.out.now c.print_justified.new.out (fault_only c.print_justified.result)) c.deref.ensures.value c.print_justified.ensures)
