@@ -6,7 +6,7 @@ use Rattle.arm2_exec.specs.State.{State}
 use Rattle.json_trace.specs.Planned.{moved_words}
 use Rattle.json_trace.specs.StepLine.{StepFacts, Transfer}
 use Rattle.json_trace.specs.declared.step_line.StepRecord.{StepRecord}
-use Rattle.json_trace.specs.declared.transfers.Transfers.{Transfers}
+use Rattle.json_trace.specs.declared.moved_words.Transfers.{Transfers}
 
 -- of a step that took an exception or stopped nothing was moved
 abbrev pub carried : Kind → Option Transfers → List Transfer

@@ -1,5 +1,6 @@
 -- What a step is as JSON.
-use Rattle.std.specs.Prelude.{◌≡◌, ℕ, zero, suc, ◌+◌, ◌==◌, ◌&&◌, not, Bool, true, false, if◌then◌else◌, List, []}
+use Rattle.std.specs.Prelude.{◌≡◌, ℕ, zero, suc, ◌+◌, ◌-◌, ◌==◌, ◌&&◌, not, Bool, true, false, if◌then◌else◌, List}
+use Rattle.std.specs.Prelude.{[]}
 use Rattle.std.specs.Prelude.{◌∷◌, ◌++◌, codes, decimal, map, Option, Some, None}
 use Rattle.std.specs.Prelude.{slice_index_or}
 use Rattle.arm2_decode.specs.Bits.{bit_of_word, bits}
@@ -20,7 +21,7 @@ use Rattle.arm2_exec.specs.State.{State}
 use Rattle.arm2_exec.specs.Step.{fetched_at}
 use Rattle.arm2_exec.specs.declared.machine.Stepped.{Stepped}
 use Rattle.assembler.specs.ShownLines.{IsShown}
-use Rattle.ioc.specs.Interrupts.{fiq_of, irq_of}
+use Rattle.ioc.specs.Interrupts.{Controller, fiq_of, irq_of}
 use Rattle.memc.specs.Memory.{Memory, located}
 use Rattle.text_trace.specs.TraceText.{exception_name, why_name}
 use Rattle.json_trace.specs.Json.{array, boolean, member, name_value, object, quoted, word_value}
@@ -159,39 +160,56 @@ transfer_value word m transfer =
 
 -- ## The whole line
 
+abbrev pub fetched_members : (number from : ℕ) → Option ℕ → (text : List ℕ) → List (List ℕ)
+fetched_members number from word text =
+    member (codes "step") (decimal number)
+    ∷ member (codes "pc") (word_value from)
+    ∷ member (codes "word") (word_or_null word)
+    ∷ member (codes "text") text ∷ []
+
+abbrev pub outcome_members : Kind → Option ℕ → (r15 : ℕ) → List (List ℕ)
+outcome_members kind word r15 =
+    member (codes "exception") (name_value (exception_of kind))
+    ∷ member (codes "stopped") (name_value (stop_of kind))
+    ∷ member (codes "done") (boolean (is_done word r15 kind)) ∷ []
+
 -- the instruction, with the value of its text
 abbrev pub instruction_members : StepFacts → (text : List ℕ) → List (List ℕ)
 instruction_members f text =
-    member (codes "step") (decimal f.number)
-    ∷ member (codes "pc") (word_value f.stepped.from)
-    ∷ member (codes "word") (word_or_null f.word)
-    ∷ member (codes "text") text
-    ∷ member (codes "exception") (name_value (exception_of f.stepped.kind))
-    ∷ member (codes "stopped") (name_value (stop_of f.stepped.kind))
-    ∷ member (codes "done") (boolean (is_done f.word (r15_in f.before) f.stepped.kind)) ∷ []
+    fetched_members f.number f.stepped.from f.word text
+    ++ outcome_members f.stepped.kind f.word (r15_in f.before)
+
+abbrev pub mode_members : (r15 : ℕ) → List (List ℕ)
+mode_members r15 =
+    member (codes "mode") (quoted (mode_name (mode_of r15)))
+    ∷ member (codes "flags") (quoted (flags_text r15)) ∷ []
 
 abbrev pub processor_members : StepFacts → List (List ℕ)
 processor_members f =
-    member (codes "mode") (quoted (mode_name (mode_of (r15_in f.after.regs))))
-    ∷ member (codes "flags") (quoted (flags_text (r15_in f.after.regs)))
-    ∷ member (codes "registers") (registers_value f.before f.after.regs) ∷ []
+    mode_members (r15_in f.after.regs)
+    ++ member (codes "registers") (registers_value f.before f.after.regs) ∷ []
+
+-- the interrupt lines, and what IOC asserts by them
+abbrev pub line_members : (lines : ℕ) → Controller → List (List ℕ)
+line_members lines c =
+    member (codes "lines") (word_value lines)
+    ∷ member (codes "fiq") (boolean (fiq_of c))
+    ∷ member (codes "irq") (boolean (irq_of c)) ∷ []
 
 abbrev pub bus_members : StepFacts → List (List ℕ)
 bus_members f =
     member (codes "transfers") (array (map (transfer_value f.word f.after.bus.memc) f.transfers))
-    ∷ member (codes "lines") (word_value f.lines)
-    ∷ member (codes "fiq") (boolean (fiq_of f.after.bus.ioc))
-    ∷ member (codes "irq") (boolean (irq_of f.after.bus.ioc)) ∷ []
+    ∷ line_members f.lines f.after.bus.ioc
 
-abbrev pub time_members : StepFacts → List (List ℕ)
-time_members f =
-    member (codes "ticks") (decimal f.stepped.ticks)
-    ∷ member (codes "elapsed") (decimal f.elapsed)
-    ∷ member (codes "next") (word_value f.stepped.to) ∷ []
+abbrev pub time_members : Stepped → (elapsed : ℕ) → List (List ℕ)
+time_members stepped elapsed =
+    member (codes "ticks") (decimal stepped.ticks)
+    ∷ member (codes "elapsed") (decimal elapsed)
+    ∷ member (codes "next") (word_value stepped.to) ∷ []
 
 -- an object of these members, and the line's end
 abbrev pub IsStepLine : StepFacts → List ℕ → Type 0
 IsStepLine f line =
     (text : List ℕ) × IsTextValue f.word f.stepped.from text
     × (line ≡ object (instruction_members f text
-    ++ (processor_members f ++ (bus_members f ++ time_members f))) ++ codes "\n")
+    ++ (processor_members f ++ (bus_members f ++ time_members f.stepped f.elapsed))) ++ codes "\n")

@@ -1,8 +1,7 @@
 //! The registers that a step changed.
 
-ghost use Rattle.std.specs.Prelude.{◌≡◌, ◌<◌, ◌≤◌, ◌-◌, ◌++◌, OnOk, length, string_bytes};
-ghost use Rattle.arm2_effect.specs.Modes.{register_in};
-ghost use Rattle.json_trace.specs.Json.{ended};
+ghost use Rattle.std.specs.Prelude.{◌≡◌, ◌<◌, ◌≤◌, ◌-◌, ◌++◌, OnOk, codes, string_bytes};
+ghost use Rattle.json_trace.specs.Json.{ended, member, word_value};
 ghost use Rattle.json_trace.specs.StepLine.{bank_suffix, changed, if_changed, registers_value};
 
 use crate::values::word_or_null;
@@ -97,10 +96,20 @@ fn put_bank(
         (string_bytes out.new
         ≡ string_bytes out.old ++ ended (changed mode before.now after.now first (15 - first))) }
 {
-    for number in first..15 {
-        put_if_changed(out, before, after, mode, number)?;
+    for k in 0..15 - first {
+        put_if_changed(out, before, after, mode, first + k)?;
     }
     Ok(())
+}
+
+// R15 as the last register of an object.
+fn put_last(out: &mut String, word: u32) -> Result<(), AllocError>
+    ensures { OnOk result
+        (string_bytes out.new
+        ≡ string_bytes out.old ++ (member (codes "R15") (word_value word) ++ codes "}")) }
+{
+    let value = word_or_null(Some(word));
+    write!(out, "\"R15\":{value}}}")
 }
 
 /// Adds the registers that a step changed, as an object.
@@ -119,6 +128,6 @@ pub(crate) fn put_registers(
     put_bank(out, before, after, Mode::Fiq, 8)?;
     put_bank(out, before, after, Mode::Irq, 13)?;
     put_bank(out, before, after, Mode::Svc, 13)?;
-    let value = word_or_null(Some(after.get(Reg::R15)));
-    write!(out, "\"R15\":{value}}}")
+    put_last(out, after.get(Reg::R15))?;
+    Ok(())
 }

@@ -1,6 +1,6 @@
 //! The lines of a run.
 
-ghost use Rattle.std.specs.Prelude.{◌≡◌, ◌++◌, ◌≤◌, ◌<◌, ◌^◌, ◌×◌, IfOk, IfSome, OnOk, length, option_map};
+ghost use Rattle.std.specs.Prelude.{◌≡◌, ◌++◌, ◌≤◌, ◌<◌, ◌^◌, IfOk, IfSome, OnOk, length, option_map};
 ghost use Rattle.std.specs.Prelude.{string_bytes};
 ghost use Rattle.arm2_exec.specs.Run.{IsWithin, Runs};
 ghost use Rattle.arm2_exec.specs.Step.{Step};

@@ -1,14 +1,18 @@
 //! The line of a step.
 
-ghost use Rattle.std.specs.Prelude.{◌≡◌, ◌++◌, ◌×◌, List, ℕ, OnOk, codes, string_bytes};
+ghost use Rattle.std.specs.Prelude.{◌≡◌, ◌++◌, List, ℕ, OnOk, codes, string_bytes};
 ghost use Rattle.asm_text.specs.Appended.{Appends};
-ghost use Rattle.json_trace.specs.Facts.{facts_with};
-ghost use Rattle.json_trace.specs.Json.{ended, separated};
-ghost use Rattle.json_trace.specs.StepLine.{IsStepLine, IsTextValue, bus_members, instruction_members};
-ghost use Rattle.json_trace.specs.StepLine.{processor_members, time_members};
+ghost use Rattle.json_trace.specs.Facts.{carried, facts_with};
+ghost use Rattle.json_trace.specs.Planned.{moved_words};
+ghost use Rattle.arm2_effect.specs.Modes.{r15_in};
+ghost use Rattle.json_trace.specs.Json.{ended, quoted, separated};
+ghost use Rattle.json_trace.specs.StepLine.{IsStepLine, IsTextValue, bus_members, fetched_members};
+ghost use Rattle.json_trace.specs.StepLine.{instruction_members, line_members, mode_members};
+ghost use Rattle.json_trace.specs.StepLine.{outcome_members, processor_members, time_members};
 
+use crate::moved_words::Transfers;
 use crate::registers::{Words, put_registers};
-use crate::transfers::{Transfers, put_transfers};
+use crate::transfers::put_transfers;
 use crate::values::{
     boolean, exception_of, flags_text, is_done, mode_name, name_value, stop_of, text_value,
     word_or_null,
@@ -44,15 +48,48 @@ fn put_instruction(out: &mut String, step: &StepRecord, machine: &Machine) -> Re
         (string_bytes out.old) (string_bytes out.new)) }
 {
     let stepped = step.traced.stepped;
-    let number = step.number;
-    let from = word_or_null(Some(stepped.from));
-    let word = word_or_null(step.traced.word);
     let text = text_value(step.traced.word, stepped.from);
-    let exception = name_value(exception_of(stepped.kind));
-    let stopped = name_value(stop_of(stepped.kind));
-    let done = boolean(is_done(step.traced.word, step.before[26], stepped.kind));
-    write!(out, "\"step\":{number},\"pc\":{from},\"word\":{word},\"text\":{text},")?;
+    put_fetched(out, step, text.as_str())?;
+    put_outcome(out, step)?;
+    Ok(())
+}
+
+// Of these the step's number and what it fetched.
+fn put_fetched(out: &mut String, step: &StepRecord, text: &str) -> Result<(), AllocError>
+    ensures { OnOk result
+        (string_bytes out.new
+        ≡ string_bytes out.old
+        ++ ended (fetched_members step.now.number step.now.traced.stepped.from step.now.traced.word text.now)) }
+{
+    let number = step.number;
+    let from = word_or_null(Some(step.traced.stepped.from));
+    let word = word_or_null(step.traced.word);
+    write!(out, "\"step\":{number},\"pc\":{from},\"word\":{word},\"text\":{text},")
+}
+
+// And what came of it.
+fn put_outcome(out: &mut String, step: &StepRecord) -> Result<(), AllocError>
+    ensures { OnOk result
+        (string_bytes out.new
+        ≡ string_bytes out.old
+        ++ ended (outcome_members step.now.traced.stepped.kind step.now.traced.word (r15_in step.now.before))) }
+{
+    let kind = step.traced.stepped.kind;
+    let exception = name_value(exception_of(kind));
+    let stopped = name_value(stop_of(kind));
+    let done = boolean(is_done(step.traced.word, step.before[26], kind));
     write!(out, "\"exception\":{exception},\"stopped\":{stopped},\"done\":{done},")
+}
+
+// The mode and the flags, and the name of what follows.
+fn put_mode(out: &mut String, r15: u32) -> Result<(), AllocError>
+    ensures { OnOk result
+        (string_bytes out.new
+        ≡ string_bytes out.old ++ (ended (mode_members r15) ++ (quoted (codes "registers") ++ codes ":"))) }
+{
+    let mode = mode_name(mode_of(r15));
+    let flags = flags_text(r15);
+    write!(out, "\"mode\":\"{mode}\",\"flags\":\"{flags}\",\"registers\":")
 }
 
 // The members of the processor, each with a comma.
@@ -61,12 +98,10 @@ fn put_processor(out: &mut String, step: &StepRecord, machine: &Machine) -> Resu
         (string_bytes out.new
         ≡ string_bytes out.old ++ ended (processor_members (facts_with step.now machine.now))) }
 {
-    let r15 = machine.get(Reg::R15);
-    let mode = mode_name(mode_of(r15));
-    let flags = flags_text(r15);
-    write!(out, "\"mode\":\"{mode}\",\"flags\":\"{flags}\",\"registers\":")?;
+    put_mode(out, machine.get(Reg::R15))?;
     put_registers(out, &step.before, machine.registers())?;
-    out.push_str(",")
+    out.push_str(",")?;
+    Ok(())
 }
 
 // What a step moved: nothing, where it took an exception or stopped.
@@ -79,6 +114,18 @@ fn carried(step: &StepRecord) -> Option<Transfers>
     }
 }
 
+// The interrupt lines, and what IOC asserts.
+fn put_lines(out: &mut String, step: &StepRecord, machine: &Machine) -> Result<(), AllocError>
+    ensures { OnOk result
+        (string_bytes out.new
+        ≡ string_bytes out.old ++ (codes "," ++ ended (line_members step.now.lines.0 machine.now.bus.ioc))) }
+{
+    let lines = word_or_null(Some(step.lines.bits()));
+    let fiq = boolean(machine.ioc().asserts_fiq());
+    let irq = boolean(machine.ioc().asserts_irq());
+    write!(out, ",\"lines\":{lines},\"fiq\":{fiq},\"irq\":{irq},")
+}
+
 // The members of the bus, each with a comma.
 fn put_bus(out: &mut String, step: &StepRecord, machine: &Machine) -> Result<(), AllocError>
     ensures { OnOk result
@@ -87,17 +134,16 @@ fn put_bus(out: &mut String, step: &StepRecord, machine: &Machine) -> Result<(),
 {
     out.push_str("\"transfers\":")?;
     put_transfers(out, step.traced.word, machine.memc(), carried(step))?;
-    let lines = word_or_null(Some(step.lines.bits()));
-    let fiq = boolean(machine.ioc().asserts_fiq());
-    let irq = boolean(machine.ioc().asserts_irq());
-    write!(out, ",\"lines\":{lines},\"fiq\":{fiq},\"irq\":{irq},")
+    put_lines(out, step, machine)?;
+    Ok(())
 }
 
 // The members of the time.
-fn put_time(out: &mut String, step: &StepRecord, machine: &Machine) -> Result<(), AllocError>
+fn put_time(out: &mut String, step: &StepRecord) -> Result<(), AllocError>
     ensures { OnOk result
         (string_bytes out.new
-        ≡ string_bytes out.old ++ separated (time_members (facts_with step.now machine.now))) }
+        ≡ string_bytes out.old
+        ++ separated (time_members step.now.traced.stepped step.now.elapsed)) }
 {
     let ticks = step.traced.stepped.ticks;
     let elapsed = step.elapsed;
@@ -118,6 +164,7 @@ pub fn put_step(out: &mut String, step: &StepRecord, machine: &Machine) -> Resul
     put_instruction(out, step, machine)?;
     put_processor(out, step, machine)?;
     put_bus(out, step, machine)?;
-    put_time(out, step, machine)?;
-    out.push_str("}\n")
+    put_time(out, step)?;
+    out.push_str("}\n")?;
+    Ok(())
 }

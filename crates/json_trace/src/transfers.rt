@@ -1,17 +1,19 @@
 //! The words that a step moves between registers and memory.
 
 ghost use Rattle.std.specs.Prelude.{◌≡◌, ◌<◌, ◌≤◌, ◌++◌, OnOk, map, string_bytes};
-ghost use Rattle.arm2_effect.specs.declared.step_end.Kind.TheVariants.{Plain};
 ghost use Rattle.arm2_exec.specs.Step.{Step};
 ghost use Rattle.arm2_exec.specs.State.{State};
 ghost use Rattle.arm2_exec.specs.declared.machine.Input.{Input};
 ghost use Rattle.arm2_exec.specs.declared.machine.Stepped.{Stepped};
-ghost use Rattle.json_trace.specs.Json.{array};
+ghost use Rattle.json_trace.specs.Facts.{carried};
+ghost use Rattle.json_trace.specs.Json.{array, separated};
 ghost use Rattle.json_trace.specs.StepLine.{memory_word, size_of, transfer_kind, transfer_value, transfers_in};
-ghost use Rattle.json_trace.specs.Planned.{moved_words, planned_by};
+ghost use Rattle.json_trace.specs.Planned.{comma, moved_words, planned_by, planned_if, words_in_space};
+ghost use Rattle.json_trace.specs.Planned.{words_of};
 
+use crate::moved_words::Transfers;
 use crate::values::word_or_null;
-use arm2_decode::{Block, Field, Operation, bit_of_word, decode};
+use arm2_decode::{Field, Instr, Operation, bit_of_word, decode};
 use arm2_effect::{Reg, Registers, mode_of};
 use arm2_exec::Machine;
 use arm2_transfer::{address_by, lowest_of};
@@ -19,19 +21,6 @@ use bus_ticks::{SPACE_END, word_address};
 use memc::{Memc, Spot};
 use std::alloc::AllocError;
 use std::fmt::Write;
-
-/// Words that are moved, one after the other.
-#[derive(Clone, Copy)]
-pub struct Transfers {
-    /// From registers to memory.
-    pub store: bool,
-    /// The lowest address, in bytes.
-    pub address: u32,
-    /// How many words.
-    pub words: u32,
-    ghost below: { address < SPACE_END },
-    ghost few: { words ≤ 16 },
-}
 
 // So many words at an address; none at one of 2^26 or more.
 fn words_at(store: bool, address: u32, words: u32) -> Option<Transfers>
@@ -70,17 +59,28 @@ fn planned_by(operation: &Operation, registers: &Registers) -> Option<Transfers>
     }
 }
 
+// The same of one with its condition.
+fn planned_if(instr: &Instr, registers: &Registers) -> Option<Transfers>
+    ensures { result ≡ planned_if instr.now registers.now }
+{
+    if registers.passes(instr.cond) {
+        return planned_by(&instr.operation, registers);
+    }
+    None
+}
+
 /// What the machine's next step moves, where it takes no exception and does not stop.
 pub fn planned(machine: &Machine) -> Option<Transfers>
     ensures { (i : Input) (stepped : Stepped) (after : State) (step : Step machine.now i stepped after)
-        → stepped.kind ≡ Plain → transfers_in step.moved.accesses ≡ moved_words result }
+        → transfers_in step.moved.accesses ≡ carried stepped.kind result }
 {
-    let word = machine.fetched()?;
-    let instr = decode(word).ok()?;
-    if !machine.registers().passes(instr.cond) {
+    let Some(word) = machine.fetched() else {
         return None;
+    };
+    match decode(word) {
+        Ok(instr) => planned_if(&instr, machine.registers()),
+        Err(_) => None,
     }
-    planned_by(&instr.operation, machine.registers())
 }
 
 // The word of RAM or ROM at an address, as a privileged load reads it.
@@ -135,24 +135,14 @@ fn put_transfer(
     )
 }
 
-/// Adds the words that an instruction moved, as a list.
-///
-/// An error says that an allocation failed; the text is then a front of what was to be added.
-pub(crate) fn put_transfers(
-    out: &mut String,
-    word: Option<u32>,
-    memc: &Memc,
-    transfers: Option<Transfers>,
-) -> Result<(), AllocError>
-    ensures { OnOk result
-        (string_bytes out.new
-        ≡ string_bytes out.old ++ array (map (transfer_value word memc.now) (moved_words transfers))) }
+// A comma in front of any item but the first.
+fn put_comma(out: &mut String, number: u32) -> Result<(), AllocError>
+    ensures { OnOk result (string_bytes out.new ≡ string_bytes out.old ++ comma number) }
 {
-    out.push_str("[")?;
-    if let Some(moved) = transfers {
-        put_moved(out, word, memc, moved)?;
+    match number {
+        0 => Ok(()),
+        _ => out.push_str(","),
     }
-    out.push_str("]")
 }
 
 // The words, with commas between them.
@@ -167,11 +157,45 @@ fn put_moved(
         ≡ string_bytes out.old ++ separated (map (transfer_value word memc.now) (words_of moved))) }
 {
     for number in 0..moved.words {
-        if number > 0 {
-            out.push_str(",")?;
-        }
+        put_comma(out, number)?;
         let address = word_address(moved.address, number);
         put_transfer(out, word, memc, moved.store, address)?;
     }
+    Ok(())
+}
+
+// The words that were planned, if any.
+fn put_planned(
+    out: &mut String,
+    word: Option<u32>,
+    memc: &Memc,
+    transfers: Option<Transfers>,
+) -> Result<(), AllocError>
+    ensures { OnOk result
+        (string_bytes out.new
+        ≡ string_bytes out.old ++ separated (map (transfer_value word memc.now) (moved_words transfers))) }
+{
+    match transfers {
+        Some(moved) => put_moved(out, word, memc, moved),
+        None => Ok(()),
+    }
+}
+
+/// Adds the words that an instruction moved, as a list.
+///
+/// An error says that an allocation failed; the text is then a front of what was to be added.
+pub(crate) fn put_transfers(
+    out: &mut String,
+    word: Option<u32>,
+    memc: &Memc,
+    transfers: Option<Transfers>,
+) -> Result<(), AllocError>
+    ensures { OnOk result
+        (string_bytes out.new
+        ≡ string_bytes out.old ++ array (map (transfer_value word memc.now) (moved_words transfers))) }
+{
+    out.push_str("[")?;
+    put_planned(out, word, memc, transfers)?;
+    out.push_str("]")?;
     Ok(())
 }

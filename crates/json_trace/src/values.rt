@@ -71,7 +71,7 @@ pub(crate) fn text_value(word: Option<u32>, at: u32) -> ArrayString<TEXT_ROOM>
 /// A name, or `null`.
 pub(crate) fn name_value(name: Option<&str>) -> ArrayString<NAME_ROOM>
     requires { IfSome name (λ n. length n.now ≤ 16) }
-    ensures { result.bytes ≡ name_value (option_map (λ n. n.now) name) }
+    ensures { result.bytes ≡ name_value (option_map (λ n. n.now) name.entry) }
 {
     let mut value = ArrayString::new();
     match name {
@@ -144,7 +144,8 @@ fn flag_letter(r15: u32, bit: u32, clear: u8) -> u8
     requires bit { bit < 32 }
     requires letter { 97 ≤ clear }
     requires small { clear ≤ 122 }
-    ensures { result ≡ flag_letter (bit_of_word r15 bit) clear }
+    ensures letter { result ≡ flag_letter (bit_of_word r15 bit) clear }
+    ensures ascii { result < 128 }
 {
     if bit_of_word(r15, bit) {
         clear - 32

@@ -1,0 +1,4 @@
+mod WordsLaws
+pub mod JsonLaws
+mod TransferLaws
+pub mod RecordLaws
