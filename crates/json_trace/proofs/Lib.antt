@@ -2,3 +2,4 @@ mod WordsLaws
 pub mod JsonLaws
 mod TransferLaws
 pub mod RecordLaws
+mod PlainLaws

@@ -1,6 +1,11 @@
 -- JSON texts, without blanks (RFC 8259).
-use Rattle.std.specs.Prelude.{ℕ, List, [], ◌∷◌, ◌++◌, codes, Bool, true, false, Option, Some, None}
+use Rattle.std.specs.Prelude.{ℕ, nat_le, ◌==◌, ◌&&◌, ◌||◌, not, List, [], ◌∷◌, ◌++◌, codes, Bool, true, false}
+use Rattle.std.specs.Prelude.{Option, Some, None}
 use Rattle.asm_text.specs.Hex.{hex8}
+
+-- a printed character that needs no escape in a string: not `"`, and not a backslash
+abbrev pub is_plain : ℕ → Bool
+is_plain b = (nat_le 32 b && nat_le b 126) && not (b == 34 || b == 92)
 
 -- a string of characters that need no escape
 abbrev pub quoted : List ℕ → List ℕ

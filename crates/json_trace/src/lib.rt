@@ -1,6 +1,7 @@
 //! What the steps of a machine are as JSON: a line for each.
 #![tactic(auto)]
 
+mod law;
 mod moved_words;
 mod registers;
 mod run;
@@ -8,6 +9,7 @@ mod step_line;
 mod transfers;
 mod values;
 
+pub use law::texts_need_no_escape;
 pub use moved_words::Transfers;
 pub use registers::{Words, words_of};
 pub use run::{put_end, step_recorded, write_records};
