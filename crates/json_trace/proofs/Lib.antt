@@ -1,0 +1,5 @@
+mod WordsLaws
+pub mod JsonLaws
+mod TransferLaws
+pub mod RecordLaws
+mod PlainLaws
