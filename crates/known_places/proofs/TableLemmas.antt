@@ -1,5 +1,8 @@
 -- What is shown of one edge or one place, for all that stand there.
-use Rattle.std.proofs.Common.{◌≡◌, ◌∙◌, ℕ, ◌<◌, arith, ◌⊎◌, inl, inr, List, [], ◌∷◌, ◌++◌, length, Some, refl, sym, ap, subst}
+use Rattle.std.proofs.Common.{◌≡◌, ◌∙◌, ℕ, ◌+◌, ◌<◌, ◌≤◌, arith, ◌⊎◌, ⊎_elim, inl, inr, List, [], ◌∷◌, ◌++◌, length, length-append, Some, refl, sym, ap, subst}
+use Rattle.std.proofs.Math.Seq.{get_or-append_seam}
+use Rattle.std.proofs.lemmas.Bool.{cases_lt}
+use Rattle.std.proofs.lemmas.List.{get_or_append_left}
 use Rattle.std.specs.Prelude.{Contains}
 use Rattle.std.proofs.lemmas.List.Elements.{Contains-append_left, Contains-append_right}
 use Rattle.std.proofs.lemmas.Option.{same_Some}
@@ -20,6 +23,9 @@ use Rattle.numbered_walks.specs.Index.{edge_at}
 use Rattle.numbered_walks.specs.declared.span.NumberedEdge.{NumberedEdge}
 use Rattle.known_words.specs.declared.knowledge.Knowledge.{Knowledge}
 use Rattle.known_places.specs.Around.{around_at, known_at}
+use Rattle.known_places.specs.Destinations.{destination_at}
+use Rattle.known_places.specs.declared.destination.Destination.{Destination}
+use Rattle.known_places.specs.declared.destination.Destination.TheVariants.{Unknown}
 use Rattle.known_places.specs.Table.{EdgeKeeps, KeepsAlong, StaysAt}
 use Rattle.known_places.specs.declared.around.Around.{Around}
 use Rattle.known_places.specs.Words.{Carries, StaysWithin}
@@ -74,3 +80,22 @@ module _ (words : Words) (flow : Flow) (tree : Tree) (around : List Around) (tab
             → Contains (trusted ++ more) a ⊎ StaysWithin tree.spans (around_at around number) (class_at st a action.base) w a (known_at table number)
         by_case (inl has) = inl (Contains-append_right trusted more a has)
         by_case (inr other) = inr other
+
+-- one destination more
+pub destinations_more : (Goes : ℕ → Destination → Type 0) (old new : List Destination) (number : ℕ) (d : Destination) → length old ≡ number
+    → ((k : ℕ) → k < number → Goes k (destination_at old k)) → new ≡ old ++ d ∷ [] → Goes number d
+    → (length new ≡ number + 1) × ((k : ℕ) → k < number + 1 → Goes k (destination_at new k))
+destinations_more Goes old new number d whole goes is there =
+    let longer : length new ≡ length (old ++ d ∷ []) = ap length is in
+    let at_end : destination_at (old ++ d ∷ []) number ≡ d =
+    ap (destination_at (old ++ d ∷ [])) (sym whole) ∙ get_or-append_seam old d [] Unknown in (
+      omega (arith, longer, length-append old (d ∷ []), whole),
+      λ k lt. subst (λ (ds : List Destination). Goes k (destination_at ds k)) (sym is)
+          (⊎_elim
+          (λ (less : k < number).
+          subst (Goes k) (sym (get_or_append_left old (d ∷ []) Unknown k (omega (arith, less, whole)))) (goes k less))
+          (λ (more : number ≤ k).
+          let same : number ≡ k = omega (arith, lt, more) in
+          subst (λ n. Goes n (destination_at (old ++ d ∷ []) n)) same (subst (Goes number) (sym at_end) there))
+          (cases_lt k number)),
+    )

@@ -1,5 +1,5 @@
-ghost use Rattle.std.specs.Prelude.{◌≡◌, ◌<◌, ◌+◌, ◌-◌, ◌%◌, ◌^◌, ℕ, List, length, true};
-ghost use Rattle.std.specs.Prelude.{IfOk, IfSome, IsTrue};
+ghost use Rattle.std.specs.Prelude.{◌≡◌, ◌<◌, ◌+◌, ◌-◌, ◌%◌, ◌^◌, ◌++◌, ◌∷◌, [], ℕ, List, length, true};
+ghost use Rattle.std.specs.Prelude.{IfOk, IfSome, IsTrue, OnOk};
 ghost use Rattle.arm2_decode.specs.Table.{Means};
 ghost use Rattle.arm2_decode.specs.Writers.{data_writes_pc};
 ghost use Rattle.arm2_effect.specs.Operands.{current_in};
@@ -138,6 +138,24 @@ fn destination_in(handler: &Handler<'_>, table: &[Knowledge], number: usize) -> 
     goes_to(word, address, &table[number])
 }
 
+// Adds where the word at the place of a number goes.
+fn put_destination(
+    found: &mut Vec<Destination>,
+    handler: &Handler<'_>,
+    table: &[Knowledge],
+    number: usize,
+) -> Result<(), AllocError>
+    requires { number < length table.now }
+    ensures { OnOk result ((destination : Destination)
+        × (found.new.items ≡ found.old.items ++ destination ∷ [])
+        × PlaceGoesTo handler.entry.now.image.now handler.entry.now.graph handler.entry.now.tree table.entry.now
+        number destination) }
+{
+    let destination = destination_in(handler, table, number);
+    found.push(destination)?;
+    Ok(())
+}
+
 fn destinations_in(
     alloc: Global,
     handler: &Handler<'_>,
@@ -150,7 +168,7 @@ fn destinations_in(
 {
     let mut found = Vec::new(alloc);
     for number in 0..table.len() {
-        found.push(destination_in(handler, table, number))?;
+        put_destination(&mut found, handler, table, number)?;
     }
     Ok(found)
 }
@@ -180,8 +198,9 @@ pub fn destinations(
     ensures each { IfOk result (λ found. IfSome found (λ list. AreDestinations handler.now.image.now
         handler.now.statement handler.now.graph handler.now.tree given.now list.items)) }
 {
-    match holds_along(alloc, handler, given, table)? {
-        Some(_) => Ok(Some(destinations_in(alloc, handler, table)?)),
-        None => Ok(None),
-    }
+    let Some(_) = holds_along(alloc, handler, given, table)? else {
+        return Ok(None);
+    };
+    let found = destinations_in(alloc, handler, table)?;
+    Ok(Some(found))
 }
