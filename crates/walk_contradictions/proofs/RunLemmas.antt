@@ -116,8 +116,8 @@ label_done true = refl
 label_done false = refl
 
 not_true : (b : Bool) → (b ≡ true → ⊥) → b ≡ false
-not_true true no = absurd (no refl)
-not_true false no = refl
+not_true true never = absurd (never refl)
+not_true false never = refl
 
 module _ (words : Words) (st : Stated) (profile : Profile) (s : State) (i : Input) (stepped : Stepped) (after : State) (e : Edge) (edge : IsEdgeOf words st profile s i stepped after e) where
   abbrev x : Executes words st profile edge.action s i stepped after
