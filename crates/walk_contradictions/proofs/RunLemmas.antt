@@ -7,7 +7,6 @@ use Rattle.arm2_decode.specs.declared.flags.Flags.{Flags}
 use Rattle.arm2_decode.specs.declared.instr.Instr.{Instr}
 use Rattle.arm2_decode.specs.declared.instr.Operation.{Operation}
 use Rattle.arm2_decode.specs.declared.instr.Operation.TheVariants as row
-use Rattle.arm2_decode.specs.declared.instr.Unallocated.{Unallocated}
 use Rattle.arm2_decode.specs.declared.names.Register.TheVariants.{R15}
 use Rattle.arm2_decode.specs.Transfers.{is_listed}
 use Rattle.arm2_effect.specs.declared.step_end.Kind.TheVariants as ended
